@@ -1,0 +1,4 @@
+pub mod Rows
+pub mod Lawful
+pub mod Weights
+pub mod Building

@@ -1,0 +1,23 @@
+-- What the fields of a catalogue mean, and what they keep.
+use Rattle.std.specs.Prelude.{◌≡◌, ℕ, List, map, length, string_bytes, true}
+use Rattle.txn.specs.declared.catalogue.Catalogue.TheInside.{Inside}
+use Rattle.txn.specs.Tree.{program_of}
+use Rattle.txn.specs.Listing.{Listing, tasks_of}
+use Rattle.txn.specs.Names.{names_hold}
+use Rattle.txn.specs.Limits.{limits_hold}
+
+abbrev pub listed : Inside → Listing
+listed c =
+    record {
+      names = map string_bytes c.names.keys;
+      initial = c.initial.items;
+      programs = map program_of c.txs.items;
+      runs = c.runs.items;
+    }
+
+pub record IsKept (c : Inside) : Type 0 where
+  pub names : names_hold (listed c) ≡ true
+  pub limits : limits_hold (listed c) ≡ true
+  pub valued : length c.initial.items ≡ length c.names.keys
+  pub tx_names : map string_bytes c.tx_names.keys ≡ map (λ t. t.name) (listed c).programs
+  pub task_txs : c.task_txs.items ≡ tasks_of c.runs.items

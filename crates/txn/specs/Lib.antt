@@ -1,0 +1,16 @@
+pub mod Arithmetic
+pub mod Tree
+pub mod Meaning
+pub mod Cost
+pub mod Depth
+pub mod Scope
+pub mod Listing
+pub mod Codes
+pub mod Names
+pub mod Limits
+pub mod CatalogueInside
+pub mod Flow
+pub mod Worked
+pub mod Replay
+pub mod Told
+pub mod LawfulReport

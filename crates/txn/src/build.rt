@@ -1,0 +1,138 @@
+//! The parts of building a catalogue: tests of what is given, and the tables made of it.
+
+ghost use Rattle.std.specs.Prelude.{◌≡◌, ◌++◌, true, false, IfOk, IfErr, OnOk, ◌≢◌, map, string_bytes, replicate};
+ghost use Rattle.txn.specs.Tree.{program_of};
+ghost use Rattle.txn.specs.Listing.{listing_of, tasks_of};
+ghost use Rattle.txn.specs.Names.{are_distinct, is_well_formed, names_hold};
+ghost use Rattle.txn.specs.Limits.{limits_hold};
+ghost use Rattle.txn.specs.declared.build.BuildFault.TheVariants.{Memory};
+
+use crate::ast::{Tx, TxId};
+use crate::limits::{
+    MAX_TRANSACTIONS, MAX_VARIABLES, counts_fit, names_fit, sum_fits, transactions_fit,
+    tx_names_fit,
+};
+use crate::names::{names_have_form, runs_known, transactions_known, tx_names_have_form};
+use indexmap::IndexSet;
+use std::alloc::{AllocError, AllocFailed, Global};
+use thiserror::Error;
+
+/// Why a catalogue is refused: the first that applies, `Memory` aside.
+#[derive(Clone, Copy, Debug, PartialEq, Eq, Error)]
+pub enum BuildFault {
+    /// A name has not the form of one or is given twice, or an id is out of range.
+    #[error("a name or an id does not hold")]
+    Name,
+    /// A limit is passed.
+    #[error("a limit is passed")]
+    Limit,
+    /// A growth was refused.
+    #[error("out of memory")]
+    Memory,
+}
+
+impl From<AllocError> for BuildFault {
+    ghost from_gives = { λ _ e. e ≡ Memory };
+
+    fn from(_refused: AllocError) -> BuildFault {
+        BuildFault::Memory
+    }
+}
+
+/// Whether each name has the form of one, and each id is one of those declared.
+#[tactic(auto, using(crate::proofs::Building::well_formed_is))]
+pub(crate) fn well_formed(vars: &[(String, i64)], txs: &[Tx], runs: &[(TxId, u32)]) -> bool
+    ensures { result ≡ is_well_formed (listing_of vars.now txs.now runs.now) }
+{
+    names_have_form(vars)
+        && tx_names_have_form(txs)
+        && transactions_known(txs, vars.len())
+        && runs_known(runs, txs.len())
+}
+
+/// Whether all limits hold.
+#[tactic(auto, using(crate::proofs::Building::limits_are))]
+pub(crate) fn within_limits(vars: &[(String, i64)], txs: &[Tx], runs: &[(TxId, u32)]) -> bool
+    ensures { result ≡ limits_hold (listing_of vars.now txs.now runs.now) }
+{
+    vars.len() <= MAX_VARIABLES
+        && names_fit(vars)
+        && txs.len() <= MAX_TRANSACTIONS
+        && tx_names_fit(txs)
+        && transactions_fit(txs)
+        && counts_fit(runs)
+        && sum_fits(runs)
+}
+
+/// The names as a set in their order, if they are distinct.
+pub(crate) fn name_set(
+    alloc: Global,
+    mut names: Vec<String>,
+) -> Result<IndexSet<String>, BuildFault>
+    ensures ok { IfOk result (λ s. map string_bytes s.keys ≡ map string_bytes names.items) }
+    ensures distinct { OnOk result (are_distinct (map string_bytes names.items) ≡ true) }
+    ensures name { IfErr result (λ e. e ≡ BuildFault.Name → are_distinct (map string_bytes names.items) ≡ false) }
+    ensures limit { IfErr result (λ e. e ≢ BuildFault.Limit) }
+{
+    let mut set = IndexSet::new(alloc);
+    names.reverse();
+    while let Some(name) = names.pop() {
+        match set.insert(name) {
+            Ok(true) => {}
+            Ok(false) => return Err(BuildFault::Name),
+            Err(_) => return Err(BuildFault::Memory),
+        }
+    }
+    Ok(set)
+}
+
+/// The names of the variables, and their initial values.
+pub(crate) fn halves(
+    alloc: Global,
+    mut vars: Vec<(String, i64)>,
+) -> Result<(Vec<String>, Vec<i64>), AllocError>
+    ensures names { IfOk result (λ h. h.0.items ≡ map (λ v. v.0) vars.items) }
+    ensures initial { IfOk result (λ h. h.1.items ≡ map (λ v. v.1) vars.items) }
+{
+    let mut names = Vec::with_capacity(alloc, vars.len())?;
+    let mut values = Vec::with_capacity(alloc, vars.len())?;
+    vars.reverse();
+    while let Some((name, value)) = vars.pop() {
+        names.push(name)?;
+        values.push(value)?;
+    }
+    Ok((names, values))
+}
+
+/// The names of the transactions.
+pub(crate) fn tx_names(alloc: Global, txs: &[Tx]) -> Result<Vec<String>, AllocError>
+    ensures { IfOk result (λ names. map string_bytes names.items ≡ map (λ t. string_bytes t.name) txs.now) }
+{
+    let mut names = Vec::with_capacity(alloc, txs.len())?;
+    for tx in txs {
+        names.push(tx.name.clone()?)?;
+    }
+    Ok(names)
+}
+
+/// Each task's transaction.
+pub(crate) fn task_txs(alloc: Global, runs: &[(TxId, u32)]) -> Result<Vec<TxId>, AllocError>
+    ensures { IfOk result (λ txs. txs.items ≡ tasks_of runs.now) }
+{
+    let mut txs = Vec::new(alloc);
+    for run in runs {
+        repeat(&mut txs, run.0, run.1)?;
+    }
+    Ok(txs)
+}
+
+/// Adds the transaction this often.
+fn repeat(txs: &mut Vec<TxId>, tx: TxId, count: u32) -> Result<(), AllocError>
+    ensures { OnOk result (txs.new.items ≡ txs.old.items ++ replicate count tx) }
+{
+    txs.reserve(count as usize)?;
+    for _turn in 0..count {
+        txs.push(tx)?;
+    }
+    Ok(())
+}
