@@ -11,7 +11,6 @@ ghost use Rattle.txn.specs.Flow.{ending_of};
 
 use crate::ast::{Cond, Expr, Fault, Outcome, Stmt, Tx};
 use std::alloc::AllocError;
-use std::mem;
 
 fn sum(x: i64, y: i64) -> Result<i64, Fault>
     ensures { result ≡ sum_of x y }
@@ -114,12 +113,12 @@ pub fn perform(s: &Stmt, state: &mut Vec<i64>) -> Result<Flow, AllocError>
         },
         Stmt::Repeat(n, s) => repeat(*n, s, state),
         Stmt::Retry => Ok(Flow::Retried),
-        Stmt::OrElse(a, b) => {
-            let mut before = state.clone()?;
-            match perform(a, state)? {
+        Stmt::OrElse(first, second) => {
+            let before = state.clone()?;
+            match perform(first, state)? {
                 Flow::Retried => {
-                    mem::swap(state, &mut before);
-                    perform(b, state)
+                    *state = before;
+                    perform(second, state)
                 }
                 flow => Ok(flow),
             }
@@ -170,22 +169,15 @@ pub fn execute(t: &Tx, state: &mut Vec<i64>) -> Result<Outcome, AllocError>
     ensures after { OnOk result (state.new.items ≡ after (program_of t.now) state.old.items) }
     ensures len { vec_len state.new ≡ vec_len state.old }
 {
-    let mut before = state.clone()?;
-    match perform(&t.body, state)? {
+    let unchanged = state.clone()?;
+    let ended = match perform(&t.body, state)? {
         Flow::Done => match value(&t.result, state.as_slice()) {
-            Ok(v) => Ok(Outcome::Returned(v)),
-            Err(f) => {
-                mem::swap(state, &mut before);
-                Ok(Outcome::Thrown(f))
-            }
+            Ok(v) => return Ok(Outcome::Returned(v)),
+            Err(f) => Outcome::Thrown(f),
         },
-        Flow::Threw(f) => {
-            mem::swap(state, &mut before);
-            Ok(Outcome::Thrown(f))
-        }
-        Flow::Retried => {
-            mem::swap(state, &mut before);
-            Ok(Outcome::Retries)
-        }
-    }
+        Flow::Threw(f) => Outcome::Thrown(f),
+        Flow::Retried => Outcome::Retries,
+    };
+    *state = unchanged;
+    Ok(ended)
 }

@@ -14,8 +14,10 @@ pub mod evaluate;
 pub mod laws;
 pub mod limits;
 pub mod memory;
-mod names;
+pub mod names;
 pub mod report;
+#[cfg(test)]
+mod tests;
 
 pub use ast::{Cond, Expr, Fault, Outcome, Stmt, TaskId, Tx, TxId, VarId};
 pub use build::BuildFault;

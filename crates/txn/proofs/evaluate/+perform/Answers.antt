@@ -21,12 +21,14 @@ perform-returns-in-Seq-clause-ends t c =
 pub perform-returns-in-Retried-clause-ends : goal.perform-returns-in-Retried-clause-ends
 perform-returns-in-Retried-clause-ends t c =
     let m = c.args.state.now.items in
-    let same : c.in_ok-before-in-OrElse.before.items ≡ m = search (rules, same_from_all_zip, c.in_ok-before-in-OrElse.ensures.cases) in
-    let back : c.swap.new.x.items ≡ m = ap (λ v. v.items) c.swap.ensures.x_after ∙ same in
-    let first : Retried ≡ run (statement_of c.in-OrElse.a.value) m = ap (λ f. ending_of f c.perform-in-OrElse.new.state.items) (sym c.in-Retried.is) ∙ c.in_ok-flow-in-OrElse.ensures.ends ∙ ap (λ s. run (statement_of s) m) c.deref-in-OrElse.ensures in
-    let e : run (statement_of c.deref-in-Retried.result.now) c.swap.new.x.items ≡ run (statement_of c.args.s.now) m =
-    ap (λ s. run (statement_of s) c.swap.new.x.items) c.deref-in-Retried.ensures
-    ∙ ap (run (statement_of c.in-OrElse.b.value)) back
-    ∙ ap (λ x. unless_retried x (run (statement_of c.in-OrElse.b.value) m)) first
+    let before = c.in_ok-before-in-OrElse.before.items in
+    let same : before ≡ m = search (rules, same_from_all_zip, c.in_ok-before-in-OrElse.ensures.cases) in
+    let first : Retried ≡ run (statement_of c.in-OrElse.first.value) m =
+    ap (λ f. ending_of f c.perform-in-OrElse.new.state.items) (sym c.in-Retried.is)
+    ∙ c.in_ok-flow-in-OrElse.ensures.ends ∙ ap (λ s. run (statement_of s) m) c.deref-in-OrElse.ensures in
+    let e : run (statement_of c.deref-in-Retried.result.now) before ≡ run (statement_of c.args.s.now) m =
+    ap (λ s. run (statement_of s) before) c.deref-in-Retried.ensures
+    ∙ ap (run (statement_of c.in-OrElse.second.value)) same
+    ∙ ap (λ x. unless_retried x (run (statement_of c.in-OrElse.second.value) m)) first
     ∙ ap (λ s. run (statement_of s) m) (sym c.in-OrElse.is) in
     subst (λ r. IfOk c.perform-in-Retried.result (λ flow. ending_of flow c.perform-in-Retried.new.state.items ≡ r)) e c.perform-in-Retried.ensures.ends
