@@ -14,3 +14,6 @@ pub mod Worked
 pub mod Replay
 pub mod Told
 pub mod LawfulReport
+pub mod Words
+pub mod Stores
+pub mod Loads

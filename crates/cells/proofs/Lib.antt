@@ -1,0 +1,7 @@
+pub mod Seats
+pub mod Commits
+pub mod Readers
+pub mod Changes
+pub mod Publish
+pub mod Starts
+pub mod Meeting

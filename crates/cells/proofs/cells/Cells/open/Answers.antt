@@ -1,0 +1,22 @@
+use Rattle.std.proofs.Common.{rules, ◌≡◌, ℕ, [], List, ℤ, length, replicate, sym, refl, ap, ◌∙◌, subst}
+use Rattle.atomic_table.specs.Table.{opening}
+use Rattle.txn.specs.Stores.{opened}
+use Rattle.cells.specs.Sight.{Sight, publishing, commit_of}
+use Rattle.cells.specs.Rule.{WordsHold}
+use Rattle.cells.specs.Publishing.{IsResting}
+use Rattle.cells.proofs.Starts.{starts, rests_first}
+use Rattle.cells.proofs.cells.Cells.open.Goals as goal
+
+pub of_words-requires : goal.of_words-requires
+of_words-requires c =
+    let m = c.args.values.now in let words = c.in_ok-words.words.items in
+    let values : c.of.result.value.items ≡ m = search rules in let same : c.deref.result.now ≡ words = search rules in
+    subst (λ (t : List ℕ × List ℤ). WordsHold (opening t.0 [] (publishing (opened t.1)))) (λ i. (sym same i, sym values i)) (starts m words c.in_ok-words.ensures)
+
+pub invariant_of-publisher : goal.invariant_of-publisher
+invariant_of-publisher c =
+    let m = c.args.values.now in let values : c.of.result.value.items ≡ m = search rules in
+    let at_start : c.in_ok-board.seat.me.0 ≡ publishing (opened c.of.result.value.items) = search rules in
+    let is : c.enroll.new.seat.me.0 ≡ publishing (opened m) = c.in_ok-passes.ensures.seat.1 ∙ (at_start ∙ ap (λ (l : List ℤ). publishing (opened l)) values) in
+    let zero : c.in_ok-versions.versions.items ≡ replicate (length m) 0 = search rules in
+    subst (λ (t : Sight × List ℕ). (t.0 ≡ publishing (commit_of t.0)) × IsResting (commit_of t.0) 0 t.1) (λ i. (sym is i, sym zero i)) (refl, rests_first m)

@@ -1,0 +1,50 @@
+use Rattle.std.proofs.Common.{rules, ◌≡◌, ◌≢◌, ℕ, ◌-◌, ◌*◌, true, false, List, take, length, set, get_or, sym, refl, ap, ◌∙◌, subst, arith}
+use Rattle.txn.specs.Words.{Commit, value_of, state_of, last_state}
+use Rattle.txn.specs.Stores.{Change, id_of, after_release}
+use Rattle.cells.specs.Sight.{publishing, commit_of}
+use Rattle.cells.specs.Private.{locked_by, numbered_by, all_released}
+use Rattle.cells.proofs.Changes.{sets_more, sets_else, sets_length, not_yet, one_more, none_yet}
+use Rattle.cells.proofs.Commits.{releases_kept, half_version}
+use Rattle.cells.proofs.stores.release_all.Goals as goal
+
+pub store-requires : goal.store-requires
+store-requires c =
+    let r : Commit = commit_of c.args.seat.now.me.0 in let k = c.loop-change.change-index in let cs = c.args.changes.now in let x : ℕ = id_of cs k in let n : ℕ = c.args.number in
+    let h = c.requires.locked k (omega arith) in let many = c.requires.number in
+    let apart = not_yet (λ (_ : Change). true) cs k (omega arith) c.requires.ascend in
+    let lock : get_or (locked_by false r.locked (take k cs)) x false ≡ true = sets_else (λ (_ : Change). false) r.locked cs x false k (omega arith) apart ∙ h.1 in
+    let version : get_or (numbered_by n r.versions (take k cs)) x 0 ≡ get_or r.versions x 0 = sets_else (λ (_ : Change). n) r.versions cs x 0 k (omega arith) apart in (
+      search rules,
+      omega (arith, h.0),
+      releases_kept _ _ _ (all_released n (take k cs) r) x _ c.loop-change.invariant.1 record {
+        within = h.0;
+        locked = lock;
+        after_clock = c.requires.moved;
+        older = let old = c.requires.versions.2 x in omega arith;
+        changed = subst (λ (z : ℕ). value_of (last_state r.history) x ≢ value_of (state_of r.history (z - 1)) x) (omega arith) (c.requires.changed k (omega arith));
+      } (ap (λ (z : ℕ). 2 * z) (omega arith)),
+    )
+
+pub index_mut-requires : goal.index_mut-requires
+index_mut-requires c =
+    let r : Commit = commit_of c.args.seat.now.me.0 in let k = c.loop-change.change-index in let cs = c.args.changes.now in
+    let h = c.requires.locked k (omega arith) in let same = ap (λ (l : List ℕ). length l) c.requires.versions.0 in let wide = c.requires.versions.1 in
+    let is = ap (λ (l : List ℕ). length l) c.loop-change.invariant.2 in let size = sets_length (λ (_ : Change). c.args.number) c.args.versions.now.items (take k cs) in
+    let ok = c.loop-change.versions.ok in
+    omega (arith, h.0)
+
+pub loop-change-preserved : goal.loop-change-preserved
+loop-change-preserved c =
+    let r : Commit = commit_of c.args.seat.now.me.0 in let k = c.loop-change.change-index in let cs = c.args.changes.now in let x : ℕ = id_of cs k in let n : ℕ = c.args.number in
+    let now : Commit = all_released n (take k cs) r in let h = c.loop-change-test.true in let many = c.requires.number in
+    let last : length r.history - 1 ≡ n = omega arith in
+    let locked = sym (sets_more (λ (_ : Change). false) r.locked cs k h) in let versions = sym (sets_more (λ (_ : Change). n) r.versions cs k h) in let stores = sym (one_more cs r.stores k h) in (
+      (c.store.ensures.0 ∙ c.loop-change.invariant.0.0, c.store.ensures.1 ∙ c.loop-change.invariant.0.1),
+      c.store.ensures.2 now c.loop-change.invariant.1 ∙ (ap (λ (z : ℕ). publishing (after_release z now)) (half_version x)
+          ∙ (ap (λ (z : ℕ). publishing (record (after_release x now) { versions = set now.versions x z })) last ∙ λ i. publishing (record r { locked = locked i; versions = versions i; stores = stores i }))),
+      ap (λ (l : List ℕ). set l x n) c.loop-change.invariant.2 ∙ sym (sets_more (λ (_ : Change). n) c.args.versions.now.items cs k h),
+    )
+
+pub loop-change-init : goal.loop-change-init
+loop-change-init c =
+    let r : Commit = commit_of c.args.seat.now.me.0 in ((refl, refl), c.requires.table.0.1 ∙ ap (λ (n : ℕ). publishing (record r { stores = n })) (none_yet r.stores), refl)

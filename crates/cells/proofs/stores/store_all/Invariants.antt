@@ -1,0 +1,7 @@
+use Rattle.std.proofs.Common.{◌≡◌, Bool, take}
+use Rattle.cells.specs.Sight.{publishing, commit_of}
+use Rattle.cells.specs.Private.{IsSameSeat, all_stored}
+use Rattle.cells.proofs.stores.store_all.Given as goal
+
+abbrev pub invariant-loop-change : goal.invariant-loop-change
+invariant-loop-change l = IsSameSeat l.initial.seat l.seat × ((b : Bool) × (l.seat.me.0 ≡ publishing (all_stored b (take l.change-index l.changes) (commit_of l.initial.seat.me.0))))

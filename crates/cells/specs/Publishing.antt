@@ -1,0 +1,26 @@
+-- What a caller sees of the publisher: its cells, and the history of the states that it published.
+use Rattle.std.specs.Prelude.{◌≡◌, ℕ, ◌+◌, ◌≤◌, false, List, length, slice_index, slice_index_or, ℤ}
+use Rattle.atomic_table.specs.Seated.{TableId}
+use Rattle.txn.specs.Words.{Commit, last_state}
+use Rattle.cells.specs.Cells.{CellsId}
+
+pub record Publishing : Type 0 where
+  pub cells : CellsId
+  -- each state, the oldest first
+  pub history : List (List ℤ)
+  -- how many words the publisher has stored
+  pub stores : ℕ
+
+abbrev pub published : TableId → ℕ → Commit → Publishing
+published table variables c = record { cells = record { table = table; variables = variables }; history = c.history; stores = c.stores }
+
+-- No commit is pending: no version word is locked, the value words are the last state, `number` is its number, and
+-- `versions` are the numbers of the last changes.
+pub record IsResting (c : Commit) (number : ℕ) (versions : List ℕ) : Type 0 where
+  pub counted : number + 1 ≡ length c.history
+  pub versions_are : c.versions ≡ versions
+  pub past : (x : ℕ) → slice_index c.versions x ≤ number
+  pub free : (x : ℕ) → slice_index_or c.locked x false ≡ false
+  pub in_order : c.late ≡ false
+  pub settled : (c.storing ≡ false) × (c.values ≡ last_state c.history)
+  pub sized : (length c.versions ≡ length c.values) × (length c.locked ≡ length c.values)

@@ -1,0 +1,17 @@
+//! Cells that one publisher changes and many readers read with no lock: the reads since a pass
+//! began are of one state of the history, in every schedule of the threads.
+#![tactic(auto)]
+
+mod cells;
+mod opening;
+mod pass;
+mod publisher;
+mod rule;
+mod sight;
+mod stores;
+#[cfg(test)]
+mod tests;
+
+pub use cells::Cells;
+pub use pass::{Pass, Read};
+pub use publisher::Publisher;

@@ -1,0 +1,103 @@
+//! How cells are made.
+ghost use Rattle.std.specs.Prelude.{◌≡◌, ◌+◌, ◌*◌, ◌<◌, ◌≤◌, [], ◌∷◌, length, replicate, IfOk};
+ghost use Rattle.cells.specs.Sight.{commit_of};
+ghost use Rattle.cells.specs.Passing.{new_pass};
+ghost use Rattle.cells.specs.Private.{AreFirstWords, IsSeated, IsSameSeat};
+
+use crate::cells::Cells;
+use crate::pass::Pass;
+use crate::publisher::Publisher;
+use crate::rule::{Board, Enroll};
+use crate::sight::Sight;
+use atomic_table::Seat;
+use std::alloc::{AllocError, Global};
+use std::snapshot::Snapshot;
+use txn::Memory;
+
+impl Cells {
+    /// Makes cells whose variables have these values, the one publisher of them, and so many
+    /// passes.
+    ///
+    /// The history has one state, these values, and its number is 0. Each pass was told of that
+    /// history, has loaded nothing, and is closed. This is the only call of the crate that takes
+    /// memory: `Err` says that a growth was refused, and leaves nothing behind.
+    pub fn open(
+        alloc: Global,
+        values: &[i64],
+        readers: usize,
+    ) -> Result<(Cells, Publisher, Vec<Pass>), Memory>
+        requires variables { length values.now ≤ 256 }
+        requires readers { readers ≤ 32 }
+        ensures cells { IfOk result (λ r. r.0.variables ≡ length values.now) }
+        ensures publisher { IfOk result (λ r.
+            r.1 ≡ record { cells = r.0; history = values.now ∷ []; stores = 0 }) }
+        ensures passes { IfOk result (λ r.
+            r.2.items ≡ replicate readers (new_pass r.0.table (values.now ∷ []))) }
+    {
+        let words = first_words(alloc, values)?;
+        let versions = vec![in alloc; 0; values.len()]?;
+        let mut first = Vec::with_capacity(alloc, values.len())?;
+        first.extend_from_slice(values)?;
+        let (board, mut seat) = Board::of_words(alloc, &words, &Snapshot::of(&first))?;
+        let passes = enroll(alloc, &board, &mut seat, readers)?;
+        let cells = Cells {
+            board,
+            variables: values.len(),
+        };
+        let publisher = Publisher {
+            seat,
+            number: 0,
+            versions,
+        };
+        Ok((cells, publisher, passes))
+    }
+}
+
+// The words of these values: the clock and each version are 0.
+fn first_words(alloc: Global, values: &[i64]) -> Result<Vec<u64>, AllocError>
+    requires { length values.now ≤ 256 }
+    ensures { IfOk result (λ v. AreFirstWords values.now v.items (length values.now)) }
+{
+    let mut words = Vec::with_capacity(alloc, 2 * values.len() + 1)?;
+    words.push(0)?;
+    for value in values {
+        words.push(0)?;
+        words.push(value.cast_unsigned())?;
+    }
+    Ok(words)
+}
+
+// The passes of so many readers. The publisher's seat stays as it was.
+fn enroll(
+    alloc: Global,
+    board: &Board,
+    seat: &mut Seat<(), Sight>,
+    readers: usize,
+) -> Result<Vec<Pass>, AllocError>
+    requires table { IsSeated seat.old board.now.shared.table_id
+        × (0 < board.now.shared.table_id.words) }
+    requires history { 0 < length (commit_of seat.old.me.0).history }
+    ensures seat { IsSameSeat seat.old seat.new × (seat.new.me.0 ≡ seat.old.me.0) }
+    ensures passes { IfOk result (λ v. v.items
+        ≡ replicate readers (new_pass board.now.shared.table_id (commit_of seat.old.me.0).history)) }
+{
+    let mut passes = Vec::with_capacity(alloc, readers)?;
+    for _ in 0..readers {
+        passes.push(enroll_one(board, seat))?;
+    }
+    Ok(passes)
+}
+
+fn enroll_one(board: &Board, seat: &mut Seat<(), Sight>) -> Pass
+    requires table { IsSeated seat.old board.now.shared.table_id
+        × (0 < board.now.shared.table_id.words) }
+    requires history { 0 < length (commit_of seat.old.me.0).history }
+    ensures seat { IsSameSeat seat.old seat.new × (seat.new.me.0 ≡ seat.old.me.0) }
+    ensures pass { result ≡ new_pass board.now.shared.table_id (commit_of seat.old.me.0).history }
+{
+    Pass {
+        seat: board.shared.split_seat::<Enroll>(seat),
+        rv: 0,
+        ready: false,
+    }
+}

@@ -1,0 +1,100 @@
+//! What reads the cells, with no lock.
+ghost use Rattle.std.specs.Prelude.{◌≡◌, ◌<◌, true};
+ghost use Rattle.cells.specs.Passing.{BeginsBy, ReadsBy};
+ghost use Rattle.cells.specs.Answers.{IsReadBy};
+
+use crate::cells::Cells;
+use crate::rule::{LoadClock, LoadValue, LoadVersion, LoadVersionAgain};
+use crate::sight::Sight;
+use atomic_table::Seat;
+use std::marker::Model;
+use txn::VarId;
+
+/// What a read answers.
+#[derive(Clone, Copy, Debug, PartialEq, Eq)]
+pub enum Read {
+    /// The variable's value in the state of the last begin.
+    Value(i64),
+    /// The variable was changed since the begin, or is just being changed.
+    Stale,
+}
+
+/// A reader of the cells. It is open from a `begin` until a read is stale, or until it meets the
+/// publisher.
+///
+/// A caller sees what it has loaded: how much of the history it knows of (`seen`), how often it
+/// loaded the clock and other words, what the last begin loaded (`rv`), and the variable and the
+/// loads of the last read since then. State `rv` of what was seen is the state of the last begin
+/// (`at`).
+#[derive(Drop)]
+pub struct Pass {
+    pub(crate) seat: Seat<(), Sight>,
+    pub(crate) rv: u64,
+    pub(crate) ready: bool,
+}
+
+impl Model for Pass {
+    ghost use Rattle.cells.specs.Sight.{record_of};
+    ghost use Rattle.cells.specs.Passing.{Passing, passing};
+    ghost use Rattle.cells.specs.Private.{IsReading};
+
+    ghost Value = { Passing };
+
+    ghost view = { λ p. passing p.seat.table_id p.ready (record_of p.seat.me.0) };
+
+    ghost invariant = { λ p. IsReading p.seat p.rv };
+}
+
+impl Pass {
+    /// Whether the pass may read.
+    pub fn is_open(&self) -> bool
+        ensures { result ≡ self.now.open_now }
+    {
+        self.ready
+    }
+
+    /// Begins anew, by one load of the clock. The pass is open, and until the next begin its reads
+    /// are of the state whose number was loaded.
+    ///
+    /// That is the last state at that moment, so it is never older than one that this pass knew of
+    /// before. The pass has to be one of these cells.
+    pub fn begin(&mut self, cells: &Cells)
+        requires own { self.old.cells ≡ cells.now }
+        ensures { BeginsBy self.old self.new }
+    {
+        let shared = &cells.board.shared;
+        let number = shared.load::<LoadClock>(&mut self.seat, 0);
+        self.rv = number;
+        self.ready = true;
+    }
+
+    /// Reads a variable by the rule of TL2, in at most three loads: its version word, its value
+    /// word, and its version word again. It takes no lock and waits for nobody.
+    ///
+    /// A `Value` is the variable's value in the state of the last begin. `Stale` comes only where
+    /// the version word was locked or later than that state, or had changed when it was loaded
+    /// again; it closes the pass until the next begin. The pass has to be one of these cells and
+    /// open, and the variable has to exist.
+    pub fn read(&mut self, cells: &Cells, x: VarId) -> Read
+        requires own { self.old.cells ≡ cells.now }
+        requires open { self.old.open_now ≡ true }
+        requires exists { x.0 < cells.now.variables }
+        ensures stays { ReadsBy self.old self.new x.0 }
+        ensures answer { IsReadBy self.old self.new x.0 result }
+    {
+        let x = x.0 as usize;
+        let shared = &cells.board.shared;
+        self.ready = false;
+        let first = shared.load::<LoadVersion>(&mut self.seat, 2 * x + 1);
+        if first % 2 != 0 || first / 2 > self.rv {
+            return Read::Stale;
+        }
+        let value = shared.load::<LoadValue>(&mut self.seat, 2 * x + 2);
+        let second = shared.load::<LoadVersionAgain>(&mut self.seat, 2 * x + 1);
+        if second != first {
+            return Read::Stale;
+        }
+        self.ready = true;
+        Read::Value(value.cast_signed())
+    }
+}

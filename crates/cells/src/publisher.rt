@@ -1,0 +1,92 @@
+//! What changes the cells, one state at a time.
+ghost use Rattle.std.specs.Prelude.{◌≡◌, ◌+◌, ◌*◌, ◌^◌, ◌≤◌, [], ◌∷◌, ◌++◌, length};
+ghost use Rattle.txn.specs.Words.{last_state};
+ghost use Rattle.txn.specs.Stores.{AreChanges, with_changes};
+ghost use Rattle.cells.specs.Passing.{MeetsBy};
+
+use crate::cells::Cells;
+use crate::pass::Pass;
+use crate::rule::{Leave, LoadClockTogether, Part, Take};
+use crate::sight::Sight;
+use crate::stores::{lock_all, move_clock, release_all, store_all};
+use atomic_table::Seat;
+use std::marker::Model;
+use txn::VarId;
+
+/// The one that may change the cells.
+///
+/// A caller sees its cells, the history of all states that it published, the oldest first, and how
+/// many words it has stored.
+#[derive(Drop)]
+pub struct Publisher {
+    pub(crate) seat: Seat<(), Sight>,
+    pub(crate) number: u64,
+    pub(crate) versions: Vec<u64>,
+}
+
+impl Model for Publisher {
+    ghost use Rattle.std.specs.Prelude.{◌≡◌, length};
+    ghost use Rattle.cells.specs.Sight.{publishing, commit_of};
+    ghost use Rattle.cells.specs.Publishing.{Publishing, published, IsResting};
+
+    ghost Value = { Publishing };
+
+    ghost view = { λ p.
+        published p.seat.table_id (length p.versions.items) (commit_of p.seat.me.0) };
+
+    ghost invariant = { λ p.
+        (p.seat.me.0 ≡ publishing (commit_of p.seat.me.0))
+        × IsResting (commit_of p.seat.me.0) p.number p.versions.items };
+}
+
+impl Publisher {
+    /// The number of the last state: how many states were published after the first.
+    pub fn number(&self) -> u64
+        ensures { result + 1 ≡ length self.now.history }
+    {
+        self.number
+    }
+
+    /// Adds one state to the history: the last one with these changes, of which there may be none.
+    /// It always succeeds, by `3k + 1` stores for `k` changes.
+    ///
+    /// The variables have to exist and to ascend, each new value has to differ from the present
+    /// one, and fewer than 2^62 states may have been published before. The publisher has to be that
+    /// of these cells.
+    pub fn publish(&mut self, cells: &Cells, changes: &[(VarId, i64)])
+        requires own { self.old.cells ≡ cells.now }
+        requires changes { AreChanges (last_state self.old.history) changes.now }
+        requires room { length self.old.history ≤ 2 ^ 62 }
+        ensures cells { self.new.cells ≡ self.old.cells }
+        ensures history { self.new.history
+            ≡ self.old.history ++ with_changes (last_state self.old.history) changes.now ∷ [] }
+        ensures stores { self.new.stores ≡ self.old.stores + 3 * length changes.now + 1 }
+    {
+        let board = &cells.board;
+        let number = self.number + 1;
+        lock_all(board, &mut self.seat, &self.versions, changes);
+        store_all(board, &mut self.seat, changes);
+        move_clock(board, &mut self.seat, number);
+        release_all(board, &mut self.seat, &mut self.versions, changes, number);
+        self.number = number;
+    }
+
+    /// Tells a pass the whole history, by one load of the clock, and closes it. A begin after it is
+    /// at the present state or a later one.
+    ///
+    /// Without a meeting nothing is promised of how far behind a pass is. Both have to be of these
+    /// cells.
+    pub fn meet(&mut self, cells: &Cells, pass: &mut Pass)
+        requires own { self.old.cells ≡ cells.now }
+        requires pass { pass.old.cells ≡ cells.now }
+        ensures same { self.new ≡ self.old }
+        ensures met { MeetsBy pass.old pass.new self.old.history }
+    {
+        let shared = &cells.board.shared;
+        let record = shared.split_seat::<Leave>(&mut pass.seat);
+        shared.join_seat::<Take>(&mut self.seat, record);
+        shared.load::<LoadClockTogether>(&mut self.seat, 0);
+        pass.seat = shared.split_seat::<Part>(&mut self.seat);
+        pass.ready = false;
+    }
+}
