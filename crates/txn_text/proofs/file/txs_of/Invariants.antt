@@ -1,0 +1,13 @@
+use Rattle.std.proofs.Common.{◌≡◌, length}
+use Rattle.std.specs.Prelude.{codes}
+use Rattle.txn_text.specs.Tokens.{tokens}
+use Rattle.txn_text.specs.Reading.{tx_at, begins, all_of}
+use Rattle.txn_text.specs.View.{view_txs}
+use Rattle.txn_text.proofs.Many.{with_front}
+use Rattle.txn_text.proofs.file.txs_of.Given as goal
+
+abbrev pub invariant-txs : goal.invariant-txs
+invariant-txs l = with_front (view_txs l.txs.items) (all_of (begins (codes "tx")) tx_at (tokens l.rest)) ≡ all_of (begins (codes "tx")) tx_at (tokens l.fn.bytes)
+
+abbrev pub decreases-txs : goal.decreases-txs
+decreases-txs l = length l.rest

@@ -1,0 +1,18 @@
+use Rattle.std.proofs.Common.{◌≡◌, ◌∙◌, ap, sym, map, rules}
+use Rattle.txn.specs.Tree.{program_of}
+use Rattle.txn_text.specs.Resolving.{each, variable_of, program_in, run_in}
+use Rattle.txn_text.specs.View.{texts, view_pairs, view_txs, view_file}
+use Rattle.txn_text.specs.Parts.{view_variable}
+use Rattle.txn_text.proofs.Steps.{done}
+use Rattle.txn_text.proofs.Parts.{parts_are, converted_is}
+use Rattle.txn_text.proofs.resolve.convert.Goals as goal
+
+pub returns : goal.returns
+returns c =
+    let vars = texts c.args.vars.now.keys in
+    let txs = texts c.args.txs.now.keys in
+    let a = ap (λ l. each variable_of (view_pairs l)) (sym c.deref.ensures.value) ∙ c.in_ok-variables.ensures in
+    let b = ap (λ l. each (program_in vars) (view_txs l)) (sym c.deref-2.ensures.value) ∙ c.in_ok-programs.ensures in
+    let d = ap (λ l. each (run_in txs) (view_pairs l)) (sym c.deref-3.ensures.value) ∙ c.in_ok-runs.ensures in
+    converted_is vars txs (view_file c.args.file.now) (map view_variable c.in_ok-variables.variables.items) (map program_of c.in_ok-programs.programs.items) c.in_ok-runs.runs.items a b d
+    ∙ ap done (parts_are c.in_ok-variables.variables.items c.in_ok-programs.programs.items c.in_ok-runs.runs.items)

@@ -1,0 +1,14 @@
+pub mod Bytes
+pub mod Tokens
+pub mod Tree
+pub mod Reading
+pub mod View
+pub mod Written
+pub mod Resolving
+pub mod Parts
+pub mod Spelling
+pub mod Words
+pub mod ReportText
+pub mod Canonical
+pub mod Fits
+pub mod ReportFits
