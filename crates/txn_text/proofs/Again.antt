@@ -1,25 +1,20 @@
 -- The file of a listing whose names, limits and integers hold is resolved to it.
-use Rattle.std.proofs.Common.{◌≡◌, ℕ, suc, ◌≤◌, ◌<◌, max, Bool, true, false, ◌&&◌, cond, List, [], ◌∷◌, ◌++◌, length, map, Result, Ok, Err, refl, sym, ap, subst, ◌∙◌, arith}
-use Rattle.std.specs.Prelude.{ℤ, pos, nat_lt, nat_le, ◌^◌, sum_by}
+use Rattle.std.proofs.Common.{◌≡◌, ℕ, ◌≤◌, ◌<◌, true, List, [], ◌∷◌, length, map, Ok, refl, ap, ◌∙◌, arith}
+use Rattle.std.specs.Prelude.{ℤ, pos, nat_lt, nat_le, ◌^◌}
 use Rattle.std.specs.List.{list_all}
 use Rattle.std.proofs.lemmas.List.{length-map}
 use Rattle.std.proofs.lemmas.Bool.{lt-ltb, leb-true}
 use Rattle.txn.specs.declared.ast.TxId.{TxId}
-use Rattle.txn.specs.declared.limits.TheConstants.{MAX_VARIABLES, MAX_TRANSACTIONS, MAX_TASKS, MAX_NAME, MAX_REPEAT}
+use Rattle.txn.specs.declared.limits.TheConstants.{MAX_VARIABLES, MAX_TRANSACTIONS, MAX_TASKS, MAX_REPEAT}
 use Rattle.txn.specs.Arithmetic.{fits}
 use Rattle.txn.specs.Tree.{Expression, Condition, Statement, Statements, Program}
 use Rattle.txn.specs.Tree as t
 use Rattle.txn.specs.Listing.{Listing}
-use Rattle.txn.specs.Names.{is_name, are_distinct, knows_expression, knows_condition, knows_statement, knows_statements, knows_program, is_well_formed, names_hold}
+use Rattle.txn.specs.Names.{are_distinct, knows_expression, knows_condition, knows_statement, knows_statements, knows_program, is_well_formed, names_hold}
 use Rattle.txn.specs.Limits.{largest_repeat, largest_repeat_of_all, program_fits, limits_hold}
-use Rattle.txn_text.specs.Tree.{Pair, Declaration, File}
-use Rattle.txn_text.specs.declared.fault.ReadFault.{ReadFault}
-use Rattle.txn_text.specs.declared.fault.ReadFault.TheVariants as faults
-use Rattle.txn_text.specs.Reading.{◌>>=◌}
-use Rattle.txn_text.specs.Written.{name_at, written_expression, written_condition, written_statement, written_statements, written_program, written_vars, written_run, written}
-use Rattle.txn_text.specs.Resolving.{number_of, count_of, expr_known, cond_known, stmt_known, stmts_known, tx_known, run_known, uses_known, expression_in, condition_in, statement_in, statements_in, each, variable_of, program_in, run_in, listing, converted, pair_name, tx_name, declared_after, resolved}
+use Rattle.txn_text.specs.Written.{written_expression, written_condition, written_statement, written_statements, written_program, written_vars, written_run, written}
+use Rattle.txn_text.specs.Resolving.{number_of, count_of, expr_known, cond_known, stmt_known, stmts_known, tx_known, run_known, uses_known, expression_in, condition_in, statement_in, statements_in, each, variable_of, program_in, run_in, converted, pair_name, resolved}
 use Rattle.txn_text.specs.Spelling.{expression_integers, condition_integers, statement_integers, statements_integers, program_integers, integers_fit}
-use Rattle.txn_text.proofs.Steps.{done}
 use Rattle.txn_text.proofs.Declared.{both, known_again, id_again, variable_again, declared_again}
 use Rattle.txn_text.proofs.Back.{both_true, names_of_txs}
 
@@ -146,7 +141,7 @@ seconds [] (value ∷ values) h = absurd (omega arith)
 seconds (name ∷ names) [] h = absurd (omega arith)
 seconds (name ∷ names) (value ∷ values) h = ap (λ vs. value ∷ vs) (seconds names values (omega arith))
 
-var_names : (names : List (List ℕ)) (values : List ℤ) → length values ≡ length names → map pair_name (written_vars names values) ≡ names
+pub var_names : (names : List (List ℕ)) (values : List ℤ) → length values ≡ length names → map pair_name (written_vars names values) ≡ names
 var_names [] values h = refl
 var_names (name ∷ names) [] h = absurd (omega arith)
 var_names (name ∷ names) (value ∷ values) h = ap (λ ns. name ∷ ns) (var_names names values (omega arith))

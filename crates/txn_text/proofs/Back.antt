@@ -1,5 +1,5 @@
 -- A listing that a file is resolved to is written as that file.
-use Rattle.std.proofs.Common.{◌≡◌, ℕ, Bool, true, false, ◌&&◌, cond, List, [], ◌∷◌, length, map, Result, Ok, Err, refl, sym, ap, subst, ◌∙◌, ◌⊎◌, inl, inr}
+use Rattle.std.proofs.Common.{◌≡◌, ℕ, Bool, true, ◌&&◌, List, [], ◌∷◌, length, map, Result, Ok, Err, refl, sym, ap, subst, ◌∙◌, inl, inr}
 use Rattle.std.specs.Prelude.{ℤ, pos, negsuc, nat_lt, ◌^◌}
 use Rattle.std.specs.List.{list_all}
 use Rattle.std.proofs.lemmas.List.{length-map}
@@ -19,8 +19,7 @@ use Rattle.txn_text.specs.declared.words.Connective.{Connective}
 use Rattle.txn_text.specs.declared.words.Connective.TheVariants as connective
 use Rattle.txn_text.specs.declared.fault.ReadFault.{ReadFault}
 use Rattle.txn_text.specs.declared.fault.ReadFault.TheVariants as faults
-use Rattle.txn_text.specs.Reading.{◌>>=◌}
-use Rattle.txn_text.specs.Written.{name_at, written_expression, written_condition, written_statement, written_statements, written_program, written_vars, written_run, written}
+use Rattle.txn_text.specs.Written.{name_at, written_expression, written_condition, written_statement, written_statements, written_program, written_vars, written}
 use Rattle.txn_text.specs.Resolving.{number_of, count_of, variable_in, place_in, binary, compare, connect, expression_in, condition_in, statement_in, statements_in, each, variable_of, program_in, run_in, listing, converted, pair_name, tx_name, declared_after, uses_known, resolved}
 use Rattle.txn_text.specs.Spelling.{expression_integers, condition_integers, statement_integers, statements_integers, program_integers, integers_fit}
 use Rattle.txn_text.proofs.Steps.{bind_ok, ok_is, done, chosen}

@@ -1,16 +1,15 @@
 -- A condition that is read is spelled so, and what is spelled so is read.
-use Rattle.std.proofs.Common.{◌≡◌, ℕ, zero, suc, ◌≤◌, max, List, [], ◌∷◌, ◌++◌, Result, Ok, Err, refl, sym, ap, subst, ◌∙◌, append_assoc, arith}
+use Rattle.std.proofs.Common.{◌≡◌, ℕ, zero, suc, ◌≤◌, List, [], ◌∷◌, ◌++◌, Ok, refl, sym, ap, subst, ◌∙◌, append_assoc, arith}
 use Rattle.std.specs.Prelude.{codes}
 use Rattle.txn_text.specs.Tokens.{Lexeme, Opens, Closes}
 use Rattle.txn_text.specs.Tokens as token
-use Rattle.txn_text.specs.Tree.{comparison_word, connective_word, expr_tokens, expr_depth, Cond, Compare, Not, Connect, cond_tokens, cond_depth, form}
+use Rattle.txn_text.specs.Tree.{comparison_word, connective_word, expr_tokens, Cond, Compare, Not, Connect, cond_tokens, cond_depth}
 use Rattle.txn_text.specs.declared.words.Test.{Test}
 use Rattle.txn_text.specs.declared.words.Test.TheVariants as tests
-use Rattle.txn_text.specs.declared.fault.ReadFault.{ReadFault}
-use Rattle.txn_text.specs.Reading.{◌>>=◌, word_at, close_at, test_of, expr_at, cond_with, cond_at}
-use Rattle.txn_text.proofs.Steps.{bind_ok, ok_is, done, word_takes, word_again, close_takes, close_again, test_word, test_takes, test_again}
+use Rattle.txn_text.specs.Reading.{word_at, close_at, test_of, expr_at, cond_with, cond_at}
+use Rattle.txn_text.proofs.Steps.{bind_ok, ok_is, word_takes, word_again, close_takes, close_again, test_word, test_takes, test_again}
 use Rattle.txn_text.proofs.Many.{Takes, Taking}
-use Rattle.txn_text.proofs.Exprs.{ExprWithin, expr_takes, expr_again}
+use Rattle.txn_text.proofs.Exprs.{expr_takes, expr_again}
 
 abbrev pub CondWithin : ℕ → Cond → Type 0
 CondWithin depth c = cond_depth c ≤ depth

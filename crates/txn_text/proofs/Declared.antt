@@ -1,16 +1,14 @@
 -- Names that are declared once, and their places.
-use Rattle.std.proofs.Common.{◌≡◌, ℕ, zero, suc, ◌+◌, ◌<◌, ◌≤◌, Bool, true, false, ◌&&◌, ◌||◌, not, cond, List, [], ◌∷◌, ◌++◌, length, get_or, map, Option, Some, None, Result, Ok, Err, refl, sym, ap, subst, ◌∙◌, append_assoc, arith, ◌⊎◌, inl, inr}
+use Rattle.std.proofs.Common.{◌≡◌, ℕ, zero, suc, ◌<◌, ◌≤◌, Bool, true, false, ◌&&◌, ◌||◌, not, List, [], ◌∷◌, ◌++◌, length, Option, Some, None, Ok, Err, refl, sym, ap, subst, ◌∙◌, append_assoc, arith, inl, inr}
 use Rattle.std.specs.Prelude.{position, bytes_eq, nat_lt, ◌^◌}
-use Rattle.std.specs.List.{list_any, prefix_len, position_or_len}
+use Rattle.std.specs.List.{list_any, position_or_len}
 use Rattle.std.proofs.lemmas.Slice.Eq.{bytes_eq-Decides}
 use Rattle.std.proofs.lemmas.List.Quantifiers.{position-Some}
 use Rattle.std.proofs.lemmas.Bool.{lt-ltb, ltb-true}
 use Rattle.std.proofs.lemmas.List.{append-nil}
 use Rattle.txn.specs.declared.ast.VarId.{VarId}
 use Rattle.txn.specs.Names.{are_new, are_distinct}
-use Rattle.txn_text.specs.declared.fault.ReadFault.{ReadFault}
 use Rattle.txn_text.specs.declared.fault.ReadFault.TheVariants as faults
-use Rattle.txn_text.specs.Reading.{◌>>=◌}
 use Rattle.txn_text.specs.Written.{name_at}
 use Rattle.txn_text.specs.Resolving.{declared_one, declared_after, is_known, placed, place_in, variable_in}
 use Rattle.txn_text.proofs.Steps.{bind_ok, ok_is, done, chosen}

@@ -1,12 +1,12 @@
 -- An expression that is read is spelled so, and what is spelled so is read.
-use Rattle.std.proofs.Common.{◌≡◌, ℕ, zero, suc, ◌≤◌, max, List, [], ◌∷◌, ◌++◌, Result, Ok, Err, refl, sym, ap, subst, ◌∙◌, append_assoc, arith}
+use Rattle.std.proofs.Common.{◌≡◌, ℕ, zero, suc, ◌≤◌, List, [], ◌∷◌, ◌++◌, Result, Ok, Err, refl, sym, ap, subst, ◌∙◌, append_assoc, arith}
 use Rattle.txn_text.specs.Tokens.{Lexeme, Opens, Closes}
 use Rattle.txn_text.specs.Tokens as token
-use Rattle.txn_text.specs.Tree.{operator_word, Expr, Int, Name, Binary, expr_tokens, expr_depth, form}
+use Rattle.txn_text.specs.Tree.{operator_word, Expr, Int, Name, Binary, expr_tokens, expr_depth}
 use Rattle.txn_text.specs.declared.fault.ReadFault.{ReadFault}
 use Rattle.txn_text.specs.declared.fault.ReadFault.TheVariants.{Shape}
-use Rattle.txn_text.specs.Reading.{◌>>=◌, next_at, name_at, close_at, operator_of, binary_with, expr_from, expr_at}
-use Rattle.txn_text.proofs.Steps.{bind_ok, ok_is, done, next_takes, name_takes, name_again, close_takes, close_again, operator_takes, operator_again}
+use Rattle.txn_text.specs.Reading.{next_at, name_at, close_at, operator_of, binary_with, expr_from, expr_at}
+use Rattle.txn_text.proofs.Steps.{bind_ok, ok_is, next_takes, name_takes, name_again, close_takes, close_again, operator_takes, operator_again}
 use Rattle.txn_text.proofs.Many.{Takes, Taking}
 
 abbrev pub ExprWithin : ℕ → Expr → Type 0

@@ -1,5 +1,5 @@
 -- A file that is read is spelled so, and what is spelled so is read.
-use Rattle.std.proofs.Common.{◌≡◌, ℕ, zero, suc, ◌≤◌, ◌<◌, Bool, true, false, cond, ltb, inl, inr, List, [], ◌∷◌, ◌++◌, length, Result, Ok, Err, refl, sym, ap, subst, ◌∙◌, append_assoc, arith, length-append}
+use Rattle.std.proofs.Common.{◌≡◌, ℕ, true, false, cond, ltb, inl, inr, List, [], ◌∷◌, ◌++◌, length, Result, Ok, Err, refl, sym, ap, subst, ◌∙◌, append_assoc, arith, length-append}
 use Rattle.std.specs.Prelude.{codes, IfOk}
 use Rattle.std.proofs.lemmas.Bool.{ltb-false, le-ltb}
 use Rattle.std.specs.Str.{bytes_eq}
@@ -9,16 +9,16 @@ use Rattle.std.proofs.lemmas.List.{append-nil}
 use Rattle.txn_text.specs.Tokens.{Lexeme, Opens, Closes, tokens}
 use Rattle.txn_text.specs.Bytes.{is_allowed}
 use Rattle.txn_text.specs.Tokens as token
-use Rattle.txn_text.specs.Tree.{expr_tokens, stmt_tokens, expr_depth, stmt_depth, Pair, Declaration, File, pair_tokens, tx_tokens, file_tokens, IsShallow, AreShallow, SpellsTree, max_len}
+use Rattle.txn_text.specs.Tree.{expr_tokens, stmt_tokens, Pair, Declaration, File, pair_tokens, tx_tokens, file_tokens, IsShallow, AreShallow, SpellsTree, max_len}
 use Rattle.txn_text.specs.declared.fault.ReadFault.{ReadFault}
-use Rattle.txn_text.specs.declared.fault.ReadFault.TheVariants.{Shape, TooLong, BadByte}
+use Rattle.txn_text.specs.declared.fault.ReadFault.TheVariants.{TooLong, BadByte}
 use Rattle.txn_text.specs.declared.file.RawFile.{RawFile}
 use Rattle.txn_text.specs.View.{view_file}
-use Rattle.txn_text.specs.Reading.{◌>>=◌, Read, name_at, int_at, close_at, open_at, word_at, form_at, begins, all_of, expr_at, stmt_at, pair_at, tx_at, end_at, file_of, tree_of, Gives}
-use Rattle.txn_text.proofs.Steps.{bind_ok, ok_is, done, chosen, name_takes, name_again, int_takes, int_again, close_takes, close_again, form_takes, form_again, form_other}
+use Rattle.txn_text.specs.Reading.{name_at, int_at, close_at, open_at, word_at, form_at, begins, all_of, expr_at, stmt_at, pair_at, tx_at, end_at, file_of, tree_of, Gives}
+use Rattle.txn_text.proofs.Steps.{bind_ok, ok_is, chosen, name_takes, name_again, int_takes, int_again, close_takes, close_again, form_takes, form_again, form_other}
 use Rattle.txn_text.proofs.Exprs.{expr_takes, expr_again}
 use Rattle.txn_text.proofs.Stmts.{stmt_takes, stmt_again}
-use Rattle.txn_text.proofs.Many.{Shortens, Takes, TakesAll, Taking, all_takes, all_again}
+use Rattle.txn_text.proofs.Many.{Shortens, Takes, Taking, all_takes, all_again}
 
 abbrev pub Any : Pair → Type 0
 Any p = Unit {0}

@@ -15,6 +15,8 @@ pub mod Declared
 pub mod Back
 pub mod Again
 pub mod Spelt
+pub mod Blame
+pub mod FirstFault
 pub mod Lines
 pub mod Appends
 pub mod Pieces

@@ -1,11 +1,11 @@
 -- What is read is spelled so, and what is spelled so is read.
-use Rattle.std.proofs.Common.{◌≡◌, ℕ, Bool, true, false, cond, List, Result, Ok, Err, refl, sym, ap, subst, ◌∙◌, ◌⊎◌, inl, inr}
-use Rattle.std.specs.Prelude.{IfOk, IfErr, Some, None, Option}
+use Rattle.std.proofs.Common.{◌≡◌, ℕ, true, cond, List, Result, Ok, Err, refl, sym, subst, ◌⊎◌, inl, inr}
+use Rattle.std.specs.Prelude.{IfOk, IfErr, Some, None}
 use Rattle.txn.specs.Listing.{Listing}
 use Rattle.txn.specs.Names.{names_hold}
 use Rattle.txn.specs.Limits.{limits_hold}
-use Rattle.txn_text.specs.Tree.{File, SpellsTree}
-use Rattle.txn_text.specs.Reading.{◌>>=◌, Gives, Fails, tree_of}
+use Rattle.txn_text.specs.Tree.{SpellsTree}
+use Rattle.txn_text.specs.Reading.{Gives, Fails, tree_of}
 use Rattle.txn_text.specs.Written.{written}
 use Rattle.txn_text.specs.Resolving.{resolved}
 use Rattle.txn_text.specs.Spelling.{Spells, lawful, listing_at, fault_in, first_fault}

@@ -1,8 +1,8 @@
 -- A statement that is read is spelled so, and what is spelled so is read.
-use Rattle.std.proofs.Common.{◌≡◌, ℕ, zero, suc, ◌≤◌, ◌<◌, ◌-◌, max, Bool, true, false, cond, List, [], ◌∷◌, ◌++◌, length, Result, Ok, Err, refl, sym, ap, subst, ◌∙◌, append_assoc, arith, ◌⊎◌, inl, inr, length-append}
+use Rattle.std.proofs.Common.{◌≡◌, ℕ, zero, suc, ◌≤◌, ◌<◌, ◌-◌, true, false, List, [], ◌∷◌, ◌++◌, length, Ok, refl, sym, ap, subst, ◌∙◌, append_assoc, arith, length-append}
 use Rattle.txn_text.specs.Tokens.{Lexeme, Opens, Closes}
 use Rattle.txn_text.specs.Tokens as token
-use Rattle.txn_text.specs.Tree.{Expr, expr_tokens, expr_depth, form, cond_tokens, cond_depth, Stmt, Skip, Set, Seq, If, Repeat, Retry, OrElse, Throw, Stmts, NoStmts, MoreStmts, stmt_tokens, stmts_tokens, stmt_depth, stmts_depth, keyword_word}
+use Rattle.txn_text.specs.Tree.{expr_tokens, expr_depth, form, cond_tokens, Stmt, Skip, Set, Seq, If, Repeat, Retry, OrElse, Throw, Stmts, NoStmts, MoreStmts, stmt_tokens, stmts_tokens, stmt_depth, stmts_depth, keyword_word}
 use Rattle.txn_text.specs.declared.words.Keyword.{Keyword}
 use Rattle.txn_text.specs.declared.words.Keyword.TheVariants as keywords
 use Rattle.txn_text.specs.declared.fault.ReadFault.{ReadFault}
@@ -12,7 +12,7 @@ use Rattle.txn_text.proofs.Exprs.{expr_takes, expr_again}
 use Rattle.txn_text.proofs.Conds.{cond_takes, cond_again}
 use Rattle.std.specs.List.{flat_map, AllByRecursion}
 use Rattle.std.proofs.lemmas.List.Concat.{flat_map-cons}
-use Rattle.txn_text.proofs.Many.{Shortens, Takes, TakesAll, Taking, all_takes, all_again, failed}
+use Rattle.txn_text.proofs.Many.{Shortens, Takes, Taking, all_takes, all_again, failed}
 
 abbrev pub Within : ℕ → Stmt → Type 0
 Within depth s = stmt_depth s ≤ depth

@@ -1,12 +1,10 @@
 -- Names as texts: where they stand, and where they are used.
-use Rattle.std.proofs.Common.{◌≡◌, ℕ, not, Bool, true, false, ◌&&◌, ◌||◌, cond, List, [], ◌∷◌, ◌++◌, map, Option, Some, None, Bor, Result, Ok, Err, refl, sym, ap, ◌∙◌}
+use Rattle.std.proofs.Common.{◌≡◌, ℕ, not, Bool, true, false, ◌&&◌, ◌||◌, cond, List, [], ◌∷◌, ◌++◌, map, Bor, Ok, Err, refl, ap, ◌∙◌}
 use Rattle.std.specs.Prelude.{position, bytes_eq}
 use Rattle.std.specs.List.{list_all, list_any}
 use Rattle.std.proofs.lemmas.List.Folds.{list_all-map}
 use Rattle.txn.proofs.Lawful.{position-map}
 use Rattle.txn_text.specs.declared.file.RawFile.{RawFile}
-use Rattle.txn_text.specs.declared.file.RawPair.{RawPair}
-use Rattle.txn_text.specs.declared.file.RawTx.{RawTx}
 use Rattle.std.proofs.lemmas.List.{map_push}
 use Rattle.indexmap.specs.IndexSet.{insert_key}
 use Rattle.txn_text.specs.declared.fault.ReadFault.TheVariants as faults

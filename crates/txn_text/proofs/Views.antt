@@ -1,5 +1,5 @@
 -- What a sequence is seen as.
-use Rattle.std.proofs.Common.{◌≡◌, List, [], ◌∷◌, refl, ap, ◌∙◌, Vec, Global}
+use Rattle.std.proofs.Common.{◌≡◌, refl, ap, ◌∙◌, Vec, Global}
 use mathlib.Core.Former.{Count}
 use Rattle.txn_text.specs.declared.stmt.RawStmt.{RawStmt, Seq, Seq', Row_of-RawStmt, end_of-RawStmt, more_of-RawStmt, items-the_row-RawStmt, items_hidden-the_row-RawStmt-0}
 use Rattle.txn_text.specs.Tree.{Stmts, MoreStmts}

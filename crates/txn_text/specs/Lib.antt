@@ -7,6 +7,7 @@ pub mod Written
 pub mod Resolving
 pub mod Parts
 pub mod Spelling
+pub mod Faults
 pub mod Words
 pub mod ReportText
 pub mod Canonical

@@ -1,5 +1,5 @@
 -- Which listing the bytes of a file spell, and which fault is the first where they spell none.
-use Rattle.std.specs.Prelude.{◌≡◌, ◌<◌, ◌≤◌, ℕ, Bool, true, false, ◌&&◌, if◌then◌else◌, Option, Some, None, Result, Ok, Err, List, length}
+use Rattle.std.specs.Prelude.{◌≡◌, ℕ, Bool, true, ◌&&◌, if◌then◌else◌, Option, Some, None, Result, Ok, Err, List, length}
 use Rattle.std.specs.List.{list_all}
 use Rattle.txn.specs.Arithmetic.{fits}
 use Rattle.txn.specs.Tree.{Expression, Condition, Statement, Statements, Program}
@@ -7,13 +7,12 @@ use Rattle.txn.specs.Tree as t
 use Rattle.txn.specs.Listing.{Listing}
 use Rattle.txn.specs.Names.{names_hold}
 use Rattle.txn.specs.Limits.{limits_hold}
-use Rattle.txn_text.specs.Bytes.{is_allowed}
-use Rattle.txn_text.specs.Tree.{File, SpellsTree, max_len}
+use Rattle.txn_text.specs.Tree.{SpellsTree}
 use Rattle.txn_text.specs.Written.{written}
 use Rattle.txn_text.specs.Reading.{◌>>=◌, tree_of}
 use Rattle.txn_text.specs.Resolving.{resolved}
 use Rattle.txn_text.specs.declared.fault.ReadFault.{ReadFault}
-use Rattle.txn_text.specs.declared.fault.ReadFault.TheVariants.{TooLong, BadByte, Shape, Name, Limit, Memory}
+use Rattle.txn_text.specs.declared.fault.ReadFault.TheVariants.{Name, Limit}
 
 -- each integer is one of 64 signed bits
 abbrev pub expression_integers : Expression → Bool
@@ -79,8 +78,3 @@ fault_in (Err e) = Some e
 -- the first kind of fault, where there is one
 abbrev pub first_fault : List ℕ → Option ReadFault
 first_fault bytes = fault_in (listing_at bytes)
-
--- a reader that may run out of memory gives this listing
-abbrev pub IsThat : Listing → Result Listing ReadFault → Type 0
-IsThat l (Ok c) = c ≡ l
-IsThat l (Err e) = e ≡ Memory

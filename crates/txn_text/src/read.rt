@@ -3,7 +3,7 @@
 ghost use Rattle.std.specs.Prelude.{◌≡◌, Some, IfOk, IfErr, ◌⊎◌};
 ghost use Rattle.txn.specs.Listing.{Listing};
 ghost use Rattle.txn_text.specs.Reading.{Gives};
-ghost use Rattle.txn_text.specs.Spelling.{Spells, listing_at, lawful, first_fault, IsThat};
+ghost use Rattle.txn_text.specs.Spelling.{Spells, listing_at, lawful, first_fault};
 ghost use Rattle.txn_text.specs.Parts.{view_parts};
 ghost use Rattle.txn_text.specs.declared.fault.ReadFault.TheVariants.{Memory};
 

@@ -1,4 +1,4 @@
-use Rattle.std.proofs.Common.{◌∙◌, ap}
+use Rattle.std.proofs.Common.{ap}
 use Rattle.txn_text.specs.Spelling.{fault_in}
 use Rattle.txn_text.proofs.Spelt.{spelled_listing, faultless_is}
 use Rattle.txn_text.proofs.laws.faults_where_none_is_spelled.Goals as goal

@@ -1,11 +1,10 @@
-use Rattle.std.proofs.Common.{◌≡◌, ℕ, suc, ◌+◌, Bool, true, false, cond, List, [], ◌∷◌, ◌++◌, length, take, drop, refl, sym, ap, ◌∙◌, arith, add-one}
-use Rattle.std.specs.List.{prefix_len, list_all}
+use Rattle.std.proofs.Common.{◌≡◌, suc, ◌+◌, true, false, ◌∷◌, take, drop, refl, ap, ◌∙◌, arith}
+use Rattle.std.specs.List.{prefix_len}
 use Rattle.std.proofs.lemmas.Grind.{common_steps}
 use Rattle.std.proofs.lemmas.Bool.{ne_eqb}
-use Rattle.txn_text.specs.Bytes.{is_atom_byte, is_in_line}
-use Rattle.txn_text.specs.Tokens.{atom, tokens}
-use Rattle.txn_text.specs.View.{view, front}
-use Rattle.txn_text.proofs.Lexing.{tokens-open, tokens-close, tokens-space, tokens-newline, tokens-comment, tokens-atom, tokens-blank}
+use Rattle.txn_text.specs.Bytes.{is_atom_byte}
+use Rattle.txn_text.specs.Tokens.{tokens}
+use Rattle.txn_text.proofs.Lexing.{tokens-open, tokens-close, tokens-comment, tokens-atom, tokens-blank}
 use Rattle.txn_text.proofs.lexer.step.Goals as goal
 
 pub returns-in-40-clause-some : goal.returns-in-40-clause-some

@@ -1,4 +1,4 @@
-use Rattle.std.proofs.Common.{◌≡◌, subst}
+use Rattle.std.proofs.Common.{subst}
 use Rattle.txn.specs.Listing.{Listing}
 use Rattle.txn_text.specs.Reading.{Gives}
 use Rattle.txn_text.proofs.Spelt.{is_found, is_fault, spelled_listing}

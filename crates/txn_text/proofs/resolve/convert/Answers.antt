@@ -1,4 +1,4 @@
-use Rattle.std.proofs.Common.{◌≡◌, ◌∙◌, ap, sym, map, rules}
+use Rattle.std.proofs.Common.{◌∙◌, ap, sym, map}
 use Rattle.txn.specs.Tree.{program_of}
 use Rattle.txn_text.specs.Resolving.{each, variable_of, program_in, run_in}
 use Rattle.txn_text.specs.View.{texts, view_pairs, view_txs, view_file}

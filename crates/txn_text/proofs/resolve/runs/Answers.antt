@@ -1,4 +1,3 @@
-use Rattle.std.proofs.Common.{◌≡◌, ◌++◌, ◌∷◌, []}
 use Rattle.txn_text.specs.Resolving.{each, run_in}
 use Rattle.txn_text.specs.View.{texts, view_pair, view_pairs}
 use Rattle.txn_text.proofs.Each.{loop_more}

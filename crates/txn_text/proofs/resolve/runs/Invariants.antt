@@ -1,4 +1,4 @@
-use Rattle.std.proofs.Common.{◌≡◌, drop, map}
+use Rattle.std.proofs.Common.{◌≡◌, drop}
 use Rattle.txn_text.specs.Resolving.{each, run_in}
 use Rattle.txn_text.specs.View.{texts, view_pairs}
 use Rattle.txn_text.proofs.Each.{joined}

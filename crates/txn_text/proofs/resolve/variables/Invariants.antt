@@ -1,7 +1,7 @@
 use Rattle.std.proofs.Common.{◌≡◌, drop, map}
 use Rattle.txn_text.specs.Parts.{view_variable}
 use Rattle.txn_text.specs.Resolving.{each, variable_of}
-use Rattle.txn_text.specs.View.{texts, view_pairs}
+use Rattle.txn_text.specs.View.{view_pairs}
 use Rattle.txn_text.proofs.Each.{joined}
 use Rattle.txn_text.proofs.resolve.variables.Given as goal
 

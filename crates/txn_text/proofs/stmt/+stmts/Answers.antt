@@ -1,15 +1,14 @@
-use Rattle.std.proofs.Common.{◌≡◌, ◌++◌, ◌∷◌, ◌-◌, ◌<◌, ℕ, [], List, Result, Ok, Bor, rules, arith, ap, sym, subst, ◌∙◌, refl}
+use Rattle.std.proofs.Common.{◌≡◌, ◌++◌, ◌∷◌, ◌-◌, ◌<◌, ℕ, [], List, Result, Ok, Bor, arith, ap, sym, subst, ◌∙◌, refl}
 use Rattle.std.proofs.lemmas.Result.{err_from_is_err_and}
 use Rattle.std.proofs.lemmas.List.{map_push}
 use Rattle.txn_text.specs.declared.stmt.RawStmt.{RawStmt}
-use Rattle.txn_text.specs.declared.stmt.RawStmt as raw
 use Rattle.txn_text.specs.declared.words.Keyword.{Keyword}
 use Rattle.txn_text.specs.declared.words.Keyword.TheVariants as keywords
 use Rattle.txn_text.specs.declared.fault.ReadFault.{ReadFault}
 use Rattle.txn_text.specs.Tokens.{Lexeme, tokens}
 use Rattle.txn_text.specs.View.{view_stmt, view_stmts}
-use Rattle.txn_text.specs.Tree.{Stmt, Seq}
-use Rattle.txn_text.specs.Reading.{◌>>=◌, Read, Gives, keyword_of, word_at, expr_at, cond_at, stmt_at, stmt_with, seq_with, close_at, is_open, all_of, row}
+use Rattle.txn_text.specs.Tree.{Stmt}
+use Rattle.txn_text.specs.Reading.{Gives, keyword_of, word_at, expr_at, cond_at, stmt_at, stmt_with, seq_with, close_at, is_open, all_of}
 use Rattle.txn_text.proofs.Many.{goes_on, ends_at_item, is_done, failed}
 use Rattle.txn_text.proofs.Views.{view_seq}
 use Rattle.txn_text.proofs.Stmts.{stmt_shortens, stmt_step, seq_fails, seq_ends}

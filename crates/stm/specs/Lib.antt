@@ -1,0 +1,9 @@
+pub mod View
+pub mod Turns
+pub mod LawfulBook
+pub mod BookInside
+pub mod Settings
+pub mod Counts
+pub mod Puts
+pub mod Statuses
+pub mod Running

@@ -1,0 +1,15 @@
+-- The options of a run, and which are taken.
+use Rattle.std.specs.Prelude.{◌≡◌, ℕ, ◌≤◌}
+
+pub record Settings : Type 0 where
+  pub workers : ℕ
+  -- stale attempts of a task before it is run under the lock
+  pub tries : ℕ
+  -- entries between two checkpoints, 0 for none
+  pub checkpoint : ℕ
+
+pub record AreAllowed (s : Settings) : Type 0 where
+  pub workers : s.workers ≡ 1
+  pub tries_from : 1 ≤ s.tries
+  pub tries_to : s.tries ≤ 64
+  pub checkpoint : s.checkpoint ≡ 0

@@ -1,0 +1,87 @@
+//! The command line: what is asked for, help, and refusals.
+
+use crate::command_line::parse;
+use crate::program::{contents, unreadable};
+use clap::error::ErrorKind;
+use std::alloc::{AllocError, Global};
+use std::test::Fail;
+
+fn words(alloc: Global, line: &str) -> Result<Vec<String>, AllocError> {
+    let mut words = Vec::new(alloc);
+    for word in line.split(' ') {
+        words.push(String::from_str(alloc, word)?)?;
+    }
+    Ok(words)
+}
+
+/// The kind of the refusal of a command line, if it is refused.
+fn refusal(alloc: Global, line: &str) -> Result<Option<ErrorKind>, AllocError> {
+    let words = words(alloc, line)?;
+    match parse(alloc, words.as_slice()) {
+        Ok(_) => Ok(None),
+        Err(error) => Ok(Some(error.kind())),
+    }
+}
+
+#[test]
+fn files_are_asked_for(rt: HostRuntime) -> Result<(), Fail> {
+    let alloc = rt.alloc();
+    for line in [
+        "stm run a.stm",
+        "stm run a.stm --workers 1",
+        "stm run --workers=1 a.stm",
+    ] {
+        let words = words(alloc, line)?;
+        let request = parse(alloc, words.as_slice())?;
+        assert_eq!(rt; request.file, "a.stm", "of {line}");
+        assert_eq!(rt; request.options.workers(), 1, "of {line}");
+    }
+    Ok(())
+}
+
+#[test]
+fn mistakes_are_refused(rt: HostRuntime) -> Result<(), Fail> {
+    let alloc = rt.alloc();
+    for line in [
+        "stm",
+        "stm walk",
+        "stm run",
+        "stm run a b",
+        "stm run a --workers 2",
+        "stm run a --workers 0",
+        "stm run a --workers x",
+        "stm run a --workers 99999999999",
+        "stm run a --workers 1 --workers 1",
+        "stm run a --tries 8",
+        "stm run a --checkpoint 0",
+    ] {
+        let kind = refusal(alloc, line)?;
+        assert!(rt; kind.is_some(), "of {line}");
+        assert!(rt; kind != Some(ErrorKind::DisplayHelp), "of {line}");
+        assert!(rt; kind != Some(ErrorKind::OutOfMemory), "of {line}");
+    }
+    Ok(())
+}
+
+#[test]
+fn help_is_shown(rt: HostRuntime) -> Result<(), Fail> {
+    let alloc = rt.alloc();
+    for line in ["stm --help", "stm help", "stm run --help", "stm help run"] {
+        assert_eq!(rt;
+            refusal(alloc, line)?,
+            Some(ErrorKind::DisplayHelp),
+            "of {line}"
+        );
+    }
+    Ok(())
+}
+
+#[test]
+fn what_is_not_there_cannot_be_read(rt: HostRuntime) -> Result<(), Fail> {
+    match contents(&rt, "no/such/file.stm") {
+        Ok(_) => assert!(rt; false),
+        Err(error) => assert_eq!(rt; unreadable(&rt, &error), 4),
+    }
+    assert!(rt; contents(&rt, "/").is_err());
+    Ok(())
+}
