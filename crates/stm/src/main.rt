@@ -18,8 +18,6 @@ mod run_bytes_tests;
 mod run_tasks;
 mod sink;
 mod task;
-#[cfg(test)]
-mod task_tests;
 
 use std::process::ExitCode;
 
