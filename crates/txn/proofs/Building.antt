@@ -1,6 +1,6 @@
 -- What the parts of building a catalogue come to.
-use Rattle.std.proofs.Common.{◌≡◌, ℕ, zero, suc, ◌+◌, ◌<◌, ◌≤◌, Bool, true, false, ◌&&◌, ◌||◌, not, cond, List, [], ◌∷◌, ◌++◌, length, map, reverse, replicate, sum_by, append_assoc, String, Global, string_bytes, bytes_eq, nat_lt, nat_le, ℤ, Option, Some, None, refl, sym, ◌∙◌, ap, subst, arith}
-use Rattle.std.specs.List.{list_all, list_any, flat_map}
+use Rattle.std.proofs.Common.{◌≡◌, ℕ, Bool, true, false, ◌&&◌, ◌||◌, not, cond, List, [], ◌∷◌, ◌++◌, length, map, reverse, sum_by, append_assoc, String, Global, string_bytes, bytes_eq, nat_lt, nat_le, ℤ, refl, sym, ◌∙◌, ap}
+use Rattle.std.specs.List.{list_all, list_any}
 use Rattle.std.specs.String.{string_eq}
 use Rattle.std.proofs.lemmas.List.{length-map, reverse-append}
 use Rattle.std.proofs.lemmas.Bool.{and_left, and_right, and_from}
@@ -10,7 +10,7 @@ use Rattle.indexmap.specs.IndexSet.{insert_key}
 use Rattle.txn.specs.declared.ast.Tx.{Tx}
 use Rattle.txn.specs.declared.ast.TxId.{TxId}
 use Rattle.txn.specs.Tree.{Program, program_of}
-use Rattle.txn.specs.Listing.{listing_of, tasks_of}
+use Rattle.txn.specs.Listing.{listing_of}
 use Rattle.txn.specs.Names.{is_name, are_new, are_distinct, knows_program, is_well_formed, names_hold}
 use Rattle.txn.specs.Limits.{limits_hold, program_fits}
 use Rattle.txn.specs.declared.limits.TheConstants.{MAX_TASKS, MAX_VARIABLES, MAX_TRANSACTIONS, MAX_NAME}

@@ -1,5 +1,5 @@
 -- What the rules of a catalogue give of its parts.
-use Rattle.std.proofs.Common.{◌≡◌, ℕ, zero, suc, ◌+◌, ◌<◌, ◌≤◌, Bool, true, false, ◌&&◌, List, [], ◌∷◌, ◌++◌, length, map, sum_by, replicate, Option, Some, None, refl, sym, ◌∙◌, ap, subst, arith, String, Global, string_bytes, bytes_eq, nat_lt, nat_le, not, cond, length-append}
+use Rattle.std.proofs.Common.{◌≡◌, ℕ, zero, suc, ◌+◌, ◌<◌, ◌≤◌, Bool, true, ◌&&◌, List, [], ◌∷◌, ◌++◌, length, map, sum_by, replicate, Option, Some, None, refl, sym, ◌∙◌, ap, subst, String, Global, string_bytes, bytes_eq, nat_lt, nat_le, not, cond, length-append}
 use Rattle.std.specs.List.{slice_get, list_all, position, prefix_len}
 use Rattle.std.proofs.lemmas.Bool.{and_parts, and_from, leb-true, ltb-true}
 use Rattle.std.proofs.lemmas.List.{length-replicate, length-map}

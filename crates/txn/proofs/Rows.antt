@@ -1,5 +1,5 @@
 -- The parts of a sequence as a list, and steps along it.
-use Rattle.std.proofs.Common.{◌≡◌, ℕ, zero, suc, ◌+◌, ◌-◌, ◌<◌, List, [], ◌∷◌, refl, ap, ◌∙◌, arith, Vec, Global}
+use Rattle.std.proofs.Common.{◌≡◌, ℕ, suc, ◌+◌, ◌-◌, ◌<◌, refl, ap, ◌∙◌, arith, Vec, Global}
 use mathlib.Core.Former.{Count}
 use Rattle.txn.specs.Meaning.{Ending, then_do, repeated}
 use Rattle.txn.specs.Tree.{Statement, Statements, More, statement_of, statements_of, statements_of_list}

@@ -1,5 +1,5 @@
 -- What the fields of a catalogue mean, and what they keep.
-use Rattle.std.specs.Prelude.{◌≡◌, ℕ, List, map, length, string_bytes, true}
+use Rattle.std.specs.Prelude.{◌≡◌, map, length, string_bytes, true}
 use Rattle.txn.specs.declared.catalogue.Catalogue.TheInside.{Inside}
 use Rattle.txn.specs.Tree.{program_of}
 use Rattle.txn.specs.Listing.{Listing, tasks_of}

@@ -1,5 +1,5 @@
 -- What a report promises: its journal explains every value, and each task is accounted for once.
-use Rattle.std.specs.Prelude.{◌≡◌, ◌≢◌, ℕ, ◌+◌, ◌<◌, ◌≤◌, IsTrue, List, ◌++◌, map, length, Some, slice_get, All}
+use Rattle.std.specs.Prelude.{◌≡◌, ◌≢◌, ℕ, ◌+◌, ◌<◌, ◌≤◌, List, ◌++◌, map, length, Some, slice_get, All}
 use Rattle.txn.specs.declared.ast.TxId.{TxId}
 use Rattle.txn.specs.declared.ast.TaskId.{TaskId}
 use Rattle.txn.specs.declared.report.Entry.{Entry}

@@ -1,5 +1,5 @@
 -- When a listing keeps the limits.
-use Rattle.std.specs.Prelude.{ℕ, ◌+◌, max, min, ◌≤◌, Bool, ◌&&◌, nat_le, List, [], ◌∷◌, length, sum_by}
+use Rattle.std.specs.Prelude.{ℕ, ◌+◌, max, min, ◌≤◌, Bool, ◌&&◌, nat_le, length, sum_by}
 use Rattle.std.specs.List.{list_all}
 use Rattle.txn.specs.Tree.{Statement, Skip, Set, Seq, If, Repeat, Retry, OrElse, Throw, Statements, End, More, Program}
 use Rattle.txn.specs.Cost.{cost}

@@ -1,5 +1,5 @@
 -- What a catalogue lists: variables, transactions and runs, in declared order.
-use Rattle.std.specs.Prelude.{ℕ, ℤ, List, [], ◌∷◌, map, length, flat_map, replicate, slice_index_or, string_bytes, bytes_eq, position, pos, Option, Some, None}
+use Rattle.std.specs.Prelude.{ℕ, ℤ, List, [], map, flat_map, replicate, slice_index_or, string_bytes, bytes_eq, position, pos, Option, Some, None}
 use Rattle.std.specs.declared.alloc.Global.{Global}
 use Rattle.std.specs.declared.string.String.{String}
 use Rattle.txn.specs.declared.ast.VarId.{VarId}

@@ -1,10 +1,10 @@
 -- What a transaction does in one step, from a state: one value for each variable.
-use Rattle.std.specs.Prelude.{ℕ, zero, suc, Bool, true, false, not, List, [], ◌∷◌, Result, Ok, Err, slice_index_or, slice_set, ℤ, pos, ◌==◌}
+use Rattle.std.specs.Prelude.{ℕ, zero, suc, Bool, true, false, not, List, Result, Ok, Err, slice_index_or, slice_set, ℤ, pos}
 use Rattle.std.specs.Int.RustNames.{int_lt, int_le}
 use Rattle.std.specs.Ordering.{int_eq}
 use Rattle.txn.specs.Arithmetic.{sum_of, difference_of, product_of, quotient_of, remainder_of}
 use Rattle.txn.specs.declared.ast.Fault.{Fault}
-use Rattle.txn.specs.declared.ast.Fault.TheVariants.{User, Overflow, DivideByZero}
+use Rattle.txn.specs.declared.ast.Fault.TheVariants.{User}
 use Rattle.txn.specs.declared.ast.Outcome.{Outcome}
 use Rattle.txn.specs.declared.ast.Outcome.TheVariants.{Returned, Thrown, Retries}
 use Rattle.txn.specs.declared.ast.VarId.{VarId}

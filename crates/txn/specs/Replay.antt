@@ -1,5 +1,5 @@
 -- What journal entries do to a snapshot, and where a journal leads.
-use Rattle.std.specs.Prelude.{◌≡◌, ◌≢◌, ◌↔◌, ℕ, ◌+◌, Bool, if◌then◌else◌, List, [], ◌∷◌, ◌++◌, map, length, replicate, Some, slice_get}
+use Rattle.std.specs.Prelude.{◌≡◌, ◌≢◌, ◌↔◌, ℕ, ◌+◌, if◌then◌else◌, List, [], ◌∷◌, map, length, replicate, Some, slice_get}
 use Rattle.std.specs.Ordering.{int_eq}
 use Rattle.txn.specs.declared.report.Entry.{Entry}
 use Rattle.txn.specs.declared.ast.Outcome.TheVariants.{Retries}

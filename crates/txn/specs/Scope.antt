@@ -1,5 +1,5 @@
 -- A program names only variables with a number below n.
-use Rattle.std.specs.Prelude.{ℕ, ◌<◌, List, [], ◌∷◌}
+use Rattle.std.specs.Prelude.{ℕ, ◌<◌}
 use Rattle.txn.specs.Tree.{Expression, Int, Var, Add, Sub, Mul, Div, Rem, Condition, Eq, Lt, Le, Not, And, Or, Statement, Skip, Set, Seq, If, Repeat, Retry, OrElse, Throw, Statements, End, More, Program}
 
 abbrev pub ExpressionKnown : ℕ → Expression → Type 0

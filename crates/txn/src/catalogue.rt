@@ -1,6 +1,6 @@
 //! The catalogue: what a file declares.
 
-ghost use Rattle.std.specs.Prelude.{◌≡◌, ◌<◌, ◌≤◌, ℕ, List, length, map, slice_get, string_bytes, bytes_eq, position, Some, IfErr, true, false, IfOk, OnOk};
+ghost use Rattle.std.specs.Prelude.{◌≡◌, ◌<◌, ◌≤◌, ℕ, List, length, map, slice_get, string_bytes, bytes_eq, position, Some, IfErr, true, false, IfOk, OnOk, IsTrue, ◌↔◌};
 ghost use Rattle.txn.specs.Names.{names_hold};
 ghost use Rattle.txn.specs.Limits.{limits_hold};
 ghost use Rattle.txn.specs.Tree.{program_of};
@@ -9,6 +9,7 @@ ghost use Rattle.txn.specs.Scope.{ProgramKnown};
 
 use crate::ast::{TaskId, Tx, TxId, VarId};
 use crate::build::{BuildFault, halves, name_set, task_txs, tx_names, well_formed, within_limits};
+use crate::same::{same_names, same_programs, same_runs, same_values};
 use indexmap::IndexSet;
 use std::alloc::Global;
 use std::marker::Model;
@@ -91,6 +92,16 @@ impl Catalogue {
         ensures limits { limits_hold self.now ≡ true }
     {
         let _values = self.initial.len();
+    }
+
+    /// Whether the two say the same: names, initial values, programs and runs, each in its order.
+    pub fn same(&self, other: &Catalogue) -> bool
+        ensures { IsTrue result ↔ (self.now ≡ other.now) }
+    {
+        same_names(self.names.as_slice(), other.names.as_slice())
+            && same_values(self.initial(), other.initial())
+            && same_programs(&self.txs, &other.txs)
+            && same_runs(self.runs(), other.runs())
     }
 
     /// The initial values, in declared order.

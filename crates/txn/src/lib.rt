@@ -16,6 +16,9 @@ pub mod limits;
 pub mod memory;
 pub mod names;
 pub mod report;
+mod same;
+#[cfg(test)]
+mod same_tests;
 #[cfg(test)]
 mod tests;
 

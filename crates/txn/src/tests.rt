@@ -6,6 +6,7 @@ use crate::{
     BuildFault, Catalogue, Cond, Expr, Fault, Memory, Outcome, Stmt, TaskId, Tx, TxId, VarId,
 };
 use std::alloc::{AllocError, Global};
+use std::process::Abort;
 use std::test::Fail;
 
 const X: VarId = VarId(0);
@@ -14,11 +15,11 @@ fn text(alloc: Global, name: &str) -> Result<String, AllocError> {
     String::from_str(alloc, name)
 }
 
-fn var(alloc: Global, name: &str, value: i64) -> Result<(String, i64), AllocError> {
+pub(crate) fn var(alloc: Global, name: &str, value: i64) -> Result<(String, i64), AllocError> {
     Ok((text(alloc, name)?, value))
 }
 
-fn tx(alloc: Global, name: &str, body: Stmt, answer: Expr) -> Result<Tx, AllocError> {
+pub(crate) fn tx(alloc: Global, name: &str, body: Stmt, answer: Expr) -> Result<Tx, AllocError> {
     Ok(Tx {
         name: text(alloc, name)?,
         body,
@@ -207,51 +208,52 @@ fn tasks_are_65536_at_most(rt: HostRuntime) -> Result<(), Fail> {
     Ok(())
 }
 
-#[test]
-fn evaluates(rt: HostRuntime) -> Result<(), Fail> {
-    let alloc = rt.alloc();
+/// Runs a transaction from a state where `x`, the one variable, is 5.
+fn expect_run(
+    rt: &(impl Abort + Eprint),
+    alloc: Global,
+    body: Stmt,
+    want: Outcome,
+    left: i64,
+) -> Result<(), Fail> {
     let vars = vec![in alloc; var(alloc, "x", 5)?]?;
-    let increment = tx(
-        alloc,
-        "inc",
-        Stmt::Set(X, add(alloc, Expr::Var(X), Expr::Int(1))?),
-        Expr::Var(X),
-    )?;
-    let waits = tx(
-        alloc,
-        "wait",
-        or_else(alloc, Stmt::Retry, Stmt::Retry)?,
-        Expr::Int(0),
-    )?;
-    let thrower = tx(
-        alloc,
-        "throw",
-        or_else(alloc, Stmt::Throw(Expr::Int(7)), Stmt::Set(X, Expr::Int(1)))?,
-        Expr::Var(X),
-    )?;
-    let writes = Stmt::Seq(vec![in alloc; Stmt::Set(X, Expr::Int(9)), Stmt::Retry]?);
-    let keeps = tx(
-        alloc,
-        "keep",
-        or_else(alloc, writes, Stmt::Skip)?,
-        Expr::Var(X),
-    )?;
-    let txs = vec![in alloc; increment, waits, thrower, keeps]?;
+    let txs = vec![in alloc; tx(alloc, "t", body, Expr::Var(X))?]?;
     let catalogue = Catalogue::build(alloc, vars, txs, Vec::new(alloc))?;
-    let mut state = vec![in alloc; 5]?;
-    for (id, want, left) in [
-        (0, Outcome::Returned(6), 6),
-        (1, Outcome::Retries, 6),
-        (2, Outcome::Thrown(Fault::User(7)), 6),
-        (3, Outcome::Returned(6), 6),
-    ] {
-        assert_eq!(rt; catalogue.tx_count(), 4);
-        assert_eq!(rt; catalogue.initial().len(), 1);
-        assert_eq!(rt; state.len(), 1);
-        assert_eq!(rt; execute(catalogue.tx(TxId(id)), &mut state)?, want);
-        assert_eq!(rt; state.as_slice(), [left].as_slice());
-    }
+    assert_eq!(rt; catalogue.tx_count(), 1);
+    assert_eq!(rt; catalogue.initial().len(), 1);
+    let mut state = catalogue.initial().to_vec(alloc)?;
+    assert_eq!(rt; execute(catalogue.tx(TxId(0)), &mut state)?, want);
+    assert_eq!(rt; state.as_slice(), [left].as_slice());
     Ok(())
+}
+
+#[test]
+fn a_transaction_writes_and_returns(rt: HostRuntime) -> Result<(), Fail> {
+    let alloc = rt.alloc();
+    let increment = Stmt::Set(X, add(alloc, Expr::Var(X), Expr::Int(1))?);
+    expect_run(&rt, alloc, increment, Outcome::Returned(6), 6)
+}
+
+#[test]
+fn a_transaction_waits_where_both_branches_retry(rt: HostRuntime) -> Result<(), Fail> {
+    let alloc = rt.alloc();
+    let waits = or_else(alloc, Stmt::Retry, Stmt::Retry)?;
+    expect_run(&rt, alloc, waits, Outcome::Retries, 5)
+}
+
+#[test]
+fn a_throw_is_not_caught(rt: HostRuntime) -> Result<(), Fail> {
+    let alloc = rt.alloc();
+    let throws = or_else(alloc, Stmt::Throw(Expr::Int(7)), Stmt::Set(X, Expr::Int(1)))?;
+    expect_run(&rt, alloc, throws, Outcome::Thrown(Fault::User(7)), 5)
+}
+
+#[test]
+fn writes_of_a_retried_branch_go(rt: HostRuntime) -> Result<(), Fail> {
+    let alloc = rt.alloc();
+    let writes = Stmt::Seq(vec![in alloc; Stmt::Set(X, Expr::Int(9)), Stmt::Retry]?);
+    let keeps = or_else(alloc, writes, Stmt::Skip)?;
+    expect_run(&rt, alloc, keeps, Outcome::Returned(5), 5)
 }
 
 #[test]

@@ -1,7 +1,7 @@
 use Rattle.std.proofs.Common.{rules, subst, sym, ap, ◌∙◌, ◌≡◌, IfOk, vec_len}
 use Rattle.std.proofs.lemmas.List.Elements.{same_from_all_zip}
-use Rattle.txn.specs.Meaning.{run, run_all, Retried, unless_retried}
-use Rattle.txn.specs.Scope.{StatementKnown, StatementsKnown}
+use Rattle.txn.specs.Meaning.{run, Retried, unless_retried}
+use Rattle.txn.specs.Scope.{StatementKnown}
 use Rattle.txn.specs.Tree.{statement_of, statements_of_list, Seq}
 use Rattle.txn.specs.Flow.{ending_of}
 use Rattle.txn.specs.declared.ast.Stmt.TheViews.{the_lemmas}

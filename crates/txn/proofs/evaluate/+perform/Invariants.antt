@@ -1,7 +1,7 @@
 use Rattle.std.proofs.Common.{◌≡◌, ◌-◌, vec_len, drop}
 use Rattle.txn.specs.Meaning.{run, run_all, repeated}
 use Rattle.txn.specs.Tree.{statement_of, statements_of_list}
-use Rattle.txn.specs.Scope.{StatementKnown, StatementsKnown}
+use Rattle.txn.specs.Scope.{StatementsKnown}
 use Rattle.txn.proofs.evaluate.+perform.Given as goal
 
 abbrev pub invariant-perform_all-loop-part : goal.invariant-perform_all-loop-part

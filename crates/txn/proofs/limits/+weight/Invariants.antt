@@ -1,4 +1,4 @@
-use Rattle.std.proofs.Common.{◌≡◌, ◌↔◌, ◌+◌, ◌≤◌, ℕ, length, drop}
+use Rattle.std.proofs.Common.{◌≡◌, ◌↔◌, ◌+◌, ◌≤◌, drop}
 use Rattle.txn.specs.Tree.{statements_of_list}
 use Rattle.txn.specs.Cost.{statements_cost}
 use Rattle.txn.specs.Limits.{capped, StatementsFit}

@@ -1,6 +1,6 @@
 use Rattle.std.proofs.Common.{◌≡◌, ◌∙◌, ap, sym}
 use Rattle.txn.specs.Tree.{Seq, statement_of, statements_of_list}
-use Rattle.txn.specs.Names.{knows_statement, knows_statements}
+use Rattle.txn.specs.Names.{knows_statement}
 use Rattle.txn.proofs.Rows.{statement_Seq}
 use Rattle.txn.proofs.names.+known.Goals as goal
 

@@ -1,8 +1,8 @@
-use Rattle.std.proofs.Common.{◌≡◌, ◌∙◌, List, ℕ, length, map, sym, ap, subst, true, false, string_bytes}
+use Rattle.std.proofs.Common.{◌≡◌, ◌∙◌, length, map, sym, ap, true, string_bytes}
 use Rattle.std.proofs.lemmas.List.{length-map}
 use Rattle.std.proofs.lemmas.Result.{err_from_is_err_and}
 use Rattle.txn.specs.Tree.{Program, program_of}
-use Rattle.txn.specs.Listing.{Listing, listing_of, tasks_of}
+use Rattle.txn.specs.Listing.{listing_of, tasks_of}
 use Rattle.txn.specs.CatalogueInside.{listed}
 use Rattle.txn.specs.Names.{is_well_formed, are_distinct, names_hold}
 use Rattle.txn.specs.Limits.{limits_hold}

@@ -1,4 +1,4 @@
-use Rattle.std.proofs.Common.{◌≡◌, ◌∙◌, ap, sym, subst, length, string_bytes, true}
+use Rattle.std.proofs.Common.{◌≡◌, ◌∙◌, sym, subst, length, string_bytes, true}
 use Rattle.std.proofs.lemmas.List.{length-map}
 use Rattle.txn.specs.Limits.{limits_hold}
 use Rattle.txn.specs.Listing.{Listing}

@@ -1,4 +1,4 @@
-use Rattle.std.proofs.Common.{◌≡◌, length, ap, arith}
+use Rattle.std.proofs.Common.{length, ap, arith}
 use Rattle.txn.proofs.Lawful.{few_tasks}
 use Rattle.txn.specs.CatalogueInside.{listed}
 use Rattle.txn.proofs.catalogue.Catalogue.tasks.Goals as goal

@@ -1,11 +1,10 @@
-use Rattle.std.proofs.Common.{◌≡◌, ◌∙◌, ap, sym, List, ℕ, length, map, arith, string_bytes, bytes_eq}
+use Rattle.std.proofs.Common.{◌∙◌, ap, List, ℕ, length, arith, string_bytes, bytes_eq}
 use Rattle.std.specs.List.{position}
 use Rattle.std.proofs.lemmas.List.{length-map}
 use Rattle.txn.proofs.Lawful.{limits_parts}
 use Rattle.txn.specs.CatalogueInside.{listed}
 use Rattle.txn.specs.Listing.{Listing, as_transaction, transaction_named}
 use Rattle.txn.specs.Tree.{Program}
-use Rattle.txn.specs.declared.limits.TheConstants.{MAX_TRANSACTIONS}
 use Rattle.txn.proofs.catalogue.Catalogue.tx_id.Goals as goal
 
 pub place_of-requires : goal.place_of-requires

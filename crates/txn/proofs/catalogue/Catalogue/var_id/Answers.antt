@@ -1,8 +1,7 @@
-use Rattle.std.proofs.Common.{length, arith, string_bytes}
+use Rattle.std.proofs.Common.{arith, string_bytes}
 use Rattle.std.proofs.lemmas.List.{length-map}
 use Rattle.txn.proofs.Lawful.{limits_parts}
 use Rattle.txn.specs.CatalogueInside.{listed}
-use Rattle.txn.specs.declared.limits.TheConstants.{MAX_VARIABLES}
 use Rattle.txn.proofs.catalogue.Catalogue.var_id.Goals as goal
 
 pub place_of-requires : goal.place_of-requires
