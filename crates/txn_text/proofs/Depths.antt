@@ -1,5 +1,5 @@
 -- A written program is as deep as the program.
-use Rattle.std.proofs.Common.{◌≡◌, ◌∙◌, ℕ, suc, List, max, refl, sym, ap}
+use Rattle.std.proofs.Common.{◌≡◌, ◌∙◌, ℕ, suc, List, max, refl, ap}
 use Rattle.txn.specs.Tree.{Expression, Condition, Statement, Statements}
 use Rattle.txn.specs.Tree as t
 use Rattle.txn.specs.Depth.{expression_depth, condition_depth, statement_depth, statements_depth}

@@ -1,5 +1,5 @@
 -- How long the text of a report is: each line has at most 100 bytes.
-use Rattle.std.proofs.Common.{◌≡◌, ◌∙◌, ℕ, zero, suc, ◌+◌, ◌*◌, ◌<◌, ◌≤◌, ◌^◌, ℤ, Bool, true, nat_le, List, [], ◌∷◌, ◌++◌, length, get_or, map, Some, refl, sym, ap, subst, arith, lit<, lit≤, length-append, pos}
+use Rattle.std.proofs.Common.{◌≡◌, ℕ, ◌+◌, ◌*◌, ◌<◌, ◌≤◌, ℤ, true, nat_le, List, [], ◌∷◌, ◌++◌, length, get_or, arith, lit<, lit≤, length-append, pos}
 use Rattle.std.specs.Prelude.{codes, All, FitsSigned}
 use Rattle.std.specs.Int.{w64}
 use Rattle.std.specs.Fmt.{decimal, signed_decimal}
@@ -13,7 +13,7 @@ use Rattle.txn.specs.declared.ast.Outcome.{Outcome}
 use Rattle.txn.specs.declared.ast.Outcome.TheVariants.{Returned, Thrown, Retries}
 use Rattle.txn.specs.declared.ast.TaskId.{TaskId}
 use Rattle.txn.specs.declared.ast.TxId.{TxId}
-use Rattle.txn.specs.declared.limits.TheConstants.{MAX_TASKS, MAX_NAME, MAX_VARIABLES}
+use Rattle.txn.specs.declared.limits.TheConstants.{MAX_TASKS, MAX_NAME}
 use Rattle.txn.specs.declared.report.Entry.{Entry}
 use Rattle.txn.specs.LawfulReport.{FitsCatalogue}
 use Rattle.txn.specs.Limits.{limits_hold}

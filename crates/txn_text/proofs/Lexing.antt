@@ -66,7 +66,7 @@ unfolding tokens tokens_within
 tokens-blank b bytes h p q r = rw (h, p, q, r) refl
 
 -- where bytes that pass meet one that does not
-stops : (p : ℕ → Bool) (bs rest : List ℕ) → list_all p bs ≡ true → prefix_len p rest ≡ 0 → prefix_len p (bs ++ rest) ≡ length bs
+pub stops : (p : ℕ → Bool) (bs rest : List ℕ) → list_all p bs ≡ true → prefix_len p rest ≡ 0 → prefix_len p (bs ++ rest) ≡ length bs
 stops p [] rest h stop = stop
 stops p (b ∷ bs) rest h stop =
     let here : p b ≡ true = both-1 (p b) (list_all p bs) h in

@@ -1,5 +1,7 @@
 pub mod Ascii
 pub mod Lexing
+pub mod Gaps
+pub mod SameTokens
 pub mod Numerals
 pub mod Steps
 pub mod Many

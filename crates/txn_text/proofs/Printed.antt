@@ -1,12 +1,12 @@
 -- The canonical text of a listing spells the file that declares it.
-use Rattle.std.proofs.Common.{◌≡◌, ◌∙◌, ℕ, zero, suc, ◌+◌, ◌<◌, ◌≤◌, Bool, true, ◌&&◌, nat_lt, nat_le, List, [], ◌∷◌, ◌++◌, length, map, Some, refl, sym, ap, subst, arith}
+use Rattle.std.proofs.Common.{◌≡◌, ◌∙◌, ℕ, suc, ◌<◌, ◌≤◌, true, nat_lt, nat_le, List, [], ◌∷◌, ◌++◌, length, map, Some, refl, arith}
 use Rattle.std.specs.Prelude.{ℤ, codes}
 use Rattle.std.specs.List.{slice_get, list_all, flat_map, AllByRecursion}
 use Rattle.std.proofs.lemmas.Bool.{and_parts, leb-true, ltb-true}
 use Rattle.std.proofs.lemmas.List.{length-map}
 use Rattle.std.proofs.lemmas.List.Folds.{list_all-map}
 use Rattle.txn.specs.declared.ast.TxId.{TxId}
-use Rattle.txn.specs.declared.limits.TheConstants.{MAX_DEPTH, MAX_REPEAT, MAX_COST}
+use Rattle.txn.specs.declared.limits.TheConstants.{MAX_DEPTH}
 use Rattle.txn.specs.Tree.{Program}
 use Rattle.txn.specs.Scope.{ProgramKnown}
 use Rattle.txn.specs.Names.{is_name, names_hold}
@@ -15,9 +15,9 @@ use Rattle.txn.specs.Depth.{statement_depth, expression_depth}
 use Rattle.txn.specs.Listing.{Listing}
 use Rattle.txn.proofs.Lawful.{names_parts, limits_parts, passes_at, known_at}
 use Rattle.txn_text.specs.Tokens as token
-use Rattle.txn_text.specs.Tree.{Pair, Declaration, File, IsShallow, SpellsTree, max_len, pair_tokens, tx_tokens, file_tokens, stmt_depth, expr_depth}
+use Rattle.txn_text.specs.Tree.{Pair, IsShallow, SpellsTree, max_len, pair_tokens, tx_tokens, file_tokens}
 use Rattle.txn_text.specs.Written.{written_vars, written_program, written_run, written}
-use Rattle.txn_text.specs.Canonical.{pair_line, tx_line, text_of, file_text}
+use Rattle.txn_text.specs.Canonical.{pair_line, tx_line, file_text}
 use Rattle.txn_text.specs.Fits.{PairFits, DeclarationFits, FileFits}
 use Rattle.txn_text.proofs.Spelled.{IsWord, Lines, none_lines, both_lines, lines_of, spelled_by}
 use Rattle.txn_text.proofs.Spellings.{name_at_is, var_is_word, run_is_word, pair_lines, tx_lines}

@@ -1,5 +1,5 @@
 -- The canonical text: one form a line, one space between two tokens, but none after ( and none before ).
-use Rattle.std.specs.Prelude.{ℕ, List, [], ◌∷◌, ◌++◌, codes}
+use Rattle.std.specs.Prelude.{ℕ, List, [], ◌++◌, codes}
 use Rattle.std.specs.Fmt.{signed_decimal}
 use Rattle.std.specs.List.{flat_map}
 use Rattle.txn.specs.Listing.{Listing}

@@ -8,6 +8,7 @@ pub mod Resolving
 pub mod Parts
 pub mod Spelling
 pub mod Faults
+pub mod Gaps
 pub mod Words
 pub mod ReportText
 pub mod Canonical

@@ -1,12 +1,14 @@
 //! Laws of the definitions, each the contract of a function that does nothing.
 
-ghost use Rattle.std.specs.Prelude.{◌≡◌, ℕ, List, [], ◌∷◌, ◌++◌, true, Some, None};
+ghost use Rattle.std.specs.Prelude.{◌≡◌, ◌≤◌, ℕ, List, [], ◌∷◌, ◌++◌, true, Some, None, length};
 ghost use Rattle.std.specs.List.{list_all, prefix_len};
 ghost use Rattle.txn.specs.Listing.{Listing};
-ghost use Rattle.txn_text.specs.Bytes.{is_atom_byte, is_in_line, is_blank};
-ghost use Rattle.txn_text.specs.Tokens.{atom, tokens};
+ghost use Rattle.txn_text.specs.Bytes.{is_allowed, is_atom_byte, is_in_line};
+ghost use Rattle.txn_text.specs.Tokens.{Lexeme, atom, tokens};
+ghost use Rattle.txn_text.specs.Tree.{max_len};
 ghost use Rattle.txn_text.specs.Spelling.{Spells, first_fault};
 ghost use Rattle.txn_text.specs.Faults.{IsFirst};
+ghost use Rattle.txn_text.specs.Gaps.{IsGap, SplitsNoToken, Division, ReadsAs};
 ghost use Rattle.txn_text.specs.declared.fault.ReadFault.{ReadFault};
 
 /// The same bytes spell one catalogue at most.
@@ -31,8 +33,25 @@ pub fn atoms_stand_apart()
         → tokens ((b ∷ bs) ++ rest) ≡ atom (b ∷ bs) ∷ tokens rest }
 {}
 
-/// A blank, or a comment up to its newline, before any bytes changes nothing.
+/// Nothing but its tokens matters of a file that is short enough and has only bytes that are allowed.
+pub fn tokens_are_all()
+    ensures { (bytes others : List ℕ) → tokens bytes ≡ tokens others → list_all is_allowed bytes ≡ list_all is_allowed others
+        → length bytes ≤ max_len → length others ≤ max_len → ReadsAs bytes others }
+{}
+
+/// A blank or a comment between two tokens changes nothing, wherever in a file it is added.
 pub fn gaps_are_nothing()
-    ensures blank { (b : ℕ) (rest : List ℕ) → is_blank b ≡ true → tokens (b ∷ rest) ≡ tokens rest }
-    ensures comment { (text rest : List ℕ) → list_all is_in_line text ≡ true → tokens (59 ∷ (text ++ 10 ∷ rest)) ≡ tokens rest }
+    // The tokens stay, wherever the place splits none of them.
+    ensures tokens { (a gap b : List ℕ) → IsGap gap → SplitsNoToken a b → tokens (a ++ (gap ++ b)) ≡ tokens (a ++ b) }
+    // So does what the file says, unless the gap makes it too long.
+    ensures file { (a gap b : List ℕ) → IsGap gap → SplitsNoToken a b → list_all is_allowed gap ≡ true
+        → length (a ++ (gap ++ b)) ≤ max_len → ReadsAs (a ++ (gap ++ b)) (a ++ b) }
+    // There is such a place between any two tokens: wherever the tokens are divided, the bytes can be.
+    ensures places { (bytes : List ℕ) (front back : List Lexeme) → tokens bytes ≡ front ++ back → Division bytes front back }
+{}
+
+/// A comment before a newline, or at the end of the file, changes nothing, whatever stands before it.
+pub fn comments_end_with_lines()
+    ensures line { (a text b : List ℕ) → list_all is_in_line text ≡ true → tokens (a ++ (59 ∷ (text ++ 10 ∷ b))) ≡ tokens (a ++ 10 ∷ b) }
+    ensures file { (a text : List ℕ) → list_all is_in_line text ≡ true → tokens (a ++ 59 ∷ text) ≡ tokens a }
 {}

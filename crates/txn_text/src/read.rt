@@ -30,7 +30,7 @@ fn read(alloc: Global, bytes: &[u8]) -> Result<Catalogue, ReadFault>
     ensures { Gives (λ c. c) result (listing_at bytes.now) }
 {
     let file = tree_of(alloc, bytes)?;
-    let parts = resolve(alloc, &file)?;
+    let parts = resolve(alloc, file)?;
     built(alloc, parts)
 }
 

@@ -209,12 +209,25 @@ fn program(alloc: Global, names: &IndexSet<&str>, tx: &RawTx<'_>) -> Result<Tx, 
     Ok(Tx { name, body, result })
 }
 
-fn programs(alloc: Global, names: &IndexSet<&str>, txs: &[RawTx<'_>]) -> Result<Vec<Tx>, ReadFault>
-    ensures { Gives (λ made. map program_of made.items) result (each (program_in (texts names.now.keys)) (view_txs txs.now)) }
+/// The program of a transaction, whose tree is let go.
+fn program_from(alloc: Global, names: &IndexSet<&str>, tx: RawTx<'_>) -> Result<Tx, ReadFault>
+    ensures { Gives program_of result (program_in (texts names.now.keys) (view_tx tx.entry)) }
+{
+    program(alloc, names, &tx)
+}
+
+/// The programs of transactions. The tree of each is let go as soon as its program stands, so that
+/// no more than one of them stands twice.
+fn programs(
+    alloc: Global,
+    names: &IndexSet<&str>,
+    txs: Vec<RawTx<'_>>,
+) -> Result<Vec<Tx>, ReadFault>
+    ensures { Gives (λ made. map program_of made.items) result (each (program_in (texts names.now.keys)) (view_txs txs.entry.items)) }
 {
     let mut made = Vec::new(alloc);
     'txs: for tx in txs {
-        let program = program(alloc, names, tx)?;
+        let program = program_from(alloc, names, tx)?;
         made.push(program)?;
     }
     Ok(made)
@@ -256,12 +269,12 @@ fn convert(
     alloc: Global,
     vars: &IndexSet<&str>,
     txs: &IndexSet<&str>,
-    file: &RawFile<'_>,
+    file: RawFile<'_>,
 ) -> Result<Parts, ReadFault>
-    ensures { Gives view_parts result (converted (texts vars.now.keys) (texts txs.now.keys) (view_file file.now)) }
+    ensures { Gives view_parts result (converted (texts vars.now.keys) (texts txs.now.keys) (view_file file.entry)) }
 {
     let variables = variables(alloc, &file.vars)?;
-    let programs = programs(alloc, vars, &file.txs)?;
+    let programs = programs(alloc, vars, file.txs)?;
     let runs = runs(alloc, txs, &file.runs)?;
     Ok(Parts {
         vars: variables,
@@ -273,12 +286,12 @@ fn convert(
 /// What the file declares, or its first fault: names are judged over the whole file before any
 /// number is.
 #[tactic(auto, unfolding(crate::specs::Resolving::resolved))]
-pub(crate) fn resolve(alloc: Global, file: &RawFile<'_>) -> Result<Parts, ReadFault>
-    ensures { Gives view_parts result (resolved (view_file file.now)) }
+pub(crate) fn resolve(alloc: Global, file: RawFile<'_>) -> Result<Parts, ReadFault>
+    ensures { Gives view_parts result (resolved (view_file file.entry)) }
 {
     let vars = var_names(alloc, &file.vars)?;
     let txs = tx_names(alloc, &file.txs)?;
-    if !uses_known(&vars, &txs, file) {
+    if !uses_known(&vars, &txs, &file) {
         return Err(ReadFault::Name);
     }
     convert(alloc, &vars, &txs, file)

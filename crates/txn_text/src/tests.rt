@@ -1,5 +1,5 @@
 use super::*;
-use std::alloc::Global;
+use std::alloc::{AllocError, Global};
 use std::test::*;
 use txn::{TxId, VarId};
 
@@ -10,27 +10,83 @@ fn fault(alloc: Global, text: &str) -> Option<ReadFault> {
     }
 }
 
-/// `open`, `n` times `front`, `inside`, `n` times `back`, `close`.
-fn nested(
-    alloc: Global,
-    n: usize,
-    open: &str,
-    front: &str,
-    inside: &str,
-    back: &str,
-    close: &str,
-) -> Result<String, Fail> {
+/// A text with one part nested in itself.
+struct Nest {
+    before: &'static str,
+    /// Stands in front of each turn.
+    front: &'static str,
+    inside: &'static str,
+    /// Stands behind each turn.
+    back: &'static str,
+    after: &'static str,
+}
+
+const SUMS: Nest = Nest {
+    before: "(tx t (skip) ",
+    front: "(add 0 ",
+    inside: "1",
+    back: ")",
+    after: ")",
+};
+
+const BLOCKS: Nest = Nest {
+    before: "(tx t ",
+    front: "(seq ",
+    inside: "",
+    back: ")",
+    after: " 0)",
+};
+
+const CONDITIONS: Nest = Nest {
+    before: "(tx t (if ",
+    front: "(not ",
+    inside: "(eq 0 0)",
+    back: ")",
+    after: " (skip) (skip)) 0)",
+};
+
+const NEWLINES: Nest = Nest {
+    before: "",
+    front: "\n",
+    inside: "",
+    back: "",
+    after: "",
+};
+
+const TABS: Nest = Nest {
+    before: "",
+    front: "\t",
+    inside: "",
+    back: "",
+    after: "",
+};
+
+const DIGITS: Nest = Nest {
+    before: "(var x 1",
+    front: "0",
+    inside: ")",
+    back: "",
+    after: "",
+};
+
+/// The text with so many turns.
+fn nested(alloc: Global, turns: usize, nest: &Nest) -> Result<String, AllocError> {
     let mut text = String::new(alloc);
-    text.push_str(open)?;
-    for _turn in 0..n {
-        text.push_str(front)?;
+    text.push_str(nest.before)?;
+    for _turn in 0..turns {
+        text.push_str(nest.front)?;
     }
-    text.push_str(inside)?;
-    for _turn in 0..n {
-        text.push_str(back)?;
+    text.push_str(nest.inside)?;
+    for _turn in 0..turns {
+        text.push_str(nest.back)?;
     }
-    text.push_str(close)?;
+    text.push_str(nest.after)?;
     Ok(text)
+}
+
+fn nested_fault(alloc: Global, turns: usize, nest: &Nest) -> Result<Option<ReadFault>, AllocError> {
+    let text = nested(alloc, turns, nest)?;
+    Ok(fault(alloc, &text))
 }
 
 #[test]
@@ -168,91 +224,38 @@ fn keeps_limits(rt: HostRuntime) {
 }
 
 #[test]
-fn counts_parentheses(rt: HostRuntime) -> Result<(), Fail> {
+fn thirty_two_parentheses_are_open_at_most(rt: HostRuntime) -> Result<(), Fail> {
     let alloc = rt.alloc();
-    assert_eq!(rt;
-        fault(
-            alloc,
-            &nested(alloc, 31, "(tx t (skip) ", "(add 0 ", "1", ")", ")")?
-        ),
-        None
-    );
-    assert_eq!(rt;
-        fault(
-            alloc,
-            &nested(alloc, 32, "(tx t (skip) ", "(add 0 ", "1", ")", ")")?
-        ),
-        Some(ReadFault::Shape)
-    );
-    assert_eq!(rt;
-        fault(
-            alloc,
-            &nested(alloc, 31, "(tx t ", "(seq ", "", ")", " 0)")?
-        ),
-        None
-    );
-    assert_eq!(rt;
-        fault(
-            alloc,
-            &nested(alloc, 32, "(tx t ", "(seq ", "", ")", " 0)")?
-        ),
-        Some(ReadFault::Shape)
-    );
-    assert_eq!(rt;
-        fault(
-            alloc,
-            &nested(
-                alloc,
-                29,
-                "(tx t (if ",
-                "(not ",
-                "(eq 0 0)",
-                ")",
-                " (skip) (skip)) 0)"
-            )?
-        ),
-        None
-    );
-    assert_eq!(rt;
-        fault(
-            alloc,
-            &nested(
-                alloc,
-                30,
-                "(tx t (if ",
-                "(not ",
-                "(eq 0 0)",
-                ")",
-                " (skip) (skip)) 0)"
-            )?
-        ),
-        Some(ReadFault::Shape)
-    );
-    assert_eq!(rt;
-        fault(
-            alloc,
-            &nested(alloc, 100_000, "(tx t ", "(seq ", "", ")", " 0)")?
-        ),
-        Some(ReadFault::Shape)
-    );
+    for (turns, nest) in [(31, &SUMS), (31, &BLOCKS), (29, &CONDITIONS)] {
+        assert_eq!(rt; nested_fault(alloc, turns, nest)?, None);
+        let deeper = nested_fault(alloc, turns + 1, nest)?;
+        assert_eq!(rt; deeper, Some(ReadFault::Shape));
+    }
+    Ok(())
+}
+
+#[test]
+fn deep_files_are_refused(rt: HostRuntime) -> Result<(), Fail> {
+    let deep = nested_fault(rt.alloc(), 100_000, &BLOCKS)?;
+    assert_eq!(rt; deep, Some(ReadFault::Shape));
     Ok(())
 }
 
 #[test]
 fn reads_long_files(rt: HostRuntime) -> Result<(), Fail> {
     let alloc = rt.alloc();
-    assert_eq!(rt;
-        fault(alloc, &nested(alloc, 1_048_576, "", "\n", "", "", "")?),
-        None
-    );
-    assert_eq!(rt;
-        fault(alloc, &nested(alloc, 1_048_577, "", "\n", "", "", "")?),
-        Some(ReadFault::TooLong)
-    );
-    assert_eq!(rt;
-        fault(alloc, &nested(alloc, 9_999, "(var x 1", "0", ")", "", "")?),
-        Some(ReadFault::Limit)
-    );
+    assert_eq!(rt; nested_fault(alloc, 1_048_576, &NEWLINES)?, None);
+    let over = nested_fault(alloc, 1_048_577, &NEWLINES)?;
+    assert_eq!(rt; over, Some(ReadFault::TooLong));
+    let also_bad = nested_fault(alloc, 1_048_577, &TABS)?;
+    assert_eq!(rt; also_bad, Some(ReadFault::TooLong));
+    Ok(())
+}
+
+#[test]
+fn ten_thousand_digits_are_an_integer(rt: HostRuntime) -> Result<(), Fail> {
+    let huge = nested_fault(rt.alloc(), 9_999, &DIGITS)?;
+    assert_eq!(rt; huge, Some(ReadFault::Limit));
     Ok(())
 }
 

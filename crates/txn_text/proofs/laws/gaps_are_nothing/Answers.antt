@@ -1,8 +1,12 @@
-use Rattle.txn_text.proofs.Lexing.{tokens-gap, tokens-line}
+use Rattle.txn_text.proofs.Gaps.{gap-between, divides}
+use Rattle.txn_text.proofs.SameTokens.{reads_as-gap}
 use Rattle.txn_text.proofs.laws.gaps_are_nothing.Goals as goal
 
-pub returns-clause-blank : goal.returns-clause-blank
-returns-clause-blank c = tokens-gap
+pub returns-clause-tokens : goal.returns-clause-tokens
+returns-clause-tokens c = gap-between
 
-pub returns-clause-comment : goal.returns-clause-comment
-returns-clause-comment c = tokens-line
+pub returns-clause-file : goal.returns-clause-file
+returns-clause-file c = reads_as-gap
+
+pub returns-clause-places : goal.returns-clause-places
+returns-clause-places c = divides

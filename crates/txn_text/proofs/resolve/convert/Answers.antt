@@ -12,7 +12,7 @@ returns c =
     let vars = texts c.args.vars.now.keys in
     let txs = texts c.args.txs.now.keys in
     let a = ap (λ l. each variable_of (view_pairs l)) (sym c.deref.ensures.value) ∙ c.in_ok-variables.ensures in
-    let b = ap (λ l. each (program_in vars) (view_txs l)) (sym c.deref-2.ensures.value) ∙ c.in_ok-programs.ensures in
-    let d = ap (λ l. each (run_in txs) (view_pairs l)) (sym c.deref-3.ensures.value) ∙ c.in_ok-runs.ensures in
-    converted_is vars txs (view_file c.args.file.now) (map view_variable c.in_ok-variables.variables.items) (map program_of c.in_ok-programs.programs.items) c.in_ok-runs.runs.items a b d
+    let b = c.in_ok-programs.ensures in
+    let d = ap (λ l. each (run_in txs) (view_pairs l)) (sym c.deref-2.ensures.value) ∙ c.in_ok-runs.ensures in
+    converted_is vars txs (view_file c.args.file) (map view_variable c.in_ok-variables.variables.items) (map program_of c.in_ok-programs.programs.items) c.in_ok-runs.runs.items a b d
     ∙ ap done (parts_are c.in_ok-variables.variables.items c.in_ok-programs.programs.items c.in_ok-runs.runs.items)

@@ -1,4 +1,4 @@
-use Rattle.std.proofs.Common.{◌≡◌, ◌∙◌, ◌≤◌, ℕ, List, [], ◌++◌, length, ap, sym, subst, string_bytes}
+use Rattle.std.proofs.Common.{◌≡◌, ◌∙◌, ◌≤◌, ℕ, List, ◌++◌, length, ap, sym, subst, string_bytes}
 use Rattle.txn_text.specs.Canonical.{file_text}
 use Rattle.txn_text.specs.Spelling.{Spells}
 use Rattle.txn_text.specs.Tree.{max_len}

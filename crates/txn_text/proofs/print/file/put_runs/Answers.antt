@@ -1,4 +1,4 @@
-use Rattle.std.proofs.Common.{◌≡◌, ◌∙◌, ◌<◌, ℕ, List, true, nat_lt, length, get_or, map, Some, ap, sym, subst, string_bytes}
+use Rattle.std.proofs.Common.{◌≡◌, ℕ, List, true, nat_lt, length, get_or, map, Some, sym, subst, string_bytes}
 use Rattle.std.specs.Prelude.{codes}
 use Rattle.std.specs.List.{slice_get, list_all}
 use Rattle.std.proofs.lemmas.Bool.{ltb-true}

@@ -1,4 +1,4 @@
-use Rattle.std.proofs.Common.{◌≡◌, ◌≤◌, ℕ, ℤ, List, length, get_or, Some, ap, sym, subst, arith, pos, string_bytes}
+use Rattle.std.proofs.Common.{◌≡◌, ◌≤◌, ℤ, List, length, get_or, Some, ap, subst, arith, pos, string_bytes}
 use Rattle.std.specs.Prelude.{codes}
 use Rattle.std.specs.List.{slice_get}
 use Rattle.txn_text.specs.Canonical.{pair_line}

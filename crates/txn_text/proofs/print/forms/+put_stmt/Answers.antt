@@ -1,13 +1,13 @@
-use Rattle.std.proofs.Common.{rules, ◌≡◌, ◌∙◌, List, ℕ, ◌++◌, length, string_bytes, ap, sym, subst}
+use Rattle.std.proofs.Common.{rules, ◌≡◌, ◌∙◌, ◌++◌, length, string_bytes, ap, sym, subst}
 use Rattle.txn.specs.Scope.{StatementKnown}
 use Rattle.txn.specs.Tree.{Statement, statement_of, statements_of_list, condition_of}
 use Rattle.txn.specs.Tree as txn
 use Rattle.txn.specs.declared.ast.Stmt.{Stmt}
 use Rattle.txn.specs.declared.ast.Stmt.TheViews.{the_lemmas}
 use Rattle.txn.proofs.Rows.{statement_Seq}
-use Rattle.txn_text.specs.Canonical.{cond_text, stmt_text}
+use Rattle.txn_text.specs.Canonical.{stmt_text}
 use Rattle.txn_text.specs.Fits.{StmtFits}
-use Rattle.txn_text.specs.Written.{written_condition, written_statement}
+use Rattle.txn_text.specs.Written.{written_statement}
 use Rattle.txn_text.proofs.Appends.{three_parts}
 use Rattle.txn_text.proofs.print.forms.+put_stmt.Goals as goal
 

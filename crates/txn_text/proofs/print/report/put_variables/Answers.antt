@@ -1,4 +1,4 @@
-use Rattle.std.proofs.Common.{string_bytes, get_or, pos, ℤ, ℕ}
+use Rattle.std.proofs.Common.{string_bytes, pos, ℤ, ℕ}
 use Rattle.std.specs.Prelude.{FitsSigned}
 use Rattle.std.specs.Int.{w64}
 use Rattle.std.proofs.lemmas.List.Elements.{All-more}
