@@ -1,6 +1,6 @@
 //! The book: how each task stands, the journal, and the present values.
 
-ghost use Rattle.std.specs.Prelude.{◌≡◌, ◌≢◌, ◌<◌, ◌≤◌, ◌+◌, ◌++◌, ◌∷◌, [], ℕ, length, map, replicate, IfOk, MatchBool, MatchOption, Some, slice_get, vec_len, vec_capacity, All};
+ghost use Rattle.std.specs.Prelude.{◌≡◌, ◌≢◌, ◌<◌, ◌≤◌, ◌+◌, ◌++◌, ◌∷◌, [], ℕ, length, map, replicate, IfOk, IfSome, MatchBool, MatchOption, Some, slice_get, vec_len, vec_capacity, All};
 ghost use Rattle.txn.specs.Replay.{versions_after};
 ghost use Rattle.txn.specs.Listing.{tasks as listed_tasks};
 ghost use Rattle.stm.specs.View.{roused, woken};
@@ -238,6 +238,7 @@ fn is_done(tasks: &[Task], at: usize) -> bool
 fn first_ready(tasks: &[Task], next: &mut Vec<usize>, from: usize) -> Option<usize>
     requires { LeadsPastDone next.old.items tasks.now }
     ensures found { MatchOption result ((k : ℕ) → from ≤ k → slice_get tasks.now k ≢ Some Task.Ready) (λ i. (slice_get tasks.now i ≡ Some Task.Ready) × ((k : ℕ) → from ≤ k → k < i → slice_get tasks.now k ≢ Some Task.Ready)) }
+    ensures ahead { IfSome result (λ i. from ≤ i) }
     ensures next { LeadsPastDone next.new.items tasks.now }
 {
     let mut at = from;

@@ -1,5 +1,8 @@
 //! The program: words and files in, a report and a status out.
 
+ghost use Rattle.std.specs.Prelude.{◌≡◌};
+ghost use Rattle.stm.specs.Statuses.{status_of};
+
 use crate::command_line::parse;
 use crate::fault::RunFault;
 use crate::options::Options;
@@ -70,7 +73,9 @@ pub(crate) fn unreadable<R: Eprint>(rt: &R, error: &io::Error) -> u8 {
 }
 
 /// Says why there is no report.
-fn told<R: Eprint>(rt: &R, fault: RunFault) -> u8 {
+fn told<R: Eprint>(rt: &R, fault: RunFault) -> u8
+    ensures { result ≡ status_of fault }
+{
     let _unheard = rt.eprintln(fault.line());
     fault.status()
 }

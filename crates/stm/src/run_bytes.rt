@@ -1,6 +1,6 @@
 //! From the bytes of a file to the bytes of its report.
 
-ghost use Rattle.std.specs.Prelude.{◌≡◌, ◌+◌, ◌<◌, ◌^◌, IfOk, IfErr, string_bytes};
+ghost use Rattle.std.specs.Prelude.{◌≡◌, ◌+◌, ◌<◌, ◌^◌, true, IfOk, OnOk, IfErr, string_bytes};
 ghost use Rattle.stm.specs.Running.{IsReportOf, IsRefused, Ran, output_failures};
 
 use crate::fault::RunFault;
@@ -12,10 +12,10 @@ use txn_text::{ReadFault, print_report, read_file};
 
 /// Runs the file that the bytes spell, and writes its report to the sink.
 ///
-/// `Ok`: exactly the text of one lawful report of exactly that file was written. `Input`: the bytes
-/// spell no file, and this is the first kind of fault that they have; nothing was written.
-/// `Memory`: a growth was refused; nothing was written. `Output`: a call of the sink failed, the
-/// only one, and a beginning of one such text was written.
+/// `Ok`: exactly the text of one lawful report of exactly that file was written, and then flushed.
+/// `Input`: the bytes spell no file, and this is the first kind of fault that they have; nothing
+/// was written. `Memory`: a growth was refused; nothing was written. `Output`: a call of the sink
+/// failed, the only one, and a beginning of one such text was written.
 pub fn run_bytes<S: Sink>(
     alloc: Global,
     bytes: &[u8],
@@ -24,6 +24,7 @@ pub fn run_bytes<S: Sink>(
 ) -> Result<(), RunFault>
     requires { S.failed sink.old < 2 ^ 63 }
     ensures ran { Ran bytes.now (S.bytes sink.old) (S.bytes sink.new) result }
+    ensures flushed { OnOk result (S.flushed sink.new ≡ true) }
     ensures failures { S.failed sink.new ≡ S.failed sink.old + output_failures result }
 {
     match report_of(alloc, bytes, options) {

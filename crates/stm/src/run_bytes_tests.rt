@@ -131,8 +131,7 @@ fn faults_of_numbers(rt: HostRuntime) -> Result<(), Fail> {
 }
 
 #[test]
-fn refusals(rt: HostRuntime) -> Result<(), Fail> {
-    let alloc = rt.alloc();
+fn refusals_by_shape(rt: HostRuntime) -> Result<(), Fail> {
     for input in [
         "(var x",
         "(var x -0)",
@@ -142,12 +141,17 @@ fn refusals(rt: HostRuntime) -> Result<(), Fail> {
     ] {
         expect_fault(
             &rt,
-            alloc,
+            rt.alloc(),
             input.as_bytes(),
             ReadFault::Shape,
             "stm: file: F3 Shape",
         )?;
     }
+    Ok(())
+}
+
+#[test]
+fn refusals_by_name(rt: HostRuntime) -> Result<(), Fail> {
     for input in [
         "(tx t (skip) y)",
         "(var x 1)(var x 1)",
@@ -156,12 +160,17 @@ fn refusals(rt: HostRuntime) -> Result<(), Fail> {
     ] {
         expect_fault(
             &rt,
-            alloc,
+            rt.alloc(),
             input.as_bytes(),
             ReadFault::Name,
             "stm: file: F4 Name",
         )?;
     }
+    Ok(())
+}
+
+#[test]
+fn refusals_by_limit(rt: HostRuntime) -> Result<(), Fail> {
     for input in [
         "(var x 9223372036854775808)",
         "(tx t (repeat 1001 (skip)) 0)",
@@ -170,26 +179,26 @@ fn refusals(rt: HostRuntime) -> Result<(), Fail> {
     ] {
         expect_fault(
             &rt,
-            alloc,
+            rt.alloc(),
             input.as_bytes(),
             ReadFault::Limit,
             "stm: file: F5 Limit",
         )?;
     }
-    expect_fault(
-        &rt,
-        alloc,
-        &[200],
-        ReadFault::BadByte,
-        "stm: file: F2 BadByte",
-    )?;
-    expect_fault(
-        &rt,
-        alloc,
-        &[b';', 200],
-        ReadFault::BadByte,
-        "stm: file: F2 BadByte",
-    )?;
+    Ok(())
+}
+
+#[test]
+fn refusals_by_byte(rt: HostRuntime) -> Result<(), Fail> {
+    for input in [[200].as_slice(), &[b';', 200]] {
+        expect_fault(
+            &rt,
+            rt.alloc(),
+            input,
+            ReadFault::BadByte,
+            "stm: file: F2 BadByte",
+        )?;
+    }
     Ok(())
 }
 
@@ -216,6 +225,17 @@ fn a_failing_flush_is_told(rt: HostRuntime) -> Result<(), Fail> {
         Err(RunFault::Output)
     );
     assert_eq!(rt; out.failures(), 1);
+    assert!(rt; !out.is_flushed());
+    Ok(())
+}
+
+#[test]
+fn a_report_is_flushed(rt: HostRuntime) -> Result<(), Fail> {
+    let options = Options::new(1, 8, 0).ok_or("options")?;
+    let mut out = Out::new(Vec::new(rt.alloc()));
+    assert!(rt; !out.is_flushed());
+    run_bytes(rt.alloc(), b"", options, &mut out)?;
+    assert!(rt; out.is_flushed());
     Ok(())
 }
 

@@ -13,6 +13,7 @@ loop-at-preserved c = (
         | inr high ↦ done_not_ready _ (c.past_done-at.ensures.passed k high b)
       ],
   c.past_done-at.ensures.leads,
+  omega (arith, c.loop-at.invariant.2, c.past_done-at.ensures.ahead),
 )
 
 pub returns-clause-found : goal.returns-clause-found

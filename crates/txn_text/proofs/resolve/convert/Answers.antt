@@ -1,7 +1,7 @@
 use Rattle.std.proofs.Common.{◌∙◌, ap, sym, map}
 use Rattle.txn.specs.Tree.{program_of}
-use Rattle.txn_text.specs.Resolving.{each, variable_of, program_in, run_in}
-use Rattle.txn_text.specs.View.{texts, view_pairs, view_txs, view_file}
+use Rattle.txn_text.specs.Resolving.{each, variable_of, run_in}
+use Rattle.txn_text.specs.View.{texts, view_pairs, view_file}
 use Rattle.txn_text.specs.Parts.{view_variable}
 use Rattle.txn_text.proofs.Steps.{done}
 use Rattle.txn_text.proofs.Parts.{parts_are, converted_is}
