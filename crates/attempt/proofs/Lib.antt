@@ -1,0 +1,9 @@
+pub mod FrameProof
+pub mod Declared
+pub mod Told
+pub mod Costs
+pub mod Writes
+pub mod Pairs
+pub mod Answered
+pub mod Lawful
+pub mod Short

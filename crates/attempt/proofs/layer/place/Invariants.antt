@@ -1,0 +1,12 @@
+use Rattle.std.proofs.Common.{◌≡◌, ◌≤◌, ◌-◌, ◌++◌, ℤ, take, drop, length}
+use Rattle.attempt.specs.Asking.{write}
+use Rattle.attempt.proofs.layer.place.Given as goal
+
+abbrev pub invariant-loop-i : goal.invariant-loop-i
+invariant-loop-i l = record {
+  within : l.i ≤ length l.pairs;
+  rest : (v : ℤ) → take l.i l.pairs ++ write (drop l.i l.pairs) l.x v ≡ write l.pairs l.x v;
+}
+
+abbrev pub decreases-loop-i : goal.decreases-loop-i
+decreases-loop-i l = length l.pairs - l.i

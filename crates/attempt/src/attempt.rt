@@ -1,0 +1,177 @@
+//! An attempt: a transaction, what it was told, and where it stands.
+
+ghost use Rattle.std.specs.Prelude.{◌≡◌, ◌≢◌, ◌<◌, ◌≤◌, ◌+◌, ◌++◌, ◌∷◌, [], None, length, IsOk, OnOk, OnErr};
+ghost use Rattle.txn.specs.Cost.{cost};
+ghost use Rattle.txn.specs.Meaning.{State};
+ghost use Rattle.txn.specs.Scope.{ProgramKnown};
+ghost use Rattle.attempt.specs.Asking.{known_at, ask, Ends};
+ghost use Rattle.attempt.specs.Frame.{Agrees};
+ghost use Rattle.attempt.specs.Order.{AllKnown, Apart, Ascending};
+ghost use Rattle.attempt.specs.View.{fresh_attempt, supplied, idle, next_of, Answers, HoldsAt, OnlyOfReturned};
+
+use crate::evaluate::{Told, evaluate};
+use crate::layer::Layer;
+use crate::log::Log;
+use crate::next::{Next, Stand, answer};
+use smallvec::SmallVec;
+use std::alloc::Global;
+use std::marker::Model;
+use txn::{Catalogue, Memory, Outcome, TxId, VarId};
+
+/// One evaluation of a transaction over what it was told. A clause sees an `AttemptView`.
+#[derive(Drop)]
+pub struct Attempt<'a> {
+    catalogue: &'a Catalogue,
+    id: TxId,
+    log: Layer,
+    writes: Layer,
+    stand: Stand,
+    steps: u64,
+}
+
+impl<'a> Model for Attempt<'a> {
+    ghost use Rattle.attempt.specs.View.{AttemptView};
+    ghost use Rattle.std.specs.Coded.{codes};
+    ghost use Rattle.txn.specs.Codes.{coded_program};
+
+    ghost Value = { AttemptView };
+
+    ghost coded = { Prim.hlevel (codes, coded_program) };
+
+    ghost use Rattle.attempt.specs.AttemptInside.{viewed, IsKept};
+
+    ghost view = { viewed };
+
+    ghost invariant = { IsKept };
+}
+
+impl<'a> Attempt<'a> {
+    /// An attempt of a transaction of the catalogue, with an empty log. It takes no memory.
+    pub fn new(alloc: Global, catalogue: &'a Catalogue, id: TxId) -> Attempt<'a>
+        requires { id.0 < length catalogue.now.programs }
+        ensures { result ≡ fresh_attempt catalogue.now id }
+    {
+        catalogue.rules();
+        Attempt {
+            catalogue,
+            id,
+            log: SmallVec::new(alloc),
+            writes: SmallVec::new(alloc),
+            stand: Stand::Fresh,
+            steps: 0,
+        }
+    }
+
+    /// What the attempt was told: each variable once, in the order of supply.
+    pub fn log(&self) -> &[(VarId, i64)]
+        ensures value { result.now ≡ self.now.log }
+        ensures known { AllKnown self.now.variables result.now }
+        ensures apart { Apart result.now }
+    {
+        self.log.as_slice()
+    }
+
+    /// What the attempt was told, kept after it. It takes no memory.
+    pub fn into_log(self) -> Log
+        ensures { result ≡ self.entry.log }
+    {
+        Log { pairs: self.log }
+    }
+
+    /// The writes that remain after the transaction returned, ascending by variable; else none.
+    pub fn writes(&self) -> &[(VarId, i64)]
+        ensures value { result.now ≡ self.now.writes }
+        ensures known { AllKnown self.now.variables result.now }
+        ensures ascending { Ascending result.now }
+        ensures only { OnlyOfReturned self.now.stand result.now }
+        ensures ends { (o : Outcome) → self.now.stand ≡ Stand.Over o → ask self.now.program self.now.log ≡ Ends o result.now }
+    {
+        self.writes.as_slice()
+    }
+
+    /// How many nodes of the program the last `advance` entered: none where it repeated an answer.
+    pub fn steps(&self) -> u64
+        ensures value { result ≡ self.now.steps }
+        ensures few { result ≤ cost self.now.program }
+    {
+        self.steps
+    }
+
+    /// Tells the attempt the value of the variable that it needs: the last `advance` answered
+    /// `Need` of it, and it was not supplied since.
+    ///
+    /// Refused by `Memory` where the log has to grow and can't; then nothing changed. The first
+    /// eight variables take no memory.
+    pub fn supply(&mut self, x: VarId, v: i64) -> Result<(), Memory>
+        requires needed { self.old.stand ≡ Stand.Needs x }
+        ensures ok { OnOk result (self.new ≡ supplied self.old x v) }
+        ensures refused { OnErr result (self.new ≡ self.old) }
+        ensures short { length self.old.log < 8 → IsOk result }
+    {
+        self.log.push((x, v))?;
+        self.stand = Stand::Fresh;
+        Ok(())
+    }
+
+    /// Goes on as far as the log allows: to the first variable that is neither written by the
+    /// transaction nor in the log, or to the end. The answer is repeated until that variable is
+    /// supplied, and an end is repeated for good.
+    ///
+    /// Where it ends, then on every state that agrees with the log the transaction ends so too,
+    /// and the state after it is that state with the `writes` stored in it.
+    ///
+    /// `Memory` where a growth was refused: more than eight writes, or more than eight in a branch
+    /// of an `orelse`, take memory. Then the attempt is spent, and each later answer is `Memory`.
+    pub fn advance(&mut self) -> Next
+        ensures answers { Answers result self.new }
+        ensures program { self.new.program ≡ self.old.program }
+        ensures variables { self.new.variables ≡ self.old.variables }
+        ensures log { self.new.log ≡ self.old.log }
+        ensures asks_again { (x : VarId) → self.old.stand ≡ Stand.Needs x → (result ≡ Next.Need x) × (self.new ≡ idle self.old) }
+        ensures repeats { (o : Outcome) → self.old.stand ≡ Stand.Over o → (result ≡ next_of o) × (self.new ≡ idle self.old) }
+        ensures spent { self.old.stand ≡ Stand.Spent → (result ≡ Next.Memory) × (self.new ≡ idle self.old) }
+        ensures steps { self.new.steps ≤ cost self.old.program }
+        ensures short { ProgramKnown 8 self.old.program → self.old.stand ≢ Stand.Spent → result ≢ Next.Memory }
+        ensures needed { (x : VarId) → result ≡ Next.Need x → (x.0 < self.new.variables) × (known_at self.new.log x ≡ None) }
+        ensures frame { (m : State) → length m ≡ self.new.variables → Agrees self.new.log m → HoldsAt result self.new m }
+    {
+        self.steps = 0;
+        match self.stand {
+            Stand::Over(outcome) => answer(outcome),
+            Stand::Needs(x) => Next::Need(x),
+            Stand::Spent => Next::Memory,
+            Stand::Fresh => self.evaluate(),
+        }
+    }
+
+    /// Evaluates the transaction anew over the log.
+    fn evaluate(&mut self) -> Next
+        requires fresh { self.old.stand ≡ Stand.Fresh }
+        requires rested { self.old.steps ≡ 0 }
+        ensures answers { Answers result self.new }
+        ensures program { self.new.program ≡ self.old.program }
+        ensures variables { self.new.variables ≡ self.old.variables }
+        ensures log { self.new.log ≡ self.old.log }
+        ensures known { ProgramKnown self.new.variables self.new.program }
+        ensures steps { self.new.steps ≤ cost self.old.program }
+        ensures short { ProgramKnown 8 self.old.program → result ≢ Next.Memory }
+    {
+        let tx = self.catalogue.tx(self.id);
+        self.writes = SmallVec::new(*self.log.allocator());
+        match evaluate(tx, self.log.as_slice(), &mut self.writes, &mut self.steps) {
+            Ok(Told::Need(x)) => {
+                self.stand = Stand::Needs(x);
+                Next::Need(x)
+            }
+            Ok(Told::End(outcome)) => {
+                self.stand = Stand::Over(outcome);
+                answer(outcome)
+            }
+            Err(_) => {
+                self.writes.clear();
+                self.stand = Stand::Spent;
+                Next::Memory
+            }
+        }
+    }
+}

@@ -1,0 +1,22 @@
+//! Attempts: a transaction is evaluated over what was read of the state so far.
+//!
+//! An `Attempt` begins with an empty log. `advance` evaluates until the first variable that is
+//! neither written by the transaction itself nor in the log, and answers `Need`; `supply` adds its
+//! value to the log. `frame` says why this is safe: an end that was reached over a log is the end
+//! on every state that agrees with the log.
+#![tactic(auto)]
+
+mod arithmetic;
+pub mod attempt;
+mod evaluate;
+pub mod laws;
+mod layer;
+pub mod log;
+pub mod next;
+#[cfg(test)]
+mod tests;
+
+pub use attempt::Attempt;
+pub use laws::frame;
+pub use log::Log;
+pub use next::{Next, Stand};

@@ -1,0 +1,30 @@
+//! The log of an attempt, kept after it.
+
+ghost use Rattle.std.specs.Prelude.{◌≡◌};
+
+use crate::layer::Layer;
+use std::marker::Model;
+use txn::VarId;
+
+/// What an attempt was told: each variable once, in the order of supply. A clause sees the pairs.
+#[derive(Drop)]
+pub struct Log {
+    pub(crate) pairs: Layer,
+}
+
+impl Model for Log {
+    ghost use Rattle.attempt.specs.Asking.{Known};
+
+    ghost Value = { Known };
+
+    ghost view = { λ l. l.pairs.items };
+}
+
+impl Log {
+    /// The pairs, in the order of supply.
+    pub fn as_slice(&self) -> &[(VarId, i64)]
+        ensures { result.now ≡ self.now }
+    {
+        self.pairs.as_slice()
+    }
+}
