@@ -1,0 +1,44 @@
+use Rattle.std.proofs.Common.{◌≡◌, ◌∙◌, arith, ap, sym, refl, true, List, ℤ, length, replicate}
+use Rattle.std.proofs.lemmas.List.{length-replicate}
+use Rattle.std.proofs.lemmas.Option.{slice_get-get_or}
+use Rattle.txn.specs.Listing.{Listing, tasks, task_tx}
+use Rattle.txn.specs.Names.{names_hold}
+use Rattle.txn.proofs.Lawful.{known_task}
+use Rattle.attempt.proofs.Declared.{program_known}
+use Rattle.book.specs.declared.task.Task.TheVariants.{Ready}
+use Rattle.book.specs.BookInside.{snapshot_of}
+use Rattle.book.proofs.Passing.{leads_first}
+use Rattle.book.proofs.Kept.{opening_is, kept_opened, AllKnow}
+use Rattle.book.proofs.book.Book.open.Goals as goal
+
+all_know : (l : Listing) → length l.names ≡ length l.initial → names_hold l ≡ true → AllKnow l
+all_know l named names t less =
+    program_known l (task_tx l (record { 0 = t })) names named (known_task l t (task_tx l (record { 0 = t })) names (slice_get-get_or (tasks l) t (record { 0 = 0 }) less))
+
+pub invariant_of-result : goal.invariant_of-result
+invariant_of-result c =
+    let l = c.args.catalogue.now in
+    let a = c.in_ok-opening.ensures in
+    let b = c.in_ok-opening-2.ensures in
+    let i = c.initial.ensures.value in
+    let i2 = c.initial-2.ensures.value in
+    let n = c.tasks-count.ensures.value in
+    let ts : c.in_ok-all_ready.field-0.items ≡ replicate (length (tasks l)) Ready = c.in_ok-all_ready.ensures ∙ ap (λ k. replicate k Ready) n in
+    kept_opened _
+    (record {
+      own = c.requires.own;
+      unused = c.requires.unused;
+      base = opening_is l (snapshot_of c.in_ok-opening.field-0) a.number (a.values ∙ i) (a.versions ∙ ap (λ (xs : List ℤ). replicate (length xs) 0) i);
+      present = opening_is l (snapshot_of c.in_ok-opening-2.field-0) b.number (b.values ∙ i2) (b.versions ∙ ap (λ (xs : List ℤ). replicate (length xs) 0) i2);
+      journal = c.in_ok-with_capacity.ensures.items;
+      tasks = ts;
+      waiting = c.in_ok-with_capacity-3.ensures.items;
+      lowest = refl;
+    })
+    (leads_first _ _ (c.in_ok-successors.ensures.size ∙ (n ∙ sym (ap length ts ∙ length-replicate (length (tasks l)) Ready))) c.in_ok-successors.ensures.each)
+    (omega (arith, n, c.tasks-count.ensures.few))
+    (omega (arith, ap length i, c.initial.ensures.few))
+    (all_know l c.rules.ensures.named c.rules.ensures.names)
+    (omega (arith, n, c.in_ok-with_capacity.ensures.capacity))
+    (omega (arith, n, c.in_ok-with_capacity-3.ensures.capacity))
+    (omega (arith, ap length c.initial-3.ensures.value, c.in_ok-with_capacity-2.ensures.capacity))

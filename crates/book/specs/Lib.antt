@@ -1,0 +1,5 @@
+pub mod View
+pub mod LawfulBook
+pub mod BookInside
+pub mod Turns
+pub mod Stirring

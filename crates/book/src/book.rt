@@ -1,0 +1,342 @@
+//! The book: how each task stands, the journal, and the present values.
+
+ghost use Rattle.std.specs.Prelude.{◌≡◌, ◌≢◌, ◌<◌, ◌≤◌, ◌+◌, ◌++◌, ◌∷◌, [], ℕ, length, map, IfOk, IsTrue, ◌↔◌, MatchBool, vec_len, vec_capacity, All};
+ghost use Rattle.txn.specs.Stores.{with_changes};
+ghost use Rattle.attempt.specs.Asking.{Known};
+ghost use Rattle.attempt.specs.Frame.{Agrees};
+ghost use Rattle.attempt.specs.Order.{Ascending, AllKnown};
+ghost use Rattle.cells.specs.Passing.{MeetsBy};
+ghost use Rattle.book.specs.Turns.{is_committed};
+
+use crate::changing::{note_changes, store_changes};
+use crate::evaluate::evaluate;
+use crate::listing::{given_up, parked};
+use crate::stored::{Stored, opening, pairs};
+use crate::taking::{all_ready, first_ready, is_running, ready_all, successors};
+use crate::task::{Finish, Serial, Task, stand};
+use crate::waking::{agrees, wait, wake};
+use attempt::{Attempt, Log, Next, frame};
+use cells::{Cells, Pass, Publisher};
+use std::alloc::Global;
+use std::marker::Model;
+use txn::{Catalogue, Entry, Memory, Outcome, Report, TaskId, VarId};
+
+/// The tasks of a catalogue, the journal of those that committed, and the present values. A
+/// clause sees a `BookView`. At all times the journal replays from the base to the present, no
+/// task is entered twice, the program of each parked task retries on the present values, and the
+/// present values are the last state that was published.
+#[derive(Drop)]
+pub struct Book<'a> {
+    catalogue: &'a Catalogue,
+    cells: &'a Cells,
+    publisher: Publisher,
+    base: Stored,
+    journal: Vec<Entry>,
+    present: Stored,
+    /// What the last commit changed. Its room is for one change a variable.
+    changes: Vec<(VarId, i64)>,
+    tasks: Vec<Task>,
+    /// The parked tasks.
+    waiting: Vec<TaskId>,
+    /// No task below is ready.
+    lowest: usize,
+    /// For each task a later place: all tasks in between are done.
+    next: Vec<usize>,
+}
+
+impl<'a> Model for Book<'a> {
+    ghost use Rattle.std.specs.Coded.{codes};
+    ghost use Rattle.txn.specs.Codes.{coded_listing};
+    ghost use Rattle.book.specs.View.{BookView};
+
+    ghost Value = { BookView };
+
+    ghost coded = { Prim.hlevel (codes, coded_listing) };
+
+    ghost use Rattle.book.specs.BookInside.{book_of, IsKept};
+
+    ghost view = { book_of };
+
+    ghost invariant = { IsKept };
+}
+
+impl<'a> Book<'a> {
+    ghost use Rattle.txn.specs.Meaning.{outcome, after};
+    ghost use Rattle.txn.specs.Listing.{task_program};
+    ghost use Rattle.txn.specs.declared.ast.Outcome as Outcome;
+    ghost use Rattle.txn.specs.Told.{told};
+    ghost use Rattle.book.specs.View.{opened, IsRunning, stands, committed, checkpointed};
+    ghost use Rattle.book.specs.Turns.{Taken, IsEndOf, Finished, Served, Turn, Drains, readied, IsIdle, ReportIs};
+    ghost use Rattle.book.specs.LawfulBook.{LawfulBook, BookFits, Waits};
+
+    /// All tasks ready, number 0, the initial values, an empty journal. `Memory` only where a
+    /// growth was refused.
+    ///
+    /// Room for one entry a task, for all tasks to wait, and for one change a variable is taken
+    /// here, so that no commit takes any. The cells and the publisher have to have been opened
+    /// together on the catalogue's initial values, and nothing published since.
+    pub fn open(
+        alloc: Global,
+        catalogue: &'a Catalogue,
+        cells: &'a Cells,
+        publisher: Publisher,
+    ) -> Result<Book<'a>, Memory>
+        requires own { publisher.cells ≡ cells.now }
+        requires unused { publisher.history ≡ catalogue.now.initial ∷ [] }
+        ensures { IfOk result (λ b. b ≡ opened catalogue.now cells.now) }
+    {
+        let count = catalogue.tasks();
+        catalogue.rules();
+        Ok(Book {
+            catalogue,
+            cells,
+            publisher,
+            base: opening(alloc, catalogue.initial())?,
+            journal: Vec::with_capacity(alloc, count)?,
+            present: opening(alloc, catalogue.initial())?,
+            changes: Vec::with_capacity(alloc, catalogue.initial().len())?,
+            tasks: all_ready(alloc, count)?,
+            waiting: Vec::with_capacity(alloc, count)?,
+            lowest: 0,
+            next: successors(alloc, count)?,
+        })
+    }
+
+    /// The lowest ready task, which is then running. `None` exactly if none is ready. It takes no
+    /// memory.
+    pub fn take(&mut self) -> Option<TaskId>
+        ensures { Taken self.old result self.new }
+    {
+        let found = first_ready(&self.tasks, &mut self.next, self.lowest)?;
+        let task = TaskId(found as u32);
+        stand(&mut self.tasks, task, Task::Running);
+        self.lowest = found + 1;
+        Some(task)
+    }
+
+    /// The end of an attempt of the task: it commits or is parked where all that it read is still
+    /// so, and else the answer is `Stale` and nothing changed. It takes no memory.
+    ///
+    /// Each attempt is validated by value: every logged value has to be the present one. The
+    /// task has to exist, and the attempt to be of its transaction and to have ended.
+    pub fn finish(&mut self, task: TaskId, attempt: Attempt<'_>) -> Finish
+        requires exists { task.0 < length self.old.tasks }
+        requires ended { IsEndOf self.old.catalogue task attempt }
+        ensures { Finished self.old task attempt.entry result self.new }
+    {
+        if !is_running(&self.tasks, task) {
+            return Finish::NotRunning;
+        }
+        if !agrees(attempt.log(), &self.present.values) {
+            return Finish::Stale;
+        }
+        let mut attempt = attempt;
+        let how = match attempt.advance() {
+            Next::Returned(value) => Outcome::Returned(value),
+            Next::Thrown(fault) => Outcome::Thrown(fault),
+            Next::Retry => {
+                self.park(task, attempt.into_log());
+                return Finish::Parked;
+            }
+            Next::Need(_) | Next::Memory => unreachable!(),
+        };
+        Finish::Committed(self.commit(task, how, attempt.writes()))
+    }
+
+    /// A turn of the task on the present values: it commits, or is parked where its program
+    /// retries. After want of memory the task is given up.
+    pub fn serial(&mut self, alloc: Global, task: TaskId) -> Serial
+        requires exists { task.0 < length self.old.tasks }
+        ensures { Served self.old task result self.new }
+    {
+        if !is_running(&self.tasks, task) {
+            return Serial::NotRunning;
+        }
+        let catalogue = self.catalogue;
+        let tx = catalogue.task_tx(task);
+        let Ok(attempt) = evaluate(alloc, catalogue, tx, &self.present.values) else {
+            let _ = self.give_up(task);
+            return Serial::Abandoned;
+        };
+        match self.finish(task, attempt) {
+            Finish::NotRunning | Finish::Stale => unreachable!(),
+            Finish::Parked => Serial::Parked,
+            Finish::Committed(number) => Serial::Committed(number),
+        }
+    }
+
+    /// A running task is given up: it will not be entered. `false` and no change where it was not
+    /// running. It takes no memory.
+    pub fn give_up(&mut self, task: TaskId) -> bool
+        requires exists { task.0 < length self.old.tasks }
+        ensures { MatchBool result (IsRunning self.old task × (self.new ≡ stands self.old task Task.GivenUp)) (¬ (IsRunning self.old task) × (self.new ≡ self.old)) }
+    {
+        if !is_running(&self.tasks, task) {
+            return false;
+        }
+        stand(&mut self.tasks, task, Task::GivenUp);
+        true
+    }
+
+    /// The base becomes the present number, values and versions, and the journal is empty. It
+    /// takes no memory.
+    pub fn checkpoint(&mut self)
+        ensures { self.new ≡ checkpointed self.old }
+    {
+        self.base.number = self.present.number;
+        self.base.values.copy_from_slice(&self.present.values);
+        self.base.versions.copy_from_slice(&self.present.versions);
+        self.journal.clear();
+    }
+
+    /// Makes each running task ready, and then gives the lowest ready task a turn on the present
+    /// values until none is ready.
+    ///
+    /// Where `every` is not 0, a commit that makes the journal at least `every` entries long is
+    /// followed by a checkpoint. A turn that meets want of memory gives its task up.
+    pub fn drain(&mut self, alloc: Global, every: u32)
+        ensures turns { Drains every (readied self.old) self.new }
+        ensures idle { IsIdle self.new }
+    {
+        self.make_ready();
+        while let Some(task) = self.take() {
+            self.turn(alloc, every, task);
+        }
+    }
+
+    /// Each running task is ready.
+    fn make_ready(&mut self)
+        ensures { self.new ≡ readied self.old }
+    {
+        ready_all(&mut self.tasks);
+        self.lowest = 0;
+    }
+
+    /// The turn of a task that was taken.
+    fn turn(&mut self, alloc: Global, every: u32, task: TaskId)
+        requires { IsRunning self.old task }
+        ensures { Turn every self.old task self.new }
+    {
+        let how = self.serial(alloc, task);
+        if is_committed(how) && every > 0 && self.journal.len() >= every as usize {
+            self.checkpoint();
+        }
+    }
+
+    /// Tells a pass of the book's cells all that was published, by one load of the clock, and
+    /// closes it. A begin after it is at the present values or later ones.
+    pub fn meet(&mut self, pass: &mut Pass)
+        requires own { pass.old.cells ≡ self.old.cells }
+        ensures same { self.new ≡ self.old }
+        ensures met { MeetsBy pass.old pass.new self.old.history }
+    {
+        let cells = self.cells;
+        self.publisher.meet(cells, pass);
+    }
+
+    /// Whether the book was opened with an equal catalogue.
+    pub fn is_for(&self, catalogue: &Catalogue) -> bool
+        ensures { IsTrue result ↔ (self.now.catalogue ≡ catalogue.now) }
+    {
+        self.catalogue.same(catalogue)
+    }
+
+    /// How many entries the journal has.
+    pub fn journal_len(&self) -> usize
+        ensures { result ≡ length self.now.journal }
+    {
+        self.journal.len()
+    }
+
+    /// What the book tells: base, journal, present values, and the parked and the given-up tasks,
+    /// both ascending, each with its own transaction. `Memory` only where a growth was refused.
+    pub fn report(&self, alloc: Global) -> Result<Report, Memory>
+        ensures { IfOk result (λ r. ReportIs self.now (told r)) }
+    {
+        Ok(Report {
+            base: self.base.number,
+            base_vars: pairs(alloc, &self.base)?,
+            entries: self.journal.as_slice().to_vec(alloc)?,
+            now: self.present.number,
+            now_vars: pairs(alloc, &self.present)?,
+            parked: parked(alloc, self.catalogue, &self.tasks)?,
+            memory: given_up(alloc, self.catalogue, &self.tasks)?,
+        })
+    }
+
+    /// What every book keeps. It does nothing: its contract is the law.
+    pub fn law(&self)
+        ensures lawful { LawfulBook self.now }
+        ensures fits { BookFits self.now }
+    {
+        let _ = &self.lowest;
+    }
+
+    /// The task waits for a change of a logged variable.
+    fn park(&mut self, task: TaskId, log: Log)
+        requires running { IsRunning self.old task }
+        requires waits { Waits self.old.catalogue self.old.present.state task log }
+        ensures { self.new ≡ stands self.old task (Task.Parked log) }
+    {
+        stand(&mut self.tasks, task, Task::Parked(log));
+        wait(&mut self.waiting, task);
+    }
+
+    /// The task commits with this outcome and these writes. The number of its entry.
+    fn commit(&mut self, task: TaskId, how: Outcome, writes: &[(VarId, i64)]) -> u64
+        requires running { IsRunning self.old task }
+        requires outcome { how ≡ outcome (task_program self.old.catalogue task) self.old.present.state }
+        requires after { after (task_program self.old.catalogue task) self.old.present.state ≡ with_changes self.old.present.state writes.now }
+        requires ends { how ≢ Outcome.Retries }
+        requires ascending { Ascending writes.now }
+        requires known { AllKnown (length self.old.catalogue.initial) writes.now }
+        ensures number { result ≡ self.old.present.number + 1 }
+        ensures committed { self.new ≡ committed self.old task }
+    {
+        frame();
+        let number = self.present.number + 1;
+        let tx = self.catalogue.task_tx(task);
+        note_changes(&mut self.changes, writes, &self.present.values);
+        let cells = self.cells;
+        self.publisher.publish(cells, &self.changes);
+        let present = &mut self.present;
+        store_changes(&mut present.values, &mut present.versions, number, &self.changes);
+        self.present.number = number;
+        stand(&mut self.tasks, task, Task::Done(number));
+        self.lowest = wake(
+            &mut self.tasks,
+            &mut self.waiting,
+            self.lowest,
+            &self.changes,
+            &self.present.values,
+        );
+        enter(
+            &mut self.journal,
+            Entry {
+                number,
+                task,
+                tx,
+                outcome: how,
+            },
+        );
+        number
+    }
+}
+
+/// Adds an entry, for which there is room.
+fn enter(journal: &mut Vec<Entry>, entry: Entry)
+    requires { vec_len journal.old < vec_capacity journal.old }
+    ensures items { journal.new.items ≡ journal.old.items ++ entry ∷ [] }
+    ensures capacity { vec_capacity journal.old ≤ vec_capacity journal.new }
+{
+    match journal.push(entry) {
+        Ok(()) => {}
+        Err(_) => unreachable!(),
+    }
+}
+
+fn is_committed(how: Serial) -> bool
+    ensures { result ≡ is_committed how }
+{
+    matches!(how, Serial::Committed(_))
+}

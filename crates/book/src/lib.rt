@@ -1,0 +1,16 @@
+//! The book: how each task stands, the journal of those that committed, and the present values,
+//! which it publishes to the cells. Whatever is called in whatever order, the journal replays to
+//! exactly the present values and versions, no task is entered twice, and parked programs retry.
+#![tactic(auto)]
+
+mod book;
+mod changing;
+mod evaluate;
+mod listing;
+mod stored;
+mod taking;
+mod task;
+mod waking;
+
+pub use book::Book;
+pub use task::{Finish, Serial};
