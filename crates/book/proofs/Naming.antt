@@ -187,12 +187,12 @@ fewer (w ∷ ws) ts only once =
     let rest : length ws ≤ parked_count (set ts w.0 Ready) =
     fewer ws (set ts w.0 Ready)
     (λ i task e.
-        let p = only (suc i) task e in
-        let id : (n : ℕ) → TaskId = λ n. record { 0 = n } in
-        let other : task.0 ≢ w.0 = λ same.
-        let n : suc i ≡ zero = once (suc i) zero w (e ∙ ap (λ (k : ℕ). Some (id k)) same) refl in
-        omega (arith, n) in
-        (p.0, get_set_other ts w.0 task.0 Ready other ∙ p.1))
+    let p = only (suc i) task e in
+    let id : (n : ℕ) → TaskId = λ n. record { 0 = n } in
+    let other : task.0 ≢ w.0 = λ same.
+    let n : suc i ≡ zero = once (suc i) zero w (e ∙ ap (λ (k : ℕ). Some (id k)) same) refl in
+    omega (arith, n) in
+    (p.0, get_set_other ts w.0 task.0 Ready other ∙ p.1))
     (λ i j task e f. let n : suc i ≡ suc j = once (suc i) (suc j) task e f in omega (arith, n)) in
     omega (arith, one, rest)
 

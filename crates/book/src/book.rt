@@ -300,7 +300,12 @@ impl<'a> Book<'a> {
         let cells = self.cells;
         self.publisher.publish(cells, &self.changes);
         let present = &mut self.present;
-        store_changes(&mut present.values, &mut present.versions, number, &self.changes);
+        store_changes(
+            &mut present.values,
+            &mut present.versions,
+            number,
+            &self.changes,
+        );
         self.present.number = number;
         stand(&mut self.tasks, task, Task::Done(number));
         self.lowest = wake(

@@ -10,6 +10,8 @@ mod listing;
 mod stored;
 mod taking;
 mod task;
+#[cfg(test)]
+mod tests;
 mod waking;
 
 pub use book::Book;

@@ -5,11 +5,11 @@ pub record Settings : Type 0 where
   pub workers : ℕ
   -- stale attempts of a task before it is run under the lock
   pub tries : ℕ
-  -- entries between two checkpoints, 0 for none
+  -- journal entries after which the base moves to the present values, 0 for never
   pub checkpoint : ℕ
 
 pub record AreAllowed (s : Settings) : Type 0 where
   pub workers : s.workers ≡ 1
   pub tries_from : 1 ≤ s.tries
   pub tries_to : s.tries ≤ 64
-  pub checkpoint : s.checkpoint ≡ 0
+  pub checkpoint : s.checkpoint ≤ 65536

@@ -22,6 +22,9 @@ const RUN: &str =
 const EXAMPLE: &str =
     "A file declares variables, transactions and runs:\n\n    (var x 5)\n    (tx inc (set x (add x 1)) x)\n    (run inc 2)\n\nThe statements are skip, set, seq, if, repeat, retry, orelse and throw.\n\nStatus: 0 done, 2 the file is refused, 3 the command line is refused,\n4 a file cannot be read or the output cannot be written, 5 out of memory.";
 
+const CHECKPOINT: &str =
+    "After this many journal entries the report begins anew from the values reached; at most 65536, and 0 for never";
+
 /// The command `stm` with its subcommands.
 fn command<'a>(alloc: Global) -> Result<Command<'a>, AllocError> {
     let file = Arg::new(alloc, "FILE")
@@ -33,11 +36,18 @@ fn command<'a>(alloc: Global) -> Result<Command<'a>, AllocError> {
         .value_parser(value_parser!(u32))
         .default_value("1")
         .help("How many workers run the tasks; 1 is all there is so far");
+    let checkpoint = Arg::new(alloc, "checkpoint")
+        .long("checkpoint")
+        .value_name("N")
+        .value_parser(value_parser!(u32))
+        .default_value("0")
+        .help(CHECKPOINT);
     let run = Command::new(alloc, "run")
         .about(RUN)
         .after_help(EXAMPLE)
         .arg(file)?
-        .arg(workers)?;
+        .arg(workers)?
+        .arg(checkpoint)?;
     Command::new(alloc, "stm")
         .about(ABOUT)
         .subcommand_required(true)
@@ -57,13 +67,14 @@ pub(crate) fn parse<'a>(alloc: Global, words: &'a [String]) -> Result<Request<'a
     }
     Err(command.error(
         ErrorKind::ValueValidation,
-        "the number of workers must be 1",
+        "the number of workers must be 1, and that of the checkpoint at most 65536",
     )?)
 }
 
 fn run_options<'a>(matches: &ArgMatches<'a>) -> Option<Request<'a>> {
     let file = matches.get_str("FILE")?;
     let workers = matches.get_one::<u32>("workers")?;
-    let options = Options::new(workers, 8, 0)?;
+    let checkpoint = matches.get_one::<u32>("checkpoint")?;
+    let options = Options::new(workers, 8, checkpoint)?;
     Some(Request { file, options })
 }

@@ -35,6 +35,21 @@ fn files_are_asked_for(rt: HostRuntime) -> Result<(), Fail> {
         let request = parse(alloc, words.as_slice())?;
         assert_eq!(rt; request.file, "a.stm", "of {line}");
         assert_eq!(rt; request.options.workers(), 1, "of {line}");
+        assert_eq!(rt; request.options.checkpoint(), 0, "of {line}");
+    }
+    Ok(())
+}
+
+#[test]
+fn a_checkpoint_is_asked_for(rt: HostRuntime) -> Result<(), Fail> {
+    let alloc = rt.alloc();
+    for (line, checkpoint) in [
+        ("stm run a.stm --checkpoint 2", 2),
+        ("stm run a.stm --checkpoint=65536 --workers 1", 65536),
+    ] {
+        let words = words(alloc, line)?;
+        let request = parse(alloc, words.as_slice())?;
+        assert_eq!(rt; request.options.checkpoint(), checkpoint, "of {line}");
     }
     Ok(())
 }
@@ -53,7 +68,9 @@ fn mistakes_are_refused(rt: HostRuntime) -> Result<(), Fail> {
         "stm run a --workers 99999999999",
         "stm run a --workers 1 --workers 1",
         "stm run a --tries 8",
-        "stm run a --checkpoint 0",
+        "stm run a --checkpoint 65537",
+        "stm run a --checkpoint x",
+        "stm run a --checkpoint",
     ] {
         let kind = refusal(alloc, line)?;
         assert!(rt; kind.is_some(), "of {line}");

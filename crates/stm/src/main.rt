@@ -1,11 +1,11 @@
 //! `stm`: software transactional memory with `retry` and `orElse`, as a program.
 //!
-//! `stm run FILE` goes from bytes to a report: `txn_text` reads the file, the book in `book` runs
-//! its tasks and keeps the journal, `run_tasks` makes the report, and `run_bytes` writes it to a
-//! sink. `command_line` and `program` are the words, the files and the statuses round it.
+//! `stm run FILE` goes from bytes to a report: `txn_text` reads the file, `run_tasks` opens the
+//! cells and the book and makes the report, the worker in `worker` runs the tasks by attempts on a
+//! pass (`trying`), and `run_bytes` writes the report to a sink. `command_line` and `program` are
+//! the words, the files and the statuses round it.
 #![tactic(auto)]
 
-mod book;
 mod command_line;
 #[cfg(test)]
 mod command_line_tests;
@@ -17,7 +17,8 @@ mod run_bytes;
 mod run_bytes_tests;
 mod run_tasks;
 mod sink;
-mod task;
+mod trying;
+mod worker;
 
 use std::process::ExitCode;
 

@@ -26,12 +26,12 @@ impl Model for Options {
 }
 
 impl Options {
-    /// `None` unless `workers` is 1, `tries` from 1 to 64, and `checkpoint` 0.
+    /// `None` unless `workers` is 1, `tries` from 1 to 64, and `checkpoint` at most 65,536.
     pub fn new(workers: u32, tries: u32, checkpoint: u32) -> Option<Options>
         ensures taken { IsSome result ↔ AreAllowed (record { workers = workers; tries = tries; checkpoint = checkpoint }) }
         ensures value { IfSome result (λ o. o ≡ record { workers = workers; tries = tries; checkpoint = checkpoint }) }
     {
-        if workers != 1 || tries < 1 || tries > 64 || checkpoint != 0 {
+        if workers != 1 || tries < 1 || tries > 64 || checkpoint > 65536 {
             return None;
         }
         Some(Options {
@@ -55,7 +55,7 @@ impl Options {
         self.tries
     }
 
-    /// After how many entries the base moves to the present, 0 for never.
+    /// After how many journal entries the base moves to the present values, 0 for never.
     pub fn checkpoint(&self) -> u32
         ensures { result ≡ self.now.checkpoint }
     {

@@ -1,14 +1,18 @@
-use Rattle.std.proofs.Common.{◌≡◌, ◌∙◌, ap, sym, length}
-use Rattle.std.specs.List.{slice_get}
-use Rattle.txn.specs.Listing.{tasks}
-use Rattle.stm.specs.declared.task.Task.TheVariants.{Ready, Running}
-use Rattle.stm.specs.View.{BookView}
-use Rattle.stm.proofs.Lists.{get_replicate}
+use Rattle.std.proofs.Common.{ap, subst}
+use Rattle.std.specs.Prelude.{IfOk}
+use Rattle.txn.specs.Listing.{Listing}
+use Rattle.txn.specs.Told.{told}
+use Rattle.txn.specs.LawfulReport.{LawfulReport, BaseReached}
+use Rattle.book.specs.View.{BookView}
+use Rattle.stm.proofs.Working.{same_catalogue}
 use Rattle.stm.proofs.run_tasks.run_tasks.Goals as goal
 
-pub serve_all-requires : goal.serve_all-requires
-serve_all-requires c t e =
-    let l = c.args.catalogue.now in
-    let at = ap (λ (b : BookView). slice_get b.tasks t) (sym c.in_ok-book.ensures) ∙ e in
-    let bad : Ready ≡ Running = get_replicate (length (tasks l)) t Ready Running at in
-    cc
+pub returns-clause-lawful : goal.returns-clause-lawful
+returns-clause-lawful c =
+    let own = ap (λ (b : BookView). b.catalogue) c.in_ok-book.ensures in
+    subst (λ (l : Listing). IfOk c.settle.result (λ r. LawfulReport l (told r))) (same_catalogue _ _ _ _ _ own c.work.ensures.turns c.drain.ensures.turns) c.settle.ensures.lawful
+
+pub returns-clause-reached : goal.returns-clause-reached
+returns-clause-reached c =
+    let own = ap (λ (b : BookView). b.catalogue) c.in_ok-book.ensures in
+    subst (λ (l : Listing). IfOk c.settle.result (λ r. BaseReached l (told r))) (same_catalogue _ _ _ _ _ own c.work.ensures.turns c.drain.ensures.turns) c.settle.ensures.reached

@@ -2,9 +2,9 @@ use Rattle.std.proofs.lemmas.Result.{IfOk-weaker}
 use Rattle.txn.specs.declared.report.Report.{Report}
 use Rattle.txn.specs.Told.{told}
 use Rattle.txn.specs.LawfulReport.{LawfulReport, BaseReached}
-use Rattle.stm.specs.View.{BookView}
-use Rattle.stm.specs.Turns.{ReportIs}
-use Rattle.stm.proofs.Accounts.{report_lawful, report_reached}
+use Rattle.book.specs.View.{BookView}
+use Rattle.book.specs.Turns.{ReportIs}
+use Rattle.book.proofs.Accounts.{report_lawful, report_reached}
 use Rattle.stm.proofs.run_tasks.settle.Goals as goal
 
 pub returns-clause-lawful : goal.returns-clause-lawful
