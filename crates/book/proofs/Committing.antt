@@ -1,5 +1,5 @@
 -- A commit, from its parts.
-use Rattle.std.proofs.Common.{◌≡◌, ◌≢◌, ℕ, zero, suc, ◌+◌, ◌<◌, ◌≤◌, ℤ, List, [], ◌∷◌, ◌++◌, length, map, Some, Vec, Global, set, refl, sym, ◌∙◌, ap, subst, arith, append_assoc, length-append, vec_capacity}
+use Rattle.std.proofs.Common.{◌≡◌, ◌≢◌, ℕ, ◌+◌, ◌<◌, ◌≤◌, List, [], ◌∷◌, ◌++◌, length, map, Some, set, refl, sym, ◌∙◌, ap, subst, arith, append_assoc, length-append}
 use Rattle.std.specs.List.{slice_get, All}
 use Rattle.std.proofs.lemmas.List.{length-set}
 use Rattle.std.proofs.lemmas.List.Elements.{All-push}
@@ -13,7 +13,6 @@ use Rattle.txn.specs.Meaning.{State, outcome, after}
 use Rattle.txn.specs.Scope.{ProgramKnown}
 use Rattle.txn.specs.Listing.{Listing, tasks, task_tx, task_program, program_at}
 use Rattle.txn.specs.Replay.{Snapshot, Applies, versions_after, applied, opening}
-use Rattle.txn.specs.Words.{last_state}
 use Rattle.txn.proofs.Words.{last_pushed}
 use Rattle.txn.specs.Stores.{with_changes}
 use Rattle.attempt.specs.Asking.{Known}

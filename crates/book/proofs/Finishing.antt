@@ -1,5 +1,5 @@
 -- What the end of an attempt says of the present state.
-use Rattle.std.proofs.Common.{◌≡◌, ◌≢◌, ℤ, Result, Ok, Err, List, [], length, refl, sym, ◌∙◌, ap, subst}
+use Rattle.std.proofs.Common.{◌≡◌, ◌≢◌, ℤ, Result, Ok, Err, [], length, refl, sym, ◌∙◌, ap, subst}
 use Rattle.txn.specs.declared.ast.TaskId.{TaskId}
 use Rattle.txn.specs.declared.ast.VarId.{VarId}
 use Rattle.txn.specs.declared.ast.Fault.{Fault}
@@ -7,7 +7,7 @@ use Rattle.txn.specs.declared.ast.Outcome.{Outcome}
 use Rattle.txn.specs.declared.ast.Outcome.TheVariants.{Returned, Thrown, Retries}
 use Rattle.txn.specs.Meaning.{State, outcome, after}
 use Rattle.txn.specs.Tree.{Program}
-use Rattle.txn.specs.Listing.{Listing, task_program}
+use Rattle.txn.specs.Listing.{task_program}
 use Rattle.txn.specs.Stores.{with_changes}
 use Rattle.txn.specs.Meaning.{Ending, Done, Threw, Retried}
 use Rattle.attempt.specs.declared.evaluate.Halt.{Halt}
@@ -16,7 +16,6 @@ use Rattle.attempt.specs.Asking.{Known, ask, Ends, answer_by, answer_of, see_run
 use Rattle.attempt.specs.Frame.{Agrees, store}
 use Rattle.attempt.specs.Order.{AllKnown, Ascending}
 use Rattle.attempt.specs.View.{AttemptView, Answers, HoldsAt, idle, next_of}
-use Rattle.attempt.specs.declared.next.Stand.{Stand}
 use Rattle.attempt.specs.declared.next.Stand.TheVariants.{Over}
 use Rattle.attempt.specs.declared.next.Next.{Next}
 use Rattle.attempt.specs.declared.next.Next.TheVariants as next

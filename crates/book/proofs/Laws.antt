@@ -1,5 +1,5 @@
 -- The steps of a book keep it lawful.
-use Rattle.std.proofs.Common.{◌≡◌, ◌≢◌, inl, inr, ℕ, zero, suc, ◌+◌, ◌<◌, List, [], ◌∷◌, ◌++◌, length, map, Some, set, refl, sym, ◌∙◌, ap, subst, arith}
+use Rattle.std.proofs.Common.{◌≡◌, ◌≢◌, inl, inr, ℕ, zero, suc, ◌+◌, ◌<◌, List, [], ◌∷◌, ◌++◌, length, Some, set, refl, sym, ◌∙◌, ap, subst, arith}
 use Rattle.std.specs.List.{slice_get}
 use Rattle.std.proofs.lemmas.List.{map-append, append-nil, length-map, set_past}
 use Rattle.std.proofs.lemmas.Bool.{cases_eq}
@@ -12,7 +12,7 @@ use Rattle.txn.specs.Replay.{Snapshot, Replays, applied, opening, entered}
 use Rattle.attempt.specs.Asking.{Known}
 use Rattle.cells.specs.Cells.{CellsId}
 use Rattle.book.specs.declared.task.Task.{Task}
-use Rattle.book.specs.declared.task.Task.TheVariants.{Ready, Running, Parked, Done, GivenUp}
+use Rattle.book.specs.declared.task.Task.TheVariants.{Ready, Running, Parked, Done}
 use Rattle.book.specs.View.{BookView, IsRunning, stands, opened, checkpointed}
 use Rattle.book.specs.LawfulBook.{AreDone, AreParked, Waits, LawfulBook, open_one, open_count}
 use Rattle.book.proofs.Lists.{get_set_same, get_set_other, get_append_left, get_append_at, get_append_last, get_replicate}

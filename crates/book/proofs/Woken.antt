@@ -1,13 +1,12 @@
 -- Waking the tasks that wait for a change keeps what a book keeps.
-use Rattle.std.proofs.Common.{◌≡◌, ◌≢◌, ℕ, ℤ, zero, suc, ◌+◌, ◌<◌, Bool, true, false, not, ◌&&◌, ◌||◌, cond, List, [], ◌∷◌, length, map, Some, refl, sym, ◌∙◌, ap, subst, arith}
-use Rattle.std.specs.List.{slice_get, list_any, list_all}
+use Rattle.std.proofs.Common.{◌≡◌, ℕ, ℤ, zero, suc, ◌+◌, ◌<◌, Bool, true, false, not, ◌&&◌, ◌||◌, cond, List, [], ◌∷◌, length, map, Some, refl, sym, ◌∙◌, ap, subst, arith}
+use Rattle.std.specs.List.{slice_get}
 use Rattle.std.specs.Ordering.{int_eq}
-use Rattle.std.proofs.lemmas.Bool.{or_parts, cond_both, cond-true, cond-false}
+use Rattle.std.proofs.lemmas.Bool.{or_parts, cond_both, cond-false}
 use Rattle.std.proofs.lemmas.Bool.Decides.{Decides-int_eq}
 use Rattle.std.proofs.lemmas.List.{length-map}
 use Rattle.std.proofs.lemmas.Option.{slice_get_within}
 use Rattle.txn.specs.declared.ast.VarId.{VarId}
-use Rattle.txn.specs.declared.ast.TaskId.{TaskId}
 use Rattle.txn.specs.declared.report.Entry.{Entry}
 use Rattle.txn.specs.declared.ast.Outcome.TheVariants.{Retries}
 use Rattle.txn.specs.Meaning.{State, value_at, outcome, after}
@@ -19,7 +18,7 @@ use Rattle.attempt.specs.Frame.{Agrees, AnswersBy, FrameTheorem}
 use Rattle.book.specs.declared.task.Task.{Task}
 use Rattle.book.specs.declared.task.Task.TheVariants.{Ready, Running, Parked, Done, GivenUp}
 use Rattle.book.specs.View.{names_changed, woken}
-use Rattle.book.specs.Stirring.{agree, is_stale, stirred}
+use Rattle.book.specs.Stirring.{agree, stirred}
 use Rattle.book.specs.LawfulBook.{AreDone, AreParked, Waits, open_one, open_count}
 use Rattle.book.proofs.Lists.{get_map, map_get}
 

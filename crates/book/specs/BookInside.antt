@@ -1,7 +1,7 @@
 -- What the fields of a book mean, and what they keep.
 use Rattle.std.specs.Prelude.{◌≡◌, ◌≢◌, ℕ, ◌<◌, ◌≤◌, List, length, vec_capacity, slice_get, Option, Some}
 use Rattle.txn.specs.declared.ast.TaskId.{TaskId}
-use Rattle.txn.specs.Replay.{Snapshot, Once}
+use Rattle.txn.specs.Replay.{Snapshot}
 use Rattle.attempt.specs.Asking.{Known}
 use Rattle.book.specs.declared.task.Task.{Task}
 use Rattle.book.specs.declared.task.Task.TheVariants.{Ready, Parked, Done}

@@ -2,7 +2,6 @@ use Rattle.std.proofs.Common.{inl, inr, arith}
 use Rattle.std.proofs.lemmas.Bool.{cases_lt}
 use Rattle.std.proofs.lemmas.Option.{slice_get_within}
 use Rattle.book.specs.declared.task.Task.TheVariants.{Ready}
-use Rattle.book.proofs.Passing.{done_not_ready}
 use Rattle.book.proofs.taking.first_ready.Goals as goal
 
 pub loop-at-preserved : goal.loop-at-preserved

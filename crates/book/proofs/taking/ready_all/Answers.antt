@@ -1,8 +1,7 @@
-use Rattle.std.proofs.Common.{◌≡◌, ◌≢◌, ◌<◌, ◌∙◌, arith, ap, sym, length, List, Some, map, take, drop, length-append, length-take, length-drop}
+use Rattle.std.proofs.Common.{◌≡◌, ◌<◌, ◌∙◌, arith, ap, sym, length, Some, map, take, drop, length-append, length-take, length-drop}
 use Rattle.std.specs.List.{slice_get}
 use Rattle.std.proofs.lemmas.List.{length-map}
 use Rattle.std.proofs.lemmas.Option.{same_Some, slice_get-get_or}
-use Rattle.book.specs.declared.task.Task.{Task}
 use Rattle.book.specs.Turns.{readied_one}
 use Rattle.book.proofs.Readying.{readied_running_one, readied_other_one}
 use Rattle.book.proofs.taking.ready_all.Goals as goal

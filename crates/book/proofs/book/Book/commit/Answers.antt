@@ -1,15 +1,13 @@
-use Rattle.std.proofs.Common.{◌≡◌, ◌+◌, ◌++◌, ◌∷◌, [], ℤ, List, length, map, Some, set, sym, subst, ap, ◌∙◌, arith}
+use Rattle.std.proofs.Common.{◌≡◌, ◌+◌, ◌++◌, ◌∷◌, [], List, length, map, set, sym, subst, ap, ◌∙◌, arith}
 use Rattle.std.specs.List.{slice_get}
-use Rattle.std.proofs.lemmas.List.{length-set}
 use Rattle.txn.specs.Meaning.{State, outcome, after}
 use Rattle.txn.specs.Listing.{task_program}
 use Rattle.txn.specs.Stores.{with_changes}
-use Rattle.txn.specs.Words.{last_state}
 use Rattle.attempt.specs.Asking.{Known}
 use Rattle.attempt.specs.Order.{AllKnown}
 use Rattle.book.specs.declared.task.Task.{Task}
 use Rattle.book.specs.declared.task.Task.TheVariants.{Running, Done}
-use Rattle.book.specs.View.{BookView, IsRunning, committed, woken}
+use Rattle.book.specs.View.{BookView, IsRunning, committed}
 use Rattle.book.specs.Stirring.{stirred, LogsKnown}
 use Rattle.cells.specs.Cells.{CellsId}
 use Rattle.book.specs.LawfulBook.{LawfulBook, BookFits, AreParked}

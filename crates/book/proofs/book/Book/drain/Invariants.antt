@@ -1,4 +1,4 @@
-use Rattle.std.proofs.Common.{◌≡◌, ◌≢◌, ℕ, Some, slice_get}
+use Rattle.std.proofs.Common.{◌≢◌, ℕ, Some, slice_get}
 use Rattle.book.specs.declared.task.Task.TheVariants.{Running}
 use Rattle.book.specs.Turns.{Drains}
 use Rattle.book.proofs.Draining.{weight_of}

@@ -1,9 +1,7 @@
-use Rattle.std.proofs.Common.{◌≡◌, ◌∙◌, arith, ap, sym, subst, length, List}
+use Rattle.std.proofs.Common.{◌∙◌, arith, ap, sym, subst, length, List}
 use Rattle.std.proofs.lemmas.List.{length-map}
-use Rattle.txn.specs.declared.ast.TaskId.{TaskId}
 use Rattle.book.specs.declared.task.Task.{Task}
-use Rattle.book.specs.Turns.{readied, readied_one}
-use Rattle.book.specs.View.{BookView}
+use Rattle.book.specs.Turns.{readied_one}
 use Rattle.book.specs.LawfulBook.{LawfulBook, BookFits}
 use Rattle.book.specs.BookInside.{book_of, NamesParked, LeadsPastDone}
 use Rattle.book.proofs.Readying.{readied_lawful, readied_fits, names_readied, leads_readied}

@@ -1,6 +1,4 @@
-use Rattle.std.proofs.Common.{◌≡◌, sym, subst, ◌∙◌, length, ap, arith}
-use Rattle.std.proofs.lemmas.List.{length-set}
-use Rattle.book.specs.declared.task.Task.TheVariants.{Running, Parked}
+use Rattle.std.proofs.Common.{sym, subst, arith}
 use Rattle.book.specs.LawfulBook.{Waits}
 use Rattle.book.specs.View.{BookView, IsRunning}
 use Rattle.book.proofs.Naming.{room_to_wait}
