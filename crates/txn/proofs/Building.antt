@@ -1,8 +1,8 @@
 -- What the parts of building a catalogue come to.
-use Rattle.std.proofs.Common.{◌≡◌, ℕ, Bool, true, false, ◌&&◌, ◌||◌, not, cond, List, [], ◌∷◌, ◌++◌, length, map, reverse, sum_by, append_assoc, String, Global, string_bytes, bytes_eq, nat_lt, nat_le, ℤ, refl, sym, ◌∙◌, ap}
+use Rattle.std.proofs.Common.{◌≡◌, ℕ, Bool, true, false, ◌&&◌, ◌||◌, not, cond, List, [], ◌∷◌, ◌++◌, length, map, sum_by, append_assoc, String, Global, string_bytes, bytes_eq, nat_lt, nat_le, ℤ, refl, sym, ◌∙◌, ap}
 use Rattle.std.specs.List.{list_all, list_any}
 use Rattle.std.specs.String.{string_eq}
-use Rattle.std.proofs.lemmas.List.{length-map, reverse-append}
+use Rattle.std.proofs.lemmas.List.{length-map}
 use Rattle.std.proofs.lemmas.Bool.{and_left, and_right, and_from}
 use Rattle.txn.specs.Listing.{Listing}
 use Rattle.std.proofs.lemmas.List.Folds.{list_all-map}
@@ -12,8 +12,7 @@ use Rattle.txn.specs.declared.ast.TxId.{TxId}
 use Rattle.txn.specs.Tree.{Program, program_of}
 use Rattle.txn.specs.Listing.{listing_of}
 use Rattle.txn.specs.Names.{is_name, are_new, are_distinct, knows_program, is_well_formed, names_hold}
-use Rattle.txn.specs.Limits.{limits_hold, program_fits}
-use Rattle.txn.specs.declared.limits.TheConstants.{MAX_TASKS, MAX_VARIABLES, MAX_TRANSACTIONS, MAX_NAME}
+use Rattle.txn.specs.Limits.{most_tasks, most_variables, most_transactions, longest_name, limits_hold, program_fits}
 
 list_any-map : {X Y : Type 0} (p : Y → Bool) (f : X → Y) (xs : List X) → list_any p (map f xs) ≡ list_any (λ x. p (f x)) xs
 list_any-map p f [] = refl
@@ -38,23 +37,20 @@ well_formed_is vars txs runs =
 
 -- the tests of the limits, over what `build` is given
 pub limits_are : (vars : List (String Global × ℤ)) (txs : List Tx) (runs : List (TxId × ℕ)) → limits_hold (listing_of vars txs runs)
-    ≡ (nat_le (length vars) MAX_VARIABLES && (list_all (λ var. nat_le (length (string_bytes var.0)) MAX_NAME) vars
-    && (nat_le (length txs) MAX_TRANSACTIONS && (list_all (λ tx. nat_le (length (string_bytes tx.name)) MAX_NAME) txs
+    ≡ (nat_le (length vars) most_variables && (list_all (λ var. nat_le (length (string_bytes var.0)) longest_name) vars
+    && (nat_le (length txs) most_transactions && (list_all (λ tx. nat_le (length (string_bytes tx.name)) longest_name) txs
     && (list_all (λ tx. program_fits (program_of tx)) txs
-    && (list_all (λ run. nat_le run.1 MAX_TASKS) runs && nat_le (sum_by (λ run. run.1) runs) MAX_TASKS))))))
+    && (list_all (λ run. nat_le run.1 most_tasks) runs && nat_le (sum_by (λ run. run.1) runs) most_tasks))))))
 unfolding limits_hold
 limits_are vars txs runs =
     let n = length-map vars (λ (v : String Global × ℤ). string_bytes v.0) in
-    let a = list_all-map (λ (name : List ℕ). nat_le (length name) MAX_NAME) (λ (v : String Global × ℤ). string_bytes v.0) vars in
+    let a = list_all-map (λ (name : List ℕ). nat_le (length name) longest_name) (λ (v : String Global × ℤ). string_bytes v.0) vars in
     let m = length-map txs program_of in
-    let b = list_all-map (λ (t : Program). nat_le (length t.name) MAX_NAME) program_of txs in
+    let b = list_all-map (λ (t : Program). nat_le (length t.name) longest_name) program_of txs in
     let c = list_all-map program_fits program_of txs in
     rw (n, a, m, b, c) refl
 
 -- the last of what is left to pop is the next
-pub popped : {X : Type 0} (old new : List X) (x : X) → old ≡ new ++ x ∷ [] → reverse old ≡ x ∷ reverse new
-popped old new x e = ap reverse e ∙ reverse-append new (x ∷ [])
-
 -- a name that no text has so far goes behind them
 pub inserted_new : (texts : List (String Global)) (name : String Global) → list_any (string_eq name) texts ≡ false → insert_key string_eq texts name ≡ texts ++ name ∷ []
 inserted_new texts name e = ap (λ b. cond b texts (texts ++ name ∷ [])) e

@@ -10,9 +10,8 @@ use Rattle.txn.specs.declared.ast.TxId.{TxId}
 use Rattle.txn.specs.Tree.{Expression, Int, Var, Add, Sub, Mul, Div, Rem, Condition, Eq, Lt, Le, Not, And, Or, Statement, Skip, Set, Seq, If, Repeat, Retry, OrElse, Throw, Statements, End, More, Program}
 use Rattle.txn.specs.Listing.{Listing, tasks, tasks_of}
 use Rattle.txn.specs.Names.{names_hold, is_well_formed, is_name, are_distinct, knows_expression, knows_condition, knows_statement, knows_statements, knows_program}
-use Rattle.txn.specs.Limits.{limits_hold, program_fits}
+use Rattle.txn.specs.Limits.{most_tasks, most_variables, most_transactions, longest_name, limits_hold, program_fits}
 use Rattle.txn.specs.Scope.{ExpressionKnown, ConditionKnown, StatementKnown, StatementsKnown, ProgramKnown}
-use Rattle.txn.specs.declared.limits.TheConstants.{MAX_TASKS, MAX_VARIABLES, MAX_TRANSACTIONS, MAX_NAME}
 
 none_is : {X : Type 0} {x : X} → Some x ≡ None → ⊥
 none_is e = cc
@@ -50,24 +49,24 @@ names_parts l h =
 
 -- the limits, one by one
 pub record LimitsHold (l : Listing) : Type 0 where
-  pub variables : length l.names ≤ MAX_VARIABLES
-  pub names : list_all (λ (name : List ℕ). nat_le (length name) MAX_NAME) l.names ≡ true
-  pub transactions : length l.programs ≤ MAX_TRANSACTIONS
-  pub tx_names : list_all (λ (t : Program). nat_le (length t.name) MAX_NAME) l.programs ≡ true
+  pub variables : length l.names ≤ most_variables
+  pub names : list_all (λ (name : List ℕ). nat_le (length name) longest_name) l.names ≡ true
+  pub transactions : length l.programs ≤ most_transactions
+  pub tx_names : list_all (λ (t : Program). nat_le (length t.name) longest_name) l.programs ≡ true
   pub programs : list_all program_fits l.programs ≡ true
-  pub runs : list_all (λ (run : TxId × ℕ). nat_le run.1 MAX_TASKS) l.runs ≡ true
-  pub tasks : sum_by (λ (run : TxId × ℕ). run.1) l.runs ≤ MAX_TASKS
+  pub runs : list_all (λ (run : TxId × ℕ). nat_le run.1 most_tasks) l.runs ≡ true
+  pub tasks : sum_by (λ (run : TxId × ℕ). run.1) l.runs ≤ most_tasks
 
 pub limits_parts : (l : Listing) → limits_hold l ≡ true → LimitsHold l
 unfolding limits_hold
 limits_parts l h =
-    let a = nat_le (length l.names) MAX_VARIABLES in
-    let b = list_all (λ (name : List ℕ). nat_le (length name) MAX_NAME) l.names in
-    let c = nat_le (length l.programs) MAX_TRANSACTIONS in
-    let d = list_all (λ (t : Program). nat_le (length t.name) MAX_NAME) l.programs in
+    let a = nat_le (length l.names) most_variables in
+    let b = list_all (λ (name : List ℕ). nat_le (length name) longest_name) l.names in
+    let c = nat_le (length l.programs) most_transactions in
+    let d = list_all (λ (t : Program). nat_le (length t.name) longest_name) l.programs in
     let e = list_all program_fits l.programs in
-    let f = list_all (λ (run : TxId × ℕ). nat_le run.1 MAX_TASKS) l.runs in
-    let g = nat_le (sum_by (λ (run : TxId × ℕ). run.1) l.runs) MAX_TASKS in
+    let f = list_all (λ (run : TxId × ℕ). nat_le run.1 most_tasks) l.runs in
+    let g = nat_le (sum_by (λ (run : TxId × ℕ). run.1) l.runs) most_tasks in
     let h1 = and_parts a (b && (c && (d && (e && (f && g))))) h in
     let h2 = and_parts b (c && (d && (e && (f && g)))) h1.1 in
     let h3 = and_parts c (d && (e && (f && g))) h2.1 in
@@ -95,8 +94,8 @@ length-tasks_of (run ∷ runs) =
     let g : run.1 + length (tasks_of runs) ≡ run.1 + sum_by (λ (run : TxId × ℕ). run.1) runs = ap (λ k. run.1 + k) h in
     f ∙ ap (λ k. k + length (tasks_of runs)) n ∙ g ∙ sym (sum_by-cons (λ (run : TxId × ℕ). run.1) run runs)
 
-pub few_tasks : (l : Listing) → limits_hold l ≡ true → length (tasks l) ≤ MAX_TASKS
-few_tasks l h = subst (λ n. n ≤ MAX_TASKS) (sym (length-tasks_of l.runs)) (limits_parts l h).tasks
+pub few_tasks : (l : Listing) → limits_hold l ≡ true → length (tasks l) ≤ most_tasks
+few_tasks l h = subst (λ n. n ≤ most_tasks) (sym (length-tasks_of l.runs)) (limits_parts l h).tasks
 
 -- what passes at each element passes at one
 pub passes_at : {X : Type 0} (p : X → Bool) (xs : List X) (i : ℕ) (x : X) → list_all p xs ≡ true → slice_get xs i ≡ Some x → p x ≡ true

@@ -5,3 +5,4 @@ pub mod Building
 pub mod Words
 pub mod Stores
 pub mod Loads
+mod Sequences

@@ -22,6 +22,21 @@ reader_stays ws ws' h h' more g r k = record {
   sampling = sampling_stays _ _ _ _ r.rv _ (g r.variable) r.loads k.sampling;
 }
 
+-- no version word is below what was loaded of it
+first_within : (a b rv : ℕ) (z : ℤ) (ls : List ℕ) → SamplingHolds a b rv z ls → 1 ≤ length ls → get_or ls 0 0 ≤ a
+first_within a b rv z [] h n = absurd (omega arith)
+first_within a b rv z (l ∷ more) h n = h.0
+
+second_within : (a b rv : ℕ) (z : ℤ) (ls : List ℕ) → SamplingHolds a b rv z ls → 3 ≤ length ls → get_or ls 2 0 ≤ a
+second_within a b rv z [] h n = absurd (omega arith)
+second_within a b rv z (l ∷ more) h n = h.1
+
+pub first_not_above : (ws : List ℕ) (h : List (List ℤ)) (r : PassRecord) → ReaderHolds ws h r → 1 ≤ length r.loads → get_or r.loads 0 0 ≤ get_or ws (version_word r.variable) 0
+first_not_above ws h r k n = first_within _ _ r.rv _ r.loads k.sampling n
+
+pub second_not_above : (ws : List ℕ) (h : List (List ℤ)) (r : PassRecord) → ReaderHolds ws h r → 3 ≤ length r.loads → get_or r.loads 2 0 ≤ get_or ws (version_word r.variable) 0
+second_not_above ws h r k n = second_within _ _ r.rv _ r.loads k.sampling n
+
 module _ (ws : List ℕ) (c : Commit) (w : WordsMean ws c) (r : PassRecord) (k : ReaderHolds ws c.history r) where
   -- the state of the last begin is in the history, and has a value for each variable
   pub at_state : (state_of c.history r.rv ≡ state_of r.seen r.rv) × (r.rv < length c.history) × (length (state_of r.seen r.rv) ≡ length c.values)

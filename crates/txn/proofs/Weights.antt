@@ -1,7 +1,7 @@
 -- Costs as far as they are counted, and trees that are not empty.
 use Rattle.std.proofs.Common.{◌≡◌, ℕ, zero, suc, ◌+◌, ◌*◌, ◌≤◌, ◌<◌, ap, ◌∙◌, arith, inl, inr}
 use Rattle.std.proofs.lemmas.Bool.{cases_lt}
-use Rattle.txn.specs.Limits.{capped}
+use Rattle.txn.specs.Limits.{capped, highest_cost}
 use Rattle.txn.specs.Tree.{Condition, Eq, Lt, Le, Not, And, Or, Statement, Skip, Set, Seq, If, Repeat, Retry, OrElse, Throw}
 use Rattle.txn.specs.Depth.{condition_depth, statement_depth}
 
@@ -12,12 +12,12 @@ at_least n k c h = let p : suc n * c ≡ n * c + c = grind arith in omega (arith
 pub capped_turns : (n c : ℕ) → capped (1 + n * capped c) ≡ capped (1 + n * c)
 capped_turns zero c = grind arith
 capped_turns (suc n) c =
-    elim (cases_lt c 1000001) [
+    elim (cases_lt c (highest_cost + 1)) [
       | inl low ↦ let e : capped c ≡ c = omega arith in ap (λ k. capped (1 + suc n * k)) e
       | inr high ↦
-          let e : capped c ≡ 1000001 = omega arith in
-          let a = at_least n 1000001 1000001 (omega arith) in
-          let b = at_least n 1000001 c (omega arith) in
+          let e : capped c ≡ (highest_cost + 1) = omega arith in
+          let a = at_least n (highest_cost + 1) (highest_cost + 1) (omega arith) in
+          let b = at_least n (highest_cost + 1) c (omega arith) in
           ap (λ k. capped (1 + suc n * k)) e ∙ omega (arith, a, b)
     ]
 

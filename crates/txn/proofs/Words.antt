@@ -45,6 +45,14 @@ change_stays h m x v k same = let inside = k.within in let more = longer h m in 
   changed = λ up e. k.changed up (ap (λ s. value_of s x) (sym at_v) ∙ (e ∙ ap (λ s. value_of s x) (state_before h m (v - 1) (omega arith))));
 }
 
+-- no change is the last one before another
+not_before : (h : List (List ℤ)) (x v w : ℕ) → IsLastChange h x v → IsLastChange h x w → v < w → ⊥
+not_before h x v w a b l = let inside = b.within in b.changed (omega arith) (a.since w (omega arith) inside ∙ sym (a.since (w - 1) (omega arith) (omega arith)))
+
+pub one_last_change : (h : List (List ℤ)) (x v w : ℕ) → IsLastChange h x v → IsLastChange h x w → v ≡ w
+one_last_change h x v w a b = dite (dec_lt v w) (λ l. absurd (not_before h x v w a b l))
+    (λ m. dite (dec_lt w v) (λ l. absurd (not_before h x w v b a l)) (λ n. omega arith))
+
 unlocked : (stamp at : ℕ) (b : Bool) → stamp ≡ 2 * at + (if b then 1 else 0) → stamp % 2 ≡ 0 → b ≡ false
 unlocked stamp at true e even = absurd (let e' : stamp ≡ 2 * at + 1 = e in omega arith)
 unlocked stamp at false e even = refl

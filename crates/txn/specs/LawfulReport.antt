@@ -4,7 +4,7 @@ use Rattle.txn.specs.declared.ast.TxId.{TxId}
 use Rattle.txn.specs.declared.ast.TaskId.{TaskId}
 use Rattle.txn.specs.declared.report.Entry.{Entry}
 use Rattle.txn.specs.declared.ast.Outcome.TheVariants.{Retries}
-use Rattle.txn.specs.declared.limits.TheConstants.{MAX_TASKS}
+use Rattle.txn.specs.Limits.{most_tasks}
 use Rattle.txn.specs.Meaning.{outcome}
 use Rattle.txn.specs.Listing.{Listing, tasks, program_at}
 use Rattle.txn.specs.Replay.{Replays, Reached, opening, entered, Stands, Once}
@@ -26,11 +26,11 @@ HasOwn l task tx = slice_get (tasks l) task.0 ≡ Some tx
 pub record FitsCatalogue (l : Listing) (r : Told) : Type 0 where
   pub base_vars : length r.base_vars ≡ length l.initial
   pub current_vars : length r.current_vars ≡ length l.initial
-  pub base : r.base ≤ MAX_TASKS
-  pub current : r.current ≤ MAX_TASKS
-  pub base_versions : All (λ v. v.1 ≤ MAX_TASKS) r.base_vars
-  pub current_versions : All (λ v. v.1 ≤ MAX_TASKS) r.current_vars
-  pub numbers : All (λ (e : Entry). e.number ≤ MAX_TASKS) r.entries
+  pub base : r.base ≤ most_tasks
+  pub current : r.current ≤ most_tasks
+  pub base_versions : All (λ v. v.1 ≤ most_tasks) r.base_vars
+  pub current_versions : All (λ v. v.1 ≤ most_tasks) r.current_vars
+  pub numbers : All (λ (e : Entry). e.number ≤ most_tasks) r.entries
   pub ends : All (λ (e : Entry). e.outcome ≢ Retries) r.entries
   pub entries : All (λ (e : Entry). (e.task.0 < length (tasks l)) × (e.tx.0 < length l.programs)) r.entries
   pub parked : All (λ p. (p.0.0 < length (tasks l)) × (p.1.0 < length l.programs)) r.parked

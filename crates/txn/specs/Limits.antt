@@ -1,11 +1,34 @@
--- When a listing keeps the limits.
+-- The limits, and when a listing keeps them.
 use Rattle.std.specs.Prelude.{ℕ, ◌+◌, max, min, ◌≤◌, Bool, ◌&&◌, nat_le, length, sum_by}
 use Rattle.std.specs.List.{list_all}
 use Rattle.txn.specs.Tree.{Statement, Skip, Set, Seq, If, Repeat, Retry, OrElse, Throw, Statements, End, More, Program}
 use Rattle.txn.specs.Cost.{cost}
 use Rattle.txn.specs.Depth.{expression_depth, statement_depth, statements_depth}
 use Rattle.txn.specs.Listing.{Listing}
-use Rattle.txn.specs.declared.limits.TheConstants.{MAX_VARIABLES, MAX_TRANSACTIONS, MAX_TASKS, MAX_NAME, MAX_DEPTH, MAX_REPEAT, MAX_COST}
+
+abbrev pub most_variables : ℕ
+most_variables = 256
+
+abbrev pub most_transactions : ℕ
+most_transactions = 256
+
+-- in all, and of one run
+abbrev pub most_tasks : ℕ
+most_tasks = 65536
+
+-- in bytes
+abbrev pub longest_name : ℕ
+longest_name = 32
+
+-- of a body and of a result
+abbrev pub deepest : ℕ
+deepest = 31
+
+abbrev pub most_turns : ℕ
+most_turns = 1000
+
+abbrev pub highest_cost : ℕ
+highest_cost = 1000000
 
 -- the largest repeat count
 abbrev mutual
@@ -26,23 +49,23 @@ abbrev mutual
 -- the program is no deeper than the limit, repeats within it, and costs no more
 abbrev pub program_fits : Program → Bool
 program_fits t =
-    nat_le (statement_depth t.body) MAX_DEPTH && (nat_le (expression_depth t.result) MAX_DEPTH
-    && (nat_le (largest_repeat t.body) MAX_REPEAT && nat_le (cost t) MAX_COST))
+    nat_le (statement_depth t.body) deepest && (nat_le (expression_depth t.result) deepest
+    && (nat_le (largest_repeat t.body) most_turns && nat_le (cost t) highest_cost))
 
 unfoldable pub limits_hold : Listing → Bool
 limits_hold l =
-    nat_le (length l.names) MAX_VARIABLES && (list_all (λ name. nat_le (length name) MAX_NAME) l.names
-    && (nat_le (length l.programs) MAX_TRANSACTIONS && (list_all (λ t. nat_le (length t.name) MAX_NAME) l.programs
+    nat_le (length l.names) most_variables && (list_all (λ name. nat_le (length name) longest_name) l.names
+    && (nat_le (length l.programs) most_transactions && (list_all (λ t. nat_le (length t.name) longest_name) l.programs
     && (list_all program_fits l.programs
-    && (list_all (λ run. nat_le run.1 MAX_TASKS) l.runs && nat_le (sum_by (λ run. run.1) l.runs) MAX_TASKS)))))
+    && (list_all (λ run. nat_le run.1 most_tasks) l.runs && nat_le (sum_by (λ run. run.1) l.runs) most_tasks)))))
 
 -- a cost as far as it is counted: what is over the limit is one over
 abbrev pub capped : ℕ → ℕ
-capped n = min n (MAX_COST + 1)
+capped n = min n (highest_cost + 1)
 
 -- within a depth, and no repeat count over the limit
 abbrev pub StatementFits : ℕ → Statement → Type 0
-StatementFits depth s = (statement_depth s ≤ depth) × (largest_repeat s ≤ MAX_REPEAT)
+StatementFits depth s = (statement_depth s ≤ depth) × (largest_repeat s ≤ most_turns)
 
 abbrev pub StatementsFit : ℕ → Statements → Type 0
-StatementsFit depth parts = (statements_depth parts ≤ depth) × (largest_repeat_of_all parts ≤ MAX_REPEAT)
+StatementsFit depth parts = (statements_depth parts ≤ depth) × (largest_repeat_of_all parts ≤ most_turns)

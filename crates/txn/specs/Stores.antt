@@ -40,7 +40,7 @@ opened m = record {
   stores = 0;
 }
 
--- 1. The version word of x gets its lock bit. It may while x is free, and before the first value is stored.
+-- LockVersion: the version word of x gets its lock bit. It may while x is free, and before the first value is stored.
 abbrev pub after_lock : ℕ → Commit → Commit
 after_lock x c = record c { locked = slice_set c.locked x true; late = c.storing; stores = c.stores + 1 }
 
@@ -49,7 +49,7 @@ pub record MayLock (c : Commit) (x : ℕ) : Type 0 where
   pub free : slice_index_or c.locked x false ≡ false
   pub before_values : c.storing ≡ false
 
--- 2. The value word of x gets the value z. It may while x is locked.
+-- StoreValue: the value word of x gets the value z. It may while x is locked.
 abbrev pub after_value : ℕ → ℤ → Commit → Commit
 after_value x z c = record c { values = slice_set c.values x z; storing = true; stores = c.stores + 1 }
 
@@ -57,12 +57,12 @@ pub record MayStore (c : Commit) (x : ℕ) : Type 0 where
   pub within : x < length c.values
   pub locked : slice_index_or c.locked x false ≡ true
 
--- 3. The clock gets the next number, and the history one state more: the values that the value words hold now.
+-- StoreClock: the clock gets the next number, and the history one state more: the values that the value words hold now.
 abbrev pub after_clock : Commit → Commit
 after_clock c = record c { history = c.history ++ c.values ∷ []; storing = false; stores = c.stores + 1 }
 
--- 4. The version word of x gets the number of the last state, and no lock bit. It may while x is locked, once the clock
--- has moved, where x changed at that state.
+-- ReleaseVersion: the version word of x gets the number of the last state, and no lock bit. It may while x is locked,
+-- once the clock has moved, where x changed at that state.
 abbrev pub after_release : ℕ → Commit → Commit
 after_release x c = record c {
   locked = slice_set c.locked x false;

@@ -1,6 +1,6 @@
--- The programs of the worked evaluations.
+-- The programs of the worked evaluations, and one sequence behind another.
 use Rattle.std.specs.Prelude.{pos, []}
-use Rattle.txn.specs.Tree.{Int, Var, Add, Div, Eq, And, Statement, Program, Skip, Set, Seq, If, Repeat, Retry, OrElse, Throw, End, More}
+use Rattle.txn.specs.Tree.{Int, Var, Add, Div, Eq, And, Statement, Statements, Program, Skip, Set, Seq, If, Repeat, Retry, OrElse, Throw, End, More}
 use Rattle.txn.specs.declared.ast.VarId.{VarId}
 
 -- the first variable
@@ -35,3 +35,8 @@ short =
       body = If (And (Eq (Int (pos 1)) (Int (pos 2))) (Eq (Div (Int (pos 1)) (Int (pos 0))) (Int (pos 0)))) (Throw (Int (pos 1))) Skip;
       result = Int (pos 0);
     }
+
+-- the parts of a sequence, and then those of another
+abbrev pub joined : Statements → Statements → Statements
+joined End after = after
+joined (More s rest) after = More s (joined rest after)

@@ -65,18 +65,14 @@ pub(crate) fn within_limits(vars: &[(String, i64)], txs: &[Tx], runs: &[(TxId, u
 }
 
 /// The names as a set in their order, if they are distinct.
-pub(crate) fn name_set(
-    alloc: Global,
-    mut names: Vec<String>,
-) -> Result<IndexSet<String>, BuildFault>
+pub(crate) fn name_set(alloc: Global, names: Vec<String>) -> Result<IndexSet<String>, BuildFault>
     ensures ok { IfOk result (λ s. map string_bytes s.keys ≡ map string_bytes names.items) }
     ensures distinct { OnOk result (are_distinct (map string_bytes names.items) ≡ true) }
     ensures name { IfErr result (λ e. e ≡ BuildFault.Name → are_distinct (map string_bytes names.items) ≡ false) }
     ensures limit { IfErr result (λ e. e ≢ BuildFault.Limit) }
 {
     let mut set = IndexSet::new(alloc);
-    names.reverse();
-    while let Some(name) = names.pop() {
+    for name in names {
         match set.insert(name) {
             Ok(true) => {}
             Ok(false) => return Err(BuildFault::Name),
@@ -89,15 +85,14 @@ pub(crate) fn name_set(
 /// The names of the variables, and their initial values.
 pub(crate) fn halves(
     alloc: Global,
-    mut vars: Vec<(String, i64)>,
+    vars: Vec<(String, i64)>,
 ) -> Result<(Vec<String>, Vec<i64>), AllocError>
     ensures names { IfOk result (λ h. h.0.items ≡ map (λ v. v.0) vars.items) }
     ensures initial { IfOk result (λ h. h.1.items ≡ map (λ v. v.1) vars.items) }
 {
     let mut names = Vec::with_capacity(alloc, vars.len())?;
     let mut values = Vec::with_capacity(alloc, vars.len())?;
-    vars.reverse();
-    while let Some((name, value)) = vars.pop() {
+    for (name, value) in vars {
         names.push(name)?;
         values.push(value)?;
     }

@@ -2,7 +2,7 @@
 
 ghost use Rattle.std.specs.Prelude.{◌≡◌, ◌<◌, ◌≤◌, ℕ, List, length, map, slice_get, string_bytes, bytes_eq, position, Some, IfErr, true, false, IfOk, OnOk, IsTrue, ◌↔◌};
 ghost use Rattle.txn.specs.Names.{names_hold};
-ghost use Rattle.txn.specs.Limits.{limits_hold};
+ghost use Rattle.txn.specs.Limits.{limits_hold, most_variables};
 ghost use Rattle.txn.specs.Tree.{program_of};
 ghost use Rattle.txn.specs.Listing.{listing_of, tasks, task_tx, program_at, variable_named, transaction_named};
 ghost use Rattle.txn.specs.Scope.{ProgramKnown};
@@ -196,7 +196,7 @@ impl Catalogue {
 /// The place of a name among names of which there are few.
 #[tactic(auto, using(crate::proofs::Lawful::place_at))]
 fn place_of(names: &IndexSet<String>, name: &str) -> Option<u32>
-    requires { length names.now.keys ≤ 256 }
+    requires { length names.now.keys ≤ most_variables }
     ensures { result ≡ position (bytes_eq name.now) (map string_bytes names.now.keys) }
 {
     match names.get_index_of(name) {

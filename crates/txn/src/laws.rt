@@ -1,6 +1,7 @@
 //! Laws of the meaning, which show that it is that of STM Haskell's `retry` and `orElse`, and
 //! evaluations worked out by hand. The functions do nothing: each contract is a theorem about the
-//! definitions in `specs/Meaning.antt`.
+//! definitions in `specs/Meaning.antt`, and the empty body is what carries its proof, since only
+//! what a function's contract names has to be proved.
 
 ghost use Rattle.std.specs.Prelude.{◌≡◌, ◌≢◌, ℤ, pos, negsuc, [], ◌∷◌, Ok, Err};
 ghost use Rattle.txn.specs.Tree.{Int, Var, Add, Div, Rem, Eq, And, Statement, Statements, Program, Skip, Set, Seq, If, Repeat, Retry, OrElse, Throw, End, More, Expression};
@@ -8,7 +9,7 @@ ghost use Rattle.txn.specs.Meaning.{State, Done, Threw, Retried, value, truth, r
 ghost use Rattle.txn.specs.declared.ast.Fault.{Fault};
 ghost use Rattle.txn.specs.declared.ast.Fault.TheVariants.{User, Overflow, DivideByZero};
 ghost use Rattle.txn.specs.declared.ast.Outcome.TheVariants.{Returned, Thrown, Retries};
-ghost use Rattle.txn.specs.Worked.{x, keeps_nothing, does_not_catch, counts, waits, divides_by_zero, short};
+ghost use Rattle.txn.specs.Worked.{x, joined, keeps_nothing, does_not_catch, counts, waits, divides_by_zero, short};
 
 /// `retry` is a left and a right unit of `orelse`.
 pub fn retry_is_a_unit()
@@ -29,10 +30,19 @@ pub fn orelse_begins_anew()
     ensures threw { (a b : Statement) (m : State) (f : Fault) → run a m ≡ Threw f → run (OrElse a b) m ≡ Threw f }
 {}
 
-/// What follows a `retry` or a `throw` in a sequence is not run.
+/// What follows a `retry` or a `throw` in a sequence is not run, wherever in it that stands: the
+/// sequence does what it does without it, and ends there where the parts before are done.
 pub fn nothing_follows()
     ensures retry { (rest : Statements) (m : State) → run (Seq (More Retry rest)) m ≡ Retried }
     ensures throw { (e : Expression) (rest : Statements) (m : State) → run (Seq (More (Throw e) rest)) m ≡ run (Throw e) m }
+    ensures retry_anywhere { (parts rest : Statements) (m : State)
+        → run (Seq (joined parts (More Retry rest))) m ≡ run (Seq (joined parts (More Retry End))) m }
+    ensures retry_ends { (parts rest : Statements) (m n : State) → run (Seq parts) m ≡ Done n
+        → run (Seq (joined parts (More Retry rest))) m ≡ Retried }
+    ensures throw_anywhere { (e : Expression) (parts rest : Statements) (m : State)
+        → run (Seq (joined parts (More (Throw e) rest))) m ≡ run (Seq (joined parts (More (Throw e) End))) m }
+    ensures throw_ends { (e : Expression) (parts rest : Statements) (m n : State) → run (Seq parts) m ≡ Done n
+        → run (Seq (joined parts (More (Throw e) rest))) m ≡ run (Throw e) n }
 {}
 
 /// A transaction that throws or retries leaves the state as it was.

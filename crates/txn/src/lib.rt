@@ -2,9 +2,11 @@
 //!
 //! `ast` has the programs and `report` what a run of tasks left. A `Catalogue` holds what a file
 //! declares, and keeps the rules on names and the limits. `evaluate` runs a program on a whole
-//! state: it is the plain meaning, which every other layer is compared with. `laws` says in
-//! theorems what that meaning shares with STM Haskell. The definitions stand in `specs/`, over
-//! plain trees: what a program says, and not where it lies in memory.
+//! state, as the definitions say: whoever replays a journal runs its entries by it. What runs the
+//! tasks evaluates over what it has read so far, by another crate, and is compared with the same
+//! definitions. `laws` says in theorems what the meaning shares with STM Haskell, and `word_laws`
+//! what the shared words of the cells mean. The definitions stand in `specs/`, over plain trees:
+//! what a program says, and not where it lies in memory.
 #![tactic(auto)]
 
 pub mod ast;
@@ -17,10 +19,7 @@ pub mod memory;
 pub mod names;
 pub mod report;
 mod same;
-#[cfg(test)]
-mod same_tests;
-#[cfg(test)]
-mod tests;
+pub mod word_laws;
 
 pub use ast::{Cond, Expr, Fault, Outcome, Stmt, TaskId, Tx, TxId, VarId};
 pub use build::BuildFault;

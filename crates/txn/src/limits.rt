@@ -34,13 +34,24 @@ pub const MAX_COST: u32 = 1_000_000;
 /// One over the largest cost: what a larger one counts as.
 const OVER: u32 = MAX_COST + 1;
 
-/// The cost of a node and its two parts.
-fn node(left: u32, right: u32) -> u32
-    requires left { left ≤ 1000001 }
-    requires right { right ≤ 1000001 }
-    ensures { result ≡ capped (1 + left + right) }
+/// The limits. It does nothing: its contract says that the constants are these numbers, which are
+/// those of the definitions.
+pub fn limits_are()
+    ensures variables { MAX_VARIABLES ≡ 256 }
+    ensures transactions { MAX_TRANSACTIONS ≡ 256 }
+    ensures tasks { MAX_TASKS ≡ 65536 }
+    ensures name { MAX_NAME ≡ 32 }
+    ensures depth { MAX_DEPTH ≡ 31 }
+    ensures turns { MAX_REPEAT ≡ 1000 }
+    ensures cost { MAX_COST ≡ 1000000 }
+{}
+
+/// The cost of a node whose parts, at most three, cost this much.
+fn node(parts: u32) -> u32
+    requires { parts ≤ 3 * OVER }
+    ensures { result ≡ capped (1 + parts) }
 {
-    (1 + left + right).min(OVER)
+    (1 + parts).min(OVER)
 }
 
 /// The capped cost of an expression that is no deeper than this.
@@ -51,7 +62,7 @@ fn expression_weight(e: &Expr, depth: u32) -> Option<u32>
         Expr::Int(_) | Expr::Var(_) => Some(1),
         Expr::Add(a, b) | Expr::Sub(a, b) | Expr::Mul(a, b) | Expr::Div(a, b) | Expr::Rem(a, b) => {
             let below = depth.checked_sub(1)?;
-            Some(node(expression_weight(a, below)?, expression_weight(b, below)?))
+            Some(node(expression_weight(a, below)? + expression_weight(b, below)?))
         }
     }
 }
@@ -64,11 +75,11 @@ fn condition_weight(c: &Cond, depth: u32) -> Option<u32>
     let below = depth.checked_sub(1)?;
     match c {
         Cond::Eq(a, b) | Cond::Lt(a, b) | Cond::Le(a, b) => {
-            Some(node(expression_weight(a, below)?, expression_weight(b, below)?))
+            Some(node(expression_weight(a, below)? + expression_weight(b, below)?))
         }
-        Cond::Not(c) => Some(node(condition_weight(c, below)?, 0)),
+        Cond::Not(c) => Some(node(condition_weight(c, below)?)),
         Cond::And(a, b) | Cond::Or(a, b) => {
-            Some(node(condition_weight(a, below)?, condition_weight(b, below)?))
+            Some(node(condition_weight(a, below)? + condition_weight(b, below)?))
         }
     }
 }
@@ -76,7 +87,7 @@ fn condition_weight(c: &Cond, depth: u32) -> Option<u32>
 /// The capped cost of turns of a part, and of the node round them.
 #[tactic(auto, using(crate::proofs::Weights::capped_turns))]
 fn turns(count: u32, part: u32) -> u32
-    requires { part ≤ 1000001 }
+    requires { part ≤ OVER }
     ensures { result ≡ capped (1 + count * part) }
 {
     (1 + u64::from(count) * u64::from(part)).min(u64::from(OVER)) as u32
@@ -91,13 +102,13 @@ fn statement_weight(s: &Stmt, depth: u32) -> Option<u32>
     let below = depth.checked_sub(1)?;
     match s {
         Stmt::Skip | Stmt::Retry => Some(1),
-        Stmt::Set(_, e) | Stmt::Throw(e) => Some(node(expression_weight(e, below)?, 0)),
-        Stmt::Seq(parts) => Some(node(statements_weight(parts.as_slice(), below)?, 0)),
+        Stmt::Set(_, e) | Stmt::Throw(e) => Some(node(expression_weight(e, below)?)),
+        Stmt::Seq(parts) => Some(node(statements_weight(parts.as_slice(), below)?)),
         Stmt::If(c, a, b) => {
             let test = condition_weight(c, below)?;
             let first = statement_weight(a, below)?;
             let second = statement_weight(b, below)?;
-            Some(node(test, node(first, second) - 1))
+            Some(node(test + first + second))
         }
         Stmt::Repeat(count, s) => {
             if *count > MAX_REPEAT {
@@ -105,7 +116,7 @@ fn statement_weight(s: &Stmt, depth: u32) -> Option<u32>
             }
             Some(turns(*count, statement_weight(s, below)?))
         }
-        Stmt::OrElse(a, b) => Some(node(statement_weight(a, below)?, statement_weight(b, below)?)),
+        Stmt::OrElse(a, b) => Some(node(statement_weight(a, below)? + statement_weight(b, below)?)),
     }
 }
 

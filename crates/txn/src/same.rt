@@ -122,15 +122,5 @@ pub(crate) fn same_programs(txs: &[Tx], others: &[Tx]) -> bool
 pub(crate) fn same_names(names: &[String], others: &[String]) -> bool
     ensures { IsTrue result ↔ (map string_bytes names.now ≡ map string_bytes others.now) }
 {
-    let mut rest = others;
-    for name in names {
-        let [other, more @ ..] = rest else {
-            return false;
-        };
-        if !same_name(name.as_str(), other.as_str()) {
-            return false;
-        }
-        rest = more;
-    }
-    rest.is_empty()
+    names == others
 }
