@@ -1,0 +1,6 @@
+pub mod WordSteps
+pub mod Exprs
+pub mod Conds
+pub mod Stmts
+pub mod Files
+pub mod Views

@@ -1,0 +1,6 @@
+pub mod Tree
+pub mod Reading
+pub mod View
+pub mod Written
+pub mod Resolving
+pub mod Spelling

@@ -1,0 +1,81 @@
+-- Which listing the bytes of a file spell, and which fault is the first where they spell none.
+use Rattle.std.specs.Prelude.{◌≡◌, ℕ, Bool, true, ◌&&◌, if◌then◌else◌, Option, Some, None, Result, Ok, Err, List, length}
+use Rattle.std.specs.List.{list_all}
+use Rattle.txn.specs.Arithmetic.{fits}
+use Rattle.txn.specs.Tree.{Expression, Condition, Statement, Statements, Program}
+use Rattle.txn.specs.Tree as t
+use Rattle.txn.specs.Listing.{Listing}
+use Rattle.txn.specs.Names.{names_hold}
+use Rattle.txn.specs.Limits.{limits_hold}
+use Rattle.file_grammar.specs.Tree.{SpellsTree}
+use Rattle.file_grammar.specs.Written.{written}
+use Rattle.text_words.specs.Answers.{◌>>=◌}
+use Rattle.file_grammar.specs.Reading.{tree_of}
+use Rattle.file_grammar.specs.Resolving.{resolved}
+use Rattle.text_words.specs.declared.fault.ReadFault.{ReadFault}
+use Rattle.text_words.specs.declared.fault.ReadFault.TheVariants.{Name, Limit}
+
+-- each integer is one of 64 signed bits
+abbrev pub expression_integers : Expression → Bool
+expression_integers (t.Int n) = fits n
+expression_integers (t.Var x) = true
+expression_integers (t.Add a b) = expression_integers a && expression_integers b
+expression_integers (t.Sub a b) = expression_integers a && expression_integers b
+expression_integers (t.Mul a b) = expression_integers a && expression_integers b
+expression_integers (t.Div a b) = expression_integers a && expression_integers b
+expression_integers (t.Rem a b) = expression_integers a && expression_integers b
+
+abbrev pub condition_integers : Condition → Bool
+condition_integers (t.Eq a b) = expression_integers a && expression_integers b
+condition_integers (t.Lt a b) = expression_integers a && expression_integers b
+condition_integers (t.Le a b) = expression_integers a && expression_integers b
+condition_integers (t.Not c) = condition_integers c
+condition_integers (t.And c d) = condition_integers c && condition_integers d
+condition_integers (t.Or c d) = condition_integers c && condition_integers d
+
+abbrev mutual
+  pub statement_integers : Statement → Bool
+  statement_integers t.Skip = true
+  statement_integers (t.Set x a) = expression_integers a
+  statement_integers (t.Seq parts) = statements_integers parts
+  statement_integers (t.If c p q) = condition_integers c && (statement_integers p && statement_integers q)
+  statement_integers (t.Repeat n p) = statement_integers p
+  statement_integers t.Retry = true
+  statement_integers (t.OrElse p q) = statement_integers p && statement_integers q
+  statement_integers (t.Throw a) = expression_integers a
+
+  pub statements_integers : Statements → Bool
+  statements_integers t.End = true
+  statements_integers (t.More p rest) = statement_integers p && statements_integers rest
+
+abbrev pub program_integers : Program → Bool
+program_integers p = statement_integers p.body && expression_integers p.result
+
+unfoldable pub integers_fit : Listing → Bool
+integers_fit l = list_all fits l.initial && list_all program_integers l.programs
+
+-- the bytes spell the file that declares the listing, whose names, limits and integers hold
+pub record Spells (bytes : List ℕ) (l : Listing) : Type 0 where
+  pub spelled : SpellsTree bytes (written l)
+  -- each variable has one initial value
+  pub valued : length l.initial ≡ length l.names
+  pub names : names_hold l ≡ true
+  pub limits : limits_hold l ≡ true
+  pub integers : integers_fit l ≡ true
+
+-- ---- the same, read from left to right
+
+abbrev pub lawful : Listing → Result Listing ReadFault
+lawful l = if names_hold l then (if limits_hold l then Ok l else Err Limit) else Err Name
+
+-- what the bytes are read as: first the tree of all of them, then its names, then its numbers and limits
+unfoldable pub listing_at : List ℕ → Result Listing ReadFault
+listing_at bytes = tree_of bytes >>= λ f. resolved f >>= λ l. lawful l
+
+abbrev pub fault_in : Result Listing ReadFault → Option ReadFault
+fault_in (Ok l) = None
+fault_in (Err e) = Some e
+
+-- the first kind of fault, where there is one
+abbrev pub first_fault : List ℕ → Option ReadFault
+first_fault bytes = fault_in (listing_at bytes)

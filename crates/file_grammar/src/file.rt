@@ -1,0 +1,28 @@
+//! Files as trees of texts.
+
+use crate::expr::RawExpr;
+use crate::stmt::RawStmt;
+use text_words::numeral::Numeral;
+
+/// A variable and its first value, or a transaction and how often it runs.
+#[derive(Clone, Copy, Debug)]
+pub struct RawPair<'a> {
+    pub name: &'a str,
+    pub value: Numeral<'a>,
+}
+
+/// A transaction.
+#[derive(Debug, Drop)]
+pub struct RawTx<'a> {
+    pub name: &'a str,
+    pub body: RawStmt<'a>,
+    pub value: RawExpr<'a>,
+}
+
+/// A file whose names are not looked up and whose integers are not measured.
+#[derive(Debug, Drop)]
+pub struct RawFile<'a> {
+    pub vars: Vec<RawPair<'a>>,
+    pub txs: Vec<RawTx<'a>>,
+    pub runs: Vec<RawPair<'a>>,
+}

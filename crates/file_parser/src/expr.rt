@@ -1,0 +1,45 @@
+//! Expressions as the file has them.
+
+ghost use Rattle.std.specs.Prelude.{◌≡◌, ◌<◌, IfOk, length};
+ghost use Rattle.text_words.specs.Tokens.{tokens};
+ghost use Rattle.text_words.specs.Answers.{Gives};
+ghost use Rattle.file_grammar.specs.Reading.{expr_at};
+ghost use Rattle.file_grammar.specs.View.{view_expr};
+
+use file_grammar::expr::RawExpr;
+use file_grammar::words::operator_of;
+use std::alloc::Global;
+use text_words::ReadFault;
+use text_words::lexer::Token;
+use text_words::tokens::{close, name_of, token_of};
+
+/// An expression with no more than `depth` parentheses open at a time.
+#[tactic(auto, unfolding(file_grammar::specs::Reading::expr_at))]
+pub(crate) fn expr_of(
+    alloc: Global,
+    depth: u32,
+    bytes: &[u8],
+) -> Result<(RawExpr<'_>, &[u8]), ReadFault>
+    ensures value { Gives (λ x. (view_expr x.0, tokens x.1.now)) result (expr_at depth (tokens bytes.now)) }
+    ensures shorter { IfOk result (λ x. length x.1.now < length bytes.now) }
+{
+    let (token, rest) = token_of(bytes)?;
+    match token {
+        Token::Int(numeral) => Ok((RawExpr::Int(numeral), rest)),
+        Token::Name(name) => Ok((RawExpr::Name(name), rest)),
+        Token::Open => {
+            if depth == 0 {
+                return Err(ReadFault::Shape);
+            }
+            let (word, rest) = name_of(rest)?;
+            let operator = operator_of(word)?;
+            let (left, rest) = expr_of(alloc, depth - 1, rest)?;
+            let (right, rest) = expr_of(alloc, depth - 1, rest)?;
+            let rest = close(rest)?;
+            let left = Box::new(alloc, left)?;
+            let right = Box::new(alloc, right)?;
+            Ok((RawExpr::Binary(operator, left, right), rest))
+        }
+        Token::Close | Token::Other => Err(ReadFault::Shape),
+    }
+}

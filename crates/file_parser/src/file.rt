@@ -1,0 +1,114 @@
+//! Files as trees of texts.
+
+ghost use Rattle.std.specs.Prelude.{◌≡◌, ◌<◌, IfOk, length, codes};
+ghost use Rattle.text_words.specs.Tokens.{tokens};
+ghost use Rattle.text_words.specs.Answers.{Gives};
+ghost use Rattle.file_grammar.specs.Reading.{pair_at, tx_at, end_at, file_of, tree_of};
+ghost use Rattle.text_words.specs.TokenReading.{begins, all_of};
+ghost use Rattle.file_grammar.specs.View.{view_pair, view_pairs, view_tx, view_txs, view_file};
+
+use crate::expr::expr_of;
+use crate::stmt::stmt_of;
+use file_grammar::file::{RawFile, RawPair, RawTx};
+use std::alloc::Global;
+use text_words::ReadFault;
+use text_words::bytes::are_allowed;
+use text_words::lexer::next_token;
+use text_words::tokens::{begins, close, form, int_of, name_of};
+
+#[tactic(auto, unfolding(file_grammar::specs::Reading::pair_at))]
+fn pair_of<'a>(bytes: &'a [u8], word: &str) -> Result<(RawPair<'a>, &'a [u8]), ReadFault>
+    ensures value { Gives (λ x. (view_pair x.0, tokens x.1.now)) result (pair_at word.now (tokens bytes.now)) }
+    ensures shorter { IfOk result (λ x. length x.1.now < length bytes.now) }
+{
+    let rest = form(bytes, word)?;
+    let (name, rest) = name_of(rest)?;
+    let (value, rest) = int_of(rest)?;
+    let rest = close(rest)?;
+    Ok((RawPair { name, value }, rest))
+}
+
+/// The most parentheses that may be open inside the one of a transaction.
+const INNER_DEPTH: u32 = 31;
+
+#[tactic(auto, unfolding(file_grammar::specs::Reading::tx_at))]
+fn tx_of(alloc: Global, bytes: &[u8]) -> Result<(RawTx<'_>, &[u8]), ReadFault>
+    ensures value { Gives (λ x. (view_tx x.0, tokens x.1.now)) result (tx_at (tokens bytes.now)) }
+    ensures shorter { IfOk result (λ x. length x.1.now < length bytes.now) }
+{
+    let rest = form(bytes, "tx")?;
+    let (name, rest) = name_of(rest)?;
+    let (body, rest) = stmt_of(alloc, INNER_DEPTH, rest)?;
+    let (value, rest) = expr_of(alloc, INNER_DEPTH, rest)?;
+    let rest = close(rest)?;
+    Ok((RawTx { name, body, value }, rest))
+}
+
+fn pairs_of<'a>(
+    alloc: Global,
+    bytes: &'a [u8],
+    word: &str,
+) -> Result<(Vec<RawPair<'a>>, &'a [u8]), ReadFault>
+    ensures { Gives (λ x. (view_pairs x.0.items, tokens x.1.now)) result (all_of (begins word.now) (pair_at word.now) (tokens bytes.now)) }
+{
+    let mut pairs = Vec::new(alloc);
+    let mut rest = bytes;
+    'pairs: while begins(rest, word) {
+        let (pair, after) = pair_of(rest, word)?;
+        pairs.push(pair)?;
+        rest = after;
+    }
+    Ok((pairs, rest))
+}
+
+fn txs_of(alloc: Global, bytes: &[u8]) -> Result<(Vec<RawTx<'_>>, &[u8]), ReadFault>
+    ensures { Gives (λ x. (view_txs x.0.items, tokens x.1.now)) result (all_of (begins (codes "tx")) tx_at (tokens bytes.now)) }
+{
+    let mut txs = Vec::new(alloc);
+    let mut rest = bytes;
+    'txs: while begins(rest, "tx") {
+        let (tx, after) = tx_of(alloc, rest)?;
+        txs.push(tx)?;
+        rest = after;
+    }
+    Ok((txs, rest))
+}
+
+#[tactic(auto, unfolding(file_grammar::specs::Reading::end_at))]
+fn end(bytes: &[u8]) -> Result<(), ReadFault>
+    ensures { Gives (λ x. x) result (end_at (tokens bytes.now)) }
+{
+    match next_token(bytes) {
+        Some(_) => Err(ReadFault::Shape),
+        None => Ok(()),
+    }
+}
+
+/// The tree of all the tokens.
+#[tactic(auto, unfolding(file_grammar::specs::Reading::file_of))]
+fn file_of(alloc: Global, bytes: &[u8]) -> Result<RawFile<'_>, ReadFault>
+    ensures { Gives view_file result (file_of (tokens bytes.now)) }
+{
+    let (vars, rest) = pairs_of(alloc, bytes, "var")?;
+    let (txs, rest) = txs_of(alloc, rest)?;
+    let (runs, rest) = pairs_of(alloc, rest, "run")?;
+    end(rest)?;
+    Ok(RawFile { vars, txs, runs })
+}
+
+/// The longest file, in bytes.
+pub const MAX_FILE: usize = 1_048_576;
+
+/// The tree of the bytes, or the first fault of length, bytes and shape, judged over all of them.
+#[tactic(auto, unfolding(file_grammar::specs::Reading::tree_of))]
+pub fn tree_of(alloc: Global, bytes: &[u8]) -> Result<RawFile<'_>, ReadFault>
+    ensures { Gives view_file result (tree_of bytes.now) }
+{
+    if bytes.len() > MAX_FILE {
+        return Err(ReadFault::TooLong);
+    }
+    if !are_allowed(bytes) {
+        return Err(ReadFault::BadByte);
+    }
+    file_of(alloc, bytes)
+}

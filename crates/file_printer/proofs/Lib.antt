@@ -1,0 +1,7 @@
+pub mod Variables
+pub mod Spelled
+pub mod WordForms
+pub mod Spellings
+pub mod Depths
+pub mod Printed
+pub mod Integers

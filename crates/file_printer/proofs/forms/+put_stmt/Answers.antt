@@ -1,0 +1,27 @@
+use Rattle.std.proofs.Common.{rules, ◌≡◌, ◌∙◌, ◌++◌, OnOk, length, string_bytes, ap, sym, subst}
+use Rattle.txn.specs.Scope.{StatementKnown}
+use Rattle.txn.specs.Tree.{Statement, statement_of, statements_of_list}
+use Rattle.txn.specs.Tree as txn
+use Rattle.txn.specs.declared.ast.Stmt.TheViews.{the_lemmas}
+use Rattle.txn.proofs.Rows.{statement_Seq}
+use Rattle.file_printer.specs.Canonical.{stmt_text}
+use Rattle.file_printer.specs.Fits.{StmtFits}
+use Rattle.file_grammar.specs.Written.{written_statement}
+use Rattle.file_printer.proofs.forms.+put_stmt.Goals as goal
+
+pub put_stmt-put_seq-requires : goal.put_stmt-put_seq-requires
+put_stmt-put_seq-requires t c =
+    let e : statement_of c.args.s.now ≡ txn.Seq (statements_of_list c.as_slice.result.now) = ap statement_of c.in-Seq.is ∙ statement_Seq c.in-Seq.parts ∙ ap (λ l. txn.Seq (statements_of_list l)) (sym c.as_slice.ensures.value) in
+    (search (rules, the_lemmas), subst (StatementKnown (length c.args.catalogue.now.names)) e c.requires)
+
+pub put_stmt-returns-in-Seq-clause-text :
+    goal.put_stmt-returns-in-Seq-clause-text
+put_stmt-returns-in-Seq-clause-text t c =
+    let e : statement_of c.args.s.now ≡ txn.Seq (statements_of_list c.as_slice.result.now) = ap statement_of c.in-Seq.is ∙ statement_Seq c.in-Seq.parts ∙ ap (λ l. txn.Seq (statements_of_list l)) (sym c.as_slice.ensures.value) in
+    subst (λ (s : Statement). OnOk c.put_seq.result (string_bytes c.put_seq.new.out ≡ string_bytes c.args.out.now ++ stmt_text (written_statement c.args.catalogue.now.names s))) (sym e) c.put_seq.ensures.text
+
+pub put_stmt-returns-in-Seq-clause-fits :
+    goal.put_stmt-returns-in-Seq-clause-fits
+put_stmt-returns-in-Seq-clause-fits t c =
+    let e : statement_of c.args.s.now ≡ txn.Seq (statements_of_list c.as_slice.result.now) = ap statement_of c.in-Seq.is ∙ statement_Seq c.in-Seq.parts ∙ ap (λ l. txn.Seq (statements_of_list l)) (sym c.as_slice.ensures.value) in
+    subst (λ (s : Statement). OnOk c.put_seq.result (StmtFits (written_statement c.args.catalogue.now.names s))) (sym e) c.put_seq.ensures.fits

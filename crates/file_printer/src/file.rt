@@ -1,0 +1,106 @@
+//! The canonical text of a catalogue.
+
+ghost use Rattle.std.specs.Prelude.{◌≡◌, ◌<◌, ◌≤◌, ◌++◌, FitsSigned, IfOk, OnOk, codes, length, map, pos, string_bytes};
+ghost use Rattle.std.specs.Int.{w64};
+ghost use Rattle.std.specs.List.{AllByRecursion, flat_map};
+ghost use Rattle.txn.specs.Scope.{ProgramKnown};
+ghost use Rattle.txn.specs.Tree.{program_of};
+ghost use Rattle.file_grammar.specs.Written.{written_vars, written_program, written_run, written};
+ghost use Rattle.file_grammar.specs.Spelling.{Spells};
+ghost use Rattle.file_printer.specs.Canonical.{pair_line, tx_line, file_text};
+ghost use Rattle.file_printer.specs.Fits.{PairFits, DeclarationFits, FileFits};
+
+use crate::forms::{put_expr, put_stmt};
+use std::alloc::{AllocError, Global};
+use std::fmt::Write;
+use txn::{Catalogue, Memory, Tx, TxId, VarId};
+
+/// The canonical text of a catalogue: one form a line, each line ended by a newline, the
+/// variables first, then the transactions, then the runs. One space stands between two tokens,
+/// none after `(` and none before `)`. `Err` means that memory was refused.
+pub fn print_file(alloc: Global, catalogue: &Catalogue) -> Result<String, Memory>
+    ensures text { IfOk result (λ s. string_bytes s ≡ file_text catalogue.now) }
+    ensures again { IfOk result (λ s. length (string_bytes s) ≤ 1048576 → Spells (string_bytes s) catalogue.now) }
+{
+    catalogue.rules();
+    let mut out = String::new(alloc);
+    put_file(&mut out, catalogue)?;
+    Ok(out)
+}
+
+#[tactic(auto, unfolding(file_grammar::specs::Written::written))]
+fn put_file(out: &mut String, catalogue: &Catalogue) -> Result<(), AllocError>
+    ensures text { OnOk result (string_bytes out.new ≡ string_bytes out.old ++ file_text catalogue.now) }
+    ensures fits { OnOk result (FileFits (written catalogue.now)) }
+{
+    put_vars(out, catalogue)?;
+    put_txs(out, catalogue)?;
+    put_runs(out, catalogue)?;
+    Ok(())
+}
+
+fn put_var(out: &mut String, name: &str, value: &i64) -> Result<(), AllocError>
+    ensures text { OnOk result (string_bytes out.new ≡ string_bytes out.old ++ pair_line (codes "var") (record { name = name.now; value = value.now })) }
+    ensures fits { FitsSigned w64 value.now }
+{
+    let value = *value;
+    writeln!(out, "(var {name} {value})")
+}
+
+fn put_vars(out: &mut String, catalogue: &Catalogue) -> Result<(), AllocError>
+    ensures text { OnOk result (string_bytes out.new ≡ string_bytes out.old ++ flat_map (pair_line (codes "var")) (written_vars catalogue.now.names catalogue.now.initial)) }
+    ensures fits { OnOk result (AllByRecursion PairFits (written_vars catalogue.now.names catalogue.now.initial)) }
+{
+    catalogue.rules();
+    'vars: for (i, value) in catalogue.initial().iter().enumerate() {
+        put_var(out, catalogue.var_name(VarId(i as u32)), value)?;
+    }
+    Ok(())
+}
+
+fn put_tx(out: &mut String, catalogue: &Catalogue, tx: &Tx) -> Result<(), AllocError>
+    requires { ProgramKnown (length catalogue.now.names) (program_of tx.now) }
+    ensures text { OnOk result (string_bytes out.new ≡ string_bytes out.old ++ tx_line (written_program catalogue.now.names (program_of tx.now))) }
+    ensures fits { OnOk result (DeclarationFits (written_program catalogue.now.names (program_of tx.now))) }
+{
+    out.push_str("(tx ")?;
+    out.push_str(tx.name.as_str())?;
+    out.push_str(" ")?;
+    put_stmt(out, catalogue, &tx.body)?;
+    out.push_str(" ")?;
+    put_expr(out, catalogue, &tx.result)?;
+    out.push_str(")\n")?;
+    Ok(())
+}
+
+fn put_txs(out: &mut String, catalogue: &Catalogue) -> Result<(), AllocError>
+    ensures text { OnOk result (string_bytes out.new ≡ string_bytes out.old ++ flat_map tx_line (map (written_program catalogue.now.names) catalogue.now.programs)) }
+    ensures fits { OnOk result (AllByRecursion DeclarationFits (map (written_program catalogue.now.names) catalogue.now.programs)) }
+{
+    catalogue.rules();
+    'txs: for i in 0..catalogue.tx_count() {
+        put_tx(out, catalogue, catalogue.tx(TxId(i as u32)))?;
+    }
+    Ok(())
+}
+
+fn put_run(out: &mut String, catalogue: &Catalogue, run: &(TxId, u32)) -> Result<(), AllocError>
+    requires { run.now.0.0 < length catalogue.now.programs }
+    ensures text { OnOk result (string_bytes out.new ≡ string_bytes out.old ++ pair_line (codes "run") (written_run catalogue.now.programs run.now)) }
+    ensures fits { PairFits (written_run catalogue.now.programs run.now) }
+{
+    let (tx, count) = *run;
+    let name = catalogue.tx_name(tx);
+    writeln!(out, "(run {name} {count})")
+}
+
+fn put_runs(out: &mut String, catalogue: &Catalogue) -> Result<(), AllocError>
+    ensures text { OnOk result (string_bytes out.new ≡ string_bytes out.old ++ flat_map (pair_line (codes "run")) (map (written_run catalogue.now.programs) catalogue.now.runs)) }
+    ensures fits { OnOk result (AllByRecursion PairFits (map (written_run catalogue.now.programs) catalogue.now.runs)) }
+{
+    catalogue.rules();
+    'runs: for run in catalogue.runs() {
+        put_run(out, catalogue, run)?;
+    }
+    Ok(())
+}

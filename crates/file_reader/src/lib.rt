@@ -1,0 +1,6 @@
+//! Files read as catalogues.
+#![tactic(auto)]
+
+mod read;
+
+pub use read::read_file;

@@ -1,0 +1,30 @@
+use Rattle.std.proofs.Common.{◌≡◌, ◌∙◌, ap, sym}
+use Rattle.std.proofs.lemmas.Result.{err_from_is_err_and}
+use Rattle.txn.specs.Tree as plain
+use Rattle.txn.proofs.Rows.{statement_Seq}
+use Rattle.file_grammar.specs.Tree.{Seq}
+use Rattle.file_grammar.specs.Reading.{row}
+use Rattle.file_grammar.specs.Resolving.{each, statement_in}
+use Rattle.file_resolver.specs.Texts.{texts}
+use Rattle.file_grammar.specs.View.{view_stmt, view_stmts}
+use Rattle.text_words.proofs.Many.{failed}
+use Rattle.text_words.proofs.Steps.{done}
+use Rattle.file_resolver.proofs.Parts.{seq_is, chain_is}
+use Rattle.file_grammar.proofs.Views.{view_seq}
+use Rattle.file_resolver.proofs.resolve.+resolving.Goals as goal
+
+pub statement-returns-in_err-parts-in-Seq : goal.statement-returns-in_err-parts-in-Seq
+statement-returns-in_err-parts-in-Seq t c =
+    let p = err_from_is_err_and c.from_residual-in_err-parts-in-Seq.result c.from_residual-in_err-parts-in-Seq.ensures.1 in
+    let names = texts c.args.names.now.keys in
+    let ss = view_stmts c.as_slice.result.now in
+    let e : view_stmt c.args.s.now ≡ Seq (row ss) = ap view_stmt c.in-Seq.is ∙ view_seq c.in-Seq.parts ∙ ap (λ l. Seq (row (view_stmts l))) (sym c.as_slice.ensures.value) in
+    rw (p.1, p.2) (failed c.in_err-parts-in-Seq.field-0.0 (each (statement_in names) ss) _ (statement_in names (view_stmt c.args.s.now)) c.in_err-parts-in-Seq.ensures (sym (ap (statement_in names) e ∙ seq_is names ss)))
+
+pub statement-returns-in_ok-parts-in-Seq : goal.statement-returns-in_ok-parts-in-Seq
+statement-returns-in_ok-parts-in-Seq t c =
+    let names = texts c.args.names.now.keys in
+    let ss = view_stmts c.as_slice.result.now in
+    let e : view_stmt c.args.s.now ≡ Seq (row ss) = ap view_stmt c.in-Seq.is ∙ view_seq c.in-Seq.parts ∙ ap (λ l. Seq (row (view_stmts l))) (sym c.as_slice.ensures.value) in
+    let parts = c.in_ok-parts-in-Seq.parts in
+    ap (statement_in names) e ∙ seq_is names ss ∙ rw c.in_ok-parts-in-Seq.ensures (ap done (ap plain.Seq (sym (chain_is parts.items)) ∙ sym (statement_Seq parts)))

@@ -1,0 +1,12 @@
+use Rattle.std.proofs.Common.{◌≡◌, length, map}
+use Rattle.std.specs.Vec.Iter.{into_iter_items, into_iter_len}
+use Rattle.txn.specs.Tree.{program_of}
+use Rattle.file_grammar.specs.Resolving.{each, program_in}
+use Rattle.file_resolver.specs.Texts.{texts}
+use Rattle.file_grammar.specs.View.{view_txs}
+use Rattle.file_resolver.proofs.Each.{joined}
+use Rattle.file_resolver.proofs.resolve.programs.Given as goal
+
+abbrev pub invariant-txs : goal.invariant-txs
+invariant-txs l = (joined (map program_of l.made.items) (each (program_in (texts l.names.keys)) (view_txs (into_iter_items l.tx-iterator))) ≡ each (program_in (texts l.names.keys)) (view_txs (into_iter_items l.initial.tx-iterator)))
+    × (into_iter_len l.tx-iterator ≡ length (into_iter_items l.tx-iterator))

@@ -1,0 +1,12 @@
+-- What the code builds a catalogue of, as a listing.
+use Rattle.std.specs.Prelude.{ℕ, ℤ, List, string_bytes}
+use Rattle.std.specs.declared.alloc.Global.{Global}
+use Rattle.std.specs.declared.string.String.{String}
+use Rattle.txn.specs.Listing.{Listing, listing_of}
+use Rattle.file_resolver.specs.declared.resolve.Parts.{Parts}
+
+abbrev pub view_variable : String Global × ℤ → List ℕ × ℤ
+view_variable v = (string_bytes v.0, v.1)
+
+abbrev pub view_parts : Parts → Listing
+view_parts p = listing_of p.vars.items p.txs.items p.runs.items

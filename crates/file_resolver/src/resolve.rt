@@ -1,0 +1,321 @@
+//! From the tree of a file to programs: names as ids, and integers as numbers of the machine.
+
+ghost use Rattle.std.specs.Prelude.{◌≡◌, map};
+ghost use Rattle.txn.specs.Tree.{expression_of, condition_of, statement_of, program_of};
+ghost use Rattle.text_words.specs.Answers.{Gives};
+ghost use Rattle.file_grammar.specs.Resolving.{place_in, variable_in, binary, compare, connect, expression_in, condition_in, statement_in, variable_of, program_in, run_in, each, converted, resolved};
+ghost use Rattle.file_grammar.specs.Tree.{Compare};
+ghost use Rattle.file_resolver.specs.Texts.{texts};
+ghost use Rattle.file_grammar.specs.View.{view_expr, view_cond, view_stmt, view_stmts, view_pair, view_pairs, view_tx, view_txs, view_file};
+ghost use Rattle.file_resolver.specs.Parts.{view_variable, view_parts};
+
+use crate::names::{place_of, tx_names, uses_known, var_names};
+use file_grammar::cond::RawCond;
+use file_grammar::expr::RawExpr;
+use file_grammar::file::{RawFile, RawPair, RawTx};
+use file_grammar::stmt::RawStmt;
+use file_grammar::words::{Comparison, Connective, Operator};
+use indexmap::IndexSet;
+use std::alloc::Global;
+use text_words::ReadFault;
+use txn::{Cond, Expr, Stmt, Tx, TxId, VarId};
+
+/// The place of a declared name.
+#[tactic(auto, unfolding(file_grammar::specs::Resolving::place_in))]
+fn place_in(names: &IndexSet<&str>, name: &str) -> Result<u32, ReadFault>
+    ensures { Gives (λ x. x) result (place_in (texts names.now.keys) name.now) }
+{
+    let place = place_of(names, name).ok_or(ReadFault::Name)?;
+    u32::try_from(place).ok().ok_or(ReadFault::Limit)
+}
+
+#[tactic(auto, unfolding(file_grammar::specs::Resolving::variable_in))]
+fn variable(names: &IndexSet<&str>, name: &str) -> Result<VarId, ReadFault>
+    ensures { Gives (λ x. x) result (variable_in (texts names.now.keys) name.now) }
+{
+    let place = place_in(names, name)?;
+    Ok(VarId(place))
+}
+
+fn binary(op: Operator, left: Box<Expr>, right: Box<Expr>) -> Expr
+    ensures { expression_of result ≡ binary op (expression_of left.value) (expression_of right.value) }
+{
+    match op {
+        Operator::Add => Expr::Add(left, right),
+        Operator::Sub => Expr::Sub(left, right),
+        Operator::Mul => Expr::Mul(left, right),
+        Operator::Div => Expr::Div(left, right),
+        Operator::Rem => Expr::Rem(left, right),
+    }
+}
+
+fn expression(alloc: Global, names: &IndexSet<&str>, e: &RawExpr<'_>) -> Result<Expr, ReadFault>
+    ensures { Gives expression_of result (expression_in (texts names.now.keys) (view_expr e.now)) }
+{
+    match e {
+        RawExpr::Int(numeral) => {
+            let number = numeral.number()?;
+            Ok(Expr::Int(number))
+        }
+        RawExpr::Name(name) => {
+            let id = variable(names, *name)?;
+            Ok(Expr::Var(id))
+        }
+        RawExpr::Binary(op, left, right) => {
+            let left = expression(alloc, names, left)?;
+            let right = expression(alloc, names, right)?;
+            let left = Box::new(alloc, left)?;
+            let right = Box::new(alloc, right)?;
+            Ok(binary(*op, left, right))
+        }
+    }
+}
+
+fn compare(op: Comparison, left: Expr, right: Expr) -> Cond
+    ensures { condition_of result ≡ compare op (expression_of left) (expression_of right) }
+{
+    match op {
+        Comparison::Eq => Cond::Eq(left, right),
+        Comparison::Lt => Cond::Lt(left, right),
+        Comparison::Le => Cond::Le(left, right),
+    }
+}
+
+fn comparison(
+    alloc: Global,
+    names: &IndexSet<&str>,
+    op: Comparison,
+    left: &RawExpr<'_>,
+    right: &RawExpr<'_>,
+) -> Result<Cond, ReadFault>
+    ensures { Gives condition_of result (condition_in (texts names.now.keys) (Compare op (view_expr left.now) (view_expr right.now))) }
+{
+    let left = expression(alloc, names, left)?;
+    let right = expression(alloc, names, right)?;
+    Ok(compare(op, left, right))
+}
+
+fn connect(op: Connective, left: Box<Cond>, right: Box<Cond>) -> Cond
+    ensures { condition_of result ≡ connect op (condition_of left.value) (condition_of right.value) }
+{
+    match op {
+        Connective::And => Cond::And(left, right),
+        Connective::Or => Cond::Or(left, right),
+    }
+}
+
+#[cycle(conditions)]
+fn condition(alloc: Global, names: &IndexSet<&str>, c: &RawCond<'_>) -> Result<Cond, ReadFault>
+    ensures { Gives condition_of result (condition_in (texts names.now.keys) (view_cond c.now)) }
+{
+    match c {
+        RawCond::Compare(op, left, right) => comparison(alloc, names, *op, left, right),
+        RawCond::Not(inner) => {
+            let inner = boxed_condition(alloc, names, inner)?;
+            Ok(Cond::Not(inner))
+        }
+        RawCond::Connect(op, left, right) => {
+            let left = boxed_condition(alloc, names, left)?;
+            let right = boxed_condition(alloc, names, right)?;
+            Ok(connect(*op, left, right))
+        }
+    }
+}
+
+#[cycle(conditions)]
+fn boxed_condition(
+    alloc: Global,
+    names: &IndexSet<&str>,
+    c: &RawCond<'_>,
+) -> Result<Box<Cond>, ReadFault>
+    ensures { Gives (λ b. condition_of b.value) result (condition_in (texts names.now.keys) (view_cond c.now)) }
+{
+    let made = condition(alloc, names, c)?;
+    let held = Box::new(alloc, made)?;
+    Ok(held)
+}
+
+#[cycle(resolving)]
+fn statement(alloc: Global, names: &IndexSet<&str>, s: &RawStmt<'_>) -> Result<Stmt, ReadFault>
+    ensures { Gives statement_of result (statement_in (texts names.now.keys) (view_stmt s.now)) }
+{
+    match s {
+        RawStmt::Skip => Ok(Stmt::Skip),
+        RawStmt::Set(name, value) => {
+            let id = variable(names, *name)?;
+            let value = expression(alloc, names, value)?;
+            Ok(Stmt::Set(id, value))
+        }
+        RawStmt::Seq(parts) => {
+            let parts = statements(alloc, names, parts.as_slice())?;
+            Ok(Stmt::Seq(parts))
+        }
+        RawStmt::If(test, first, second) => {
+            let test = condition(alloc, names, test)?;
+            let first = boxed_statement(alloc, names, first)?;
+            let second = boxed_statement(alloc, names, second)?;
+            Ok(Stmt::If(test, first, second))
+        }
+        RawStmt::Repeat(count, body) => {
+            let count = count.count()?;
+            let body = boxed_statement(alloc, names, body)?;
+            Ok(Stmt::Repeat(count, body))
+        }
+        RawStmt::Retry => Ok(Stmt::Retry),
+        RawStmt::OrElse(first, second) => {
+            let first = boxed_statement(alloc, names, first)?;
+            let second = boxed_statement(alloc, names, second)?;
+            Ok(Stmt::OrElse(first, second))
+        }
+        RawStmt::Throw(value) => {
+            let value = expression(alloc, names, value)?;
+            Ok(Stmt::Throw(value))
+        }
+    }
+}
+
+#[cycle(resolving)]
+fn boxed_statement(
+    alloc: Global,
+    names: &IndexSet<&str>,
+    s: &RawStmt<'_>,
+) -> Result<Box<Stmt>, ReadFault>
+    ensures { Gives (λ b. statement_of b.value) result (statement_in (texts names.now.keys) (view_stmt s.now)) }
+{
+    let made = statement(alloc, names, s)?;
+    let held = Box::new(alloc, made)?;
+    Ok(held)
+}
+
+#[cycle(resolving)]
+fn statements(
+    alloc: Global,
+    names: &IndexSet<&str>,
+    parts: &[RawStmt<'_>],
+) -> Result<Vec<Stmt>, ReadFault>
+    ensures { Gives (λ made. map statement_of made.items) result (each (statement_in (texts names.now.keys)) (view_stmts parts.now)) }
+{
+    let mut made = Vec::new(alloc);
+    'parts: for part in parts {
+        let statement = statement(alloc, names, part)?;
+        made.push(statement)?;
+    }
+    Ok(made)
+}
+
+/// A variable's name and first value.
+fn variable_of(alloc: Global, pair: &RawPair<'_>) -> Result<(String, i64), ReadFault>
+    ensures { Gives view_variable result (variable_of (view_pair pair.now)) }
+{
+    let value = pair.value.number()?;
+    let name = String::from_str(alloc, pair.name)?;
+    Ok((name, value))
+}
+
+fn variables(alloc: Global, pairs: &[RawPair<'_>]) -> Result<Vec<(String, i64)>, ReadFault>
+    ensures { Gives (λ made. map view_variable made.items) result (each variable_of (view_pairs pairs.now)) }
+{
+    let mut made = Vec::new(alloc);
+    'pairs: for pair in pairs {
+        let variable = variable_of(alloc, pair)?;
+        made.push(variable)?;
+    }
+    Ok(made)
+}
+
+fn program(alloc: Global, names: &IndexSet<&str>, tx: &RawTx<'_>) -> Result<Tx, ReadFault>
+    ensures { Gives program_of result (program_in (texts names.now.keys) (view_tx tx.now)) }
+{
+    let body = statement(alloc, names, &tx.body)?;
+    let result = expression(alloc, names, &tx.value)?;
+    let name = String::from_str(alloc, tx.name)?;
+    Ok(Tx { name, body, result })
+}
+
+/// The program of a transaction, whose tree is let go.
+fn program_from(alloc: Global, names: &IndexSet<&str>, tx: RawTx<'_>) -> Result<Tx, ReadFault>
+    ensures { Gives program_of result (program_in (texts names.now.keys) (view_tx tx.entry)) }
+{
+    program(alloc, names, &tx)
+}
+
+/// The programs of transactions. The tree of each is let go as soon as its program stands, so that
+/// no more than one of them stands twice.
+fn programs(
+    alloc: Global,
+    names: &IndexSet<&str>,
+    txs: Vec<RawTx<'_>>,
+) -> Result<Vec<Tx>, ReadFault>
+    ensures { Gives (λ made. map program_of made.items) result (each (program_in (texts names.now.keys)) (view_txs txs.entry.items)) }
+{
+    let mut made = Vec::new(alloc);
+    'txs: for tx in txs {
+        let program = program_from(alloc, names, tx)?;
+        made.push(program)?;
+    }
+    Ok(made)
+}
+
+fn run(names: &IndexSet<&str>, pair: &RawPair<'_>) -> Result<(TxId, u32), ReadFault>
+    ensures { Gives (λ x. x) result (run_in (texts names.now.keys) (view_pair pair.now)) }
+{
+    let place = place_in(names, pair.name)?;
+    let count = pair.value.count()?;
+    Ok((TxId(place), count))
+}
+
+fn runs(
+    alloc: Global,
+    names: &IndexSet<&str>,
+    pairs: &[RawPair<'_>],
+) -> Result<Vec<(TxId, u32)>, ReadFault>
+    ensures { Gives (λ made. made.items) result (each (run_in (texts names.now.keys)) (view_pairs pairs.now)) }
+{
+    let mut made = Vec::new(alloc);
+    'pairs: for pair in pairs {
+        let entry = run(names, pair)?;
+        made.push(entry)?;
+    }
+    Ok(made)
+}
+
+/// What a catalogue is built of.
+#[derive(Drop)]
+pub struct Parts {
+    pub vars: Vec<(String, i64)>,
+    pub txs: Vec<Tx>,
+    pub runs: Vec<(TxId, u32)>,
+}
+
+#[tactic(auto, unfolding(file_grammar::specs::Resolving::converted))]
+fn convert(
+    alloc: Global,
+    vars: &IndexSet<&str>,
+    txs: &IndexSet<&str>,
+    file: RawFile<'_>,
+) -> Result<Parts, ReadFault>
+    ensures { Gives view_parts result (converted (texts vars.now.keys) (texts txs.now.keys) (view_file file.entry)) }
+{
+    let variables = variables(alloc, &file.vars)?;
+    let programs = programs(alloc, vars, file.txs)?;
+    let runs = runs(alloc, txs, &file.runs)?;
+    Ok(Parts {
+        vars: variables,
+        txs: programs,
+        runs,
+    })
+}
+
+/// What the file declares, or its first fault: names are judged over the whole file before any
+/// number is.
+#[tactic(auto, unfolding(file_grammar::specs::Resolving::resolved))]
+pub fn resolve(alloc: Global, file: RawFile<'_>) -> Result<Parts, ReadFault>
+    ensures { Gives view_parts result (resolved (view_file file.entry)) }
+{
+    let vars = var_names(alloc, &file.vars)?;
+    let txs = tx_names(alloc, &file.txs)?;
+    if !uses_known(&vars, &txs, &file) {
+        return Err(ReadFault::Name);
+    }
+    convert(alloc, &vars, &txs, file)
+}

@@ -1,0 +1,45 @@
+-- The text of a report, line by line.
+use Rattle.std.specs.Prelude.{ℕ, ℤ, ◌+◌, ◌≤◌, List, [], ◌∷◌, ◌++◌, length, codes}
+use Rattle.std.specs.List.{flat_map}
+use Rattle.std.specs.Fmt.{decimal, signed_decimal}
+use Rattle.txn.specs.declared.ast.TaskId.{TaskId}
+use Rattle.txn.specs.declared.ast.TxId.{TxId}
+use Rattle.txn.specs.declared.report.Entry.{Entry}
+use Rattle.txn.specs.declared.limits.TheConstants.{MAX_TASKS}
+use Rattle.txn.specs.Listing.{Listing, program_at}
+use Rattle.txn.specs.Told.{Told}
+use Rattle.text_words.specs.Words.{line, outcome_text}
+
+-- NAME VALUE VERSION
+abbrev pub variable_line : List ℕ → ℤ × ℕ → List ℕ
+variable_line name v = line (name ∷ signed_decimal v.0 ∷ decimal v.1 ∷ [])
+
+-- one line for each variable, in declared order
+abbrev pub variable_lines : List (List ℕ) → List (ℤ × ℕ) → List ℕ
+variable_lines names [] = []
+variable_lines [] (v ∷ vs) = []
+variable_lines (name ∷ names) (v ∷ vs) = variable_line name v ++ variable_lines names vs
+
+-- entry NUMBER TASK NAME OUTCOME
+abbrev pub entry_line : Listing → Entry → List ℕ
+entry_line l e =
+    line (codes "entry" ∷ decimal e.number ∷ decimal e.task.0 ∷ (program_at l e.tx).name ∷ outcome_text e.outcome ∷ [])
+
+-- WORD TASK NAME
+abbrev pub task_line : Listing → List ℕ → TaskId × TxId → List ℕ
+task_line l word t = line (word ∷ decimal t.0.0 ∷ (program_at l t.1).name ∷ [])
+
+abbrev pub report_text : Listing → Told → List ℕ
+report_text l r =
+    line (codes "base" ∷ decimal r.base ∷ [])
+    ++ (variable_lines l.names r.base_vars
+    ++ (flat_map (entry_line l) r.entries
+    ++ (line (codes "now" ∷ decimal r.current ∷ [])
+    ++ (variable_lines l.names r.current_vars
+    ++ (flat_map (task_line l (codes "parked")) r.parked
+    ++ (flat_map (task_line l (codes "memory")) r.memory
+    ++ line (codes "end" ∷ [])))))))
+
+-- it has no more entries, parked tasks and tasks given up than there may be tasks
+abbrev pub CountsTasks : Told → Type 0
+CountsTasks r = length r.entries + (length r.parked + length r.memory) ≤ MAX_TASKS

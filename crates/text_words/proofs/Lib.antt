@@ -1,0 +1,6 @@
+pub mod Ascii
+pub mod Lexing
+pub mod Numerals
+pub mod Steps
+pub mod Many
+pub mod Pieces
