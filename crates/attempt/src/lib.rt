@@ -13,8 +13,6 @@ pub mod laws;
 mod layer;
 pub mod log;
 pub mod next;
-#[cfg(test)]
-mod tests;
 
 pub use attempt::Attempt;
 pub use laws::frame;

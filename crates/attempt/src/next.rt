@@ -32,7 +32,7 @@ pub enum Stand {
 }
 
 /// The answer of an attempt that ended.
-pub fn answer(outcome: Outcome) -> Next
+pub(crate) fn answer(outcome: Outcome) -> Next
     ensures { result ≡ next_of outcome }
 {
     match outcome {

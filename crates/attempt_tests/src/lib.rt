@@ -1,0 +1,13 @@
+//! Tests of the public calls of `attempt`.
+#![tactic(auto)]
+
+#[cfg(test)]
+mod ends;
+#[cfg(test)]
+mod many;
+#[cfg(test)]
+mod one;
+#[cfg(test)]
+mod parts;
+#[cfg(test)]
+mod steps;

@@ -1,0 +1,89 @@
+//! How many nodes an evaluation enters, worked out by hand, for each kind of expression, condition
+//! and statement. The programs read no variable, so one `advance` does all.
+
+use crate::parts::{catalogue, first};
+use std::alloc::Global;
+use std::process::Abort;
+use std::test::Fail;
+
+/// The one evaluation of the transaction of this body and result enters so many nodes.
+fn enters(
+    rt: &(impl Abort + Eprint),
+    alloc: Global,
+    body: &str,
+    answer: &str,
+    want: u64,
+) -> Result<(), Fail> {
+    let text = format!(in alloc; "(var x 0)(tx t {body} {answer})")?;
+    let catalogue = catalogue(alloc, text.as_str())?;
+    let mut attempt = first(rt, alloc, &catalogue);
+    let _ = attempt.advance();
+    assert_eq!(rt; attempt.steps(), want, "of {text}");
+    Ok(())
+}
+
+/// 1 for the body, and what is entered of the expression: nothing after a fault.
+#[test]
+fn an_operator_is_one_node_and_its_operands(rt: HostRuntime) -> Result<(), Fail> {
+    for (answer, want) in [
+        ("7", 2),
+        ("(add 1 2)", 4),
+        ("(sub 1 2)", 4),
+        ("(mul 1 2)", 4),
+        ("(div 1 2)", 4),
+        ("(rem 1 2)", 4),
+        ("(div 1 0)", 4),
+        ("(add (div 1 0) 2)", 5),
+        ("(add 2 (div 1 0))", 6),
+    ] {
+        enters(&rt, rt.alloc(), "(skip)", answer, want)?;
+    }
+    Ok(())
+}
+
+/// 3 more than the condition enters where it is yes, and 4 where it is no.
+#[test]
+fn a_condition_is_one_node_and_what_it_looks_at(rt: HostRuntime) -> Result<(), Fail> {
+    let alloc = rt.alloc();
+    for (test, want) in [
+        ("(eq 1 1)", 6),
+        ("(eq 2 1)", 7),
+        ("(lt 2 1)", 7),
+        ("(le 2 1)", 7),
+        ("(not (eq 1 1))", 8),
+        ("(and (eq 1 1) (eq 1 1))", 10),
+        ("(and (eq 2 1) (eq 1 1))", 8),
+        ("(or (eq 1 1) (eq 1 1))", 7),
+        ("(or (eq 2 1) (eq 1 1))", 10),
+        ("(or (eq 2 1) (eq 2 1))", 11),
+    ] {
+        let body = format!(in alloc; "(if {test} (skip) (seq (skip)))")?;
+        enters(&rt, alloc, body.as_str(), "0", want)?;
+    }
+    Ok(())
+}
+
+/// 1 more than the body enters where it is done, else what it enters.
+#[test]
+fn a_statement_is_one_node_and_what_it_runs(rt: HostRuntime) -> Result<(), Fail> {
+    for (body, want) in [
+        ("(skip)", 2),
+        ("(set x 1)", 3),
+        ("(retry)", 1),
+        ("(throw 1)", 2),
+        ("(seq)", 2),
+        ("(seq (skip) (skip))", 4),
+        ("(seq (retry) (skip))", 2),
+        ("(seq (throw 1) (skip))", 3),
+        ("(orelse (skip) (skip))", 3),
+        ("(orelse (retry) (skip))", 4),
+        ("(orelse (retry) (retry))", 3),
+        ("(repeat 0 (skip))", 2),
+        ("(repeat 1 (skip))", 3),
+        ("(repeat 1000 (skip))", 1002),
+        ("(repeat 9 (throw 1))", 3),
+    ] {
+        enters(&rt, rt.alloc(), body, "0", want)?;
+    }
+    Ok(())
+}

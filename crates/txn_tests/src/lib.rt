@@ -1,0 +1,15 @@
+//! Tests of the public calls of `txn`.
+#![tactic(auto)]
+
+#[cfg(test)]
+mod build;
+#[cfg(test)]
+mod evaluate;
+#[cfg(test)]
+mod getters;
+#[cfg(test)]
+mod parts;
+#[cfg(test)]
+mod same;
+#[cfg(test)]
+mod texts;

@@ -1,0 +1,17 @@
+//! The texts of the errors.
+
+use std::test::Fail;
+use txn::{BuildFault, Memory};
+
+#[test]
+fn want_of_memory_has_its_line(rt: HostRuntime) -> Result<(), Fail> {
+    assert_eq!(rt;
+        format!(in rt.alloc(); "{Memory}")?.as_str(),
+        "out of memory"
+    );
+    assert_eq!(rt;
+        format!(in rt.alloc(); "{}", BuildFault::Limit)?.as_str(),
+        "a limit is passed"
+    );
+    Ok(())
+}
