@@ -9,7 +9,7 @@ use Rattle.txn.specs.Loads.{ReaderHolds}
 use Rattle.txn.proofs.Words.{starts_whole}
 use Rattle.txn.proofs.Stores.{Keeps, lock_keeps, value_keeps, clock_keeps, release_keeps}
 use Rattle.txn.proofs.Loads.{reader_stays}
-use Rattle.cells.specs.Sight.{publishing}
+use Rattle.cells.specs.Sight.{Sight, publishing, commit_of}
 use Rattle.cells.specs.Rule.{WordsHold}
 use Rattle.cells.specs.Steps.{Seated, Moves, locks, stores_value, stores_clock, releases}
 use Rattle.cells.proofs.Seats.{Board, seats_stay, if_some, known, same_commit}
@@ -40,6 +40,10 @@ publishes : (slots id : ℕ) (me : Seated) (i b : ℕ) (c : Commit) (f : Commit 
 publishes slots id me i b c f is more works s r _ at _ =
     let k = known s r id me.0 c at is in
     (publishing (f c), keeps, tt, commit_step s r i b id me.1 (f c) k.1 (subst (StartsWith (f c).history) (ap (λ (x : Commit). x.history) k.0) more) (works s.words (subst (WordsMean s.words) (sym k.0) r.words)), moves f me c is)
+
+-- a seat with the record c is the publisher's
+pub still_publisher : (d : Sight) (c : Commit) → d ≡ publishing c → d ≡ publishing (commit_of d)
+still_publisher d c is = is ∙ ap (λ (e : Sight). publishing (commit_of e)) (sym is)
 
 pub half_version : (x : ℕ) → version_word x / 2 ≡ x
 half_version x = omega arith

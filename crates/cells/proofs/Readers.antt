@@ -13,6 +13,7 @@ use Rattle.cells.specs.Sight.{Sight, reading, record_of}
 use Rattle.cells.specs.Rule.{WordsHold}
 use Rattle.cells.specs.Steps.{Seated, begins, samples, loads_value, samples_again}
 use Rattle.cells.specs.Passing.{Passing, passing, ReadsBy, BeginsBy, MeetsBy}
+use Rattle.cells.specs.Private.{CellsSeat, reader_cells}
 use Rattle.cells.proofs.Seats.{Board, seats_stay, holds_now, same_record}
 use Rattle.cells.proofs.Commits.{half_version}
 
@@ -86,6 +87,15 @@ versions_read slots id me x v first b is of_v two s r _ at _ =
 -- what a reader's seat keeps over a step that leaves the record x
 pub still_reading : (d : Sight) (x : PassRecord) (rv : ℕ) → d ≡ reading x → x.rv ≡ rv → rv < length x.seen → (d ≡ reading (record_of d)) × ((record_of d).rv ≡ rv) × (rv < length (record_of d).seen)
 still_reading d x rv is e l = subst (λ (d : Sight). (d ≡ reading (record_of d)) × ((record_of d).rv ≡ rv) × (rv < length (record_of d).seen)) (sym is) (refl, e, l)
+
+-- the cells that a seat is of, over a step that leaves the record y, at the same moment
+pub cells_stay : (p q : CellsSeat) (y : PassRecord) → q.table_id ≡ p.table_id → q.me.0 ≡ reading y → y.seen ≡ (record_of p.me.0).seen → y.rv ≡ (record_of p.me.0).rv → reader_cells q ≡ reader_cells p
+cells_stay p q y table is seen rv =
+    λ i. record { table = table i; variables = (ap (λ (d : Sight). length (state_of (record_of d).seen (record_of d).rv)) is ∙ (λ j. length (state_of (seen j) (rv j)))) i }
+
+-- a seat with the record y is a reader's
+pub still_reader : (d : Sight) (y : PassRecord) → d ≡ reading y → d ≡ reading (record_of d)
+still_reader d y is = is ∙ ap (λ (e : Sight). reading (record_of e)) (sym is)
 
 pub reads_by : (p : Passing) (z z' : TableId) (b b' : Bool) (x y : PassRecord) (d : Sight) (v : ℕ) → passing z b x ≡ p → z' ≡ z → d ≡ reading y
     → y.seen ≡ x.seen → y.clock_loads ≡ x.clock_loads → y.word_loads ≡ x.word_loads + length y.loads → y.rv ≡ x.rv → y.variable ≡ v → length y.loads ≤ 3 → ReadsBy p (passing z' b' (record_of d)) v

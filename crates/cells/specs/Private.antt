@@ -1,22 +1,32 @@
 -- What the private parts of the cells say to one another.
-use Rattle.std.specs.Prelude.{◌≡◌, ℕ, ◌+◌, ◌*◌, ◌<◌, ◌≤◌, Bool, true, false, List, fold, length, slice_index, slice_index_or, slice_set, ℤ}
+use Rattle.std.specs.Prelude.{◌≡◌, ℕ, ◌+◌, ◌*◌, ◌%◌, ◌<◌, ◌≤◌, Bool, true, false, List, [], ◌∷◌, fold, length, slice_index, slice_index_or, slice_set, ℤ}
 use Rattle.std.specs.Int.{w64, cast_signed}
 use Rattle.atomic_table.specs.Seated.{TableId}
 use Rattle.atomic_table.specs.declared.shared.Seat.{Seat}
-use Rattle.txn.specs.Words.{Commit, value_of, version_word, value_word}
+use Rattle.txn.specs.Words.{Commit, value_of, state_of, last_state, version_word, value_word, StartsWith}
 use Rattle.txn.specs.Stores.{Change, id_of, with_changes}
+use Rattle.txn.specs.Loads.{PassRecord, begun, loaded, value_at}
+use Rattle.cells.specs.Cells.{CellsId}
 use Rattle.cells.specs.Sight.{Sight, publishing, reading, commit_of, record_of}
 
 abbrev pub CellsSeat : Type 0
 CellsSeat = Seat Unit Sight
 
+-- the publisher's seat
+abbrev pub IsPublisher : CellsSeat → Type 0
+IsPublisher p = p.me.0 ≡ publishing (commit_of p.me.0)
+
 -- the publisher's seat at the table z
 abbrev pub IsSeated : CellsSeat → TableId → Type 0
 IsSeated p z = (p.table_id ≡ z) × (p.me.0 ≡ publishing (commit_of p.me.0))
 
--- and its words are those of so many variables
-abbrev pub IsSeatedFor : CellsSeat → TableId → ℕ → Type 0
-IsSeatedFor p z variables = IsSeated p z × (z.words ≡ 2 * variables + 1) × (variables ≤ 256)
+-- a reader's seat
+abbrev pub IsReader : CellsSeat → Type 0
+IsReader p = p.me.0 ≡ reading (record_of p.me.0)
+
+-- the cells that a reader's seat is of
+abbrev pub reader_cells : CellsSeat → CellsId
+reader_cells p = record { table = p.table_id; variables = length (state_of (record_of p.me.0).seen (record_of p.me.0).rv) }
 
 -- a reader's seat, at a clock load that gave rv
 abbrev pub IsReading : CellsSeat → ℕ → Type 0
@@ -24,6 +34,28 @@ IsReading p rv = (p.me.0 ≡ reading (record_of p.me.0)) × ((record_of p.me.0).
 
 abbrev pub IsSameSeat : CellsSeat → CellsSeat → Type 0
 IsSameSeat p q = (q.table_id ≡ p.table_id) × (q.id ≡ p.id)
+
+-- what a load of the clock tells: n is the number of the last state of some history h, which begins with all that the
+-- seat p knew, and which the seat q knows
+abbrev pub HasBegun : CellsSeat → CellsSeat → ℕ → Type 0
+HasBegun p q n = let r = record_of p.me.0 in
+    (h : List (List ℤ)) × (q.me.0 ≡ reading (begun h n r)) × StartsWith h r.seen × (length h ≡ n + 1)
+    × (length (last_state h) ≡ length (state_of r.seen r.rv))
+
+-- what loading the version word again tells: where both times it was n, free and no later than rv, the value that was
+-- loaded between is that in the state rv
+abbrev pub HasSampled : CellsSeat → CellsSeat → ℕ → Type 0
+HasSampled p q n = let r = record_of p.me.0 in
+    (q.me.0 ≡ reading (loaded n r))
+    × ((value : ℕ) → r.loads ≡ n ∷ value ∷ [] → n % 2 ≡ 0 → n ≤ 2 * r.rv → cast_signed w64 value ≡ value_at r r.variable)
+
+-- the reader has loaded the version word of x, and nothing since
+abbrev pub HasVersion : PassRecord → ℕ → Type 0
+HasVersion r x = (r.variable ≡ x) × ((first : ℕ) × (r.loads ≡ first ∷ []))
+
+-- and then its value word, and nothing since
+abbrev pub HasValue : PassRecord → ℕ → Type 0
+HasValue r x = (r.variable ≡ x) × ((first : ℕ) × (value : ℕ) × (r.loads ≡ first ∷ value ∷ []))
 
 -- the lock bits, with that of each change's variable
 abbrev pub locked_by : Bool → List Bool → List Change → List Bool

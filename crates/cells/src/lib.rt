@@ -2,6 +2,7 @@
 //! began are of one state of the history, in every schedule of the threads.
 #![tactic(auto)]
 
+mod board;
 mod cells;
 mod opening;
 mod pass;
@@ -9,8 +10,6 @@ mod publisher;
 mod rule;
 mod sight;
 mod stores;
-#[cfg(test)]
-mod tests;
 
 pub use cells::Cells;
 pub use pass::{Pass, Read};

@@ -4,14 +4,13 @@ ghost use Rattle.cells.specs.Sight.{commit_of};
 ghost use Rattle.cells.specs.Passing.{new_pass};
 ghost use Rattle.cells.specs.Private.{AreFirstWords, IsSeated, IsSameSeat};
 
+use crate::board::Board;
 use crate::cells::Cells;
 use crate::pass::Pass;
 use crate::publisher::Publisher;
-use crate::rule::{Board, Enroll};
 use crate::sight::Sight;
 use atomic_table::Seat;
 use std::alloc::{AllocError, Global};
-use std::snapshot::Snapshot;
 use txn::Memory;
 
 impl Cells {
@@ -38,12 +37,9 @@ impl Cells {
         let versions = vec![in alloc; 0; values.len()]?;
         let mut first = Vec::with_capacity(alloc, values.len())?;
         first.extend_from_slice(values)?;
-        let (board, mut seat) = Board::of_words(alloc, &words, &Snapshot::of(&first))?;
+        let (board, mut seat) = Board::open(alloc, &words, &first)?;
         let passes = enroll(alloc, &board, &mut seat, readers)?;
-        let cells = Cells {
-            board,
-            variables: values.len(),
-        };
+        let cells = Cells { board };
         let publisher = Publisher {
             seat,
             number: 0,
@@ -74,12 +70,11 @@ fn enroll(
     seat: &mut Seat<(), Sight>,
     readers: usize,
 ) -> Result<Vec<Pass>, AllocError>
-    requires table { IsSeated seat.old board.now.shared.table_id
-        × (0 < board.now.shared.table_id.words) }
+    requires table { IsSeated seat.old board.now.table }
     requires history { 0 < length (commit_of seat.old.me.0).history }
     ensures seat { IsSameSeat seat.old seat.new × (seat.new.me.0 ≡ seat.old.me.0) }
     ensures passes { IfOk result (λ v. v.items
-        ≡ replicate readers (new_pass board.now.shared.table_id (commit_of seat.old.me.0).history)) }
+        ≡ replicate readers (new_pass board.now.table (commit_of seat.old.me.0).history)) }
 {
     let mut passes = Vec::with_capacity(alloc, readers)?;
     for _ in 0..readers {
@@ -89,14 +84,13 @@ fn enroll(
 }
 
 fn enroll_one(board: &Board, seat: &mut Seat<(), Sight>) -> Pass
-    requires table { IsSeated seat.old board.now.shared.table_id
-        × (0 < board.now.shared.table_id.words) }
+    requires table { IsSeated seat.old board.now.table }
     requires history { 0 < length (commit_of seat.old.me.0).history }
     ensures seat { IsSameSeat seat.old seat.new × (seat.new.me.0 ≡ seat.old.me.0) }
-    ensures pass { result ≡ new_pass board.now.shared.table_id (commit_of seat.old.me.0).history }
+    ensures pass { result ≡ new_pass board.now.table (commit_of seat.old.me.0).history }
 {
     Pass {
-        seat: board.shared.split_seat::<Enroll>(seat),
+        seat: board.enroll(seat),
         rv: 0,
         ready: false,
     }

@@ -4,7 +4,6 @@ ghost use Rattle.cells.specs.Passing.{BeginsBy, ReadsBy};
 ghost use Rattle.cells.specs.Answers.{IsReadBy};
 
 use crate::cells::Cells;
-use crate::rule::{LoadClock, LoadValue, LoadVersion, LoadVersionAgain};
 use crate::sight::Sight;
 use atomic_table::Seat;
 use std::marker::Model;
@@ -62,8 +61,7 @@ impl Pass {
         requires own { self.old.cells ≡ cells.now }
         ensures { BeginsBy self.old self.new }
     {
-        let shared = &cells.board.shared;
-        let number = shared.load::<LoadClock>(&mut self.seat, 0);
+        let number = cells.board.load_clock(&mut self.seat);
         self.rv = number;
         self.ready = true;
     }
@@ -83,14 +81,14 @@ impl Pass {
         ensures answer { IsReadBy self.old self.new x.0 result }
     {
         let x = x.0 as usize;
-        let shared = &cells.board.shared;
+        let board = &cells.board;
         self.ready = false;
-        let first = shared.load::<LoadVersion>(&mut self.seat, 2 * x + 1);
+        let first = board.load_version(&mut self.seat, x);
         if first % 2 != 0 || first / 2 > self.rv {
             return Read::Stale;
         }
-        let value = shared.load::<LoadValue>(&mut self.seat, 2 * x + 2);
-        let second = shared.load::<LoadVersionAgain>(&mut self.seat, 2 * x + 1);
+        let value = board.load_value(&mut self.seat, x);
+        let second = board.load_version_again(&mut self.seat, x);
         if second != first {
             return Read::Stale;
         }

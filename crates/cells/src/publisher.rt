@@ -6,9 +6,8 @@ ghost use Rattle.cells.specs.Passing.{MeetsBy};
 
 use crate::cells::Cells;
 use crate::pass::Pass;
-use crate::rule::{Leave, LoadClockTogether, Part, Take};
 use crate::sight::Sight;
-use crate::stores::{lock_all, move_clock, release_all, store_all};
+use crate::stores::{lock_all, release_all, store_all};
 use atomic_table::Seat;
 use std::marker::Model;
 use txn::VarId;
@@ -66,7 +65,7 @@ impl Publisher {
         let number = self.number + 1;
         lock_all(board, &mut self.seat, &self.versions, changes);
         store_all(board, &mut self.seat, changes);
-        move_clock(board, &mut self.seat, number);
+        board.store_clock(&mut self.seat, number);
         release_all(board, &mut self.seat, &mut self.versions, changes, number);
         self.number = number;
     }
@@ -82,11 +81,7 @@ impl Publisher {
         ensures same { self.new ≡ self.old }
         ensures met { MeetsBy pass.old pass.new self.old.history }
     {
-        let shared = &cells.board.shared;
-        let record = shared.split_seat::<Leave>(&mut pass.seat);
-        shared.join_seat::<Take>(&mut self.seat, record);
-        shared.load::<LoadClockTogether>(&mut self.seat, 0);
-        pass.seat = shared.split_seat::<Part>(&mut self.seat);
+        cells.board.meet(&mut self.seat, &mut pass.seat);
         pass.ready = false;
     }
 }

@@ -1,13 +1,8 @@
 //! The rule of the shared words, and the eight kinds of step on them. What a step tells is in
 //! `specs/Steps.antt`.
 use crate::sight::Sight;
-use atomic_table::{Join, Play, Split, Table, TableRule};
-use std::alloc::Global;
+use atomic_table::{Join, Play, Split, TableRule};
 use std::snapshot::Snapshot;
-
-/// The words with their rule. The key is a copy of the first values, which costs nothing when it
-/// runs.
-pub type Board = Table<(), Sight, Snapshot<Vec<i64>>, WordsRule, Global>;
 
 /// Its rule is `WordsHold`, and the first publisher has stored one state.
 pub struct WordsRule;
@@ -20,6 +15,51 @@ impl TableRule<(), Sight, Snapshot<Vec<i64>>> for WordsRule {
     ghost holds = { λ _. WordsHold };
 
     ghost first = { λ key. publishing (opened key.value.items) };
+}
+
+/// A reader loads the clock, as it begins.
+pub struct LoadClock;
+
+impl Play<(), Sight> for LoadClock {
+    ghost use Rattle.cells.specs.Steps.{begins};
+
+    ghost then = { begins };
+}
+
+/// The clock is loaded while a reader meets the publisher.
+pub struct LoadClockTogether;
+
+impl Play<(), Sight> for LoadClockTogether {
+    ghost use Rattle.cells.specs.Steps.{meets};
+
+    ghost then = { meets };
+}
+
+/// A reader loads a version word.
+pub struct LoadVersion;
+
+impl Play<(), Sight> for LoadVersion {
+    ghost use Rattle.cells.specs.Steps.{samples};
+
+    ghost then = { samples };
+}
+
+/// A reader loads a value word.
+pub struct LoadValue;
+
+impl Play<(), Sight> for LoadValue {
+    ghost use Rattle.cells.specs.Steps.{loads_value};
+
+    ghost then = { loads_value };
+}
+
+/// A reader loads the version word a second time.
+pub struct LoadVersionAgain;
+
+impl Play<(), Sight> for LoadVersionAgain {
+    ghost use Rattle.cells.specs.Steps.{samples_again};
+
+    ghost then = { samples_again };
 }
 
 /// The publisher locks a version word.
@@ -56,51 +96,6 @@ impl Play<(), Sight> for ReleaseVersion {
     ghost use Rattle.cells.specs.Steps.{releases};
 
     ghost then = { releases };
-}
-
-/// A reader loads the clock, as it begins.
-pub struct LoadClock;
-
-impl Play<(), Sight> for LoadClock {
-    ghost use Rattle.cells.specs.Steps.{begins};
-
-    ghost then = { begins };
-}
-
-/// A reader loads a version word.
-pub struct LoadVersion;
-
-impl Play<(), Sight> for LoadVersion {
-    ghost use Rattle.cells.specs.Steps.{samples};
-
-    ghost then = { samples };
-}
-
-/// A reader loads a value word.
-pub struct LoadValue;
-
-impl Play<(), Sight> for LoadValue {
-    ghost use Rattle.cells.specs.Steps.{loads_value};
-
-    ghost then = { loads_value };
-}
-
-/// A reader loads the version word a second time.
-pub struct LoadVersionAgain;
-
-impl Play<(), Sight> for LoadVersionAgain {
-    ghost use Rattle.cells.specs.Steps.{samples_again};
-
-    ghost then = { samples_again };
-}
-
-/// The clock is loaded while a reader meets the publisher.
-pub struct LoadClockTogether;
-
-impl Play<(), Sight> for LoadClockTogether {
-    ghost use Rattle.cells.specs.Steps.{meets};
-
-    ghost then = { meets };
 }
 
 /// A new reader gets a seat, and is told of the publisher's history.

@@ -1,11 +1,11 @@
 //! The stores of a publish, kind by kind. In each contract `c` is what was stored before the call.
-ghost use Rattle.std.specs.Prelude.{◌≡◌, ◌≢◌, ℕ, ◌+◌, ◌-◌, ◌*◌, ◌^◌, ◌<◌, ◌≤◌, true, false, Bool, length, slice_index, slice_index_or};
+ghost use Rattle.std.specs.Prelude.{◌≡◌, ◌≢◌, ℕ, ◌+◌, ◌-◌, ◌^◌, ◌<◌, ◌≤◌, false, Bool, length, slice_index, slice_index_or};
 ghost use Rattle.txn.specs.Words.{value_of, state_of, last_state};
-ghost use Rattle.txn.specs.Stores.{AreChanges, after_clock, id_of};
+ghost use Rattle.txn.specs.Stores.{AreChanges, id_of};
 ghost use Rattle.cells.specs.Sight.{publishing, commit_of};
-ghost use Rattle.cells.specs.Private.{IsSeated, IsSeatedFor, IsSameSeat, AreLocked, all_locked, all_stored, all_released, numbered_by};
+ghost use Rattle.cells.specs.Private.{IsSeated, IsSameSeat, AreLocked, all_locked, all_stored, all_released, numbered_by};
 
-use crate::rule::{Board, LockVersion, ReleaseVersion, StoreClock, StoreValue};
+use crate::board::Board;
 use crate::sight::Sight;
 use atomic_table::Seat;
 use txn::VarId;
@@ -17,7 +17,8 @@ pub(crate) fn lock_all(
     versions: &[u64],
     changes: &[(VarId, i64)],
 )
-    requires table { IsSeatedFor seat.old board.now.shared.table_id (length versions.now) }
+    requires table { IsSeated seat.old board.now.table
+        × (board.now.variables ≡ length versions.now) }
     requires changes { let c = commit_of seat.old.me.0 in
         AreChanges c.values changes.now × (length c.values ≡ length versions.now) }
     requires free { let c = commit_of seat.old.me.0 in
@@ -30,15 +31,14 @@ pub(crate) fn lock_all(
 {
     for change in changes {
         let x = change.0.0 as usize;
-        let locked = 2 * versions[x] + 1;
-        board.shared.store::<LockVersion>(seat, 2 * x + 1, locked);
+        board.lock_version(seat, x, versions[x]);
     }
 }
 
 /// Stores each new value.
 pub(crate) fn store_all(board: &Board, seat: &mut Seat<(), Sight>, changes: &[(VarId, i64)])
-    requires table { let c = commit_of seat.old.me.0 in
-        IsSeatedFor seat.old board.now.shared.table_id (length c.values) }
+    requires table { IsSeated seat.old board.now.table
+        × (board.now.variables ≡ length (commit_of seat.old.me.0).values) }
     requires locked { AreLocked (commit_of seat.old.me.0) changes.now }
     ensures seat { IsSameSeat seat.old seat.new }
     ensures stored { (b : Bool)
@@ -46,20 +46,8 @@ pub(crate) fn store_all(board: &Board, seat: &mut Seat<(), Sight>, changes: &[(V
 {
     for change in changes {
         let x = change.0.0 as usize;
-        let value = change.1.cast_unsigned();
-        board.shared.store::<StoreValue>(seat, 2 * x + 2, value);
+        board.store_value(seat, x, change.1);
     }
-}
-
-/// Moves the clock to the number of the next state: from here on the history has it.
-pub(crate) fn move_clock(board: &Board, seat: &mut Seat<(), Sight>, number: u64)
-    requires table { IsSeated seat.old board.now.shared.table_id
-        × (0 < board.now.shared.table_id.words) }
-    requires number { number ≡ length (commit_of seat.old.me.0).history }
-    ensures seat { IsSameSeat seat.old seat.new }
-    ensures stored { seat.new.me.0 ≡ publishing (after_clock (commit_of seat.old.me.0)) }
-{
-    board.shared.store::<StoreClock>(seat, 0, number);
 }
 
 /// Clears each lock bit, with the number of the new state as the version.
@@ -70,8 +58,8 @@ pub(crate) fn release_all(
     changes: &[(VarId, i64)],
     number: u64,
 )
-    requires table { let c = commit_of seat.old.me.0 in
-        IsSeatedFor seat.old board.now.shared.table_id (length c.values) }
+    requires table { IsSeated seat.old board.now.table
+        × (board.now.variables ≡ length (commit_of seat.old.me.0).values) }
     requires locked { AreLocked (commit_of seat.old.me.0) changes.now }
     requires ascend { (i j : ℕ) → i < j → j < length changes.now
         → id_of changes.now i < id_of changes.now j }
@@ -92,8 +80,7 @@ pub(crate) fn release_all(
 {
     for change in changes {
         let x = change.0.0 as usize;
-        let free = 2 * number;
-        board.shared.store::<ReleaseVersion>(seat, 2 * x + 1, free);
+        board.release_version(seat, x, number);
         versions[x] = number;
     }
 }

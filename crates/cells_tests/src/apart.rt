@@ -1,30 +1,9 @@
-ghost use Rattle.std.specs.Prelude.{◌≡◌, ◌≤◌, ◌<◌, true, [], ◌∷◌, pos, IfSome};
-ghost use Rattle.txn.specs.Words.{value_of, StartsWith};
-ghost use Rattle.cells.specs.Passing.{at};
+//! Publishes and reads one after another.
 
-use crate::{Cells, Pass, Publisher, Read};
-use std::process::Abort;
+use crate::parts::{X, Y, value};
+use cells::{Cells, Read};
 use std::test::Fail;
-use std::thread::join;
 use txn::VarId;
-
-const X: VarId = VarId(0);
-
-const Y: VarId = VarId(1);
-
-// The value of a read that is not stale.
-fn value(rt: &impl Abort, pass: &mut Pass, cells: &Cells, x: VarId) -> i64
-    requires own { pass.old.cells ≡ cells.now }
-    requires open { pass.old.open_now ≡ true }
-    requires exists { x.0 < cells.now.variables }
-    ensures own { pass.new.cells ≡ pass.old.cells }
-    ensures open { pass.new.open_now ≡ true }
-{
-    let Read::Value(value) = pass.read(cells, x) else {
-        panic!(rt; "stale")
-    };
-    value
-}
 
 #[test]
 fn a_read_of_a_later_state_is_stale(rt: HostRuntime) -> Result<(), Fail> {
@@ -120,72 +99,5 @@ fn as_many_variables_and_readers_as_may_be(rt: HostRuntime) -> Result<(), Fail> 
     assert_eq!(rt; value(&rt, pass, &cells, X), 8);
     assert_eq!(rt; value(&rt, pass, &cells, Y), 7);
     assert_eq!(rt; value(&rt, pass, &cells, last), 9);
-    Ok(())
-}
-
-// Publishes states in which both variables have one value.
-fn publish_some(cells: &Cells, mut publisher: Publisher, count: u32) -> Publisher
-    requires own { publisher.cells ≡ cells.now }
-    requires start { publisher.history ≡ (pos 1 ∷ pos 1 ∷ []) ∷ [] }
-{
-    for n in 0..count {
-        let value = i64::from(n) + 2;
-        publisher.publish(cells, &[(X, value), (Y, value)]);
-    }
-    publisher
-}
-
-// Two reads of one begin, where neither is stale: the values of one state that the pass has seen.
-fn read_pair(cells: &Cells, pass: &mut Pass) -> Option<(i64, i64)>
-    requires own { pass.old.cells ≡ cells.now }
-    requires variables { 2 ≤ cells.now.variables }
-    ensures own { pass.new.cells ≡ pass.old.cells }
-    ensures later { StartsWith pass.new.seen pass.old.seen }
-    ensures values { IfSome result (λ r.
-        (r.0 ≡ value_of (at pass.new) 0) × (r.1 ≡ value_of (at pass.new) 1)) }
-{
-    pass.begin(cells);
-    let Read::Value(x) = pass.read(cells, X) else {
-        return None;
-    };
-    let Read::Value(y) = pass.read(cells, Y) else {
-        return None;
-    };
-    Some((x, y))
-}
-
-// Whether each pair of reads of one begin gave one value.
-fn read_some(cells: &Cells, mut pass: Pass, count: u32) -> bool
-    requires own { pass.cells ≡ cells.now }
-    requires variables { 2 ≤ cells.now.variables }
-{
-    for _ in 0..count {
-        if let Some((x, y)) = read_pair(cells, &mut pass) {
-            if x != y {
-                return false;
-            }
-        }
-    }
-    true
-}
-
-#[test]
-fn reads_beside_a_publisher_are_of_one_state(rt: HostRuntime) -> Result<(), Fail> {
-    let (cells, publisher, mut passes) = Cells::open(rt.alloc(), &[1, 1], 1)?;
-    let Some(pass) = passes.pop() else {
-        panic!(rt; "no pass")
-    };
-    let shared = &cells;
-    let (publisher, same) = join(
-        &rt,
-        move || -> Publisher
-            requires { (publisher.cells ≡ shared.now) × (publisher.history ≡ (pos 1 ∷ pos 1 ∷ []) ∷ []) }
-        { publish_some(shared, publisher, 1000) },
-        move || -> bool
-            requires { (pass.cells ≡ shared.now) × (2 ≤ shared.now.variables) }
-        { read_some(shared, pass, 1000) },
-    );
-    assert!(rt; same);
-    assert_eq!(rt; publisher.number(), 1000);
     Ok(())
 }
