@@ -10,7 +10,7 @@ use Rattle.txn.specs.Meaning.{State, value_at}
 use Rattle.attempt.specs.Asking.{Known}
 use Rattle.attempt.specs.Frame.{Agrees}
 use Rattle.attempt.specs.Order.{AllKnown}
-use Rattle.book.specs.Stirring.{agree}
+use Rattle.book.specs.Agreeing.{agree}
 
 -- a logged variable is known
 pub known_pair : (n : ℕ) (log : Known) (i : ℕ) (p : VarId × ℤ) → AllKnown n log → slice_get log i ≡ Some p → p.0.0 < n

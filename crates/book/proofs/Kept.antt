@@ -1,7 +1,7 @@
 -- What the fields keep through a change of one task, at a checkpoint, and at the opening.
-use Rattle.std.proofs.Common.{◌≡◌, ◌≢◌, Vec, Global, ◌+◌, ◌++◌, ℕ, zero, suc, replicate, ◌<◌, ◌≤◌, List, [], ◌∷◌, length, Some, set, refl, sym, ◌∙◌, ap, subst, arith, vec_capacity}
+use Rattle.std.proofs.Common.{◌≡◌, ◌≢◌, Vec, Global, ◌+◌, ◌++◌, ℕ, zero, suc, replicate, ◌<◌, ◌≤◌, List, [], ◌∷◌, length, map, Option, Some, None, set, refl, sym, ◌∙◌, ap, subst, arith, vec_capacity}
 use Rattle.std.specs.List.{slice_get, All}
-use Rattle.std.proofs.lemmas.List.{length-set, length-replicate}
+use Rattle.std.proofs.lemmas.List.{length-set, length-map, length-replicate}
 use Rattle.std.proofs.lemmas.List.Elements.{All-nil, All-replicate}
 use Rattle.txn.specs.declared.ast.TaskId.{TaskId}
 use Rattle.txn.specs.declared.report.Entry.{Entry}
@@ -15,13 +15,14 @@ use Rattle.book.specs.declared.task.Task.TheVariants.{Ready, Running, Parked}
 use Rattle.book.specs.declared.book.Book.TheInside.{Inside}
 use Rattle.cells.specs.Cells.{CellsId}
 use Rattle.book.specs.View.{BookView, stands, opened, checkpointed}
+use Rattle.book.specs.Turns.{readied_one}
+use Rattle.book.specs.Board.{BoardView, IsTaken, placed, with_tasks}
 use Rattle.book.specs.LawfulBook.{LawfulBook, BookFits, Waits, open_one, open_count}
-use Rattle.book.specs.BookInside.{book_of, snapshot_of, IsKept, NamesParked, LeadsPastDone}
+use Rattle.book.specs.BookInside.{book_of, snapshot_of, IsKept}
 use Rattle.attempt.specs.Asking.{Known}
 use Rattle.book.specs.declared.stored.Stored.{Stored}
-use Rattle.book.proofs.Laws.{NotDone, NotParked, open_count-set, lawful_opened, stands_lawful, parks_lawful, checkpoint_lawful, lowest_stands, lowest_taken}
-use Rattle.book.proofs.Passing.{leads_stand}
-use Rattle.book.proofs.Naming.{names_ready, names_stand, names_park}
+use Rattle.book.proofs.Laws.{NotDone, NotParked, open_count-set, lawful_opened, stands_lawful, parks_lawful, checkpoint_lawful}
+use Rattle.book.proofs.Readying.{readied_lawful, readied_fits}
 
 -- one task stands otherwise, and is as open as before
 pub fits_stand : (b : BookView) (task : TaskId) (was is : Task) → BookFits b → slice_get b.tasks task.0 ≡ Some was → open_one was ≡ open_one is → BookFits (stands b task is)
@@ -53,7 +54,7 @@ AllKnow l = (t : ℕ) → t < length (tasks l) → ProgramKnown (length l.initia
 fits_opened : (l : Listing) (cells : CellsId) → length (tasks l) ≤ MAX_TASKS → length l.initial ≤ MAX_VARIABLES → AllKnow l → BookFits (opened l cells)
 fits_opened l cells few few_variables known =
     let size : length (replicate (length (tasks l)) Ready) ≡ length (tasks l) = length-replicate (length (tasks l)) Ready in
-    let zeros : length (replicate (length l.initial) 0) ≡ length l.initial = length-replicate (length l.initial) 0 in
+    let zeros : length (replicate (length l.initial) 0) ≡ length l.initial = length-replicate {A = ℕ} (length l.initial) 0 in
     let none : All (λ (v : ℕ). v ≤ 0) (replicate (length l.initial) 0) = All-replicate (λ (v : ℕ). v ≤ 0) (length l.initial) 0 (omega arith) in
     record {
       tasks = size;
@@ -101,91 +102,75 @@ pub record IsNew (b : Inside) : Type 0 where
   pub base : snapshot_of b.base ≡ opening b.catalogue.now
   pub present : snapshot_of b.present ≡ opening b.catalogue.now
   pub journal : b.journal.items ≡ []
-  pub tasks : b.tasks.items ≡ replicate (length (tasks b.catalogue.now)) Ready
-  pub waiting : b.waiting.items ≡ []
-  pub lowest : b.lowest ≡ 0
+  pub tasks : b.board.tasks ≡ replicate (length (tasks b.catalogue.now)) Ready
 
 pub new_is : (b : Inside) → IsNew b → book_of b ≡ opened b.catalogue.now b.cells.now
 new_is b n =
     let l = b.catalogue.now in
     let made : CellsId → List State → Snapshot → List Entry → Snapshot → List Task → BookView = λ c h x j y t. record { catalogue = l; cells = b.cells.now; published_to = c; history = h; base = x; journal = j; present = y; tasks = t } in
-    ap (λ (c : CellsId). made c b.publisher.history (snapshot_of b.base) b.journal.items (snapshot_of b.present) b.tasks.items) n.own
-    ∙ (ap (λ (h : List State). made b.cells.now h (snapshot_of b.base) b.journal.items (snapshot_of b.present) b.tasks.items) n.unused
-    ∙ (ap (λ (x : Snapshot). made b.cells.now (l.initial ∷ []) x b.journal.items (snapshot_of b.present) b.tasks.items) n.base
-    ∙ (ap (λ (j : List Entry). made b.cells.now (l.initial ∷ []) (opening l) j (snapshot_of b.present) b.tasks.items) n.journal
-    ∙ (ap (λ (y : Snapshot). made b.cells.now (l.initial ∷ []) (opening l) [] y b.tasks.items) n.present
+    ap (λ (c : CellsId). made c b.publisher.history (snapshot_of b.base) b.journal.items (snapshot_of b.present) b.board.tasks) n.own
+    ∙ (ap (λ (h : List State). made b.cells.now h (snapshot_of b.base) b.journal.items (snapshot_of b.present) b.board.tasks) n.unused
+    ∙ (ap (λ (x : Snapshot). made b.cells.now (l.initial ∷ []) x b.journal.items (snapshot_of b.present) b.board.tasks) n.base
+    ∙ (ap (λ (j : List Entry). made b.cells.now (l.initial ∷ []) (opening l) j (snapshot_of b.present) b.board.tasks) n.journal
+    ∙ (ap (λ (y : Snapshot). made b.cells.now (l.initial ∷ []) (opening l) [] y b.board.tasks) n.present
     ∙ ap (λ (t : List Task). made b.cells.now (l.initial ∷ []) (opening l) [] (opening l) t) n.tasks))))
 
-pub kept_opened : (b : Inside) → IsNew b → LeadsPastDone b.next.items b.tasks.items → length (tasks b.catalogue.now) ≤ MAX_TASKS → length b.catalogue.now.initial ≤ MAX_VARIABLES → AllKnow b.catalogue.now → length (tasks b.catalogue.now) ≤ vec_capacity b.journal → length (tasks b.catalogue.now) ≤ vec_capacity b.waiting → length b.catalogue.now.initial ≤ vec_capacity b.changes → IsKept b
-kept_opened b n leads few few_variables known room waiting_room changes_room =
+pub kept_opened : (b : Inside) → IsNew b → length (tasks b.catalogue.now) ≤ MAX_TASKS → length b.catalogue.now.initial ≤ MAX_VARIABLES → AllKnow b.catalogue.now → length (tasks b.catalogue.now) ≤ vec_capacity b.journal → length b.catalogue.now.initial ≤ vec_capacity b.changes → b.board.variables ≡ length b.catalogue.now.initial → IsKept b
+kept_opened b n few few_variables known room changes_room variables =
     let l = b.catalogue.now in
     let is = new_is b n in
-    let size : length b.tasks.items ≡ length (tasks l) = ap length n.tasks ∙ length-replicate (length (tasks l)) Ready in
+    let size : length b.board.tasks ≡ length (tasks l) = ap length n.tasks ∙ length-replicate (length (tasks l)) Ready in
     record {
       lawful = subst LawfulBook (sym is) (lawful_opened l b.cells.now);
       fits = subst BookFits (sym is) (fits_opened l b.cells.now few few_variables known);
       room = omega (arith, room, size);
-      waiting_room = omega (arith, waiting_room, size);
       changes_room = changes_room;
-      waiting = subst (λ (w : List TaskId). NamesParked w b.tasks.items) (sym n.waiting) (subst (λ (t : List Task). NamesParked [] t) (sym n.tasks) (names_ready (length (tasks l))));
-      lowest = λ k below e. absurd (omega (arith, below, n.lowest));
-      next = leads;
+      variables = variables;
     }
 
--- one task stands otherwise; it was not parked or done and is not, and is not ready
-pub kept_stand : (b : Inside) (ts : Vec Task Global) (task : TaskId) (was is : Task) → IsKept b → ts.items ≡ set b.tasks.items task.0 is → slice_get b.tasks.items task.0 ≡ Some was → NotDone was → NotDone is → NotParked was → NotParked is → is ≢ Ready → open_one was ≡ open_one is → IsKept (record b { tasks = ts })
-kept_stand b ts task was is k e at was_open is_open was_awake is_awake not_ready same =
+-- one task stands otherwise; it was not done and is neither done nor parked
+pub kept_stand : (b : Inside) (board : BoardView) (task : TaskId) (was is : Task) → IsKept b → board ≡ placed b.board task is → slice_get b.board.tasks task.0 ≡ Some was → NotDone was → NotDone is → NotParked is → open_one was ≡ open_one is → IsKept (record b { board = board })
+kept_stand b board task was is k e at was_open is_open is_awake same =
     let v = book_of b in
-    let us = set b.tasks.items task.0 is in
-    let with_tasks : List Task → BookView = λ xs. record v { tasks = xs } in
-    let view : with_tasks ts.items ≡ stands v task is = ap with_tasks e in
-    let size : length ts.items ≡ length b.tasks.items = ap length e ∙ length-set b.tasks.items task.0 is in
-    record {
-      lawful = subst LawfulBook (sym view) (stands_lawful v task was is k.lawful at was_open is_open is_awake);
-      fits = subst BookFits (sym view) (fits_stand v task was is k.fits at same);
-      room = omega (arith, k.room, size);
-      waiting_room = omega (arith, k.waiting_room, size);
+    subst (λ (x : BoardView). IsKept (record b { board = x })) (sym e)
+    (record {
+      lawful = stands_lawful v task was is k.lawful at was_open is_open is_awake;
+      fits = fits_stand v task was is k.fits at same;
+      room = omega (arith, k.room, length-set b.board.tasks task.0 is);
       changes_room = k.changes_room;
-      waiting = subst (λ (xs : List Task). NamesParked b.waiting.items xs) (sym e) (names_stand b.waiting.items b.tasks.items task.0 was is k.waiting at was_awake is_awake);
-      lowest = subst (λ (xs : List Task). (n : ℕ) → n < b.lowest → slice_get xs n ≢ Some Ready) (sym e) (lowest_stands b.tasks.items task.0 b.lowest is k.lowest not_ready);
-      next = subst (λ (xs : List Task). LeadsPastDone b.next.items xs) (sym e) (leads_stand b.next.items b.tasks.items task.0 was is k.next at was_open);
-    }
+      variables = k.variables;
+    })
 
--- a ready task is taken, below which none is
-pub kept_take : (b : Inside) (ts : Vec Task Global) (next : Vec ℕ Global) (task : TaskId) → IsKept b → ts.items ≡ set b.tasks.items task.0 Running → slice_get b.tasks.items task.0 ≡ Some Ready → ((j : ℕ) → j < task.0 → slice_get b.tasks.items j ≢ Some Ready) → LeadsPastDone next.items b.tasks.items → IsKept (record b { tasks = ts; next = next; lowest = task.0 + 1 })
-kept_take b ts next task k e at below leads =
-    let v = book_of b in
-    let with_tasks : List Task → BookView = λ xs. record v { tasks = xs } in
-    let view : with_tasks ts.items ≡ stands v task Running = ap with_tasks e in
-    let size : length ts.items ≡ length b.tasks.items = ap length e ∙ length-set b.tasks.items task.0 Running in
-    record {
-      lawful = subst LawfulBook (sym view) (stands_lawful v task Ready Running k.lawful at (λ n e. cc) (λ n e. cc) (λ log e. cc));
-      fits = subst BookFits (sym view) (fits_stand v task Ready Running k.fits at refl);
-      room = omega (arith, k.room, size);
-      waiting_room = omega (arith, k.waiting_room, size);
-      changes_room = k.changes_room;
-      waiting = subst (λ (xs : List Task). NamesParked b.waiting.items xs) (sym e) (names_stand b.waiting.items b.tasks.items task.0 Ready Running k.waiting at (λ log e. cc) (λ log e. cc));
-      lowest = subst (λ (xs : List Task). (n : ℕ) → n < task.0 + 1 → slice_get xs n ≢ Some Ready) (sym e) (lowest_taken b.tasks.items task.0 at below);
-      next = subst (λ (xs : List Task). LeadsPastDone next.items xs) (sym e) (leads_stand next.items b.tasks.items task.0 Ready Running leads at (λ n e. cc));
-    }
+-- the lowest ready task is taken, if there is one
+pub kept_taken : (b : Inside) (board : BoardView) (o : Option TaskId) → IsKept b → IsTaken b.board o board → IsKept (record b { board = board })
+kept_taken b board None k h = subst (λ (x : BoardView). IsKept (record b { board = x })) (sym h.1) k
+kept_taken b board (Some task) k h = kept_stand b board task Ready Running k h.2 h.0 (λ n e. cc) (λ n e. cc) (λ log e. cc) refl
 
 -- a running task waits
-pub kept_park : (b : Inside) (ts : Vec Task Global) (waiting : Vec TaskId Global) (task : TaskId) (log : Known) → IsKept b → ts.items ≡ set b.tasks.items task.0 (Parked log) → waiting.items ≡ b.waiting.items ++ task ∷ [] → vec_capacity b.waiting ≤ vec_capacity waiting → slice_get b.tasks.items task.0 ≡ Some Running → Waits b.catalogue.now b.present.values.items task log → IsKept (record b { tasks = ts; waiting = waiting })
-kept_park b ts waiting task log k e named capacity at waits =
+pub kept_park : (b : Inside) (board : BoardView) (task : TaskId) (log : Known) → IsKept b → board ≡ placed b.board task (Parked log) → slice_get b.board.tasks task.0 ≡ Some Running → Waits b.catalogue.now b.present.values.items task log → IsKept (record b { board = board })
+kept_park b board task log k e at waits =
     let v = book_of b in
-    let with_tasks : List Task → BookView = λ xs. record v { tasks = xs } in
-    let view : with_tasks ts.items ≡ stands v task (Parked log) = ap with_tasks e in
-    let size : length ts.items ≡ length b.tasks.items = ap length e ∙ length-set b.tasks.items task.0 (Parked log) in
-    record {
-      lawful = subst LawfulBook (sym view) (parks_lawful v task log k.lawful at waits);
-      fits = subst BookFits (sym view) (fits_stand v task Running (Parked log) k.fits at refl);
-      room = omega (arith, k.room, size);
-      waiting_room = omega (arith, k.waiting_room, size, capacity);
+    subst (λ (x : BoardView). IsKept (record b { board = x })) (sym e)
+    (record {
+      lawful = parks_lawful v task log k.lawful at waits;
+      fits = fits_stand v task Running (Parked log) k.fits at refl;
+      room = omega (arith, k.room, length-set b.board.tasks task.0 (Parked log));
       changes_room = k.changes_room;
-      waiting = subst (λ (xs : List Task). NamesParked waiting.items xs) (sym e) (subst (λ (w : List TaskId). NamesParked w (set b.tasks.items task.0 (Parked log))) (sym named) (names_park b.waiting.items b.tasks.items task log k.waiting at));
-      lowest = subst (λ (xs : List Task). (n : ℕ) → n < b.lowest → slice_get xs n ≢ Some Ready) (sym e) (lowest_stands b.tasks.items task.0 b.lowest (Parked log) k.lowest (λ e. cc));
-      next = subst (λ (xs : List Task). LeadsPastDone b.next.items xs) (sym e) (leads_stand b.next.items b.tasks.items task.0 Running (Parked log) k.next at (λ n e. cc));
-    }
+      variables = k.variables;
+    })
+
+-- each running task is ready
+pub kept_readied : (b : Inside) (board : BoardView) → IsKept b → board ≡ with_tasks b.board (map readied_one b.board.tasks) → IsKept (record b { board = board })
+kept_readied b board k e =
+    let v = book_of b in
+    subst (λ (x : BoardView). IsKept (record b { board = x })) (sym e)
+    (record {
+      lawful = readied_lawful v k.lawful;
+      fits = readied_fits v k.fits;
+      room = omega (arith, k.room, length-map b.board.tasks readied_one);
+      changes_room = k.changes_room;
+      variables = k.variables;
+    })
 
 -- the base becomes the present
 pub kept_checkpoint : (b : Inside) (base : Stored) (journal : Vec Entry Global) → IsKept b → snapshot_of base ≡ snapshot_of b.present → journal.items ≡ [] → vec_capacity b.journal ≤ vec_capacity journal → IsKept (record b { base = base; journal = journal })
@@ -197,11 +182,8 @@ kept_checkpoint b base journal k e none capacity =
       lawful = subst LawfulBook (sym view) (checkpoint_lawful v k.lawful);
       fits = subst BookFits (sym view) (fits_checkpoint v k.fits);
       room = omega (arith, k.room, capacity);
-      waiting_room = k.waiting_room;
       changes_room = k.changes_room;
-      waiting = k.waiting;
-      lowest = k.lowest;
-      next = k.next;
+      variables = k.variables;
     }
 
 pub same_snapshot : (n : ℕ) (values state : State) (versions vs : List ℕ) → values ≡ state → versions ≡ vs → (let r : Snapshot = record { number = n; state = values; versions = versions } in r) ≡ (let r : Snapshot = record { number = n; state = state; versions = vs } in r)

@@ -147,25 +147,6 @@ open_count-set (x ∷ xs) zero was is h =
     omega (arith, ap open_one e)
 open_count-set (x ∷ xs) (suc t) was is h = omega (arith, open_count-set xs t was is h)
 
--- below the lowest no task is ready
-pub lowest_stands : (ts : List Task) (t lowest : ℕ) (is : Task) → ((k : ℕ) → k < lowest → slice_get ts k ≢ Some Ready) → is ≢ Ready → (k : ℕ) → k < lowest → slice_get (set ts t is) k ≢ Some Ready
-lowest_stands ts t lowest is h not_ready k below e =
-    elim (cases_eq k t) [
-      | inl same ↦
-          elim (slice_get_cases ts t).1 [
-            | inl w ↦ not_ready (same_Some _ _ (sym (get_set_same ts t w.0 is w.2) ∙ (ap (slice_get (set ts t is)) (sym same) ∙ e)))
-            | inr w ↦ h k below (ap (λ (xs : List Task). slice_get xs k) (sym (set_past ts t is w.0)) ∙ e)
-          ]
-      | inr other ↦ h k below (sym (get_set_other ts t k is other) ∙ e)
-    ]
-
-pub lowest_taken : (ts : List Task) (t : ℕ) → slice_get ts t ≡ Some Ready → ((k : ℕ) → k < t → slice_get ts k ≢ Some Ready) → (k : ℕ) → k < t + 1 → slice_get (set ts t Running) k ≢ Some Ready
-lowest_taken ts t at h k below e =
-    elim (cases_eq k t) [
-      | inl same ↦ let bad : Running ≡ Ready = same_Some _ _ (sym (get_set_same ts t Ready Running at) ∙ (ap (slice_get (set ts t Running)) (sym same) ∙ e)) in cc
-      | inr other ↦ h k (omega arith) (sym (get_set_other ts t k Running other) ∙ e)
-    ]
-
 pub lawful_opened : (l : Listing) (cells : CellsId) → LawfulBook (opened l cells)
 lawful_opened l cells =
     record {

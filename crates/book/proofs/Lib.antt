@@ -1,13 +1,13 @@
 mod Lists
 mod Laws
 mod Woken
-mod Passing
 mod Agreeing
-mod Naming
-mod Rousing
 mod Readying
 pub mod Draining
 mod Kept
+mod Sleeping
+mod Sets
+mod Waking
 mod Writes
 mod Storing
 mod Raising

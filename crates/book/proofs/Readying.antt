@@ -11,7 +11,6 @@ use Rattle.book.specs.declared.task.Task.TheVariants.{Ready, Running, Parked, Do
 use Rattle.book.specs.View.{BookView}
 use Rattle.book.specs.Turns.{readied, readied_one}
 use Rattle.book.specs.LawfulBook.{LawfulBook, BookFits, open_one, open_count}
-use Rattle.book.specs.BookInside.{NamesParked, LeadsPastDone}
 use Rattle.book.proofs.Lists.{get_map, map_get}
 
 readied_running : (t : Task) → readied_one t ≢ Running
@@ -81,22 +80,6 @@ readied_fits b f =
       known = f.known;
       programs = λ t within. f.programs t (omega (arith, size, within));
       counted = omega (arith, f.counted, open-readied b.tasks, size);
-    }
-
-pub names_readied : (waiting : List TaskId) (ts : List Task) → NamesParked waiting ts → NamesParked waiting (map readied_one ts)
-names_readied waiting ts h =
-    record {
-      all = λ t log e. let g = get_map readied_one ts t (Parked log) e in h.all t log (g.1 ∙ ap Some (readied_parked g.0 log g.2));
-      only = λ i task e. let w = h.only i task e in (w.0, map_get readied_one ts task.0 (Parked w.0) w.1);
-      once = h.once;
-    }
-
-pub leads_readied : (next : List ℕ) (ts : List Task) → LeadsPastDone next ts → LeadsPastDone next (map readied_one ts)
-leads_readied next ts h =
-    record {
-      size = h.size ∙ sym (length-map ts readied_one);
-      ahead = h.ahead;
-      done = λ i e k g a b. let d = h.done i e k g a b in (d.0, map_get readied_one ts k (Done d.0) d.1);
     }
 
 -- one more task is looked at

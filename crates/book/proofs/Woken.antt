@@ -18,7 +18,6 @@ use Rattle.attempt.specs.Frame.{Agrees, AnswersBy, FrameTheorem}
 use Rattle.book.specs.declared.task.Task.{Task}
 use Rattle.book.specs.declared.task.Task.TheVariants.{Ready, Running, Parked, Done, GivenUp}
 use Rattle.book.specs.View.{names_changed, woken}
-use Rattle.book.specs.Stirring.{agree, stirred}
 use Rattle.book.specs.LawfulBook.{AreDone, AreParked, Waits, open_one, open_count}
 use Rattle.book.proofs.Lists.{get_map, map_get}
 
@@ -103,48 +102,3 @@ open_count-woken old new (t ∷ ts) = omega (arith, open_one-woken old new t, op
 
 pub length-woken : (old new : State) (ts : List Task) → length (map (woken old new) ts) ≡ length ts
 length-woken old new ts = length-map ts (woken old new)
-
-not_and : (a b : Bool) → not (a && b) ≡ (not a || not b)
-not_and true b = refl
-not_and false b = refl
-
--- a log that agreed does not where it names a changed variable
-not_agree : (old new : State) (log : Known) → Agrees log old → not (agree log new) ≡ names_changed old new log
-not_agree old new [] a = refl
-not_agree old new (p ∷ rest) a =
-    not_and (int_eq p.1 (value_at new p.0)) (agree rest new)
-    ∙ (ap (λ (v : ℤ). not (int_eq v (value_at new p.0)) || not (agree rest new)) (sym a.0)
-    ∙ ap (λ (b : Bool). not (int_eq (value_at old p.0) (value_at new p.0)) || b) (not_agree old new rest a.1))
-
--- of a task whose log agreed with the old state
-stirred_one : (old new : State) (t : Task) → ((log : Known) → t ≡ Parked log → Agrees log old) → stirred new t ≡ woken old new t
-stirred_one old new Ready h = refl
-stirred_one old new Running h = refl
-stirred_one old new (Parked log) h = ap (λ (b : Bool). cond b Ready (Parked log)) (not_agree old new log (h log refl))
-stirred_one old new (Done n) h = refl
-stirred_one old new GivenUp h = refl
-
-stirred_all : (old new : State) (ts : List Task) → ((t : ℕ) (log : Known) → slice_get ts t ≡ Some (Parked log) → Agrees log old) → map (stirred new) ts ≡ map (woken old new) ts
-stirred_all old new [] h = refl
-stirred_all old new (t ∷ ts) h =
-    ap (λ (x : Task). x ∷ map (stirred new) ts) (stirred_one old new t (λ log e. h zero log (ap Some e)))
-    ∙ ap (λ (xs : List Task). woken old new t ∷ xs) (stirred_all old new ts (λ k log e. h (suc k) log e))
-
-pub stirred_woken : (l : Listing) (old new : State) (ts : List Task) → AreParked l old ts → map (stirred new) ts ≡ map (woken old new) ts
-stirred_woken l old new ts h = stirred_all old new ts (λ t log e. (h t log e).agrees)
-
--- where no value changes, nothing wakes
-none_changed : (m : State) (log : Known) → names_changed m m log ≡ false
-none_changed m [] = refl
-none_changed m (p ∷ rest) = ap (λ (b : Bool). not b || names_changed m m rest) ((Decides-int_eq (value_at m p.0) (value_at m p.0)).1 refl) ∙ none_changed m rest
-
-woken_same : (m : State) (t : Task) → woken m m t ≡ t
-woken_same m Ready = refl
-woken_same m Running = refl
-woken_same m (Parked log) = cond-false _ _ _ (none_changed m log)
-woken_same m (Done n) = refl
-woken_same m GivenUp = refl
-
-pub all_woken_same : (m : State) (ts : List Task) → map (woken m m) ts ≡ ts
-all_woken_same m [] = refl
-all_woken_same m (t ∷ ts) = ap (λ (x : Task). x ∷ map (woken m m) ts) (woken_same m t) ∙ ap (λ (xs : List Task). t ∷ xs) (all_woken_same m ts)

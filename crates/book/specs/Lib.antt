@@ -2,4 +2,6 @@ pub mod View
 pub mod LawfulBook
 pub mod BookInside
 pub mod Turns
-pub mod Stirring
+pub mod Board
+pub mod BoardInside
+pub mod Agreeing

@@ -8,13 +8,13 @@ ghost use Rattle.attempt.specs.Order.{Ascending, AllKnown};
 ghost use Rattle.cells.specs.Passing.{MeetsBy};
 ghost use Rattle.book.specs.Turns.{is_committed};
 
+use crate::board::Board;
 use crate::changing::{note_changes, store_changes};
 use crate::evaluate::evaluate;
 use crate::listing::{given_up, parked};
 use crate::stored::{Stored, opening, pairs};
-use crate::taking::{all_ready, first_ready, is_running, ready_all, successors};
-use crate::task::{Finish, Serial, Task, stand};
-use crate::waking::{agrees, wait, wake};
+use crate::task::{Finish, Serial};
+use crate::validate::agrees;
 use attempt::{Attempt, Log, Next, frame};
 use cells::{Cells, Pass, Publisher};
 use std::alloc::Global;
@@ -35,13 +35,8 @@ pub struct Book<'a> {
     present: Stored,
     /// What the last commit changed. Its room is for one change a variable.
     changes: Vec<(VarId, i64)>,
-    tasks: Vec<Task>,
-    /// The parked tasks.
-    waiting: Vec<TaskId>,
-    /// No task below is ready.
-    lowest: usize,
-    /// For each task a later place: all tasks in between are done.
-    next: Vec<usize>,
+    /// How each task stands.
+    board: Board,
 }
 
 impl<'a> Model for Book<'a> {
@@ -64,16 +59,17 @@ impl<'a> Book<'a> {
     ghost use Rattle.txn.specs.Meaning.{outcome, after};
     ghost use Rattle.txn.specs.Listing.{task_program};
     ghost use Rattle.txn.specs.declared.ast.Outcome as Outcome;
+    ghost use Rattle.book.specs.declared.task.Task.TheVariants as Task;
     ghost use Rattle.txn.specs.Told.{told};
     ghost use Rattle.book.specs.View.{opened, IsRunning, stands, committed, checkpointed};
-    ghost use Rattle.book.specs.Turns.{Taken, IsEndOf, Finished, Served, Turn, Drains, readied, IsIdle, ReportIs};
+    ghost use Rattle.book.specs.Turns.{Taken, IsEndOf, Finished, Served, Turn, Drains, kept_short, readied, IsIdle, ReportIs};
     ghost use Rattle.book.specs.LawfulBook.{LawfulBook, BookFits, Waits};
 
     /// All tasks ready, number 0, the initial values, an empty journal. `Memory` only where a
     /// growth was refused.
     ///
-    /// Room for one entry a task, for all tasks to wait, and for one change a variable is taken
-    /// here, so that no commit takes any. The cells and the publisher have to have been opened
+    /// Room for one entry a task, for one change a variable, and for each variable's set of the
+    /// tasks that wait for it is taken here, so that no commit takes any. The cells and the publisher have to have been opened
     /// together on the catalogue's initial values, and nothing published since.
     pub fn open(
         alloc: Global,
@@ -86,6 +82,7 @@ impl<'a> Book<'a> {
         ensures { IfOk result (λ b. b ≡ opened catalogue.now cells.now) }
     {
         let count = catalogue.tasks();
+        let variables = catalogue.initial().len();
         catalogue.rules();
         Ok(Book {
             catalogue,
@@ -94,11 +91,8 @@ impl<'a> Book<'a> {
             base: opening(alloc, catalogue.initial())?,
             journal: Vec::with_capacity(alloc, count)?,
             present: opening(alloc, catalogue.initial())?,
-            changes: Vec::with_capacity(alloc, catalogue.initial().len())?,
-            tasks: all_ready(alloc, count)?,
-            waiting: Vec::with_capacity(alloc, count)?,
-            lowest: 0,
-            next: successors(alloc, count)?,
+            changes: Vec::with_capacity(alloc, variables)?,
+            board: Board::open(alloc, count, variables)?,
         })
     }
 
@@ -107,11 +101,7 @@ impl<'a> Book<'a> {
     pub fn take(&mut self) -> Option<TaskId>
         ensures { Taken self.old result self.new }
     {
-        let found = first_ready(&self.tasks, &mut self.next, self.lowest)?;
-        let task = TaskId(found as u32);
-        stand(&mut self.tasks, task, Task::Running);
-        self.lowest = found + 1;
-        Some(task)
+        self.board.take()
     }
 
     /// The end of an attempt of the task: it commits or is parked where all that it read is still
@@ -124,7 +114,7 @@ impl<'a> Book<'a> {
         requires ended { IsEndOf self.old.catalogue task attempt }
         ensures { Finished self.old task attempt.entry result self.new }
     {
-        if !is_running(&self.tasks, task) {
+        if !self.board.is_running(task) {
             return Finish::NotRunning;
         }
         if !agrees(attempt.log(), &self.present.values) {
@@ -149,7 +139,7 @@ impl<'a> Book<'a> {
         requires exists { task.0 < length self.old.tasks }
         ensures { Served self.old task result self.new }
     {
-        if !is_running(&self.tasks, task) {
+        if !self.board.is_running(task) {
             return Serial::NotRunning;
         }
         let catalogue = self.catalogue;
@@ -171,10 +161,10 @@ impl<'a> Book<'a> {
         requires exists { task.0 < length self.old.tasks }
         ensures { MatchBool result (IsRunning self.old task × (self.new ≡ stands self.old task Task.GivenUp)) (¬ (IsRunning self.old task) × (self.new ≡ self.old)) }
     {
-        if !is_running(&self.tasks, task) {
+        if !self.board.is_running(task) {
             return false;
         }
-        stand(&mut self.tasks, task, Task::GivenUp);
+        self.board.give_up(task);
         true
     }
 
@@ -187,6 +177,16 @@ impl<'a> Book<'a> {
         self.base.values.copy_from_slice(&self.present.values);
         self.base.versions.copy_from_slice(&self.present.versions);
         self.journal.clear();
+    }
+
+    /// A checkpoint, where one is due after a turn that answered so: it committed, `every` is not
+    /// 0, and the journal is at least `every` entries long.
+    pub fn keep_short(&mut self, every: u32, how: Serial)
+        ensures { self.new ≡ kept_short every how self.old }
+    {
+        if is_committed(how) && every > 0 && self.journal.len() >= every as usize {
+            self.checkpoint();
+        }
     }
 
     /// Makes each running task ready, and then gives the lowest ready task a turn on the present
@@ -208,8 +208,7 @@ impl<'a> Book<'a> {
     fn make_ready(&mut self)
         ensures { self.new ≡ readied self.old }
     {
-        ready_all(&mut self.tasks);
-        self.lowest = 0;
+        self.board.ready_all();
     }
 
     /// The turn of a task that was taken.
@@ -218,9 +217,7 @@ impl<'a> Book<'a> {
         ensures { Turn every self.old task self.new }
     {
         let how = self.serial(alloc, task);
-        if is_committed(how) && every > 0 && self.journal.len() >= every as usize {
-            self.checkpoint();
-        }
+        self.keep_short(every, how);
     }
 
     /// Tells a pass of the book's cells all that was published, by one load of the clock, and
@@ -259,8 +256,8 @@ impl<'a> Book<'a> {
             entries: self.journal.as_slice().to_vec(alloc)?,
             now: self.present.number,
             now_vars: pairs(alloc, &self.present)?,
-            parked: parked(alloc, self.catalogue, &self.tasks)?,
-            memory: given_up(alloc, self.catalogue, &self.tasks)?,
+            parked: parked(alloc, self.catalogue, self.board.tasks())?,
+            memory: given_up(alloc, self.catalogue, self.board.tasks())?,
         })
     }
 
@@ -269,7 +266,7 @@ impl<'a> Book<'a> {
         ensures lawful { LawfulBook self.now }
         ensures fits { BookFits self.now }
     {
-        let _ = &self.lowest;
+        let _ = &self.board;
     }
 
     /// The task waits for a change of a logged variable.
@@ -278,8 +275,7 @@ impl<'a> Book<'a> {
         requires waits { Waits self.old.catalogue self.old.present.state task log }
         ensures { self.new ≡ stands self.old task (Task.Parked log) }
     {
-        stand(&mut self.tasks, task, Task::Parked(log));
-        wait(&mut self.waiting, task);
+        self.board.park(task, log);
     }
 
     /// The task commits with this outcome and these writes. The number of its entry.
@@ -293,6 +289,7 @@ impl<'a> Book<'a> {
         ensures number { result ≡ self.old.present.number + 1 }
         ensures committed { self.new ≡ committed self.old task }
     {
+        // Its law: a program that retries over a log does so on each state that agrees with the log.
         frame();
         let number = self.present.number + 1;
         let tx = self.catalogue.task_tx(task);
@@ -307,14 +304,8 @@ impl<'a> Book<'a> {
             &self.changes,
         );
         self.present.number = number;
-        stand(&mut self.tasks, task, Task::Done(number));
-        self.lowest = wake(
-            &mut self.tasks,
-            &mut self.waiting,
-            self.lowest,
-            &self.changes,
-            &self.present.values,
-        );
+        self.board.finish(task, number);
+        self.board.wake(&self.changes);
         enter(
             &mut self.journal,
             Entry {

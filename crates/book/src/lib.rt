@@ -3,16 +3,15 @@
 //! exactly the present values and versions, no task is entered twice, and parked programs retry.
 #![tactic(auto)]
 
+mod board;
 mod book;
 mod changing;
 mod evaluate;
 mod listing;
+mod sleepers;
 mod stored;
-mod taking;
 mod task;
-#[cfg(test)]
-mod tests;
-mod waking;
+mod validate;
 
 pub use book::Book;
 pub use task::{Finish, Serial};

@@ -19,7 +19,7 @@ use Rattle.txn.specs.Stores.{with_changes}
 use Rattle.attempt.specs.declared.next.Stand.TheVariants.{Over}
 use Rattle.book.specs.Turns.{IsEndOf}
 use Rattle.book.specs.LawfulBook.{Waits}
-use Rattle.book.specs.Stirring.{agree}
+use Rattle.book.specs.Agreeing.{agree}
 use Rattle.book.specs.BookInside.{book_of, IsKept}
 use Rattle.book.proofs.Agreeing.{agree_from, agrees_from}
 use Rattle.book.proofs.Finishing.{Ended, needs_none, wants_none, waits, retried, not_retried, returned, thrown, leaves_of_returned, leaves_of_thrown}
@@ -31,9 +31,8 @@ agreed : (b : Inside) (v : BookView) (log told : Known) (values : State) → boo
 agreed b v log told values view same values_is =
     ap (λ (l : Known). agree l values) same ∙ (ap (λ (m : State). agree log m) values_is ∙ ap (λ (x : BookView). agree log x.present.state) view)
 
-is_running_now : (b : Inside) (v : BookView) (task : TaskId) (ts : List Task) → book_of b ≡ v → ts ≡ b.tasks.items → slice_get ts task.0 ≡ Some Running → IsRunning v task
-is_running_now b v task ts view same e =
-    ap (λ (x : BookView). slice_get x.tasks task.0) (sym view) ∙ (ap (λ (xs : List Task). slice_get xs task.0) (sym same) ∙ e)
+is_running_now : (b : Inside) (v : BookView) (task : TaskId) → book_of b ≡ v → slice_get b.board.tasks task.0 ≡ Some Running → IsRunning v task
+is_running_now b v task view e = ap (λ (x : BookView). slice_get x.tasks task.0) (sym view) ∙ e
 
 ended : (b : Inside) (v : BookView) (task : TaskId) (a new : AttemptView) (r : Next) (told : Known) (values : State) → book_of b ≡ v → IsKept b → IsEndOf v.catalogue task a → told ≡ a.log → AllKnown a.variables told → values ≡ b.present.values.items → true ≡ agree told values → Answers r new → ((o : Outcome) → a.stand ≡ Over o → (r ≡ next_of o) × (new ≡ idle a)) → ((m : State) → length m ≡ new.variables → Agrees new.log m → HoldsAt r new m) → Ended v task a new r
 ended b v task a new r told values view k end log known values_is agree answers repeats frame =
@@ -49,22 +48,22 @@ ended b v task a new r told values view k end log known values_is agree answers 
 
 pub returns-then-not-agrees : goal.returns-then-not-agrees
 returns-then-not-agrees c =
-    let same = agreed c.self.inside c.args.self.now c.args.attempt.log c.log.result.now c.deref-2.result.now c.self.view_is c.log.ensures.value c.deref-2.ensures.value in (
-      is_running_now c.self.inside c.args.self.now c.args.task c.deref.result.now c.self.view_is c.deref.ensures.value c.if-not-is_running.ensures,
+    let same = agreed c.self.inside c.args.self.now c.args.attempt.log c.log.result.now c.deref.result.now c.self.view_is c.log.ensures.value c.deref.ensures.value in (
+      is_running_now c.self.inside c.args.self.now c.args.task c.self.view_is c.if-not-is_running.ensures,
       λ a. let yes : true ≡ false = sym (agree_from c.args.attempt.log c.args.self.now.present.state a) ∙ (sym same ∙ (sym c.agrees.ensures ∙ c.if-not-agrees.true)) in cc,
       refl,
     )
 
 pub park-requires-clause-waits : goal.park-requires-clause-waits
 park-requires-clause-waits c =
-    let h = ended c.self.inside c.args.self.now c.args.task c.args.attempt c.advance.new.self c.advance.result c.log.result.now c.deref-2.result.now c.self.view_is c.self.invariant c.requires.ended c.log.ensures.value c.log.ensures.known c.deref-2.ensures.value c.if-not-agrees.ensures c.advance.ensures.answers c.advance.ensures.repeats c.advance.ensures.frame in
+    let h = ended c.self.inside c.args.self.now c.args.task c.args.attempt c.advance.new.self c.advance.result c.log.result.now c.deref.result.now c.self.view_is c.self.invariant c.requires.ended c.log.ensures.value c.log.ensures.known c.deref.ensures.value c.if-not-agrees.ensures c.advance.ensures.answers c.advance.ensures.repeats c.advance.ensures.frame in
     subst (λ (l : Known). Waits c.args.self.now.catalogue c.args.self.now.present.state c.args.task l) (sym (c.into_log.ensures ∙ c.advance.ensures.log))
     (waits c.args.self.now c.args.task c.args.attempt c.advance.new.self c.advance.result h c.in-Retry.is)
 
 pub returns-in-Retry : goal.returns-in-Retry
 returns-in-Retry c =
-    let h = ended c.self.inside c.args.self.now c.args.task c.args.attempt c.advance.new.self c.advance.result c.log.result.now c.deref-2.result.now c.self.view_is c.self.invariant c.requires.ended c.log.ensures.value c.log.ensures.known c.deref-2.ensures.value c.if-not-agrees.ensures c.advance.ensures.answers c.advance.ensures.repeats c.advance.ensures.frame in (
-      is_running_now c.self.inside c.args.self.now c.args.task c.deref.result.now c.self.view_is c.deref.ensures.value c.if-not-is_running.ensures,
+    let h = ended c.self.inside c.args.self.now c.args.task c.args.attempt c.advance.new.self c.advance.result c.log.result.now c.deref.result.now c.self.view_is c.self.invariant c.requires.ended c.log.ensures.value c.log.ensures.known c.deref.ensures.value c.if-not-agrees.ensures c.advance.ensures.answers c.advance.ensures.repeats c.advance.ensures.frame in (
+      is_running_now c.self.inside c.args.self.now c.args.task c.self.view_is c.if-not-is_running.ensures,
       h.agrees,
       retried c.args.self.now c.args.task c.args.attempt c.advance.new.self c.advance.result h c.in-Retry.is,
       c.park.ensures ∙ ap (λ (l : Known). stands c.args.self.now c.args.task (Parked l)) (c.into_log.ensures ∙ c.advance.ensures.log),
@@ -72,12 +71,12 @@ returns-in-Retry c =
 
 pub unreachable-requires : goal.unreachable-requires
 unreachable-requires c =
-    let h = ended c.self.inside c.args.self.now c.args.task c.args.attempt c.advance.new.self c.advance.result c.log.result.now c.deref-2.result.now c.self.view_is c.self.invariant c.requires.ended c.log.ensures.value c.log.ensures.known c.deref-2.ensures.value c.if-not-agrees.ensures c.advance.ensures.answers c.advance.ensures.repeats c.advance.ensures.frame in
+    let h = ended c.self.inside c.args.self.now c.args.task c.args.attempt c.advance.new.self c.advance.result c.log.result.now c.deref.result.now c.self.view_is c.self.invariant c.requires.ended c.log.ensures.value c.log.ensures.known c.deref.ensures.value c.if-not-agrees.ensures c.advance.ensures.answers c.advance.ensures.repeats c.advance.ensures.frame in
     elim c.in-Need.is [ inl e ↦ needs_none c.args.self.now c.args.task c.args.attempt c.advance.new.self c.advance.result h e.0 e.1 | inr e ↦ wants_none c.args.self.now c.args.task c.args.attempt c.advance.new.self c.advance.result h e ]
 
 pub commit-requires-clause-outcome : goal.commit-requires-clause-outcome
 commit-requires-clause-outcome c =
-    let h = ended c.self.inside c.args.self.now c.args.task c.args.attempt c.advance.new.self c.advance.result c.log.result.now c.deref-2.result.now c.self.view_is c.self.invariant c.requires.ended c.log.ensures.value c.log.ensures.known c.deref-2.ensures.value c.if-not-agrees.ensures c.advance.ensures.answers c.advance.ensures.repeats c.advance.ensures.frame in
+    let h = ended c.self.inside c.args.self.now c.args.task c.args.attempt c.advance.new.self c.advance.result c.log.result.now c.deref.result.now c.self.view_is c.self.invariant c.requires.ended c.log.ensures.value c.log.ensures.known c.deref.ensures.value c.if-not-agrees.ensures c.advance.ensures.answers c.advance.ensures.repeats c.advance.ensures.frame in
     elim c.match-advance.branch [
       | in-Returned w ↦ let same : to_z w64 (of_z w64 w.in-Returned.value) ≡ w.in-Returned.value = grind (arith, to_z-of_z) in w.how-is ∙ (ap Returned same ∙ returned c.args.self.now c.args.task c.args.attempt c.advance.new.self c.advance.result h _ w.in-Returned.is)
       | in-Thrown w ↦ w.how-is ∙ thrown c.args.self.now c.args.task c.args.attempt c.advance.new.self c.advance.result h _ w.in-Thrown.is
@@ -85,7 +84,7 @@ commit-requires-clause-outcome c =
 
 pub commit-requires-clause-after : goal.commit-requires-clause-after
 commit-requires-clause-after c =
-    let h = ended c.self.inside c.args.self.now c.args.task c.args.attempt c.advance.new.self c.advance.result c.log.result.now c.deref-2.result.now c.self.view_is c.self.invariant c.requires.ended c.log.ensures.value c.log.ensures.known c.deref-2.ensures.value c.if-not-agrees.ensures c.advance.ensures.answers c.advance.ensures.repeats c.advance.ensures.frame in
+    let h = ended c.self.inside c.args.self.now c.args.task c.args.attempt c.advance.new.self c.advance.result c.log.result.now c.deref.result.now c.self.view_is c.self.invariant c.requires.ended c.log.ensures.value c.log.ensures.known c.deref.ensures.value c.if-not-agrees.ensures c.advance.ensures.answers c.advance.ensures.repeats c.advance.ensures.frame in
     let told = c.writes.ensures.value in
     let up : Ascending c.advance.new.self.writes = subst Ascending told c.writes.ensures.ascending in
     let m = c.args.self.now.present.state in
@@ -96,8 +95,8 @@ commit-requires-clause-after c =
 
 pub returns : goal.returns
 returns c =
-    let h = ended c.self.inside c.args.self.now c.args.task c.args.attempt c.advance.new.self c.advance.result c.log.result.now c.deref-2.result.now c.self.view_is c.self.invariant c.requires.ended c.log.ensures.value c.log.ensures.known c.deref-2.ensures.value c.if-not-agrees.ensures c.advance.ensures.answers c.advance.ensures.repeats c.advance.ensures.frame in (
-      is_running_now c.self.inside c.args.self.now c.args.task c.deref.result.now c.self.view_is c.deref.ensures.value c.if-not-is_running.ensures,
+    let h = ended c.self.inside c.args.self.now c.args.task c.args.attempt c.advance.new.self c.advance.result c.log.result.now c.deref.result.now c.self.view_is c.self.invariant c.requires.ended c.log.ensures.value c.log.ensures.known c.deref.ensures.value c.if-not-agrees.ensures c.advance.ensures.answers c.advance.ensures.repeats c.advance.ensures.frame in (
+      is_running_now c.self.inside c.args.self.now c.args.task c.self.view_is c.if-not-is_running.ensures,
       h.agrees,
       elim c.match-advance.branch [
         | in-Returned w ↦ not_retried c.args.self.now c.args.task c.args.attempt c.advance.new.self c.advance.result h (λ e. let bad = sym w.in-Returned.is ∙ e in cc)

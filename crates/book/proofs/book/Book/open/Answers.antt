@@ -7,7 +7,6 @@ use Rattle.txn.proofs.Lawful.{known_task}
 use Rattle.attempt.proofs.Declared.{program_known}
 use Rattle.book.specs.declared.task.Task.TheVariants.{Ready}
 use Rattle.book.specs.BookInside.{snapshot_of}
-use Rattle.book.proofs.Passing.{leads_first}
 use Rattle.book.proofs.Kept.{opening_is, kept_opened, AllKnow}
 use Rattle.book.proofs.book.Book.open.Goals as goal
 
@@ -23,7 +22,7 @@ invariant_of-result c =
     let i = c.initial.ensures.value in
     let i2 = c.initial-2.ensures.value in
     let n = c.tasks-count.ensures.value in
-    let ts : c.in_ok-all_ready.field-0.items ≡ replicate (length (tasks l)) Ready = c.in_ok-all_ready.ensures ∙ ap (λ k. replicate k Ready) n in
+    let size : length c.initial-variables.result.now ≡ length l.initial = ap length c.initial-variables.ensures.value in
     kept_opened _
     (record {
       own = c.requires.own;
@@ -31,14 +30,11 @@ invariant_of-result c =
       base = opening_is l (snapshot_of c.in_ok-opening.field-0) a.number (a.values ∙ i) (a.versions ∙ ap (λ (xs : List ℤ). replicate (length xs) 0) i);
       present = opening_is l (snapshot_of c.in_ok-opening-2.field-0) b.number (b.values ∙ i2) (b.versions ∙ ap (λ (xs : List ℤ). replicate (length xs) 0) i2);
       journal = c.in_ok-with_capacity.ensures.items;
-      tasks = ts;
-      waiting = c.in_ok-with_capacity-3.ensures.items;
-      lowest = refl;
+      tasks = c.in_ok-open.ensures.tasks ∙ ap (λ k. replicate k Ready) n;
     })
-    (leads_first _ _ (c.in_ok-successors.ensures.size ∙ (n ∙ sym (ap length ts ∙ length-replicate (length (tasks l)) Ready))) c.in_ok-successors.ensures.each)
     (omega (arith, n, c.tasks-count.ensures.few))
     (omega (arith, ap length i, c.initial.ensures.few))
     (all_know l c.rules.ensures.named c.rules.ensures.names)
     (omega (arith, n, c.in_ok-with_capacity.ensures.capacity))
-    (omega (arith, n, c.in_ok-with_capacity-3.ensures.capacity))
-    (omega (arith, ap length c.initial-3.ensures.value, c.in_ok-with_capacity-2.ensures.capacity))
+    (omega (arith, size, c.in_ok-with_capacity-2.ensures.capacity))
+    (c.in_ok-open.ensures.variables ∙ size)

@@ -25,8 +25,8 @@ returns c =
       base = snapshot_told b.base.number c.in_ok-pairs.field-0.items b.base refl one.values one.versions ∙ ap (λ (x : BookView). x.base) v;
       entries = same_entries c ∙ ap (λ (x : BookView). x.journal) v;
       current = snapshot_told b.present.number c.in_ok-pairs-2.field-0.items b.present refl two.values two.versions ∙ ap (λ (x : BookView). x.present) v;
-      parked = three.tasks ∙ (ap (λ (ts : List Task). listed is_parked b.catalogue 0 ts) c.deref.ensures.value ∙ ap (λ (x : BookView). listed is_parked x.catalogue 0 x.tasks) v);
-      memory = four.tasks ∙ (ap (λ (ts : List Task). listed is_given_up b.catalogue 0 ts) c.deref-2.ensures.value ∙ ap (λ (x : BookView). listed is_given_up x.catalogue 0 x.tasks) v);
+      parked = three.tasks ∙ (ap (λ (ts : List Task). listed is_parked b.catalogue 0 ts) c.tasks.ensures ∙ ap (λ (x : BookView). listed is_parked x.catalogue 0 x.tasks) v);
+      memory = four.tasks ∙ (ap (λ (ts : List Task). listed is_given_up b.catalogue 0 ts) c.tasks-2.ensures ∙ ap (λ (x : BookView). listed is_given_up x.catalogue 0 x.tasks) v);
       known = subst (λ (x : BookView). All (λ (p : TaskId × TxId). p.1.0 < length x.catalogue.programs) c.in_ok-parked.field-0.items) v three.known;
       known_memory = subst (λ (x : BookView). All (λ (p : TaskId × TxId). p.1.0 < length x.catalogue.programs) c.in_ok-given_up.field-0.items) v four.known;
     }

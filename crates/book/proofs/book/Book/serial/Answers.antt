@@ -30,12 +30,12 @@ pub returns-in-Parked : goal.returns-in-Parked
 returns-in-Parked c =
     let f = c.in-Parked.ensures in
     let h = c.in-Ok.ensures in
-    let out = outcome_now c.self.inside c.args.self.now c.args.task c.task_tx-tx.result c.deref-2.result.now c.in-Ok.attempt c.self.view_is c.deref-2.ensures.value c.task_tx-tx.ensures.value h in
+    let out = outcome_now c.self.inside c.args.self.now c.args.task c.task_tx-tx.result c.deref.result.now c.in-Ok.attempt c.self.view_is c.deref.ensures.value c.task_tx-tx.ensures.value h in
     (f.0, sym out ∙ same_end h.ended.0 Retries (sym h.ended.1 ∙ f.2), (c.in-Ok.attempt.log, f.1, f.3))
 
 pub returns-in-Committed : goal.returns-in-Committed
 returns-in-Committed c =
     let f = c.in-Committed.ensures in
     let h = c.in-Ok.ensures in
-    let out = outcome_now c.self.inside c.args.self.now c.args.task c.task_tx-tx.result c.deref-2.result.now c.in-Ok.attempt c.self.view_is c.deref-2.ensures.value c.task_tx-tx.ensures.value h in
+    let out = outcome_now c.self.inside c.args.self.now c.args.task c.task_tx-tx.result c.deref.result.now c.in-Ok.attempt c.self.view_is c.deref.ensures.value c.task_tx-tx.ensures.value h in
     (f.0, λ e. f.2 (h.ended.1 ∙ ap Over (out ∙ e)), f.3, f.4)

@@ -1,0 +1,133 @@
+-- The sets of a board, as one task comes to stand otherwise.
+use Rattle.std.proofs.Common.{◌≡◌, ◌≢◌, inl, inr, ℕ, zero, suc, ◌<◌, ◌≤◌, Bool, true, false, cond, List, [], ◌∷◌, length, map, Some, None, get_or, set, replicate, refl, sym, ◌∙◌, ap, subst, arith}
+use Rattle.std.specs.List.{slice_get}
+use Rattle.std.proofs.lemmas.Bool.{cases_eq, cond_both}
+use Rattle.std.proofs.lemmas.List.{length-set, length-map, length-replicate, map-set, get_or-replicate}
+use Rattle.std.proofs.lemmas.Option.{same_Some, slice_get_within}
+use Rattle.txn.specs.declared.ast.TaskId.{TaskId}
+use Rattle.txn.specs.declared.limits.TheConstants.{MAX_TASKS}
+use Rattle.attempt.specs.Asking.{Known}
+use Rattle.attempt.specs.Order.{AllKnown}
+use Rattle.book.specs.declared.task.Task.{Task}
+use Rattle.book.specs.declared.task.Task.TheVariants.{Ready, Running, Parked, Done, GivenUp}
+use Rattle.book.specs.Board.{BoardView, with_tasks, is_ready, waits_for, names, flagged}
+use Rattle.book.specs.Turns.{readied_one}
+use Rattle.book.specs.declared.board.Board.TheInside.{Inside}
+use Rattle.book.specs.BoardInside.{AreSets, IsSorted, board_of}
+use Rattle.book.proofs.Sleeping.{set_read}
+use Rattle.book.proofs.Lists.{get_set_same, get_set_other, set_same, map_get, get_map, get_replicate}
+
+-- one task stands otherwise, and each set has its flag so
+pub sets_placed : (ts : List Task) (ready now_ready : List Bool) (sleepers now_sleepers : List (List Bool)) (t : ℕ) (was is : Task) → AreSets ts ready sleepers → slice_get ts t ≡ Some was → now_ready ≡ set ready t (is_ready is) → length now_sleepers ≡ length sleepers
+    → ((x : ℕ) → x < length sleepers → get_or now_sleepers x [] ≡ set (get_or sleepers x []) t (waits_for x is)) → ((log : Known) → is ≡ Parked log → AllKnown (length sleepers) log) → AreSets (set ts t is) now_ready now_sleepers
+sets_placed ts ready now_ready sleepers now_sleepers t was is h at e size each logs =
+    record {
+      few = omega (arith, h.few, length-set ts t is);
+      ready = e ∙ (ap (λ (r : List Bool). set r t (is_ready is)) h.ready ∙ sym (map-set is_ready ts t is));
+      asleep = λ x within.
+          let low : x < length sleepers = omega (arith, within, size) in
+          each x low ∙ (ap (λ (r : List Bool). set r t (waits_for x is)) (h.asleep x low) ∙ sym (map-set (waits_for x) ts t is));
+      known = λ k log found.
+          subst (λ (n : ℕ). AllKnown n log) (sym size)
+          (elim (cases_eq k t) [
+            | inl same ↦ logs log (same_Some is (Parked log) (sym (get_set_same ts t was is at) ∙ (ap (slice_get (set ts t is)) (sym same) ∙ found)))
+            | inr other ↦ h.known k log (sym (get_set_other ts t k is other) ∙ found)
+          ]);
+    }
+
+-- a flag that stays
+pub flag_stays : (f : Task → Bool) (ts : List Task) (flags : List Bool) (t : ℕ) (was : Task) (b : Bool) → flags ≡ map f ts → slice_get ts t ≡ Some was → f was ≡ b → flags ≡ set flags t b
+flag_stays f ts flags t was b e at same =
+    sym (set_same flags t b (ap (λ (r : List Bool). slice_get r t) e ∙ (map_get f ts t was at ∙ ap Some same)))
+
+-- a task stands otherwise, and is in no other set than before
+pub sets_keep : (ts : List Task) (ready : List Bool) (sleepers : List (List Bool)) (t : ℕ) (was is : Task) → AreSets ts ready sleepers → slice_get ts t ≡ Some was → is_ready was ≡ is_ready is → ((x : ℕ) → waits_for x was ≡ waits_for x is) → ((log : Known) → is ≡ Parked log → ⊥) → AreSets (set ts t is) ready sleepers
+sets_keep ts ready sleepers t was is h at ready_same asleep_same awake =
+    sets_placed ts ready ready sleepers sleepers t was is h at (flag_stays is_ready ts ready t was (is_ready is) h.ready at ready_same) refl
+    (λ x low. flag_stays (waits_for x) ts (get_or sleepers x []) t was (waits_for x is) (h.asleep x low) at (asleep_same x))
+    (λ log e. absurd (awake log e))
+
+-- a task comes into the set of the ready ones, or leaves it, and waits for nothing before and after
+pub sets_ready : (ts : List Task) (ready now_ready : List Bool) (sleepers : List (List Bool)) (t : ℕ) (was is : Task) → AreSets ts ready sleepers → slice_get ts t ≡ Some was → now_ready ≡ set ready t (is_ready is) → ((x : ℕ) → waits_for x was ≡ waits_for x is) → ((log : Known) → is ≡ Parked log → ⊥) → AreSets (set ts t is) now_ready sleepers
+sets_ready ts ready now_ready sleepers t was is h at e asleep_same awake =
+    sets_placed ts ready now_ready sleepers sleepers t was is h at e refl
+    (λ x low. flag_stays (waits_for x) ts (get_or sleepers x []) t was (waits_for x is) (h.asleep x low) at (asleep_same x))
+    (λ log e. absurd (awake log e))
+
+-- a running task is parked
+pub sets_park : (ts : List Task) (ready : List Bool) (sleepers now_sleepers : List (List Bool)) (t : ℕ) (log : Known) → AreSets ts ready sleepers → slice_get ts t ≡ Some Running → length now_sleepers ≡ length sleepers → ((x : ℕ) → get_or now_sleepers x [] ≡ flagged true log t x (get_or sleepers x [])) → AllKnown (length sleepers) log → AreSets (set ts t (Parked log)) ready now_sleepers
+sets_park ts ready sleepers now_sleepers t log h at size each known =
+    sets_placed ts ready ready sleepers now_sleepers t Running (Parked log) h at (flag_stays is_ready ts ready t Running false h.ready at refl) size
+    (λ x low.
+    let s = get_or sleepers x [] in
+    each x
+    ∙ cond_both (names x log) (set s t true) s (λ (r : List Bool). r ≡ set s t (names x log))
+    (λ e. ap (set s t) (sym e))
+    (λ e. flag_stays (waits_for x) ts s t Running (names x log) (h.asleep x low) at (sym e)))
+    (λ other e. let same : log ≡ other = cc in subst (λ (l : Known). AllKnown (length sleepers) l) same known)
+
+-- a parked task is ready
+pub sets_rouse : (ts : List Task) (ready now_ready : List Bool) (sleepers now_sleepers : List (List Bool)) (t : ℕ) (log : Known) → AreSets ts ready sleepers → slice_get ts t ≡ Some (Parked log) → now_ready ≡ set ready t true → length now_sleepers ≡ length sleepers → ((x : ℕ) → get_or now_sleepers x [] ≡ flagged false log t x (get_or sleepers x [])) → AreSets (set ts t Ready) now_ready now_sleepers
+sets_rouse ts ready now_ready sleepers now_sleepers t log h at e size each =
+    sets_placed ts ready now_ready sleepers now_sleepers t (Parked log) Ready h at e size
+    (λ x low.
+    let s = get_or sleepers x [] in
+    each x
+    ∙ cond_both (names x log) (set s t false) s (λ (r : List Bool). r ≡ set s t false)
+    (λ e. refl)
+    (λ e. flag_stays (waits_for x) ts s t (Parked log) false (h.asleep x low) at e))
+    (λ other e. absurd (cc))
+
+map_replicate : (f : Task → Bool) (n : ℕ) (t : Task) (b : Bool) → f t ≡ b → replicate n b ≡ map f (replicate n t)
+map_replicate f zero t b e = refl
+map_replicate f (suc n) t b e = ap (λ (x : Bool). x ∷ replicate n b) (sym e) ∙ ap (λ (xs : List Bool). f t ∷ xs) (map_replicate f n t b e)
+
+-- all tasks run, and no task is in a set
+pub sets_running : (n m : ℕ) → n ≤ MAX_TASKS → AreSets (replicate n Running) (replicate n false) (replicate m (replicate n false))
+sets_running n m few =
+    record {
+      few = omega (arith, few, length-replicate n Running);
+      ready = map_replicate is_ready n Running false refl;
+      asleep = λ x within.
+          get_or-replicate m x (replicate n false) [] (omega (arith, within, length-replicate {A = List Bool} m (replicate n false)))
+          ∙ map_replicate (waits_for x) n Running false refl;
+      known = λ t log e. let bad : Running ≡ Parked log = get_replicate n t Running (Parked log) e in absurd (cc);
+    }
+
+-- each set has room for each task
+pub roomy : (ts : List Task) (ready : List Bool) (sleepers : List (List Bool)) (t : ℕ) → AreSets ts ready sleepers → t < length ts → (x : ℕ) → x < length sleepers → t < length (get_or sleepers x [])
+roomy ts ready sleepers t h within x low = omega (arith, within, ap length (h.asleep x low), length-map ts (waits_for x))
+
+pub ready_room : (ts : List Task) (ready : List Bool) (sleepers : List (List Bool)) (t : ℕ) → AreSets ts ready sleepers → t < length ts → t < length ready
+ready_room ts ready sleepers t h within = omega (arith, within, ap length h.ready, length-map ts is_ready)
+
+is_ready_task : (t : Task) → is_ready t ≡ true → t ≡ Ready
+is_ready_task Ready e = refl
+is_ready_task Running e = absurd (cc)
+is_ready_task (Parked log) e = absurd (cc)
+is_ready_task (Done n) e = absurd (cc)
+is_ready_task GivenUp e = absurd (cc)
+
+-- what is in the set of the ready tasks is ready, and what is ready is in it
+pub ready_in : (ts : List Task) (ready : List Bool) (sleepers : List (List Bool)) (k : ℕ) → AreSets ts ready sleepers → slice_get ready k ≡ Some true → slice_get ts k ≡ Some Ready
+ready_in ts ready sleepers k h e =
+    let g = get_map is_ready ts k true (ap (λ (r : List Bool). slice_get r k) (sym h.ready) ∙ e) in
+    g.1 ∙ ap Some (is_ready_task g.0 g.2)
+
+pub in_ready : (ts : List Task) (ready : List Bool) (sleepers : List (List Bool)) (k : ℕ) → AreSets ts ready sleepers → slice_get ts k ≡ Some Ready → slice_get ready k ≡ Some true
+in_ready ts ready sleepers k h e = ap (λ (r : List Bool). slice_get r k) h.ready ∙ map_get is_ready ts k Ready e
+
+pub board_is : (b : BoardView) (ts us : List Task) (n : ℕ) → ts ≡ us → n ≡ b.variables → (let r : BoardView = record { tasks = ts; variables = n } in r) ≡ with_tasks b us
+board_is b ts us n e f =
+    ap (λ (xs : List Task). let r : BoardView = record { tasks = xs; variables = n } in r) e
+    ∙ ap (λ (k : ℕ). let r : BoardView = record { tasks = us; variables = k } in r) f
+
+-- the set of a variable, seen from outside
+pub asleep_now : (b : Inside) (v : BoardView) (x : ℕ) (s : List Bool) → board_of b ≡ v → IsSorted b → x < v.variables → s ≡ get_or b.sleepers.items x s → s ≡ map (waits_for x) v.tasks
+asleep_now b v x s view k low e =
+    let within : x < length b.sleepers.items = omega (arith, low, ap (λ (w : BoardView). w.variables) view) in
+    set_read b.sleepers.items x s within e ∙ (k.asleep x within ∙ ap (λ (w : BoardView). map (waits_for x) w.tasks) view)
+
+pub readied_all : (n : ℕ) → map readied_one (replicate n Running) ≡ replicate n Ready
+readied_all zero = refl
+readied_all (suc n) = ap (λ (ts : List Task). Ready ∷ ts) (readied_all n)

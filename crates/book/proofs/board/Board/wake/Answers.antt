@@ -1,0 +1,21 @@
+use Rattle.std.proofs.Common.{◌≡◌, ◌<◌, ℕ, List, length, map, refl, sym, ◌∙◌, ap, subst, arith}
+use Rattle.book.specs.declared.task.Task.{Task}
+use Rattle.book.specs.Board.{BoardView, with_tasks, woken_by}
+use Rattle.book.proofs.Sets.{board_is}
+use Rattle.book.proofs.Waking.{waking_next, waking_last}
+use Rattle.book.proofs.board.Board.wake.Goals as goal
+
+pub loop-change-preserved : goal.loop-change-preserved
+loop-change-preserved c =
+    let l = c.loop-change in
+    record {
+      tasks = waking_next c.args.changes.now c.args.self.now.tasks l.change-index l.self.tasks c.wake_for.new.self.tasks c.loop-change-test.true (ap (λ (b : BoardView). b.tasks) c.wake_for.ensures) l.invariant.tasks;
+      variables = ap (λ (b : BoardView). b.variables) c.wake_for.ensures ∙ l.invariant.variables;
+    }
+
+pub returns : goal.returns
+returns c =
+    let l = c.loop-change in
+    board_is c.args.self.now l.self.tasks (map (woken_by c.args.changes.now) c.args.self.now.tasks) l.self.variables
+    (waking_last c.args.changes.now c.args.self.now.tasks l.change-index l.self.tasks (omega (arith, c.loop-change-test.false)) l.invariant.tasks)
+    l.invariant.variables

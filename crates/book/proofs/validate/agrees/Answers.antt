@@ -1,0 +1,35 @@
+use Rattle.std.proofs.Common.{◌≡◌, ℤ, inl, inr, pos, get_or, sym, ◌∙◌, ap, subst, arith}
+use Rattle.std.specs.List.{slice_get}
+use Rattle.std.proofs.lemmas.Bool.{cases_eq}
+use Rattle.std.proofs.lemmas.Int.{to_z-of_z}
+use Rattle.std.proofs.lemmas.Option.{same_Some, slice_get-get_or, slice_get_within}
+use Rattle.txn.specs.declared.ast.VarId.{VarId}
+use Rattle.txn.specs.Meaning.{value_at}
+use Rattle.book.proofs.Agreeing.{known_pair, agree_all}
+use Rattle.book.proofs.validate.agrees.Goals as goal
+
+abbrev none : VarId × ℤ
+none = (record { 0 = 0 }, pos 0)
+
+pub bounds-values-pair : goal.bounds-values-pair
+bounds-values-pair c =
+    let log = c.args.log.now in
+    let i = c.loop-pair.pair-index in
+    known_pair _ log i (get_or log i none) c.requires (slice_get-get_or log i none c.loop-pair-test.true)
+
+pub loop-pair-preserved : goal.loop-pair-preserved
+loop-pair-preserved c i p less e =
+    let log = c.args.log.now in
+    let j = c.loop-pair.pair-index in
+    let here : VarId × ℤ = get_or log j none in
+    let value : here.1 ≡ value_at c.args.values.now here.0 = grind (arith, to_z-of_z, c.if-values-pair.false) in
+    elim (cases_eq i j) [
+      | inl same ↦
+          let one : here ≡ p = same_Some _ _ (sym (slice_get-get_or log j none c.loop-pair-test.true) ∙ (ap (slice_get log) (sym same) ∙ e)) in
+          subst (λ (q : VarId × ℤ). q.1 ≡ value_at c.args.values.now q.0) one value
+      | inr other ↦ c.loop-pair.invariant i p (omega (arith, less, other)) e
+    ]
+
+pub returns : goal.returns
+returns c =
+    sym (agree_all c.args.log.now c.args.values.now (λ i p e. c.loop-pair.invariant i p (omega (arith, slice_get_within c.args.log.now i p e, c.loop-pair-test.false)) e))

@@ -1,0 +1,116 @@
+//! Attempts on what passes read of the cells that the book publishes to.
+
+ghost use Rattle.std.specs.Prelude.{◌≡◌, ◌<◌, IfOk};
+ghost use Rattle.book.specs.Turns.{IsEndOf};
+
+use crate::parts::{X, increments};
+use crate::steps::{ended, ends, takes};
+use attempt::Attempt;
+use book::{Book, Finish};
+use cells::{Cells, Pass, Read};
+use std::alloc::Global;
+use std::process::Abort;
+use std::test::Fail;
+use txn::{Catalogue, Memory, TaskId};
+
+/// An attempt of a task, on the value of x that the pass reads. It is this one.
+fn read<'c>(
+    rt: &impl Abort,
+    alloc: Global,
+    catalogue: &'c Catalogue,
+    cells: &Cells,
+    pass: &mut Pass,
+    task: TaskId,
+    value: i64,
+) -> Result<Attempt<'c>, Memory>
+    requires own { pass.old.cells ≡ cells.now }
+    requires exists { 0 < cells.now.variables }
+    ensures own { pass.new.cells ≡ pass.old.cells }
+    ensures ended { IfOk result (λ a. IsEndOf catalogue.now task a) }
+{
+    pass.begin(cells);
+    assert_eq!(rt; pass.read(cells, X), Read::Value(value));
+    let attempt = ended(rt, alloc, catalogue, task, &[value])?;
+    assert_eq!(rt; attempt.log(), [(X, value)].as_slice());
+    Ok(attempt)
+}
+
+/// Two tasks read 5, each on its own pass. The first to finish commits.
+fn two_attempts(
+    rt: &impl Abort,
+    alloc: Global,
+    book: &mut Book<'_>,
+    catalogue: &Catalogue,
+    cells: &Cells,
+    first: &mut Pass,
+    second: &mut Pass,
+) -> Result<(), Memory>
+    requires first { first.old.cells ≡ cells.now }
+    requires second { second.old.cells ≡ cells.now }
+    requires exists { 0 < cells.now.variables }
+    ensures second { second.new.cells ≡ second.old.cells }
+{
+    takes(rt, book, TaskId(0));
+    takes(rt, book, TaskId(1));
+    let sooner = read(rt, alloc, catalogue, cells, first, TaskId(0), 5)?;
+    let later = read(rt, alloc, catalogue, cells, second, TaskId(1), 5)?;
+    ends(rt, book, catalogue, TaskId(0), sooner, Finish::Committed(1));
+    ends(rt, book, catalogue, TaskId(1), later, Finish::Stale);
+    Ok(())
+}
+
+/// The second task reads on: its pass is stale, and after a begin x is 6.
+fn one_more_attempt(
+    rt: &impl Abort,
+    alloc: Global,
+    book: &mut Book<'_>,
+    catalogue: &Catalogue,
+    cells: &Cells,
+    pass: &mut Pass,
+) -> Result<(), Memory>
+    requires own { pass.old.cells ≡ cells.now }
+    requires exists { 0 < cells.now.variables }
+{
+    assert!(rt; pass.is_open());
+    assert_eq!(rt; pass.read(cells, X), Read::Stale);
+    let again = read(rt, alloc, catalogue, cells, pass, TaskId(1), 6)?;
+    ends(rt, book, catalogue, TaskId(1), again, Finish::Committed(2));
+    let late = ended(rt, alloc, catalogue, TaskId(0), &[7])?;
+    ends(rt, book, catalogue, TaskId(0), late, Finish::NotRunning);
+    Ok(())
+}
+
+#[test]
+fn a_finish_on_old_values_is_stale(rt: HostRuntime) -> Result<(), Fail> {
+    let alloc = rt.alloc();
+    let catalogue = increments(alloc, 2)?;
+    let (cells, publisher, mut passes) = Cells::open(alloc, catalogue.initial(), 2)?;
+    assert_eq!(rt; catalogue.initial().len(), 1);
+    let (Some(mut first), Some(mut second)) = (passes.pop(), passes.pop()) else {
+        panic!(rt; "no two passes")
+    };
+    let mut book = Book::open(alloc, &catalogue, &cells, publisher)?;
+    two_attempts(
+        &rt,
+        alloc,
+        &mut book,
+        &catalogue,
+        &cells,
+        &mut first,
+        &mut second,
+    )?;
+    one_more_attempt(&rt, alloc, &mut book, &catalogue, &cells, &mut second)?;
+    Ok(())
+}
+
+#[test]
+fn a_meeting_closes_a_pass(rt: HostRuntime) -> Result<(), Fail> {
+    let alloc = rt.alloc();
+    let catalogue = increments(alloc, 1)?;
+    let (cells, publisher, mut passes) = Cells::open(alloc, catalogue.initial(), 1)?;
+    let mut book = Book::open(alloc, &catalogue, &cells, publisher)?;
+    passes[0].begin(&cells);
+    book.meet(&mut passes[0]);
+    assert!(rt; !passes[0].is_open());
+    Ok(())
+}

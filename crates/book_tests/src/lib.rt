@@ -1,0 +1,15 @@
+//! Tests of the public calls of `book`.
+#![tactic(auto)]
+
+#[cfg(test)]
+mod ample;
+#[cfg(test)]
+mod beside;
+#[cfg(test)]
+mod opening;
+#[cfg(test)]
+mod parts;
+#[cfg(test)]
+mod scripts;
+#[cfg(test)]
+mod steps;

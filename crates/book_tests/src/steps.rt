@@ -1,0 +1,122 @@
+//! One call of a book, and what it has to answer.
+
+ghost use Rattle.std.specs.Prelude.{◌≡◌, ◌<◌, length, IfOk};
+ghost use Rattle.book.specs.Turns.{IsEndOf};
+
+use attempt::{Attempt, Next};
+use book::{Book, Finish, Serial};
+use std::alloc::Global;
+use std::process::Abort;
+use std::test::Fail;
+use txn::{Catalogue, Memory, TaskId};
+
+/// Stops the test where the book is not of the catalogue or the task does not exist.
+pub(crate) fn exists(rt: &impl Abort, book: &Book<'_>, catalogue: &Catalogue, task: TaskId)
+    ensures own { book.now.catalogue ≡ catalogue.now }
+    ensures exists { task.0 < length book.now.tasks }
+{
+    book.law();
+    assert!(rt; book.is_for(catalogue));
+    assert!(rt; (task.0 as usize) < catalogue.tasks());
+}
+
+/// The next task is this one.
+pub(crate) fn takes(rt: &impl Abort, book: &mut Book<'_>, task: TaskId) {
+    assert_eq!(rt; book.take(), Some(task));
+}
+
+/// A turn of the task answers so.
+pub(crate) fn turns(
+    rt: &impl Abort,
+    alloc: Global,
+    book: &mut Book<'_>,
+    catalogue: &Catalogue,
+    task: TaskId,
+    how: Serial,
+) {
+    exists(rt, book, catalogue, task);
+    assert_eq!(rt; book.serial(alloc, task), how);
+}
+
+/// To give the task up answers so.
+pub(crate) fn gives_up(
+    rt: &impl Abort,
+    book: &mut Book<'_>,
+    catalogue: &Catalogue,
+    task: TaskId,
+    how: bool,
+) {
+    exists(rt, book, catalogue, task);
+    assert_eq!(rt; book.give_up(task), how);
+}
+
+/// The end of an attempt of the task answers so.
+pub(crate) fn ends(
+    rt: &impl Abort,
+    book: &mut Book<'_>,
+    catalogue: &Catalogue,
+    task: TaskId,
+    attempt: Attempt<'_>,
+    how: Finish,
+)
+    requires { IsEndOf catalogue.now task attempt }
+{
+    exists(rt, book, catalogue, task);
+    assert_eq!(rt; book.finish(task, attempt), how);
+}
+
+/// Tells the attempt what it needs of these values.
+fn tell(rt: &impl Abort, attempt: &mut Attempt<'_>, values: &[i64]) -> Result<(), Memory>
+    ensures program { attempt.new.program ≡ attempt.old.program }
+    ensures variables { attempt.new.variables ≡ attempt.old.variables }
+{
+    for _variable in 0..values.len() {
+        let Next::Need(x) = attempt.advance() else {
+            return Ok(());
+        };
+        assert!(rt; (x.0 as usize) < values.len());
+        attempt.supply(x, values[x.0 as usize])?;
+    }
+    Ok(())
+}
+
+/// An attempt of a task that has ended on these values.
+pub(crate) fn ended<'c>(
+    rt: &impl Abort,
+    alloc: Global,
+    catalogue: &'c Catalogue,
+    task: TaskId,
+    values: &[i64],
+) -> Result<Attempt<'c>, Memory>
+    ensures { IfOk result (λ a. IsEndOf catalogue.now task a) }
+{
+    assert!(rt; (task.0 as usize) < catalogue.tasks());
+    let mut attempt = Attempt::new(alloc, catalogue, catalogue.task_tx(task));
+    tell(rt, &mut attempt, values)?;
+    match attempt.advance() {
+        Next::Need(_) => panic!(rt; "a value is missing"),
+        Next::Memory => Err(Memory),
+        Next::Returned(_) => Ok(attempt),
+        Next::Thrown(_) => Ok(attempt),
+        Next::Retry => Ok(attempt),
+    }
+}
+
+/// What the book tells of x: the base, its value and version there, how many entries, the present
+/// number, its value and version there.
+pub(crate) fn tells_x(
+    rt: &impl Abort,
+    alloc: Global,
+    book: &Book<'_>,
+    base: (u64, i64, u64),
+    entries: usize,
+    now: (u64, i64, u64),
+) -> Result<(), Fail> {
+    let report = book.report(alloc)?;
+    assert_eq!(rt; report.base, base.0);
+    assert_eq!(rt; report.base_vars.first(), Some(&(base.1, base.2)));
+    assert_eq!(rt; report.entries.len(), entries);
+    assert_eq!(rt; report.now, now.0);
+    assert_eq!(rt; report.now_vars.first(), Some(&(now.1, now.2)));
+    Ok(())
+}

@@ -1,0 +1,4 @@
+pub mod Rows
+pub mod Above
+pub mod Flags
+pub mod Kept
