@@ -1,0 +1,15 @@
+pub mod Parting
+pub mod Numbers
+pub mod Steps
+pub mod Rows
+pub mod Known
+pub mod Each
+pub mod Shapes
+pub mod Counted
+pub mod Texts
+pub mod Places
+pub mod Allowed
+pub mod Blame
+pub mod Backs
+pub mod Agains
+pub mod Reading

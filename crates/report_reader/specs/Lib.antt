@@ -1,0 +1,6 @@
+pub mod Lines
+pub mod Raw
+pub mod Reading
+pub mod Resolving
+pub mod View
+pub mod Reports

@@ -1,0 +1,107 @@
+//! Single words.
+
+ghost use Rattle.std.specs.Prelude.{◌≡◌};
+ghost use Rattle.std.specs.Str.{IsAscii, bytes_eq};
+ghost use Rattle.text_words.specs.Answers.{Gives};
+ghost use Rattle.report_reader.specs.Reading.{name_in, int_in, number_in, expect, behind, after_word, begins};
+ghost use Rattle.report_reader.specs.View.{view_text};
+
+use crate::bytes::{is_int, is_name, is_number};
+use crate::lines::part;
+use crate::numeral::{Count, Numeral};
+use std::str;
+use text_words::ReadFault;
+
+/// Bytes of ASCII as text.
+fn as_text(bytes: &[u8]) -> &str
+    requires { IsAscii bytes.now }
+    ensures { result.now ≡ bytes.now }
+{
+    str::from_utf8(bytes).unwrap()
+}
+
+/// A name.
+#[tactic(auto, using(text_words::proofs::Ascii::name_is_ascii), unfolding(crate::specs::Reading::name_in))]
+pub(crate) fn name_of(text: &[u8]) -> Result<&str, ReadFault>
+    ensures { Gives (λ x. x.now) result (name_in text.now) }
+{
+    if is_name(text) {
+        Ok(as_text(text))
+    } else {
+        Err(ReadFault::Shape)
+    }
+}
+
+/// An integer.
+#[tactic(auto, using(text_words::proofs::Ascii::int_is_ascii), unfolding(crate::specs::Reading::int_in))]
+pub(crate) fn numeral_of(text: &[u8]) -> Result<Numeral<'_>, ReadFault>
+    ensures { Gives (λ x. x.text.now) result (int_in text.now) }
+{
+    if is_int(text) {
+        Ok(Numeral {
+            text: as_text(text),
+        })
+    } else {
+        Err(ReadFault::Shape)
+    }
+}
+
+/// An integer without a sign.
+#[tactic(auto, using(crate::proofs::Numbers::number_is_ascii), unfolding(crate::specs::Reading::number_in))]
+pub(crate) fn count_of(text: &[u8]) -> Result<Count<'_>, ReadFault>
+    ensures { Gives (λ x. x.text.now) result (number_in text.now) }
+{
+    if is_number(text) {
+        Ok(Count {
+            text: as_text(text),
+        })
+    } else {
+        Err(ReadFault::Shape)
+    }
+}
+
+/// Whether the bytes are this word.
+pub(crate) fn is_word(text: &[u8], wanted: &str) -> bool
+    ensures { result ≡ bytes_eq text.now wanted.now }
+{
+    text == wanted.as_bytes()
+}
+
+/// This word.
+#[tactic(auto, unfolding(crate::specs::Reading::expect))]
+pub(crate) fn expect(text: &[u8], wanted: &str) -> Result<(), ReadFault>
+    ensures { Gives (λ x. x) result (expect wanted.now text.now) }
+{
+    if is_word(text, wanted) {
+        Ok(())
+    } else {
+        Err(ReadFault::Shape)
+    }
+}
+
+/// The words behind the first one, where that is this word.
+#[tactic(auto, unfolding(crate::specs::Reading::behind))]
+fn behind<'a>(text: &'a [u8], wanted: &str) -> Option<&'a [u8]>
+    ensures { view_text result ≡ behind wanted.now text.now }
+{
+    match part(text, b' ') {
+        Some((word, rest)) if is_word(word, wanted) => Some(rest),
+        _ => None,
+    }
+}
+
+/// This word, and the words behind it.
+#[tactic(auto, unfolding(crate::specs::Reading::after_word))]
+pub(crate) fn after_word<'a>(text: &'a [u8], wanted: &str) -> Result<&'a [u8], ReadFault>
+    ensures { Gives (λ x. x.now) result (after_word wanted.now text.now) }
+{
+    behind(text, wanted).ok_or(ReadFault::Shape)
+}
+
+/// Whether the line begins with this word.
+#[tactic(auto, unfolding(crate::specs::Reading::begins))]
+pub(crate) fn begins(text: &[u8], wanted: &str) -> bool
+    ensures { result ≡ begins wanted.now text.now }
+{
+    behind(text, wanted).is_some()
+}
