@@ -1,0 +1,41 @@
+-- The frame theorem at the tasks of a catalogue.
+use Rattle.std.proofs.Common.{◌≡◌, ℕ, zero, suc, true, List, [], ◌∷◌, length, Some, pos, sym, refl, ◌∙◌, subst, slice_get, slice_index_or}
+use Rattle.std.proofs.Math.ListN.{length-set}
+use Rattle.txn.specs.Listing.{Listing, task_program, task_tx}
+use Rattle.txn.specs.Meaning.{State, outcome, after}
+use Rattle.txn.specs.Names.{names_hold}
+use Rattle.txn.specs.Scope.{ProgramKnown}
+use Rattle.txn.specs.Tree.{Skip, Int}
+use Rattle.txn.specs.declared.ast.Outcome.{Outcome}
+use Rattle.txn.specs.declared.ast.TaskId.{TaskId}
+use Rattle.txn.proofs.Lawful.{known_at}
+use Rattle.attempt.specs.Asking.{Known, Answer, Ends, ask}
+use Rattle.attempt.specs.Frame.{Agrees, store, AnswersBy}
+use Rattle.attempt.proofs.FrameProof.{frame_holds}
+
+-- each task's program names only variables that are there
+pub record IsSound (l : Listing) : Type 0 where
+  pub known : (a : TaskId) → ProgramKnown (length l.initial) (task_program l a)
+
+found : {X : Type 0} (xs : List X) (i : ℕ) (d : X) (P : X → Type 0) → ((x : X) → slice_get xs i ≡ Some x → P x) → P d → P (slice_index_or xs i d)
+found [] i d P each other = other
+found (x ∷ xs) zero d P each other = each x refl
+found (x ∷ xs) (suc i) d P each other = found xs i d P each other
+
+-- the rules on names of a catalogue
+pub sound_by : (l : Listing) → names_hold l ≡ true → length l.names ≡ length l.initial → IsSound l
+sound_by l names same = record {
+  known = λ a. found l.programs (task_tx l a).0 (record { name = []; body = Skip; result = Int (pos 0) }) (ProgramKnown (length l.initial))
+      (λ t e. subst (λ (n : ℕ). ProgramKnown n t) same (known_at l (task_tx l a).0 t names e)) (tt, tt);
+}
+
+pub length-store : (writes : Known) (m : State) → length (store writes m) ≡ length m
+length-store [] m = refl
+length-store (p ∷ rest) m = length-set (store rest m) p.0.0 p.1 ∙ length-store rest m
+
+-- where an attempt ended, its program ends so on each state that agrees with what it read
+pub ends_as : (l : Listing) → IsSound l → (a : TaskId) (log writes : Known) (o : Outcome) (m : State) → length m ≡ length l.initial → Agrees log m → ask (task_program l a) log ≡ Ends o writes
+    → (outcome (task_program l a) m ≡ o) × (after (task_program l a) m ≡ store writes m)
+ends_as l sound a log writes o m wide agrees ends =
+    let t = task_program l a in
+    subst (λ (r : Answer). AnswersBy m r (outcome t m) (after t m)) ends (frame_holds t log m (subst (λ (n : ℕ). ProgramKnown n t) (sym wide) (sound.known a)) agrees)

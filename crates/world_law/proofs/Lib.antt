@@ -1,0 +1,12 @@
+pub mod Changes
+pub mod Places
+pub mod Differ
+pub mod Framed
+pub mod Order
+pub mod Resting
+pub mod Storing
+pub mod Readers
+pub mod Kept
+pub mod Wrote
+pub mod Reached
+pub mod Working

@@ -1,0 +1,212 @@
+-- What holds after every list of events.
+use Rattle.std.proofs.Common.{◌≡◌, ◌≢◌, ℕ, zero, suc, ◌+◌, ◌*◌, ◌%◌, ◌<◌, ◌≤◌, List, [], ◌∷◌, length, get_or, ℤ, pos, sym, refl, ap, ◌∙◌, subst, ⊎_elim, inl, inr, arith, Option, Some, None, slice_get}
+use mathlib.Core.Logic.{dite}
+use native.Mathlib.Decide.{dec_lt}
+use Rattle.std.specs.Int.{w64, cast_signed}
+use Rattle.txn.specs.Listing.{Listing, task_program}
+use Rattle.txn.specs.Meaning.{State}
+use Rattle.txn.specs.Words.{WordsMean, value_of, state_of, value_word}
+use Rattle.txn.specs.Stores.{opened}
+use Rattle.txn.specs.Loads.{LoadedIs}
+use Rattle.txn.specs.declared.ast.TaskId.{TaskId}
+use Rattle.txn.specs.declared.ast.VarId.{VarId}
+use Rattle.txn.specs.declared.ast.Outcome.{Outcome}
+use Rattle.txn.proofs.Words.{fresh, opens, all_free, all_zero, opened_sized}
+use Rattle.attempt.specs.Asking.{Known, Needs, Ends, ask}
+use Rattle.world_law.specs.declared.events.Fate.{Fate}
+use Rattle.world_law.specs.declared.events.Fate.TheVariants as fate
+use Rattle.world_law.specs.declared.events.Event.{Event}
+use Rattle.world_law.specs.declared.events.Event.TheVariants.{Begin, First, Value, Second, Ask, Word, Drop}
+use Rattle.world_law.specs.declared.events.Seen.{Seen}
+use Rattle.world_law.specs.declared.events.Seen.TheVariants as seen
+use Rattle.world_law.specs.World.{Started, World, Committer, HoldValues, IsOpening, CanBegin, IsRunning, Stands, Reading, Apart, stand, begun, changed, version_now, value_now, with_loads, with_read, with_fate, stored}
+use Rattle.world_law.specs.Next.{Next, Run, Reachable, told}
+use Rattle.world_law.specs.Opacity.{Opaque, WordsHold}
+use Rattle.world_law.proofs.Places.{agrees_more, same_some}
+use Rattle.world_law.proofs.Framed.{IsSound}
+use Rattle.world_law.proofs.Kept.{Holds, LoadedOf, opaque_from, words_from, changed_kept, begun_kept, asked_kept}
+use Rattle.world_law.proofs.Wrote.{under_way, stored_kept, finished_kept}
+
+many : (m : State) (words : List ℕ) → HoldValues m words → length words ≡ 2 * length m
+many [] [] h = refl
+many [] (a ∷ words) h = absurd h
+many (v ∷ m) [] h = absurd h
+many (v ∷ m) (a ∷ []) h = absurd h
+many (v ∷ m) (a ∷ b ∷ words) h = let e = many m words h.2 in omega arith
+
+value_held : (m : State) (words : List ℕ) → HoldValues m words → (x : ℕ) → x < length m
+    → (get_or words (2 * x) 0 ≡ 0) × (cast_signed w64 (get_or words (2 * x + 1) 0) ≡ value_of m x)
+value_held [] words h x l = absurd (omega arith)
+value_held (v ∷ m) [] h x l = absurd h
+value_held (v ∷ m) (a ∷ []) h x l = absurd h
+value_held (v ∷ m) (a ∷ b ∷ words) h zero l = (h.0, h.1.1)
+value_held (v ∷ m) (a ∷ b ∷ words) h (suc x) l = let more = value_held m words h.2 x (omega arith) in
+    let c : 2 * suc x ≡ suc (suc (2 * x)) = omega arith in let d : 2 * suc x + 1 ≡ suc (suc (2 * x + 1)) = omega arith in
+    (ap (λ (j : ℕ). get_or (a ∷ b ∷ words) j 0) c ∙ more.0, ap (λ (j : ℕ). cast_signed w64 (get_or (a ∷ b ∷ words) j 0)) d ∙ more.1)
+
+only : (m : State) (n : ℕ) → n < length (m ∷ []) → n ≡ 0
+only m zero l = refl
+only m (suc n) l = absurd (omega arith)
+
+opening_words : (m : State) (rest : List ℕ) → HoldValues m rest → WordsMean (0 ∷ rest) (opened m)
+opening_words m rest held = opens m (0 ∷ rest) (let e = many m rest held in omega arith) refl (λ x l. let h = value_held m rest held x l in (
+  ap (λ (j : ℕ). get_or (0 ∷ rest) j 0) (let e : 2 * x + 1 ≡ suc (2 * x) = omega arith in e) ∙ h.0,
+  ap (λ (j : ℕ). cast_signed w64 (get_or (0 ∷ rest) j 0)) (let e : 2 * x + 2 ≡ suc (2 * x + 1) = omega arith in e) ∙ h.1,
+))
+
+none_at : (i : ℕ) (y : Started) → slice_get [] i ≡ Some y → ⊥
+none_at i y e = cc
+
+opening_holds : (k : Listing) (w : World) → IsOpening k w → Holds k w
+opening_holds k w o = subst (Holds k) (sym same) record {
+  commit = opened k.initial;
+  history = refl;
+  words = opening_words k.initial rest o.words.2;
+  under = (
+    0,
+    record {
+      counted = refl;
+      past = λ x. let e = all_zero k.initial x in omega arith;
+      free = all_free k.initial;
+      in_order = refl;
+      settled = (refl, refl);
+      sized = opened_sized k.initial;
+    },
+  );
+  states = λ n l. ap (λ (j : ℕ). length (state_of (k.initial ∷ []) j)) (only k.initial n l);
+  reads = λ i y e. absurd (none_at i y e);
+  loads = λ i y e. absurd (none_at i y e);
+  alone = λ i j y z e. absurd (none_at i y e);
+  numbered = λ i n y m. absurd (none_at i y m.0);
+  made = λ n low high. absurd (omega (arith, only k.initial n high));
+}
+  where
+    rest : List ℕ
+    rest = o.words.0
+
+    same : w ≡ record { words = 0 ∷ rest; history = k.initial ∷ []; attempts = []; committer = None }
+    same = λ j. record { words = o.words.1 j; history = o.history j; attempts = o.attempts j; committer = o.committer j }
+
+past_end : {A : Type 0} (l : List A) (i : ℕ) (d : A) → length l ≤ i → get_or l i d ≡ d
+past_end [] i d h = refl
+past_end (x ∷ l) zero d h = absurd (omega arith)
+past_end (x ∷ l) (suc i) d h = past_end l i d (omega arith)
+
+-- an even version word no later than the state rv: the value word is that of the state rv
+fresh_now : (k : Listing) (w : World) (h : Holds k w) (x : VarId) (rv : ℕ) → rv < length w.history → version_now w x % 2 ≡ 0 → version_now w x ≤ 2 * rv → cast_signed w64 (value_now w x) ≡ value_of (state_of w.history rv) x.0
+fresh_now k w h x rv low even early = let same = ap (λ (l : List State). length l) h.history in dite (dec_lt x.0 (length h.commit.values))
+    (λ inside. fresh w.words h.commit x.0 rv h.words inside (omega arith) even early ∙ ap (λ (l : List State). value_of (state_of l rv) x.0) h.history)
+    (λ outside. let wide = h.words.wide in
+    let size = h.words.states rv (omega arith) in
+    let long : length (state_of w.history rv) ≤ x.0 = subst (λ (l : List State). length (state_of l rv) ≤ x.0) h.history (omega arith) in
+    ap (cast_signed w64) (past_end w.words (value_word x.0) 0 (omega arith)) ∙ sym (past_end (state_of w.history rv) x.0 (pos 0) long))
+
+never_both : (x : VarId) (o : Outcome) (ws : Known) → Needs x ≢ Ends o ws
+never_both x o ws e = absurd (cc)
+
+same_need : (x z : VarId) → Needs x ≡ Needs z → x ≡ z
+same_need x z e = cc
+
+-- an attempt that needs a variable is not the committer
+needs_apart : (k : Listing) (w : World) (a : TaskId) (i : ℕ) (y : Started) (x : VarId) → Holds k w → Stands k w a i y (Needs x) → Apart w.committer i
+needs_apart k w a i y x h stands c is here =
+    let p = under_way k w c h is in
+    let mine : p.owner ≡ y = same_some p.owner y (sym p.was ∙ (ap (slice_get w.attempts) here ∙ stands.0.0)) in
+    let ended = p.explained.ended in
+    never_both x _ ended.0 (sym stands.1 ∙ (ap (stand k) (sym mine) ∙ ended.1))
+
+none_apart : (o : Option Committer) (i : ℕ) → o ≡ None → Apart o i
+none_apart o i none c is = absurd (let e : None ≡ Some c = sym none ∙ is in cc)
+
+loads_of : (k : Listing) (w : World) (a : TaskId) (i : ℕ) (y : Started) (x : VarId) (loads : List ℕ) → Holds k w → Reading k w a i y x loads → LoadedOf w y x loads
+loads_of k w a i y x loads h r = subst (LoadedOf w y x) r.1 (h.loads i y r.0.0.0 x r.0.1)
+
+fate_kept : (k : Listing) (w : World) (a : TaskId) (i : ℕ) (y : Started) (f : Fate) → Holds k w → IsRunning w a i y → Apart w.committer i → ((n : ℕ) → f ≢ fate.Committed n) → Holds k (changed w i (with_fate y f))
+fate_kept k w a i y f h run apart never = changed_kept k w i y (with_fate y f) h record { was = run.0; running = run.2; task = refl; reads = h.reads i y run.0; loads = h.loads i y run.0; apart = apart } never
+
+still_running : (w : World) (a : TaskId) (i : ℕ) (y : Started) → IsRunning w a i y → (n : ℕ) → y.fate ≢ fate.Committed n
+still_running w a i y run n e = let f : fate.Running ≡ fate.Committed n = sym run.2 ∙ e in absurd (cc)
+
+-- the loads of a read that goes on
+loads_kept : (k : Listing) (w : World) (a : TaskId) (i : ℕ) (y : Started) (x : VarId) (old new : List ℕ) → Holds k w → Reading k w a i y x old → LoadedOf w y x new → Holds k (changed w i (with_loads y new))
+loads_kept k w a i y x old new h r holds = changed_kept k w i y (with_loads y new) h record {
+  was = r.0.0.0;
+  running = r.0.0.2;
+  task = refl;
+  reads = h.reads i y r.0.0.0;
+  loads = λ z needs. subst (λ (v : VarId). LoadedOf w y v new) (same_need x z (sym r.0.1 ∙ needs)) holds;
+  apart = needs_apart k w a i y x h r.0;
+} (still_running w a i y r.0.0)
+
+-- a read that ends well
+read_kept : (k : Listing) (w : World) (a : TaskId) (i first bits : ℕ) (y : Started) (x : VarId) (f : Fate) → Holds k w → Reading k w a i y x (first ∷ bits ∷ []) → version_now w x ≡ first → ((n : ℕ) → f ≢ fate.Committed n)
+    → Holds k (changed w i (with_fate (with_read y x bits) f))
+read_kept k w a i first bits y x f h r same never =
+    let s = loads_of k w a i y x (first ∷ bits ∷ []) h r in let z : ℤ = value_of (state_of w.history y.rv) x.0 in let reads = h.reads i y r.0.0.0 in
+    let is : z ≡ cast_signed w64 bits = ⊎_elim (λ (t : first < version_now w x). absurd (omega arith))
+    (λ (t : (cast_signed w64 (value_now w x) ≡ z) × (cast_signed w64 bits ≡ z)). sym t.1) (s.0.2 s.1.0 s.1.1) in
+    changed_kept k w i y (with_fate (with_read y x bits) f) h record {
+      was = r.0.0.0;
+      running = r.0.0.2;
+      task = refl;
+      reads = (reads.0, agrees_more y.log (state_of w.history y.rv) x (cast_signed w64 bits) reads.1 is);
+      loads = λ v needs. (tt, tt);
+      apart = needs_apart k w a i y x h r.0;
+    } never
+
+second_on : (k : Listing) (w w' : World) (a : TaskId) (s : Seen) → Holds k w
+    → (i first bits : ℕ) × (y : Started) × (x : VarId) × Reading k w a i y x (first ∷ bits ∷ []) × (version_now w x ≡ first) × (s ≡ told (stand k (with_read y x bits))) × (w' ≡ changed w i (with_read y x bits)) → Holds k w'
+second_on k w w' a s h n = subst (Holds k) (sym n.8)
+    (subst (λ (f : Fate). Holds k (changed w n.0 (with_fate (with_read n.3 n.4 n.2) f))) refl (read_kept k w a n.0 n.1 n.2 n.3 n.4 n.3.fate h n.5 n.6 (still_running w a n.0 n.3 n.5.0.0)))
+
+begins_on : (k : Listing) (w w' : World) (a : TaskId) (s : Seen) → Holds k w → CanBegin k w a × (s ≡ told (ask (task_program k a) [])) × (w' ≡ begun w a fate.Running) → Holds k w'
+begins_on k w w' a s h n = subst (Holds k) (sym n.2) (begun_kept k w a fate.Running h n.0 (λ j e. absurd (cc)))
+
+-- each event keeps what holds
+pub next_holds : (k : Listing) (w w' : World) (e : Event) (s : Seen) → IsSound k → Holds k w → Next k w e s w' → Holds k w'
+next_holds k w w' (Begin a) seen.Idle sound h n = subst (Holds k) (sym n.1) h
+next_holds k w w' (Begin a) seen.Spent sound h n = subst (Holds k) (sym n.1) (begun_kept k w a fate.Spent h n.0 (λ j e. absurd (cc)))
+next_holds k w w' (Begin a) s sound h n = begins_on k w w' a s h n
+next_holds k w w' (First a x) seen.Idle sound h n = subst (Holds k) (sym n.1) h
+next_holds k w w' (First a x) seen.Stale sound h n = subst (Holds k) (sym n.4) (fate_kept k w a n.0 n.1 fate.Stale h n.2.0.0 (needs_apart k w a n.0 n.1 x h n.2.0) (λ j e. absurd (cc)))
+next_holds k w w' (First a x) seen.Loaded sound h n = subst (Holds k) (sym n.5) (loads_kept k w a n.0 n.1 x [] (version_now w x ∷ []) h n.2
+    ((omega arith, omega arith, λ even low. inr (fresh_now k w h x n.1.rv (h.reads n.0 n.1 n.2.0.0.0).0 even low, tt)), (n.3, n.4)))
+next_holds k w w' (First a x) s sound h n = absurd n
+next_holds k w w' (Value a) seen.Idle sound h n = subst (Holds k) (sym n.1) h
+next_holds k w w' (Value a) seen.Loaded sound h n = subst (Holds k) (sym n.5) (let s = loads_of k w a n.0 n.2 n.3 (n.1 ∷ []) h n.4 in let z : ℤ = value_of (state_of w.history n.2.rv) n.3.0 in
+    loads_kept k w a n.0 n.2 n.3 (n.1 ∷ []) (n.1 ∷ value_now w n.3 ∷ []) h n.4
+    ((s.0.0, omega arith, λ even low. ⊎_elim (λ (t : n.1 < version_now w n.3). inl t) (λ (t : (cast_signed w64 (value_now w n.3) ≡ z) × LoadedIs z []). inr (t.0, t.0)) (s.0.2 even low)), s.1))
+next_holds k w w' (Value a) s sound h n = absurd n
+next_holds k w w' (Second a) seen.Idle sound h n = subst (Holds k) (sym n.1) h
+next_holds k w w' (Second a) seen.Stale sound h n = subst (Holds k) (sym n.7) (fate_kept k w a n.0 n.3 fate.Stale h n.5.0.0 (needs_apart k w a n.0 n.3 n.4 h n.5.0) (λ j e. absurd (cc)))
+next_holds k w w' (Second a) seen.Spent sound h n = subst (Holds k) (sym n.7) (read_kept k w a n.0 n.1 n.2 n.3 n.4 fate.Spent h n.5 n.6 (λ j e. absurd (cc)))
+next_holds k w w' (Second a) s sound h n = second_on k w w' a s h n
+next_holds k w w' (Ask a) seen.Idle sound h n = subst (Holds k) (sym n.1) h
+next_holds k w w' (Ask a) seen.Stale sound h n = subst (Holds k) (sym n.6) (fate_kept k w a n.0 n.1 fate.Stale h n.4.0.0 (none_apart w.committer n.0 n.4.1) (λ j e. absurd (cc)))
+next_holds k w w' (Ask a) seen.Parked sound h n = subst (Holds k) (sym n.5) (fate_kept k w a n.0 n.1 fate.Parked h n.3.0.0 (none_apart w.committer n.0 n.3.1) (λ j e. absurd (cc)))
+next_holds k w w' (Ask a) (seen.Commits c) sound h n = subst (Holds k) (sym n.8) (asked_kept k w a n.0 n.1 n.2 n.3 sound h n.4.0 n.4.1 n.5 n.6)
+next_holds k w w' (Ask a) s sound h n = absurd n
+next_holds k w w' Word seen.Idle sound h n = subst (Holds k) (sym n.1) h
+next_holds k w w' Word seen.Stored sound h n = subst (Holds k) (sym n.5) (stored_kept k w n.0 n.1 n.2 h n.3)
+next_holds k w w' Word (seen.Committed c) sound h n =
+    subst (Holds k) (sym n.8) (finished_kept k (stored w n.0 n.1 n.2) (record n.0 { stored = n.0.stored + 1 }) n.3 (stored_kept k w n.0 n.1 n.2 h n.4) refl n.5 n.7)
+next_holds k w w' Word s sound h n = absurd n
+next_holds k w w' (Drop a) seen.Idle sound h n = subst (Holds k) (sym n.1) h
+next_holds k w w' (Drop a) seen.Dropped sound h n = subst (Holds k) (sym n.3) (fate_kept k w a n.0 n.1 fate.Dropped h n.2.0 n.2.1 (λ j e. absurd (cc)))
+next_holds k w w' (Drop a) s sound h n = absurd n
+
+run_on : (k : Listing) → IsSound k → (events : List Event) (answers : List Seen) (w w' : World) → Holds k w → Run k w events answers w' → Holds k w'
+run_on k sound [] [] w w' h r = subst (Holds k) (sym r) h
+run_on k sound (e ∷ es) (s ∷ ss) w w' h r = run_on k sound es ss r.0 w' (next_holds k w r.0 e s sound h r.1) r.2
+run_on k sound [] (s ∷ ss) w w' h r = absurd r
+run_on k sound (e ∷ es) [] w w' h r = absurd r
+
+-- a world that events lead to
+pub reached_holds : (k : Listing) → IsSound k → (w : World) → Reachable k w → Holds k w
+reached_holds k sound w r = run_on k sound r.2 r.3 r.0 w (opening_holds k r.0 r.1) r.4
+
+pub reached_opaque : (k : Listing) → IsSound k → (w : World) → Reachable k w → Opaque k w
+reached_opaque k sound w r = opaque_from k w sound (reached_holds k sound w r)
+
+pub reached_words : (k : Listing) → IsSound k → (w : World) → Reachable k w → WordsHold k w
+reached_words k sound w r = words_from k w (reached_holds k sound w r)

@@ -1,0 +1,174 @@
+-- The runs that were worked out by hand, step by step.
+use Rattle.std.proofs.Common.{◌≡◌, ℕ, zero, suc, false, ◌==◌, List, [], ◌∷◌, ℤ, pos, sym, refl, ap, ◌∙◌, inr, arith, Option, Some, None, slice_get, lit<, eq-eqb}
+use Rattle.std.proofs.lemmas.Bool.{false≢true}
+use Rattle.txn.specs.declared.ast.TaskId.{TaskId}
+use Rattle.txn.specs.declared.ast.Outcome.TheVariants.{Returned, Retries}
+use Rattle.world_law.specs.declared.events.Fate.TheVariants as fate
+use Rattle.world_law.specs.World.{Started, World, Committer, Lock, Put, Tick, Free, is_live, with_loads, with_fate, IsOpening}
+use Rattle.world_law.specs.Next.{Run}
+use Rattle.world_law.specs.Worked.{x, y, task, pair, pair_opening, torn_events, torn_answers, torn_end, back_and_forth, back_opening, back_events, back_answers, back_end}
+
+-- no attempt of these is of the task a
+abbrev AllOf : (ys : List Started) (a : ℕ) → Type 0
+AllOf [] a = Unit {0}
+AllOf (z ∷ ys) a = ((z.task.0 == a) ≡ false) × AllOf ys a
+
+others : (ys : List Started) (a : TaskId) → AllOf ys a.0 → (i : ℕ) (z : Started) → slice_get ys i ≡ Some z → z.task ≡ a → is_live z.fate ≡ false
+others [] a h i z e same = absurd (cc)
+others (u ∷ ys) a h zero z e same = absurd (let f : u ≡ z = cc in false≢true (sym h.0 ∙ eq-eqb u.task.0 a.0 (ap (λ (v : Started). v.task.0) f ∙ ap (λ (b : TaskId). b.0) same)))
+others (u ∷ ys) a h (suc i) z e same = others ys a h.1 i z e same
+
+never : {A : Type 0} → Returned (pos 0) ≡ Retries → A
+never e = absurd (cc)
+
+never_one : {A : Type 0} → Returned (pos 1) ≡ Retries → A
+never_one e = absurd (cc)
+
+abbrev world : List ℕ → List (List ℤ) → List Started → Option Committer → World
+world words history attempts committer = record { words = words; history = history; attempts = attempts; committer = committer }
+
+abbrev began : ℕ → ℕ → Started
+began a rv = record { task = task a; rv = rv; log = []; loads = []; fate = fate.Running }
+
+abbrev read_x : Started
+read_x = record { task = task 0; rv = 0; log = (x, pos 1) ∷ []; loads = []; fate = fate.Running }
+
+pub torn_holds : Run pair pair_opening torn_events torn_answers torn_end
+torn_holds = (
+  world (0 ∷ 0 ∷ 1 ∷ 0 ∷ 1 ∷ []) ((pos 1 ∷ pos 1 ∷ []) ∷ []) (began 0 0 ∷ []) (None),
+  (((omega arith), others ([]) (task 0) tt), refl, refl),
+  (
+    world (0 ∷ 0 ∷ 1 ∷ 0 ∷ 1 ∷ []) ((pos 1 ∷ pos 1 ∷ []) ∷ []) (with_loads (began 0 0) (0 ∷ []) ∷ []) (None),
+    (0, began 0 0, (((refl, refl, refl), refl), refl), refl, omega arith, refl),
+    (
+      world (0 ∷ 0 ∷ 1 ∷ 0 ∷ 1 ∷ []) ((pos 1 ∷ pos 1 ∷ []) ∷ []) (with_loads (began 0 0) (0 ∷ 1 ∷ []) ∷ []) (None),
+      (0, 0, with_loads (began 0 0) (0 ∷ []), x, (((refl, refl, refl), refl), refl), refl),
+      (
+        world (0 ∷ 0 ∷ 1 ∷ 0 ∷ 1 ∷ []) ((pos 1 ∷ pos 1 ∷ []) ∷ []) (read_x ∷ []) (None),
+        (0, 0, 1, with_loads (began 0 0) (0 ∷ 1 ∷ []), x, (((refl, refl, refl), refl), refl), refl, refl, refl),
+        (
+          world (0 ∷ 0 ∷ 1 ∷ 0 ∷ 1 ∷ []) ((pos 1 ∷ pos 1 ∷ []) ∷ []) (read_x ∷ began 1 0 ∷ []) (None),
+          (((omega arith), others (read_x ∷ []) (task 1) (refl, tt)), refl, refl),
+          (
+            world (0 ∷ 0 ∷ 1 ∷ 0 ∷ 1 ∷ []) ((pos 1 ∷ pos 1 ∷ []) ∷ []) (read_x ∷ began 1 0 ∷ []) (Some record { place = 1; number = 1; changes = (x, pos 2) ∷ (y, pos 2) ∷ []; stored = 0 }),
+            (1, began 1 0, Returned (pos 0), (x, pos 2) ∷ (y, pos 2) ∷ [], (((refl, refl, refl), refl), refl), never, tt, refl, refl),
+            (
+              world (0 ∷ 1 ∷ 1 ∷ 0 ∷ 1 ∷ []) ((pos 1 ∷ pos 1 ∷ []) ∷ []) (read_x ∷ began 1 0 ∷ []) (Some record { place = 1; number = 1; changes = (x, pos 2) ∷ (y, pos 2) ∷ []; stored = 1 }),
+              (record { place = 1; number = 1; changes = (x, pos 2) ∷ (y, pos 2) ∷ []; stored = 0 }, Lock 0, 0 ∷ 1 ∷ 1 ∷ 0 ∷ 1 ∷ [], (refl, refl, refl), lit< tt, refl),
+              (
+                world (0 ∷ 1 ∷ 1 ∷ 1 ∷ 1 ∷ []) ((pos 1 ∷ pos 1 ∷ []) ∷ []) (read_x ∷ began 1 0 ∷ []) (Some record { place = 1; number = 1; changes = (x, pos 2) ∷ (y, pos 2) ∷ []; stored = 2 }),
+                (record { place = 1; number = 1; changes = (x, pos 2) ∷ (y, pos 2) ∷ []; stored = 1 }, Lock 1, 0 ∷ 1 ∷ 1 ∷ 1 ∷ 1 ∷ [], (refl, refl, refl), lit< tt, refl),
+                (
+                  world (0 ∷ 1 ∷ 2 ∷ 1 ∷ 1 ∷ []) ((pos 1 ∷ pos 1 ∷ []) ∷ []) (read_x ∷ began 1 0 ∷ []) (Some record { place = 1; number = 1; changes = (x, pos 2) ∷ (y, pos 2) ∷ []; stored = 3 }),
+                  (record { place = 1; number = 1; changes = (x, pos 2) ∷ (y, pos 2) ∷ []; stored = 2 }, Put 0 (pos 2), 0 ∷ 1 ∷ 2 ∷ 1 ∷ 1 ∷ [], (refl, refl, (2, (lit< tt, refl), refl)), lit< tt, refl),
+                  (
+                    world (0 ∷ 1 ∷ 2 ∷ 1 ∷ 2 ∷ []) ((pos 1 ∷ pos 1 ∷ []) ∷ []) (read_x ∷ began 1 0 ∷ []) (Some record { place = 1; number = 1; changes = (x, pos 2) ∷ (y, pos 2) ∷ []; stored = 4 }),
+                    (record { place = 1; number = 1; changes = (x, pos 2) ∷ (y, pos 2) ∷ []; stored = 3 }, Put 1 (pos 2), 0 ∷ 1 ∷ 2 ∷ 1 ∷ 2 ∷ [], (refl, refl, (2, (lit< tt, refl), refl)), lit< tt, refl),
+                    (
+                      world (1 ∷ 1 ∷ 2 ∷ 1 ∷ 2 ∷ []) ((pos 1 ∷ pos 1 ∷ []) ∷ (pos 2 ∷ pos 2 ∷ []) ∷ []) (read_x ∷ began 1 0 ∷ []) (Some record { place = 1; number = 1; changes = (x, pos 2) ∷ (y, pos 2) ∷ []; stored = 5 }),
+                      (record { place = 1; number = 1; changes = (x, pos 2) ∷ (y, pos 2) ∷ []; stored = 4 }, Tick, 1 ∷ 1 ∷ 2 ∷ 1 ∷ 2 ∷ [], (refl, refl, refl), lit< tt, refl),
+                      (
+                        world (1 ∷ 2 ∷ 2 ∷ 1 ∷ 2 ∷ []) ((pos 1 ∷ pos 1 ∷ []) ∷ (pos 2 ∷ pos 2 ∷ []) ∷ []) (read_x ∷ began 1 0 ∷ []) (Some record { place = 1; number = 1; changes = (x, pos 2) ∷ (y, pos 2) ∷ []; stored = 6 }),
+                        (record { place = 1; number = 1; changes = (x, pos 2) ∷ (y, pos 2) ∷ []; stored = 5 }, Free 0, 1 ∷ 2 ∷ 2 ∷ 1 ∷ 2 ∷ [], (refl, refl, refl), lit< tt, refl),
+                        (
+                          world (1 ∷ 2 ∷ 2 ∷ 2 ∷ 2 ∷ []) ((pos 1 ∷ pos 1 ∷ []) ∷ (pos 2 ∷ pos 2 ∷ []) ∷ []) (read_x ∷ with_fate (began 1 0) (fate.Committed 1) ∷ []) (None),
+                          (record { place = 1; number = 1; changes = (x, pos 2) ∷ (y, pos 2) ∷ []; stored = 6 }, Free 1, 1 ∷ 2 ∷ 2 ∷ 2 ∷ 2 ∷ [], began 1 0, (refl, refl, refl), refl, refl, refl, refl),
+                          (
+                            world (1 ∷ 2 ∷ 2 ∷ 2 ∷ 2 ∷ []) ((pos 1 ∷ pos 1 ∷ []) ∷ (pos 2 ∷ pos 2 ∷ []) ∷ []) (with_fate (read_x) fate.Stale ∷ with_fate (began 1 0) (fate.Committed 1) ∷ []) (None),
+                            (0, read_x, (((refl, refl, refl), refl), refl), inr (omega arith), refl),
+                            refl,
+                          ),
+                        ),
+                      ),
+                    ),
+                  ),
+                ),
+              ),
+            ),
+          ),
+        ),
+      ),
+    ),
+  ),
+)
+
+pub back_holds : Run back_and_forth back_opening back_events back_answers back_end
+back_holds = (
+  world (0 ∷ 0 ∷ 1 ∷ []) ((pos 1 ∷ []) ∷ []) (began 0 0 ∷ []) (None),
+  (((omega arith), others ([]) (task 0) tt), refl, refl),
+  (
+    world (0 ∷ 0 ∷ 1 ∷ []) ((pos 1 ∷ []) ∷ []) (with_loads (began 0 0) (0 ∷ []) ∷ []) (None),
+    (0, began 0 0, (((refl, refl, refl), refl), refl), refl, omega arith, refl),
+    (
+      world (0 ∷ 0 ∷ 1 ∷ []) ((pos 1 ∷ []) ∷ []) (with_loads (began 0 0) (0 ∷ 1 ∷ []) ∷ []) (None),
+      (0, 0, with_loads (began 0 0) (0 ∷ []), x, (((refl, refl, refl), refl), refl), refl),
+      (
+        world (0 ∷ 0 ∷ 1 ∷ []) ((pos 1 ∷ []) ∷ []) (read_x ∷ []) (None),
+        (0, 0, 1, with_loads (began 0 0) (0 ∷ 1 ∷ []), x, (((refl, refl, refl), refl), refl), refl, refl, refl),
+        (
+          world (0 ∷ 0 ∷ 1 ∷ []) ((pos 1 ∷ []) ∷ []) (read_x ∷ began 1 0 ∷ []) (None),
+          (((omega arith), others (read_x ∷ []) (task 1) (refl, tt)), refl, refl),
+          (
+            world (0 ∷ 0 ∷ 1 ∷ []) ((pos 1 ∷ []) ∷ []) (read_x ∷ began 1 0 ∷ []) (Some record { place = 1; number = 1; changes = (x, pos 2) ∷ []; stored = 0 }),
+            (1, began 1 0, Returned (pos 0), (x, pos 2) ∷ [], (((refl, refl, refl), refl), refl), never, tt, refl, refl),
+            (
+              world (0 ∷ 1 ∷ 1 ∷ []) ((pos 1 ∷ []) ∷ []) (read_x ∷ began 1 0 ∷ []) (Some record { place = 1; number = 1; changes = (x, pos 2) ∷ []; stored = 1 }),
+              (record { place = 1; number = 1; changes = (x, pos 2) ∷ []; stored = 0 }, Lock 0, 0 ∷ 1 ∷ 1 ∷ [], (refl, refl, refl), lit< tt, refl),
+              (
+                world (0 ∷ 1 ∷ 2 ∷ []) ((pos 1 ∷ []) ∷ []) (read_x ∷ began 1 0 ∷ []) (Some record { place = 1; number = 1; changes = (x, pos 2) ∷ []; stored = 2 }),
+                (record { place = 1; number = 1; changes = (x, pos 2) ∷ []; stored = 1 }, Put 0 (pos 2), 0 ∷ 1 ∷ 2 ∷ [], (refl, refl, (2, (lit< tt, refl), refl)), lit< tt, refl),
+                (
+                  world (1 ∷ 1 ∷ 2 ∷ []) ((pos 1 ∷ []) ∷ (pos 2 ∷ []) ∷ []) (read_x ∷ began 1 0 ∷ []) (Some record { place = 1; number = 1; changes = (x, pos 2) ∷ []; stored = 3 }),
+                  (record { place = 1; number = 1; changes = (x, pos 2) ∷ []; stored = 2 }, Tick, 1 ∷ 1 ∷ 2 ∷ [], (refl, refl, refl), lit< tt, refl),
+                  (
+                    world (1 ∷ 2 ∷ 2 ∷ []) ((pos 1 ∷ []) ∷ (pos 2 ∷ []) ∷ []) (read_x ∷ with_fate (began 1 0) (fate.Committed 1) ∷ []) (None),
+                    (record { place = 1; number = 1; changes = (x, pos 2) ∷ []; stored = 3 }, Free 0, 1 ∷ 2 ∷ 2 ∷ [], began 1 0, (refl, refl, refl), refl, refl, refl, refl),
+                    (
+                      world (1 ∷ 2 ∷ 2 ∷ []) ((pos 1 ∷ []) ∷ (pos 2 ∷ []) ∷ []) (read_x ∷ with_fate (began 1 0) (fate.Committed 1) ∷ began 2 1 ∷ []) (None),
+                      (((omega arith), others (read_x ∷ with_fate (began 1 0) (fate.Committed 1) ∷ []) (task 2) (refl, (refl, tt))), refl, refl),
+                      (
+                        world (1 ∷ 2 ∷ 2 ∷ []) ((pos 1 ∷ []) ∷ (pos 2 ∷ []) ∷ []) (read_x ∷ with_fate (began 1 0) (fate.Committed 1) ∷ began 2 1 ∷ []) (Some record { place = 2; number = 2; changes = (x, pos 1) ∷ []; stored = 0 }),
+                        (2, began 2 1, Returned (pos 0), (x, pos 1) ∷ [], (((refl, refl, refl), refl), refl), never, tt, refl, refl),
+                        (
+                          world (1 ∷ 3 ∷ 2 ∷ []) ((pos 1 ∷ []) ∷ (pos 2 ∷ []) ∷ []) (read_x ∷ with_fate (began 1 0) (fate.Committed 1) ∷ began 2 1 ∷ []) (Some record { place = 2; number = 2; changes = (x, pos 1) ∷ []; stored = 1 }),
+                          (record { place = 2; number = 2; changes = (x, pos 1) ∷ []; stored = 0 }, Lock 0, 1 ∷ 3 ∷ 2 ∷ [], (refl, refl, refl), lit< tt, refl),
+                          (
+                            world (1 ∷ 3 ∷ 1 ∷ []) ((pos 1 ∷ []) ∷ (pos 2 ∷ []) ∷ []) (read_x ∷ with_fate (began 1 0) (fate.Committed 1) ∷ began 2 1 ∷ []) (Some record { place = 2; number = 2; changes = (x, pos 1) ∷ []; stored = 2 }),
+                            (record { place = 2; number = 2; changes = (x, pos 1) ∷ []; stored = 1 }, Put 0 (pos 1), 1 ∷ 3 ∷ 1 ∷ [], (refl, refl, (1, (lit< tt, refl), refl)), lit< tt, refl),
+                            (
+                              world (2 ∷ 3 ∷ 1 ∷ []) ((pos 1 ∷ []) ∷ (pos 2 ∷ []) ∷ (pos 1 ∷ []) ∷ []) (read_x ∷ with_fate (began 1 0) (fate.Committed 1) ∷ began 2 1 ∷ []) (Some record { place = 2; number = 2; changes = (x, pos 1) ∷ []; stored = 3 }),
+                              (record { place = 2; number = 2; changes = (x, pos 1) ∷ []; stored = 2 }, Tick, 2 ∷ 3 ∷ 1 ∷ [], (refl, refl, refl), lit< tt, refl),
+                              (
+                                world (2 ∷ 4 ∷ 1 ∷ []) ((pos 1 ∷ []) ∷ (pos 2 ∷ []) ∷ (pos 1 ∷ []) ∷ []) (read_x ∷ with_fate (began 1 0) (fate.Committed 1) ∷ with_fate (began 2 1) (fate.Committed 2) ∷ []) (None),
+                                (record { place = 2; number = 2; changes = (x, pos 1) ∷ []; stored = 3 }, Free 0, 2 ∷ 4 ∷ 1 ∷ [], began 2 1, (refl, refl, refl), refl, refl, refl, refl),
+                                (
+                                  world (2 ∷ 4 ∷ 1 ∷ []) ((pos 1 ∷ []) ∷ (pos 2 ∷ []) ∷ (pos 1 ∷ []) ∷ []) (read_x ∷ with_fate (began 1 0) (fate.Committed 1) ∷ with_fate (began 2 1) (fate.Committed 2) ∷ []) (Some record { place = 0; number = 3; changes = []; stored = 0 }),
+                                  (0, read_x, Returned (pos 1), [], (((refl, refl, refl), refl), refl), never_one, (refl, tt), refl, refl),
+                                  (
+                                    world (3 ∷ 4 ∷ 1 ∷ []) ((pos 1 ∷ []) ∷ (pos 2 ∷ []) ∷ (pos 1 ∷ []) ∷ (pos 1 ∷ []) ∷ []) (with_fate (read_x) (fate.Committed 3) ∷ with_fate (began 1 0) (fate.Committed 1) ∷ with_fate (began 2 1) (fate.Committed 2) ∷ []) (None),
+                                    (record { place = 0; number = 3; changes = []; stored = 0 }, Tick, 3 ∷ 4 ∷ 1 ∷ [], read_x, (refl, refl, refl), refl, refl, refl, refl),
+                                    refl,
+                                  ),
+                                ),
+                              ),
+                            ),
+                          ),
+                        ),
+                      ),
+                    ),
+                  ),
+                ),
+              ),
+            ),
+          ),
+        ),
+      ),
+    ),
+  ),
+)
+
+pub pair_opens : IsOpening pair pair_opening
+pair_opens = record { words = (0 ∷ 1 ∷ 0 ∷ 1 ∷ [], refl, (refl, (lit< tt, refl), (refl, (lit< tt, refl), tt))); history = refl; attempts = refl; committer = refl }
+
+pub back_opens : IsOpening back_and_forth back_opening
+back_opens = record { words = (0 ∷ 1 ∷ [], refl, (refl, (lit< tt, refl), tt)); history = refl; attempts = refl; committer = refl }

@@ -1,0 +1,5 @@
+pub mod World
+pub mod Next
+pub mod Commits
+pub mod Opacity
+pub mod Worked

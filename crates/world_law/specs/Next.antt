@@ -1,0 +1,114 @@
+-- What each event does to the world, and what is seen of it.
+use Rattle.std.specs.Prelude.{◌≡◌, ◌≢◌, ◌⊎◌, ℕ, ◌+◌, ◌*◌, ◌%◌, ◌<◌, ◌≤◌, List, [], ◌∷◌, length, Some, None}
+use Rattle.std.specs.List.{slice_get}
+use Rattle.txn.specs.Listing.{Listing, task_program}
+use Rattle.txn.specs.Words.{last_state}
+use Rattle.txn.specs.declared.ast.TaskId.{TaskId}
+use Rattle.txn.specs.declared.ast.VarId.{VarId}
+use Rattle.txn.specs.declared.ast.Outcome.{Outcome}
+use Rattle.txn.specs.declared.ast.Outcome.TheVariants.{Retries}
+use Rattle.attempt.specs.Asking.{Known, Answer, Needs, Ends, ask}
+use Rattle.attempt.specs.Frame.{Agrees}
+use Rattle.world_law.specs.declared.events.Fate.TheVariants as fate
+use Rattle.world_law.specs.declared.events.Event.{Event}
+use Rattle.world_law.specs.declared.events.Event.TheVariants.{Begin, First, Value, Second, Ask, Word, Drop}
+use Rattle.world_law.specs.declared.events.Seen.{Seen}
+use Rattle.world_law.specs.declared.events.Seen.TheVariants as seen
+use Rattle.world_law.specs.World.{Started, Committer, World, IsOpening, CanBegin, IsRunning, Stands, Reading, Apart, stand, version_now, value_now, begun, changed, with_loads, with_read, with_fate, committing, Store, stores, Writes, stored, finished}
+
+-- what is seen of an attempt that goes on by itself to this answer
+abbrev pub told : Answer → Seen
+told (Needs x) = seen.Needs x
+told (Ends o writes) = seen.Ended o
+
+-- the running attempt of the task has ended, and nobody commits
+abbrev pub CanAsk : Listing → World → TaskId → ℕ → Started → Outcome → Known → Type 0
+CanAsk l w a i y o writes = Stands l w a i y (Ends o writes) × (w.committer ≡ None)
+
+-- the task has a running attempt, which is not the committer
+abbrev pub CanDrop : World → TaskId → ℕ → Started → Type 0
+CanDrop w a i y = IsRunning w a i y × Apart w.committer i
+
+-- the next store of the committer c is s, and the words are these after it
+abbrev pub IsNextStore : World → Committer → Store → List ℕ → Type 0
+IsNextStore w c s words =
+    (w.committer ≡ Some c) × (slice_get (stores c.changes) c.stored ≡ Some s) × Writes s c.number w.words words
+
+-- In the world w the event is seen so, and leads to w'. An event that is not possible is idle and changes nothing. The
+-- one thing that the world leaves open is want of memory: where an attempt begins, or goes on after a read, `Spent`
+-- may come in place of the answer.
+abbrev pub Next : Listing → World → Event → Seen → World → Type 0
+Next l w (Begin a) seen.Idle w' = (CanBegin l w a → ⊥) × (w' ≡ w)
+Next l w (Begin a) seen.Spent w' = CanBegin l w a × (w' ≡ begun w a fate.Spent)
+Next l w (Begin a) s w' = CanBegin l w a × (s ≡ told (ask (task_program l a) [])) × (w' ≡ begun w a fate.Running)
+Next l w (First a x) seen.Idle w' = ((i : ℕ) (y : Started) → Reading l w a i y x [] → ⊥) × (w' ≡ w)
+Next l w (First a x) seen.Stale w' =
+    (i : ℕ) × (y : Started) × Reading l w a i y x []
+    × ((version_now w x % 2 ≡ 1) ⊎ (2 * y.rv < version_now w x))
+    × (w' ≡ changed w i (with_fate y fate.Stale))
+Next l w (First a x) seen.Loaded w' =
+    (i : ℕ) × (y : Started) × Reading l w a i y x []
+    × (version_now w x % 2 ≡ 0) × (version_now w x ≤ 2 * y.rv)
+    × (w' ≡ changed w i (with_loads y (version_now w x ∷ [])))
+Next l w (First a x) s w' = ⊥
+Next l w (Value a) seen.Idle w' = ((i first : ℕ) (y : Started) (x : VarId) → Reading l w a i y x (first ∷ []) → ⊥) × (w' ≡ w)
+Next l w (Value a) seen.Loaded w' =
+    (i first : ℕ) × (y : Started) × (x : VarId) × Reading l w a i y x (first ∷ [])
+    × (w' ≡ changed w i (with_loads y (first ∷ value_now w x ∷ [])))
+Next l w (Value a) s w' = ⊥
+Next l w (Second a) seen.Idle w' =
+    ((i first bits : ℕ) (y : Started) (x : VarId) → Reading l w a i y x (first ∷ bits ∷ []) → ⊥) × (w' ≡ w)
+Next l w (Second a) seen.Stale w' =
+    (i first bits : ℕ) × (y : Started) × (x : VarId) × Reading l w a i y x (first ∷ bits ∷ [])
+    × (version_now w x ≢ first)
+    × (w' ≡ changed w i (with_fate y fate.Stale))
+Next l w (Second a) seen.Spent w' =
+    (i first bits : ℕ) × (y : Started) × (x : VarId) × Reading l w a i y x (first ∷ bits ∷ [])
+    × (version_now w x ≡ first)
+    × (w' ≡ changed w i (with_fate (with_read y x bits) fate.Spent))
+Next l w (Second a) s w' =
+    (i first bits : ℕ) × (y : Started) × (x : VarId) × Reading l w a i y x (first ∷ bits ∷ [])
+    × (version_now w x ≡ first)
+    × (s ≡ told (stand l (with_read y x bits)))
+    × (w' ≡ changed w i (with_read y x bits))
+Next l w (Ask a) seen.Idle w' =
+    ((i : ℕ) (y : Started) (o : Outcome) (writes : Known) → CanAsk l w a i y o writes → ⊥) × (w' ≡ w)
+Next l w (Ask a) seen.Stale w' =
+    (i : ℕ) × (y : Started) × (o : Outcome) × (writes : Known) × CanAsk l w a i y o writes
+    × (Agrees y.log (last_state w.history) → ⊥)
+    × (w' ≡ changed w i (with_fate y fate.Stale))
+Next l w (Ask a) seen.Parked w' =
+    (i : ℕ) × (y : Started) × (writes : Known) × CanAsk l w a i y Retries writes
+    × Agrees y.log (last_state w.history)
+    × (w' ≡ changed w i (with_fate y fate.Parked))
+Next l w (Ask a) (seen.Commits n) w' =
+    (i : ℕ) × (y : Started) × (o : Outcome) × (writes : Known) × CanAsk l w a i y o writes
+    × (o ≢ Retries) × Agrees y.log (last_state w.history)
+    × (n ≡ length w.history)
+    × (w' ≡ record w { committer = Some (committing w i writes) })
+Next l w (Ask a) s w' = ⊥
+Next l w Word seen.Idle w' = (w.committer ≡ None) × (w' ≡ w)
+Next l w Word seen.Stored w' =
+    (c : Committer) × (s : Store) × (words : List ℕ) × IsNextStore w c s words
+    × (c.stored + 1 < length (stores c.changes))
+    × (w' ≡ stored w c s words)
+Next l w Word (seen.Committed n) w' =
+    (c : Committer) × (s : Store) × (words : List ℕ) × (y : Started) × IsNextStore w c s words
+    × (c.stored + 1 ≡ length (stores c.changes)) × (n ≡ c.number)
+    × (slice_get w.attempts c.place ≡ Some y)
+    × (w' ≡ finished (stored w c s words) c y)
+Next l w Word s w' = ⊥
+Next l w (Drop a) seen.Idle w' = ((i : ℕ) (y : Started) → CanDrop w a i y → ⊥) × (w' ≡ w)
+Next l w (Drop a) seen.Dropped w' = (i : ℕ) × (y : Started) × CanDrop w a i y × (w' ≡ changed w i (with_fate y fate.Dropped))
+Next l w (Drop a) s w' = ⊥
+
+-- from w these events are seen so, one after another, and lead to w'
+abbrev pub Run : Listing → World → List Event → List Seen → World → Type 0
+Run l w [] [] w' = w' ≡ w
+Run l w (e ∷ es) (s ∷ ss) w' = (mid : World) × Next l w e s mid × Run l mid es ss w'
+Run l w [] (s ∷ ss) w' = ⊥
+Run l w (e ∷ es) [] w' = ⊥
+
+-- some events lead to w from the world as it opens
+abbrev pub Reachable : Listing → World → Type 0
+Reachable l w = (start : World) × IsOpening l start × (events : List Event) × (answers : List Seen) × Run l start events answers w

@@ -1,0 +1,30 @@
+//! What holds whatever happens in the world.
+
+ghost use Rattle.world_law.specs.World.{World, IsOpening};
+ghost use Rattle.world_law.specs.Next.{Reachable, Run};
+ghost use Rattle.world_law.specs.Opacity.{Opaque, WordsHold};
+ghost use Rattle.world_law.specs.Worked.{pair, pair_opening, torn_events, torn_answers, torn_end, back_and_forth, back_opening, back_events, back_answers, back_end};
+
+use txn::Catalogue;
+
+/// Whatever happens in the world of a catalogue, in whatever order and wherever want of memory
+/// comes, each attempt's reads are those of one state of the history, whatever became of it; each
+/// state was made by exactly one attempt, whose program leads to it; no task commits twice; and
+/// the words mean what they should, between any two loads and stores. It does nothing: its
+/// contract is the law.
+pub fn opacity(catalogue: &Catalogue)
+    ensures opaque { (w : World) → Reachable catalogue.now w → Opaque catalogue.now w }
+    ensures words { (w : World) → Reachable catalogue.now w → WordsHold catalogue.now w }
+{
+    catalogue.rules();
+}
+
+/// Two runs worked out by hand, event by event. A task that has read one of two variables before
+/// both were changed finds its next read stale. A value that goes away and comes back lets a task
+/// that read it before commit.
+pub fn worked_runs()
+    ensures pair { IsOpening pair pair_opening }
+    ensures torn { Run pair pair_opening torn_events torn_answers torn_end }
+    ensures single { IsOpening back_and_forth back_opening }
+    ensures back { Run back_and_forth back_opening back_events back_answers back_end }
+{}
