@@ -1,8 +1,8 @@
 //! The command line.
 
-use crate::options::Options;
 use clap::error::ErrorKind;
 use clap::{Arg, ArgMatches, Command, Error, value_parser};
+use runner::Options;
 use std::alloc::{AllocError, Global};
 
 /// What the command line asks for.
@@ -12,6 +12,8 @@ pub(crate) struct Request<'a> {
     pub(crate) file: &'a str,
     pub(crate) options: Options,
 }
+
+const VERSION: &str = "0.1.0";
 
 const ABOUT: &str =
     "Software transactional memory with retry and orElse: runs the transactions of a file and reports what they did.";
@@ -49,14 +51,15 @@ fn command<'a>(alloc: Global) -> Result<Command<'a>, AllocError> {
         .arg(workers)?
         .arg(checkpoint)?;
     Command::new(alloc, "stm")
+        .version(VERSION)
         .about(ABOUT)
         .subcommand_required(true)
         .arg_required_else_help(true)
         .subcommand(run)
 }
 
-/// What the words ask for. An `Err` has the text to show: help, where it was asked for, or what is
-/// wrong with the words.
+/// What the words ask for. An `Err` has the text to show: help or the version, where it was asked for,
+/// or what is wrong with the words.
 pub(crate) fn parse<'a>(alloc: Global, words: &'a [String]) -> Result<Request<'a>, Error> {
     let mut command = command(alloc)?;
     let matches = command.try_get_matches_from_mut(words)?;

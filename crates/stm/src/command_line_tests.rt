@@ -1,7 +1,6 @@
 //! The command line: what is asked for, help, and refusals.
 
 use crate::command_line::parse;
-use crate::program::{contents, unreadable};
 use clap::error::ErrorKind;
 use std::alloc::{AllocError, Global};
 use std::test::Fail;
@@ -35,6 +34,7 @@ fn files_are_asked_for(rt: HostRuntime) -> Result<(), Fail> {
         let request = parse(alloc, words.as_slice())?;
         assert_eq!(rt; request.file, "a.stm", "of {line}");
         assert_eq!(rt; request.options.workers(), 1, "of {line}");
+        assert_eq!(rt; request.options.tries(), 8, "of {line}");
         assert_eq!(rt; request.options.checkpoint(), 0, "of {line}");
     }
     Ok(())
@@ -94,11 +94,15 @@ fn help_is_shown(rt: HostRuntime) -> Result<(), Fail> {
 }
 
 #[test]
-fn what_is_not_there_cannot_be_read(rt: HostRuntime) -> Result<(), Fail> {
-    match contents(&rt, "no/such/file.stm") {
+fn the_version_is_shown(rt: HostRuntime) -> Result<(), Fail> {
+    let alloc = rt.alloc();
+    let words = words(alloc, "stm --version")?;
+    match parse(alloc, words.as_slice()) {
         Ok(_) => assert!(rt; false),
-        Err(error) => assert_eq!(rt; unreadable(&rt, &error), 4),
+        Err(error) => {
+            assert_eq!(rt; error.kind(), ErrorKind::DisplayVersion);
+            assert_eq!(rt; format!(in alloc; "{error}")?.as_str(), "stm 0.1.0\n");
+        }
     }
-    assert!(rt; contents(&rt, "/").is_err());
     Ok(())
 }

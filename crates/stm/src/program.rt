@@ -1,94 +1,118 @@
 //! The program: words and files in, a report and a status out.
 
-ghost use Rattle.std.specs.Prelude.{◌≡◌};
-ghost use Rattle.stm.specs.Statuses.{status_of};
+ghost use Rattle.std.specs.Prelude.{◌≡◌, ◌≢◌, ◌⊎◌, ◌<◌, ◌+◌, ◌^◌, true, IfOk, IfSome};
+ghost use Rattle.std.specs.IoError.{error_kind};
+ghost use Rattle.clap.specs.Values.{kind_of};
+ghost use Rattle.stm.specs.Files.{RanFile, Unread, Wordless, read_of, failed_calls};
 
+use crate::answer::{Answer, told};
 use crate::command_line::parse;
-use crate::fault::RunFault;
-use crate::options::Options;
-use crate::run_bytes::run_bytes;
-use crate::sink::Out;
 use clap::error::ErrorKind;
-use std::io::{BufWriter, Read};
+use runner::{Options, Out, RunFault, Sink, run_bytes};
+use std::alloc::Global;
+use std::io::Read;
 use std::rt::{Env, Files};
 use std::{env, fs, io};
 use txn_text::MAX_FILE;
 
-/// The status of a command line that is refused.
-const REFUSED: u8 = 3;
-
-/// The status of a file that cannot be read.
-const UNREADABLE: u8 = 4;
-
 /// Does what the command line asks for, and tells the status to end with.
 pub(crate) fn run<R: Files + Env + Print + Eprint + AllocGlobal>(rt: &R) -> u8 {
-    let Ok(words) = words(rt) else {
-        return told(rt, RunFault::Memory);
+    told(rt, answer(rt))
+}
+
+/// Does what the command line asks for. The report goes to the standard output as it is, each put
+/// of the sink by one write.
+fn answer<R: Files + Env + Print + Eprint + AllocGlobal>(rt: &R) -> Answer {
+    let words = match words(rt) {
+        Ok(words) => words,
+        Err(error) => return wordless(rt, &error),
     };
     match parse(rt.alloc(), words.as_slice()) {
-        Ok(request) => run_file(rt, request.file, request.options),
+        Ok(request) => {
+            let mut out = Out::new(io::writer(rt));
+            run_file(rt, request.file, request.options, &mut out)
+        }
         Err(error) => shown(rt, &error),
     }
 }
 
-/// The words of the command line.
+/// The words of the command line. A word that is not UTF-8 is refused: the standard library takes
+/// paths as UTF-8 alone, so a file of such a name could not be opened.
 fn words<R: Env + AllocGlobal>(rt: &R) -> io::Result<Vec<String>> {
     Ok(env::args(rt)?.collect(rt.alloc())?)
 }
 
-/// Runs a file, and writes its report to the standard output.
-fn run_file<R: Files + Print + Eprint + AllocGlobal>(rt: &R, path: &str, options: Options) -> u8 {
+/// Says why there are no words.
+fn wordless<R: Eprint>(rt: &R, error: &io::Error) -> Answer
+    ensures { Wordless (error_kind error.now) result }
+{
+    if error.kind() == io::ErrorKind::OutOfMemory {
+        return Answer::Failed(RunFault::Memory);
+    }
+    let _unheard = rt.eprintln("stm: the command line is not UTF-8");
+    Answer::Refused
+}
+
+/// Runs a file, and writes its report to the sink.
+fn run_file<R: Files + AllocGlobal, S: Sink>(
+    rt: &R,
+    path: &str,
+    options: Options,
+    sink: &mut S,
+) -> Answer
+    requires { S.failed sink.old < 2 ^ 63 }
+    ensures ran { RanFile (S.bytes sink.old) (S.bytes sink.new) result }
+    ensures flushed { result ≡ Answer.Done → S.flushed sink.new ≡ true }
+    ensures failures { S.failed sink.new ≡ S.failed sink.old + failed_calls result }
+{
     let bytes = match contents(rt, path) {
         Ok(bytes) => bytes,
-        Err(error) => return unreadable(rt, &error),
+        Err(error) => return unread(&error),
     };
-    let Ok(buffered) = BufWriter::new(rt.alloc(), io::writer(rt)) else {
-        return told(rt, RunFault::Memory);
-    };
-    let mut out = Out::new(buffered);
-    let ran = run_bytes(rt.alloc(), bytes.as_slice(), options, &mut out);
-    // What a failed write left in the buffer is not tried again.
-    let _unwritten = out.into_inner().into_parts();
-    match ran {
-        Ok(()) => 0,
-        Err(fault) => told(rt, fault),
+    match run_bytes(rt.alloc(), bytes.as_slice(), options, sink) {
+        Ok(()) => Answer::Done,
+        Err(fault) => Answer::Failed(fault),
     }
 }
 
 /// The bytes of a file, of which at most one past the limit is read.
 pub(crate) fn contents<R: Files + AllocGlobal>(rt: &R, path: &str) -> io::Result<Vec<u8>> {
-    let file = fs::open(rt, path)?;
-    let mut bytes = Vec::new(rt.alloc());
-    file.take(MAX_FILE as u64 + 1).read_to_end(&mut bytes)?;
+    up_to_limit(rt.alloc(), fs::open(rt, path)?)
+}
+
+/// What the reader has left, of which at most one byte past the limit is read.
+fn up_to_limit<I: Read + Drop>(alloc: Global, input: I) -> io::Result<Vec<u8>>
+    ensures { IfOk result (λ bytes. IfSome (I.remaining input) (λ all. bytes.items ≡ read_of all)) }
+{
+    let mut bytes = Vec::new(alloc);
+    input.take(MAX_FILE as u64 + 1).read_to_end(&mut bytes)?;
     Ok(bytes)
 }
 
-/// Says that a file cannot be read, or that there is no memory to read it into.
-pub(crate) fn unreadable<R: Eprint>(rt: &R, error: &io::Error) -> u8 {
-    if error.kind() == io::ErrorKind::OutOfMemory {
-        return told(rt, RunFault::Memory);
-    }
-    let _unheard = rt.eprintln("stm: cannot read");
-    UNREADABLE
-}
-
-/// Says why there is no report.
-fn told<R: Eprint>(rt: &R, fault: RunFault) -> u8
-    ensures { result ≡ status_of fault }
+/// Why a file was not read: it cannot be, or there is no memory to read it into.
+fn unread(error: &io::Error) -> Answer
+    ensures { Unread (error_kind error.now) result }
 {
-    let _unheard = rt.eprintln(fault.line());
-    fault.status()
+    if error.kind() == io::ErrorKind::OutOfMemory {
+        return Answer::Failed(RunFault::Memory);
+    }
+    Answer::Unreadable
 }
 
-/// Shows help, or what is wrong with the command line.
-fn shown<R: Print + Eprint>(rt: &R, error: &clap::Error) -> u8 {
+/// Shows help or the version, or what is wrong with the command line.
+fn shown<R: Print + Eprint>(rt: &R, error: &clap::Error) -> Answer
+    ensures memory { kind_of error.now ≡ ErrorKind.OutOfMemory → result ≡ Answer.Failed RunFault.Memory }
+    ensures help { kind_of error.now ≡ ErrorKind.DisplayHelp → (result ≡ Answer.Done) ⊎ (result ≡ Answer.Failed RunFault.Output) }
+    ensures version { kind_of error.now ≡ ErrorKind.DisplayVersion → (result ≡ Answer.Done) ⊎ (result ≡ Answer.Failed RunFault.Output) }
+    ensures refused { kind_of error.now ≢ ErrorKind.OutOfMemory → kind_of error.now ≢ ErrorKind.DisplayHelp → kind_of error.now ≢ ErrorKind.DisplayVersion → result ≡ Answer.Refused }
+{
     if error.kind() == ErrorKind::OutOfMemory {
-        return told(rt, RunFault::Memory);
+        return Answer::Failed(RunFault::Memory);
     }
     let asked = !error.use_stderr();
     match error.print(rt) {
-        Ok(()) if asked => 0,
-        Err(_) if asked => told(rt, RunFault::Output),
-        _ => REFUSED,
+        Ok(()) if asked => Answer::Done,
+        Err(_) if asked => Answer::Failed(RunFault::Output),
+        _ => Answer::Refused,
     }
 }

@@ -1,0 +1,4 @@
+pub mod Settings
+pub mod Statuses
+pub mod Working
+pub mod Running

@@ -1,0 +1,52 @@
+-- What a run of the bytes of a file leaves.
+use Rattle.std.specs.Prelude.{◌≡◌, ℕ, List, take, Option, Some, Result, Ok, Err}
+use Rattle.std.specs.Io.KnownBytes.{Appends, Keeps}
+use Rattle.txn.specs.Listing.{Listing}
+use Rattle.txn.specs.Told.{Told}
+use Rattle.txn.specs.LawfulReport.{LawfulReport, BaseReached}
+use Rattle.txn_text.specs.Spelling.{Spells, first_fault}
+use Rattle.txn_text.specs.ReportText.{report_text}
+use Rattle.runner.specs.declared.fault.RunFault.{RunFault}
+use Rattle.runner.specs.declared.fault.RunFault.TheVariants.{Input, Memory, Output}
+
+-- the text is that of one lawful report of exactly the file that the input spells
+pub record IsReportOf (input text : List ℕ) : Type 0 where
+  pub file : Listing
+  pub spelled : Spells input file
+  pub report : Told
+  pub lawful : LawfulReport file report
+  pub reached : BaseReached file report
+  pub printed : text ≡ report_text file report
+
+-- such a text was written
+pub record WroteReport (input : List ℕ) (old new : Option (List ℕ)) : Type 0 where
+  pub text : List ℕ
+  pub report : IsReportOf input text
+  pub written : Appends old new text
+
+-- a beginning of such a text was written
+pub record WroteBeginning (input : List ℕ) (old new : Option (List ℕ)) : Type 0 where
+  pub text : List ℕ
+  pub report : IsReportOf input text
+  pub count : ℕ
+  pub written : Appends old new (take count text)
+
+-- by the answer: a whole report, or nothing and the first kind of fault, or nothing, or a beginning
+abbrev pub Ran : {U : Type 0} → List ℕ → Option (List ℕ) → Option (List ℕ) → Result U RunFault → Type 0
+Ran input old new (Ok u) = WroteReport input old new
+Ran input old new (Err (Input kind)) = (first_fault input ≡ Some kind) × Keeps old new
+Ran input old new (Err Memory) = Keeps old new
+Ran input old new (Err Output) = WroteBeginning input old new
+
+-- a run adds one failure of the sink exactly where it answers `Output`
+abbrev pub output_failures : {U : Type 0} → Result U RunFault → ℕ
+output_failures (Ok u) = 0
+output_failures (Err (Input kind)) = 0
+output_failures (Err Memory) = 0
+output_failures (Err Output) = 1
+
+-- why no report came of the input
+abbrev pub IsRefused : List ℕ → RunFault → Type 0
+IsRefused input (Input kind) = first_fault input ≡ Some kind
+IsRefused input Memory = Unit {0}
+IsRefused input Output = ⊥

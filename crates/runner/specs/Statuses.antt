@@ -1,0 +1,24 @@
+-- The status and the line of each fault of a run.
+use Rattle.std.specs.Prelude.{ℕ, List, codes}
+use Rattle.txn_text.specs.fault.ReadFault.{ReadFault}
+use Rattle.txn_text.specs.fault.ReadFault.TheVariants as read
+use Rattle.runner.specs.declared.fault.RunFault.{RunFault}
+use Rattle.runner.specs.declared.fault.RunFault.TheVariants.{Input, Memory, Output}
+
+abbrev pub status_of : RunFault → ℕ
+status_of (Input kind) = 2
+status_of Output = 4
+status_of Memory = 5
+
+abbrev pub kind_line : ReadFault → List ℕ
+kind_line read.TooLong = codes "stm: file: F1 TooLong"
+kind_line read.BadByte = codes "stm: file: F2 BadByte"
+kind_line read.Shape = codes "stm: file: F3 Shape"
+kind_line read.Name = codes "stm: file: F4 Name"
+kind_line read.Limit = codes "stm: file: F5 Limit"
+kind_line read.Memory = codes "stm: out of memory"
+
+abbrev pub line_of : RunFault → List ℕ
+line_of (Input kind) = kind_line kind
+line_of Output = codes "stm: cannot write"
+line_of Memory = codes "stm: out of memory"

@@ -1,0 +1,56 @@
+//! From the bytes of a file to the bytes of its report.
+
+ghost use Rattle.std.specs.Prelude.{◌≡◌, ◌+◌, ◌<◌, ◌^◌, true, IfOk, OnOk, IfErr, string_bytes};
+ghost use Rattle.runner.specs.Running.{IsReportOf, IsRefused, Ran, output_failures};
+
+use crate::fault::RunFault;
+use crate::options::Options;
+use crate::tasks::run_tasks;
+use sink::{Sink, put_all};
+use std::alloc::Global;
+use txn_text::{ReadFault, print_report, read_file};
+
+/// Runs the file that the bytes spell, and writes its report to the sink.
+///
+/// `Ok`: exactly the text of one lawful report of exactly that file was written, and then flushed.
+/// `Input`: the bytes spell no file, and this is the first kind of fault that they have; nothing
+/// was written. `Memory`: a growth was refused; nothing was written. `Output`: a call of the sink
+/// failed, the only one, and a beginning of one such text was written.
+pub fn run_bytes<S: Sink>(
+    alloc: Global,
+    bytes: &[u8],
+    options: Options,
+    sink: &mut S,
+) -> Result<(), RunFault>
+    requires { S.failed sink.old < 2 ^ 63 }
+    ensures ran { Ran bytes.now (S.bytes sink.old) (S.bytes sink.new) result }
+    ensures flushed { OnOk result (S.flushed sink.new ≡ true) }
+    ensures failures { S.failed sink.new ≡ S.failed sink.old + output_failures result }
+{
+    match report_of(alloc, bytes, options) {
+        Ok(text) => match put_all(sink, text.as_bytes()) {
+            Ok(()) => Ok(()),
+            Err(_) => Err(RunFault::Output),
+        },
+        Err(fault) => Err(fault),
+    }
+}
+
+/// The text of a lawful report of the file that the bytes spell.
+fn report_of(alloc: Global, bytes: &[u8], options: Options) -> Result<String, RunFault>
+    ensures report { IfOk result (λ text. IsReportOf bytes.now (string_bytes text)) }
+    ensures refused { IfErr result (IsRefused bytes.now) }
+{
+    let catalogue = match read_file(alloc, bytes) {
+        Ok(catalogue) => catalogue,
+        Err(ReadFault::Memory) => return Err(RunFault::Memory),
+        Err(kind) => return Err(RunFault::Input(kind)),
+    };
+    let Ok(report) = run_tasks(alloc, &catalogue, options) else {
+        return Err(RunFault::Memory);
+    };
+    match print_report(alloc, &catalogue, &report) {
+        Ok(text) => Ok(text),
+        Err(_) => Err(RunFault::Memory),
+    }
+}

@@ -1,0 +1,65 @@
+//! Why a run did not end in a report: the program's statuses and lines.
+
+ghost use Rattle.std.specs.Prelude.{◌≡◌};
+
+use thiserror::Error;
+use txn_text::ReadFault;
+
+/// Why a run did not end in a report. Its text is `line()`.
+#[derive(Clone, Copy, Debug, PartialEq, Eq, Error)]
+pub enum RunFault {
+    /// The input spells no file, by a fault of this kind, which is never `Memory`. Nothing was
+    /// written.
+    #[error("{}", RunFault::Input(*.0).line())]
+    Input(ReadFault),
+    /// A growth was refused. Nothing was written.
+    #[error("{}", RunFault::Memory.line())]
+    Memory,
+    /// A write or the flush failed, or a write took nothing. A beginning of one lawful report was
+    /// written.
+    #[error("{}", RunFault::Output.line())]
+    Output,
+}
+
+impl RunFault {
+    ghost use Rattle.runner.specs.Statuses.{status_of, line_of};
+
+    /// The status that the program ends with: 2 where the input is refused, 4 where the output
+    /// failed, 5 for want of memory.
+    pub fn status(&self) -> u8
+        ensures { result ≡ status_of self.now }
+    {
+        match self {
+            RunFault::Input(_) => 2,
+            RunFault::Output => 4,
+            RunFault::Memory => 5,
+        }
+    }
+
+    /// The line that the program writes to standard error, without its newline. It is a fixed text
+    /// and takes no memory.
+    pub fn line(&self) -> &'static str
+        ensures { result.now ≡ line_of self.now }
+    {
+        match self {
+            RunFault::Input(kind) => input_line(*kind),
+            RunFault::Output => "stm: cannot write",
+            RunFault::Memory => "stm: out of memory",
+        }
+    }
+}
+
+ghost use Rattle.runner.specs.Statuses.{kind_line};
+
+fn input_line(kind: ReadFault) -> &'static str
+    ensures { result.now ≡ kind_line kind }
+{
+    match kind {
+        ReadFault::TooLong => "stm: file: F1 TooLong",
+        ReadFault::BadByte => "stm: file: F2 BadByte",
+        ReadFault::Shape => "stm: file: F3 Shape",
+        ReadFault::Name => "stm: file: F4 Name",
+        ReadFault::Limit => "stm: file: F5 Limit",
+        ReadFault::Memory => "stm: out of memory",
+    }
+}

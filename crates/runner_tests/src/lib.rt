@@ -1,0 +1,17 @@
+//! Tests of the public calls of `runner`.
+#![tactic(auto)]
+
+#[cfg(test)]
+mod ample;
+#[cfg(test)]
+mod options;
+#[cfg(test)]
+mod outputs;
+#[cfg(test)]
+mod parts;
+#[cfg(test)]
+mod refusals;
+#[cfg(test)]
+mod reports;
+#[cfg(test)]
+mod texts;

@@ -1,0 +1,77 @@
+//! Inputs that spell no file, each with its first kind of fault.
+
+use crate::parts::expect_fault;
+use std::test::Fail;
+use txn_text::ReadFault;
+
+#[test]
+fn refusals_by_shape(rt: HostRuntime) -> Result<(), Fail> {
+    for input in [
+        "(var x",
+        "(var x -0)",
+        "(var x 01)",
+        "(run t 1)(tx t (set x 1) 0)",
+        "(stm 2)",
+    ] {
+        expect_fault(
+            &rt,
+            rt.alloc(),
+            input.as_bytes(),
+            ReadFault::Shape,
+            "stm: file: F3 Shape",
+        )?;
+    }
+    Ok(())
+}
+
+#[test]
+fn refusals_by_name(rt: HostRuntime) -> Result<(), Fail> {
+    for input in [
+        "(tx t (skip) y)",
+        "(var x 1)(var x 1)",
+        "(var x 9223372036854775808)(tx t (skip) y)",
+        "(run a234567890123456789012345678901234 1)",
+    ] {
+        expect_fault(
+            &rt,
+            rt.alloc(),
+            input.as_bytes(),
+            ReadFault::Name,
+            "stm: file: F4 Name",
+        )?;
+    }
+    Ok(())
+}
+
+#[test]
+fn refusals_by_limit(rt: HostRuntime) -> Result<(), Fail> {
+    for input in [
+        "(var x 9223372036854775808)",
+        "(tx t (repeat 1001 (skip)) 0)",
+        "(tx t (skip) 0)(run t 65537)",
+        "(tx t (seq (repeat 999 (repeat 999 (skip))) (repeat 997 (skip))) 0)(run t 1)",
+    ] {
+        expect_fault(
+            &rt,
+            rt.alloc(),
+            input.as_bytes(),
+            ReadFault::Limit,
+            "stm: file: F5 Limit",
+        )?;
+    }
+    Ok(())
+}
+
+#[test]
+fn refusals_by_byte(rt: HostRuntime) -> Result<(), Fail> {
+    for input in [[200].as_slice(), &[b';', 200]] {
+        expect_fault(
+            &rt,
+            rt.alloc(),
+            input,
+            ReadFault::BadByte,
+            "stm: file: F2 BadByte",
+        )?;
+    }
+    Ok(())
+}

@@ -1,0 +1,97 @@
+//! Worked runs from bytes to bytes. The reports were worked out by hand from the language's rules.
+
+use crate::parts::expect_report;
+use runner::{Options, Out, run_bytes};
+use std::test::Fail;
+
+#[test]
+fn increments(rt: HostRuntime) -> Result<(), Fail> {
+    let alloc = rt.alloc();
+    for (input, report) in [
+        ("", "base 0\nnow 0\nend\n"),
+        ("; nothing", "base 0\nnow 0\nend\n"),
+        (
+            "(var x 5)(tx inc (set x (add x 1)) x)(run inc 2)",
+            "base 0\nx 5 0\nentry 1 0 inc returned 6\nentry 2 1 inc returned 7\nnow 2\nx 7 2\nend\n",
+        ),
+        (
+            "(var x 9223372036854775807)(tx inc (set x (add x 1)) x)(run inc 1)",
+            "base 0\nx 9223372036854775807 0\nentry 1 0 inc overflow\nnow 1\nx 9223372036854775807 0\nend\n",
+        ),
+        (
+            "(var x 5)(tx t (set x 5) x)(run t 1)",
+            "base 0\nx 5 0\nentry 1 0 t returned 5\nnow 1\nx 5 0\nend\n",
+        ),
+        ("(tx t (skip) 0)(run t 0)", "base 0\nnow 0\nend\n"),
+    ] {
+        expect_report(&rt, alloc, input, report)?;
+    }
+    Ok(())
+}
+
+#[test]
+fn retries_and_alternatives(rt: HostRuntime) -> Result<(), Fail> {
+    let alloc = rt.alloc();
+    for (input, report) in [
+        (
+            "(var x 0)(tx t (orelse (seq (set x 9) (retry)) (skip)) x)(run t 1)",
+            "base 0\nx 0 0\nentry 1 0 t returned 0\nnow 1\nx 0 0\nend\n",
+        ),
+        (
+            "(var x 0)(tx t (orelse (throw 7) (set x 1)) x)(run t 1)",
+            "base 0\nx 0 0\nentry 1 0 t threw 7\nnow 1\nx 0 0\nend\n",
+        ),
+        (
+            "(tx t (orelse (retry) (retry)) 0)(run t 1)",
+            "base 0\nnow 0\nparked 0 t\nend\n",
+        ),
+        (
+            "(var full 0)(var cell 0)(tx get (seq (if (eq full 0) (retry) (skip)) (set full 0)) cell)(tx put (seq (if (eq full 1) (retry) (skip)) (set cell 42) (set full 1)) 0)(run get 1)(run put 1)",
+            "base 0\nfull 0 0\ncell 0 0\nentry 1 1 put returned 0\nentry 2 0 get returned 42\nnow 2\nfull 0 2\ncell 42 1\nend\n",
+        ),
+        (
+            "(var entry 1)(var now 2)(var end 3)(tx t (set end (add entry now)) end)(run t 1)",
+            "base 0\nentry 1 0\nnow 2 0\nend 3 0\nentry 1 0 t returned 3\nnow 1\nentry 1 0\nnow 2 0\nend 3 0\nend\n",
+        ),
+    ] {
+        expect_report(&rt, alloc, input, report)?;
+    }
+    Ok(())
+}
+
+#[test]
+fn faults_of_numbers(rt: HostRuntime) -> Result<(), Fail> {
+    let alloc = rt.alloc();
+    for (input, report) in [
+        (
+            "(tx a (skip) (div 1 0))(tx b (skip) (div -9223372036854775808 -1))(tx c (skip) (div -7 2))(tx d (skip) (rem -7 2))(run a 1)(run b 1)(run c 1)(run d 1)",
+            "base 0\nentry 1 0 a zerodiv\nentry 2 1 b overflow\nentry 3 2 c returned -3\nentry 4 3 d returned -1\nnow 4\nend\n",
+        ),
+        (
+            "(var x 1)(tx t (set x 2) (div x 0))(tx p (if (and (eq 1 2) (eq (div 1 0) 0)) (throw 1) (skip)) 0)(run t 1)(run p 1)",
+            "base 0\nx 1 0\nentry 1 0 t zerodiv\nentry 2 1 p returned 0\nnow 2\nx 1 0\nend\n",
+        ),
+        (
+            "(tx t (seq (repeat 999 (repeat 999 (skip))) (repeat 996 (skip))) 0)(run t 1)",
+            "base 0\nentry 1 0 t returned 0\nnow 1\nend\n",
+        ),
+        (
+            "(var x 0)(tx t (repeat 0 (set x 1)) x)(run t 1)",
+            "base 0\nx 0 0\nentry 1 0 t returned 0\nnow 1\nx 0 0\nend\n",
+        ),
+    ] {
+        expect_report(&rt, alloc, input, report)?;
+    }
+    Ok(())
+}
+
+#[test]
+fn a_checkpoint_moves_the_base(rt: HostRuntime) -> Result<(), Fail> {
+    let input = "(var x 5)(tx inc (set x (add x 1)) x)(run inc 3)";
+    let options = Options::new(1, 8, 2).ok_or("options")?;
+    let mut out = Out::new(Vec::new(rt.alloc()));
+    assert!(rt; run_bytes(rt.alloc(), input.as_bytes(), options, &mut out).is_ok());
+    let report = "base 2\nx 7 2\nentry 3 2 inc returned 8\nnow 3\nx 8 3\nend\n";
+    assert_eq!(rt; out.into_inner().as_slice(), report.as_bytes());
+    Ok(())
+}

@@ -1,0 +1,47 @@
+-- What of a file is read, what a run of a file leaves, and what an error is answered with.
+use Rattle.std.specs.Prelude.{◌≡◌, ◌≢◌, ◌⊎◌, ℕ, List, take, Option, Result, Ok, Err}
+use Rattle.std.specs.Io.KnownBytes.{Keeps}
+use Rattle.runner.specs.Running.{Ran, output_failures}
+use Rattle.runner.specs.declared.fault.RunFault.{RunFault}
+use Rattle.runner.specs.declared.fault.RunFault.TheVariants.{Memory}
+use Rattle.std.specs.declared.io.ErrorKind.{ErrorKind}
+use Rattle.std.specs.declared.io.ErrorKind.TheVariants.{OutOfMemory}
+use Rattle.stm.specs.declared.answer.Answer.{Answer}
+use Rattle.stm.specs.declared.answer.Answer.TheVariants.{Done, Refused, Unreadable, Failed}
+
+-- a file has at most 1,048,576 bytes: with one byte more it is known to be too long
+abbrev pub read_of : List ℕ → List ℕ
+read_of all = take 1048577 all
+
+-- by the kind of the error: why a file was not read
+abbrev pub Unread : ErrorKind → Answer → Type 0
+Unread kind a =
+    ((kind ≡ OutOfMemory) × (a ≡ Failed Memory))
+    ⊎ ((kind ≢ OutOfMemory) × (a ≡ Unreadable))
+
+-- by the kind of the error: why there are no words
+abbrev pub Wordless : ErrorKind → Answer → Type 0
+Wordless kind a =
+    ((kind ≡ OutOfMemory) × (a ≡ Failed Memory))
+    ⊎ ((kind ≢ OutOfMemory) × (a ≡ Refused))
+
+-- the answers of a run of bytes
+abbrev pub done : Result (Unit {0}) RunFault
+done = Ok tt
+
+abbrev pub ended : RunFault → Result (Unit {0}) RunFault
+ended fault = Err fault
+
+-- by the answer: what a run of some bytes leaves that ends so, or nothing was written
+abbrev pub RanFile : Option (List ℕ) → Option (List ℕ) → Answer → Type 0
+RanFile old new Done = (input : List ℕ) × Ran input old new done
+RanFile old new Refused = ⊥
+RanFile old new Unreadable = Keeps old new
+RanFile old new (Failed fault) = (input : List ℕ) × Ran input old new (ended fault)
+
+-- how many calls of the sink failed
+abbrev pub failed_calls : Answer → ℕ
+failed_calls Done = 0
+failed_calls Refused = 0
+failed_calls Unreadable = 0
+failed_calls (Failed fault) = output_failures (ended fault)

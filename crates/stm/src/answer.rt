@@ -1,0 +1,45 @@
+//! How the program ends: what came of the command line, and the status of each.
+
+ghost use Rattle.std.specs.Prelude.{◌≡◌};
+ghost use Rattle.stm.specs.Statuses.{exit_status};
+
+use runner::RunFault;
+
+/// What came of the command line.
+#[derive(Clone, Copy, Debug, PartialEq, Eq)]
+pub(crate) enum Answer {
+    /// A report was printed, or the help or the version that was asked for.
+    Done,
+    /// The command line is refused, and it was said why.
+    Refused,
+    /// The file cannot be read.
+    Unreadable,
+    /// There is no report, or help that was asked for could not be printed.
+    Failed(RunFault),
+}
+
+/// The status to end with: 0 done, 2 the file is refused, 3 the command line is refused, 4 a file
+/// cannot be read or the output cannot be written, 5 out of memory.
+pub(crate) fn status(answer: Answer) -> u8
+    ensures { result ≡ exit_status answer }
+{
+    match answer {
+        Answer::Done => 0,
+        Answer::Refused => 3,
+        Answer::Unreadable => 4,
+        Answer::Failed(fault) => fault.status(),
+    }
+}
+
+/// Says on the standard error why there is no report, where that was not said yet, and tells the
+/// status.
+pub(crate) fn told<R: Eprint>(rt: &R, answer: Answer) -> u8
+    ensures { result ≡ exit_status answer }
+{
+    let _unheard = match answer {
+        Answer::Done | Answer::Refused => Ok(()),
+        Answer::Unreadable => rt.eprintln("stm: cannot read"),
+        Answer::Failed(fault) => rt.eprintln(fault.line()),
+    };
+    status(answer)
+}

@@ -1,0 +1,247 @@
+//! A runtime of which a test says everything: the words, the one file, and what becomes of output.
+
+use std::alloc::{Allocator, Global};
+use std::cell::{Cell, RefCell};
+use std::env::FillError;
+use std::fmt::Display;
+use std::fs::{Metadata, OpenFile, OpenOptions};
+use std::io;
+use std::io::{Read, Seek, SeekFrom, Write};
+use std::rt::{Env, Files};
+
+/// What the file does when it is read.
+#[derive(Clone, Copy, PartialEq, Eq)]
+pub(crate) enum Reads {
+    AllBytes,
+    Fails,
+    WantsMemory,
+}
+
+/// What the standard output does with the first write. It takes all later ones.
+#[derive(Clone, Copy, PartialEq, Eq)]
+pub(crate) enum Prints {
+    All,
+    Fails,
+    Interrupted,
+}
+
+/// A process with the file `a.stm`.
+#[derive(Drop)]
+pub(crate) struct Host<'a> {
+    pub(crate) alloc: Global,
+    pub(crate) words: &'a [&'a [u8]],
+    pub(crate) file: &'a [u8],
+    pub(crate) reads: Reads,
+    pub(crate) prints: Prints,
+    /// How many writes the standard output got.
+    pub(crate) writes: Cell<u32>,
+    /// How many bytes it took.
+    pub(crate) taken: Cell<usize>,
+    /// What the standard error got last.
+    pub(crate) said: RefCell<String>,
+}
+
+impl<'a> Host<'a> {
+    /// Where everything goes well.
+    pub(crate) fn new(alloc: Global, words: &'a [&'a [u8]], file: &'a [u8]) -> Host<'a> {
+        Host {
+            alloc,
+            words,
+            file,
+            reads: Reads::AllBytes,
+            prints: Prints::All,
+            writes: Cell::new(0),
+            taken: Cell::new(0),
+            said: RefCell::new(String::new(alloc)),
+        }
+    }
+
+    /// A text for the standard error.
+    fn hear(&self, text: String) {
+        let _unheard = self.said.try_replace(text);
+    }
+
+    /// Whether the standard error got this text last.
+    pub(crate) fn has_said(&self, text: &str) -> bool {
+        match self.said.try_borrow() {
+            Ok(said) => said.as_str() == text,
+            Err(_) => false,
+        }
+    }
+
+    /// One write of so many bytes to the standard output.
+    fn write_once(&self, count: usize) -> io::Result<()> {
+        let first = self.writes.get() == 0;
+        self.writes.set(self.writes.get().saturating_add(1));
+        match self.prints {
+            Prints::Fails if first => Err(io::Error::from(io::ErrorKind::BrokenPipe)),
+            Prints::Interrupted if first => Err(io::Error::from(io::ErrorKind::Interrupted)),
+            _ => {
+                self.taken.set(self.taken.get().saturating_add(count));
+                Ok(())
+            }
+        }
+    }
+}
+
+impl Alloc for Host<'_> {
+    type A = Global;
+
+    fn alloc(&self) -> Global {
+        self.alloc
+    }
+}
+
+impl Print for Host<'_> {
+    fn print<D: Display + Drop>(&self, _value: D) -> io::Result<()> {
+        self.write_once(1)
+    }
+
+    fn println<D: Display + Drop>(&self, _value: D) -> io::Result<()> {
+        self.write_once(1)
+    }
+
+    fn write_all(&self, bytes: &[u8]) -> io::Result<()> {
+        self.write_once(bytes.len())
+    }
+}
+
+impl Eprint for Host<'_> {
+    fn eprint<D: Display + Drop>(&self, value: D) -> io::Result<()> {
+        self.hear(format!(in self.alloc; "{value}")?);
+        Ok(())
+    }
+
+    fn eprintln<D: Display + Drop>(&self, value: D) -> io::Result<()> {
+        self.hear(format!(in self.alloc; "{value}\n")?);
+        Ok(())
+    }
+}
+
+impl Env for Host<'_> {
+    fn arg(&self, i: usize, buf: &mut [u8]) -> Result<usize, FillError> {
+        let Some(word) = self.words.get(i) else {
+            return Err(FillError::NotPresent);
+        };
+        let Some(place) = buf.get_mut(..word.len()) else {
+            return Err(FillError::TooLong);
+        };
+        place.copy_from_slice(word);
+        Ok(word.len())
+    }
+
+    fn var(&self, _name: &str, _buf: &mut [u8]) -> Result<usize, FillError> {
+        Err(FillError::NotPresent)
+    }
+
+    fn var_at(&self, _i: usize, _buf: &mut [u8]) -> Result<usize, FillError> {
+        Err(FillError::NotPresent)
+    }
+}
+
+/// A file that is open for reading.
+#[derive(Drop)]
+pub(crate) struct Opened<'a> {
+    rest: &'a [u8],
+    reads: Reads,
+}
+
+fn unsupported<T>() -> io::Result<T> {
+    Err(io::Error::from(io::ErrorKind::Unsupported))
+}
+
+impl Read for Opened<'_> {
+    fn read(&mut self, buf: &mut [u8]) -> io::Result<usize> {
+        match self.reads {
+            Reads::AllBytes => self.rest.read(buf),
+            Reads::Fails => Err(io::Error::from(io::ErrorKind::Other)),
+            Reads::WantsMemory => Err(io::Error::from(io::ErrorKind::OutOfMemory)),
+        }
+    }
+}
+
+impl Write for Opened<'_> {
+    fn write(&mut self, _piece: &[u8]) -> io::Result<usize> {
+        Err(io::Error::from(io::ErrorKind::Unsupported))
+    }
+
+    fn flush(&mut self) -> io::Result<()> {
+        unsupported()
+    }
+}
+
+impl Seek for Opened<'_> {
+    fn seek(&mut self, _to: SeekFrom) -> io::Result<u64> {
+        unsupported()
+    }
+}
+
+impl OpenFile for Opened<'_> {
+    fn metadata(&self) -> io::Result<Metadata> {
+        unsupported()
+    }
+
+    fn set_len(&self, _size: u64) -> io::Result<()> {
+        unsupported()
+    }
+
+    fn sync_all(&self) -> io::Result<()> {
+        unsupported()
+    }
+
+    fn sync_data(&self) -> io::Result<()> {
+        unsupported()
+    }
+}
+
+impl<'a> Files for Host<'a> {
+    type File = Opened<'a>;
+
+    type Dir = io::Empty;
+
+    fn open_file(&self, _how: &OpenOptions, path: &str) -> io::Result<Opened<'a>> {
+        if path != "a.stm" {
+            return Err(io::Error::from(io::ErrorKind::NotFound));
+        }
+        Ok(Opened {
+            rest: self.file,
+            reads: self.reads,
+        })
+    }
+
+    fn open_dir(&self, _path: &str) -> io::Result<io::Empty> {
+        unsupported()
+    }
+
+    fn metadata(&self, _path: &str) -> io::Result<Metadata> {
+        unsupported()
+    }
+
+    fn symlink_metadata(&self, _path: &str) -> io::Result<Metadata> {
+        unsupported()
+    }
+
+    fn copy(&self, _from: &str, _to: &str) -> io::Result<u64> {
+        unsupported()
+    }
+
+    fn rename(&self, _from: &str, _to: &str) -> io::Result<()> {
+        unsupported()
+    }
+
+    fn remove_file(&self, _path: &str) -> io::Result<()> {
+        unsupported()
+    }
+
+    fn create_dir(&self, _path: &str) -> io::Result<()> {
+        unsupported()
+    }
+
+    fn remove_dir(&self, _path: &str) -> io::Result<()> {
+        unsupported()
+    }
+
+    fn remove_dir_all<B: Allocator>(&self, _alloc: B, _path: &str) -> io::Result<()> {
+        unsupported()
+    }
+}
