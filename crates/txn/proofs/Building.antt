@@ -11,6 +11,8 @@ use Rattle.txn.specs.declared.ast.Tx.{Tx}
 use Rattle.txn.specs.declared.ast.TxId.{TxId}
 use Rattle.txn.specs.Tree.{Program, program_of}
 use Rattle.txn.specs.Listing.{listing_of}
+use Rattle.txn.specs.Code.{program_code}
+use Rattle.txn.proofs.Lawful.{limits_parts}
 use Rattle.txn.specs.Names.{is_name, are_new, are_distinct, knows_program, is_well_formed, names_hold}
 use Rattle.txn.specs.Limits.{most_tasks, most_variables, most_transactions, longest_name, limits_hold, program_fits}
 
@@ -84,9 +86,10 @@ pub tx_names_are : (txs : List Tx) → map (λ (tx : Tx). string_bytes tx.name) 
 tx_names_are [] = refl
 tx_names_are (tx ∷ txs) = ap (λ l. string_bytes tx.name ∷ l) (tx_names_are txs)
 
-pub names_are : (vars : List (String Global × ℤ)) → map string_bytes (map (λ (v : String Global × ℤ). v.0) vars) ≡ map (λ (v : String Global × ℤ). string_bytes v.0) vars
-names_are [] = refl
-names_are (v ∷ vars) = ap (λ l. string_bytes v.0 ∷ l) (names_are vars)
+-- their codes, over what `build` is given
+pub codes_are : (txs : List Tx) → map (λ (tx : Tx). program_code (program_of tx)) txs ≡ map program_code (map program_of txs)
+codes_are [] = refl
+codes_are (tx ∷ txs) = ap (λ l. program_code (program_of tx) ∷ l) (codes_are txs)
 
 pub names_hold_by : (l : Listing) → is_well_formed l ≡ true → are_distinct l.names ≡ true → are_distinct (map (λ (t : Program). t.name) l.programs) ≡ true → names_hold l ≡ true
 unfolding names_hold
@@ -96,13 +99,21 @@ pub not_well_formed : (l : Listing) → is_well_formed l ≡ false → names_hol
 unfolding names_hold
 not_well_formed l a = and_left (is_well_formed l) (are_distinct l.names && are_distinct (map (λ (t : Program). t.name) l.programs)) a
 
-pub name_twice : (l : Listing) → are_distinct l.names ≡ false → names_hold l ≡ false
+pub given_twice : (vars : List (String Global × ℤ)) (txs now : List Tx) (runs : List (TxId × ℕ)) → now ≡ txs → (are_distinct (map (λ v. string_bytes v.0) vars) && are_distinct (map (λ t. string_bytes t.name) now)) ≡ false → names_hold (listing_of vars txs runs) ≡ false
 unfolding names_hold
-name_twice l a = and_right (is_well_formed l) _ (and_left (are_distinct l.names) (are_distinct (map (λ (t : Program). t.name) l.programs)) a)
+given_twice vars txs now runs e h =
+    let l = listing_of vars txs runs in
+    let named = tx_names_are now ∙ ap (λ ts. map (λ (t : Program). t.name) (map program_of ts)) e in
+    and_right (is_well_formed l) _ (ap (λ names. are_distinct l.names && are_distinct names) (sym named) ∙ h)
 
-pub tx_name_twice : (l : Listing) → are_distinct (map (λ (t : Program). t.name) l.programs) ≡ false → names_hold l ≡ false
-unfolding names_hold
-tx_name_twice l a = and_right (is_well_formed l) _ (and_right (are_distinct l.names) (are_distinct (map (λ (t : Program). t.name) l.programs)) a)
+pub given_once : (vars : List (String Global × ℤ)) (txs now : List Tx) (runs : List (TxId × ℕ)) → now ≡ txs → is_well_formed (listing_of vars txs runs) ≡ true → are_distinct (map (λ v. string_bytes v.0) vars) ≡ true → are_distinct (map (λ t. string_bytes t.name) now) ≡ true → names_hold (listing_of vars txs runs) ≡ true
+given_once vars txs now runs e a b c =
+    let named = tx_names_are now ∙ ap (λ ts. map (λ (t : Program). t.name) (map program_of ts)) e in
+    names_hold_by (listing_of vars txs runs) a b (ap are_distinct (sym named) ∙ c)
+
+pub programs_fit : (vars : List (String Global × ℤ)) (txs now : List Tx) (runs : List (TxId × ℕ)) → now ≡ txs → limits_hold (listing_of vars txs runs) ≡ true → list_all (λ tx. program_fits (program_of tx)) now ≡ true
+programs_fit vars txs now runs e h =
+    ap (list_all (λ tx. program_fits (program_of tx))) e ∙ sym (list_all-map program_fits program_of txs) ∙ (limits_parts (listing_of vars txs runs) h).programs
 
 -- a listing is known by its parts
 pub listing_by : (names : List (List ℕ)) (values : List ℤ) (l : Listing) → names ≡ l.names → values ≡ l.initial → record l { names = names; initial = values } ≡ l

@@ -6,3 +6,4 @@ pub mod Words
 pub mod Stores
 pub mod Loads
 mod Sequences
+mod Patches

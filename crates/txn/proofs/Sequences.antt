@@ -2,7 +2,7 @@
 use Rattle.std.proofs.Common.{◌≡◌, ℤ, Result, Ok, Err, refl, sym, ◌∙◌, ap}
 use Rattle.txn.specs.declared.ast.Fault.{Fault}
 use Rattle.txn.specs.declared.ast.Fault.TheVariants.{User}
-use Rattle.txn.specs.Tree.{Expression, Statement, Retry, Throw, Statements, End, More}
+use Rattle.txn.specs.Tree.{Expression, Retry, Throw, Statements, End, More}
 use Rattle.txn.specs.Meaning.{State, Ending, Done, Threw, Retried, then_do, with_number, value, run, run_all}
 use Rattle.txn.specs.Worked.{joined}
 

@@ -2,6 +2,7 @@
 use Rattle.std.specs.Prelude.{◌≡◌, map, length, string_bytes, true}
 use Rattle.txn.specs.declared.catalogue.Catalogue.TheInside.{Inside}
 use Rattle.txn.specs.Tree.{program_of}
+use Rattle.txn.specs.Code.{program_code}
 use Rattle.txn.specs.Listing.{Listing, tasks_of}
 use Rattle.txn.specs.Names.{names_hold}
 use Rattle.txn.specs.Limits.{limits_hold}
@@ -20,4 +21,5 @@ pub record IsKept (c : Inside) : Type 0 where
   pub limits : limits_hold (listed c) ≡ true
   pub valued : length c.initial.items ≡ length c.names.keys
   pub tx_names : map string_bytes c.tx_names.keys ≡ map (λ t. t.name) (listed c).programs
+  pub codes : map (λ code. code.items) c.codes.items ≡ map program_code (listed c).programs
   pub task_txs : c.task_txs.items ≡ tasks_of c.runs.items

@@ -3,6 +3,7 @@ pub mod Tree
 pub mod Meaning
 pub mod Cost
 pub mod Depth
+pub mod Code
 pub mod Scope
 pub mod Listing
 pub mod Codes

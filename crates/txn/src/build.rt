@@ -1,13 +1,17 @@
 //! The parts of building a catalogue: tests of what is given, and the tables made of it.
 
-ghost use Rattle.std.specs.Prelude.{◌≡◌, ◌++◌, true, false, IfOk, IfErr, OnOk, ◌≢◌, map, string_bytes, replicate};
+ghost use Rattle.std.specs.Prelude.{◌≡◌, ◌++◌, ◌&&◌, true, false, IfOk, IfErr, OnOk, ◌≢◌, map, string_bytes, replicate};
+ghost use Rattle.std.specs.List.{list_all};
+ghost use Rattle.txn.specs.Code.{program_code};
 ghost use Rattle.txn.specs.Tree.{program_of};
 ghost use Rattle.txn.specs.Listing.{listing_of, tasks_of};
 ghost use Rattle.txn.specs.Names.{are_distinct, is_well_formed, names_hold};
-ghost use Rattle.txn.specs.Limits.{limits_hold};
+ghost use Rattle.txn.specs.Limits.{limits_hold, program_fits};
 ghost use Rattle.txn.specs.declared.build.BuildFault.TheVariants.{Memory};
 
 use crate::ast::{Tx, TxId};
+use crate::code::Op;
+use crate::compile::compile;
 use crate::limits::{
     MAX_TRANSACTIONS, MAX_VARIABLES, counts_fit, names_fit, sum_fits, transactions_fit,
     tx_names_fit,
@@ -65,7 +69,7 @@ pub(crate) fn within_limits(vars: &[(String, i64)], txs: &[Tx], runs: &[(TxId, u
 }
 
 /// The names as a set in their order, if they are distinct.
-pub(crate) fn name_set(alloc: Global, names: Vec<String>) -> Result<IndexSet<String>, BuildFault>
+fn name_set(alloc: Global, names: Vec<String>) -> Result<IndexSet<String>, BuildFault>
     ensures ok { IfOk result (λ s. map string_bytes s.keys ≡ map string_bytes names.items) }
     ensures distinct { OnOk result (are_distinct (map string_bytes names.items) ≡ true) }
     ensures name { IfErr result (λ e. e ≡ BuildFault.Name → are_distinct (map string_bytes names.items) ≡ false) }
@@ -82,12 +86,42 @@ pub(crate) fn name_set(alloc: Global, names: Vec<String>) -> Result<IndexSet<Str
     Ok(set)
 }
 
-/// The names of the variables, and their initial values.
-pub(crate) fn halves(
+/// What a catalogue declares: the names, and the initial values.
+#[derive(Drop)]
+pub(crate) struct Declared {
+    pub(crate) names: IndexSet<String>,
+    pub(crate) initial: Vec<i64>,
+    pub(crate) tx_names: IndexSet<String>,
+}
+
+/// What is declared, if no name is given twice among variables or among transactions.
+pub(crate) fn declare(
     alloc: Global,
     vars: Vec<(String, i64)>,
-) -> Result<(Vec<String>, Vec<i64>), AllocError>
-    ensures names { IfOk result (λ h. h.0.items ≡ map (λ v. v.0) vars.items) }
+    txs: &[Tx],
+) -> Result<Declared, BuildFault>
+    ensures names { IfOk result (λ d. map string_bytes d.names.keys ≡ map (λ v. string_bytes v.0) vars.items) }
+    ensures initial { IfOk result (λ d. d.initial.items ≡ map (λ v. v.1) vars.items) }
+    ensures tx_names { IfOk result (λ d. map string_bytes d.tx_names.keys ≡ map (λ t. string_bytes t.name) txs.now) }
+    ensures distinct { OnOk result (are_distinct (map (λ v. string_bytes v.0) vars.items) ≡ true) }
+    ensures tx_distinct { OnOk result (are_distinct (map (λ t. string_bytes t.name) txs.now) ≡ true) }
+    ensures name { IfErr result (λ e. e ≡ BuildFault.Name → (are_distinct (map (λ v. string_bytes v.0) vars.items) && are_distinct (map (λ t. string_bytes t.name) txs.now)) ≡ false) }
+    ensures limit { IfErr result (λ e. e ≢ BuildFault.Limit) }
+{
+    let (texts, initial) = halves(alloc, vars)?;
+    let names = name_set(alloc, texts)?;
+    let tx_texts = tx_names(alloc, txs)?;
+    let tx_names = name_set(alloc, tx_texts)?;
+    Ok(Declared {
+        names,
+        initial,
+        tx_names,
+    })
+}
+
+/// The names of the variables, and their initial values.
+fn halves(alloc: Global, vars: Vec<(String, i64)>) -> Result<(Vec<String>, Vec<i64>), AllocError>
+    ensures names { IfOk result (λ h. map string_bytes h.0.items ≡ map (λ v. string_bytes v.0) vars.items) }
     ensures initial { IfOk result (λ h. h.1.items ≡ map (λ v. v.1) vars.items) }
 {
     let mut names = Vec::with_capacity(alloc, vars.len())?;
@@ -100,7 +134,7 @@ pub(crate) fn halves(
 }
 
 /// The names of the transactions.
-pub(crate) fn tx_names(alloc: Global, txs: &[Tx]) -> Result<Vec<String>, AllocError>
+fn tx_names(alloc: Global, txs: &[Tx]) -> Result<Vec<String>, AllocError>
     ensures { IfOk result (λ names. map string_bytes names.items ≡ map (λ t. string_bytes t.name) txs.now) }
 {
     let mut names = Vec::with_capacity(alloc, txs.len())?;
@@ -108,6 +142,18 @@ pub(crate) fn tx_names(alloc: Global, txs: &[Tx]) -> Result<Vec<String>, AllocEr
         names.push(tx.name.clone()?)?;
     }
     Ok(names)
+}
+
+/// The code of each transaction, where each is within the limits.
+pub(crate) fn codes(alloc: Global, txs: &[Tx]) -> Result<Vec<Vec<Op>>, AllocError>
+    requires { list_all (λ tx. program_fits (program_of tx)) txs.now ≡ true }
+    ensures { IfOk result (λ codes. map (λ code. code.items) codes.items ≡ map (λ tx. program_code (program_of tx)) txs.now) }
+{
+    let mut codes = Vec::with_capacity(alloc, txs.len())?;
+    for tx in txs {
+        codes.push(compile(alloc, tx)?)?;
+    }
+    Ok(codes)
 }
 
 /// Each task's transaction.

@@ -1,6 +1,7 @@
 //! The catalogue: what a file declares.
 
-ghost use Rattle.std.specs.Prelude.{◌≡◌, ◌<◌, ◌≤◌, ℕ, List, length, map, slice_get, string_bytes, bytes_eq, position, Some, IfErr, true, false, IfOk, OnOk, IsTrue, ◌↔◌};
+ghost use Rattle.std.specs.Prelude.{◌≡◌, ◌<◌, ◌≤◌, ◌^◌, ℕ, List, length, map, slice_get, string_bytes, bytes_eq, position, Some, IfErr, true, false, IfOk, OnOk, IsTrue, ◌↔◌};
+ghost use Rattle.txn.specs.Code.{program_code};
 ghost use Rattle.txn.specs.Names.{names_hold};
 ghost use Rattle.txn.specs.Limits.{limits_hold, most_variables};
 ghost use Rattle.txn.specs.Tree.{program_of};
@@ -8,20 +9,23 @@ ghost use Rattle.txn.specs.Listing.{listing_of, tasks, task_tx, program_at, vari
 ghost use Rattle.txn.specs.Scope.{ProgramKnown};
 
 use crate::ast::{TaskId, Tx, TxId, VarId};
-use crate::build::{BuildFault, halves, name_set, task_txs, tx_names, well_formed, within_limits};
+use crate::build::{BuildFault, codes, declare, task_txs, well_formed, within_limits};
+use crate::code::Op;
 use crate::same::{same_names, same_programs, same_runs, same_values};
 use indexmap::IndexSet;
 use std::alloc::Global;
 use std::marker::Model;
 
 /// Variables, transactions and runs, in declared order. A clause sees what they say, as a
-/// `Listing`. In every catalogue names and ids hold, and all limits.
+/// `Listing`. In every catalogue names and ids hold, and all limits. It keeps the flat code of each
+/// transaction, which its program determines.
 #[derive(Drop)]
 pub struct Catalogue {
     names: IndexSet<String>,
     initial: Vec<i64>,
     tx_names: IndexSet<String>,
     txs: Vec<Tx>,
+    codes: Vec<Vec<Op>>,
     runs: Vec<(TxId, u32)>,
     task_txs: Vec<TxId>,
 }
@@ -66,19 +70,18 @@ impl Catalogue {
             return Err(BuildFault::Name);
         }
         let within = within_limits(&vars, &txs, &runs);
-        let (texts, initial) = halves(alloc, vars)?;
-        let names = name_set(alloc, texts)?;
-        let tx_texts = tx_names(alloc, &txs)?;
-        let tx_names = name_set(alloc, tx_texts)?;
+        let declared = declare(alloc, vars, &txs)?;
         if !within {
             return Err(BuildFault::Limit);
         }
+        let codes = codes(alloc, &txs)?;
         let task_txs = task_txs(alloc, &runs)?;
         Ok(Catalogue {
-            names,
-            initial,
-            tx_names,
+            names: declared.names,
+            initial: declared.initial,
+            tx_names: declared.tx_names,
             txs,
+            codes,
             runs,
             task_txs,
         })
@@ -137,6 +140,15 @@ impl Catalogue {
         ensures known { ProgramKnown (length self.now.initial) (program_of result.now) }
     {
         &self.txs[id.0 as usize]
+    }
+
+    /// A transaction's flat code, made when the catalogue was built.
+    pub fn code(&self, id: TxId) -> &[Op]
+        requires { id.0 < length self.now.programs }
+        ensures value { result.now ≡ program_code (program_at self.now id) }
+        ensures length { length result.now < 2 ^ 63 }
+    {
+        self.codes[id.0 as usize].as_slice()
     }
 
     /// How many transactions there are.

@@ -4,6 +4,8 @@
 #[cfg(test)]
 mod build;
 #[cfg(test)]
+mod code;
+#[cfg(test)]
 mod evaluate;
 #[cfg(test)]
 mod getters;
