@@ -53,13 +53,16 @@ fn commits_all(
     Ok(())
 }
 
+fn commits_all_of(rt: &impl Abort, alloc: Global, catalogue: &Catalogue) -> Result<(), Fail> {
+    let (cells, publisher, _) = Cells::open(alloc, catalogue.initial(), 0)?;
+    let mut book = Book::open(alloc, catalogue, &cells, publisher)?;
+    commits_all(rt, alloc, &mut book, catalogue)
+}
+
 #[test]
 fn all_variables_are_written_and_committed(rt: HostRuntime) -> Result<(), Fail> {
-    let alloc = rt.alloc();
-    let catalogue = on_all(alloc)?;
-    let (cells, publisher, _) = Cells::open(alloc, catalogue.initial(), 0)?;
-    let mut book = Book::open(alloc, &catalogue, &cells, publisher)?;
-    commits_all(&rt, alloc, &mut book, &catalogue)
+    let catalogue = on_all(rt.alloc())?;
+    commits_all_of(&rt, rt.alloc(), &catalogue)
 }
 
 /// Each of the tasks commits, and the report has an entry for each.
@@ -73,11 +76,14 @@ fn runs_all(rt: &impl Abort, alloc: Global, book: &mut Book<'_>) -> Result<(), F
     Ok(())
 }
 
+fn runs_all_of(rt: &impl Abort, alloc: Global, catalogue: &Catalogue) -> Result<(), Fail> {
+    let (cells, publisher, _) = Cells::open(alloc, catalogue.initial(), 0)?;
+    let mut book = Book::open(alloc, catalogue, &cells, publisher)?;
+    runs_all(rt, alloc, &mut book)
+}
+
 #[test]
 fn all_tasks_run_and_are_reported(rt: HostRuntime) -> Result<(), Fail> {
-    let alloc = rt.alloc();
-    let catalogue = increments(alloc, 65536)?;
-    let (cells, publisher, _) = Cells::open(alloc, catalogue.initial(), 0)?;
-    let mut book = Book::open(alloc, &catalogue, &cells, publisher)?;
-    runs_all(&rt, alloc, &mut book)
+    let catalogue = increments(rt.alloc(), 65536)?;
+    runs_all_of(&rt, rt.alloc(), &catalogue)
 }

@@ -1,6 +1,6 @@
 //! Attempts on what passes read of the cells that the book publishes to.
 
-ghost use Rattle.std.specs.Prelude.{◌≡◌, ◌<◌, IfOk};
+ghost use Rattle.std.specs.Prelude.{◌≡◌, ◌<◌, length, All, IfOk};
 ghost use Rattle.book.specs.Turns.{IsEndOf};
 
 use crate::parts::{X, increments};
@@ -80,37 +80,71 @@ fn one_more_attempt(
     Ok(())
 }
 
+/// Both, one after the other.
+fn attempts_on_two_passes(
+    rt: &impl Abort,
+    alloc: Global,
+    mut book: Book<'_>,
+    catalogue: &Catalogue,
+    cells: &Cells,
+    mut passes: Vec<Pass>,
+) -> Result<(), Memory>
+    requires own { All (λ p. p.cells ≡ cells.now) passes.items }
+    requires exists { 0 < cells.now.variables }
+{
+    let (Some(mut first), Some(mut second)) = (passes.pop(), passes.pop()) else {
+        panic!(rt; "no two passes")
+    };
+    two_attempts(
+        rt,
+        alloc,
+        &mut book,
+        catalogue,
+        cells,
+        &mut first,
+        &mut second,
+    )?;
+    one_more_attempt(rt, alloc, &mut book, catalogue, cells, &mut second)
+}
+
+/// A book of the catalogue, and two passes.
+fn beside_a_book(rt: &impl Abort, alloc: Global, catalogue: &Catalogue) -> Result<(), Memory>
+    requires { 0 < length catalogue.now.initial }
+{
+    let (cells, publisher, passes) = Cells::open(alloc, catalogue.initial(), 2)?;
+    let book = Book::open(alloc, catalogue, &cells, publisher)?;
+    attempts_on_two_passes(rt, alloc, book, catalogue, &cells, passes)
+}
+
 #[test]
 fn a_finish_on_old_values_is_stale(rt: HostRuntime) -> Result<(), Fail> {
     let alloc = rt.alloc();
     let catalogue = increments(alloc, 2)?;
-    let (cells, publisher, mut passes) = Cells::open(alloc, catalogue.initial(), 2)?;
     assert_eq!(rt; catalogue.initial().len(), 1);
-    let (Some(mut first), Some(mut second)) = (passes.pop(), passes.pop()) else {
-        panic!(rt; "no two passes")
-    };
-    let mut book = Book::open(alloc, &catalogue, &cells, publisher)?;
-    two_attempts(
-        &rt,
-        alloc,
-        &mut book,
-        &catalogue,
-        &cells,
-        &mut first,
-        &mut second,
-    )?;
-    one_more_attempt(&rt, alloc, &mut book, &catalogue, &cells, &mut second)?;
+    beside_a_book(&rt, alloc, &catalogue)?;
+    Ok(())
+}
+
+/// A pass that is open, is closed by a meeting.
+fn meets(rt: &impl Abort, book: &mut Book<'_>, cells: &Cells, pass: &mut Pass)
+    requires own { pass.old.cells ≡ cells.now }
+    requires book { book.old.cells ≡ cells.now }
+{
+    pass.begin(cells);
+    book.meet(pass);
+    assert!(rt; !pass.is_open());
+}
+
+fn meets_a_book(rt: &impl Abort, alloc: Global, catalogue: &Catalogue) -> Result<(), Memory> {
+    let (cells, publisher, mut passes) = Cells::open(alloc, catalogue.initial(), 1)?;
+    let mut book = Book::open(alloc, catalogue, &cells, publisher)?;
+    meets(rt, &mut book, &cells, &mut passes[0]);
     Ok(())
 }
 
 #[test]
 fn a_meeting_closes_a_pass(rt: HostRuntime) -> Result<(), Fail> {
-    let alloc = rt.alloc();
-    let catalogue = increments(alloc, 1)?;
-    let (cells, publisher, mut passes) = Cells::open(alloc, catalogue.initial(), 1)?;
-    let mut book = Book::open(alloc, &catalogue, &cells, publisher)?;
-    passes[0].begin(&cells);
-    book.meet(&mut passes[0]);
-    assert!(rt; !passes[0].is_open());
+    let catalogue = increments(rt.alloc(), 1)?;
+    meets_a_book(&rt, rt.alloc(), &catalogue)?;
     Ok(())
 }

@@ -82,11 +82,9 @@ fn if_of(alloc: Global, depth: u32, bytes: &[u8]) -> Result<(RawStmt<'_>, &[u8])
     ensures shorter { IfOk result (λ x. length x.1.now < length bytes.now) }
 {
     let (test, rest) = cond_of(alloc, depth, bytes)?;
-    let (first, rest) = stmt_of(alloc, depth, rest)?;
-    let (second, rest) = stmt_of(alloc, depth, rest)?;
+    let (first, rest) = boxed(alloc, depth, rest)?;
+    let (second, rest) = boxed(alloc, depth, rest)?;
     let rest = close(rest)?;
-    let first = Box::new(alloc, first)?;
-    let second = Box::new(alloc, second)?;
     Ok((RawStmt::If(test, first, second), rest))
 }
 
@@ -97,9 +95,8 @@ fn repeat_of(alloc: Global, depth: u32, bytes: &[u8]) -> Result<(RawStmt<'_>, &[
     ensures shorter { IfOk result (λ x. length x.1.now < length bytes.now) }
 {
     let (count, rest) = int_of(bytes)?;
-    let (body, rest) = stmt_of(alloc, depth, rest)?;
+    let (body, rest) = boxed(alloc, depth, rest)?;
     let rest = close(rest)?;
-    let body = Box::new(alloc, body)?;
     Ok((RawStmt::Repeat(count, body), rest))
 }
 
@@ -109,12 +106,21 @@ fn orelse_of(alloc: Global, depth: u32, bytes: &[u8]) -> Result<(RawStmt<'_>, &[
     ensures value { Gives (λ x. (view_stmt x.0, tokens x.1.now)) result (orelse_with (stmt_at depth) (tokens bytes.now)) }
     ensures shorter { IfOk result (λ x. length x.1.now < length bytes.now) }
 {
-    let (first, rest) = stmt_of(alloc, depth, bytes)?;
-    let (second, rest) = stmt_of(alloc, depth, rest)?;
+    let (first, rest) = boxed(alloc, depth, bytes)?;
+    let (second, rest) = boxed(alloc, depth, rest)?;
     let rest = close(rest)?;
-    let first = Box::new(alloc, first)?;
-    let second = Box::new(alloc, second)?;
     Ok((RawStmt::OrElse(first, second), rest))
+}
+
+/// A statement that stands in another.
+#[cycle(stmts)]
+fn boxed(alloc: Global, depth: u32, bytes: &[u8]) -> Result<(Box<RawStmt<'_>>, &[u8]), ReadFault>
+    ensures value { Gives (λ x. (view_stmt x.0.value, tokens x.1.now)) result (stmt_at depth (tokens bytes.now)) }
+    ensures shorter { IfOk result (λ x. length x.1.now < length bytes.now) }
+{
+    let (made, rest) = stmt_of(alloc, depth, bytes)?;
+    let held = Box::new(alloc, made)?;
+    Ok((held, rest))
 }
 
 #[tactic(auto, unfolding(file_grammar::specs::Reading::throw_with))]

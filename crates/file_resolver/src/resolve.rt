@@ -226,9 +226,9 @@ fn variables(alloc: Global, pairs: &[RawPair<'_>]) -> Result<Vec<(String, i64)>,
 fn program(alloc: Global, names: &IndexSet<&str>, tx: &RawTx<'_>) -> Result<Tx, ReadFault>
     ensures { Gives program_of result (program_in (texts names.now.keys) (view_tx tx.now)) }
 {
+    let name = String::from_str(alloc, tx.name)?;
     let body = statement(alloc, names, &tx.body)?;
     let result = expression(alloc, names, &tx.value)?;
-    let name = String::from_str(alloc, tx.name)?;
     Ok(Tx { name, body, result })
 }
 

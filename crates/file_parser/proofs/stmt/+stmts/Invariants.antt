@@ -7,10 +7,10 @@ use Rattle.text_words.proofs.Many.{with_front}
 use Rattle.file_parser.proofs.stmt.+stmts.Given as goal
 
 abbrev pub decreases-stmt_of : goal.decreases-stmt_of
-decreases-stmt_of l = 2 * l.depth
+decreases-stmt_of l = 3 * l.depth
 
 abbrev pub decreases-seq_of : goal.decreases-seq_of
-decreases-seq_of l = 2 * l.depth + 1
+decreases-seq_of l = 3 * l.depth + 2
 
 abbrev pub invariant-seq_of-parts : goal.invariant-seq_of-parts
 invariant-seq_of-parts l = record {
@@ -23,10 +23,13 @@ abbrev pub decreases-seq_of-parts : goal.decreases-seq_of-parts
 decreases-seq_of-parts l = length l.rest
 
 abbrev pub decreases-if_of : goal.decreases-if_of
-decreases-if_of l = 2 * l.depth + 1
+decreases-if_of l = 3 * l.depth + 2
 
 abbrev pub decreases-repeat_of : goal.decreases-repeat_of
-decreases-repeat_of l = 2 * l.depth + 1
+decreases-repeat_of l = 3 * l.depth + 2
 
 abbrev pub decreases-orelse_of : goal.decreases-orelse_of
-decreases-orelse_of l = 2 * l.depth + 1
+decreases-orelse_of l = 3 * l.depth + 2
+
+abbrev pub decreases-boxed : goal.decreases-boxed
+decreases-boxed l = 3 * l.depth + 1
