@@ -11,6 +11,7 @@ use Rattle.txn.specs.Names.{names_hold}
 use Rattle.txn.specs.Scope.{ProgramKnown}
 use Rattle.txn.specs.Tree.{Program, Skip, Int}
 use Rattle.txn.specs.declared.ast.TxId.{TxId}
+use Rattle.attempt.specs.Correct.{IsShallow}
 use Rattle.txn.specs.declared.limits.TheConstants.{MAX_COST, MAX_DEPTH, MAX_REPEAT}
 use Rattle.std.proofs.Common.{pos, []}
 
@@ -21,7 +22,7 @@ pub program_known : (l : Listing) (id : TxId) → names_hold l ≡ true → leng
 program_known l id names named lt =
     subst (λ n. ProgramKnown n (program_at l id)) named (known_at l id.0 (program_at l id) names (slice_get-get_or l.programs id.0 none lt))
 
-fits_cost : (t : Program) → program_fits t ≡ true → cost t ≤ MAX_COST
+pub fits_cost : (t : Program) → program_fits t ≡ true → cost t ≤ MAX_COST
 fits_cost t h =
     let a = nat_le (statement_depth t.body) MAX_DEPTH in
     let b = nat_le (expression_depth t.result) MAX_DEPTH in
@@ -32,6 +33,18 @@ fits_cost t h =
     let h3 = and_parts c d h2.1 in
     leb-true _ _ h3.1
 
+pub fits_shallow : (t : Program) → program_fits t ≡ true → IsShallow t
+fits_shallow t h =
+    let a = nat_le (statement_depth t.body) MAX_DEPTH in
+    let b = nat_le (expression_depth t.result) MAX_DEPTH in
+    let c = nat_le (largest_repeat t.body) MAX_REPEAT in
+    let d = nat_le (cost t) MAX_COST in
+    let h1 = and_parts a (b && (c && d)) h in
+    let h2 = and_parts b (c && d) h1.1 in
+    record { body = leb-true _ _ h1.0; result = leb-true _ _ h2.0 }
+
+pub program_fitting : (l : Listing) (id : TxId) → limits_hold l ≡ true → id.0 < length l.programs → program_fits (program_at l id) ≡ true
+program_fitting l id limits lt = passes_at program_fits l.programs id.0 (program_at l id) (limits_parts l limits).programs (slice_get-get_or l.programs id.0 none lt)
+
 pub program_small : (l : Listing) (id : TxId) → limits_hold l ≡ true → id.0 < length l.programs → cost (program_at l id) ≤ MAX_COST
-program_small l id limits lt =
-    fits_cost (program_at l id) (passes_at program_fits l.programs id.0 (program_at l id) (limits_parts l limits).programs (slice_get-get_or l.programs id.0 none lt))
+program_small l id limits lt = fits_cost (program_at l id) (program_fitting l id limits lt)

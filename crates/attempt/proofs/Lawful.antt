@@ -1,35 +1,44 @@
 -- An attempt stays lawful: where it waits, where it is over, and where it is told a variable.
-use Rattle.std.proofs.Common.{◌≡◌, ◌≤◌, ℕ, ℤ, [], subst, sym}
+use Rattle.std.proofs.Common.{◌≡◌, ◌≤◌, ◌+◌, ◌-◌, ◌∷◌, ◌++◌, ℕ, length, arith, ℤ, [], subst, refl, length-append}
 use Rattle.txn.specs.Cost.{cost}
 use Rattle.txn.specs.declared.ast.VarId.{VarId}
 use Rattle.txn.specs.declared.ast.Outcome.{Outcome}
+use Rattle.attempt.specs.declared.attempt.Attempt.TheInside.{Inside}
+use Rattle.attempt.specs.declared.next.Stand.{Stand}
 use Rattle.attempt.specs.declared.next.Stand.TheVariants as stand
+use Rattle.txn.specs.Listing.{program_at}
 use Rattle.attempt.specs.Asking.{Known, ask, Needs, Ends}
-use Rattle.attempt.specs.AttemptInside.{IsLawful, StandsAt}
-use Rattle.attempt.specs.Order.{AllKnown, Ascending}
+use Rattle.attempt.specs.AttemptInside.{viewed, IsKept, IsLawful, StandsAt, IsGoing, GoesOn}
+use Rattle.attempt.specs.Place.{place_of, Stops}
+use Rattle.attempt.specs.declared.machine.Machine.{Machine}
+use Rattle.attempt.specs.declared.running.Count.{Count}
+use Rattle.attempt.proofs.Resume.{reached_more}
+use Rattle.txn.specs.Code.{program_code}
+use Rattle.txn.specs.Tree.{Program}
 use Rattle.attempt.specs.View.{AttemptView, OnlyOfReturned, supplied}
 use Rattle.attempt.proofs.Answered.{needs_missing, ends_well}
 use Rattle.attempt.proofs.Pairs.{AllKnown-append, Apart-append}
 
-pub waiting : (a : AttemptView) (x : VarId) (w : Known) (n : ℕ) → IsLawful a → ask a.program a.log ≡ Needs x → w ≡ [] → n ≤ cost a.program →
-    IsLawful (record { program = a.program; variables = a.variables; log = a.log; writes = w; stand = stand.Needs x; steps = n })
-waiting a x w n kept e none le =
+pub waiting : (a : AttemptView) (x : VarId) (n total : ℕ) → IsLawful a → ask a.program a.log ≡ Needs x → n ≤ cost a.program → total ≤ cost a.program + length a.log →
+    IsLawful (record { program = a.program; variables = a.variables; log = a.log; writes = []; stand = stand.Needs x; steps = n; total = total })
+waiting a x n total kept e le few =
     let missing = needs_missing a.variables a.program a.log x kept.known e in
     record {
       small = kept.small;
       known = kept.known;
       logged = kept.logged;
       apart = kept.apart;
-      written = subst (AllKnown a.variables) (sym none) tt;
-      ascending = subst Ascending (sym none) tt;
-      only = none;
+      written = tt;
+      ascending = tt;
+      only = refl;
       stands = (e, missing.0, missing.1);
       steps = le;
+      total = few;
     }
 
-pub over : (a : AttemptView) (o : Outcome) (w : Known) (n : ℕ) → IsLawful a → ask a.program a.log ≡ Ends o w → n ≤ cost a.program →
-    IsLawful (record { program = a.program; variables = a.variables; log = a.log; writes = w; stand = stand.Over o; steps = n })
-over a o w n kept e le =
+pub over : (a : AttemptView) (o : Outcome) (w : Known) (n total : ℕ) → IsLawful a → ask a.program a.log ≡ Ends o w → n ≤ cost a.program → total ≤ cost a.program + length a.log →
+    IsLawful (record { program = a.program; variables = a.variables; log = a.log; writes = w; stand = stand.Over o; steps = n; total = total })
+over a o w n total kept e le few =
     let well = ends_well a.variables a.program a.log w o kept.known e in
     record {
       small = kept.small;
@@ -41,6 +50,7 @@ over a o w n kept e le =
       only = well.1;
       stands = e;
       steps = le;
+      total = few;
     }
 
 pub told_more : (a : AttemptView) (x : VarId) (v : ℤ) → IsLawful a → a.stand ≡ stand.Needs x → IsLawful (supplied a x v)
@@ -56,4 +66,53 @@ told_more a x v kept needs =
       only = subst (λ s. OnlyOfReturned s a.writes) needs kept.only;
       stands = tt;
       steps = kept.steps;
+      total = omega (arith, kept.total, length-append a.log ((x, v) ∷ []));
     }
+
+pub spent : (a : AttemptView) (n total : ℕ) → IsLawful a → n ≤ cost a.program → total ≤ cost a.program + length a.log →
+    IsLawful (record { program = a.program; variables = a.variables; log = a.log; writes = []; stand = stand.Spent; steps = n; total = total })
+spent a n total kept le few =
+    record {
+      small = kept.small;
+      known = kept.known;
+      logged = kept.logged;
+      apart = kept.apart;
+      written = tt;
+      ascending = tt;
+      only = refl;
+      stands = tt;
+      steps = le;
+      total = few;
+    }
+
+-- a machine that waits can go on with a longer log
+pub supplied_goes : (t : Program) (log : Known) (m : Machine) (count : Count) (total : ℕ) (x : VarId) (v : ℤ) → IsGoing t log m count total 1 → IsGoing t (log ++ (x, v) ∷ []) m count total 0
+supplied_goes t log m count total x v going =
+    let longer = length-append log ((x, v) ∷ []) in
+    record {
+      reached = reached_more (program_code t) log ((x, v) ∷ []) (place_of m) count.entered going.reached;
+      ahead = going.ahead;
+      most = omega (arith, going.most, longer);
+      least = omega (arith, going.least, longer);
+    }
+
+-- an attempt whose machine went on
+pub went_on : (i : Inside) (s : Stand) (m : Machine) (count : Count) (len : ℕ) → IsKept i → i.stand ≡ stand.Fresh → len ≡ length i.log →
+    Stops (program_at i.catalogue.now i.id) i.log s (place_of m) count.entered count.ahead → count.entered + count.ahead ≤ cost (program_at i.catalogue.now i.id) →
+    IsKept (record { catalogue = i.catalogue; id = i.id; machine = m; count = count; log = i.log; stand = s; steps = count.entered + count.ahead + len - i.total; total = count.entered + count.ahead + len })
+went_on i s m count len kept fresh same stops few =
+    let going = subst (GoesOn (program_at i.catalogue.now i.id) i.log i.machine i.count i.total) fresh kept.going in
+    at s stops (omega (arith, few, same, going.least)) (omega (arith, few, same))
+  where
+    at : (s : Stand) → Stops (program_at i.catalogue.now i.id) i.log s (place_of m) count.entered count.ahead →
+        count.entered + count.ahead + len - i.total ≤ cost (program_at i.catalogue.now i.id) → count.entered + count.ahead + len ≤ cost (program_at i.catalogue.now i.id) + length i.log →
+        IsKept (record { catalogue = i.catalogue; id = i.id; machine = m; count = count; log = i.log; stand = s; steps = count.entered + count.ahead + len - i.total; total = count.entered + count.ahead + len })
+    at stand.Fresh h le few = absurd h
+    at (stand.Needs x) h le few =
+        record {
+          declared = kept.declared;
+          lawful = waiting (viewed i) x _ _ kept.lawful h.0 le few;
+          going = record { reached = h.1; ahead = omega (arith, h.2); most = omega (arith, same); least = omega (arith, same, h.3) };
+        }
+    at (stand.Over o) h le few = record { declared = kept.declared; lawful = over (viewed i) o m.writes _ _ kept.lawful h le few; going = tt }
+    at stand.Spent h le few = record { declared = kept.declared; lawful = spent (viewed i) _ _ kept.lawful le few; going = tt }

@@ -1,9 +1,12 @@
 pub mod FrameProof
 pub mod Declared
 pub mod Told
-pub mod Costs
 pub mod Writes
 pub mod Pairs
 pub mod Answered
 pub mod Lawful
-pub mod Short
+pub mod Runs
+pub mod Resume
+pub mod Placed
+pub mod Going
+pub mod InOrder

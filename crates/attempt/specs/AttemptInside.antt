@@ -1,25 +1,40 @@
 -- What the fields of an attempt mean, and what they keep.
-use Rattle.std.specs.Prelude.{◌≡◌, ◌<◌, ◌≤◌, length, None}
+use Rattle.std.specs.Prelude.{◌≡◌, ℕ, ◌+◌, ◌<◌, ◌≤◌, [], length, None}
+use Rattle.txn.specs.Code.{program_code}
 use Rattle.txn.specs.Cost.{cost}
 use Rattle.txn.specs.Listing.{program_at}
 use Rattle.txn.specs.Scope.{ProgramKnown}
+use Rattle.txn.specs.Tree.{Program}
 use Rattle.txn.specs.declared.limits.TheConstants.{MAX_COST}
 use Rattle.attempt.specs.declared.attempt.Attempt.TheInside.{Inside}
+use Rattle.attempt.specs.declared.machine.Machine.{Machine}
 use Rattle.attempt.specs.declared.next.Stand.{Stand}
 use Rattle.attempt.specs.declared.next.Stand.TheVariants as stand
-use Rattle.attempt.specs.Asking.{ask, known_at, Needs, Ends}
+use Rattle.attempt.specs.declared.running.Count.{Count}
+use Rattle.attempt.specs.Asking.{Known, ask, known_at, Needs, Ends}
+use Rattle.attempt.specs.Correct.{IsReached}
+use Rattle.attempt.specs.Machine.{entered_at}
 use Rattle.attempt.specs.Order.{AllKnown, Apart, Ascending}
+use Rattle.attempt.specs.Place.{place_of}
 use Rattle.attempt.specs.View.{AttemptView, OnlyOfReturned}
+
+-- own writes remain where the program ended
+abbrev pub remaining : Stand → Known → Known
+remaining stand.Fresh w = []
+remaining (stand.Needs x) w = []
+remaining (stand.Over o) w = w
+remaining stand.Spent w = []
 
 abbrev pub viewed : Inside → AttemptView
 viewed a =
     record {
       program = program_at a.catalogue.now a.id;
       variables = length a.catalogue.now.initial;
-      log = a.log.items;
-      writes = a.writes.items;
+      log = a.log;
+      writes = remaining a.stand a.machine.writes;
       stand = a.stand;
       steps = a.steps;
+      total = a.total;
     }
 
 -- where it waits or is over, this is what the program answers over the log
@@ -39,9 +54,23 @@ pub record IsLawful (a : AttemptView) : Type 0 where
   pub only : OnlyOfReturned a.stand a.writes
   pub stands : StandsAt a a.stand
   pub steps : a.steps ≤ cost a.program
+  pub total : a.total ≤ cost a.program + length a.log
+
+-- a machine that can go on: the total is the nodes entered up to the instruction that it is at, and those of the loads that were done again, at most one for each logged variable
+pub record IsGoing (t : Program) (log : Known) (m : Machine) (count : Count) (total waits : ℕ) : Type 0 where
+  pub reached : IsReached (program_code t) log (place_of m) count.entered
+  pub ahead : count.ahead ≤ entered_at (program_code t) (place_of m)
+  pub most : total ≤ count.entered + count.ahead + length log
+  pub least : length log + waits ≤ total
+
+-- where it is fresh or waits its machine can go on
+abbrev pub GoesOn : Program → Known → Machine → Count → ℕ → Stand → Type 0
+GoesOn t log m count total stand.Fresh = IsGoing t log m count total 0
+GoesOn t log m count total (stand.Needs x) = IsGoing t log m count total 1
+GoesOn t log m count total (stand.Over o) = Unit {0}
+GoesOn t log m count total stand.Spent = Unit {0}
 
 pub record IsKept (a : Inside) : Type 0 where
   pub declared : a.id.0 < length a.catalogue.now.programs
   pub lawful : IsLawful (viewed a)
-  -- the first eight variables have their place
-  pub room : 8 ≤ a.log.capacity
+  pub going : GoesOn (program_at a.catalogue.now a.id) a.log a.machine a.count a.total a.stand

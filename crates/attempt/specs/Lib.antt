@@ -1,7 +1,11 @@
 pub mod Asking
 pub mod Frame
 pub mod Order
+pub mod Places
+pub mod BoardInside
+pub mod WritesInside
 pub mod View
-pub mod Flow
-pub mod Short
 pub mod AttemptInside
+pub mod Machine
+pub mod Correct
+pub mod Place

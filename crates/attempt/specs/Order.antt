@@ -22,3 +22,8 @@ AllAfter x (p ∷ rest) = (x.0 < p.0.0) × AllAfter x rest
 abbrev pub Ascending : Known → Type 0
 Ascending [] = Unit {0}
 Ascending (p ∷ rest) = AllAfter p.0 rest × Ascending rest
+
+-- each variable is before x
+abbrev pub AllBefore : VarId → Known → Type 0
+AllBefore x [] = Unit {0}
+AllBefore x (p ∷ rest) = (p.0.0 < x.0) × AllBefore x rest

@@ -26,20 +26,22 @@ pub record AttemptView : Type 0 where
   pub stand : Stand
   -- how many nodes the last advance entered
   pub steps : ℕ
+  -- how many nodes all advances entered
+  pub total : ℕ
 
 -- an attempt of a transaction that was not advanced yet
 abbrev pub fresh_attempt : Listing → TxId → AttemptView
 fresh_attempt l id =
-    record { program = program_at l id; variables = length l.initial; log = []; writes = []; stand = stand.Fresh; steps = 0 }
+    record { program = program_at l id; variables = length l.initial; log = []; writes = []; stand = stand.Fresh; steps = 0; total = 0 }
 
 -- the attempt with a variable's value at the end of its log
 abbrev pub supplied : AttemptView → VarId → ℤ → AttemptView
 supplied a x v =
-    record { program = a.program; variables = a.variables; log = a.log ++ (x, v) ∷ []; writes = a.writes; stand = stand.Fresh; steps = a.steps }
+    record { program = a.program; variables = a.variables; log = a.log ++ (x, v) ∷ []; writes = a.writes; stand = stand.Fresh; steps = a.steps; total = a.total }
 
 -- the attempt after an advance that entered no node
 abbrev pub idle : AttemptView → AttemptView
-idle a = record { program = a.program; variables = a.variables; log = a.log; writes = a.writes; stand = a.stand; steps = 0 }
+idle a = record { program = a.program; variables = a.variables; log = a.log; writes = a.writes; stand = a.stand; steps = 0; total = a.total }
 
 -- the answer that tells an outcome
 abbrev pub next_of : Outcome → Next

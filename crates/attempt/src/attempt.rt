@@ -9,24 +9,26 @@ ghost use Rattle.attempt.specs.Frame.{Agrees};
 ghost use Rattle.attempt.specs.Order.{AllKnown, Apart, Ascending};
 ghost use Rattle.attempt.specs.View.{fresh_attempt, supplied, idle, next_of, Answers, HoldsAt, OnlyOfReturned};
 
-use crate::evaluate::{Told, evaluate};
-use crate::layer::Layer;
+use crate::board::Board;
 use crate::log::Log;
+use crate::machine::Machine;
 use crate::next::{Next, Stand, answer};
-use smallvec::SmallVec;
+use crate::running::{Count, go};
 use std::alloc::Global;
 use std::marker::Model;
 use txn::{Catalogue, Memory, Outcome, TxId, VarId};
 
-/// One evaluation of a transaction over what it was told. A clause sees an `AttemptView`.
+/// One evaluation of a transaction over what it was told, as far as it has come. A clause sees an `AttemptView`.
 #[derive(Drop)]
 pub struct Attempt<'a> {
     catalogue: &'a Catalogue,
     id: TxId,
-    log: Layer,
-    writes: Layer,
+    machine: Machine,
+    count: Count,
+    log: Board,
     stand: Stand,
     steps: u64,
+    total: u64,
 }
 
 impl<'a> Model for Attempt<'a> {
@@ -55,10 +57,15 @@ impl<'a> Attempt<'a> {
         Attempt {
             catalogue,
             id,
-            log: SmallVec::new(alloc),
-            writes: SmallVec::new(alloc),
+            machine: Machine::new(alloc),
+            count: Count {
+                entered: 0,
+                ahead: 0,
+            },
+            log: Board::new(alloc),
             stand: Stand::Fresh,
             steps: 0,
+            total: 0,
         }
     }
 
@@ -75,7 +82,9 @@ impl<'a> Attempt<'a> {
     pub fn into_log(self) -> Log
         ensures { result ≡ self.entry.log }
     {
-        Log { pairs: self.log }
+        Log {
+            pairs: self.log.into_pairs(),
+        }
     }
 
     /// The writes that remain after the transaction returned, ascending by variable; else none.
@@ -86,7 +95,10 @@ impl<'a> Attempt<'a> {
         ensures only { OnlyOfReturned self.now.stand result.now }
         ensures ends { (o : Outcome) → self.now.stand ≡ Stand.Over o → ask self.now.program self.now.log ≡ Ends o result.now }
     {
-        self.writes.as_slice()
+        match self.stand {
+            Stand::Over(_) => self.machine.writes.as_slice(),
+            _ => &[],
+        }
     }
 
     /// How many nodes of the program the last `advance` entered: none where it repeated an answer.
@@ -95,6 +107,15 @@ impl<'a> Attempt<'a> {
         ensures few { result ≤ cost self.now.program }
     {
         self.steps
+    }
+
+    /// How many nodes of the program all calls of `advance` entered. No node is entered twice but
+    /// the one that needed a variable, when it has its value.
+    pub fn total(&self) -> u64
+        ensures value { result ≡ self.now.total }
+        ensures few { result ≤ cost self.now.program + length self.now.log }
+    {
+        self.total
     }
 
     /// Tells the attempt the value of the variable that it needs: the last `advance` answered
@@ -108,20 +129,21 @@ impl<'a> Attempt<'a> {
         ensures refused { OnErr result (self.new ≡ self.old) }
         ensures short { length self.old.log < 8 → IsOk result }
     {
-        self.log.push((x, v))?;
+        self.catalogue.rules();
+        self.log.push(x, v)?;
         self.stand = Stand::Fresh;
         Ok(())
     }
 
-    /// Goes on as far as the log allows: to the first variable that is neither written by the
-    /// transaction nor in the log, or to the end. The answer is repeated until that variable is
-    /// supplied, and an end is repeated for good.
+    /// Goes on from where the last call stopped, as far as the log allows: to the first variable
+    /// that is neither written by the transaction nor in the log, or to the end. The answer is
+    /// repeated until that variable is supplied, and an end is repeated for good.
     ///
     /// Where it ends, then on every state that agrees with the log the transaction ends so too,
     /// and the state after it is that state with the `writes` stored in it.
     ///
-    /// `Memory` where a growth was refused: more than eight writes, or more than eight in a branch
-    /// of an `orelse`, take memory. Then the attempt is spent, and each later answer is `Memory`.
+    /// `Memory` where a growth was refused: an `orelse`, and more than eight writes, take memory.
+    /// Then the attempt is spent, and each later answer is `Memory`.
     pub fn advance(&mut self) -> Next
         ensures answers { Answers result self.new }
         ensures program { self.new.program ≡ self.old.program }
@@ -131,7 +153,7 @@ impl<'a> Attempt<'a> {
         ensures repeats { (o : Outcome) → self.old.stand ≡ Stand.Over o → (result ≡ next_of o) × (self.new ≡ idle self.old) }
         ensures spent { self.old.stand ≡ Stand.Spent → (result ≡ Next.Memory) × (self.new ≡ idle self.old) }
         ensures steps { self.new.steps ≤ cost self.old.program }
-        ensures short { ProgramKnown 8 self.old.program → self.old.stand ≢ Stand.Spent → result ≢ Next.Memory }
+        ensures total { self.new.total ≤ cost self.old.program + length self.old.log }
         ensures needed { (x : VarId) → result ≡ Next.Need x → (x.0 < self.new.variables) × (known_at self.new.log x ≡ None) }
         ensures frame { (m : State) → length m ≡ self.new.variables → Agrees self.new.log m → HoldsAt result self.new m }
     {
@@ -140,38 +162,34 @@ impl<'a> Attempt<'a> {
             Stand::Over(outcome) => answer(outcome),
             Stand::Needs(x) => Next::Need(x),
             Stand::Spent => Next::Memory,
-            Stand::Fresh => self.evaluate(),
+            Stand::Fresh => self.go_on(),
         }
     }
 
-    /// Evaluates the transaction anew over the log.
-    fn evaluate(&mut self) -> Next
+    /// Goes on with the machine where it stands.
+    fn go_on(&mut self) -> Next
         requires fresh { self.old.stand ≡ Stand.Fresh }
-        requires rested { self.old.steps ≡ 0 }
         ensures answers { Answers result self.new }
         ensures program { self.new.program ≡ self.old.program }
         ensures variables { self.new.variables ≡ self.old.variables }
         ensures log { self.new.log ≡ self.old.log }
         ensures known { ProgramKnown self.new.variables self.new.program }
         ensures steps { self.new.steps ≤ cost self.old.program }
-        ensures short { ProgramKnown 8 self.old.program → result ≢ Next.Memory }
+        ensures total { self.new.total ≤ cost self.old.program + length self.old.log }
     {
+        self.catalogue.rules();
         let tx = self.catalogue.tx(self.id);
-        self.writes = SmallVec::new(*self.log.allocator());
-        match evaluate(tx, self.log.as_slice(), &mut self.writes, &mut self.steps) {
-            Ok(Told::Need(x)) => {
-                self.stand = Stand::Needs(x);
-                Next::Need(x)
-            }
-            Ok(Told::End(outcome)) => {
-                self.stand = Stand::Over(outcome);
-                answer(outcome)
-            }
-            Err(_) => {
-                self.writes.clear();
-                self.stand = Stand::Spent;
-                Next::Memory
-            }
+        let code = self.catalogue.code(self.id);
+        let stand = go(&mut self.machine, &mut self.count, tx, code, &self.log);
+        let total = self.count.entered + self.count.ahead + self.log.len() as u64;
+        self.steps = total - self.total;
+        self.total = total;
+        self.stand = stand;
+        match stand {
+            Stand::Needs(x) => Next::Need(x),
+            Stand::Over(outcome) => answer(outcome),
+            Stand::Spent => Next::Memory,
+            Stand::Fresh => unreachable!(),
         }
     }
 }

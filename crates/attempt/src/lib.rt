@@ -1,6 +1,6 @@
 //! Attempts: a transaction is evaluated over what was read of the state so far.
 //!
-//! An `Attempt` begins with an empty log. `advance` evaluates until the first variable that is
+//! An `Attempt` begins with an empty log. `advance` goes on until the first variable that is
 //! neither written by the transaction itself nor in the log, and answers `Need`; `supply` adds its
 //! value to the log. `frame` says why this is safe: an end that was reached over a log is the end
 //! on every state that agrees with the log.
@@ -8,13 +8,17 @@
 
 mod arithmetic;
 pub mod attempt;
+mod board;
 mod evaluate;
 pub mod laws;
 mod layer;
 pub mod log;
+mod machine;
 pub mod next;
+mod running;
+mod written;
 
 pub use attempt::Attempt;
-pub use laws::frame;
+pub use laws::{answers, frame, resumes};
 pub use log::Log;
 pub use next::{Next, Stand};

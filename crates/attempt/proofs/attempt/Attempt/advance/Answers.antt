@@ -11,7 +11,7 @@ returns-in-Over-clause-frame c = λ m len h.
     subst (λ r. HoldsAt r a m) (sym c.answer.ensures) (over_holds a c.in-Over.outcome m kept.known len h (subst (StandsAt a) c.in-Over.is kept.stands))
 
 pub returns-in-Fresh-clause-frame : goal.returns-in-Fresh-clause-frame
-returns-in-Fresh-clause-frame c = λ m len h. told_holds c.evaluate.result c.evaluate.new.self m c.evaluate.ensures.answers c.evaluate.ensures.known len h
+returns-in-Fresh-clause-frame c = λ m len h. told_holds c.go_on.result c.go_on.new.self m c.go_on.ensures.answers c.go_on.ensures.known len h
 
 pub returns-in-Fresh-clause-needed : goal.returns-in-Fresh-clause-needed
-returns-in-Fresh-clause-needed c = λ x e. told_missing c.evaluate.result c.evaluate.new.self x c.evaluate.ensures.answers c.evaluate.ensures.known e
+returns-in-Fresh-clause-needed c = λ x e. told_missing c.go_on.result c.go_on.new.self x c.go_on.ensures.answers c.go_on.ensures.known e
