@@ -1,6 +1,6 @@
 //! What reads the cells, with no lock.
-ghost use Rattle.std.specs.Prelude.{◌≡◌, ◌<◌, true};
-ghost use Rattle.cells.specs.Passing.{BeginsBy, ReadsBy};
+ghost use Rattle.std.specs.Prelude.{◌≡◌, ◌<◌, true, length};
+ghost use Rattle.cells.specs.Passing.{at, BeginsBy, ReadsBy};
 ghost use Rattle.cells.specs.Answers.{IsReadBy};
 
 use crate::cells::Cells;
@@ -45,6 +45,14 @@ impl Model for Pass {
 }
 
 impl Pass {
+    /// What every pass keeps: the state of its last begin has a value for each variable. It does
+    /// nothing: its contract is the law.
+    pub fn law(&self)
+        ensures { length (at self.now) ≡ self.now.cells.variables }
+    {
+        let _ = &self.ready;
+    }
+
     /// Whether the pass may read.
     pub fn is_open(&self) -> bool
         ensures { result ≡ self.now.open_now }

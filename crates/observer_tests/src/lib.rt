@@ -1,0 +1,7 @@
+//! Tests of the public calls of `observer`.
+#![tactic(auto)]
+
+#[cfg(test)]
+mod beside;
+#[cfg(test)]
+mod uses;
