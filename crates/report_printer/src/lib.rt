@@ -3,4 +3,4 @@
 
 mod report;
 
-pub use report::print_report;
+pub use report::{print_report, put_number, put_outcome, put_variables};

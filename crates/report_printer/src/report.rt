@@ -26,6 +26,7 @@ pub fn print_report(alloc: Global, catalogue: &Catalogue, report: &Report) -> Re
     requires { FitsCatalogue catalogue.now (told report.now) }
     ensures text { IfOk result (λ s. string_bytes s ≡ report_text catalogue.now (told report.entry.now)) }
     ensures short { CountsTasks (told report.entry.now) → IfOk result (λ s. length (string_bytes s) ≤ 8388608) }
+    ensures fits { OnOk result (ReportFits (told report.entry.now)) }
 {
     catalogue.rules();
     let mut out = String::with_capacity(alloc, room(report))?;
@@ -62,7 +63,8 @@ fn room(report: &Report) -> usize {
     lines.saturating_add(3).saturating_mul(LINE)
 }
 
-fn put_number(out: &mut String, word: &str, number: u64) -> Result<(), AllocError>
+/// Puts the line of a word and a number behind the text.
+pub fn put_number(out: &mut String, word: &str, number: u64) -> Result<(), AllocError>
     ensures { OnOk result (string_bytes out.new ≡ string_bytes out.old ++ line (word.now ∷ decimal number ∷ [])) }
 {
     writeln!(out, "{word} {number}")
@@ -76,7 +78,9 @@ fn put_variable(out: &mut String, name: &str, variable: &(i64, u64)) -> Result<(
     writeln!(out, "{name} {value} {version}")
 }
 
-fn put_variables(
+/// Puts a line for each variable behind the text, in declared order: its name, its value and its
+/// version.
+pub fn put_variables(
     out: &mut String,
     catalogue: &Catalogue,
     vars: &[(i64, u64)],
@@ -92,7 +96,8 @@ fn put_variables(
     Ok(())
 }
 
-fn put_outcome(out: &mut String, outcome: Outcome) -> Result<(), AllocError>
+/// Puts how a transaction ended behind the text.
+pub fn put_outcome(out: &mut String, outcome: Outcome) -> Result<(), AllocError>
     ensures text { OnOk result (string_bytes out.new ≡ string_bytes out.old ++ outcome_text outcome) }
     ensures fits { OnOk result (OutcomeFits outcome) }
 {

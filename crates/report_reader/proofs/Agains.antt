@@ -49,11 +49,11 @@ value_again z h = rw (printed_value z h, fits_is z h) refl
 count_again : (n : ℕ) → n ≤ MAX_TASKS → count_in (decimal n) ≡ Ok n
 count_again n h = ap (below (MAX_TASKS + 1)) (decimal_value n (omega arith)) ∙ below_is (MAX_TASKS + 1) n (omega arith)
 
-task_id_again : (l : Listing) (task : TaskId) → length (tasks l) ≤ MAX_TASKS → task.0 < length (tasks l) → task_id l (decimal task.0) ≡ Ok task
+pub task_id_again : (l : Listing) (task : TaskId) → length (tasks l) ≤ MAX_TASKS → task.0 < length (tasks l) → task_id l (decimal task.0) ≡ Ok task
 unfolding task_id
 task_id_again l task few lt = rw (decimal_value task.0 (omega arith), below_is (length (tasks l)) task.0 lt) refl
 
-small : (n : ℕ) → n ≤ MAX_TASKS → is_number (decimal n) ≡ true
+pub small : (n : ℕ) → n ≤ MAX_TASKS → is_number (decimal n) ≡ true
 small n h = decimal_number n (omega arith)
 
 abbrev nothing : Program
@@ -173,19 +173,19 @@ task_again l t names few f =
 
 -- ---- all lines of a kind
 
-each_again : {A B : Type 0} (P : B → Type 0) (w : B → A) (one : A → Result B ReadFault) → ((y : B) → P y → one (w y) ≡ Ok y) → (ys : List B) → AllByRecursion P ys → each one (map w ys) ≡ Ok ys
+pub each_again : {A B : Type 0} (P : B → Type 0) (w : B → A) (one : A → Result B ReadFault) → ((y : B) → P y → one (w y) ≡ Ok y) → (ys : List B) → AllByRecursion P ys → each one (map w ys) ≡ Ok ys
 each_again P w one again [] h = refl
 each_again P w one again (y ∷ ys) h = rw (again y h.0, each_again P w one again ys h.1) refl
 
-all_again : {A B : Type 0} (P : B → Type 0) (Q : A → Type 0) (w : B → A) → ((y : B) → P y → Q (w y)) → (ys : List B) → AllByRecursion P ys → AllByRecursion Q (map w ys)
+pub all_again : {A B : Type 0} (P : B → Type 0) (Q : A → Type 0) (w : B → A) → ((y : B) → P y → Q (w y)) → (ys : List B) → AllByRecursion P ys → AllByRecursion Q (map w ys)
 all_again P Q w again [] h = tt
 all_again P Q w again (y ∷ ys) h = (again y h.0, all_again P Q w again ys h.1)
 
-tests_again : {A B : Type 0} (P : B → Type 0) (q : A → Bool) (w : B → A) → ((y : B) → P y → q (w y) ≡ true) → (ys : List B) → AllByRecursion P ys → list_all q (map w ys) ≡ true
+pub tests_again : {A B : Type 0} (P : B → Type 0) (q : A → Bool) (w : B → A) → ((y : B) → P y → q (w y) ≡ true) → (ys : List B) → AllByRecursion P ys → list_all q (map w ys) ≡ true
 tests_again P q w again [] h = refl
 tests_again P q w again (y ∷ ys) h = and_from _ _ (again y h.0) (tests_again P q w again ys h.1)
 
-text_again : {A B : Type 0} (P : B → Type 0) (w : B → A) (f : B → List ℕ) (g : A → List ℕ) → ((y : B) → P y → f y ≡ g (w y)) → (ys : List B) → AllByRecursion P ys → flat_map f ys ≡ flat_map g (map w ys)
+pub text_again : {A B : Type 0} (P : B → Type 0) (w : B → A) (f : B → List ℕ) (g : A → List ℕ) → ((y : B) → P y → f y ≡ g (w y)) → (ys : List B) → AllByRecursion P ys → flat_map f ys ≡ flat_map g (map w ys)
 text_again P w f g same [] h = refl
 text_again P w f g same (y ∷ ys) h = ap (λ (t : List ℕ). t ++ flat_map f ys) (same y h.0) ∙ ap (λ (t : List ℕ). g (w y) ++ t) (text_again P w f g same ys h.1)
 

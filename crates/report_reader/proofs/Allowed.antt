@@ -14,7 +14,7 @@ use Rattle.report_reader.specs.Raw.{Variable, Ending, Returned, Threw, Overflow,
 use Rattle.report_reader.specs.Reports.{IsWritten}
 use Rattle.report_reader.proofs.Numbers.{is_int_byte, name_bytes, int_bytes, number_is_int}
 
-abbrev allowed : List ℕ → Bool
+abbrev pub allowed : List ℕ → Bool
 allowed bytes = list_all is_allowed bytes
 
 between : (b : ℕ) → 32 ≤ b → b ≤ 126 → is_allowed b ≡ true
@@ -38,19 +38,19 @@ all_by p one (b ∷ bs) h =
     let q = and_parts (p b) (list_all p bs) h in
     and_from _ _ (one b q.0) (all_by p one bs q.1)
 
-name_allowed : (text : List ℕ) → is_name text ≡ true → allowed text ≡ true
+pub name_allowed : (text : List ℕ) → is_name text ≡ true → allowed text ≡ true
 name_allowed text h = all_by is_name_byte (λ b q. between b (name_low b q) (name_high b q)) text (name_bytes text h)
 
 int_allowed : (text : List ℕ) → is_int text ≡ true → allowed text ≡ true
 int_allowed text h = all_by is_int_byte (λ b q. between b (int_low b q) (int_high b q)) text (int_bytes text h)
 
-number_allowed : (text : List ℕ) → is_number text ≡ true → allowed text ≡ true
+pub number_allowed : (text : List ℕ) → is_number text ≡ true → allowed text ≡ true
 number_allowed text h = int_allowed text (number_is_int text h)
 
 two : (a b : List ℕ) → allowed a ≡ true → allowed b ≡ true → allowed (a ++ b) ≡ true
 two a b p q = list_all-append is_allowed a b ∙ and_from _ _ p q
 
-abbrev words_allowed : List (List ℕ) → Bool
+abbrev pub words_allowed : List (List ℕ) → Bool
 words_allowed words = list_all allowed words
 
 line_allowed : (words : List (List ℕ)) → words_allowed words ≡ true → allowed (line words) ≡ true
@@ -60,7 +60,7 @@ line_allowed (word ∷ next ∷ words) h =
     let p = and_parts (allowed word) (words_allowed (next ∷ words)) h in
     two word (codes " " ++ line (next ∷ words)) p.0 (line_allowed (next ∷ words) p.1)
 
-lines_allowed : {A : Type 0} (words : A → List (List ℕ)) (Is : A → Type 0) → ((x : A) → Is x → words_allowed (words x) ≡ true) → (xs : List A) → AllByRecursion Is xs → allowed (flat_map (λ x. line (words x)) xs) ≡ true
+pub lines_allowed : {A : Type 0} (words : A → List (List ℕ)) (Is : A → Type 0) → ((x : A) → Is x → words_allowed (words x) ≡ true) → (xs : List A) → AllByRecursion Is xs → allowed (flat_map (λ x. line (words x)) xs) ≡ true
 lines_allowed words Is one [] h = refl
 lines_allowed words Is one (x ∷ xs) h = two (line (words x)) (flat_map (λ y. line (words y)) xs) (line_allowed (words x) (one x h.0)) (lines_allowed words Is one xs h.1)
 

@@ -25,20 +25,20 @@ use Rattle.report_reader.specs.Resolving.{is_known, entries_known, tasks_known, 
 pub record Only {A : Type 0} (kind : ReadFault) (r : Result A ReadFault) : Type 0 where
   pub by : (e : ReadFault) → r ≡ Err e → e ≡ kind
 
-abbrev bad : {A : Type 0} → ReadFault → Result A ReadFault
+abbrev pub bad : {A : Type 0} → ReadFault → Result A ReadFault
 bad e = Err e
 
-ok : {A : Type 0} (kind : ReadFault) (x : A) → Only kind (done x)
+pub ok : {A : Type 0} (kind : ReadFault) (x : A) → Only kind (done x)
 ok kind x = record { by = λ e h. absurd cc }
 
-err : {A : Type 0} (kind : ReadFault) → Only {A = A} kind (bad kind)
+pub err : {A : Type 0} (kind : ReadFault) → Only {A = A} kind (bad kind)
 err kind = record { by = λ e h. cc }
 
-then : {A B : Type 0} (kind : ReadFault) (r : Result A ReadFault) (g : A → Result B ReadFault) → Only kind r → ((x : A) → Only kind (g x)) → Only kind (r >>= g)
+pub then : {A B : Type 0} (kind : ReadFault) (r : Result A ReadFault) (g : A → Result B ReadFault) → Only kind r → ((x : A) → Only kind (g x)) → Only kind (r >>= g)
 then kind (Ok x) g p q = q x
 then kind (Err d) g p q = record { by = λ e h. let s : d ≡ e = cc in p.by e (ap bad s) }
 
-either : {A : Type 0} (kind : ReadFault) (b : Bool) (x y : Result A ReadFault) → Only kind x → Only kind y → Only kind (cond b x y)
+pub either : {A : Type 0} (kind : ReadFault) (b : Bool) (x y : Result A ReadFault) → Only kind x → Only kind y → Only kind (cond b x y)
 either kind true x y p q = p
 either kind false x y p q = q
 
@@ -51,14 +51,14 @@ given_shape : {A : Type 0} (o : Option A) → IsShape (given o)
 given_shape None = err faults.Shape
 given_shape (Some x) = ok faults.Shape x
 
-word_shape : (text : List ℕ) → IsShape (word_at text)
+pub word_shape : (text : List ℕ) → IsShape (word_at text)
 unfolding word_at
 word_shape text = given_shape (parted 32 text)
 
 tested_shape : (b : Bool) (text : List ℕ) → IsShape (let r : Result (List ℕ) ReadFault = cond b (Ok text) (Err faults.Shape) in r)
 tested_shape b text = either faults.Shape b (done text) (bad faults.Shape) (ok faults.Shape text) (err faults.Shape)
 
-name_shape : (text : List ℕ) → IsShape (name_in text)
+pub name_shape : (text : List ℕ) → IsShape (name_in text)
 unfolding name_in
 name_shape text = tested_shape (is_name text) text
 
@@ -66,7 +66,7 @@ int_shape : (text : List ℕ) → IsShape (int_in text)
 unfolding int_in
 int_shape text = tested_shape (is_int text) text
 
-number_shape : (text : List ℕ) → IsShape (number_in text)
+pub number_shape : (text : List ℕ) → IsShape (number_in text)
 unfolding number_in
 number_shape text = tested_shape (is_number text) text
 
@@ -161,7 +161,7 @@ below_limit bound n = either faults.Limit (nat_lt n bound) (done n) (bad faults.
 count_limit : (text : List ℕ) → IsLimit (count_in text)
 count_limit text = below_limit (MAX_TASKS + 1) (digits_value 10 text)
 
-task_id_limit : (l : Listing) (text : List ℕ) → IsLimit (task_id l text)
+pub task_id_limit : (l : Listing) (text : List ℕ) → IsLimit (task_id l text)
 unfolding task_id
 task_id_limit l text = then faults.Limit _ _ (below_limit (length (tasks l)) (digits_value 10 text)) (λ n. ok faults.Limit _)
 
@@ -193,7 +193,7 @@ task_limit : (l : Listing) (t : Task) → is_known l t.name ≡ true → IsLimit
 unfolding task_told
 task_limit l t h = then faults.Limit _ _ (task_id_limit l t.task) (λ task. then faults.Limit _ _ (tx_limit l t.name h) (λ tx. ok faults.Limit _))
 
-each_limit : {A B : Type 0} (p : A → Bool) (one : A → Result B ReadFault) → ((x : A) → p x ≡ true → IsLimit (one x)) → (xs : List A) → list_all p xs ≡ true → IsLimit (each one xs)
+pub each_limit : {A B : Type 0} (p : A → Bool) (one : A → Result B ReadFault) → ((x : A) → p x ≡ true → IsLimit (one x)) → (xs : List A) → list_all p xs ≡ true → IsLimit (each one xs)
 each_limit p one h [] all = ok faults.Limit _
 each_limit p one h (x ∷ xs) all =
     let a = and_parts (p x) (list_all p xs) all in

@@ -16,17 +16,17 @@ regroup : {B : Type 0} (front : List B) (y : B) (rest : Result (List B) ReadFaul
 regroup front y (Ok ys) = ap done (sym (append_assoc front (y ∷ []) ys))
 regroup front y (Err e) = refl
 
-each_more : {A B : Type 0} (one : A → Result B ReadFault) (front : List B) (x : A) (xs : List A) (y : B) (total : Result (List B) ReadFault)
+pub each_more : {A B : Type 0} (one : A → Result B ReadFault) (front : List B) (x : A) (xs : List A) (y : B) (total : Result (List B) ReadFault)
     → one x ≡ Ok y → joined front (each one (x ∷ xs)) ≡ total → joined (front ++ y ∷ []) (each one xs) ≡ total
 each_more one front x xs y total is so_far =
     let step : each one (x ∷ xs) ≡ (each one xs >>= λ ys. done (y ∷ ys)) = rw is refl in
     sym (regroup front y (each one xs)) ∙ ap (joined front) (sym step) ∙ so_far
 
-twice : {A B : Type 0} (front : List B) (r : Result A ReadFault) (f : A → Result (List B) ReadFault) → joined front (r >>= f) ≡ (r >>= λ x. joined front (f x))
+pub twice : {A B : Type 0} (front : List B) (r : Result A ReadFault) (f : A → Result (List B) ReadFault) → joined front (r >>= f) ≡ (r >>= λ x. joined front (f x))
 twice front (Ok x) f = refl
 twice front (Err e) f = refl
 
-each_fails : {A B : Type 0} (e : ReadFault) (one : A → Result B ReadFault) (front : List B) (x : A) (xs : List A) (total : Result (List B) ReadFault)
+pub each_fails : {A B : Type 0} (e : ReadFault) (one : A → Result B ReadFault) (front : List B) (x : A) (xs : List A) (total : Result (List B) ReadFault)
     → Fails e (one x) → joined front (each one (x ∷ xs)) ≡ total → Fails e total
 each_fails e one front x xs total fails so_far =
     failed e (one x) (λ y. joined front (each one xs >>= λ ys. done (y ∷ ys))) total fails (sym (twice front (one x) (λ y. each one xs >>= λ ys. done (y ∷ ys))) ∙ so_far)

@@ -46,7 +46,7 @@ first_place earlier (name ∷ rest) (suc i) h lt =
     rw (other, ih) (omega arith)
 
 -- a name stands at its place
-place_again : (names : List (List ℕ)) (i : ℕ) → are_distinct names ≡ true → i < length names → position (bytes_eq (get_or names i [])) names ≡ Some i
+pub place_again : (names : List (List ℕ)) (i : ℕ) → are_distinct names ≡ true → i < length names → position (bytes_eq (get_or names i [])) names ≡ Some i
 place_again names i h lt = rw (first_place [] names i h lt, lt-ltb i (length names) lt) refl
 
 abbrev nothing : Program

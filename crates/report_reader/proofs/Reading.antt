@@ -32,10 +32,10 @@ pub record Rules (l : Listing) : Type 0 where
   pub names : names_hold l ≡ true
   pub limits : limits_hold l ≡ true
 
-at_most : (n m : ℕ) → nat_lt m n ≡ false → n ≤ m
+pub at_most : (n m : ℕ) → nat_lt m n ≡ false → n ≤ m
 at_most n m h = grind (arith, nat_tests)
 
-not_over : (n m : ℕ) → n ≤ m → nat_lt m n ≡ false
+pub not_over : (n m : ℕ) → n ≤ m → nat_lt m n ≡ false
 not_over n m h = grind (arith, nat_tests)
 
 -- a result that is Ok has passed both tests
@@ -95,7 +95,7 @@ in_names l r e h =
     ]
 
 -- a step that failed, or the first of two
-failed_in : {A B : Type 0} (r : Result A ReadFault) (f : A → Result B ReadFault) (e : ReadFault) → (r >>= f) ≡ Err e → (r ≡ Err e) ⊎ ((x : A) × (r ≡ Ok x) × (f x ≡ Err e))
+pub failed_in : {A B : Type 0} (r : Result A ReadFault) (f : A → Result B ReadFault) (e : ReadFault) → (r >>= f) ≡ Err e → (r ≡ Err e) ⊎ ((x : A) × (r ≡ Ok x) × (f x ≡ Err e))
 failed_in (Ok x) f e h = inr (x, refl, h)
 failed_in (Err d) f e h = inl (let s : d ≡ e = cc in ap (λ (k : ReadFault). Err k) s)
 

@@ -94,7 +94,7 @@ pub record TakesLines {A : Type 0} (words : A → List (List ℕ)) (Is : A → T
   pub parts : ls ≡ map (line_of words) x.0 ++ x.1
   pub are : AllByRecursion Is x.0
 
-first_is : (ls : List Line) (x : List ℕ × List Line) → first_line ls ≡ Some x → ls ≡ Whole x.0 ∷ x.1
+pub first_is : (ls : List Line) (x : List ℕ × List Line) → first_line ls ≡ Some x → ls ≡ Whole x.0 ∷ x.1
 first_is [] x e = absurd cc
 first_is (Cut text ∷ ls) x e = absurd cc
 first_is (Whole text ∷ ls) x e = cc

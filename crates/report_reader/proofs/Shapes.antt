@@ -30,7 +30,7 @@ end_words u = codes "end" ∷ []
 end_reads : Reads end_words (λ u. Unit {0}) (expect (codes "end"))
 end_reads = record { takes = λ text u e. record { same = expect_takes (codes "end") text u e; is = tt }; again = λ u h. expect_again (codes "end") }
 
-end_is : (ls : List Line) (u : Unit {0}) → end_at ls ≡ Ok u → ls ≡ []
+pub end_is : (ls : List Line) (u : Unit {0}) → end_at ls ≡ Ok u → ls ≡ []
 unfolding end_at
 end_is [] u e = refl
 end_is (l ∷ ls) u e = absurd cc

@@ -14,7 +14,7 @@ fn is_allowed(b: u8) -> bool
 }
 
 /// Whether a report may have all these bytes.
-pub(crate) fn are_allowed(bytes: &[u8]) -> bool
+pub fn are_allowed(bytes: &[u8]) -> bool
     ensures { result ≡ list_all is_allowed bytes.now }
 {
     bytes.iter().all(|b| is_allowed(*b))

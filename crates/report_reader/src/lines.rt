@@ -16,7 +16,7 @@ fn place_of(bytes: &[u8], sep: u8) -> Option<usize>
 }
 
 /// What stands before the first such byte, and what behind it.
-pub(crate) fn part(bytes: &[u8], sep: u8) -> Option<(&[u8], &[u8])>
+pub fn part(bytes: &[u8], sep: u8) -> Option<(&[u8], &[u8])>
     ensures value { view_parts result ≡ parted sep bytes.now }
     ensures shorter { IfSome result (λ x. length x.1.now < length bytes.now) }
 {
@@ -30,7 +30,7 @@ pub(crate) fn part(bytes: &[u8], sep: u8) -> Option<(&[u8], &[u8])>
 }
 
 /// The first line, without its newline, and what stands behind it.
-pub(crate) fn next_line(bytes: &[u8]) -> Option<(&[u8], &[u8])>
+pub fn next_line(bytes: &[u8]) -> Option<(&[u8], &[u8])>
     ensures value { view_line result ≡ first_line (lines bytes.now) }
     ensures shorter { IfSome result (λ x. length x.1.now < length bytes.now) }
 {
@@ -39,7 +39,7 @@ pub(crate) fn next_line(bytes: &[u8]) -> Option<(&[u8], &[u8])>
 
 /// The first word of a line, and the words behind it.
 #[tactic(auto, unfolding(crate::specs::Reading::word_at))]
-pub(crate) fn word_of(text: &[u8]) -> Result<(&[u8], &[u8]), ReadFault>
+pub fn word_of(text: &[u8]) -> Result<(&[u8], &[u8]), ReadFault>
     ensures { Gives (λ x. (x.0.now, x.1.now)) result (word_at text.now) }
 {
     part(text, b' ').ok_or(ReadFault::Shape)

@@ -28,14 +28,14 @@ impl Numeral<'_> {
 
 /// The text of an integer without a sign, of any length.
 #[derive(Clone, Copy, Debug)]
-pub(crate) struct Count<'a> {
-    pub(crate) text: &'a str,
+pub struct Count<'a> {
+    pub text: &'a str,
     ghost written: { is_number text.now ≡ true },
 }
 
 impl Count<'_> {
     /// Its value, where it is below a bound.
-    pub(crate) fn below(self, bound: u64) -> Result<u64, ReadFault>
+    pub fn below(self, bound: u64) -> Result<u64, ReadFault>
         ensures { Gives (λ x. x) result (below bound (digits_value 10 self.entry.text.now)) }
     {
         match self.text.parse::<u64>() {

@@ -89,8 +89,9 @@ fn count_in(count: Count<'_>) -> Result<u64, ReadFault>
     count.below(MAX_TASKS as u64 + 1)
 }
 
+/// The task of this number.
 #[tactic(auto, unfolding(crate::specs::Resolving::task_id))]
-fn task_id(catalogue: &Catalogue, task: Count<'_>) -> Result<TaskId, ReadFault>
+pub fn task_id(catalogue: &Catalogue, task: Count<'_>) -> Result<TaskId, ReadFault>
     ensures { Gives (λ x. x) result (task_id catalogue.now task.entry.text.now) }
 {
     let place = task.below(catalogue.tasks() as u64)?;

@@ -196,9 +196,9 @@ fn last_at(bytes: &[u8]) -> Result<&[u8], ReadFault>
     Ok(rest)
 }
 
-/// No byte is left.
+/// Refuses, by the shape, where a byte is left.
 #[tactic(auto, unfolding(crate::specs::Reading::end_at))]
-fn end(bytes: &[u8]) -> Result<(), ReadFault>
+pub fn end(bytes: &[u8]) -> Result<(), ReadFault>
     ensures { Gives (λ x. x) result (end_at (lines bytes.now)) }
 {
     if bytes.is_empty() {

@@ -22,7 +22,7 @@ fn as_text(bytes: &[u8]) -> &str
 
 /// A name.
 #[tactic(auto, using(text_words::proofs::Ascii::name_is_ascii), unfolding(crate::specs::Reading::name_in))]
-pub(crate) fn name_of(text: &[u8]) -> Result<&str, ReadFault>
+pub fn name_of(text: &[u8]) -> Result<&str, ReadFault>
     ensures { Gives (λ x. x.now) result (name_in text.now) }
 {
     if is_name(text) {
@@ -48,7 +48,7 @@ pub(crate) fn numeral_of(text: &[u8]) -> Result<Numeral<'_>, ReadFault>
 
 /// An integer without a sign.
 #[tactic(auto, using(crate::proofs::Numbers::number_is_ascii), unfolding(crate::specs::Reading::number_in))]
-pub(crate) fn count_of(text: &[u8]) -> Result<Count<'_>, ReadFault>
+pub fn count_of(text: &[u8]) -> Result<Count<'_>, ReadFault>
     ensures { Gives (λ x. x.text.now) result (number_in text.now) }
 {
     if is_number(text) {
@@ -61,7 +61,7 @@ pub(crate) fn count_of(text: &[u8]) -> Result<Count<'_>, ReadFault>
 }
 
 /// Whether the bytes are this word.
-pub(crate) fn is_word(text: &[u8], wanted: &str) -> bool
+pub fn is_word(text: &[u8], wanted: &str) -> bool
     ensures { result ≡ bytes_eq text.now wanted.now }
 {
     text == wanted.as_bytes()

@@ -1,0 +1,6 @@
+//! What is seen of a schedule's lines, as text.
+#![tactic(auto)]
+
+mod seen;
+
+pub use seen::{name_of, put_seen};
