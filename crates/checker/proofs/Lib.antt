@@ -1,0 +1,6 @@
+mod Raising
+mod Opens
+mod Lists
+mod Named
+mod Whole
+mod Only

@@ -1,0 +1,16 @@
+use Rattle.std.proofs.Common.{◌≡◌, ◌≤◌, ◌+◌, refl, sym, length, arith}
+use Rattle.txn.specs.Listing.{tasks}
+use Rattle.txn.proofs.Lawful.{few_tasks}
+use Rattle.report_printer.proofs.Lengths.{report_short}
+use Rattle.checker.proofs.laws.lawful_texts_are_good.Goals as goal
+
+pub returns : goal.returns
+returns c file l r spells lawful values =
+    let few : length (tasks l) ≤ 65536 = few_tasks l spells.limits in
+    let counts : length r.entries + (length r.parked + length r.memory) ≤ 65536 = omega (arith, lawful.accounted, few) in
+    let short = report_short l r spells.limits (sym spells.valued) lawful.fits values counts in
+    record {
+      listing = l;
+      spelled = spells;
+      verdict = record { report = r; read = record { short = short; text = refl; fits = lawful.fits; values = values }; verdict = lawful };
+    }

@@ -1,0 +1,57 @@
+-- The parts of a lawful report, in the order in which they are judged.
+use Rattle.std.specs.Prelude.{◌≡◌, ◌+◌, ◌≤◌, List, [], ◌∷◌, ◌++◌, map, length, All}
+use Rattle.txn.specs.declared.ast.TaskId.{TaskId}
+use Rattle.txn.specs.declared.ast.TxId.{TxId}
+use Rattle.txn.specs.declared.ast.Outcome.TheVariants.{Retries}
+use Rattle.txn.specs.declared.report.Entry.{Entry}
+use Rattle.txn.specs.Meaning.{outcome}
+use Rattle.txn.specs.Listing.{Listing, tasks, program_at}
+use Rattle.txn.specs.Replay.{Snapshot, applied, opening, Once}
+use Rattle.txn.specs.Told.{Told, base_of, now_of}
+use Rattle.txn.specs.LawfulReport.{on_lines, Ascends, HasOwn}
+
+-- a base of number 0 is the opening snapshot, and no version of a base is above its number
+pub record BaseHolds (l : Listing) (r : Told) : Type 0 where
+  pub from_opening : r.base ≡ 0 → base_of r ≡ opening l
+  pub versions : All (λ v. v.1 ≤ r.base) r.base_vars
+
+-- an entry goes on from a snapshot: with the next number, and as the transaction that it names ends there
+pub record GoesOn (l : Listing) (e : Entry) (s : Snapshot) : Type 0 where
+  pub number : e.number ≡ s.number + 1
+  pub outcome_is : e.outcome ≡ outcome (program_at l e.tx) s.state
+
+-- each entry goes on from where those before it lead
+abbrev pub AllGoOn : Listing → Snapshot → List Entry → Type 0
+AllGoOn l s [] = Unit {0}
+AllGoOn l s (e ∷ es) = GoesOn l e s × AllGoOn l (applied l e s) es
+
+-- where the entries lead
+abbrev pub led_to : Listing → Snapshot → List Entry → Snapshot
+led_to l s [] = s
+led_to l s (e ∷ es) = led_to l (applied l e s) es
+
+abbrev pub EntriesHold : Listing → Told → Type 0
+EntriesHold l r = AllGoOn l (base_of r) r.entries
+
+-- the present is where they lead
+abbrev pub PresentHolds : Listing → Told → Type 0
+PresentHolds l r = now_of r ≡ led_to l (base_of r) r.entries
+
+-- the tasks on the report's lines, entries first, each with the transaction named there
+abbrev pub on_line : Entry → TaskId × TxId
+on_line e = (e.task, e.tx)
+
+abbrev pub named : Told → List (TaskId × TxId)
+named r = map on_line r.entries ++ (r.parked ++ r.memory)
+
+-- each task stands on at most one line, with its own transaction, in order, and all are accounted for
+pub record TasksHold (l : Listing) (r : Told) : Type 0 where
+  pub own : All (λ p. HasOwn l p.0 p.1) (named r)
+  pub once : Once (on_lines r)
+  pub parked_ascend : Ascends (map (λ p. p.0.0) r.parked)
+  pub memory_ascend : Ascends (map (λ p. p.0.0) r.memory)
+  pub accounted : r.base + (length r.entries + (length r.parked + length r.memory)) ≡ length (tasks l)
+
+-- each parked task waits for a change
+abbrev pub ParkedHold : Listing → Told → Type 0
+ParkedHold l r = All (λ p. outcome (program_at l p.1) (now_of r).state ≡ Retries) r.parked

@@ -1,0 +1,27 @@
+//! What is so of every verdict, whatever was checked.
+
+ghost use Rattle.std.specs.Prelude.{◌≡◌, ◌↔◌, ℕ, List};
+ghost use Rattle.txn.specs.Listing.{Listing};
+ghost use Rattle.txn.specs.Told.{Told};
+ghost use Rattle.txn.specs.LawfulReport.{FitsCatalogue, LawfulReport};
+ghost use Rattle.checker.specs.declared.verdict.Verdict.{Verdict as VerdictOf};
+ghost use Rattle.txn_text.specs.Spelling.{Spells};
+ghost use Rattle.txn_text.specs.ReportText.{report_text};
+ghost use Rattle.txn_text.specs.ReportFits.{ReportFits};
+ghost use Rattle.checker.specs.declared.verdict.Verdict.TheVariants.{Good};
+ghost use Rattle.checker.specs.Verdicts.{AllHold, IsVerdict, Judges};
+
+/// There is no other verdict on a report than the one.
+pub fn one_verdict()
+    ensures { (l : Listing) (r : Told) (v w : VerdictOf) → IsVerdict l r v → IsVerdict l r w → v ≡ w }
+{}
+
+/// The parts that are judged are together exactly what makes a report lawful.
+pub fn lawful_where_all_parts_hold()
+    ensures { (l : Listing) (r : Told) → FitsCatalogue l r → (LawfulReport l r ↔ AllHold l r) }
+{}
+
+/// The text of a lawful report of a file is judged good: it is never too long to be read.
+pub fn lawful_texts_are_good()
+    ensures { (file : List ℕ) (l : Listing) (r : Told) → Spells file l → LawfulReport l r → ReportFits r → Judges file (report_text l r) Good }
+{}

@@ -1,0 +1,68 @@
+//! Entries replayed, each by the transaction that its line names.
+
+ghost use Rattle.std.specs.Prelude.{◌≡◌, ◌+◌, ◌<◌, ◌↔◌, IfOk, IsTrue, IsSome, IfSome, All, length, true};
+ghost use Rattle.txn.specs.Replay.{applied};
+ghost use Rattle.checker.specs.View.{view};
+ghost use Rattle.checker.specs.Parts.{GoesOn, AllGoOn, led_to};
+
+use crate::raise::raise;
+use crate::stage::Stage;
+use std::alloc::AllocError;
+use txn::evaluate::execute;
+use txn::{Catalogue, Entry};
+
+/// Whether a number is the next one.
+fn is_next(number: u64, last: u64) -> bool
+    ensures { IsTrue result ↔ (number ≡ last + 1) }
+{
+    last < number && number - last == 1
+}
+
+/// Goes on by an entry, if the entry can.
+pub(crate) fn step(
+    catalogue: &Catalogue,
+    entry: &Entry,
+    stage: &mut Stage,
+) -> Result<bool, AllocError>
+    requires known { entry.now.tx.0 < length catalogue.now.programs }
+    requires values { length stage.old.values.items ≡ length catalogue.now.initial }
+    requires versions { length stage.old.versions.items ≡ length catalogue.now.initial }
+    ensures goes_on { IfOk result (λ yes. IsTrue yes ↔ GoesOn catalogue.now entry.now (view stage.old)) }
+    ensures applied { IfOk result (λ yes. yes ≡ true → view stage.new ≡ applied catalogue.now entry.now (view stage.old)) }
+    ensures values { length stage.new.values.items ≡ length catalogue.now.initial }
+    ensures versions { length stage.new.versions.items ≡ length catalogue.now.initial }
+{
+    if !is_next(entry.number, stage.number) {
+        return Ok(false);
+    }
+    let before = stage.values.clone()?;
+    let outcome = execute(catalogue.tx(entry.tx), &mut stage.values)?;
+    if outcome != entry.outcome {
+        return Ok(false);
+    }
+    raise(entry.number, &before, &stage.values, &mut stage.versions);
+    stage.number = entry.number;
+    Ok(true)
+}
+
+/// Where the entries lead from a stage, if each of them goes on from where those before it lead.
+pub(crate) fn replay(
+    catalogue: &Catalogue,
+    base: Stage,
+    entries: &[Entry],
+) -> Result<Option<Stage>, AllocError>
+    requires known { All (λ e. e.tx.0 < length catalogue.now.programs) entries.now }
+    requires values { length base.values.items ≡ length catalogue.now.initial }
+    requires versions { length base.versions.items ≡ length catalogue.now.initial }
+    ensures hold { IfOk result (λ s. IsSome s ↔ AllGoOn catalogue.now (view base) entries.now) }
+    ensures reached { IfOk result (λ s. IfSome s (λ s. view s ≡ led_to catalogue.now (view base) entries.now)) }
+    ensures sized { IfOk result (λ s. IfSome s (λ s. length s.values.items ≡ length catalogue.now.initial)) }
+{
+    let mut stage = base;
+    'entries: for entry in entries {
+        if !step(catalogue, entry, &mut stage)? {
+            return Ok(None);
+        }
+    }
+    Ok(Some(stage))
+}

@@ -1,0 +1,122 @@
+//! Reports with each verdict.
+
+use crate::parts::{FILE, REPORT, failed};
+use checker::{Part, Verdict, check};
+use std::test::Fail;
+use txn_text::ReadFault;
+
+#[test]
+fn each_part_has_its_verdict(rt: HostRuntime) -> Result<(), Fail> {
+    for (report, part) in [
+        (REPORT, 0),
+        (
+            "base 0\nx 5 0\nentry 1 0 inc returned 6\nentry 2 1 inc returned 7\nnow 2\nx 7 2\n",
+            1,
+        ),
+        (
+            "base 0\nx 4 0\nentry 1 0 inc returned 6\nentry 2 1 inc returned 7\nnow 2\nx 7 2\nend\n",
+            2,
+        ),
+        (
+            "base 0\nx 5 0\nentry 1 0 inc returned 6\nentry 2 1 inc returned 8\nnow 2\nx 7 2\nend\n",
+            3,
+        ),
+        (
+            "base 0\nx 5 0\nentry 1 0 inc returned 6\nentry 2 1 inc returned 7\nnow 2\nx 7 1\nend\n",
+            4,
+        ),
+        (
+            "base 0\nx 5 0\nentry 1 0 inc returned 6\nentry 2 0 inc returned 7\nnow 2\nx 7 2\nend\n",
+            5,
+        ),
+        (
+            "base 0\nx 5 0\nentry 1 0 inc returned 6\nnow 1\nx 6 1\nparked 1 inc\nend\n",
+            6,
+        ),
+        (
+            "base 0\nx 5 0\nentry 1 0 inc returned 6\nnow 1\nx 6 1\nmemory 1 inc\nend\n",
+            0,
+        ),
+    ] {
+        assert_eq!(rt;
+            failed(rt.alloc(), FILE, report.as_bytes())?,
+            part,
+            "of {report}"
+        );
+    }
+    Ok(())
+}
+
+#[test]
+fn numbers_versions_and_outcomes_are_judged(rt: HostRuntime) -> Result<(), Fail> {
+    for (report, part) in [
+        (
+            "base 1\nx 6 2\nentry 2 1 inc returned 7\nnow 2\nx 7 2\nend\n",
+            2,
+        ),
+        (
+            "base 1\nx 6 1\nentry 3 1 inc returned 7\nnow 2\nx 7 2\nend\n",
+            3,
+        ),
+        (
+            "base 1\nx 6 1\nentry 2 1 inc overflow\nnow 2\nx 7 2\nend\n",
+            3,
+        ),
+        (
+            "base 1\nx 6 1\nentry 2 1 inc returned 7\nnow 3\nx 7 2\nend\n",
+            4,
+        ),
+        (
+            "base 1\nx 6 1\nentry 2 1 inc returned 7\nnow 2\nx 8 2\nend\n",
+            4,
+        ),
+        (
+            "base 1\nx 6 1\nentry 2 1 inc returned 7\nnow 2\nx 7 2\nend\n",
+            0,
+        ),
+    ] {
+        assert_eq!(rt;
+            failed(rt.alloc(), FILE, report.as_bytes())?,
+            part,
+            "of {report}"
+        );
+    }
+    Ok(())
+}
+
+#[test]
+fn the_first_part_that_fails_is_told(rt: HostRuntime) -> Result<(), Fail> {
+    let report = "base 0\nx 4 0\nentry 2 0 inc returned 9\nnow 9\nx 0 0\nparked 0 inc\nend\n";
+    assert_eq!(rt; failed(rt.alloc(), FILE, report.as_bytes())?, 2);
+    let report = "base 0\nx 5 0\nentry 2 0 inc returned 9\nnow 9\nx 0 0\nparked 0 inc\nend\n";
+    assert_eq!(rt; failed(rt.alloc(), FILE, report.as_bytes())?, 3);
+    let report = "base 0\nx 5 0\nentry 1 0 inc returned 6\nnow 9\nx 0 0\nparked 0 inc\nend\n";
+    assert_eq!(rt; failed(rt.alloc(), FILE, report.as_bytes())?, 4);
+    let report = "base 0\nx 5 0\nentry 1 0 inc returned 6\nnow 1\nx 6 1\nparked 0 inc\nend\n";
+    assert_eq!(rt; failed(rt.alloc(), FILE, report.as_bytes())?, 5);
+    Ok(())
+}
+
+#[test]
+fn a_base_that_was_moved_is_good(rt: HostRuntime) -> Result<(), Fail> {
+    let file = "(var x 5)(tx inc (set x (add x 1)) x)(run inc 3)";
+    let report = "base 2\nx 7 2\nentry 3 2 inc returned 8\nnow 3\nx 8 3\nend\n";
+    assert_eq!(rt; failed(rt.alloc(), file, report.as_bytes())?, 0);
+    Ok(())
+}
+
+#[test]
+fn a_fault_of_the_file_is_told(rt: HostRuntime) -> Result<(), Fail> {
+    for report in ["", REPORT] {
+        let answer = check(rt.alloc(), b"(var x", report.as_bytes());
+        assert_eq!(rt; answer.err(), Some(ReadFault::Shape));
+    }
+    Ok(())
+}
+
+#[test]
+fn verdicts_have_lines(rt: HostRuntime) {
+    assert_eq!(rt; Verdict::Good.line(), "good\n");
+    assert_eq!(rt; Verdict::Bad(Part::Text).line(), "bad 1\n");
+    assert_eq!(rt; Verdict::Bad(Part::Parked).line(), "bad 6\n");
+}
