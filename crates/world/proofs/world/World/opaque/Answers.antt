@@ -1,0 +1,19 @@
+use Rattle.std.proofs.Common.{subst}
+use Rattle.world_law.specs.Opacity.{Opaque, WordsHold}
+use Rattle.world_law.proofs.Framed.{sound_by}
+use Rattle.world_law.proofs.Reached.{reached_opaque, reached_words}
+use Rattle.world.specs.View.{WorldView}
+use Rattle.world.specs.Inside.{listing, world_of}
+use Rattle.world.proofs.world.World.opaque.Goals as goal
+
+pub returns-clause-opaque : goal.returns-clause-opaque
+returns-clause-opaque c =
+    let s = c.self.inside.scene in
+    subst (λ (v : WorldView). Opaque v.listing v.world) c.self.view_is
+    (reached_opaque (listing s) (sound_by (listing s) c.rules.ensures.names c.rules.ensures.named) (world_of s) c.self.invariant.reached)
+
+pub returns-clause-words : goal.returns-clause-words
+returns-clause-words c =
+    let s = c.self.inside.scene in
+    subst (λ (v : WorldView). WordsHold v.listing v.world) c.self.view_is
+    (reached_words (listing s) (sound_by (listing s) c.rules.ensures.names c.rules.ensures.named) (world_of s) c.self.invariant.reached)

@@ -1,0 +1,9 @@
+pub mod Trials
+pub mod Inside
+pub mod Steps
+pub mod Asks
+pub mod Opening
+pub mod View
+pub mod WorldInside
+pub mod Telling
+pub mod Runs

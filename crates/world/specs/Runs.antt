@@ -1,0 +1,22 @@
+-- Events one after another, and which of them take no memory.
+use Rattle.std.specs.Prelude.{List}
+use Rattle.txn.specs.Listing.{Listing}
+use Rattle.world_law.specs.declared.events.Event.{Event}
+use Rattle.world_law.specs.declared.events.Event.TheVariants.{Begin, First, Value, Second, Ask, Word, Drop}
+use Rattle.world_law.specs.declared.events.Seen.{Seen}
+use Rattle.world_law.specs.World.{World}
+use Rattle.world_law.specs.Next.{Run}
+
+-- these events lead from w to w', whatever is seen of them
+abbrev pub LeadTo : Listing → World → List Event → World → Type 0
+LeadTo l w events w' = (answers : List Seen) × Run l w events answers w'
+
+-- the event takes no memory
+abbrev pub TakesNone : Event → Type 0
+TakesNone (Begin a) = ⊥
+TakesNone (First a x) = Unit {0}
+TakesNone (Value a) = Unit {0}
+TakesNone (Second a) = ⊥
+TakesNone (Ask a) = ⊥
+TakesNone Word = Unit {0}
+TakesNone (Drop a) = Unit {0}

@@ -1,0 +1,8 @@
+-- What a contract sees of a world.
+use Rattle.txn.specs.Listing.{Listing}
+use Rattle.world_law.specs.World.{World}
+
+pub record WorldView : Type 0 where
+  -- what its catalogue says
+  pub listing : Listing
+  pub world : World

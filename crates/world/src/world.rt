@@ -1,0 +1,118 @@
+//! The running world.
+
+ghost use Rattle.std.specs.Prelude.{◌≡◌, ◌<◌, take, length, map, IfOk, IfErr, OnOk, OnErr, IsOk};
+ghost use Rattle.world.specs.Inside.{state_items};
+ghost use Rattle.world.specs.Telling.{Tells};
+ghost use Rattle.world_law.specs.World.{IsOpening};
+ghost use Rattle.world_law.specs.Next.{Next};
+ghost use Rattle.world.specs.Runs.{LeadTo, TakesNone};
+ghost use Rattle.world_law.specs.Opacity.{Opaque, WordsHold};
+
+use crate::happening::happen;
+use crate::opening::opening;
+use crate::scene::Scene;
+use crate::telling::{Begun, begun_at, states};
+use std::alloc::Global;
+use std::marker::Model;
+use txn::{Catalogue, Memory};
+use world_law::{Event, Seen};
+
+/// The stepped world of a catalogue. A clause sees the catalogue's listing and the plain world,
+/// which some events lead to from the opening.
+#[derive(Drop)]
+pub struct World<'a> {
+    scene: Scene<'a>,
+}
+
+impl<'a> Model for World<'a> {
+    ghost use Rattle.std.specs.Coded.{codes};
+    ghost use Rattle.txn.specs.Codes.{coded_listing};
+    ghost use Rattle.world.specs.View.{WorldView};
+
+    ghost Value = { WorldView };
+
+    ghost coded = { Prim.hlevel (codes, coded_listing) };
+
+    ghost use Rattle.world.specs.WorldInside.{viewed, IsKept};
+
+    ghost view = { viewed };
+
+    ghost invariant = { IsKept };
+}
+
+impl<'a> World<'a> {
+    /// The world of a catalogue as it opens: the clock is 0, the words hold the initial values,
+    /// and no attempt has begun. `Memory` where a growth was refused.
+    pub fn open(alloc: Global, catalogue: &'a Catalogue) -> Result<World<'a>, Memory>
+        ensures listing { IfOk result (λ w. w.listing ≡ catalogue.now) }
+        ensures opening { IfOk result (λ w. IsOpening catalogue.now w.world) }
+    {
+        let scene = opening(alloc, catalogue)?;
+        Ok(World { scene })
+    }
+
+    /// One event happens, and what is seen of it is told.
+    ///
+    /// `Memory` where an attempt has no room to begin, a log can't grow, or the state that a commit
+    /// would make has no room; then nothing changed. `First`, `Value`, `Word` and `Drop` take no
+    /// memory.
+    pub fn step(&mut self, event: Event) -> Result<Seen, Memory>
+        ensures listing { self.new.listing ≡ self.old.listing }
+        ensures ok { IfOk result (λ s. Next self.old.listing self.old.world event s self.new.world) }
+        ensures refused { OnErr result (self.new.world ≡ self.old.world) }
+        ensures sure { TakesNone event → IsOk result }
+    {
+        let seen = happen(&mut self.scene, event)?;
+        Ok(seen)
+    }
+
+    /// These events happen, one after another. `Err` has the place of the event that was refused for
+    /// want of memory: those before it happened, and it changed nothing.
+    pub fn run(&mut self, events: &[Event]) -> Result<(), usize>
+        ensures listing { self.new.listing ≡ self.old.listing }
+        ensures ok { OnOk result (LeadTo self.old.listing self.old.world events.now self.new.world) }
+        ensures refused { IfErr result (λ k. (k < length events.now)
+            × LeadTo self.old.listing self.old.world (take k events.now) self.new.world) }
+    {
+        for place in 0..events.len() {
+            match self.step(events[place]) {
+                Ok(_) => {}
+                Err(_) => return Err(place),
+            }
+        }
+        Ok(())
+    }
+
+    /// The states of the history, the oldest first. There is always one.
+    pub fn history(&self) -> &[Vec<i64>]
+        ensures value { map state_items result.now ≡ self.now.world.history }
+        ensures some { 0 < length result.now }
+    {
+        states(&self.scene)
+    }
+
+    /// How many attempts began.
+    pub fn attempts(&self) -> usize
+        ensures { result ≡ length self.now.world.attempts }
+    {
+        self.scene.trials.len()
+    }
+
+    /// The attempt that began at this place, counted from 0.
+    pub fn attempt(&self, place: usize) -> Begun<'_>
+        requires { place < length self.now.world.attempts }
+        ensures { Tells self.now.world place result.task result.rv result.log.now result.fate }
+    {
+        begun_at(&self.scene, place)
+    }
+
+    /// Whatever happened: each attempt's reads are those of one state of the history, each state
+    /// was made by exactly one attempt, no task commits twice, and the words mean what they should.
+    /// It does nothing: its contract is the law.
+    pub fn opaque(&self)
+        ensures opaque { Opaque self.now.listing self.now.world }
+        ensures words { WordsHold self.now.listing self.now.world }
+    {
+        self.scene.catalogue.rules();
+    }
+}

@@ -1,0 +1,74 @@
+//! One line of a schedule.
+
+ghost use Rattle.std.specs.Prelude.{◌≡◌, IfOk, OnErr};
+ghost use Rattle.world_player.specs.Lines.{Reads, ReadsPart, Commits, CommitsPart, Plays, PlaysPart, IsCommitting, StoresSome, StoresLast};
+
+use txn::{Memory, Move, TaskId, VarId};
+use world::World;
+use world_law::{Event, Seen};
+
+/// Plays a line of a schedule: its events, one after another. What is seen of it is the answer of
+/// the last one.
+///
+/// `Memory` where an event is refused; those of the line before it were done.
+pub fn play(world: &mut World<'_>, line: Move) -> Result<Seen, Memory>
+    ensures listing { world.new.listing ≡ world.old.listing }
+    ensures ok { IfOk result (λ s. Plays world.old.listing world.old.world line s world.new.world) }
+    ensures refused { OnErr result (PlaysPart world.old.listing world.old.world line world.new.world) }
+{
+    match line {
+        Move::Begin(task) => world.step(Event::Begin(task)),
+        Move::Read(task, x) => read(world, task, x),
+        Move::Commit(task) => commit(world, task),
+        Move::Drop(task) => world.step(Event::Drop(task)),
+        Move::First(task, x) => world.step(Event::First(task, x)),
+        Move::Value(task) => world.step(Event::Value(task)),
+        Move::Second(task) => world.step(Event::Second(task)),
+        Move::Ask(task) => world.step(Event::Ask(task)),
+        Move::Word => world.step(Event::Word),
+    }
+}
+
+/// The three loads of a read, the latter two where the first was loaded.
+fn read(world: &mut World<'_>, task: TaskId, x: VarId) -> Result<Seen, Memory>
+    ensures listing { world.new.listing ≡ world.old.listing }
+    ensures ok { IfOk result (λ s. Reads world.old.listing world.old.world task x s world.new.world) }
+    ensures refused { OnErr result (ReadsPart world.old.listing world.old.world task x world.new.world) }
+{
+    match world.step(Event::First(task, x))? {
+        Seen::Loaded => {
+            world.step(Event::Value(task))?;
+            world.step(Event::Second(task))
+        }
+        seen => Ok(seen),
+    }
+}
+
+/// The question whether to commit, and then all stores of the commit.
+fn commit(world: &mut World<'_>, task: TaskId) -> Result<Seen, Memory>
+    ensures listing { world.new.listing ≡ world.old.listing }
+    ensures ok { IfOk result (λ s. Commits world.old.listing world.old.world task s world.new.world) }
+    ensures refused { OnErr result (CommitsPart world.old.listing world.old.world task world.new.world) }
+{
+    let seen = world.step(Event::Ask(task))?;
+    match seen {
+        Seen::Commits(number) => store_all(world, number),
+        _ => Ok(seen),
+    }
+}
+
+/// All stores of the commit of this number.
+fn store_all(world: &mut World<'_>, number: u64) -> Result<Seen, Memory>
+    requires { IsCommitting world.old.world number }
+    ensures listing { world.new.listing ≡ world.old.listing }
+    ensures ok { IfOk result (λ s. StoresLast world.old.listing number world.old.world s world.new.world) }
+    ensures refused { OnErr result (StoresSome world.old.listing world.old.world world.new.world) }
+{
+    'stores: loop {
+        let seen = world.step(Event::Word)?;
+        match seen {
+            Seen::Stored => {}
+            _ => return Ok(seen),
+        }
+    }
+}

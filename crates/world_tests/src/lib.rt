@@ -1,0 +1,11 @@
+//! Tests of the public calls of `world`.
+#![tactic(auto)]
+
+#[cfg(test)]
+mod commits;
+#[cfg(test)]
+mod parts;
+#[cfg(test)]
+mod reads;
+#[cfg(test)]
+mod runs;
