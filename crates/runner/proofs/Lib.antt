@@ -1,2 +1,4 @@
 mod Reading
 pub mod Working
+pub mod Crossing
+pub mod Crew

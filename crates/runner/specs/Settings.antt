@@ -1,5 +1,5 @@
 -- The options of a run, and which are taken.
-use Rattle.std.specs.Prelude.{◌≡◌, ℕ, ◌≤◌}
+use Rattle.std.specs.Prelude.{ℕ, ◌≤◌}
 
 pub record Settings : Type 0 where
   pub workers : ℕ
@@ -9,7 +9,8 @@ pub record Settings : Type 0 where
   pub checkpoint : ℕ
 
 pub record AreAllowed (s : Settings) : Type 0 where
-  pub workers : s.workers ≡ 1
+  pub workers_from : 1 ≤ s.workers
+  pub workers_to : s.workers ≤ 16
   pub tries_from : 1 ≤ s.tries
   pub tries_to : s.tries ≤ 64
   pub checkpoint : s.checkpoint ≤ 65536

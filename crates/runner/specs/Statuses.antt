@@ -3,12 +3,13 @@ use Rattle.std.specs.Prelude.{ℕ, List, codes}
 use Rattle.txn_text.specs.fault.ReadFault.{ReadFault}
 use Rattle.txn_text.specs.fault.ReadFault.TheVariants as read
 use Rattle.runner.specs.declared.fault.RunFault.{RunFault}
-use Rattle.runner.specs.declared.fault.RunFault.TheVariants.{Input, Memory, Output}
+use Rattle.runner.specs.declared.fault.RunFault.TheVariants.{Input, Memory, Output, Schedule}
 
 abbrev pub status_of : RunFault → ℕ
 status_of (Input kind) = 2
 status_of Output = 4
 status_of Memory = 5
+status_of (Schedule kind) = 2
 
 abbrev pub kind_line : ReadFault → List ℕ
 kind_line read.TooLong = codes "stm: file: F1 TooLong"
@@ -18,7 +19,16 @@ kind_line read.Name = codes "stm: file: F4 Name"
 kind_line read.Limit = codes "stm: file: F5 Limit"
 kind_line read.Memory = codes "stm: out of memory"
 
+abbrev pub schedule_line : ReadFault → List ℕ
+schedule_line read.TooLong = codes "stm: schedule: F1 TooLong"
+schedule_line read.BadByte = codes "stm: schedule: F2 BadByte"
+schedule_line read.Shape = codes "stm: schedule: F3 Shape"
+schedule_line read.Name = codes "stm: schedule: F4 Name"
+schedule_line read.Limit = codes "stm: schedule: F5 Limit"
+schedule_line read.Memory = codes "stm: out of memory"
+
 abbrev pub line_of : RunFault → List ℕ
 line_of (Input kind) = kind_line kind
 line_of Output = codes "stm: cannot write"
 line_of Memory = codes "stm: out of memory"
+line_of (Schedule kind) = schedule_line kind

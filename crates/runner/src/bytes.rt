@@ -4,10 +4,13 @@ ghost use Rattle.std.specs.Prelude.{◌≡◌, ◌+◌, ◌<◌, ◌^◌, true, 
 ghost use Rattle.runner.specs.Running.{IsReportOf, IsRefused, Ran, output_failures};
 
 use crate::fault::RunFault;
+use crate::gate::Gate;
 use crate::options::Options;
 use crate::tasks::run_tasks;
 use sink::{Sink, put_all};
 use std::alloc::Global;
+use std::sync::Wait;
+use std::thread::Threads;
 use txn_text::{ReadFault, print_report, read_file};
 
 /// Runs the file that the bytes spell, and writes its report to the sink.
@@ -16,10 +19,12 @@ use txn_text::{ReadFault, print_report, read_file};
 /// `Input`: the bytes spell no file, and this is the first kind of fault that they have; nothing
 /// was written. `Memory`: a growth was refused; nothing was written. `Output`: a call of the sink
 /// failed, the only one, and a beginning of one such text was written.
-pub fn run_bytes<S: Sink>(
+pub fn run_bytes<R: Threads + Wait + Sync, G: Gate, S: Sink>(
+    rt: &R,
     alloc: Global,
     bytes: &[u8],
     options: Options,
+    gate: &G,
     sink: &mut S,
 ) -> Result<(), RunFault>
     requires { S.failed sink.old < 2 ^ 63 }
@@ -27,7 +32,7 @@ pub fn run_bytes<S: Sink>(
     ensures flushed { OnOk result (S.flushed sink.new ≡ true) }
     ensures failures { S.failed sink.new ≡ S.failed sink.old + output_failures result }
 {
-    match report_of(alloc, bytes, options) {
+    match report_of(rt, alloc, bytes, options, gate) {
         Ok(text) => match put_all(sink, text.as_bytes()) {
             Ok(()) => Ok(()),
             Err(_) => Err(RunFault::Output),
@@ -37,7 +42,13 @@ pub fn run_bytes<S: Sink>(
 }
 
 /// The text of a lawful report of the file that the bytes spell.
-fn report_of(alloc: Global, bytes: &[u8], options: Options) -> Result<String, RunFault>
+fn report_of<R: Threads + Wait + Sync, G: Gate>(
+    rt: &R,
+    alloc: Global,
+    bytes: &[u8],
+    options: Options,
+    gate: &G,
+) -> Result<String, RunFault>
     ensures report { IfOk result (λ text. IsReportOf bytes.now (string_bytes text)) }
     ensures refused { IfErr result (IsRefused bytes.now) }
 {
@@ -46,7 +57,7 @@ fn report_of(alloc: Global, bytes: &[u8], options: Options) -> Result<String, Ru
         Err(ReadFault::Memory) => return Err(RunFault::Memory),
         Err(kind) => return Err(RunFault::Input(kind)),
     };
-    let Ok(report) = run_tasks(alloc, &catalogue, options) else {
+    let Ok(report) = run_tasks(rt, alloc, &catalogue, options, gate) else {
         return Err(RunFault::Memory);
     };
     match print_report(alloc, &catalogue, &report) {

@@ -5,7 +5,7 @@ ghost use Rattle.std.specs.Prelude.{◌≡◌};
 use thiserror::Error;
 use txn_text::ReadFault;
 
-/// Why a run did not end in a report. Its text is `line()`.
+/// Why a run did not end in a report, or a schedule in the text of its world. Its text is `line()`.
 #[derive(Clone, Copy, Debug, PartialEq, Eq, Error)]
 pub enum RunFault {
     /// The input spells no file, by a fault of this kind, which is never `Memory`. Nothing was
@@ -15,10 +15,14 @@ pub enum RunFault {
     /// A growth was refused. Nothing was written.
     #[error("{}", RunFault::Memory.line())]
     Memory,
-    /// A write or the flush failed, or a write took nothing. A beginning of one lawful report was
+    /// A write or the flush failed, or a write took nothing. A beginning of one lawful text was
     /// written.
     #[error("{}", RunFault::Output.line())]
     Output,
+    /// The file is spelled, and its schedule is the text of no moves, by a fault of this kind, which
+    /// is never `Memory`. Nothing was written.
+    #[error("{}", RunFault::Schedule(*.0).line())]
+    Schedule(ReadFault),
 }
 
 impl RunFault {
@@ -30,7 +34,7 @@ impl RunFault {
         ensures { result ≡ status_of self.now }
     {
         match self {
-            RunFault::Input(_) => 2,
+            RunFault::Input(_) | RunFault::Schedule(_) => 2,
             RunFault::Output => 4,
             RunFault::Memory => 5,
         }
@@ -45,11 +49,12 @@ impl RunFault {
             RunFault::Input(kind) => input_line(*kind),
             RunFault::Output => "stm: cannot write",
             RunFault::Memory => "stm: out of memory",
+            RunFault::Schedule(kind) => schedule_line(*kind),
         }
     }
 }
 
-ghost use Rattle.runner.specs.Statuses.{kind_line};
+ghost use Rattle.runner.specs.Statuses.{kind_line, schedule_line};
 
 fn input_line(kind: ReadFault) -> &'static str
     ensures { result.now ≡ kind_line kind }
@@ -60,6 +65,19 @@ fn input_line(kind: ReadFault) -> &'static str
         ReadFault::Shape => "stm: file: F3 Shape",
         ReadFault::Name => "stm: file: F4 Name",
         ReadFault::Limit => "stm: file: F5 Limit",
+        ReadFault::Memory => "stm: out of memory",
+    }
+}
+
+fn schedule_line(kind: ReadFault) -> &'static str
+    ensures { result.now ≡ schedule_line kind }
+{
+    match kind {
+        ReadFault::TooLong => "stm: schedule: F1 TooLong",
+        ReadFault::BadByte => "stm: schedule: F2 BadByte",
+        ReadFault::Shape => "stm: schedule: F3 Shape",
+        ReadFault::Name => "stm: schedule: F4 Name",
+        ReadFault::Limit => "stm: schedule: F5 Limit",
         ReadFault::Memory => "stm: out of memory",
     }
 }

@@ -1,6 +1,6 @@
 //! The options of a run.
 
-ghost use Rattle.std.specs.Prelude.{◌≡◌, ◌↔◌, IsSome, IfSome};
+ghost use Rattle.std.specs.Prelude.{◌≡◌, ◌≤◌, ◌↔◌, IsSome, IfSome};
 ghost use Rattle.runner.specs.Settings.{AreAllowed};
 
 use std::marker::Model;
@@ -26,12 +26,12 @@ impl Model for Options {
 }
 
 impl Options {
-    /// `None` unless `workers` is 1, `tries` from 1 to 64, and `checkpoint` at most 65,536.
+    /// `None` unless `workers` is from 1 to 16, `tries` from 1 to 64, and `checkpoint` at most 65,536.
     pub fn new(workers: u32, tries: u32, checkpoint: u32) -> Option<Options>
         ensures taken { IsSome result ↔ AreAllowed (record { workers = workers; tries = tries; checkpoint = checkpoint }) }
         ensures value { IfSome result (λ o. o ≡ record { workers = workers; tries = tries; checkpoint = checkpoint }) }
     {
-        if workers != 1 || tries < 1 || tries > 64 || checkpoint > 65536 {
+        if workers < 1 || workers > 16 || tries < 1 || tries > 64 || checkpoint > 65536 {
             return None;
         }
         Some(Options {
@@ -43,7 +43,8 @@ impl Options {
 
     /// How many workers run the tasks.
     pub fn workers(&self) -> u32
-        ensures { result ≡ self.now.workers }
+        ensures value { result ≡ self.now.workers }
+        ensures few { result ≤ 16 }
     {
         self.workers
     }

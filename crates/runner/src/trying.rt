@@ -7,10 +7,11 @@ ghost use Rattle.attempt.specs.View.{supplied};
 ghost use Rattle.cells.specs.Passing.{at, ReadsBy};
 ghost use Rattle.runner.specs.Working.{EndsOver};
 
+use crate::gate::{Gate, Point};
 use attempt::{Attempt, Next, Stand};
 use cells::{Cells, Pass, Read};
 use std::alloc::Global;
-use txn::{Catalogue, TxId, VarId};
+use txn::{Catalogue, TaskId, TxId, VarId};
 
 /// Why an attempt has no end.
 #[derive(Clone, Copy, Debug, PartialEq, Eq)]
@@ -21,17 +22,20 @@ pub(crate) enum Cut {
     Memory,
 }
 
-/// An attempt of the transaction that ended, on the state of one begin of the pass.
+/// An attempt of the task's transaction that ended, on the state of one begin of the pass. The gate
+/// is told of each need before it is read, and of the end.
 ///
 /// `Stale` where a read was, which closed the pass. `Memory` only where a growth was refused, and
 /// then no read was stale: the pass is open. The pass has to be one of these cells, and the cells
 /// have to have a variable for each of the catalogue's.
-pub(crate) fn attempt_on<'c>(
+pub(crate) fn attempt_on<'c, G: Gate>(
     alloc: Global,
     catalogue: &'c Catalogue,
     tx: TxId,
     cells: &Cells,
     pass: &mut Pass,
+    gate: &G,
+    task: TaskId,
 ) -> Result<Attempt<'c>, Cut>
     requires known { tx.0 < length catalogue.now.programs }
     requires own { pass.old.cells ≡ cells.now }
@@ -46,9 +50,15 @@ pub(crate) fn attempt_on<'c>(
     let mut attempt = Attempt::new(alloc, catalogue, tx);
     loop {
         match attempt.advance() {
-            Next::Need(x) => tell(&mut attempt, x, cells, pass)?,
+            Next::Need(x) => {
+                gate.at(Point::Needs, task);
+                tell(&mut attempt, x, cells, pass)?;
+            }
             Next::Memory => return Err(Cut::Memory),
-            Next::Returned(_) | Next::Thrown(_) | Next::Retry => return Ok(attempt),
+            Next::Returned(_) | Next::Thrown(_) | Next::Retry => {
+                gate.at(Point::Ended, task);
+                return Ok(attempt);
+            }
         }
     }
 }

@@ -1,82 +1,97 @@
 //! The worker: it takes a task, tries it on what its pass reads, and brings the end to the book.
+//!
+//! It evaluates outside the lock. A read that is stale, and an end that is, are each one stale try;
+//! after so many of them the task has its turn under the lock.
 
-ghost use Rattle.std.specs.Prelude.{◌≡◌, ◌≢◌, ℕ, length, Some, slice_get};
-ghost use Rattle.book.specs.declared.task.Task.TheVariants.{Ready};
-ghost use Rattle.book.specs.View.{IsRunning};
-ghost use Rattle.book.specs.Turns.{Served, Drains, kept_short};
+ghost use Rattle.std.specs.Prelude.{◌≡◌, ◌<◌, length};
+ghost use Rattle.std.specs.Coded.{codes};
+ghost use Rattle.txn.specs.Codes.{coded_listing};
+ghost use Rattle.txn.specs.Listing.{tasks};
 
+use crate::gate::{Gate, Point};
+use crate::shared::{Named, Naming, Tried, finish, give_up, serial, take};
 use crate::trying::{Cut, attempt_on};
-use book::{Book, Finish, Serial};
+use crate::waiting::rest_after;
 use cells::{Cells, Pass};
 use std::alloc::Global;
+use std::sync::{Mutex, Wait};
 use txn::{Catalogue, TaskId};
 
-/// Gives the lowest ready task a turn until none is ready.
-///
-/// Each turn is an attempt on one begin of the pass. Where it proves stale, the task has its turn
-/// under the book; where it met want of memory, the task is given up. Where `every` is not 0, a
-/// commit that makes the journal at least `every` entries long is followed by a checkpoint.
-pub(crate) fn work(
-    alloc: Global,
-    catalogue: &Catalogue,
-    cells: &Cells,
-    pass: &mut Pass,
-    every: u32,
-    book: &mut Book<'_>,
-)
-    requires catalogue { book.old.catalogue ≡ catalogue.now }
-    requires own { pass.old.cells ≡ cells.now }
-    requires variables { cells.now.variables ≡ length catalogue.now.initial }
-    ensures turns { Drains every book.old book.new }
-    ensures none { (t : ℕ) → slice_get book.new.tasks t ≢ Some Ready }
+/// What the workers of a run share.
+#[derive(Drop)]
+pub(crate) struct Crew<'a, 'b, G: Gate, N: Naming> {
+    pub(crate) alloc: Global,
+    pub(crate) catalogue: &'a Catalogue,
+    pub(crate) cells: &'a Cells,
+    /// The book, behind its lock.
+    pub(crate) shared: &'a Mutex<Named<'b, N>>,
+    pub(crate) gate: &'a G,
+    /// After how many stale tries a task is run under the lock.
+    pub(crate) tries: u32,
+    /// After how many journal entries a checkpoint is made, 0 for never.
+    pub(crate) every: u32,
+    ghost named: { catalogue.now ≡ N.catalogue } by { Prim.hlevel (codes, coded_listing) },
+    ghost variables: { cells.now.variables ≡ length catalogue.now.initial },
+}
+
+/// The life of a worker: it gives the lowest ready task its tries until none is ready.
+pub(crate) fn work<R: Wait, G: Gate, N: Naming>(rt: &R, crew: &Crew<'_, '_, G, N>, pass: Pass)
+    requires own { pass.cells ≡ crew.now.cells.now }
 {
-    while let Some(task) = book.take() {
-        let how = serve(alloc, catalogue, cells, pass, book, task);
-        keep_short(every, how, book);
+    let mut pass = pass;
+    for _ in rt.forever() {
+        let Some(task) = take(rt, crew.shared) else {
+            return;
+        };
+        crew.gate.at(Point::Taken, task);
+        if run_task(rt, crew, &mut pass, task) {
+            crew.gate.at(Point::Finished, task);
+        }
     }
 }
 
-/// The turn of a task that was taken.
-fn serve(
-    alloc: Global,
-    catalogue: &Catalogue,
-    cells: &Cells,
+/// All tries of a task that was taken, and then a turn under the lock. Whether the task is then
+/// committed, parked or given up.
+fn run_task<R: Wait, G: Gate, N: Naming>(
+    rt: &R,
+    crew: &Crew<'_, '_, G, N>,
     pass: &mut Pass,
-    book: &mut Book<'_>,
     task: TaskId,
-) -> Serial
-    requires running { IsRunning book.old task }
-    requires catalogue { book.old.catalogue ≡ catalogue.now }
-    requires own { pass.old.cells ≡ cells.now }
-    requires variables { cells.now.variables ≡ length catalogue.now.initial }
-    ensures served { Served book.old task result book.new }
+) -> bool
+    requires exists { task.0 < length (tasks N.catalogue) }
+    requires own { pass.old.cells ≡ crew.now.cells.now }
     ensures own { pass.new.cells ≡ pass.old.cells }
 {
-    book.law();
-    let tx = catalogue.task_tx(task);
-    match attempt_on(alloc, catalogue, tx, cells, pass) {
-        Ok(attempt) => match book.finish(task, attempt) {
-            Finish::NotRunning => Serial::NotRunning,
-            Finish::Stale => book.serial(alloc, task),
-            Finish::Parked => Serial::Parked,
-            Finish::Committed(number) => Serial::Committed(number),
-        },
-        Err(Cut::Stale) => book.serial(alloc, task),
-        Err(Cut::Memory) => {
-            book.give_up(task);
-            Serial::Abandoned
+    for stale in 0..crew.tries {
+        match try_task(rt, crew, pass, task) {
+            Tried::Over => return true,
+            Tried::NotRunning => return false,
+            Tried::Stale => rest_after(stale),
+            Tried::Memory => {
+                give_up(rt, crew.shared, task);
+                return true;
+            }
         }
     }
+    serial(rt, crew.alloc, crew.shared, crew.every, task) == Tried::Over
 }
 
-/// A checkpoint, where one is due after this turn.
-fn keep_short(every: u32, how: Serial, book: &mut Book<'_>)
-    ensures { book.new ≡ kept_short every how book.old }
+/// One try: an attempt outside the lock, and its end.
+fn try_task<R: Wait, G: Gate, N: Naming>(
+    rt: &R,
+    crew: &Crew<'_, '_, G, N>,
+    pass: &mut Pass,
+    task: TaskId,
+) -> Tried
+    requires exists { task.0 < length (tasks N.catalogue) }
+    requires own { pass.old.cells ≡ crew.now.cells.now }
+    ensures own { pass.new.cells ≡ pass.old.cells }
 {
-    match how {
-        Serial::Committed(_) if every > 0 && book.journal_len() >= every as usize => {
-            book.checkpoint();
-        }
-        _ => {}
+    let catalogue = crew.catalogue;
+    let tx = catalogue.task_tx(task);
+    match attempt_on(crew.alloc, catalogue, tx, crew.cells, pass, crew.gate, task) {
+        Ok(attempt) => finish(rt, crew.shared, crew.every, task, attempt),
+        Err(Cut::Stale) => Tried::Stale,
+        Err(Cut::Memory) => Tried::Memory,
     }
 }

@@ -6,7 +6,7 @@ use std::test::Fail;
 #[test]
 fn a_report_of_65536_entries_is_printed(rt: HostRuntime) -> Result<(), Fail> {
     let input = "(var x 5)(tx inc (set x (add x 1)) x)(run inc 65536)";
-    let (text, fault) = run(rt.alloc(), input.as_bytes())?;
+    let (text, fault) = run(&rt, rt.alloc(), input.as_bytes())?;
     assert_eq!(rt; fault, None);
     assert!(rt;
         text.as_slice()

@@ -4,6 +4,12 @@
 #[cfg(test)]
 mod ample;
 #[cfg(test)]
+mod gates;
+#[cfg(test)]
+mod holds;
+#[cfg(test)]
+mod many;
+#[cfg(test)]
 mod options;
 #[cfg(test)]
 mod outputs;

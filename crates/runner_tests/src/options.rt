@@ -7,14 +7,15 @@ use std::test::Fail;
 fn options_have_limits(rt: HostRuntime) -> Result<(), Fail> {
     for (workers, tries, checkpoint) in [
         (0, 8, 0),
-        (2, 8, 0),
+        (17, 8, 0),
         (1, 0, 0),
         (1, 65, 0),
         (1, 8, 65537),
     ] {
         assert_eq!(rt; Options::new(workers, tries, checkpoint), None);
     }
-    let options = Options::new(1, 64, 65536).ok_or("options")?;
+    let options = Options::new(16, 64, 65536).ok_or("options")?;
+    assert_eq!(rt; options.workers(), 16);
     assert_eq!(rt; options.tries(), 64);
     assert_eq!(rt; options.checkpoint(), 65536);
     Ok(())

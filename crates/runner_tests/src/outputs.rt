@@ -1,6 +1,6 @@
 //! Writers that fail, and what a run tells of them.
 
-use runner::{Options, Out, RunFault, run_bytes};
+use runner::{OpenGate, Options, Out, RunFault, run_bytes};
 use std::io;
 use std::io::Write;
 use std::test::Fail;
@@ -24,7 +24,7 @@ fn a_failing_flush_is_told(rt: HostRuntime) -> Result<(), Fail> {
     let options = Options::new(1, 8, 0).ok_or("options")?;
     let mut out = Out::new(Stuck);
     assert_eq!(rt;
-        run_bytes(rt.alloc(), b"", options, &mut out),
+        run_bytes(&rt, rt.alloc(), b"", options, &OpenGate, &mut out),
         Err(RunFault::Output)
     );
     assert_eq!(rt; out.failures(), 1);
@@ -37,7 +37,7 @@ fn a_report_is_flushed(rt: HostRuntime) -> Result<(), Fail> {
     let options = Options::new(1, 8, 0).ok_or("options")?;
     let mut out = Out::new(Vec::new(rt.alloc()));
     assert!(rt; !out.is_flushed());
-    run_bytes(rt.alloc(), b"", options, &mut out)?;
+    run_bytes(&rt, rt.alloc(), b"", options, &OpenGate, &mut out)?;
     assert!(rt; out.is_flushed());
     Ok(())
 }
@@ -49,7 +49,7 @@ fn failing_writers(rt: HostRuntime) -> Result<(), Fail> {
     let mut room = [0u8; 7];
     let mut out = Out::new(room.as_mut_slice());
     assert_eq!(rt;
-        run_bytes(alloc, b"", options, &mut out),
+        run_bytes(&rt, alloc, b"", options, &OpenGate, &mut out),
         Err(RunFault::Output)
     );
     assert_eq!(rt; out.failures(), 1);

@@ -1,7 +1,7 @@
 //! Worked runs from bytes to bytes. The reports were worked out by hand from the language's rules.
 
 use crate::parts::expect_report;
-use runner::{Options, Out, run_bytes};
+use runner::{OpenGate, Options, Out, run_bytes};
 use std::test::Fail;
 
 #[test]
@@ -90,7 +90,17 @@ fn a_checkpoint_moves_the_base(rt: HostRuntime) -> Result<(), Fail> {
     let input = "(var x 5)(tx inc (set x (add x 1)) x)(run inc 3)";
     let options = Options::new(1, 8, 2).ok_or("options")?;
     let mut out = Out::new(Vec::new(rt.alloc()));
-    assert!(rt; run_bytes(rt.alloc(), input.as_bytes(), options, &mut out).is_ok());
+    assert!(rt;
+        run_bytes(
+            &rt,
+            rt.alloc(),
+            input.as_bytes(),
+            options,
+            &OpenGate,
+            &mut out
+        )
+        .is_ok()
+    );
     let report = "base 2\nx 7 2\nentry 3 2 inc returned 8\nnow 3\nx 8 3\nend\n";
     assert_eq!(rt; out.into_inner().as_slice(), report.as_bytes());
     Ok(())

@@ -7,11 +7,11 @@ use Rattle.runner.proofs.Reading.{at_stays}
 use Rattle.runner.proofs.trying.attempt_on.Goals as goal
 
 pub tell-requires-clause-exists : goal.tell-requires-clause-exists
-tell-requires-clause-exists c =
+tell-requires-clause-exists g c =
     omega (arith, (c.advance.ensures.needed c.in-Need.x c.in-Need.is).0, c.advance.ensures.variables, c.loop-x.invariant.0.variables, c.requires.variables)
 
 pub loop-x-smaller : goal.loop-x-smaller
-loop-x-smaller c =
+loop-x-smaller g c =
     let l = c.args.catalogue.now in
     let m = at c.loop-x.pass in
     let b = c.advance.new.self in
@@ -25,7 +25,7 @@ loop-x-smaller c =
     omega (arith, room, more, length_push b.log (x, v), ap length c.advance.ensures.log)
 
 pub loop-x-preserved : goal.loop-x-preserved
-loop-x-preserved c =
+loop-x-preserved g c =
     let l = c.args.catalogue.now in
     let m = at c.loop-x.pass in
     let b = c.advance.new.self in

@@ -5,7 +5,7 @@ use Rattle.txn.specs.LawfulReport.{LawfulReport, BaseReached}
 use Rattle.book.specs.View.{BookView}
 use Rattle.book.specs.Turns.{ReportIs}
 use Rattle.book.proofs.Accounts.{report_lawful, report_reached}
-use Rattle.runner.proofs.tasks.settle.Goals as goal
+use Rattle.runner.proofs.shared.report.Goals as goal
 
 pub returns-clause-lawful : goal.returns-clause-lawful
 returns-clause-lawful c =

@@ -1,0 +1,30 @@
+//! Where a worker may be held.
+
+use txn::TaskId;
+
+/// Where a worker stands, with no lock held.
+#[derive(Clone, Copy, Debug, PartialEq, Eq)]
+pub enum Point {
+    /// It took a task.
+    Taken,
+    /// The attempt needs a variable, which is not read yet.
+    Needs,
+    /// The attempt has ended, and its end is not brought to the book yet.
+    Ended,
+    /// The task is committed, parked or given up.
+    Finished,
+}
+
+/// What a worker calls at each of these points, while it holds no lock. A gate that waits there
+/// holds that worker and no other.
+pub trait Gate: Sync {
+    /// The worker that has this task is at this point.
+    fn at(&self, point: Point, task: TaskId);
+}
+
+/// A gate that does nothing.
+pub struct OpenGate;
+
+impl Gate for OpenGate {
+    fn at(&self, _point: Point, _task: TaskId) {}
+}

@@ -1,0 +1,113 @@
+//! A gate that holds workers, and runs of two increments under it.
+
+use runner::{Gate, Options, Out, Point, run_bytes};
+use std::alloc::Global;
+use std::process::Abort;
+use std::sync::Wait;
+use std::sync::atomic::{AtomicBool, AtomicU64, Ordering};
+use std::test::Fail;
+use std::thread;
+use std::thread::Threads;
+use txn::TaskId;
+
+const TWO: &str = "(var x 5)(tx inc (set x (add x 1)) x)(run inc 2)";
+
+/// The report where the second task commits first.
+pub(crate) const SWAPPED: &str =
+    "base 0\nx 5 0\nentry 1 1 inc returned 6\nentry 2 0 inc returned 7\nnow 2\nx 7 2\nend\n";
+
+/// The report where the first task commits first.
+pub(crate) const IN_TURN: &str =
+    "base 0\nx 5 0\nentry 1 0 inc returned 6\nentry 2 1 inc returned 7\nnow 2\nx 7 2\nend\n";
+
+/// A point of a task.
+pub(crate) type Place = (Point, TaskId);
+
+fn is_at(place: Place, point: Point, task: TaskId) -> bool {
+    place.0 == point && place.1 == task
+}
+
+/// Holds a worker the first time that it is at a place, until another place was entered.
+#[derive(Drop)]
+pub(crate) struct Hold {
+    held: Place,
+    until: Place,
+    came: AtomicBool,
+    opened: AtomicBool,
+}
+
+impl Hold {
+    pub(crate) fn new(held: Place, until: Place) -> Hold {
+        Hold {
+            held,
+            until,
+            came: AtomicBool::new(false),
+            opened: AtomicBool::new(false),
+        }
+    }
+
+    fn enter(&self, point: Point, task: TaskId) {
+        if is_at(self.until, point, task) {
+            self.opened.store(true, Ordering::SeqCst);
+        }
+    }
+
+    /// Whether the place was entered in time.
+    fn wait(&self, point: Point, task: TaskId) -> bool {
+        if !is_at(self.held, point, task) || self.came.swap(true, Ordering::SeqCst) {
+            return true;
+        }
+        for _ in 0..10_000_000u32 {
+            if self.opened.load(Ordering::SeqCst) {
+                return true;
+            }
+            thread::yield_now();
+        }
+        false
+    }
+}
+
+/// Two holds, and how often the first task ended an attempt.
+#[derive(Drop)]
+struct Script {
+    first: Hold,
+    second: Hold,
+    ends: AtomicU64,
+    late: AtomicBool,
+}
+
+impl Gate for Script {
+    fn at(&self, point: Point, task: TaskId) {
+        self.first.enter(point, task);
+        self.second.enter(point, task);
+        if is_at((Point::Ended, TaskId(0)), point, task) {
+            self.ends.fetch_add(1, Ordering::SeqCst);
+        }
+        if !self.first.wait(point, task) || !self.second.wait(point, task) {
+            self.late.store(true, Ordering::SeqCst);
+        }
+    }
+}
+
+/// Runs two increments by two workers with these holds. How often the first task ended an attempt.
+pub(crate) fn hold_two(
+    rt: &(impl Threads + Wait + Sync + Abort + Eprint),
+    alloc: Global,
+    tries: u32,
+    first: Hold,
+    second: Hold,
+    wanted: &str,
+) -> Result<u64, Fail> {
+    let script = Script {
+        first,
+        second,
+        ends: AtomicU64::new(0),
+        late: AtomicBool::new(false),
+    };
+    let options = Options::new(2, tries, 0).ok_or("options")?;
+    let mut out = Out::new(Vec::new(alloc));
+    run_bytes(rt, alloc, TWO.as_bytes(), options, &script, &mut out)?;
+    assert_eq!(rt; out.into_inner().as_slice(), wanted.as_bytes());
+    assert!(rt; !script.late.load(Ordering::SeqCst));
+    Ok(script.ends.load(Ordering::SeqCst))
+}
