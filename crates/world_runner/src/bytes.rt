@@ -1,0 +1,62 @@
+//! From the bytes of a file and of a schedule to the bytes of what is seen.
+
+ghost use Rattle.std.specs.Prelude.{◌≡◌, ◌+◌, ◌<◌, ◌^◌, true, IfOk, OnOk, IfErr, string_bytes};
+ghost use Rattle.runner.specs.Running.{output_failures};
+ghost use Rattle.world_runner.specs.Showing.{IsShowing, IsRefused, Showed};
+
+use crate::lines::played;
+use runner::RunFault;
+use schedule_reader::read_schedule;
+use sink::{Sink, put_all};
+use std::alloc::Global;
+use txn_text::{ReadFault, read_file};
+
+/// Plays the schedule that the second bytes are the text of, on the world of the file that the
+/// first bytes spell, and writes what is seen to the sink: a line for each line of the schedule, and
+/// then the last lines of the world.
+///
+/// `Ok`: exactly one such text was written, and then flushed. `Input`: the bytes spell no file, and
+/// this is the first kind of fault that they have; nothing was written. `Schedule`: they spell one,
+/// and this is the first kind of fault that the schedule has; nothing was written. `Memory`: a
+/// growth was refused; nothing was written. `Output`: a call of the sink failed, the only one, and a
+/// beginning of one such text was written.
+pub fn world_bytes<S: Sink>(
+    alloc: Global,
+    file: &[u8],
+    schedule: &[u8],
+    sink: &mut S,
+) -> Result<(), RunFault>
+    requires { S.failed sink.old < 2 ^ 63 }
+    ensures showed { Showed file.now schedule.now (S.bytes sink.old) (S.bytes sink.new) result }
+    ensures flushed { OnOk result (S.flushed sink.new ≡ true) }
+    ensures failures { S.failed sink.new ≡ S.failed sink.old + output_failures result }
+{
+    match shown(alloc, file, schedule) {
+        Ok(text) => match put_all(sink, text.as_bytes()) {
+            Ok(()) => Ok(()),
+            Err(_) => Err(RunFault::Output),
+        },
+        Err(fault) => Err(fault),
+    }
+}
+
+/// What is seen of the schedule on the world of the file.
+fn shown(alloc: Global, file: &[u8], schedule: &[u8]) -> Result<String, RunFault>
+    ensures shown { IfOk result (λ text. IsShowing file.now schedule.now (string_bytes text)) }
+    ensures refused { IfErr result (IsRefused file.now schedule.now) }
+{
+    let catalogue = match read_file(alloc, file) {
+        Ok(catalogue) => catalogue,
+        Err(ReadFault::Memory) => return Err(RunFault::Memory),
+        Err(kind) => return Err(RunFault::Input(kind)),
+    };
+    let moves = match read_schedule(alloc, schedule, &catalogue) {
+        Ok(moves) => moves,
+        Err(ReadFault::Memory) => return Err(RunFault::Memory),
+        Err(kind) => return Err(RunFault::Schedule(kind)),
+    };
+    match played(alloc, &catalogue, &moves) {
+        Ok(text) => Ok(text),
+        Err(_) => Err(RunFault::Memory),
+    }
+}

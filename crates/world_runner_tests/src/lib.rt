@@ -1,0 +1,9 @@
+//! Tests of the public calls of `world_runner`: what is printed of schedules, and refusals.
+#![tactic(auto)]
+
+#[cfg(test)]
+mod parts;
+#[cfg(test)]
+mod refusals;
+#[cfg(test)]
+mod schedules;
