@@ -7,7 +7,7 @@ use Rattle.runner.specs.declared.fault.RunFault.TheVariants.{Memory}
 use Rattle.std.specs.declared.io.ErrorKind.{ErrorKind}
 use Rattle.std.specs.declared.io.ErrorKind.TheVariants.{OutOfMemory}
 use Rattle.stm.specs.declared.answer.Answer.{Answer}
-use Rattle.stm.specs.declared.answer.Answer.TheVariants.{Done, Refused, Unreadable, Failed}
+use Rattle.stm.specs.declared.answer.Answer.TheVariants.{Done, Unlawful, Refused, Unreadable, Failed}
 
 -- a file has at most 1,048,576 bytes: with one byte more it is known to be too long
 abbrev pub read_of : List ℕ → List ℕ
@@ -35,6 +35,7 @@ ended fault = Err fault
 -- by the answer: what a run of some bytes leaves that ends so, or nothing was written
 abbrev pub RanFile : Option (List ℕ) → Option (List ℕ) → Answer → Type 0
 RanFile old new Done = (input : List ℕ) × Ran input old new done
+RanFile old new Unlawful = ⊥
 RanFile old new Refused = ⊥
 RanFile old new Unreadable = Keeps old new
 RanFile old new (Failed fault) = (input : List ℕ) × Ran input old new (ended fault)
@@ -42,6 +43,7 @@ RanFile old new (Failed fault) = (input : List ℕ) × Ran input old new (ended 
 -- how many calls of the sink failed
 abbrev pub failed_calls : Answer → ℕ
 failed_calls Done = 0
+failed_calls Unlawful = 0
 failed_calls Refused = 0
 failed_calls Unreadable = 0
 failed_calls (Failed fault) = output_failures (ended fault)

@@ -7,22 +7,60 @@ use std::alloc::{AllocError, Global};
 
 /// What the command line asks for.
 #[derive(Drop)]
-pub(crate) struct Request<'a> {
-    /// The path of the file to run.
+pub(crate) enum Request<'a> {
+    Run(Run<'a>),
+    Check(Check<'a>),
+    World(Played<'a>),
+}
+
+/// A file to run.
+#[derive(Drop)]
+pub(crate) struct Run<'a> {
+    /// Its path.
     pub(crate) file: &'a str,
     pub(crate) options: Options,
+}
+
+/// A report to check.
+#[derive(Drop)]
+pub(crate) struct Check<'a> {
+    /// The path of the file that it is of.
+    pub(crate) file: &'a str,
+    /// Its own path.
+    pub(crate) report: &'a str,
+}
+
+/// A schedule to play.
+#[derive(Drop)]
+pub(crate) struct Played<'a> {
+    /// The path of the file whose world it is played on.
+    pub(crate) file: &'a str,
+    /// Its own path.
+    pub(crate) schedule: &'a str,
 }
 
 const VERSION: &str = "0.1.0";
 
 const ABOUT: &str =
-    "Software transactional memory with retry and orElse: runs the transactions of a file and reports what they did.";
+    "Software transactional memory with retry and orElse: runs the transactions of a file, reports what they did, checks such reports, and plays schedules on the stepped world.";
 
 const RUN: &str =
     "Runs the tasks of a file and prints a report: the base, the journal, the present values and versions, and the tasks that wait.";
 
 const EXAMPLE: &str =
     "A file declares variables, transactions and runs:\n\n    (var x 5)\n    (tx inc (set x (add x 1)) x)\n    (run inc 2)\n\nThe statements are skip, set, seq, if, repeat, retry, orelse and throw.\n\nStatus: 0 done, 2 the file is refused, 3 the command line is refused,\n4 a file cannot be read or the output cannot be written, 5 out of memory.";
+
+const CHECK: &str =
+    "Checks a report of a file: replays its journal and says whether the report is lawful, without trust in who made it.";
+
+const VERDICTS: &str =
+    "Prints `good`, or `bad` and the first part that fails:\n\n    1  the text is that of no report of the file\n    2  the base: of number 0 and not the initial values, or a version above its number\n    3  an entry: its number, or its outcome in the replay\n    4  the present number, values or versions: not those at the end of the replay\n    5  the tasks: another's transaction, two lines, out of order, or not all accounted for\n    6  a parked task, which would not retry on the present values\n\nStatus: 0 good, 1 bad, 2 the file is refused, 3 the command line is refused,\n4 a file cannot be read or the output cannot be written, 5 out of memory.\n\nExample: stm run a.stm > a.report; stm check a.stm a.report";
+
+const WORLD: &str =
+    "Plays a schedule on the stepped world of a file: one load and one store at a time, in the order that you name, with no threads.";
+
+const LINES: &str =
+    "A schedule has a line for each move. A is the number of a task, counted from 0, and X a variable:\n\n    begin A       an attempt of the task begins: it loads the clock\n    read A X      it reads the variable: first, value and second\n    commit A      it asks, and all its words are stored\n    drop A        its attempt is dropped\n    first A X     it loads the version of the variable\n    value A       it loads the value\n    second A      it loads the version again\n    ask A         it has ended, and asks to commit\n    word          the one that commits stores its next word\n\nPrints for each line its number and what is seen: idle, needs X, ended OUTCOME,\nloaded, stale, parked, commits N, stored, committed N, dropped or memory.\nThen the present number, values and versions, and each attempt with its task,\nthe number of the state that it reads, its fate, and what it has read.\n\nStatus: 0 done, 2 the file or the schedule is refused, 3 the command line is refused,\n4 a file cannot be read or the output cannot be written, 5 out of memory.";
 
 const CHECKPOINT: &str =
     "After this many journal entries the report begins anew from the values reached; at most 65536, and 0 for never";
@@ -36,8 +74,14 @@ fn command<'a>(alloc: Global) -> Result<Command<'a>, AllocError> {
         .long("workers")
         .value_name("N")
         .value_parser(value_parser!(u32))
-        .default_value("1")
-        .help("How many workers run the tasks; 1 is all there is so far");
+        .default_value("4")
+        .help("How many workers run the tasks, 1 to 16");
+    let tries = Arg::new(alloc, "tries")
+        .long("tries")
+        .value_name("N")
+        .value_parser(value_parser!(u32))
+        .default_value("8")
+        .help("After how many stale tries a task is run alone, 1 to 64");
     let checkpoint = Arg::new(alloc, "checkpoint")
         .long("checkpoint")
         .value_name("N")
@@ -49,13 +93,46 @@ fn command<'a>(alloc: Global) -> Result<Command<'a>, AllocError> {
         .after_help(EXAMPLE)
         .arg(file)?
         .arg(workers)?
+        .arg(tries)?
         .arg(checkpoint)?;
     Command::new(alloc, "stm")
         .version(VERSION)
         .about(ABOUT)
         .subcommand_required(true)
         .arg_required_else_help(true)
-        .subcommand(run)
+        .subcommand(run)?
+        .subcommand(check_command(alloc)?)?
+        .subcommand(world_command(alloc)?)
+}
+
+/// The command `stm check`.
+fn check_command<'a>(alloc: Global) -> Result<Command<'a>, AllocError> {
+    let file = Arg::new(alloc, "FILE")
+        .required(true)
+        .help("The path of the file that was run");
+    let report = Arg::new(alloc, "REPORT")
+        .required(true)
+        .help("The path of the report of it");
+    Command::new(alloc, "check")
+        .about(CHECK)
+        .after_help(VERDICTS)
+        .arg(file)?
+        .arg(report)
+}
+
+/// The command `stm world`.
+fn world_command<'a>(alloc: Global) -> Result<Command<'a>, AllocError> {
+    let file = Arg::new(alloc, "FILE")
+        .required(true)
+        .help("The path of the file whose tasks take part");
+    let schedule = Arg::new(alloc, "SCHEDULE")
+        .required(true)
+        .help("The path of the schedule to play");
+    Command::new(alloc, "world")
+        .about(WORLD)
+        .after_help(LINES)
+        .arg(file)?
+        .arg(schedule)
 }
 
 /// What the words ask for. An `Err` has the text to show: help or the version, where it was asked for,
@@ -63,21 +140,44 @@ fn command<'a>(alloc: Global) -> Result<Command<'a>, AllocError> {
 pub(crate) fn parse<'a>(alloc: Global, words: &'a [String]) -> Result<Request<'a>, Error> {
     let mut command = command(alloc)?;
     let matches = command.try_get_matches_from_mut(words)?;
+    if let Some(check) = matches.subcommand_matches("check") {
+        if let Some(request) = check_paths(check) {
+            return Ok(Request::Check(request));
+        }
+    }
+    if let Some(world) = matches.subcommand_matches("world") {
+        if let Some(request) = world_paths(world) {
+            return Ok(Request::World(request));
+        }
+    }
     if let Some(run) = matches.subcommand_matches("run") {
         if let Some(request) = run_options(run) {
-            return Ok(request);
+            return Ok(Request::Run(request));
         }
     }
     Err(command.error(
         ErrorKind::ValueValidation,
-        "the number of workers must be 1, and that of the checkpoint at most 65536",
+        "the number of workers must be 1 to 16, that of tries 1 to 64, and that of the checkpoint at most 65536",
     )?)
 }
 
-fn run_options<'a>(matches: &ArgMatches<'a>) -> Option<Request<'a>> {
+fn run_options<'a>(matches: &ArgMatches<'a>) -> Option<Run<'a>> {
     let file = matches.get_str("FILE")?;
     let workers = matches.get_one::<u32>("workers")?;
+    let tries = matches.get_one::<u32>("tries")?;
     let checkpoint = matches.get_one::<u32>("checkpoint")?;
-    let options = Options::new(workers, 8, checkpoint)?;
-    Some(Request { file, options })
+    let options = Options::new(workers, tries, checkpoint)?;
+    Some(Run { file, options })
+}
+
+fn check_paths<'a>(matches: &ArgMatches<'a>) -> Option<Check<'a>> {
+    let file = matches.get_str("FILE")?;
+    let report = matches.get_str("REPORT")?;
+    Some(Check { file, report })
+}
+
+fn world_paths<'a>(matches: &ArgMatches<'a>) -> Option<Played<'a>> {
+    let file = matches.get_str("FILE")?;
+    let schedule = matches.get_str("SCHEDULE")?;
+    Some(Played { file, schedule })
 }

@@ -1,6 +1,6 @@
 //! The command line: what is asked for, help, and refusals.
 
-use crate::command_line::parse;
+use crate::command_line::{Request, parse};
 use clap::error::ErrorKind;
 use std::alloc::{AllocError, Global};
 use std::test::Fail;
@@ -25,17 +25,21 @@ fn refusal(alloc: Global, line: &str) -> Result<Option<ErrorKind>, AllocError> {
 #[test]
 fn files_are_asked_for(rt: HostRuntime) -> Result<(), Fail> {
     let alloc = rt.alloc();
-    for line in [
-        "stm run a.stm",
-        "stm run a.stm --workers 1",
-        "stm run --workers=1 a.stm",
+    for (line, workers, tries) in [
+        ("stm run a.stm", 4, 8),
+        ("stm run a.stm --workers 1 --tries 64", 1, 64),
+        ("stm run --tries=1 --workers=16 a.stm", 16, 1),
     ] {
         let words = words(alloc, line)?;
-        let request = parse(alloc, words.as_slice())?;
-        assert_eq!(rt; request.file, "a.stm", "of {line}");
-        assert_eq!(rt; request.options.workers(), 1, "of {line}");
-        assert_eq!(rt; request.options.tries(), 8, "of {line}");
-        assert_eq!(rt; request.options.checkpoint(), 0, "of {line}");
+        match parse(alloc, words.as_slice())? {
+            Request::Run(request) => {
+                assert_eq!(rt; request.file, "a.stm", "of {line}");
+                assert_eq!(rt; request.options.workers(), workers, "of {line}");
+                assert_eq!(rt; request.options.tries(), tries, "of {line}");
+                assert_eq!(rt; request.options.checkpoint(), 0, "of {line}");
+            }
+            Request::Check(_) | Request::World(_) => assert!(rt; false),
+        }
     }
     Ok(())
 }
@@ -48,8 +52,40 @@ fn a_checkpoint_is_asked_for(rt: HostRuntime) -> Result<(), Fail> {
         ("stm run a.stm --checkpoint=65536 --workers 1", 65536),
     ] {
         let words = words(alloc, line)?;
-        let request = parse(alloc, words.as_slice())?;
-        assert_eq!(rt; request.options.checkpoint(), checkpoint, "of {line}");
+        match parse(alloc, words.as_slice())? {
+            Request::Run(request) => {
+                assert_eq!(rt; request.options.checkpoint(), checkpoint, "of {line}");
+            }
+            Request::Check(_) | Request::World(_) => assert!(rt; false),
+        }
+    }
+    Ok(())
+}
+
+#[test]
+fn a_check_is_asked_for(rt: HostRuntime) -> Result<(), Fail> {
+    let alloc = rt.alloc();
+    let words = words(alloc, "stm check a.stm a.report")?;
+    match parse(alloc, words.as_slice())? {
+        Request::Check(request) => {
+            assert_eq!(rt; request.file, "a.stm");
+            assert_eq!(rt; request.report, "a.report");
+        }
+        Request::Run(_) | Request::World(_) => assert!(rt; false),
+    }
+    Ok(())
+}
+
+#[test]
+fn a_schedule_is_asked_for(rt: HostRuntime) -> Result<(), Fail> {
+    let alloc = rt.alloc();
+    let words = words(alloc, "stm world a.stm a.schedule")?;
+    match parse(alloc, words.as_slice())? {
+        Request::World(request) => {
+            assert_eq!(rt; request.file, "a.stm");
+            assert_eq!(rt; request.schedule, "a.schedule");
+        }
+        Request::Run(_) | Request::Check(_) => assert!(rt; false),
     }
     Ok(())
 }
@@ -62,15 +98,24 @@ fn mistakes_are_refused(rt: HostRuntime) -> Result<(), Fail> {
         "stm walk",
         "stm run",
         "stm run a b",
-        "stm run a --workers 2",
+        "stm run a --workers 17",
         "stm run a --workers 0",
         "stm run a --workers x",
         "stm run a --workers 99999999999",
         "stm run a --workers 1 --workers 1",
-        "stm run a --tries 8",
+        "stm run a --tries 0",
+        "stm run a --tries 65",
         "stm run a --checkpoint 65537",
         "stm run a --checkpoint x",
         "stm run a --checkpoint",
+        "stm check",
+        "stm check a",
+        "stm check a b c",
+        "stm check a b --workers 1",
+        "stm world",
+        "stm world a",
+        "stm world a b c",
+        "stm world a b --workers 1",
     ] {
         let kind = refusal(alloc, line)?;
         assert!(rt; kind.is_some(), "of {line}");
@@ -83,7 +128,16 @@ fn mistakes_are_refused(rt: HostRuntime) -> Result<(), Fail> {
 #[test]
 fn help_is_shown(rt: HostRuntime) -> Result<(), Fail> {
     let alloc = rt.alloc();
-    for line in ["stm --help", "stm help", "stm run --help", "stm help run"] {
+    for line in [
+        "stm --help",
+        "stm help",
+        "stm run --help",
+        "stm help run",
+        "stm check --help",
+        "stm help check",
+        "stm world --help",
+        "stm help world",
+    ] {
         assert_eq!(rt;
             refusal(alloc, line)?,
             Some(ErrorKind::DisplayHelp),

@@ -25,12 +25,14 @@ pub(crate) enum Prints {
     Interrupted,
 }
 
-/// A process with the file `a.stm`.
+/// A process with the files `a.stm`, `a.report` and `a.schedule`.
 #[derive(Drop)]
 pub(crate) struct Host<'a> {
     pub(crate) alloc: Global,
     pub(crate) words: &'a [&'a [u8]],
     pub(crate) file: &'a [u8],
+    pub(crate) report: &'a [u8],
+    pub(crate) schedule: &'a [u8],
     pub(crate) reads: Reads,
     pub(crate) prints: Prints,
     /// How many writes the standard output got.
@@ -48,6 +50,8 @@ impl<'a> Host<'a> {
             alloc,
             words,
             file,
+            report: b"",
+            schedule: b"",
             reads: Reads::AllBytes,
             prints: Prints::All,
             writes: Cell::new(0),
@@ -200,11 +204,14 @@ impl<'a> Files for Host<'a> {
     type Dir = io::Empty;
 
     fn open_file(&self, _how: &OpenOptions, path: &str) -> io::Result<Opened<'a>> {
-        if path != "a.stm" {
-            return Err(io::Error::from(io::ErrorKind::NotFound));
-        }
+        let rest = match path {
+            "a.stm" => self.file,
+            "a.report" => self.report,
+            "a.schedule" => self.schedule,
+            _ => return Err(io::Error::from(io::ErrorKind::NotFound)),
+        };
         Ok(Opened {
-            rest: self.file,
+            rest,
             reads: self.reads,
         })
     }

@@ -6,31 +6,50 @@ ghost use Rattle.clap.specs.Values.{kind_of};
 ghost use Rattle.stm.specs.Files.{RanFile, Unread, Wordless, read_of, failed_calls};
 
 use crate::answer::{Answer, told};
-use crate::command_line::parse;
+use crate::checking::check_files;
+use crate::command_line::{Request, parse};
+use crate::playing::play_files;
 use clap::error::ErrorKind;
-use runner::{Options, Out, RunFault, Sink, run_bytes};
+use runner::{OpenGate, Options, Out, RunFault, Sink, run_bytes};
 use std::alloc::Global;
 use std::io::Read;
 use std::rt::{Env, Files};
+use std::sync::Wait;
+use std::thread::Threads;
 use std::{env, fs, io};
 use txn_text::MAX_FILE;
 
-/// Does what the command line asks for, and tells the status to end with.
-pub(crate) fn run<R: Files + Env + Print + Eprint + AllocGlobal>(rt: &R) -> u8 {
-    told(rt, answer(rt))
+/// Does what the command line asks for, and tells the status to end with. Threads come from the
+/// first runtime, and all else from the second.
+pub(crate) fn run<T: Threads + Wait + Sync, R: Files + Env + Print + Eprint + AllocGlobal>(
+    threads: &T,
+    rt: &R,
+) -> u8 {
+    told(rt, answer(threads, rt))
 }
 
-/// Does what the command line asks for. The report goes to the standard output as it is, each put
-/// of the sink by one write.
-fn answer<R: Files + Env + Print + Eprint + AllocGlobal>(rt: &R) -> Answer {
+/// Does what the command line asks for. What it prints goes to the standard output as it is, each
+/// put of the sink by one write.
+fn answer<T: Threads + Wait + Sync, R: Files + Env + Print + Eprint + AllocGlobal>(
+    threads: &T,
+    rt: &R,
+) -> Answer {
     let words = match words(rt) {
         Ok(words) => words,
         Err(error) => return wordless(rt, &error),
     };
     match parse(rt.alloc(), words.as_slice()) {
-        Ok(request) => {
+        Ok(Request::Run(request)) => {
             let mut out = Out::new(io::writer(rt));
-            run_file(rt, request.file, request.options, &mut out)
+            run_file(threads, rt, request.file, request.options, &mut out)
+        }
+        Ok(Request::Check(request)) => {
+            let mut out = Out::new(io::writer(rt));
+            check_files(rt, request.file, request.report, &mut out)
+        }
+        Ok(Request::World(request)) => {
+            let mut out = Out::new(io::writer(rt));
+            play_files(rt, request.file, request.schedule, &mut out)
         }
         Err(error) => shown(rt, &error),
     }
@@ -54,7 +73,8 @@ fn wordless<R: Eprint>(rt: &R, error: &io::Error) -> Answer
 }
 
 /// Runs a file, and writes its report to the sink.
-fn run_file<R: Files + AllocGlobal, S: Sink>(
+fn run_file<T: Threads + Wait + Sync, R: Files + AllocGlobal, S: Sink>(
+    threads: &T,
     rt: &R,
     path: &str,
     options: Options,
@@ -69,7 +89,14 @@ fn run_file<R: Files + AllocGlobal, S: Sink>(
         Ok(bytes) => bytes,
         Err(error) => return unread(&error),
     };
-    match run_bytes(rt.alloc(), bytes.as_slice(), options, sink) {
+    match run_bytes(
+        threads,
+        rt.alloc(),
+        bytes.as_slice(),
+        options,
+        &OpenGate,
+        sink,
+    ) {
         Ok(()) => Answer::Done,
         Err(fault) => Answer::Failed(fault),
     }
@@ -90,7 +117,7 @@ fn up_to_limit<I: Read + Drop>(alloc: Global, input: I) -> io::Result<Vec<u8>>
 }
 
 /// Why a file was not read: it cannot be, or there is no memory to read it into.
-fn unread(error: &io::Error) -> Answer
+pub(crate) fn unread(error: &io::Error) -> Answer
     ensures { Unread (error_kind error.now) result }
 {
     if error.kind() == io::ErrorKind::OutOfMemory {

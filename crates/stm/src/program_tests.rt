@@ -15,7 +15,7 @@ const REPORT: &[u8] =
 #[test]
 fn a_report_is_0(rt: HostRuntime) -> Result<(), Fail> {
     let host = Host::new(rt.alloc(), RUN, INCREMENT);
-    assert_eq!(rt; run(&host), 0);
+    assert_eq!(rt; run(&rt, &host), 0);
     assert_eq!(rt; host.writes.get(), 1);
     assert_eq!(rt; host.taken.get(), REPORT.len());
     assert!(rt; host.has_said(""));
@@ -27,7 +27,7 @@ fn what_is_asked_for_is_0(rt: HostRuntime) -> Result<(), Fail> {
     for word in [b"--help".as_slice(), b"--version", b"help"] {
         let words = [b"stm".as_slice(), word];
         let host = Host::new(rt.alloc(), &words, b"");
-        assert_eq!(rt; run(&host), 0);
+        assert_eq!(rt; run(&rt, &host), 0);
         assert_eq!(rt; host.writes.get(), 1);
         assert!(rt; host.has_said(""));
     }
@@ -37,7 +37,7 @@ fn what_is_asked_for_is_0(rt: HostRuntime) -> Result<(), Fail> {
 #[test]
 fn a_refused_file_is_2(rt: HostRuntime) -> Result<(), Fail> {
     let host = Host::new(rt.alloc(), RUN, b"(var x");
-    assert_eq!(rt; run(&host), 2);
+    assert_eq!(rt; run(&rt, &host), 2);
     assert_eq!(rt; host.writes.get(), 0);
     assert!(rt; host.has_said("stm: file: F3 Shape\n"));
     Ok(())
@@ -45,10 +45,10 @@ fn a_refused_file_is_2(rt: HostRuntime) -> Result<(), Fail> {
 
 #[test]
 fn a_refused_command_line_is_3(rt: HostRuntime) -> Result<(), Fail> {
-    for word in [b"b.stm".as_slice(), b"--workers", b"--tries=8"] {
+    for word in [b"b.stm".as_slice(), b"--workers", b"--tries=65"] {
         let words = [b"stm".as_slice(), b"run", b"a.stm", word];
         let host = Host::new(rt.alloc(), &words, INCREMENT);
-        assert_eq!(rt; run(&host), 3);
+        assert_eq!(rt; run(&rt, &host), 3);
         assert_eq!(rt; host.writes.get(), 0);
         assert!(rt; !host.has_said(""));
     }
@@ -59,7 +59,7 @@ fn a_refused_command_line_is_3(rt: HostRuntime) -> Result<(), Fail> {
 fn words_that_are_not_utf8_are_refused_by_3(rt: HostRuntime) -> Result<(), Fail> {
     let words = [b"stm".as_slice(), b"run", b"a\xffb.stm"];
     let host = Host::new(rt.alloc(), &words, INCREMENT);
-    assert_eq!(rt; run(&host), 3);
+    assert_eq!(rt; run(&rt, &host), 3);
     assert_eq!(rt; host.writes.get(), 0);
     assert!(rt; host.has_said("stm: the command line is not UTF-8\n"));
     Ok(())
@@ -69,11 +69,11 @@ fn words_that_are_not_utf8_are_refused_by_3(rt: HostRuntime) -> Result<(), Fail>
 fn what_cannot_be_read_is_4(rt: HostRuntime) -> Result<(), Fail> {
     let words = [b"stm".as_slice(), b"run", b"b.stm"];
     let host = Host::new(rt.alloc(), &words, INCREMENT);
-    assert_eq!(rt; run(&host), 4);
+    assert_eq!(rt; run(&rt, &host), 4);
     assert!(rt; host.has_said("stm: cannot read\n"));
     let mut host = Host::new(rt.alloc(), RUN, INCREMENT);
     host.reads = Reads::Fails;
-    assert_eq!(rt; run(&host), 4);
+    assert_eq!(rt; run(&rt, &host), 4);
     assert_eq!(rt; host.writes.get(), 0);
     assert!(rt; host.has_said("stm: cannot read\n"));
     Ok(())
@@ -84,7 +84,7 @@ fn a_failing_output_is_4_and_is_not_tried_again(rt: HostRuntime) -> Result<(), F
     for prints in [Prints::Fails, Prints::Interrupted] {
         let mut host = Host::new(rt.alloc(), RUN, INCREMENT);
         host.prints = prints;
-        assert_eq!(rt; run(&host), 4);
+        assert_eq!(rt; run(&rt, &host), 4);
         assert_eq!(rt; host.writes.get(), 1);
         assert_eq!(rt; host.taken.get(), 0);
         assert!(rt; host.has_said("stm: cannot write\n"));
@@ -97,7 +97,7 @@ fn help_that_cannot_be_printed_is_4(rt: HostRuntime) -> Result<(), Fail> {
     let words = [b"stm".as_slice(), b"--help"];
     let mut host = Host::new(rt.alloc(), &words, b"");
     host.prints = Prints::Fails;
-    assert_eq!(rt; run(&host), 4);
+    assert_eq!(rt; run(&rt, &host), 4);
     assert!(rt; host.has_said("stm: cannot write\n"));
     Ok(())
 }
@@ -106,7 +106,7 @@ fn help_that_cannot_be_printed_is_4(rt: HostRuntime) -> Result<(), Fail> {
 fn want_of_memory_is_5(rt: HostRuntime) -> Result<(), Fail> {
     let mut host = Host::new(rt.alloc(), RUN, INCREMENT);
     host.reads = Reads::WantsMemory;
-    assert_eq!(rt; run(&host), 5);
+    assert_eq!(rt; run(&rt, &host), 5);
     assert_eq!(rt; host.writes.get(), 0);
     assert!(rt; host.has_said("stm: out of memory\n"));
     Ok(())
@@ -123,7 +123,7 @@ fn a_file_has_1048576_bytes_at_most(rt: HostRuntime) -> Result<(), Fail> {
         let blanks = Vec::from_elem(rt.alloc(), b' ', size)?;
         let host = Host::new(rt.alloc(), RUN, blanks.as_slice());
         assert_eq!(rt; contents(&host, "a.stm")?.len(), read);
-        assert_eq!(rt; run(&host), status);
+        assert_eq!(rt; run(&rt, &host), status);
     }
     Ok(())
 }

@@ -1,0 +1,10 @@
+use Rattle.std.proofs.Common.{◌≡◌, IfSome, subst}
+use Rattle.stm.specs.Playing.{schedule_of}
+use Rattle.stm.proofs.Limit.{known_read}
+use Rattle.stm.proofs.playing.up_to_schedule_limit.Goals as goal
+
+pub returns : goal.returns
+returns g c =
+    let items = c.read_to_end.new.buf.items in
+    let inner = known_read (g.I.Read.remaining c.take.result.inner) c.take.result.limit c.new-bytes.result.items items c.take.ensures.limit c.new-bytes.ensures.items c.in_ok-read_to_end.ensures.bytes in
+    subst (λ r. IfSome (g.I.Read.remaining r) (λ all. items ≡ schedule_of all)) c.take.ensures.inner inner

@@ -1,0 +1,19 @@
+-- What of a schedule is read, and what playing the schedule of a file leaves.
+use Rattle.std.specs.Prelude.{ℕ, List, take, Option}
+use Rattle.std.specs.Io.KnownBytes.{Keeps}
+use Rattle.world_runner.specs.Showing.{Showed}
+use Rattle.stm.specs.Files.{done, ended}
+use Rattle.stm.specs.declared.answer.Answer.{Answer}
+use Rattle.stm.specs.declared.answer.Answer.TheVariants.{Done, Unlawful, Refused, Unreadable, Failed}
+
+-- a schedule has at most 1,048,576 bytes: with one byte more it is known to be too long
+abbrev pub schedule_of : List ℕ → List ℕ
+schedule_of all = take 1048577 all
+
+-- by the answer: what playing some schedule of some file leaves that ends so, or nothing was written
+abbrev pub PlayedFiles : Option (List ℕ) → Option (List ℕ) → Answer → Type 0
+PlayedFiles old new Done = (file schedule : List ℕ) × Showed file schedule old new done
+PlayedFiles old new Unlawful = ⊥
+PlayedFiles old new Refused = ⊥
+PlayedFiles old new Unreadable = Keeps old new
+PlayedFiles old new (Failed fault) = (file schedule : List ℕ) × Showed file schedule old new (ended fault)

@@ -1,0 +1,95 @@
+//! `stm check`: the bytes of a file and of a report in, the line of a verdict and a status out.
+
+ghost use Rattle.std.specs.Prelude.{◌≡◌, ◌<◌, ◌+◌, ◌^◌, true, IfOk, IfSome};
+ghost use Rattle.stm.specs.Files.{failed_calls};
+ghost use Rattle.stm.specs.Checking.{Told, Checked, CheckedFiles, verdict_answer, report_of};
+
+use crate::answer::Answer;
+use crate::program::{contents, unread};
+use checker::{Verdict, check};
+use report_reader::MAX_REPORT;
+use runner::{RunFault, Sink};
+use sink::put_all;
+use std::alloc::Global;
+use std::io::Read;
+use std::rt::Files;
+use std::{fs, io};
+use txn_text::ReadFault;
+
+/// Checks a report of a file, and writes the verdict's line to the sink. Both are read before
+/// either is judged.
+pub(crate) fn check_files<R: Files + AllocGlobal, S: Sink>(
+    rt: &R,
+    file: &str,
+    report: &str,
+    sink: &mut S,
+) -> Answer
+    requires { S.failed sink.old < 2 ^ 63 }
+    ensures checked { CheckedFiles (S.bytes sink.old) (S.bytes sink.new) result }
+    ensures good { result ≡ Answer.Done → S.flushed sink.new ≡ true }
+    ensures bad { result ≡ Answer.Unlawful → S.flushed sink.new ≡ true }
+    ensures failures { S.failed sink.new ≡ S.failed sink.old + failed_calls result }
+{
+    let file = match contents(rt, file) {
+        Ok(bytes) => bytes,
+        Err(error) => return unread(&error),
+    };
+    let report = match report_contents(rt, report) {
+        Ok(bytes) => bytes,
+        Err(error) => return unread(&error),
+    };
+    check_bytes(rt.alloc(), file.as_slice(), report.as_slice(), sink)
+}
+
+/// Checks the bytes of a report of a file, and writes the verdict's line to the sink.
+fn check_bytes<S: Sink>(alloc: Global, file: &[u8], report: &[u8], sink: &mut S) -> Answer
+    requires { S.failed sink.old < 2 ^ 63 }
+    ensures checked { Checked file.now report.now (S.bytes sink.old) (S.bytes sink.new) result }
+    ensures good { result ≡ Answer.Done → S.flushed sink.new ≡ true }
+    ensures bad { result ≡ Answer.Unlawful → S.flushed sink.new ≡ true }
+    ensures failures { S.failed sink.new ≡ S.failed sink.old + failed_calls result }
+{
+    match check(alloc, file, report) {
+        Ok(verdict) => tell(verdict, sink),
+        Err(ReadFault::Memory) => Answer::Failed(RunFault::Memory),
+        Err(kind) => Answer::Failed(RunFault::Input(kind)),
+    }
+}
+
+/// Writes the verdict's line.
+fn tell<S: Sink>(verdict: Verdict, sink: &mut S) -> Answer
+    requires { S.failed sink.old < 2 ^ 63 }
+    ensures told { Told verdict (S.bytes sink.old) (S.bytes sink.new) result }
+    ensures good { result ≡ Answer.Done → S.flushed sink.new ≡ true }
+    ensures bad { result ≡ Answer.Unlawful → S.flushed sink.new ≡ true }
+    ensures failures { S.failed sink.new ≡ S.failed sink.old + failed_calls result }
+{
+    match put_all(sink, verdict.line().as_bytes()) {
+        Ok(()) => answer_of(verdict),
+        Err(_) => Answer::Failed(RunFault::Output),
+    }
+}
+
+/// What comes of a verdict that was told.
+fn answer_of(verdict: Verdict) -> Answer
+    ensures { result ≡ verdict_answer verdict }
+{
+    match verdict {
+        Verdict::Good => Answer::Done,
+        Verdict::Bad(_) => Answer::Unlawful,
+    }
+}
+
+/// The bytes of a report, of which at most one past the limit is read.
+pub(crate) fn report_contents<R: Files + AllocGlobal>(rt: &R, path: &str) -> io::Result<Vec<u8>> {
+    up_to_report_limit(rt.alloc(), fs::open(rt, path)?)
+}
+
+/// What the reader has left, of which at most one byte past a report's limit is read.
+fn up_to_report_limit<I: Read + Drop>(alloc: Global, input: I) -> io::Result<Vec<u8>>
+    ensures { IfOk result (λ bytes. IfSome (I.remaining input) (λ all. bytes.items ≡ report_of all)) }
+{
+    let mut bytes = Vec::new(alloc);
+    input.take(MAX_REPORT as u64 + 1).read_to_end(&mut bytes)?;
+    Ok(bytes)
+}

@@ -1,0 +1,106 @@
+//! Each status of `stm check`, and what it reads and writes on the way.
+
+use crate::checking::report_contents;
+use crate::host_tests::{Host, Prints, Reads};
+use crate::program::run;
+use std::alloc::Global;
+use std::test::Fail;
+
+const CHECK: &[&[u8]] = &[b"stm", b"check", b"a.stm", b"a.report"];
+
+const INCREMENT: &[u8] = b"(var x 5)(tx inc (set x (add x 1)) x)(run inc 2)";
+
+const REPORT: &[u8] =
+    b"base 0\nx 5 0\nentry 1 0 inc returned 6\nentry 2 1 inc returned 7\nnow 2\nx 7 2\nend\n";
+
+/// A process that is to check a report of a file.
+fn checking<'a>(alloc: Global, file: &'a [u8], report: &'a [u8]) -> Host<'a> {
+    let mut host = Host::new(alloc, CHECK, file);
+    host.report = report;
+    host
+}
+
+#[test]
+fn a_lawful_report_is_0(rt: HostRuntime) -> Result<(), Fail> {
+    let host = checking(rt.alloc(), INCREMENT, REPORT);
+    assert_eq!(rt; run(&rt, &host), 0);
+    assert_eq!(rt; host.writes.get(), 1);
+    assert_eq!(rt; host.taken.get(), b"good\n".len());
+    assert!(rt; host.has_said(""));
+    Ok(())
+}
+
+#[test]
+fn any_other_report_is_1(rt: HostRuntime) -> Result<(), Fail> {
+    for report in [b"".as_slice(), &REPORT[1..], &REPORT[..REPORT.len() - 1]] {
+        let host = checking(rt.alloc(), INCREMENT, report);
+        assert_eq!(rt; run(&rt, &host), 1);
+        assert_eq!(rt; host.writes.get(), 1);
+        assert_eq!(rt; host.taken.get(), b"bad 1\n".len());
+        assert!(rt; host.has_said(""));
+    }
+    Ok(())
+}
+
+#[test]
+fn a_refused_file_is_2_whatever_the_report(rt: HostRuntime) -> Result<(), Fail> {
+    for report in [b"".as_slice(), REPORT] {
+        let host = checking(rt.alloc(), b"(var x", report);
+        assert_eq!(rt; run(&rt, &host), 2);
+        assert_eq!(rt; host.writes.get(), 0);
+        assert!(rt; host.has_said("stm: file: F3 Shape\n"));
+    }
+    Ok(())
+}
+
+#[test]
+fn a_report_is_asked_for(rt: HostRuntime) -> Result<(), Fail> {
+    let host = Host::new(rt.alloc(), &CHECK[..3], INCREMENT);
+    assert_eq!(rt; run(&rt, &host), 3);
+    assert_eq!(rt; host.writes.get(), 0);
+    assert!(rt; !host.has_said(""));
+    Ok(())
+}
+
+/// Both are read before the file is judged.
+#[test]
+fn a_report_that_cannot_be_read_is_4(rt: HostRuntime) -> Result<(), Fail> {
+    let words = [b"stm".as_slice(), b"check", b"a.stm", b"b.report"];
+    for file in [INCREMENT, b"(var x"] {
+        let host = Host::new(rt.alloc(), &words, file);
+        assert_eq!(rt; run(&rt, &host), 4);
+        assert_eq!(rt; host.writes.get(), 0);
+        assert!(rt; host.has_said("stm: cannot read\n"));
+    }
+    Ok(())
+}
+
+#[test]
+fn a_verdict_that_cannot_be_printed_is_4(rt: HostRuntime) -> Result<(), Fail> {
+    let mut host = checking(rt.alloc(), INCREMENT, REPORT);
+    host.prints = Prints::Fails;
+    assert_eq!(rt; run(&rt, &host), 4);
+    assert_eq!(rt; host.writes.get(), 1);
+    assert!(rt; host.has_said("stm: cannot write\n"));
+    Ok(())
+}
+
+#[test]
+fn want_of_memory_for_a_report_is_5(rt: HostRuntime) -> Result<(), Fail> {
+    let mut host = checking(rt.alloc(), INCREMENT, REPORT);
+    host.reads = Reads::WantsMemory;
+    assert_eq!(rt; run(&rt, &host), 5);
+    assert!(rt; host.has_said("stm: out of memory\n"));
+    Ok(())
+}
+
+/// One byte past the limit is read, and no more.
+#[test]
+fn a_report_has_8388608_bytes_at_most(rt: HostRuntime) -> Result<(), Fail> {
+    for (size, read) in [(8388608, 8388608), (8388609, 8388609), (8388612, 8388609)] {
+        let blanks = Vec::from_elem(rt.alloc(), b' ', size)?;
+        let host = checking(rt.alloc(), INCREMENT, blanks.as_slice());
+        assert_eq!(rt; report_contents(&host, "a.report")?.len(), read);
+    }
+    Ok(())
+}

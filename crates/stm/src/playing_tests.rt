@@ -1,0 +1,105 @@
+//! Each status of `stm world`, and what it reads and writes on the way.
+
+use crate::host_tests::{Host, Prints, Reads};
+use crate::playing::schedule_contents;
+use crate::program::run;
+use std::alloc::Global;
+use std::test::Fail;
+
+const WORLD: &[&[u8]] = &[b"stm", b"world", b"a.stm", b"a.schedule"];
+
+const INCREMENT: &[u8] = b"(var x 5)(tx inc (set x (add x 1)) x)(run inc 2)";
+
+const SCHEDULE: &[u8] = b"begin 0\nread 0 x\ncommit 0\n";
+
+const SEEN: &[u8] = b"1 needs x\n2 ended returned 6\n3 committed 1\nnow 1\nx 6 1\n\
+    attempt 0 0 committed 1 x 5\nend\n";
+
+/// A process that is to play a schedule of a file.
+fn playing<'a>(alloc: Global, file: &'a [u8], schedule: &'a [u8]) -> Host<'a> {
+    let mut host = Host::new(alloc, WORLD, file);
+    host.schedule = schedule;
+    host
+}
+
+#[test]
+fn a_schedule_that_was_played_is_0(rt: HostRuntime) -> Result<(), Fail> {
+    let host = playing(rt.alloc(), INCREMENT, SCHEDULE);
+    assert_eq!(rt; run(&rt, &host), 0);
+    assert_eq!(rt; host.writes.get(), 1);
+    assert_eq!(rt; host.taken.get(), SEEN.len());
+    assert!(rt; host.has_said(""));
+    Ok(())
+}
+
+#[test]
+fn a_refused_schedule_is_2(rt: HostRuntime) -> Result<(), Fail> {
+    let host = playing(rt.alloc(), INCREMENT, b"begin 2\n");
+    assert_eq!(rt; run(&rt, &host), 2);
+    assert_eq!(rt; host.writes.get(), 0);
+    assert!(rt; host.has_said("stm: schedule: F5 Limit\n"));
+    Ok(())
+}
+
+#[test]
+fn a_refused_file_is_2_whatever_the_schedule(rt: HostRuntime) -> Result<(), Fail> {
+    for schedule in [b"".as_slice(), b"begin", SCHEDULE] {
+        let host = playing(rt.alloc(), b"(var x", schedule);
+        assert_eq!(rt; run(&rt, &host), 2);
+        assert_eq!(rt; host.writes.get(), 0);
+        assert!(rt; host.has_said("stm: file: F3 Shape\n"));
+    }
+    Ok(())
+}
+
+#[test]
+fn a_schedule_is_asked_for(rt: HostRuntime) -> Result<(), Fail> {
+    let host = Host::new(rt.alloc(), &WORLD[..3], INCREMENT);
+    assert_eq!(rt; run(&rt, &host), 3);
+    assert_eq!(rt; host.writes.get(), 0);
+    assert!(rt; !host.has_said(""));
+    Ok(())
+}
+
+/// Both are read before the file is judged.
+#[test]
+fn a_schedule_that_cannot_be_read_is_4(rt: HostRuntime) -> Result<(), Fail> {
+    let words = [b"stm".as_slice(), b"world", b"a.stm", b"b.schedule"];
+    for file in [INCREMENT, b"(var x"] {
+        let host = Host::new(rt.alloc(), &words, file);
+        assert_eq!(rt; run(&rt, &host), 4);
+        assert_eq!(rt; host.writes.get(), 0);
+        assert!(rt; host.has_said("stm: cannot read\n"));
+    }
+    Ok(())
+}
+
+#[test]
+fn a_text_that_cannot_be_printed_is_4(rt: HostRuntime) -> Result<(), Fail> {
+    let mut host = playing(rt.alloc(), INCREMENT, SCHEDULE);
+    host.prints = Prints::Fails;
+    assert_eq!(rt; run(&rt, &host), 4);
+    assert_eq!(rt; host.writes.get(), 1);
+    assert!(rt; host.has_said("stm: cannot write\n"));
+    Ok(())
+}
+
+#[test]
+fn want_of_memory_for_a_schedule_is_5(rt: HostRuntime) -> Result<(), Fail> {
+    let mut host = playing(rt.alloc(), INCREMENT, SCHEDULE);
+    host.reads = Reads::WantsMemory;
+    assert_eq!(rt; run(&rt, &host), 5);
+    assert!(rt; host.has_said("stm: out of memory\n"));
+    Ok(())
+}
+
+/// One byte past the limit is read, and no more.
+#[test]
+fn a_schedule_has_1048576_bytes_at_most(rt: HostRuntime) -> Result<(), Fail> {
+    for (size, read) in [(1048576, 1048576), (1048577, 1048577), (1048580, 1048577)] {
+        let blanks = Vec::from_elem(rt.alloc(), b' ', size)?;
+        let host = playing(rt.alloc(), INCREMENT, blanks.as_slice());
+        assert_eq!(rt; schedule_contents(&host, "a.schedule")?.len(), read);
+    }
+    Ok(())
+}
