@@ -4,7 +4,7 @@ ghost use Rattle.std.specs.Prelude.{◌≡◌, map};
 ghost use Rattle.txn.specs.Tree.{expression_of, condition_of, statement_of, program_of};
 ghost use Rattle.text_words.specs.Answers.{Gives};
 ghost use Rattle.file_grammar.specs.Resolving.{place_in, variable_in, binary, compare, connect, expression_in, condition_in, statement_in, variable_of, program_in, run_in, each, converted, resolved};
-ghost use Rattle.file_grammar.specs.Tree.{Compare};
+ghost use Rattle.file_grammar.specs.Tree.{Compare, Set, Throw};
 ghost use Rattle.file_resolver.specs.Texts.{texts};
 ghost use Rattle.file_grammar.specs.View.{view_expr, view_cond, view_stmt, view_stmts, view_pair, view_pairs, view_tx, view_txs, view_file};
 ghost use Rattle.file_resolver.specs.Parts.{view_variable, view_parts};
@@ -135,17 +135,33 @@ fn boxed_condition(
     Ok(held)
 }
 
+fn setting(
+    alloc: Global,
+    names: &IndexSet<&str>,
+    name: &str,
+    value: &RawExpr<'_>,
+) -> Result<Stmt, ReadFault>
+    ensures { Gives statement_of result (statement_in (texts names.now.keys) (Set name.now (view_expr value.now))) }
+{
+    let id = variable(names, name)?;
+    let value = expression(alloc, names, value)?;
+    Ok(Stmt::Set(id, value))
+}
+
+fn throwing(alloc: Global, names: &IndexSet<&str>, value: &RawExpr<'_>) -> Result<Stmt, ReadFault>
+    ensures { Gives statement_of result (statement_in (texts names.now.keys) (Throw (view_expr value.now))) }
+{
+    let value = expression(alloc, names, value)?;
+    Ok(Stmt::Throw(value))
+}
+
 #[cycle(resolving)]
 fn statement(alloc: Global, names: &IndexSet<&str>, s: &RawStmt<'_>) -> Result<Stmt, ReadFault>
     ensures { Gives statement_of result (statement_in (texts names.now.keys) (view_stmt s.now)) }
 {
     match s {
         RawStmt::Skip => Ok(Stmt::Skip),
-        RawStmt::Set(name, value) => {
-            let id = variable(names, *name)?;
-            let value = expression(alloc, names, value)?;
-            Ok(Stmt::Set(id, value))
-        }
+        RawStmt::Set(name, value) => setting(alloc, names, *name, value),
         RawStmt::Seq(parts) => {
             let parts = statements(alloc, names, parts.as_slice())?;
             Ok(Stmt::Seq(parts))
@@ -167,10 +183,7 @@ fn statement(alloc: Global, names: &IndexSet<&str>, s: &RawStmt<'_>) -> Result<S
             let second = boxed_statement(alloc, names, second)?;
             Ok(Stmt::OrElse(first, second))
         }
-        RawStmt::Throw(value) => {
-            let value = expression(alloc, names, value)?;
-            Ok(Stmt::Throw(value))
-        }
+        RawStmt::Throw(value) => throwing(alloc, names, value),
     }
 }
 

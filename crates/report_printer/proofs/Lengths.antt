@@ -77,7 +77,7 @@ variables_short (n ∷ names) (v ∷ vs) a b c =
     let ih = variables_short names vs parts.1 b.1 c.1 in
     omega (arith, length-append (variable_line n v) (variable_lines names vs))
 
-name_short : (l : Listing) → limits_hold l ≡ true → (tx : TxId) → tx.0 < length l.programs → length (program_at l tx).name ≤ 32
+pub name_short : (l : Listing) → limits_hold l ≡ true → (tx : TxId) → tx.0 < length l.programs → length (program_at l tx).name ≤ 32
 name_short l h tx lt =
     let none : Program = record { name = []; body = Skip; result = Int (pos 0) } in
     leb-true _ _ (passes_at (λ (p : Program). nat_le (length p.name) MAX_NAME) l.programs tx.0 (get_or l.programs tx.0 none) (limits_parts l h).tx_names (slice_get-get_or l.programs tx.0 none lt))

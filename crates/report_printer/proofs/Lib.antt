@@ -1,3 +1,4 @@
+pub mod LineEnds
 pub mod Appends
 pub mod Lines
 pub mod Lengths

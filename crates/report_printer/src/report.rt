@@ -6,14 +6,15 @@ ghost use Rattle.std.specs.Int.{w64};
 ghost use Rattle.std.specs.List.{flat_map};
 ghost use Rattle.txn.specs.declared.limits.TheConstants.{MAX_VARIABLES};
 ghost use Rattle.txn.specs.LawfulReport.{FitsCatalogue};
+ghost use Rattle.txn.specs.Listing.{program_at};
 ghost use Rattle.txn.specs.Told.{told};
 ghost use Rattle.text_words.specs.Words.{line, outcome_text};
 ghost use Rattle.report_printer.specs.ReportText.{variable_line, variable_lines, entry_line, task_line, report_text, CountsTasks};
 ghost use Rattle.report_printer.specs.ReportFits.{OutcomeFits, OutcomesFit, ReportFits, ValuesFit};
 
+use crate::line::LineEnd;
 use std::alloc::{AllocError, Global};
-use std::fmt::Write;
-use txn::{Catalogue, Entry, Fault, Memory, Outcome, Report, TaskId, TxId, VarId};
+use txn::{Catalogue, Entry, Memory, Outcome, Report, TaskId, TxId, VarId};
 
 /// About as many bytes as a line has.
 const LINE: usize = 40;
@@ -67,7 +68,12 @@ fn room(report: &Report) -> usize {
 pub fn put_number(out: &mut String, word: &str, number: u64) -> Result<(), AllocError>
     ensures { OnOk result (string_bytes out.new ≡ string_bytes out.old ++ line (word.now ∷ decimal number ∷ [])) }
 {
-    writeln!(out, "{word} {number}")
+    let mut rest = LineEnd::new();
+    rest.byte(b'\n');
+    rest.number(number);
+    rest.byte(b' ');
+    out.push_str(word)?;
+    out.push_str(rest.text())
 }
 
 fn put_variable(out: &mut String, name: &str, variable: &(i64, u64)) -> Result<(), AllocError>
@@ -75,7 +81,14 @@ fn put_variable(out: &mut String, name: &str, variable: &(i64, u64)) -> Result<(
     ensures fits { FitsSigned w64 variable.now.0 }
 {
     let (value, version) = *variable;
-    writeln!(out, "{name} {value} {version}")
+    let mut end = LineEnd::new();
+    end.byte(b'\n');
+    end.number(version);
+    end.byte(b' ');
+    end.signed(value);
+    end.byte(b' ');
+    out.push_str(name)?;
+    out.push_str(end.text())
 }
 
 /// Puts a line for each variable behind the text, in declared order: its name, its value and its
@@ -101,14 +114,19 @@ pub fn put_outcome(out: &mut String, outcome: Outcome) -> Result<(), AllocError>
     ensures text { OnOk result (string_bytes out.new ≡ string_bytes out.old ++ outcome_text outcome) }
     ensures fits { OnOk result (OutcomeFits outcome) }
 {
-    match outcome {
-        Outcome::Returned(v) => write!(out, "returned {v}")?,
-        Outcome::Thrown(Fault::User(v)) => write!(out, "threw {v}")?,
-        Outcome::Thrown(Fault::Overflow) => out.push_str("overflow")?,
-        Outcome::Thrown(Fault::DivideByZero) => out.push_str("zerodiv")?,
-        Outcome::Retries => out.push_str("retries")?,
-    }
-    Ok(())
+    let mut end = LineEnd::new();
+    end.outcome(outcome);
+    out.push_str(end.text())
+}
+
+/// A transaction's name, which is no longer than a name may be.
+fn short_name(catalogue: &Catalogue, tx: TxId) -> &str
+    requires { tx.0 < length catalogue.now.programs }
+    ensures value { result.now ≡ (program_at catalogue.now tx).name }
+    ensures short { length result.now ≤ 32 }
+{
+    catalogue.rules();
+    catalogue.tx_name(tx)
 }
 
 fn put_entry(out: &mut String, catalogue: &Catalogue, entry: &Entry) -> Result<(), AllocError>
@@ -116,13 +134,17 @@ fn put_entry(out: &mut String, catalogue: &Catalogue, entry: &Entry) -> Result<(
     ensures text { OnOk result (string_bytes out.new ≡ string_bytes out.old ++ entry_line catalogue.now entry.now) }
     ensures fits { OnOk result (OutcomeFits entry.now.outcome) }
 {
-    let number = entry.number;
-    let task = entry.task.0;
-    let name = catalogue.tx_name(entry.tx);
-    write!(out, "entry {number} {task} {name} ")?;
-    put_outcome(out, entry.outcome)?;
-    out.push_str("\n")?;
-    Ok(())
+    let mut line = LineEnd::new();
+    line.byte(b'\n');
+    line.outcome(entry.outcome);
+    line.byte(b' ');
+    line.word(short_name(catalogue, entry.tx));
+    line.byte(b' ');
+    line.number(u64::from(entry.task.0));
+    line.byte(b' ');
+    line.number(entry.number);
+    line.word("entry ");
+    out.push_str(line.text())
 }
 
 fn put_entries(out: &mut String, catalogue: &Catalogue, entries: &[Entry]) -> Result<(), AllocError>
@@ -139,29 +161,34 @@ fn put_entries(out: &mut String, catalogue: &Catalogue, entries: &[Entry]) -> Re
 fn put_task(
     out: &mut String,
     catalogue: &Catalogue,
-    word: &str,
+    kind: &str,
     task: TaskId,
     tx: TxId,
 ) -> Result<(), AllocError>
     requires { tx.0 < length catalogue.now.programs }
-    ensures { OnOk result (string_bytes out.new ≡ string_bytes out.old ++ task_line catalogue.now word.now (task, tx)) }
+    ensures { OnOk result (string_bytes out.new ≡ string_bytes out.old ++ task_line catalogue.now kind.now (task, tx)) }
 {
-    let number = task.0;
-    let name = catalogue.tx_name(tx);
-    writeln!(out, "{word} {number} {name}")
+    let mut middle = LineEnd::new();
+    middle.byte(b' ');
+    middle.number(u64::from(task.0));
+    middle.byte(b' ');
+    out.push_str(kind)?;
+    out.push_str(middle.text())?;
+    out.push_str(catalogue.tx_name(tx))?;
+    out.push_str("\n")
 }
 
 fn put_tasks(
     out: &mut String,
     catalogue: &Catalogue,
-    word: &str,
+    kind: &str,
     tasks: &[(TaskId, TxId)],
 ) -> Result<(), AllocError>
     requires { All (λ p. p.1.0 < length catalogue.now.programs) tasks.now }
-    ensures { OnOk result (string_bytes out.new ≡ string_bytes out.old ++ flat_map (task_line catalogue.now word.now) tasks.now) }
+    ensures { OnOk result (string_bytes out.new ≡ string_bytes out.old ++ flat_map (task_line catalogue.now kind.now) tasks.now) }
 {
     'tasks: for (task, tx) in tasks {
-        put_task(out, catalogue, word, *task, *tx)?;
+        put_task(out, catalogue, kind, *task, *tx)?;
     }
     Ok(())
 }

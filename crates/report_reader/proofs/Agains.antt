@@ -1,11 +1,9 @@
 -- The words of a report that fits the catalogue tell that report.
-use Rattle.std.proofs.Common.{◌≡◌, ◌≢◌, ◌∙◌, ℕ, zero, suc, ◌+◌, ◌<◌, ◌≤◌, ◌^◌, Bool, true, false, ◌&&◌, List, [], ◌∷◌, ◌++◌, length, map, Result, Ok, Err, Some, refl, sym, ap, subst, arith}
-use Rattle.std.specs.Prelude.{ℤ, pos, negsuc, FitsSigned, codes, nat_lt, is_some}
+use Rattle.std.proofs.Common.{◌≡◌, ◌≢◌, ◌∙◌, ℕ, suc, ◌+◌, ◌<◌, ◌≤◌, ◌^◌, Bool, true, List, [], ◌∷◌, ◌++◌, length, map, Result, Ok, refl, sym, ap, arith}
+use Rattle.std.specs.Prelude.{ℤ, pos, negsuc, FitsSigned, codes, is_some}
 use Rattle.std.specs.Int.{w64}
 use Rattle.std.specs.Fmt.{decimal, signed_decimal}
-use Rattle.std.specs.List.{flat_map, list_all, slice_get, AllByRecursion}
-use Rattle.std.specs.Str.{bytes_eq}
-use Rattle.std.specs.Str.Parse.{digits_value}
+use Rattle.std.specs.List.{flat_map, list_all, AllByRecursion}
 use Rattle.std.proofs.lemmas.Bool.{and_parts, and_from, lt-ltb}
 use Rattle.std.proofs.lemmas.List.Elements.{recursion_from_All}
 use Rattle.std.proofs.lemmas.Option.{slice_get-get_or}
@@ -24,15 +22,14 @@ use Rattle.txn.specs.Names.{is_name, names_hold}
 use Rattle.txn.specs.Told.{Told}
 use Rattle.txn.specs.Tree.{Program, Skip, Int}
 use Rattle.txn.proofs.Lawful.{names_parts, passes_at}
-use Rattle.text_words.specs.Bytes.{is_int, int_value}
-use Rattle.text_words.specs.Answers.{◌>>=◌}
+use Rattle.text_words.specs.Bytes.{int_value}
 use Rattle.report_printer.specs.ReportFits.{OutcomeFits, ReportFits}
 use Rattle.report_printer.specs.ReportText.{variable_line, variable_lines, entry_line, task_line, report_text}
 use Rattle.text_words.specs.Numbers.{number_of}
 use Rattle.text_words.specs.Words.{line, outcome_text}
 use Rattle.text_words.specs.declared.fault.ReadFault.{ReadFault}
-use Rattle.report_reader.specs.Raw.{Variable, Ending, Returned, Threw, Overflow, DivideByZero, Entry, Task, Raw, is_number, variable_words, ending_words, entry_words, task_words, number_words, raw_text, IsVariable, IsEnding, IsEntry, IsTask, IsRaw}
-use Rattle.report_reader.specs.Resolving.{below, named_as, is_known, entries_known, tasks_known, variables_known, transactions_known, names_known, count_in, task_id, tx_id, variable_told, outcome_told, entry_told, task_told, each, told_of, resolved}
+use Rattle.report_reader.specs.Raw.{Variable, Ending, Returned, Threw, Overflow, DivideByZero, Entry, Task, Raw, is_number, variable_words, ending_words, entry_words, task_words, raw_text, IsVariable, IsEnding, IsEntry, IsTask, IsRaw}
+use Rattle.report_reader.specs.Resolving.{below, named_as, is_known, entries_known, tasks_known, variables_known, transactions_known, names_known, count_in, task_id, variable_told, outcome_told, entry_told, task_told, each, told_of, resolved}
 use Rattle.report_reader.proofs.Numbers.{decimal_number, decimal_value, int_printed, printed_value, below_is}
 use Rattle.report_reader.proofs.Places.{tx_named, tx_again}
 

@@ -1,6 +1,6 @@
 -- What is told of words is written as these words.
-use Rattle.std.proofs.Common.{◌≡◌, ◌≢◌, ◌∙◌, ℕ, zero, suc, ◌+◌, ◌<◌, ◌≤◌, ◌^◌, Bool, true, false, ◌&&◌, List, [], ◌∷◌, ◌++◌, length, map, Result, Ok, Err, refl, sym, ap, subst, arith}
-use Rattle.std.specs.Prelude.{ℤ, pos, negsuc, FitsSigned, codes, nat_lt, All}
+use Rattle.std.proofs.Common.{◌≡◌, ◌≢◌, ◌∙◌, ℕ, suc, ◌+◌, ◌<◌, ◌≤◌, ◌^◌, true, List, [], ◌∷◌, ◌++◌, length, Result, Ok, refl, sym, ap, subst, arith}
+use Rattle.std.specs.Prelude.{ℤ, pos, negsuc, FitsSigned, codes}
 use Rattle.std.specs.Int.{w64}
 use Rattle.std.specs.Fmt.{decimal, signed_decimal}
 use Rattle.std.specs.List.{flat_map, AllByRecursion}
@@ -18,21 +18,20 @@ use Rattle.txn.specs.declared.ast.Outcome.TheVariants as outcome
 use Rattle.txn.specs.declared.limits.TheConstants.{MAX_TASKS}
 use Rattle.txn.specs.declared.report.Entry as told
 use Rattle.txn.specs.LawfulReport.{FitsCatalogue}
-use Rattle.txn.specs.Listing.{Listing, tasks, program_at}
+use Rattle.txn.specs.Listing.{Listing, tasks}
 use Rattle.txn.specs.Told.{Told}
 use Rattle.text_words.specs.Bytes.{is_int, int_value}
-use Rattle.text_words.specs.Answers.{◌>>=◌}
 use Rattle.report_printer.specs.ReportFits.{OutcomeFits, ReportFits}
 use Rattle.report_printer.specs.ReportText.{variable_line, variable_lines, entry_line, task_line, report_text}
 use Rattle.text_words.specs.Numbers.{number_of}
 use Rattle.text_words.specs.Words.{line, outcome_text}
 use Rattle.text_words.specs.declared.fault.ReadFault.{ReadFault}
 use Rattle.text_words.proofs.Numerals.{number_is}
-use Rattle.text_words.proofs.Steps.{bind_ok, done, ok_is}
+use Rattle.text_words.proofs.Steps.{bind_ok, ok_is}
 use Rattle.report_reader.specs.Raw.{Variable, Ending, Returned, Threw, Overflow, DivideByZero, Entry, Task, Raw, is_number, variable_words, ending_words, entry_words, task_words, number_words, raw_text, IsVariable, IsEnding, IsEntry, IsTask, IsRaw}
 use Rattle.report_reader.specs.Resolving.{below, named_as, variables_known, names_known, count_in, task_id, tx_id, variable_told, outcome_told, entry_told, task_told, each, told_of}
 use Rattle.report_reader.proofs.Numbers.{number_written, int_written, below_gives}
-use Rattle.report_reader.proofs.Places.{HasName, tx_back}
+use Rattle.report_reader.proofs.Places.{tx_back}
 
 fits_signed : (z : ℤ) → fits z ≡ true → FitsSigned w64 z
 fits_signed (pos n) h = record { sfits = ltb-true n (2 ^ 63) h }

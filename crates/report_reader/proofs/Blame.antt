@@ -1,7 +1,7 @@
 -- Which faults each step may have.
-use Rattle.std.proofs.Common.{◌≡◌, ℕ, zero, suc, ◌+◌, Bool, true, false, cond, List, [], ◌∷◌, map, Option, Some, None, Result, Ok, Err, ap, length}
+use Rattle.std.proofs.Common.{◌≡◌, ℕ, zero, suc, ◌+◌, Bool, true, false, cond, List, [], ◌∷◌, Option, Some, None, Result, Ok, Err, ap, length}
 use Rattle.std.specs.Prelude.{codes, ℤ, nat_lt, is_some}
-use Rattle.std.specs.List.{list_all, AllByRecursion}
+use Rattle.std.specs.List.{list_all}
 use Rattle.std.specs.Str.{bytes_eq}
 use Rattle.std.specs.Str.Parse.{digits_value}
 use Rattle.std.proofs.lemmas.Bool.{and_parts}
@@ -19,7 +19,7 @@ use Rattle.text_words.proofs.Steps.{done}
 use Rattle.report_reader.specs.Lines.{Line, Whole, Cut, first_line, parted}
 use Rattle.report_reader.specs.Raw.{Variable, Ending, Returned, Threw, Overflow, DivideByZero, Entry, Task, Raw, is_number}
 use Rattle.report_reader.specs.Reading.{given, word_at, name_in, int_in, number_in, expect, behind, after_word, variable_in, valued_in, ending_in, entry_in, task_in, numbered_in, line_at, lines_at, begins, all_at, end_at, raw_at}
-use Rattle.report_reader.specs.Resolving.{is_known, entries_known, tasks_known, variables_known, transactions_known, names_known, below, count_in, task_id, found, tx_id, variable_told, outcome_told, entry_told, task_told, each, told_of}
+use Rattle.report_reader.specs.Resolving.{is_known, variables_known, transactions_known, names_known, below, count_in, task_id, found, tx_id, variable_told, outcome_told, entry_told, task_told, each, told_of}
 
 -- a fault of the result is of this kind
 pub record Only {A : Type 0} (kind : ReadFault) (r : Result A ReadFault) : Type 0 where

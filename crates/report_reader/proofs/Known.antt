@@ -1,5 +1,5 @@
 -- Tests of all lines, as they are seen.
-use Rattle.std.proofs.Common.{◌≡◌, ◌∙◌, ℕ, zero, suc, ◌+◌, ◌<◌, ◌≤◌, Bool, true, false, not, ◌&&◌, List, [], ◌∷◌, length, get_or, drop, map, Some, refl, sym, ap, arith, add-one}
+use Rattle.std.proofs.Common.{◌≡◌, ◌∙◌, ℕ, zero, suc, ◌+◌, ◌<◌, Bool, true, false, not, ◌&&◌, List, [], ◌∷◌, length, get_or, drop, Some, refl, sym, ap, add-one}
 use Rattle.std.specs.List.{list_all, slice_get}
 use Rattle.std.specs.Str.{bytes_eq}
 use Rattle.std.proofs.Math.Seq.{drop-cons}
@@ -8,7 +8,7 @@ use Rattle.std.proofs.lemmas.Option.{same_Some}
 use Rattle.txn.specs.Listing.{Listing}
 use Rattle.report_reader.specs.Raw.{Entry, Task}
 use Rattle.report_reader.specs.Resolving.{is_known, entries_known, tasks_known, transactions_known, named_as}
-use Rattle.report_reader.specs.View.{view_entry, view_entries, view_task, view_tasks, view_variable, view_variables, view_raw}
+use Rattle.report_reader.specs.View.{view_entry, view_entries, view_task, view_tasks, view_variables, view_raw}
 use Rattle.report_reader.specs.declared.raw.RawEntry.{RawEntry}
 use Rattle.report_reader.specs.declared.raw.RawTask.{RawTask}
 use Rattle.report_reader.specs.declared.raw.RawReport.{RawReport}

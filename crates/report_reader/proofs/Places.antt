@@ -1,5 +1,5 @@
 -- Names that are declared once, and their places.
-use Rattle.std.proofs.Common.{◌≡◌, ◌∙◌, ℕ, zero, suc, ◌<◌, Bool, true, false, ◌&&◌, ◌||◌, not, List, [], ◌∷◌, ◌++◌, length, map, get_or, Option, Some, None, Result, Ok, Err, refl, sym, ap, subst, arith}
+use Rattle.std.proofs.Common.{◌≡◌, ◌∙◌, ℕ, zero, suc, ◌<◌, Bool, true, false, ◌||◌, not, List, [], ◌∷◌, ◌++◌, length, map, get_or, Option, Some, None, Ok, refl, sym, ap, subst, arith}
 use Rattle.std.specs.Prelude.{position, bytes_eq, pos}
 use Rattle.std.specs.List.{list_any, position_or_len}
 use Rattle.std.proofs.lemmas.Slice.Eq.{bytes_eq-Decides}
@@ -11,7 +11,6 @@ use Rattle.txn.specs.Listing.{Listing, program_at, transaction_named, as_transac
 use Rattle.txn.specs.Names.{are_new, are_distinct, names_hold}
 use Rattle.txn.specs.Tree.{Program, Skip, Int}
 use Rattle.txn.proofs.Lawful.{names_parts}
-use Rattle.text_words.specs.declared.fault.ReadFault.{ReadFault}
 use Rattle.report_reader.specs.Resolving.{found, tx_id}
 
 neither : (a b : Bool) → (a || b) ≡ false → (a ≡ false) × (b ≡ false)

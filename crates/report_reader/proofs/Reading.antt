@@ -1,12 +1,11 @@
 -- What is read is the report of the text, and which fault comes first where there is none.
-use Rattle.std.proofs.Common.{◌≡◌, ◌∙◌, ℕ, ◌<◌, ◌≤◌, Bool, true, false, cond, List, length, Result, Ok, Err, refl, sym, ap, subst, arith, ◌⊎◌, inl, inr}
+use Rattle.std.proofs.Common.{◌≡◌, ◌∙◌, ℕ, ◌≤◌, true, false, cond, List, length, Result, Ok, Err, refl, sym, ap, subst, arith, ◌⊎◌, inl, inr}
 use Rattle.std.specs.Prelude.{nat_lt, IfOk, IfErr}
 use Rattle.std.specs.List.{list_all}
 use Rattle.std.proofs.lemmas.Bool.{ltb-true}
 use Rattle.std.proofs.lemmas.Bool.Decides.{nat_tests}
-use Rattle.txn.specs.declared.limits.TheConstants.{MAX_TASKS}
 use Rattle.txn.specs.Limits.{limits_hold}
-use Rattle.txn.specs.Listing.{Listing, tasks}
+use Rattle.txn.specs.Listing.{Listing}
 use Rattle.txn.specs.Names.{names_hold}
 use Rattle.txn.specs.Told.{Told}
 use Rattle.txn.proofs.Lawful.{few_tasks}
@@ -14,16 +13,16 @@ use Rattle.text_words.specs.Bytes.{is_allowed}
 use Rattle.text_words.specs.Answers.{◌>>=◌, Gives, Fails}
 use Rattle.text_words.specs.declared.fault.ReadFault.{ReadFault}
 use Rattle.text_words.specs.declared.fault.ReadFault.TheVariants as faults
-use Rattle.text_words.proofs.Steps.{bind_ok, done, ok_is, chosen}
+use Rattle.text_words.proofs.Steps.{bind_ok, chosen}
 use Rattle.report_reader.specs.Lines.{lines}
-use Rattle.report_reader.specs.Raw.{Raw, raw_text}
+use Rattle.report_reader.specs.Raw.{Raw}
 use Rattle.report_reader.specs.Reading.{raw_at}
 use Rattle.report_reader.specs.Resolving.{names_known, told_of, resolved}
 use Rattle.report_reader.specs.Reports.{max_len, IsReport, IsWritten, IsFirst, report_at}
 use Rattle.report_reader.proofs.Allowed.{raw_allowed}
 use Rattle.report_reader.proofs.Agains.{report_again, written_report}
 use Rattle.report_reader.proofs.Backs.{told_back}
-use Rattle.report_reader.proofs.Blame.{Only, raw_shape, told_limit}
+use Rattle.report_reader.proofs.Blame.{raw_shape, told_limit}
 use Rattle.report_reader.proofs.Texts.{written_is_read, read_is_written}
 
 -- what a catalogue keeps

@@ -1,15 +1,14 @@
 -- All lines of a report: what is read is written so, and what is written so is read.
-use Rattle.std.proofs.Common.{◌≡◌, ◌∙◌, ℕ, true, false, List, [], ◌∷◌, ◌++◌, length, map, Option, None, Result, Ok, Err, refl, sym, ap, subst}
+use Rattle.std.proofs.Common.{◌≡◌, ◌∙◌, ℕ, true, List, [], ◌∷◌, ◌++◌, length, map, None, Ok, refl, ap, subst}
 use Rattle.std.specs.Prelude.{codes}
 use Rattle.std.specs.List.{AllByRecursion}
-use Rattle.text_words.specs.Answers.{◌>>=◌}
 use Rattle.text_words.proofs.Steps.{bind_ok, ok_is}
-use Rattle.report_reader.specs.Lines.{Line, Whole, parted}
+use Rattle.report_reader.specs.Lines.{Line, parted}
 use Rattle.report_reader.specs.Raw.{Variable, Entry, Task, Raw, is_number, variable_words, entry_words, task_words, number_words, IsVariable, IsEntry, IsTask, IsRaw}
 use Rattle.report_reader.specs.Reading.{line_at, lines_at, all_at, end_at, expect, numbered_in, variable_in, entry_in, task_in, begins, raw_at}
 use Rattle.report_reader.proofs.Parting.{lacks}
-use Rattle.report_reader.proofs.Steps.{Takes, text_of, expect_takes, expect_again, variable_takes, variable_again, entry_takes, entry_again, entry_text, task_takes, task_again, numbered_takes, numbered_again, begins_again, begins_not, begins_alone}
-use Rattle.report_reader.proofs.Rows.{line_of, Reads, TakesLine, TakesLines, stops, line_takes, line_again, lines_take, lines_again, all_take, all_again}
+use Rattle.report_reader.proofs.Steps.{text_of, expect_takes, expect_again, variable_takes, variable_again, entry_takes, entry_again, entry_text, task_takes, task_again, numbered_takes, numbered_again, begins_again, begins_not, begins_alone}
+use Rattle.report_reader.proofs.Rows.{line_of, Reads, stops, line_takes, line_again, lines_take, lines_again, all_take, all_again}
 
 numbered_reads : (wanted : List ℕ) → lacks 32 wanted ≡ true → Reads (number_words wanted) (λ n. is_number n ≡ true) (numbered_in wanted)
 numbered_reads wanted w = record { takes = numbered_takes wanted; again = λ n h. numbered_again wanted n w h }

@@ -1,5 +1,5 @@
 -- Which report bytes are the text of, and which fault is the first where they are of none.
-use Rattle.std.specs.Prelude.{◌≡◌, ◌<◌, ◌≤◌, ℕ, true, false, nat_lt, not, if◌then◌else◌, Result, Ok, Err, List, length}
+use Rattle.std.specs.Prelude.{◌≡◌, ◌<◌, ◌≤◌, ℕ, true, false, nat_lt, if◌then◌else◌, Result, Err, List, length}
 use Rattle.std.specs.List.{list_all}
 use Rattle.txn.specs.LawfulReport.{FitsCatalogue}
 use Rattle.txn.specs.Listing.{Listing}

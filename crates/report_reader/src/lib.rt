@@ -10,10 +10,10 @@ mod resolve;
 mod shape;
 mod words;
 
-pub use bytes::are_allowed;
 pub use lines::{next_line, part, word_of};
 pub use numeral::Count;
 pub use read::{MAX_REPORT, read_report};
 pub use resolve::task_id;
 pub use shape::end;
+pub use text_words::bytes::are_allowed;
 pub use words::{count_of, is_word, name_of};

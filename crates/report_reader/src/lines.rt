@@ -1,7 +1,8 @@
 //! Bytes as lines, and a line as words.
 
-ghost use Rattle.std.specs.Prelude.{◌≡◌, ◌<◌, ◌==◌, IfSome, length, position};
+ghost use Rattle.std.specs.Prelude.{◌≡◌, ◌<◌, ◌==◌, IfSome, IfErr, length, position};
 ghost use Rattle.text_words.specs.Answers.{Gives};
+ghost use Rattle.text_words.specs.declared.fault.ReadFault.TheVariants.{Shape};
 ghost use Rattle.report_reader.specs.Lines.{parted, lines, first_line};
 ghost use Rattle.report_reader.specs.Reading.{word_at};
 ghost use Rattle.report_reader.specs.View.{view_parts, view_line};
@@ -40,7 +41,8 @@ pub fn next_line(bytes: &[u8]) -> Option<(&[u8], &[u8])>
 /// The first word of a line, and the words behind it.
 #[tactic(auto, unfolding(crate::specs::Reading::word_at))]
 pub fn word_of(text: &[u8]) -> Result<(&[u8], &[u8]), ReadFault>
-    ensures { Gives (λ x. (x.0.now, x.1.now)) result (word_at text.now) }
+    ensures value { Gives (λ x. (x.0.now, x.1.now)) result (word_at text.now) }
+    ensures kind { IfErr result (λ e. e ≡ Shape) }
 {
     part(text, b' ').ok_or(ReadFault::Shape)
 }

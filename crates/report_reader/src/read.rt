@@ -6,11 +6,11 @@ ghost use Rattle.text_words.specs.Answers.{Gives};
 ghost use Rattle.text_words.specs.declared.fault.ReadFault.TheVariants.{Memory};
 ghost use Rattle.report_reader.specs.Reports.{IsReport, IsFirst, report_at};
 
-use crate::bytes::are_allowed;
 use crate::resolve::resolved;
 use crate::shape::raw_of;
 use std::alloc::Global;
 use text_words::ReadFault;
+use text_words::bytes::are_allowed;
 use txn::{Catalogue, Report};
 
 /// The longest report, in bytes.

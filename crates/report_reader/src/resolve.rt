@@ -1,9 +1,10 @@
 //! From the words of a report to what it tells: names as ids, and integers as numbers.
 
-ghost use Rattle.std.specs.Prelude.{◌≡◌, length};
+ghost use Rattle.std.specs.Prelude.{◌≡◌, IfErr, length};
 ghost use Rattle.std.specs.List.{list_all};
 ghost use Rattle.txn.specs.Told.{told};
 ghost use Rattle.text_words.specs.Answers.{Gives};
+ghost use Rattle.text_words.specs.declared.fault.ReadFault.TheVariants.{Limit};
 ghost use Rattle.report_reader.specs.Resolving.{named_as, is_known, variables_known, transactions_known, names_known, count_in, task_id, tx_id, variable_told, outcome_told, entry_told, task_told, each, told_of, resolved};
 ghost use Rattle.report_reader.specs.View.{view_variable, view_variables, view_ending, view_entry, view_entries, view_task, view_tasks, view_raw};
 
@@ -92,7 +93,8 @@ fn count_in(count: Count<'_>) -> Result<u64, ReadFault>
 /// The task of this number.
 #[tactic(auto, unfolding(crate::specs::Resolving::task_id))]
 pub fn task_id(catalogue: &Catalogue, task: Count<'_>) -> Result<TaskId, ReadFault>
-    ensures { Gives (λ x. x) result (task_id catalogue.now task.entry.text.now) }
+    ensures value { Gives (λ x. x) result (task_id catalogue.now task.entry.text.now) }
+    ensures kind { IfErr result (λ e. e ≡ Limit) }
 {
     let place = task.below(catalogue.tasks() as u64)?;
     Ok(TaskId(place as u32))

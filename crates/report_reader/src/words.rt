@@ -1,29 +1,25 @@
 //! Single words.
 
-ghost use Rattle.std.specs.Prelude.{◌≡◌};
-ghost use Rattle.std.specs.Str.{IsAscii, bytes_eq};
+ghost use Rattle.std.specs.Prelude.{◌≡◌, IfErr};
+ghost use Rattle.std.specs.Str.{bytes_eq};
 ghost use Rattle.text_words.specs.Answers.{Gives};
+ghost use Rattle.text_words.specs.declared.fault.ReadFault.TheVariants.{Shape};
 ghost use Rattle.report_reader.specs.Reading.{name_in, int_in, number_in, expect, behind, after_word, begins};
 ghost use Rattle.report_reader.specs.View.{view_text};
 
-use crate::bytes::{is_int, is_name, is_number};
+use crate::bytes::is_number;
 use crate::lines::part;
-use crate::numeral::{Count, Numeral};
-use std::str;
+use crate::numeral::Count;
 use text_words::ReadFault;
-
-/// Bytes of ASCII as text.
-fn as_text(bytes: &[u8]) -> &str
-    requires { IsAscii bytes.now }
-    ensures { result.now ≡ bytes.now }
-{
-    str::from_utf8(bytes).unwrap()
-}
+use text_words::bytes::{as_text, is_int};
+use text_words::numeral::Numeral;
+use txn::names::is_name;
 
 /// A name.
 #[tactic(auto, using(text_words::proofs::Ascii::name_is_ascii), unfolding(crate::specs::Reading::name_in))]
 pub fn name_of(text: &[u8]) -> Result<&str, ReadFault>
-    ensures { Gives (λ x. x.now) result (name_in text.now) }
+    ensures value { Gives (λ x. x.now) result (name_in text.now) }
+    ensures kind { IfErr result (λ e. e ≡ Shape) }
 {
     if is_name(text) {
         Ok(as_text(text))
@@ -49,7 +45,8 @@ pub(crate) fn numeral_of(text: &[u8]) -> Result<Numeral<'_>, ReadFault>
 /// An integer without a sign.
 #[tactic(auto, using(crate::proofs::Numbers::number_is_ascii), unfolding(crate::specs::Reading::number_in))]
 pub fn count_of(text: &[u8]) -> Result<Count<'_>, ReadFault>
-    ensures { Gives (λ x. x.text.now) result (number_in text.now) }
+    ensures value { Gives (λ x. x.text.now) result (number_in text.now) }
+    ensures kind { IfErr result (λ e. e ≡ Shape) }
 {
     if is_number(text) {
         Ok(Count {

@@ -3,7 +3,10 @@
 ghost use Rattle.std.specs.Prelude.{◌≡◌, ◌≤◌, length};
 ghost use Rattle.std.specs.List.{prefix_len, list_all};
 ghost use Rattle.std.specs.Char.{is_ascii_digit};
+ghost use Rattle.std.specs.Str.{IsAscii};
 ghost use Rattle.text_words.specs.Bytes.{is_allowed, is_atom_byte, is_in_line, is_int, is_positive};
+
+use std::str;
 
 fn is_allowed(b: u8) -> bool
     ensures { result ≡ is_allowed b }
@@ -11,22 +14,27 @@ fn is_allowed(b: u8) -> bool
     matches!(b, b'\n' | b' '..=b'~')
 }
 
-/// Whether a file may have all these bytes.
+/// Whether a file may have all these bytes. Each of them is looked at, whatever came before: so
+/// many are looked at by one instruction.
 pub fn are_allowed(bytes: &[u8]) -> bool
     ensures { result ≡ list_all is_allowed bytes.now }
 {
-    bytes.iter().all(|b| is_allowed(*b))
+    let mut allowed = true;
+    'bytes: for b in bytes {
+        allowed &= is_allowed(*b);
+    }
+    allowed
 }
 
 /// Whether the byte is part of an atom.
-pub fn is_atom_byte(b: u8) -> bool
+pub(crate) fn is_atom_byte(b: u8) -> bool
     ensures { result ≡ is_atom_byte b }
 {
     !matches!(b, b'\n' | b' ' | b'(' | b')' | b';')
 }
 
 /// How many bytes at the front an atom may have.
-pub fn atom_len(bytes: &[u8]) -> usize
+pub(crate) fn atom_len(bytes: &[u8]) -> usize
     ensures value { result ≡ prefix_len is_atom_byte bytes.now }
     ensures bound { result ≤ length bytes.now }
 {
@@ -40,7 +48,7 @@ fn is_in_line(b: u8) -> bool
 }
 
 /// How many bytes stand before the next newline.
-pub fn line_len(bytes: &[u8]) -> usize
+pub(crate) fn line_len(bytes: &[u8]) -> usize
     ensures value { result ≡ prefix_len is_in_line bytes.now }
     ensures bound { result ≤ length bytes.now }
 {
@@ -74,4 +82,13 @@ pub fn is_int(text: &[u8]) -> bool
         [b'-', rest @ ..] => is_positive(rest),
         _ => is_positive(text),
     }
+}
+
+/// Bytes of ASCII as text.
+pub fn as_text(bytes: &[u8]) -> &str
+    requires { IsAscii bytes.now }
+    ensures { result.now ≡ bytes.now }
+{
+    // What is asked says it, so the bytes are not judged again.
+    unsafe { str::from_utf8_unchecked(bytes) }
 }

@@ -1,13 +1,11 @@
 //! Bytes as tokens.
 
 ghost use Rattle.std.specs.Prelude.{◌≡◌, ℕ, List, true, ◌<◌, [], ◌∷◌, ◌++◌, IfSome, IfNone, length};
-ghost use Rattle.std.specs.Str.{IsAscii};
 ghost use Rattle.text_words.specs.Tokens.{atom, tokens};
 ghost use Rattle.text_words.specs.TokenView.{view, front};
 
-use crate::bytes::{atom_len, is_atom_byte, is_int, line_len};
+use crate::bytes::{as_text, atom_len, is_atom_byte, is_int, line_len};
 use crate::numeral::Numeral;
-use std::str;
 use txn::names::is_name;
 
 /// A parenthesis, or an atom.
@@ -19,14 +17,6 @@ pub enum Token<'a> {
     Int(Numeral<'a>),
     /// An atom that is neither a name nor an integer.
     Other,
-}
-
-/// Bytes of ASCII as text.
-fn as_text(bytes: &[u8]) -> &str
-    requires { IsAscii bytes.now }
-    ensures { result.now ≡ bytes.now }
-{
-    str::from_utf8(bytes).unwrap()
 }
 
 #[tactic(auto, using(crate::proofs::Ascii::name_is_ascii, crate::proofs::Ascii::int_is_ascii), unfolding(crate::specs::Tokens::atom))]

@@ -15,7 +15,7 @@ use Rattle.file_resolver.proofs.resolve.+resolving.Goals as goal
 
 pub statement-returns-in_err-parts-in-Seq : goal.statement-returns-in_err-parts-in-Seq
 statement-returns-in_err-parts-in-Seq t c =
-    let p = err_from_is_err_and c.from_residual-in_err-parts-in-Seq.result c.from_residual-in_err-parts-in-Seq.ensures.1 in
+    let p = err_from_is_err_and c.from_residual.result c.from_residual.ensures.1 in
     let names = texts c.args.names.now.keys in
     let ss = view_stmts c.as_slice.result.now in
     let e : view_stmt c.args.s.now ≡ Seq (row ss) = ap view_stmt c.in-Seq.is ∙ view_seq c.in-Seq.parts ∙ ap (λ l. Seq (row (view_stmts l))) (sym c.as_slice.ensures.value) in

@@ -4,5 +4,5 @@ use Rattle.report_reader.proofs.resolve.task_id.Goals as goal
 
 pub overflow_cast-result : goal.overflow_cast-result
 overflow_cast-result c =
-    let lt = (below_gives _ _ c.in_ok-place.place c.in_ok-place.ensures).1 in
+    let lt = (below_gives _ _ c.in_ok-place.place c.in_ok-place.ensures.value).1 in
     omega (arith, lt, c.tasks.ensures.few)

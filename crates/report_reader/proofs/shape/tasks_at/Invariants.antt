@@ -1,5 +1,4 @@
 use Rattle.std.proofs.Common.{◌≡◌, length}
-use Rattle.std.specs.Prelude.{codes}
 use Rattle.report_reader.specs.Lines.{lines}
 use Rattle.report_reader.specs.Reading.{all_at, task_in}
 use Rattle.report_reader.specs.View.{view_tasks}
