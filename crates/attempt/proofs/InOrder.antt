@@ -1,14 +1,16 @@
 -- A variable in an ascending list: what lies before it is passed.
-use Rattle.std.proofs.Common.{◌≡◌, ◌≢◌, ℕ, zero, suc, ◌<◌, ◌≤◌, [], ◌∷◌, ◌++◌, length, Some, None, ℤ, refl, sym, ap, ◌∙◌, subst, arith, take, drop, get_or, slice_get}
+use Rattle.std.proofs.lemmas.Option.{slice_get-get_or}
+use Rattle.std.proofs.Math.Seq.{take-length}
+use Rattle.std.proofs.Common.{◌-◌, ◌≡◌, ◌≢◌, ℕ, zero, suc, ◌<◌, ◌≤◌, [], ◌∷◌, ◌++◌, length, Some, None, ℤ, refl, sym, ap, ◌∙◌, subst, arith, take, drop, get_or, slice_get}
 use Rattle.std.proofs.lemmas.Bool.Decides.{nat_tests}
 use Rattle.txn.specs.declared.ast.VarId.{VarId}
 use Rattle.attempt.specs.Asking.{Known, known_at, write}
 use Rattle.attempt.specs.Order.{AllAfter, AllBefore, Ascending}
 
-write_past : (p : VarId × ℤ) (rest : Known) (x : VarId) (v : ℤ) → p.0.0 < x.0 → write (p ∷ rest) x v ≡ p ∷ write rest x v
+pub write_past : (p : VarId × ℤ) (rest : Known) (x : VarId) (v : ℤ) → p.0.0 < x.0 → write (p ∷ rest) x v ≡ p ∷ write rest x v
 write_past p rest x v lt = grind (arith, nat_tests)
 
-known_past : (p : VarId × ℤ) (rest : Known) (x : VarId) → p.0.0 ≢ x.0 → known_at (p ∷ rest) x ≡ known_at rest x
+pub known_past : (p : VarId × ℤ) (rest : Known) (x : VarId) → p.0.0 ≢ x.0 → known_at (p ∷ rest) x ≡ known_at rest x
 known_past p rest x ne = grind (arith, nat_tests)
 
 known_here : (p : VarId × ℤ) (rest : Known) (x : VarId) → p.0.0 ≡ x.0 → known_at (p ∷ rest) x ≡ Some p.1
@@ -69,3 +71,19 @@ known_from (q ∷ rest) zero x p d key lt e =
     let same : q ≡ p = cc in
     known_here q rest x key ∙ ap (λ (r : VarId × ℤ). Some r.1) same
 known_from (q ∷ rest) (suc i) x p d key lt e = known_from rest i x p d key (omega arith) e
+
+-- all up to the variable itself are earlier
+pub before_at : (w : Known) (i : ℕ) (x : VarId) (p : VarId × ℤ) → Ascending w → slice_get w i ≡ Some p → p.0.0 ≡ x.0 → AllBefore x (take i w)
+before_at [] i x p a e key = absurd (cc)
+before_at (q ∷ rest) zero x p a e key = tt
+before_at (q ∷ rest) (suc i) x p a e key =
+    let here = after_at rest i q.0 p a.0 e in
+    (omega (arith, here, key), before_at rest i x p a.1 e key)
+
+-- all are earlier where the last one is
+pub before_all : (w : Known) (x : VarId) (d : VarId × ℤ) → Ascending w → 0 < length w → (get_or w (length w - 1) d).0.0 < x.0 → AllBefore x w
+before_all w x d a some lt =
+    let i = length w - 1 in
+    let within : i < length w = omega (arith, some) in
+    let all : suc i ≡ length w = omega (arith, some) in
+    subst (AllBefore x) (ap (λ n. take n w) all ∙ take-length w) (before_to w i x (get_or w i d) a (slice_get-get_or w i d within) lt)

@@ -1,5 +1,5 @@
 -- An attempt stays lawful: where it waits, where it is over, and where it is told a variable.
-use Rattle.std.proofs.Common.{◌≡◌, ◌≤◌, ◌+◌, ◌-◌, ◌∷◌, ◌++◌, ℕ, length, arith, ℤ, [], subst, refl, length-append}
+use Rattle.std.proofs.Common.{◌≡◌, ◌≤◌, ◌+◌, ◌-◌, ◌∷◌, ◌++◌, ℕ, length, arith, ℤ, [], subst, sym, refl, length-append}
 use Rattle.txn.specs.Cost.{cost}
 use Rattle.txn.specs.declared.ast.VarId.{VarId}
 use Rattle.txn.specs.declared.ast.Outcome.{Outcome}
@@ -96,23 +96,32 @@ supplied_goes t log m count total x v going =
       least = omega (arith, going.least, longer);
     }
 
+-- where it is over the pairs are its writes, and where it waits the machine is as it was
+abbrev pub Settles : Stand → Machine → Machine → Type 0
+Settles stand.Fresh m after = Unit {0}
+Settles (stand.Needs x) m after = after ≡ m
+Settles (stand.Over o) m after = after.own.pairs ≡ m.own.writes
+Settles stand.Spent m after = Unit {0}
+
 -- an attempt whose machine went on
-pub went_on : (i : Inside) (s : Stand) (m : Machine) (count : Count) (len : ℕ) → IsKept i → i.stand ≡ stand.Fresh → len ≡ length i.log →
-    Stops (program_at i.catalogue.now i.id) i.log s (place_of m) count.entered count.ahead → count.entered + count.ahead ≤ cost (program_at i.catalogue.now i.id) →
-    IsKept (record { catalogue = i.catalogue; id = i.id; machine = m; count = count; log = i.log; stand = s; steps = count.entered + count.ahead + len - i.total; total = count.entered + count.ahead + len })
-went_on i s m count len kept fresh same stops few =
+pub went_on : (i : Inside) (s : Stand) (m after : Machine) (count : Count) (len : ℕ) → IsKept i → i.stand ≡ stand.Fresh → len ≡ length i.log →
+    Stops (program_at i.catalogue.now i.id) i.log s (place_of m) count.entered count.ahead → count.entered + count.ahead ≤ cost (program_at i.catalogue.now i.id) → Settles s m after →
+    IsKept (record { catalogue = i.catalogue; id = i.id; machine = after; count = count; log = i.log; stand = s; steps = count.entered + count.ahead + len - i.total; total = count.entered + count.ahead + len })
+went_on i s m after count len kept fresh same stops few settles =
     let going = subst (GoesOn (program_at i.catalogue.now i.id) i.log i.machine i.count i.total) fresh kept.going in
-    at s stops (omega (arith, few, same, going.least)) (omega (arith, few, same))
+    at s stops settles (omega (arith, few, same, going.least)) (omega (arith, few, same))
   where
-    at : (s : Stand) → Stops (program_at i.catalogue.now i.id) i.log s (place_of m) count.entered count.ahead →
+    at : (s : Stand) → Stops (program_at i.catalogue.now i.id) i.log s (place_of m) count.entered count.ahead → Settles s m after →
         count.entered + count.ahead + len - i.total ≤ cost (program_at i.catalogue.now i.id) → count.entered + count.ahead + len ≤ cost (program_at i.catalogue.now i.id) + length i.log →
-        IsKept (record { catalogue = i.catalogue; id = i.id; machine = m; count = count; log = i.log; stand = s; steps = count.entered + count.ahead + len - i.total; total = count.entered + count.ahead + len })
-    at stand.Fresh h le few = absurd h
-    at (stand.Needs x) h le few =
+        IsKept (record { catalogue = i.catalogue; id = i.id; machine = after; count = count; log = i.log; stand = s; steps = count.entered + count.ahead + len - i.total; total = count.entered + count.ahead + len })
+    at stand.Fresh h same_machine le few = absurd h
+    at (stand.Needs x) h same_machine le few =
         record {
           declared = kept.declared;
           lawful = waiting (viewed i) x _ _ kept.lawful h.0 le few;
-          going = record { reached = h.1; ahead = omega (arith, h.2); most = omega (arith, same); least = omega (arith, same, h.3) };
+          going = subst (λ m. IsGoing (program_at i.catalogue.now i.id) i.log m count (count.entered + count.ahead + len) 1) (sym same_machine) (record { reached = h.1; ahead = omega (arith, h.2); most = omega (arith, same); least = omega (arith, same, h.3) });
         }
-    at (stand.Over o) h le few = record { declared = kept.declared; lawful = over (viewed i) o m.writes _ _ kept.lawful h le few; going = tt }
-    at stand.Spent h le few = record { declared = kept.declared; lawful = spent (viewed i) _ _ kept.lawful le few; going = tt }
+    at (stand.Over o) h pairs le few =
+        let ends = subst (λ w. ask (program_at i.catalogue.now i.id) i.log ≡ Ends o w) (sym pairs) h in
+        record { declared = kept.declared; lawful = over (viewed i) o after.own.pairs _ _ kept.lawful ends le few; going = tt }
+    at stand.Spent h settles le few = record { declared = kept.declared; lawful = spent (viewed i) _ _ kept.lawful le few; going = tt }

@@ -10,3 +10,8 @@ pub mod Resume
 pub mod Placed
 pub mod Going
 pub mod InOrder
+pub mod Small
+pub mod Stores
+pub mod OwnTable
+pub mod OwnNotes
+pub mod OwnList

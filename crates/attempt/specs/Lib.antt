@@ -3,9 +3,10 @@ pub mod Frame
 pub mod Order
 pub mod Places
 pub mod BoardInside
-pub mod WritesInside
+pub mod Own
 pub mod View
 pub mod AttemptInside
 pub mod Machine
 pub mod Correct
 pub mod Place
+pub mod Room

@@ -34,6 +34,11 @@ abbrev pub fresh_attempt : Listing → TxId → AttemptView
 fresh_attempt l id =
     record { program = program_at l id; variables = length l.initial; log = []; writes = []; stand = stand.Fresh; steps = 0; total = 0 }
 
+-- the attempt as it began
+abbrev pub begun : AttemptView → AttemptView
+begun a =
+    record { program = a.program; variables = a.variables; log = []; writes = []; stand = stand.Fresh; steps = 0; total = 0 }
+
 -- the attempt with a variable's value at the end of its log
 abbrev pub supplied : AttemptView → VarId → ℤ → AttemptView
 supplied a x v =

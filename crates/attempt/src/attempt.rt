@@ -7,7 +7,8 @@ ghost use Rattle.txn.specs.Scope.{ProgramKnown};
 ghost use Rattle.attempt.specs.Asking.{known_at, ask, Ends};
 ghost use Rattle.attempt.specs.Frame.{Agrees};
 ghost use Rattle.attempt.specs.Order.{AllKnown, Apart, Ascending};
-ghost use Rattle.attempt.specs.View.{fresh_attempt, supplied, idle, next_of, Answers, HoldsAt, OnlyOfReturned};
+ghost use Rattle.attempt.specs.Room.{NeedsNoMemory};
+ghost use Rattle.attempt.specs.View.{fresh_attempt, begun, supplied, idle, next_of, Answers, HoldsAt, OnlyOfReturned};
 
 use crate::board::Board;
 use crate::log::Log;
@@ -58,15 +59,43 @@ impl<'a> Attempt<'a> {
             catalogue,
             id,
             machine: Machine::new(alloc),
-            count: Count {
-                entered: 0,
-                ahead: 0,
-            },
+            count: Count::none(),
             log: Board::new(alloc),
             stand: Stand::Fresh,
             steps: 0,
             total: 0,
         }
+    }
+
+    /// Makes it a fresh attempt of a transaction of the catalogue, in the room that it has. It
+    /// takes no memory.
+    pub fn restart(&mut self, catalogue: &'a Catalogue, id: TxId)
+        requires { id.0 < length catalogue.now.programs }
+        ensures { self.new ≡ fresh_attempt catalogue.now id }
+    {
+        catalogue.rules();
+        self.catalogue = catalogue;
+        self.id = id;
+        self.machine.restart();
+        self.count = Count::none();
+        self.log.clear();
+        self.stand = Stand::Fresh;
+        self.steps = 0;
+        self.total = 0;
+    }
+
+    /// What the attempt was told, kept after it; the attempt begins anew. It takes no memory.
+    pub fn take_log(&mut self) -> Log
+        ensures log { result ≡ self.old.log }
+        ensures anew { self.new ≡ begun self.old }
+    {
+        let pairs = self.log.take_pairs();
+        self.machine.restart();
+        self.count = Count::none();
+        self.stand = Stand::Fresh;
+        self.steps = 0;
+        self.total = 0;
+        Log { pairs }
     }
 
     /// What the attempt was told: each variable once, in the order of supply.
@@ -96,7 +125,7 @@ impl<'a> Attempt<'a> {
         ensures ends { (o : Outcome) → self.now.stand ≡ Stand.Over o → ask self.now.program self.now.log ≡ Ends o result.now }
     {
         match self.stand {
-            Stand::Over(_) => self.machine.writes.as_slice(),
+            Stand::Over(_) => self.machine.own.as_slice(),
             _ => &[],
         }
     }
@@ -142,8 +171,9 @@ impl<'a> Attempt<'a> {
     /// Where it ends, then on every state that agrees with the log the transaction ends so too,
     /// and the state after it is that state with the `writes` stored in it.
     ///
-    /// `Memory` where a growth was refused: an `orelse`, and more than eight writes, take memory.
-    /// Then the attempt is spent, and each later answer is `Memory`.
+    /// `Memory` where a growth was refused: an `orelse` takes memory, and so does a write in its
+    /// first branch. Then the attempt is spent, and each later answer is `Memory`. A transaction
+    /// without an `orelse` never meets it.
     pub fn advance(&mut self) -> Next
         ensures answers { Answers result self.new }
         ensures program { self.new.program ≡ self.old.program }
@@ -154,15 +184,16 @@ impl<'a> Attempt<'a> {
         ensures spent { self.old.stand ≡ Stand.Spent → (result ≡ Next.Memory) × (self.new ≡ idle self.old) }
         ensures steps { self.new.steps ≤ cost self.old.program }
         ensures total { self.new.total ≤ cost self.old.program + length self.old.log }
+        ensures short { NeedsNoMemory self.old.program → self.old.stand ≢ Stand.Spent → result ≢ Next.Memory }
         ensures needed { (x : VarId) → result ≡ Next.Need x → (x.0 < self.new.variables) × (known_at self.new.log x ≡ None) }
         ensures frame { (m : State) → length m ≡ self.new.variables → Agrees self.new.log m → HoldsAt result self.new m }
     {
         self.steps = 0;
         match self.stand {
+            Stand::Fresh => self.go_on(),
             Stand::Over(outcome) => answer(outcome),
             Stand::Needs(x) => Next::Need(x),
             Stand::Spent => Next::Memory,
-            Stand::Fresh => self.go_on(),
         }
     }
 
@@ -176,6 +207,7 @@ impl<'a> Attempt<'a> {
         ensures known { ProgramKnown self.new.variables self.new.program }
         ensures steps { self.new.steps ≤ cost self.old.program }
         ensures total { self.new.total ≤ cost self.old.program + length self.old.log }
+        ensures short { NeedsNoMemory self.old.program → result ≢ Next.Memory }
     {
         self.catalogue.rules();
         let tx = self.catalogue.tx(self.id);
@@ -187,7 +219,10 @@ impl<'a> Attempt<'a> {
         self.stand = stand;
         match stand {
             Stand::Needs(x) => Next::Need(x),
-            Stand::Over(outcome) => answer(outcome),
+            Stand::Over(outcome) => {
+                self.machine.own.settle();
+                answer(outcome)
+            }
             Stand::Spent => Next::Memory,
             Stand::Fresh => unreachable!(),
         }

@@ -8,6 +8,7 @@ use crate::layer::Layer;
 use smallvec::SmallVec;
 use std::alloc::Global;
 use std::marker::Model;
+use std::mem;
 use txn::limits::MAX_VARIABLES;
 use txn::{Memory, VarId};
 
@@ -71,6 +72,22 @@ impl Board {
         ensures { result.items ≡ self }
     {
         self.pairs
+    }
+
+    /// The pairs alone; the board is empty then. It takes no memory.
+    pub fn take_pairs(&mut self) -> Layer
+        ensures pairs { result.items ≡ self.old }
+        ensures emptied { self.new ≡ [] }
+    {
+        let alloc = *self.pairs.allocator();
+        mem::replace(&mut self.pairs, SmallVec::new(alloc))
+    }
+
+    /// Drops all, and keeps the room.
+    pub fn clear(&mut self)
+        ensures { self.new ≡ [] }
+    {
+        self.pairs.clear();
     }
 
     /// The value of a variable, if it is there.

@@ -1,12 +1,11 @@
 //! An attempt ends as the plain evaluation does.
 
-use crate::parts::{attempted, catalogue};
+use crate::parts::{attempted, catalogue_of};
 use attempt::{Attempt, Next};
 use std::alloc::Global;
 use std::process::Abort;
-use std::test::Fail;
 use txn::evaluate::execute;
-use txn::{Catalogue, Outcome, TxId};
+use txn::{Catalogue, Memory, Outcome, TxId};
 
 /// The answer that tells an outcome.
 fn told(outcome: Outcome) -> Next {
@@ -26,6 +25,33 @@ fn with_writes(state: &mut [i64], attempt: &Attempt<'_>) {
     }
 }
 
+/// How an attempt of the first transaction ends in a state, where its writes are stored then.
+fn attempt_ends(
+    rt: &impl Abort,
+    alloc: Global,
+    catalogue: &Catalogue,
+    state: &mut [i64],
+) -> Result<Next, Memory> {
+    let (next, attempt) = attempted(rt, alloc, catalogue, state)?;
+    with_writes(state, &attempt);
+    Ok(next)
+}
+
+/// How the plain evaluation of it ends in a state of two variables, and the state after it.
+fn plain_ends(
+    rt: &(impl Abort + Eprint),
+    alloc: Global,
+    catalogue: &Catalogue,
+    x: i64,
+    y: i64,
+) -> Result<(Next, Vec<i64>), Memory> {
+    let mut state = vec![in alloc; x, y]?;
+    assert!(rt; catalogue.tx_count() > 0);
+    assert_eq!(rt; catalogue.initial().len(), 2);
+    let plain = execute(catalogue.tx(TxId(0)), &mut state)?;
+    Ok((told(plain), state))
+}
+
 /// An attempt of the first transaction ends as the plain evaluation, in the state after it.
 fn expect_alike(
     rt: &(impl Abort + Eprint),
@@ -33,23 +59,21 @@ fn expect_alike(
     catalogue: &Catalogue,
     x: i64,
     y: i64,
-) -> Result<(), Fail> {
+) -> Result<(), Memory> {
     let mut stored = [x, y];
-    let (next, attempt) = attempted(rt, alloc, catalogue, &stored)?;
-    with_writes(&mut stored, &attempt);
-    let mut state = vec![in alloc; x, y]?;
-    assert!(rt; catalogue.tx_count() > 0);
-    assert_eq!(rt; catalogue.initial().len(), 2);
-    let plain = execute(catalogue.tx(TxId(0)), &mut state)?;
-    assert_eq!(rt; next, told(plain));
+    let next = attempt_ends(rt, alloc, catalogue, &mut stored)?;
+    let (plain, state) = plain_ends(rt, alloc, catalogue, x, y)?;
+    assert_eq!(rt; next, plain);
     assert_eq!(rt; state.as_slice(), stored.as_slice());
     Ok(())
 }
 
-/// So it is of the transactions with this body and result, from each of some states of x and y.
-fn expect_all_alike(rt: &(impl Abort + Eprint), alloc: Global, rest: &str) -> Result<(), Fail> {
-    let text = format!(in alloc; "(var x 0)(var y 0)(tx t {rest})")?;
-    let catalogue = catalogue(alloc, text.as_str())?;
+/// So it is from each of some states of x and y.
+fn expect_alike_from_some(
+    rt: &(impl Abort + Eprint),
+    alloc: Global,
+    catalogue: &Catalogue,
+) -> Result<(), Memory> {
     for (x, y) in [
         (0, 0),
         (1, -1),
@@ -58,13 +82,20 @@ fn expect_all_alike(rt: &(impl Abort + Eprint), alloc: Global, rest: &str) -> Re
         (i64::MAX, 1),
         (i64::MIN, -1),
     ] {
-        expect_alike(rt, alloc, &catalogue, x, y)?;
+        expect_alike(rt, alloc, catalogue, x, y)?;
     }
     Ok(())
 }
 
+/// So it is of the transaction with this body and result.
+fn expect_all_alike(rt: &(impl Abort + Eprint), alloc: Global, rest: &str) -> Result<(), Memory> {
+    let parts = [(1, "(var x 0)(var y 0)(tx t "), (1, rest), (1, ")")];
+    let catalogue = catalogue_of(alloc, &parts)?;
+    Ok(expect_alike_from_some(rt, alloc, &catalogue)?)
+}
+
 #[test]
-fn ends_as_the_plain_evaluation(rt: HostRuntime) -> Result<(), Fail> {
+fn ends_as_the_plain_evaluation(rt: HostRuntime) -> Result<(), Memory> {
     for rest in [
         "(skip) 4",
         "(set x (add x 1)) (add x y)",
@@ -77,7 +108,7 @@ fn ends_as_the_plain_evaluation(rt: HostRuntime) -> Result<(), Fail> {
 }
 
 #[test]
-fn branches_end_as_in_the_plain_evaluation(rt: HostRuntime) -> Result<(), Fail> {
+fn branches_end_as_in_the_plain_evaluation(rt: HostRuntime) -> Result<(), Memory> {
     for rest in [
         "(orelse (seq (set x 1) (retry)) (skip)) x",
         "(orelse (set x (add x 1)) (skip)) x",
@@ -90,7 +121,7 @@ fn branches_end_as_in_the_plain_evaluation(rt: HostRuntime) -> Result<(), Fail> 
 }
 
 #[test]
-fn quotients_end_as_in_the_plain_evaluation(rt: HostRuntime) -> Result<(), Fail> {
+fn quotients_end_as_in_the_plain_evaluation(rt: HostRuntime) -> Result<(), Memory> {
     for rest in [
         "(skip) (div x y)",
         "(skip) (rem x y)",

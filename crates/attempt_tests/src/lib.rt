@@ -2,6 +2,10 @@
 #![tactic(auto)]
 
 #[cfg(test)]
+mod again;
+#[cfg(test)]
+mod branches;
+#[cfg(test)]
 mod ends;
 #[cfg(test)]
 mod many;
@@ -9,5 +13,7 @@ mod many;
 mod one;
 #[cfg(test)]
 mod parts;
+#[cfg(test)]
+mod play;
 #[cfg(test)]
 mod steps;

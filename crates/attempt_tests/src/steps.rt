@@ -1,30 +1,52 @@
 //! How many nodes an evaluation enters, worked out by hand, for each kind of expression, condition
 //! and statement. The programs read no variable, so one `advance` does all.
 
-use crate::parts::{catalogue, first};
+use crate::parts::{catalogue_of, first};
 use std::alloc::Global;
 use std::process::Abort;
-use std::test::Fail;
+use txn::{Catalogue, Memory};
 
-/// The one evaluation of the transaction of this body and result enters so many nodes.
+/// How many nodes the first `advance` of the catalogue's first transaction enters.
+fn entered(rt: &impl Abort, alloc: Global, catalogue: &Catalogue) -> u64 {
+    let mut attempt = first(rt, alloc, catalogue);
+    let _ = attempt.advance();
+    attempt.steps()
+}
+
+/// How many the one evaluation of the transaction of this body and result enters.
+fn entered_of<'t>(
+    rt: &impl Abort,
+    alloc: Global,
+    body: &'t str,
+    answer: &'t str,
+) -> Result<u64, Memory> {
+    let parts = [
+        (1, "(var x 0)(tx t "),
+        (1, body),
+        (1, " "),
+        (1, answer),
+        (1, ")"),
+    ];
+    let catalogue = catalogue_of(alloc, &parts)?;
+    Ok(entered(rt, alloc, &catalogue))
+}
+
+/// It enters so many.
 fn enters(
     rt: &(impl Abort + Eprint),
     alloc: Global,
     body: &str,
     answer: &str,
     want: u64,
-) -> Result<(), Fail> {
-    let text = format!(in alloc; "(var x 0)(tx t {body} {answer})")?;
-    let catalogue = catalogue(alloc, text.as_str())?;
-    let mut attempt = first(rt, alloc, &catalogue);
-    let _ = attempt.advance();
-    assert_eq!(rt; attempt.steps(), want, "of {text}");
+) -> Result<(), Memory> {
+    let entered = entered_of(rt, alloc, body, answer)?;
+    assert_eq!(rt; entered, want, "of {body} {answer}");
     Ok(())
 }
 
 /// 1 for the body, and what is entered of the expression: nothing after a fault.
 #[test]
-fn an_operator_is_one_node_and_its_operands(rt: HostRuntime) -> Result<(), Fail> {
+fn an_operator_is_one_node_and_its_operands(rt: HostRuntime) -> Result<(), Memory> {
     for (answer, want) in [
         ("7", 2),
         ("(add 1 2)", 4),
@@ -43,29 +65,27 @@ fn an_operator_is_one_node_and_its_operands(rt: HostRuntime) -> Result<(), Fail>
 
 /// 3 more than the condition enters where it is yes, and 4 where it is no.
 #[test]
-fn a_condition_is_one_node_and_what_it_looks_at(rt: HostRuntime) -> Result<(), Fail> {
-    let alloc = rt.alloc();
-    for (test, want) in [
-        ("(eq 1 1)", 6),
-        ("(eq 2 1)", 7),
-        ("(lt 2 1)", 7),
-        ("(le 2 1)", 7),
-        ("(not (eq 1 1))", 8),
-        ("(and (eq 1 1) (eq 1 1))", 10),
-        ("(and (eq 2 1) (eq 1 1))", 8),
-        ("(or (eq 1 1) (eq 1 1))", 7),
-        ("(or (eq 2 1) (eq 1 1))", 10),
-        ("(or (eq 2 1) (eq 2 1))", 11),
+fn a_condition_is_one_node_and_what_it_looks_at(rt: HostRuntime) -> Result<(), Memory> {
+    for (body, want) in [
+        ("(if (eq 1 1) (skip) (seq (skip)))", 6),
+        ("(if (eq 2 1) (skip) (seq (skip)))", 7),
+        ("(if (lt 2 1) (skip) (seq (skip)))", 7),
+        ("(if (le 2 1) (skip) (seq (skip)))", 7),
+        ("(if (not (eq 1 1)) (skip) (seq (skip)))", 8),
+        ("(if (and (eq 1 1) (eq 1 1)) (skip) (seq (skip)))", 10),
+        ("(if (and (eq 2 1) (eq 1 1)) (skip) (seq (skip)))", 8),
+        ("(if (or (eq 1 1) (eq 1 1)) (skip) (seq (skip)))", 7),
+        ("(if (or (eq 2 1) (eq 1 1)) (skip) (seq (skip)))", 10),
+        ("(if (or (eq 2 1) (eq 2 1)) (skip) (seq (skip)))", 11),
     ] {
-        let body = format!(in alloc; "(if {test} (skip) (seq (skip)))")?;
-        enters(&rt, alloc, body.as_str(), "0", want)?;
+        enters(&rt, rt.alloc(), body, "0", want)?;
     }
     Ok(())
 }
 
 /// 1 more than the body enters where it is done, else what it enters.
 #[test]
-fn a_statement_is_one_node_and_what_it_runs(rt: HostRuntime) -> Result<(), Fail> {
+fn a_statement_is_one_node_and_what_it_runs(rt: HostRuntime) -> Result<(), Memory> {
     for (body, want) in [
         ("(skip)", 2),
         ("(set x 1)", 3),

@@ -15,7 +15,7 @@ invariant_of-self-2 c =
     let i = c.self.inside in
     let going = subst (GoesOn a.program i.log i.machine i.count i.total) needs c.self.invariant.going in
     let told : c.push.new.self ≡ a.log ++ (c.args.x, c.args.v) ∷ [] = c.in_ok-push.ensures.ok ∙ ap (λ z. a.log ++ (c.args.x, z) ∷ []) (to_z-of_z c.ranges.v) in
-    let none : a.writes ≡ [] = subst (λ (s : Stand). remaining s i.machine.writes ≡ []) (sym needs) refl in
+    let none : a.writes ≡ [] = subst (λ (s : Stand). remaining s i.machine.own.pairs ≡ []) (sym needs) refl in
     record {
       declared = c.self.invariant.declared;
       lawful =

@@ -1,18 +1,14 @@
-use Rattle.std.proofs.Common.{◌<◌, ◌∙◌, Some, ap, sym, pos, length, get_or, ℤ, rules, to_z-of_z}
-use Rattle.std.proofs.lemmas.Option.{slice_get-get_or}
-use mir.Syntax.{w64}
-use mir.Val.{SFits}
-use Rattle.txn.specs.declared.ast.VarId.{VarId}
-use Rattle.attempt.specs.Asking.{Known, known_at}
+use Rattle.std.proofs.Common.{◌∙◌, ap, sym}
+use Rattle.attempt.specs.Asking.{known_at}
+use Rattle.attempt.specs.Own.{Own}
+use Rattle.attempt.proofs.OwnTable.{known_listed, empty_known}
 use Rattle.attempt.proofs.written.Writes.find.Goals as goal
 
-pub returns-in-Ok : goal.returns-in-Ok
-returns-in-Ok c =
-    let w = c.as_slice-pairs.result.now in
-    let d : VarId × ℤ = (record { 0 = 0 }, pos 0) in
-    let i = c.in-Ok.i in
-    let lt : i < length w = c.in-Ok.ensures.taken.0 in
-    let fits : SFits w64 (get_or w i d).1 = search rules in
-    ap Some (to_z-of_z fits)
-    ∙ sym (c.in-Ok.ensures.known (get_or w i d) (slice_get-get_or w i d lt))
-    ∙ ap (λ (l : Known). known_at l c.args.x) (c.as_slice-pairs.ensures ∙ c.self.view_is)
+pub returns-then-is_empty : goal.returns-then-is_empty
+returns-then-is_empty c =
+    let w = c.self.inside.pairs.items in
+    empty_known w c.self.inside.table c.args.x (sym c.is_empty.ensures ∙ c.if-is_empty.true) c.self.invariant.listed
+    ∙ ap (λ (o : Own). known_at o.writes c.args.x) c.self.view_is
+
+pub returns : goal.returns
+returns c = c.look.ensures ∙ sym (known_listed c.self.inside.table c.args.x) ∙ ap (λ (o : Own). known_at o.writes c.args.x) c.self.view_is

@@ -1,33 +1,53 @@
-use Rattle.std.proofs.Common.{◌≡◌, ◌∙◌, length, insert, ap, subst, sym}
+use Rattle.std.proofs.Common.{◌≡◌, ◌<◌, ◌∙◌, ℤ, List, Some, length, reverse, ap, subst, arith, to_z-of_z}
 use Rattle.std.proofs.Math.ListN.{set, length-set}
 use mir.Syntax.{w64}
 use mir.Val.{to_z, of_z}
-use Rattle.smallvec.specs.SmallVec.{with_items}
-use Rattle.smallvec.proofs.SmallVecLemmas.{items-with_items}
-use Rattle.attempt.specs.Asking.{Known, write}
-use Rattle.attempt.specs.Order.{Ascending}
-use Rattle.attempt.proofs.Pairs.{Ascending-write}
+use Rattle.attempt.specs.declared.written.Branch.{Branch}
+use Rattle.attempt.specs.Asking.{write}
+use Rattle.attempt.specs.Own.{Own, AreNested, marks_of}
+use Rattle.attempt.proofs.OwnTable.{listed_write, put_listed, value_or}
+use Rattle.attempt.proofs.OwnNotes.{no_marks, noted_still}
 use Rattle.attempt.proofs.written.Writes.put.Goals as goal
 
-pub invariant_of-self : goal.invariant_of-self
-invariant_of-self c =
-    let old = c.self.inside.pairs in
-    let x = c.args.x in
-    let v = to_z w64 (of_z w64 c.args.v) in
-    let now = c.as_mut_slice.result.now in
-    let items = set now c.in-Ok.i (x, v) in
-    let written : set old.items c.in-Ok.i (x, v) ≡ write old.items x v =
-    subst (λ (l : Known). set l c.in-Ok.i (x, v) ≡ write l x v) c.as_slice.ensures (c.in-Ok.ensures.taken.1 v) in
-    let e : (with_items old items).items ≡ write old.items x v =
-    items-with_items old items (length-set now c.in-Ok.i (x, v) ∙ ap length c.as_mut_slice.ensures.value)
-    ∙ ap (λ l. set l c.in-Ok.i (x, v)) c.as_mut_slice.ensures.value ∙ written in
-    record { ascending = subst Ascending (sym e) (Ascending-write old.items x v c.self.invariant.ascending) }
+pub returns-in_err-take_note-clause-short : goal.returns-in_err-take_note-clause-short
+returns-in_err-take_note-clause-short c = λ e.
+    let i = c.self.inside in
+    let none = no_marks i.branches.items i.notes.items i.table (ap (λ (o : Own). o.marks) c.self.view_is ∙ e) in
+    absurd (cc (c.in_err-take_note.ensures.short (c.as_slice.ensures.value ∙ none)))
 
-pub invariant_of-self-in-Continue-1 : goal.invariant_of-self-in-Continue-1
-invariant_of-self-in-Continue-1 c =
-    let old = c.self.inside.pairs in
-    let x = c.args.x in
+pub list-requires-clause-there : goal.list-requires-clause-there
+list-requires-clause-there c = λ u e. c.self.invariant.listed c.args.x u (value_or c.self.inside.table c.args.x.0 ∙ e)
+
+pub invariant_of-self-2 : goal.invariant_of-self-2
+invariant_of-self-2 c =
+    let i = c.self.inside in
+    let k = c.self.invariant in
     let v = to_z w64 (of_z w64 c.args.v) in
-    let written : insert old.items c.in-Err.i (x, v) ≡ write old.items x v =
-    subst (λ (l : Known). insert l c.in-Err.i (x, v) ≡ write l x v) c.as_slice.ensures (c.in-Err.ensures.free.1 v) in
-    record { ascending = subst Ascending (sym (c.in_ok-insert-in-Err.ensures.ok ∙ written)) (Ascending-write old.items x v c.self.invariant.ascending) }
+    let now = c.list.new.pairs.items in
+    let ready = c.in_ok-take_note.ensures.ok in
+    record {
+      wide = length-set i.table c.args.x.0 (Some v) ∙ k.wide;
+      hints = c.take_note.ensures.hints ∙ k.hints;
+      ascending = c.list.ensures.ascending;
+      known = c.list.ensures.known;
+      listed = put_listed i.pairs.items i.table c.args.x (Some v) now k.listed c.list.ensures.here c.list.ensures.still;
+      noted = ready.noted now c.list.ensures.here (noted_still i.pairs.items now i.notes.items c.list.ensures.still k.noted);
+      nested = subst (λ (bs : List Branch). AreNested (length c.take_note.new.notes.items) (reverse bs)) c.as_slice.ensures.value ready.nested;
+    }
+
+pub returns-clause-value : goal.returns-clause-value
+returns-clause-value c =
+    let i = c.self.inside in
+    let lt : c.args.x.0 < length i.table = omega (arith, c.requires, c.self.invariant.wide) in
+    listed_write i.table c.args.x (to_z w64 (of_z w64 c.args.v)) lt
+    ∙ ap (λ (o : Own). write o.writes c.args.x (to_z w64 (of_z w64 c.args.v))) c.self.view_is
+    ∙ ap (λ (v : ℤ). write c.args.self.now.writes c.args.x v) (to_z-of_z c.ranges.v)
+
+pub returns-clause-marks : goal.returns-clause-marks
+returns-clause-marks c =
+    let i = c.self.inside in
+    let v = to_z w64 (of_z w64 c.args.v) in
+    let lt : c.args.x.0 < length i.table = omega (arith, c.requires, c.self.invariant.wide) in
+    let same = c.in_ok-take_note.ensures.ok.marks i.table v lt (value_or i.table c.args.x.0) in
+    subst (λ (bs : List Branch). marks_of (reverse bs) c.take_note.new.notes.items (set i.table c.args.x.0 (Some v)) ≡ marks_of (reverse bs) i.notes.items i.table) c.as_slice.ensures.value same
+    ∙ ap (λ (o : Own). o.marks) c.self.view_is

@@ -1,0 +1,9 @@
+use Rattle.std.proofs.Common.{rules}
+use Rattle.attempt.proofs.Declared.{program_known, program_small}
+use Rattle.attempt.proofs.attempt.Attempt.restart.Goals as goal
+
+pub invariant_of-self : goal.invariant_of-self
+invariant_of-self c =
+    let known = program_known c.args.catalogue.now c.args.id c.rules.ensures.names c.rules.ensures.named c.requires in
+    let small = program_small c.args.catalogue.now c.args.id c.rules.ensures.limits c.requires in
+    search (rules, known, small)
