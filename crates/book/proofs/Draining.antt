@@ -100,7 +100,7 @@ committed_tasks : (b : BookView) (task : TaskId) → (committed b task).tasks �
 unfolding committed
 committed_tasks b task = refl
 
-committed_catalogue : (b : BookView) (task : TaskId) → (committed b task).catalogue ≡ b.catalogue
+pub committed_catalogue : (b : BookView) (task : TaskId) → (committed b task).catalogue ≡ b.catalogue
 unfolding committed
 committed_catalogue b task = refl
 

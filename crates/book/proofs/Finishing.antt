@@ -77,6 +77,9 @@ module _ (b : BookView) (task : TaskId) (a new : AttemptView) (r : Next) (h : En
   pub wants_none : r ≡ next.Memory → ⊥
   wants_none e = next_memory h.end.ended.0 (sym answered.0 ∙ e)
 
+  pub only_answered : new ≡ idle a
+  only_answered = answered.1
+
   log_is : new.log ≡ a.log
   log_is = ap (λ (x : AttemptView). x.log) answered.1
 

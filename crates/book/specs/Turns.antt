@@ -9,7 +9,7 @@ use Rattle.txn.specs.Listing.{Listing, task_tx, task_program, program_at}
 use Rattle.txn.specs.Told.{Told, base_of, now_of}
 use Rattle.attempt.specs.Asking.{Known}
 use Rattle.attempt.specs.Frame.{Agrees}
-use Rattle.attempt.specs.View.{AttemptView}
+use Rattle.attempt.specs.View.{AttemptView, begun, idle}
 use Rattle.attempt.specs.declared.next.Stand.TheVariants.{Over}
 use Rattle.book.specs.declared.task.Task.{Task}
 use Rattle.book.specs.declared.task.Task.TheVariants.{Ready, Running, Parked, Done, GivenUp}
@@ -56,6 +56,14 @@ Finished old task a (finish.Committed n) new =
     × (a.stand ≢ Over Retries)
     × (n ≡ old.present.number + 1)
     × (new ≡ committed old task)
+
+-- `finish_lent`: what is left of the attempt. A parked task has its log, and the attempt is as it began; of a commit it has
+-- told the end once more
+abbrev pub IsLeft : AttemptView → Finish → AttemptView → Type 0
+IsLeft old finish.NotRunning new = new ≡ old
+IsLeft old finish.Stale new = new ≡ old
+IsLeft old finish.Parked new = new ≡ begun old
+IsLeft old (finish.Committed n) new = new ≡ idle old
 
 -- `serial`: a turn of the task on the present values
 abbrev pub Served : BookView → TaskId → Serial → BookView → Type 0

@@ -12,7 +12,6 @@ use crate::task::{Task, stand};
 use attempt::Log;
 use std::alloc::{AllocError, Global};
 use std::marker::Model;
-use std::mem;
 use task_set::TaskSet;
 use txn::{TaskId, VarId};
 
@@ -105,8 +104,11 @@ impl Board {
         requires known { AllKnown self.old.variables log }
         ensures { self.new ≡ placed self.old task (Task.Parked log) }
     {
-        enter(&mut self.sleepers, log.as_slice(), task.0 as usize);
         stand(&mut self.tasks, task, Task::Parked(log));
+        let Task::Parked(log) = &self.tasks[task.0 as usize] else {
+            unreachable!()
+        };
+        enter(&mut self.sleepers, log.as_slice(), task.0 as usize);
     }
 
     /// Each running task is ready.
@@ -146,11 +148,11 @@ impl Board {
         requires { IsParked (slice_get self.old.tasks task.0) }
         ensures { self.new ≡ placed self.old task Task.Ready }
     {
-        let stood = mem::replace(&mut self.tasks[task.0 as usize], Task::Ready);
-        let Task::Parked(log) = stood else {
+        let Task::Parked(log) = &self.tasks[task.0 as usize] else {
             unreachable!()
         };
         leave(&mut self.sleepers, log.as_slice(), task.0 as usize);
+        stand(&mut self.tasks, task, Task::Ready);
         self.ready.insert(task.0 as usize);
     }
 

@@ -62,7 +62,7 @@ impl<'a> Book<'a> {
     ghost use Rattle.book.specs.declared.task.Task.TheVariants as Task;
     ghost use Rattle.txn.specs.Told.{told};
     ghost use Rattle.book.specs.View.{opened, IsRunning, stands, committed, checkpointed};
-    ghost use Rattle.book.specs.Turns.{Taken, IsEndOf, Finished, Served, Turn, Drains, kept_short, readied, IsIdle, ReportIs};
+    ghost use Rattle.book.specs.Turns.{Taken, IsEndOf, Finished, IsLeft, Served, Turn, Drains, kept_short, readied, IsIdle, ReportIs};
     ghost use Rattle.book.specs.LawfulBook.{LawfulBook, BookFits, Waits};
 
     /// All tasks ready, number 0, the initial values, an empty journal. `Memory` only where a
@@ -99,7 +99,8 @@ impl<'a> Book<'a> {
     /// The lowest ready task, which is then running. `None` exactly if none is ready. It takes no
     /// memory.
     pub fn take(&mut self) -> Option<TaskId>
-        ensures { Taken self.old result self.new }
+        ensures taken { Taken self.old result self.new }
+        ensures catalogue { self.new.catalogue ≡ self.old.catalogue }
     {
         self.board.take()
     }
@@ -109,10 +110,24 @@ impl<'a> Book<'a> {
     ///
     /// Each attempt is validated by value: every logged value has to be the present one. The
     /// task has to exist, and the attempt to be of its transaction and to have ended.
-    pub fn finish(&mut self, task: TaskId, attempt: Attempt<'_>) -> Finish
+    pub fn finish(&mut self, task: TaskId, mut attempt: Attempt<'_>) -> Finish
         requires exists { task.0 < length self.old.tasks }
         requires ended { IsEndOf self.old.catalogue task attempt }
-        ensures { Finished self.old task attempt.entry result self.new }
+        ensures finished { Finished self.old task attempt.entry result self.new }
+        ensures catalogue { self.new.catalogue ≡ self.old.catalogue }
+    {
+        self.finish_lent(task, &mut attempt)
+    }
+
+    /// As `finish`, of an attempt that the caller keeps, so that it can be restarted. Where the
+    /// task is parked the attempt's log is taken out of it, and it is as it began; after a commit
+    /// it has answered once more; else it is as it was.
+    pub fn finish_lent(&mut self, task: TaskId, attempt: &mut Attempt<'_>) -> Finish
+        requires exists { task.0 < length self.old.tasks }
+        requires ended { IsEndOf self.old.catalogue task attempt.old }
+        ensures finished { Finished self.old task attempt.old result self.new }
+        ensures left { IsLeft attempt.old result attempt.new }
+        ensures catalogue { self.new.catalogue ≡ self.old.catalogue }
     {
         if !self.board.is_running(task) {
             return Finish::NotRunning;
@@ -120,12 +135,11 @@ impl<'a> Book<'a> {
         if !agrees(attempt.log(), &self.present.values) {
             return Finish::Stale;
         }
-        let mut attempt = attempt;
         let how = match attempt.advance() {
             Next::Returned(value) => Outcome::Returned(value),
             Next::Thrown(fault) => Outcome::Thrown(fault),
             Next::Retry => {
-                self.park(task, attempt.into_log());
+                self.park(task, attempt.take_log());
                 return Finish::Parked;
             }
             Next::Need(_) | Next::Memory => unreachable!(),
@@ -137,18 +151,30 @@ impl<'a> Book<'a> {
     /// retries. After want of memory the task is given up.
     pub fn serial(&mut self, alloc: Global, task: TaskId) -> Serial
         requires exists { task.0 < length self.old.tasks }
-        ensures { Served self.old task result self.new }
+        ensures served { Served self.old task result self.new }
+        ensures catalogue { self.new.catalogue ≡ self.old.catalogue }
+    {
+        let catalogue = self.catalogue;
+        let mut attempt = Attempt::new(alloc, catalogue, catalogue.task_tx(task));
+        self.serve(&mut attempt, task)
+    }
+
+    /// A turn of the task, by an attempt that is restarted for it.
+    fn serve(&mut self, attempt: &mut Attempt<'a>, task: TaskId) -> Serial
+        requires exists { task.0 < length self.old.tasks }
+        ensures served { Served self.old task result self.new }
+        ensures catalogue { self.new.catalogue ≡ self.old.catalogue }
     {
         if !self.board.is_running(task) {
             return Serial::NotRunning;
         }
         let catalogue = self.catalogue;
         let tx = catalogue.task_tx(task);
-        let Ok(attempt) = evaluate(alloc, catalogue, tx, &self.present.values) else {
+        let Ok(_) = evaluate(attempt, catalogue, tx, &self.present.values) else {
             let _ = self.give_up(task);
             return Serial::Abandoned;
         };
-        match self.finish(task, attempt) {
+        match self.finish_lent(task, attempt) {
             Finish::NotRunning | Finish::Stale => unreachable!(),
             Finish::Parked => Serial::Parked,
             Finish::Committed(number) => Serial::Committed(number),
@@ -159,7 +185,8 @@ impl<'a> Book<'a> {
     /// running. It takes no memory.
     pub fn give_up(&mut self, task: TaskId) -> bool
         requires exists { task.0 < length self.old.tasks }
-        ensures { MatchBool result (IsRunning self.old task × (self.new ≡ stands self.old task Task.GivenUp)) (¬ (IsRunning self.old task) × (self.new ≡ self.old)) }
+        ensures given_up { MatchBool result (IsRunning self.old task × (self.new ≡ stands self.old task Task.GivenUp)) (¬ (IsRunning self.old task) × (self.new ≡ self.old)) }
+        ensures catalogue { self.new.catalogue ≡ self.old.catalogue }
     {
         if !self.board.is_running(task) {
             return false;
@@ -171,7 +198,8 @@ impl<'a> Book<'a> {
     /// The base becomes the present number, values and versions, and the journal is empty. It
     /// takes no memory.
     pub fn checkpoint(&mut self)
-        ensures { self.new ≡ checkpointed self.old }
+        ensures checkpointed { self.new ≡ checkpointed self.old }
+        ensures catalogue { self.new.catalogue ≡ self.old.catalogue }
     {
         self.base.number = self.present.number;
         self.base.values.copy_from_slice(&self.present.values);
@@ -182,7 +210,8 @@ impl<'a> Book<'a> {
     /// A checkpoint, where one is due after a turn that answered so: it committed, `every` is not
     /// 0, and the journal is at least `every` entries long.
     pub fn keep_short(&mut self, every: u32, how: Serial)
-        ensures { self.new ≡ kept_short every how self.old }
+        ensures kept_short { self.new ≡ kept_short every how self.old }
+        ensures catalogue { self.new.catalogue ≡ self.old.catalogue }
     {
         if is_committed(how) && every > 0 && self.journal.len() >= every as usize {
             self.checkpoint();
@@ -197,6 +226,7 @@ impl<'a> Book<'a> {
     pub fn drain(&mut self, alloc: Global, every: u32)
         ensures turns { Drains every (readied self.old) self.new }
         ensures idle { IsIdle self.new }
+        ensures catalogue { self.new.catalogue ≡ self.old.catalogue }
     {
         self.make_ready();
         while let Some(task) = self.take() {

@@ -1,6 +1,6 @@
 //! Attempts on what passes read of the cells that the book publishes to.
 
-ghost use Rattle.std.specs.Prelude.{◌≡◌, ◌<◌, length, All, IfOk};
+ghost use Rattle.std.specs.Prelude.{◌≡◌, ◌<◌, length, All};
 ghost use Rattle.book.specs.Turns.{IsEndOf};
 
 use crate::parts::{X, increments};
@@ -10,8 +10,7 @@ use book::{Book, Finish};
 use cells::{Cells, Pass, Read};
 use std::alloc::Global;
 use std::process::Abort;
-use std::test::Fail;
-use txn::{Catalogue, Memory, TaskId};
+use txn::{Catalogue, TaskId};
 
 /// An attempt of a task, on the value of x that the pass reads. It is this one.
 fn read<'c>(
@@ -22,17 +21,17 @@ fn read<'c>(
     pass: &mut Pass,
     task: TaskId,
     value: i64,
-) -> Result<Attempt<'c>, Memory>
+) -> Attempt<'c>
     requires own { pass.old.cells ≡ cells.now }
     requires exists { 0 < cells.now.variables }
     ensures own { pass.new.cells ≡ pass.old.cells }
-    ensures ended { IfOk result (λ a. IsEndOf catalogue.now task a) }
+    ensures ended { IsEndOf catalogue.now task result }
 {
     pass.begin(cells);
     assert_eq!(rt; pass.read(cells, X), Read::Value(value));
-    let attempt = ended(rt, alloc, catalogue, task, &[value])?;
+    let attempt = ended(rt, alloc, catalogue, task, &[value]);
     assert_eq!(rt; attempt.log(), [(X, value)].as_slice());
-    Ok(attempt)
+    attempt
 }
 
 /// Two tasks read 5, each on its own pass. The first to finish commits.
@@ -44,7 +43,7 @@ fn two_attempts(
     cells: &Cells,
     first: &mut Pass,
     second: &mut Pass,
-) -> Result<(), Memory>
+)
     requires first { first.old.cells ≡ cells.now }
     requires second { second.old.cells ≡ cells.now }
     requires exists { 0 < cells.now.variables }
@@ -52,11 +51,10 @@ fn two_attempts(
 {
     takes(rt, book, TaskId(0));
     takes(rt, book, TaskId(1));
-    let sooner = read(rt, alloc, catalogue, cells, first, TaskId(0), 5)?;
-    let later = read(rt, alloc, catalogue, cells, second, TaskId(1), 5)?;
+    let sooner = read(rt, alloc, catalogue, cells, first, TaskId(0), 5);
+    let later = read(rt, alloc, catalogue, cells, second, TaskId(1), 5);
     ends(rt, book, catalogue, TaskId(0), sooner, Finish::Committed(1));
     ends(rt, book, catalogue, TaskId(1), later, Finish::Stale);
-    Ok(())
 }
 
 /// The second task reads on: its pass is stale, and after a begin x is 6.
@@ -67,17 +65,16 @@ fn one_more_attempt(
     catalogue: &Catalogue,
     cells: &Cells,
     pass: &mut Pass,
-) -> Result<(), Memory>
+)
     requires own { pass.old.cells ≡ cells.now }
     requires exists { 0 < cells.now.variables }
 {
     assert!(rt; pass.is_open());
     assert_eq!(rt; pass.read(cells, X), Read::Stale);
-    let again = read(rt, alloc, catalogue, cells, pass, TaskId(1), 6)?;
+    let again = read(rt, alloc, catalogue, cells, pass, TaskId(1), 6);
     ends(rt, book, catalogue, TaskId(1), again, Finish::Committed(2));
-    let late = ended(rt, alloc, catalogue, TaskId(0), &[7])?;
+    let late = ended(rt, alloc, catalogue, TaskId(0), &[7]);
     ends(rt, book, catalogue, TaskId(0), late, Finish::NotRunning);
-    Ok(())
 }
 
 /// Both, one after the other.
@@ -88,7 +85,7 @@ fn attempts_on_two_passes(
     catalogue: &Catalogue,
     cells: &Cells,
     mut passes: Vec<Pass>,
-) -> Result<(), Memory>
+)
     requires own { All (λ p. p.cells ≡ cells.now) passes.items }
     requires exists { 0 < cells.now.variables }
 {
@@ -103,26 +100,28 @@ fn attempts_on_two_passes(
         cells,
         &mut first,
         &mut second,
-    )?;
-    one_more_attempt(rt, alloc, &mut book, catalogue, cells, &mut second)
+    );
+    one_more_attempt(rt, alloc, &mut book, catalogue, cells, &mut second);
 }
 
 /// A book of the catalogue, and two passes.
-fn beside_a_book(rt: &impl Abort, alloc: Global, catalogue: &Catalogue) -> Result<(), Memory>
+fn beside_a_book(rt: &impl Abort, alloc: Global, catalogue: &Catalogue)
     requires { 0 < length catalogue.now.initial }
 {
-    let (cells, publisher, passes) = Cells::open(alloc, catalogue.initial(), 2)?;
-    let book = Book::open(alloc, catalogue, &cells, publisher)?;
-    attempts_on_two_passes(rt, alloc, book, catalogue, &cells, passes)
+    let Ok((cells, publisher, passes)) = Cells::open(alloc, catalogue.initial(), 2) else {
+        panic!(rt; "no cells")
+    };
+    match Book::open(alloc, catalogue, &cells, publisher) {
+        Ok(book) => attempts_on_two_passes(rt, alloc, book, catalogue, &cells, passes),
+        Err(_) => panic!(rt; "no book"),
+    }
 }
 
 #[test]
-fn a_finish_on_old_values_is_stale(rt: HostRuntime) -> Result<(), Fail> {
-    let alloc = rt.alloc();
-    let catalogue = increments(alloc, 2)?;
+fn a_finish_on_old_values_is_stale(rt: HostRuntime) {
+    let catalogue = increments(&rt, rt.alloc(), 2);
     assert_eq!(rt; catalogue.initial().len(), 1);
-    beside_a_book(&rt, alloc, &catalogue)?;
-    Ok(())
+    beside_a_book(&rt, rt.alloc(), &catalogue);
 }
 
 /// A pass that is open, is closed by a meeting.
@@ -135,16 +134,17 @@ fn meets(rt: &impl Abort, book: &mut Book<'_>, cells: &Cells, pass: &mut Pass)
     assert!(rt; !pass.is_open());
 }
 
-fn meets_a_book(rt: &impl Abort, alloc: Global, catalogue: &Catalogue) -> Result<(), Memory> {
-    let (cells, publisher, mut passes) = Cells::open(alloc, catalogue.initial(), 1)?;
-    let mut book = Book::open(alloc, catalogue, &cells, publisher)?;
-    meets(rt, &mut book, &cells, &mut passes[0]);
-    Ok(())
+fn meets_a_book(rt: &impl Abort, alloc: Global, catalogue: &Catalogue) {
+    let Ok((cells, publisher, mut passes)) = Cells::open(alloc, catalogue.initial(), 1) else {
+        panic!(rt; "no cells")
+    };
+    match Book::open(alloc, catalogue, &cells, publisher) {
+        Ok(mut book) => meets(rt, &mut book, &cells, &mut passes[0]),
+        Err(_) => panic!(rt; "no book"),
+    }
 }
 
 #[test]
-fn a_meeting_closes_a_pass(rt: HostRuntime) -> Result<(), Fail> {
-    let catalogue = increments(rt.alloc(), 1)?;
-    meets_a_book(&rt, rt.alloc(), &catalogue)?;
-    Ok(())
+fn a_meeting_closes_a_pass(rt: HostRuntime) {
+    meets_a_book(&rt, rt.alloc(), &increments(&rt, rt.alloc(), 1));
 }

@@ -6,6 +6,8 @@ mod ample;
 #[cfg(test)]
 mod beside;
 #[cfg(test)]
+mod lent;
+#[cfg(test)]
 mod opening;
 #[cfg(test)]
 mod parts;

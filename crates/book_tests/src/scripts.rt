@@ -1,18 +1,18 @@
 //! Turns of the tasks of a book that was just opened, worked out by hand, and what is left where
 //! memory is refused.
 
-use crate::parts::{increments, large, waiting};
-use crate::steps::{ended, ends, exists, gives_up, takes, tells_x, turns};
+use crate::ample::{commits_all, runs_all};
+use crate::parts::{increments, on_all, waiting};
+use crate::steps::{ended, ends, exists, gives_up, report_of, takes, tells_x, turns};
 use book::{Book, Finish, Serial};
 use cells::Cells;
 use std::alloc::Global;
 use std::process::Abort;
-use std::test::Fail;
 use txn::{Catalogue, Entry, Outcome, TaskId, TxId};
 
 /// What is done with a book that was just opened.
 #[derive(Clone, Copy)]
-enum Script {
+pub(crate) enum Script {
     Drains,
     TellsEntry,
     Wakes,
@@ -21,13 +21,39 @@ enum Script {
     IsFor,
     MeetsWantOfMemory,
     ReportsTwice,
+    CommitsAll,
+    RunsAll,
+}
+
+/// The catalogue that a book is of.
+pub(crate) enum Of {
+    /// So many increments of x.
+    Increments(u32),
+    /// One task that waits, and those that it may wait for.
+    Waiting,
+    /// So many variables, and so many tasks that add 1 to each.
+    OnAll(u32, u32),
+}
+
+/// Opens a book of that catalogue, and follows the script.
+pub(crate) fn expect(rt: &impl Abort, alloc: Global, of: Of, script: Script) {
+    let catalogue = match of {
+        Of::Increments(runs) => increments(rt, alloc, runs),
+        Of::Waiting => waiting(rt, alloc),
+        Of::OnAll(variables, runs) => on_all(rt, alloc, variables, runs),
+    };
+    over(rt, alloc, &catalogue, script);
 }
 
 /// Opens a book of the catalogue, and follows the script.
-fn over(rt: &impl Abort, alloc: Global, catalogue: &Catalogue, script: Script) -> Result<(), Fail> {
-    let (cells, publisher, _) = Cells::open(alloc, catalogue.initial(), 0)?;
-    let mut book = Book::open(alloc, catalogue, &cells, publisher)?;
-    follow(rt, alloc, &mut book, catalogue, script)
+fn over(rt: &impl Abort, alloc: Global, catalogue: &Catalogue, script: Script) {
+    let Ok((cells, publisher, _)) = Cells::open(alloc, catalogue.initial(), 0) else {
+        panic!(rt; "no cells")
+    };
+    match Book::open(alloc, catalogue, &cells, publisher) {
+        Ok(mut book) => follow(rt, alloc, &mut book, catalogue, script),
+        Err(_) => panic!(rt; "no book"),
+    }
 }
 
 fn follow(
@@ -36,38 +62,34 @@ fn follow(
     book: &mut Book<'_>,
     catalogue: &Catalogue,
     script: Script,
-) -> Result<(), Fail> {
+) {
     match script {
         Script::Drains => drains(rt, alloc, book),
         Script::TellsEntry => tells_entry(rt, alloc, book),
-        Script::Wakes => {
-            wakes(rt, alloc, book, catalogue);
-            Ok(())
-        }
+        Script::Wakes => wakes(rt, alloc, book, catalogue),
         Script::ComesBack => comes_back(rt, alloc, book, catalogue),
         Script::GivesUp => gives_up_once(rt, alloc, book, catalogue),
         Script::IsFor => is_for(rt, alloc, book),
         Script::MeetsWantOfMemory => meets_want_of_memory(rt, alloc, book, catalogue),
-        Script::ReportsTwice => {
-            reports_twice(rt, alloc, book);
-            Ok(())
-        }
+        Script::ReportsTwice => reports_twice(rt, alloc, book),
+        Script::CommitsAll => commits_all(rt, alloc, book, catalogue),
+        Script::RunsAll => runs_all(rt, alloc, book),
     }
 }
 
 /// Three increments, of which one is under way.
-fn drains(rt: &impl Abort, alloc: Global, book: &mut Book<'_>) -> Result<(), Fail> {
+fn drains(rt: &impl Abort, alloc: Global, book: &mut Book<'_>) {
     takes(rt, book, TaskId(0));
     book.drain(alloc, 2);
     assert_eq!(rt; book.journal_len(), 1);
-    tells_x(rt, alloc, book, (2, 7, 2), 1, (3, 8, 3))?;
+    tells_x(rt, alloc, book, (2, 7, 2), 1, (3, 8, 3));
     book.checkpoint();
-    tells_x(rt, alloc, book, (3, 8, 3), 0, (3, 8, 3))
+    tells_x(rt, alloc, book, (3, 8, 3), 0, (3, 8, 3));
 }
 
-fn tells_entry(rt: &impl Abort, alloc: Global, book: &mut Book<'_>) -> Result<(), Fail> {
+fn tells_entry(rt: &impl Abort, alloc: Global, book: &mut Book<'_>) {
     book.drain(alloc, 0);
-    let report = book.report(alloc)?;
+    let report = report_of(rt, alloc, book);
     let entry = Entry {
         number: 1,
         task: TaskId(0),
@@ -75,7 +97,6 @@ fn tells_entry(rt: &impl Abort, alloc: Global, book: &mut Book<'_>) -> Result<()
         outcome: Outcome::Returned(6),
     };
     assert_eq!(rt; report.entries.as_slice(), [entry].as_slice());
-    Ok(())
 }
 
 fn wakes(rt: &impl Abort, alloc: Global, book: &mut Book<'_>, catalogue: &Catalogue) {
@@ -91,50 +112,37 @@ fn wakes(rt: &impl Abort, alloc: Global, book: &mut Book<'_>, catalogue: &Catalo
 }
 
 /// x is 5, then 6, then 5.
-fn comes_back(
-    rt: &impl Abort,
-    alloc: Global,
-    book: &mut Book<'_>,
-    catalogue: &Catalogue,
-) -> Result<(), Fail> {
+fn comes_back(rt: &impl Abort, alloc: Global, book: &mut Book<'_>, catalogue: &Catalogue) {
     takes(rt, book, TaskId(0));
     takes(rt, book, TaskId(1));
     takes(rt, book, TaskId(2));
     takes(rt, book, TaskId(3));
-    let early = ended(rt, alloc, catalogue, TaskId(0), &[5, 0])?;
+    let early = ended(rt, alloc, catalogue, TaskId(0), &[5, 0]);
     turns(rt, alloc, book, catalogue, TaskId(2), Serial::Committed(1));
     turns(rt, alloc, book, catalogue, TaskId(3), Serial::Committed(2));
     ends(rt, book, catalogue, TaskId(0), early, Finish::Parked);
-    tells_x(rt, alloc, book, (0, 5, 0), 2, (2, 5, 2))?;
-    let report = book.report(alloc)?;
+    tells_x(rt, alloc, book, (0, 5, 0), 2, (2, 5, 2));
+    let report = report_of(rt, alloc, book);
     assert_eq!(rt; report.parked.as_slice(), [(TaskId(0), TxId(0))].as_slice());
-    Ok(())
 }
 
-fn gives_up_once(
-    rt: &impl Abort,
-    alloc: Global,
-    book: &mut Book<'_>,
-    catalogue: &Catalogue,
-) -> Result<(), Fail> {
+fn gives_up_once(rt: &impl Abort, alloc: Global, book: &mut Book<'_>, catalogue: &Catalogue) {
     gives_up(rt, book, catalogue, TaskId(0), false);
     takes(rt, book, TaskId(0));
     gives_up(rt, book, catalogue, TaskId(0), true);
     gives_up(rt, book, catalogue, TaskId(0), false);
     book.drain(alloc, 0);
-    let report = book.report(alloc)?;
+    let report = report_of(rt, alloc, book);
     assert_eq!(rt; report.now, 1);
     assert_eq!(rt; report.memory.as_slice(), [(TaskId(0), TxId(0))].as_slice());
-    Ok(())
 }
 
 /// The book is of two increments.
-fn is_for(rt: &impl Abort, alloc: Global, book: &Book<'_>) -> Result<(), Fail> {
-    let twin = increments(alloc, 2)?;
+fn is_for(rt: &impl Abort, alloc: Global, book: &Book<'_>) {
+    let twin = increments(rt, alloc, 2);
     assert!(rt; book.is_for(&twin));
-    let other = increments(alloc, 3)?;
+    let other = increments(rt, alloc, 3);
     assert!(rt; !book.is_for(&other));
-    Ok(())
 }
 
 /// Whether a turn of task 0 commits. `false` only where memory is refused, and then it is given up.
@@ -151,14 +159,13 @@ fn meets_want_of_memory(
     alloc: Global,
     book: &mut Book<'_>,
     catalogue: &Catalogue,
-) -> Result<(), Fail> {
+) {
     takes(rt, book, TaskId(0));
     let committed = commits(rt, alloc, book, catalogue);
     gives_up(rt, book, catalogue, TaskId(0), false);
-    let report = book.report(alloc)?;
+    let report = report_of(rt, alloc, book);
     assert_eq!(rt; report.entries.is_empty(), !committed);
     assert_eq!(rt; report.memory.is_empty(), committed);
-    Ok(())
 }
 
 /// Of two reports one is refused at most, and the journal stays.
@@ -171,56 +178,41 @@ fn reports_twice(rt: &impl Abort, alloc: Global, book: &mut Book<'_>) {
 }
 
 #[test]
-fn a_drain_keeps_the_journal_short(rt: HostRuntime) -> Result<(), Fail> {
-    over(&rt, rt.alloc(), &increments(rt.alloc(), 3)?, Script::Drains)
+fn a_drain_keeps_the_journal_short(rt: HostRuntime) {
+    expect(&rt, rt.alloc(), Of::Increments(3), Script::Drains);
 }
 
 #[test]
-fn a_report_tells_the_entry(rt: HostRuntime) -> Result<(), Fail> {
-    over(
-        &rt,
-        rt.alloc(),
-        &increments(rt.alloc(), 1)?,
-        Script::TellsEntry,
-    )
+fn a_report_tells_the_entry(rt: HostRuntime) {
+    expect(&rt, rt.alloc(), Of::Increments(1), Script::TellsEntry);
 }
 
 #[test]
-fn a_commit_wakes_by_what_it_changes(rt: HostRuntime) -> Result<(), Fail> {
-    over(&rt, rt.alloc(), &waiting(rt.alloc())?, Script::Wakes)
+fn a_commit_wakes_by_what_it_changes(rt: HostRuntime) {
+    expect(&rt, rt.alloc(), Of::Waiting, Script::Wakes);
 }
 
 #[test]
-fn a_value_that_comes_back_validates(rt: HostRuntime) -> Result<(), Fail> {
-    over(&rt, rt.alloc(), &waiting(rt.alloc())?, Script::ComesBack)
+fn a_value_that_comes_back_validates(rt: HostRuntime) {
+    expect(&rt, rt.alloc(), Of::Waiting, Script::ComesBack);
 }
 
 #[test]
-fn a_task_is_given_up_once(rt: HostRuntime) -> Result<(), Fail> {
-    over(
-        &rt,
-        rt.alloc(),
-        &increments(rt.alloc(), 2)?,
-        Script::GivesUp,
-    )
+fn a_task_is_given_up_once(rt: HostRuntime) {
+    expect(&rt, rt.alloc(), Of::Increments(2), Script::GivesUp);
 }
 
 #[test]
-fn a_book_is_for_an_equal_catalogue(rt: HostRuntime) -> Result<(), Fail> {
-    over(&rt, rt.alloc(), &increments(rt.alloc(), 2)?, Script::IsFor)
+fn a_book_is_for_an_equal_catalogue(rt: HostRuntime) {
+    expect(&rt, rt.alloc(), Of::Increments(2), Script::IsFor);
 }
 
 #[test]
-fn a_turn_without_memory_gives_the_task_up(rt: HostRuntime) -> Result<(), Fail> {
-    over(
-        &rt,
-        rt.alloc(),
-        &large(rt.alloc())?,
-        Script::MeetsWantOfMemory,
-    )
+fn a_turn_without_memory_gives_the_task_up(rt: HostRuntime) {
+    expect(&rt, rt.alloc(), Of::OnAll(20, 1), Script::MeetsWantOfMemory);
 }
 
 #[test]
-fn a_refused_report_changes_nothing(rt: HostRuntime) -> Result<(), Fail> {
-    over(&rt, rt.alloc(), &waiting(rt.alloc())?, Script::ReportsTwice)
+fn a_refused_report_changes_nothing(rt: HostRuntime) {
+    expect(&rt, rt.alloc(), Of::Waiting, Script::ReportsTwice);
 }

@@ -1,14 +1,13 @@
 //! One call of a book, and what it has to answer.
 
-ghost use Rattle.std.specs.Prelude.{◌≡◌, ◌<◌, length, IfOk};
+ghost use Rattle.std.specs.Prelude.{◌≡◌, ◌<◌, length};
 ghost use Rattle.book.specs.Turns.{IsEndOf};
 
 use attempt::{Attempt, Next};
 use book::{Book, Finish, Serial};
 use std::alloc::Global;
 use std::process::Abort;
-use std::test::Fail;
-use txn::{Catalogue, Memory, TaskId};
+use txn::{Catalogue, Memory, Report, TaskId};
 
 /// Stops the test where the book is not of the catalogue or the task does not exist.
 pub(crate) fn exists(rt: &impl Abort, book: &Book<'_>, catalogue: &Catalogue, task: TaskId)
@@ -65,6 +64,21 @@ pub(crate) fn ends(
     assert_eq!(rt; book.finish(task, attempt), how);
 }
 
+/// The end of an attempt of the task, which is lent, answers so.
+pub(crate) fn ends_lent(
+    rt: &impl Abort,
+    book: &mut Book<'_>,
+    catalogue: &Catalogue,
+    task: TaskId,
+    attempt: &mut Attempt<'_>,
+    how: Finish,
+)
+    requires { IsEndOf catalogue.now task attempt.old }
+{
+    exists(rt, book, catalogue, task);
+    assert_eq!(rt; book.finish_lent(task, attempt), how);
+}
+
 /// Tells the attempt what it needs of these values.
 fn tell(rt: &impl Abort, attempt: &mut Attempt<'_>, values: &[i64]) -> Result<(), Memory>
     ensures program { attempt.new.program ≡ attempt.old.program }
@@ -87,18 +101,40 @@ pub(crate) fn ended<'c>(
     catalogue: &'c Catalogue,
     task: TaskId,
     values: &[i64],
-) -> Result<Attempt<'c>, Memory>
-    ensures { IfOk result (λ a. IsEndOf catalogue.now task a) }
+) -> Attempt<'c>
+    ensures { IsEndOf catalogue.now task result }
 {
     assert!(rt; (task.0 as usize) < catalogue.tasks());
     let mut attempt = Attempt::new(alloc, catalogue, catalogue.task_tx(task));
-    tell(rt, &mut attempt, values)?;
+    ends_anew(rt, &mut attempt, catalogue, task, values);
+    attempt
+}
+
+/// The attempt is restarted as one of the task, and ends on these values.
+pub(crate) fn ends_anew<'c>(
+    rt: &impl Abort,
+    attempt: &mut Attempt<'c>,
+    catalogue: &'c Catalogue,
+    task: TaskId,
+    values: &[i64],
+)
+    ensures { IsEndOf catalogue.now task attempt.new }
+{
+    assert!(rt; (task.0 as usize) < catalogue.tasks());
+    attempt.restart(catalogue, catalogue.task_tx(task));
+    assert!(rt; tell(rt, attempt, values).is_ok());
     match attempt.advance() {
         Next::Need(_) => panic!(rt; "a value is missing"),
-        Next::Memory => Err(Memory),
-        Next::Returned(_) => Ok(attempt),
-        Next::Thrown(_) => Ok(attempt),
-        Next::Retry => Ok(attempt),
+        Next::Memory => panic!(rt; "no memory"),
+        Next::Returned(_) | Next::Thrown(_) | Next::Retry => {}
+    }
+}
+
+/// The report of the book.
+pub(crate) fn report_of(rt: &impl Abort, alloc: Global, book: &Book<'_>) -> Report {
+    match book.report(alloc) {
+        Ok(report) => report,
+        Err(_) => panic!(rt; "no report"),
     }
 }
 
@@ -111,12 +147,11 @@ pub(crate) fn tells_x(
     base: (u64, i64, u64),
     entries: usize,
     now: (u64, i64, u64),
-) -> Result<(), Fail> {
-    let report = book.report(alloc)?;
+) {
+    let report = report_of(rt, alloc, book);
     assert_eq!(rt; report.base, base.0);
     assert_eq!(rt; report.base_vars.first(), Some(&(base.1, base.2)));
     assert_eq!(rt; report.entries.len(), entries);
     assert_eq!(rt; report.now, now.0);
     assert_eq!(rt; report.now_vars.first(), Some(&(now.1, now.2)));
-    Ok(())
 }

@@ -1,13 +1,22 @@
-use Rattle.std.proofs.Common.{◌≡◌, ℕ, Bool, true, List, [], Some, get_or, refl, sym, ◌∙◌, ap, subst}
+use Rattle.std.proofs.Common.{◌≡◌, ◌<◌, ℕ, Bool, true, List, [], Some, length, set, get_or, refl, sym, ◌∙◌, ap, subst}
 use Rattle.std.specs.List.{slice_get}
+use Rattle.std.proofs.lemmas.Option.{same_Some, slice_get_within, slice_get_read}
 use Rattle.attempt.specs.Asking.{Known}
 use Rattle.attempt.specs.Order.{AllKnown}
 use Rattle.book.specs.declared.task.Task.{Task}
-use Rattle.book.specs.declared.task.Task.TheVariants.{Running}
+use Rattle.book.specs.declared.task.Task.TheVariants.{Running, Parked}
 use Rattle.book.specs.Board.{BoardView, flagged}
 use Rattle.book.specs.BoardInside.{AreSets}
+use Rattle.book.proofs.Lists.{get_set_same}
 use Rattle.book.proofs.Sets.{sets_park}
 use Rattle.book.proofs.board.Board.park.Goals as goal
+
+-- what was put there is found there
+same_log : (old new : List Task) (t : ℕ) (log found : Known) → slice_get old t ≡ Some Running → new ≡ set old t (Parked log) → (t < length new → slice_get new t ≡ Some (Parked found)) → found ≡ log
+same_log old new t log found at is read =
+    let there : slice_get new t ≡ Some (Parked log) = ap (λ (ts : List Task). slice_get ts t) is ∙ get_set_same old t Running (Parked log) at in
+    let same : Parked found ≡ Parked log = same_Some _ _ (sym (read (slice_get_within new t (Parked log) there)) ∙ there) in
+    cc
 
 pub invariant_of-self : goal.invariant_of-self
 invariant_of-self c =
@@ -15,7 +24,10 @@ invariant_of-self c =
     let t = c.args.task.0 in
     let at : slice_get s.tasks.items t ≡ Some Running = ap (λ (b : BoardView). slice_get b.tasks t) c.self.view_is ∙ c.requires.running in
     let known = subst (λ (b : BoardView). AllKnown b.variables c.args.log) (sym c.self.view_is) c.requires.known in
+    let same : c.in-Parked.log ≡ c.args.log =
+    same_log s.tasks.items c.stand.new.tasks.items t c.args.log c.in-Parked.log at c.stand.ensures
+    (λ less. slice_get_read c.stand.new.tasks.items (length c.stand.new.tasks.items) t c.index.result.now refl less c.index.ensures ∙ ap Some c.in-Parked.is) in
     subst (λ (ts : List Task). AreSets ts s.ready c.enter.new.sleepers.items) (sym c.stand.ensures)
     (sets_park s.tasks.items s.ready s.sleepers.items c.enter.new.sleepers.items t c.args.log c.self.invariant at c.enter.ensures.size
-    (λ x. c.enter.ensures.each x ∙ ap (λ (log : Known). flagged true log t x (get_or s.sleepers.items x [])) c.as_slice.ensures)
+    (λ x. c.enter.ensures.each x ∙ ap (λ (log : Known). flagged true log t x (get_or s.sleepers.items x [])) (c.as_slice.ensures ∙ same))
     known)

@@ -16,7 +16,7 @@ invariant_of-self c =
     let parked : slice_get s.tasks.items t ≡ Some (Parked c.requires.0) = ap (λ (b : BoardView). slice_get b.tasks t) c.self.view_is ∙ c.requires.1 in
     let within = slice_get_within s.tasks.items t (Parked c.requires.0) parked in
     let at : slice_get s.tasks.items t ≡ Some (Parked c.in-Parked.log) =
-    slice_get_read s.tasks.items (length s.tasks.items) t c.index_mut.result.now refl within c.index_mut.ensures.value ∙ ap Some (sym c.replace-stood.ensures.value ∙ c.in-Parked.is) in
-    subst (λ (how : Task). AreSets (set s.tasks.items t how) c.insert.new.self c.leave.new.sleepers.items) (sym c.replace-stood.ensures.after)
+    slice_get_read s.tasks.items (length s.tasks.items) t c.index.result.now refl within c.index.ensures ∙ ap Some c.in-Parked.is in
+    subst (λ (ts : List Task). AreSets ts c.insert.new.self c.leave.new.sleepers.items) (sym c.stand.ensures)
     (sets_rouse s.tasks.items s.ready c.insert.new.self s.sleepers.items c.leave.new.sleepers.items t c.in-Parked.log c.self.invariant at c.insert.ensures c.leave.ensures.size
     (λ x. c.leave.ensures.each x ∙ ap (λ (log : Known). flagged false log t x (get_or s.sleepers.items x [])) c.as_slice.ensures))

@@ -11,7 +11,7 @@ use Rattle.book.specs.declared.book.Book.TheInside.{Inside}
 use Rattle.book.specs.View.{BookView}
 use Rattle.book.specs.BookInside.{book_of}
 use Rattle.book.specs.Turns.{EndsOn}
-use Rattle.book.proofs.book.Book.serial.Goals as goal
+use Rattle.book.proofs.book.Book.serve.Goals as goal
 
 same_end : (o p : Outcome) → Over o ≡ Over p → o ≡ p
 same_end o p e = cc
@@ -26,16 +26,16 @@ outcome_now b v task tx m a view values own h =
     ended_so b.catalogue.now task tx m a own h
     ∙ (ap (λ (s : State). outcome (task_program b.catalogue.now task) s) values ∙ ap (λ (x : BookView). outcome (task_program x.catalogue task) x.present.state) view)
 
-pub returns-in-Parked : goal.returns-in-Parked
-returns-in-Parked c =
-    let f = c.in-Parked.ensures in
+pub returns-in-Parked-clause-served : goal.returns-in-Parked-clause-served
+returns-in-Parked-clause-served c =
+    let f = c.in-Parked.ensures.finished in
     let h = c.in-Ok.ensures in
-    let out = outcome_now c.self.inside c.args.self.now c.args.task c.task_tx-tx.result c.deref.result.now c.in-Ok.attempt c.self.view_is c.deref.ensures.value c.task_tx-tx.ensures.value h in
-    (f.0, sym out ∙ same_end h.ended.0 Retries (sym h.ended.1 ∙ f.2), (c.in-Ok.attempt.log, f.1, f.3))
+    let out = outcome_now c.self.inside c.args.self.now c.args.task c.task_tx-tx.result c.deref.result.now c.evaluate.new.attempt c.self.view_is c.deref.ensures.value c.task_tx-tx.ensures.value h in
+    (f.0, sym out ∙ same_end h.ended.0 Retries (sym h.ended.1 ∙ f.2), (c.evaluate.new.attempt.log, f.1, f.3))
 
-pub returns-in-Committed : goal.returns-in-Committed
-returns-in-Committed c =
-    let f = c.in-Committed.ensures in
+pub returns-in-Committed-clause-served : goal.returns-in-Committed-clause-served
+returns-in-Committed-clause-served c =
+    let f = c.in-Committed.ensures.finished in
     let h = c.in-Ok.ensures in
-    let out = outcome_now c.self.inside c.args.self.now c.args.task c.task_tx-tx.result c.deref.result.now c.in-Ok.attempt c.self.view_is c.deref.ensures.value c.task_tx-tx.ensures.value h in
+    let out = outcome_now c.self.inside c.args.self.now c.args.task c.task_tx-tx.result c.deref.result.now c.evaluate.new.attempt c.self.view_is c.deref.ensures.value c.task_tx-tx.ensures.value h in
     (f.0, λ e. f.2 (h.ended.1 ∙ ap Over (out ∙ e)), f.3, f.4)
