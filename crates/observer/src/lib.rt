@@ -3,4 +3,4 @@
 
 mod observation;
 
-pub use observation::{Observed, observe};
+pub use observation::{Cut, Observed, observe, tell};

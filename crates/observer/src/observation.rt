@@ -67,14 +67,19 @@ pub fn observe(
 }
 
 /// Why an attempt was told nothing.
-#[derive(Clone, Copy, Debug)]
-enum Cut {
+#[derive(Clone, Copy, Debug, PartialEq, Eq)]
+pub enum Cut {
+    /// The read was stale.
     Stale,
+    /// A growth was refused.
     Memory,
 }
 
 /// Reads the variable that the attempt needs, and tells the attempt its value.
-fn tell(attempt: &mut Attempt<'_>, x: VarId, cells: &Cells, pass: &mut Pass) -> Result<(), Cut>
+///
+/// `Stale` where the read was: its loads show why, and the pass is closed. `Memory` only where a
+/// growth was refused; the pass is open.
+pub fn tell(attempt: &mut Attempt<'_>, x: VarId, cells: &Cells, pass: &mut Pass) -> Result<(), Cut>
     requires needed { attempt.old.stand ≡ Stand.Needs x }
     requires own { pass.old.cells ≡ cells.now }
     requires open { pass.old.open_now ≡ true }

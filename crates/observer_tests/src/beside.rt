@@ -2,11 +2,13 @@
 
 ghost use Rattle.std.specs.Prelude.{◌≡◌, ◌<◌, [], ◌∷◌, pos, length};
 
+use crate::sees::sees;
 use cells::{Cells, Pass, Publisher};
 use observer::{Observed, observe};
 use std::alloc::Global;
+use std::process::Abort;
 use std::test::Fail;
-use std::thread::join;
+use std::thread::{Threads, join};
 use txn::{Catalogue, Outcome, TxId, VarId};
 use txn_text::read_file;
 
@@ -54,32 +56,66 @@ fn observe_some(
     (pass, fine)
 }
 
-#[test]
-fn sums_beside_a_publisher_are_of_one_state(rt: HostRuntime) -> Result<(), Fail> {
-    let alloc = rt.alloc();
-    let pair = read_file(alloc, PAIR.as_bytes())?;
-    assert_eq!(rt; pair.initial().len(), 2);
-    assert_eq!(rt; pair.tx_count(), 1);
+/// Publishes beside observing, a thousand times each, and whether each answer was fine.
+fn both(
+    rt: &impl Threads,
+    alloc: Global,
+    cells: &Cells,
+    publisher: Publisher,
+    pass: Pass,
+    catalogue: &Catalogue,
+) -> (Publisher, (Pass, bool))
+    requires publisher { publisher.cells ≡ cells.now }
+    requires start { publisher.history ≡ (pos 1 ∷ pos 1 ∷ []) ∷ [] }
+    requires pass { pass.cells ≡ cells.now }
+    requires variables { cells.now.variables ≡ length catalogue.now.initial }
+    requires known { 0 < length catalogue.now.programs }
+    ensures publisher { result.0.cells ≡ publisher.cells }
+    ensures pass { result.1.0.cells ≡ pass.cells }
+{
+    join(
+        rt,
+        move || -> Publisher
+            requires { (publisher.cells ≡ cells.now) × (publisher.history ≡ (pos 1 ∷ pos 1 ∷ []) ∷ []) }
+            ensures { result.cells ≡ cells.entry.now }
+        { publish_some(cells, publisher, 1000) },
+        move || -> (Pass, bool)
+            requires { (pass.cells ≡ cells.now) × (cells.now.variables ≡ length catalogue.now.initial) × (0 < length catalogue.now.programs) }
+            ensures { result.0.cells ≡ cells.entry.now }
+        { observe_some(alloc, cells, pass, catalogue, 1000) },
+    )
+}
+
+/// Of cells in which both variables are 1 each sum that is observed beside the publisher is of one
+/// state, and after a meeting that of the last.
+fn sums_are_of_one_state(
+    rt: &(impl Abort + Eprint + Threads),
+    alloc: Global,
+    catalogue: &Catalogue,
+) -> Result<(), Fail> {
+    assert_eq!(rt; catalogue.initial().len(), 2);
+    assert_eq!(rt; catalogue.tx_count(), 1);
     let (cells, publisher, mut passes) = Cells::open(alloc, &[1, 1], 1)?;
     let Some(pass) = passes.pop() else {
         panic!(rt; "no pass")
     };
-    let shared = &cells;
-    let catalogue = &pair;
-    let (mut publisher, (mut pass, fine)) = join(
-        &rt,
-        move || -> Publisher
-            requires { (publisher.cells ≡ shared.now) × (publisher.history ≡ (pos 1 ∷ pos 1 ∷ []) ∷ []) }
-            ensures { result.cells ≡ shared.entry.now }
-        { publish_some(shared, publisher, 1000) },
-        move || -> (Pass, bool)
-            requires { (pass.cells ≡ shared.now) × (shared.now.variables ≡ length catalogue.now.initial) × (0 < length catalogue.now.programs) }
-            ensures { result.0.cells ≡ shared.entry.now }
-        { observe_some(alloc, shared, pass, catalogue, 1000) },
-    );
+    let (mut publisher, (mut pass, fine)) = both(rt, alloc, &cells, publisher, pass, catalogue);
     assert!(rt; fine);
     publisher.meet(&cells, &mut pass);
-    let last = observe(alloc, &cells, &mut pass, &pair, SUM);
-    assert_eq!(rt; last, Observed::Outcome(Outcome::Returned(2002)));
+    sees(
+        rt,
+        alloc,
+        &cells,
+        &mut pass,
+        catalogue,
+        SUM,
+        Outcome::Returned(2002),
+    );
     Ok(())
+}
+
+#[test]
+fn sums_beside_a_publisher_are_of_one_state(rt: HostRuntime) -> Result<(), Fail> {
+    let pair = read_file(rt.alloc(), PAIR.as_bytes())?;
+    sums_are_of_one_state(&rt, rt.alloc(), &pair)
 }

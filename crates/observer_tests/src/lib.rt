@@ -4,4 +4,6 @@
 #[cfg(test)]
 mod beside;
 #[cfg(test)]
+mod sees;
+#[cfg(test)]
 mod uses;
