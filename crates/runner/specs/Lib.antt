@@ -1,4 +1,2 @@
-pub mod Settings
 pub mod Statuses
-pub mod Working
 pub mod Running

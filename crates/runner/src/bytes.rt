@@ -4,14 +4,13 @@ ghost use Rattle.std.specs.Prelude.{◌≡◌, ◌+◌, ◌<◌, ◌^◌, true, 
 ghost use Rattle.runner.specs.Running.{IsReportOf, IsRefused, Ran, output_failures};
 
 use crate::fault::RunFault;
-use crate::gate::Gate;
-use crate::options::Options;
-use crate::tasks::run_tasks;
+use options::Options;
 use sink::{Sink, put_all};
 use std::alloc::Global;
 use std::sync::Wait;
 use std::thread::Threads;
 use txn_text::{ReadFault, print_report, read_file};
+use workers::{Gate, run_tasks};
 
 /// Runs the file that the bytes spell, and writes its report to the sink.
 ///

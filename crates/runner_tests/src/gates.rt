@@ -3,7 +3,6 @@
 
 use crate::holds::{Hold, IN_TURN, Place, SWAPPED, hold_two};
 use runner::Point;
-use std::test::Fail;
 use txn::TaskId;
 
 const TAKEN: [Place; 2] = [(Point::Taken, TaskId(0)), (Point::Taken, TaskId(1))];
@@ -20,41 +19,36 @@ fn none() -> Hold {
 }
 
 #[test]
-fn an_end_is_held_until_the_other_committed(rt: HostRuntime) -> Result<(), Fail> {
+fn an_end_is_held_until_the_other_committed(rt: HostRuntime) {
     let hold = Hold::new(ENDED, FINISHED[1]);
-    hold_two(&rt, rt.alloc(), 8, hold, none(), SWAPPED)?;
-    Ok(())
+    hold_two(&rt, rt.alloc(), 8, hold, none(), SWAPPED);
 }
 
 #[test]
-fn a_need_is_held_until_the_other_committed(rt: HostRuntime) -> Result<(), Fail> {
+fn a_need_is_held_until_the_other_committed(rt: HostRuntime) {
     let hold = Hold::new(NEEDS, FINISHED[1]);
-    hold_two(&rt, rt.alloc(), 8, hold, none(), SWAPPED)?;
-    Ok(())
+    hold_two(&rt, rt.alloc(), 8, hold, none(), SWAPPED);
 }
 
 #[test]
-fn a_taken_task_is_held_until_the_other_committed(rt: HostRuntime) -> Result<(), Fail> {
+fn a_taken_task_is_held_until_the_other_committed(rt: HostRuntime) {
     let hold = Hold::new(TAKEN[0], FINISHED[1]);
-    hold_two(&rt, rt.alloc(), 8, hold, none(), SWAPPED)?;
-    Ok(())
+    hold_two(&rt, rt.alloc(), 8, hold, none(), SWAPPED);
 }
 
 #[test]
-fn tries_are_counted(rt: HostRuntime) -> Result<(), Fail> {
+fn tries_are_counted(rt: HostRuntime) {
     for tries in [1, 2] {
         let first = Hold::new(TAKEN[1], ENDED);
         let second = Hold::new(ENDED, FINISHED[1]);
-        let ends = hold_two(&rt, rt.alloc(), tries, first, second, SWAPPED)?;
+        let ends = hold_two(&rt, rt.alloc(), tries, first, second, SWAPPED);
         assert_eq!(rt; ends, u64::from(tries));
     }
-    Ok(())
 }
 
 #[test]
-fn a_finished_task_is_held_while_the_other_runs(rt: HostRuntime) -> Result<(), Fail> {
+fn a_finished_task_is_held_while_the_other_runs(rt: HostRuntime) {
     let first = Hold::new(TAKEN[1], FINISHED[0]);
     let second = Hold::new(FINISHED[0], FINISHED[1]);
-    hold_two(&rt, rt.alloc(), 8, first, second, IN_TURN)?;
-    Ok(())
+    hold_two(&rt, rt.alloc(), 8, first, second, IN_TURN);
 }

@@ -1,11 +1,11 @@
 //! A gate that holds workers, and runs of two increments under it.
 
-use runner::{Gate, Options, Out, Point, run_bytes};
+use crate::parts::options;
+use runner::{Gate, Out, Point, run_bytes};
 use std::alloc::Global;
 use std::process::Abort;
 use std::sync::Wait;
 use std::sync::atomic::{AtomicBool, AtomicU64, Ordering};
-use std::test::Fail;
 use std::thread;
 use std::thread::Threads;
 use txn::TaskId;
@@ -91,23 +91,24 @@ impl Gate for Script {
 
 /// Runs two increments by two workers with these holds. How often the first task ended an attempt.
 pub(crate) fn hold_two(
-    rt: &(impl Threads + Wait + Sync + Abort + Eprint),
+    rt: &(impl Threads + Wait + Sync + Abort),
     alloc: Global,
     tries: u32,
     first: Hold,
     second: Hold,
     wanted: &str,
-) -> Result<u64, Fail> {
+) -> u64 {
     let script = Script {
         first,
         second,
         ends: AtomicU64::new(0),
         late: AtomicBool::new(false),
     };
-    let options = Options::new(2, tries, 0).ok_or("options")?;
+    let options = options(rt, 2, tries, 0);
     let mut out = Out::new(Vec::new(alloc));
-    run_bytes(rt, alloc, TWO.as_bytes(), options, &script, &mut out)?;
-    assert_eq!(rt; out.into_inner().as_slice(), wanted.as_bytes());
+    let ran = run_bytes(rt, alloc, TWO.as_bytes(), options, &script, &mut out);
+    assert!(rt; ran.is_ok());
+    assert!(rt; out.into_inner().as_slice() == wanted.as_bytes());
     assert!(rt; !script.late.load(Ordering::SeqCst));
-    Ok(script.ends.load(Ordering::SeqCst))
+    script.ends.load(Ordering::SeqCst)
 }

@@ -10,8 +10,6 @@ mod holds;
 #[cfg(test)]
 mod many;
 #[cfg(test)]
-mod options;
-#[cfg(test)]
 mod outputs;
 #[cfg(test)]
 mod parts;
@@ -19,5 +17,7 @@ mod parts;
 mod refusals;
 #[cfg(test)]
 mod reports;
+#[cfg(test)]
+mod settings;
 #[cfg(test)]
 mod texts;

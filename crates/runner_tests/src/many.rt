@@ -1,10 +1,13 @@
 //! Many workers: what they leave is the same whatever the schedule.
 
-use runner::{Gate, OpenGate, Options, Out, Point, run_bytes, run_tasks};
-use std::alloc::Global;
+use crate::parts::{options, run_with};
+use runner::{Gate, Point, run_tasks};
+use std::alloc::{AllocError, Global};
+use std::process::Abort;
+use std::sync::Wait;
 use std::sync::atomic::{AtomicU64, Ordering};
-use std::test::Fail;
-use txn::TaskId;
+use std::thread::Threads;
+use txn::{Catalogue, TaskId};
 use txn_text::read_file;
 
 const BUFFER: &str =
@@ -15,26 +18,19 @@ const PASSED_ON: &str =
 
 const THOUSAND: &str = "(var x 5)(tx inc (set x (add x 1)) x)(run inc 1000)";
 
+/// Any number of workers passes a value on.
+fn passes_on(rt: &(impl Abort + Eprint + Threads + Wait + Sync), alloc: Global, workers: u32) {
+    let options = options(rt, workers, 8, 0);
+    let (text, fault) = run_with(rt, alloc, BUFFER.as_bytes(), options);
+    let is_so = fault.is_none() && text.as_slice() == PASSED_ON.as_bytes();
+    assert!(rt; is_so, "of {workers}");
+}
+
 #[test]
-fn any_number_of_workers_passes_a_value_on(rt: HostRuntime) -> Result<(), Fail> {
+fn any_number_of_workers_passes_a_value_on(rt: HostRuntime) {
     for workers in 1..17 {
-        let options = Options::new(workers, 8, 0).ok_or("options")?;
-        let mut out = Out::new(Vec::new(rt.alloc()));
-        run_bytes(
-            &rt,
-            rt.alloc(),
-            BUFFER.as_bytes(),
-            options,
-            &OpenGate,
-            &mut out,
-        )?;
-        assert_eq!(rt;
-            out.into_inner().as_slice(),
-            PASSED_ON.as_bytes(),
-            "of {workers}"
-        );
+        passes_on(&rt, rt.alloc(), workers);
     }
-    Ok(())
 }
 
 /// How often each task was at a point. At `Ended` it counts only what came between `Taken` and
@@ -47,7 +43,7 @@ struct Counts {
     finished: Vec<AtomicU64>,
 }
 
-fn zeros(alloc: Global) -> Result<Vec<AtomicU64>, Fail> {
+fn zeros(alloc: Global) -> Result<Vec<AtomicU64>, AllocError> {
     let mut all = Vec::with_capacity(alloc, 1000)?;
     for _ in 0..1000u32 {
         all.push(AtomicU64::new(0))?;
@@ -84,56 +80,71 @@ impl Gate for Counts {
     }
 }
 
-#[test]
-fn each_of_a_thousand_tasks_goes_its_way_once(rt: HostRuntime) -> Result<(), Fail> {
-    let alloc = rt.alloc();
-    let counts = Counts {
-        taken: zeros(alloc)?,
-        needed: zeros(alloc)?,
-        ended: zeros(alloc)?,
-        finished: zeros(alloc)?,
+fn no_counts(alloc: Global) -> Result<Counts, AllocError> {
+    let taken = zeros(alloc)?;
+    let needed = zeros(alloc)?;
+    let ended = zeros(alloc)?;
+    let finished = zeros(alloc)?;
+    Ok(Counts {
+        taken,
+        needed,
+        ended,
+        finished,
+    })
+}
+
+/// Eight workers run a thousand tasks, each of which passes the gate.
+fn run_thousand(
+    rt: &(impl Abort + Threads + Wait + Sync),
+    alloc: Global,
+    catalogue: &Catalogue,
+    counts: &Counts,
+) {
+    let Ok(report) = run_tasks(rt, alloc, catalogue, options(rt, 8, 64, 0), counts) else {
+        panic!(rt; "no report")
     };
-    let catalogue = read_file(alloc, THOUSAND.as_bytes())?;
-    let options = Options::new(8, 64, 0).ok_or("options")?;
-    let report = run_tasks(&rt, alloc, &catalogue, options, &counts)?;
-    assert_eq!(rt; report.base, 0);
-    assert_eq!(rt; report.now, 1000);
-    assert_eq!(rt; report.now_vars.as_slice(), [(1005, 1000)].as_slice());
+    assert!(rt; report.base == 0);
+    assert!(rt; report.now == 1000);
+    assert!(rt; report.now_vars.as_slice() == [(1005, 1000)].as_slice());
+}
+
+/// Whether the task went its way once.
+fn went_once(counts: &Counts, task: TaskId) -> bool {
+    // A task of which each of the 64 tries was stale has its turn under the lock, where no gate is.
+    let is_served = count_of(counts.needed.as_slice(), task) >= 64;
+    let has_ended = count_of(counts.ended.as_slice(), task) >= 1;
+    count_of(counts.taken.as_slice(), task) == 1
+        && count_of(counts.finished.as_slice(), task) == 1
+        && (has_ended || is_served)
+}
+
+/// A thousand tasks run under the gate, and each goes its way once.
+fn counts_all(
+    rt: &(impl Abort + Eprint + Threads + Wait + Sync),
+    alloc: Global,
+    catalogue: &Catalogue,
+) {
+    let Ok(counts) = no_counts(alloc) else {
+        panic!(rt; "no counts")
+    };
+    run_thousand(rt, alloc, catalogue, &counts);
     for task in 0..1000 {
-        assert_eq!(rt;
-            count_of(counts.taken.as_slice(), TaskId(task)),
-            1,
-            "of {task}"
-        );
-        assert_eq!(rt;
-            count_of(counts.finished.as_slice(), TaskId(task)),
-            1,
-            "of {task}"
-        );
-        // A task of which each of the 64 tries was stale has its turn under the lock, where no gate is.
-        let is_served = count_of(counts.needed.as_slice(), TaskId(task)) >= 64;
-        let has_ended = count_of(counts.ended.as_slice(), TaskId(task)) >= 1;
-        assert!(rt; has_ended || is_served, "of {task}");
+        assert!(rt; went_once(&counts, TaskId(task)), "of {task}");
     }
-    Ok(())
 }
 
 #[test]
-fn eight_workers_count_to_a_thousand(rt: HostRuntime) -> Result<(), Fail> {
-    let options = Options::new(8, 8, 0).ok_or("options")?;
-    let mut out = Out::new(Vec::new(rt.alloc()));
-    run_bytes(
-        &rt,
-        rt.alloc(),
-        THOUSAND.as_bytes(),
-        options,
-        &OpenGate,
-        &mut out,
-    )?;
-    assert!(rt;
-        out.into_inner()
-            .as_slice()
-            .ends_with(b"\nnow 1000\nx 1005 1000\nend\n")
-    );
-    Ok(())
+fn each_of_a_thousand_tasks_goes_its_way_once(rt: HostRuntime) {
+    match read_file(rt.alloc(), THOUSAND.as_bytes()) {
+        Ok(catalogue) => counts_all(&rt, rt.alloc(), &catalogue),
+        Err(_) => panic!(rt; "no catalogue"),
+    }
+}
+
+#[test]
+fn eight_workers_count_to_a_thousand(rt: HostRuntime) {
+    let options = options(&rt, 8, 8, 0);
+    let (text, fault) = run_with(&rt, rt.alloc(), THOUSAND.as_bytes(), options);
+    assert!(rt; fault.is_none());
+    assert!(rt; text.as_slice().ends_with(b"\nnow 1000\nx 1005 1000\nend\n"));
 }

@@ -4,48 +4,61 @@ use runner::{OpenGate, Options, Out, RunFault, run_bytes};
 use std::alloc::Global;
 use std::process::Abort;
 use std::sync::Wait;
-use std::test::Fail;
 use std::thread::Threads;
 use txn_text::ReadFault;
 
-/// What a run of the text by one worker writes, and the fault where it ends in one.
-pub(crate) fn run(
+/// Options that are allowed.
+pub(crate) fn options(rt: &impl Abort, workers: u32, tries: u32, checkpoint: u32) -> Options {
+    match Options::new(workers, tries, checkpoint) {
+        Some(options) => options,
+        None => panic!(rt; "options"),
+    }
+}
+
+/// What a run of the text with these options writes, and the fault where it ends in one.
+pub(crate) fn run_with(
     rt: &(impl Threads + Wait + Sync),
     alloc: Global,
     input: &[u8],
-) -> Result<(Vec<u8>, Option<RunFault>), Fail> {
-    let options = Options::new(1, 8, 0).ok_or("options")?;
+    options: Options,
+) -> (Vec<u8>, Option<RunFault>) {
     let mut out = Out::new(Vec::new(alloc));
-    let fault = match run_bytes(rt, alloc, input, options, &OpenGate, &mut out) {
-        Ok(()) => None,
-        Err(fault) => Some(fault),
-    };
-    Ok((out.into_inner(), fault))
+    let fault = run_bytes(rt, alloc, input, options, &OpenGate, &mut out).err();
+    (out.into_inner(), fault)
 }
 
+/// What a run of the text by one worker writes, and the fault where it ends in one.
+pub(crate) fn run(
+    rt: &(impl Threads + Wait + Sync + Abort),
+    alloc: Global,
+    input: &[u8],
+) -> (Vec<u8>, Option<RunFault>) {
+    run_with(rt, alloc, input, options(rt, 1, 8, 0))
+}
+
+/// A run of the text by one worker writes this report.
 pub(crate) fn expect_report(
     rt: &(impl Abort + Eprint + Threads + Wait + Sync),
     alloc: Global,
     input: &str,
     report: &str,
-) -> Result<(), Fail> {
-    let (text, fault) = run(rt, alloc, input.as_bytes())?;
-    assert_eq!(rt; fault, None, "of {input}");
-    assert_eq!(rt; text.as_slice(), report.as_bytes(), "of {input}");
-    Ok(())
+) {
+    let (text, fault) = run(rt, alloc, input.as_bytes());
+    let is_so = fault.is_none() && text.as_slice() == report.as_bytes();
+    assert!(rt; is_so, "of {input}");
 }
 
+/// A run of the text by one worker writes nothing, and tells this fault of the input.
 pub(crate) fn expect_fault(
-    rt: &(impl Abort + Eprint + Threads + Wait + Sync),
+    rt: &(impl Abort + Threads + Wait + Sync),
     alloc: Global,
     input: &[u8],
     kind: ReadFault,
     line: &str,
-) -> Result<(), Fail> {
-    let (text, fault) = run(rt, alloc, input)?;
-    assert_eq!(rt; text.len(), 0);
-    assert_eq!(rt; fault, Some(RunFault::Input(kind)));
-    assert_eq!(rt; RunFault::Input(kind).status(), 2);
-    assert_eq!(rt; RunFault::Input(kind).line(), line);
-    Ok(())
+) {
+    let (text, fault) = run(rt, alloc, input);
+    assert!(rt; text.len() == 0);
+    assert!(rt; fault == Some(RunFault::Input(kind)));
+    assert!(rt; RunFault::Input(kind).status() == 2);
+    assert!(rt; RunFault::Input(kind).line() == line);
 }

@@ -1,11 +1,9 @@
 //! Worked runs from bytes to bytes. The reports were worked out by hand from the language's rules.
 
-use crate::parts::expect_report;
-use runner::{OpenGate, Options, Out, run_bytes};
-use std::test::Fail;
+use crate::parts::{expect_report, options, run_with};
 
 #[test]
-fn increments(rt: HostRuntime) -> Result<(), Fail> {
+fn increments(rt: HostRuntime) {
     let alloc = rt.alloc();
     for (input, report) in [
         ("", "base 0\nnow 0\nend\n"),
@@ -24,13 +22,12 @@ fn increments(rt: HostRuntime) -> Result<(), Fail> {
         ),
         ("(tx t (skip) 0)(run t 0)", "base 0\nnow 0\nend\n"),
     ] {
-        expect_report(&rt, alloc, input, report)?;
+        expect_report(&rt, alloc, input, report);
     }
-    Ok(())
 }
 
 #[test]
-fn retries_and_alternatives(rt: HostRuntime) -> Result<(), Fail> {
+fn retries_and_alternatives(rt: HostRuntime) {
     let alloc = rt.alloc();
     for (input, report) in [
         (
@@ -54,13 +51,12 @@ fn retries_and_alternatives(rt: HostRuntime) -> Result<(), Fail> {
             "base 0\nentry 1 0\nnow 2 0\nend 3 0\nentry 1 0 t returned 3\nnow 1\nentry 1 0\nnow 2 0\nend 3 0\nend\n",
         ),
     ] {
-        expect_report(&rt, alloc, input, report)?;
+        expect_report(&rt, alloc, input, report);
     }
-    Ok(())
 }
 
 #[test]
-fn faults_of_numbers(rt: HostRuntime) -> Result<(), Fail> {
+fn faults_of_numbers(rt: HostRuntime) {
     let alloc = rt.alloc();
     for (input, report) in [
         (
@@ -80,28 +76,15 @@ fn faults_of_numbers(rt: HostRuntime) -> Result<(), Fail> {
             "base 0\nx 0 0\nentry 1 0 t returned 0\nnow 1\nx 0 0\nend\n",
         ),
     ] {
-        expect_report(&rt, alloc, input, report)?;
+        expect_report(&rt, alloc, input, report);
     }
-    Ok(())
 }
 
 #[test]
-fn a_checkpoint_moves_the_base(rt: HostRuntime) -> Result<(), Fail> {
+fn a_checkpoint_moves_the_base(rt: HostRuntime) {
     let input = "(var x 5)(tx inc (set x (add x 1)) x)(run inc 3)";
-    let options = Options::new(1, 8, 2).ok_or("options")?;
-    let mut out = Out::new(Vec::new(rt.alloc()));
-    assert!(rt;
-        run_bytes(
-            &rt,
-            rt.alloc(),
-            input.as_bytes(),
-            options,
-            &OpenGate,
-            &mut out
-        )
-        .is_ok()
-    );
+    let (text, fault) = run_with(&rt, rt.alloc(), input.as_bytes(), options(&rt, 1, 8, 2));
+    assert!(rt; fault.is_none());
     let report = "base 2\nx 7 2\nentry 3 2 inc returned 8\nnow 3\nx 8 3\nend\n";
-    assert_eq!(rt; out.into_inner().as_slice(), report.as_bytes());
-    Ok(())
+    assert_eq!(rt; text.as_slice(), report.as_bytes());
 }

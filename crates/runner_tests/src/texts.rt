@@ -3,24 +3,19 @@
 use runner::RunFault;
 use std::alloc::Global;
 use std::process::Abort;
-use std::test::Fail;
 use txn_text::ReadFault;
 
-fn expect_text(
-    rt: &(impl Abort + Eprint),
-    alloc: Global,
-    fault: RunFault,
-    text: &str,
-    status: u8,
-) -> Result<(), Fail> {
-    assert_eq!(rt; format!(in alloc; "{fault}")?.as_str(), text);
-    assert_eq!(rt; fault.line(), text);
-    assert_eq!(rt; fault.status(), status);
-    Ok(())
+fn expect_text(rt: &impl Abort, alloc: Global, fault: RunFault, text: &str, status: u8) {
+    match format!(in alloc; "{fault}") {
+        Ok(shown) => assert!(rt; shown.as_str() == text),
+        Err(_) => panic!(rt; "no text"),
+    }
+    assert!(rt; fault.line() == text);
+    assert!(rt; fault.status() == status);
 }
 
 #[test]
-fn faults_of_the_input_have_their_texts(rt: HostRuntime) -> Result<(), Fail> {
+fn faults_of_the_input_have_their_texts(rt: HostRuntime) {
     for (kind, text) in [
         (ReadFault::TooLong, "stm: file: F1 TooLong"),
         (ReadFault::BadByte, "stm: file: F2 BadByte"),
@@ -28,13 +23,12 @@ fn faults_of_the_input_have_their_texts(rt: HostRuntime) -> Result<(), Fail> {
         (ReadFault::Name, "stm: file: F4 Name"),
         (ReadFault::Limit, "stm: file: F5 Limit"),
     ] {
-        expect_text(&rt, rt.alloc(), RunFault::Input(kind), text, 2)?;
+        expect_text(&rt, rt.alloc(), RunFault::Input(kind), text, 2);
     }
-    Ok(())
 }
 
 #[test]
-fn other_faults_have_their_texts(rt: HostRuntime) -> Result<(), Fail> {
-    expect_text(&rt, rt.alloc(), RunFault::Output, "stm: cannot write", 4)?;
-    expect_text(&rt, rt.alloc(), RunFault::Memory, "stm: out of memory", 5)
+fn other_faults_have_their_texts(rt: HostRuntime) {
+    expect_text(&rt, rt.alloc(), RunFault::Output, "stm: cannot write", 4);
+    expect_text(&rt, rt.alloc(), RunFault::Memory, "stm: out of memory", 5);
 }

@@ -1,4 +1,0 @@
-mod Reading
-pub mod Working
-pub mod Crossing
-pub mod Crew

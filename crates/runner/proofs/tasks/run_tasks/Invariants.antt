@@ -1,5 +1,0 @@
-use Rattle.runner.proofs.tasks.run_tasks.Given as goal
-
--- the run is of this catalogue
-abbrev pub ghosts-run_named : goal.ghosts-run_named
-ghosts-run_named g a = record { catalogue = a.catalogue.now }

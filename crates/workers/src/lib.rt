@@ -1,0 +1,17 @@
+//! The run of all tasks by workers side by side: from a catalogue to a report.
+//!
+//! `run_tasks` opens the cells and the book, has the tasks run by workers, and makes the report. A
+//! worker (`worker`) tries tasks by attempts on its own pass (`trying`), with no lock held, and
+//! brings their ends to the book behind its lock (`shared`). A `Gate` can hold it in between.
+#![tactic(auto)]
+
+mod gate;
+mod shared;
+mod tasks;
+mod threads;
+mod trying;
+mod waiting;
+mod worker;
+
+pub use gate::{Gate, OpenGate, Point};
+pub use tasks::run_tasks;

@@ -1,0 +1,91 @@
+//! Runs all tasks of a catalogue.
+
+ghost use Rattle.std.specs.Prelude.{◌≡◌, ◌∷◌, [], length, All, IfOk};
+ghost use Rattle.txn.specs.Told.{told};
+ghost use Rattle.txn.specs.LawfulReport.{LawfulReport, BaseReached};
+
+use crate::gate::Gate;
+use crate::shared::{Naming, open, settle};
+use crate::threads::start;
+use crate::worker::{Crew, work};
+use cells::{Cells, Pass, Publisher};
+use options::Options;
+use std::alloc::Global;
+use std::marker::Brand;
+use std::sync::{Mutex, Wait};
+use std::thread::Threads;
+use txn::{Catalogue, Memory, Report};
+
+/// Runs the tasks by as many workers as the options say, and reports. `Memory` comes only where a
+/// growth was refused.
+///
+/// The workers read the cells by a pass each, and share the book behind a lock, which publishes to
+/// the cells. When they have ended, the book gives a turn to what is left, and no task is ready or
+/// running when it reports.
+pub fn run_tasks<R: Threads + Wait + Sync, G: Gate>(
+    rt: &R,
+    alloc: Global,
+    catalogue: &Catalogue,
+    options: Options,
+    gate: &G,
+) -> Result<Report, Memory>
+    ensures lawful { IfOk result (λ r. LawfulReport catalogue.now (told r)) }
+    ensures reached { IfOk result (λ r. BaseReached catalogue.now (told r)) }
+{
+    let (cells, publisher, passes) = Cells::open(
+        alloc,
+        catalogue.initial(),
+        options.workers() as usize,
+    )?;
+    run_named::<R, G, Brand>(
+        rt, alloc, catalogue, &cells, publisher, passes, options, gate,
+    )
+}
+
+/// Runs the tasks of the catalogue of this name.
+fn run_named<R: Threads + Wait + Sync, G: Gate, N: Naming>(
+    rt: &R,
+    alloc: Global,
+    catalogue: &Catalogue,
+    cells: &Cells,
+    publisher: Publisher,
+    passes: Vec<Pass>,
+    options: Options,
+    gate: &G,
+) -> Result<Report, Memory>
+    requires named { catalogue.now ≡ N.catalogue }
+    requires own { publisher.cells ≡ cells.now }
+    requires unused { publisher.history ≡ catalogue.now.initial ∷ [] }
+    requires passes { All (λ p. p.cells ≡ cells.now) passes.items }
+    requires variables { cells.now.variables ≡ length catalogue.now.initial }
+    ensures lawful { IfOk result (λ r. LawfulReport catalogue.now (told r)) }
+    ensures reached { IfOk result (λ r. BaseReached catalogue.now (told r)) }
+{
+    let every = options.checkpoint();
+    let shared = Mutex::new(open::<N>(alloc, catalogue, cells, publisher)?);
+    let crew = Crew {
+        alloc,
+        catalogue,
+        cells,
+        shared: &shared,
+        gate,
+        tries: options.tries(),
+        every,
+    };
+    run_crew(rt, &crew, passes);
+    settle(alloc, every, shared.into_inner())
+}
+
+/// Runs a worker for each pass, and waits for them.
+fn run_crew<R: Threads + Wait + Sync, G: Gate, N: Naming>(
+    rt: &R,
+    crew: &Crew<'_, '_, G, N>,
+    passes: Vec<Pass>,
+)
+    requires own { All (λ p. p.cells ≡ crew.now.cells.now) passes.items }
+{
+    let life = |pass: Pass|
+        requires { pass.cells ≡ crew.now.cells.now }
+    { work(rt, crew, pass) };
+    start(rt, &life, passes);
+}
