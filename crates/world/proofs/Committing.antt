@@ -1,5 +1,5 @@
 -- An attempt becomes the committer.
-use Rattle.std.proofs.Common.{◌≡◌, ◌≢◌, ℕ, zero, suc, ◌+◌, ◌-◌, ◌*◌, ◌<◌, ◌≤◌, Bool, true, false, if◌then◌else◌, List, [], ◌∷◌, ◌++◌, length, map, take, ℤ, refl, sym, ap, ◌∙◌, subst, ⊎_elim, arith, Option, Some, None, slice_get, length-append}
+use Rattle.std.proofs.Common.{◌≡◌, ◌≢◌, ℕ, zero, suc, ◌+◌, ◌-◌, ◌<◌, ◌≤◌, Bool, true, false, if◌then◌else◌, List, [], ◌∷◌, ◌++◌, length, map, take, ℤ, refl, sym, ap, ◌∙◌, subst, ⊎_elim, arith, Option, Some, None, slice_get, length-append}
 use Rattle.std.specs.declared.alloc.Global.{Global}
 use Rattle.std.specs.declared.vec.Vec.{Vec}
 use Rattle.std.specs.Ordering.{int_eq}
@@ -12,18 +12,15 @@ use Rattle.txn.specs.declared.ast.Outcome.TheVariants.{Returned, Thrown, Retries
 use Rattle.attempt.specs.Asking.{Known}
 use Rattle.attempt.specs.Frame.{store}
 use Rattle.attempt.specs.View.{next_of}
-use Rattle.attempt.specs.declared.next.Next.{Next}
 use Rattle.attempt.specs.declared.next.Next.TheVariants as next
-use Rattle.world_law.specs.declared.events.Fate.TheVariants as fate
 use Rattle.world_law.specs.World.{World, Started, Committer, differences, committing}
 use Rattle.world_law.proofs.Places.{get_push}
 use Rattle.world_law.proofs.Framed.{length-store}
 use Rattle.world_law.proofs.Differ.{changes_lead, are_changes}
-use Rattle.world.specs.declared.trial.Trial.{Trial}
 use Rattle.world.specs.declared.scene.Publishing.{Publishing}
 use Rattle.world.specs.declared.scene.Scene.{Scene}
 use Rattle.world.specs.Trials.{started_of}
-use Rattle.world.specs.Inside.{listing, world_of, all_states, state_items, committer_of, IsReady, PublishingKept, CommitterKept, Kept, Stays}
+use Rattle.world.specs.Inside.{listing, world_of, all_states, state_items, IsReady, PublishingKept, CommitterKept, Kept, Stays}
 use Rattle.world.specs.Asks.{CanCommit}
 use Rattle.world.proofs.Seeing.{get_push_new}
 use Rattle.world.proofs.Lasting.{items_at, items_length, history_length, last_is}

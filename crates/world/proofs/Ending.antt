@@ -1,27 +1,25 @@
 -- An attempt that has ended, and what becomes of it when it asks.
 use Rattle.std.proofs.Common.{◌≡◌, ◌≢◌, ℕ, Bool, true, false, is_some, refl, sym, ap, ◌∙◌, subst, Option, Some, None, slice_get, take, length}
-use Rattle.txn.specs.Listing.{Listing}
 use Rattle.txn.specs.Words.{last_state}
 use Rattle.txn.specs.declared.ast.TaskId.{TaskId}
 use Rattle.txn.specs.declared.ast.Outcome.{Outcome}
 use Rattle.txn.specs.declared.ast.Outcome.TheVariants.{Returned, Thrown, Retries}
-use Rattle.attempt.specs.Asking.{Known, Answer, Needs, Ends, ask}
+use Rattle.attempt.specs.Asking.{Known, Needs, Ends, ask}
 use Rattle.attempt.specs.Frame.{Agrees}
 use Rattle.attempt.specs.View.{Answers, AttemptView, next_of}
 use Rattle.attempt.specs.declared.next.Next.{Next}
 use Rattle.attempt.specs.declared.next.Next.TheVariants as next
-use Rattle.world_law.specs.declared.events.Fate.{Fate}
 use Rattle.world_law.specs.declared.events.Fate.TheVariants as fate
 use Rattle.world_law.specs.declared.events.Seen.{Seen}
 use Rattle.world_law.specs.declared.events.Seen.TheVariants as seen
 use Rattle.world_law.specs.declared.events.Event.TheVariants.{Ask}
-use Rattle.world_law.specs.World.{Started, stand, is_live, committing}
+use Rattle.world_law.specs.World.{stand}
 use Rattle.world_law.specs.Next.{CanAsk, Next as Steps}
 use Rattle.world.specs.declared.trial.Trial.{Trial}
 use Rattle.world.specs.declared.scene.Publishing.{Publishing}
 use Rattle.world.specs.declared.scene.Scene.{Scene}
-use Rattle.world.specs.Trials.{started_of, TrialKept}
-use Rattle.world.specs.Inside.{listing, world_of, all_states, with_trial, committer_of, Kept, IsTheRunning, IsOnly, IsOwner, Leads}
+use Rattle.world.specs.Trials.{started_of}
+use Rattle.world.specs.Inside.{listing, world_of, all_states, with_trial, committer_of, Kept, IsTheRunning, IsOwner, Leads}
 use Rattle.world.specs.Asks.{FindsEnded, Commits}
 use Rattle.world.proofs.Putting.{world_put, put_leads}
 use Rattle.world.proofs.Owning.{stops}

@@ -1,12 +1,10 @@
 -- An attempt that ends its read, and one that begins, go on as the world says.
-use Rattle.std.proofs.Common.{◌≡◌, ◌≢◌, ℕ, ◌<◌, List, [], ◌∷◌, ◌++◌, length, map, set, sym, refl, ap, ◌∙◌, subst, Some, None, slice_get}
-use Rattle.std.specs.Int.{w64, cast_signed}
+use Rattle.std.proofs.Common.{◌≡◌, ◌≢◌, ℕ, ◌<◌, List, [], ◌∷◌, length, sym, refl, ap, ◌∙◌, subst}
 use Rattle.txn.specs.Listing.{Listing, task_program}
 use Rattle.txn.specs.Tree.{Program}
 use Rattle.txn.specs.declared.ast.TaskId.{TaskId}
 use Rattle.txn.specs.declared.ast.VarId.{VarId}
-use Rattle.txn.specs.declared.ast.Outcome.{Outcome}
-use Rattle.attempt.specs.Asking.{Known, Answer, Needs, Ends, ask}
+use Rattle.attempt.specs.Asking.{Known, ask}
 use Rattle.attempt.specs.View.{Answers, AttemptView}
 use Rattle.attempt.specs.declared.next.Next.{Next}
 use Rattle.attempt.specs.declared.next.Next.TheVariants as next
@@ -22,10 +20,10 @@ use Rattle.world.specs.declared.trial.Loads.TheVariants as loads
 use Rattle.world.specs.declared.trial.Trial.{Trial}
 use Rattle.world.specs.declared.scene.Scene.{Scene}
 use Rattle.world.specs.Trials.{loads_of, started_of, TrialKept, GoesOn, LoadsSecond, told_value, answer_seen, answer_fate}
-use Rattle.world.specs.Inside.{listing, world_of, with_trial, Kept, IsTheRunning, IsOnly, IsOwner, Leads}
-use Rattle.world.proofs.Putting.{Replaces, world_put, world_same, put_leads}
+use Rattle.world.specs.Inside.{listing, world_of, with_trial, Kept, IsTheRunning, IsOnly, Leads}
+use Rattle.world.proofs.Putting.{world_put, put_leads}
 use Rattle.world.proofs.Owning.{owner_of, needs_apart}
-use Rattle.world.proofs.Standing.{asks, reading_to, reading_from, the_one, loads_value, with_fate_kept}
+use Rattle.world.proofs.Standing.{reading_to, reading_from, the_one, loads_value, with_fate_kept}
 use Rattle.world.proofs.Loading.{became, becomes, replaces}
 
 pub same_started : (a b : TaskId) (n m : ℕ) (g h : Known) (p q : List ℕ) (f e : Fate) → a ≡ b → n ≡ m → g ≡ h → p ≡ q → f ≡ e

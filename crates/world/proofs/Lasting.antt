@@ -1,11 +1,11 @@
 -- The last state of the history.
-use Rattle.std.proofs.Common.{◌≡◌, ℕ, zero, suc, ◌+◌, ◌-◌, ◌<◌, ◌≤◌, List, [], ◌∷◌, ◌++◌, length, map, take, ℤ, refl, sym, ap, ◌∙◌, subst, arith, Some, slice_get}
+use Rattle.std.proofs.Common.{◌≡◌, ℕ, zero, suc, ◌-◌, ◌<◌, ◌≤◌, List, [], ◌∷◌, length, map, take, ℤ, refl, ap, ◌∙◌, arith, Some, slice_get}
 use Rattle.std.specs.declared.alloc.Global.{Global}
 use Rattle.std.specs.declared.vec.Vec.{Vec}
 use Rattle.std.proofs.lemmas.Option.{get_or_from_slice_get}
 use Rattle.txn.specs.Words.{last_state, state_of}
 use Rattle.world.specs.declared.scene.Scene.{Scene}
-use Rattle.world.specs.Inside.{all_states, state_items, listing, Kept}
+use Rattle.world.specs.Inside.{all_states, state_items, Kept}
 
 module _ {X : Type 0} where
   get_take : (l : List X) (n i : ℕ) (x : X) → i < n → slice_get l i ≡ Some x → slice_get (take n l) i ≡ Some x

@@ -13,3 +13,6 @@ pub mod Committing
 pub mod Ending
 pub mod FirstWords
 pub mod Reaching
+pub mod Stored
+pub mod Changed
+pub mod Lined

@@ -1,5 +1,5 @@
 -- The loads of an attempt are the events of the world.
-use Rattle.std.proofs.Common.{◌≡◌, ◌≢◌, ℕ, List, [], ◌∷◌, sym, refl, ap, ◌∙◌, subst, Some, None, slice_get}
+use Rattle.std.proofs.Common.{◌≡◌, ◌≢◌, ℕ, [], ◌∷◌, sym, refl, ap, ◌∙◌, subst, Some, slice_get}
 use Rattle.txn.specs.declared.ast.TaskId.{TaskId}
 use Rattle.txn.specs.declared.ast.VarId.{VarId}
 use Rattle.attempt.specs.declared.next.Next.TheVariants as next
@@ -7,7 +7,7 @@ use Rattle.world_law.specs.declared.events.Fate.TheVariants as fate
 use Rattle.world_law.specs.declared.events.Event.TheVariants.{First, Value}
 use Rattle.world_law.specs.declared.events.Seen.{Seen}
 use Rattle.world_law.specs.declared.events.Seen.TheVariants as seen
-use Rattle.world_law.specs.World.{Started, World, Reading, is_live, changed, version_now, value_now}
+use Rattle.world_law.specs.World.{Reading, is_live, changed, version_now, value_now}
 use Rattle.world_law.specs.Next.{Next}
 use Rattle.world.specs.declared.trial.Loads.{Loads}
 use Rattle.world.specs.declared.trial.Loads.TheVariants as loads

@@ -1,5 +1,5 @@
 -- Another attempt at a place.
-use Rattle.std.proofs.Common.{◌≡◌, ℕ, List, map, set, ⊎_elim, sym, refl, ap, ◌∙◌, subst, Bool, true, Option, Some, None, slice_get}
+use Rattle.std.proofs.Common.{◌≡◌, ℕ, List, map, set, ⊎_elim, sym, refl, ap, ◌∙◌, subst, true, Option, Some, None, slice_get}
 use Rattle.std.specs.declared.alloc.Global.{Global}
 use Rattle.std.specs.declared.vec.Vec.{Vec}
 use Rattle.std.specs.Vec.{with_item}
@@ -8,15 +8,14 @@ use native.Mathlib.Decide.{ℕ_discrete}
 use Rattle.world_law.specs.declared.events.Event.{Event}
 use Rattle.world_law.specs.declared.events.Seen.{Seen}
 use Rattle.world_law.specs.declared.events.Seen.TheVariants as seen
-use Rattle.world_law.specs.declared.events.Fate.TheVariants as fate
-use Rattle.world_law.specs.World.{Started, World, is_live, changed}
+use Rattle.world_law.specs.World.{Started, is_live, changed}
 use Rattle.world_law.specs.Next.{Next}
 use Rattle.world_law.proofs.Places.{get_set, get_set_same, get_set_other}
 use Rattle.world.specs.declared.trial.Trial.{Trial}
 use Rattle.world.specs.declared.scene.Publishing.{Publishing}
 use Rattle.world.specs.declared.scene.Scene.{Scene}
 use Rattle.world.specs.Trials.{started_of, TrialKept}
-use Rattle.world.specs.Inside.{listing, world_of, with_trial, PublishingKept, CommitterKept, Kept, Leads, Stays}
+use Rattle.world.specs.Inside.{listing, world_of, with_trial, CommitterKept, Kept, Leads, Stays}
 use Rattle.world.proofs.Seeing.{seen_set, set_same}
 
 -- what may stand in the place of the attempt t

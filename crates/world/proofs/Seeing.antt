@@ -1,6 +1,6 @@
 -- The attempts of a world at their places.
 use Rattle.std.proofs.lemmas.Grind.{get_or_default_zero}
-use Rattle.std.proofs.Common.{◌≡◌, ◌<◌, length, slice_index, Result, Ok, Err, OnErr, ℕ, zero, suc, List, [], ◌∷◌, ◌++◌, map, set, get_or, sym, refl, ap, ◌∙◌, Option, Some, None, slice_get, option_map}
+use Rattle.std.proofs.Common.{◌≡◌, ◌<◌, length, slice_index, Result, Ok, Err, OnErr, ℕ, zero, suc, List, [], ◌∷◌, ◌++◌, map, set, get_or, sym, refl, ap, ◌∙◌, Some, slice_get, option_map}
 use Rattle.std.proofs.lemmas.Option.{get_or_from_slice_get}
 use Rattle.world_law.specs.World.{Started}
 use Rattle.world.specs.declared.trial.Trial.{Trial}

@@ -1,10 +1,10 @@
 -- Where a running attempt stands.
-use Rattle.std.proofs.Common.{◌≡◌, ◌≢◌, ℕ, List, [], ◌∷◌, sym, refl, ap, ◌∙◌, subst, Some, None, slice_get}
-use Rattle.txn.specs.Listing.{Listing, task_program}
+use Rattle.std.proofs.Common.{◌≡◌, ◌≢◌, ℕ, List, [], ◌∷◌, sym, refl, ap, ◌∙◌, subst}
+use Rattle.txn.specs.Listing.{Listing}
 use Rattle.txn.specs.Tree.{Program}
 use Rattle.txn.specs.declared.ast.TaskId.{TaskId}
 use Rattle.txn.specs.declared.ast.VarId.{VarId}
-use Rattle.attempt.specs.Asking.{Answer, Needs, Ends, ask}
+use Rattle.attempt.specs.Asking.{Needs, ask}
 use Rattle.attempt.specs.View.{Answers}
 use Rattle.attempt.specs.declared.next.Next.{Next}
 use Rattle.attempt.specs.declared.next.Next.TheVariants as next

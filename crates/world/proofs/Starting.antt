@@ -10,23 +10,22 @@ use Rattle.std.proofs.lemmas.List.{length-set}
 use Rattle.txn.specs.Listing.{tasks, task_program}
 use Rattle.txn.specs.Tree.{Program}
 use Rattle.txn.specs.declared.ast.TaskId.{TaskId}
-use Rattle.attempt.specs.Asking.{Known, ask}
+use Rattle.attempt.specs.Asking.{ask}
 use Rattle.attempt.specs.View.{Answers}
 use Rattle.attempt.specs.declared.next.Next.{Next}
 use Rattle.attempt.specs.declared.next.Next.TheVariants as next
 use Rattle.world_law.specs.declared.events.Fate.{Fate}
 use Rattle.world_law.specs.declared.events.Fate.TheVariants as fate
 use Rattle.world_law.specs.declared.events.Seen.{Seen}
-use Rattle.world_law.specs.declared.events.Seen.TheVariants as seen
 use Rattle.world_law.specs.declared.events.Event.TheVariants.{Begin}
-use Rattle.world_law.specs.World.{Started, World, CanBegin, is_live, begun, stand}
+use Rattle.world_law.specs.World.{Started, CanBegin, is_live, begun}
 use Rattle.world_law.specs.Next.{Next as Steps, told}
 use Rattle.world_law.proofs.Places.{get_set_same, get_set_other, get_push, get_push_old}
 use Rattle.world.specs.declared.trial.Trial.{Trial}
 use Rattle.world.specs.declared.scene.Publishing.{Publishing}
 use Rattle.world.specs.declared.scene.Scene.{Scene}
 use Rattle.world.specs.Trials.{started_of, loads_of, TrialKept, Begins, answer_seen, answer_fate}
-use Rattle.world.specs.Inside.{listing, world_of, committer_of, CommitterKept, Kept, IsTheRunning, IsOnly, IsOwner, Leads}
+use Rattle.world.specs.Inside.{listing, world_of, CommitterKept, Kept, Leads}
 use Rattle.world.proofs.Seeing.{seen_at, seen_from, seen_push, same_place, get_push_new}
 use Rattle.world.proofs.Going.{same_started, tells, fates}
 use Rattle.world.proofs.Finding.{live_latest}

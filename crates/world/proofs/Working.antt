@@ -2,30 +2,29 @@
 use Rattle.std.proofs.Common.{◌≡◌, ◌≢◌, ◌⊎◌, ℕ, zero, suc, ◌+◌, ◌-◌, ◌*◌, ◌^◌, ◌<◌, ◌≤◌, Bool, true, false, if◌then◌else◌, List, [], ◌∷◌, ◌++◌, length, map, set, take, slice_index, slice_index_or, ℤ, refl, sym, ap, ◌∙◌, subst, inl, inr, ⊎_elim, arith, Option, Some, None, slice_get}
 use Rattle.std.specs.declared.alloc.Global.{Global}
 use Rattle.std.specs.declared.vec.Vec.{Vec}
-use Rattle.std.specs.Vec.{with_item}
 use Rattle.std.proofs.lemmas.List.{length-set}
 use Rattle.txn.specs.Words.{Commit, last_state, version_word, value_word}
 use Rattle.txn.specs.Stores.{Change, id_of, with_changes}
 use Rattle.world_law.specs.declared.events.Fate.TheVariants as fate
 use Rattle.world_law.specs.declared.events.Event.TheVariants.{Word}
 use Rattle.world_law.specs.declared.events.Seen.TheVariants as seen
-use Rattle.world_law.specs.World.{World, Started, Committer, Store, Lock, Put, Tick, Free, stores, Writes, history_after, stored, finished, is_live, with_fate}
-use Rattle.world_law.specs.Next.{Next, Reachable}
+use Rattle.world_law.specs.World.{World, Started, Committer, Store, Lock, Put, Tick, Free, stores, Writes, history_after, stored, finished, is_live}
+use Rattle.world_law.specs.Next.{Reachable}
 use Rattle.world_law.proofs.Framed.{IsSound}
 use Rattle.world_law.proofs.Order.{IsStore, Locks, Puts, Ticks, Frees, store_at, many_stores}
-use Rattle.world_law.proofs.Resting.{Phase, Locking, Putting, Freeing, IsLocking}
+use Rattle.world_law.proofs.Resting.{Phase, Locking, Putting, Freeing}
 use Rattle.world_law.proofs.Kept.{Pending, Holds}
 use Rattle.world_law.proofs.Wrote.{under_way}
 use Rattle.world_law.proofs.Reached.{reached_holds}
 use Rattle.world.specs.declared.trial.Trial.{Trial}
 use Rattle.world.specs.declared.scene.Publishing.{Publishing}
 use Rattle.world.specs.declared.scene.Scene.{Scene}
-use Rattle.world.specs.Trials.{started_of, TrialKept}
+use Rattle.world.specs.Trials.{started_of}
 use Rattle.world.specs.Inside.{listing, world_of, all_states, committer_of, with_trial, IsReady, PublishingKept, CommitterKept, Kept, Leads}
 use Rattle.world.specs.Steps.{count_after, MayWrite, with_committer}
 use Rattle.world.proofs.Seeing.{seen_at, seen_set}
 use Rattle.world.proofs.Standing.{with_fate_kept}
-use Rattle.world.proofs.Putting.{Replaces, kept_put}
+use Rattle.world.proofs.Putting.{kept_put}
 
 bit : (b : Bool) → (if b then 1 else 0) ≤ 1
 bit true = omega arith

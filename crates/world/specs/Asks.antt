@@ -1,20 +1,19 @@
 -- An attempt that has ended, and becomes the committer.
-use Rattle.std.specs.Prelude.{◌≡◌, ◌≢◌, ℕ, ◌+◌, ◌<◌, Bool, true, Decides, List, [], ◌∷◌, ◌++◌, take, length, ℤ, Option, Some, None}
+use Rattle.std.specs.Prelude.{◌≡◌, ℕ, Bool, Decides, take, Option, Some, None}
 use Rattle.std.specs.List.{slice_get}
 use Rattle.txn.specs.Words.{last_state}
 use Rattle.txn.specs.declared.ast.TaskId.{TaskId}
 use Rattle.txn.specs.declared.ast.Outcome.{Outcome}
 use Rattle.txn.specs.declared.ast.Outcome.TheVariants.{Retries}
-use Rattle.attempt.specs.Frame.{Agrees, store}
+use Rattle.attempt.specs.Frame.{Agrees}
 use Rattle.attempt.specs.View.{next_of}
-use Rattle.attempt.specs.declared.next.Next.TheVariants as next
 use Rattle.world_law.specs.declared.events.Fate.TheVariants as fate
 use Rattle.world_law.specs.declared.events.Seen.{Seen}
 use Rattle.world_law.specs.declared.events.Seen.TheVariants as seen
 use Rattle.world_law.specs.World.{committing}
 use Rattle.world.specs.declared.trial.Trial.{Trial}
 use Rattle.world.specs.declared.scene.Scene.{Scene}
-use Rattle.world.specs.Inside.{listing, world_of, all_states, Kept, IsTheRunning, IsOnly}
+use Rattle.world.specs.Inside.{world_of, all_states, Kept, IsTheRunning, IsOnly}
 
 -- the place of the task's running attempt that has ended, and whether it retried
 abbrev pub FindsEnded : Scene → TaskId → Option (ℕ × Bool) → Type 0

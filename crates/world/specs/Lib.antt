@@ -7,3 +7,5 @@ pub mod View
 pub mod WorldInside
 pub mod Telling
 pub mod Runs
+pub mod Lines
+pub mod WorldText

@@ -1,5 +1,6 @@
 -- Events one after another, and which of them take no memory.
-use Rattle.std.specs.Prelude.{List}
+use Rattle.std.specs.Prelude.{◌≡◌, ℕ, List, Some}
+use Rattle.std.specs.List.{slice_get}
 use Rattle.txn.specs.Listing.{Listing}
 use Rattle.world_law.specs.declared.events.Event.{Event}
 use Rattle.world_law.specs.declared.events.Event.TheVariants.{Begin, First, Value, Second, Ask, Word, Drop}
@@ -20,3 +21,7 @@ TakesNone (Second a) = ⊥
 TakesNone (Ask a) = ⊥
 TakesNone Word = Unit {0}
 TakesNone (Drop a) = Unit {0}
+
+-- the event at the place k takes memory, and so may be refused
+abbrev pub MayBeRefused : List Event → ℕ → Type 0
+MayBeRefused events k = (e : Event) → slice_get events k ≡ Some e → TakesNone e → ⊥

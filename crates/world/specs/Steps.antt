@@ -1,5 +1,5 @@
 -- The committer's stores.
-use Rattle.std.specs.Prelude.{◌≡◌, ℕ, ◌+◌, ◌*◌, ◌<◌, ◌^◌, List, length, slice_index, Some}
+use Rattle.std.specs.Prelude.{ℕ, ◌+◌, ◌*◌, ◌<◌, ◌^◌, List, length, slice_index, Some}
 use Rattle.txn.specs.Words.{version_word, value_word}
 use Rattle.world_law.specs.World.{Store, Lock, Put, Tick, Free}
 use Rattle.world.specs.declared.scene.Publishing.{Publishing}

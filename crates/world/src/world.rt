@@ -1,20 +1,24 @@
 //! The running world.
 
-ghost use Rattle.std.specs.Prelude.{◌≡◌, ◌<◌, take, length, map, IfOk, IfErr, OnOk, OnErr, IsOk};
+ghost use Rattle.std.specs.Prelude.{◌≡◌, ◌<◌, take, length, map, IfOk, IfErr, OnOk, OnErr, IsOk, string_bytes};
 ghost use Rattle.world.specs.Inside.{state_items};
 ghost use Rattle.world.specs.Telling.{Tells};
 ghost use Rattle.world_law.specs.World.{IsOpening};
 ghost use Rattle.world_law.specs.Next.{Next};
-ghost use Rattle.world.specs.Runs.{LeadTo, TakesNone};
+ghost use Rattle.world.specs.Runs.{LeadTo, MayBeRefused, TakesNone};
+ghost use Rattle.world.specs.Lines.{Plays, PlaysPart, PlaysFree};
+ghost use Rattle.world.specs.WorldText.{IsWorldText, PutsWorld};
 ghost use Rattle.world_law.specs.Opacity.{Opaque, WordsHold};
 
 use crate::happening::happen;
 use crate::opening::opening;
+use crate::playing::play;
 use crate::scene::Scene;
 use crate::telling::{Begun, begun_at, states};
+use crate::text::put_world;
 use std::alloc::Global;
 use std::marker::Model;
-use txn::{Catalogue, Memory};
+use txn::{Catalogue, Memory, Move};
 use world_law::{Event, Seen};
 
 /// The stepped world of a catalogue. A clause sees the catalogue's listing and the plain world,
@@ -67,12 +71,14 @@ impl<'a> World<'a> {
     }
 
     /// These events happen, one after another. `Err` has the place of the event that was refused for
-    /// want of memory: those before it happened, and it changed nothing.
+    /// want of memory, which is none of those that take none: those before it happened, and it
+    /// changed nothing.
     pub fn run(&mut self, events: &[Event]) -> Result<(), usize>
         ensures listing { self.new.listing ≡ self.old.listing }
         ensures ok { OnOk result (LeadTo self.old.listing self.old.world events.now self.new.world) }
         ensures refused { IfErr result (λ k. (k < length events.now)
             × LeadTo self.old.listing self.old.world (take k events.now) self.new.world) }
+        ensures sure { IfErr result (λ k. MayBeRefused events.now k) }
     {
         for place in 0..events.len() {
             match self.step(events[place]) {
@@ -80,6 +86,40 @@ impl<'a> World<'a> {
                 Err(_) => return Err(place),
             }
         }
+        Ok(())
+    }
+
+    /// A line of a schedule is played: its events happen one after another. What is seen of it is
+    /// the answer of the last one.
+    ///
+    /// `Memory` where an event is refused; those of the line before it happened. The lines of the
+    /// events that take no memory are never refused, and of a read or a commit the last load or the
+    /// question alone.
+    pub fn play(&mut self, line: Move) -> Result<Seen, Memory>
+        ensures listing { self.new.listing ≡ self.old.listing }
+        ensures ok { IfOk result (λ s. Plays self.old.listing self.old.world line s self.new.world) }
+        ensures refused { OnErr result (PlaysPart self.old.listing self.old.world line self.new.world) }
+        ensures sure { PlaysFree line → IsOk result }
+    {
+        play(self, line)
+    }
+
+    /// The last lines of the world: the line `now` with the number of the last state, the variables
+    /// with their values and versions in it, the attempts in the order in which they began, and the
+    /// line `end`. `Memory` where a growth was refused.
+    pub fn text(&self) -> Result<String, Memory>
+        ensures { IfOk result (λ text. IsWorldText self.now.listing self.now.world (string_bytes text)) }
+    {
+        let mut text = String::new(*self.scene.words.allocator());
+        put_world(&mut text, &self.scene)?;
+        Ok(text)
+    }
+
+    /// Puts those lines behind a text.
+    pub fn put_text(&self, out: &mut String) -> Result<(), Memory>
+        ensures { OnOk result (PutsWorld self.now.listing self.now.world (string_bytes out.old) (string_bytes out.new)) }
+    {
+        put_world(out, &self.scene)?;
         Ok(())
     }
 

@@ -6,7 +6,7 @@ use Rattle.txn.specs.declared.moves.Move.{Move}
 use Rattle.seen_printer.specs.SeenText.{seen_line, seen_lines}
 use Rattle.world_law.specs.World.{World}
 use Rattle.world_law.specs.declared.events.Seen.{Seen}
-use Rattle.world_player.specs.Lines.{Plays}
+use Rattle.world.specs.Lines.{Plays}
 use Rattle.world_runner.specs.Playing.{PlaysAll, PutsLines}
 
 plays_more : (l : Listing) (w : World) (ms : List Move) (ss : List Seen) (mid w' : World) (m : Move) (s : Seen) → PlaysAll l w ms ss mid → Plays l mid m s w' → PlaysAll l w (ms ++ m ∷ []) (ss ++ s ∷ []) w'

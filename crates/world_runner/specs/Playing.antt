@@ -5,8 +5,8 @@ use Rattle.txn.specs.declared.moves.Move.{Move}
 use Rattle.seen_printer.specs.SeenText.{seen_lines}
 use Rattle.world_law.specs.World.{World, IsOpening}
 use Rattle.world_law.specs.declared.events.Seen.{Seen}
-use Rattle.world_player.specs.Lines.{Plays}
-use Rattle.world_printer.specs.WorldText.{PutsWorld}
+use Rattle.world.specs.Lines.{Plays}
+use Rattle.world.specs.WorldText.{PutsWorld}
 
 -- from w these moves are seen so, one after another, and lead to w'
 abbrev pub PlaysAll : Listing → World → List Move → List Seen → World → Type 0

@@ -7,8 +7,6 @@ use seen_printer::put_seen;
 use std::alloc::Global;
 use txn::{Catalogue, Memory, Move};
 use world::World;
-use world_player::play;
-use world_printer::put_world;
 
 /// About as many bytes as a line has.
 const LINE: usize = 24;
@@ -20,14 +18,13 @@ pub(crate) fn played(alloc: Global, catalogue: &Catalogue, moves: &[Move]) -> Re
 {
     let mut out = String::with_capacity(alloc, moves.len().saturating_mul(LINE))?;
     let mut world = World::open(alloc, catalogue)?;
-    put_lines(alloc, &mut out, &mut world, catalogue, moves)?;
-    put_world(alloc, &mut out, catalogue, &world)?;
+    put_lines(&mut out, &mut world, catalogue, moves)?;
+    world.put_text(&mut out)?;
     Ok(out)
 }
 
 /// Plays the moves, and puts what is seen of each behind the text, as a line.
 fn put_lines(
-    alloc: Global,
     out: &mut String,
     world: &mut World<'_>,
     catalogue: &Catalogue,
@@ -38,7 +35,7 @@ fn put_lines(
     ensures lines { OnOk result (PutsLines catalogue.now world.old.world moves.now world.new.world (string_bytes out.old) (string_bytes out.new)) }
 {
     'moves: for (i, line) in moves.iter().enumerate() {
-        let seen = play(world, *line)?;
+        let seen = world.play(*line)?;
         put_seen(out, catalogue, i as u64 + 1, seen)?;
     }
     Ok(())

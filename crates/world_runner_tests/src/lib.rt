@@ -1,4 +1,5 @@
-//! Tests of the public calls of `world_runner`: what is printed of schedules, and refusals.
+//! Tests of the public calls of `world_runner`: what is printed of schedules, refusals,
+//! and writers that fail.
 #![tactic(auto)]
 
 #[cfg(test)]
@@ -7,3 +8,5 @@ mod parts;
 mod refusals;
 #[cfg(test)]
 mod schedules;
+#[cfg(test)]
+mod writers;

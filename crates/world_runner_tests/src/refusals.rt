@@ -2,22 +2,60 @@
 
 use crate::parts::{PAIR, text};
 use runner::{Out, RunFault};
+use std::alloc::Global;
+use std::process::Abort;
 use std::test::Fail;
 use txn_text::ReadFault;
 use world_runner::world_bytes;
 
 #[test]
 fn the_first_kind_of_fault_is_told(rt: HostRuntime) -> Result<(), Fail> {
-    for (schedule, kind) in [
-        ("begin 0", ReadFault::Shape),
-        ("begin 0\nread 0 z\n", ReadFault::Name),
-        ("begin 2\n", ReadFault::Limit),
+    for (schedule, kind, line) in [
+        ("begin \t", ReadFault::BadByte, "stm: schedule: F2 BadByte"),
+        ("begin 0", ReadFault::Shape, "stm: schedule: F3 Shape"),
+        (
+            "begin 0\nread 0 z\n",
+            ReadFault::Name,
+            "stm: schedule: F4 Name",
+        ),
+        ("begin 2\n", ReadFault::Limit, "stm: schedule: F5 Limit"),
     ] {
-        match text(rt.alloc(), PAIR, schedule) {
-            Ok(_) => assert!(rt; false),
-            Err(fault) => assert_eq!(rt; fault, RunFault::Schedule(kind)),
-        }
+        expect_schedule_fault(&rt, rt.alloc(), schedule.as_bytes(), kind, line)?;
     }
+    Ok(())
+}
+
+#[test]
+fn a_schedule_that_is_too_long(rt: HostRuntime) -> Result<(), Fail> {
+    let alloc = rt.alloc();
+    let mut long = Vec::with_capacity(alloc, 1_048_577)?;
+    for _ in 0..1_048_577 {
+        long.push(b'\n')?;
+    }
+    expect_schedule_fault(
+        &rt,
+        alloc,
+        &long,
+        ReadFault::TooLong,
+        "stm: schedule: F1 TooLong",
+    )
+}
+
+/// The schedule of the pair is refused so, and nothing is written.
+fn expect_schedule_fault(
+    rt: &(impl Abort + Eprint),
+    alloc: Global,
+    schedule: &[u8],
+    kind: ReadFault,
+    line: &str,
+) -> Result<(), Fail> {
+    let mut out = Out::new(Vec::new(alloc));
+    let told = world_bytes(alloc, PAIR.as_bytes(), schedule, &mut out);
+    assert_eq!(rt; told, Err(RunFault::Schedule(kind)));
+    assert_eq!(rt; RunFault::Schedule(kind).status(), 2);
+    assert_eq!(rt; RunFault::Schedule(kind).line(), line);
+    assert_eq!(rt; out.failures(), 0);
+    assert!(rt; out.into_inner().is_empty());
     Ok(())
 }
 

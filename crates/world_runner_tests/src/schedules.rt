@@ -72,3 +72,14 @@ fn a_second_look_and_what_is_not_possible(rt: HostRuntime) -> Result<(), Fail> {
     assert_eq!(rt; seen.as_slice(), wanted.as_slice());
     Ok(())
 }
+
+#[test]
+fn a_retry_is_parked_and_one_more_is_dropped(rt: HostRuntime) -> Result<(), Fail> {
+    let file = "(tx t (orelse (retry) (retry)) 0)(run t 1)";
+    let schedule = "begin 0\ncommit 0\nbegin 0\ndrop 0\n";
+    let wanted = b"1 ended retries\n2 parked\n3 ended retries\n4 dropped\nnow 0\n\
+        attempt 0 0 parked\nattempt 0 0 dropped\nend\n";
+    let seen = text(rt.alloc(), file, schedule)?;
+    assert_eq!(rt; seen.as_slice(), wanted.as_slice());
+    Ok(())
+}

@@ -1,12 +1,10 @@
-//! The catalogues of the tests, and how they play in a world.
+//! The catalogues of the tests, and the names in them.
 
 use std::alloc::Global;
 use std::process::Abort;
-use std::test::Fail;
 use txn::{Catalogue, Outcome, TaskId, VarId};
 use txn_text::read_file;
-use world::World;
-use world_law::{Event, Seen};
+use world_law::Seen;
 
 pub(crate) const X: VarId = VarId(0);
 
@@ -22,24 +20,22 @@ pub(crate) const C: TaskId = TaskId(2);
 pub(crate) const PAIR: &str =
     "(var x 1)(var y 1)(tx sum (skip) (add x y))(tx both (seq (set x 2) (set y 2)) 0)(run sum 1)(run both 1)";
 
+/// One task reads x, which is 1; of the others one sets it to 2 and one to 1.
+pub(crate) const BACK: &str =
+    "(var x 1)(tx get (skip) x)(tx two (set x 2) 0)(tx one (set x 1) 0)(run get 1)(run two 1)(run one 1)";
+
+/// One task, which retries.
+pub(crate) const RETRIES: &str = "(tx t (orelse (retry) (retry)) 0)(run t 1)";
+
 /// The catalogue of a text.
-pub(crate) fn catalogue(alloc: Global, text: &str) -> Result<Catalogue, Fail> {
-    Ok(read_file(alloc, text.as_bytes())?)
+pub(crate) fn catalogue(rt: &impl Abort, alloc: Global, text: &str) -> Catalogue {
+    match read_file(alloc, text.as_bytes()) {
+        Ok(catalogue) => catalogue,
+        Err(_) => panic!(rt; "no catalogue"),
+    }
 }
 
 /// What is seen of an attempt that returned.
 pub(crate) fn returned(value: i64) -> Seen {
     Seen::Ended(Outcome::Returned(value))
-}
-
-/// These events happen one after another, and are seen so.
-pub(crate) fn expect_seen(
-    rt: &(impl Abort + Eprint),
-    world: &mut World<'_>,
-    steps: &[(Event, Seen)],
-) -> Result<(), Fail> {
-    for (event, seen) in steps {
-        assert_eq!(rt; world.step(*event)?, *seen);
-    }
-    Ok(())
 }

@@ -1,4 +1,4 @@
-use Rattle.std.proofs.Common.{◌≡◌, ℕ, ℤ, ◌<◌, inl, inr, pos, get_or, sym, ◌∙◌, ap, subst, arith, refl, true≢false}
+use Rattle.std.proofs.Common.{◌≡◌, ℤ, inl, inr, pos, get_or, sym, ◌∙◌, ap, subst, arith, refl, true≢false}
 use Rattle.std.specs.List.{slice_get}
 use Rattle.std.proofs.lemmas.Bool.{cases_eq}
 use Rattle.std.proofs.lemmas.Int.{to_z-of_z}

@@ -1,4 +1,4 @@
-use Rattle.std.proofs.Common.{◌≡◌, ℕ, ℤ, ◌-◌, ◌≤◌, List, Some, length, sym, refl, ap, ◌∙◌, subst, arith}
+use Rattle.std.proofs.Common.{◌≡◌, ℕ, ℤ, ◌-◌, List, Some, length, sym, refl, ap, ◌∙◌, subst, arith}
 use Rattle.std.specs.List.{slice_get}
 use Rattle.std.specs.declared.alloc.Global.{Global}
 use Rattle.std.specs.declared.vec.Vec.{Vec}
@@ -10,8 +10,8 @@ use Rattle.world_law.specs.World.{differences, committing}
 use Rattle.world_law.proofs.Framed.{length-store}
 use Rattle.world.specs.declared.trial.Trial.{Trial}
 use Rattle.world.specs.Inside.{world_of}
-use Rattle.world.proofs.Seeing.{read_is, on_err, same_place}
-use Rattle.world.proofs.Committing.{states_stay, commit_kept, commit_world}
+use Rattle.world.proofs.Seeing.{read_is}
+use Rattle.world.proofs.Committing.{commit_kept, commit_world}
 use Rattle.world.proofs.asking.commit.Goals as goal
 
 pub written-requires : goal.written-requires

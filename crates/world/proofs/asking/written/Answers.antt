@@ -1,7 +1,6 @@
-use Rattle.std.proofs.Common.{◌≡◌, ℕ, ℤ, ◌<◌, ◌-◌, length, pos, get_or, drop, sym, ◌∙◌, ap, arith}
+use Rattle.std.proofs.Common.{◌≡◌, ℕ, ℤ, ◌-◌, length, pos, get_or, drop, ◌∙◌, ap, arith}
 use Rattle.std.proofs.lemmas.Option.{slice_get-get_or}
 use Rattle.txn.specs.declared.ast.VarId.{VarId}
-use Rattle.attempt.specs.Frame.{store}
 use Rattle.world_law.proofs.Framed.{length-store}
 use Rattle.world.proofs.Logs.{known_pair}
 use Rattle.world.proofs.asking.written.Goals as goal

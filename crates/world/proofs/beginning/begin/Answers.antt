@@ -1,8 +1,6 @@
-use Rattle.std.proofs.Common.{◌≡◌, ℕ, ◌<◌, ◌∙◌, sym, refl, subst, ap, arith, not, true, false, length, slice_index, Bool}
-use Rattle.world_law.specs.World.{CanBegin}
-use Rattle.world_law.specs.declared.events.Event.TheVariants.{Begin}
+use Rattle.std.proofs.Common.{◌≡◌, ℕ, ◌∙◌, subst, arith, slice_index}
 use Rattle.world.specs.Trials.{Begins}
-use Rattle.world.specs.Inside.{listing, world_of, Stays}
+use Rattle.world.specs.Inside.{listing}
 use Rattle.world.proofs.Seeing.{on_err, word_read}
 use Rattle.world.proofs.Putting.{items_stay}
 use Rattle.world.proofs.Starting.{begin_leads}

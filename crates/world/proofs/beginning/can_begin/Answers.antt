@@ -1,6 +1,6 @@
-use Rattle.std.proofs.Common.{◌≡◌, ◌≢◌, ℕ, ◌<◌, Bool, true, false, not, Option, Some, None, slice_get, refl, sym, ap, ◌∙◌, arith, true≢false}
+use Rattle.std.proofs.Common.{◌≡◌, ℕ, ◌<◌, Bool, true, false, not, Option, Some, None, slice_get, refl, sym, ap, ◌∙◌, arith, true≢false}
 use Rattle.std.proofs.lemmas.Option.{slice_get_read}
-use Rattle.world_law.specs.World.{Started, is_live}
+use Rattle.world_law.specs.World.{is_live}
 use Rattle.world.specs.declared.trial.Trial.{Trial}
 use Rattle.world.proofs.Seeing.{read_is}
 use Rattle.world.proofs.Starting.{can_none, can_some, cannot_some}

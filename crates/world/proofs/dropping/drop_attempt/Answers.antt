@@ -1,4 +1,4 @@
-use Rattle.std.proofs.Common.{◌≡◌, sym, ap, ◌∙◌, subst, refl, arith, true≢false}
+use Rattle.std.proofs.Common.{◌≡◌, sym, ◌∙◌, subst, refl, arith, true≢false}
 use Rattle.std.proofs.lemmas.Option.{slice_get_within}
 use Rattle.world_law.specs.declared.events.Event.TheVariants.{Drop}
 use Rattle.world_law.specs.declared.events.Seen.TheVariants as seen

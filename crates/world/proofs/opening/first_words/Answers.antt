@@ -1,8 +1,8 @@
-use Rattle.std.proofs.Common.{◌≡◌, ℕ, ℤ, ◌+◌, ◌<◌, ◌^◌, List, [], ◌∷◌, ◌++◌, take, pos, get_or, sym, ap, ◌∙◌, subst, arith}
+use Rattle.std.proofs.Common.{◌≡◌, ℕ, ℤ, ◌<◌, ◌^◌, List, [], ◌∷◌, ◌++◌, take, pos, get_or, sym, ap, ◌∙◌, subst, arith}
 use Rattle.std.specs.Int.{w64, cast_signed}
 use Rattle.std.proofs.lemmas.Int.{to_z-of_z}
 use Rattle.std.proofs.lemmas.Option.{slice_get-get_or}
-use Rattle.world_law.specs.World.{HoldValues, AreBits}
+use Rattle.world_law.specs.World.{HoldValues}
 use Rattle.world.proofs.FirstWords.{first_more}
 use Rattle.world.proofs.Working.{take_more}
 use Rattle.world.proofs.opening.first_words.Goals as goal

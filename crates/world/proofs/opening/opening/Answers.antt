@@ -1,4 +1,4 @@
-use Rattle.std.proofs.Common.{◌≡◌, ℕ, ℤ, List, ◌++◌, None, replicate, length, refl, sym, ap, ◌∙◌, subst}
+use Rattle.std.proofs.Common.{◌≡◌, ℕ, ℤ, List, ◌++◌, None, replicate, refl, ap, ◌∙◌, subst}
 use Rattle.world_law.specs.World.{HoldValues}
 use Rattle.world.proofs.FirstWords.{opening_kept}
 use Rattle.world.proofs.opening.opening.Goals as goal

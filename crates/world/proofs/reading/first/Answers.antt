@@ -1,4 +1,4 @@
-use Rattle.std.proofs.Common.{◌≡◌, ℕ, ◌+◌, ◌*◌, ◌<◌, sym, ap, ◌∙◌, subst, refl, arith, length, get_or}
+use Rattle.std.proofs.Common.{◌≡◌, ℕ, ◌+◌, ◌*◌, ap, ◌∙◌, subst, refl, arith}
 use Rattle.std.proofs.lemmas.Option.{slice_get_within}
 use Rattle.txn.specs.declared.ast.VarId.{VarId}
 use Rattle.world_law.specs.declared.events.Event.TheVariants.{First}

@@ -1,5 +1,4 @@
-use Rattle.std.proofs.Common.{◌≡◌, ℕ, ◌+◌, ◌*◌, ◌<◌, sym, ap, ◌∙◌, subst, refl, arith, length, get_or}
-use Rattle.txn.specs.declared.ast.VarId.{VarId}
+use Rattle.std.proofs.Common.{◌≡◌, ℕ, ◌+◌, ◌*◌, sym, ap, ◌∙◌, subst, refl, arith}
 use Rattle.attempt.specs.View.{Answers}
 use Rattle.attempt.specs.declared.next.Next.{Next}
 use Rattle.world_law.specs.declared.events.Event.TheVariants.{Second}

@@ -1,5 +1,4 @@
-use Rattle.std.proofs.Common.{◌≡◌, ℕ, ◌+◌, ◌*◌, ◌<◌, sym, ap, ◌∙◌, subst, refl, arith, length, get_or}
-use Rattle.txn.specs.declared.ast.VarId.{VarId}
+use Rattle.std.proofs.Common.{◌≡◌, ℕ, ◌+◌, ◌*◌, subst, refl, arith}
 use Rattle.world_law.specs.declared.events.Event.TheVariants.{Value}
 use Rattle.world_law.specs.World.{value_now}
 use Rattle.world.specs.declared.trial.Trial.{Trial}

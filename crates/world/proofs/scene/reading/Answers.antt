@@ -1,4 +1,4 @@
-use Rattle.std.proofs.Common.{◌≡◌, ℕ, Some, None, slice_get, sym, ap, ◌∙◌}
+use Rattle.std.proofs.Common.{◌≡◌, sym, ap, ◌∙◌}
 use Rattle.world.specs.declared.trial.Trial.{Trial}
 use Rattle.world.proofs.Seeing.{read_is}
 use Rattle.world.proofs.Standing.{the_one}

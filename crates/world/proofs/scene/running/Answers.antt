@@ -1,7 +1,6 @@
-use Rattle.std.proofs.Common.{◌≡◌, ℕ, ◌<◌, ◌≤◌, List, Option, Some, None, slice_get, sym, ap, ◌∙◌, arith}
+use Rattle.std.proofs.Common.{◌≡◌, ℕ, Option, Some, None, slice_get, sym, ap, ◌∙◌, arith}
 use Rattle.std.proofs.lemmas.Option.{slice_get_read, slice_get_within}
 use Rattle.txn.specs.declared.ast.TaskId.{TaskId}
-use Rattle.world_law.specs.declared.events.Fate.TheVariants as fate
 use Rattle.world.specs.declared.trial.Trial.{Trial}
 use Rattle.world.proofs.Seeing.{read_is}
 use Rattle.world.proofs.Finding.{only_latest, none_latest, beyond, dead_latest}

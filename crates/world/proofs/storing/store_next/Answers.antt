@@ -1,6 +1,6 @@
-use Rattle.std.proofs.Common.{◌≡◌, ◌≢◌, ℕ, ◌*◌, length, sym, ap, ◌∙◌, subst, arith}
+use Rattle.std.proofs.Common.{◌≡◌, ◌*◌, length, sym, subst, arith}
 use Rattle.std.proofs.lemmas.Option.{slice_get_within}
-use Rattle.world_law.proofs.Framed.{IsSound, sound_by}
+use Rattle.world_law.proofs.Framed.{sound_by}
 use Rattle.world_law.specs.declared.events.Event.TheVariants.{Word}
 use Rattle.world_law.specs.declared.events.Seen.TheVariants as seen
 use Rattle.world_law.specs.declared.events.Fate.TheVariants as fate

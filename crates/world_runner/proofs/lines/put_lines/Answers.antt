@@ -14,6 +14,6 @@ moves-preserved c =
     let mid = c.moves.world in
     record {
       of = c.in_ok-seen.ensures.listing ∙ i.of;
-      lines = puts_more c.args.catalogue.now mid.listing w.world mid.world c.play.new.world.world c.args.moves.now c.moves.i none c.in_ok-seen.seen
+      lines = puts_more c.args.catalogue.now mid.listing w.world mid.world c.play.new.self.world c.args.moves.now c.moves.i none c.in_ok-seen.seen
           (string_bytes c.args.out.now) (string_bytes c.moves.out) (string_bytes c.put_seen.new.out) c.moves-test.true i.of i.lines c.in_ok-seen.ensures.ok c.in_ok-put_seen.ensures;
     }

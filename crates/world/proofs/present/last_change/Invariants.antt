@@ -1,0 +1,11 @@
+use Rattle.std.specs.Prelude.{◌≡◌, ◌-◌, map}
+use Rattle.txn.specs.Words.{state_of, value_of}
+use Rattle.world.specs.Inside.{state_items}
+use Rattle.world.proofs.Changed.{ChangedBy}
+use Rattle.world.proofs.present.last_change.Given as goal
+
+abbrev pub invariant-states : goal.invariant-states
+invariant-states l = record {
+  changed : ChangedBy (map state_items l.history) l.x l.n l.last;
+  value : l.value ≡ value_of (state_of (map state_items l.history) (l.n - 1)) l.x;
+}

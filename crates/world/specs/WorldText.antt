@@ -1,0 +1,51 @@
+-- The last lines of a world.
+use Rattle.std.specs.Prelude.{◌≡◌, ℕ, ℤ, ◌-◌, List, [], ◌∷◌, ◌++◌, length, codes, slice_get, Some}
+use Rattle.std.specs.Fmt.{decimal, signed_decimal}
+use Rattle.std.specs.List.{flat_map}
+use Rattle.txn.specs.declared.ast.TaskId.{TaskId}
+use Rattle.txn.specs.declared.ast.VarId.{VarId}
+use Rattle.txn.specs.Listing.{Listing}
+use Rattle.txn.specs.Words.{IsLastChange, last_state, value_of}
+use Rattle.text_words.specs.Words.{line}
+use Rattle.report_printer.specs.ReportText.{variable_lines}
+use Rattle.seen_printer.specs.SeenText.{variable_name}
+use Rattle.attempt.specs.Asking.{Known}
+use Rattle.world_law.specs.declared.events.Fate.{Fate}
+use Rattle.world_law.specs.declared.events.Fate.TheVariants.{Running, Committed, Parked, Stale, Dropped, Spent}
+use Rattle.world_law.specs.World.{Started, World}
+
+-- of so many variables the value in the last state, and the number of the last state that changed it
+pub record ArePresent (h : List (List ℤ)) (count : ℕ) (vars : List (ℤ × ℕ)) : Type 0 where
+  pub all : length vars ≡ count
+  pub each : (x : ℕ) (v : ℤ × ℕ) → slice_get vars x ≡ Some v → (v.0 ≡ value_of (last_state h) x) × IsLastChange h x v.1
+
+abbrev pub fate_text : Fate → List ℕ
+fate_text Running = codes "running"
+fate_text (Committed n) = codes "committed " ++ decimal n
+fate_text Parked = codes "parked"
+fate_text Stale = codes "stale"
+fate_text Dropped = codes "dropped"
+fate_text Spent = codes "memory"
+
+-- a variable that was read, and its value
+abbrev pub pair_text : Listing → VarId × ℤ → List ℕ
+pair_text l p = codes " " ++ (variable_name l p.0 ++ (codes " " ++ signed_decimal p.1))
+
+-- attempt TASK RV FATE, and what was read, in this order
+abbrev pub told_line : Listing → TaskId → ℕ → Known → Fate → List ℕ
+told_line l a rv log f =
+    codes "attempt " ++ (decimal a.0 ++ (codes " " ++ (decimal rv ++ (codes " " ++ (fate_text f ++ (flat_map (pair_text l) log ++ codes "\n"))))))
+
+abbrev pub attempt_line : Listing → Started → List ℕ
+attempt_line l y = told_line l y.task y.rv y.log y.fate
+
+-- the last lines of the world were put behind the text
+pub record PutsWorld (l : Listing) (w : World) (old new : List ℕ) : Type 0 where
+  pub vars : List (ℤ × ℕ)
+  pub present : ArePresent w.history (length l.names) vars
+  pub text : new ≡ old ++ (line (codes "now" ∷ decimal (length w.history - 1) ∷ [])
+      ++ (variable_lines l.names vars ++ (flat_map (attempt_line l) w.attempts ++ line (codes "end" ∷ []))))
+
+-- the text is the last lines of the world
+abbrev pub IsWorldText : Listing → World → List ℕ → Type 0
+IsWorldText l w text = PutsWorld l w [] text
