@@ -1,14 +1,14 @@
 //! The tasks on a report's lines.
 
 use crate::parts::failed;
-use std::test::Fail;
+use txn_text::ReadFault;
 
 /// Three tasks that wait, and two that don't.
 const FILE: &str =
     "(var x 0)(tx wait (if (eq x 0) (retry) (skip)) 1)(tx go (skip) x)(run wait 3)(run go 2)";
 
 #[test]
-fn tasks_ascend_and_are_accounted_for(rt: HostRuntime) -> Result<(), Fail> {
+fn tasks_ascend_and_are_accounted_for(rt: HostRuntime) -> Result<(), ReadFault> {
     for (lines, part) in [
         (
             "parked 0 wait\nparked 1 wait\nparked 2 wait\nmemory 3 go\nmemory 4 go\n",
@@ -51,7 +51,7 @@ fn tasks_ascend_and_are_accounted_for(rt: HostRuntime) -> Result<(), Fail> {
 }
 
 #[test]
-fn entries_replay_by_the_transaction_that_is_named(rt: HostRuntime) -> Result<(), Fail> {
+fn entries_replay_by_the_transaction_that_is_named(rt: HostRuntime) -> Result<(), ReadFault> {
     let file = "(tx a (skip) 1)(tx b (skip) 2)(run a 1)(run b 1)";
     for (report, part) in [
         (
@@ -77,7 +77,7 @@ fn entries_replay_by_the_transaction_that_is_named(rt: HostRuntime) -> Result<()
 }
 
 #[test]
-fn what_threw_changes_nothing(rt: HostRuntime) -> Result<(), Fail> {
+fn what_threw_changes_nothing(rt: HostRuntime) -> Result<(), ReadFault> {
     let file =
         "(var x 5)(tx f (seq (set x 9) (throw 1)) x)(tx same (set x 5) x)(run f 1)(run same 1)";
     let report =

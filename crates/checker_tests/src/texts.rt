@@ -1,10 +1,10 @@
 //! Texts that are cut, changed and oversized.
 
 use crate::parts::{FILE, REPORT, failed, is_unread};
-use std::test::Fail;
+use txn_text::ReadFault;
 
 #[test]
-fn every_beginning_is_refused(rt: HostRuntime) -> Result<(), Fail> {
+fn every_beginning_is_refused(rt: HostRuntime) -> Result<(), ReadFault> {
     let bytes = REPORT.as_bytes();
     for length in 0..bytes.len() {
         assert!(rt; is_unread(rt.alloc(), &bytes[..length])?, "of {length}");
@@ -14,7 +14,7 @@ fn every_beginning_is_refused(rt: HostRuntime) -> Result<(), Fail> {
 
 /// Each byte is replaced by each other, and none of what comes of it is lawful.
 #[test]
-fn every_change_of_one_byte_is_found(rt: HostRuntime) -> Result<(), Fail> {
+fn every_change_of_one_byte_is_found(rt: HostRuntime) -> Result<(), ReadFault> {
     let alloc = rt.alloc();
     let mut text = REPORT.as_bytes().to_vec(alloc)?;
     for place in 0..text.len() {
@@ -30,7 +30,7 @@ fn every_change_of_one_byte_is_found(rt: HostRuntime) -> Result<(), Fail> {
 }
 
 #[test]
-fn what_is_no_number_is_refused(rt: HostRuntime) -> Result<(), Fail> {
+fn what_is_no_number_is_refused(rt: HostRuntime) -> Result<(), ReadFault> {
     for report in [
         "base 65537\nx 5 0\nnow 0\nx 5 0\nend\n",
         "base -1\nx 5 0\nnow 0\nx 5 0\nend\n",
@@ -43,7 +43,7 @@ fn what_is_no_number_is_refused(rt: HostRuntime) -> Result<(), Fail> {
 }
 
 #[test]
-fn a_base_of_ten_thousand_digits_is_refused(rt: HostRuntime) -> Result<(), Fail> {
+fn a_base_of_ten_thousand_digits_is_refused(rt: HostRuntime) -> Result<(), ReadFault> {
     let alloc = rt.alloc();
     let mut report = String::from_str(alloc, "base ")?;
     for _ in 0..10_000 {
@@ -55,7 +55,7 @@ fn a_base_of_ten_thousand_digits_is_refused(rt: HostRuntime) -> Result<(), Fail>
 }
 
 #[test]
-fn variables_may_have_the_names_of_lines(rt: HostRuntime) -> Result<(), Fail> {
+fn variables_may_have_the_names_of_lines(rt: HostRuntime) -> Result<(), ReadFault> {
     let file = "(var entry 1)(var now 2)(var end 3)(tx t (set now 4) end)(run t 1)";
     let report =
         "base 0\nentry 1 0\nnow 2 0\nend 3 0\nentry 1 0 t returned 3\nnow 1\nentry 1 0\nnow 4 1\nend 3 0\nend\n";

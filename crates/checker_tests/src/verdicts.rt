@@ -2,11 +2,10 @@
 
 use crate::parts::{FILE, REPORT, failed};
 use checker::{Part, Verdict, check};
-use std::test::Fail;
 use txn_text::ReadFault;
 
 #[test]
-fn each_part_has_its_verdict(rt: HostRuntime) -> Result<(), Fail> {
+fn each_part_has_its_verdict(rt: HostRuntime) -> Result<(), ReadFault> {
     for (report, part) in [
         (REPORT, 0),
         (
@@ -48,7 +47,7 @@ fn each_part_has_its_verdict(rt: HostRuntime) -> Result<(), Fail> {
 }
 
 #[test]
-fn numbers_versions_and_outcomes_are_judged(rt: HostRuntime) -> Result<(), Fail> {
+fn numbers_versions_and_outcomes_are_judged(rt: HostRuntime) -> Result<(), ReadFault> {
     for (report, part) in [
         (
             "base 1\nx 6 2\nentry 2 1 inc returned 7\nnow 2\nx 7 2\nend\n",
@@ -85,7 +84,7 @@ fn numbers_versions_and_outcomes_are_judged(rt: HostRuntime) -> Result<(), Fail>
 }
 
 #[test]
-fn the_first_part_that_fails_is_told(rt: HostRuntime) -> Result<(), Fail> {
+fn the_first_part_that_fails_is_told(rt: HostRuntime) -> Result<(), ReadFault> {
     let report = "base 0\nx 4 0\nentry 2 0 inc returned 9\nnow 9\nx 0 0\nparked 0 inc\nend\n";
     assert_eq!(rt; failed(rt.alloc(), FILE, report.as_bytes())?, 2);
     let report = "base 0\nx 5 0\nentry 2 0 inc returned 9\nnow 9\nx 0 0\nparked 0 inc\nend\n";
@@ -98,7 +97,7 @@ fn the_first_part_that_fails_is_told(rt: HostRuntime) -> Result<(), Fail> {
 }
 
 #[test]
-fn a_base_that_was_moved_is_good(rt: HostRuntime) -> Result<(), Fail> {
+fn a_base_that_was_moved_is_good(rt: HostRuntime) -> Result<(), ReadFault> {
     let file = "(var x 5)(tx inc (set x (add x 1)) x)(run inc 3)";
     let report = "base 2\nx 7 2\nentry 3 2 inc returned 8\nnow 3\nx 8 3\nend\n";
     assert_eq!(rt; failed(rt.alloc(), file, report.as_bytes())?, 0);
@@ -106,7 +105,7 @@ fn a_base_that_was_moved_is_good(rt: HostRuntime) -> Result<(), Fail> {
 }
 
 #[test]
-fn a_fault_of_the_file_is_told(rt: HostRuntime) -> Result<(), Fail> {
+fn a_fault_of_the_file_is_told(rt: HostRuntime) -> Result<(), ReadFault> {
     for report in ["", REPORT] {
         let answer = check(rt.alloc(), b"(var x", report.as_bytes());
         assert_eq!(rt; answer.err(), Some(ReadFault::Shape));

@@ -2,11 +2,10 @@
 
 use crate::parts::{REPORT, fault};
 use report_reader::MAX_REPORT;
-use std::test::Fail;
 use txn_text::ReadFault;
 
 #[test]
-fn every_beginning_is_refused_by_its_shape(rt: HostRuntime) -> Result<(), Fail> {
+fn every_beginning_is_refused_by_its_shape(rt: HostRuntime) -> Result<(), ReadFault> {
     let bytes = REPORT.as_bytes();
     for length in 0..bytes.len() {
         assert_eq!(rt;
@@ -19,7 +18,7 @@ fn every_beginning_is_refused_by_its_shape(rt: HostRuntime) -> Result<(), Fail> 
 }
 
 #[test]
-fn numbers_have_one_text(rt: HostRuntime) -> Result<(), Fail> {
+fn numbers_have_one_text(rt: HostRuntime) -> Result<(), ReadFault> {
     for text in [
         "base -1\nx 5 0\nnow 0\nx 5 0\nend\n",
         "base 00\nx 5 0\nnow 0\nx 5 0\nend\n",
@@ -39,7 +38,7 @@ fn numbers_have_one_text(rt: HostRuntime) -> Result<(), Fail> {
 }
 
 #[test]
-fn names_come_before_limits(rt: HostRuntime) -> Result<(), Fail> {
+fn names_come_before_limits(rt: HostRuntime) -> Result<(), ReadFault> {
     for text in [
         "base 0\ny 5 0\nnow 0\nx 5 0\nend\n",
         "base 65537\nx 5 0\nentry 1 0 other returned 6\nnow 0\nx 5 0\nend\n",
@@ -55,7 +54,7 @@ fn names_come_before_limits(rt: HostRuntime) -> Result<(), Fail> {
 }
 
 #[test]
-fn limits_are_judged_last(rt: HostRuntime) -> Result<(), Fail> {
+fn limits_are_judged_last(rt: HostRuntime) -> Result<(), ReadFault> {
     for text in [
         "base 65537\nx 5 0\nnow 0\nx 5 0\nend\n",
         "base 0\nx 5 65537\nnow 0\nx 5 0\nend\n",
@@ -72,7 +71,7 @@ fn limits_are_judged_last(rt: HostRuntime) -> Result<(), Fail> {
 }
 
 #[test]
-fn bytes_and_length_come_first(rt: HostRuntime) -> Result<(), Fail> {
+fn bytes_and_length_come_first(rt: HostRuntime) -> Result<(), ReadFault> {
     let alloc = rt.alloc();
     assert_eq!(rt; fault(alloc, &[200])?, Some(ReadFault::BadByte));
     let mut long = Vec::with_capacity(alloc, MAX_REPORT + 1)?;

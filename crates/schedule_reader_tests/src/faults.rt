@@ -2,11 +2,10 @@
 
 use crate::parts::fault;
 use schedule_reader::MAX_SCHEDULE;
-use std::test::Fail;
 use txn_text::ReadFault;
 
 #[test]
-fn lines_have_one_text(rt: HostRuntime) -> Result<(), Fail> {
+fn lines_have_one_text(rt: HostRuntime) -> Result<(), ReadFault> {
     for text in [
         "begin 0",
         "begin  0\n",
@@ -37,7 +36,7 @@ fn lines_have_one_text(rt: HostRuntime) -> Result<(), Fail> {
 }
 
 #[test]
-fn names_come_before_limits(rt: HostRuntime) -> Result<(), Fail> {
+fn names_come_before_limits(rt: HostRuntime) -> Result<(), ReadFault> {
     for text in ["read 0 z\n", "begin 2\nread 0 z\n", "first 2 xx\n"] {
         assert_eq!(rt;
             fault(rt.alloc(), text.as_bytes())?,
@@ -49,7 +48,7 @@ fn names_come_before_limits(rt: HostRuntime) -> Result<(), Fail> {
 }
 
 #[test]
-fn limits_are_judged_last(rt: HostRuntime) -> Result<(), Fail> {
+fn limits_are_judged_last(rt: HostRuntime) -> Result<(), ReadFault> {
     for text in [
         "begin 2\n",
         "read 2 x\n",
@@ -66,7 +65,7 @@ fn limits_are_judged_last(rt: HostRuntime) -> Result<(), Fail> {
 }
 
 #[test]
-fn a_task_of_thousands_of_digits(rt: HostRuntime) -> Result<(), Fail> {
+fn a_task_of_thousands_of_digits(rt: HostRuntime) -> Result<(), ReadFault> {
     let mut text = Vec::new(rt.alloc());
     text.extend_from_slice(b"begin ")?;
     for _ in 0..5000 {
@@ -78,7 +77,7 @@ fn a_task_of_thousands_of_digits(rt: HostRuntime) -> Result<(), Fail> {
 }
 
 #[test]
-fn bytes_and_length_come_first(rt: HostRuntime) -> Result<(), Fail> {
+fn bytes_and_length_come_first(rt: HostRuntime) -> Result<(), ReadFault> {
     let alloc = rt.alloc();
     assert_eq!(rt; fault(alloc, &[200])?, Some(ReadFault::BadByte));
     let mut long = Vec::with_capacity(alloc, MAX_SCHEDULE + 1)?;

@@ -2,7 +2,6 @@
 
 use schedule_reader::read_schedule;
 use std::alloc::Global;
-use std::test::Fail;
 use txn::{Move, TaskId, VarId};
 use txn_text::{ReadFault, read_file};
 
@@ -15,13 +14,13 @@ pub(crate) fn answer(
     alloc: Global,
     file: &str,
     schedule: &[u8],
-) -> Result<Result<Vec<Move>, ReadFault>, Fail> {
+) -> Result<Result<Vec<Move>, ReadFault>, ReadFault> {
     let catalogue = read_file(alloc, file.as_bytes())?;
     Ok(read_schedule(alloc, schedule, &catalogue))
 }
 
 /// Why a schedule of the pair is refused, if it is.
-pub(crate) fn fault(alloc: Global, schedule: &[u8]) -> Result<Option<ReadFault>, Fail> {
+pub(crate) fn fault(alloc: Global, schedule: &[u8]) -> Result<Option<ReadFault>, ReadFault> {
     match answer(alloc, PAIR, schedule)? {
         Ok(_) => Ok(None),
         Err(fault) => Ok(Some(fault)),

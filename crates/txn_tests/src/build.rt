@@ -2,7 +2,6 @@
 
 use crate::parts::{X, tx, var};
 use std::alloc::{AllocError, Global};
-use std::test::Fail;
 use txn::names::is_name;
 use txn::{BuildFault, Catalogue, Expr, Stmt, Tx, TxId};
 
@@ -30,7 +29,7 @@ fn refused(
 }
 
 #[test]
-fn names_and_ids_come_first(rt: HostRuntime) -> Result<(), Fail> {
+fn names_and_ids_come_first(rt: HostRuntime) -> Result<(), AllocError> {
     let alloc = rt.alloc();
     assert!(rt; is_name(b"x_1"));
     assert!(rt; !is_name(b"1x"));
@@ -48,7 +47,7 @@ fn names_and_ids_come_first(rt: HostRuntime) -> Result<(), Fail> {
 }
 
 #[test]
-fn names_have_32_bytes_at_most(rt: HostRuntime) -> Result<(), Fail> {
+fn names_have_32_bytes_at_most(rt: HostRuntime) -> Result<(), AllocError> {
     let alloc = rt.alloc();
     let long = "a2345678901234567890123456789012";
     assert_eq!(rt; long.len(), 32);
@@ -68,7 +67,7 @@ fn costly(alloc: Global, more: u32) -> Result<Stmt, AllocError> {
 }
 
 #[test]
-fn cost_is_a_million_at_most(rt: HostRuntime) -> Result<(), Fail> {
+fn cost_is_a_million_at_most(rt: HostRuntime) -> Result<(), AllocError> {
     let alloc = rt.alloc();
     assert_eq!(rt; refused(alloc, Vec::new(alloc), costly(alloc, 996)?)?, None);
     let over = refused(alloc, Vec::new(alloc), costly(alloc, 997)?)?;
@@ -86,7 +85,7 @@ fn huge(alloc: Global, depth: u8) -> Result<Stmt, AllocError> {
 }
 
 #[test]
-fn repeat_0_costs_1_whatever_its_body(rt: HostRuntime) -> Result<(), Fail> {
+fn repeat_0_costs_1_whatever_its_body(rt: HostRuntime) -> Result<(), AllocError> {
     let alloc = rt.alloc();
     let never = repeat(alloc, 0, huge(alloc, 29)?)?;
     assert_eq!(rt; refused(alloc, Vec::new(alloc), never)?, None);
@@ -104,7 +103,7 @@ fn repeat_0_costs_1_whatever_its_body(rt: HostRuntime) -> Result<(), Fail> {
 }
 
 #[test]
-fn trees_are_31_deep_at_most(rt: HostRuntime) -> Result<(), Fail> {
+fn trees_are_31_deep_at_most(rt: HostRuntime) -> Result<(), AllocError> {
     let alloc = rt.alloc();
     for (depth, want) in [(31, None), (32, Some(BuildFault::Limit))] {
         let mut body = Stmt::Skip;
@@ -126,7 +125,7 @@ fn many_vars(alloc: Global, count: u32) -> Result<Vec<(String, i64)>, AllocError
 }
 
 #[test]
-fn variables_are_256_at_most(rt: HostRuntime) -> Result<(), Fail> {
+fn variables_are_256_at_most(rt: HostRuntime) -> Result<(), AllocError> {
     let alloc = rt.alloc();
     assert_eq!(rt; refused(alloc, many_vars(alloc, 256)?, Stmt::Skip)?, None);
     let over = refused(alloc, many_vars(alloc, 257)?, Stmt::Skip)?;
@@ -149,7 +148,7 @@ fn many_txs(alloc: Global, count: u32) -> Result<Option<BuildFault>, AllocError>
 }
 
 #[test]
-fn transactions_are_256_at_most(rt: HostRuntime) -> Result<(), Fail> {
+fn transactions_are_256_at_most(rt: HostRuntime) -> Result<(), AllocError> {
     let alloc = rt.alloc();
     assert_eq!(rt; many_txs(alloc, 256)?, None);
     assert_eq!(rt; many_txs(alloc, 257)?, Some(BuildFault::Limit));
@@ -157,7 +156,7 @@ fn transactions_are_256_at_most(rt: HostRuntime) -> Result<(), Fail> {
 }
 
 #[test]
-fn a_run_is_of_a_transaction_that_there_is(rt: HostRuntime) -> Result<(), Fail> {
+fn a_run_is_of_a_transaction_that_there_is(rt: HostRuntime) -> Result<(), AllocError> {
     let alloc = rt.alloc();
     for (id, want) in [(0, None), (1, Some(BuildFault::Name))] {
         let txs = vec![in alloc; tx(alloc, "t", Stmt::Skip, Expr::Int(0))?]?;
@@ -169,7 +168,7 @@ fn a_run_is_of_a_transaction_that_there_is(rt: HostRuntime) -> Result<(), Fail> 
 }
 
 #[test]
-fn tasks_are_65536_at_most(rt: HostRuntime) -> Result<(), Fail> {
+fn tasks_are_65536_at_most(rt: HostRuntime) -> Result<(), AllocError> {
     let alloc = rt.alloc();
     for (counts, want) in [
         ([65536, 0], None),

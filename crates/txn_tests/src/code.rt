@@ -3,9 +3,8 @@
 use std::alloc::{AllocError, Global};
 use std::mem::size_of;
 use std::process::Abort;
-use std::test::Fail;
 use txn::{Op, TxId, VarId};
-use txn_text::read_file;
+use txn_text::{ReadFault, read_file};
 
 const X: VarId = VarId(0);
 
@@ -16,7 +15,7 @@ fn expect_code(
     alloc: Global,
     body: &str,
     want: &[Op],
-) -> Result<(), Fail> {
+) -> Result<(), ReadFault> {
     let text = format!(in alloc; "(var x 5)(tx t {body} 0)")?;
     let catalogue = read_file(alloc, text.as_bytes())?;
     assert!(rt; catalogue.tx_count() > 0);
@@ -30,7 +29,7 @@ fn an_instruction_has_16_bytes(rt: HostRuntime) {
 }
 
 #[test]
-fn an_increment_loads_adds_and_stores(rt: HostRuntime) -> Result<(), Fail> {
+fn an_increment_loads_adds_and_stores(rt: HostRuntime) -> Result<(), ReadFault> {
     let want = [
         Op::Load(3, X),
         Op::Push(1, 1),
@@ -43,13 +42,13 @@ fn an_increment_loads_adds_and_stores(rt: HostRuntime) -> Result<(), Fail> {
 }
 
 #[test]
-fn an_empty_sequence_is_counted(rt: HostRuntime) -> Result<(), Fail> {
+fn an_empty_sequence_is_counted(rt: HostRuntime) -> Result<(), ReadFault> {
     let want = [Op::Nop(1), Op::Push(1, 0), Op::Give];
     expect_code(&rt, rt.alloc(), "(seq)", &want)
 }
 
 #[test]
-fn branches_are_passed(rt: HostRuntime) -> Result<(), Fail> {
+fn branches_are_passed(rt: HostRuntime) -> Result<(), ReadFault> {
     let want = [
         Op::Enter(1, 2),
         Op::Back(1),
@@ -70,7 +69,7 @@ fn branches_are_passed(rt: HostRuntime) -> Result<(), Fail> {
 }
 
 #[test]
-fn right_sides_and_loops_are_passed(rt: HostRuntime) -> Result<(), Fail> {
+fn right_sides_and_loops_are_passed(rt: HostRuntime) -> Result<(), ReadFault> {
     let want = [
         Op::Nop(1),
         Op::Begin(3, 12),
@@ -109,7 +108,7 @@ fn deepest(alloc: Global) -> Result<String, AllocError> {
 }
 
 #[test]
-fn the_deepest_is_counted_at_its_first(rt: HostRuntime) -> Result<(), Fail> {
+fn the_deepest_is_counted_at_its_first(rt: HostRuntime) -> Result<(), ReadFault> {
     let text = deepest(rt.alloc())?;
     let catalogue = read_file(rt.alloc(), text.as_bytes())?;
     assert!(rt; catalogue.tx_count() > 0);

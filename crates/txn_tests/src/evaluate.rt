@@ -2,10 +2,17 @@
 
 use std::alloc::Global;
 use std::process::Abort;
-use std::test::Fail;
 use txn::evaluate::{execute, holds, value};
 use txn::{Catalogue, Cond, Expr, Fault, Memory, Outcome, TxId};
 use txn_text::read_file;
+
+/// The catalogue of a text. What is no file stops the test as want of memory does.
+fn catalogue(alloc: Global, text: &str) -> Result<Catalogue, Memory> {
+    match read_file(alloc, text.as_bytes()) {
+        Ok(catalogue) => Ok(catalogue),
+        Err(_) => Err(Memory),
+    }
+}
 
 /// A run of the first transaction from the initial state: how it ends, and the state after it.
 fn executed(
@@ -26,9 +33,9 @@ fn expect_run(
     body: &str,
     want: Outcome,
     left: i64,
-) -> Result<(), Fail> {
+) -> Result<(), Memory> {
     let text = format!(in alloc; "(var x 5)(tx t {body} x)")?;
-    let catalogue = read_file(alloc, text.as_bytes())?;
+    let catalogue = catalogue(alloc, text.as_str())?;
     let (how, state) = executed(rt, alloc, &catalogue)?;
     assert_eq!(rt; how, want);
     assert_eq!(rt; state.as_slice(), [left].as_slice());
@@ -36,31 +43,31 @@ fn expect_run(
 }
 
 #[test]
-fn a_transaction_writes_and_returns(rt: HostRuntime) -> Result<(), Fail> {
+fn a_transaction_writes_and_returns(rt: HostRuntime) -> Result<(), Memory> {
     let increment = "(set x (add x 1))";
     expect_run(&rt, rt.alloc(), increment, Outcome::Returned(6), 6)
 }
 
 #[test]
-fn a_transaction_waits_where_both_branches_retry(rt: HostRuntime) -> Result<(), Fail> {
+fn a_transaction_waits_where_both_branches_retry(rt: HostRuntime) -> Result<(), Memory> {
     let waits = "(orelse (retry) (retry))";
     expect_run(&rt, rt.alloc(), waits, Outcome::Retries, 5)
 }
 
 #[test]
-fn a_throw_is_not_caught(rt: HostRuntime) -> Result<(), Fail> {
+fn a_throw_is_not_caught(rt: HostRuntime) -> Result<(), Memory> {
     let throws = "(orelse (throw 7) (set x 1))";
     expect_run(&rt, rt.alloc(), throws, Outcome::Thrown(Fault::User(7)), 5)
 }
 
 #[test]
-fn writes_of_a_retried_branch_go(rt: HostRuntime) -> Result<(), Fail> {
+fn writes_of_a_retried_branch_go(rt: HostRuntime) -> Result<(), Memory> {
     let keeps = "(orelse (seq (set x 9) (retry)) (skip))";
     expect_run(&rt, rt.alloc(), keeps, Outcome::Returned(5), 5)
 }
 
 #[test]
-fn conditions_look_right_only_where_needed(rt: HostRuntime) -> Result<(), Fail> {
+fn conditions_look_right_only_where_needed(rt: HostRuntime) -> Result<(), Memory> {
     let alloc = rt.alloc();
     let one = Expr::Int(1);
     let faulty = Expr::Div(

@@ -1,20 +1,19 @@
 //! What the getters of a catalogue tell.
 
 use std::alloc::Global;
-use std::test::Fail;
 use txn::limits::limits_are;
 use txn::{Catalogue, TaskId, TxId, VarId};
-use txn_text::read_file;
+use txn_text::{ReadFault, read_file};
 
 /// Variables x and y, transactions skip and x, and three tasks.
-fn catalogue(alloc: Global) -> Result<Catalogue, Fail> {
+fn catalogue(alloc: Global) -> Result<Catalogue, ReadFault> {
     let text =
         "(var x 5)(var y -1)(tx skip (skip) 0)(tx x (skip) x)(run x 2)(run skip 0)(run skip 1)";
     Ok(read_file(alloc, text.as_bytes())?)
 }
 
 #[test]
-fn variables_are_told(rt: HostRuntime) -> Result<(), Fail> {
+fn variables_are_told(rt: HostRuntime) -> Result<(), ReadFault> {
     let catalogue = catalogue(rt.alloc())?;
     assert_eq!(rt; catalogue.initial(), [5, -1].as_slice());
     assert_eq!(rt; catalogue.var_id("y"), Some(VarId(1)));
@@ -25,7 +24,7 @@ fn variables_are_told(rt: HostRuntime) -> Result<(), Fail> {
 }
 
 #[test]
-fn transactions_are_told(rt: HostRuntime) -> Result<(), Fail> {
+fn transactions_are_told(rt: HostRuntime) -> Result<(), ReadFault> {
     let catalogue = catalogue(rt.alloc())?;
     assert_eq!(rt; catalogue.tx_count(), 2);
     assert_eq!(rt; catalogue.tx_name(TxId(1)), "x");
@@ -36,7 +35,7 @@ fn transactions_are_told(rt: HostRuntime) -> Result<(), Fail> {
 }
 
 #[test]
-fn tasks_are_told(rt: HostRuntime) -> Result<(), Fail> {
+fn tasks_are_told(rt: HostRuntime) -> Result<(), ReadFault> {
     let catalogue = catalogue(rt.alloc())?;
     catalogue.rules();
     limits_are();

@@ -1,10 +1,10 @@
 //! The texts of the errors.
 
-use std::test::Fail;
+use std::alloc::AllocError;
 use txn::{BuildFault, Memory};
 
 #[test]
-fn want_of_memory_has_its_line(rt: HostRuntime) -> Result<(), Fail> {
+fn want_of_memory_has_its_line(rt: HostRuntime) -> Result<(), AllocError> {
     assert_eq!(rt;
         format!(in rt.alloc(); "{Memory}")?.as_str(),
         "out of memory"

@@ -6,12 +6,19 @@ ghost use Rattle.txn.specs.LawfulReport.{FitsCatalogue};
 ghost use Rattle.txn.specs.Told.{told};
 
 use std::alloc::{AllocError, Global};
-use std::test::Fail;
-use txn::{Entry, Fault, Outcome, Report, TaskId, TxId};
+use txn::{Catalogue, Entry, Fault, Memory, Outcome, Report, TaskId, TxId};
 use txn_text::{print_file, print_report, read_file};
 
+/// The catalogue of a text. What is no file stops the test as want of memory does.
+fn catalogue(alloc: Global, text: &str) -> Result<Catalogue, Memory> {
+    match read_file(alloc, text.as_bytes()) {
+        Ok(catalogue) => Ok(catalogue),
+        Err(_) => Err(Memory),
+    }
+}
+
 #[test]
-fn files_are_printed_in_one_way(rt: HostRuntime) -> Result<(), Fail> {
+fn files_are_printed_in_one_way(rt: HostRuntime) -> Result<(), Memory> {
     let alloc = rt.alloc();
     for (input, canonical) in [
         ("", ""),
@@ -28,7 +35,7 @@ fn files_are_printed_in_one_way(rt: HostRuntime) -> Result<(), Fail> {
             "(tx t (seq) 0)\n(run t 1)\n",
         ),
     ] {
-        let catalogue = read_file(alloc, input.as_bytes())?;
+        let catalogue = catalogue(alloc, input)?;
         assert_eq!(rt;
             print_file(alloc, &catalogue)?.as_str(),
             canonical,
@@ -72,9 +79,9 @@ fn report(alloc: Global) -> Result<Report, AllocError>
 }
 
 #[test]
-fn reports_are_printed_line_by_line(rt: HostRuntime) -> Result<(), Fail> {
+fn reports_are_printed_line_by_line(rt: HostRuntime) -> Result<(), Memory> {
     let alloc = rt.alloc();
-    let catalogue = read_file(alloc, b"(tx t (skip) 0)(run t 6)")?;
+    let catalogue = catalogue(alloc, "(tx t (skip) 0)(run t 6)")?;
     assert_eq!(rt; catalogue.initial().len(), 0);
     assert_eq!(rt; catalogue.tx_count(), 1);
     assert_eq!(rt; catalogue.tasks(), 6);

@@ -92,7 +92,7 @@ fn nested_fault(alloc: Global, turns: usize, nest: &Nest) -> Result<Option<ReadF
 }
 
 #[test]
-fn reads_increments(rt: HostRuntime) -> Result<(), Fail> {
+fn reads_increments(rt: HostRuntime) -> Result<(), ReadFault> {
     let text = "(var x 5)(tx inc (set x (add x 1)) x)(run inc 2)";
     let file = read_file(rt.alloc(), text.as_bytes())?;
     assert_eq!(rt; file.initial(), [5].as_slice());
@@ -104,7 +104,7 @@ fn reads_increments(rt: HostRuntime) -> Result<(), Fail> {
 }
 
 #[test]
-fn reads_every_form(rt: HostRuntime) -> Result<(), Fail> {
+fn reads_every_form(rt: HostRuntime) -> Result<(), ReadFault> {
     let text = "(var entry -9223372036854775808)(var now 0)(var end 7)
         (tx all (seq (skip) (set now (sub (mul entry 2) (div end (rem now 3))))
             (if (and (eq now 1) (or (not (lt end 2)) (le 0 end))) (retry) (throw 4))
@@ -209,7 +209,7 @@ fn reads_to_the_limits(rt: HostRuntime) {
 }
 
 #[test]
-fn thirty_two_parentheses_are_open_at_most(rt: HostRuntime) -> Result<(), Fail> {
+fn thirty_two_parentheses_are_open_at_most(rt: HostRuntime) -> Result<(), ReadFault> {
     let alloc = rt.alloc();
     for (turns, nest) in [(31, &SUMS), (31, &BLOCKS), (29, &CONDITIONS)] {
         assert_eq!(rt; nested_fault(alloc, turns, nest)?, None);
@@ -220,14 +220,14 @@ fn thirty_two_parentheses_are_open_at_most(rt: HostRuntime) -> Result<(), Fail> 
 }
 
 #[test]
-fn deep_files_are_refused(rt: HostRuntime) -> Result<(), Fail> {
+fn deep_files_are_refused(rt: HostRuntime) -> Result<(), ReadFault> {
     let deep = nested_fault(rt.alloc(), 100_000, &BLOCKS)?;
     assert_eq!(rt; deep, Some(ReadFault::Shape));
     Ok(())
 }
 
 #[test]
-fn reads_long_files(rt: HostRuntime) -> Result<(), Fail> {
+fn reads_long_files(rt: HostRuntime) -> Result<(), ReadFault> {
     let alloc = rt.alloc();
     assert_eq!(rt; nested_fault(alloc, MAX_FILE, &NEWLINES)?, None);
     let over = nested_fault(alloc, MAX_FILE + 1, &NEWLINES)?;
@@ -238,14 +238,14 @@ fn reads_long_files(rt: HostRuntime) -> Result<(), Fail> {
 }
 
 #[test]
-fn ten_thousand_digits_are_an_integer(rt: HostRuntime) -> Result<(), Fail> {
+fn ten_thousand_digits_are_an_integer(rt: HostRuntime) -> Result<(), ReadFault> {
     let huge = nested_fault(rt.alloc(), 9_999, &DIGITS)?;
     assert_eq!(rt; huge, Some(ReadFault::Limit));
     Ok(())
 }
 
 #[test]
-fn faults_have_names(rt: HostRuntime) -> Result<(), Fail> {
+fn faults_have_names(rt: HostRuntime) -> Result<(), ReadFault> {
     for (fault, text) in [
         (ReadFault::TooLong, "F1 TooLong"),
         (ReadFault::BadByte, "F2 BadByte"),
