@@ -2,9 +2,9 @@
 
 use crate::checking::report_contents;
 use crate::host_tests::{Host, Prints, Reads};
-use crate::program::run;
+use crate::program_tests::ends;
 use std::alloc::Global;
-use std::test::Fail;
+use std::process::Abort;
 
 const CHECK: &[&[u8]] = &[b"stm", b"check", b"a.stm", b"a.report"];
 
@@ -21,86 +21,75 @@ fn checking<'a>(alloc: Global, file: &'a [u8], report: &'a [u8]) -> Host<'a> {
 }
 
 #[test]
-fn a_lawful_report_is_0(rt: HostRuntime) -> Result<(), Fail> {
+fn a_lawful_report_is_0(rt: HostRuntime) {
     let host = checking(rt.alloc(), INCREMENT, REPORT);
-    assert_eq!(rt; run(&rt, &host), 0);
-    assert_eq!(rt; host.writes.get(), 1);
-    assert_eq!(rt; host.taken.get(), b"good\n".len());
-    assert!(rt; host.has_said(""));
-    Ok(())
+    ends(&rt, &host, 0, 1, Some(""));
+    assert!(rt; host.taken.get() == b"good\n".len());
 }
 
 #[test]
-fn any_other_report_is_1(rt: HostRuntime) -> Result<(), Fail> {
+fn any_other_report_is_1(rt: HostRuntime) {
     for report in [b"".as_slice(), &REPORT[1..], &REPORT[..REPORT.len() - 1]] {
         let host = checking(rt.alloc(), INCREMENT, report);
-        assert_eq!(rt; run(&rt, &host), 1);
-        assert_eq!(rt; host.writes.get(), 1);
-        assert_eq!(rt; host.taken.get(), b"bad 1\n".len());
-        assert!(rt; host.has_said(""));
+        ends(&rt, &host, 1, 1, Some(""));
+        assert!(rt; host.taken.get() == b"bad 1\n".len());
     }
-    Ok(())
 }
 
 #[test]
-fn a_refused_file_is_2_whatever_the_report(rt: HostRuntime) -> Result<(), Fail> {
+fn a_refused_file_is_2_whatever_the_report(rt: HostRuntime) {
     for report in [b"".as_slice(), REPORT] {
         let host = checking(rt.alloc(), b"(var x", report);
-        assert_eq!(rt; run(&rt, &host), 2);
-        assert_eq!(rt; host.writes.get(), 0);
-        assert!(rt; host.has_said("stm: file: F3 Shape\n"));
+        ends(&rt, &host, 2, 0, Some("stm: file: F3 Shape\n"));
     }
-    Ok(())
 }
 
 #[test]
-fn a_report_is_asked_for(rt: HostRuntime) -> Result<(), Fail> {
+fn a_report_is_asked_for(rt: HostRuntime) {
     let host = Host::new(rt.alloc(), &CHECK[..3], INCREMENT);
-    assert_eq!(rt; run(&rt, &host), 3);
-    assert_eq!(rt; host.writes.get(), 0);
-    assert!(rt; !host.has_said(""));
-    Ok(())
+    ends(&rt, &host, 3, 0, None);
 }
 
 /// Both are read before the file is judged.
 #[test]
-fn a_report_that_cannot_be_read_is_4(rt: HostRuntime) -> Result<(), Fail> {
+fn a_report_that_cannot_be_read_is_4(rt: HostRuntime) {
     let words = [b"stm".as_slice(), b"check", b"a.stm", b"b.report"];
     for file in [INCREMENT, b"(var x"] {
         let host = Host::new(rt.alloc(), &words, file);
-        assert_eq!(rt; run(&rt, &host), 4);
-        assert_eq!(rt; host.writes.get(), 0);
-        assert!(rt; host.has_said("stm: cannot read\n"));
+        ends(&rt, &host, 4, 0, Some("stm: cannot read\n"));
     }
-    Ok(())
 }
 
 #[test]
-fn a_verdict_that_cannot_be_printed_is_4(rt: HostRuntime) -> Result<(), Fail> {
+fn a_verdict_that_cannot_be_printed_is_4(rt: HostRuntime) {
     let mut host = checking(rt.alloc(), INCREMENT, REPORT);
     host.prints = Prints::Fails;
-    assert_eq!(rt; run(&rt, &host), 4);
-    assert_eq!(rt; host.writes.get(), 1);
-    assert!(rt; host.has_said("stm: cannot write\n"));
-    Ok(())
+    ends(&rt, &host, 4, 1, Some("stm: cannot write\n"));
 }
 
 #[test]
-fn want_of_memory_for_a_report_is_5(rt: HostRuntime) -> Result<(), Fail> {
+fn want_of_memory_for_a_report_is_5(rt: HostRuntime) {
     let mut host = checking(rt.alloc(), INCREMENT, REPORT);
     host.reads = Reads::WantsMemory;
-    assert_eq!(rt; run(&rt, &host), 5);
-    assert!(rt; host.has_said("stm: out of memory\n"));
-    Ok(())
+    ends(&rt, &host, 5, 0, Some("stm: out of memory\n"));
+}
+
+/// So many bytes of the host's file `a.report` are read.
+fn reads(rt: &impl Abort, host: &Host<'_>, count: usize) {
+    match report_contents(host, "a.report") {
+        Ok(bytes) => assert_eq!(rt; bytes.len(), count),
+        Err(_) => panic!(rt; "not read"),
+    }
 }
 
 /// One byte past the limit is read, and no more.
 #[test]
-fn a_report_has_8388608_bytes_at_most(rt: HostRuntime) -> Result<(), Fail> {
+fn a_report_has_8388608_bytes_at_most(rt: HostRuntime) {
     for (size, read) in [(8388608, 8388608), (8388609, 8388609), (8388612, 8388609)] {
-        let blanks = Vec::from_elem(rt.alloc(), b' ', size)?;
+        let Ok(blanks) = Vec::from_elem(rt.alloc(), b' ', size) else {
+            panic!(rt; "no blanks")
+        };
         let host = checking(rt.alloc(), INCREMENT, blanks.as_slice());
-        assert_eq!(rt; report_contents(&host, "a.report")?.len(), read);
+        reads(&rt, &host, read);
     }
-    Ok(())
 }

@@ -59,8 +59,11 @@ const VERDICTS: &str =
 const WORLD: &str =
     "Plays a schedule on the stepped world of a file: one load and one store at a time, in the order that you name, with no threads.";
 
-const LINES: &str =
-    "A schedule has a line for each move. A is the number of a task, counted from 0, and X a variable:\n\n    begin A       an attempt of the task begins: it loads the clock\n    read A X      it reads the variable: first, value and second\n    commit A      it asks, and all its words are stored\n    drop A        its attempt is dropped\n    first A X     it loads the version of the variable\n    value A       it loads the value\n    second A      it loads the version again\n    ask A         it has ended, and asks to commit\n    word          the one that commits stores its next word\n\nPrints for each line its number and what is seen: idle, needs X, ended OUTCOME,\nloaded, stale, parked, commits N, stored, committed N, dropped or memory.\nThen the present number, values and versions, and each attempt with its task,\nthe number of the state that it reads, its fate, and what it has read.\n\nStatus: 0 done, 2 the file or the schedule is refused, 3 the command line is refused,\n4 a file cannot be read or the output cannot be written, 5 out of memory.";
+const SCHEDULE: &str =
+    "The path of the schedule to play: a line for each move. A is the number of a task,\ncounted from 0, and X a variable:\n\n    begin A       an attempt of the task begins: it loads the clock\n    read A X      it reads the variable: first, value and second\n    commit A      it asks, and all its words are stored\n    drop A        its attempt is dropped\n    first A X     it loads the version of the variable\n    value A       it loads the value\n    second A      it loads the version again\n    ask A         it has ended, and asks to commit\n    word          the one that commits stores its next word";
+
+const SEEN: &str =
+    "Prints for each line its number and what is seen: idle, needs X, ended OUTCOME,\nloaded, stale, parked, commits N, stored, committed N, dropped or memory.\nThen the present number, values and versions, and each attempt with its task,\nthe number of the state that it reads, its fate, and what it has read.\n\nStatus: 0 done, 2 the file or the schedule is refused, 3 the command line is refused,\n4 a file cannot be read or the output cannot be written, 5 out of memory.";
 
 const CHECKPOINT: &str =
     "After this many journal entries the report begins anew from the values reached; at most 65536, and 0 for never";
@@ -73,19 +76,19 @@ fn command<'a>(alloc: Global) -> Result<Command<'a>, AllocError> {
     let workers = Arg::new(alloc, "workers")
         .long("workers")
         .value_name("N")
-        .value_parser(value_parser!(u32))
+        .value_parser(value_parser!(u32).range(1..=16))
         .default_value("4")
         .help("How many workers run the tasks, 1 to 16");
     let tries = Arg::new(alloc, "tries")
         .long("tries")
         .value_name("N")
-        .value_parser(value_parser!(u32))
+        .value_parser(value_parser!(u32).range(1..=64))
         .default_value("8")
         .help("After how many stale tries a task is run alone, 1 to 64");
     let checkpoint = Arg::new(alloc, "checkpoint")
         .long("checkpoint")
         .value_name("N")
-        .value_parser(value_parser!(u32))
+        .value_parser(value_parser!(u32).range(0..=65536))
         .default_value("0")
         .help(CHECKPOINT);
     let run = Command::new(alloc, "run")
@@ -127,10 +130,11 @@ fn world_command<'a>(alloc: Global) -> Result<Command<'a>, AllocError> {
         .help("The path of the file whose tasks take part");
     let schedule = Arg::new(alloc, "SCHEDULE")
         .required(true)
-        .help("The path of the schedule to play");
+        .help("The path of the schedule to play")
+        .long_help(SCHEDULE);
     Command::new(alloc, "world")
         .about(WORLD)
-        .after_help(LINES)
+        .after_help(SEEN)
         .arg(file)?
         .arg(schedule)
 }

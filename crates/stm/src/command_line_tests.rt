@@ -3,9 +3,9 @@
 use crate::command_line::{Request, parse};
 use clap::error::ErrorKind;
 use std::alloc::{AllocError, Global};
-use std::test::Fail;
+use std::process::Abort;
 
-fn words(alloc: Global, line: &str) -> Result<Vec<String>, AllocError> {
+fn words_of(alloc: Global, line: &str) -> Result<Vec<String>, AllocError> {
     let mut words = Vec::new(alloc);
     for word in line.split(' ') {
         words.push(String::from_str(alloc, word)?)?;
@@ -13,86 +13,102 @@ fn words(alloc: Global, line: &str) -> Result<Vec<String>, AllocError> {
     Ok(words)
 }
 
+/// The words of a command line.
+fn words(rt: &impl Abort, alloc: Global, line: &str) -> Vec<String> {
+    match words_of(alloc, line) {
+        Ok(words) => words,
+        Err(_) => panic!(rt; "no words"),
+    }
+}
+
 /// The kind of the refusal of a command line, if it is refused.
-fn refusal(alloc: Global, line: &str) -> Result<Option<ErrorKind>, AllocError> {
-    let words = words(alloc, line)?;
+fn refusal(rt: &impl Abort, alloc: Global, line: &str) -> Option<ErrorKind> {
+    let words = words(rt, alloc, line);
     match parse(alloc, words.as_slice()) {
-        Ok(_) => Ok(None),
-        Err(error) => Ok(Some(error.kind())),
+        Ok(_) => None,
+        Err(error) => Some(error.kind()),
     }
 }
 
-#[test]
-fn files_are_asked_for(rt: HostRuntime) -> Result<(), Fail> {
-    let alloc = rt.alloc();
-    for (line, workers, tries) in [
-        ("stm run a.stm", 4, 8),
-        ("stm run a.stm --workers 1 --tries 64", 1, 64),
-        ("stm run --tries=1 --workers=16 a.stm", 16, 1),
-    ] {
-        let words = words(alloc, line)?;
-        match parse(alloc, words.as_slice())? {
-            Request::Run(request) => {
-                assert_eq!(rt; request.file, "a.stm", "of {line}");
-                assert_eq!(rt; request.options.workers(), workers, "of {line}");
-                assert_eq!(rt; request.options.tries(), tries, "of {line}");
-                assert_eq!(rt; request.options.checkpoint(), 0, "of {line}");
-            }
-            Request::Check(_) | Request::World(_) => assert!(rt; false),
+/// A command line asks to run `a.stm` with these workers, tries and checkpoint.
+fn expect_run(rt: &impl Abort, alloc: Global, line: &str, wanted: (u32, u32, u32)) {
+    let words = words(rt, alloc, line);
+    match parse(alloc, words.as_slice()) {
+        Ok(Request::Run(request)) => {
+            assert!(rt; request.file == "a.stm");
+            assert!(rt; request.options.workers() == wanted.0);
+            assert!(rt; request.options.tries() == wanted.1);
+            assert!(rt; request.options.checkpoint() == wanted.2);
         }
+        _ => panic!(rt; "no run is asked for"),
     }
-    Ok(())
 }
 
 #[test]
-fn a_checkpoint_is_asked_for(rt: HostRuntime) -> Result<(), Fail> {
+fn files_are_asked_for(rt: HostRuntime) {
     let alloc = rt.alloc();
-    for (line, checkpoint) in [
-        ("stm run a.stm --checkpoint 2", 2),
-        ("stm run a.stm --checkpoint=65536 --workers 1", 65536),
-    ] {
-        let words = words(alloc, line)?;
-        match parse(alloc, words.as_slice())? {
-            Request::Run(request) => {
-                assert_eq!(rt; request.options.checkpoint(), checkpoint, "of {line}");
-            }
-            Request::Check(_) | Request::World(_) => assert!(rt; false),
+    expect_run(&rt, alloc, "stm run a.stm", (4, 8, 0));
+    expect_run(
+        &rt,
+        alloc,
+        "stm run a.stm --workers 1 --tries 64",
+        (1, 64, 0),
+    );
+    expect_run(
+        &rt,
+        alloc,
+        "stm run --tries=1 --workers=16 a.stm",
+        (16, 1, 0),
+    );
+}
+
+#[test]
+fn a_checkpoint_is_asked_for(rt: HostRuntime) {
+    let alloc = rt.alloc();
+    expect_run(&rt, alloc, "stm run a.stm --checkpoint 2", (4, 8, 2));
+    expect_run(
+        &rt,
+        alloc,
+        "stm run a.stm --checkpoint=65536 --workers 1",
+        (1, 8, 65536),
+    );
+}
+
+/// A command line asks for a check of `a.report`, or to play `a.schedule`, of `a.stm`.
+fn asks_for(rt: &impl Abort, alloc: Global, line: &str, other: &str) -> bool {
+    let words = words(rt, alloc, line);
+    match parse(alloc, words.as_slice()) {
+        Ok(Request::Check(request)) => {
+            other == "a.report" && request.file == "a.stm" && request.report == other
         }
-    }
-    Ok(())
-}
-
-#[test]
-fn a_check_is_asked_for(rt: HostRuntime) -> Result<(), Fail> {
-    let alloc = rt.alloc();
-    let words = words(alloc, "stm check a.stm a.report")?;
-    match parse(alloc, words.as_slice())? {
-        Request::Check(request) => {
-            assert_eq!(rt; request.file, "a.stm");
-            assert_eq!(rt; request.report, "a.report");
+        Ok(Request::World(request)) => {
+            other == "a.schedule" && request.file == "a.stm" && request.schedule == other
         }
-        Request::Run(_) | Request::World(_) => assert!(rt; false),
+        _ => false,
     }
-    Ok(())
 }
 
 #[test]
-fn a_schedule_is_asked_for(rt: HostRuntime) -> Result<(), Fail> {
-    let alloc = rt.alloc();
-    let words = words(alloc, "stm world a.stm a.schedule")?;
-    match parse(alloc, words.as_slice())? {
-        Request::World(request) => {
-            assert_eq!(rt; request.file, "a.stm");
-            assert_eq!(rt; request.schedule, "a.schedule");
-        }
-        Request::Run(_) | Request::Check(_) => assert!(rt; false),
-    }
-    Ok(())
+fn a_check_is_asked_for(rt: HostRuntime) {
+    assert!(rt; asks_for(&rt, rt.alloc(), "stm check a.stm a.report", "a.report"));
 }
 
 #[test]
-fn mistakes_are_refused(rt: HostRuntime) -> Result<(), Fail> {
-    let alloc = rt.alloc();
+fn a_schedule_is_asked_for(rt: HostRuntime) {
+    assert!(rt; asks_for(&rt, rt.alloc(), "stm world a.stm a.schedule", "a.schedule"));
+}
+
+/// A command line is refused as a mistake.
+fn expect_mistake(rt: &(impl Abort + Eprint), alloc: Global, line: &str) {
+    let is_mistake = match refusal(rt, alloc, line) {
+        Some(kind) => kind != ErrorKind::DisplayHelp && kind != ErrorKind::OutOfMemory,
+        None => false,
+    };
+    assert!(rt; is_mistake, "of {line}");
+}
+
+#[test]
+fn mistakes_are_refused(rt: HostRuntime) {
     for line in [
         "stm",
         "stm walk",
@@ -117,17 +133,56 @@ fn mistakes_are_refused(rt: HostRuntime) -> Result<(), Fail> {
         "stm world a b c",
         "stm world a b --workers 1",
     ] {
-        let kind = refusal(alloc, line)?;
-        assert!(rt; kind.is_some(), "of {line}");
-        assert!(rt; kind != Some(ErrorKind::DisplayHelp), "of {line}");
-        assert!(rt; kind != Some(ErrorKind::OutOfMemory), "of {line}");
+        expect_mistake(&rt, rt.alloc(), line);
     }
-    Ok(())
+}
+
+/// What is told of a refused command line begins so.
+fn expect_told(rt: &impl Abort, alloc: Global, line: &str, told: &str) {
+    let words = words(rt, alloc, line);
+    let Err(error) = parse(alloc, words.as_slice()) else {
+        panic!(rt; "it is not refused")
+    };
+    match format!(in alloc; "{error}") {
+        Ok(text) => assert!(rt; text.as_str().starts_with(told)),
+        Err(_) => panic!(rt; "no text"),
+    }
+}
+
+/// A number out of its range is told with the range.
+#[test]
+fn ranges_are_told(rt: HostRuntime) {
+    let alloc = rt.alloc();
+    expect_told(
+        &rt,
+        alloc,
+        "stm run a --workers 17",
+        "error: invalid value '17' for '--workers <N>': 17 is not in 1..=16\n",
+    );
+    expect_told(
+        &rt,
+        alloc,
+        "stm run a --tries 0",
+        "error: invalid value '0' for '--tries <N>': 0 is not in 1..=64\n",
+    );
+    expect_told(
+        &rt,
+        alloc,
+        "stm run a --checkpoint 65537",
+        "error: invalid value '65537' for '--checkpoint <N>': 65537 is not in 0..=65536\n",
+    );
+}
+
+/// A command line asks for help.
+fn expect_help(rt: &(impl Abort + Eprint), alloc: Global, line: &str) {
+    assert!(rt;
+        refusal(rt, alloc, line) == Some(ErrorKind::DisplayHelp),
+        "of {line}"
+    );
 }
 
 #[test]
-fn help_is_shown(rt: HostRuntime) -> Result<(), Fail> {
-    let alloc = rt.alloc();
+fn help_is_shown(rt: HostRuntime) {
     for line in [
         "stm --help",
         "stm help",
@@ -138,25 +193,24 @@ fn help_is_shown(rt: HostRuntime) -> Result<(), Fail> {
         "stm world --help",
         "stm help world",
     ] {
-        assert_eq!(rt;
-            refusal(alloc, line)?,
-            Some(ErrorKind::DisplayHelp),
-            "of {line}"
-        );
+        expect_help(&rt, rt.alloc(), line);
     }
-    Ok(())
+}
+
+/// A command line asks for this version.
+fn expect_version(rt: &impl Abort, alloc: Global, line: &str, version: &str) {
+    let words = words(rt, alloc, line);
+    let Err(error) = parse(alloc, words.as_slice()) else {
+        panic!(rt; "no version is asked for")
+    };
+    assert!(rt; error.kind() == ErrorKind::DisplayVersion);
+    match format!(in alloc; "{error}") {
+        Ok(text) => assert!(rt; text.as_str() == version),
+        Err(_) => panic!(rt; "no text"),
+    }
 }
 
 #[test]
-fn the_version_is_shown(rt: HostRuntime) -> Result<(), Fail> {
-    let alloc = rt.alloc();
-    let words = words(alloc, "stm --version")?;
-    match parse(alloc, words.as_slice()) {
-        Ok(_) => assert!(rt; false),
-        Err(error) => {
-            assert_eq!(rt; error.kind(), ErrorKind::DisplayVersion);
-            assert_eq!(rt; format!(in alloc; "{error}")?.as_str(), "stm 0.1.0\n");
-        }
-    }
-    Ok(())
+fn the_version_is_shown(rt: HostRuntime) {
+    expect_version(&rt, rt.alloc(), "stm --version", "stm 0.1.0\n");
 }

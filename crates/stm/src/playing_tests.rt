@@ -2,9 +2,9 @@
 
 use crate::host_tests::{Host, Prints, Reads};
 use crate::playing::schedule_contents;
-use crate::program::run;
+use crate::program_tests::ends;
 use std::alloc::Global;
-use std::test::Fail;
+use std::process::Abort;
 
 const WORLD: &[&[u8]] = &[b"stm", b"world", b"a.stm", b"a.schedule"];
 
@@ -23,83 +23,72 @@ fn playing<'a>(alloc: Global, file: &'a [u8], schedule: &'a [u8]) -> Host<'a> {
 }
 
 #[test]
-fn a_schedule_that_was_played_is_0(rt: HostRuntime) -> Result<(), Fail> {
+fn a_schedule_that_was_played_is_0(rt: HostRuntime) {
     let host = playing(rt.alloc(), INCREMENT, SCHEDULE);
-    assert_eq!(rt; run(&rt, &host), 0);
-    assert_eq!(rt; host.writes.get(), 1);
-    assert_eq!(rt; host.taken.get(), SEEN.len());
-    assert!(rt; host.has_said(""));
-    Ok(())
+    ends(&rt, &host, 0, 1, Some(""));
+    assert!(rt; host.taken.get() == SEEN.len());
 }
 
 #[test]
-fn a_refused_schedule_is_2(rt: HostRuntime) -> Result<(), Fail> {
+fn a_refused_schedule_is_2(rt: HostRuntime) {
     let host = playing(rt.alloc(), INCREMENT, b"begin 2\n");
-    assert_eq!(rt; run(&rt, &host), 2);
-    assert_eq!(rt; host.writes.get(), 0);
-    assert!(rt; host.has_said("stm: schedule: F5 Limit\n"));
-    Ok(())
+    ends(&rt, &host, 2, 0, Some("stm: schedule: F5 Limit\n"));
 }
 
 #[test]
-fn a_refused_file_is_2_whatever_the_schedule(rt: HostRuntime) -> Result<(), Fail> {
+fn a_refused_file_is_2_whatever_the_schedule(rt: HostRuntime) {
     for schedule in [b"".as_slice(), b"begin", SCHEDULE] {
         let host = playing(rt.alloc(), b"(var x", schedule);
-        assert_eq!(rt; run(&rt, &host), 2);
-        assert_eq!(rt; host.writes.get(), 0);
-        assert!(rt; host.has_said("stm: file: F3 Shape\n"));
+        ends(&rt, &host, 2, 0, Some("stm: file: F3 Shape\n"));
     }
-    Ok(())
 }
 
 #[test]
-fn a_schedule_is_asked_for(rt: HostRuntime) -> Result<(), Fail> {
+fn a_schedule_is_asked_for(rt: HostRuntime) {
     let host = Host::new(rt.alloc(), &WORLD[..3], INCREMENT);
-    assert_eq!(rt; run(&rt, &host), 3);
-    assert_eq!(rt; host.writes.get(), 0);
-    assert!(rt; !host.has_said(""));
-    Ok(())
+    ends(&rt, &host, 3, 0, None);
 }
 
 /// Both are read before the file is judged.
 #[test]
-fn a_schedule_that_cannot_be_read_is_4(rt: HostRuntime) -> Result<(), Fail> {
+fn a_schedule_that_cannot_be_read_is_4(rt: HostRuntime) {
     let words = [b"stm".as_slice(), b"world", b"a.stm", b"b.schedule"];
     for file in [INCREMENT, b"(var x"] {
         let host = Host::new(rt.alloc(), &words, file);
-        assert_eq!(rt; run(&rt, &host), 4);
-        assert_eq!(rt; host.writes.get(), 0);
-        assert!(rt; host.has_said("stm: cannot read\n"));
+        ends(&rt, &host, 4, 0, Some("stm: cannot read\n"));
     }
-    Ok(())
 }
 
 #[test]
-fn a_text_that_cannot_be_printed_is_4(rt: HostRuntime) -> Result<(), Fail> {
+fn a_text_that_cannot_be_printed_is_4(rt: HostRuntime) {
     let mut host = playing(rt.alloc(), INCREMENT, SCHEDULE);
     host.prints = Prints::Fails;
-    assert_eq!(rt; run(&rt, &host), 4);
-    assert_eq!(rt; host.writes.get(), 1);
-    assert!(rt; host.has_said("stm: cannot write\n"));
-    Ok(())
+    ends(&rt, &host, 4, 1, Some("stm: cannot write\n"));
 }
 
 #[test]
-fn want_of_memory_for_a_schedule_is_5(rt: HostRuntime) -> Result<(), Fail> {
+fn want_of_memory_for_a_schedule_is_5(rt: HostRuntime) {
     let mut host = playing(rt.alloc(), INCREMENT, SCHEDULE);
     host.reads = Reads::WantsMemory;
-    assert_eq!(rt; run(&rt, &host), 5);
-    assert!(rt; host.has_said("stm: out of memory\n"));
-    Ok(())
+    ends(&rt, &host, 5, 0, Some("stm: out of memory\n"));
+}
+
+/// So many bytes of the host's file `a.schedule` are read.
+fn reads(rt: &impl Abort, host: &Host<'_>, count: usize) {
+    match schedule_contents(host, "a.schedule") {
+        Ok(bytes) => assert_eq!(rt; bytes.len(), count),
+        Err(_) => panic!(rt; "not read"),
+    }
 }
 
 /// One byte past the limit is read, and no more.
 #[test]
-fn a_schedule_has_1048576_bytes_at_most(rt: HostRuntime) -> Result<(), Fail> {
+fn a_schedule_has_1048576_bytes_at_most(rt: HostRuntime) {
     for (size, read) in [(1048576, 1048576), (1048577, 1048577), (1048580, 1048577)] {
-        let blanks = Vec::from_elem(rt.alloc(), b' ', size)?;
+        let Ok(blanks) = Vec::from_elem(rt.alloc(), b' ', size) else {
+            panic!(rt; "no blanks")
+        };
         let host = playing(rt.alloc(), INCREMENT, blanks.as_slice());
-        assert_eq!(rt; schedule_contents(&host, "a.schedule")?.len(), read);
+        reads(&rt, &host, read);
     }
-    Ok(())
 }

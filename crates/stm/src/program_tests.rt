@@ -3,7 +3,9 @@
 use crate::host_tests::{Host, Prints, Reads};
 use crate::program::{contents, run};
 use std::io;
-use std::test::Fail;
+use std::process::Abort;
+use std::sync::Wait;
+use std::thread::Threads;
 
 const RUN: &[&[u8]] = &[b"stm", b"run", b"a.stm"];
 
@@ -12,128 +14,137 @@ const INCREMENT: &[u8] = b"(var x 5)(tx inc (set x (add x 1)) x)(run inc 2)";
 const REPORT: &[u8] =
     b"base 0\nx 5 0\nentry 1 0 inc returned 6\nentry 2 1 inc returned 7\nnow 2\nx 7 2\nend\n";
 
-#[test]
-fn a_report_is_0(rt: HostRuntime) -> Result<(), Fail> {
-    let host = Host::new(rt.alloc(), RUN, INCREMENT);
-    assert_eq!(rt; run(&rt, &host), 0);
-    assert_eq!(rt; host.writes.get(), 1);
-    assert_eq!(rt; host.taken.get(), REPORT.len());
-    assert!(rt; host.has_said(""));
-    Ok(())
+/// The program ends with this status.
+fn ends_with(rt: &(impl Threads + Wait + Sync + Abort), host: &Host<'_>, status: u8) {
+    assert_eq!(rt; run(rt, host), status);
+}
+
+/// The program ends with this status, after so many writes to the standard output. The last text for
+/// the standard error is this one, or with `None` any.
+pub(crate) fn ends(
+    rt: &(impl Threads + Wait + Sync + Abort),
+    host: &Host<'_>,
+    status: u8,
+    writes: u32,
+    said: Option<&str>,
+) {
+    ends_with(rt, host, status);
+    assert_eq!(rt; host.writes.get(), writes);
+    match said {
+        Some(text) => assert!(rt; host.has_said(text)),
+        None => assert!(rt; !host.has_said("")),
+    }
 }
 
 #[test]
-fn what_is_asked_for_is_0(rt: HostRuntime) -> Result<(), Fail> {
+fn a_report_is_0(rt: HostRuntime) {
+    let host = Host::new(rt.alloc(), RUN, INCREMENT);
+    ends(&rt, &host, 0, 1, Some(""));
+    assert!(rt; host.taken.get() == REPORT.len());
+}
+
+#[test]
+fn what_is_asked_for_is_0(rt: HostRuntime) {
     for word in [b"--help".as_slice(), b"--version", b"help"] {
         let words = [b"stm".as_slice(), word];
         let host = Host::new(rt.alloc(), &words, b"");
-        assert_eq!(rt; run(&rt, &host), 0);
-        assert_eq!(rt; host.writes.get(), 1);
-        assert!(rt; host.has_said(""));
+        ends(&rt, &host, 0, 1, Some(""));
     }
-    Ok(())
 }
 
 #[test]
-fn a_refused_file_is_2(rt: HostRuntime) -> Result<(), Fail> {
+fn a_refused_file_is_2(rt: HostRuntime) {
     let host = Host::new(rt.alloc(), RUN, b"(var x");
-    assert_eq!(rt; run(&rt, &host), 2);
-    assert_eq!(rt; host.writes.get(), 0);
-    assert!(rt; host.has_said("stm: file: F3 Shape\n"));
-    Ok(())
+    ends(&rt, &host, 2, 0, Some("stm: file: F3 Shape\n"));
 }
 
 #[test]
-fn a_refused_command_line_is_3(rt: HostRuntime) -> Result<(), Fail> {
+fn a_refused_command_line_is_3(rt: HostRuntime) {
     for word in [b"b.stm".as_slice(), b"--workers", b"--tries=65"] {
         let words = [b"stm".as_slice(), b"run", b"a.stm", word];
         let host = Host::new(rt.alloc(), &words, INCREMENT);
-        assert_eq!(rt; run(&rt, &host), 3);
-        assert_eq!(rt; host.writes.get(), 0);
-        assert!(rt; !host.has_said(""));
+        ends(&rt, &host, 3, 0, None);
     }
-    Ok(())
 }
 
 #[test]
-fn words_that_are_not_utf8_are_refused_by_3(rt: HostRuntime) -> Result<(), Fail> {
+fn words_that_are_not_utf8_are_refused_by_3(rt: HostRuntime) {
     let words = [b"stm".as_slice(), b"run", b"a\xffb.stm"];
     let host = Host::new(rt.alloc(), &words, INCREMENT);
-    assert_eq!(rt; run(&rt, &host), 3);
-    assert_eq!(rt; host.writes.get(), 0);
-    assert!(rt; host.has_said("stm: the command line is not UTF-8\n"));
-    Ok(())
+    ends(
+        &rt,
+        &host,
+        3,
+        0,
+        Some("stm: the command line is not UTF-8\n"),
+    );
 }
 
 #[test]
-fn what_cannot_be_read_is_4(rt: HostRuntime) -> Result<(), Fail> {
+fn what_cannot_be_read_is_4(rt: HostRuntime) {
     let words = [b"stm".as_slice(), b"run", b"b.stm"];
     let host = Host::new(rt.alloc(), &words, INCREMENT);
-    assert_eq!(rt; run(&rt, &host), 4);
-    assert!(rt; host.has_said("stm: cannot read\n"));
+    ends(&rt, &host, 4, 0, Some("stm: cannot read\n"));
     let mut host = Host::new(rt.alloc(), RUN, INCREMENT);
     host.reads = Reads::Fails;
-    assert_eq!(rt; run(&rt, &host), 4);
-    assert_eq!(rt; host.writes.get(), 0);
-    assert!(rt; host.has_said("stm: cannot read\n"));
-    Ok(())
+    ends(&rt, &host, 4, 0, Some("stm: cannot read\n"));
 }
 
 #[test]
-fn a_failing_output_is_4_and_is_not_tried_again(rt: HostRuntime) -> Result<(), Fail> {
+fn a_failing_output_is_4_and_is_not_tried_again(rt: HostRuntime) {
     for prints in [Prints::Fails, Prints::Interrupted] {
         let mut host = Host::new(rt.alloc(), RUN, INCREMENT);
         host.prints = prints;
-        assert_eq!(rt; run(&rt, &host), 4);
-        assert_eq!(rt; host.writes.get(), 1);
-        assert_eq!(rt; host.taken.get(), 0);
-        assert!(rt; host.has_said("stm: cannot write\n"));
+        ends(&rt, &host, 4, 1, Some("stm: cannot write\n"));
+        assert!(rt; host.taken.get() == 0);
     }
-    Ok(())
 }
 
 #[test]
-fn help_that_cannot_be_printed_is_4(rt: HostRuntime) -> Result<(), Fail> {
+fn help_that_cannot_be_printed_is_4(rt: HostRuntime) {
     let words = [b"stm".as_slice(), b"--help"];
     let mut host = Host::new(rt.alloc(), &words, b"");
     host.prints = Prints::Fails;
-    assert_eq!(rt; run(&rt, &host), 4);
-    assert!(rt; host.has_said("stm: cannot write\n"));
-    Ok(())
+    ends(&rt, &host, 4, 1, Some("stm: cannot write\n"));
 }
 
 #[test]
-fn want_of_memory_is_5(rt: HostRuntime) -> Result<(), Fail> {
+fn want_of_memory_is_5(rt: HostRuntime) {
     let mut host = Host::new(rt.alloc(), RUN, INCREMENT);
     host.reads = Reads::WantsMemory;
-    assert_eq!(rt; run(&rt, &host), 5);
-    assert_eq!(rt; host.writes.get(), 0);
-    assert!(rt; host.has_said("stm: out of memory\n"));
-    Ok(())
+    ends(&rt, &host, 5, 0, Some("stm: out of memory\n"));
+}
+
+/// So many bytes of the host's file `a.stm` are read.
+fn reads(rt: &impl Abort, host: &Host<'_>, count: usize) {
+    match contents(host, "a.stm") {
+        Ok(bytes) => assert_eq!(rt; bytes.len(), count),
+        Err(_) => panic!(rt; "not read"),
+    }
 }
 
 /// A file of the limit is run, and with one byte more it is refused.
 #[test]
-fn a_file_has_1048576_bytes_at_most(rt: HostRuntime) -> Result<(), Fail> {
+fn a_file_has_1048576_bytes_at_most(rt: HostRuntime) {
     for (size, read, status) in [
         (1048576, 1048576, 0),
         (1048577, 1048577, 2),
         (1048580, 1048577, 2),
     ] {
-        let blanks = Vec::from_elem(rt.alloc(), b' ', size)?;
+        let Ok(blanks) = Vec::from_elem(rt.alloc(), b' ', size) else {
+            panic!(rt; "no blanks")
+        };
         let host = Host::new(rt.alloc(), RUN, blanks.as_slice());
-        assert_eq!(rt; contents(&host, "a.stm")?.len(), read);
-        assert_eq!(rt; run(&rt, &host), status);
+        reads(&rt, &host, read);
+        ends_with(&rt, &host, status);
     }
-    Ok(())
 }
 
 #[test]
-fn what_is_not_there_cannot_be_read(rt: HostRuntime) -> Result<(), Fail> {
+fn what_is_not_there_cannot_be_read(rt: HostRuntime) {
     match contents(&rt, "no/such/file.stm") {
         Ok(_) => assert!(rt; false),
         Err(error) => assert_eq!(rt; error.kind(), io::ErrorKind::NotFound),
     }
     assert!(rt; contents(&rt, "/").is_err());
-    Ok(())
 }
