@@ -1,0 +1,24 @@
+//! Tests of hostile use: each request for memory refused in turn, and writers that fail at each call.
+//!
+//! A test of a `refused` module holds with ample memory, and also where any one request for memory is
+//! refused: `hostile/gate` runs each of them so, for each request that it makes.
+#![tactic(auto)]
+
+#[cfg(test)]
+mod one_byte;
+#[cfg(test)]
+mod parts;
+#[cfg(test)]
+mod refused_attempt;
+#[cfg(test)]
+mod refused_book;
+#[cfg(test)]
+mod refused_bytes;
+#[cfg(test)]
+mod refused_cells;
+#[cfg(test)]
+mod refused_world;
+#[cfg(test)]
+mod uses;
+#[cfg(test)]
+mod writers;

@@ -1,0 +1,32 @@
+//! The catalogues of the tests, where memory may be refused.
+
+use std::alloc::Global;
+use std::process::Abort;
+use txn::{Catalogue, TaskId};
+use txn_text::{ReadFault, read_file};
+
+pub(crate) const A: TaskId = TaskId(0);
+
+pub(crate) const B: TaskId = TaskId(1);
+
+/// How many variables `MANY` has. An attempt has room for the first eight.
+pub(crate) const VARIABLES: u32 = 10;
+
+/// Two tasks, which add 1 to each variable, the first of them in a branch that takes the place of one
+/// that retries.
+pub(crate) const MANY: &str =
+    "(var a 6)(var b 6)(var c 6)(var d 6)(var e 6)(var f 6)(var g 6)(var h 6)(var i 6)(var j 6)\
+    (tx all (seq (orelse (seq (set a 1) (retry)) (set a (add a 1))) (set b (add b 1)) (set c (add c 1)) \
+    (set d (add d 1)) (set e (add e 1)) (set f (add f 1)) (set g (add g 1)) (set h (add h 1)) (set i (add i 1)) \
+    (set j (add j 1))) a)(run all 2)";
+
+/// The catalogue of a text, `None` where memory is refused.
+pub(crate) fn catalogue(rt: &impl Abort, alloc: Global, text: &str) -> Option<Catalogue> {
+    match read_file(alloc, text.as_bytes()) {
+        Ok(catalogue) => Some(catalogue),
+        Err(fault) => {
+            assert!(rt; fault == ReadFault::Memory);
+            None
+        }
+    }
+}

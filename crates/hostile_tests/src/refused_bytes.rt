@@ -1,0 +1,177 @@
+//! From bytes to bytes where memory is refused on the way: nothing is written, or what has to be.
+
+use checker::{Verdict, check};
+use runner::{OpenGate, Options, Out, RunFault, run_bytes};
+use std::alloc::Global;
+use std::process::Abort;
+use std::sync::Wait;
+use std::thread::Threads;
+use txn_text::ReadFault;
+use world_runner::world_bytes;
+
+/// More than any text here is long.
+const ROOM: usize = 512;
+
+const INCREMENTS: &str = "(var x 5)(tx inc (set x (add x 1)) x)(run inc 2)";
+
+const RETRY: &str = "(tx t (orelse (retry) (retry)) 0)(run t 1)";
+
+const BUFFER: &str =
+    "(var full 0)(var cell 0)(tx get (seq (if (eq full 0) (retry) (skip)) (set full 0)) cell)\
+    (tx put (seq (if (eq full 1) (retry) (skip)) (set cell 42) (set full 1)) 0)(run get 1)(run put 1)";
+
+const PAIR: &str = "(var x 1)(var y 1)(tx sum (skip) (add x y))\
+    (tx both (seq (set x 2) (set y 2)) 0)(run sum 1)(run both 1)";
+
+const SCHEDULE: &str =
+    "begin 1\nask 1\nword\nbegin 0\nfirst 0 x\nword\nword\nword\nword\nword\nbegin 0\nread 0 x\n\
+    first 0 y\nword\n";
+
+const SEEN: &str =
+    "1 ended returned 0\n2 commits 1\n3 stored\n4 needs x\n5 stale\n6 stored\n7 stored\n8 stored\n\
+    9 stored\n10 stored\n11 needs x\n12 needs y\n13 stale\n14 committed 1\nnow 1\nx 2 1\ny 2 1\n\
+    attempt 1 0 committed 1\nattempt 0 0 stale\nattempt 0 1 stale x 2\nend\n";
+
+/// The verdict on a report of a file, `None` where memory is refused.
+fn verdict(rt: &impl Abort, alloc: Global, file: &str, report: &[u8]) -> Option<Verdict> {
+    match check(alloc, file.as_bytes(), report) {
+        Ok(verdict) => Some(verdict),
+        Err(fault) => {
+            assert!(rt; fault == ReadFault::Memory);
+            None
+        }
+    }
+}
+
+/// Runs the file by one worker. Why it has no report, and how many bytes were written.
+fn run(
+    rt: &(impl Threads + Wait + Sync),
+    alloc: Global,
+    file: &str,
+    options: Options,
+    room: &mut [u8],
+) -> (Option<RunFault>, usize) {
+    let whole = room.len();
+    let mut out = Out::new(room);
+    let ran = run_bytes(rt, alloc, file.as_bytes(), options, &OpenGate, &mut out);
+    (ran.err(), whole.saturating_sub(out.into_inner().len()))
+}
+
+/// Plays the schedule. Why nothing is shown, and how many bytes were written.
+fn play(alloc: Global, room: &mut [u8]) -> (Option<RunFault>, usize) {
+    let whole = room.len();
+    let mut out = Out::new(room);
+    let played = world_bytes(alloc, PAIR.as_bytes(), SCHEDULE.as_bytes(), &mut out);
+    (played.err(), whole.saturating_sub(out.into_inner().len()))
+}
+
+/// Of a run that is refused memory nothing is written, and of any other a good report.
+fn expect_good(rt: &(impl Threads + Wait + Sync + Abort), alloc: Global, file: &str) {
+    let Some(options) = Options::new(1, 8, 0) else {
+        panic!(rt; "options");
+    };
+    let mut room = [0u8; ROOM];
+    let (fault, count) = run(rt, alloc, file, options, room.as_mut_slice());
+    assert!(rt; count < ROOM);
+    match fault {
+        Some(fault) => assert!(rt; fault == RunFault::Memory && count == 0),
+        None => {
+            let judged = verdict(rt, alloc, file, &room[..count]);
+            assert!(rt; judged == Some(Verdict::Good) || judged.is_none());
+        }
+    }
+}
+
+/// Whether the lines are those of the whole text, up to the first that tells want of memory.
+fn is_seen(lines: &[u8]) -> bool {
+    let mut wanted = SEEN.as_bytes().split(|byte| *byte == b'\n');
+    for line in lines.split(|byte| *byte == b'\n') {
+        if line.ends_with(b" memory") {
+            return true;
+        }
+        if wanted.next() != Some(line) {
+            return false;
+        }
+    }
+    wanted.next().is_none()
+}
+
+#[test]
+fn a_run_writes_nothing_or_a_good_report(rt: HostRuntime) {
+    expect_good(&rt, rt.alloc(), INCREMENTS);
+    expect_good(&rt, rt.alloc(), RETRY);
+    expect_good(&rt, rt.alloc(), BUFFER);
+}
+
+/// The check of a report of two increments: good for part 0, bad by this part, or refused memory.
+fn expect_verdict(rt: &impl Abort, alloc: Global, part: u8, report: &str) {
+    match verdict(rt, alloc, INCREMENTS, report.as_bytes()) {
+        Some(Verdict::Good) => assert!(rt; part == 0),
+        Some(Verdict::Bad(found)) => assert!(rt; found.number() == part),
+        None => {}
+    }
+}
+
+#[test]
+fn a_check_has_its_verdict_or_none(rt: HostRuntime) {
+    let alloc = rt.alloc();
+    expect_verdict(
+        &rt,
+        alloc,
+        0,
+        "base 0\nx 5 0\nentry 1 0 inc returned 6\nentry 2 1 inc returned 7\nnow 2\nx 7 2\nend\n",
+    );
+    expect_verdict(
+        &rt,
+        alloc,
+        1,
+        "base 0\nx 5 0\nentry 1 0 inc returned 6\nentry 2 1 inc returned 7\nnow 2\nx 7 2\n",
+    );
+    expect_verdict(
+        &rt,
+        alloc,
+        2,
+        "base 0\nx 4 0\nentry 1 0 inc returned 6\nentry 2 1 inc returned 7\nnow 2\nx 7 2\nend\n",
+    );
+    expect_verdict(
+        &rt,
+        alloc,
+        3,
+        "base 0\nx 5 0\nentry 1 0 inc returned 6\nentry 2 1 inc returned 8\nnow 2\nx 7 2\nend\n",
+    );
+    expect_verdict(
+        &rt,
+        alloc,
+        4,
+        "base 0\nx 5 0\nentry 1 0 inc returned 6\nentry 2 1 inc returned 7\nnow 2\nx 7 1\nend\n",
+    );
+    expect_verdict(
+        &rt,
+        alloc,
+        5,
+        "base 0\nx 5 0\nentry 1 0 inc returned 6\nentry 2 0 inc returned 7\nnow 2\nx 7 2\nend\n",
+    );
+    expect_verdict(
+        &rt,
+        alloc,
+        6,
+        "base 0\nx 5 0\nentry 1 0 inc returned 6\nnow 1\nx 6 1\nparked 1 inc\nend\n",
+    );
+    expect_verdict(
+        &rt,
+        alloc,
+        0,
+        "base 0\nx 5 0\nentry 1 0 inc returned 6\nnow 1\nx 6 1\nmemory 1 inc\nend\n",
+    );
+}
+
+#[test]
+fn a_schedule_shows_nothing_or_what_is_seen(rt: HostRuntime) {
+    let mut room = [0u8; ROOM];
+    let (fault, count) = play(rt.alloc(), room.as_mut_slice());
+    assert!(rt; count < ROOM);
+    match fault {
+        Some(fault) => assert!(rt; fault == RunFault::Memory && count == 0),
+        None => assert!(rt; is_seen(&room[..count])),
+    }
+}

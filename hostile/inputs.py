@@ -1,0 +1,186 @@
+"""Input that is cut, oversized and tampered with: each ends as it has to, or, tampered with at random, with some answer.
+
+What is read runs with status 0, and its report is good; what is not ends with status 2, nothing on standard output
+and the line with the kind of its first fault. A text that is no report of a file is `bad 1`.
+"""
+
+import os
+import random
+
+from parts import TOP, run, shown
+from refusals import INCREMENTS, REPORTS
+
+SHAPE, NAME, LIMIT, LONG, BYTE = "F3 Shape", "F4 Name", "F5 Limit", "F1 TooLong", "F2 BadByte"
+EMPTY = "base 0\nnow 0\nend\n"
+
+
+def nested(times, opening, inner, closing=")"):
+    return opening * times + inner + closing * times
+
+
+def expressions(times):
+    return f"(tx t (skip) {nested(times, '(add 0 ', '0')})(run t 1)"
+
+
+def conditions(times):
+    return f"(tx t (if {nested(times, '(not ', '(eq 0 0)')} (skip) (skip)) 0)(run t 1)"
+
+
+def variables(count):
+    return "".join(f"(var v{i} {i})\n" for i in range(count))
+
+
+def transactions(count):
+    return "".join(f"(tx t{i} (skip) {i})\n" for i in range(count))
+
+
+# Each file: its text, and the kind of its first fault (None: it is read), or the report that it has to give.
+FILES = {
+    "31 sequences inside one another": (f"(tx t {nested(31, '(seq ', '')} 0)(run t 1)", None),
+    "32 sequences inside one another": (f"(tx t {nested(32, '(seq ', '')} 0)(run t 1)", SHAPE),
+    "a sum of depth 31": (expressions(31), None),
+    "a sum of depth 32": (expressions(32), SHAPE),
+    "a condition inside 29 others": (conditions(29), None),
+    "a condition inside 30 others": (conditions(30), SHAPE),
+    "parentheses that never close": ("(" * 1048576, SHAPE),
+    "parentheses that never open": (")" * 1048576, SHAPE),
+    "as many newlines as a file may have": ("\n" * 1048576, "=" + EMPTY),
+    "one newline more": ("\n" * 1048577, LONG),
+    "a byte that is not allowed in a file that is too long": ("\x00" * 1048577, LONG),
+    "a comment of one byte": (";", "=" + EMPTY),
+    "nothing": ("", "=" + EMPTY),
+    "a comment as long as a file": (";" * 1048576, "=" + EMPTY),
+    "a byte that is not allowed, at the end of a comment": (";" * 1000 + "\t", BYTE),
+    "65,536 tasks": ("(tx t (skip) 0)(run t 65536)", None),
+    "65,537 tasks": ("(tx t (skip) 0)(run t 65536)(run t 1)", LIMIT),
+    "a run of 65,537": ("(tx t (skip) 0)(run t 65537)", LIMIT),
+    "a run of a number of 20 digits": ("(tx t (skip) 0)(run t 99999999999999999999)", LIMIT),
+    "a run of less than none": ("(tx t (skip) 0)(run t -1)", LIMIT),
+    "256 variables": (variables(256), None),
+    "257 variables": (variables(257), LIMIT),
+    "256 transactions": (transactions(256), None),
+    "257 transactions": (transactions(257), LIMIT),
+    "a name of 32 bytes": (f"(var {'a' * 32} 1)", None),
+    "a name of 33 bytes": (f"(var {'a' * 33} 1)", LIMIT),
+    "an unknown name of 33 bytes": (f"(tx t (set {'a' * 33} 1) 0)", NAME),
+    "a name as long as a file": (f"(tx {'a' * 1048000} (skip) 0)", LIMIT),
+    "a number of 10,000 digits": (f"(var x {'9' * 10000})", LIMIT),
+    "a negative number of 10,000 digits": (f"(var x -{'9' * 10000})", LIMIT),
+    "a cost of 1,000,000": ("(tx t (seq (repeat 999 (repeat 999 (skip))) (repeat 996 (skip))) 0)(run t 1)", None),
+    "a cost of 1,000,001": ("(tx t (seq (repeat 999 (repeat 999 (skip))) (repeat 997 (skip))) 0)(run t 1)", LIMIT),
+    "a cost that no machine can count": (f"(tx t {nested(30, '(repeat 1000 ', '(skip)')} 0)(run t 1)", LIMIT),
+    "a statement of 170,000 parts": (f"(tx t (seq {'(skip)' * 170000}) 0)(run t 1)", None),
+}
+
+# Texts that are no report of two increments.
+NO_REPORTS = {
+    "a base of 65,537": "base 65537\nx 5 0\nnow 0\nx 5 0\nend\n",
+    "a base below 0": "base -1\nx 5 0\nnow 0\nx 5 0\nend\n",
+    "an entry with a leading 0": REPORTS[0].replace("entry 1", "entry 01"),
+    "a base of 10,000 digits": f"base {'9' * 10000}\nx 5 0\nnow 0\nx 5 0\nend\n",
+    "a value of 10,000 digits": f"base 0\nx {'9' * 10000} 0\nnow 0\nx 5 0\nend\n",
+    "8,388,609 newlines": "\n" * 8388609,
+    "8,388,608 newlines": "\n" * 8388608,
+}
+
+
+def try_file(trials, program, what, text, wanted):
+    file = trials.write("input", text)
+    ended = run([program, "run", file, "--workers", "1"], trials.folder)
+    if wanted and not wanted.startswith("="):
+        ok = ended[:3] == (2, b"", f"stm: file: {wanted}\n".encode())
+    else:
+        trials.write("output", ended.out)
+        good = run([program, "check", file, "output"], trials.folder)
+        ok = (ended.status, ended.err) == (0, b"") and good[:3] == (0, b"good\n", b"")
+        ok = ok and (not wanted or ended.out == wanted[1:].encode())
+    trials.tell(f"{os.path.basename(program)} run, {what}", [] if ok else [shown(ended)], wanted if wanted and wanted[0] == "F" else "read")
+    return ended
+
+
+def try_beginnings(trials, program):
+    """Each beginning of a file and of its report, and of a schedule."""
+    by = os.path.basename(program)
+    names = [trials.write(f"first-{n}", INCREMENTS[:n]) for n in range(len(INCREMENTS) + 1)]
+    ends = list(trials.pool.map(lambda name: run([program, "run", name, "--workers", "1"], trials.folder), names))
+    read = [n for n, it in enumerate(ends) if (it.status, it.err) == (0, b"")]
+    faults = [f"the first {n} bytes: {shown(it)}" for n, it in enumerate(ends) if n not in read and it[:3] != (2, b"", b"stm: file: F3 Shape\n")]
+    faults += [] if read == [0, 9, 37, 48] else [f"read are the beginnings of {read}"]
+    trials.tell(f"{by} run, each beginning of a file", faults, f"of {len(ends)} the ones of 0, 9, 37 and 48 bytes are read, each other is F3")
+    trials.write("input", INCREMENTS)
+    names = [trials.write(f"first-{n}", REPORTS[0][:n]) for n in range(len(REPORTS[0]))]
+    ends = list(trials.pool.map(lambda name: run([program, "check", "input", name], trials.folder), names))
+    faults = [f"the first {n} bytes: {shown(it)}" for n, it in enumerate(ends) if it[:3] != (1, b"bad 1\n", b"")]
+    trials.tell(f"{by} check, each beginning of a report", faults, f"all {len(ends)} are bad 1")
+
+
+def tampered(text, chance):
+    """The text with a few bytes changed, taken out, put in or repeated, or cut."""
+    bytes_ = bytearray(text)
+    for _ in range(chance.randint(1, 4)):
+        at = chance.randrange(len(bytes_) + 1)
+        to = min(len(bytes_), at + chance.randint(0, 12))
+        how = chance.randrange(6)
+        if how == 0:
+            bytes_[at:to] = b""
+        elif how == 1:
+            bytes_[at:at] = bytes_[at:to]
+        elif how == 2:
+            bytes_[at:at] = chance.choice([b"(", b")", b" ", b"\n", b";", b"-", b"0", b"9", b"(seq ", b"(retry)", b"99999999999999999999", b"end\n"])
+        elif how == 3:
+            del bytes_[at:]
+        else:
+            bytes_[at : at + 1] = bytes([chance.choice(b"()09axyz -;\n" if how == 4 else range(256))])
+    return bytes(bytes_)
+
+
+def try_tampered(trials, program, count):
+    """The repository's examples, tampered with: always an answer, and always one of those that there are."""
+    chance, faults, ends = random.Random(18), [], {}
+    folder = f"{TOP}/examples"
+    read = lambda name: open(f"{folder}/{name}", "rb").read()
+    names = sorted(it[:-4] for it in os.listdir(folder) if it.endswith(".stm"))
+    for name in names:
+        trials.write(f"{name}.stm", read(f"{name}.stm"))
+    cases = []
+    for i in range(count):
+        name = chance.choice(names)
+        kind = chance.choice(["stm", *(it for it in ("report", "schedule") if os.path.exists(f"{folder}/{name}.{it}"))])
+        text = trials.write(f"tampered-{i}", tampered(read(f"{name}.{kind}"), chance))
+        command = {"stm": ["run", text], "report": ["check", f"{name}.stm", text], "schedule": ["world", f"{name}.stm", text]}
+        cases.append((kind, text, command[kind]))
+
+    def one(case):
+        kind, text, words = case
+        ended = run([program, *words], trials.folder)
+        if kind == "stm" and ended.status == 0:
+            output = trials.write(f"{text}-output", ended.out)
+            judged = run([program, "check", text, output], trials.folder)
+            return ended, judged[:3] == (0, b"good\n", b"") and ended.err == b""
+        if kind == "report" and ended.status in (0, 1):
+            return ended, ended.err == b"" and (ended.out == b"good\n" if ended.status == 0 else ended.out[:4] == b"bad ")
+        if kind == "schedule" and ended.status == 0:
+            return ended, ended.err == b"" and ended.out.endswith(b"end\n")
+        what = b"schedule" if kind == "schedule" else b"file"
+        return ended, (ended.status, ended.out) == (2, b"") and ended.err[:-1] in [b"stm: %s: %s" % (what, it.encode()) for it in (LONG, BYTE, SHAPE, NAME, LIMIT)]
+
+    for (kind, text, words), (ended, ok) in zip(cases, trials.pool.map(one, cases)):
+        ends[ended.status] = ends.get(ended.status, 0) + 1
+        if not ok:
+            faults.append(f"{' '.join(words)}: {shown(ended)}")
+    told = ", ".join(f"{n} with status {status}" for status, n in sorted(ends.items()))
+    trials.tell(f"{os.path.basename(program)}, {count} texts tampered with at random", faults, f"{told}; each report good")
+
+
+def try_inputs(trials, program):
+    by = os.path.basename(program)
+    try_beginnings(trials, program)
+    for what, (text, wanted) in FILES.items():
+        ended = try_file(trials, program, what, text, wanted)
+        if what == "65,536 tasks":
+            trials.tell(f"{by} run, {what}, the last number", [] if ended.out.endswith(b"\nnow 65536\nend\n") else [shown(ended)], "now 65536")
+    trials.write("input", INCREMENTS)
+    for what, text in NO_REPORTS.items():
+        ended = run([program, "check", "input", trials.write("report", text)], trials.folder)
+        trials.tell(f"{by} check, {what}", [] if ended[:3] == (1, b"bad 1\n", b"") else [shown(ended)], "bad 1")
+    try_tampered(trials, program, 1000)

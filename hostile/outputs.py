@@ -1,0 +1,52 @@
+"""Outputs that can't be written, and inputs that are no plain files, by the built program and the system's own.
+
+Where standard output takes nothing the status is 4 and the line is `stm: cannot write`; where standard error takes
+nothing the status is what it is.
+"""
+
+import os
+
+from parts import run, shown
+from refusals import INCREMENTS
+
+UNWRITTEN = (4, b"stm: cannot write\n")
+UNREAD = (4, b"stm: cannot read\n")
+LONG = (2, b"stm: file: F1 TooLong\n")
+
+# How the shell sends the outputs away.
+FULL, CLOSED = ">/dev/full", ">&-"
+UNHEARD = ["2>/dev/full", "2>&-"]
+
+
+def try_outputs(trials, program):
+    by = os.path.basename(program)
+    file = trials.write("increments", INCREMENTS)
+    report = trials.write("increments-report", run([program, "run", file, "--workers", "1"], trials.folder).out)
+    schedule = trials.write("increments-schedule", "begin 0\nread 0 x\ncommit 0\n")
+    many = trials.write("many", "(tx t (skip) 0)(run t 65536)")
+    long_word = "a" * 100000
+
+    def expect(what, words, wanted, redirect="", after=""):
+        """The shell runs the program with its outputs sent away."""
+        line = f'"$@" {redirect} {after}'
+        ended = run(["sh", "-c", line, "sh", program, *words], trials.folder, {"PATH": "/usr/bin:/bin"})
+        ok = ended.status == wanted[0] and (wanted[1] is None or ended.err == wanted[1]) and ended.out in (b"", b"base 0\n")
+        trials.tell(f"{by} {what} {redirect}".rstrip(), [] if ok else [shown(ended)], f"status {wanted[0]}")
+
+    for words in (["run", file], ["check", file, report], ["world", file, schedule], ["--help"], ["run", "--help"], ["--version"]):
+        for redirect in (FULL, CLOSED):
+            expect(" ".join(words), words, UNWRITTEN, redirect)
+    expect("run many, read to its first line", ["run", many], (4, None), after='2>said | head -n 1; test "$(cat said)" = "stm: cannot write" && exit 4')
+    for redirect in UNHEARD:
+        expect("bogus", ["bogus"], (3, b""), redirect)
+        expect("run no-such-file", ["run", "no-such-file"], (4, b""), redirect)
+        expect("run, refused", ["run", report], (2, b""), redirect)
+    for what, path in (("no file", "no-such-file"), ("a folder", "."), ("no name", ""), ("a name of 100,000 letters", long_word)):
+        expect(f"run, {what}", ["run", path], UNREAD)
+        expect(f"check, {what}", ["check", file, path], UNREAD)
+        expect(f"world, {what}", ["world", file, path], UNREAD)
+    expect("run, a file with no end", ["run", "/dev/zero"], LONG)
+    expect("run, a file with no end, of any bytes", ["run", "/dev/urandom"], LONG)
+    expect("world, a schedule with no end", ["world", file, "/dev/zero"], (2, b"stm: schedule: F1 TooLong\n"))
+    expect("check, a report with no end", ["check", file, "/dev/zero"], (1, b""), after="> verdict; end=$?; test \"$(cat verdict)\" = 'bad 1' && exit $end")
+    expect("20,000 words", ["run"] + ["x"] * 20000, (3, None))
