@@ -14,9 +14,9 @@ use Rattle.attempt.specs.declared.evaluate.Halt.{Halt}
 use Rattle.attempt.specs.declared.evaluate.Halt.TheVariants.{Need, Fails}
 use Rattle.attempt.specs.declared.next.Stand.TheVariants as stand
 use Rattle.attempt.specs.Asking.{Known, known_at, write, or_known, or_need, see, halting, see_value, see_truth, see_run, see_run_all, Answer, Needs, Ends, ask, answer_of, answer_by}
-use Rattle.attempt.specs.Order.{AllKnown, Ascending}
+use Rattle.own_writes.specs.Order.{AllKnown, Ascending}
 use Rattle.attempt.specs.View.{OnlyOfReturned}
-use Rattle.attempt.proofs.Pairs.{AllKnown-write, Ascending-write}
+use Rattle.own_writes.proofs.Pairs.{AllKnown-write, Ascending-write}
 
 -- a variable that is asked for may be named, and is not logged
 abbrev pub IsMissing : ℕ → Known → VarId → Type 0

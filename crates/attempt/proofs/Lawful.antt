@@ -17,7 +17,7 @@ use Rattle.txn.specs.Code.{program_code}
 use Rattle.txn.specs.Tree.{Program}
 use Rattle.attempt.specs.View.{AttemptView, OnlyOfReturned, supplied}
 use Rattle.attempt.proofs.Answered.{needs_missing, ends_well}
-use Rattle.attempt.proofs.Pairs.{AllKnown-append, Apart-append}
+use Rattle.own_writes.proofs.Pairs.{AllKnown-append, Apart-append}
 
 pub waiting : (a : AttemptView) (x : VarId) (n total : ℕ) → IsLawful a → ask a.program a.log ≡ Needs x → n ≤ cost a.program → total ≤ cost a.program + length a.log →
     IsLawful (record { program = a.program; variables = a.variables; log = a.log; writes = []; stand = stand.Needs x; steps = n; total = total })

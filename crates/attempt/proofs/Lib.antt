@@ -1,17 +1,10 @@
 pub mod FrameProof
 pub mod Declared
 pub mod Told
-pub mod Writes
-pub mod Pairs
 pub mod Answered
 pub mod Lawful
 pub mod Runs
 pub mod Resume
-pub mod Placed
 pub mod Going
-pub mod InOrder
 pub mod Small
 pub mod Stores
-pub mod OwnTable
-pub mod OwnNotes
-pub mod OwnList

@@ -14,7 +14,7 @@ use Rattle.attempt.specs.declared.running.Count.{Count}
 use Rattle.attempt.specs.Asking.{Known, ask, known_at, Needs, Ends}
 use Rattle.attempt.specs.Correct.{IsReached}
 use Rattle.attempt.specs.Machine.{entered_at}
-use Rattle.attempt.specs.Order.{AllKnown, Apart, Ascending}
+use Rattle.own_writes.specs.Order.{AllKnown, Apart, Ascending}
 use Rattle.attempt.specs.Place.{place_of}
 use Rattle.attempt.specs.View.{AttemptView, OnlyOfReturned}
 

@@ -1,9 +1,6 @@
+pub use Rattle.own_writes.specs.Order
 pub mod Asking
 pub mod Frame
-pub mod Order
-pub mod Places
-pub mod BoardInside
-pub mod Own
 pub mod View
 pub mod AttemptInside
 pub mod Machine

@@ -6,15 +6,15 @@ ghost use Rattle.txn.specs.Meaning.{State};
 ghost use Rattle.txn.specs.Scope.{ProgramKnown};
 ghost use Rattle.attempt.specs.Asking.{known_at, ask, Ends};
 ghost use Rattle.attempt.specs.Frame.{Agrees};
-ghost use Rattle.attempt.specs.Order.{AllKnown, Apart, Ascending};
+ghost use Rattle.own_writes.specs.Order.{AllKnown, Apart, Ascending};
 ghost use Rattle.attempt.specs.Room.{NeedsNoMemory};
 ghost use Rattle.attempt.specs.View.{fresh_attempt, begun, supplied, idle, next_of, Answers, HoldsAt, OnlyOfReturned};
 
-use crate::board::Board;
 use crate::log::Log;
 use crate::machine::Machine;
 use crate::next::{Next, Stand, answer};
 use crate::running::{Count, go};
+use own_writes::Board;
 use std::alloc::Global;
 use std::marker::Model;
 use txn::{Catalogue, Memory, Outcome, TxId, VarId};

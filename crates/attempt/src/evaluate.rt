@@ -3,7 +3,7 @@
 use txn::{Fault, Outcome, VarId};
 
 /// Why an evaluation over a log stops.
-#[derive(Clone, Copy, Debug, PartialEq, Eq)]
+#[derive(Clone, Copy)]
 pub enum Halt {
     /// It needs a variable that is neither written nor logged.
     Need(VarId),
@@ -11,7 +11,7 @@ pub enum Halt {
 }
 
 /// What an evaluation found: the variable that it needs, or how the transaction ends.
-#[derive(Clone, Copy, Debug, PartialEq, Eq)]
+#[derive(Clone, Copy)]
 pub enum Told {
     Need(VarId),
     End(Outcome),

@@ -8,15 +8,12 @@
 
 mod arithmetic;
 pub mod attempt;
-mod board;
 mod evaluate;
 pub mod laws;
-mod layer;
 pub mod log;
 mod machine;
 pub mod next;
 mod running;
-mod written;
 
 pub use attempt::Attempt;
 pub use laws::{answers, frame, resumes};

@@ -1,0 +1,15 @@
+//! Variables with a value each, as an attempt keeps them: the board of what it was told, and the
+//! own writes of its transaction.
+//!
+//! A `Board` finds a variable's value in constant time, and keeps the order of supply. `Writes` has
+//! at each variable's number the value of its own write, and goes back by notes where a first
+//! branch of an `orelse` retries.
+#![tactic(auto)]
+
+pub mod board;
+pub mod layer;
+pub mod written;
+
+pub use board::Board;
+pub use layer::Layer;
+pub use written::{Loops, Second, Writes};
