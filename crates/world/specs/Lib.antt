@@ -1,11 +1,7 @@
-pub mod Trials
-pub mod Inside
-pub mod Steps
-pub mod Asks
-pub mod Opening
+pub use Rattle.world_events.specs.Inside
+pub use Rattle.world_events.specs.Runs
 pub mod View
 pub mod WorldInside
 pub mod Telling
-pub mod Runs
 pub mod Lines
 pub mod WorldText

@@ -2,15 +2,15 @@
 
 ghost use Rattle.std.specs.Prelude.{◌≡◌, ◌++◌, OnOk, string_bytes};
 ghost use Rattle.std.specs.List.{flat_map};
-ghost use Rattle.world.specs.Inside.{listing, world_of};
+ghost use Rattle.world_events.specs.Inside.{listing, world_of};
 ghost use Rattle.world.specs.WorldText.{fate_text, pair_text, told_line, attempt_line};
 
-use crate::scene::Scene;
 use crate::telling::{Begun, begun_at};
 use seen_printer::name_of;
 use std::alloc::AllocError;
 use std::fmt::Write;
 use txn::{Catalogue, VarId};
+use world_events::scene::Scene;
 use world_law::Fate;
 
 fn put_fate(out: &mut String, fate: Fate) -> Result<(), AllocError>

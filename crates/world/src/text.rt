@@ -1,15 +1,15 @@
 //! The last lines of a world.
 
 ghost use Rattle.std.specs.Prelude.{◌≡◌, OnOk, string_bytes};
-ghost use Rattle.world.specs.Inside.{Kept, listing, world_of};
+ghost use Rattle.world_events.specs.Inside.{Kept, listing, world_of};
 ghost use Rattle.world.specs.WorldText.{PutsWorld};
 
 use crate::attempts::put_attempts;
 use crate::present::present;
-use crate::scene::Scene;
 use crate::telling::states;
 use report_printer::{put_number, put_variables};
 use std::alloc::AllocError;
+use world_events::scene::Scene;
 
 /// Puts the last lines of the world behind the text: the line `now` with the number of the last
 /// state, the variables with their values and versions in it, the attempts in the order in which

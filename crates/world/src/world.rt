@@ -1,24 +1,24 @@
 //! The running world.
 
 ghost use Rattle.std.specs.Prelude.{◌≡◌, ◌<◌, take, length, map, IfOk, IfErr, OnOk, OnErr, IsOk, string_bytes};
-ghost use Rattle.world.specs.Inside.{state_items};
+ghost use Rattle.world_events.specs.Inside.{state_items};
 ghost use Rattle.world.specs.Telling.{Tells};
 ghost use Rattle.world_law.specs.World.{IsOpening};
 ghost use Rattle.world_law.specs.Next.{Next};
-ghost use Rattle.world.specs.Runs.{LeadTo, MayBeRefused, TakesNone};
+ghost use Rattle.world_events.specs.Runs.{LeadTo, MayBeRefused, TakesNone};
 ghost use Rattle.world.specs.Lines.{Plays, PlaysPart, PlaysFree};
 ghost use Rattle.world.specs.WorldText.{IsWorldText, PutsWorld};
 ghost use Rattle.world_law.specs.Opacity.{Opaque, WordsHold};
 
-use crate::happening::happen;
-use crate::opening::opening;
 use crate::playing::play;
-use crate::scene::Scene;
 use crate::telling::{Begun, begun_at, states};
 use crate::text::put_world;
 use std::alloc::Global;
 use std::marker::Model;
 use txn::{Catalogue, Memory, Move};
+use world_events::happening::happen;
+use world_events::opening::opening;
+use world_events::scene::Scene;
 use world_law::{Event, Seen};
 
 /// The stepped world of a catalogue. A clause sees the catalogue's listing and the plain world,

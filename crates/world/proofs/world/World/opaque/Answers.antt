@@ -3,7 +3,7 @@ use Rattle.world_law.specs.Opacity.{Opaque, WordsHold}
 use Rattle.world_law.proofs.Framed.{sound_by}
 use Rattle.world_law.proofs.Reached.{reached_opaque, reached_words}
 use Rattle.world.specs.View.{WorldView}
-use Rattle.world.specs.Inside.{listing, world_of}
+use Rattle.world_events.specs.Inside.{listing, world_of}
 use Rattle.world.proofs.world.World.opaque.Goals as goal
 
 pub returns-clause-opaque : goal.returns-clause-opaque

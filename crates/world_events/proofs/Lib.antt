@@ -1,0 +1,14 @@
+pub mod Seeing
+pub mod Putting
+pub mod Standing
+pub mod Loading
+pub mod Finding
+pub mod Owning
+pub mod Starting
+pub mod Going
+pub mod Logs
+pub mod Working
+pub mod Lasting
+pub mod Committing
+pub mod Ending
+pub mod FirstWords

@@ -1,0 +1,78 @@
+-- Where a running attempt stands.
+use Rattle.std.proofs.Common.{◌≡◌, ◌≢◌, ℕ, List, [], ◌∷◌, sym, refl, ap, ◌∙◌, subst}
+use Rattle.txn.specs.Listing.{Listing}
+use Rattle.txn.specs.Tree.{Program}
+use Rattle.txn.specs.declared.ast.TaskId.{TaskId}
+use Rattle.txn.specs.declared.ast.VarId.{VarId}
+use Rattle.attempt.specs.Asking.{Needs, ask}
+use Rattle.attempt.specs.View.{Answers}
+use Rattle.attempt.specs.declared.next.Next.{Next}
+use Rattle.attempt.specs.declared.next.Next.TheVariants as next
+use Rattle.world_law.specs.declared.events.Fate.{Fate}
+use Rattle.world_law.specs.declared.events.Fate.TheVariants as fate
+use Rattle.world_law.specs.World.{Started, stand, Reading, IsRunning}
+use Rattle.world_events.specs.declared.trial.Loads.{Loads}
+use Rattle.world_events.specs.declared.trial.Loads.TheVariants as loads
+use Rattle.world_events.specs.declared.trial.Trial.{Trial}
+use Rattle.world_events.specs.declared.scene.Scene.{Scene}
+use Rattle.world_events.specs.Trials.{loads_of, started_of, TrialKept}
+use Rattle.world_events.specs.Inside.{listing, world_of, Kept, IsTheRunning, IsOnly}
+use Rattle.world_events.proofs.Seeing.{seen_at, seen_from, same_place}
+
+-- what it answered last is what its program answers
+pub asks : (l : Listing) (t : Trial) → TrialKept l t → stand l (started_of t) ≡ ask t.attempt.program t.attempt.log
+asks l t k = ap (λ (p : Program). ask p t.attempt.log) (sym k.program)
+
+pub stands_at : (l : Listing) (t : Trial) (x : VarId) → TrialKept l t → t.at ≡ next.Need x → stand l (started_of t) ≡ Needs x
+stands_at l t x k e = asks l t k ∙ (subst (λ (n : Next). Answers n t.attempt) e k.answers).0
+
+at_needs : (l : Listing) (t : Trial) (x : VarId) (n : Next) → t.at ≡ n → n ≢ next.Memory → Answers n t.attempt → ask t.attempt.program t.attempt.log ≡ Needs x → n ≡ next.Need x
+at_needs l t x (next.Need z) is m a e = let s : Needs z ≡ Needs x = sym a.0 ∙ e in cc
+at_needs l t x (next.Returned v) is m a e = absurd (let s = sym a.0 ∙ e in cc)
+at_needs l t x (next.Thrown f) is m a e = absurd (let s = sym a.0 ∙ e in cc)
+at_needs l t x next.Retry is m a e = absurd (let s = sym a.0 ∙ e in cc)
+at_needs l t x next.Memory is m a e = absurd (m refl)
+
+pub needs_at : (l : Listing) (t : Trial) (x : VarId) → TrialKept l t → t.fate ≡ fate.Running → stand l (started_of t) ≡ Needs x → t.at ≡ next.Need x
+needs_at l t x k run e = at_needs l t x t.at refl (k.runs run) k.answers (sym (asks l t k) ∙ e)
+
+-- the world's running attempt is one of these
+pub running_from : (c : Scene) (a : TaskId) (j : ℕ) (y : Started) → IsRunning (world_of c) a j y → (t : Trial) × IsTheRunning c a j t × (started_of t ≡ y)
+running_from c a j y r = let s = seen_from c.trials.items j y r.0 in
+    (s.0, (s.1, ap (λ (u : Started). u.task) s.2 ∙ r.1, ap (λ (u : Started). u.fate) s.2 ∙ r.2), s.2)
+
+pub running_to : (c : Scene) (a : TaskId) (i : ℕ) (t : Trial) → IsTheRunning c a i t → IsRunning (world_of c) a i (started_of t)
+running_to c a i t r = (seen_at c.trials.items i t r.0, r.1, r.2)
+
+-- where the attempt is the only one, it is that one
+pub the_one : (c : Scene) (a : TaskId) (i j : ℕ) (t u : Trial) → IsTheRunning c a i t → IsOnly c a i → IsTheRunning c a j u → t ≡ u
+the_one c a i j t u r only q = same_place c.trials.items i j t u r.0 q.0 (only j u q)
+
+pub reading_to : (c : Scene) (a : TaskId) (i : ℕ) (t : Trial) (x : VarId) → Kept c → IsTheRunning c a i t → t.at ≡ next.Need x → Reading (listing c) (world_of c) a i (started_of t) x (loads_of t.loads)
+reading_to c a i t x k r e = ((running_to c a i t r, stands_at (listing c) t x (k.trials i t r.0) e), refl)
+
+pub reading_from : (c : Scene) (a : TaskId) (j : ℕ) (y : Started) (x : VarId) (ls : List ℕ) → Kept c → Reading (listing c) (world_of c) a j y x ls → (t : Trial) × IsTheRunning c a j t × (t.at ≡ next.Need x) × (loads_of t.loads ≡ ls)
+reading_from c a j y x ls k r = let s = running_from c a j y r.0.0 in
+    (s.0, s.1, needs_at (listing c) s.0 x (k.trials j s.0 s.1.0) s.1.2 (ap (stand (listing c)) s.2 ∙ r.0.1), ap (λ (u : Started). u.loads) s.2 ∙ r.1)
+
+pub loads_nothing : (o : Loads) → loads_of o ≡ [] → o ≡ loads.Nothing
+loads_nothing loads.Nothing e = refl
+loads_nothing (loads.Version a) e = absurd (cc)
+loads_nothing (loads.Value a b) e = absurd (cc)
+
+pub loads_version : (o : Loads) (a : ℕ) → loads_of o ≡ a ∷ [] → o ≡ loads.Version a
+loads_version loads.Nothing a e = absurd (cc)
+loads_version (loads.Version b) a e = let s : b ≡ a = cc in ap (λ (n : ℕ). loads.Version n) s
+loads_version (loads.Value b d) a e = absurd (cc)
+
+pub loads_value : (o : Loads) (a b : ℕ) → loads_of o ≡ a ∷ b ∷ [] → o ≡ loads.Value a b
+loads_value loads.Nothing a b e = absurd (cc)
+loads_value (loads.Version d) a b e = absurd (cc)
+loads_value (loads.Value d f) a b e = let s : d ≡ a = cc in let q : f ≡ b = cc in cc
+
+-- with another fate, and no other
+pub with_fate_kept : (l : Listing) (t : Trial) (f : Fate) → TrialKept l t → (f ≢ fate.Running) → TrialKept l (record t { fate = f })
+with_fate_kept l t f k n = record { program = k.program; variables = k.variables; answers = k.answers; needs = k.needs; runs = λ e. absurd (n e) }
+
+pub with_loads_kept : (l : Listing) (t : Trial) (o : Loads) → TrialKept l t → TrialKept l (record t { loads = o })
+with_loads_kept l t o k = record { program = k.program; variables = k.variables; answers = k.answers; needs = k.needs; runs = k.runs }

@@ -1,0 +1,16 @@
+use Rattle.std.proofs.Common.{refl}
+use Rattle.world_events.proofs.trial.Trial.go_on.Goals as goal
+
+pub returns : goal.returns
+returns c = record {
+  task = refl;
+  rv = refl;
+  loads = refl;
+  log = c.advance-self.ensures.log;
+  program = c.advance-self.ensures.program;
+  variables = c.advance-self.ensures.variables;
+  answers = c.advance-self.ensures.answers;
+  needs = λ x e. (c.advance-self.ensures.needed x e).0;
+  fate = c.fate_after-self.ensures;
+  seen = c.seen_of.ensures;
+}

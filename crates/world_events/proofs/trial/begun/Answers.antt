@@ -1,0 +1,28 @@
+use Rattle.std.proofs.Common.{◌≡◌, ℕ, ◌<◌, length, refl, sym, ap, ◌∙◌, subst}
+use Rattle.txn.specs.Listing.{program_at}
+use Rattle.attempt.specs.View.{AttemptView}
+use Rattle.attempt.specs.declared.next.Next.{Next}
+use Rattle.world_law.specs.declared.events.Fate.TheVariants as fate
+use Rattle.world_events.specs.Trials.{answer_fate}
+use Rattle.world_events.proofs.trial.begun.Goals as goal
+
+pub returns : goal.returns
+returns c =
+    let l = c.args.catalogue.now in
+    let fresh = c.new-attempt.ensures in
+    let vars : c.advance-at.new.self.variables ≡ length l.initial = c.advance-at.ensures.variables ∙ ap (λ (a : AttemptView). a.variables) fresh in
+    record {
+      task = refl;
+      number = refl;
+      log = c.advance-at.ensures.log ∙ ap (λ (a : AttemptView). a.log) fresh;
+      loads = refl;
+      kept = record {
+        program = c.advance-at.ensures.program ∙ (ap (λ (a : AttemptView). a.program) fresh ∙ ap (program_at l) c.task_tx.ensures.value);
+        variables = vars;
+        answers = c.advance-at.ensures.answers;
+        needs = λ x e. subst (λ (n : ℕ). x.0 < n) vars (c.advance-at.ensures.needed x e).0;
+        runs = λ e m. let bad : fate.Spent ≡ fate.Running = sym (c.fate_after.ensures ∙ ap (λ (n : Next). answer_fate n fate.Running) m) ∙ e in cc;
+      };
+      fate = c.fate_after.ensures;
+      seen = c.seen_of.ensures;
+    }

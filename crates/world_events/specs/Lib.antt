@@ -1,0 +1,6 @@
+pub mod Trials
+pub mod Inside
+pub mod Steps
+pub mod Asks
+pub mod Opening
+pub mod Runs

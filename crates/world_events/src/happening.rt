@@ -1,0 +1,34 @@
+//! One event happens.
+
+ghost use Rattle.std.specs.Prelude.{◌≡◌, IfOk, OnErr, IsOk};
+ghost use Rattle.world_law.specs.Next.{Reachable};
+ghost use Rattle.world_events.specs.Runs.{TakesNone};
+ghost use Rattle.world_events.specs.Inside.{Kept, Leads, Stays, listing, world_of};
+
+use crate::asking::ask;
+use crate::beginning::begin;
+use crate::dropping::drop_attempt;
+use crate::reading::{first, second, value};
+use crate::scene::Scene;
+use crate::storing::word;
+use txn::Memory;
+use world_law::{Event, Seen};
+
+/// One event happens. At `Memory` nothing changed.
+pub fn happen(scene: &mut Scene, event: Event) -> Result<Seen, Memory>
+    requires kept { Kept scene.old }
+    requires reached { Reachable (listing scene.old) (world_of scene.old) }
+    ensures ok { IfOk result (λ s. Leads scene.old event s scene.new) }
+    ensures refused { OnErr result (Stays scene.old scene.new) }
+    ensures sure { TakesNone event → IsOk result }
+{
+    match event {
+        Event::Begin(task) => begin(scene, task),
+        Event::First(task, x) => Ok(first(scene, task, x)),
+        Event::Value(task) => Ok(value(scene, task)),
+        Event::Second(task) => second(scene, task),
+        Event::Ask(task) => ask(scene, task),
+        Event::Word => Ok(word(scene)),
+        Event::Drop(task) => Ok(drop_attempt(scene, task)),
+    }
+}
