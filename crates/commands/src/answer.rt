@@ -1,13 +1,13 @@
 //! How the program ends: what came of the command line, and the status of each.
 
 ghost use Rattle.std.specs.Prelude.{◌≡◌};
-ghost use Rattle.stm.specs.Statuses.{exit_status};
+ghost use Rattle.commands.specs.Statuses.{exit_status};
 
 use runner::RunFault;
 
 /// What came of the command line.
 #[derive(Clone, Copy, Debug, PartialEq, Eq)]
-pub(crate) enum Answer {
+pub enum Answer {
     /// A report was printed or found lawful, or the text of a world, or the help or the version that
     /// was asked for, was printed.
     Done,
@@ -23,7 +23,7 @@ pub(crate) enum Answer {
 
 /// The status to end with: 0 done, 1 the report that was checked is not lawful, 2 the file is refused, 3 the command line is refused, 4 a file
 /// cannot be read or the output cannot be written, 5 out of memory.
-pub(crate) fn status(answer: Answer) -> u8
+pub fn status(answer: Answer) -> u8
     ensures { result ≡ exit_status answer }
 {
     match answer {
@@ -37,7 +37,7 @@ pub(crate) fn status(answer: Answer) -> u8
 
 /// Says on the standard error why there is no report, where that was not said yet, and tells the
 /// status.
-pub(crate) fn told<R: Eprint>(rt: &R, answer: Answer) -> u8
+pub fn told<R: Eprint>(rt: &R, answer: Answer) -> u8
     ensures { result ≡ exit_status answer }
 {
     let _unheard = match answer {

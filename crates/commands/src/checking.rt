@@ -1,8 +1,8 @@
 //! `stm check`: the bytes of a file and of a report in, the line of a verdict and a status out.
 
 ghost use Rattle.std.specs.Prelude.{◌≡◌, ◌<◌, ◌+◌, ◌^◌, true, IfOk, IfSome};
-ghost use Rattle.stm.specs.Files.{failed_calls};
-ghost use Rattle.stm.specs.Checking.{Told, Checked, CheckedFiles, verdict_answer, report_of};
+ghost use Rattle.commands.specs.Files.{failed_calls};
+ghost use Rattle.commands.specs.Checking.{Told, Checked, CheckedFiles, verdict_answer, report_of};
 
 use crate::answer::Answer;
 use crate::program::{contents, unread};
@@ -18,7 +18,7 @@ use txn_text::ReadFault;
 
 /// Checks a report of a file, and writes the verdict's line to the sink. Both are read before
 /// either is judged.
-pub(crate) fn check_files<R: Files + AllocGlobal, S: Sink>(
+pub fn check_files<R: Files + AllocGlobal, S: Sink>(
     rt: &R,
     file: &str,
     report: &str,
@@ -81,7 +81,7 @@ fn answer_of(verdict: Verdict) -> Answer
 }
 
 /// The bytes of a report, of which at most one past the limit is read.
-pub(crate) fn report_contents<R: Files + AllocGlobal>(rt: &R, path: &str) -> io::Result<Vec<u8>> {
+pub fn report_contents<R: Files + AllocGlobal>(rt: &R, path: &str) -> io::Result<Vec<u8>> {
     up_to_report_limit(rt.alloc(), fs::open(rt, path)?)
 }
 

@@ -1,7 +1,7 @@
 use Rattle.std.proofs.Common.{◌≡◌, IfSome, subst}
-use Rattle.stm.specs.Playing.{schedule_of}
-use Rattle.stm.proofs.Limit.{known_read}
-use Rattle.stm.proofs.playing.up_to_schedule_limit.Goals as goal
+use Rattle.commands.specs.Playing.{schedule_of}
+use Rattle.commands.proofs.Limit.{known_read}
+use Rattle.commands.proofs.playing.up_to_schedule_limit.Goals as goal
 
 pub returns : goal.returns
 returns g c =

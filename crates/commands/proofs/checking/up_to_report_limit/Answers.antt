@@ -1,7 +1,7 @@
 use Rattle.std.proofs.Common.{◌≡◌, IfSome, subst}
-use Rattle.stm.specs.Checking.{report_of}
-use Rattle.stm.proofs.ReportLimit.{known_report}
-use Rattle.stm.proofs.checking.up_to_report_limit.Goals as goal
+use Rattle.commands.specs.Checking.{report_of}
+use Rattle.commands.proofs.ReportLimit.{known_report}
+use Rattle.commands.proofs.checking.up_to_report_limit.Goals as goal
 
 pub returns : goal.returns
 returns g c =

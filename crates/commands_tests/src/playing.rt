@@ -1,8 +1,8 @@
 //! Each status of `stm world`, and what it reads and writes on the way.
 
-use crate::host_tests::{Host, Prints, Reads};
-use crate::playing::schedule_contents;
-use crate::program_tests::ends;
+use crate::host::{Host, Prints, Reads};
+use crate::program::ends;
+use commands::playing::schedule_contents;
 use std::alloc::Global;
 use std::process::Abort;
 

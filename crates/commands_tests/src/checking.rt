@@ -1,8 +1,8 @@
 //! Each status of `stm check`, and what it reads and writes on the way.
 
-use crate::checking::report_contents;
-use crate::host_tests::{Host, Prints, Reads};
-use crate::program_tests::ends;
+use crate::host::{Host, Prints, Reads};
+use crate::program::ends;
+use commands::checking::report_contents;
 use std::alloc::Global;
 use std::process::Abort;
 

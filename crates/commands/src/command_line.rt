@@ -7,36 +7,40 @@ use std::alloc::{AllocError, Global};
 
 /// What the command line asks for.
 #[derive(Drop)]
-pub(crate) enum Request<'a> {
+pub enum Request<'a> {
+    /// To run a file.
     Run(Run<'a>),
+    /// To check a report.
     Check(Check<'a>),
+    /// To play a schedule.
     World(Played<'a>),
 }
 
 /// A file to run.
 #[derive(Drop)]
-pub(crate) struct Run<'a> {
+pub struct Run<'a> {
     /// Its path.
-    pub(crate) file: &'a str,
-    pub(crate) options: Options,
+    pub file: &'a str,
+    /// How it is run.
+    pub options: Options,
 }
 
 /// A report to check.
 #[derive(Drop)]
-pub(crate) struct Check<'a> {
+pub struct Check<'a> {
     /// The path of the file that it is of.
-    pub(crate) file: &'a str,
+    pub file: &'a str,
     /// Its own path.
-    pub(crate) report: &'a str,
+    pub report: &'a str,
 }
 
 /// A schedule to play.
 #[derive(Drop)]
-pub(crate) struct Played<'a> {
+pub struct Played<'a> {
     /// The path of the file whose world it is played on.
-    pub(crate) file: &'a str,
+    pub file: &'a str,
     /// Its own path.
-    pub(crate) schedule: &'a str,
+    pub schedule: &'a str,
 }
 
 const VERSION: &str = "0.1.0";
@@ -141,7 +145,7 @@ fn world_command<'a>(alloc: Global) -> Result<Command<'a>, AllocError> {
 
 /// What the words ask for. An `Err` has the text to show: help or the version, where it was asked for,
 /// or what is wrong with the words.
-pub(crate) fn parse<'a>(alloc: Global, words: &'a [String]) -> Result<Request<'a>, Error> {
+pub fn parse<'a>(alloc: Global, words: &'a [String]) -> Result<Request<'a>, Error> {
     let mut command = command(alloc)?;
     let matches = command.try_get_matches_from_mut(words)?;
     if let Some(check) = matches.subcommand_matches("check") {

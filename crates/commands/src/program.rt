@@ -3,7 +3,7 @@
 ghost use Rattle.std.specs.Prelude.{◌≡◌, ◌≢◌, ◌⊎◌, ◌<◌, ◌+◌, ◌^◌, true, IfOk, IfSome};
 ghost use Rattle.std.specs.IoError.{error_kind};
 ghost use Rattle.clap.specs.Values.{kind_of};
-ghost use Rattle.stm.specs.Files.{RanFile, Unread, Wordless, read_of, failed_calls};
+ghost use Rattle.commands.specs.Files.{RanFile, Unread, Wordless, read_of, failed_calls};
 
 use crate::answer::{Answer, told};
 use crate::checking::check_files;
@@ -21,7 +21,7 @@ use txn_text::MAX_FILE;
 
 /// Does what the command line asks for, and tells the status to end with. Threads come from the
 /// first runtime, and all else from the second.
-pub(crate) fn run<T: Threads + Wait + Sync, R: Files + Env + Print + Eprint + AllocGlobal>(
+pub fn run<T: Threads + Wait + Sync, R: Files + Env + Print + Eprint + AllocGlobal>(
     threads: &T,
     rt: &R,
 ) -> u8 {
@@ -103,7 +103,7 @@ fn run_file<T: Threads + Wait + Sync, R: Files + AllocGlobal, S: Sink>(
 }
 
 /// The bytes of a file, of which at most one past the limit is read.
-pub(crate) fn contents<R: Files + AllocGlobal>(rt: &R, path: &str) -> io::Result<Vec<u8>> {
+pub fn contents<R: Files + AllocGlobal>(rt: &R, path: &str) -> io::Result<Vec<u8>> {
     up_to_limit(rt.alloc(), fs::open(rt, path)?)
 }
 
@@ -117,7 +117,7 @@ fn up_to_limit<I: Read + Drop>(alloc: Global, input: I) -> io::Result<Vec<u8>>
 }
 
 /// Why a file was not read: it cannot be, or there is no memory to read it into.
-pub(crate) fn unread(error: &io::Error) -> Answer
+pub fn unread(error: &io::Error) -> Answer
     ensures { Unread (error_kind error.now) result }
 {
     if error.kind() == io::ErrorKind::OutOfMemory {

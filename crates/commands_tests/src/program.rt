@@ -1,7 +1,7 @@
 //! Each status of the program, and what it reads and writes on the way.
 
-use crate::host_tests::{Host, Prints, Reads};
-use crate::program::{contents, run};
+use crate::host::{Host, Prints, Reads};
+use commands::program::{contents, run};
 use std::io;
 use std::process::Abort;
 use std::sync::Wait;

@@ -1,7 +1,7 @@
 use Rattle.std.proofs.Common.{◌≡◌, IfSome, subst}
-use Rattle.stm.specs.Files.{read_of}
-use Rattle.stm.proofs.Limit.{known_read}
-use Rattle.stm.proofs.program.up_to_limit.Goals as goal
+use Rattle.commands.specs.Files.{read_of}
+use Rattle.commands.proofs.Limit.{known_read}
+use Rattle.commands.proofs.program.up_to_limit.Goals as goal
 
 pub returns : goal.returns
 returns g c =

@@ -1,8 +1,8 @@
 //! `stm world`: the bytes of a file and of a schedule in, the text of its world and a status out.
 
 ghost use Rattle.std.specs.Prelude.{◌≡◌, ◌<◌, ◌+◌, ◌^◌, true, IfOk, IfSome};
-ghost use Rattle.stm.specs.Files.{failed_calls};
-ghost use Rattle.stm.specs.Playing.{PlayedFiles, schedule_of};
+ghost use Rattle.commands.specs.Files.{failed_calls};
+ghost use Rattle.commands.specs.Playing.{PlayedFiles, schedule_of};
 
 use crate::answer::Answer;
 use crate::program::{contents, unread};
@@ -16,7 +16,7 @@ use world_runner::world_bytes;
 
 /// Plays a schedule of a file, and writes the text of the world that it leads to to the sink. Both
 /// are read before either is judged.
-pub(crate) fn play_files<R: Files + AllocGlobal, S: Sink>(
+pub fn play_files<R: Files + AllocGlobal, S: Sink>(
     rt: &R,
     file: &str,
     schedule: &str,
@@ -42,7 +42,7 @@ pub(crate) fn play_files<R: Files + AllocGlobal, S: Sink>(
 }
 
 /// The bytes of a schedule, of which at most one past the limit is read.
-pub(crate) fn schedule_contents<R: Files + AllocGlobal>(rt: &R, path: &str) -> io::Result<Vec<u8>> {
+pub fn schedule_contents<R: Files + AllocGlobal>(rt: &R, path: &str) -> io::Result<Vec<u8>> {
     up_to_schedule_limit(rt.alloc(), fs::open(rt, path)?)
 }
 
