@@ -69,39 +69,16 @@ const SCHEDULE: &str =
 const SEEN: &str =
     "Prints for each line its number and what is seen: idle, needs X, ended OUTCOME,\nloaded, stale, parked, commits N, stored, committed N, dropped or memory.\nThen the present number, values and versions, and each attempt with its task,\nthe number of the state that it reads, its fate, and what it has read.\n\nStatus: 0 done, 2 the file or the schedule is refused, 3 the command line is refused,\n4 a file cannot be read or the output cannot be written, 5 out of memory.";
 
+const WORKERS: &str = "How many workers run the tasks, 1 to 16";
+
+const TRIES: &str = "After how many stale tries a task is run alone, 1 to 64";
+
 const CHECKPOINT: &str =
     "After this many journal entries the report begins anew from the values reached; at most 65536, and 0 for never";
 
 /// The command `stm` with its subcommands.
 fn command<'a>(alloc: Global) -> Result<Command<'a>, AllocError> {
-    let file = Arg::new(alloc, "FILE")
-        .required(true)
-        .help("The path of the file to run");
-    let workers = Arg::new(alloc, "workers")
-        .long("workers")
-        .value_name("N")
-        .value_parser(value_parser!(u32).range(1..=16))
-        .default_value("4")
-        .help("How many workers run the tasks, 1 to 16");
-    let tries = Arg::new(alloc, "tries")
-        .long("tries")
-        .value_name("N")
-        .value_parser(value_parser!(u32).range(1..=64))
-        .default_value("8")
-        .help("After how many stale tries a task is run alone, 1 to 64");
-    let checkpoint = Arg::new(alloc, "checkpoint")
-        .long("checkpoint")
-        .value_name("N")
-        .value_parser(value_parser!(u32).range(0..=65536))
-        .default_value("0")
-        .help(CHECKPOINT);
-    let run = Command::new(alloc, "run")
-        .about(RUN)
-        .after_help(EXAMPLE)
-        .arg(file)?
-        .arg(workers)?
-        .arg(tries)?
-        .arg(checkpoint)?;
+    let run = run_command(alloc)?;
     Command::new(alloc, "stm")
         .version(VERSION)
         .about(ABOUT)
@@ -110,6 +87,36 @@ fn command<'a>(alloc: Global) -> Result<Command<'a>, AllocError> {
         .subcommand(run)?
         .subcommand(check_command(alloc)?)?
         .subcommand(world_command(alloc)?)
+}
+
+/// The command `stm run`.
+fn run_command<'a>(alloc: Global) -> Result<Command<'a>, AllocError> {
+    let file = Arg::new(alloc, "FILE")
+        .required(true)
+        .help("The path of the file to run");
+    Command::new(alloc, "run")
+        .about(RUN)
+        .after_help(EXAMPLE)
+        .arg(file)?
+        .arg(number(alloc, "workers", (1, 16), "4", WORKERS))?
+        .arg(number(alloc, "tries", (1, 64), "8", TRIES))?
+        .arg(number(alloc, "checkpoint", (0, 65536), "0", CHECKPOINT))
+}
+
+/// The option `--NAME N` of a number in this range, ends included, with this one where it is left out.
+fn number<'a>(
+    alloc: Global,
+    name: &'a str,
+    range: (i64, i64),
+    default: &'a str,
+    help: &'a str,
+) -> Arg<'a> {
+    Arg::new(alloc, name)
+        .long(name)
+        .value_name("N")
+        .value_parser(value_parser!(u32).range(range.0..=range.1))
+        .default_value(default)
+        .help(help)
 }
 
 /// The command `stm check`.
@@ -148,25 +155,33 @@ fn world_command<'a>(alloc: Global) -> Result<Command<'a>, AllocError> {
 pub fn parse<'a>(alloc: Global, words: &'a [String]) -> Result<Request<'a>, Error> {
     let mut command = command(alloc)?;
     let matches = command.try_get_matches_from_mut(words)?;
-    if let Some(check) = matches.subcommand_matches("check") {
-        if let Some(request) = check_paths(check) {
-            return Ok(Request::Check(request));
-        }
-    }
-    if let Some(world) = matches.subcommand_matches("world") {
-        if let Some(request) = world_paths(world) {
-            return Ok(Request::World(request));
-        }
-    }
-    if let Some(run) = matches.subcommand_matches("run") {
-        if let Some(request) = run_options(run) {
-            return Ok(Request::Run(request));
-        }
+    if let Some(request) = request_of(&matches) {
+        return Ok(request);
     }
     Err(command.error(
         ErrorKind::ValueValidation,
         "the number of workers must be 1 to 16, that of tries 1 to 64, and that of the checkpoint at most 65536",
     )?)
+}
+
+/// What the subcommand that was given asks for.
+fn request_of<'a>(matches: &ArgMatches<'a>) -> Option<Request<'a>> {
+    if let Some(check) = matches.subcommand_matches("check") {
+        if let Some(request) = check_paths(check) {
+            return Some(Request::Check(request));
+        }
+    }
+    if let Some(world) = matches.subcommand_matches("world") {
+        if let Some(request) = world_paths(world) {
+            return Some(Request::World(request));
+        }
+    }
+    if let Some(run) = matches.subcommand_matches("run") {
+        if let Some(request) = run_options(run) {
+            return Some(Request::Run(request));
+        }
+    }
+    None
 }
 
 fn run_options<'a>(matches: &ArgMatches<'a>) -> Option<Run<'a>> {
