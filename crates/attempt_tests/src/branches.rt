@@ -1,76 +1,52 @@
 //! What own writes are in first branches and after a retry. The values were worked out by hand.
 
-use crate::parts::{X, Y, catalogue, first};
+use crate::parts::{X, Y, push_counted};
 use crate::play::{Step, plays};
-use attempt::{Attempt, Next};
+use attempt::Next;
 use std::alloc::{AllocError, Global};
 use std::process::Abort;
-use txn::{Catalogue, Memory, VarId};
-
-/// The attempt returns this without a read, and these are its writes.
-fn returns(rt: &(impl Abort + Eprint), attempt: &mut Attempt<'_>, v: i64, writes: &[(VarId, i64)]) {
-    assert_eq!(rt; attempt.advance(), Next::Returned(v));
-    assert_eq!(rt; attempt.writes(), writes);
-}
-
-fn first_returns(
-    rt: &(impl Abort + Eprint),
-    alloc: Global,
-    catalogue: &Catalogue,
-    v: i64,
-    writes: &[(VarId, i64)],
-) {
-    let mut attempt = first(rt, alloc, catalogue);
-    returns(rt, &mut attempt, v, writes);
-}
+use txn::VarId;
 
 /// The text's transaction returns this without a read, and these are its writes.
-fn leaves(
-    rt: &(impl Abort + Eprint),
-    alloc: Global,
-    text: &str,
-    v: i64,
-    writes: &[(VarId, i64)],
-) -> Result<(), Memory> {
-    let catalogue = catalogue(alloc, text)?;
-    first_returns(rt, alloc, &catalogue, v, writes);
-    Ok(())
+fn leaves(rt: &(impl Abort + Eprint), alloc: Global, text: &str, v: i64, writes: &[(VarId, i64)]) {
+    let steps = [Step::Answer(Next::Returned(v)), Step::Writes(writes)];
+    plays(rt, alloc, text, &steps);
 }
 
 /// Each retry goes back to what x was before its own branch.
 #[test]
-fn a_retry_goes_back_behind_the_inner_one(rt: HostRuntime) -> Result<(), Memory> {
+fn a_retry_goes_back_behind_the_inner_one(rt: HostRuntime) {
     let text = "(var x 0)(var y 0)(tx t (seq (set x 7) (orelse (seq (set x 1)
         (orelse (seq (set x 2) (set x 3) (retry)) (set y x))
         (if (eq y 1) (retry) (skip))) (set y 4))) x)";
-    leaves(&rt, rt.alloc(), text, 7, &[(X, 7), (Y, 4)])
+    leaves(&rt, rt.alloc(), text, 7, &[(X, 7), (Y, 4)]);
 }
 
 /// A branch that is done stays noted in the one round it.
 #[test]
-fn a_retry_goes_back_behind_a_branch_that_was_done(rt: HostRuntime) -> Result<(), Memory> {
+fn a_retry_goes_back_behind_a_branch_that_was_done(rt: HostRuntime) {
     let text = "(var x 0)(var y 0)(tx t (seq (set x 7) (orelse (seq
         (orelse (seq (set x 2) (set y 3)) (skip)) (set x 4) (retry)) (skip))) x)";
-    leaves(&rt, rt.alloc(), text, 7, &[(X, 7)])
+    leaves(&rt, rt.alloc(), text, 7, &[(X, 7)]);
 }
 
 #[test]
-fn a_branch_is_noted_anew_in_each_turn(rt: HostRuntime) -> Result<(), Memory> {
+fn a_branch_is_noted_anew_in_each_turn(rt: HostRuntime) {
     let text = "(var x 0)(var y 0)(tx t (seq (set x 0) (repeat 3
         (orelse (seq (set x (add x 5)) (set y 1) (retry)) (set x (add x 1))))) x)";
-    leaves(&rt, rt.alloc(), text, 3, &[(X, 3)])
+    leaves(&rt, rt.alloc(), text, 3, &[(X, 3)]);
 }
 
 #[test]
-fn many_writes_of_a_variable_are_taken_back(rt: HostRuntime) -> Result<(), Memory> {
+fn many_writes_of_a_variable_are_taken_back(rt: HostRuntime) {
     let text = "(var x 0)(var y 0)(tx t (seq (set x 3) (orelse (seq
         (repeat 500 (set x (add x 1))) (if (eq x 503) (retry) (skip))) (set y 1))) x)";
-    leaves(&rt, rt.alloc(), text, 3, &[(X, 3), (Y, 1)])
+    leaves(&rt, rt.alloc(), text, 3, &[(X, 3), (Y, 1)]);
 }
 
 /// The branch waits for y behind its write of x; after its retry x is read.
 #[test]
-fn what_only_a_retried_branch_wrote_is_not_written(rt: HostRuntime) -> Result<(), Memory> {
+fn what_only_a_retried_branch_wrote_is_not_written(rt: HostRuntime) {
     let text =
         "(var x 0)(var y 0)(tx t (orelse (seq (set x 1) (if (eq y 0) (retry) (skip))) (skip)) x)";
     let steps = [
@@ -80,47 +56,24 @@ fn what_only_a_retried_branch_wrote_is_not_written(rt: HostRuntime) -> Result<()
         Step::Log(&[(Y, 0), (X, 5)]),
         Step::Writes(&[]),
     ];
-    plays(&rt, rt.alloc(), text, &steps)
+    plays(&rt, rt.alloc(), text, &steps);
 }
 
 /// This many variables, the last one written first, each with its number.
 fn descending(alloc: Global, count: u32) -> Result<String, AllocError> {
     let mut text = String::new(alloc);
-    for i in 0..count {
-        text.push_str(format!(in alloc; "(var v{i} 0)")?.as_str())?;
-    }
+    push_counted(&mut text, alloc, count, false, &["(var v", " 0)"])?;
     text.push_str("(tx t (seq")?;
-    for i in 0..count {
-        let x = count - 1 - i;
-        text.push_str(format!(in alloc; " (set v{x} {x})")?.as_str())?;
-    }
+    push_counted(&mut text, alloc, count, true, &[" (set v", " ", ")"])?;
     text.push_str(") 0)")?;
     Ok(text)
 }
 
-/// The writes are of so many variables, each with its number.
-fn has_its_number(rt: &(impl Abort + Eprint), writes: &[(VarId, i64)]) {
-    for i in 0..256u32 {
-        assert_eq!(rt; writes.get(i as usize), Some(&(VarId(i), i64::from(i))));
-    }
-}
-
-fn writes_all(rt: &(impl Abort + Eprint), attempt: &mut Attempt<'_>) {
-    assert_eq!(rt; attempt.advance(), Next::Returned(0));
-    assert_eq!(rt; attempt.writes().len(), 256);
-    has_its_number(rt, attempt.writes());
-}
-
-fn first_writes_all(rt: &(impl Abort + Eprint), alloc: Global, catalogue: &Catalogue) {
-    let mut attempt = first(rt, alloc, catalogue);
-    writes_all(rt, &mut attempt);
-}
-
 #[test]
-fn writes_come_out_ascending(rt: HostRuntime) -> Result<(), Memory> {
-    let alloc = rt.alloc();
-    let text = descending(alloc, 256)?;
-    let catalogue = catalogue(alloc, text.as_str())?;
-    first_writes_all(&rt, alloc, &catalogue);
-    Ok(())
+fn writes_come_out_ascending(rt: HostRuntime) {
+    let steps = [Step::Answer(Next::Returned(0)), Step::Numbers(256)];
+    match descending(rt.alloc(), 256) {
+        Ok(text) => plays(&rt, rt.alloc(), text.as_str(), &steps),
+        Err(_) => panic!(rt; "no text"),
+    }
 }

@@ -1,78 +1,46 @@
 //! Attempts that take memory: many variables, and what a refusal leaves.
 
-use crate::parts::{X, attempted, catalogue, first};
-use crate::play::{Step, plays_repeated};
+use crate::parts::{X, catalogue, push_counted};
+use crate::play::{Step, plays, plays_repeated};
 use attempt::{Attempt, Next};
 use std::alloc::{AllocError, Global};
-use std::process::Abort;
-use txn::{Catalogue, Memory, VarId};
+use txn::{Catalogue, TxId, VarId};
 
 /// This many variables, and one transaction that adds 1 to each in turn and returns the first.
 fn adding_to_all(alloc: Global, count: u32) -> Result<String, AllocError> {
     let mut text = String::new(alloc);
-    for i in 0..count {
-        text.push_str(format!(in alloc; "(var v{i} 0)")?.as_str())?;
-    }
+    push_counted(&mut text, alloc, count, false, &["(var v", " 0)"])?;
     text.push_str("(tx t (seq")?;
-    for i in 0..count {
-        text.push_str(format!(in alloc; " (set v{i} (add v{i} 1))")?.as_str())?;
-    }
+    push_counted(
+        &mut text,
+        alloc,
+        count,
+        false,
+        &[" (set v", " (add v", " 1))"],
+    )?;
     text.push_str(") v0)")?;
     Ok(text)
 }
 
-/// The attempt was told 256 variables, and wrote each.
-fn has_all(rt: &(impl Abort + Eprint), attempt: &Attempt<'_>) {
-    assert_eq!(rt; attempt.log().len(), 256);
-    assert_eq!(rt; attempt.writes().len(), 256);
-    assert_eq!(rt; attempt.writes().last(), Some(&(VarId(255), 7)));
-}
-
-fn entered(rt: &(impl Abort + Eprint), attempt: &Attempt<'_>, last: u64, total: u64) {
-    assert_eq!(rt; attempt.steps(), last);
-    assert_eq!(rt; attempt.total(), total);
-}
-
-/// The first transaction writes all of 256 variables, which have these values, and returns 7.
-fn writes_all(
-    rt: &(impl Abort + Eprint),
-    alloc: Global,
-    catalogue: &Catalogue,
-    state: &[i64],
-) -> Result<(), Memory> {
-    let (next, attempt) = attempted(rt, alloc, catalogue, state)?;
-    assert_eq!(rt; next, Next::Returned(7));
-    has_all(rt, &attempt);
-    entered(rt, &attempt, 3, 1282);
-    Ok(())
-}
-
-/// So it is where each is 6.
-fn writes_all_sixes(
-    rt: &(impl Abort + Eprint),
-    alloc: Global,
-    catalogue: &Catalogue,
-) -> Result<(), Memory> {
-    let state = Vec::from_elem(alloc, 6, 256)?;
-    writes_all(rt, alloc, catalogue, state.as_slice())
-}
-
-/// The catalogue of so many variables, and the transaction that adds 1 to each.
-fn adder(alloc: Global, count: u32) -> Result<Catalogue, Memory> {
-    let text = adding_to_all(alloc, count)?;
-    catalogue(alloc, text.as_str())
-}
-
+/// Each of 256 variables is 6, and 7 is written to each.
 #[test]
-fn many_variables_are_read_and_written(rt: HostRuntime) -> Result<(), Memory> {
-    let catalogue = adder(rt.alloc(), 256)?;
-    Ok(writes_all_sixes(&rt, rt.alloc(), &catalogue)?)
+fn many_variables_are_read_and_written(rt: HostRuntime) {
+    let steps = [
+        Step::Sixes(256),
+        Step::Advance(Next::Returned(7), 3),
+        Step::Ends(256, (VarId(255), 7)),
+        Step::Total(1282),
+    ];
+    match adding_to_all(rt.alloc(), 256) {
+        Ok(text) => plays(&rt, rt.alloc(), text.as_str(), &steps),
+        Err(_) => panic!(rt; "no text"),
+    }
 }
 
 /// Each operand waits for the one on its right, and each loop for the one inside it, 31 deep; so
 /// the operands and the loops take all the room that there is.
 #[test]
-fn the_deepest_programs_have_room(rt: HostRuntime) -> Result<(), Memory> {
+fn the_deepest_programs_have_room(rt: HostRuntime) {
     let parts = [
         (1, "(var x 0)(tx t "),
         (30, "(repeat 1 "),
@@ -89,13 +57,13 @@ fn the_deepest_programs_have_room(rt: HostRuntime) -> Result<(), Memory> {
         Step::Advance(Next::Returned(35), 1),
         Step::Total(95),
     ];
-    plays_repeated(&rt, rt.alloc(), &parts, &steps)
+    plays_repeated(&rt, rt.alloc(), &parts, &steps);
 }
 
 /// Branches that write and retry, one inside the other: the writes of each are gone, and the
 /// loops round them go on.
 #[test]
-fn nested_branches_go_back(rt: HostRuntime) -> Result<(), Memory> {
+fn nested_branches_go_back(rt: HostRuntime) {
     let parts = [
         (1, "(var x 0)(tx t (repeat 3 (seq (set x (add x 2)) "),
         (8, "(orelse (seq (set x (add x 1)) "),
@@ -108,7 +76,7 @@ fn nested_branches_go_back(rt: HostRuntime) -> Result<(), Memory> {
         Step::Advance(Next::Returned(27), 163),
         Step::Writes(&[(X, 27)]),
     ];
-    plays_repeated(&rt, rt.alloc(), &parts, &steps)
+    plays_repeated(&rt, rt.alloc(), &parts, &steps);
 }
 
 /// Drives an attempt to its end, where no growth is refused. Whether each refusal left what it has
@@ -131,15 +99,21 @@ fn keeps_its_word(attempt: &mut Attempt<'_>) -> bool {
     false
 }
 
-fn first_keeps_its_word(rt: &impl Abort, alloc: Global, catalogue: &Catalogue) -> bool {
-    let mut attempt = first(rt, alloc, catalogue);
+fn first_keeps_its_word(alloc: Global, catalogue: &Catalogue) -> bool {
+    if catalogue.tx_count() == 0 {
+        return false;
+    }
+    let mut attempt = Attempt::new(alloc, catalogue, TxId(0));
     keeps_its_word(&mut attempt)
 }
 
 #[test]
-fn a_refusal_changes_nothing(rt: HostRuntime) -> Result<(), Memory> {
-    let catalogue = adder(rt.alloc(), 20)?;
-    let keeps = first_keeps_its_word(&rt, rt.alloc(), &catalogue);
-    assert!(rt; keeps);
-    Ok(())
+fn a_refusal_changes_nothing(rt: HostRuntime) {
+    let Ok(text) = adding_to_all(rt.alloc(), 20) else {
+        panic!(rt; "no text")
+    };
+    match catalogue(rt.alloc(), text.as_str()) {
+        Some(catalogue) => assert!(rt; first_keeps_its_word(rt.alloc(), &catalogue)),
+        None => panic!(rt; "no catalogue"),
+    }
 }

@@ -3,10 +3,10 @@
 use crate::parts::{X, Y};
 use crate::play::{Step, plays};
 use attempt::{Next, answers, frame, resumes};
-use txn::{Fault, Memory};
+use txn::Fault;
 
 #[test]
-fn the_increment_goes_on_at_its_load(rt: HostRuntime) -> Result<(), Memory> {
+fn the_increment_goes_on_at_its_load(rt: HostRuntime) {
     let text = "(var x 0)(var y 0)(tx t (set x (add x 1)) x)";
     let steps = [
         Step::Told(X, 3, 5),
@@ -16,11 +16,11 @@ fn the_increment_goes_on_at_its_load(rt: HostRuntime) -> Result<(), Memory> {
         Step::Advance(Next::Returned(6), 0),
         Step::Total(6),
     ];
-    plays(&rt, rt.alloc(), text, &steps)
+    plays(&rt, rt.alloc(), text, &steps);
 }
 
 #[test]
-fn a_sum_enters_each_node_once_and_each_load_again(rt: HostRuntime) -> Result<(), Memory> {
+fn a_sum_enters_each_node_once_and_each_load_again(rt: HostRuntime) {
     let text = "(var x 0)(var y 0)(tx sum (skip) (add x y))";
     let steps = [
         Step::Advance(Next::Need(X), 3),
@@ -29,11 +29,11 @@ fn a_sum_enters_each_node_once_and_each_load_again(rt: HostRuntime) -> Result<()
         Step::Advance(Next::Returned(2), 1),
         Step::Total(6),
     ];
-    plays(&rt, rt.alloc(), text, &steps)
+    plays(&rt, rt.alloc(), text, &steps);
 }
 
 #[test]
-fn a_retried_branch_leaves_its_reads(rt: HostRuntime) -> Result<(), Memory> {
+fn a_retried_branch_leaves_its_reads(rt: HostRuntime) {
     let text = "(var x 0)(var y 0)(tx t (orelse (if (eq x 0) (retry) (set y 1)) (set y 2)) y)";
     let steps = [
         Step::Told(X, 4, 0),
@@ -41,11 +41,11 @@ fn a_retried_branch_leaves_its_reads(rt: HostRuntime) -> Result<(), Memory> {
         Step::Log(&[(X, 0)]),
         Step::Writes(&[(Y, 2)]),
     ];
-    plays(&rt, rt.alloc(), text, &steps)
+    plays(&rt, rt.alloc(), text, &steps);
 }
 
 #[test]
-fn a_need_is_repeated(rt: HostRuntime) -> Result<(), Memory> {
+fn a_need_is_repeated(rt: HostRuntime) {
     let steps = [
         Step::Advance(Next::Need(Y), 2),
         Step::Advance(Next::Need(Y), 0),
@@ -54,11 +54,11 @@ fn a_need_is_repeated(rt: HostRuntime) -> Result<(), Memory> {
         Step::Advance(Next::Returned(-3), 1),
         Step::Writes(&[]),
     ];
-    plays(&rt, rt.alloc(), "(var x 0)(var y 0)(tx t (skip) y)", &steps)
+    plays(&rt, rt.alloc(), "(var x 0)(var y 0)(tx t (skip) y)", &steps);
 }
 
 #[test]
-fn only_a_return_leaves_writes(rt: HostRuntime) -> Result<(), Memory> {
+fn only_a_return_leaves_writes(rt: HostRuntime) {
     let text = "(var x 0)(var y 0)(tx t (seq (set y 7) (throw y)) 0)";
     let thrown = Next::Thrown(Fault::User(7));
     let steps = [
@@ -66,11 +66,11 @@ fn only_a_return_leaves_writes(rt: HostRuntime) -> Result<(), Memory> {
         Step::Writes(&[]),
         Step::Advance(thrown, 0),
     ];
-    plays(&rt, rt.alloc(), text, &steps)
+    plays(&rt, rt.alloc(), text, &steps);
 }
 
 #[test]
-fn a_retry_keeps_its_log(rt: HostRuntime) -> Result<(), Memory> {
+fn a_retry_keeps_its_log(rt: HostRuntime) {
     let text = "(var x 0)(var y 0)(tx t (if (eq x 0) (retry) (skip)) 1)";
     let steps = [
         Step::Told(X, 3, 0),
@@ -78,7 +78,7 @@ fn a_retry_keeps_its_log(rt: HostRuntime) -> Result<(), Memory> {
         Step::Log(&[(X, 0)]),
         Step::Writes(&[]),
     ];
-    plays(&rt, rt.alloc(), text, &steps)
+    plays(&rt, rt.alloc(), text, &steps);
 }
 
 #[test]

@@ -1,22 +1,18 @@
-//! The catalogues of the tests, and how they drive an attempt.
+//! The catalogues of the tests.
 
-ghost use Rattle.std.specs.Prelude.{◌≡◌};
-
-use attempt::{Attempt, Next, Stand};
 use std::alloc::{AllocError, Global};
-use std::process::Abort;
-use txn::{Catalogue, Memory, TxId, VarId};
+use txn::{Catalogue, VarId};
 use txn_text::read_file;
 
 pub(crate) const X: VarId = VarId(0);
 
 pub(crate) const Y: VarId = VarId(1);
 
-/// The catalogue of a text. What is no file stops the test as want of memory does.
-pub(crate) fn catalogue(alloc: Global, text: &str) -> Result<Catalogue, Memory> {
+/// The catalogue of a text, `None` where it is no file or memory is refused.
+pub(crate) fn catalogue(alloc: Global, text: &str) -> Option<Catalogue> {
     match read_file(alloc, text.as_bytes()) {
-        Ok(catalogue) => Ok(catalogue),
-        Err(_) => Err(Memory),
+        Ok(catalogue) => Some(catalogue),
+        Err(_) => None,
     }
 }
 
@@ -28,7 +24,7 @@ fn push_times(text: &mut String, times: u32, part: &str) -> Result<(), AllocErro
 }
 
 /// Each part so many times, one after the other.
-fn repeated(alloc: Global, parts: &[(u32, &str)]) -> Result<String, AllocError> {
+pub(crate) fn repeated(alloc: Global, parts: &[(u32, &str)]) -> Result<String, AllocError> {
     let mut text = String::new(alloc);
     for (times, part) in parts {
         push_times(&mut text, *times, part)?;
@@ -36,37 +32,28 @@ fn repeated(alloc: Global, parts: &[(u32, &str)]) -> Result<String, AllocError> 
     Ok(text)
 }
 
-/// The catalogue of such a text.
-pub(crate) fn catalogue_of(alloc: Global, parts: &[(u32, &str)]) -> Result<Catalogue, Memory> {
-    let text = repeated(alloc, parts)?;
-    catalogue(alloc, text.as_str())
-}
-
-/// An attempt of the catalogue's first transaction.
-pub(crate) fn first<'a>(rt: &impl Abort, alloc: Global, catalogue: &'a Catalogue) -> Attempt<'a>
-    ensures { result.stand ≡ Stand.Fresh }
-{
-    assert!(rt; catalogue.tx_count() > 0);
-    Attempt::new(alloc, catalogue, TxId(0))
-}
-
-/// How the catalogue's first transaction ends by an attempt that is told the state's values.
-pub(crate) fn attempted<'a>(
-    rt: &impl Abort,
-    alloc: Global,
-    catalogue: &'a Catalogue,
-    state: &[i64],
-) -> Result<(Next, Attempt<'a>), Memory> {
-    let mut attempt = first(rt, alloc, catalogue);
-    for _variable in 0..state.len() {
-        match attempt.advance() {
-            Next::Need(x) => match state.get(x.0 as usize) {
-                Some(v) => attempt.supply(x, *v)?,
-                None => return Ok((Next::Need(x), attempt)),
-            },
-            next => return Ok((next, attempt)),
+/// The words with this number between each two.
+fn push_numbered(text: &mut String, number: &str, words: &[&str]) -> Result<(), AllocError> {
+    for place in 0..words.len() {
+        if place > 0 {
+            text.push_str(number)?;
         }
+        text.push_str(words[place])?;
     }
-    let next = attempt.advance();
-    Ok((next, attempt))
+    Ok(())
+}
+
+/// The words with each number below the count between each two, from 0 on, or down to 0.
+pub(crate) fn push_counted(
+    text: &mut String,
+    alloc: Global,
+    count: u32,
+    falls: bool,
+    words: &[&str],
+) -> Result<(), AllocError> {
+    for i in 0..count {
+        let number = if falls { count - 1 - i } else { i };
+        push_numbered(text, format!(in alloc; "{number}")?.as_str(), words)?;
+    }
+    Ok(())
 }

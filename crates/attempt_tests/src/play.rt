@@ -1,107 +1,137 @@
 //! Attempts are played call by call, and each call's answer is compared.
 
-use crate::parts::{catalogue, catalogue_of, first};
+use crate::parts::{catalogue, repeated};
 use attempt::{Attempt, Next};
 use std::alloc::Global;
 use std::process::Abort;
-use txn::{Catalogue, Memory, VarId};
+use txn::{Catalogue, TxId, VarId};
 
 /// Calls of an attempt, and what they answer.
 #[derive(Clone, Copy)]
 pub(crate) enum Step<'s> {
     /// `advance` answers this, and enters so many nodes.
     Advance(Next, u64),
+    /// `advance` answers this, however many nodes it enters.
+    Answer(Next),
+    /// `advance` enters so many nodes, whatever it answers.
+    Enter(u64),
     /// `advance` needs this variable, and enters so many nodes; then the attempt is told its value.
     Told(VarId, u64, i64),
+    /// So many times `advance` needs a variable, which is told to be 6.
+    Sixes(u32),
     Log(&'s [(VarId, i64)]),
     Writes(&'s [(VarId, i64)]),
+    /// Each of so many variables is written, the first first, with its number.
+    Numbers(u32),
+    /// So many variables are in the log, as many are written, and this is the last of those.
+    Ends(usize, (VarId, i64)),
     Total(u64),
     /// The log is taken.
     TakeLog(&'s [(VarId, i64)]),
 }
 
-fn advances(rt: &(impl Abort + Eprint), attempt: &mut Attempt<'_>, answer: Next, entered: u64) {
-    assert_eq!(rt; attempt.advance(), answer);
-    assert_eq!(rt; attempt.steps(), entered);
+fn advances(attempt: &mut Attempt<'_>, answer: Next, entered: u64) -> bool {
+    let next = attempt.advance();
+    next == answer && attempt.steps() == entered
 }
 
-fn is_told(
-    rt: &(impl Abort + Eprint),
-    attempt: &mut Attempt<'_>,
-    x: VarId,
-    entered: u64,
-    v: i64,
-) -> Result<(), Memory> {
-    assert_eq!(rt; attempt.advance(), Next::Need(x));
-    assert_eq!(rt; attempt.steps(), entered);
-    attempt.supply(x, v)
+fn enters(attempt: &mut Attempt<'_>, entered: u64) -> bool {
+    let _ = attempt.advance();
+    attempt.steps() == entered
 }
 
-fn has_log(rt: &(impl Abort + Eprint), attempt: &Attempt<'_>, log: &[(VarId, i64)]) {
-    assert_eq!(rt; attempt.log(), log);
+fn is_told(attempt: &mut Attempt<'_>, x: VarId, entered: u64, v: i64) -> bool {
+    match attempt.advance() {
+        Next::Need(needed) => {
+            needed == x && attempt.steps() == entered && attempt.supply(needed, v).is_ok()
+        }
+        _ => false,
+    }
 }
 
-fn has_writes(rt: &(impl Abort + Eprint), attempt: &Attempt<'_>, writes: &[(VarId, i64)]) {
-    assert_eq!(rt; attempt.writes(), writes);
+fn is_told_six(attempt: &mut Attempt<'_>) -> bool {
+    match attempt.advance() {
+        Next::Need(x) => attempt.supply(x, 6).is_ok(),
+        _ => false,
+    }
 }
 
-fn has_total(rt: &(impl Abort + Eprint), attempt: &Attempt<'_>, total: u64) {
-    assert_eq!(rt; attempt.total(), total);
+fn is_told_sixes(attempt: &mut Attempt<'_>, count: u32) -> bool {
+    for _variable in 0..count {
+        if !is_told_six(attempt) {
+            return false;
+        }
+    }
+    true
 }
 
-fn gives_log(rt: &(impl Abort + Eprint), attempt: &mut Attempt<'_>, log: &[(VarId, i64)]) {
-    let taken = attempt.take_log();
-    assert_eq!(rt; taken.as_slice(), log);
+/// Whether the writes are of so many variables, each with its number.
+fn are_numbers(writes: &[(VarId, i64)], count: u32) -> bool {
+    for i in 0..count {
+        if writes.get(i as usize) != Some(&(VarId(i), i64::from(i))) {
+            return false;
+        }
+    }
+    writes.len() == count as usize
 }
 
-fn takes(
-    rt: &(impl Abort + Eprint),
-    attempt: &mut Attempt<'_>,
-    step: Step<'_>,
-) -> Result<(), Memory> {
+fn ends_with(attempt: &Attempt<'_>, count: usize, last: (VarId, i64)) -> bool {
+    attempt.log().len() == count
+        && attempt.writes().len() == count
+        && attempt.writes().last() == Some(&last)
+}
+
+fn gives_log(attempt: &mut Attempt<'_>, log: &[(VarId, i64)]) -> bool {
+    attempt.take_log().as_slice() == log
+}
+
+/// Whether the step is answered so.
+fn takes(attempt: &mut Attempt<'_>, step: Step<'_>) -> bool {
     match step {
-        Step::Told(x, entered, v) => return is_told(rt, attempt, x, entered, v),
-        Step::Advance(answer, entered) => advances(rt, attempt, answer, entered),
-        Step::Log(log) => has_log(rt, attempt, log),
-        Step::Writes(writes) => has_writes(rt, attempt, writes),
-        Step::Total(total) => has_total(rt, attempt, total),
-        Step::TakeLog(log) => gives_log(rt, attempt, log),
+        Step::Advance(answer, entered) => advances(attempt, answer, entered),
+        Step::Answer(answer) => attempt.advance() == answer,
+        Step::Enter(entered) => enters(attempt, entered),
+        Step::Told(x, entered, v) => is_told(attempt, x, entered, v),
+        Step::Sixes(count) => is_told_sixes(attempt, count),
+        Step::Log(log) => attempt.log() == log,
+        Step::Writes(writes) => attempt.writes() == writes,
+        Step::Numbers(count) => are_numbers(attempt.writes(), count),
+        Step::Ends(count, last) => ends_with(attempt, count, last),
+        Step::Total(total) => attempt.total() == total,
+        Step::TakeLog(log) => gives_log(attempt, log),
     }
-    Ok(())
 }
 
-/// The attempt goes on by these steps.
-pub(crate) fn goes(
-    rt: &(impl Abort + Eprint),
-    attempt: &mut Attempt<'_>,
-    steps: &[Step<'_>],
-) -> Result<(), Memory> {
-    for step in steps {
-        takes(rt, attempt, *step)?;
+/// The first of these steps that is not answered so, `None` where all are.
+pub(crate) fn first_wrong(attempt: &mut Attempt<'_>, steps: &[Step<'_>]) -> Option<usize> {
+    for place in 0..steps.len() {
+        if !takes(attempt, steps[place]) {
+            return Some(place);
+        }
     }
-    Ok(())
+    None
 }
 
-/// An attempt of the catalogue's first transaction goes by these steps.
-fn first_goes(
-    rt: &(impl Abort + Eprint),
-    alloc: Global,
-    catalogue: &Catalogue,
-    steps: &[Step<'_>],
-) -> Result<(), Memory> {
-    let mut attempt = first(rt, alloc, catalogue);
-    goes(rt, &mut attempt, steps)
+/// So it is of an attempt of the catalogue's first transaction.
+fn first_wrong_of(alloc: Global, catalogue: &Catalogue, steps: &[Step<'_>]) -> Option<usize> {
+    if catalogue.tx_count() == 0 {
+        return Some(0);
+    }
+    let mut attempt = Attempt::new(alloc, catalogue, TxId(0));
+    first_wrong(&mut attempt, steps)
+}
+
+/// So it is of the text's first transaction.
+pub(crate) fn first_wrong_in(alloc: Global, text: &str, steps: &[Step<'_>]) -> Option<usize> {
+    match catalogue(alloc, text) {
+        Some(catalogue) => first_wrong_of(alloc, &catalogue, steps),
+        None => Some(0),
+    }
 }
 
 /// An attempt of the text's first transaction goes by these steps.
-pub(crate) fn plays(
-    rt: &(impl Abort + Eprint),
-    alloc: Global,
-    text: &str,
-    steps: &[Step<'_>],
-) -> Result<(), Memory> {
-    let catalogue = catalogue(alloc, text)?;
-    Ok(first_goes(rt, alloc, &catalogue, steps)?)
+pub(crate) fn plays(rt: &(impl Abort + Eprint), alloc: Global, text: &str, steps: &[Step<'_>]) {
+    assert_eq!(rt; first_wrong_in(alloc, text, steps), None, "of {text}");
 }
 
 /// So it is of the text that has each part so many times.
@@ -110,7 +140,9 @@ pub(crate) fn plays_repeated(
     alloc: Global,
     parts: &[(u32, &str)],
     steps: &[Step<'_>],
-) -> Result<(), Memory> {
-    let catalogue = catalogue_of(alloc, parts)?;
-    Ok(first_goes(rt, alloc, &catalogue, steps)?)
+) {
+    match repeated(alloc, parts) {
+        Ok(text) => plays(rt, alloc, text.as_str(), steps),
+        Err(_) => panic!(rt; "no text"),
+    }
 }
