@@ -1,7 +1,19 @@
-//! Tests of what `txn_text` promises its callers.
+//! Tests of what `txn_text`, `report_reader` and `schedule_reader` promise their callers.
 #![tactic(auto)]
 
+#[cfg(test)]
+mod parts;
 #[cfg(test)]
 mod printing;
 #[cfg(test)]
 mod reading;
+#[cfg(test)]
+mod repeated;
+#[cfg(test)]
+mod report_faults;
+#[cfg(test)]
+mod report_reading;
+#[cfg(test)]
+mod schedule_faults;
+#[cfg(test)]
+mod schedule_reading;

@@ -1,0 +1,131 @@
+//! Catalogues and texts of the tests, and why texts are refused.
+
+use report_reader::read_report;
+use schedule_reader::read_schedule;
+use std::alloc::{AllocError, Global};
+use std::process::Abort;
+use txn::{Catalogue, Move};
+use txn_text::{ReadFault, read_file};
+
+/// Two increments of one variable.
+pub(crate) const INCREMENTS: &str = "(var x 5)(tx inc (set x (add x 1)) x)(run inc 2)";
+
+/// Two variables, a task that adds them and one that sets both.
+pub(crate) const PAIR: &str = "(var x 1)(var y 1)(tx sum (skip) (add x y))\
+    (tx both (seq (set x 2) (set y 2)) 0)(run sum 1)(run both 1)";
+
+/// What a text is read as.
+#[derive(Clone, Copy)]
+pub(crate) enum Kind {
+    File,
+    /// A report of the two increments.
+    Report,
+    /// A schedule of the pair.
+    Schedule,
+}
+
+/// The catalogue of a text, `None` where it is no file or memory is refused.
+pub(crate) fn catalogue(alloc: Global, text: &str) -> Option<Catalogue> {
+    match read_file(alloc, text.as_bytes()) {
+        Ok(catalogue) => Some(catalogue),
+        Err(_) => None,
+    }
+}
+
+fn file_fault(alloc: Global, text: &[u8]) -> Option<ReadFault> {
+    match read_file(alloc, text) {
+        Ok(_) => None,
+        Err(fault) => Some(fault),
+    }
+}
+
+fn report_fault(alloc: Global, text: &[u8]) -> Option<ReadFault> {
+    let Some(catalogue) = catalogue(alloc, INCREMENTS) else {
+        return Some(ReadFault::Memory);
+    };
+    match read_report(alloc, text, &catalogue) {
+        Ok(_) => None,
+        Err(fault) => Some(fault),
+    }
+}
+
+/// What the text is read as, where it is a schedule of the file.
+fn moves(alloc: Global, file: &str, text: &[u8]) -> Result<Vec<Move>, ReadFault> {
+    match catalogue(alloc, file) {
+        Some(catalogue) => read_schedule(alloc, text, &catalogue),
+        None => Err(ReadFault::Memory),
+    }
+}
+
+/// Whether the text is read as a schedule of the file, and as these moves.
+pub(crate) fn are_moves(alloc: Global, file: &str, text: &[u8], wanted: &[Move]) -> bool {
+    match moves(alloc, file, text) {
+        Ok(moves) => moves.as_slice() == wanted,
+        Err(_) => false,
+    }
+}
+
+fn schedule_fault(alloc: Global, text: &[u8]) -> Option<ReadFault> {
+    match moves(alloc, PAIR, text) {
+        Ok(_) => None,
+        Err(fault) => Some(fault),
+    }
+}
+
+/// Why a text is refused, if it is.
+pub(crate) fn fault(alloc: Global, kind: Kind, text: &[u8]) -> Option<ReadFault> {
+    match kind {
+        Kind::File => file_fault(alloc, text),
+        Kind::Report => report_fault(alloc, text),
+        Kind::Schedule => schedule_fault(alloc, text),
+    }
+}
+
+/// Each text is refused so, or read where that is `None`.
+pub(crate) fn expect_faults(
+    rt: &(impl Abort + Eprint),
+    alloc: Global,
+    kind: Kind,
+    texts: &[&str],
+    want: Option<ReadFault>,
+) {
+    for text in texts {
+        assert_eq!(rt; fault(alloc, kind, text.as_bytes()), want, "of {text}");
+    }
+}
+
+/// So many newlines and then these bytes.
+fn newlines(alloc: Global, count: usize, rest: &[u8]) -> Result<Vec<u8>, AllocError> {
+    let mut text = Vec::from_elem(alloc, b'\n', count)?;
+    text.extend_from_slice(rest)?;
+    Ok(text)
+}
+
+/// Why such a text is refused, if it is.
+pub(crate) fn long_fault(
+    alloc: Global,
+    kind: Kind,
+    count: usize,
+    rest: &[u8],
+) -> Option<ReadFault> {
+    match newlines(alloc, count, rest) {
+        Ok(text) => fault(alloc, kind, &text),
+        Err(_) => Some(ReadFault::Memory),
+    }
+}
+
+/// Each beginning of the text is refused by its shape, but for those of these lengths, which are
+/// read.
+pub(crate) fn expect_beginnings(
+    rt: &(impl Abort + Eprint),
+    alloc: Global,
+    kind: Kind,
+    text: &[u8],
+    read: &[usize],
+) {
+    for length in 0..text.len() {
+        let shape = Some(ReadFault::Shape);
+        let want = if read.contains(&length) { None } else { shape };
+        assert_eq!(rt; fault(alloc, kind, &text[..length]), want, "of {length}");
+    }
+}

@@ -1,0 +1,98 @@
+//! Reports that are read, and printed again as the same bytes.
+
+use crate::parts::{INCREMENTS, catalogue};
+use report_reader::read_report;
+use std::alloc::Global;
+use std::process::Abort;
+use txn::{Catalogue, Outcome, Report, TaskId, TxId};
+use txn_text::print_report;
+
+/// The report of a run of the two increments.
+pub(crate) const REPORT: &str =
+    "base 0\nx 5 0\nentry 1 0 inc returned 6\nentry 2 1 inc returned 7\nnow 2\nx 7 2\nend\n";
+
+/// The report of a file that is read from a text.
+fn report_of(rt: &impl Abort, alloc: Global, file: &str, text: &str) -> Report {
+    let Some(catalogue) = catalogue(alloc, file) else {
+        panic!(rt; "no catalogue")
+    };
+    match read_report(alloc, text.as_bytes(), &catalogue) {
+        Ok(report) => report,
+        Err(_) => panic!(rt; "no report"),
+    }
+}
+
+/// Whether the second of two entries is task 1's, of the first transaction, which returned 7.
+fn tells_entries(report: &Report) -> bool {
+    match report.entries.get(1) {
+        Some(entry) => {
+            report.entries.len() == 2
+                && entry.task == TaskId(1)
+                && entry.tx == TxId(0)
+                && entry.outcome == Outcome::Returned(7)
+        }
+        None => false,
+    }
+}
+
+fn tells_variables(report: &Report) -> bool {
+    report.base == 0
+        && report.base_vars.as_slice() == [(5, 0)].as_slice()
+        && report.now == 2
+        && report.now_vars.as_slice() == [(7, 2)].as_slice()
+}
+
+#[test]
+fn a_report_tells_what_it_says(rt: HostRuntime) {
+    let report = report_of(&rt, rt.alloc(), INCREMENTS, REPORT);
+    assert!(rt; tells_variables(&report) && tells_entries(&report));
+}
+
+fn tells_tasks(report: &Report) -> bool {
+    report.parked.as_slice() == [(TaskId(0), TxId(0))].as_slice()
+        && report.memory.as_slice() == [(TaskId(1), TxId(0))].as_slice()
+}
+
+#[test]
+fn tasks_without_an_entry_are_told(rt: HostRuntime) {
+    let text = "base 2\nx 7 2\nnow 2\nx 7 2\nparked 0 inc\nmemory 1 inc\nend\n";
+    assert!(rt; tells_tasks(&report_of(&rt, rt.alloc(), INCREMENTS, text)));
+}
+
+/// Whether the text is read as a report of the catalogue's file, and printed as the same bytes.
+fn prints_again(alloc: Global, catalogue: &Catalogue, text: &str) -> bool {
+    let Ok(report) = read_report(alloc, text.as_bytes(), catalogue) else {
+        return false;
+    };
+    match print_report(alloc, catalogue, &report) {
+        Ok(printed) => printed.as_str() == text,
+        Err(_) => false,
+    }
+}
+
+/// So it is of the two increments.
+fn increments_print_again(alloc: Global, text: &str) -> bool {
+    match catalogue(alloc, INCREMENTS) {
+        Some(catalogue) => prints_again(alloc, &catalogue, text),
+        None => false,
+    }
+}
+
+#[test]
+fn what_is_read_prints_as_the_same_bytes(rt: HostRuntime) {
+    for text in [
+        REPORT,
+        "base 0\nx -9223372036854775808 0\nentry 1 1 inc overflow\nnow 1\nx 0 0\nend\n",
+        "base 65536\nx 0 65536\nentry 0 0 inc zerodiv\nentry 7 1 inc threw -1\nnow 0\nx 0 0\nend\n",
+    ] {
+        assert!(rt; increments_print_again(rt.alloc(), text), "of {text}");
+    }
+}
+
+#[test]
+fn variables_have_any_name(rt: HostRuntime) {
+    let file = "(var entry 1)(var now 2)(var end 3)";
+    let text = "base 0\nentry 1 0\nnow 2 0\nend 3 0\nnow 0\nentry 1 0\nnow 2 0\nend 3 0\nend\n";
+    let report = report_of(&rt, rt.alloc(), file, text);
+    assert!(rt; report.now_vars.as_slice() == [(1, 0), (2, 0), (3, 0)].as_slice());
+}
