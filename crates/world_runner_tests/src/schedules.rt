@@ -1,40 +1,34 @@
 //! Schedules and their exact texts.
 
-use crate::parts::{PAIR, text};
-use std::test::Fail;
+use crate::parts::{PAIR, expect_text};
 
 #[test]
-fn the_empty_schedule_is_the_world_as_it_opens(rt: HostRuntime) -> Result<(), Fail> {
-    let seen = text(rt.alloc(), PAIR, "")?;
-    assert_eq!(rt; seen.as_slice(), b"now 0\nx 1 0\ny 1 0\nend\n".as_slice());
-    Ok(())
+fn the_empty_schedule_is_the_world_as_it_opens(rt: HostRuntime) {
+    let wanted = b"now 0\nx 1 0\ny 1 0\nend\n";
+    expect_text(&rt, rt.alloc(), PAIR, "", wanted);
 }
 
 #[test]
-fn own_writes_come_first(rt: HostRuntime) -> Result<(), Fail> {
+fn own_writes_come_first(rt: HostRuntime) {
     let file = "(var x 1)(tx own (set x 5) x)(tx two (set x 2) 0)\
         (run own 1)(run two 1)";
     let schedule = "begin 0\nbegin 1\ncommit 1\ncommit 0\n";
     let wanted = b"1 ended returned 5\n2 ended returned 0\n3 committed 1\n4 committed 2\n\
         now 2\nx 5 2\nattempt 0 0 committed 2\nattempt 1 0 committed 1\nend\n";
-    let seen = text(rt.alloc(), file, schedule)?;
-    assert_eq!(rt; seen.as_slice(), wanted.as_slice());
-    Ok(())
+    expect_text(&rt, rt.alloc(), file, schedule, wanted);
 }
 
 #[test]
-fn a_torn_pair_is_refused(rt: HostRuntime) -> Result<(), Fail> {
+fn a_torn_pair_is_refused(rt: HostRuntime) {
     let schedule = "begin 0\nread 0 x\nbegin 1\ncommit 1\nread 0 y\n";
     let wanted = b"1 needs x\n2 needs y\n3 ended returned 0\n4 committed 1\n5 stale\n\
         now 1\nx 2 1\ny 2 1\nattempt 0 0 stale x 1\nattempt 1 0 committed 1\n\
         end\n";
-    let seen = text(rt.alloc(), PAIR, schedule)?;
-    assert_eq!(rt; seen.as_slice(), wanted.as_slice());
-    Ok(())
+    expect_text(&rt, rt.alloc(), PAIR, schedule, wanted);
 }
 
 #[test]
-fn a_value_comes_back(rt: HostRuntime) -> Result<(), Fail> {
+fn a_value_comes_back(rt: HostRuntime) {
     let file = "(var x 1)(tx get (skip) x)(tx two (set x 2) 0)(tx one (set x 1) 0)\
         (run get 1)(run two 1)(run one 1)";
     let schedule = "begin 0\nread 0 x\nbegin 1\ncommit 1\nbegin 2\ncommit 2\ncommit 0\n";
@@ -42,13 +36,11 @@ fn a_value_comes_back(rt: HostRuntime) -> Result<(), Fail> {
         5 ended returned 0\n6 committed 2\n7 committed 3\nnow 3\nx 1 2\n\
         attempt 0 0 committed 3 x 1\nattempt 1 0 committed 1\n\
         attempt 2 1 committed 2\nend\n";
-    let seen = text(rt.alloc(), file, schedule)?;
-    assert_eq!(rt; seen.as_slice(), wanted.as_slice());
-    Ok(())
+    expect_text(&rt, rt.alloc(), file, schedule, wanted);
 }
 
 #[test]
-fn the_middle_of_a_publish(rt: HostRuntime) -> Result<(), Fail> {
+fn the_middle_of_a_publish(rt: HostRuntime) {
     let schedule = "begin 1\nask 1\nword\nbegin 0\nfirst 0 x\nword\nword\nword\nword\n\
         word\nbegin 0\nread 0 x\nfirst 0 y\nword\n";
     let wanted = b"1 ended returned 0\n2 commits 1\n3 stored\n4 needs x\n5 stale\n\
@@ -56,30 +48,24 @@ fn the_middle_of_a_publish(rt: HostRuntime) -> Result<(), Fail> {
         12 needs y\n13 stale\n14 committed 1\nnow 1\nx 2 1\ny 2 1\n\
         attempt 1 0 committed 1\nattempt 0 0 stale\nattempt 0 1 stale x 2\n\
         end\n";
-    let seen = text(rt.alloc(), PAIR, schedule)?;
-    assert_eq!(rt; seen.as_slice(), wanted.as_slice());
-    Ok(())
+    expect_text(&rt, rt.alloc(), PAIR, schedule, wanted);
 }
 
 #[test]
-fn a_second_look_and_what_is_not_possible(rt: HostRuntime) -> Result<(), Fail> {
+fn a_second_look_and_what_is_not_possible(rt: HostRuntime) {
     let schedule = "word\ndrop 0\nbegin 0\nfirst 0 x\nbegin 1\ncommit 1\nvalue 0\n\
         second 0\nbegin 1\n";
     let wanted = b"1 idle\n2 idle\n3 needs x\n4 loaded\n5 ended returned 0\n\
         6 committed 1\n7 loaded\n8 stale\n9 idle\nnow 1\nx 2 1\ny 2 1\n\
         attempt 0 0 stale\nattempt 1 0 committed 1\nend\n";
-    let seen = text(rt.alloc(), PAIR, schedule)?;
-    assert_eq!(rt; seen.as_slice(), wanted.as_slice());
-    Ok(())
+    expect_text(&rt, rt.alloc(), PAIR, schedule, wanted);
 }
 
 #[test]
-fn a_retry_is_parked_and_one_more_is_dropped(rt: HostRuntime) -> Result<(), Fail> {
+fn a_retry_is_parked_and_one_more_is_dropped(rt: HostRuntime) {
     let file = "(tx t (orelse (retry) (retry)) 0)(run t 1)";
     let schedule = "begin 0\ncommit 0\nbegin 0\ndrop 0\n";
     let wanted = b"1 ended retries\n2 parked\n3 ended retries\n4 dropped\nnow 0\n\
         attempt 0 0 parked\nattempt 0 0 dropped\nend\n";
-    let seen = text(rt.alloc(), file, schedule)?;
-    assert_eq!(rt; seen.as_slice(), wanted.as_slice());
-    Ok(())
+    expect_text(&rt, rt.alloc(), file, schedule, wanted);
 }

@@ -6,14 +6,13 @@ use std::alloc::Global;
 use std::io;
 use std::io::{ErrorKind, Write};
 use std::process::Abort;
-use std::test::Fail;
 use world_runner::world_bytes;
 
 /// What is seen of a task that begins.
 const SEEN: &str = "1 needs x\nnow 0\nx 1 0\ny 1 0\nattempt 0 0 running\nend\n";
 
 /// What a writer does at its bad call.
-#[derive(Clone, Copy, Debug)]
+#[derive(Clone, Copy)]
 enum Fault {
     Fails(ErrorKind),
     TakesNothing,
@@ -58,68 +57,66 @@ impl Write for Narrow {
     }
 }
 
-/// The schedule is written so, to a writer with this bad call: what is told, how many calls failed,
-/// and what was taken.
-fn written(alloc: Global, bad: usize, fault: Fault) -> (Result<(), RunFault>, u64, usize, Vec<u8>) {
+/// Whether the schedule is written so to a writer with this bad call: what is told, how many calls
+/// failed, how many there were, and what was taken.
+fn is_written(
+    alloc: Global,
+    bad: usize,
+    fault: Fault,
+    told: Option<RunFault>,
+    failed: u64,
+    called: usize,
+    text: &[u8],
+) -> bool {
     let mut out = Out::new(Narrow {
         bad,
         fault,
         calls: 0,
         taken: Vec::new(alloc),
     });
-    let told = world_bytes(alloc, PAIR.as_bytes(), b"begin 0\n", &mut out);
+    let found = world_bytes(alloc, PAIR.as_bytes(), b"begin 0\n", &mut out).err();
     let failures = out.failures();
-    let Narrow { calls, taken, .. } = out.into_inner();
-    (told, failures, calls, taken)
+    let narrow = out.into_inner();
+    found == told && failures == failed && narrow.calls == called && narrow.taken.as_slice() == text
 }
 
-/// The bad call ends it: what was taken before it is a beginning of the text, and nothing is tried
+/// The bad call, behind so many bytes, ends it: these were taken before it, and nothing is tried
 /// again.
-fn expect_ended(
-    rt: &(impl Abort + Eprint),
-    alloc: Global,
-    bad: usize,
-    fault: Fault,
-) -> Result<(), Fail> {
-    let (told, failures, calls, taken) = written(alloc, bad, fault);
-    assert_eq!(rt; told, Err(RunFault::Output), "at call {bad}");
-    assert_eq!(rt; failures, 1, "at call {bad}");
-    assert_eq!(rt; calls, bad);
-    assert_eq!(rt; taken.len().saturating_add(1), bad);
-    assert!(rt; SEEN.as_bytes().starts_with(&taken));
-    Ok(())
+fn expect_ended(rt: &(impl Abort + Eprint), alloc: Global, before: usize, fault: Fault) {
+    let output = Some(RunFault::Output);
+    let bad = before.saturating_add(1);
+    let Some(text) = SEEN.as_bytes().get(..before) else {
+        panic!(rt; "no such call")
+    };
+    let is_so = is_written(alloc, bad, fault, output, 1, bad, text);
+    assert!(rt; is_so, "at call {bad}");
 }
 
 #[test]
-fn one_byte_a_call(rt: HostRuntime) -> Result<(), Fail> {
-    let (told, failures, calls, taken) = written(rt.alloc(), 0, Fault::TakesNothing);
-    assert_eq!(rt; told, Ok(()));
-    assert_eq!(rt; failures, 0);
-    assert_eq!(rt; calls, SEEN.len().saturating_add(1));
-    assert_eq!(rt; taken.as_slice(), SEEN.as_bytes());
-    Ok(())
+fn one_byte_a_call(rt: HostRuntime) {
+    let calls = SEEN.len().saturating_add(1);
+    let text = SEEN.as_bytes();
+    let is_so = is_written(rt.alloc(), 0, Fault::TakesNothing, None, 0, calls, text);
+    assert!(rt; is_so);
 }
 
 #[test]
-fn each_write_fails_once(rt: HostRuntime) -> Result<(), Fail> {
-    for bad in 1..=SEEN.len() {
+fn each_write_fails_once(rt: HostRuntime) {
+    for before in 0..SEEN.len() {
         for fault in [
             Fault::Fails(ErrorKind::Other),
             Fault::Fails(ErrorKind::Interrupted),
             Fault::TakesNothing,
         ] {
-            expect_ended(&rt, rt.alloc(), bad, fault)?;
+            expect_ended(&rt, rt.alloc(), before, fault);
         }
     }
-    Ok(())
 }
 
 /// The call behind all writes is the flush; the whole text was taken.
 #[test]
-fn the_flush_fails(rt: HostRuntime) -> Result<(), Fail> {
-    let flush = SEEN.len().saturating_add(1);
+fn the_flush_fails(rt: HostRuntime) {
     for kind in [ErrorKind::Other, ErrorKind::Interrupted] {
-        expect_ended(&rt, rt.alloc(), flush, Fault::Fails(kind))?;
+        expect_ended(&rt, rt.alloc(), SEEN.len(), Fault::Fails(kind));
     }
-    Ok(())
 }

@@ -1,0 +1,124 @@
+//! Writers that fail once, are interrupted, or take little, and what a `sink` makes of them: nothing
+//! is tried again after a failure.
+
+use sink::{Out, Sink, SinkFault, put_all};
+use std::alloc::Global;
+use std::io;
+use std::io::{ErrorKind, Write};
+
+/// A writer that fails so at its first call, and takes everything from then on.
+#[derive(Drop)]
+struct Once {
+    kind: ErrorKind,
+    calls: u32,
+    taken: Vec<u8>,
+}
+
+impl Once {
+    fn new(alloc: Global, kind: ErrorKind) -> Once {
+        Once {
+            kind,
+            calls: 0,
+            taken: Vec::new(alloc),
+        }
+    }
+
+    fn call(&mut self) -> io::Result<()> {
+        self.calls = self.calls.saturating_add(1);
+        if self.calls == 1 {
+            return Err(io::Error::from(self.kind));
+        }
+        Ok(())
+    }
+}
+
+impl Write for Once {
+    fn write(&mut self, piece: &[u8]) -> io::Result<usize> {
+        self.call()?;
+        self.taken.extend_from_slice(piece)?;
+        Ok(piece.len())
+    }
+
+    fn flush(&mut self) -> io::Result<()> {
+        self.call()
+    }
+}
+
+/// Whether of the bytes nothing is written, by one call.
+fn is_one_call(alloc: Global, kind: ErrorKind, bytes: &[u8]) -> bool {
+    let mut out = Out::new(Once::new(alloc, kind));
+    let put = put_all(&mut out, bytes);
+    let told = (out.failures(), out.is_flushed());
+    let once = out.into_inner();
+    put == Err(SinkFault) && told == (1, false) && once.calls == 1 && once.taken.is_empty()
+}
+
+#[test]
+fn a_write_that_fails_is_not_tried_again(rt: HostRuntime) {
+    assert!(rt; is_one_call(rt.alloc(), ErrorKind::Other, b"text"));
+}
+
+#[test]
+fn a_write_that_is_interrupted_is_not_tried_again(rt: HostRuntime) {
+    assert!(rt; is_one_call(rt.alloc(), ErrorKind::Interrupted, b"text"));
+}
+
+#[test]
+fn a_flush_that_fails_is_not_tried_again(rt: HostRuntime) {
+    assert!(rt; is_one_call(rt.alloc(), ErrorKind::Other, b""));
+    assert!(rt; is_one_call(rt.alloc(), ErrorKind::Interrupted, b""));
+}
+
+/// Whether of two puts of the text the first fails alone, and the second alone is written.
+fn is_put_once(alloc: Global) -> bool {
+    let mut out = Out::new(Once::new(alloc, ErrorKind::Interrupted));
+    let first = out.put(b"text");
+    let second = out.put(b"text");
+    let failures = out.failures();
+    let once = out.into_inner();
+    (first, second) == (Err(SinkFault), Ok(4))
+        && failures == 1
+        && once.taken.as_slice() == b"text".as_slice()
+}
+
+#[test]
+fn a_put_is_one_write(rt: HostRuntime) {
+    assert!(rt; is_put_once(rt.alloc()));
+}
+
+/// A writer that takes one byte a call, until it has no room left.
+#[derive(Drop)]
+struct Short {
+    room: usize,
+    calls: u32,
+}
+
+impl Write for Short {
+    fn write(&mut self, piece: &[u8]) -> io::Result<usize> {
+        self.calls = self.calls.saturating_add(1);
+        if piece.is_empty() || self.room == 0 {
+            return Ok(0);
+        }
+        self.room -= 1;
+        Ok(1)
+    }
+
+    fn flush(&mut self) -> io::Result<()> {
+        Ok(())
+    }
+}
+
+/// Whether four bytes where there is room for this many end so, by so many writes and failures.
+fn are_put_so(room: usize, put: Result<(), SinkFault>, calls: u32, failures: u64) -> bool {
+    let mut out = Out::new(Short { room, calls: 0 });
+    let found = put_all(&mut out, b"text");
+    let failed = out.failures();
+    let short = out.into_inner();
+    found == put && short.calls == calls && failed == failures
+}
+
+#[test]
+fn what_was_taken_is_not_written_again(rt: HostRuntime) {
+    assert!(rt; are_put_so(4, Ok(()), 4, 0));
+    assert!(rt; are_put_so(3, Err(SinkFault), 4, 1));
+}
