@@ -2,7 +2,7 @@
 
 use checker::{Part, Verdict, check};
 use std::alloc::Global;
-use txn_text::ReadFault;
+use std::process::Abort;
 
 /// Two increments of one variable.
 pub(crate) const FILE: &str = "(var x 5)(tx inc (set x (add x 1)) x)(run inc 2)";
@@ -11,15 +11,33 @@ pub(crate) const FILE: &str = "(var x 5)(tx inc (set x (add x 1)) x)(run inc 2)"
 pub(crate) const REPORT: &str =
     "base 0\nx 5 0\nentry 1 0 inc returned 6\nentry 2 1 inc returned 7\nnow 2\nx 7 2\nend\n";
 
-/// The number of the part that a report of a file fails first, and 0 where it is lawful.
-pub(crate) fn failed(alloc: Global, file: &str, report: &[u8]) -> Result<u8, ReadFault> {
-    match check(alloc, file.as_bytes(), report)? {
-        Verdict::Good => Ok(0),
-        Verdict::Bad(part) => Ok(part.number()),
+/// The number of the part that a report of a file fails first, and 0 where it is lawful. `None`
+/// where the file is refused.
+pub(crate) fn failed(alloc: Global, file: &str, report: &[u8]) -> Option<u8> {
+    match check(alloc, file.as_bytes(), report) {
+        Ok(Verdict::Good) => Some(0),
+        Ok(Verdict::Bad(part)) => Some(part.number()),
+        Err(_) => None,
+    }
+}
+
+/// Each of these reports of a file fails this part first, and is lawful where it is 0.
+pub(crate) fn expect_parts(
+    rt: &(impl Abort + Eprint),
+    alloc: Global,
+    file: &str,
+    reports: &[(&str, u8)],
+) {
+    for (report, part) in reports {
+        let is_so = failed(alloc, file, report.as_bytes()) == Some(*part);
+        assert!(rt; is_so, "of {report}");
     }
 }
 
 /// Whether the report of the two increments can't be read.
-pub(crate) fn is_unread(alloc: Global, report: &[u8]) -> Result<bool, ReadFault> {
-    Ok(check(alloc, FILE.as_bytes(), report)? == Verdict::Bad(Part::Text))
+pub(crate) fn is_unread(alloc: Global, report: &[u8]) -> bool {
+    match check(alloc, FILE.as_bytes(), report) {
+        Ok(verdict) => verdict == Verdict::Bad(Part::Text),
+        Err(_) => false,
+    }
 }

@@ -1,12 +1,12 @@
 //! Reports with each verdict.
 
-use crate::parts::{FILE, REPORT, failed};
+use crate::parts::{FILE, REPORT, expect_parts};
 use checker::{Part, Verdict, check};
 use txn_text::ReadFault;
 
 #[test]
-fn each_part_has_its_verdict(rt: HostRuntime) -> Result<(), ReadFault> {
-    for (report, part) in [
+fn each_part_has_its_verdict(rt: HostRuntime) {
+    let reports = [
         (REPORT, 0),
         (
             "base 0\nx 5 0\nentry 1 0 inc returned 6\nentry 2 1 inc returned 7\nnow 2\nx 7 2\n",
@@ -36,19 +36,13 @@ fn each_part_has_its_verdict(rt: HostRuntime) -> Result<(), ReadFault> {
             "base 0\nx 5 0\nentry 1 0 inc returned 6\nnow 1\nx 6 1\nmemory 1 inc\nend\n",
             0,
         ),
-    ] {
-        assert_eq!(rt;
-            failed(rt.alloc(), FILE, report.as_bytes())?,
-            part,
-            "of {report}"
-        );
-    }
-    Ok(())
+    ];
+    expect_parts(&rt, rt.alloc(), FILE, &reports);
 }
 
 #[test]
-fn numbers_versions_and_outcomes_are_judged(rt: HostRuntime) -> Result<(), ReadFault> {
-    for (report, part) in [
+fn numbers_versions_and_outcomes_are_judged(rt: HostRuntime) {
+    let reports = [
         (
             "base 1\nx 6 2\nentry 2 1 inc returned 7\nnow 2\nx 7 2\nend\n",
             2,
@@ -73,44 +67,46 @@ fn numbers_versions_and_outcomes_are_judged(rt: HostRuntime) -> Result<(), ReadF
             "base 1\nx 6 1\nentry 2 1 inc returned 7\nnow 2\nx 7 2\nend\n",
             0,
         ),
-    ] {
-        assert_eq!(rt;
-            failed(rt.alloc(), FILE, report.as_bytes())?,
-            part,
-            "of {report}"
-        );
-    }
-    Ok(())
+    ];
+    expect_parts(&rt, rt.alloc(), FILE, &reports);
 }
 
 #[test]
-fn the_first_part_that_fails_is_told(rt: HostRuntime) -> Result<(), ReadFault> {
-    let report = "base 0\nx 4 0\nentry 2 0 inc returned 9\nnow 9\nx 0 0\nparked 0 inc\nend\n";
-    assert_eq!(rt; failed(rt.alloc(), FILE, report.as_bytes())?, 2);
-    let report = "base 0\nx 5 0\nentry 2 0 inc returned 9\nnow 9\nx 0 0\nparked 0 inc\nend\n";
-    assert_eq!(rt; failed(rt.alloc(), FILE, report.as_bytes())?, 3);
-    let report = "base 0\nx 5 0\nentry 1 0 inc returned 6\nnow 9\nx 0 0\nparked 0 inc\nend\n";
-    assert_eq!(rt; failed(rt.alloc(), FILE, report.as_bytes())?, 4);
-    let report = "base 0\nx 5 0\nentry 1 0 inc returned 6\nnow 1\nx 6 1\nparked 0 inc\nend\n";
-    assert_eq!(rt; failed(rt.alloc(), FILE, report.as_bytes())?, 5);
-    Ok(())
+fn the_first_part_that_fails_is_told(rt: HostRuntime) {
+    let reports = [
+        (
+            "base 0\nx 4 0\nentry 2 0 inc returned 9\nnow 9\nx 0 0\nparked 0 inc\nend\n",
+            2,
+        ),
+        (
+            "base 0\nx 5 0\nentry 2 0 inc returned 9\nnow 9\nx 0 0\nparked 0 inc\nend\n",
+            3,
+        ),
+        (
+            "base 0\nx 5 0\nentry 1 0 inc returned 6\nnow 9\nx 0 0\nparked 0 inc\nend\n",
+            4,
+        ),
+        (
+            "base 0\nx 5 0\nentry 1 0 inc returned 6\nnow 1\nx 6 1\nparked 0 inc\nend\n",
+            5,
+        ),
+    ];
+    expect_parts(&rt, rt.alloc(), FILE, &reports);
 }
 
 #[test]
-fn a_base_that_was_moved_is_good(rt: HostRuntime) -> Result<(), ReadFault> {
+fn a_base_that_was_moved_is_good(rt: HostRuntime) {
     let file = "(var x 5)(tx inc (set x (add x 1)) x)(run inc 3)";
     let report = "base 2\nx 7 2\nentry 3 2 inc returned 8\nnow 3\nx 8 3\nend\n";
-    assert_eq!(rt; failed(rt.alloc(), file, report.as_bytes())?, 0);
-    Ok(())
+    expect_parts(&rt, rt.alloc(), file, &[(report, 0)]);
 }
 
 #[test]
-fn a_fault_of_the_file_is_told(rt: HostRuntime) -> Result<(), ReadFault> {
+fn a_fault_of_the_file_is_told(rt: HostRuntime) {
     for report in ["", REPORT] {
         let answer = check(rt.alloc(), b"(var x", report.as_bytes());
-        assert_eq!(rt; answer.err(), Some(ReadFault::Shape));
+        assert!(rt; answer.err() == Some(ReadFault::Shape));
     }
-    Ok(())
 }
 
 #[test]
