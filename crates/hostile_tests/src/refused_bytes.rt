@@ -112,57 +112,47 @@ fn expect_verdict(rt: &impl Abort, alloc: Global, part: u8, report: &str) {
     }
 }
 
-#[test]
-fn a_check_has_its_verdict_or_none(rt: HostRuntime) {
-    let alloc = rt.alloc();
-    expect_verdict(
-        &rt,
-        alloc,
+/// Reports of two increments, each with the part that it fails first, and 0 where it is lawful.
+const VERDICTS: [(u8, &str); 8] = [
+    (
         0,
         "base 0\nx 5 0\nentry 1 0 inc returned 6\nentry 2 1 inc returned 7\nnow 2\nx 7 2\nend\n",
-    );
-    expect_verdict(
-        &rt,
-        alloc,
+    ),
+    (
         1,
         "base 0\nx 5 0\nentry 1 0 inc returned 6\nentry 2 1 inc returned 7\nnow 2\nx 7 2\n",
-    );
-    expect_verdict(
-        &rt,
-        alloc,
+    ),
+    (
         2,
         "base 0\nx 4 0\nentry 1 0 inc returned 6\nentry 2 1 inc returned 7\nnow 2\nx 7 2\nend\n",
-    );
-    expect_verdict(
-        &rt,
-        alloc,
+    ),
+    (
         3,
         "base 0\nx 5 0\nentry 1 0 inc returned 6\nentry 2 1 inc returned 8\nnow 2\nx 7 2\nend\n",
-    );
-    expect_verdict(
-        &rt,
-        alloc,
+    ),
+    (
         4,
         "base 0\nx 5 0\nentry 1 0 inc returned 6\nentry 2 1 inc returned 7\nnow 2\nx 7 1\nend\n",
-    );
-    expect_verdict(
-        &rt,
-        alloc,
+    ),
+    (
         5,
         "base 0\nx 5 0\nentry 1 0 inc returned 6\nentry 2 0 inc returned 7\nnow 2\nx 7 2\nend\n",
-    );
-    expect_verdict(
-        &rt,
-        alloc,
+    ),
+    (
         6,
         "base 0\nx 5 0\nentry 1 0 inc returned 6\nnow 1\nx 6 1\nparked 1 inc\nend\n",
-    );
-    expect_verdict(
-        &rt,
-        alloc,
+    ),
+    (
         0,
         "base 0\nx 5 0\nentry 1 0 inc returned 6\nnow 1\nx 6 1\nmemory 1 inc\nend\n",
-    );
+    ),
+];
+
+#[test]
+fn a_check_has_its_verdict_or_none(rt: HostRuntime) {
+    for (part, report) in VERDICTS {
+        expect_verdict(&rt, rt.alloc(), part, report);
+    }
 }
 
 #[test]
