@@ -6,13 +6,13 @@ ghost use Rattle.cells.specs.Passing.{at};
 
 use crate::parts::{X, Y};
 use cells::{Cells, Pass, Publisher, Read};
-use std::test::Fail;
 use std::thread::join;
 
 /// Publishes states in which both variables have one value.
-fn publish_some(cells: &Cells, mut publisher: Publisher, count: u32) -> Publisher
+pub(crate) fn publish_some(cells: &Cells, mut publisher: Publisher, count: u32) -> Publisher
     requires own { publisher.cells ≡ cells.now }
     requires start { publisher.history ≡ (pos 1 ∷ pos 1 ∷ []) ∷ [] }
+    ensures own { result.cells ≡ publisher.cells }
 {
     for n in 0..count {
         let value = i64::from(n) + 2;
@@ -56,8 +56,10 @@ fn read_some(cells: &Cells, mut pass: Pass, count: u32) -> bool
 }
 
 #[test]
-fn reads_beside_a_publisher_are_of_one_state(rt: HostRuntime) -> Result<(), Fail> {
-    let (cells, publisher, mut passes) = Cells::open(rt.alloc(), &[1, 1], 1)?;
+fn reads_beside_a_publisher_are_of_one_state(rt: HostRuntime) {
+    let Ok((cells, publisher, mut passes)) = Cells::open(rt.alloc(), &[1, 1], 1) else {
+        panic!(rt; "no cells")
+    };
     let Some(pass) = passes.pop() else {
         panic!(rt; "no pass")
     };
@@ -73,5 +75,4 @@ fn reads_beside_a_publisher_are_of_one_state(rt: HostRuntime) -> Result<(), Fail
     );
     assert!(rt; same);
     assert_eq!(rt; publisher.number(), 1000);
-    Ok(())
 }

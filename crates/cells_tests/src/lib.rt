@@ -1,10 +1,16 @@
-//! Tests of the public calls of `cells`.
+//! Tests of the public calls of `cells`, `observer` and `task_set`.
 #![tactic(auto)]
 
 #[cfg(test)]
 mod apart;
 #[cfg(test)]
 mod beside;
+#[cfg(test)]
+mod members;
+#[cfg(test)]
+mod observed_beside;
+#[cfg(test)]
+mod observing;
 #[cfg(test)]
 mod parts;
 #[cfg(test)]

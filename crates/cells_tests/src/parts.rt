@@ -1,8 +1,8 @@
-//! The variables of the tests, and a read that is not stale.
+//! The variables of the tests, and reads that are compared.
 
-ghost use Rattle.std.specs.Prelude.{◌≡◌, ◌<◌, true};
+ghost use Rattle.std.specs.Prelude.{◌≡◌, ◌<◌, ◌≤◌, [], ◌∷◌, pos, true};
 
-use cells::{Cells, Pass, Read};
+use cells::{Cells, Pass, Publisher, Read};
 use std::process::Abort;
 use txn::VarId;
 
@@ -10,16 +10,61 @@ pub(crate) const X: VarId = VarId(0);
 
 pub(crate) const Y: VarId = VarId(1);
 
-/// The value of a read that is not stale.
-pub(crate) fn value(rt: &impl Abort, pass: &mut Pass, cells: &Cells, x: VarId) -> i64
+/// A read answers so.
+pub(crate) fn reads(rt: &impl Abort, cells: &Cells, pass: &mut Pass, x: VarId, answer: Read)
     requires own { pass.old.cells ≡ cells.now }
     requires open { pass.old.open_now ≡ true }
     requires exists { x.0 < cells.now.variables }
     ensures own { pass.new.cells ≡ pass.old.cells }
-    ensures open { pass.new.open_now ≡ true }
 {
-    let Read::Value(value) = pass.read(cells, x) else {
-        panic!(rt; "stale")
-    };
-    value
+    assert!(rt; pass.read(cells, x) == answer);
+}
+
+/// A read of a pass that is open gives this value, and the pass stays open.
+pub(crate) fn sees(rt: &impl Abort, cells: &Cells, pass: &mut Pass, x: VarId, value: i64)
+    requires own { pass.old.cells ≡ cells.now }
+    requires exists { x.0 < cells.now.variables }
+    ensures own { pass.new.cells ≡ pass.old.cells }
+{
+    assert!(rt; pass.is_open());
+    reads(rt, cells, pass, x, Read::Value(value));
+    assert!(rt; pass.is_open());
+}
+
+/// So it is of x and of y.
+pub(crate) fn sees_both(rt: &impl Abort, cells: &Cells, pass: &mut Pass, x: i64, y: i64)
+    requires own { pass.old.cells ≡ cells.now }
+    requires exist { 2 ≤ cells.now.variables }
+    ensures own { pass.new.cells ≡ pass.old.cells }
+{
+    sees(rt, cells, pass, X, x);
+    sees(rt, cells, pass, Y, y);
+}
+
+/// A read of a pass that is open is stale, and closes it.
+pub(crate) fn is_stale(rt: &impl Abort, cells: &Cells, pass: &mut Pass, x: VarId)
+    requires own { pass.old.cells ≡ cells.now }
+    requires exists { x.0 < cells.now.variables }
+    ensures own { pass.new.cells ≡ pass.old.cells }
+{
+    assert!(rt; pass.is_open());
+    reads(rt, cells, pass, x, Read::Stale);
+    assert!(rt; !pass.is_open());
+}
+
+/// The pass begins.
+pub(crate) fn begins(cells: &Cells, pass: &mut Pass)
+    requires own { pass.old.cells ≡ cells.now }
+    ensures own { pass.new.cells ≡ pass.old.cells }
+{
+    pass.begin(cells);
+}
+
+/// Publishes that x, which is 5, is 6.
+pub(crate) fn publish_six(cells: &Cells, publisher: &mut Publisher)
+    requires own { publisher.old.cells ≡ cells.now }
+    requires start { publisher.old.history ≡ (pos 5 ∷ []) ∷ [] }
+    ensures own { publisher.new.cells ≡ publisher.old.cells }
+{
+    publisher.publish(cells, &[(X, 6)]);
 }

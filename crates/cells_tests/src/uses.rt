@@ -5,7 +5,6 @@ ghost use Rattle.std.specs.Prelude.{◌≡◌, ◌+◌, ◌<◌, ◌≤◌, true
 
 use crate::parts::X;
 use cells::{Cells, Pass, Publisher, Read};
-use std::test::Fail;
 use txn::VarId;
 
 /// A begin and a meeting after it: the clock is loaded twice, no other word is, and the pass is
@@ -40,19 +39,21 @@ fn read_twice(cells: &Cells, pass: &mut Pass, x: VarId) -> Option<(i64, i64)>
 }
 
 #[test]
-fn a_begin_and_a_meeting_close_the_pass(rt: HostRuntime) -> Result<(), Fail> {
-    let (cells, mut publisher, mut passes) = Cells::open(rt.alloc(), &[5], 1)?;
+fn a_begin_and_a_meeting_close_the_pass(rt: HostRuntime) {
+    let Ok((cells, mut publisher, mut passes)) = Cells::open(rt.alloc(), &[5], 1) else {
+        panic!(rt; "no cells")
+    };
     let pass = &mut passes[0];
     begin_and_meet(&cells, &mut publisher, pass);
     assert!(rt; !pass.is_open());
-    Ok(())
 }
 
 #[test]
-fn two_reads_of_one_begin_agree(rt: HostRuntime) -> Result<(), Fail> {
-    let (cells, _, mut passes) = Cells::open(rt.alloc(), &[5], 1)?;
+fn two_reads_of_one_begin_agree(rt: HostRuntime) {
+    let Ok((cells, _, mut passes)) = Cells::open(rt.alloc(), &[5], 1) else {
+        panic!(rt; "no cells")
+    };
     let pass = &mut passes[0];
     pass.begin(&cells);
-    assert_eq!(rt; read_twice(&cells, pass, X), Some((5, 5)));
-    Ok(())
+    assert!(rt; read_twice(&cells, pass, X) == Some((5, 5)));
 }

@@ -2,33 +2,19 @@
 
 ghost use Rattle.std.specs.Prelude.{◌≡◌, ◌<◌, [], ◌∷◌, pos, length};
 
-use crate::sees::sees;
+use crate::beside::publish_some;
+use crate::observing::{catalogue, sees};
 use cells::{Cells, Pass, Publisher};
 use observer::{Observed, observe};
 use std::alloc::Global;
 use std::process::Abort;
-use std::test::Fail;
 use std::thread::{Threads, join};
-use txn::{Catalogue, Outcome, TxId, VarId};
-use txn_text::read_file;
+use txn::{Catalogue, Outcome, TxId};
 
 /// Two variables, and a transaction that adds them.
 const PAIR: &str = "(var x 1)(var y 1)(tx sum (skip) (add x y))(run sum 1)";
 
 const SUM: TxId = TxId(0);
-
-/// Publishes states in which both variables have one value.
-fn publish_some(cells: &Cells, mut publisher: Publisher, count: u32) -> Publisher
-    requires own { publisher.cells ≡ cells.now }
-    requires start { publisher.history ≡ (pos 1 ∷ pos 1 ∷ []) ∷ [] }
-    ensures own { result.cells ≡ publisher.cells }
-{
-    for n in 0..count {
-        let value = i64::from(n) + 2;
-        publisher.publish(cells, &[(VarId(0), value), (VarId(1), value)]);
-    }
-    publisher
-}
 
 /// Observes the sum so often, and whether each answer was stale or an even sum that is not below an
 /// earlier one.
@@ -89,33 +75,39 @@ fn both(
 /// Of cells in which both variables are 1 each sum that is observed beside the publisher is of one
 /// state, and after a meeting that of the last.
 fn sums_are_of_one_state(
-    rt: &(impl Abort + Eprint + Threads),
+    rt: &(impl Abort + Threads),
     alloc: Global,
     catalogue: &Catalogue,
-) -> Result<(), Fail> {
-    assert_eq!(rt; catalogue.initial().len(), 2);
-    assert_eq!(rt; catalogue.tx_count(), 1);
-    let (cells, publisher, mut passes) = Cells::open(alloc, &[1, 1], 1)?;
-    let Some(pass) = passes.pop() else {
-        panic!(rt; "no pass")
-    };
-    let (mut publisher, (mut pass, fine)) = both(rt, alloc, &cells, publisher, pass, catalogue);
+    cells: &Cells,
+    publisher: Publisher,
+    pass: Pass,
+)
+    requires publisher { publisher.cells ≡ cells.now }
+    requires start { publisher.history ≡ (pos 1 ∷ pos 1 ∷ []) ∷ [] }
+    requires pass { pass.cells ≡ cells.now }
+    requires variables { cells.now.variables ≡ length catalogue.now.initial }
+    requires known { 0 < length catalogue.now.programs }
+{
+    let (mut publisher, (mut pass, fine)) = both(rt, alloc, cells, publisher, pass, catalogue);
     assert!(rt; fine);
-    publisher.meet(&cells, &mut pass);
-    sees(
-        rt,
-        alloc,
-        &cells,
-        &mut pass,
-        catalogue,
-        SUM,
-        Outcome::Returned(2002),
-    );
-    Ok(())
+    publisher.meet(cells, &mut pass);
+    let last = Outcome::Returned(2002);
+    sees(rt, alloc, cells, &mut pass, catalogue, SUM, last);
+}
+
+/// Opens the cells of that.
+fn opens(rt: &(impl Abort + Threads), alloc: Global, catalogue: &Catalogue) {
+    assert!(rt; catalogue.initial().len() == 2 && catalogue.tx_count() == 1);
+    let Ok((cells, publisher, mut passes)) = Cells::open(alloc, &[1, 1], 1) else {
+        panic!(rt; "no cells")
+    };
+    match passes.pop() {
+        Some(pass) => sums_are_of_one_state(rt, alloc, catalogue, &cells, publisher, pass),
+        None => panic!(rt; "no pass"),
+    }
 }
 
 #[test]
-fn sums_beside_a_publisher_are_of_one_state(rt: HostRuntime) -> Result<(), Fail> {
-    let pair = read_file(rt.alloc(), PAIR.as_bytes())?;
-    sums_are_of_one_state(&rt, rt.alloc(), &pair)
+fn sums_beside_a_publisher_are_of_one_state(rt: HostRuntime) {
+    opens(&rt, rt.alloc(), &catalogue(&rt, rt.alloc(), PAIR));
 }

@@ -1,18 +1,15 @@
 //! Observing one after another with publishing.
 
-ghost use Rattle.std.specs.Prelude.{◌≡◌, ◌<◌, [], ◌∷◌, pos, true, length};
+ghost use Rattle.std.specs.Prelude.{◌≡◌, ◌<◌, [], ◌∷◌, pos, length};
 
-use crate::sees::sees;
+use crate::parts::{X, begins, publish_six, sees as shows};
 use attempt::{Attempt, Next};
-use cells::{Cells, Pass, Publisher, Read};
-use observer::{Cut, tell};
+use cells::{Cells, Pass, Publisher};
+use observer::{Cut, Observed, observe, tell};
 use std::alloc::Global;
 use std::process::Abort;
-use std::test::Fail;
-use txn::{Catalogue, Fault, Outcome, TxId, VarId};
+use txn::{Catalogue, Fault, Outcome, TxId};
 use txn_text::read_file;
-
-const X: VarId = VarId(0);
 
 /// One variable, and transactions that return, write, throw and retry.
 const FILE: &str = "(var x 5)(tx inc (set x (add x 1)) x)(tx bad (throw x) 0)\
@@ -26,27 +23,45 @@ enum Script {
     IsTold,
 }
 
-/// Publishes that x is 6.
-fn publish_six(cells: &Cells, publisher: &mut Publisher)
-    requires own { publisher.old.cells ≡ cells.now }
-    requires start { publisher.old.history ≡ (pos 5 ∷ []) ∷ [] }
-    ensures own { publisher.new.cells ≡ publisher.old.cells }
+/// The catalogue of a text.
+pub(crate) fn catalogue(rt: &impl Abort, alloc: Global, text: &str) -> Catalogue {
+    match read_file(alloc, text.as_bytes()) {
+        Ok(catalogue) => catalogue,
+        Err(_) => panic!(rt; "no catalogue"),
+    }
+}
+
+/// The transaction is observed to end so.
+pub(crate) fn sees(
+    rt: &impl Abort,
+    alloc: Global,
+    cells: &Cells,
+    pass: &mut Pass,
+    catalogue: &Catalogue,
+    tx: TxId,
+    end: Outcome,
+)
+    requires own { pass.old.cells ≡ cells.now }
+    requires variables { cells.now.variables ≡ length catalogue.now.initial }
+    ensures own { pass.new.cells ≡ pass.old.cells }
 {
-    publisher.publish(cells, &[(X, 6)]);
+    assert!(rt; (tx.0 as usize) < catalogue.tx_count());
+    let seen = observe(alloc, cells, pass, catalogue, tx);
+    assert!(rt; seen == Observed::Outcome(end));
 }
 
 /// A pass that begins reads that x is 6.
-fn reads_six(rt: &(impl Abort + Eprint), cells: &Cells, pass: &mut Pass)
+fn reads_six(rt: &impl Abort, cells: &Cells, pass: &mut Pass)
     requires own { pass.old.cells ≡ cells.now }
     requires exists { 0 < cells.now.variables }
     ensures own { pass.new.cells ≡ pass.old.cells }
 {
-    pass.begin(cells);
-    assert_eq!(rt; pass.read(cells, X), Read::Value(6));
+    begins(cells, pass);
+    shows(rt, cells, pass, X, 6);
 }
 
 fn reads_back(
-    rt: &(impl Abort + Eprint),
+    rt: &impl Abort,
     alloc: Global,
     cells: &Cells,
     publisher: &mut Publisher,
@@ -62,21 +77,14 @@ fn reads_back(
     publish_six(cells, publisher);
     publisher.meet(cells, pass);
     reads_six(rt, cells, pass);
-    sees(
-        rt,
-        alloc,
-        cells,
-        pass,
-        catalogue,
-        TxId(0),
-        Outcome::Returned(7),
-    );
+    let seven = Outcome::Returned(7);
+    sees(rt, alloc, cells, pass, catalogue, TxId(0), seven);
     assert!(rt; pass.is_open());
     reads_six(rt, cells, pass);
 }
 
 fn throws_and_retries(
-    rt: &(impl Abort + Eprint),
+    rt: &impl Abort,
     alloc: Global,
     cells: &Cells,
     publisher: &mut Publisher,
@@ -95,38 +103,24 @@ fn throws_and_retries(
     sees(rt, alloc, cells, pass, catalogue, TxId(2), Outcome::Retries);
 }
 
-/// The attempt needs x, and is told what the pass reads of it.
-fn is_told(
-    rt: &impl Abort,
-    cells: &Cells,
-    pass: &mut Pass,
-    attempt: &mut Attempt<'_>,
-    how: Result<(), Cut>,
-)
+/// How the attempt, which needs x, is told what the pass reads of it.
+fn told(cells: &Cells, pass: &mut Pass, attempt: &mut Attempt<'_>) -> Option<Result<(), Cut>>
     requires own { pass.old.cells ≡ cells.now }
-    requires open { pass.old.open_now ≡ true }
     requires exists { 0 < cells.now.variables }
     ensures own { pass.new.cells ≡ pass.old.cells }
 {
-    let Next::Need(x) = attempt.advance() else {
-        panic!(rt; "nothing is needed")
-    };
-    assert!(rt; x.0 == 0);
-    assert_eq!(rt; tell(attempt, x, cells, pass), how);
-}
-
-/// It is told so by a pass that begins.
-fn is_told_anew(rt: &impl Abort, cells: &Cells, pass: &mut Pass, attempt: &mut Attempt<'_>)
-    requires own { pass.old.cells ≡ cells.now }
-    requires exists { 0 < cells.now.variables }
-{
-    pass.begin(cells);
-    is_told(rt, cells, pass, attempt, Ok(()));
+    if !pass.is_open() {
+        return None;
+    }
+    match attempt.advance() {
+        Next::Need(x) if x.0 == 0 => Some(tell(attempt, x, cells, pass)),
+        _ => None,
+    }
 }
 
 /// It is told nothing where x is changed after the begin, and 6 after the next.
 fn is_told_six(
-    rt: &(impl Abort + Eprint),
+    rt: &impl Abort,
     cells: &Cells,
     publisher: &mut Publisher,
     pass: &mut Pass,
@@ -137,16 +131,17 @@ fn is_told_six(
     requires start { publisher.old.history ≡ (pos 5 ∷ []) ∷ [] }
     requires one { cells.now.variables ≡ 1 }
 {
-    pass.begin(cells);
+    begins(cells, pass);
     publish_six(cells, publisher);
-    is_told(rt, cells, pass, attempt, Err(Cut::Stale));
-    is_told_anew(rt, cells, pass, attempt);
-    assert_eq!(rt; attempt.log(), [(X, 6)].as_slice());
+    assert!(rt; told(cells, pass, attempt) == Some(Err(Cut::Stale)));
+    begins(cells, pass);
+    assert!(rt; told(cells, pass, attempt) == Some(Ok(())));
+    assert!(rt; attempt.log() == [(X, 6)].as_slice());
 }
 
 /// So it is of an attempt of the catalogue's first transaction.
 fn first_is_told(
-    rt: &(impl Abort + Eprint),
+    rt: &impl Abort,
     alloc: Global,
     cells: &Cells,
     publisher: &mut Publisher,
@@ -164,15 +159,11 @@ fn first_is_told(
 }
 
 /// Opens cells whose one variable is 5, and follows the script.
-fn over(
-    rt: &(impl Abort + Eprint),
-    alloc: Global,
-    catalogue: &Catalogue,
-    script: Script,
-) -> Result<(), Fail> {
-    assert_eq!(rt; catalogue.initial().len(), 1);
-    assert_eq!(rt; catalogue.tx_count(), 3);
-    let (cells, mut publisher, mut passes) = Cells::open(alloc, &[5], 1)?;
+fn over(rt: &impl Abort, alloc: Global, catalogue: &Catalogue, script: Script) {
+    assert!(rt; catalogue.initial().len() == 1 && catalogue.tx_count() == 3);
+    let Ok((cells, mut publisher, mut passes)) = Cells::open(alloc, &[5], 1) else {
+        panic!(rt; "no cells")
+    };
     let pass = &mut passes[0];
     let publisher = &mut publisher;
     match script {
@@ -182,23 +173,23 @@ fn over(
         }
         Script::IsTold => first_is_told(rt, alloc, &cells, publisher, pass, catalogue),
     }
-    Ok(())
+}
+
+fn follows(rt: &impl Abort, alloc: Global, script: Script) {
+    over(rt, alloc, &catalogue(rt, alloc, FILE), script);
 }
 
 #[test]
-fn a_write_is_read_back_and_observed(rt: HostRuntime) -> Result<(), Fail> {
-    let catalogue = read_file(rt.alloc(), FILE.as_bytes())?;
-    over(&rt, rt.alloc(), &catalogue, Script::ReadsBack)
+fn a_write_is_read_back_and_observed(rt: HostRuntime) {
+    follows(&rt, rt.alloc(), Script::ReadsBack);
 }
 
 #[test]
-fn throws_and_retries_are_observed(rt: HostRuntime) -> Result<(), Fail> {
-    let catalogue = read_file(rt.alloc(), FILE.as_bytes())?;
-    over(&rt, rt.alloc(), &catalogue, Script::ThrowsAndRetries)
+fn throws_and_retries_are_observed(rt: HostRuntime) {
+    follows(&rt, rt.alloc(), Script::ThrowsAndRetries);
 }
 
 #[test]
-fn an_attempt_is_told_what_is_read(rt: HostRuntime) -> Result<(), Fail> {
-    let catalogue = read_file(rt.alloc(), FILE.as_bytes())?;
-    over(&rt, rt.alloc(), &catalogue, Script::IsTold)
+fn an_attempt_is_told_what_is_read(rt: HostRuntime) {
+    follows(&rt, rt.alloc(), Script::IsTold);
 }

@@ -1,0 +1,75 @@
+//! Which numbers are in a `task_set`, and which is the lowest, by values worked out by hand.
+
+ghost use Rattle.std.specs.Prelude.{◌≡◌, ◌≤◌, replicate, false};
+
+use std::alloc::Global;
+use std::process::Abort;
+use task_set::{MAX_ROOM, TaskSet};
+
+/// A set with room for so many numbers.
+fn with_room(rt: &impl Abort, alloc: Global, room: usize) -> TaskSet
+    requires { room ≤ MAX_ROOM }
+    ensures { result ≡ replicate room false }
+{
+    match TaskSet::with_room(alloc, room) {
+        Ok(set) => set,
+        Err(_) => panic!(rt; "no room"),
+    }
+}
+
+#[test]
+fn has_what_was_inserted(rt: HostRuntime) {
+    let mut set = with_room(&rt, rt.alloc(), 100);
+    assert!(rt; set.is_empty());
+    set.insert(64);
+    assert!(rt; set.contains(64) && !set.contains(0) && !set.contains(63));
+    set.remove(64);
+    assert!(rt; !set.contains(64) && set.is_empty());
+}
+
+#[test]
+fn finds_the_last_number(rt: HostRuntime) {
+    let mut set = with_room(&rt, rt.alloc(), MAX_ROOM);
+    set.insert(262_143);
+    assert!(rt; set.lowest() == Some(262_143));
+}
+
+/// 64 is in the second word, 4,096 under the second word of words.
+#[test]
+fn finds_the_lowest_at_each_level(rt: HostRuntime) {
+    let mut set = with_room(&rt, rt.alloc(), 5_000);
+    set.insert(4_096);
+    assert!(rt; set.lowest() == Some(4_096));
+    set.insert(64);
+    assert!(rt; set.lowest() == Some(64));
+    set.insert(3);
+    assert!(rt; set.lowest() == Some(3));
+}
+
+#[test]
+fn finds_the_next_at_each_level(rt: HostRuntime) {
+    let mut set = with_room(&rt, rt.alloc(), 5_000);
+    set.insert(64);
+    set.insert(4_096);
+    set.remove(64);
+    assert!(rt; set.lowest() == Some(4_096));
+    set.remove(4_096);
+    assert!(rt; set.lowest() == None);
+}
+
+#[test]
+fn has_no_room(rt: HostRuntime) {
+    let set = with_room(&rt, rt.alloc(), 0);
+    assert!(rt; set.lowest() == None && set.is_empty());
+}
+
+/// The first number of a word keeps its word's bit while another is left.
+#[test]
+fn forgets_no_neighbour(rt: HostRuntime) {
+    let mut set = with_room(&rt, rt.alloc(), 5_000);
+    set.insert(4_999);
+    set.insert(4_992);
+    set.remove(4_992);
+    set.remove(1);
+    assert!(rt; set.lowest() == Some(4_999));
+}

@@ -1,5 +1,0 @@
-//! Tests of the public calls of `task_set`.
-#![tactic(auto)]
-
-#[cfg(test)]
-mod members;
