@@ -1,26 +1,23 @@
 //! The flat code of transactions, spelled out by hand.
 
-use std::alloc::{AllocError, Global};
+use crate::parts::{X, catalogue_of};
+use std::alloc::Global;
 use std::mem::size_of;
 use std::process::Abort;
-use txn::{Op, TxId, VarId};
-use txn_text::{ReadFault, read_file};
+use txn::{Catalogue, Op, TxId};
 
-const X: VarId = VarId(0);
+/// Whether the first transaction has this code.
+fn has_code(catalogue: &Catalogue, want: &[Op]) -> bool {
+    catalogue.tx_count() > 0 && catalogue.code(TxId(0)) == want
+}
 
 /// Reads a transaction of this body, that returns 0, where `x` is the one variable, and compares
 /// its code.
-fn expect_code(
-    rt: &(impl Abort + Eprint),
-    alloc: Global,
-    body: &str,
-    want: &[Op],
-) -> Result<(), ReadFault> {
-    let text = format!(in alloc; "(var x 5)(tx t {body} 0)")?;
-    let catalogue = read_file(alloc, text.as_bytes())?;
-    assert!(rt; catalogue.tx_count() > 0);
-    assert_eq!(rt; catalogue.code(TxId(0)), want);
-    Ok(())
+fn expect_code(rt: &(impl Abort + Eprint), alloc: Global, body: &str, want: &[Op]) {
+    match catalogue_of(alloc, &[(1, "(var x 5)(tx t "), (1, body), (1, " 0)")]) {
+        Some(catalogue) => assert!(rt; has_code(&catalogue, want), "of {body}"),
+        None => panic!(rt; "no catalogue"),
+    }
 }
 
 #[test]
@@ -29,7 +26,7 @@ fn an_instruction_has_16_bytes(rt: HostRuntime) {
 }
 
 #[test]
-fn an_increment_loads_adds_and_stores(rt: HostRuntime) -> Result<(), ReadFault> {
+fn an_increment_loads_adds_and_stores(rt: HostRuntime) {
     let want = [
         Op::Load(3, X),
         Op::Push(1, 1),
@@ -38,17 +35,17 @@ fn an_increment_loads_adds_and_stores(rt: HostRuntime) -> Result<(), ReadFault> 
         Op::Push(1, 0),
         Op::Give,
     ];
-    expect_code(&rt, rt.alloc(), "(set x (add x 1))", &want)
+    expect_code(&rt, rt.alloc(), "(set x (add x 1))", &want);
 }
 
 #[test]
-fn an_empty_sequence_is_counted(rt: HostRuntime) -> Result<(), ReadFault> {
+fn an_empty_sequence_is_counted(rt: HostRuntime) {
     let want = [Op::Nop(1), Op::Push(1, 0), Op::Give];
-    expect_code(&rt, rt.alloc(), "(seq)", &want)
+    expect_code(&rt, rt.alloc(), "(seq)", &want);
 }
 
 #[test]
-fn branches_are_passed(rt: HostRuntime) -> Result<(), ReadFault> {
+fn branches_are_passed(rt: HostRuntime) {
     let want = [
         Op::Enter(1, 2),
         Op::Back(1),
@@ -65,11 +62,11 @@ fn branches_are_passed(rt: HostRuntime) -> Result<(), ReadFault> {
         Op::Give,
     ];
     let body = "(orelse (retry) (if (eq x 1) (skip) (throw x)))";
-    expect_code(&rt, rt.alloc(), body, &want)
+    expect_code(&rt, rt.alloc(), body, &want);
 }
 
 #[test]
-fn right_sides_and_loops_are_passed(rt: HostRuntime) -> Result<(), ReadFault> {
+fn right_sides_and_loops_are_passed(rt: HostRuntime) {
     let want = [
         Op::Nop(1),
         Op::Begin(3, 12),
@@ -89,31 +86,30 @@ fn right_sides_and_loops_are_passed(rt: HostRuntime) -> Result<(), ReadFault> {
         Op::Give,
     ];
     let body = "(repeat 3 (if (and (lt x 1) (le x 2)) (skip) (seq)))";
-    expect_code(&rt, rt.alloc(), body, &want)
+    expect_code(&rt, rt.alloc(), body, &want);
 }
 
-/// The text of a transaction as deep as the limit allows.
-fn deepest(alloc: Global) -> Result<String, AllocError> {
-    let mut text = String::new(alloc);
-    text.push_str("(var x 5)(tx t (set x ")?;
-    for _level in 0..30 {
-        text.push_str("(add ")?;
+/// Whether the first transaction has 64 instructions, of which the first is the deepest load.
+fn is_deepest(catalogue: &Catalogue) -> bool {
+    if catalogue.tx_count() == 0 {
+        return false;
     }
-    text.push_str("x")?;
-    for _level in 0..30 {
-        text.push_str(" 1)")?;
-    }
-    text.push_str(") x)")?;
-    Ok(text)
-}
-
-#[test]
-fn the_deepest_is_counted_at_its_first(rt: HostRuntime) -> Result<(), ReadFault> {
-    let text = deepest(rt.alloc())?;
-    let catalogue = read_file(rt.alloc(), text.as_bytes())?;
-    assert!(rt; catalogue.tx_count() > 0);
     let code = catalogue.code(TxId(0));
-    assert_eq!(rt; code.len(), 64);
-    assert_eq!(rt; code.first().copied(), Some(Op::Load(32, X)));
-    Ok(())
+    code.len() == 64 && code.first() == Some(&Op::Load(32, X))
+}
+
+/// A transaction as deep as the limit allows.
+#[test]
+fn the_deepest_is_counted_at_its_first(rt: HostRuntime) {
+    let parts = [
+        (1, "(var x 5)(tx t (set x "),
+        (30, "(add "),
+        (1, "x"),
+        (30, " 1)"),
+        (1, ") x)"),
+    ];
+    match catalogue_of(rt.alloc(), &parts) {
+        Some(catalogue) => assert!(rt; is_deepest(&catalogue)),
+        None => panic!(rt; "no catalogue"),
+    }
 }

@@ -1,22 +1,34 @@
 //! What the tests build their catalogues of.
 
 use std::alloc::{AllocError, Global};
-use txn::{Expr, Stmt, Tx, VarId};
+use txn::{Catalogue, VarId};
+use txn_text::read_file;
 
 pub(crate) const X: VarId = VarId(0);
 
-fn text(alloc: Global, name: &str) -> Result<String, AllocError> {
-    String::from_str(alloc, name)
+/// The catalogue of a text, `None` where it is no file or memory is refused.
+pub(crate) fn catalogue(alloc: Global, text: &str) -> Option<Catalogue> {
+    match read_file(alloc, text.as_bytes()) {
+        Ok(catalogue) => Some(catalogue),
+        Err(_) => None,
+    }
 }
 
-pub(crate) fn var(alloc: Global, name: &str, value: i64) -> Result<(String, i64), AllocError> {
-    Ok((text(alloc, name)?, value))
+/// The parts, each so many times, one after the other.
+pub(crate) fn repeated(alloc: Global, parts: &[(u32, &str)]) -> Result<String, AllocError> {
+    let mut text = String::new(alloc);
+    for (times, part) in parts {
+        for _time in 0..*times {
+            text.push_str(part)?;
+        }
+    }
+    Ok(text)
 }
 
-pub(crate) fn tx(alloc: Global, name: &str, body: Stmt, answer: Expr) -> Result<Tx, AllocError> {
-    Ok(Tx {
-        name: text(alloc, name)?,
-        body,
-        result: answer,
-    })
+/// The catalogue of a text that is made of such parts.
+pub(crate) fn catalogue_of(alloc: Global, parts: &[(u32, &str)]) -> Option<Catalogue> {
+    match repeated(alloc, parts) {
+        Ok(text) => catalogue(alloc, text.as_str()),
+        Err(_) => None,
+    }
 }
