@@ -1,4 +1,4 @@
-//! Tests of the public calls of `world`.
+//! Tests of the public calls of `world`, and of the lines that `seen_printer` puts.
 #![tactic(auto)]
 
 #[cfg(test)]
@@ -13,6 +13,8 @@ mod reads;
 mod runs;
 #[cfg(test)]
 mod scripts;
+#[cfg(test)]
+mod seen;
 #[cfg(test)]
 mod telling;
 #[cfg(test)]
