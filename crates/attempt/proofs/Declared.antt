@@ -2,17 +2,17 @@
 use Rattle.std.proofs.Common.{◌≡◌, ◌<◌, ◌≤◌, true, length, subst, ◌&&◌, nat_le}
 use Rattle.std.proofs.lemmas.Bool.{and_parts, leb-true}
 use Rattle.std.proofs.lemmas.Option.{slice_get-get_or}
-use Rattle.txn.proofs.Lawful.{limits_parts, passes_at, known_at}
-use Rattle.txn.specs.Cost.{cost}
-use Rattle.txn.specs.Depth.{expression_depth, statement_depth}
-use Rattle.txn.specs.Limits.{limits_hold, program_fits, largest_repeat}
-use Rattle.txn.specs.Listing.{Listing, program_at}
-use Rattle.txn.specs.Names.{names_hold}
-use Rattle.txn.specs.Scope.{ProgramKnown}
-use Rattle.txn.specs.Tree.{Program, Skip, Int}
-use Rattle.txn.specs.declared.ast.TxId.{TxId}
+use Rattle.programs.proofs.Lawful.{limits_parts, passes_at, known_at}
+use Rattle.programs.specs.Cost.{cost}
+use Rattle.programs.specs.Depth.{expression_depth, statement_depth}
+use Rattle.programs.specs.Limits.{limits_hold, program_fits, largest_repeat}
+use Rattle.programs.specs.Listing.{Listing, program_at}
+use Rattle.programs.specs.Names.{names_hold}
+use Rattle.programs.specs.Scope.{ProgramKnown}
+use Rattle.programs.specs.Tree.{Program, Skip, Int}
+use Rattle.programs.specs.declared.ast.TxId.{TxId}
 use Rattle.attempt.specs.Correct.{IsShallow}
-use Rattle.txn.specs.declared.limits.TheConstants.{MAX_COST, MAX_DEPTH, MAX_REPEAT}
+use Rattle.programs.specs.declared.limits.TheConstants.{MAX_COST, MAX_DEPTH, MAX_REPEAT}
 use Rattle.std.proofs.Common.{pos, []}
 
 abbrev none : Program

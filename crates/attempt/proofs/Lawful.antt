@@ -1,20 +1,20 @@
 -- An attempt stays lawful: where it waits, where it is over, and where it is told a variable.
 use Rattle.std.proofs.Common.{◌≡◌, ◌≤◌, ◌+◌, ◌-◌, ◌∷◌, ◌++◌, ℕ, length, arith, ℤ, [], subst, sym, refl, length-append}
-use Rattle.txn.specs.Cost.{cost}
-use Rattle.txn.specs.declared.ast.VarId.{VarId}
-use Rattle.txn.specs.declared.ast.Outcome.{Outcome}
+use Rattle.programs.specs.Cost.{cost}
+use Rattle.programs.specs.declared.ast.VarId.{VarId}
+use Rattle.programs.specs.declared.ast.Outcome.{Outcome}
 use Rattle.attempt.specs.declared.attempt.Attempt.TheInside.{Inside}
 use Rattle.attempt.specs.declared.next.Stand.{Stand}
 use Rattle.attempt.specs.declared.next.Stand.TheVariants as stand
-use Rattle.txn.specs.Listing.{program_at}
+use Rattle.programs.specs.Listing.{program_at}
 use Rattle.attempt.specs.Asking.{Known, ask, Needs, Ends}
 use Rattle.attempt.specs.AttemptInside.{viewed, IsKept, IsLawful, StandsAt, IsGoing, GoesOn}
 use Rattle.attempt.specs.Place.{place_of, Stops}
 use Rattle.attempt.specs.declared.machine.Machine.{Machine}
 use Rattle.attempt.specs.declared.running.Count.{Count}
 use Rattle.attempt.proofs.Resume.{reached_more}
-use Rattle.txn.specs.Code.{program_code}
-use Rattle.txn.specs.Tree.{Program}
+use Rattle.programs.specs.Code.{program_code}
+use Rattle.programs.specs.Tree.{Program}
 use Rattle.attempt.specs.View.{AttemptView, OnlyOfReturned, supplied}
 use Rattle.attempt.proofs.Answered.{needs_missing, ends_well}
 use Rattle.own_writes.proofs.Pairs.{AllKnown-append, Apart-append}

@@ -1,11 +1,11 @@
 -- What the fields of an attempt mean, and what they keep.
 use Rattle.std.specs.Prelude.{◌≡◌, ℕ, ◌+◌, ◌<◌, ◌≤◌, [], length, None}
-use Rattle.txn.specs.Code.{program_code}
-use Rattle.txn.specs.Cost.{cost}
-use Rattle.txn.specs.Listing.{program_at}
-use Rattle.txn.specs.Scope.{ProgramKnown}
-use Rattle.txn.specs.Tree.{Program}
-use Rattle.txn.specs.declared.limits.TheConstants.{MAX_COST}
+use Rattle.programs.specs.Code.{program_code}
+use Rattle.programs.specs.Cost.{cost}
+use Rattle.programs.specs.Listing.{program_at}
+use Rattle.programs.specs.Scope.{ProgramKnown}
+use Rattle.programs.specs.Tree.{Program}
+use Rattle.programs.specs.declared.limits.TheConstants.{MAX_COST}
 use Rattle.attempt.specs.declared.attempt.Attempt.TheInside.{Inside}
 use Rattle.attempt.specs.declared.machine.Machine.{Machine}
 use Rattle.attempt.specs.declared.next.Stand.{Stand}

@@ -1,7 +1,7 @@
 //! Arithmetic: the rules of the plain meaning.
 
 ghost use Rattle.std.specs.Prelude.{◌≡◌};
-ghost use Rattle.txn.specs.Arithmetic.{sum_of, difference_of, product_of, quotient_of, remainder_of};
+ghost use Rattle.programs.specs.Arithmetic.{sum_of, difference_of, product_of, quotient_of, remainder_of};
 
 use txn::Fault;
 

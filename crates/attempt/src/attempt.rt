@@ -1,9 +1,9 @@
 //! An attempt: a transaction, what it was told, and where it stands.
 
 ghost use Rattle.std.specs.Prelude.{◌≡◌, ◌≢◌, ◌<◌, ◌≤◌, ◌+◌, ◌++◌, ◌∷◌, [], None, length, IsOk, OnOk, OnErr};
-ghost use Rattle.txn.specs.Cost.{cost};
-ghost use Rattle.txn.specs.Meaning.{State};
-ghost use Rattle.txn.specs.Scope.{ProgramKnown};
+ghost use Rattle.programs.specs.Cost.{cost};
+ghost use Rattle.programs.specs.Meaning.{State};
+ghost use Rattle.programs.specs.Scope.{ProgramKnown};
 ghost use Rattle.attempt.specs.Asking.{known_at, ask, Ends};
 ghost use Rattle.attempt.specs.Frame.{Agrees};
 ghost use Rattle.own_writes.specs.Order.{AllKnown, Apart, Ascending};

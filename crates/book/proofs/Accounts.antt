@@ -5,16 +5,16 @@ use Rattle.std.proofs.lemmas.Bool.{cases_eq, cases_lt, cond_both}
 use Rattle.std.proofs.lemmas.List.{length-map, map-append}
 use Rattle.std.proofs.lemmas.List.Elements.{All-nil, All-cons, All-head, All-tail}
 use Rattle.std.proofs.lemmas.Option.{same_Some, slice_get_within, slice_get-get_or}
-use Rattle.txn.specs.declared.ast.TxId.{TxId}
-use Rattle.txn.specs.declared.ast.TaskId.{TaskId}
-use Rattle.txn.specs.declared.report.Entry.{Entry}
-use Rattle.txn.specs.declared.ast.Outcome.TheVariants.{Retries}
-use Rattle.txn.specs.declared.limits.TheConstants.{MAX_TASKS}
-use Rattle.txn.specs.Meaning.{outcome}
-use Rattle.txn.specs.Listing.{Listing, tasks, task_tx, program_at}
-use Rattle.txn.specs.Replay.{Snapshot, Replays, applied, opening, entered, Stands, Once}
-use Rattle.txn.specs.Told.{Told, base_of, now_of}
-use Rattle.txn.specs.LawfulReport.{LawfulReport, FitsCatalogue, BaseReached, on_lines, Ascends, HasOwn}
+use Rattle.programs.specs.declared.ast.TxId.{TxId}
+use Rattle.programs.specs.declared.ast.TaskId.{TaskId}
+use Rattle.programs.specs.declared.report.Entry.{Entry}
+use Rattle.programs.specs.declared.ast.Outcome.TheVariants.{Retries}
+use Rattle.programs.specs.declared.limits.TheConstants.{MAX_TASKS}
+use Rattle.programs.specs.Meaning.{outcome}
+use Rattle.programs.specs.Listing.{Listing, tasks, task_tx, program_at}
+use Rattle.programs.specs.Replay.{Snapshot, Replays, applied, opening, entered, Stands, Once}
+use Rattle.programs.specs.Told.{Told, base_of, now_of}
+use Rattle.programs.specs.LawfulReport.{LawfulReport, FitsCatalogue, BaseReached, on_lines, Ascends, HasOwn}
 use Rattle.attempt.specs.Asking.{Known}
 use Rattle.book.specs.declared.task.Task.{Task}
 use Rattle.book.specs.declared.task.Task.TheVariants.{Ready, Running, Parked, Done, GivenUp}

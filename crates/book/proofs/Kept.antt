@@ -3,13 +3,13 @@ use Rattle.std.proofs.Common.{◌≡◌, ◌≢◌, Vec, Global, ◌+◌, ◌++�
 use Rattle.std.specs.List.{slice_get, All}
 use Rattle.std.proofs.lemmas.List.{length-set, length-map, length-replicate}
 use Rattle.std.proofs.lemmas.List.Elements.{All-nil, All-replicate}
-use Rattle.txn.specs.declared.ast.TaskId.{TaskId}
-use Rattle.txn.specs.declared.report.Entry.{Entry}
-use Rattle.txn.specs.declared.limits.TheConstants.{MAX_TASKS, MAX_VARIABLES}
-use Rattle.txn.specs.Meaning.{State}
-use Rattle.txn.specs.Scope.{ProgramKnown}
-use Rattle.txn.specs.Listing.{Listing, tasks, task_program}
-use Rattle.txn.specs.Replay.{Snapshot, opening}
+use Rattle.programs.specs.declared.ast.TaskId.{TaskId}
+use Rattle.programs.specs.declared.report.Entry.{Entry}
+use Rattle.programs.specs.declared.limits.TheConstants.{MAX_TASKS, MAX_VARIABLES}
+use Rattle.programs.specs.Meaning.{State}
+use Rattle.programs.specs.Scope.{ProgramKnown}
+use Rattle.programs.specs.Listing.{Listing, tasks, task_program}
+use Rattle.programs.specs.Replay.{Snapshot, opening}
 use Rattle.book.specs.declared.task.Task.{Task}
 use Rattle.book.specs.declared.task.Task.TheVariants.{Ready, Running, Parked}
 use Rattle.book.specs.declared.book.Book.TheInside.{Inside}

@@ -4,11 +4,11 @@ use Rattle.std.specs.List.{slice_get}
 use Rattle.std.proofs.lemmas.List.{map-append, append-nil, length-map, set_past}
 use Rattle.std.proofs.lemmas.Bool.{cases_eq}
 use Rattle.std.proofs.lemmas.Option.{same_Some, slice_get_cases}
-use Rattle.txn.specs.declared.ast.TaskId.{TaskId}
-use Rattle.txn.specs.declared.report.Entry.{Entry}
-use Rattle.txn.specs.Meaning.{State}
-use Rattle.txn.specs.Listing.{Listing, tasks}
-use Rattle.txn.specs.Replay.{Snapshot, Replays, applied, opening, entered}
+use Rattle.programs.specs.declared.ast.TaskId.{TaskId}
+use Rattle.programs.specs.declared.report.Entry.{Entry}
+use Rattle.programs.specs.Meaning.{State}
+use Rattle.programs.specs.Listing.{Listing, tasks}
+use Rattle.programs.specs.Replay.{Snapshot, Replays, applied, opening, entered}
 use Rattle.attempt.specs.Asking.{Known}
 use Rattle.cells.specs.Cells.{CellsId}
 use Rattle.book.specs.declared.task.Task.{Task}

@@ -5,8 +5,8 @@ use Rattle.std.specs.Ordering.{int_eq}
 use Rattle.std.proofs.lemmas.Bool.{cond-true, cond-false, cond_both, false_from_ne_true}
 use Rattle.std.proofs.lemmas.Bool.Decides.{Decides-int_eq}
 use Rattle.std.proofs.lemmas.List.Elements.{All-nil, All-cons, All-head, All-tail}
-use Rattle.txn.specs.Meaning.{State}
-use Rattle.txn.specs.Replay.{versions_after}
+use Rattle.programs.specs.Meaning.{State}
+use Rattle.programs.specs.Replay.{versions_after}
 
 -- the versions after the first i variables were compared
 abbrev pub raised : ℕ → ℕ → State → State → List ℕ → List ℕ

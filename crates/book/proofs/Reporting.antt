@@ -1,8 +1,8 @@
 -- Snapshots and what is told of them.
 use Rattle.std.proofs.Common.{◌≡◌, ◌∙◌, ap, ℕ, ℤ, List, map}
-use Rattle.txn.specs.Meaning.{State}
-use Rattle.txn.specs.Replay.{Snapshot}
-use Rattle.txn.specs.Told.{snapshot_at}
+use Rattle.programs.specs.Meaning.{State}
+use Rattle.programs.specs.Replay.{Snapshot}
+use Rattle.programs.specs.Told.{snapshot_at}
 
 pub snapshot_told : (n : ℕ) (vars : List (ℤ × ℕ)) (s : Snapshot) → n ≡ s.number → map (λ v. v.0) vars ≡ s.state → map (λ v. v.1) vars ≡ s.versions → snapshot_at n vars ≡ s
 snapshot_told n vars s a b c =

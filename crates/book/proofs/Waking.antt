@@ -7,10 +7,10 @@ use Rattle.std.proofs.lemmas.Bool.{cases_eq, cases_Bool, cond_both, cond-true, c
 use Rattle.std.proofs.lemmas.Bool.Decides.{Decides-int_eq}
 use Rattle.std.proofs.lemmas.List.{length-set, get_or-set_same, get_or-set_other, drop_more, drop_all, map-set}
 use Rattle.std.proofs.lemmas.Option.{same_Some}
-use Rattle.txn.specs.declared.ast.VarId.{VarId}
-use Rattle.txn.specs.Meaning.{State}
-use Rattle.txn.specs.Words.{value_of}
-use Rattle.txn.specs.Stores.{Change, id_of, new_of, no_change, AreChanges, with_changes}
+use Rattle.programs.specs.declared.ast.VarId.{VarId}
+use Rattle.programs.specs.Meaning.{State}
+use Rattle.shared_words.specs.Words.{value_of}
+use Rattle.shared_words.specs.Stores.{Change, id_of, new_of, no_change, AreChanges, with_changes}
 use Rattle.attempt.specs.Asking.{Known}
 use Rattle.book.specs.declared.task.Task.{Task}
 use Rattle.book.specs.declared.task.Task.TheVariants.{Ready, Running, Parked, Done, GivenUp}

@@ -2,8 +2,8 @@
 use Rattle.std.specs.Prelude.{ℤ, Bool}
 use Rattle.std.specs.List.{list_all}
 use Rattle.std.specs.Ordering.{int_eq}
-use Rattle.txn.specs.declared.ast.VarId.{VarId}
-use Rattle.txn.specs.Meaning.{State, value_at}
+use Rattle.programs.specs.declared.ast.VarId.{VarId}
+use Rattle.programs.specs.Meaning.{State, value_at}
 use Rattle.attempt.specs.Asking.{Known}
 
 -- each logged variable has its logged value

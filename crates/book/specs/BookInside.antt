@@ -1,6 +1,6 @@
 -- What the fields of a book mean, and what they keep.
 use Rattle.std.specs.Prelude.{◌≡◌, ◌≤◌, length, vec_capacity}
-use Rattle.txn.specs.Replay.{Snapshot}
+use Rattle.programs.specs.Replay.{Snapshot}
 use Rattle.book.specs.declared.stored.Stored.{Stored}
 use Rattle.book.specs.declared.book.Book.TheInside.{Inside}
 use Rattle.book.specs.View.{BookView}

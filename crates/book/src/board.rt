@@ -1,8 +1,8 @@
 //! How each task stands, with the sets by which the lowest ready task and those to wake are found.
 
 ghost use Rattle.std.specs.Prelude.{◌≡◌, ◌≢◌, ◌<◌, ◌≤◌, ℕ, length, map, replicate, IfOk, MatchBool, Some, slice_get};
-ghost use Rattle.txn.specs.declared.limits.TheConstants.{MAX_TASKS};
-ghost use Rattle.txn.specs.Stores.{id_of};
+ghost use Rattle.programs.specs.declared.limits.TheConstants.{MAX_TASKS};
+ghost use Rattle.shared_words.specs.Stores.{id_of};
 ghost use Rattle.attempt.specs.Order.{AllKnown};
 ghost use Rattle.book.specs.Turns.{readied_one};
 ghost use Rattle.book.specs.Board.{IsParked, IsTaken, placed, with_tasks, woken_for, woken_by};

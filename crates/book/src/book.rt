@@ -1,7 +1,7 @@
 //! The book: how each task stands, the journal, and the present values.
 
 ghost use Rattle.std.specs.Prelude.{◌≡◌, ◌≢◌, ◌<◌, ◌≤◌, ◌+◌, ◌++◌, ◌∷◌, [], ℕ, length, map, IfOk, IsTrue, ◌↔◌, MatchBool, vec_len, vec_capacity, All};
-ghost use Rattle.txn.specs.Stores.{with_changes};
+ghost use Rattle.shared_words.specs.Stores.{with_changes};
 ghost use Rattle.attempt.specs.Asking.{Known};
 ghost use Rattle.attempt.specs.Frame.{Agrees};
 ghost use Rattle.attempt.specs.Order.{Ascending, AllKnown};
@@ -56,11 +56,11 @@ impl<'a> Model for Book<'a> {
 }
 
 impl<'a> Book<'a> {
-    ghost use Rattle.txn.specs.Meaning.{outcome, after};
-    ghost use Rattle.txn.specs.Listing.{task_program};
-    ghost use Rattle.txn.specs.declared.ast.Outcome as Outcome;
+    ghost use Rattle.programs.specs.Meaning.{outcome, after};
+    ghost use Rattle.programs.specs.Listing.{task_program};
+    ghost use Rattle.programs.specs.declared.ast.Outcome as Outcome;
     ghost use Rattle.book.specs.declared.task.Task.TheVariants as Task;
-    ghost use Rattle.txn.specs.Told.{told};
+    ghost use Rattle.programs.specs.Told.{told};
     ghost use Rattle.book.specs.View.{opened, IsRunning, stands, committed, checkpointed};
     ghost use Rattle.book.specs.Turns.{Taken, IsEndOf, Finished, IsLeft, Served, Turn, Drains, kept_short, readied, IsIdle, ReportIs};
     ghost use Rattle.book.specs.LawfulBook.{LawfulBook, BookFits, Waits};

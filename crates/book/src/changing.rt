@@ -1,8 +1,8 @@
 //! What the writes of a commit change.
 
 ghost use Rattle.std.specs.Prelude.{◌≡◌, ◌<◌, ◌≤◌, ◌++◌, ◌∷◌, [], List, length, vec_len, vec_capacity};
-ghost use Rattle.txn.specs.Replay.{versions_after};
-ghost use Rattle.txn.specs.Stores.{AreChanges, with_changes};
+ghost use Rattle.programs.specs.Replay.{versions_after};
+ghost use Rattle.shared_words.specs.Stores.{AreChanges, with_changes};
 ghost use Rattle.attempt.specs.Order.{Ascending, AllKnown};
 
 use txn::VarId;

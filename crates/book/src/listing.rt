@@ -1,7 +1,7 @@
 //! The tasks that a report lists.
 
 ghost use Rattle.std.specs.Prelude.{◌≡◌, ◌<◌, length, IfOk, All};
-ghost use Rattle.txn.specs.Listing.{tasks as listed_tasks};
+ghost use Rattle.programs.specs.Listing.{tasks as listed_tasks};
 ghost use Rattle.book.specs.Turns.{listed, is_parked, is_given_up};
 
 use crate::task::Task;

@@ -1,7 +1,7 @@
 -- What a read answers.
 use Rattle.std.specs.Prelude.{◌≡◌, ℕ, true, false, length}
-use Rattle.txn.specs.Words.{value_of}
-use Rattle.txn.specs.Loads.{ShowsStale}
+use Rattle.shared_words.specs.Words.{value_of}
+use Rattle.shared_words.specs.Loads.{ShowsStale}
 use Rattle.cells.specs.declared.pass.Read.{Read}
 use Rattle.cells.specs.declared.pass.Read.TheVariants.{Value, Stale}
 use Rattle.cells.specs.Passing.{Passing, at}

@@ -6,8 +6,8 @@ ghost use Rattle.cells.specs.Answers.{IsReadBy};
 use crate::cells::Cells;
 use crate::sight::Sight;
 use atomic_table::Seat;
+use programs::VarId;
 use std::marker::Model;
-use txn::VarId;
 
 /// What a read answers.
 #[derive(Clone, Copy, Debug, PartialEq, Eq)]

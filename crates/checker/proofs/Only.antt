@@ -1,7 +1,7 @@
 -- Which verdict it is on bytes, and that it is the only one.
 use Rattle.std.proofs.Common.{◌≡◌, ℕ, List, refl, subst}
-use Rattle.txn.specs.Listing.{Listing}
-use Rattle.txn.specs.Told.{Told}
+use Rattle.programs.specs.Listing.{Listing}
+use Rattle.programs.specs.Told.{Told}
 use Rattle.report_reader.specs.Reports.{IsReport}
 use Rattle.checker.specs.declared.verdict.Part.TheVariants.{Text, Base, Entries, Present, Tasks, Parked}
 use Rattle.checker.specs.declared.verdict.Verdict.{Verdict}

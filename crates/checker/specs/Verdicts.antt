@@ -1,8 +1,8 @@
 -- Which verdict is that on a report.
 use Rattle.std.specs.Prelude.{ℕ, List}
-use Rattle.txn.specs.Listing.{Listing}
-use Rattle.txn.specs.Told.{Told}
-use Rattle.txn.specs.LawfulReport.{LawfulReport}
+use Rattle.programs.specs.Listing.{Listing}
+use Rattle.programs.specs.Told.{Told}
+use Rattle.programs.specs.LawfulReport.{LawfulReport}
 use Rattle.txn_text.specs.Spelling.{Spells}
 use Rattle.report_reader.specs.Reports.{IsReport}
 use Rattle.checker.specs.declared.verdict.Part.{Part}

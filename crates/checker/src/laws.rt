@@ -1,9 +1,9 @@
 //! What is so of every verdict, whatever was checked.
 
 ghost use Rattle.std.specs.Prelude.{◌≡◌, ◌↔◌, ℕ, List};
-ghost use Rattle.txn.specs.Listing.{Listing};
-ghost use Rattle.txn.specs.Told.{Told};
-ghost use Rattle.txn.specs.LawfulReport.{FitsCatalogue, LawfulReport};
+ghost use Rattle.programs.specs.Listing.{Listing};
+ghost use Rattle.programs.specs.Told.{Told};
+ghost use Rattle.programs.specs.LawfulReport.{FitsCatalogue, LawfulReport};
 ghost use Rattle.checker.specs.declared.verdict.Verdict.{Verdict as VerdictOf};
 ghost use Rattle.txn_text.specs.Spelling.{Spells};
 ghost use Rattle.txn_text.specs.ReportText.{report_text};

@@ -1,7 +1,7 @@
 //! The base of a report.
 
 ghost use Rattle.std.specs.Prelude.{◌≡◌, ◌≤◌, ◌↔◌, IsTrue, All};
-ghost use Rattle.txn.specs.Told.{told, snapshot_at};
+ghost use Rattle.programs.specs.Told.{told, snapshot_at};
 ghost use Rattle.checker.specs.View.{view};
 ghost use Rattle.checker.specs.Parts.{BaseHolds};
 

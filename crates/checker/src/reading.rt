@@ -1,7 +1,7 @@
 //! Checking the bytes of a report.
 
 ghost use Rattle.std.specs.Prelude.{◌≡◌, ◌⊎◌, IfOk, IfErr};
-ghost use Rattle.txn.specs.Listing.{Listing};
+ghost use Rattle.programs.specs.Listing.{Listing};
 ghost use Rattle.txn_text.specs.Spelling.{Spells};
 ghost use Rattle.txn_text.specs.Faults.{IsFirst};
 ghost use Rattle.txn_text.specs.fault.ReadFault.TheVariants.{Memory as MemoryFault};

@@ -1,10 +1,10 @@
 //! The tasks on a report's lines.
 
 ghost use Rattle.std.specs.Prelude.{◌≡◌, ◌+◌, ◌<◌, ◌↔◌, IfOk, IsTrue, All, length, map};
-ghost use Rattle.txn.specs.Listing.{tasks as listed_tasks};
-ghost use Rattle.txn.specs.Replay.{Once};
-ghost use Rattle.txn.specs.Told.{told};
-ghost use Rattle.txn.specs.LawfulReport.{Ascends, FitsCatalogue, HasOwn};
+ghost use Rattle.programs.specs.Listing.{tasks as listed_tasks};
+ghost use Rattle.programs.specs.Replay.{Once};
+ghost use Rattle.programs.specs.Told.{told};
+ghost use Rattle.programs.specs.LawfulReport.{Ascends, FitsCatalogue, HasOwn};
 ghost use Rattle.checker.specs.Parts.{named, on_line, TasksHold};
 
 use std::alloc::{AllocError, Global};

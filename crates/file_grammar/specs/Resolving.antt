@@ -1,11 +1,11 @@
 -- From the tree of a file to its listing: names as ids, and integers as numbers of the machine.
 use Rattle.std.specs.Prelude.{ℕ, ℤ, Bool, true, is_some, ◌&&◌, nat_lt, if◌then◌else◌, Option, Some, None, position, Result, Ok, Err, List, [], ◌∷◌, ◌++◌, map, ◌^◌, bytes_eq}
 use Rattle.std.specs.List.{list_all, list_any}
-use Rattle.txn.specs.declared.ast.VarId.{VarId}
-use Rattle.txn.specs.declared.ast.TxId.{TxId}
-use Rattle.txn.specs.Tree.{Expression, Condition, Statement, Statements, Program}
-use Rattle.txn.specs.Tree as t
-use Rattle.txn.specs.Listing.{Listing}
+use Rattle.programs.specs.declared.ast.VarId.{VarId}
+use Rattle.programs.specs.declared.ast.TxId.{TxId}
+use Rattle.programs.specs.Tree.{Expression, Condition, Statement, Statements, Program}
+use Rattle.programs.specs.Tree as t
+use Rattle.programs.specs.Listing.{Listing}
 use Rattle.file_grammar.specs.Tree.{Expr, Cond, Stmt, Stmts, NoStmts, MoreStmts, Pair, Declaration, File}
 use Rattle.file_grammar.specs.Tree as f
 use Rattle.text_words.specs.Answers.{◌>>=◌}

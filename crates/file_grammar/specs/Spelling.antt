@@ -1,12 +1,12 @@
 -- Which listing the bytes of a file spell, and which fault is the first where they spell none.
 use Rattle.std.specs.Prelude.{◌≡◌, ℕ, Bool, true, ◌&&◌, if◌then◌else◌, Option, Some, None, Result, Ok, Err, List, length}
 use Rattle.std.specs.List.{list_all}
-use Rattle.txn.specs.Arithmetic.{fits}
-use Rattle.txn.specs.Tree.{Expression, Condition, Statement, Statements, Program}
-use Rattle.txn.specs.Tree as t
-use Rattle.txn.specs.Listing.{Listing}
-use Rattle.txn.specs.Names.{names_hold}
-use Rattle.txn.specs.Limits.{limits_hold}
+use Rattle.programs.specs.Arithmetic.{fits}
+use Rattle.programs.specs.Tree.{Expression, Condition, Statement, Statements, Program}
+use Rattle.programs.specs.Tree as t
+use Rattle.programs.specs.Listing.{Listing}
+use Rattle.programs.specs.Names.{names_hold}
+use Rattle.programs.specs.Limits.{limits_hold}
 use Rattle.file_grammar.specs.Tree.{SpellsTree}
 use Rattle.file_grammar.specs.Written.{written}
 use Rattle.text_words.specs.Answers.{◌>>=◌}

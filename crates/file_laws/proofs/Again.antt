@@ -4,14 +4,14 @@ use Rattle.std.specs.Prelude.{ℤ, pos, nat_lt, nat_le, ◌^◌}
 use Rattle.std.specs.List.{list_all}
 use Rattle.std.proofs.lemmas.List.{length-map}
 use Rattle.std.proofs.lemmas.Bool.{lt-ltb, leb-true}
-use Rattle.txn.specs.declared.ast.TxId.{TxId}
-use Rattle.txn.specs.declared.limits.TheConstants.{MAX_VARIABLES, MAX_TRANSACTIONS, MAX_TASKS, MAX_REPEAT}
-use Rattle.txn.specs.Arithmetic.{fits}
-use Rattle.txn.specs.Tree.{Expression, Condition, Statement, Statements, Program}
-use Rattle.txn.specs.Tree as t
-use Rattle.txn.specs.Listing.{Listing}
-use Rattle.txn.specs.Names.{are_distinct, knows_expression, knows_condition, knows_statement, knows_statements, knows_program, is_well_formed, names_hold}
-use Rattle.txn.specs.Limits.{largest_repeat, largest_repeat_of_all, program_fits, limits_hold}
+use Rattle.programs.specs.declared.ast.TxId.{TxId}
+use Rattle.programs.specs.declared.limits.TheConstants.{MAX_VARIABLES, MAX_TRANSACTIONS, MAX_TASKS, MAX_REPEAT}
+use Rattle.programs.specs.Arithmetic.{fits}
+use Rattle.programs.specs.Tree.{Expression, Condition, Statement, Statements, Program}
+use Rattle.programs.specs.Tree as t
+use Rattle.programs.specs.Listing.{Listing}
+use Rattle.programs.specs.Names.{are_distinct, knows_expression, knows_condition, knows_statement, knows_statements, knows_program, is_well_formed, names_hold}
+use Rattle.programs.specs.Limits.{largest_repeat, largest_repeat_of_all, program_fits, limits_hold}
 use Rattle.file_grammar.specs.Written.{written_expression, written_condition, written_statement, written_statements, written_program, written_vars, written_run, written}
 use Rattle.text_words.specs.Numbers.{number_of, count_of}
 use Rattle.file_grammar.specs.Resolving.{expr_known, cond_known, stmt_known, stmts_known, tx_known, run_known, uses_known, expression_in, condition_in, statement_in, statements_in, each, variable_of, program_in, run_in, converted, pair_name, resolved}

@@ -6,8 +6,8 @@ use Rattle.std.proofs.lemmas.Slice.Eq.{bytes_eq-Decides}
 use Rattle.std.proofs.lemmas.List.Quantifiers.{position-Some}
 use Rattle.std.proofs.lemmas.Bool.{lt-ltb, ltb-true}
 use Rattle.std.proofs.lemmas.List.{append-nil}
-use Rattle.txn.specs.declared.ast.VarId.{VarId}
-use Rattle.txn.specs.Names.{are_new, are_distinct}
+use Rattle.programs.specs.declared.ast.VarId.{VarId}
+use Rattle.programs.specs.Names.{are_new, are_distinct}
 use Rattle.text_words.specs.declared.fault.ReadFault.TheVariants as faults
 use Rattle.file_grammar.specs.Written.{name_at}
 use Rattle.file_grammar.specs.Resolving.{declared_one, declared_after, is_known, placed, place_in, variable_in}

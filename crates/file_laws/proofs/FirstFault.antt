@@ -6,14 +6,14 @@ use Rattle.std.proofs.lemmas.Bool.{ltb-true, ltb-false, lt-ltb}
 use Rattle.std.proofs.lemmas.List.{length-map}
 use Rattle.std.proofs.lemmas.List.Folds.{list_all-map}
 use Rattle.std.proofs.lemmas.List.Concat.{flat_map-cons}
-use Rattle.txn.specs.declared.ast.VarId.{VarId}
-use Rattle.txn.specs.declared.ast.TxId.{TxId}
-use Rattle.txn.specs.Arithmetic.{fits}
-use Rattle.txn.specs.Tree.{Expression, Condition, Statement, Statements, Program}
-use Rattle.txn.specs.Tree as t
-use Rattle.txn.specs.Listing.{Listing}
-use Rattle.txn.specs.Names.{is_name, are_new, are_distinct, knows_expression, knows_condition, knows_statement, knows_statements, knows_program, is_well_formed, names_hold}
-use Rattle.txn.specs.Limits.{limits_hold}
+use Rattle.programs.specs.declared.ast.VarId.{VarId}
+use Rattle.programs.specs.declared.ast.TxId.{TxId}
+use Rattle.programs.specs.Arithmetic.{fits}
+use Rattle.programs.specs.Tree.{Expression, Condition, Statement, Statements, Program}
+use Rattle.programs.specs.Tree as t
+use Rattle.programs.specs.Listing.{Listing}
+use Rattle.programs.specs.Names.{is_name, are_new, are_distinct, knows_expression, knows_condition, knows_statement, knows_statements, knows_program, is_well_formed, names_hold}
+use Rattle.programs.specs.Limits.{limits_hold}
 use Rattle.text_words.specs.Bytes.{is_atom_byte, is_in_line, is_int, is_allowed}
 use Rattle.text_words.specs.Tokens.{Lexeme, Opens, Closes, atom, after, tokens_within, tokens}
 use Rattle.text_words.specs.Tokens as token

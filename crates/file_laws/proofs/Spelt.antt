@@ -1,9 +1,9 @@
 -- What is read is spelled so, and what is spelled so is read.
 use Rattle.std.proofs.Common.{◌≡◌, ℕ, true, cond, List, Result, Ok, Err, refl, sym, subst, ◌⊎◌, inl, inr}
 use Rattle.std.specs.Prelude.{IfOk, IfErr, Some, None}
-use Rattle.txn.specs.Listing.{Listing}
-use Rattle.txn.specs.Names.{names_hold}
-use Rattle.txn.specs.Limits.{limits_hold}
+use Rattle.programs.specs.Listing.{Listing}
+use Rattle.programs.specs.Names.{names_hold}
+use Rattle.programs.specs.Limits.{limits_hold}
 use Rattle.file_grammar.specs.Tree.{SpellsTree}
 use Rattle.text_words.specs.Answers.{Gives, Fails}
 use Rattle.file_grammar.specs.Reading.{tree_of}

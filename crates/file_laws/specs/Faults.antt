@@ -1,8 +1,8 @@
 -- What each kind of fault says of the bytes, where it is the first that applies.
 use Rattle.std.specs.Prelude.{◌≡◌, ◌<◌, ◌≤◌, ℕ, Bool, true, false, ◌&&◌, List, length, map}
 use Rattle.std.specs.List.{list_all}
-use Rattle.txn.specs.Names.{are_distinct}
-use Rattle.txn.specs.Listing.{Listing}
+use Rattle.programs.specs.Names.{are_distinct}
+use Rattle.programs.specs.Listing.{Listing}
 use Rattle.text_words.specs.Bytes.{is_allowed}
 use Rattle.file_grammar.specs.Tree.{File, SpellsTree, max_len}
 use Rattle.file_grammar.specs.Resolving.{pair_name, tx_name, uses_known}

@@ -1,7 +1,7 @@
 -- What may be added between two tokens, and where.
 use Rattle.std.specs.Prelude.{◌≡◌, ◌↔◌, ℕ, true, List, [], ◌∷◌, ◌++◌}
 use Rattle.std.specs.List.{list_all}
-use Rattle.txn.specs.Listing.{Listing}
+use Rattle.programs.specs.Listing.{Listing}
 use Rattle.text_words.specs.Bytes.{is_blank, is_in_line}
 use Rattle.text_words.specs.Tokens.{Lexeme, tokens}
 use Rattle.file_grammar.specs.Spelling.{Spells, first_fault}

@@ -2,7 +2,7 @@
 
 ghost use Rattle.std.specs.Prelude.{◌≡◌, ◌≤◌, ℕ, List, [], ◌∷◌, ◌++◌, true, Some, None, length};
 ghost use Rattle.std.specs.List.{list_all, prefix_len};
-ghost use Rattle.txn.specs.Listing.{Listing};
+ghost use Rattle.programs.specs.Listing.{Listing};
 ghost use Rattle.text_words.specs.Bytes.{is_allowed, is_atom_byte, is_in_line};
 ghost use Rattle.text_words.specs.Tokens.{Lexeme, atom, tokens};
 ghost use Rattle.file_grammar.specs.Tree.{max_len};

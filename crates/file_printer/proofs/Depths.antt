@@ -1,8 +1,8 @@
 -- A written program is as deep as the program.
 use Rattle.std.proofs.Common.{◌≡◌, ◌∙◌, ℕ, suc, List, max, refl, ap}
-use Rattle.txn.specs.Tree.{Expression, Condition, Statement, Statements}
-use Rattle.txn.specs.Tree as t
-use Rattle.txn.specs.Depth.{expression_depth, condition_depth, statement_depth, statements_depth}
+use Rattle.programs.specs.Tree.{Expression, Condition, Statement, Statements}
+use Rattle.programs.specs.Tree as t
+use Rattle.programs.specs.Depth.{expression_depth, condition_depth, statement_depth, statements_depth}
 use Rattle.file_grammar.specs.Tree.{expr_depth, cond_depth, stmt_depth, stmts_depth}
 use Rattle.file_grammar.specs.Written.{written_expression, written_condition, written_statement, written_statements}
 

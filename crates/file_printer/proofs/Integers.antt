@@ -5,10 +5,10 @@ use Rattle.std.specs.Int.{w64}
 use Rattle.std.specs.List.{list_all, AllByRecursion}
 use Rattle.std.proofs.lemmas.Bool.{and_from}
 use Rattle.std.proofs.lemmas.Bool.Decides.{leb_tells}
-use Rattle.txn.specs.Arithmetic.{fits}
-use Rattle.txn.specs.Listing.{Listing}
-use Rattle.txn.specs.Tree.{Expression, Condition, Statement, Statements, Program}
-use Rattle.txn.specs.Tree as t
+use Rattle.programs.specs.Arithmetic.{fits}
+use Rattle.programs.specs.Listing.{Listing}
+use Rattle.programs.specs.Tree.{Expression, Condition, Statement, Statements, Program}
+use Rattle.programs.specs.Tree as t
 use Rattle.file_printer.specs.Fits.{ExprFits, CondFits, StmtFits, StmtsFit, PairFits, DeclarationFits, FileFits}
 use Rattle.file_grammar.specs.Spelling.{expression_integers, condition_integers, statement_integers, statements_integers, program_integers, integers_fit}
 use Rattle.file_grammar.specs.Written.{written_expression, written_condition, written_statement, written_statements, written_vars, written_program, written}

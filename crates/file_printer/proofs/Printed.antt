@@ -5,15 +5,15 @@ use Rattle.std.specs.List.{slice_get, list_all, flat_map, AllByRecursion}
 use Rattle.std.proofs.lemmas.Bool.{and_parts, leb-true, ltb-true}
 use Rattle.std.proofs.lemmas.List.{length-map}
 use Rattle.std.proofs.lemmas.List.Folds.{list_all-map}
-use Rattle.txn.specs.declared.ast.TxId.{TxId}
-use Rattle.txn.specs.declared.limits.TheConstants.{MAX_DEPTH}
-use Rattle.txn.specs.Tree.{Program}
-use Rattle.txn.specs.Scope.{ProgramKnown}
-use Rattle.txn.specs.Names.{is_name, names_hold}
-use Rattle.txn.specs.Limits.{limits_hold, program_fits}
-use Rattle.txn.specs.Depth.{statement_depth, expression_depth}
-use Rattle.txn.specs.Listing.{Listing}
-use Rattle.txn.proofs.Lawful.{names_parts, limits_parts, passes_at, known_at}
+use Rattle.programs.specs.declared.ast.TxId.{TxId}
+use Rattle.programs.specs.declared.limits.TheConstants.{MAX_DEPTH}
+use Rattle.programs.specs.Tree.{Program}
+use Rattle.programs.specs.Scope.{ProgramKnown}
+use Rattle.programs.specs.Names.{is_name, names_hold}
+use Rattle.programs.specs.Limits.{limits_hold, program_fits}
+use Rattle.programs.specs.Depth.{statement_depth, expression_depth}
+use Rattle.programs.specs.Listing.{Listing}
+use Rattle.programs.proofs.Lawful.{names_parts, limits_parts, passes_at, known_at}
 use Rattle.text_words.specs.Tokens as token
 use Rattle.file_grammar.specs.Tree.{Pair, IsShallow, SpellsTree, max_len, pair_tokens, tx_tokens, file_tokens}
 use Rattle.file_grammar.specs.Written.{written_vars, written_program, written_run, written}

@@ -5,11 +5,11 @@ use Rattle.std.specs.Int.{w64}
 use Rattle.std.specs.Fmt.{signed_decimal}
 use Rattle.std.specs.List.{list_all}
 use Rattle.std.proofs.lemmas.Option.{slice_get-get_or}
-use Rattle.txn.specs.Tree.{Expression, Condition, Statement, Statements, Program}
-use Rattle.txn.specs.Tree as t
-use Rattle.txn.specs.Scope.{ExpressionKnown, ConditionKnown, StatementKnown, StatementsKnown, ProgramKnown}
-use Rattle.txn.specs.Names.{is_name}
-use Rattle.txn.proofs.Lawful.{passes_at}
+use Rattle.programs.specs.Tree.{Expression, Condition, Statement, Statements, Program}
+use Rattle.programs.specs.Tree as t
+use Rattle.programs.specs.Scope.{ExpressionKnown, ConditionKnown, StatementKnown, StatementsKnown, ProgramKnown}
+use Rattle.programs.specs.Names.{is_name}
+use Rattle.programs.proofs.Lawful.{passes_at}
 use Rattle.file_grammar.specs.declared.words.Operator.{Operator}
 use Rattle.file_grammar.specs.declared.words.Operator.TheVariants as operator
 use Rattle.file_grammar.specs.declared.words.Comparison.{Comparison}

@@ -11,7 +11,7 @@ use Rattle.std.proofs.lemmas.Bool.{and_parts, and_from, ne_eqb}
 use Rattle.std.proofs.lemmas.Bool.Decides.{eqb_tells, nat_tests}
 use Rattle.std.proofs.lemmas.Fmt.{decimal_is_IsNumeral, decimal_digit, first_decimal}
 use Rattle.std.proofs.lemmas.Str.Parse.{digit_from_value}
-use Rattle.txn.specs.Names.{is_name_byte, is_name}
+use Rattle.programs.specs.Names.{is_name_byte, is_name}
 use Rattle.text_words.specs.Bytes.{is_allowed, is_atom_byte, is_positive, is_int, int_value}
 use Rattle.text_words.specs.Tokens.{Lexeme, atom}
 use Rattle.text_words.specs.Tokens as token

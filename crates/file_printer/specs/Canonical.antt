@@ -2,7 +2,7 @@
 use Rattle.std.specs.Prelude.{ℕ, List, [], ◌++◌, codes}
 use Rattle.std.specs.Fmt.{signed_decimal}
 use Rattle.std.specs.List.{flat_map}
-use Rattle.txn.specs.Listing.{Listing}
+use Rattle.programs.specs.Listing.{Listing}
 use Rattle.file_grammar.specs.Tree.{Expr, Int, Name, Binary, Cond, Compare, Not, Connect, Stmt, Skip, Set, Seq, If, Repeat, Retry, OrElse, Throw, Stmts, NoStmts, MoreStmts, Pair, Declaration, File, operator_word, comparison_word, connective_word, keyword_word}
 use Rattle.file_grammar.specs.declared.words.Keyword.TheVariants as keyword
 use Rattle.file_grammar.specs.Written.{written}

@@ -3,8 +3,8 @@
 ghost use Rattle.std.specs.Prelude.{◌≡◌, ◌<◌, ◌≤◌, ◌++◌, FitsSigned, IfOk, OnOk, codes, length, map, pos, string_bytes};
 ghost use Rattle.std.specs.Int.{w64};
 ghost use Rattle.std.specs.List.{AllByRecursion, flat_map};
-ghost use Rattle.txn.specs.Scope.{ProgramKnown};
-ghost use Rattle.txn.specs.Tree.{program_of};
+ghost use Rattle.programs.specs.Scope.{ProgramKnown};
+ghost use Rattle.programs.specs.Tree.{program_of};
 ghost use Rattle.file_grammar.specs.Written.{written_vars, written_program, written_run, written};
 ghost use Rattle.file_grammar.specs.Spelling.{Spells};
 ghost use Rattle.file_printer.specs.Canonical.{pair_line, tx_line, file_text};

@@ -3,8 +3,8 @@
 ghost use Rattle.std.specs.Prelude.{◌≡◌, ◌<◌, ◌++◌, FitsSigned, OnOk, codes, length, pos, string_bytes};
 ghost use Rattle.std.specs.Fmt.{decimal, signed_decimal};
 ghost use Rattle.std.specs.Int.{w64};
-ghost use Rattle.txn.specs.Scope.{ExpressionKnown, ConditionKnown, StatementKnown, StatementsKnown};
-ghost use Rattle.txn.specs.Tree.{expression_of, condition_of, statement_of, statements_of_list};
+ghost use Rattle.programs.specs.Scope.{ExpressionKnown, ConditionKnown, StatementKnown, StatementsKnown};
+ghost use Rattle.programs.specs.Tree.{expression_of, condition_of, statement_of, statements_of_list};
 ghost use Rattle.file_grammar.specs.Written.{name_at, written_expression, written_condition, written_statement, written_statements};
 ghost use Rattle.file_printer.specs.Canonical.{form_text, spaced, expr_text, cond_text, stmt_text, stmts_text};
 ghost use Rattle.file_grammar.specs.Tree.{Seq};

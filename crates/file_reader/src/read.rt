@@ -1,7 +1,7 @@
 //! Files read as catalogues.
 
 ghost use Rattle.std.specs.Prelude.{◌≡◌, Some, IfOk, IfErr, ◌⊎◌};
-ghost use Rattle.txn.specs.Listing.{Listing};
+ghost use Rattle.programs.specs.Listing.{Listing};
 ghost use Rattle.text_words.specs.Answers.{Gives};
 ghost use Rattle.file_grammar.specs.Spelling.{Spells, listing_at, lawful, first_fault};
 ghost use Rattle.file_laws.specs.Faults.{IsFirst};

@@ -1,11 +1,11 @@
 -- What the parts of a file come to.
 use Rattle.std.proofs.Common.{◌≡◌, ℕ, ℤ, List, [], ◌∷◌, map, Result, Ok, Err, refl, ap, ◌∙◌, String, Global, string_bytes}
-use Rattle.txn.specs.declared.ast.Tx.{Tx}
-use Rattle.txn.specs.declared.ast.TxId.{TxId}
-use Rattle.txn.specs.declared.ast.Stmt.{Stmt}
-use Rattle.txn.specs.Tree.{Statement, Statements, End, More, Program, program_of, statement_of, statements_of_list}
-use Rattle.txn.specs.Tree as t
-use Rattle.txn.specs.Listing.{listing_of}
+use Rattle.programs.specs.declared.ast.Tx.{Tx}
+use Rattle.programs.specs.declared.ast.TxId.{TxId}
+use Rattle.programs.specs.declared.ast.Stmt.{Stmt}
+use Rattle.programs.specs.Tree.{Statement, Statements, End, More, Program, program_of, statement_of, statements_of_list}
+use Rattle.programs.specs.Tree as t
+use Rattle.programs.specs.Listing.{listing_of}
 use Rattle.text_words.specs.declared.fault.ReadFault.{ReadFault}
 use Rattle.file_grammar.specs.Tree.{Stmt as Tree, Seq, File}
 use Rattle.text_words.specs.Answers.{◌>>=◌}

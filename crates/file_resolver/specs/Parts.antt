@@ -2,7 +2,7 @@
 use Rattle.std.specs.Prelude.{ℕ, ℤ, List, string_bytes}
 use Rattle.std.specs.declared.alloc.Global.{Global}
 use Rattle.std.specs.declared.string.String.{String}
-use Rattle.txn.specs.Listing.{Listing, listing_of}
+use Rattle.programs.specs.Listing.{Listing, listing_of}
 use Rattle.file_resolver.specs.declared.resolve.Parts.{Parts}
 
 abbrev pub view_variable : String Global × ℤ → List ℕ × ℤ

@@ -1,7 +1,7 @@
 //! From the tree of a file to programs: names as ids, and integers as numbers of the machine.
 
 ghost use Rattle.std.specs.Prelude.{◌≡◌, map};
-ghost use Rattle.txn.specs.Tree.{expression_of, condition_of, statement_of, program_of};
+ghost use Rattle.programs.specs.Tree.{expression_of, condition_of, statement_of, program_of};
 ghost use Rattle.text_words.specs.Answers.{Gives};
 ghost use Rattle.file_grammar.specs.Resolving.{place_in, variable_in, binary, compare, connect, expression_in, condition_in, statement_in, variable_of, program_in, run_in, each, converted, resolved};
 ghost use Rattle.file_grammar.specs.Tree.{Compare, Set, Throw};
@@ -16,9 +16,9 @@ use file_grammar::file::{RawFile, RawPair, RawTx};
 use file_grammar::stmt::RawStmt;
 use file_grammar::words::{Comparison, Connective, Operator};
 use indexmap::IndexSet;
+use programs::{Cond, Expr, Stmt, Tx, TxId, VarId};
 use std::alloc::Global;
 use text_words::ReadFault;
-use txn::{Cond, Expr, Stmt, Tx, TxId, VarId};
 
 /// The place of a declared name.
 #[tactic(auto, unfolding(file_grammar::specs::Resolving::place_in))]

@@ -1,11 +1,11 @@
 -- The pass while a transaction is observed, and the end of the attempt.
 use Rattle.std.proofs.Common.{◌≡◌, ◌∙◌, ◌+◌, ℕ, ℤ, true, false, List, length, ap, subst, sym}
-use Rattle.txn.specs.declared.ast.Outcome.{Outcome}
-use Rattle.txn.specs.declared.ast.TxId.{TxId}
-use Rattle.txn.specs.Listing.{Listing, program_at}
-use Rattle.txn.specs.Meaning.{State, outcome}
-use Rattle.txn.specs.Tree.{Program}
-use Rattle.txn.specs.Words.{state_of, StartsWith}
+use Rattle.programs.specs.declared.ast.Outcome.{Outcome}
+use Rattle.programs.specs.declared.ast.TxId.{TxId}
+use Rattle.programs.specs.Listing.{Listing, program_at}
+use Rattle.programs.specs.Meaning.{State, outcome}
+use Rattle.programs.specs.Tree.{Program}
+use Rattle.shared_words.specs.Words.{state_of, StartsWith}
 use Rattle.cells.specs.Passing.{Passing, at, BeginsBy, ReadsBy}
 use Rattle.observer.specs.Observing.{ObservesBy}
 

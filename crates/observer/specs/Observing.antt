@@ -1,10 +1,10 @@
 -- What observing a transaction says.
 use Rattle.std.specs.Prelude.{◌≡◌, ◌+◌, true, false, length}
-use Rattle.txn.specs.declared.ast.TxId.{TxId}
-use Rattle.txn.specs.Listing.{Listing, program_at}
-use Rattle.txn.specs.Loads.{ShowsStale}
-use Rattle.txn.specs.Meaning.{outcome}
-use Rattle.txn.specs.Words.{StartsWith}
+use Rattle.programs.specs.declared.ast.TxId.{TxId}
+use Rattle.programs.specs.Listing.{Listing, program_at}
+use Rattle.shared_words.specs.Loads.{ShowsStale}
+use Rattle.programs.specs.Meaning.{outcome}
+use Rattle.shared_words.specs.Words.{StartsWith}
 use Rattle.cells.specs.Passing.{Passing, at}
 use Rattle.observer.specs.declared.observation.Observed.{Observed}
 use Rattle.observer.specs.declared.observation.Observed.TheVariants.{Outcome, Stale, Memory}

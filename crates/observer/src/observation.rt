@@ -1,8 +1,8 @@
 //! What a transaction would end as, read beside the commits.
 
 ghost use Rattle.std.specs.Prelude.{◌≡◌, ◌<◌, length, true, false, OnOk, IfErr};
-ghost use Rattle.txn.specs.Loads.{ShowsStale};
-ghost use Rattle.txn.specs.Meaning.{value_at};
+ghost use Rattle.shared_words.specs.Loads.{ShowsStale};
+ghost use Rattle.programs.specs.Meaning.{value_at};
 ghost use Rattle.attempt.specs.View.{supplied};
 ghost use Rattle.cells.specs.Passing.{at, ReadsBy};
 ghost use Rattle.observer.specs.Observing.{ObservesBy, IsObserved};

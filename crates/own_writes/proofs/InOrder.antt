@@ -3,7 +3,7 @@ use Rattle.std.proofs.lemmas.Option.{slice_get-get_or}
 use Rattle.std.proofs.Math.Seq.{take-length}
 use Rattle.std.proofs.Common.{◌-◌, ◌≡◌, ◌≢◌, ℕ, zero, suc, ◌<◌, ◌≤◌, [], ◌∷◌, ◌++◌, length, Some, None, ℤ, refl, sym, ap, ◌∙◌, subst, arith, take, drop, get_or, slice_get}
 use Rattle.std.proofs.lemmas.Bool.Decides.{nat_tests}
-use Rattle.txn.specs.declared.ast.VarId.{VarId}
+use Rattle.programs.specs.declared.ast.VarId.{VarId}
 use Rattle.own_writes.specs.Known.{Known, known_at, write}
 use Rattle.own_writes.specs.Order.{AllAfter, AllBefore, Ascending}
 

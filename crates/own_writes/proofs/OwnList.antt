@@ -1,7 +1,7 @@
 -- There is room for each variable in an ascending list.
 use Rattle.std.proofs.lemmas.List.Edits.{length-insert}
 use Rattle.std.proofs.Common.{insert, ◌≡◌, ℕ, ◌+◌, ◌<◌, ◌≤◌, [], ◌∷◌, length, ℤ, ap, arith}
-use Rattle.txn.specs.declared.ast.VarId.{VarId}
+use Rattle.programs.specs.declared.ast.VarId.{VarId}
 use Rattle.own_writes.specs.Known.{Known, write}
 use Rattle.own_writes.specs.Order.{AllKnown, AllAfter, Ascending}
 use Rattle.own_writes.proofs.Pairs.{AllKnown-write, Ascending-write}

@@ -7,7 +7,7 @@ use Rattle.std.proofs.lemmas.List.{get_or-set_same, get_or-set_other}
 use Rattle.std.proofs.lemmas.Map.Steps.{le-length_from_below}
 use Rattle.std.proofs.lemmas.Option.{slice_get-get_or, slice_get_within, get_or_from_slice_get}
 use Rattle.std.proofs.Math.ListN.{set, length-set}
-use Rattle.txn.specs.declared.ast.VarId.{VarId}
+use Rattle.programs.specs.declared.ast.VarId.{VarId}
 use Rattle.own_writes.specs.Known.{Known, known_at}
 use Rattle.own_writes.specs.Places.{ArePlaced, value_of, value_at}
 

@@ -4,7 +4,7 @@ use Rattle.std.proofs.lemmas.Option.{slice_get-get_or}
 use Rattle.std.proofs.Common.{insert, None, Some, sym, slice_get, ◌-◌, ◌≢◌, ◌≡◌, ℕ, zero, suc, ◌<◌, List, [], ◌∷◌, ◌++◌, ℤ, refl, ap, ◌∙◌, arith, take, drop, drop-cons, length, get_or}
 use Rattle.std.proofs.lemmas.Bool.Decides.{nat_tests}
 use Rattle.std.proofs.Math.ListN.{set}
-use Rattle.txn.specs.declared.ast.VarId.{VarId}
+use Rattle.programs.specs.declared.ast.VarId.{VarId}
 use Rattle.own_writes.specs.Known.{Known, known_at, write}
 use Rattle.own_writes.specs.Order.{AllBefore, Ascending}
 use Rattle.own_writes.proofs.InOrder.{write_past, write_behind, known_past, known_behind, known_from, before_at, before_all}

@@ -1,6 +1,6 @@
 -- Variables with a value each: those of a log, or own writes.
 use Rattle.std.specs.Prelude.{List, [], ◌∷◌, Option, Some, None, ℤ, ◌==◌, if◌then◌else◌, nat_lt}
-use Rattle.txn.specs.declared.ast.VarId.{VarId}
+use Rattle.programs.specs.declared.ast.VarId.{VarId}
 
 -- some variables, with a value each
 abbrev pub Known : Type 0

@@ -1,6 +1,6 @@
 -- How the pairs of a log and of writes lie, and which variables they name.
 use Rattle.std.specs.Prelude.{◌≡◌, ℕ, ◌<◌, [], ◌∷◌, None}
-use Rattle.txn.specs.declared.ast.VarId.{VarId}
+use Rattle.programs.specs.declared.ast.VarId.{VarId}
 use Rattle.own_writes.specs.Known.{Known, known_at}
 
 -- each variable has a number below n

@@ -1,6 +1,6 @@
 -- Where the pairs of a log lie: at each variable's number stands the place of its pair.
 use Rattle.std.specs.Prelude.{◌≡◌, ℕ, ◌+◌, List, [], ◌∷◌, Option, Some, None, ℤ, ◌==◌, if◌then◌else◌, slice_get}
-use Rattle.txn.specs.declared.ast.VarId.{VarId}
+use Rattle.programs.specs.declared.ast.VarId.{VarId}
 use Rattle.own_writes.specs.Known.{Known}
 
 abbrev pub ArePlaced : ℕ → Known → List ℕ → Type 0

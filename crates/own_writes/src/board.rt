@@ -5,12 +5,12 @@ ghost use Rattle.own_writes.specs.Known.{known_at};
 ghost use Rattle.own_writes.specs.Places.{value_at};
 
 use crate::layer::Layer;
+use programs::limits::MAX_VARIABLES;
+use programs::{Memory, VarId};
 use smallvec::SmallVec;
 use std::alloc::Global;
 use std::marker::Model;
 use std::mem;
-use txn::limits::MAX_VARIABLES;
-use txn::{Memory, VarId};
 
 /// Variables with a value each, in the order of supply. A clause sees the pairs.
 #[derive(Drop)]

@@ -9,10 +9,10 @@ ghost use Rattle.own_writes.specs.Own.{Marked, marks_of, value_in, valued, undon
 ghost use Rattle.own_writes.specs.Order.{AllBefore, AllKnown, Ascending};
 
 use arrayvec::ArrayVec;
+use programs::VarId;
+use programs::limits::MAX_VARIABLES;
 use std::alloc::{AllocError, Global};
 use std::marker::Model;
-use txn::VarId;
-use txn::limits::MAX_VARIABLES;
 
 /// How many pairs at the front are of earlier variables: by halves, and it finds them all.
 fn front(pairs: &[(VarId, i64)], x: VarId) -> usize

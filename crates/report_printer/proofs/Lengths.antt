@@ -8,19 +8,19 @@ use Rattle.std.proofs.lemmas.Bool.{and_parts, leb-true}
 use Rattle.std.proofs.lemmas.Fmt.{length-decimal-le, length_signed_le}
 use Rattle.std.proofs.lemmas.List.Elements.{recursion_from_All}
 use Rattle.std.proofs.lemmas.Option.{slice_get-get_or}
-use Rattle.txn.specs.declared.ast.Fault.TheVariants.{User, Overflow, DivideByZero}
-use Rattle.txn.specs.declared.ast.Outcome.{Outcome}
-use Rattle.txn.specs.declared.ast.Outcome.TheVariants.{Returned, Thrown, Retries}
-use Rattle.txn.specs.declared.ast.TaskId.{TaskId}
-use Rattle.txn.specs.declared.ast.TxId.{TxId}
-use Rattle.txn.specs.declared.limits.TheConstants.{MAX_TASKS, MAX_NAME}
-use Rattle.txn.specs.declared.report.Entry.{Entry}
-use Rattle.txn.specs.LawfulReport.{FitsCatalogue}
-use Rattle.txn.specs.Limits.{limits_hold}
-use Rattle.txn.specs.Listing.{Listing, program_at, tasks}
-use Rattle.txn.specs.Told.{Told}
-use Rattle.txn.specs.Tree.{Program, Skip, Int}
-use Rattle.txn.proofs.Lawful.{limits_parts, few_tasks, passes_at}
+use Rattle.programs.specs.declared.ast.Fault.TheVariants.{User, Overflow, DivideByZero}
+use Rattle.programs.specs.declared.ast.Outcome.{Outcome}
+use Rattle.programs.specs.declared.ast.Outcome.TheVariants.{Returned, Thrown, Retries}
+use Rattle.programs.specs.declared.ast.TaskId.{TaskId}
+use Rattle.programs.specs.declared.ast.TxId.{TxId}
+use Rattle.programs.specs.declared.limits.TheConstants.{MAX_TASKS, MAX_NAME}
+use Rattle.programs.specs.declared.report.Entry.{Entry}
+use Rattle.programs.specs.LawfulReport.{FitsCatalogue}
+use Rattle.programs.specs.Limits.{limits_hold}
+use Rattle.programs.specs.Listing.{Listing, program_at, tasks}
+use Rattle.programs.specs.Told.{Told}
+use Rattle.programs.specs.Tree.{Program, Skip, Int}
+use Rattle.programs.proofs.Lawful.{limits_parts, few_tasks, passes_at}
 use Rattle.report_printer.specs.ReportFits.{OutcomeFits, ReportFits}
 use Rattle.report_printer.specs.ReportText.{variable_line, variable_lines, entry_line, task_line, report_text, CountsTasks}
 use Rattle.text_words.specs.Words.{line, outcome_text}

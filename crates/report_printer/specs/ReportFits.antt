@@ -1,11 +1,11 @@
 -- Each value that a report tells is one of 64 signed bits.
 use Rattle.std.specs.Prelude.{ℕ, ℤ, List, All, FitsSigned}
 use Rattle.std.specs.Int.{w64}
-use Rattle.txn.specs.declared.ast.Fault.TheVariants.{User, Overflow, DivideByZero}
-use Rattle.txn.specs.declared.ast.Outcome.{Outcome}
-use Rattle.txn.specs.declared.ast.Outcome.TheVariants.{Returned, Thrown, Retries}
-use Rattle.txn.specs.declared.report.Entry.{Entry}
-use Rattle.txn.specs.Told.{Told}
+use Rattle.programs.specs.declared.ast.Fault.TheVariants.{User, Overflow, DivideByZero}
+use Rattle.programs.specs.declared.ast.Outcome.{Outcome}
+use Rattle.programs.specs.declared.ast.Outcome.TheVariants.{Returned, Thrown, Retries}
+use Rattle.programs.specs.declared.report.Entry.{Entry}
+use Rattle.programs.specs.Told.{Told}
 
 abbrev pub OutcomeFits : Outcome → Type 0
 OutcomeFits (Returned v) = FitsSigned w64 v

@@ -4,10 +4,10 @@ ghost use Rattle.std.specs.Prelude.{◌≡◌, ◌<◌, ◌≤◌, [], ◌∷◌
 ghost use Rattle.std.specs.Fmt.{decimal};
 ghost use Rattle.std.specs.Int.{w64};
 ghost use Rattle.std.specs.List.{flat_map};
-ghost use Rattle.txn.specs.declared.limits.TheConstants.{MAX_VARIABLES};
-ghost use Rattle.txn.specs.LawfulReport.{FitsCatalogue};
-ghost use Rattle.txn.specs.Listing.{program_at};
-ghost use Rattle.txn.specs.Told.{told};
+ghost use Rattle.programs.specs.declared.limits.TheConstants.{MAX_VARIABLES};
+ghost use Rattle.programs.specs.LawfulReport.{FitsCatalogue};
+ghost use Rattle.programs.specs.Listing.{program_at};
+ghost use Rattle.programs.specs.Told.{told};
 ghost use Rattle.text_words.specs.Words.{line, outcome_text};
 ghost use Rattle.report_printer.specs.ReportText.{variable_line, variable_lines, entry_line, task_line, report_text, CountsTasks};
 ghost use Rattle.report_printer.specs.ReportFits.{OutcomeFits, OutcomesFit, ReportFits, ValuesFit};

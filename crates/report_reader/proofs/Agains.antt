@@ -8,20 +8,20 @@ use Rattle.std.proofs.lemmas.Bool.{and_parts, and_from, lt-ltb}
 use Rattle.std.proofs.lemmas.List.Elements.{recursion_from_All}
 use Rattle.std.proofs.lemmas.Option.{slice_get-get_or}
 use Rattle.std.proofs.lemmas.Slice.Eq.{bytes_eq-Decides}
-use Rattle.txn.specs.Arithmetic.{fits}
-use Rattle.txn.specs.declared.ast.TaskId.{TaskId}
-use Rattle.txn.specs.declared.ast.TxId.{TxId}
-use Rattle.txn.specs.declared.ast.Fault.TheVariants as fault
-use Rattle.txn.specs.declared.ast.Outcome.{Outcome}
-use Rattle.txn.specs.declared.ast.Outcome.TheVariants as outcome
-use Rattle.txn.specs.declared.limits.TheConstants.{MAX_TASKS}
-use Rattle.txn.specs.declared.report.Entry as told
-use Rattle.txn.specs.LawfulReport.{FitsCatalogue}
-use Rattle.txn.specs.Listing.{Listing, tasks, program_at}
-use Rattle.txn.specs.Names.{is_name, names_hold}
-use Rattle.txn.specs.Told.{Told}
-use Rattle.txn.specs.Tree.{Program, Skip, Int}
-use Rattle.txn.proofs.Lawful.{names_parts, passes_at}
+use Rattle.programs.specs.Arithmetic.{fits}
+use Rattle.programs.specs.declared.ast.TaskId.{TaskId}
+use Rattle.programs.specs.declared.ast.TxId.{TxId}
+use Rattle.programs.specs.declared.ast.Fault.TheVariants as fault
+use Rattle.programs.specs.declared.ast.Outcome.{Outcome}
+use Rattle.programs.specs.declared.ast.Outcome.TheVariants as outcome
+use Rattle.programs.specs.declared.limits.TheConstants.{MAX_TASKS}
+use Rattle.programs.specs.declared.report.Entry as told
+use Rattle.programs.specs.LawfulReport.{FitsCatalogue}
+use Rattle.programs.specs.Listing.{Listing, tasks, program_at}
+use Rattle.programs.specs.Names.{is_name, names_hold}
+use Rattle.programs.specs.Told.{Told}
+use Rattle.programs.specs.Tree.{Program, Skip, Int}
+use Rattle.programs.proofs.Lawful.{names_parts, passes_at}
 use Rattle.text_words.specs.Bytes.{int_value}
 use Rattle.report_printer.specs.ReportFits.{OutcomeFits, ReportFits}
 use Rattle.report_printer.specs.ReportText.{variable_line, variable_lines, entry_line, task_line, report_text}

@@ -6,7 +6,7 @@ use Rattle.std.proofs.lemmas.Bool.{and_parts, and_from}
 use Rattle.std.proofs.lemmas.Bool.Decides.{nat_tests}
 use Rattle.std.proofs.lemmas.Grind.{common_steps}
 use Rattle.std.proofs.lemmas.List.Folds.{list_all-append}
-use Rattle.txn.specs.Names.{is_name, is_name_byte}
+use Rattle.programs.specs.Names.{is_name, is_name_byte}
 use Rattle.text_words.specs.Bytes.{is_allowed, is_int}
 use Rattle.text_words.specs.Words.{line}
 use Rattle.report_reader.specs.Raw.{Variable, Ending, Returned, Threw, Overflow, DivideByZero, Entry, Task, Raw, is_number, variable_words, ending_words, entry_words, task_words, number_words, raw_text, IsVariable, IsEnding, IsEntry, IsTask, IsRaw}

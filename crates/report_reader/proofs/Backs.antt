@@ -9,17 +9,17 @@ use Rattle.std.specs.Str.Parse.{digits_value}
 use Rattle.std.proofs.lemmas.Bool.{and_parts, ltb-true}
 use Rattle.std.proofs.lemmas.List.Elements.{All-from_recursion}
 use Rattle.std.proofs.lemmas.Slice.Eq.{bytes_eq-Decides}
-use Rattle.txn.specs.Arithmetic.{fits}
-use Rattle.txn.specs.declared.ast.TaskId.{TaskId}
-use Rattle.txn.specs.declared.ast.TxId.{TxId}
-use Rattle.txn.specs.declared.ast.Fault.TheVariants as fault
-use Rattle.txn.specs.declared.ast.Outcome.{Outcome}
-use Rattle.txn.specs.declared.ast.Outcome.TheVariants as outcome
-use Rattle.txn.specs.declared.limits.TheConstants.{MAX_TASKS}
-use Rattle.txn.specs.declared.report.Entry as told
-use Rattle.txn.specs.LawfulReport.{FitsCatalogue}
-use Rattle.txn.specs.Listing.{Listing, tasks}
-use Rattle.txn.specs.Told.{Told}
+use Rattle.programs.specs.Arithmetic.{fits}
+use Rattle.programs.specs.declared.ast.TaskId.{TaskId}
+use Rattle.programs.specs.declared.ast.TxId.{TxId}
+use Rattle.programs.specs.declared.ast.Fault.TheVariants as fault
+use Rattle.programs.specs.declared.ast.Outcome.{Outcome}
+use Rattle.programs.specs.declared.ast.Outcome.TheVariants as outcome
+use Rattle.programs.specs.declared.limits.TheConstants.{MAX_TASKS}
+use Rattle.programs.specs.declared.report.Entry as told
+use Rattle.programs.specs.LawfulReport.{FitsCatalogue}
+use Rattle.programs.specs.Listing.{Listing, tasks}
+use Rattle.programs.specs.Told.{Told}
 use Rattle.text_words.specs.Bytes.{is_int, int_value}
 use Rattle.report_printer.specs.ReportFits.{OutcomeFits, ReportFits}
 use Rattle.report_printer.specs.ReportText.{variable_line, variable_lines, entry_line, task_line, report_text}

@@ -5,11 +5,11 @@ use Rattle.std.specs.List.{list_all}
 use Rattle.std.specs.Str.{bytes_eq}
 use Rattle.std.specs.Str.Parse.{digits_value}
 use Rattle.std.proofs.lemmas.Bool.{and_parts}
-use Rattle.txn.specs.Arithmetic.{fits}
-use Rattle.txn.specs.declared.ast.TxId.{TxId}
-use Rattle.txn.specs.declared.limits.TheConstants.{MAX_TASKS}
-use Rattle.txn.specs.Listing.{Listing, tasks, transaction_named}
-use Rattle.txn.specs.Names.{is_name}
+use Rattle.programs.specs.Arithmetic.{fits}
+use Rattle.programs.specs.declared.ast.TxId.{TxId}
+use Rattle.programs.specs.declared.limits.TheConstants.{MAX_TASKS}
+use Rattle.programs.specs.Listing.{Listing, tasks, transaction_named}
+use Rattle.programs.specs.Names.{is_name}
 use Rattle.text_words.specs.Bytes.{is_int, int_value}
 use Rattle.text_words.specs.Answers.{◌>>=◌}
 use Rattle.text_words.specs.Numbers.{number_of}

@@ -5,7 +5,7 @@ use Rattle.std.specs.Str.{bytes_eq}
 use Rattle.std.proofs.Math.Seq.{drop-cons}
 use Rattle.std.proofs.lemmas.List.Folds.{list_all-map}
 use Rattle.std.proofs.lemmas.Option.{same_Some}
-use Rattle.txn.specs.Listing.{Listing}
+use Rattle.programs.specs.Listing.{Listing}
 use Rattle.report_reader.specs.Raw.{Entry, Task}
 use Rattle.report_reader.specs.Resolving.{is_known, entries_known, tasks_known, transactions_known, named_as}
 use Rattle.report_reader.specs.View.{view_entry, view_entries, view_task, view_tasks, view_variables, view_raw}

@@ -12,8 +12,8 @@ use Rattle.std.proofs.lemmas.Bool.{and_parts, and_from, ne_eqb, eqb-true, leb-tr
 use Rattle.std.proofs.lemmas.Bool.Decides.{eqb_tells, nat_tests}
 use Rattle.std.proofs.lemmas.Fmt.{decimal_is_IsNumeral, decimal_digit, first_decimal, decimal-digits_value}
 use Rattle.std.proofs.lemmas.Str.Parse.{IsNumeralModel, digit_from_value}
-use Rattle.txn.specs.Arithmetic.{fits}
-use Rattle.txn.specs.Names.{is_name, is_name_byte}
+use Rattle.programs.specs.Arithmetic.{fits}
+use Rattle.programs.specs.Names.{is_name, is_name_byte}
 use Rattle.text_words.specs.Bytes.{is_int, is_positive, int_value}
 use Rattle.text_words.proofs.Ascii.{int_is_ascii}
 use Rattle.text_words.proofs.Numerals.{positive}

@@ -6,11 +6,11 @@ use Rattle.std.proofs.lemmas.Slice.Eq.{bytes_eq-Decides}
 use Rattle.std.proofs.lemmas.List.{get_or-map, length-map}
 use Rattle.std.proofs.lemmas.List.Quantifiers.{position-Some}
 use Rattle.std.proofs.lemmas.Bool.{and_parts, lt-ltb}
-use Rattle.txn.specs.declared.ast.TxId.{TxId}
-use Rattle.txn.specs.Listing.{Listing, program_at, transaction_named, as_transaction}
-use Rattle.txn.specs.Names.{are_new, are_distinct, names_hold}
-use Rattle.txn.specs.Tree.{Program, Skip, Int}
-use Rattle.txn.proofs.Lawful.{names_parts}
+use Rattle.programs.specs.declared.ast.TxId.{TxId}
+use Rattle.programs.specs.Listing.{Listing, program_at, transaction_named, as_transaction}
+use Rattle.programs.specs.Names.{are_new, are_distinct, names_hold}
+use Rattle.programs.specs.Tree.{Program, Skip, Int}
+use Rattle.programs.proofs.Lawful.{names_parts}
 use Rattle.report_reader.specs.Resolving.{found, tx_id}
 
 neither : (a b : Bool) → (a || b) ≡ false → (a ≡ false) × (b ≡ false)

@@ -4,11 +4,11 @@ use Rattle.std.specs.Prelude.{nat_lt, IfOk, IfErr}
 use Rattle.std.specs.List.{list_all}
 use Rattle.std.proofs.lemmas.Bool.{ltb-true}
 use Rattle.std.proofs.lemmas.Bool.Decides.{nat_tests}
-use Rattle.txn.specs.Limits.{limits_hold}
-use Rattle.txn.specs.Listing.{Listing}
-use Rattle.txn.specs.Names.{names_hold}
-use Rattle.txn.specs.Told.{Told}
-use Rattle.txn.proofs.Lawful.{few_tasks}
+use Rattle.programs.specs.Limits.{limits_hold}
+use Rattle.programs.specs.Listing.{Listing}
+use Rattle.programs.specs.Names.{names_hold}
+use Rattle.programs.specs.Told.{Told}
+use Rattle.programs.proofs.Lawful.{few_tasks}
 use Rattle.text_words.specs.Bytes.{is_allowed}
 use Rattle.text_words.specs.Answers.{◌>>=◌, Gives, Fails}
 use Rattle.text_words.specs.declared.fault.ReadFault.{ReadFault}

@@ -2,7 +2,7 @@
 use Rattle.std.specs.Prelude.{◌≡◌, ℕ, Bool, true, not, ◌&&◌, List, [], ◌∷◌, ◌++◌, length, codes}
 use Rattle.std.specs.List.{flat_map, AllByRecursion}
 use Rattle.std.specs.Str.Parse.{starts_with_minus}
-use Rattle.txn.specs.Names.{is_name}
+use Rattle.programs.specs.Names.{is_name}
 use Rattle.text_words.specs.Bytes.{is_int}
 use Rattle.text_words.specs.Words.{line}
 

@@ -1,7 +1,7 @@
 -- Reading lines in their order, each step with what it reads and the lines left.
 use Rattle.std.specs.Prelude.{ℕ, zero, suc, Bool, is_some, if◌then◌else◌, Option, Some, None, Result, Ok, Err, List, [], ◌∷◌, codes}
 use Rattle.std.specs.Str.{bytes_eq}
-use Rattle.txn.specs.Names.{is_name}
+use Rattle.programs.specs.Names.{is_name}
 use Rattle.text_words.specs.Bytes.{is_int}
 use Rattle.text_words.specs.Answers.{◌>>=◌}
 use Rattle.text_words.specs.declared.fault.ReadFault.{ReadFault}

@@ -1,9 +1,9 @@
 -- Which report bytes are the text of, and which fault is the first where they are of none.
 use Rattle.std.specs.Prelude.{◌≡◌, ◌<◌, ◌≤◌, ℕ, true, false, nat_lt, if◌then◌else◌, Result, Err, List, length}
 use Rattle.std.specs.List.{list_all}
-use Rattle.txn.specs.LawfulReport.{FitsCatalogue}
-use Rattle.txn.specs.Listing.{Listing}
-use Rattle.txn.specs.Told.{Told}
+use Rattle.programs.specs.LawfulReport.{FitsCatalogue}
+use Rattle.programs.specs.Listing.{Listing}
+use Rattle.programs.specs.Told.{Told}
 use Rattle.text_words.specs.Bytes.{is_allowed}
 use Rattle.text_words.specs.Answers.{◌>>=◌}
 use Rattle.report_printer.specs.ReportText.{report_text}

@@ -3,15 +3,15 @@ use Rattle.std.specs.Prelude.{ℕ, ◌+◌, ℤ, Bool, true, false, is_some, ◌
 use Rattle.std.specs.List.{list_all}
 use Rattle.std.specs.Str.{bytes_eq}
 use Rattle.std.specs.Str.Parse.{digits_value}
-use Rattle.txn.specs.declared.ast.TaskId.{TaskId}
-use Rattle.txn.specs.declared.ast.TxId.{TxId}
-use Rattle.txn.specs.declared.ast.Fault.TheVariants as fault
-use Rattle.txn.specs.declared.ast.Outcome.{Outcome}
-use Rattle.txn.specs.declared.ast.Outcome.TheVariants as outcome
-use Rattle.txn.specs.declared.report.Entry as told
-use Rattle.txn.specs.declared.limits.TheConstants.{MAX_TASKS}
-use Rattle.txn.specs.Listing.{Listing, tasks, transaction_named}
-use Rattle.txn.specs.Told.{Told}
+use Rattle.programs.specs.declared.ast.TaskId.{TaskId}
+use Rattle.programs.specs.declared.ast.TxId.{TxId}
+use Rattle.programs.specs.declared.ast.Fault.TheVariants as fault
+use Rattle.programs.specs.declared.ast.Outcome.{Outcome}
+use Rattle.programs.specs.declared.ast.Outcome.TheVariants as outcome
+use Rattle.programs.specs.declared.report.Entry as told
+use Rattle.programs.specs.declared.limits.TheConstants.{MAX_TASKS}
+use Rattle.programs.specs.Listing.{Listing, tasks, transaction_named}
+use Rattle.programs.specs.Told.{Told}
 use Rattle.text_words.specs.Bytes.{int_value}
 use Rattle.text_words.specs.Answers.{◌>>=◌}
 use Rattle.text_words.specs.Numbers.{number_of}

@@ -1,7 +1,7 @@
 //! Reports read.
 
 ghost use Rattle.std.specs.Prelude.{◌≡◌, IfOk, IfErr, ◌⊎◌, Ok};
-ghost use Rattle.txn.specs.Told.{Told, told};
+ghost use Rattle.programs.specs.Told.{Told, told};
 ghost use Rattle.text_words.specs.Answers.{Gives};
 ghost use Rattle.text_words.specs.declared.fault.ReadFault.TheVariants.{Memory};
 ghost use Rattle.report_reader.specs.Reports.{IsReport, IsFirst, report_at};

@@ -2,7 +2,7 @@
 
 ghost use Rattle.std.specs.Prelude.{◌≡◌, IfErr, length};
 ghost use Rattle.std.specs.List.{list_all};
-ghost use Rattle.txn.specs.Told.{told};
+ghost use Rattle.programs.specs.Told.{told};
 ghost use Rattle.text_words.specs.Answers.{Gives};
 ghost use Rattle.text_words.specs.declared.fault.ReadFault.TheVariants.{Limit};
 ghost use Rattle.report_reader.specs.Resolving.{named_as, is_known, variables_known, transactions_known, names_known, count_in, task_id, tx_id, variable_told, outcome_told, entry_told, task_told, each, told_of, resolved};

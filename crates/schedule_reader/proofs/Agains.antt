@@ -4,13 +4,13 @@ use Rattle.std.specs.Prelude.{All, codes}
 use Rattle.std.specs.Fmt.{decimal}
 use Rattle.std.specs.List.{AllByRecursion}
 use Rattle.std.proofs.lemmas.List.Elements.{recursion_from_All}
-use Rattle.txn.specs.declared.ast.TaskId.{TaskId}
-use Rattle.txn.specs.declared.ast.VarId.{VarId}
-use Rattle.txn.specs.declared.limits.TheConstants.{MAX_TASKS}
-use Rattle.txn.specs.declared.moves.Move.{Move}
-use Rattle.txn.specs.declared.moves.Move.TheVariants as move
-use Rattle.txn.specs.Listing.{Listing, tasks}
-use Rattle.txn.specs.Names.{names_hold}
+use Rattle.programs.specs.declared.ast.TaskId.{TaskId}
+use Rattle.programs.specs.declared.ast.VarId.{VarId}
+use Rattle.programs.specs.declared.limits.TheConstants.{MAX_TASKS}
+use Rattle.programs.specs.declared.moves.Move.{Move}
+use Rattle.programs.specs.declared.moves.Move.TheVariants as move
+use Rattle.programs.specs.Listing.{Listing, tasks}
+use Rattle.programs.specs.Names.{names_hold}
 use Rattle.text_words.specs.Words.{line}
 use Rattle.report_reader.proofs.Agains.{task_id_again, small, each_again, all_again, tests_again, text_again}
 use Rattle.schedule_reader.specs.declared.raw.TaskVerb.{TaskVerb}

@@ -4,12 +4,12 @@ use Rattle.std.specs.Prelude.{All, codes}
 use Rattle.std.specs.Fmt.{decimal}
 use Rattle.std.specs.List.{AllByRecursion}
 use Rattle.std.proofs.lemmas.List.Elements.{All-from_recursion}
-use Rattle.txn.specs.declared.ast.TaskId.{TaskId}
-use Rattle.txn.specs.declared.ast.VarId.{VarId}
-use Rattle.txn.specs.declared.limits.TheConstants.{MAX_TASKS}
-use Rattle.txn.specs.declared.moves.Move.{Move}
-use Rattle.txn.specs.declared.moves.Move.TheVariants as move
-use Rattle.txn.specs.Listing.{Listing, tasks}
+use Rattle.programs.specs.declared.ast.TaskId.{TaskId}
+use Rattle.programs.specs.declared.ast.VarId.{VarId}
+use Rattle.programs.specs.declared.limits.TheConstants.{MAX_TASKS}
+use Rattle.programs.specs.declared.moves.Move.{Move}
+use Rattle.programs.specs.declared.moves.Move.TheVariants as move
+use Rattle.programs.specs.Listing.{Listing, tasks}
 use Rattle.text_words.specs.Words.{line}
 use Rattle.text_words.proofs.Steps.{bind_ok, done, ok_is}
 use Rattle.report_reader.specs.Resolving.{task_id}

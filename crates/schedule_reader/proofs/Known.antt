@@ -2,7 +2,7 @@
 use Rattle.std.proofs.Common.{◌≡◌, Bool, true, false, List, Err, refl, sym}
 use Rattle.std.specs.List.{list_all}
 use Rattle.std.proofs.lemmas.List.Folds.{list_all-map}
-use Rattle.txn.specs.Listing.{Listing}
+use Rattle.programs.specs.Listing.{Listing}
 use Rattle.text_words.specs.declared.fault.ReadFault.TheVariants.{Name}
 use Rattle.schedule_reader.specs.Resolving.{is_known, names_known, moves_told, resolved}
 use Rattle.schedule_reader.specs.View.{view_move, view_moves}

@@ -4,10 +4,10 @@ use Rattle.std.specs.Prelude.{position, bytes_eq, is_some, slice_get}
 use Rattle.std.proofs.lemmas.List.Quantifiers.{position-Some}
 use Rattle.std.proofs.lemmas.Option.{slice_get-get_or}
 use Rattle.std.proofs.lemmas.Slice.Eq.{bytes_eq-Decides}
-use Rattle.txn.specs.declared.ast.VarId.{VarId}
-use Rattle.txn.specs.Listing.{Listing, as_variable, variable_named}
-use Rattle.txn.specs.Names.{is_name, names_hold}
-use Rattle.txn.proofs.Lawful.{names_parts, passes_at}
+use Rattle.programs.specs.declared.ast.VarId.{VarId}
+use Rattle.programs.specs.Listing.{Listing, as_variable, variable_named}
+use Rattle.programs.specs.Names.{is_name, names_hold}
+use Rattle.programs.proofs.Lawful.{names_parts, passes_at}
 use Rattle.report_reader.proofs.Places.{place_again}
 use Rattle.schedule_reader.specs.Resolving.{found, variable_id}
 use Rattle.schedule_reader.specs.Spelling.{variable_name}

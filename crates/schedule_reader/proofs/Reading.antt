@@ -3,9 +3,9 @@ use Rattle.std.proofs.Common.{◌≡◌, ◌∙◌, ℕ, ◌<◌, ◌≤◌, Boo
 use Rattle.std.specs.Prelude.{nat_lt, IfOk, IfErr}
 use Rattle.std.specs.List.{list_all}
 use Rattle.std.proofs.lemmas.Bool.{ltb-true}
-use Rattle.txn.specs.declared.moves.Move.{Move}
-use Rattle.txn.specs.Listing.{Listing}
-use Rattle.txn.proofs.Lawful.{few_tasks}
+use Rattle.programs.specs.declared.moves.Move.{Move}
+use Rattle.programs.specs.Listing.{Listing}
+use Rattle.programs.proofs.Lawful.{few_tasks}
 use Rattle.text_words.specs.Bytes.{is_allowed}
 use Rattle.text_words.specs.Answers.{◌>>=◌, Gives, Fails}
 use Rattle.text_words.specs.declared.fault.ReadFault.{ReadFault}

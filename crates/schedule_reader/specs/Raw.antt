@@ -1,7 +1,7 @@
 -- A schedule as it is written: its words, before any name or number is judged.
 use Rattle.std.specs.Prelude.{◌≡◌, ℕ, true, List, [], ◌∷◌, codes}
 use Rattle.std.specs.List.{flat_map}
-use Rattle.txn.specs.Names.{is_name}
+use Rattle.programs.specs.Names.{is_name}
 use Rattle.text_words.specs.Words.{line}
 use Rattle.report_reader.specs.Raw.{is_number}
 use Rattle.schedule_reader.specs.declared.raw.TaskVerb.{TaskVerb}

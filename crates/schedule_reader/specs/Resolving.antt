@@ -1,11 +1,11 @@
 -- From the words of a schedule to its moves: names as ids, and integers as numbers of the machine.
 use Rattle.std.specs.Prelude.{ℕ, Bool, true, is_some, if◌then◌else◌, Option, Some, None, Result, Ok, Err, List}
 use Rattle.std.specs.List.{list_all}
-use Rattle.txn.specs.declared.ast.TaskId.{TaskId}
-use Rattle.txn.specs.declared.ast.VarId.{VarId}
-use Rattle.txn.specs.declared.moves.Move.{Move}
-use Rattle.txn.specs.declared.moves.Move.TheVariants as move
-use Rattle.txn.specs.Listing.{Listing, variable_named}
+use Rattle.programs.specs.declared.ast.TaskId.{TaskId}
+use Rattle.programs.specs.declared.ast.VarId.{VarId}
+use Rattle.programs.specs.declared.moves.Move.{Move}
+use Rattle.programs.specs.declared.moves.Move.TheVariants as move
+use Rattle.programs.specs.Listing.{Listing, variable_named}
 use Rattle.text_words.specs.Answers.{◌>>=◌}
 use Rattle.text_words.specs.declared.fault.ReadFault.{ReadFault}
 use Rattle.text_words.specs.declared.fault.ReadFault.TheVariants.{Name}

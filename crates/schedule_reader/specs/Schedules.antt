@@ -1,8 +1,8 @@
 -- Which moves bytes are the text of, and which fault is the first where they are of none.
 use Rattle.std.specs.Prelude.{◌≡◌, ◌<◌, ◌≤◌, ℕ, true, false, nat_lt, if◌then◌else◌, Result, Ok, Err, List, length, All}
 use Rattle.std.specs.List.{list_all, AllByRecursion}
-use Rattle.txn.specs.declared.moves.Move.{Move}
-use Rattle.txn.specs.Listing.{Listing}
+use Rattle.programs.specs.declared.moves.Move.{Move}
+use Rattle.programs.specs.Listing.{Listing}
 use Rattle.text_words.specs.Bytes.{is_allowed}
 use Rattle.text_words.specs.Answers.{◌>>=◌}
 use Rattle.text_words.specs.declared.fault.ReadFault.{ReadFault}

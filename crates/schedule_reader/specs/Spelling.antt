@@ -2,11 +2,11 @@
 use Rattle.std.specs.Prelude.{ℕ, ◌<◌, List, [], ◌∷◌, length, codes, slice_index_or}
 use Rattle.std.specs.List.{flat_map}
 use Rattle.std.specs.Fmt.{decimal}
-use Rattle.txn.specs.declared.ast.TaskId.{TaskId}
-use Rattle.txn.specs.declared.ast.VarId.{VarId}
-use Rattle.txn.specs.declared.moves.Move.{Move}
-use Rattle.txn.specs.declared.moves.Move.TheVariants.{Begin, Read, Commit, Drop, First, Value, Second, Ask, Word}
-use Rattle.txn.specs.Listing.{Listing, tasks}
+use Rattle.programs.specs.declared.ast.TaskId.{TaskId}
+use Rattle.programs.specs.declared.ast.VarId.{VarId}
+use Rattle.programs.specs.declared.moves.Move.{Move}
+use Rattle.programs.specs.declared.moves.Move.TheVariants.{Begin, Read, Commit, Drop, First, Value, Second, Ask, Word}
+use Rattle.programs.specs.Listing.{Listing, tasks}
 use Rattle.text_words.specs.Words.{line}
 
 -- the name of a variable

@@ -1,7 +1,7 @@
 //! Schedules read.
 
 ghost use Rattle.std.specs.Prelude.{◌≡◌, IfOk, IfErr, ◌⊎◌, Ok, List};
-ghost use Rattle.txn.specs.declared.moves.Move.{Move};
+ghost use Rattle.programs.specs.declared.moves.Move.{Move};
 ghost use Rattle.text_words.specs.Answers.{Gives};
 ghost use Rattle.text_words.specs.declared.fault.ReadFault.TheVariants.{Memory};
 ghost use Rattle.schedule_reader.specs.Schedules.{IsSchedule, IsFirst, schedule_at};

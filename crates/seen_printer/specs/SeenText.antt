@@ -1,8 +1,8 @@
 -- The lines of what is seen.
 use Rattle.std.specs.Prelude.{ℕ, ◌+◌, List, [], ◌∷◌, ◌++◌, codes, slice_index_or}
 use Rattle.std.specs.Fmt.{decimal}
-use Rattle.txn.specs.declared.ast.VarId.{VarId}
-use Rattle.txn.specs.Listing.{Listing}
+use Rattle.programs.specs.declared.ast.VarId.{VarId}
+use Rattle.programs.specs.Listing.{Listing}
 use Rattle.text_words.specs.Words.{line, outcome_text}
 use Rattle.world_law.specs.declared.events.Seen.{Seen}
 use Rattle.world_law.specs.declared.events.Seen.TheVariants.{Idle, Needs, Ended, Loaded, Stale, Parked, Commits, Stored, Committed, Dropped, Spent}

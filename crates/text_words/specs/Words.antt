@@ -1,9 +1,9 @@
 -- A line of a text: words with one space between two, and a newline behind the last.
 use Rattle.std.specs.Prelude.{ℕ, List, [], ◌∷◌, ◌++◌, codes}
 use Rattle.std.specs.Fmt.{signed_decimal}
-use Rattle.txn.specs.declared.ast.Fault.TheVariants.{User, Overflow, DivideByZero}
-use Rattle.txn.specs.declared.ast.Outcome.{Outcome}
-use Rattle.txn.specs.declared.ast.Outcome.TheVariants.{Returned, Thrown, Retries}
+use Rattle.programs.specs.declared.ast.Fault.TheVariants.{User, Overflow, DivideByZero}
+use Rattle.programs.specs.declared.ast.Outcome.{Outcome}
+use Rattle.programs.specs.declared.ast.Outcome.TheVariants.{Returned, Thrown, Retries}
 
 abbrev pub line : List (List ℕ) → List ℕ
 line [] = codes "\n"

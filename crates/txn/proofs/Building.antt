@@ -4,17 +4,17 @@ use Rattle.std.specs.List.{list_all, list_any}
 use Rattle.std.specs.String.{string_eq}
 use Rattle.std.proofs.lemmas.List.{length-map}
 use Rattle.std.proofs.lemmas.Bool.{and_left, and_right, and_from}
-use Rattle.txn.specs.Listing.{Listing}
+use Rattle.programs.specs.Listing.{Listing}
 use Rattle.std.proofs.lemmas.List.Folds.{list_all-map}
 use Rattle.indexmap.specs.IndexSet.{insert_key}
-use Rattle.txn.specs.declared.ast.Tx.{Tx}
-use Rattle.txn.specs.declared.ast.TxId.{TxId}
-use Rattle.txn.specs.Tree.{Program, program_of}
-use Rattle.txn.specs.Listing.{listing_of}
-use Rattle.txn.specs.Code.{program_code}
-use Rattle.txn.proofs.Lawful.{limits_parts}
-use Rattle.txn.specs.Names.{is_name, are_new, are_distinct, knows_program, is_well_formed, names_hold}
-use Rattle.txn.specs.Limits.{most_tasks, most_variables, most_transactions, longest_name, limits_hold, program_fits}
+use Rattle.programs.specs.declared.ast.Tx.{Tx}
+use Rattle.programs.specs.declared.ast.TxId.{TxId}
+use Rattle.programs.specs.Tree.{Program, program_of}
+use Rattle.programs.specs.Listing.{listing_of}
+use Rattle.programs.specs.Code.{program_code}
+use Rattle.programs.proofs.Lawful.{limits_parts}
+use Rattle.programs.specs.Names.{is_name, are_new, are_distinct, knows_program, is_well_formed, names_hold}
+use Rattle.programs.specs.Limits.{most_tasks, most_variables, most_transactions, longest_name, limits_hold, program_fits}
 
 list_any-map : {X Y : Type 0} (p : Y → Bool) (f : X → Y) (xs : List X) → list_any p (map f xs) ≡ list_any (λ x. p (f x)) xs
 list_any-map p f [] = refl

@@ -1,11 +1,11 @@
 -- What the fields of a catalogue mean, and what they keep.
 use Rattle.std.specs.Prelude.{◌≡◌, map, length, string_bytes, true}
 use Rattle.txn.specs.declared.catalogue.Catalogue.TheInside.{Inside}
-use Rattle.txn.specs.Tree.{program_of}
-use Rattle.txn.specs.Code.{program_code}
-use Rattle.txn.specs.Listing.{Listing, tasks_of}
-use Rattle.txn.specs.Names.{names_hold}
-use Rattle.txn.specs.Limits.{limits_hold}
+use Rattle.programs.specs.Tree.{program_of}
+use Rattle.programs.specs.Code.{program_code}
+use Rattle.programs.specs.Listing.{Listing, tasks_of}
+use Rattle.programs.specs.Names.{names_hold}
+use Rattle.programs.specs.Limits.{limits_hold}
 
 abbrev pub listed : Inside → Listing
 listed c =

@@ -3,10 +3,10 @@ use Rattle.std.specs.Prelude.{◌≡◌, ℕ, ℤ, List, refl}
 use Rattle.std.specs.Coded.{Coded, code_by, coded×, coded_ℕ, coded_ℤ, coded_list}
 use Rattle.std.proofs.Common.{ap}
 use base.Stored.{Gv, gnil, gnum, gcons}
-use Rattle.txn.specs.declared.ast.VarId.{VarId}
-use Rattle.txn.specs.declared.ast.TxId.{TxId}
-use Rattle.txn.specs.Tree.{Expression, Int, Var, Add, Sub, Mul, Div, Rem, Condition, Eq, Lt, Le, Not, And, Or, Statement, Skip, Set, Seq, If, Repeat, Retry, OrElse, Throw, Statements, End, More, Program}
-use Rattle.txn.specs.Listing.{Listing}
+use Rattle.programs.specs.declared.ast.VarId.{VarId}
+use Rattle.programs.specs.declared.ast.TxId.{TxId}
+use Rattle.programs.specs.Tree.{Expression, Int, Var, Add, Sub, Mul, Div, Rem, Condition, Eq, Lt, Le, Not, And, Or, Statement, Skip, Set, Seq, If, Repeat, Retry, OrElse, Throw, Statements, End, More, Program}
+use Rattle.programs.specs.Listing.{Listing}
 
 abbrev variable : ℕ → VarId
 variable n = record { 0 = n }

@@ -2,22 +2,19 @@
 
 ghost use Rattle.std.specs.Prelude.{◌≡◌, ◌++◌, ◌&&◌, true, false, IfOk, IfErr, OnOk, ◌≢◌, map, string_bytes, replicate};
 ghost use Rattle.std.specs.List.{list_all};
-ghost use Rattle.txn.specs.Code.{program_code};
-ghost use Rattle.txn.specs.Tree.{program_of};
-ghost use Rattle.txn.specs.Listing.{listing_of, tasks_of};
-ghost use Rattle.txn.specs.Names.{are_distinct, is_well_formed, names_hold};
-ghost use Rattle.txn.specs.Limits.{limits_hold, program_fits};
+ghost use Rattle.programs.specs.Code.{program_code};
+ghost use Rattle.programs.specs.Tree.{program_of};
+ghost use Rattle.programs.specs.Listing.{listing_of, tasks_of};
+ghost use Rattle.programs.specs.Names.{are_distinct, is_well_formed, names_hold};
+ghost use Rattle.programs.specs.Limits.{limits_hold, program_fits};
 ghost use Rattle.txn.specs.declared.build.BuildFault.TheVariants.{Memory};
 
-use crate::ast::{Tx, TxId};
-use crate::code::Op;
-use crate::compile::compile;
-use crate::limits::{
-    MAX_TRANSACTIONS, MAX_VARIABLES, counts_fit, names_fit, sum_fits, transactions_fit,
-    tx_names_fit,
-};
-use crate::names::{names_have_form, runs_known, transactions_known, tx_names_have_form};
+use catalogue_rules::limits::{counts_fit, names_fit, sum_fits, transactions_fit, tx_names_fit};
+use catalogue_rules::names::{names_have_form, runs_known, transactions_known, tx_names_have_form};
+use compiler::compile::compile;
 use indexmap::IndexSet;
+use programs::limits::{MAX_TRANSACTIONS, MAX_VARIABLES};
+use programs::{Op, Tx, TxId};
 use std::alloc::{AllocError, AllocFailed, Global};
 use thiserror::Error;
 

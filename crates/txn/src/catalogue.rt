@@ -1,18 +1,17 @@
 //! The catalogue: what a file declares.
 
 ghost use Rattle.std.specs.Prelude.{◌≡◌, ◌<◌, ◌≤◌, ◌^◌, ℕ, List, length, map, slice_get, string_bytes, bytes_eq, position, Some, IfErr, true, false, IfOk, OnOk, IsTrue, ◌↔◌};
-ghost use Rattle.txn.specs.Code.{program_code};
-ghost use Rattle.txn.specs.Names.{names_hold};
-ghost use Rattle.txn.specs.Limits.{limits_hold, most_variables};
-ghost use Rattle.txn.specs.Tree.{program_of};
-ghost use Rattle.txn.specs.Listing.{listing_of, tasks, task_tx, program_at, variable_named, transaction_named};
-ghost use Rattle.txn.specs.Scope.{ProgramKnown};
+ghost use Rattle.programs.specs.Code.{program_code};
+ghost use Rattle.programs.specs.Names.{names_hold};
+ghost use Rattle.programs.specs.Limits.{limits_hold, most_variables};
+ghost use Rattle.programs.specs.Tree.{program_of};
+ghost use Rattle.programs.specs.Listing.{listing_of, tasks, task_tx, program_at, variable_named, transaction_named};
+ghost use Rattle.programs.specs.Scope.{ProgramKnown};
 
-use crate::ast::{TaskId, Tx, TxId, VarId};
 use crate::build::{BuildFault, codes, declare, task_txs, well_formed, within_limits};
-use crate::code::Op;
 use crate::same::{same_names, same_programs, same_runs, same_values};
 use indexmap::IndexSet;
+use programs::{Op, TaskId, Tx, TxId, VarId};
 use std::alloc::Global;
 use std::marker::Model;
 
@@ -31,7 +30,7 @@ pub struct Catalogue {
 }
 
 impl Model for Catalogue {
-    ghost use Rattle.txn.specs.Listing.{Listing};
+    ghost use Rattle.programs.specs.Listing.{Listing};
     ghost use Rattle.txn.specs.Codes.{coded_listing};
 
     ghost Value = { Listing };
@@ -206,7 +205,7 @@ impl Catalogue {
 }
 
 /// The place of a name among names of which there are few.
-#[tactic(auto, using(crate::proofs::Lawful::place_at))]
+#[tactic(auto, using(programs::proofs::Lawful::place_at))]
 fn place_of(names: &IndexSet<String>, name: &str) -> Option<u32>
     requires { length names.now.keys ≤ most_variables }
     ensures { result ≡ position (bytes_eq name.now) (map string_bytes names.now.keys) }

@@ -6,29 +6,20 @@
 //! runs its entries by it. What runs the tasks evaluates over what it has read so far, by another
 //! crate, and is compared with the same definitions. `laws` says in theorems what the meaning
 //! shares with STM Haskell, and `word_laws` what the shared words of the cells mean. The
-//! definitions stand in `specs/`, over plain trees: what a program says, and not where it lies in
-//! memory.
+//! definitions stand in `specs/` of `programs` and of `shared_words`, over plain trees: what a
+//! program says, and not where it lies in memory. This crate is the front of the small crates on
+//! which it stands.
 #![tactic(auto)]
 
-pub mod ast;
 pub mod build;
 pub mod catalogue;
-pub mod code;
-mod compile;
-pub mod evaluate;
-pub mod laws;
-pub mod limits;
-pub mod memory;
-pub mod moves;
-pub mod names;
-pub mod report;
 mod same;
-pub mod word_laws;
 
-pub use ast::{Cond, Expr, Fault, Outcome, Stmt, TaskId, Tx, TxId, VarId};
 pub use build::BuildFault;
 pub use catalogue::Catalogue;
-pub use code::Op;
-pub use memory::Memory;
-pub use moves::Move;
-pub use report::{Entry, Report};
+pub use evaluator::{evaluate, laws};
+pub use programs::{
+    Cond, Entry, Expr, Fault, Memory, Move, Op, Outcome, Report, Stmt, TaskId, Tx, TxId, VarId,
+    ast, code, limits, memory, moves, names, report,
+};
+pub use shared_words::word_laws;

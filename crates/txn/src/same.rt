@@ -2,9 +2,9 @@
 //! first difference, takes no memory, and is no deeper than the shallower tree.
 
 ghost use Rattle.std.specs.Prelude.{◌≡◌, ◌↔◌, IsTrue, map, string_bytes};
-ghost use Rattle.txn.specs.Tree.{expression_of, condition_of, statement_of, statements_of_list, program_of};
+ghost use Rattle.programs.specs.Tree.{expression_of, condition_of, statement_of, statements_of_list, program_of};
 
-use crate::ast::{Cond, Expr, Stmt, Tx, TxId};
+use programs::{Cond, Expr, Stmt, Tx, TxId};
 
 fn same_expression(a: &Expr, b: &Expr) -> bool
     ensures { IsTrue result ↔ (expression_of a.now ≡ expression_of b.now) }

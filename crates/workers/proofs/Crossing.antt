@@ -8,24 +8,24 @@ use denote.Param.SendFields.{variants_sync, declared_sync}
 use denote.Hole.FixSend.{fix_sync}
 use denote.Hole.FixLaws.{layer_row}
 use Rattle.std.proofs.Crossing.{crosses, Box-sync, Vec-sync}
-use Rattle.txn.specs.contracts.ast.Expr as expr
-use Rattle.txn.specs.contracts.ast.Expr.TheKnot as ek
-use Rattle.txn.specs.declared.ast.Expr.TheBlock.{member-Expr}
-use Rattle.txn.specs.contracts.ast.Cond as cond
-use Rattle.txn.specs.contracts.ast.Cond.TheKnot as ck
-use Rattle.txn.specs.declared.ast.Cond.TheBlock.{member-Cond}
-use Rattle.txn.specs.contracts.ast.Stmt as stmt
-use Rattle.txn.specs.contracts.ast.Stmt.TheKnot as sk
-use Rattle.txn.specs.declared.ast.Stmt.TheBlock.{member-Stmt}
-use Rattle.txn.specs.contracts.ast.Tx as tx
+use Rattle.programs.specs.contracts.ast.Expr as expr
+use Rattle.programs.specs.contracts.ast.Expr.TheKnot as ek
+use Rattle.programs.specs.declared.ast.Expr.TheBlock.{member-Expr}
+use Rattle.programs.specs.contracts.ast.Cond as cond
+use Rattle.programs.specs.contracts.ast.Cond.TheKnot as ck
+use Rattle.programs.specs.declared.ast.Cond.TheBlock.{member-Cond}
+use Rattle.programs.specs.contracts.ast.Stmt as stmt
+use Rattle.programs.specs.contracts.ast.Stmt.TheKnot as sk
+use Rattle.programs.specs.declared.ast.Stmt.TheBlock.{member-Stmt}
+use Rattle.programs.specs.contracts.ast.Tx as tx
 use Rattle.txn.specs.contracts.catalogue.Catalogue as catalogue
 use Rattle.cells.proofs.cells.Cells.TheSendSync as cells
 use Rattle.cells.proofs.publisher.Publisher.TheSendSync as publisher
 use Rattle.book.proofs.stored.Stored.TheSendSync as stored
 use Rattle.book.proofs.task.Task.TheSendSync as task
 use Rattle.book.proofs.board.Board.TheSendSync as board
-use Rattle.txn.proofs.report.Entry.TheSendSync as entry
-use Rattle.txn.proofs.code.Op.TheSendSync as op
+use Rattle.programs.proofs.report.Entry.TheSendSync as entry
+use Rattle.programs.proofs.code.Op.TheSendSync as op
 use Rattle.book.specs.contracts.book.Book as book
 
 step_expr : (h : ek.the_members → RattleType) → ((j : ek.the_members) → IsSync (h j)) → IsSync (layer_row ek.ring member-Expr h)

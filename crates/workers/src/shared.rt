@@ -6,9 +6,9 @@
 ghost use Rattle.std.specs.Prelude.{◌≡◌, ◌<◌, [], ◌∷◌, length, IfOk, IfSome};
 ghost use Rattle.std.specs.Coded.{codes};
 ghost use Rattle.txn.specs.Codes.{coded_listing};
-ghost use Rattle.txn.specs.Listing.{Listing, tasks};
-ghost use Rattle.txn.specs.Told.{told};
-ghost use Rattle.txn.specs.LawfulReport.{LawfulReport, BaseReached};
+ghost use Rattle.programs.specs.Listing.{Listing, tasks};
+ghost use Rattle.programs.specs.Told.{told};
+ghost use Rattle.programs.specs.LawfulReport.{LawfulReport, BaseReached};
 ghost use Rattle.book.specs.Turns.{IsEndOf, IsIdle};
 
 use crate::waiting::lock;

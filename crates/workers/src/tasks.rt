@@ -1,8 +1,8 @@
 //! Runs all tasks of a catalogue.
 
 ghost use Rattle.std.specs.Prelude.{◌≡◌, ◌∷◌, [], length, All, IfOk};
-ghost use Rattle.txn.specs.Told.{told};
-ghost use Rattle.txn.specs.LawfulReport.{LawfulReport, BaseReached};
+ghost use Rattle.programs.specs.Told.{told};
+ghost use Rattle.programs.specs.LawfulReport.{LawfulReport, BaseReached};
 
 use crate::gate::Gate;
 use crate::shared::{Naming, open, settle};

@@ -1,7 +1,7 @@
 //! An attempt of a transaction on what a pass reads.
 
 ghost use Rattle.std.specs.Prelude.{◌≡◌, ◌+◌, ◌<◌, length, true, IfErr, OnOk};
-ghost use Rattle.txn.specs.Loads.{ShowsStale};
+ghost use Rattle.shared_words.specs.Loads.{ShowsStale};
 ghost use Rattle.cells.specs.Passing.{at};
 ghost use Rattle.workers.specs.Working.{EndsOver};
 

@@ -6,7 +6,7 @@
 ghost use Rattle.std.specs.Prelude.{◌≡◌, ◌<◌, length};
 ghost use Rattle.std.specs.Coded.{codes};
 ghost use Rattle.txn.specs.Codes.{coded_listing};
-ghost use Rattle.txn.specs.Listing.{tasks};
+ghost use Rattle.programs.specs.Listing.{tasks};
 
 use crate::gate::{Gate, Point};
 use crate::shared::{Named, Naming, Tried, finish, give_up, serial, take};

@@ -51,13 +51,13 @@ kept_put c i t t' k r = record {
       (λ h. let old = k.live i t r.was (r.live (ap (λ (u : Trial). is_live u.fate) h.1 ∙ l)) in
       let task : y.task ≡ t.task = ap (λ (u : Trial). u.task) (sym h.1) ∙ r.task in
       let place : j ≡ i = h.0 in
-      ap (λ (a : ℕ). slice_get c.latest.items a) (ap (λ (v : Rattle.txn.specs.declared.ast.TaskId.TaskId). v.0) task) ∙ (old ∙ ap (λ (n : ℕ). Some (Some n)) (sym place)))
+      ap (λ (a : ℕ). slice_get c.latest.items a) (ap (λ (v : Rattle.programs.specs.declared.ast.TaskId.TaskId). v.0) task) ∙ (old ∙ ap (λ (n : ℕ). Some (Some n)) (sym place)))
       (get_set c.trials.items i j t' t y r.was e);
   latest = λ a j e. let o = k.latest a j e in dite (ℕ_discrete j i)
       (λ same. (
         t',
         ap (slice_get (set c.trials.items i t')) same ∙ get_set_same c.trials.items i t' t r.was,
-        ap (λ (v : Rattle.txn.specs.declared.ast.TaskId.TaskId). v.0) r.task ∙ (ap (λ (u : Trial). u.task.0) (same_at j same o.0 o.1) ∙ o.2),
+        ap (λ (v : Rattle.programs.specs.declared.ast.TaskId.TaskId). v.0) r.task ∙ (ap (λ (u : Trial). u.task.0) (same_at j same o.0 o.1) ∙ o.2),
       ))
       (λ other. (o.0, get_set_other c.trials.items i j t' other ∙ o.1, o.2));
   committer = committer_put c i t t' c.committer r refl k.committer;

@@ -1,9 +1,9 @@
 -- Where a running attempt stands.
 use Rattle.std.proofs.Common.{◌≡◌, ◌≢◌, ℕ, List, [], ◌∷◌, sym, refl, ap, ◌∙◌, subst}
-use Rattle.txn.specs.Listing.{Listing}
-use Rattle.txn.specs.Tree.{Program}
-use Rattle.txn.specs.declared.ast.TaskId.{TaskId}
-use Rattle.txn.specs.declared.ast.VarId.{VarId}
+use Rattle.programs.specs.Listing.{Listing}
+use Rattle.programs.specs.Tree.{Program}
+use Rattle.programs.specs.declared.ast.TaskId.{TaskId}
+use Rattle.programs.specs.declared.ast.VarId.{VarId}
 use Rattle.attempt.specs.Asking.{Needs, ask}
 use Rattle.attempt.specs.View.{Answers}
 use Rattle.attempt.specs.declared.next.Next.{Next}

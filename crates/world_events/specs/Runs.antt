@@ -1,7 +1,7 @@
 -- Events one after another, and which of them take no memory.
 use Rattle.std.specs.Prelude.{◌≡◌, ℕ, List, Some}
 use Rattle.std.specs.List.{slice_get}
-use Rattle.txn.specs.Listing.{Listing}
+use Rattle.programs.specs.Listing.{Listing}
 use Rattle.world_law.specs.declared.events.Event.{Event}
 use Rattle.world_law.specs.declared.events.Event.TheVariants.{Begin, First, Value, Second, Ask, Word, Drop}
 use Rattle.world_law.specs.declared.events.Seen.{Seen}

@@ -1,7 +1,7 @@
 //! An attempt that began, and its loads.
 
 ghost use Rattle.std.specs.Prelude.{◌≡◌, ◌<◌, length, IfOk, OnErr};
-ghost use Rattle.txn.specs.Listing.{tasks};
+ghost use Rattle.programs.specs.Listing.{tasks};
 ghost use Rattle.attempt.specs.declared.next.Stand.TheVariants as Stand;
 ghost use Rattle.world_law.specs.World.{is_live};
 ghost use Rattle.world_events.specs.Trials.{LoadsFirst, LoadsValue, LoadsSecond, GoesOn, Begins, answer_seen, answer_fate};

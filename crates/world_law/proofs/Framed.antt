@@ -1,14 +1,14 @@
 -- The frame theorem at the tasks of a catalogue.
 use Rattle.std.proofs.Common.{◌≡◌, ℕ, zero, suc, true, List, [], ◌∷◌, length, Some, pos, sym, refl, ◌∙◌, subst, slice_get, slice_index_or}
 use Rattle.std.proofs.Math.ListN.{length-set}
-use Rattle.txn.specs.Listing.{Listing, task_program, task_tx}
-use Rattle.txn.specs.Meaning.{State, outcome, after}
-use Rattle.txn.specs.Names.{names_hold}
-use Rattle.txn.specs.Scope.{ProgramKnown}
-use Rattle.txn.specs.Tree.{Skip, Int}
-use Rattle.txn.specs.declared.ast.Outcome.{Outcome}
-use Rattle.txn.specs.declared.ast.TaskId.{TaskId}
-use Rattle.txn.proofs.Lawful.{known_at}
+use Rattle.programs.specs.Listing.{Listing, task_program, task_tx}
+use Rattle.programs.specs.Meaning.{State, outcome, after}
+use Rattle.programs.specs.Names.{names_hold}
+use Rattle.programs.specs.Scope.{ProgramKnown}
+use Rattle.programs.specs.Tree.{Skip, Int}
+use Rattle.programs.specs.declared.ast.Outcome.{Outcome}
+use Rattle.programs.specs.declared.ast.TaskId.{TaskId}
+use Rattle.programs.proofs.Lawful.{known_at}
 use Rattle.attempt.specs.Asking.{Known, Answer, Ends, ask}
 use Rattle.attempt.specs.Frame.{Agrees, store, AnswersBy}
 use Rattle.attempt.proofs.FrameProof.{frame_holds}

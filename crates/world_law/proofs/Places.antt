@@ -2,8 +2,8 @@
 use Rattle.std.proofs.Common.{◌≡◌, ◌≢◌, ◌⊎◌, ℕ, zero, suc, List, [], ◌∷◌, ◌++◌, length, set, ℤ, sym, refl, ap, ◌∙◌, ⊎_elim, inl, inr, Some, slice_get}
 use mathlib.Core.Logic.{dite}
 use native.Mathlib.Decide.{ℕ_discrete}
-use Rattle.txn.specs.Meaning.{State, value_at}
-use Rattle.txn.specs.declared.ast.VarId.{VarId}
+use Rattle.programs.specs.Meaning.{State, value_at}
+use Rattle.programs.specs.declared.ast.VarId.{VarId}
 use Rattle.attempt.specs.Asking.{Known}
 use Rattle.attempt.specs.Frame.{Agrees}
 

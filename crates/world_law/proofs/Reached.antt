@@ -3,15 +3,15 @@ use Rattle.std.proofs.Common.{◌≡◌, ◌≢◌, ℕ, zero, suc, ◌+◌, ◌
 use mathlib.Core.Logic.{dite}
 use native.Mathlib.Decide.{dec_lt}
 use Rattle.std.specs.Int.{w64, cast_signed}
-use Rattle.txn.specs.Listing.{Listing, task_program}
-use Rattle.txn.specs.Meaning.{State}
-use Rattle.txn.specs.Words.{WordsMean, value_of, state_of, value_word}
-use Rattle.txn.specs.Stores.{opened}
-use Rattle.txn.specs.Loads.{LoadedIs}
-use Rattle.txn.specs.declared.ast.TaskId.{TaskId}
-use Rattle.txn.specs.declared.ast.VarId.{VarId}
-use Rattle.txn.specs.declared.ast.Outcome.{Outcome}
-use Rattle.txn.proofs.Words.{fresh, opens, all_free, all_zero, opened_sized}
+use Rattle.programs.specs.Listing.{Listing, task_program}
+use Rattle.programs.specs.Meaning.{State}
+use Rattle.shared_words.specs.Words.{WordsMean, value_of, state_of, value_word}
+use Rattle.shared_words.specs.Stores.{opened}
+use Rattle.shared_words.specs.Loads.{LoadedIs}
+use Rattle.programs.specs.declared.ast.TaskId.{TaskId}
+use Rattle.programs.specs.declared.ast.VarId.{VarId}
+use Rattle.programs.specs.declared.ast.Outcome.{Outcome}
+use Rattle.shared_words.proofs.Words.{fresh, opens, all_free, all_zero, opened_sized}
 use Rattle.attempt.specs.Asking.{Known, Needs, Ends, ask}
 use Rattle.world_law.specs.declared.events.Fate.{Fate}
 use Rattle.world_law.specs.declared.events.Fate.TheVariants as fate

@@ -1,11 +1,11 @@
 -- Two runs of the world worked out by hand, event by event.
 use Rattle.std.specs.Prelude.{ℕ, List, [], ◌∷◌, pos, None}
-use Rattle.txn.specs.Listing.{Listing}
-use Rattle.txn.specs.Tree.{Int, Var, Add, Skip, Set, Seq, End, More}
-use Rattle.txn.specs.declared.ast.TaskId.{TaskId}
-use Rattle.txn.specs.declared.ast.TxId.{TxId}
-use Rattle.txn.specs.declared.ast.VarId.{VarId}
-use Rattle.txn.specs.declared.ast.Outcome.TheVariants.{Returned}
+use Rattle.programs.specs.Listing.{Listing}
+use Rattle.programs.specs.Tree.{Int, Var, Add, Skip, Set, Seq, End, More}
+use Rattle.programs.specs.declared.ast.TaskId.{TaskId}
+use Rattle.programs.specs.declared.ast.TxId.{TxId}
+use Rattle.programs.specs.declared.ast.VarId.{VarId}
+use Rattle.programs.specs.declared.ast.Outcome.TheVariants.{Returned}
 use Rattle.world_law.specs.declared.events.Fate.TheVariants as fate
 use Rattle.world_law.specs.declared.events.Event.{Event}
 use Rattle.world_law.specs.declared.events.Event.TheVariants.{Begin, First, Value, Second, Ask, Word}

@@ -1,7 +1,7 @@
 -- A schedule's moves played one after another, and the text of what is seen.
 use Rattle.std.specs.Prelude.{◌≡◌, ℕ, List, [], ◌∷◌, ◌++◌}
-use Rattle.txn.specs.Listing.{Listing}
-use Rattle.txn.specs.declared.moves.Move.{Move}
+use Rattle.programs.specs.Listing.{Listing}
+use Rattle.programs.specs.declared.moves.Move.{Move}
 use Rattle.seen_printer.specs.SeenText.{seen_lines}
 use Rattle.world_law.specs.World.{World, IsOpening}
 use Rattle.world_law.specs.declared.events.Seen.{Seen}

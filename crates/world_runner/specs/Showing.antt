@@ -1,8 +1,8 @@
 -- What playing the bytes of a schedule leaves.
 use Rattle.std.specs.Prelude.{◌≡◌, ℕ, List, take, Option, Some, Result, Ok, Err}
 use Rattle.std.specs.Io.KnownBytes.{Appends, Keeps}
-use Rattle.txn.specs.Listing.{Listing}
-use Rattle.txn.specs.declared.moves.Move.{Move}
+use Rattle.programs.specs.Listing.{Listing}
+use Rattle.programs.specs.declared.moves.Move.{Move}
 use Rattle.txn_text.specs.Spelling.{Spells, first_fault}
 use Rattle.text_words.specs.declared.fault.ReadFault.{ReadFault}
 use Rattle.schedule_reader.specs.Schedules.{IsSchedule, IsFirst}

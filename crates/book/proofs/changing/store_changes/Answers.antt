@@ -1,7 +1,7 @@
 use Rattle.std.proofs.Common.{◌≡◌, ◌+◌, ℤ, sym, subst, set, arith, w64}
 use mir.Val.{to_z, of_z}
 use Rattle.std.proofs.lemmas.Int.{to_z-of_z}
-use Rattle.txn.specs.Stores.{id_of, new_of}
+use Rattle.shared_words.specs.Stores.{id_of, new_of}
 use Rattle.book.proofs.Storing.{Stored, stored_first, stored_next}
 use Rattle.book.proofs.changing.store_changes.Goals as goal
 

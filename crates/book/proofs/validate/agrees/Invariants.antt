@@ -1,6 +1,6 @@
 use Rattle.std.proofs.Common.{◌≡◌, ◌<◌, ℕ, ℤ, Some, slice_get}
-use Rattle.txn.specs.declared.ast.VarId.{VarId}
-use Rattle.txn.specs.Meaning.{value_at}
+use Rattle.programs.specs.declared.ast.VarId.{VarId}
+use Rattle.programs.specs.Meaning.{value_at}
 use Rattle.book.proofs.validate.agrees.Given as goal
 
 abbrev pub invariant-loop-pair : goal.invariant-loop-pair

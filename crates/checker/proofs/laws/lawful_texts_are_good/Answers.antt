@@ -1,6 +1,6 @@
 use Rattle.std.proofs.Common.{◌≡◌, ◌≤◌, ◌+◌, refl, sym, length, arith}
-use Rattle.txn.specs.Listing.{tasks}
-use Rattle.txn.proofs.Lawful.{few_tasks}
+use Rattle.programs.specs.Listing.{tasks}
+use Rattle.programs.proofs.Lawful.{few_tasks}
 use Rattle.report_printer.proofs.Lengths.{report_short}
 use Rattle.checker.proofs.laws.lawful_texts_are_good.Goals as goal
 

@@ -1,6 +1,6 @@
 use Rattle.std.proofs.Common.{rules, arith, ◌≤◌, ◌∙◌, ap, sym, subst, IsTrue}
 use Rattle.std.specs.List.{All}
-use Rattle.txn.specs.Told.{told, snapshot_at}
+use Rattle.programs.specs.Told.{told, snapshot_at}
 use Rattle.checker.specs.Parts.{BaseHolds}
 use Rattle.checker.proofs.Opens.{opens}
 use Rattle.checker.proofs.opening.base_holds.Goals as goal

@@ -1,8 +1,8 @@
 use Rattle.std.proofs.Common.{◌≡◌, ◌∙◌, ap, sym, length, rules, arith}
 use Rattle.std.proofs.lemmas.List.Elements.{same_from_all_zip}
-use Rattle.txn.specs.Meaning.{after}
-use Rattle.txn.specs.Listing.{program_at}
-use Rattle.txn.specs.Replay.{Snapshot, versions_after, applied}
+use Rattle.programs.specs.Meaning.{after}
+use Rattle.programs.specs.Listing.{program_at}
+use Rattle.programs.specs.Replay.{Snapshot, versions_after, applied}
 use Rattle.checker.specs.View.{view}
 use Rattle.checker.proofs.Raising.{versions_length}
 use Rattle.checker.proofs.replay.step.Goals as goal

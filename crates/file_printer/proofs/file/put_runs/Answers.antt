@@ -3,8 +3,8 @@ use Rattle.std.specs.Prelude.{codes}
 use Rattle.std.specs.List.{slice_get, list_all}
 use Rattle.std.proofs.lemmas.Bool.{ltb-true}
 use Rattle.std.proofs.lemmas.Option.{slice_get-get_or}
-use Rattle.txn.proofs.Lawful.{names_parts, passes_at}
-use Rattle.txn.specs.declared.ast.TxId.{TxId}
+use Rattle.programs.proofs.Lawful.{names_parts, passes_at}
+use Rattle.programs.specs.declared.ast.TxId.{TxId}
 use Rattle.file_printer.specs.Canonical.{pair_line}
 use Rattle.file_printer.specs.Fits.{PairFits}
 use Rattle.file_grammar.specs.Written.{written_run}

@@ -1,7 +1,7 @@
 use Rattle.std.proofs.Common.{◌≡◌, ◌∙◌, ◌<◌, [], length, map, Some, ap, sym, arith, pos, string_bytes}
 use Rattle.std.specs.List.{slice_get}
-use Rattle.txn.proofs.Lawful.{limits_parts}
-use Rattle.txn.specs.Tree.{Program, Skip, Int, program_of}
+use Rattle.programs.proofs.Lawful.{limits_parts}
+use Rattle.programs.specs.Tree.{Program, Skip, Int, program_of}
 use Rattle.file_printer.specs.Canonical.{tx_line}
 use Rattle.file_printer.specs.Fits.{DeclarationFits}
 use Rattle.file_grammar.specs.Written.{written_program}

@@ -1,9 +1,9 @@
 use Rattle.std.proofs.Common.{rules, ◌≡◌, ◌∙◌, ◌++◌, OnOk, length, string_bytes, ap, sym, subst}
-use Rattle.txn.specs.Scope.{StatementKnown}
-use Rattle.txn.specs.Tree.{Statement, statement_of, statements_of_list}
-use Rattle.txn.specs.Tree as txn
-use Rattle.txn.specs.declared.ast.Stmt.TheViews.{the_lemmas}
-use Rattle.txn.proofs.Rows.{statement_Seq}
+use Rattle.programs.specs.Scope.{StatementKnown}
+use Rattle.programs.specs.Tree.{Statement, statement_of, statements_of_list}
+use Rattle.programs.specs.Tree as txn
+use Rattle.programs.specs.declared.ast.Stmt.TheViews.{the_lemmas}
+use Rattle.programs.proofs.Rows.{statement_Seq}
 use Rattle.file_printer.specs.Canonical.{stmt_text}
 use Rattle.file_printer.specs.Fits.{StmtFits}
 use Rattle.file_grammar.specs.Written.{written_statement}

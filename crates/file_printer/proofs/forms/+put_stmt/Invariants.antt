@@ -1,6 +1,6 @@
 use Rattle.std.proofs.Common.{◌≡◌, ◌++◌, drop, string_bytes}
-use Rattle.txn.specs.Tree.{statements_of_list}
-use Rattle.txn.specs.Scope.{StatementsKnown}
+use Rattle.programs.specs.Tree.{statements_of_list}
+use Rattle.programs.specs.Scope.{StatementsKnown}
 use Rattle.std.proofs.Common.{length}
 use Rattle.file_grammar.specs.Written.{written_statements}
 use Rattle.file_printer.specs.Canonical.{stmts_text}

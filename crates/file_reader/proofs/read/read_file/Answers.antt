@@ -4,7 +4,7 @@ use Rattle.text_words.specs.declared.fault.ReadFault.TheVariants.{Memory}
 use Rattle.file_grammar.specs.Spelling.{first_fault}
 use Rattle.file_laws.specs.Faults.{IsFirst}
 use Rattle.file_laws.proofs.FirstFault.{first_fault_is}
-use Rattle.txn.specs.Listing.{Listing}
+use Rattle.programs.specs.Listing.{Listing}
 use Rattle.text_words.specs.Answers.{Gives}
 use Rattle.file_laws.proofs.Spelt.{is_found, is_fault, spelled_listing}
 use Rattle.file_reader.proofs.read.read_file.Goals as goal

@@ -1,7 +1,7 @@
 use Rattle.std.proofs.Common.{◌≡◌, ◌∙◌, ap, sym}
 use Rattle.std.proofs.lemmas.Result.{err_from_is_err_and}
-use Rattle.txn.specs.Tree as plain
-use Rattle.txn.proofs.Rows.{statement_Seq}
+use Rattle.programs.specs.Tree as plain
+use Rattle.programs.proofs.Rows.{statement_Seq}
 use Rattle.file_grammar.specs.Tree.{Seq}
 use Rattle.file_grammar.specs.Reading.{row}
 use Rattle.file_grammar.specs.Resolving.{each, statement_in}

@@ -1,5 +1,5 @@
 use Rattle.std.proofs.Common.{◌≡◌, drop, map}
-use Rattle.txn.specs.Tree.{statement_of}
+use Rattle.programs.specs.Tree.{statement_of}
 use Rattle.file_grammar.specs.Resolving.{each, statement_in}
 use Rattle.file_resolver.specs.Texts.{texts}
 use Rattle.file_grammar.specs.View.{view_stmts}

@@ -1,5 +1,5 @@
 use Rattle.std.proofs.Common.{◌∙◌, ap, sym, map}
-use Rattle.txn.specs.Tree.{program_of}
+use Rattle.programs.specs.Tree.{program_of}
 use Rattle.file_grammar.specs.Resolving.{each, variable_of, run_in}
 use Rattle.file_resolver.specs.Texts.{texts}
 use Rattle.file_grammar.specs.View.{view_pairs, view_file}

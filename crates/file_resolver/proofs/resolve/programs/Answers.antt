@@ -1,7 +1,7 @@
 use Rattle.std.proofs.Common.{◌≡◌, ◌∙◌, ◌++◌, List, ◌∷◌, [], length, map, refl, sym, ap, arith}
 use Rattle.std.specs.Vec.Iter.{into_iter_items}
 use Rattle.std.proofs.lemmas.List.{map_push}
-use Rattle.txn.specs.Tree.{program_of}
+use Rattle.programs.specs.Tree.{program_of}
 use Rattle.file_grammar.specs.Resolving.{each, program_in}
 use Rattle.file_resolver.specs.Texts.{texts}
 use Rattle.file_grammar.specs.View.{view_tx, view_txs}

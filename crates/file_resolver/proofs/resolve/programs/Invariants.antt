@@ -1,6 +1,6 @@
 use Rattle.std.proofs.Common.{◌≡◌, length, map}
 use Rattle.std.specs.Vec.Iter.{into_iter_items, into_iter_len}
-use Rattle.txn.specs.Tree.{program_of}
+use Rattle.programs.specs.Tree.{program_of}
 use Rattle.file_grammar.specs.Resolving.{each, program_in}
 use Rattle.file_resolver.specs.Texts.{texts}
 use Rattle.file_grammar.specs.View.{view_txs}

@@ -1,6 +1,6 @@
 use Rattle.std.proofs.Common.{◌<◌, ◌∙◌, length, ap, sym, subst, arith, refl}
 use Rattle.std.proofs.lemmas.List.{length_push}
-use Rattle.txn.specs.Meaning.{State, value_at}
+use Rattle.programs.specs.Meaning.{State, value_at}
 use Rattle.cells.specs.Passing.{at}
 use Rattle.book.proofs.Logs.{Going, going_advanced, going_supplied, few_more}
 use Rattle.observer.proofs.Seeing.{at_stays, still}

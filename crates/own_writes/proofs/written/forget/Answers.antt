@@ -1,6 +1,6 @@
 use Rattle.std.proofs.Common.{◌≡◌, ◌+◌, ◌∷◌, ℤ, None, pos, drop, get_or, length, add-one, drop-cons, subst, sym, ◌∙◌}
 use Rattle.std.proofs.Math.ListN.{length-set}
-use Rattle.txn.specs.declared.ast.VarId.{VarId}
+use Rattle.programs.specs.declared.ast.VarId.{VarId}
 use Rattle.own_writes.specs.Known.{Known}
 use Rattle.own_writes.specs.Order.{AllKnown}
 use Rattle.own_writes.specs.Own.{AreListed}

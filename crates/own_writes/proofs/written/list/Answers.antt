@@ -2,7 +2,7 @@ use Rattle.std.proofs.Common.{◌≡◌, ◌≤◌, ◌<◌, ◌∙◌, ℤ, pos
 use Rattle.std.proofs.lemmas.Option.{slice_get-get_or}
 use mir.Syntax.{w64}
 use mir.Val.{to_z, of_z}
-use Rattle.txn.specs.declared.ast.VarId.{VarId}
+use Rattle.programs.specs.declared.ast.VarId.{VarId}
 use Rattle.own_writes.specs.Known.{Known, known_at, write}
 use Rattle.own_writes.specs.Order.{AllKnown, Ascending}
 use Rattle.own_writes.proofs.Pairs.{AllKnown-write, Ascending-write}

@@ -1,5 +1,5 @@
 use Rattle.std.proofs.Common.{◌≡◌, ◌∙◌, ◌≤◌, ℕ, List, ◌++◌, length, ap, sym, subst, string_bytes}
-use Rattle.txn.specs.Told.{told}
+use Rattle.programs.specs.Told.{told}
 use Rattle.report_printer.specs.ReportText.{report_text}
 use Rattle.report_printer.proofs.Lengths.{report_short}
 use Rattle.report_printer.proofs.report.print_report.Goals as goal

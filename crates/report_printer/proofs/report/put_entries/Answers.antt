@@ -1,8 +1,8 @@
 use Rattle.std.proofs.Common.{get_or, pos, string_bytes}
 use Rattle.std.proofs.lemmas.List.Elements.{All-more}
 use Rattle.std.proofs.lemmas.Option.{slice_get-get_or}
-use Rattle.txn.specs.declared.ast.Outcome.TheVariants.{Returned}
-use Rattle.txn.specs.declared.report.Entry.{Entry}
+use Rattle.programs.specs.declared.ast.Outcome.TheVariants.{Returned}
+use Rattle.programs.specs.declared.report.Entry.{Entry}
 use Rattle.report_printer.specs.ReportFits.{OutcomeFits}
 use Rattle.report_printer.specs.ReportText.{entry_line}
 use Rattle.text_words.proofs.Pieces.{piece_more}

@@ -2,10 +2,10 @@ use Rattle.std.proofs.Common.{◌∙◌, ℕ, ℤ, List, [], ◌∷◌, ◌++◌
 use Rattle.std.specs.Prelude.{codes}
 use Rattle.std.specs.Fmt.{decimal}
 use Rattle.std.specs.List.{flat_map}
-use Rattle.txn.proofs.Lawful.{limits_parts}
-use Rattle.txn.specs.declared.ast.TaskId.{TaskId}
-use Rattle.txn.specs.declared.ast.TxId.{TxId}
-use Rattle.txn.specs.declared.report.Entry.{Entry}
+use Rattle.programs.proofs.Lawful.{limits_parts}
+use Rattle.programs.specs.declared.ast.TaskId.{TaskId}
+use Rattle.programs.specs.declared.ast.TxId.{TxId}
+use Rattle.programs.specs.declared.report.Entry.{Entry}
 use Rattle.report_printer.specs.ReportText.{variable_lines, entry_line, task_line}
 use Rattle.text_words.specs.Words.{line}
 use Rattle.report_printer.proofs.Appends.{eight_pieces}

@@ -1,4 +1,4 @@
-use Rattle.txn.specs.Told.{told}
+use Rattle.programs.specs.Told.{told}
 use Rattle.report_reader.proofs.Reading.{is_found, is_only, is_fault}
 use Rattle.report_reader.proofs.read.read_report.Goals as goal
 

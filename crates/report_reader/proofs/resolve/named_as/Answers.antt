@@ -1,5 +1,5 @@
 use Rattle.std.proofs.Common.{arith}
-use Rattle.txn.proofs.Lawful.{limits_parts}
+use Rattle.programs.proofs.Lawful.{limits_parts}
 use Rattle.report_reader.proofs.Known.{named_step, named_stop, named_more}
 use Rattle.report_reader.proofs.resolve.named_as.Goals as goal
 

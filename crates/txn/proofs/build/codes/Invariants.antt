@@ -1,8 +1,8 @@
 use Rattle.std.proofs.Common.{◌≡◌, map, take, drop, true}
 use Rattle.std.specs.List.{list_all}
-use Rattle.txn.specs.Code.{program_code}
-use Rattle.txn.specs.Limits.{program_fits}
-use Rattle.txn.specs.Tree.{program_of}
+use Rattle.programs.specs.Code.{program_code}
+use Rattle.programs.specs.Limits.{program_fits}
+use Rattle.programs.specs.Tree.{program_of}
 use Rattle.txn.proofs.build.codes.Given as goal
 
 abbrev pub invariant-loop-tx : goal.invariant-loop-tx

@@ -1,5 +1,5 @@
 use Rattle.std.proofs.Common.{◌≡◌, take}
-use Rattle.txn.specs.Listing.{tasks_of}
+use Rattle.programs.specs.Listing.{tasks_of}
 use Rattle.txn.proofs.build.task_txs.Given as goal
 
 abbrev pub invariant-loop-run : goal.invariant-loop-run

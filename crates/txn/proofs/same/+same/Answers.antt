@@ -1,9 +1,9 @@
 use Rattle.std.proofs.Common.{◌≡◌, ◌∙◌, sym, ap, subst, refl, ◌↔◌, IsTrue, Bool, ◌==◌, List, [], ◌∷◌, length, drop, arith, length-drop}
 use Rattle.std.specs.Cmp.{unsigned_Decides}
 use Rattle.std.proofs.lemmas.List.{nil_from_length}
-use Rattle.txn.specs.declared.ast.Stmt.{Stmt}
-use Rattle.txn.specs.Tree.{Seq, End, Statements, statement_of, statements_of_list}
-use Rattle.txn.proofs.Rows.{statement_Seq}
+use Rattle.programs.specs.declared.ast.Stmt.{Stmt}
+use Rattle.programs.specs.Tree.{Seq, End, Statements, statement_of, statements_of_list}
+use Rattle.programs.proofs.Rows.{statement_Seq}
 use Rattle.txn.proofs.same.+same.Goals as goal
 
 same_parts : {a b : Statements} → Seq a ≡ Seq b → a ≡ b

@@ -1,5 +1,5 @@
 use Rattle.std.proofs.Common.{◌≡◌, ◌↔◌, drop}
-use Rattle.txn.specs.Tree.{statements_of_list}
+use Rattle.programs.specs.Tree.{statements_of_list}
 use Rattle.txn.proofs.same.+same.Given as goal
 
 -- the lists are equal where what is left of them is

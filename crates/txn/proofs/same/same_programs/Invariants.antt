@@ -1,5 +1,5 @@
 use Rattle.std.proofs.Common.{◌≡◌, ◌↔◌, drop, map}
-use Rattle.txn.specs.Tree.{program_of}
+use Rattle.programs.specs.Tree.{program_of}
 use Rattle.txn.proofs.same.same_programs.Given as goal
 
 -- the lists are equal where what is left of them is

@@ -3,7 +3,7 @@ use Rattle.std.specs.Bool.{Decides}
 use Rattle.std.specs.Cmp.{unsigned_Decides}
 use Rattle.std.proofs.lemmas.Bool.{and_parts, and_from}
 use Rattle.std.proofs.lemmas.Slice.Eq.{slice_eq-Decides}
-use Rattle.txn.specs.declared.ast.TxId.{TxId}
+use Rattle.programs.specs.declared.ast.TxId.{TxId}
 use Rattle.txn.proofs.same.same_runs.Goals as goal
 
 same_run : (a b : TxId × ℕ) → a.0.0 ≡ b.0.0 → a.1 ≡ b.1 → a ≡ b

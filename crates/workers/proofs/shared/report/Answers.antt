@@ -1,7 +1,7 @@
 use Rattle.std.proofs.lemmas.Result.{IfOk-weaker}
-use Rattle.txn.specs.declared.report.Report.{Report}
-use Rattle.txn.specs.Told.{told}
-use Rattle.txn.specs.LawfulReport.{LawfulReport, BaseReached}
+use Rattle.programs.specs.declared.report.Report.{Report}
+use Rattle.programs.specs.Told.{told}
+use Rattle.programs.specs.LawfulReport.{LawfulReport, BaseReached}
 use Rattle.book.specs.View.{BookView}
 use Rattle.book.specs.Turns.{ReportIs}
 use Rattle.book.proofs.Accounts.{report_lawful, report_reached}

@@ -1,8 +1,8 @@
 use Rattle.std.proofs.Common.{◌∙◌, subst}
 use Rattle.std.specs.Prelude.{IfOk}
-use Rattle.txn.specs.Listing.{Listing}
-use Rattle.txn.specs.Told.{told}
-use Rattle.txn.specs.LawfulReport.{LawfulReport, BaseReached}
+use Rattle.programs.specs.Listing.{Listing}
+use Rattle.programs.specs.Told.{told}
+use Rattle.programs.specs.LawfulReport.{LawfulReport, BaseReached}
 use Rattle.workers.proofs.shared.settle.Goals as goal
 
 pub returns-clause-lawful : goal.returns-clause-lawful

@@ -1,5 +1,5 @@
 use Rattle.std.proofs.Common.{◌≡◌, ◌<◌, length}
-use Rattle.txn.specs.Listing.{tasks}
+use Rattle.programs.specs.Listing.{tasks}
 use Rattle.workers.proofs.worker.work.Given as goal
 
 abbrev pub invariant-loop : goal.invariant-loop

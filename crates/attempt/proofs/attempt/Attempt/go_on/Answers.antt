@@ -1,9 +1,9 @@
 use Rattle.std.proofs.Common.{◌≡◌, ◌∙◌, ◌≤◌, ◌+◌, ap, arith, length, refl, subst, sym, true}
-use Rattle.txn.specs.Cost.{cost}
-use Rattle.txn.specs.Limits.{program_fits}
-use Rattle.txn.specs.Listing.{program_at}
-use Rattle.txn.specs.Tree.{Program}
-use Rattle.txn.proofs.Lawful.{limits_parts}
+use Rattle.programs.specs.Cost.{cost}
+use Rattle.programs.specs.Limits.{program_fits}
+use Rattle.programs.specs.Listing.{program_at}
+use Rattle.programs.specs.Tree.{Program}
+use Rattle.programs.proofs.Lawful.{limits_parts}
 use Rattle.attempt.specs.declared.machine.Machine.{Machine}
 use Rattle.attempt.specs.Place.{place_of, Stops}
 use Rattle.attempt.specs.Room.{AreDeclared}

@@ -1,8 +1,8 @@
 use Rattle.std.proofs.Common.{◌≡◌, ◌<◌, ℕ, ◌+◌, ◌++◌, ◌∷◌, [], List, length, map, set, sym, subst, ap, ◌∙◌, arith}
 use Rattle.std.specs.List.{slice_get}
-use Rattle.txn.specs.Meaning.{State, outcome, after}
-use Rattle.txn.specs.Listing.{task_program}
-use Rattle.txn.specs.Stores.{AreChanges, with_changes, id_of}
+use Rattle.programs.specs.Meaning.{State, outcome, after}
+use Rattle.programs.specs.Listing.{task_program}
+use Rattle.shared_words.specs.Stores.{AreChanges, with_changes, id_of}
 use Rattle.attempt.specs.Asking.{Known}
 use Rattle.attempt.specs.Order.{AllKnown}
 use Rattle.book.specs.declared.task.Task.{Task}

@@ -2,9 +2,9 @@ use Rattle.std.proofs.Common.{◌≡◌, List, Some, true, false, length, inl, i
 use Rattle.std.specs.List.{slice_get}
 use mir.Val.{to_z, of_z}
 use Rattle.std.proofs.lemmas.Int.{to_z-of_z}
-use Rattle.txn.specs.declared.ast.Outcome.TheVariants.{Returned}
-use Rattle.txn.specs.declared.ast.TaskId.{TaskId}
-use Rattle.txn.specs.Meaning.{State}
+use Rattle.programs.specs.declared.ast.Outcome.TheVariants.{Returned}
+use Rattle.programs.specs.declared.ast.TaskId.{TaskId}
+use Rattle.programs.specs.Meaning.{State}
 use Rattle.attempt.specs.Asking.{Known}
 use Rattle.attempt.specs.Frame.{Agrees}
 use Rattle.attempt.specs.Order.{AllKnown, Ascending}
@@ -14,8 +14,8 @@ use Rattle.book.specs.declared.task.Task.{Task}
 use Rattle.book.specs.declared.task.Task.TheVariants.{Running, Parked}
 use Rattle.book.specs.declared.book.Book.TheInside.{Inside}
 use Rattle.book.specs.View.{BookView, IsRunning, stands}
-use Rattle.txn.specs.declared.ast.Outcome.{Outcome}
-use Rattle.txn.specs.Stores.{with_changes}
+use Rattle.programs.specs.declared.ast.Outcome.{Outcome}
+use Rattle.shared_words.specs.Stores.{with_changes}
 use Rattle.attempt.specs.declared.next.Stand.TheVariants.{Over}
 use Rattle.book.specs.Turns.{IsEndOf}
 use Rattle.book.specs.LawfulBook.{Waits}

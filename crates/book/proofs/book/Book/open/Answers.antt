@@ -1,9 +1,9 @@
 use Rattle.std.proofs.Common.{◌≡◌, ◌∙◌, arith, ap, sym, refl, true, List, ℤ, length, replicate}
 use Rattle.std.proofs.lemmas.List.{length-replicate}
 use Rattle.std.proofs.lemmas.Option.{slice_get-get_or}
-use Rattle.txn.specs.Listing.{Listing, tasks, task_tx}
-use Rattle.txn.specs.Names.{names_hold}
-use Rattle.txn.proofs.Lawful.{known_task}
+use Rattle.programs.specs.Listing.{Listing, tasks, task_tx}
+use Rattle.programs.specs.Names.{names_hold}
+use Rattle.programs.proofs.Lawful.{known_task}
 use Rattle.attempt.proofs.Declared.{program_known}
 use Rattle.book.specs.declared.task.Task.TheVariants.{Ready}
 use Rattle.book.specs.BookInside.{snapshot_of}

@@ -1,12 +1,12 @@
 use Rattle.std.proofs.Common.{◌≡◌, ◌∙◌, length, map, sym, ap, string_bytes}
 use Rattle.std.proofs.lemmas.List.{length-map}
 use Rattle.std.proofs.lemmas.Result.{err_from_is_err_and}
-use Rattle.txn.specs.Tree.{Program, program_of}
-use Rattle.txn.specs.Code.{program_code}
-use Rattle.txn.specs.Listing.{listing_of, tasks_of}
+use Rattle.programs.specs.Tree.{Program, program_of}
+use Rattle.programs.specs.Code.{program_code}
+use Rattle.programs.specs.Listing.{listing_of, tasks_of}
 use Rattle.txn.specs.CatalogueInside.{listed}
-use Rattle.txn.specs.Names.{is_well_formed, names_hold}
-use Rattle.txn.specs.Limits.{limits_hold}
+use Rattle.programs.specs.Names.{is_well_formed, names_hold}
+use Rattle.programs.specs.Limits.{limits_hold}
 use Rattle.txn.proofs.Building.{tx_names_are, codes_are, not_well_formed, given_twice, given_once, programs_fit, listing_by}
 use Rattle.txn.proofs.catalogue.Catalogue.build.Goals as goal
 

@@ -2,10 +2,10 @@ use Rattle.std.proofs.Common.{◌≡◌, ◌<◌, ℕ, ◌∙◌, ap, sym, List,
 use Rattle.std.specs.Prelude.{slice_index_or}
 use Rattle.std.proofs.lemmas.List as lists
 use Rattle.std.proofs.Math.ListN as list
-use Rattle.txn.specs.declared.code.Op.{Op}
-use Rattle.txn.specs.Code.{program_code}
-use Rattle.txn.specs.Listing.{Listing}
-use Rattle.txn.specs.Tree.{Program}
+use Rattle.programs.specs.declared.code.Op.{Op}
+use Rattle.programs.specs.Code.{program_code}
+use Rattle.programs.specs.Listing.{Listing}
+use Rattle.programs.specs.Tree.{Program}
 use Rattle.txn.proofs.catalogue.Catalogue.code.Goals as goal
 
 code_at : (codes : List (Vec Op Global)) (programs : List Program) (i : ℕ) (code : Vec Op Global) (p : Program) → map (λ code. code.items) codes ≡ map program_code programs → i < length programs → code ≡ list.get_or codes i code → code.items ≡ program_code (slice_index_or programs i p)

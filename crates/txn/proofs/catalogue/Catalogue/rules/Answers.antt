@@ -1,8 +1,8 @@
 use Rattle.std.proofs.Common.{◌≡◌, ◌∙◌, sym, subst, length, string_bytes, true}
 use Rattle.std.proofs.lemmas.List.{length-map}
-use Rattle.txn.specs.Limits.{limits_hold}
-use Rattle.txn.specs.Listing.{Listing}
-use Rattle.txn.specs.Names.{names_hold}
+use Rattle.programs.specs.Limits.{limits_hold}
+use Rattle.programs.specs.Listing.{Listing}
+use Rattle.programs.specs.Names.{names_hold}
 use Rattle.txn.proofs.catalogue.Catalogue.rules.Goals as goal
 
 pub returns-clause-named : goal.returns-clause-named

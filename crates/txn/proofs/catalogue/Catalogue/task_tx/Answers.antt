@@ -1,10 +1,10 @@
 use Rattle.std.proofs.Common.{◌≡◌, ◌∙◌, ap, sym, subst, Some, true, length, List, ◌<◌, arith}
 use Rattle.std.specs.List.{slice_get}
 use Rattle.std.proofs.lemmas.Option.{slice_get-get_or}
-use Rattle.txn.proofs.Lawful.{known_task}
-use Rattle.txn.specs.Listing.{Listing, tasks}
-use Rattle.txn.specs.Names.{names_hold}
-use Rattle.txn.specs.declared.ast.TxId.{TxId}
+use Rattle.programs.proofs.Lawful.{known_task}
+use Rattle.programs.specs.Listing.{Listing, tasks}
+use Rattle.programs.specs.Names.{names_hold}
+use Rattle.programs.specs.declared.ast.TxId.{TxId}
 use Rattle.txn.proofs.catalogue.Catalogue.task_tx.Goals as goal
 
 pub returns-clause-known : goal.returns-clause-known

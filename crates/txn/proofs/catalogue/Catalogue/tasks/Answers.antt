@@ -1,5 +1,5 @@
 use Rattle.std.proofs.Common.{length, ap, arith}
-use Rattle.txn.proofs.Lawful.{few_tasks}
+use Rattle.programs.proofs.Lawful.{few_tasks}
 use Rattle.txn.specs.CatalogueInside.{listed}
 use Rattle.txn.proofs.catalogue.Catalogue.tasks.Goals as goal
 

@@ -3,11 +3,11 @@ use Rattle.std.specs.List.{slice_get}
 use Rattle.std.specs.Option.{option_map}
 use Rattle.std.proofs.lemmas.List.{length-map}
 use Rattle.std.proofs.lemmas.Option.{slice_get-map, slice_get-get_or}
-use Rattle.txn.proofs.Lawful.{known_at}
+use Rattle.programs.proofs.Lawful.{known_at}
 use Rattle.txn.specs.CatalogueInside.{listed}
-use Rattle.txn.specs.Listing.{Listing}
-use Rattle.txn.specs.Scope.{ProgramKnown}
-use Rattle.txn.specs.Tree.{program_of}
+use Rattle.programs.specs.Listing.{Listing}
+use Rattle.programs.specs.Scope.{ProgramKnown}
+use Rattle.programs.specs.Tree.{program_of}
 use Rattle.txn.proofs.catalogue.Catalogue.tx.Goals as goal
 
 pub returns-clause-known : goal.returns-clause-known

@@ -1,0 +1,13 @@
+pub mod Arithmetic
+pub mod Tree
+pub mod Meaning
+pub mod Cost
+pub mod Depth
+pub mod Code
+pub mod Scope
+pub mod Listing
+pub mod Names
+pub mod Limits
+pub mod Replay
+pub mod Told
+pub mod LawfulReport

@@ -1,0 +1,71 @@
+-- The limits, and when a listing keeps them.
+use Rattle.std.specs.Prelude.{ℕ, ◌+◌, max, min, ◌≤◌, Bool, ◌&&◌, nat_le, length, sum_by}
+use Rattle.std.specs.List.{list_all}
+use Rattle.programs.specs.Tree.{Statement, Skip, Set, Seq, If, Repeat, Retry, OrElse, Throw, Statements, End, More, Program}
+use Rattle.programs.specs.Cost.{cost}
+use Rattle.programs.specs.Depth.{expression_depth, statement_depth, statements_depth}
+use Rattle.programs.specs.Listing.{Listing}
+
+abbrev pub most_variables : ℕ
+most_variables = 256
+
+abbrev pub most_transactions : ℕ
+most_transactions = 256
+
+-- in all, and of one run
+abbrev pub most_tasks : ℕ
+most_tasks = 65536
+
+-- in bytes
+abbrev pub longest_name : ℕ
+longest_name = 32
+
+-- of a body and of a result
+abbrev pub deepest : ℕ
+deepest = 31
+
+abbrev pub most_turns : ℕ
+most_turns = 1000
+
+abbrev pub highest_cost : ℕ
+highest_cost = 1000000
+
+-- the largest repeat count
+abbrev mutual
+  pub largest_repeat : Statement → ℕ
+  largest_repeat Skip = 0
+  largest_repeat (Set x e) = 0
+  largest_repeat (Seq parts) = largest_repeat_of_all parts
+  largest_repeat (If c a b) = max (largest_repeat a) (largest_repeat b)
+  largest_repeat (Repeat n s) = max n (largest_repeat s)
+  largest_repeat Retry = 0
+  largest_repeat (OrElse a b) = max (largest_repeat a) (largest_repeat b)
+  largest_repeat (Throw e) = 0
+
+  pub largest_repeat_of_all : Statements → ℕ
+  largest_repeat_of_all End = 0
+  largest_repeat_of_all (More s rest) = max (largest_repeat s) (largest_repeat_of_all rest)
+
+-- the program is no deeper than the limit, repeats within it, and costs no more
+abbrev pub program_fits : Program → Bool
+program_fits t =
+    nat_le (statement_depth t.body) deepest && (nat_le (expression_depth t.result) deepest
+    && (nat_le (largest_repeat t.body) most_turns && nat_le (cost t) highest_cost))
+
+unfoldable pub limits_hold : Listing → Bool
+limits_hold l =
+    nat_le (length l.names) most_variables && (list_all (λ name. nat_le (length name) longest_name) l.names
+    && (nat_le (length l.programs) most_transactions && (list_all (λ t. nat_le (length t.name) longest_name) l.programs
+    && (list_all program_fits l.programs
+    && (list_all (λ run. nat_le run.1 most_tasks) l.runs && nat_le (sum_by (λ run. run.1) l.runs) most_tasks)))))
+
+-- a cost as far as it is counted: what is over the limit is one over
+abbrev pub capped : ℕ → ℕ
+capped n = min n (highest_cost + 1)
+
+-- within a depth, and no repeat count over the limit
+abbrev pub StatementFits : ℕ → Statement → Type 0
+StatementFits depth s = (statement_depth s ≤ depth) × (largest_repeat s ≤ most_turns)
+
+abbrev pub StatementsFit : ℕ → Statements → Type 0
+StatementsFit depth parts = (statements_depth parts ≤ depth) × (largest_repeat_of_all parts ≤ most_turns)

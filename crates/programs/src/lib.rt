@@ -1,0 +1,21 @@
+//! Transaction programs as values, with what they mean as definitions.
+//!
+//! `ast` has the programs, `code` the instructions that they are compiled to, `report` what a run
+//! of tasks left, `moves` the lines of a schedule, `limits` and `names` what every catalogue keeps
+//! to. The definitions stand in `specs/`, over plain trees: what a program says, and not where it
+//! lies in memory. Callers name all of it by the crate `txn`.
+#![tactic(auto)]
+
+pub mod ast;
+pub mod code;
+pub mod limits;
+pub mod memory;
+pub mod moves;
+pub mod names;
+pub mod report;
+
+pub use ast::{Cond, Expr, Fault, Outcome, Stmt, TaskId, Tx, TxId, VarId};
+pub use code::Op;
+pub use memory::Memory;
+pub use moves::Move;
+pub use report::{Entry, Report};
