@@ -1,0 +1,86 @@
+-- What an exact answer says of all orders.
+use Rattle.std.specs.Prelude.{◌≡◌, ◌↔◌, ℕ, ◌<◌, Bool, true, false, List, map, length, Option, Some, None, slice_get}
+use Rattle.std.specs.List.{Contains}
+use Rattle.std.specs.List.Sorted.{IsSorted}
+use Rattle.std.specs.Cmp.Lexicographic.{slice_cmp}
+use Rattle.std.specs.declared.cmp.Ordering.{Ordering}
+use Rattle.std.specs.Ordering.{int_cmp, nat_cmp, ordering_then}
+use Rattle.programs.specs.declared.ast.TxId.{TxId}
+use Rattle.programs.specs.declared.ast.Outcome.{Outcome}
+use Rattle.programs.specs.declared.ast.Outcome.TheVariants.{Returned, Thrown, Retries}
+use Rattle.programs.specs.declared.ast.Fault.TheVariants.{User, Overflow, DivideByZero}
+use Rattle.programs.specs.Listing.{Listing, program_at}
+use Rattle.programs.specs.Meaning.{outcome}
+use Rattle.explore_law.specs.declared.found.End.{End}
+use Rattle.explore_law.specs.declared.found.Kinds.{Kinds}
+use Rattle.explore_law.specs.declared.found.Found.{Found}
+use Rattle.explore_law.specs.Orders.{Place, HasTurn, Reached, IsEnd}
+
+-- how a turn can end
+pub data Kind : Type 0 where
+  Returning : Kind
+  Throwing : Kind
+  Overflowing : Kind
+  DividingByZero : Kind
+
+abbrev pub kind_of : Outcome → Option Kind
+kind_of (Returned v) = Some Returning
+kind_of (Thrown (User v)) = Some Throwing
+kind_of (Thrown Overflow) = Some Overflowing
+kind_of (Thrown DivideByZero) = Some DividingByZero
+kind_of Retries = None
+
+-- whether the kind is among those
+abbrev pub shows : Kinds → Kind → Bool
+shows ks Returning = ks.returned
+shows ks Throwing = ks.threw
+shows ks Overflowing = ks.overflow
+shows ks DividingByZero = ks.zerodiv
+
+-- some turn of the transaction, at a reached place, ends so
+pub record Somewhere (l : Listing) (tx : TxId) (kind : Kind) : Type 0 where
+  pub place : Place
+  pub reached : Reached l place
+  pub turn : HasTurn l place tx
+  pub ends : kind_of (outcome (program_at l tx) place.state) ≡ Some kind
+
+-- the place of an end
+abbrev pub end_place : End → Place
+end_place e = record { state = e.values.items; left = e.waiting.items }
+
+abbrev pub end_places : Found → List Place
+end_places f = map end_place f.ends.items
+
+-- nothing stands at two places of the list
+abbrev pub IsOnce : List Place → Type 0
+IsOnce ps = (i j : ℕ) (p : Place) → slice_get ps i ≡ Some p → slice_get ps j ≡ Some p → i ≡ j
+
+-- the reached places are listed, each once
+pub record ListsReached (l : Listing) (ps : List Place) : Type 0 where
+  pub once : IsOnce ps
+  pub all : (p : Place) → (Contains ps p ↔ Reached l p)
+
+-- by the values as numbers, the first variable first, then by the counts left
+abbrev pub place_cmp : Place → Place → Ordering
+place_cmp p q = ordering_then (slice_cmp int_cmp p.state q.state) (slice_cmp nat_cmp p.left q.left)
+
+-- the answer is exact
+pub record Explored (l : Listing) (f : Found) : Type 0 where
+  -- it counts the reached places
+  pub places : List Place
+  pub reached : ListsReached l places
+  pub states : f.states ≡ length places
+  -- a transaction is said to end so exactly where some turn of it does
+  pub each : length f.kinds.items ≡ length l.programs
+  pub kinds : (tx : TxId) (ks : Kinds) (kind : Kind) → slice_get f.kinds.items tx.0 ≡ Some ks → (shows ks kind ≡ true ↔ Somewhere l tx kind)
+  -- the ends are the reached places without a turn, each once and in order
+  pub ends : (p : Place) → (Contains (end_places f) p ↔ (Reached l p × IsEnd l p))
+  pub ends_once : IsOnce (end_places f)
+  pub ends_ascend : IsSorted place_cmp (end_places f)
+
+-- more than n places are reached
+pub record ReachesMore (l : Listing) (n : ℕ) : Type 0 where
+  pub places : List Place
+  pub once : IsOnce places
+  pub reached : (p : Place) → Contains places p → Reached l p
+  pub more : n < length places

@@ -1,0 +1,28 @@
+//! What is found of all orders.
+
+/// A place without a turn: the values, and for each transaction how many of its tasks wait.
+#[derive(Debug, PartialEq, Eq, PartialOrd, Ord, Drop)]
+pub struct End {
+    pub values: Vec<i64>,
+    pub waiting: Vec<u32>,
+}
+
+/// Which outcomes the turns of a transaction have.
+#[derive(Clone, Copy, Debug, PartialEq, Eq)]
+pub struct Kinds {
+    pub returned: bool,
+    pub threw: bool,
+    pub overflow: bool,
+    pub zerodiv: bool,
+}
+
+/// What is found of all orders of a file's tasks.
+#[derive(Debug, PartialEq, Eq, Drop)]
+pub struct Found {
+    /// How many places are reached.
+    pub states: usize,
+    /// For each transaction, which outcomes its turns have somewhere.
+    pub kinds: Vec<Kinds>,
+    /// The reached places without a turn, ascending by values and then by the counts that wait.
+    pub ends: Vec<End>,
+}

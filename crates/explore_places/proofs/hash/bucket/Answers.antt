@@ -1,0 +1,7 @@
+use Rattle.std.proofs.Common.{rules, ◌≡◌, ℕ, ◌+◌, ◌-◌, ◌*◌, ◌<◌, ◌≤◌, [], ◌∷◌, ◌++◌, length, get_or, take, drop, refl, sym, ◌∙◌, ap, arith}
+use Rattle.explore_places.specs.Bucket.{bucket_of}
+use Rattle.explore_places.proofs.hash.bucket.Goals as goal
+
+pub returns-clause-value : goal.returns-clause-value
+unfolding bucket_of
+returns-clause-value c = search rules

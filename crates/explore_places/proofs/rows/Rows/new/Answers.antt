@@ -1,0 +1,7 @@
+use Rattle.std.proofs.Common.{rules, ◌≡◌, ℕ, ◌+◌, ◌-◌, ◌*◌, ◌<◌, ◌≤◌, [], ◌∷◌, ◌++◌, length, get_or, take, drop, refl, sym, ◌∙◌, ap, arith}
+use Rattle.explore_places.specs.Inside.{rows}
+use Rattle.explore_places.proofs.rows.Rows.new.Goals as goal
+
+pub returns : goal.returns
+unfolding rows
+returns c = refl

@@ -1,0 +1,4 @@
+pub mod Bucket
+pub mod Shelf
+pub mod Indexed
+pub mod Inside
