@@ -1,7 +1,8 @@
 -- What a caller sees of a pass: its cells, whether it is open, and what it has loaded.
-use Rattle.std.specs.Prelude.{◌≡◌, ℕ, ◌+◌, ◌≤◌, Bool, false, true, List, length, ℤ}
+use Rattle.std.specs.Prelude.{◌≡◌, ℕ, ◌+◌, ◌*◌, ◌≤◌, Bool, false, true, List, length, ℤ}
 use Rattle.atomic_table.specs.Seated.{TableId}
 use Rattle.shared_words.specs.Words.{state_of, StartsWith}
+use Rattle.shared_words.specs.Stores.{Change}
 use Rattle.shared_words.specs.Loads.{PassRecord, enrolled}
 use Rattle.cells.specs.Cells.{CellsId}
 
@@ -13,9 +14,9 @@ pub record Passing : Type 0 where
   -- how often it loaded the clock, and how often another word
   pub clock_loads : ℕ
   pub word_loads : ℕ
-  -- what the clock load of the last begin gave
+  -- what the clock load of the last begin or extension gave
   pub rv : ℕ
-  -- the variable and the loads of the last read since that begin
+  -- the variable and the loads of the last read since that load
   pub variable : ℕ
   pub loads : List ℕ
 
@@ -35,7 +36,7 @@ passing table b r = record {
 abbrev pub new_pass : TableId → List (List ℤ) → Passing
 new_pass table h = passing table false (enrolled h)
 
--- the state of the last begin
+-- the state of the last begin or extension
 abbrev pub at : Passing → List ℤ
 at p = state_of p.seen p.rv
 
@@ -59,7 +60,17 @@ pub record ReadsBy (p q : Passing) (x : ℕ) : Type 0 where
   pub variable : q.variable ≡ x
   pub few : length q.loads ≤ 3
 
--- A meeting shows the pass the history h by one load of the clock, and closes it. The last begin and the last read stay.
+-- An extension by a log is one load of the clock, and at most three loads for each pair. The pass sees a history that
+-- begins with what it saw, and is at that history's last state, whose number the clock's load gave.
+pub record ExtendsBy (p q : Passing) (log : List Change) : Type 0 where
+  pub cells : q.cells ≡ p.cells
+  pub seen : StartsWith q.seen p.seen
+  pub clock_loads : q.clock_loads ≡ p.clock_loads + 1
+  pub word_loads : q.word_loads ≤ p.word_loads + 3 * length log
+  pub rv : length q.seen ≡ q.rv + 1
+
+-- A meeting shows the pass the history h by one load of the clock, and closes it. The last begin or extension and the
+-- last read stay.
 pub record MeetsBy (p q : Passing) (h : List (List ℤ)) : Type 0 where
   pub cells : q.cells ≡ p.cells
   pub is_closed : q.open_now ≡ false

@@ -1,5 +1,5 @@
-//! Cells that one publisher changes and many readers read with no lock: the reads since a pass
-//! began are of one state of the history, in every schedule of the threads.
+//! Cells that one publisher changes and many readers read with no lock: the reads of a pass since
+//! its last begin or extension are of one state of the history, in every schedule of the threads.
 #![tactic(auto)]
 
 mod board;
@@ -12,5 +12,5 @@ mod sight;
 mod stores;
 
 pub use cells::Cells;
-pub use pass::{Pass, Read};
+pub use pass::{Extend, Pass, Read};
 pub use publisher::Publisher;

@@ -1,7 +1,8 @@
 //! The worker: it takes a task, tries it on what its pass reads, and brings the end to the book.
 //!
-//! It evaluates outside the lock. A read that is stale, and an end that is, are each one stale try;
-//! after so many of them the task has its turn under the lock.
+//! It evaluates outside the lock. A try whose pass could not move after a stale read, and an end
+//! that is stale, are each one stale try; after so many of them the task has its turn under the
+//! lock. A try that moved is none.
 
 ghost use Rattle.std.specs.Prelude.{◌≡◌, ◌<◌, length};
 ghost use Rattle.std.specs.Coded.{codes};

@@ -1,14 +1,14 @@
-use Rattle.std.proofs.Common.{◌≡◌, ◌+◌, ◌-◌, true, length}
+use Rattle.std.proofs.Common.{◌≡◌, ◌-◌, true, length}
 use Rattle.cells.specs.Passing.{at}
 use Rattle.book.proofs.Logs.{Going}
+use Rattle.observer.proofs.Seeing.{Moving}
 use Rattle.workers.proofs.trying.attempt_on.Given as goal
 
 abbrev pub invariant-loop-x : goal.invariant-loop-x
 invariant-loop-x g l =
     Going l.catalogue l.fn.tx (at l.pass) l.attempt
-    × (l.pass.cells ≡ l.fn.pass.cells)
+    × Moving l.fn.pass l.pass (length l.attempt.log)
     × (l.pass.open_now ≡ true)
-    × (l.pass.clock_loads ≡ l.fn.pass.clock_loads + 1)
 
 abbrev pub decreases-loop-x : goal.decreases-loop-x
 decreases-loop-x g l = length l.catalogue.initial - length l.attempt.log
