@@ -3,10 +3,13 @@
 ghost use Rattle.std.specs.Prelude.{◌≡◌, ℕ, ◌<◌, ◌≤◌, [], ◌∷◌, pos, length};
 ghost use Rattle.shared_words.specs.Stores.{id_of};
 
+use crate::observing::{catalogue, told};
 use crate::parts::{X, Y, begins, is_stale, sees};
+use attempt::Attempt;
 use cells::{Cells, Extend, Pass, Publisher};
+use observer::Cut;
 use std::process::Abort;
-use txn::VarId;
+use txn::{TxId, VarId};
 
 /// The pass is extended by the log with this answer, and is open exactly where it moved.
 fn extends(rt: &impl Abort, cells: &Cells, pass: &mut Pass, log: &[(VarId, i64)], answer: Extend)
@@ -65,4 +68,66 @@ fn an_empty_log_moves_a_pass_that_never_began(rt: HostRuntime) {
     let pass = &mut passes[0];
     extends(&rt, &cells, pass, &[], Extend::Moved);
     sees(&rt, &cells, pass, X, 3);
+}
+
+/// Publishes that y, or both, are other values than 3 and 4.
+fn publish_other(cells: &Cells, publisher: &mut Publisher, both: bool)
+    requires own { publisher.old.cells ≡ cells.now }
+    requires start { publisher.old.history ≡ (pos 3 ∷ pos 4 ∷ []) ∷ [] }
+{
+    if both {
+        publisher.publish(cells, &[(X, 6), (Y, -5)]);
+    } else {
+        publisher.publish(cells, &[(Y, -5)]);
+    }
+}
+
+/// An attempt that has read x when the others are published is told y where x is as it was, and is
+/// told nothing where x has changed.
+fn is_told_beside(
+    rt: &impl Abort,
+    cells: &Cells,
+    publisher: &mut Publisher,
+    pass: &mut Pass,
+    attempt: &mut Attempt<'_>,
+    both: bool,
+)
+    requires own { pass.old.cells ≡ cells.now }
+    requires publisher { publisher.old.cells ≡ cells.now }
+    requires start { publisher.old.history ≡ (pos 3 ∷ pos 4 ∷ []) ∷ [] }
+    requires variables { attempt.old.variables ≤ cells.now.variables }
+{
+    begins(cells, pass);
+    assert!(rt; told(cells, pass, attempt) == Some(Ok(())));
+    publish_other(cells, publisher, both);
+    let second = told(cells, pass, attempt);
+    if both {
+        assert!(rt; second == Some(Err(Cut::Stale)));
+        assert!(rt; attempt.log() == [(X, 3)].as_slice());
+    } else {
+        assert!(rt; second == Some(Ok(())));
+        assert!(rt; attempt.log() == [(X, 3), (Y, -5)].as_slice());
+    }
+    assert!(rt; pass.is_open() != both);
+}
+
+#[test]
+fn a_stale_read_moves_an_attempt_unless_its_reads_have_changed(rt: HostRuntime) {
+    let text = "(var x 3)(var y 4)(tx sum (skip) (add x y))(run sum 1)";
+    let catalogue = catalogue(&rt, rt.alloc(), text);
+    assert!(rt; catalogue.initial().len() == 2 && catalogue.tx_count() == 1);
+    for both in [false, true] {
+        let Ok((cells, mut publisher, mut passes)) = Cells::open(rt.alloc(), &[3, 4], 1) else {
+            panic!(rt; "no cells")
+        };
+        let mut attempt = Attempt::new(rt.alloc(), &catalogue, TxId(0));
+        is_told_beside(
+            &rt,
+            &cells,
+            &mut publisher,
+            &mut passes[0],
+            &mut attempt,
+            both,
+        );
+    }
 }

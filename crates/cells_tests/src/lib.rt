@@ -10,6 +10,8 @@ mod extending;
 #[cfg(test)]
 mod members;
 #[cfg(test)]
+mod nine_beside;
+#[cfg(test)]
 mod observed_beside;
 #[cfg(test)]
 mod observing;

@@ -1,6 +1,6 @@
 //! Observing one after another with publishing.
 
-ghost use Rattle.std.specs.Prelude.{◌≡◌, ◌<◌, [], ◌∷◌, pos, length};
+ghost use Rattle.std.specs.Prelude.{◌≡◌, ◌<◌, ◌≤◌, [], ◌∷◌, pos, length};
 
 use crate::parts::{X, begins, publish_six, sees as shows};
 use attempt::{Attempt, Next};
@@ -103,22 +103,27 @@ fn throws_and_retries(
     sees(rt, alloc, cells, pass, catalogue, TxId(2), Outcome::Retries);
 }
 
-/// How the attempt, which needs x, is told what the pass reads of it.
-fn told(cells: &Cells, pass: &mut Pass, attempt: &mut Attempt<'_>) -> Option<Result<(), Cut>>
+/// How the attempt is told what the pass reads of the variable that it needs.
+pub(crate) fn told(
+    cells: &Cells,
+    pass: &mut Pass,
+    attempt: &mut Attempt<'_>,
+) -> Option<Result<(), Cut>>
     requires own { pass.old.cells ≡ cells.now }
-    requires exists { 0 < cells.now.variables }
+    requires variables { attempt.old.variables ≤ cells.now.variables }
     ensures own { pass.new.cells ≡ pass.old.cells }
+    ensures variables { attempt.new.variables ≡ attempt.old.variables }
 {
     if !pass.is_open() {
         return None;
     }
     match attempt.advance() {
-        Next::Need(x) if x.0 == 0 => Some(tell(attempt, x, cells, pass)),
+        Next::Need(x) => Some(tell(attempt, x, cells, pass)),
         _ => None,
     }
 }
 
-/// It is told nothing where x is changed after the begin, and 6 after the next.
+/// It is told that x is 6, though x was changed after the begin: it had read nothing before.
 fn is_told_six(
     rt: &impl Abort,
     cells: &Cells,
@@ -129,12 +134,10 @@ fn is_told_six(
     requires own { pass.old.cells ≡ cells.now }
     requires published { publisher.old.cells ≡ cells.now }
     requires start { publisher.old.history ≡ (pos 5 ∷ []) ∷ [] }
-    requires one { cells.now.variables ≡ 1 }
+    requires variables { attempt.old.variables ≤ cells.now.variables }
 {
     begins(cells, pass);
     publish_six(cells, publisher);
-    assert!(rt; told(cells, pass, attempt) == Some(Err(Cut::Stale)));
-    begins(cells, pass);
     assert!(rt; told(cells, pass, attempt) == Some(Ok(())));
     assert!(rt; attempt.log() == [(X, 6)].as_slice());
 }
@@ -151,7 +154,7 @@ fn first_is_told(
     requires own { pass.old.cells ≡ cells.now }
     requires published { publisher.old.cells ≡ cells.now }
     requires start { publisher.old.history ≡ (pos 5 ∷ []) ∷ [] }
-    requires one { cells.now.variables ≡ 1 }
+    requires variables { length catalogue.now.initial ≤ cells.now.variables }
     requires known { 0 < length catalogue.now.programs }
 {
     let mut attempt = Attempt::new(alloc, catalogue, TxId(0));

@@ -1,7 +1,7 @@
 //! Two increments by two workers that are held at gates. They end so only where workers run side by
 //! side and evaluate with no lock held.
 
-use crate::holds::{Hold, IN_TURN, Place, SWAPPED, hold_two};
+use crate::holds::{Hold, IN_TURN, Place, SWAPPED, hold_run, hold_two};
 use runner::Point;
 use txn::TaskId;
 
@@ -51,4 +51,19 @@ fn a_finished_task_is_held_while_the_other_runs(rt: HostRuntime) {
     let first = Hold::new(TAKEN[1], FINISHED[0]);
     let second = Hold::new(FINISHED[0], FINISHED[1]);
     hold_two(&rt, rt.alloc(), 8, first, second, IN_TURN);
+}
+
+/// A sum of two variables, and a task that sets the second.
+const SUM: &str = "(var x 1)(var y 1)(tx sum (skip) (add x y))(tx sety (set y 5) 0)\
+    (run sum 1)(run sety 1)";
+
+/// The report where the sum is of the new value.
+const MOVED: &str = "base 0\nx 1 0\ny 1 0\nentry 1 1 sety returned 0\nentry 2 0 sum returned 6\n\
+    now 2\nx 1 0\ny 5 1\nend\n";
+
+#[test]
+fn a_moved_attempt_commits_at_its_first_try(rt: HostRuntime) {
+    let hold = Hold::after(1, NEEDS, FINISHED[1]);
+    let ends = hold_run(&rt, rt.alloc(), SUM, 1, hold, none(), MOVED);
+    assert_eq!(rt; ends, 1);
 }

@@ -27,21 +27,30 @@ fn is_at(place: Place, point: Point, task: TaskId) -> bool {
     place.0 == point && place.1 == task
 }
 
-/// Holds a worker the first time that it is at a place, until another place was entered.
+/// Holds a worker one of the times that it is at a place, until another place was entered.
 #[derive(Drop)]
 pub(crate) struct Hold {
     held: Place,
+    /// How many times it may pass before.
+    passes: u64,
     until: Place,
-    came: AtomicBool,
+    came: AtomicU64,
     opened: AtomicBool,
 }
 
 impl Hold {
+    /// A hold of the first time.
     pub(crate) fn new(held: Place, until: Place) -> Hold {
+        Hold::after(0, held, until)
+    }
+
+    /// A hold once the worker has passed so often.
+    pub(crate) fn after(passes: u64, held: Place, until: Place) -> Hold {
         Hold {
             held,
+            passes,
             until,
-            came: AtomicBool::new(false),
+            came: AtomicU64::new(0),
             opened: AtomicBool::new(false),
         }
     }
@@ -54,7 +63,10 @@ impl Hold {
 
     /// Whether the place was entered in time.
     fn wait(&self, point: Point, task: TaskId) -> bool {
-        if !is_at(self.held, point, task) || self.came.swap(true, Ordering::SeqCst) {
+        if !is_at(self.held, point, task) {
+            return true;
+        }
+        if self.came.fetch_add(1, Ordering::SeqCst) != self.passes {
             return true;
         }
         for _ in 0..10_000_000u32 {
@@ -98,6 +110,19 @@ pub(crate) fn hold_two(
     second: Hold,
     wanted: &str,
 ) -> u64 {
+    hold_run(rt, alloc, TWO, tries, first, second, wanted)
+}
+
+/// Runs the text by two workers with these holds. How often the first task ended an attempt.
+pub(crate) fn hold_run(
+    rt: &(impl Threads + Wait + Sync + Abort),
+    alloc: Global,
+    text: &str,
+    tries: u32,
+    first: Hold,
+    second: Hold,
+    wanted: &str,
+) -> u64 {
     let script = Script {
         first,
         second,
@@ -106,7 +131,7 @@ pub(crate) fn hold_two(
     };
     let options = options(rt, 2, tries, 0);
     let mut out = Out::new(Vec::new(alloc));
-    let ran = run_bytes(rt, alloc, TWO.as_bytes(), options, &script, &mut out);
+    let ran = run_bytes(rt, alloc, text.as_bytes(), options, &script, &mut out);
     assert!(rt; ran.is_ok());
     assert!(rt; out.into_inner().as_slice() == wanted.as_bytes());
     assert!(rt; !script.late.load(Ordering::SeqCst));

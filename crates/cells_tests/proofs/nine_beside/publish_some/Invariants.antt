@@ -1,0 +1,7 @@
+use Rattle.std.proofs.Common.{◌≡◌, ◌+◌, pos, length}
+use Rattle.shared_words.specs.Words.{last_state}
+use Rattle.cells_tests.specs.Nine.{nine}
+use Rattle.cells_tests.proofs.nine_beside.publish_some.Given as goal
+
+abbrev pub invariant-loop-n : goal.invariant-loop-n
+invariant-loop-n l = (l.publisher.cells ≡ l.initial.publisher.cells) × (last_state l.publisher.history ≡ nine (pos l.n)) × (length l.publisher.history ≡ l.n + 1)
