@@ -6,6 +6,7 @@ use Rattle.programs.specs.declared.report.Entry.{Entry}
 use Rattle.programs.specs.declared.ast.Outcome.TheVariants.{Retries}
 use Rattle.programs.specs.Limits.{most_tasks}
 use Rattle.programs.specs.Meaning.{outcome}
+use Rattle.programs.specs.Standing.{Upholds}
 use Rattle.programs.specs.Listing.{Listing, tasks, program_at}
 use Rattle.programs.specs.Replay.{Replays, Reached, opening, entered, Stands, Once}
 use Rattle.programs.specs.Told.{Told, base_of, now_of}
@@ -32,9 +33,9 @@ pub record FitsCatalogue (l : Listing) (r : Told) : Type 0 where
   pub current_versions : All (λ v. v.1 ≤ most_tasks) r.current_vars
   pub numbers : All (λ (e : Entry). e.number ≤ most_tasks) r.entries
   pub ends : All (λ (e : Entry). e.outcome ≢ Retries) r.entries
-  pub entries : All (λ (e : Entry). (e.task.0 < length (tasks l)) × (e.tx.0 < length l.programs)) r.entries
-  pub parked : All (λ p. (p.0.0 < length (tasks l)) × (p.1.0 < length l.programs)) r.parked
-  pub memory : All (λ p. (p.0.0 < length (tasks l)) × (p.1.0 < length l.programs)) r.memory
+  pub entries : All (λ (e : Entry). (e.task.0 < length (tasks l)) × (e.tx.0 < length l.transactions)) r.entries
+  pub parked : All (λ p. (p.0.0 < length (tasks l)) × (p.1.0 < length l.transactions)) r.parked
+  pub memory : All (λ p. (p.0.0 < length (tasks l)) × (p.1.0 < length l.transactions)) r.memory
 
 pub record LawfulReport (l : Listing) (r : Told) : Type 0 where
   pub fits : FitsCatalogue l r
@@ -42,6 +43,8 @@ pub record LawfulReport (l : Listing) (r : Told) : Type 0 where
   pub replays : Replays l (base_of r) r.entries (now_of r)
   pub base_versions : All (λ v. v.1 ≤ r.base) r.base_vars
   pub from_opening : r.base ≡ 0 → base_of r ≡ opening l
+  -- each standing condition is true at the base
+  pub upheld : Upholds l (base_of r).state
   -- each task stands on at most one line, with its own transaction, and all are accounted for
   pub parked_own : All (λ p. HasOwn l p.0 p.1) r.parked
   pub memory_own : All (λ p. HasOwn l p.0 p.1) r.memory
