@@ -1,12 +1,13 @@
 //! Whether the limits of a catalogue hold.
 
-ghost use Rattle.std.specs.Prelude.{◌≡◌, ◌<◌, ◌≤◌, ◌+◌, ◌*◌, ◌&&◌, nat_le, sum_by, ℕ, map, min, length, string_bytes};
+ghost use Rattle.std.specs.Prelude.{◌≡◌, ◌<◌, ◌≤◌, ◌+◌, ◌*◌, ◌&&◌, nat_le, sum_by, ℕ, map, min, length, string_bytes, true};
 ghost use Rattle.std.specs.List.{list_all};
 ghost use Rattle.std.specs.Option.{SomeIff};
-ghost use Rattle.programs.specs.Tree.{expression_of, condition_of, statement_of, statements_of_list, program_of};
-ghost use Rattle.programs.specs.Cost.{expression_cost, condition_cost, statement_cost, statements_cost};
+ghost use Rattle.programs.specs.Tree.{expression_of, condition_of, statement_of, statements_of_list, transaction_of};
+ghost use Rattle.programs.specs.Cost.{expression_cost, condition_cost, conditions_cost, statement_cost, statements_cost};
 ghost use Rattle.programs.specs.Depth.{expression_depth, condition_depth, statement_depth};
-ghost use Rattle.programs.specs.Limits.{capped, program_fits, StatementFits, StatementsFit};
+ghost use Rattle.programs.specs.Limits.{capped, conditions_fit, StatementFits, StatementsFit};
+ghost use Rattle.catalogue_rules.specs.Beside.{fits_beside};
 ghost use Rattle.programs.specs.declared.limits.TheConstants.{MAX_NAME, MAX_TASKS};
 
 use programs::limits::{MAX_COST, MAX_DEPTH, MAX_NAME, MAX_REPEAT, MAX_TASKS};
@@ -100,9 +101,24 @@ fn statements_weight(parts: &[Stmt], depth: u32) -> Option<u32>
     Some(total)
 }
 
-/// Whether a transaction is within the limits of one.
-fn fits(tx: &Tx) -> bool
-    ensures { result ≡ program_fits (program_of tx.now) }
+/// The cost of the standing conditions together, if they are within the limits of them.
+pub fn always_cost(always: &[(String, Cond)]) -> Option<u32>
+    ensures { SomeIff result (conditions_fit (map (λ a. condition_of a.1) always.now) ≡ true) (conditions_cost (map (λ a. condition_of a.1) always.now)) }
+{
+    let mut total = 0;
+    for (_, holds) in always {
+        total += condition_weight(holds, MAX_DEPTH)?;
+        if total > MAX_COST {
+            return None;
+        }
+    }
+    Some(total)
+}
+
+/// Whether a transaction is within the limits of one, beside standing conditions of this cost.
+fn fits(tx: &Tx, always: u32) -> bool
+    requires { always ≤ MAX_COST }
+    ensures { result ≡ fits_beside always (transaction_of tx.now) }
 {
     let Some(body) = statement_weight(&tx.body, MAX_DEPTH) else {
         return false;
@@ -110,14 +126,15 @@ fn fits(tx: &Tx) -> bool
     let Some(result) = expression_weight(&tx.result, MAX_DEPTH) else {
         return false;
     };
-    body + result <= MAX_COST
+    body + result + always <= MAX_COST
 }
 
-/// Whether each transaction is within the limits of one.
-pub fn transactions_fit(txs: &[Tx]) -> bool
-    ensures { result ≡ list_all (λ tx. program_fits (program_of tx)) txs.now }
+/// Whether each transaction is within the limits of one, beside standing conditions of this cost.
+pub fn transactions_fit(txs: &[Tx], always: u32) -> bool
+    requires { always ≤ MAX_COST }
+    ensures { result ≡ list_all (λ tx. fits_beside always (transaction_of tx)) txs.now }
 {
-    txs.iter().all(|tx| fits(tx))
+    txs.iter().all(|tx| fits(tx, always))
 }
 
 /// Whether no name of a variable is too long.
@@ -125,6 +142,13 @@ pub fn names_fit(vars: &[(String, i64)]) -> bool
     ensures { result ≡ list_all (λ var. nat_le (length (string_bytes var.0)) MAX_NAME) vars.now }
 {
     vars.iter().all(|var| var.0.len() <= MAX_NAME)
+}
+
+/// Whether no name of a standing condition is too long.
+pub fn always_names_fit(always: &[(String, Cond)]) -> bool
+    ensures { result ≡ list_all (λ a. nat_le (length (string_bytes a.0)) MAX_NAME) always.now }
+{
+    always.iter().all(|(name, _)| name.len() <= MAX_NAME)
 }
 
 /// Whether no name of a transaction is too long.

@@ -2,8 +2,8 @@
 
 ghost use Rattle.std.specs.Prelude.{◌≡◌, ◌&&◌, ℕ, nat_lt, map, length, string_bytes};
 ghost use Rattle.std.specs.List.{list_all};
-ghost use Rattle.programs.specs.Tree.{expression_of, condition_of, statement_of, statements_of_list, program_of};
-ghost use Rattle.programs.specs.Names.{is_name, knows_expression, knows_condition, knows_statement, knows_statements, knows_program};
+ghost use Rattle.programs.specs.Tree.{expression_of, condition_of, statement_of, statements_of_list, transaction_of};
+ghost use Rattle.programs.specs.Names.{is_name, knows_expression, knows_condition, knows_statement, knows_statements, knows_transaction};
 
 use programs::names::is_name;
 use programs::{Cond, Expr, Stmt, Tx, TxId, VarId};
@@ -69,7 +69,7 @@ fn statements_known(parts: &[Stmt], count: usize) -> bool
 }
 
 fn transaction_known(tx: &Tx, count: usize) -> bool
-    ensures { result ≡ knows_program count (program_of tx.now) }
+    ensures { result ≡ knows_transaction count (transaction_of tx.now) }
 {
     statement_known(&tx.body, count) && expression_known(&tx.result, count)
 }
@@ -81,6 +81,13 @@ pub fn names_have_form(vars: &[(String, i64)]) -> bool
     vars.iter().all(|var| is_name(var.0.as_bytes()))
 }
 
+/// Whether each standing condition's name has the form of one.
+pub fn always_names_have_form(always: &[(String, Cond)]) -> bool
+    ensures { result ≡ list_all (λ a. is_name (string_bytes a.0)) always.now }
+{
+    always.iter().all(|(name, _)| is_name(name.as_bytes()))
+}
+
 /// Whether each transaction's name has the form of one.
 pub fn tx_names_have_form(txs: &[Tx]) -> bool
     ensures { result ≡ list_all (λ tx. is_name (string_bytes tx.name)) txs.now }
@@ -88,9 +95,18 @@ pub fn tx_names_have_form(txs: &[Tx]) -> bool
     txs.iter().all(|tx| is_name(tx.name.as_bytes()))
 }
 
+/// Whether the standing conditions name only variables of these many.
+pub fn always_known(always: &[(String, Cond)], count: usize) -> bool
+    ensures { result ≡ list_all (λ a. knows_condition count (condition_of a.1)) always.now }
+{
+    always
+        .iter()
+        .all(|(_, holds)| condition_known(holds, count))
+}
+
 /// Whether the transactions name only variables of these many.
 pub fn transactions_known(txs: &[Tx], count: usize) -> bool
-    ensures { result ≡ list_all (λ tx. knows_program count (program_of tx)) txs.now }
+    ensures { result ≡ list_all (λ tx. knows_transaction count (transaction_of tx)) txs.now }
 {
     txs.iter().all(|tx| transaction_known(tx, count))
 }

@@ -1,1 +1,2 @@
+pub mod Always
 mod Sequences

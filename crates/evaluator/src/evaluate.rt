@@ -1,15 +1,16 @@
 // Plain evaluation: what the definitions say, on a state of one value for each variable.
 
-ghost use Rattle.std.specs.Prelude.{◌≡◌, ◌<◌, length, IfOk};
+ghost use Rattle.std.specs.Prelude.{◌≡◌, ◌<◌, ◌≤◌, ◌^◌, length, IfOk};
 ghost use Rattle.programs.specs.Arithmetic.{sum_of, difference_of, product_of, quotient_of, remainder_of};
 ghost use Rattle.std.specs.Prelude.{vec_len};
 ghost use Rattle.std.specs.Prelude.{OnOk};
-ghost use Rattle.programs.specs.Meaning.{value, truth, run, run_all, repeated, outcome, after};
-ghost use Rattle.programs.specs.Scope.{ExpressionKnown, ConditionKnown, StatementKnown, StatementsKnown, ProgramKnown};
-ghost use Rattle.programs.specs.Tree.{expression_of, condition_of, statement_of, statements_of_list, program_of};
+ghost use Rattle.programs.specs.Meaning.{value, truth, upheld, final, run, run_all, repeated, outcome, after};
+ghost use Rattle.programs.specs.Scope.{ExpressionKnown, ConditionKnown, ConditionsKnown, StatementKnown, StatementsKnown, ProgramKnown};
+ghost use Rattle.programs.specs.Tree.{expression_of, condition_of, statement_of, statements_of_list, transaction_of, under};
 ghost use Rattle.evaluator.specs.Flow.{ending_of};
+ghost use Rattle.evaluator.specs.Always.{conditions_of};
 
-use programs::{Cond, Expr, Fault, Outcome, Stmt, Tx};
+use programs::{AlwaysId, Cond, Expr, Fault, Outcome, Stmt, Tx};
 use std::alloc::AllocError;
 
 fn sum(x: i64, y: i64) -> Result<i64, Fault>
@@ -67,7 +68,7 @@ pub fn value(e: &Expr, state: &[i64]) -> Result<i64, Fault>
 }
 
 /// Whether a condition holds.
-pub fn holds(c: &Cond, state: &[i64]) -> Result<bool, Fault>
+pub fn truth(c: &Cond, state: &[i64]) -> Result<bool, Fault>
     requires { ConditionKnown (length state.now) (condition_of c.now) }
     ensures { result ≡ truth (condition_of c.now) state.now }
 {
@@ -75,9 +76,9 @@ pub fn holds(c: &Cond, state: &[i64]) -> Result<bool, Fault>
         Cond::Eq(a, b) => Ok(value(a, state)? == value(b, state)?),
         Cond::Lt(a, b) => Ok(value(a, state)? < value(b, state)?),
         Cond::Le(a, b) => Ok(value(a, state)? <= value(b, state)?),
-        Cond::Not(c) => Ok(!holds(c, state)?),
-        Cond::And(a, b) => Ok(holds(a, state)? && holds(b, state)?),
-        Cond::Or(a, b) => Ok(holds(a, state)? || holds(b, state)?),
+        Cond::Not(c) => Ok(!truth(c, state)?),
+        Cond::And(a, b) => Ok(truth(a, state)? && truth(b, state)?),
+        Cond::Or(a, b) => Ok(truth(a, state)? || truth(b, state)?),
     }
 }
 
@@ -106,7 +107,7 @@ pub fn perform(s: &Stmt, state: &mut Vec<i64>) -> Result<Flow, AllocError>
             Err(f) => Ok(Flow::Threw(f)),
         },
         Stmt::Seq(parts) => perform_all(parts.as_slice(), state),
-        Stmt::If(c, a, b) => match holds(c, state.as_slice()) {
+        Stmt::If(c, a, b) => match truth(c, state.as_slice()) {
             Ok(true) => perform(a, state),
             Ok(false) => perform(b, state),
             Err(f) => Ok(Flow::Threw(f)),
@@ -162,16 +163,51 @@ fn repeat(n: u32, s: &Stmt, state: &mut Vec<i64>) -> Result<Flow, AllocError>
     Ok(Flow::Done)
 }
 
-/// How a transaction ends from a state, which is the state after it then.
-pub fn execute(t: &Tx, state: &mut Vec<i64>) -> Result<Outcome, AllocError>
-    requires { ProgramKnown (vec_len state.old) (program_of t.now) }
-    ensures outcome { IfOk result (λ o. o ≡ outcome (program_of t.now) state.old.items) }
-    ensures after { OnOk result (state.new.items ≡ after (program_of t.now) state.old.items) }
+/// The value, where each standing condition is true of the state; else the fault that the first
+/// which is not is broken, be it by no or by a fault.
+fn upheld(always: &[(String, Cond)], state: &[i64], v: i64) -> Result<i64, Fault>
+    requires known { ConditionsKnown (length state.now) (conditions_of always.now) }
+    requires numbered { length always.now ≤ 2 ^ 32 }
+    ensures { result ≡ upheld 0 (conditions_of always.now) state.now v }
+{
+    for (place, (_, condition)) in always.iter().enumerate() {
+        match truth(condition, state) {
+            Ok(true) => {}
+            _ => return Err(Fault::Broken(AlwaysId(place as u32))),
+        }
+    }
+    Ok(v)
+}
+
+/// What a transaction returns in the state where its body is done: its result, where the standing
+/// conditions are true of that state.
+fn finish(t: &Tx, always: &[(String, Cond)], state: &[i64]) -> Result<i64, Fault>
+    requires result { ExpressionKnown (length state.now) (expression_of t.now.result) }
+    requires known { ConditionsKnown (length state.now) (conditions_of always.now) }
+    requires numbered { length always.now ≤ 2 ^ 32 }
+    ensures { result ≡ final (under (conditions_of always.now) (transaction_of t.now)) state.now }
+{
+    let v = value(&t.result, state)?;
+    upheld(always, state, v)
+}
+
+/// How a transaction ends from a state under standing conditions, where the state after it stands
+/// then. One that would leave a condition untrue throws that it is broken, and leaves the state as
+/// it was.
+pub fn execute(
+    t: &Tx,
+    always: &[(String, Cond)],
+    state: &mut Vec<i64>,
+) -> Result<Outcome, AllocError>
+    requires known { ProgramKnown (vec_len state.old) (under (conditions_of always.now) (transaction_of t.now)) }
+    requires numbered { length always.now ≤ 2 ^ 32 }
+    ensures outcome { IfOk result (λ o. o ≡ outcome (under (conditions_of always.now) (transaction_of t.now)) state.old.items) }
+    ensures after { OnOk result (state.new.items ≡ after (under (conditions_of always.now) (transaction_of t.now)) state.old.items) }
     ensures len { vec_len state.new ≡ vec_len state.old }
 {
     let unchanged = state.clone()?;
     let ended = match perform(&t.body, state)? {
-        Flow::Done => match value(&t.result, state.as_slice()) {
+        Flow::Done => match finish(t, always, state.as_slice()) {
             Ok(v) => return Ok(Outcome::Returned(v)),
             Err(f) => Outcome::Thrown(f),
         },

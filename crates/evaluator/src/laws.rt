@@ -5,11 +5,12 @@
 
 ghost use Rattle.std.specs.Prelude.{◌≡◌, ◌≢◌, ℤ, pos, negsuc, [], ◌∷◌, Ok, Err};
 ghost use Rattle.programs.specs.Tree.{Int, Var, Add, Div, Rem, Eq, And, Statement, Statements, Program, Skip, Set, Seq, If, Repeat, Retry, OrElse, Throw, End, More, Expression};
-ghost use Rattle.programs.specs.Meaning.{State, Done, Threw, Retried, value, truth, run, outcome, after};
+ghost use Rattle.programs.specs.Meaning.{State, Done, Threw, Retried, value, truth, run, broken, outcome, after};
+ghost use Rattle.programs.specs.Standing.{AllTrue};
 ghost use Rattle.programs.specs.declared.ast.Fault.{Fault};
 ghost use Rattle.programs.specs.declared.ast.Fault.TheVariants.{User, Overflow, DivideByZero};
 ghost use Rattle.programs.specs.declared.ast.Outcome.TheVariants.{Returned, Thrown, Retries};
-ghost use Rattle.evaluator.specs.Worked.{x, joined, keeps_nothing, does_not_catch, counts, waits, divides_by_zero, short};
+ghost use Rattle.evaluator.specs.Worked.{x, joined, keeps_nothing, does_not_catch, counts, waits, divides_by_zero, short, lowers, empties};
 
 /// `retry` is a left and a right unit of `orelse`.
 pub fn retry_is_a_unit()
@@ -51,9 +52,18 @@ pub fn only_a_return_changes_the_state()
     ensures retries { (t : Program) (m : State) → outcome t m ≡ Retries → after t m ≡ m }
 {}
 
+/// Standing conditions that are true stay true: a transaction that returns leaves a state where each
+/// is, and every other leaves the state as it was. So one that would break a condition throws.
+#[tactic(auto, using(programs::proofs::Standing::after_upholds))]
+pub fn conditions_stay()
+    ensures { (t : Program) (m : State) → AllTrue t.always m → AllTrue t.always (after t m) }
+{}
+
 /// Evaluations worked out by hand: quotients are cut towards zero, the least number by -1
 /// overflows, also as a remainder; `orelse` and `retry` as above; `and` looks right only where its
-/// left side is yes; a result that faults leaves no write.
+/// left side is yes; a result that faults leaves no write. A standing condition is asked of the
+/// state after the writes: the first that is not true is broken, be it by a fault, and no write is
+/// left.
 pub fn worked_evaluations()
     ensures quotient { value (Div (Int (negsuc 6)) (Int (pos 2))) [] ≡ Ok (negsuc 2) }
     ensures remainder { value (Rem (Int (negsuc 6)) (Int (pos 2))) [] ≡ Ok (negsuc 0) }
@@ -68,4 +78,9 @@ pub fn worked_evaluations()
     ensures both_retry { outcome waits [] ≡ Retries }
     ensures result_faults { outcome divides_by_zero (pos 1 ∷ []) ≡ Thrown DivideByZero }
     ensures right_side_is_not_asked { outcome short [] ≡ Returned (pos 0) }
+    ensures conditions_true { outcome lowers (pos 1 ∷ []) ≡ Returned (pos 0) }
+    ensures first_is_broken { outcome lowers (pos 0 ∷ []) ≡ Thrown (broken 0) }
+    ensures second_is_broken { outcome lowers (pos 4 ∷ []) ≡ Thrown (broken 1) }
+    ensures broken_leaves_no_write { after lowers (pos 4 ∷ []) ≡ pos 4 ∷ [] }
+    ensures broken_by_a_fault { outcome empties (pos 1 ∷ []) ≡ Thrown (broken 0) }
 {}

@@ -1,5 +1,6 @@
 -- Reading tokens from left to right by the grammar, each step with what it reads and the tokens left.
-use Rattle.std.specs.Prelude.{ℕ, zero, suc, Result, Ok, Err, List, [], ◌∷◌, length, codes, nat_lt, if◌then◌else◌}
+use Rattle.std.specs.Prelude.{ℕ, zero, suc, ℤ, pos, Result, Ok, Err, List, [], ◌∷◌, length, codes, nat_lt, if◌then◌else◌}
+use Rattle.std.specs.Ordering.{int_eq}
 use Rattle.std.specs.Str.{bytes_eq}
 use Rattle.std.specs.List.{list_all}
 use Rattle.text_words.specs.Answers.{◌>>=◌}
@@ -7,7 +8,7 @@ use Rattle.text_words.specs.TokenReading.{Read, close_at, name_at, int_at, is_op
 use Rattle.text_words.specs.Bytes.{is_allowed}
 use Rattle.text_words.specs.Tokens.{Lexeme, Opens, Closes, tokens}
 use Rattle.text_words.specs.Tokens as token
-use Rattle.file_grammar.specs.Tree.{Expr, Cond, Stmt, Stmts, NoStmts, MoreStmts, Pair, Declaration, File}
+use Rattle.file_grammar.specs.Tree.{Expr, Cond, Stmt, Stmts, NoStmts, MoreStmts, Pair, Always, Declaration, File}
 use Rattle.file_grammar.specs.Tree as tree
 use Rattle.file_grammar.specs.declared.words.Operator.{Operator}
 use Rattle.file_grammar.specs.declared.words.Operator.TheVariants as operator
@@ -17,6 +18,8 @@ use Rattle.file_grammar.specs.declared.words.Test.{Test}
 use Rattle.file_grammar.specs.declared.words.Test.TheVariants as test
 use Rattle.file_grammar.specs.declared.words.Keyword.{Keyword}
 use Rattle.file_grammar.specs.declared.words.Keyword.TheVariants as keyword
+use Rattle.file_grammar.specs.declared.file.FileForm.{FileForm}
+use Rattle.file_grammar.specs.declared.file.FileForm.TheVariants.{One, Two}
 use Rattle.text_words.specs.declared.fault.ReadFault.{ReadFault}
 use Rattle.text_words.specs.declared.fault.ReadFault.TheVariants.{TooLong, BadByte, Shape}
 
@@ -186,6 +189,20 @@ pair_at word ts = do
   rest ← close_at value.1
   Ok (record { name = name.0; value = value.0 }, rest)
 
+-- ( always NAME COND )
+unfoldable pub always_at : List Lexeme → Read Always
+always_at ts = do
+  inside ← form_at (codes "always") ts
+  name ← name_at inside
+  condition ← cond_at 31 name.1
+  rest ← close_at condition.1
+  Ok (record { name = name.0; condition = condition.0 }, rest)
+
+-- conditions, of which form 1 has none
+unfoldable pub conditions_at : FileForm → List Lexeme → Read (List Always)
+conditions_at One ts = Ok ([], ts)
+conditions_at Two ts = all_of (begins (codes "always")) always_at ts
+
 unfoldable pub tx_at : List Lexeme → Read Declaration
 tx_at ts = do
   inside ← form_at (codes "tx") ts
@@ -199,14 +216,33 @@ unfoldable pub end_at : List Lexeme → Result Unit ReadFault
 end_at [] = Ok tt
 end_at (t ∷ ts) = Err Shape
 
+-- the only form that is announced
+abbrev pub form_numbered : ℤ → Result FileForm ReadFault
+form_numbered number = if int_eq number (pos 2) then Ok Two else Err Shape
+
+-- ( stm 2 )
+unfoldable pub announced_at : List Lexeme → Read FileForm
+announced_at ts = do
+  inside ← form_at (codes "stm") ts
+  number ← int_at inside
+  form ← form_numbered number.0
+  rest ← close_at number.1
+  Ok (form, rest)
+
+-- form 1, unless another is announced
+unfoldable pub heading_at : List Lexeme → Read FileForm
+heading_at ts = if begins (codes "stm") ts then announced_at ts else Ok (One, ts)
+
 -- the tree of all the tokens
 unfoldable pub file_of : List Lexeme → Result File ReadFault
 file_of ts = do
-  vars ← all_of (begins (codes "var")) (pair_at (codes "var")) ts
-  txs ← all_of (begins (codes "tx")) tx_at vars.1
+  heading ← heading_at ts
+  vars ← all_of (begins (codes "var")) (pair_at (codes "var")) heading.1
+  always ← conditions_at heading.0 vars.1
+  txs ← all_of (begins (codes "tx")) tx_at always.1
   runs ← all_of (begins (codes "run")) (pair_at (codes "run")) txs.1
   ended ← end_at runs.1
-  Ok (record { vars = vars.0; txs = txs.0; runs = runs.0 })
+  Ok (record { form = heading.0; vars = vars.0; always = always.0; txs = txs.0; runs = runs.0 })
 
 -- the tree of the bytes, or the first fault
 unfoldable pub tree_of : List ℕ → Result File ReadFault

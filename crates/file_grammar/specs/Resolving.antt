@@ -3,10 +3,10 @@ use Rattle.std.specs.Prelude.{ℕ, ℤ, Bool, true, is_some, ◌&&◌, nat_lt, i
 use Rattle.std.specs.List.{list_all, list_any}
 use Rattle.programs.specs.declared.ast.VarId.{VarId}
 use Rattle.programs.specs.declared.ast.TxId.{TxId}
-use Rattle.programs.specs.Tree.{Expression, Condition, Statement, Statements, Program}
+use Rattle.programs.specs.Tree.{Expression, Condition, Statement, Statements, Transaction}
 use Rattle.programs.specs.Tree as t
 use Rattle.programs.specs.Listing.{Listing}
-use Rattle.file_grammar.specs.Tree.{Expr, Cond, Stmt, Stmts, NoStmts, MoreStmts, Pair, Declaration, File}
+use Rattle.file_grammar.specs.Tree.{Expr, Cond, Stmt, Stmts, NoStmts, MoreStmts, Pair, Always, Declaration, File}
 use Rattle.file_grammar.specs.Tree as f
 use Rattle.text_words.specs.Answers.{◌>>=◌}
 use Rattle.text_words.specs.Numbers.{number_of, count_of}
@@ -59,6 +59,9 @@ abbrev mutual
   stmts_known names NoStmts = true
   stmts_known names (MoreStmts first others) = stmt_known names first && stmts_known names others
 
+abbrev pub always_known : List (List ℕ) → Always → Bool
+always_known names a = cond_known names a.condition
+
 abbrev pub tx_known : List (List ℕ) → Declaration → Bool
 tx_known names t = stmt_known names t.body && expr_known names t.value
 
@@ -67,7 +70,7 @@ run_known names run = is_known names run.name
 
 -- only declared variables and transactions are used
 unfoldable pub uses_known : List (List ℕ) → List (List ℕ) → File → Bool
-uses_known vars txs file = list_all (tx_known vars) file.txs && list_all (run_known txs) file.runs
+uses_known vars txs file = list_all (always_known vars) file.always && (list_all (tx_known vars) file.txs && list_all (run_known txs) file.runs)
 
 -- ---- ids
 
@@ -83,7 +86,7 @@ place_in names name = placed (position (bytes_eq name) names)
 unfoldable pub variable_in : List (List ℕ) → List ℕ → Result VarId ReadFault
 variable_in names name = place_in names name >>= λ place. Ok (record { 0 = place })
 
--- ---- programs
+-- ---- conditions and transactions
 
 abbrev pub binary : Operator → Expression → Expression → Expression
 binary operator.Add = t.Add
@@ -136,25 +139,33 @@ each one (x ∷ xs) = one x >>= λ y. each one xs >>= λ ys. Ok (y ∷ ys)
 abbrev pub variable_of : Pair → Result (List ℕ × ℤ) ReadFault
 variable_of p = number_of p.value >>= λ n. Ok (p.name, n)
 
-abbrev pub program_in : List (List ℕ) → Declaration → Result Program ReadFault
-program_in names d = statement_in names d.body >>= λ body. expression_in names d.value >>= λ result. Ok (record { name = d.name; body = body; result = result })
+abbrev pub always_in : List (List ℕ) → Always → Result (List ℕ × Condition) ReadFault
+always_in names a = condition_in names a.condition >>= λ condition. Ok (a.name, condition)
+
+abbrev pub transaction_in : List (List ℕ) → Declaration → Result Transaction ReadFault
+transaction_in names d = statement_in names d.body >>= λ body. expression_in names d.value >>= λ result. Ok (record { name = d.name; body = body; result = result })
 
 abbrev pub run_in : List (List ℕ) → Pair → Result (TxId × ℕ) ReadFault
 run_in names p = place_in names p.name >>= λ place. count_of p.value >>= λ n. Ok (record { 0 = place }, n)
 
-abbrev pub listing : List (List ℕ × ℤ) → List Program → List (TxId × ℕ) → Listing
-listing vars programs runs = record { names = map (λ v. v.0) vars; initial = map (λ v. v.1) vars; programs = programs; runs = runs }
+abbrev pub listing : List (List ℕ × ℤ) → List (List ℕ × Condition) → List Transaction → List (TxId × ℕ) → Listing
+listing vars always transactions runs =
+    record { names = map (λ v. v.0) vars; initial = map (λ v. v.1) vars; always = always; transactions = transactions; runs = runs }
 
 -- the listing of a file whose names are known
 unfoldable pub converted : List (List ℕ) → List (List ℕ) → File → Result Listing ReadFault
 converted vars txs file = do
   values ← each variable_of file.vars
-  programs ← each (program_in vars) file.txs
+  always ← each (always_in vars) file.always
+  transactions ← each (transaction_in vars) file.txs
   runs ← each (run_in txs) file.runs
-  Ok (listing values programs runs)
+  Ok (listing values always transactions runs)
 
 abbrev pub pair_name : Pair → List ℕ
 pair_name p = p.name
+
+abbrev pub condition_name : Always → List ℕ
+condition_name a = a.name
 
 abbrev pub tx_name : Declaration → List ℕ
 tx_name d = d.name
@@ -163,5 +174,6 @@ tx_name d = d.name
 unfoldable pub resolved : File → Result Listing ReadFault
 resolved file = do
   vars ← declared_after [] (map pair_name file.vars)
+  conditions ← declared_after [] (map condition_name file.always)
   txs ← declared_after [] (map tx_name file.txs)
   if uses_known vars txs file then converted vars txs file else Err Name

@@ -2,18 +2,20 @@
 use Rattle.std.specs.Prelude.{◌≡◌, ℕ, Bool, true, ◌&&◌, if◌then◌else◌, Option, Some, None, Result, Ok, Err, List, length}
 use Rattle.std.specs.List.{list_all}
 use Rattle.programs.specs.Arithmetic.{fits}
-use Rattle.programs.specs.Tree.{Expression, Condition, Statement, Statements, Program}
+use Rattle.programs.specs.Tree.{Expression, Condition, Statement, Statements, Transaction}
 use Rattle.programs.specs.Tree as t
-use Rattle.programs.specs.Listing.{Listing}
+use Rattle.programs.specs.Listing.{Listing, conditions}
+use Rattle.programs.specs.Standing.{upholds}
 use Rattle.programs.specs.Names.{names_hold}
 use Rattle.programs.specs.Limits.{limits_hold}
 use Rattle.file_grammar.specs.Tree.{SpellsTree}
-use Rattle.file_grammar.specs.Written.{written}
+use Rattle.file_grammar.specs.Written.{written_in}
 use Rattle.text_words.specs.Answers.{◌>>=◌}
 use Rattle.file_grammar.specs.Reading.{tree_of}
 use Rattle.file_grammar.specs.Resolving.{resolved}
 use Rattle.text_words.specs.declared.fault.ReadFault.{ReadFault}
-use Rattle.text_words.specs.declared.fault.ReadFault.TheVariants.{Name, Limit}
+use Rattle.text_words.specs.declared.fault.ReadFault.TheVariants.{Name, Limit, Broken}
+use Rattle.file_grammar.specs.declared.file.FileForm.{FileForm}
 
 -- each integer is one of 64 signed bits
 abbrev pub expression_integers : Expression → Bool
@@ -48,27 +50,33 @@ abbrev mutual
   statements_integers t.End = true
   statements_integers (t.More p rest) = statement_integers p && statements_integers rest
 
-abbrev pub program_integers : Program → Bool
-program_integers p = statement_integers p.body && expression_integers p.result
+abbrev pub transaction_integers : Transaction → Bool
+transaction_integers t = statement_integers t.body && expression_integers t.result
 
 unfoldable pub integers_fit : Listing → Bool
-integers_fit l = list_all fits l.initial && list_all program_integers l.programs
+integers_fit l = list_all fits l.initial && (list_all condition_integers (conditions l) && list_all transaction_integers l.transactions)
 
--- the bytes spell the file that declares the listing, whose names, limits and integers hold
-pub record Spells (bytes : List ℕ) (l : Listing) : Type 0 where
-  pub spelled : SpellsTree bytes (written l)
+-- the bytes spell a file that declares the listing, whose names, limits and integers hold
+pub record Declares (bytes : List ℕ) (l : Listing) : Type 0 where
+  pub form : FileForm
+  pub spelled : SpellsTree bytes (written_in form l)
   -- each variable has one initial value
   pub valued : length l.initial ≡ length l.names
   pub names : names_hold l ≡ true
   pub limits : limits_hold l ≡ true
   pub integers : integers_fit l ≡ true
 
+-- and each standing condition is true of the initial values
+pub record Spells (bytes : List ℕ) (l : Listing) : Type 0 where
+  pub declared : Declares bytes l
+  pub upheld : upholds l l.initial ≡ true
+
 -- ---- the same, read from left to right
 
 abbrev pub lawful : Listing → Result Listing ReadFault
-lawful l = if names_hold l then (if limits_hold l then Ok l else Err Limit) else Err Name
+lawful l = if names_hold l then (if limits_hold l then (if upholds l l.initial then Ok l else Err Broken) else Err Limit) else Err Name
 
--- what the bytes are read as: first the tree of all of them, then its names, then its numbers and limits
+-- what the bytes are read as: first the tree of all of them, then its names, then its numbers and limits, then its conditions
 unfoldable pub listing_at : List ℕ → Result Listing ReadFault
 listing_at bytes = tree_of bytes >>= λ f. resolved f >>= λ l. lawful l
 

@@ -1,5 +1,5 @@
 -- Files as trees, and the tokens that spell them: the grammar, one clause a form.
-use Rattle.std.specs.Prelude.{◌≡◌, ℕ, suc, ◌≤◌, ℤ, true, List, [], ◌∷◌, ◌++◌, length, max, codes}
+use Rattle.std.specs.Prelude.{◌≡◌, ℕ, suc, ◌≤◌, ℤ, pos, true, List, [], ◌∷◌, ◌++◌, length, max, codes}
 use Rattle.std.specs.List.{flat_map, list_all, AllByRecursion}
 use Rattle.text_words.specs.Bytes.{is_allowed}
 use Rattle.text_words.specs.Tokens.{Lexeme, Opens, Closes, tokens}
@@ -12,6 +12,8 @@ use Rattle.file_grammar.specs.declared.words.Connective.{Connective}
 use Rattle.file_grammar.specs.declared.words.Connective.TheVariants as connective
 use Rattle.file_grammar.specs.declared.words.Keyword.{Keyword}
 use Rattle.file_grammar.specs.declared.words.Keyword.TheVariants as keyword
+use Rattle.file_grammar.specs.declared.file.FileForm.{FileForm}
+use Rattle.file_grammar.specs.declared.file.FileForm.TheVariants.{One, Two}
 
 -- names are texts, and integers have no bounds
 pub data Expr : Type 0 where
@@ -44,6 +46,11 @@ pub record Pair : Type 0 where
   pub name : List ℕ
   pub value : ℤ
 
+-- a standing condition
+pub record Always : Type 0 where
+  pub name : List ℕ
+  pub condition : Cond
+
 -- a transaction
 pub record Declaration : Type 0 where
   pub name : List ℕ
@@ -51,7 +58,9 @@ pub record Declaration : Type 0 where
   pub value : Expr
 
 pub record File : Type 0 where
+  pub form : FileForm
   pub vars : List Pair
+  pub always : List Always
   pub txs : List Declaration
   pub runs : List Pair
 
@@ -113,12 +122,27 @@ abbrev mutual
 abbrev pub pair_tokens : List ℕ → Pair → List Lexeme
 pair_tokens word p = form word (token.Name p.name ∷ token.Int p.value ∷ [])
 
+abbrev pub always_tokens : Always → List Lexeme
+always_tokens a = form (codes "always") (token.Name a.name ∷ cond_tokens a.condition)
+
 abbrev pub tx_tokens : Declaration → List Lexeme
 tx_tokens t = form (codes "tx") (token.Name t.name ∷ (stmt_tokens t.body ++ expr_tokens t.value))
 
--- the variables, then the transactions, then the runs
+-- form 2 says so, form 1 says nothing
+abbrev pub heading_tokens : FileForm → List Lexeme
+heading_tokens One = []
+heading_tokens Two = form (codes "stm") (token.Int (pos 2) ∷ [])
+
+-- the form, then the variables, then the conditions, then the transactions, then the runs
 abbrev pub file_tokens : File → List Lexeme
-file_tokens f = flat_map (pair_tokens (codes "var")) f.vars ++ (flat_map tx_tokens f.txs ++ flat_map (pair_tokens (codes "run")) f.runs)
+file_tokens f =
+    heading_tokens f.form ++ (flat_map (pair_tokens (codes "var")) f.vars ++ (flat_map always_tokens f.always
+    ++ (flat_map tx_tokens f.txs ++ flat_map (pair_tokens (codes "run")) f.runs)))
+
+-- form 1 has no conditions
+abbrev pub IsInForm : FileForm → List Always → Type 0
+IsInForm One always = always ≡ []
+IsInForm Two always = Unit {0}
 
 -- how many parentheses are open at a time, at most
 abbrev pub expr_depth : Expr → ℕ
@@ -146,12 +170,15 @@ abbrev mutual
   stmts_depth NoStmts = 0
   stmts_depth (MoreStmts first others) = max (stmt_depth first) (stmts_depth others)
 
--- the parenthesis of the transaction is one more, so that at most 32 are open
+-- the parenthesis of the condition or of the transaction is one more, so that at most 32 are open
+abbrev pub IsShallowAlways : Always → Type 0
+IsShallowAlways a = cond_depth a.condition ≤ 31
+
 abbrev pub IsShallow : Declaration → Type 0
 IsShallow t = (stmt_depth t.body ≤ 31) × (expr_depth t.value ≤ 31)
 
 abbrev pub AreShallow : File → Type 0
-AreShallow f = AllByRecursion IsShallow f.txs
+AreShallow f = AllByRecursion IsShallowAlways f.always × AllByRecursion IsShallow f.txs
 
 -- the longest file, in bytes
 abbrev pub max_len : ℕ
@@ -162,4 +189,5 @@ pub record SpellsTree (bytes : List ℕ) (f : File) : Type 0 where
   pub short : length bytes ≤ max_len
   pub allowed : list_all is_allowed bytes ≡ true
   pub spelled : tokens bytes ≡ file_tokens f
+  pub formed : IsInForm f.form f.always
   pub shallow : AreShallow f

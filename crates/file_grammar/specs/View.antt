@@ -1,7 +1,7 @@
 -- What the code's raw trees say, and not where they lie in memory.
 use Rattle.std.specs.Prelude.{List, map}
 use Rattle.text_words.specs.Bytes.{int_value}
-use Rattle.file_grammar.specs.Tree.{Expr, Cond, Stmt, Stmts, NoStmts, MoreStmts, Pair, Declaration, File}
+use Rattle.file_grammar.specs.Tree.{Expr, Cond, Stmt, Stmts, NoStmts, MoreStmts, Pair, Always, Declaration, File}
 use Rattle.file_grammar.specs.Tree as tree
 use Rattle.file_grammar.specs.declared.expr.RawExpr.{RawExpr}
 use Rattle.file_grammar.specs.declared.expr.RawExpr as expr
@@ -10,6 +10,7 @@ use Rattle.file_grammar.specs.declared.cond.RawCond as cond
 use Rattle.file_grammar.specs.declared.stmt.RawStmt.{RawStmt, Row_of-RawStmt, end_of-RawStmt, more_of-RawStmt}
 use Rattle.file_grammar.specs.declared.stmt.RawStmt as stmt
 use Rattle.file_grammar.specs.declared.file.RawPair.{RawPair}
+use Rattle.file_grammar.specs.declared.file.RawAlways.{RawAlways}
 use Rattle.file_grammar.specs.declared.file.RawTx.{RawTx}
 use Rattle.file_grammar.specs.declared.file.RawFile.{RawFile}
 
@@ -47,6 +48,12 @@ view_pair p = record { name = p.name.now; value = int_value p.value.text.now }
 abbrev pub view_pairs : List RawPair → List Pair
 view_pairs ps = map view_pair ps
 
+abbrev pub view_always : RawAlways → Always
+view_always a = record { name = a.name.now; condition = view_cond a.condition }
+
+abbrev pub view_conditions : List RawAlways → List Always
+view_conditions always = map view_always always
+
 abbrev pub view_tx : RawTx → Declaration
 view_tx t = record { name = t.name.now; body = view_stmt t.body; value = view_expr t.value }
 
@@ -54,4 +61,11 @@ abbrev pub view_txs : List RawTx → List Declaration
 view_txs ts = map view_tx ts
 
 abbrev pub view_file : RawFile → File
-view_file f = record { vars = view_pairs f.vars.items; txs = view_txs f.txs.items; runs = view_pairs f.runs.items }
+view_file f =
+    record {
+      form = f.form;
+      vars = view_pairs f.vars.items;
+      always = view_conditions f.always.items;
+      txs = view_txs f.txs.items;
+      runs = view_pairs f.runs.items;
+    }

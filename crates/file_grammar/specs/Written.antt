@@ -1,14 +1,16 @@
--- The file that declares a listing: each id written as its name, each number as it is.
+-- The files that declare a listing: each id written as its name, each number as it is.
 use Rattle.std.specs.Prelude.{ℕ, ℤ, pos, List, [], ◌∷◌, map, slice_index_or}
 use Rattle.programs.specs.declared.ast.TxId.{TxId}
-use Rattle.programs.specs.Tree.{Expression, Condition, Statement, Statements, Program}
+use Rattle.programs.specs.Tree.{Expression, Condition, Statement, Statements, Transaction}
 use Rattle.programs.specs.Tree as t
 use Rattle.programs.specs.Listing.{Listing}
-use Rattle.file_grammar.specs.Tree.{Expr, Cond, Stmt, Stmts, NoStmts, MoreStmts, Pair, Declaration, File}
+use Rattle.file_grammar.specs.Tree.{Expr, Cond, Stmt, Stmts, NoStmts, MoreStmts, Pair, Always, Declaration, File}
 use Rattle.file_grammar.specs.Tree as f
 use Rattle.file_grammar.specs.declared.words.Operator.TheVariants as operator
 use Rattle.file_grammar.specs.declared.words.Comparison.TheVariants as comparison
 use Rattle.file_grammar.specs.declared.words.Connective.TheVariants as connective
+use Rattle.file_grammar.specs.declared.file.FileForm.{FileForm}
+use Rattle.file_grammar.specs.declared.file.FileForm.TheVariants.{One, Two}
 
 -- the name at a place
 abbrev pub name_at : List (List ℕ) → ℕ → List ℕ
@@ -46,22 +48,36 @@ abbrev mutual
   written_statements names t.End = NoStmts
   written_statements names (t.More p rest) = MoreStmts (written_statement names p) (written_statements names rest)
 
-abbrev pub written_program : List (List ℕ) → Program → Declaration
-written_program names p = record { name = p.name; body = written_statement names p.body; value = written_expression names p.result }
+abbrev pub written_always : List (List ℕ) → List ℕ × Condition → Always
+written_always names a = record { name = a.0; condition = written_condition names a.1 }
+
+abbrev pub written_transaction : List (List ℕ) → Transaction → Declaration
+written_transaction names t = record { name = t.name; body = written_statement names t.body; value = written_expression names t.result }
 
 -- a variable and its initial value, side by side
 abbrev pub written_vars : List (List ℕ) → List ℤ → List Pair
 written_vars (name ∷ names) (value ∷ values) = record { name = name; value = value } ∷ written_vars names values
 written_vars names values = []
 
-abbrev pub written_run : List Program → TxId × ℕ → Pair
-written_run programs run = record { name = name_at (map (λ p. p.name) programs) run.0.0; value = pos run.1 }
+abbrev pub written_run : List Transaction → TxId × ℕ → Pair
+written_run transactions run = record { name = name_at (map (λ t. t.name) transactions) run.0.0; value = pos run.1 }
 
--- the file of a listing
-unfoldable pub written : Listing → File
-written l =
+-- the file of a listing, in one form or the other
+unfoldable pub written_in : FileForm → Listing → File
+written_in form l =
     record {
+      form = form;
       vars = written_vars l.names l.initial;
-      txs = map (written_program l.names) l.programs;
-      runs = map (written_run l.programs) l.runs;
+      always = map (written_always l.names) l.always;
+      txs = map (written_transaction l.names) l.transactions;
+      runs = map (written_run l.transactions) l.runs;
     }
+
+-- the first form that has room for the conditions
+abbrev pub form_for : List (List ℕ × Condition) → FileForm
+form_for [] = One
+form_for (a ∷ always) = Two
+
+-- the file as it is printed
+abbrev pub written : Listing → File
+written l = written_in (form_for l.always) l

@@ -1,5 +1,6 @@
 //! Files as trees of texts.
 
+use crate::cond::RawCond;
 use crate::expr::RawExpr;
 use crate::stmt::RawStmt;
 use text_words::numeral::Numeral;
@@ -9,6 +10,20 @@ use text_words::numeral::Numeral;
 pub struct RawPair<'a> {
     pub name: &'a str,
     pub value: Numeral<'a>,
+}
+
+/// The form of a file: the second can have standing conditions.
+#[derive(Clone, Copy, Debug, PartialEq, Eq)]
+pub enum FileForm {
+    One,
+    Two,
+}
+
+/// A standing condition.
+#[derive(Debug, Drop)]
+pub struct RawAlways<'a> {
+    pub name: &'a str,
+    pub condition: RawCond<'a>,
 }
 
 /// A transaction.
@@ -22,7 +37,9 @@ pub struct RawTx<'a> {
 /// A file whose names are not looked up and whose integers are not measured.
 #[derive(Debug, Drop)]
 pub struct RawFile<'a> {
+    pub form: FileForm,
     pub vars: Vec<RawPair<'a>>,
+    pub always: Vec<RawAlways<'a>>,
     pub txs: Vec<RawTx<'a>>,
     pub runs: Vec<RawPair<'a>>,
 }

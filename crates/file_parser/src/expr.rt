@@ -3,7 +3,7 @@
 ghost use Rattle.std.specs.Prelude.{◌≡◌, ◌<◌, IfOk, length};
 ghost use Rattle.text_words.specs.Tokens.{tokens};
 ghost use Rattle.text_words.specs.Answers.{Gives};
-ghost use Rattle.file_grammar.specs.Reading.{expr_at};
+ghost use Rattle.file_grammar.specs.Reading.{expr_at, binary_with};
 ghost use Rattle.file_grammar.specs.View.{view_expr};
 
 use file_grammar::expr::RawExpr;
@@ -14,6 +14,7 @@ use text_words::lexer::Token;
 use text_words::tokens::{close, name_of, token_of};
 
 /// An expression with no more than `depth` parentheses open at a time.
+#[cycle(exprs)]
 #[tactic(auto, unfolding(file_grammar::specs::Reading::expr_at))]
 pub(crate) fn expr_of(
     alloc: Global,
@@ -31,15 +32,24 @@ pub(crate) fn expr_of(
             if depth == 0 {
                 return Err(ReadFault::Shape);
             }
-            let (word, rest) = name_of(rest)?;
-            let operator = operator_of(word)?;
-            let (left, rest) = expr_of(alloc, depth - 1, rest)?;
-            let (right, rest) = expr_of(alloc, depth - 1, rest)?;
-            let rest = close(rest)?;
-            let left = Box::new(alloc, left)?;
-            let right = Box::new(alloc, right)?;
-            Ok((RawExpr::Binary(operator, left, right), rest))
+            binary_of(alloc, depth - 1, rest)
         }
         Token::Close | Token::Other => Err(ReadFault::Shape),
     }
+}
+
+/// An operation behind its parenthesis.
+#[cycle(exprs)]
+fn binary_of(alloc: Global, depth: u32, bytes: &[u8]) -> Result<(RawExpr<'_>, &[u8]), ReadFault>
+    ensures value { Gives (λ x. (view_expr x.0, tokens x.1.now)) result (binary_with (expr_at depth) (tokens bytes.now)) }
+    ensures shorter { IfOk result (λ x. length x.1.now < length bytes.now) }
+{
+    let (word, rest) = name_of(bytes)?;
+    let operator = operator_of(word)?;
+    let (left, rest) = expr_of(alloc, depth, rest)?;
+    let (right, rest) = expr_of(alloc, depth, rest)?;
+    let rest = close(rest)?;
+    let left = Box::new(alloc, left)?;
+    let right = Box::new(alloc, right)?;
+    Ok((RawExpr::Binary(operator, left, right), rest))
 }

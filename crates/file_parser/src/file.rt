@@ -1,19 +1,22 @@
 //! Files as trees of texts.
 
 ghost use Rattle.std.specs.Prelude.{◌≡◌, ◌<◌, IfOk, length, codes};
+ghost use Rattle.text_words.specs.Bytes.{int_value};
 ghost use Rattle.text_words.specs.Tokens.{tokens};
 ghost use Rattle.text_words.specs.Answers.{Gives};
-ghost use Rattle.file_grammar.specs.Reading.{pair_at, tx_at, end_at, file_of, tree_of};
+ghost use Rattle.file_grammar.specs.Reading.{pair_at, always_at, conditions_at, tx_at, end_at, form_numbered, announced_at, heading_at, file_of, tree_of};
 ghost use Rattle.text_words.specs.TokenReading.{begins, all_of};
-ghost use Rattle.file_grammar.specs.View.{view_pair, view_pairs, view_tx, view_txs, view_file};
+ghost use Rattle.file_grammar.specs.View.{view_pair, view_pairs, view_always, view_conditions, view_tx, view_txs, view_file};
 
+use crate::cond::cond_of;
 use crate::expr::expr_of;
 use crate::stmt::stmt_of;
-use file_grammar::file::{RawFile, RawPair, RawTx};
+use file_grammar::file::{FileForm, RawAlways, RawFile, RawPair, RawTx};
 use std::alloc::Global;
 use text_words::ReadFault;
 use text_words::bytes::are_allowed;
 use text_words::lexer::next_token;
+use text_words::numeral::Numeral;
 use text_words::tokens::{begins, close, form, int_of, name_of};
 
 #[tactic(auto, unfolding(file_grammar::specs::Reading::pair_at))]
@@ -28,8 +31,20 @@ fn pair_of<'a>(bytes: &'a [u8], word: &str) -> Result<(RawPair<'a>, &'a [u8]), R
     Ok((RawPair { name, value }, rest))
 }
 
-/// The most parentheses that may be open inside the one of a transaction.
+/// The most parentheses that may be open inside the one of a condition or of a transaction.
 const INNER_DEPTH: u32 = 31;
+
+#[tactic(auto, unfolding(file_grammar::specs::Reading::always_at))]
+fn always_of(alloc: Global, bytes: &[u8]) -> Result<(RawAlways<'_>, &[u8]), ReadFault>
+    ensures value { Gives (λ x. (view_always x.0, tokens x.1.now)) result (always_at (tokens bytes.now)) }
+    ensures shorter { IfOk result (λ x. length x.1.now < length bytes.now) }
+{
+    let rest = form(bytes, "always")?;
+    let (name, rest) = name_of(rest)?;
+    let (condition, rest) = cond_of(alloc, INNER_DEPTH, rest)?;
+    let rest = close(rest)?;
+    Ok((RawAlways { name, condition }, rest))
+}
 
 #[tactic(auto, unfolding(file_grammar::specs::Reading::tx_at))]
 fn tx_of(alloc: Global, bytes: &[u8]) -> Result<(RawTx<'_>, &[u8]), ReadFault>
@@ -61,6 +76,34 @@ fn pairs_of<'a>(
     Ok((pairs, rest))
 }
 
+fn standing_of(alloc: Global, bytes: &[u8]) -> Result<(Vec<RawAlways<'_>>, &[u8]), ReadFault>
+    ensures { Gives (λ x. (view_conditions x.0.items, tokens x.1.now)) result (all_of (begins (codes "always")) always_at (tokens bytes.now)) }
+{
+    let mut standing = Vec::new(alloc);
+    let mut rest = bytes;
+    'standing: while begins(rest, "always") {
+        let (always, after) = always_of(alloc, rest)?;
+        standing.push(always)?;
+        rest = after;
+    }
+    Ok((standing, rest))
+}
+
+/// Conditions, of which form 1 has none.
+#[tactic(auto, unfolding(file_grammar::specs::Reading::conditions_at))]
+fn conditions_of(
+    alloc: Global,
+    file_form: FileForm,
+    bytes: &[u8],
+) -> Result<(Vec<RawAlways<'_>>, &[u8]), ReadFault>
+    ensures { Gives (λ x. (view_conditions x.0.items, tokens x.1.now)) result (conditions_at file_form (tokens bytes.now)) }
+{
+    match file_form {
+        FileForm::One => Ok((Vec::new(alloc), bytes)),
+        FileForm::Two => standing_of(alloc, bytes),
+    }
+}
+
 fn txs_of(alloc: Global, bytes: &[u8]) -> Result<(Vec<RawTx<'_>>, &[u8]), ReadFault>
     ensures { Gives (λ x. (view_txs x.0.items, tokens x.1.now)) result (all_of (begins (codes "tx")) tx_at (tokens bytes.now)) }
 {
@@ -84,16 +127,57 @@ fn end(bytes: &[u8]) -> Result<(), ReadFault>
     }
 }
 
+/// The form of this number, where it is one that is announced.
+fn form_numbered(number: Numeral<'_>) -> Result<FileForm, ReadFault>
+    ensures { Gives (λ x. x) result (form_numbered (int_value number.entry.text.now)) }
+{
+    match number.text.parse::<i64>() {
+        Ok(2) => Ok(FileForm::Two),
+        _ => Err(ReadFault::Shape),
+    }
+}
+
+#[tactic(auto, unfolding(file_grammar::specs::Reading::announced_at))]
+fn announced_of(bytes: &[u8]) -> Result<(FileForm, &[u8]), ReadFault>
+    ensures { Gives (λ x. (x.0, tokens x.1.now)) result (announced_at (tokens bytes.now)) }
+{
+    let rest = form(bytes, "stm")?;
+    let (number, rest) = int_of(rest)?;
+    let file_form = form_numbered(number)?;
+    let rest = close(rest)?;
+    Ok((file_form, rest))
+}
+
+/// Form 1, unless another is announced.
+#[tactic(auto, unfolding(file_grammar::specs::Reading::heading_at))]
+fn heading_of(bytes: &[u8]) -> Result<(FileForm, &[u8]), ReadFault>
+    ensures { Gives (λ x. (x.0, tokens x.1.now)) result (heading_at (tokens bytes.now)) }
+{
+    if begins(bytes, "stm") {
+        announced_of(bytes)
+    } else {
+        Ok((FileForm::One, bytes))
+    }
+}
+
 /// The tree of all the tokens.
 #[tactic(auto, unfolding(file_grammar::specs::Reading::file_of))]
 fn file_of(alloc: Global, bytes: &[u8]) -> Result<RawFile<'_>, ReadFault>
     ensures { Gives view_file result (file_of (tokens bytes.now)) }
 {
-    let (vars, rest) = pairs_of(alloc, bytes, "var")?;
+    let (form, rest) = heading_of(bytes)?;
+    let (vars, rest) = pairs_of(alloc, rest, "var")?;
+    let (always, rest) = conditions_of(alloc, form, rest)?;
     let (txs, rest) = txs_of(alloc, rest)?;
     let (runs, rest) = pairs_of(alloc, rest, "run")?;
     end(rest)?;
-    Ok(RawFile { vars, txs, runs })
+    Ok(RawFile {
+        form,
+        vars,
+        always,
+        txs,
+        runs,
+    })
 }
 
 /// The longest file, in bytes.

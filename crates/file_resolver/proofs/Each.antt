@@ -1,5 +1,5 @@
 -- The loop over items, each of which may fail.
-use Rattle.std.proofs.Common.{◌≡◌, ℕ, suc, ◌+◌, ◌<◌, List, [], ◌∷◌, ◌++◌, length, get_or, drop, map, Result, Ok, Err, refl, sym, ap, ◌∙◌, append_assoc, add-one}
+use Rattle.std.proofs.Common.{◌≡◌, ℕ, suc, ◌+◌, ◌<◌, List, [], ◌∷◌, ◌++◌, length, get_or, drop, map, Result, Ok, Err, refl, sym, ap, ◌∙◌, append_assoc, add-one, arith}
 use Rattle.std.proofs.Math.Seq.{drop-cons}
 use Rattle.std.proofs.lemmas.List.{append-nil}
 use Rattle.text_words.specs.declared.fault.ReadFault.{ReadFault}
@@ -33,6 +33,10 @@ each_fails e one front x xs total fails so_far =
 
 pub each_done : {A B : Type 0} (one : A → Result B ReadFault) (front : List B) (total : Result (List B) ReadFault) → joined front (each one []) ≡ total → total ≡ Ok front
 each_done one front total so_far = sym so_far ∙ ap done (append-nil front)
+
+pub nothing_left : {X : Type 0} (xs : List X) → length xs ≡ 0 → xs ≡ []
+nothing_left [] h = refl
+nothing_left (x ∷ xs) h = absurd (omega arith)
 
 next_item : {X : Type 0} (xs : List X) (i : ℕ) (x : X) → i < length xs → x ≡ get_or xs i x → drop i xs ≡ x ∷ drop (i + 1) xs
 next_item xs i x lt is = drop-cons xs i x lt ∙ ap (λ y. y ∷ drop (suc i) xs) (sym is) ∙ ap (λ k. x ∷ drop k xs) (sym (add-one i))

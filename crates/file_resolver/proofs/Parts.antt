@@ -1,17 +1,18 @@
 -- What the parts of a file come to.
 use Rattle.std.proofs.Common.{◌≡◌, ℕ, ℤ, List, [], ◌∷◌, map, Result, Ok, Err, refl, ap, ◌∙◌, String, Global, string_bytes}
+use Rattle.programs.specs.declared.ast.Cond.{Cond}
 use Rattle.programs.specs.declared.ast.Tx.{Tx}
 use Rattle.programs.specs.declared.ast.TxId.{TxId}
 use Rattle.programs.specs.declared.ast.Stmt.{Stmt}
-use Rattle.programs.specs.Tree.{Statement, Statements, End, More, Program, program_of, statement_of, statements_of_list}
+use Rattle.programs.specs.Tree.{Condition, Statement, Statements, End, More, Transaction, transaction_of, statement_of, statements_of_list}
 use Rattle.programs.specs.Tree as t
 use Rattle.programs.specs.Listing.{listing_of}
 use Rattle.text_words.specs.declared.fault.ReadFault.{ReadFault}
 use Rattle.file_grammar.specs.Tree.{Stmt as Tree, Seq, File}
 use Rattle.text_words.specs.Answers.{◌>>=◌}
 use Rattle.file_grammar.specs.Reading.{row}
-use Rattle.file_grammar.specs.Resolving.{each, statement_in, statements_in, listing, variable_of, program_in, run_in, converted}
-use Rattle.file_resolver.specs.Parts.{view_variable}
+use Rattle.file_grammar.specs.Resolving.{each, statement_in, statements_in, listing, variable_of, always_in, transaction_in, run_in, converted}
+use Rattle.file_resolver.specs.Parts.{view_variable, view_condition}
 use Rattle.text_words.proofs.Steps.{done}
 
 names_are : (vars : List (String Global × ℤ)) → map (λ (v : List ℕ × ℤ). v.0) (map view_variable vars) ≡ map (λ (v : String Global × ℤ). string_bytes v.0) vars
@@ -22,8 +23,9 @@ values_are : (vars : List (String Global × ℤ)) → map (λ (v : List ℕ × �
 values_are [] = refl
 values_are (v ∷ vars) = ap (λ l. v.1 ∷ l) (values_are vars)
 
-pub parts_are : (vars : List (String Global × ℤ)) (txs : List Tx) (runs : List (TxId × ℕ)) → listing (map view_variable vars) (map program_of txs) runs ≡ listing_of vars txs runs
-parts_are vars txs runs = rw (names_are vars, values_are vars) refl
+pub parts_are : (vars : List (String Global × ℤ)) (always : List (String Global × Cond)) (txs : List Tx) (runs : List (TxId × ℕ))
+    → listing (map view_variable vars) (map view_condition always) (map transaction_of txs) runs ≡ listing_of vars always txs runs
+parts_are vars always txs runs = rw (names_are vars, values_are vars) refl
 
 -- ---- the parts of a sequence, as a list
 
@@ -54,7 +56,8 @@ seq_is names ss = ap (λ r. r >>= λ ps. done (t.Seq ps)) (statements_are names 
 
 -- ---- the whole file
 
-pub converted_is : (vars txs : List (List ℕ)) (file : File) (values : List (List ℕ × ℤ)) (programs : List Program) (runs : List (TxId × ℕ))
-    → each variable_of file.vars ≡ Ok values → each (program_in vars) file.txs ≡ Ok programs → each (run_in txs) file.runs ≡ Ok runs → converted vars txs file ≡ Ok (listing values programs runs)
+pub converted_is : (vars txs : List (List ℕ)) (file : File) (values : List (List ℕ × ℤ)) (always : List (List ℕ × Condition)) (transactions : List Transaction) (runs : List (TxId × ℕ))
+    → each variable_of file.vars ≡ Ok values → each (always_in vars) file.always ≡ Ok always → each (transaction_in vars) file.txs ≡ Ok transactions → each (run_in txs) file.runs ≡ Ok runs
+    → converted vars txs file ≡ Ok (listing values always transactions runs)
 unfolding converted
-converted_is vars txs file values programs runs a b c = rw (a, b, c) refl
+converted_is vars txs file values always transactions runs a b c d = rw (a, b, c, d) refl

@@ -8,17 +8,17 @@ use Rattle.file_grammar.specs.declared.file.RawFile.{RawFile}
 use Rattle.std.proofs.lemmas.List.{map_push}
 use Rattle.indexmap.specs.IndexSet.{insert_key}
 use Rattle.text_words.specs.declared.fault.ReadFault.TheVariants as faults
-use Rattle.file_grammar.specs.Resolving.{tx_known, run_known, uses_known, declared_one}
+use Rattle.file_grammar.specs.Resolving.{always_known, tx_known, run_known, uses_known, declared_one}
 use Rattle.file_resolver.specs.Texts.{texts}
-use Rattle.file_grammar.specs.View.{view_pair, view_tx, view_file}
+use Rattle.file_grammar.specs.View.{view_pair, view_always, view_tx, view_file}
 
 pub position_texts : (name : List ℕ) (names : List (Bor (List ℕ))) → position (bytes_eq name) (texts names) ≡ position (λ n. bytes_eq name n.now) names
 position_texts name names = position-map (bytes_eq name) (λ (n : Bor (List ℕ)). n.now) names
 
 pub uses_are : (vars txs : List (List ℕ)) (file : RawFile) → uses_known vars txs (view_file file)
-    ≡ (list_all (λ tx. tx_known vars (view_tx tx)) file.txs.items && list_all (λ run. run_known txs (view_pair run)) file.runs.items)
+    ≡ (list_all (λ c. always_known vars (view_always c)) file.always.items && (list_all (λ tx. tx_known vars (view_tx tx)) file.txs.items && list_all (λ run. run_known txs (view_pair run)) file.runs.items))
 unfolding uses_known
-uses_are vars txs file = rw (list_all-map (tx_known vars) view_tx file.txs.items, list_all-map (run_known txs) view_pair file.runs.items) refl
+uses_are vars txs file = rw (list_all-map (always_known vars) view_always file.always.items, list_all-map (tx_known vars) view_tx file.txs.items, list_all-map (run_known txs) view_pair file.runs.items) refl
 
 list_any-map : {X Y : Type 0} (p : Y → Bool) (f : X → Y) (xs : List X) → list_any p (map f xs) ≡ list_any (λ x. p (f x)) xs
 list_any-map p f [] = refl

@@ -2,11 +2,16 @@
 use Rattle.std.specs.Prelude.{ℕ, ℤ, List, string_bytes}
 use Rattle.std.specs.declared.alloc.Global.{Global}
 use Rattle.std.specs.declared.string.String.{String}
+use Rattle.programs.specs.declared.ast.Cond.{Cond}
+use Rattle.programs.specs.Tree.{Condition, condition_of}
 use Rattle.programs.specs.Listing.{Listing, listing_of}
 use Rattle.file_resolver.specs.declared.resolve.Parts.{Parts}
 
 abbrev pub view_variable : String Global × ℤ → List ℕ × ℤ
 view_variable v = (string_bytes v.0, v.1)
 
+abbrev pub view_condition : String Global × Cond → List ℕ × Condition
+view_condition a = (string_bytes a.0, condition_of a.1)
+
 abbrev pub view_parts : Parts → Listing
-view_parts p = listing_of p.vars.items p.txs.items p.runs.items
+view_parts p = listing_of p.vars.items p.always.items p.txs.items p.runs.items

@@ -4,13 +4,13 @@ ghost use Rattle.std.specs.Prelude.{◌≡◌, [], map, position, length, bytes_
 ghost use Rattle.std.specs.List.{list_all};
 ghost use Rattle.text_words.specs.Answers.{Gives};
 ghost use Rattle.file_grammar.specs.Reading.{row};
-ghost use Rattle.file_grammar.specs.Resolving.{declared_one, declared_after, pair_name, tx_name, is_known, expr_known, cond_known, stmt_known, stmts_known, tx_known, run_known, uses_known};
+ghost use Rattle.file_grammar.specs.Resolving.{declared_one, declared_after, pair_name, condition_name, tx_name, is_known, expr_known, cond_known, stmt_known, stmts_known, always_known, tx_known, run_known, uses_known};
 ghost use Rattle.file_resolver.specs.Texts.{texts};
-ghost use Rattle.file_grammar.specs.View.{view_expr, view_cond, view_stmt, view_stmts, view_pair, view_pairs, view_tx, view_txs, view_file};
+ghost use Rattle.file_grammar.specs.View.{view_expr, view_cond, view_stmt, view_stmts, view_pair, view_pairs, view_always, view_conditions, view_tx, view_txs, view_file};
 
 use file_grammar::cond::RawCond;
 use file_grammar::expr::RawExpr;
-use file_grammar::file::{RawFile, RawPair, RawTx};
+use file_grammar::file::{RawAlways, RawFile, RawPair, RawTx};
 use file_grammar::stmt::RawStmt;
 use indexmap::IndexSet;
 use std::alloc::Global;
@@ -38,6 +38,20 @@ pub(crate) fn var_names<'a>(
     let mut names = IndexSet::new(alloc);
     'pairs: for pair in pairs {
         declare(&mut names, pair.name)?;
+    }
+    Ok(names)
+}
+
+/// The names of conditions, in their order.
+pub(crate) fn condition_names<'a>(
+    alloc: Global,
+    conditions: &[RawAlways<'a>],
+) -> Result<IndexSet<&'a str>, ReadFault>
+    ensures { Gives (λ names. texts names.keys) result (declared_after [] (map condition_name (view_conditions conditions.now))) }
+{
+    let mut names = IndexSet::new(alloc);
+    'conditions: for condition in conditions {
+        declare(&mut names, condition.name)?;
     }
     Ok(names)
 }
@@ -116,6 +130,12 @@ fn stmts_known(names: &IndexSet<&str>, parts: &[RawStmt<'_>]) -> bool
     true
 }
 
+fn conditions_known(names: &IndexSet<&str>, conditions: &[RawAlways<'_>]) -> bool
+    ensures { result ≡ list_all (λ c. always_known (texts names.now.keys) (view_always c)) conditions.now }
+{
+    conditions.iter().all(|c| cond_known(names, &c.condition))
+}
+
 fn tx_known(names: &IndexSet<&str>, tx: &RawTx<'_>) -> bool
     ensures { result ≡ tx_known (texts names.now.keys) (view_tx tx.now) }
 {
@@ -139,5 +159,7 @@ fn runs_known(names: &IndexSet<&str>, runs: &[RawPair<'_>]) -> bool
 pub(crate) fn uses_known(vars: &IndexSet<&str>, txs: &IndexSet<&str>, file: &RawFile<'_>) -> bool
     ensures { result ≡ uses_known (texts vars.now.keys) (texts txs.now.keys) (view_file file.now) }
 {
-    txs_known(vars, &file.txs) && runs_known(txs, &file.runs)
+    conditions_known(vars, &file.always)
+        && txs_known(vars, &file.txs)
+        && runs_known(txs, &file.runs)
 }

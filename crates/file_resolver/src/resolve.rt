@@ -1,18 +1,19 @@
-//! From the tree of a file to programs: names as ids, and integers as numbers of the machine.
+//! From the tree of a file to conditions and transactions: names as ids, and integers as numbers of
+//! the machine.
 
 ghost use Rattle.std.specs.Prelude.{◌≡◌, map};
-ghost use Rattle.programs.specs.Tree.{expression_of, condition_of, statement_of, program_of};
+ghost use Rattle.programs.specs.Tree.{expression_of, condition_of, statement_of, transaction_of};
 ghost use Rattle.text_words.specs.Answers.{Gives};
-ghost use Rattle.file_grammar.specs.Resolving.{place_in, variable_in, binary, compare, connect, expression_in, condition_in, statement_in, variable_of, program_in, run_in, each, converted, resolved};
+ghost use Rattle.file_grammar.specs.Resolving.{place_in, variable_in, binary, compare, connect, expression_in, condition_in, statement_in, variable_of, always_in, transaction_in, run_in, each, converted, resolved};
 ghost use Rattle.file_grammar.specs.Tree.{Compare, Set, Throw};
 ghost use Rattle.file_resolver.specs.Texts.{texts};
-ghost use Rattle.file_grammar.specs.View.{view_expr, view_cond, view_stmt, view_stmts, view_pair, view_pairs, view_tx, view_txs, view_file};
-ghost use Rattle.file_resolver.specs.Parts.{view_variable, view_parts};
+ghost use Rattle.file_grammar.specs.View.{view_expr, view_cond, view_stmt, view_stmts, view_pair, view_pairs, view_always, view_conditions, view_tx, view_txs, view_file};
+ghost use Rattle.file_resolver.specs.Parts.{view_variable, view_condition, view_parts};
 
-use crate::names::{place_of, tx_names, uses_known, var_names};
+use crate::names::{condition_names, place_of, tx_names, uses_known, var_names};
 use file_grammar::cond::RawCond;
 use file_grammar::expr::RawExpr;
-use file_grammar::file::{RawFile, RawPair, RawTx};
+use file_grammar::file::{RawAlways, RawFile, RawPair, RawTx};
 use file_grammar::stmt::RawStmt;
 use file_grammar::words::{Comparison, Connective, Operator};
 use indexmap::IndexSet;
@@ -236,8 +237,48 @@ fn variables(alloc: Global, pairs: &[RawPair<'_>]) -> Result<Vec<(String, i64)>,
     Ok(made)
 }
 
-fn program(alloc: Global, names: &IndexSet<&str>, tx: &RawTx<'_>) -> Result<Tx, ReadFault>
-    ensures { Gives program_of result (program_in (texts names.now.keys) (view_tx tx.now)) }
+/// A condition that has to stand, with its name.
+fn always(
+    alloc: Global,
+    names: &IndexSet<&str>,
+    raw: &RawAlways<'_>,
+) -> Result<(String, Cond), ReadFault>
+    ensures { Gives view_condition result (always_in (texts names.now.keys) (view_always raw.now)) }
+{
+    let name = String::from_str(alloc, raw.name)?;
+    let condition = condition(alloc, names, &raw.condition)?;
+    Ok((name, condition))
+}
+
+/// A condition that has to stand, whose tree is let go.
+fn always_from(
+    alloc: Global,
+    names: &IndexSet<&str>,
+    raw: RawAlways<'_>,
+) -> Result<(String, Cond), ReadFault>
+    ensures { Gives view_condition result (always_in (texts names.now.keys) (view_always raw.entry)) }
+{
+    always(alloc, names, &raw)
+}
+
+/// The conditions that have to stand. The tree of each is let go as soon as it is made.
+fn conditions(
+    alloc: Global,
+    names: &IndexSet<&str>,
+    conditions: Vec<RawAlways<'_>>,
+) -> Result<Vec<(String, Cond)>, ReadFault>
+    ensures { Gives (λ made. map view_condition made.items) result (each (always_in (texts names.now.keys)) (view_conditions conditions.entry.items)) }
+{
+    let mut made = Vec::new(alloc);
+    'conditions: for raw in conditions {
+        let condition = always_from(alloc, names, raw)?;
+        made.push(condition)?;
+    }
+    Ok(made)
+}
+
+fn transaction(alloc: Global, names: &IndexSet<&str>, tx: &RawTx<'_>) -> Result<Tx, ReadFault>
+    ensures { Gives transaction_of result (transaction_in (texts names.now.keys) (view_tx tx.now)) }
 {
     let name = String::from_str(alloc, tx.name)?;
     let body = statement(alloc, names, &tx.body)?;
@@ -245,26 +286,26 @@ fn program(alloc: Global, names: &IndexSet<&str>, tx: &RawTx<'_>) -> Result<Tx, 
     Ok(Tx { name, body, result })
 }
 
-/// The program of a transaction, whose tree is let go.
-fn program_from(alloc: Global, names: &IndexSet<&str>, tx: RawTx<'_>) -> Result<Tx, ReadFault>
-    ensures { Gives program_of result (program_in (texts names.now.keys) (view_tx tx.entry)) }
+/// A transaction, whose tree is let go.
+fn transaction_from(alloc: Global, names: &IndexSet<&str>, tx: RawTx<'_>) -> Result<Tx, ReadFault>
+    ensures { Gives transaction_of result (transaction_in (texts names.now.keys) (view_tx tx.entry)) }
 {
-    program(alloc, names, &tx)
+    transaction(alloc, names, &tx)
 }
 
-/// The programs of transactions. The tree of each is let go as soon as its program stands, so that
-/// no more than one of them stands twice.
-fn programs(
+/// The transactions. The tree of each is let go as soon as it is made, so that no more than one of
+/// them stands twice.
+fn transactions(
     alloc: Global,
     names: &IndexSet<&str>,
     txs: Vec<RawTx<'_>>,
 ) -> Result<Vec<Tx>, ReadFault>
-    ensures { Gives (λ made. map program_of made.items) result (each (program_in (texts names.now.keys)) (view_txs txs.entry.items)) }
+    ensures { Gives (λ made. map transaction_of made.items) result (each (transaction_in (texts names.now.keys)) (view_txs txs.entry.items)) }
 {
     let mut made = Vec::new(alloc);
     'txs: for tx in txs {
-        let program = program_from(alloc, names, tx)?;
-        made.push(program)?;
+        let transaction = transaction_from(alloc, names, tx)?;
+        made.push(transaction)?;
     }
     Ok(made)
 }
@@ -296,6 +337,7 @@ fn runs(
 #[derive(Drop)]
 pub struct Parts {
     pub vars: Vec<(String, i64)>,
+    pub always: Vec<(String, Cond)>,
     pub txs: Vec<Tx>,
     pub runs: Vec<(TxId, u32)>,
 }
@@ -310,11 +352,13 @@ fn convert(
     ensures { Gives view_parts result (converted (texts vars.now.keys) (texts txs.now.keys) (view_file file.entry)) }
 {
     let variables = variables(alloc, &file.vars)?;
-    let programs = programs(alloc, vars, file.txs)?;
+    let conditions = conditions(alloc, vars, file.always)?;
+    let transactions = transactions(alloc, vars, file.txs)?;
     let runs = runs(alloc, txs, &file.runs)?;
     Ok(Parts {
         vars: variables,
-        txs: programs,
+        always: conditions,
+        txs: transactions,
         runs,
     })
 }
@@ -326,6 +370,7 @@ pub fn resolve(alloc: Global, file: RawFile<'_>) -> Result<Parts, ReadFault>
     ensures { Gives view_parts result (resolved (view_file file.entry)) }
 {
     let vars = var_names(alloc, &file.vars)?;
+    condition_names(alloc, &file.always)?;
     let txs = tx_names(alloc, &file.txs)?;
     if !uses_known(&vars, &txs, &file) {
         return Err(ReadFault::Name);

@@ -7,11 +7,11 @@ use Rattle.std.proofs.lemmas.List.Folds.{list_all-append}
 use Rattle.std.proofs.lemmas.List.Sums.{sum_by-cons}
 use Rattle.std.proofs.lemmas.Option.{same_Some}
 use Rattle.programs.specs.declared.ast.TxId.{TxId}
-use Rattle.programs.specs.Tree.{Expression, Int, Var, Add, Sub, Mul, Div, Rem, Condition, Eq, Lt, Le, Not, And, Or, Statement, Skip, Set, Seq, If, Repeat, Retry, OrElse, Throw, Statements, End, More, Program}
-use Rattle.programs.specs.Listing.{Listing, tasks, tasks_of}
-use Rattle.programs.specs.Names.{names_hold, is_well_formed, is_name, are_distinct, knows_expression, knows_condition, knows_statement, knows_statements, knows_program}
-use Rattle.programs.specs.Limits.{most_tasks, most_variables, most_transactions, longest_name, limits_hold, program_fits}
-use Rattle.programs.specs.Scope.{ExpressionKnown, ConditionKnown, StatementKnown, StatementsKnown, ProgramKnown}
+use Rattle.programs.specs.Tree.{Expression, Int, Var, Add, Sub, Mul, Div, Rem, Condition, Eq, Lt, Le, Not, And, Or, Statement, Skip, Set, Seq, If, Repeat, Retry, OrElse, Throw, Statements, End, More, Transaction, under}
+use Rattle.programs.specs.Listing.{Listing, conditions, always_names, tasks, tasks_of}
+use Rattle.programs.specs.Names.{names_hold, is_well_formed, is_name, are_distinct, knows_expression, knows_condition, knows_statement, knows_statements, knows_transaction}
+use Rattle.programs.specs.Limits.{most_tasks, most_variables, most_conditions, most_transactions, longest_name, limits_hold, conditions_fit, program_fits}
+use Rattle.programs.specs.Scope.{ExpressionKnown, ConditionKnown, StatementKnown, StatementsKnown, ConditionsKnown, ProgramKnown}
 
 none_is : {X : Type 0} {x : X} → Some x ≡ None → ⊥
 none_is e = cc
@@ -26,34 +26,56 @@ right x y h = (and_parts x y h).1
 pub record NamesHold (l : Listing) : Type 0 where
   pub forms : list_all is_name l.names ≡ true
   pub distinct : are_distinct l.names ≡ true
-  pub tx_forms : list_all (λ (t : Program). is_name t.name) l.programs ≡ true
-  pub tx_distinct : are_distinct (map (λ (t : Program). t.name) l.programs) ≡ true
-  pub known : list_all (knows_program (length l.names)) l.programs ≡ true
-  pub runs : list_all (λ (run : TxId × ℕ). nat_lt run.0.0 (length l.programs)) l.runs ≡ true
+  pub always_forms : list_all is_name (always_names l) ≡ true
+  pub always_distinct : are_distinct (always_names l) ≡ true
+  pub tx_forms : list_all (λ (t : Transaction). is_name t.name) l.transactions ≡ true
+  pub tx_distinct : are_distinct (map (λ (t : Transaction). t.name) l.transactions) ≡ true
+  pub always_known : list_all (knows_condition (length l.names)) (conditions l) ≡ true
+  pub known : list_all (knows_transaction (length l.names)) l.transactions ≡ true
+  pub runs : list_all (λ (run : TxId × ℕ). nat_lt run.0.0 (length l.transactions)) l.runs ≡ true
 
 pub names_parts : (l : Listing) → names_hold l ≡ true → NamesHold l
 unfolding names_hold is_well_formed
 names_parts l h =
     let a = list_all is_name l.names in
-    let b = list_all (λ (t : Program). is_name t.name) l.programs in
-    let c = list_all (knows_program (length l.names)) l.programs in
-    let d = list_all (λ (run : TxId × ℕ). nat_lt run.0.0 (length l.programs)) l.runs in
+    let a' = list_all is_name (always_names l) in
+    let b = list_all (λ (t : Transaction). is_name t.name) l.transactions in
+    let c' = list_all (knows_condition (length l.names)) (conditions l) in
+    let c = list_all (knows_transaction (length l.names)) l.transactions in
+    let d = list_all (λ (run : TxId × ℕ). nat_lt run.0.0 (length l.transactions)) l.runs in
     let e = are_distinct l.names in
-    let f = are_distinct (map (λ (t : Program). t.name) l.programs) in
-    let h0 = and_parts (is_well_formed l) (e && f) h in
-    let h1 = and_parts a (b && (c && d)) h0.0 in
-    let h2 = and_parts b (c && d) h1.1 in
-    let h3 = and_parts c d h2.1 in
-    let h4 = and_parts e f h0.1 in
-    record { forms = h1.0; distinct = h4.0; tx_forms = h2.0; tx_distinct = h4.1; known = h3.0; runs = h3.1 }
+    let e' = are_distinct (always_names l) in
+    let f = are_distinct (map (λ (t : Transaction). t.name) l.transactions) in
+    let h0 = and_parts (is_well_formed l) (e && (e' && f)) h in
+    let h1 = and_parts a (a' && (b && (c' && (c && d)))) h0.0 in
+    let h2 = and_parts a' (b && (c' && (c && d))) h1.1 in
+    let h3 = and_parts b (c' && (c && d)) h2.1 in
+    let h4 = and_parts c' (c && d) h3.1 in
+    let h5 = and_parts c d h4.1 in
+    let h6 = and_parts e (e' && f) h0.1 in
+    let h7 = and_parts e' f h6.1 in
+    record {
+      forms = h1.0;
+      distinct = h6.0;
+      always_forms = h2.0;
+      always_distinct = h7.0;
+      tx_forms = h3.0;
+      tx_distinct = h7.1;
+      always_known = h4.0;
+      known = h5.0;
+      runs = h5.1;
+    }
 
 -- the limits, one by one
 pub record LimitsHold (l : Listing) : Type 0 where
   pub variables : length l.names ≤ most_variables
   pub names : list_all (λ (name : List ℕ). nat_le (length name) longest_name) l.names ≡ true
-  pub transactions : length l.programs ≤ most_transactions
-  pub tx_names : list_all (λ (t : Program). nat_le (length t.name) longest_name) l.programs ≡ true
-  pub programs : list_all program_fits l.programs ≡ true
+  pub conditions_few : length l.always ≤ most_conditions
+  pub always_names_fit : list_all (λ (name : List ℕ). nat_le (length name) longest_name) (always_names l) ≡ true
+  pub conditions_fitting : conditions_fit (conditions l) ≡ true
+  pub transactions : length l.transactions ≤ most_transactions
+  pub tx_names : list_all (λ (t : Transaction). nat_le (length t.name) longest_name) l.transactions ≡ true
+  pub programs : list_all (λ (t : Transaction). program_fits (under (conditions l) t)) l.transactions ≡ true
   pub runs : list_all (λ (run : TxId × ℕ). nat_le run.1 most_tasks) l.runs ≡ true
   pub tasks : sum_by (λ (run : TxId × ℕ). run.1) l.runs ≤ most_tasks
 
@@ -62,25 +84,34 @@ unfolding limits_hold
 limits_parts l h =
     let a = nat_le (length l.names) most_variables in
     let b = list_all (λ (name : List ℕ). nat_le (length name) longest_name) l.names in
-    let c = nat_le (length l.programs) most_transactions in
-    let d = list_all (λ (t : Program). nat_le (length t.name) longest_name) l.programs in
-    let e = list_all program_fits l.programs in
+    let p = nat_le (length l.always) most_conditions in
+    let q = list_all (λ (name : List ℕ). nat_le (length name) longest_name) (always_names l) in
+    let r = conditions_fit (conditions l) in
+    let c = nat_le (length l.transactions) most_transactions in
+    let d = list_all (λ (t : Transaction). nat_le (length t.name) longest_name) l.transactions in
+    let e = list_all (λ (t : Transaction). program_fits (under (conditions l) t)) l.transactions in
     let f = list_all (λ (run : TxId × ℕ). nat_le run.1 most_tasks) l.runs in
     let g = nat_le (sum_by (λ (run : TxId × ℕ). run.1) l.runs) most_tasks in
-    let h1 = and_parts a (b && (c && (d && (e && (f && g))))) h in
-    let h2 = and_parts b (c && (d && (e && (f && g)))) h1.1 in
-    let h3 = and_parts c (d && (e && (f && g))) h2.1 in
-    let h4 = and_parts d (e && (f && g)) h3.1 in
-    let h5 = and_parts e (f && g) h4.1 in
-    let h6 = and_parts f g h5.1 in
+    let h1 = and_parts a (b && (p && (q && (r && (c && (d && (e && (f && g)))))))) h in
+    let h2 = and_parts b (p && (q && (r && (c && (d && (e && (f && g))))))) h1.1 in
+    let h3 = and_parts p (q && (r && (c && (d && (e && (f && g)))))) h2.1 in
+    let h4 = and_parts q (r && (c && (d && (e && (f && g))))) h3.1 in
+    let h5 = and_parts r (c && (d && (e && (f && g)))) h4.1 in
+    let h6 = and_parts c (d && (e && (f && g))) h5.1 in
+    let h7 = and_parts d (e && (f && g)) h6.1 in
+    let h8 = and_parts e (f && g) h7.1 in
+    let h9 = and_parts f g h8.1 in
     record {
       variables = leb-true _ _ h1.0;
       names = h2.0;
-      transactions = leb-true _ _ h3.0;
-      tx_names = h4.0;
-      programs = h5.0;
-      runs = h6.0;
-      tasks = leb-true _ _ h6.1;
+      conditions_few = leb-true _ _ h3.0;
+      always_names_fit = h4.0;
+      conditions_fitting = h5.0;
+      transactions = leb-true _ _ h6.0;
+      tx_names = h7.0;
+      programs = h8.0;
+      runs = h9.0;
+      tasks = leb-true _ _ h9.1;
     }
 
 -- a run of n is n tasks
@@ -117,9 +148,9 @@ known_tasks n (run ∷ runs) h =
     (passes-replicate (λ (tx : TxId). nat_lt tx.0 n) run.1 run.0 (left _ _ h)) (known_tasks n runs (right _ _ h))
 
 -- a task's transaction is one of the listing
-pub known_task : (l : Listing) (t : ℕ) (tx : TxId) → names_hold l ≡ true → slice_get (tasks l) t ≡ Some tx → tx.0 < length l.programs
+pub known_task : (l : Listing) (t : ℕ) (tx : TxId) → names_hold l ≡ true → slice_get (tasks l) t ≡ Some tx → tx.0 < length l.transactions
 known_task l t tx h e =
-    ltb-true _ _ (passes_at (λ (tx : TxId). nat_lt tx.0 (length l.programs)) (tasks l) t tx (known_tasks _ l.runs (names_parts l h).runs) e)
+    ltb-true _ _ (passes_at (λ (tx : TxId). nat_lt tx.0 (length l.transactions)) (tasks l) t tx (known_tasks _ l.runs (names_parts l h).runs) e)
 
 known_expression : (n : ℕ) (e : Expression) → knows_expression n e ≡ true → ExpressionKnown n e
 known_expression n (Int v) h = tt
@@ -154,12 +185,16 @@ mutual
   known_statements n End h = tt
   known_statements n (More s rest) h = (known_statement n s (left _ _ h), known_statements n rest (right _ _ h))
 
-known_program : (n : ℕ) (t : Program) → knows_program n t ≡ true → ProgramKnown n t
-known_program n t h = (known_statement n t.body (left _ _ h), known_expression n t.result (right _ _ h))
+known_conditions : (n : ℕ) (cs : List Condition) → list_all (knows_condition n) cs ≡ true → ConditionsKnown n cs
+known_conditions n [] h = tt
+known_conditions n (c ∷ cs) h = (known_condition n c (left _ _ h), known_conditions n cs (right _ _ h))
 
 -- each of the listing's programs names only its variables
-pub known_at : (l : Listing) (i : ℕ) (t : Program) → names_hold l ≡ true → slice_get l.programs i ≡ Some t → ProgramKnown (length l.names) t
-known_at l i t h e = known_program _ t (passes_at (knows_program (length l.names)) l.programs i t (names_parts l h).known e)
+pub known_at : (l : Listing) (i : ℕ) (t : Transaction) → names_hold l ≡ true → slice_get l.transactions i ≡ Some t → ProgramKnown (length l.names) (under (conditions l) t)
+known_at l i t h e =
+    let n = length l.names in
+    let known = passes_at (knows_transaction n) l.transactions i t (names_parts l h).known e in
+    (known_statement n t.body (left _ _ known), (known_expression n t.result (right _ _ known), known_conditions n (conditions l) (names_parts l h).always_known))
 
 prefix_len-map : {X Y : Type 0} (p : Y → Bool) (f : X → Y) (xs : List X) → prefix_len p (map f xs) ≡ prefix_len (λ x. p (f x)) xs
 prefix_len-map p f [] = refl

@@ -1,2 +1,4 @@
 pub mod Rows
 pub mod Lawful
+pub mod Standing
+pub mod Faults

@@ -1,5 +1,5 @@
 -- How many nodes a run enters at most.
-use Rattle.std.specs.Prelude.{ℕ, ◌+◌, ◌*◌}
+use Rattle.std.specs.Prelude.{ℕ, ◌+◌, ◌*◌, List, [], ◌∷◌}
 use Rattle.programs.specs.Tree.{Expression, Int, Var, Add, Sub, Mul, Div, Rem, Condition, Eq, Lt, Le, Not, And, Or, Statement, Skip, Set, Seq, If, Repeat, Retry, OrElse, Throw, Statements, End, More, Program}
 
 abbrev pub expression_cost : Expression → ℕ
@@ -34,5 +34,10 @@ abbrev mutual
   statements_cost End = 0
   statements_cost (More s rest) = statement_cost s + statements_cost rest
 
+-- of all of them
+abbrev pub conditions_cost : List Condition → ℕ
+conditions_cost [] = 0
+conditions_cost (c ∷ cs) = condition_cost c + conditions_cost cs
+
 abbrev pub cost : Program → ℕ
-cost t = statement_cost t.body + expression_cost t.result
+cost t = statement_cost t.body + expression_cost t.result + conditions_cost t.always

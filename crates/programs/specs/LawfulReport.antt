@@ -3,9 +3,13 @@ use Rattle.std.specs.Prelude.{◌≡◌, ◌≢◌, ℕ, ◌+◌, ◌<◌, ◌�
 use Rattle.programs.specs.declared.ast.TxId.{TxId}
 use Rattle.programs.specs.declared.ast.TaskId.{TaskId}
 use Rattle.programs.specs.declared.report.Entry.{Entry}
-use Rattle.programs.specs.declared.ast.Outcome.TheVariants.{Retries}
+use Rattle.programs.specs.declared.ast.Fault.{Fault}
+use Rattle.programs.specs.declared.ast.Fault.TheVariants.{User, Overflow, DivideByZero, Broken}
+use Rattle.programs.specs.declared.ast.Outcome.{Outcome}
+use Rattle.programs.specs.declared.ast.Outcome.TheVariants.{Returned, Thrown, Retries}
 use Rattle.programs.specs.Limits.{most_tasks}
 use Rattle.programs.specs.Meaning.{outcome}
+use Rattle.programs.specs.Standing.{Upholds}
 use Rattle.programs.specs.Listing.{Listing, tasks, program_at}
 use Rattle.programs.specs.Replay.{Replays, Reached, opening, entered, Stands, Once}
 use Rattle.programs.specs.Told.{Told, base_of, now_of}
@@ -22,7 +26,19 @@ Ascends xs = (i j s t : ℕ) → i < j → slice_get xs i ≡ Some s → slice_g
 abbrev pub HasOwn : Listing → TaskId → TxId → Type 0
 HasOwn l task tx = slice_get (tasks l) task.0 ≡ Some tx
 
--- what can be written down of the catalogue's variables, tasks and transactions
+-- a condition that an outcome names is one of the catalogue's
+abbrev pub FaultKnown : ℕ → Fault → Type 0
+FaultKnown n (User v) = Unit {0}
+FaultKnown n Overflow = Unit {0}
+FaultKnown n DivideByZero = Unit {0}
+FaultKnown n (Broken id) = id.0 < n
+
+abbrev pub OutcomeKnown : ℕ → Outcome → Type 0
+OutcomeKnown n (Returned v) = Unit {0}
+OutcomeKnown n (Thrown f) = FaultKnown n f
+OutcomeKnown n Retries = Unit {0}
+
+-- what can be written down of the catalogue's variables, conditions, tasks and transactions
 pub record FitsCatalogue (l : Listing) (r : Told) : Type 0 where
   pub base_vars : length r.base_vars ≡ length l.initial
   pub current_vars : length r.current_vars ≡ length l.initial
@@ -32,9 +48,10 @@ pub record FitsCatalogue (l : Listing) (r : Told) : Type 0 where
   pub current_versions : All (λ v. v.1 ≤ most_tasks) r.current_vars
   pub numbers : All (λ (e : Entry). e.number ≤ most_tasks) r.entries
   pub ends : All (λ (e : Entry). e.outcome ≢ Retries) r.entries
-  pub entries : All (λ (e : Entry). (e.task.0 < length (tasks l)) × (e.tx.0 < length l.programs)) r.entries
-  pub parked : All (λ p. (p.0.0 < length (tasks l)) × (p.1.0 < length l.programs)) r.parked
-  pub memory : All (λ p. (p.0.0 < length (tasks l)) × (p.1.0 < length l.programs)) r.memory
+  pub faults : All (λ (e : Entry). OutcomeKnown (length l.always) e.outcome) r.entries
+  pub entries : All (λ (e : Entry). (e.task.0 < length (tasks l)) × (e.tx.0 < length l.transactions)) r.entries
+  pub parked : All (λ p. (p.0.0 < length (tasks l)) × (p.1.0 < length l.transactions)) r.parked
+  pub memory : All (λ p. (p.0.0 < length (tasks l)) × (p.1.0 < length l.transactions)) r.memory
 
 pub record LawfulReport (l : Listing) (r : Told) : Type 0 where
   pub fits : FitsCatalogue l r
@@ -42,6 +59,8 @@ pub record LawfulReport (l : Listing) (r : Told) : Type 0 where
   pub replays : Replays l (base_of r) r.entries (now_of r)
   pub base_versions : All (λ v. v.1 ≤ r.base) r.base_vars
   pub from_opening : r.base ≡ 0 → base_of r ≡ opening l
+  -- each standing condition is true at the base
+  pub upheld : Upholds l (base_of r).state
   -- each task stands on at most one line, with its own transaction, and all are accounted for
   pub parked_own : All (λ p. HasOwn l p.0 p.1) r.parked
   pub memory_own : All (λ p. HasOwn l p.0 p.1) r.memory

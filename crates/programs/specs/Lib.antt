@@ -6,6 +6,7 @@ pub mod Depth
 pub mod Code
 pub mod Scope
 pub mod Listing
+pub mod Standing
 pub mod Names
 pub mod Limits
 pub mod Replay

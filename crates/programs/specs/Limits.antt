@@ -1,16 +1,19 @@
 -- The limits, and when a listing keeps them.
-use Rattle.std.specs.Prelude.{ℕ, ◌+◌, max, min, ◌≤◌, Bool, ◌&&◌, nat_le, length, sum_by}
+use Rattle.std.specs.Prelude.{ℕ, ◌+◌, max, min, ◌≤◌, Bool, ◌&&◌, nat_le, List, length, sum_by}
 use Rattle.std.specs.List.{list_all}
-use Rattle.programs.specs.Tree.{Statement, Skip, Set, Seq, If, Repeat, Retry, OrElse, Throw, Statements, End, More, Program}
-use Rattle.programs.specs.Cost.{cost}
-use Rattle.programs.specs.Depth.{expression_depth, statement_depth, statements_depth}
-use Rattle.programs.specs.Listing.{Listing}
+use Rattle.programs.specs.Tree.{Condition, Statement, Skip, Set, Seq, If, Repeat, Retry, OrElse, Throw, Statements, End, More, Program, under}
+use Rattle.programs.specs.Cost.{conditions_cost, cost}
+use Rattle.programs.specs.Depth.{expression_depth, condition_depth, statement_depth, statements_depth}
+use Rattle.programs.specs.Listing.{Listing, conditions, always_names}
 
 abbrev pub most_variables : ℕ
 most_variables = 256
 
 abbrev pub most_transactions : ℕ
 most_transactions = 256
+
+abbrev pub most_conditions : ℕ
+most_conditions = 64
 
 -- in all, and of one run
 abbrev pub most_tasks : ℕ
@@ -20,7 +23,7 @@ most_tasks = 65536
 abbrev pub longest_name : ℕ
 longest_name = 32
 
--- of a body and of a result
+-- of a body, of a result and of a condition
 abbrev pub deepest : ℕ
 deepest = 31
 
@@ -46,7 +49,11 @@ abbrev mutual
   largest_repeat_of_all End = 0
   largest_repeat_of_all (More s rest) = max (largest_repeat s) (largest_repeat_of_all rest)
 
--- the program is no deeper than the limit, repeats within it, and costs no more
+-- the conditions are no deeper than the limit, and cost no more together
+abbrev pub conditions_fit : List Condition → Bool
+conditions_fit cs = list_all (λ c. nat_le (condition_depth c) deepest) cs && nat_le (conditions_cost cs) highest_cost
+
+-- the program is no deeper than the limit, repeats within it, and costs no more, its conditions included
 abbrev pub program_fits : Program → Bool
 program_fits t =
     nat_le (statement_depth t.body) deepest && (nat_le (expression_depth t.result) deepest
@@ -55,9 +62,11 @@ program_fits t =
 unfoldable pub limits_hold : Listing → Bool
 limits_hold l =
     nat_le (length l.names) most_variables && (list_all (λ name. nat_le (length name) longest_name) l.names
-    && (nat_le (length l.programs) most_transactions && (list_all (λ t. nat_le (length t.name) longest_name) l.programs
-    && (list_all program_fits l.programs
-    && (list_all (λ run. nat_le run.1 most_tasks) l.runs && nat_le (sum_by (λ run. run.1) l.runs) most_tasks)))))
+    && (nat_le (length l.always) most_conditions && (list_all (λ name. nat_le (length name) longest_name) (always_names l)
+    && (conditions_fit (conditions l)
+    && (nat_le (length l.transactions) most_transactions && (list_all (λ t. nat_le (length t.name) longest_name) l.transactions
+    && (list_all (λ t. program_fits (under (conditions l) t)) l.transactions
+    && (list_all (λ run. nat_le run.1 most_tasks) l.runs && nat_le (sum_by (λ run. run.1) l.runs) most_tasks))))))))
 
 -- a cost as far as it is counted: what is over the limit is one over
 abbrev pub capped : ℕ → ℕ

@@ -6,25 +6,37 @@ use Rattle.programs.specs.declared.ast.VarId.{VarId}
 use Rattle.programs.specs.declared.ast.TxId.{TxId}
 use Rattle.programs.specs.declared.ast.TaskId.{TaskId}
 use Rattle.programs.specs.declared.ast.Tx.{Tx}
-use Rattle.programs.specs.Tree.{Program, program_of, Skip, Int}
+use Rattle.programs.specs.declared.ast.Cond.{Cond}
+use Rattle.programs.specs.declared.ast.AlwaysId.{AlwaysId}
+use Rattle.programs.specs.Tree.{Condition, condition_of, Transaction, transaction_of, Program, under, Skip, Int}
 
 pub record Listing : Type 0 where
   -- the variables' names, and beside them their initial values
   pub names : List (List ℕ)
   pub initial : List ℤ
-  pub programs : List Program
+  -- the standing conditions, each with its name
+  pub always : List (List ℕ × Condition)
+  pub transactions : List Transaction
   -- a transaction, and how many tasks run it
   pub runs : List (TxId × ℕ)
 
 -- the listing of what `build` is given
-abbrev pub listing_of : List (String Global × ℤ) → List Tx → List (TxId × ℕ) → Listing
-listing_of vars txs runs =
+abbrev pub listing_of : List (String Global × ℤ) → List (String Global × Cond) → List Tx → List (TxId × ℕ) → Listing
+listing_of vars always txs runs =
     record {
       names = map (λ v. string_bytes v.0) vars;
       initial = map (λ v. v.1) vars;
-      programs = map program_of txs;
+      always = map (λ a. (string_bytes a.0, condition_of a.1)) always;
+      transactions = map transaction_of txs;
       runs = runs;
     }
+
+-- the standing conditions, and beside them their names
+abbrev pub conditions : Listing → List Condition
+conditions l = map (λ a. a.1) l.always
+
+abbrev pub always_names : Listing → List (List ℕ)
+always_names l = map (λ a. a.0) l.always
 
 -- each task's transaction: a run of n is n tasks, in the order of the runs
 abbrev pub tasks_of : List (TxId × ℕ) → List TxId
@@ -37,9 +49,12 @@ tasks l = tasks_of l.runs
 abbrev pub task_tx : Listing → TaskId → TxId
 task_tx l task = slice_index_or (tasks l) task.0 (record { 0 = 0 })
 
+abbrev pub transaction_at : Listing → TxId → Transaction
+transaction_at l tx = slice_index_or l.transactions tx.0 (record { name = []; body = Skip; result = Int (pos 0) })
+
 -- the program of a transaction
 abbrev pub program_at : Listing → TxId → Program
-program_at l tx = slice_index_or l.programs tx.0 (record { name = []; body = Skip; result = Int (pos 0) })
+program_at l tx = under (conditions l) (transaction_at l tx)
 
 abbrev pub task_program : Listing → TaskId → Program
 task_program l task = program_at l (task_tx l task)
@@ -58,4 +73,16 @@ variable_named l name = as_variable (position (bytes_eq name) l.names)
 
 -- the transaction of a name
 abbrev pub transaction_named : Listing → List ℕ → Option TxId
-transaction_named l name = as_transaction (position (bytes_eq name) (map (λ t. t.name) l.programs))
+transaction_named l name = as_transaction (position (bytes_eq name) (map (λ t. t.name) l.transactions))
+
+abbrev pub as_condition : Option ℕ → Option AlwaysId
+as_condition None = None
+as_condition (Some place) = Some (record { 0 = place })
+
+-- the standing condition of a name
+abbrev pub condition_named : Listing → List ℕ → Option AlwaysId
+condition_named l name = as_condition (position (bytes_eq name) (always_names l))
+
+-- the name of a standing condition
+abbrev pub always_name : Listing → AlwaysId → List ℕ
+always_name l id = slice_index_or (always_names l) id.0 []

@@ -1,10 +1,10 @@
 -- What a transaction does in one step, from a state: one value for each variable.
-use Rattle.std.specs.Prelude.{ℕ, zero, suc, Bool, true, false, not, List, Result, Ok, Err, slice_index_or, slice_set, ℤ, pos}
+use Rattle.std.specs.Prelude.{ℕ, zero, suc, ◌+◌, Bool, true, false, not, List, [], ◌∷◌, Result, Ok, Err, slice_index_or, slice_set, ℤ, pos}
 use Rattle.std.specs.Int.RustNames.{int_lt, int_le}
 use Rattle.std.specs.Ordering.{int_eq}
 use Rattle.programs.specs.Arithmetic.{sum_of, difference_of, product_of, quotient_of, remainder_of}
 use Rattle.programs.specs.declared.ast.Fault.{Fault}
-use Rattle.programs.specs.declared.ast.Fault.TheVariants.{User}
+use Rattle.programs.specs.declared.ast.Fault.TheVariants.{User, Broken}
 use Rattle.programs.specs.declared.ast.Outcome.{Outcome}
 use Rattle.programs.specs.declared.ast.Outcome.TheVariants.{Returned, Thrown, Retries}
 use Rattle.programs.specs.declared.ast.VarId.{VarId}
@@ -132,9 +132,32 @@ state_after m (Done m') result = kept_by m m' (result m')
 state_after m (Threw f) result = m
 state_after m Retried result = m
 
+-- a result that stands only where a condition is true: else it is a fault
+abbrev pub demanded : {A E : Type 0} → E → (E → E) → Result Bool E → Result A E → Result A E
+demanded untrue blame (Ok true) r = r
+demanded untrue blame (Ok false) r = Err untrue
+demanded untrue blame (Err e) r = Err (blame e)
+
+-- the fault that standing condition number k is not true
+abbrev pub broken : ℕ → Fault
+broken k = Broken (record { 0 = k })
+
+-- a value that stands where each condition is true; the first that is not, by no or by a fault, is the fault. The first of them has number k.
+abbrev pub upheld : ℕ → List Condition → State → ℤ → Result ℤ Fault
+upheld k [] m v = Ok v
+upheld k (c ∷ cs) m v = demanded (broken k) (λ _. broken k) (truth c m) (upheld (k + 1) cs m v)
+
+abbrev pub upheld_result : List Condition → State → Result ℤ Fault → Result ℤ Fault
+upheld_result cs m (Ok v) = upheld 0 cs m v
+upheld_result cs m (Err f) = Err f
+
+-- what a program returns in the state where its body is done: its result, where the conditions stand
+abbrev pub final : Program → State → Result ℤ Fault
+final t m = upheld_result t.always m (value t.result m)
+
 -- how a transaction ends, and the state after it
 abbrev pub outcome : Program → State → Outcome
-outcome t m = outcome_of (run t.body m) (value t.result)
+outcome t m = outcome_of (run t.body m) (final t)
 
 abbrev pub after : Program → State → State
-after t m = state_after m (run t.body m) (value t.result)
+after t m = state_after m (run t.body m) (final t)

@@ -2,8 +2,8 @@
 use Rattle.std.specs.Prelude.{ℕ, Bool, true, false, not, ◌&&◌, ◌||◌, ◌==◌, nat_lt, List, [], ◌∷◌, ◌++◌, map, length, bytes_eq}
 use Rattle.std.specs.Char.{is_ascii_alphabetic, is_ascii_digit}
 use Rattle.std.specs.List.{list_any, list_all}
-use Rattle.programs.specs.Tree.{Expression, Int, Var, Add, Sub, Mul, Div, Rem, Condition, Eq, Lt, Le, Not, And, Or, Statement, Skip, Set, Seq, If, Repeat, Retry, OrElse, Throw, Statements, End, More, Program}
-use Rattle.programs.specs.Listing.{Listing}
+use Rattle.programs.specs.Tree.{Expression, Int, Var, Add, Sub, Mul, Div, Rem, Condition, Eq, Lt, Le, Not, And, Or, Statement, Skip, Set, Seq, If, Repeat, Retry, OrElse, Throw, Statements, End, More, Transaction}
+use Rattle.programs.specs.Listing.{Listing, conditions, always_names}
 
 -- letters, digits and underscores
 abbrev pub is_name_byte : ℕ → Bool
@@ -55,16 +55,18 @@ abbrev mutual
   knows_statements n End = true
   knows_statements n (More s rest) = knows_statement n s && knows_statements n rest
 
-abbrev pub knows_program : ℕ → Program → Bool
-knows_program n t = knows_statement n t.body && knows_expression n t.result
+abbrev pub knows_transaction : ℕ → Transaction → Bool
+knows_transaction n t = knows_statement n t.body && knows_expression n t.result
 
 -- each name has the form of one, and each id is one of the listing's
 unfoldable pub is_well_formed : Listing → Bool
 is_well_formed l =
-    list_all is_name l.names && (list_all (λ t. is_name t.name) l.programs
-    && (list_all (knows_program (length l.names)) l.programs
-    && list_all (λ run. nat_lt run.0.0 (length l.programs)) l.runs))
+    list_all is_name l.names && (list_all is_name (always_names l) && (list_all (λ t. is_name t.name) l.transactions
+    && (list_all (knows_condition (length l.names)) (conditions l)
+    && (list_all (knows_transaction (length l.names)) l.transactions
+    && list_all (λ run. nat_lt run.0.0 (length l.transactions)) l.runs))))
 
--- and no name is given twice among variables, or among transactions
+-- and no name is given twice among variables, among conditions or among transactions
 unfoldable pub names_hold : Listing → Bool
-names_hold l = is_well_formed l && (are_distinct l.names && are_distinct (map (λ t. t.name) l.programs))
+names_hold l =
+    is_well_formed l && (are_distinct l.names && (are_distinct (always_names l) && are_distinct (map (λ t. t.name) l.transactions)))

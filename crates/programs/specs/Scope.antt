@@ -1,5 +1,5 @@
 -- A program names only variables with a number below n.
-use Rattle.std.specs.Prelude.{ℕ, ◌<◌}
+use Rattle.std.specs.Prelude.{ℕ, ◌<◌, List, [], ◌∷◌}
 use Rattle.programs.specs.Tree.{Expression, Int, Var, Add, Sub, Mul, Div, Rem, Condition, Eq, Lt, Le, Not, And, Or, Statement, Skip, Set, Seq, If, Repeat, Retry, OrElse, Throw, Statements, End, More, Program}
 
 abbrev pub ExpressionKnown : ℕ → Expression → Type 0
@@ -34,5 +34,9 @@ abbrev mutual
   StatementsKnown n End = Unit {0}
   StatementsKnown n (More s rest) = StatementKnown n s × StatementsKnown n rest
 
+abbrev pub ConditionsKnown : ℕ → List Condition → Type 0
+ConditionsKnown n [] = Unit {0}
+ConditionsKnown n (c ∷ cs) = ConditionKnown n c × ConditionsKnown n cs
+
 abbrev pub ProgramKnown : ℕ → Program → Type 0
-ProgramKnown n t = StatementKnown n t.body × ExpressionKnown n t.result
+ProgramKnown n t = StatementKnown n t.body × (ExpressionKnown n t.result × ConditionsKnown n t.always)

@@ -82,11 +82,21 @@ abbrev pub statements_of_list : List Stmt → Statements
 statements_of_list [] = End
 statements_of_list (p ∷ rest) = More (statement_of p) (statements_of_list rest)
 
--- a transaction
-pub record Program : Type 0 where
+-- a transaction, as it is declared
+pub record Transaction : Type 0 where
   pub name : List ℕ
   pub body : Statement
   pub result : Expression
 
-abbrev pub program_of : Tx → Program
-program_of t = record { name = string_bytes t.name; body = statement_of t.body; result = expression_of t.result }
+abbrev pub transaction_of : Tx → Transaction
+transaction_of t = record { name = string_bytes t.name; body = statement_of t.body; result = expression_of t.result }
+
+-- what a task runs: a transaction, and the conditions that have to stand after it
+pub record Program : Type 0 where
+  pub name : List ℕ
+  pub body : Statement
+  pub result : Expression
+  pub always : List Condition
+
+abbrev pub under : List Condition → Transaction → Program
+under conditions t = record { name = t.name; body = t.body; result = t.result; always = conditions }

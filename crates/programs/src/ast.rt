@@ -12,6 +12,10 @@ pub struct TxId(pub u32);
 #[derive(Clone, Copy, Debug, Default, PartialEq, Eq, PartialOrd, Ord)]
 pub struct TaskId(pub u32);
 
+/// A standing condition, by its place in declared order, from 0.
+#[derive(Clone, Copy, Debug, Default, PartialEq, Eq, PartialOrd, Ord)]
+pub struct AlwaysId(pub u32);
+
 /// An expression: a signed 64-bit number, or a fault.
 #[derive(Clone, Debug, PartialEq, Eq, Drop)]
 pub enum Expr {
@@ -65,6 +69,8 @@ pub enum Fault {
     Overflow,
     /// A division or a remainder by 0.
     DivideByZero,
+    /// A standing condition that would not be true of what it leaves.
+    Broken(AlwaysId),
 }
 
 /// How a transaction ends.

@@ -14,7 +14,7 @@ pub mod moves;
 pub mod names;
 pub mod report;
 
-pub use ast::{Cond, Expr, Fault, Outcome, Stmt, TaskId, Tx, TxId, VarId};
+pub use ast::{AlwaysId, Cond, Expr, Fault, Outcome, Stmt, TaskId, Tx, TxId, VarId};
 pub use code::Op;
 pub use memory::Memory;
 pub use moves::Move;

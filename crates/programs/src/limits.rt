@@ -8,19 +8,22 @@ pub const MAX_VARIABLES: usize = 256;
 /// The most transactions.
 pub const MAX_TRANSACTIONS: usize = 256;
 
+/// The most standing conditions.
+pub const MAX_CONDITIONS: usize = 64;
+
 /// The most tasks: in all, and of one run.
 pub const MAX_TASKS: u32 = 65536;
 
 /// The most bytes of a name.
 pub const MAX_NAME: usize = 32;
 
-/// The deepest tree of a body or a result, where a node that is written in parentheses counts 1.
+/// The deepest tree of a body, a result or a standing condition, where a node that is written in parentheses counts 1.
 pub const MAX_DEPTH: u32 = 31;
 
 /// The largest repeat count.
 pub const MAX_REPEAT: u32 = 1000;
 
-/// The largest cost of a transaction.
+/// The largest cost of a transaction with the standing conditions, and of these conditions together.
 pub const MAX_COST: u32 = 1_000_000;
 
 /// The limits. It does nothing: its contract says that the constants are these numbers, which are
@@ -28,6 +31,7 @@ pub const MAX_COST: u32 = 1_000_000;
 pub fn limits_are()
     ensures variables { MAX_VARIABLES ≡ 256 }
     ensures transactions { MAX_TRANSACTIONS ≡ 256 }
+    ensures conditions { MAX_CONDITIONS ≡ 64 }
     ensures tasks { MAX_TASKS ≡ 65536 }
     ensures name { MAX_NAME ≡ 32 }
     ensures depth { MAX_DEPTH ≡ 31 }

@@ -1,7 +1,7 @@
 -- Each value that a report tells is one of 64 signed bits.
 use Rattle.std.specs.Prelude.{ℕ, ℤ, List, All, FitsSigned}
 use Rattle.std.specs.Int.{w64}
-use Rattle.programs.specs.declared.ast.Fault.TheVariants.{User, Overflow, DivideByZero}
+use Rattle.programs.specs.declared.ast.Fault.TheVariants.{User, Overflow, DivideByZero, Broken}
 use Rattle.programs.specs.declared.ast.Outcome.{Outcome}
 use Rattle.programs.specs.declared.ast.Outcome.TheVariants.{Returned, Thrown, Retries}
 use Rattle.programs.specs.declared.report.Entry.{Entry}
@@ -12,6 +12,7 @@ OutcomeFits (Returned v) = FitsSigned w64 v
 OutcomeFits (Thrown (User v)) = FitsSigned w64 v
 OutcomeFits (Thrown Overflow) = Unit {0}
 OutcomeFits (Thrown DivideByZero) = Unit {0}
+OutcomeFits (Thrown (Broken id)) = Unit {0}
 OutcomeFits Retries = Unit {0}
 
 abbrev pub ValuesFit : List (ℤ × ℕ) → Type 0

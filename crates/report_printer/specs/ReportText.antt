@@ -2,13 +2,16 @@
 use Rattle.std.specs.Prelude.{ℕ, ℤ, ◌+◌, ◌≤◌, List, [], ◌∷◌, ◌++◌, length, codes}
 use Rattle.std.specs.List.{flat_map}
 use Rattle.std.specs.Fmt.{decimal, signed_decimal}
+use Rattle.programs.specs.declared.ast.Fault.TheVariants.{User, Overflow, DivideByZero, Broken}
+use Rattle.programs.specs.declared.ast.Outcome.{Outcome}
+use Rattle.programs.specs.declared.ast.Outcome.TheVariants.{Returned, Thrown, Retries}
 use Rattle.programs.specs.declared.ast.TaskId.{TaskId}
 use Rattle.programs.specs.declared.ast.TxId.{TxId}
 use Rattle.programs.specs.declared.report.Entry.{Entry}
 use Rattle.programs.specs.declared.limits.TheConstants.{MAX_TASKS}
-use Rattle.programs.specs.Listing.{Listing, program_at}
+use Rattle.programs.specs.Listing.{Listing, always_name, program_at}
 use Rattle.programs.specs.Told.{Told}
-use Rattle.text_words.specs.Words.{line, outcome_text}
+use Rattle.text_words.specs.Words.{line}
 
 -- NAME VALUE VERSION
 abbrev pub variable_line : List ℕ → ℤ × ℕ → List ℕ
@@ -20,10 +23,19 @@ variable_lines names [] = []
 variable_lines [] (v ∷ vs) = []
 variable_lines (name ∷ names) (v ∷ vs) = variable_line name v ++ variable_lines names vs
 
+-- how a transaction ended; a condition that it broke is told by its name
+abbrev pub outcome_text : Listing → Outcome → List ℕ
+outcome_text l (Returned v) = codes "returned " ++ signed_decimal v
+outcome_text l (Thrown (User v)) = codes "threw " ++ signed_decimal v
+outcome_text l (Thrown Overflow) = codes "overflow"
+outcome_text l (Thrown DivideByZero) = codes "zerodiv"
+outcome_text l (Thrown (Broken id)) = codes "broke " ++ always_name l id
+outcome_text l Retries = codes "retries"
+
 -- entry NUMBER TASK NAME OUTCOME
 abbrev pub entry_line : Listing → Entry → List ℕ
 entry_line l e =
-    line (codes "entry" ∷ decimal e.number ∷ decimal e.task.0 ∷ (program_at l e.tx).name ∷ outcome_text e.outcome ∷ [])
+    line (codes "entry" ∷ decimal e.number ∷ decimal e.task.0 ∷ (program_at l e.tx).name ∷ outcome_text l e.outcome ∷ [])
 
 -- WORD TASK NAME
 abbrev pub task_line : Listing → List ℕ → TaskId × TxId → List ℕ

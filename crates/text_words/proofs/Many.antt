@@ -68,6 +68,7 @@ failed faults.BadByte r f total h so_far = sym so_far ∙ rw h refl
 failed faults.Shape r f total h so_far = sym so_far ∙ rw h refl
 failed faults.Name r f total h so_far = sym so_far ∙ rw h refl
 failed faults.Limit r f total h so_far = sym so_far ∙ rw h refl
+failed faults.Broken r f total h so_far = sym so_far ∙ rw h refl
 
 pub ends_at_item : {A : Type 0} (e : ReadFault) (goes : List Lexeme → Bool) (one : List Lexeme → Read A) (h : Shortens one) (front : List A) (ts : List Lexeme) (total : Read (List A))
     → goes ts ≡ true → Fails e (one ts) → with_front front (all_of goes one ts) ≡ total → Fails e total

@@ -137,6 +137,7 @@ count_fails faults.Shape z h = absurd (let p = (not_chosen (fits z) z faults.Sha
 count_fails faults.Name z h = absurd (let p = (not_chosen (fits z) z faults.Name h).1 in cc)
 count_fails faults.Limit z h = no_number z (not_chosen (fits z) z faults.Limit h).0
 count_fails faults.Memory z h = tt
+count_fails faults.Broken z h = absurd (let p = (not_chosen (fits z) z faults.Broken h).1 in cc)
 
 -- a number that is given is the same in 64 signed bits
 pub number_back : (z x : ℤ) → number_of z ≡ Ok x → to_z w64 (of_z w64 x) ≡ x

@@ -6,8 +6,8 @@ ghost use Rattle.text_words.specs.declared.fault.ReadFault.TheVariants.{Memory};
 use std::alloc::{AllocError, AllocFailed};
 use thiserror::Error;
 
-/// The kinds of fault. A file with several has the first of them, in this order; only `Memory` may
-/// come in place of any other answer.
+/// The kinds of fault. A file with several has the first of them, in this order, but that `Memory`
+/// may come in place of any other answer.
 #[derive(Clone, Copy, Debug, PartialEq, Eq, Error)]
 pub enum ReadFault {
     /// More than 1,048,576 bytes.
@@ -19,7 +19,7 @@ pub enum ReadFault {
     /// No reading by the grammar, with at most 32 parentheses open at a time.
     #[error("F3 Shape")]
     Shape,
-    /// A variable or a transaction declared twice, or one that is not declared.
+    /// A variable, a standing condition or a transaction declared twice, or one that is not declared.
     #[error("F4 Name")]
     Name,
     /// A number outside its range, a name that is too long, too many declarations or tasks, or too
@@ -29,6 +29,9 @@ pub enum ReadFault {
     /// A growth was refused.
     #[error("F6 Memory")]
     Memory,
+    /// A standing condition that is not true of the initial values.
+    #[error("F7 Broken")]
+    Broken,
 }
 
 impl From<AllocError> for ReadFault {

@@ -1,0 +1,7 @@
+pub mod FrameProof
+pub mod Declared
+pub mod Runs
+pub mod Resume
+pub mod Going
+pub mod Small
+pub mod Stores

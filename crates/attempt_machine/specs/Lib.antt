@@ -1,0 +1,7 @@
+pub use Rattle.own_writes.specs.Order
+pub mod Asking
+pub mod Frame
+pub mod Machine
+pub mod Correct
+pub mod Place
+pub mod Room

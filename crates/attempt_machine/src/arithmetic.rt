@@ -1,0 +1,44 @@
+//! Arithmetic: the rules of the plain meaning.
+
+ghost use Rattle.std.specs.Prelude.{◌≡◌};
+ghost use Rattle.programs.specs.Arithmetic.{sum_of, difference_of, product_of, quotient_of, remainder_of};
+
+use programs::Fault;
+
+pub fn sum(x: i64, y: i64) -> Result<i64, Fault>
+    ensures { result ≡ sum_of x y }
+{
+    x.checked_add(y).ok_or(Fault::Overflow)
+}
+
+pub fn difference(x: i64, y: i64) -> Result<i64, Fault>
+    ensures { result ≡ difference_of x y }
+{
+    x.checked_sub(y).ok_or(Fault::Overflow)
+}
+
+pub fn product(x: i64, y: i64) -> Result<i64, Fault>
+    ensures { result ≡ product_of x y }
+{
+    x.checked_mul(y).ok_or(Fault::Overflow)
+}
+
+pub fn quotient(x: i64, y: i64) -> Result<i64, Fault>
+    ensures { result ≡ quotient_of x y }
+{
+    if y == 0 {
+        Err(Fault::DivideByZero)
+    } else {
+        x.checked_div(y).ok_or(Fault::Overflow)
+    }
+}
+
+pub fn remainder(x: i64, y: i64) -> Result<i64, Fault>
+    ensures { result ≡ remainder_of x y }
+{
+    if y == 0 {
+        Err(Fault::DivideByZero)
+    } else {
+        x.checked_rem(y).ok_or(Fault::Overflow)
+    }
+}

@@ -1,0 +1,19 @@
+//! The machine of attempts: it does the code of a transaction over what was read of the state so far.
+//!
+//! `run` goes on until the first variable that is neither written by the transaction itself nor in
+//! the log, or to the end, through the transaction's own code and then through that of the standing
+//! conditions. `frame` says why this is safe: an end that was reached over a log is the end on every
+//! state that agrees with the log. `answers` and `resumes` say that the machine answers what the
+//! definitions ask, and that it goes on where it waited.
+#![tactic(auto)]
+
+mod arithmetic;
+pub mod evaluate;
+pub mod laws;
+pub mod machine;
+pub mod running;
+
+pub use evaluate::{Halt, Told};
+pub use laws::{answers, frame, resumes};
+pub use machine::Machine;
+pub use running::{Count, run};

@@ -1,0 +1,8 @@
+use Rattle.std.proofs.Common.{◌+◌, ◌*◌}
+use Rattle.file_parser.proofs.expr.+exprs.Given as goal
+
+abbrev pub decreases-expr_of : goal.decreases-expr_of
+decreases-expr_of l = 2 * l.depth
+
+abbrev pub decreases-binary_of : goal.decreases-binary_of
+decreases-binary_of l = 2 * l.depth + 1
