@@ -1,4 +1,4 @@
--- A written program is as deep as the program.
+-- What is written is as deep as what is declared.
 use Rattle.std.proofs.Common.{◌≡◌, ◌∙◌, ℕ, suc, List, max, refl, ap}
 use Rattle.programs.specs.Tree.{Expression, Condition, Statement, Statements}
 use Rattle.programs.specs.Tree as t
@@ -18,7 +18,7 @@ expr_deep ns (t.Mul a b) = both _ _ _ _ (expr_deep ns a) (expr_deep ns b)
 expr_deep ns (t.Div a b) = both _ _ _ _ (expr_deep ns a) (expr_deep ns b)
 expr_deep ns (t.Rem a b) = both _ _ _ _ (expr_deep ns a) (expr_deep ns b)
 
-cond_deep : (ns : List (List ℕ)) (c : Condition) → cond_depth (written_condition ns c) ≡ condition_depth c
+pub cond_deep : (ns : List (List ℕ)) (c : Condition) → cond_depth (written_condition ns c) ≡ condition_depth c
 cond_deep ns (t.Eq a b) = both _ _ _ _ (expr_deep ns a) (expr_deep ns b)
 cond_deep ns (t.Lt a b) = both _ _ _ _ (expr_deep ns a) (expr_deep ns b)
 cond_deep ns (t.Le a b) = both _ _ _ _ (expr_deep ns a) (expr_deep ns b)

@@ -7,11 +7,11 @@ use Rattle.std.proofs.lemmas.Bool.{and_from}
 use Rattle.std.proofs.lemmas.Bool.Decides.{leb_tells}
 use Rattle.programs.specs.Arithmetic.{fits}
 use Rattle.programs.specs.Listing.{Listing}
-use Rattle.programs.specs.Tree.{Expression, Condition, Statement, Statements, Program}
+use Rattle.programs.specs.Tree.{Expression, Condition, Statement, Statements, Transaction}
 use Rattle.programs.specs.Tree as t
-use Rattle.file_printer.specs.Fits.{ExprFits, CondFits, StmtFits, StmtsFit, PairFits, DeclarationFits, FileFits}
-use Rattle.file_grammar.specs.Spelling.{expression_integers, condition_integers, statement_integers, statements_integers, program_integers, integers_fit}
-use Rattle.file_grammar.specs.Written.{written_expression, written_condition, written_statement, written_statements, written_vars, written_program, written}
+use Rattle.file_printer.specs.Fits.{ExprFits, CondFits, StmtFits, StmtsFit, PairFits, AlwaysFits, DeclarationFits, FileFits}
+use Rattle.file_grammar.specs.Spelling.{expression_integers, condition_integers, statement_integers, statements_integers, transaction_integers, integers_fit}
+use Rattle.file_grammar.specs.Written.{written_expression, written_condition, written_statement, written_statements, written_vars, written_always, written_transaction, written_in, written}
 
 below : (n : ℕ) → n < 2 ^ 63 → leb (suc n) (2 ^ 63) ≡ true
 below n h = elim (leb_tells (suc n) (2 ^ 63)) [ inl e ↦ e.0 | inr e ↦ absurd (let past = e.1 in omega arith) ]
@@ -57,10 +57,15 @@ variables ns [] e h = refl
 variables [] (v ∷ values) e h = absurd (omega arith)
 variables (n ∷ ns) (v ∷ values) e h = and_from _ _ (integer v h.0) (variables ns values (omega arith) h.1)
 
-programs : (ns : List (List ℕ)) (ps : List Program) → AllByRecursion DeclarationFits (map (written_program ns) ps) → list_all program_integers ps ≡ true
-programs ns [] h = refl
-programs ns (p ∷ ps) h = and_from _ _ (and_from _ _ (statement ns p.body h.0.0) (expression ns p.result h.0.1)) (programs ns ps h.1)
+standing : (ns : List (List ℕ)) (always : List (List ℕ × Condition)) → AllByRecursion AlwaysFits (map (written_always ns) always) → list_all condition_integers (map (λ (a : List ℕ × Condition). a.1) always) ≡ true
+standing ns [] h = refl
+standing ns (a ∷ always) h = and_from _ _ (condition ns a.1 h.0) (standing ns always h.1)
+
+transactions : (ns : List (List ℕ)) (ts : List Transaction) → AllByRecursion DeclarationFits (map (written_transaction ns) ts) → list_all transaction_integers ts ≡ true
+transactions ns [] h = refl
+transactions ns (t ∷ ts) h = and_from _ _ (and_from _ _ (statement ns t.body h.0.0) (expression ns t.result h.0.1)) (transactions ns ts h.1)
 
 pub integers_of : (l : Listing) → length l.names ≡ length l.initial → FileFits (written l) → integers_fit l ≡ true
-unfolding integers_fit written
-integers_of l named h = and_from _ _ (variables l.names l.initial named h.vars) (programs l.names l.programs h.txs)
+unfolding integers_fit written_in
+integers_of l named h =
+    and_from _ _ (variables l.names l.initial named h.vars) (and_from _ _ (standing l.names l.always h.always) (transactions l.names l.transactions h.txs))

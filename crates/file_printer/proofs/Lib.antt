@@ -1,4 +1,5 @@
 pub mod Variables
+pub mod Known
 pub mod Spelled
 pub mod WordForms
 pub mod Spellings

@@ -1,13 +1,14 @@
 -- The canonical text of each form is read as the form's tokens.
-use Rattle.std.proofs.Common.{◌≡◌, ℕ, ◌<◌, true, List, [], ◌∷◌, ◌++◌, length, get_or, refl}
+use Rattle.std.proofs.Common.{◌≡◌, ℕ, ◌<◌, true, List, [], ◌∷◌, ◌++◌, length, get_or, refl, subst, lit<, arith}
 use Rattle.std.specs.Prelude.{ℤ, pos, codes, FitsSigned}
 use Rattle.std.specs.Int.{w64}
 use Rattle.std.specs.Fmt.{signed_decimal}
 use Rattle.std.specs.List.{list_all}
+use Rattle.std.proofs.lemmas.Fmt.{decimal_digit}
 use Rattle.std.proofs.lemmas.Option.{slice_get-get_or}
-use Rattle.programs.specs.Tree.{Expression, Condition, Statement, Statements, Program}
+use Rattle.programs.specs.Tree.{Expression, Condition, Statement, Statements, Transaction}
 use Rattle.programs.specs.Tree as t
-use Rattle.programs.specs.Scope.{ExpressionKnown, ConditionKnown, StatementKnown, StatementsKnown, ProgramKnown}
+use Rattle.programs.specs.Scope.{ExpressionKnown, ConditionKnown, StatementKnown, StatementsKnown}
 use Rattle.programs.specs.Names.{is_name}
 use Rattle.programs.proofs.Lawful.{passes_at}
 use Rattle.file_grammar.specs.declared.words.Operator.{Operator}
@@ -18,14 +19,16 @@ use Rattle.file_grammar.specs.declared.words.Connective.{Connective}
 use Rattle.file_grammar.specs.declared.words.Connective.TheVariants as connective
 use Rattle.file_grammar.specs.declared.words.Keyword.{Keyword}
 use Rattle.file_grammar.specs.declared.words.Keyword.TheVariants as keyword
+use Rattle.file_grammar.specs.declared.file.FileForm.{FileForm}
+use Rattle.file_grammar.specs.declared.file.FileForm.TheVariants.{One, Two}
 use Rattle.text_words.specs.Tokens.{Lexeme}
 use Rattle.text_words.specs.Tokens as token
-use Rattle.file_grammar.specs.Tree.{Expr, Cond, Stmt, Stmts, Pair, Declaration, form, operator_word, comparison_word, connective_word, keyword_word, expr_tokens, cond_tokens, stmt_tokens, stmts_tokens, pair_tokens, tx_tokens}
+use Rattle.file_grammar.specs.Tree.{Expr, Cond, Stmt, Stmts, Pair, Always, Declaration, form, operator_word, comparison_word, connective_word, keyword_word, expr_tokens, cond_tokens, stmt_tokens, stmts_tokens, pair_tokens, always_tokens, tx_tokens, heading_tokens}
 use Rattle.file_grammar.specs.Tree as f
-use Rattle.file_grammar.specs.Written.{name_at, written_expression, written_condition, written_statement, written_statements, written_program}
-use Rattle.file_printer.specs.Canonical.{form_text, spaced, expr_text, cond_text, stmt_text, stmts_text, pair_line, tx_line}
-use Rattle.file_printer.specs.Fits.{ExprFits, CondFits, StmtFits, StmtsFit, PairFits, DeclarationFits}
-use Rattle.file_printer.proofs.Spelled.{IsWord, Reads, Follows, Lines, word_reads, spaced_follows, none_follows, both_follow, form_reads, line_of}
+use Rattle.file_grammar.specs.Written.{name_at, written_expression, written_condition, written_statement, written_statements, written_always, written_transaction}
+use Rattle.file_printer.specs.Canonical.{form_text, spaced, expr_text, cond_text, stmt_text, stmts_text, heading_text, pair_line, always_line, tx_line}
+use Rattle.file_printer.specs.Fits.{ExprFits, CondFits, StmtFits, StmtsFit, PairFits, AlwaysFits, DeclarationFits}
+use Rattle.file_printer.proofs.Spelled.{IsWord, Reads, Follows, Lines, word_reads, spaced_follows, none_follows, both_follow, form_reads, line_of, none_lines}
 use Rattle.file_printer.proofs.WordForms.{name_word, int_word}
 
 -- ---- words
@@ -71,6 +74,14 @@ var_is_word = name_word (codes "var") refl
 pub run_is_word : IsWord (codes "run") (token.Name (codes "run"))
 unfolding is_name
 run_is_word = name_word (codes "run") refl
+
+stm_is_word : IsWord (codes "stm") (token.Name (codes "stm"))
+unfolding is_name
+stm_is_word = name_word (codes "stm") refl
+
+always_is_word : IsWord (codes "always") (token.Name (codes "always"))
+unfolding is_name
+always_is_word = name_word (codes "always") refl
 
 tx_is_word : IsWord (codes "tx") (token.Name (codes "tx"))
 unfolding is_name
@@ -185,12 +196,32 @@ pair_lines word p w name h =
     (form_reads word (spaced p.name ++ spaced (signed_decimal p.value)) (token.Name p.name ∷ token.Int p.value ∷ []) w
     (two p.name (signed_decimal p.value) (token.Name p.name ∷ []) (token.Int p.value ∷ []) (word_reads p.name (token.Name p.name) (name_word p.name name)) (number p.value h)))
 
-pub tx_lines : (ns : List (List ℕ)) → list_all is_name ns ≡ true → (p : Program) → is_name p.name ≡ true → ProgramKnown (length ns) p → DeclarationFits (written_program ns p) → Lines (tx_line (written_program ns p)) (tx_tokens (written_program ns p))
-tx_lines ns forms p name k h =
+-- the line of the form: its text is that of a form with one integer
+two_printed : signed_decimal (pos 2) ≡ codes "2"
+two_printed = decimal_digit 2 (lit< tt)
+
+pub heading_lines : (form : FileForm) → Lines (heading_text form) (heading_tokens form)
+heading_lines One = none_lines
+heading_lines Two =
+    subst (λ (digits : List ℕ). Lines (form_text (codes "stm") (spaced digits) ++ codes "\n") (f.form (codes "stm") (token.Int (pos 2) ∷ []))) two_printed
+    (line_of (form_text (codes "stm") (spaced (signed_decimal (pos 2)))) (f.form (codes "stm") (token.Int (pos 2) ∷ []))
+    (form_reads (codes "stm") (spaced (signed_decimal (pos 2))) (token.Int (pos 2) ∷ []) stm_is_word
+    (spaced_follows (signed_decimal (pos 2)) (token.Int (pos 2) ∷ []) (number (pos 2) (omega arith)))))
+
+pub always_lines : (ns : List (List ℕ)) → list_all is_name ns ≡ true → (a : List ℕ × Condition) → is_name a.0 ≡ true → ConditionKnown (length ns) a.1 → AlwaysFits (written_always ns a) → Lines (always_line (written_always ns a)) (always_tokens (written_always ns a))
+always_lines ns forms a name k h =
+    let c = written_condition ns a.1 in
+    line_of (form_text (codes "always") (spaced a.0 ++ spaced (cond_text c))) (always_tokens (written_always ns a))
+    (form_reads (codes "always") (spaced a.0 ++ spaced (cond_text c)) (token.Name a.0 ∷ cond_tokens c) always_is_word
+    (two a.0 (cond_text c) (token.Name a.0 ∷ []) (cond_tokens c) (word_reads a.0 (token.Name a.0) (name_word a.0 name)) (cond_reads ns forms a.1 k h)))
+
+pub tx_lines : (ns : List (List ℕ)) → list_all is_name ns ≡ true → (t : Transaction) → is_name t.name ≡ true → StatementKnown (length ns) t.body → ExpressionKnown (length ns) t.result
+    → DeclarationFits (written_transaction ns t) → Lines (tx_line (written_transaction ns t)) (tx_tokens (written_transaction ns t))
+tx_lines ns forms p name known valued h =
     let body = written_statement ns p.body in
     let value = written_expression ns p.result in
-    line_of (form_text (codes "tx") (spaced p.name ++ (spaced (stmt_text body) ++ spaced (expr_text value)))) (tx_tokens (written_program ns p))
+    line_of (form_text (codes "tx") (spaced p.name ++ (spaced (stmt_text body) ++ spaced (expr_text value)))) (tx_tokens (written_transaction ns p))
     (form_reads (codes "tx") (spaced p.name ++ (spaced (stmt_text body) ++ spaced (expr_text value))) (token.Name p.name ∷ (stmt_tokens body ++ expr_tokens value)) tx_is_word
     (three p.name (stmt_text body) (expr_text value) (token.Name p.name ∷ []) (stmt_tokens body) (expr_tokens value)
     (word_reads p.name (token.Name p.name) (name_word p.name name))
-    (stmt_reads ns forms p.body k.0 h.0) (expr_reads ns forms p.result k.1 h.1)))
+    (stmt_reads ns forms p.body known h.0) (expr_reads ns forms p.result valued h.1)))

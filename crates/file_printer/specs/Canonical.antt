@@ -3,8 +3,10 @@ use Rattle.std.specs.Prelude.{ℕ, List, [], ◌++◌, codes}
 use Rattle.std.specs.Fmt.{signed_decimal}
 use Rattle.std.specs.List.{flat_map}
 use Rattle.programs.specs.Listing.{Listing}
-use Rattle.file_grammar.specs.Tree.{Expr, Int, Name, Binary, Cond, Compare, Not, Connect, Stmt, Skip, Set, Seq, If, Repeat, Retry, OrElse, Throw, Stmts, NoStmts, MoreStmts, Pair, Declaration, File, operator_word, comparison_word, connective_word, keyword_word}
+use Rattle.file_grammar.specs.Tree.{Expr, Int, Name, Binary, Cond, Compare, Not, Connect, Stmt, Skip, Set, Seq, If, Repeat, Retry, OrElse, Throw, Stmts, NoStmts, MoreStmts, Pair, Always, Declaration, File, operator_word, comparison_word, connective_word, keyword_word}
 use Rattle.file_grammar.specs.declared.words.Keyword.TheVariants as keyword
+use Rattle.file_grammar.specs.declared.file.FileForm.{FileForm}
+use Rattle.file_grammar.specs.declared.file.FileForm.TheVariants.{One, Two}
 use Rattle.file_grammar.specs.Written.{written}
 
 -- a word in parentheses, with its parts behind it
@@ -45,13 +47,24 @@ abbrev mutual
 abbrev pub pair_line : List ℕ → Pair → List ℕ
 pair_line word p = form_text word (spaced p.name ++ spaced (signed_decimal p.value)) ++ codes "\n"
 
+-- a condition that has to stand, on a line
+abbrev pub always_line : Always → List ℕ
+always_line a = form_text (codes "always") (spaced a.name ++ spaced (cond_text a.condition)) ++ codes "\n"
+
 -- a transaction, on a line
 abbrev pub tx_line : Declaration → List ℕ
 tx_line t = form_text (codes "tx") (spaced t.name ++ (spaced (stmt_text t.body) ++ spaced (expr_text t.value))) ++ codes "\n"
 
--- the variables, then the transactions, then the runs
+-- form 2 says so on a line, form 1 says nothing
+abbrev pub heading_text : FileForm → List ℕ
+heading_text One = []
+heading_text Two = codes "(stm 2)\n"
+
+-- the form, then the variables, then the conditions, then the transactions, then the runs
 abbrev pub text_of : File → List ℕ
-text_of f = flat_map (pair_line (codes "var")) f.vars ++ (flat_map tx_line f.txs ++ flat_map (pair_line (codes "run")) f.runs)
+text_of f =
+    heading_text f.form ++ (flat_map (pair_line (codes "var")) f.vars ++ (flat_map always_line f.always
+    ++ (flat_map tx_line f.txs ++ flat_map (pair_line (codes "run")) f.runs)))
 
 abbrev pub file_text : Listing → List ℕ
 file_text l = text_of (written l)

@@ -2,7 +2,7 @@
 use Rattle.std.specs.Prelude.{FitsSigned}
 use Rattle.std.specs.Int.{w64}
 use Rattle.std.specs.List.{AllByRecursion}
-use Rattle.file_grammar.specs.Tree.{Expr, Int, Name, Binary, Cond, Compare, Not, Connect, Stmt, Skip, Set, Seq, If, Repeat, Retry, OrElse, Throw, Stmts, NoStmts, MoreStmts, Pair, Declaration, File}
+use Rattle.file_grammar.specs.Tree.{Expr, Int, Name, Binary, Cond, Compare, Not, Connect, Stmt, Skip, Set, Seq, If, Repeat, Retry, OrElse, Throw, Stmts, NoStmts, MoreStmts, Pair, Always, Declaration, File}
 
 abbrev pub ExprFits : Expr → Type 0
 ExprFits (Int value) = FitsSigned w64 value
@@ -32,10 +32,14 @@ abbrev mutual
 abbrev pub PairFits : Pair → Type 0
 PairFits p = FitsSigned w64 p.value
 
+abbrev pub AlwaysFits : Always → Type 0
+AlwaysFits a = CondFits a.condition
+
 abbrev pub DeclarationFits : Declaration → Type 0
 DeclarationFits t = StmtFits t.body × ExprFits t.value
 
 pub record FileFits (f : File) : Type 0 where
   pub vars : AllByRecursion PairFits f.vars
+  pub always : AllByRecursion AlwaysFits f.always
   pub txs : AllByRecursion DeclarationFits f.txs
   pub runs : AllByRecursion PairFits f.runs

@@ -3,20 +3,23 @@
 ghost use Rattle.std.specs.Prelude.{◌≡◌, ◌<◌, ◌≤◌, ◌++◌, FitsSigned, IfOk, OnOk, codes, length, map, pos, string_bytes};
 ghost use Rattle.std.specs.Int.{w64};
 ghost use Rattle.std.specs.List.{AllByRecursion, flat_map};
-ghost use Rattle.programs.specs.Scope.{ProgramKnown};
-ghost use Rattle.programs.specs.Tree.{program_of};
-ghost use Rattle.file_grammar.specs.Written.{written_vars, written_program, written_run, written};
+ghost use Rattle.programs.specs.Scope.{ConditionKnown, ProgramKnown};
+ghost use Rattle.programs.specs.Tree.{condition_of, transaction_of, under};
+ghost use Rattle.programs.specs.Listing.{conditions};
+ghost use Rattle.txn.specs.Conditions.{standing_of};
+ghost use Rattle.file_grammar.specs.Written.{form_for, written_vars, written_always, written_transaction, written_run, written_in, written};
 ghost use Rattle.file_grammar.specs.Spelling.{Spells};
-ghost use Rattle.file_printer.specs.Canonical.{pair_line, tx_line, file_text};
-ghost use Rattle.file_printer.specs.Fits.{PairFits, DeclarationFits, FileFits};
+ghost use Rattle.file_printer.specs.Canonical.{heading_text, pair_line, always_line, tx_line, file_text};
+ghost use Rattle.file_printer.specs.Fits.{PairFits, AlwaysFits, DeclarationFits, FileFits};
 
-use crate::forms::{put_expr, put_stmt};
+use crate::forms::{put_expr, put_last_condition, put_stmt};
 use std::alloc::{AllocError, Global};
 use std::fmt::Write;
-use txn::{Catalogue, Memory, Tx, TxId, VarId};
+use txn::{Catalogue, Cond, Memory, Tx, TxId, VarId};
 
 /// The canonical text of a catalogue: one form a line, each line ended by a newline, the
-/// variables first, then the transactions, then the runs. One space stands between two tokens,
+/// variables first, then the standing conditions, then the transactions, then the runs. Where there
+/// are conditions, the line `(stm 2)` stands before all others. One space stands between two tokens,
 /// none after `(` and none before `)`. `Err` means that memory was refused.
 pub fn print_file(alloc: Global, catalogue: &Catalogue) -> Result<String, Memory>
     ensures text { IfOk result (λ s. string_bytes s ≡ file_text catalogue.now) }
@@ -28,15 +31,27 @@ pub fn print_file(alloc: Global, catalogue: &Catalogue) -> Result<String, Memory
     Ok(out)
 }
 
-#[tactic(auto, unfolding(file_grammar::specs::Written::written))]
+#[tactic(auto, unfolding(file_grammar::specs::Written::written_in))]
 fn put_file(out: &mut String, catalogue: &Catalogue) -> Result<(), AllocError>
     ensures text { OnOk result (string_bytes out.new ≡ string_bytes out.old ++ file_text catalogue.now) }
     ensures fits { OnOk result (FileFits (written catalogue.now)) }
 {
+    put_heading(out, catalogue)?;
     put_vars(out, catalogue)?;
+    put_conditions(out, catalogue)?;
     put_txs(out, catalogue)?;
     put_runs(out, catalogue)?;
     Ok(())
+}
+
+/// The form, which is told only where there are conditions.
+fn put_heading(out: &mut String, catalogue: &Catalogue) -> Result<(), AllocError>
+    ensures { OnOk result (string_bytes out.new ≡ string_bytes out.old ++ heading_text (form_for catalogue.now.always)) }
+{
+    if catalogue.always().is_empty() {
+        return Ok(());
+    }
+    out.push_str("(stm 2)\n")
 }
 
 fn put_var(out: &mut String, name: &str, value: &i64) -> Result<(), AllocError>
@@ -58,10 +73,37 @@ fn put_vars(out: &mut String, catalogue: &Catalogue) -> Result<(), AllocError>
     Ok(())
 }
 
+fn put_condition(
+    out: &mut String,
+    catalogue: &Catalogue,
+    condition: &(String, Cond),
+) -> Result<(), AllocError>
+    requires { ConditionKnown (length catalogue.now.names) (condition_of condition.now.1) }
+    ensures text { OnOk result (string_bytes out.new ≡ string_bytes out.old ++ always_line (written_always catalogue.now.names (standing_of condition.now))) }
+    ensures fits { OnOk result (AlwaysFits (written_always catalogue.now.names (standing_of condition.now))) }
+{
+    let (name, condition) = condition;
+    out.push_str("(always ")?;
+    out.push_str(name.as_str())?;
+    put_last_condition(out, catalogue, condition)?;
+    out.push_str("\n")
+}
+
+fn put_conditions(out: &mut String, catalogue: &Catalogue) -> Result<(), AllocError>
+    ensures text { OnOk result (string_bytes out.new ≡ string_bytes out.old ++ flat_map always_line (map (written_always catalogue.now.names) catalogue.now.always)) }
+    ensures fits { OnOk result (AllByRecursion AlwaysFits (map (written_always catalogue.now.names) catalogue.now.always)) }
+{
+    catalogue.rules();
+    'conditions: for condition in catalogue.always() {
+        put_condition(out, catalogue, condition)?;
+    }
+    Ok(())
+}
+
 fn put_tx(out: &mut String, catalogue: &Catalogue, tx: &Tx) -> Result<(), AllocError>
-    requires { ProgramKnown (length catalogue.now.names) (program_of tx.now) }
-    ensures text { OnOk result (string_bytes out.new ≡ string_bytes out.old ++ tx_line (written_program catalogue.now.names (program_of tx.now))) }
-    ensures fits { OnOk result (DeclarationFits (written_program catalogue.now.names (program_of tx.now))) }
+    requires { ProgramKnown (length catalogue.now.names) (under (conditions catalogue.now) (transaction_of tx.now)) }
+    ensures text { OnOk result (string_bytes out.new ≡ string_bytes out.old ++ tx_line (written_transaction catalogue.now.names (transaction_of tx.now))) }
+    ensures fits { OnOk result (DeclarationFits (written_transaction catalogue.now.names (transaction_of tx.now))) }
 {
     out.push_str("(tx ")?;
     out.push_str(tx.name.as_str())?;
@@ -74,8 +116,8 @@ fn put_tx(out: &mut String, catalogue: &Catalogue, tx: &Tx) -> Result<(), AllocE
 }
 
 fn put_txs(out: &mut String, catalogue: &Catalogue) -> Result<(), AllocError>
-    ensures text { OnOk result (string_bytes out.new ≡ string_bytes out.old ++ flat_map tx_line (map (written_program catalogue.now.names) catalogue.now.programs)) }
-    ensures fits { OnOk result (AllByRecursion DeclarationFits (map (written_program catalogue.now.names) catalogue.now.programs)) }
+    ensures text { OnOk result (string_bytes out.new ≡ string_bytes out.old ++ flat_map tx_line (map (written_transaction catalogue.now.names) catalogue.now.transactions)) }
+    ensures fits { OnOk result (AllByRecursion DeclarationFits (map (written_transaction catalogue.now.names) catalogue.now.transactions)) }
 {
     catalogue.rules();
     'txs: for i in 0..catalogue.tx_count() {
@@ -85,9 +127,9 @@ fn put_txs(out: &mut String, catalogue: &Catalogue) -> Result<(), AllocError>
 }
 
 fn put_run(out: &mut String, catalogue: &Catalogue, run: &(TxId, u32)) -> Result<(), AllocError>
-    requires { run.now.0.0 < length catalogue.now.programs }
-    ensures text { OnOk result (string_bytes out.new ≡ string_bytes out.old ++ pair_line (codes "run") (written_run catalogue.now.programs run.now)) }
-    ensures fits { PairFits (written_run catalogue.now.programs run.now) }
+    requires { run.now.0.0 < length catalogue.now.transactions }
+    ensures text { OnOk result (string_bytes out.new ≡ string_bytes out.old ++ pair_line (codes "run") (written_run catalogue.now.transactions run.now)) }
+    ensures fits { PairFits (written_run catalogue.now.transactions run.now) }
 {
     let (tx, count) = *run;
     let name = catalogue.tx_name(tx);
@@ -95,8 +137,8 @@ fn put_run(out: &mut String, catalogue: &Catalogue, run: &(TxId, u32)) -> Result
 }
 
 fn put_runs(out: &mut String, catalogue: &Catalogue) -> Result<(), AllocError>
-    ensures text { OnOk result (string_bytes out.new ≡ string_bytes out.old ++ flat_map (pair_line (codes "run")) (map (written_run catalogue.now.programs) catalogue.now.runs)) }
-    ensures fits { OnOk result (AllByRecursion PairFits (map (written_run catalogue.now.programs) catalogue.now.runs)) }
+    ensures text { OnOk result (string_bytes out.new ≡ string_bytes out.old ++ flat_map (pair_line (codes "run")) (map (written_run catalogue.now.transactions) catalogue.now.runs)) }
+    ensures fits { OnOk result (AllByRecursion PairFits (map (written_run catalogue.now.transactions) catalogue.now.runs)) }
 {
     catalogue.rules();
     'runs: for run in catalogue.runs() {

@@ -161,7 +161,11 @@ fn put_first_condition(
 
 /// A condition as the last part, and the closing parenthesis.
 #[cycle(conds)]
-fn put_last_condition(out: &mut String, catalogue: &Catalogue, c: &Cond) -> Result<(), AllocError>
+pub(crate) fn put_last_condition(
+    out: &mut String,
+    catalogue: &Catalogue,
+    c: &Cond,
+) -> Result<(), AllocError>
     requires { ConditionKnown (length catalogue.now.names) (condition_of c.now) }
     ensures text { OnOk result (string_bytes out.new ≡ string_bytes out.old ++ (spaced (cond_text (written_condition catalogue.now.names (condition_of c.now))) ++ codes ")")) }
     ensures fits { OnOk result (CondFits (written_condition catalogue.now.names (condition_of c.now))) }

@@ -1,25 +1,32 @@
 -- What the fields of a catalogue mean, and what they keep.
 use Rattle.std.specs.Prelude.{◌≡◌, map, length, string_bytes, true}
 use Rattle.txn.specs.declared.catalogue.Catalogue.TheInside.{Inside}
-use Rattle.programs.specs.Tree.{program_of}
-use Rattle.programs.specs.Code.{program_code}
-use Rattle.programs.specs.Listing.{Listing, tasks_of}
+use Rattle.programs.specs.Tree.{transaction_of}
+use Rattle.programs.specs.Code.{transaction_code, ending_code}
+use Rattle.programs.specs.Listing.{Listing, conditions, always_names, tasks_of}
 use Rattle.programs.specs.Names.{names_hold}
 use Rattle.programs.specs.Limits.{limits_hold}
+use Rattle.programs.specs.Standing.{Upholds}
+use Rattle.txn.specs.Conditions.{standing_of}
 
 abbrev pub listed : Inside → Listing
 listed c =
     record {
       names = map string_bytes c.names.keys;
       initial = c.initial.items;
-      programs = map program_of c.txs.items;
+      always = map standing_of c.always.items;
+      transactions = map transaction_of c.txs.items;
       runs = c.runs.items;
     }
 
 pub record IsKept (c : Inside) : Type 0 where
   pub names : names_hold (listed c) ≡ true
   pub limits : limits_hold (listed c) ≡ true
+  pub upheld : Upholds (listed c) c.initial.items
   pub valued : length c.initial.items ≡ length c.names.keys
-  pub tx_names : map string_bytes c.tx_names.keys ≡ map (λ t. t.name) (listed c).programs
-  pub codes : map (λ code. code.items) c.codes.items ≡ map program_code (listed c).programs
+  pub always_names : map string_bytes c.always_names.keys ≡ always_names (listed c)
+  pub tx_names : map string_bytes c.tx_names.keys ≡ map (λ t. t.name) (listed c).transactions
+  -- each transaction's own code, and the end that all go on into
+  pub codes : map (λ code. code.items) c.codes.items ≡ map (λ t. transaction_code t.body t.result) (listed c).transactions
+  pub ending : c.ending.items ≡ ending_code 0 (conditions (listed c))
   pub task_txs : c.task_txs.items ≡ tasks_of c.runs.items

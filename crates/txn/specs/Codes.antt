@@ -5,7 +5,7 @@ use Rattle.std.proofs.Common.{ap}
 use base.Stored.{Gv, gnil, gnum, gcons}
 use Rattle.programs.specs.declared.ast.VarId.{VarId}
 use Rattle.programs.specs.declared.ast.TxId.{TxId}
-use Rattle.programs.specs.Tree.{Expression, Int, Var, Add, Sub, Mul, Div, Rem, Condition, Eq, Lt, Le, Not, And, Or, Statement, Skip, Set, Seq, If, Repeat, Retry, OrElse, Throw, Statements, End, More, Program}
+use Rattle.programs.specs.Tree.{Expression, Int, Var, Add, Sub, Mul, Div, Rem, Condition, Eq, Lt, Le, Not, And, Or, Statement, Skip, Set, Seq, If, Repeat, Retry, OrElse, Throw, Statements, End, More, Transaction}
 use Rattle.programs.specs.Listing.{Listing}
 
 abbrev variable : ℕ → VarId
@@ -106,17 +106,23 @@ coded_expression = record { code = expression_code; inj = expression_inj }
 abbrev pub coded_statement : Coded Statement
 coded_statement = record { code = statement_code; inj = statement_inj }
 
-abbrev pub coded_program : Coded Program
-coded_program =
+abbrev pub coded_condition : Coded Condition
+coded_condition = record { code = condition_code; inj = condition_inj }
+
+abbrev pub coded_transaction : Coded Transaction
+coded_transaction =
     code_by (List ℕ × (Statement × Expression)) (coded× (coded_list coded_ℕ) (coded× coded_statement coded_expression))
     (λ t. (t.name, (t.body, t.result))) (λ p. record { name = p.0; body = p.1.0; result = p.1.1 }) (λ _. refl)
+
+abbrev pub coded_always : Coded (List ℕ × Condition)
+coded_always = coded× (coded_list coded_ℕ) coded_condition
 
 abbrev pub coded_run : Coded (TxId × ℕ)
 coded_run = code_by (ℕ × ℕ) (coded× coded_ℕ coded_ℕ) (λ r. (r.0.0, r.1)) (λ p. (record { 0 = p.0 }, p.1)) (λ _. refl)
 
 abbrev pub coded_listing : Coded Listing
 coded_listing =
-    code_by (List (List ℕ) × (List ℤ × (List Program × List (TxId × ℕ))))
-    (coded× (coded_list (coded_list coded_ℕ)) (coded× (coded_list coded_ℤ) (coded× (coded_list coded_program) (coded_list coded_run))))
-    (λ l. (l.names, (l.initial, (l.programs, l.runs))))
-    (λ p. record { names = p.0; initial = p.1.0; programs = p.1.1.0; runs = p.1.1.1 }) (λ _. refl)
+    code_by (List (List ℕ) × (List ℤ × (List (List ℕ × Condition) × (List Transaction × List (TxId × ℕ)))))
+    (coded× (coded_list (coded_list coded_ℕ)) (coded× (coded_list coded_ℤ) (coded× (coded_list coded_always) (coded× (coded_list coded_transaction) (coded_list coded_run)))))
+    (λ l. (l.names, (l.initial, (l.always, (l.transactions, l.runs)))))
+    (λ p. record { names = p.0; initial = p.1.0; always = p.1.1.0; transactions = p.1.1.1.0; runs = p.1.1.1.1 }) (λ _. refl)

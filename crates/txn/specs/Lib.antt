@@ -6,6 +6,7 @@ pub use Rattle.programs.specs.Depth
 pub use Rattle.programs.specs.Code
 pub use Rattle.programs.specs.Scope
 pub use Rattle.programs.specs.Listing
+pub use Rattle.programs.specs.Standing
 pub use Rattle.programs.specs.Names
 pub use Rattle.programs.specs.Limits
 pub use Rattle.programs.specs.Replay
@@ -20,7 +21,9 @@ pub use Rattle.programs.specs.declared.report
 pub use Rattle.shared_words.specs.Words
 pub use Rattle.shared_words.specs.Stores
 pub use Rattle.shared_words.specs.Loads
+pub use Rattle.evaluator.specs.Always
 pub use Rattle.evaluator.specs.Flow
 pub use Rattle.evaluator.specs.Worked
 pub mod Codes
+pub mod Conditions
 pub mod CatalogueInside

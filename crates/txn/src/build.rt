@@ -1,20 +1,31 @@
 //! The parts of building a catalogue: tests of what is given, and the tables made of it.
 
-ghost use Rattle.std.specs.Prelude.{◌≡◌, ◌++◌, ◌&&◌, true, false, IfOk, IfErr, OnOk, ◌≢◌, map, string_bytes, replicate};
+ghost use Rattle.std.specs.Prelude.{◌≡◌, ◌++◌, ◌≤◌, ◌&&◌, true, false, IfOk, IfErr, OnOk, ◌≢◌, map, length, nat_le, string_bytes, replicate};
 ghost use Rattle.std.specs.List.{list_all};
-ghost use Rattle.programs.specs.Code.{program_code};
-ghost use Rattle.programs.specs.Tree.{program_of};
+ghost use Rattle.programs.specs.Meaning.{truth};
+ghost use Rattle.programs.specs.Code.{transaction_code, ending_code};
+ghost use Rattle.programs.specs.Depth.{condition_depth, statement_depth, expression_depth};
+ghost use Rattle.programs.specs.Tree.{condition_of, expression_of, statement_of};
 ghost use Rattle.programs.specs.Listing.{listing_of, tasks_of};
-ghost use Rattle.programs.specs.Names.{are_distinct, is_well_formed, names_hold};
-ghost use Rattle.programs.specs.Limits.{limits_hold, program_fits};
+ghost use Rattle.programs.specs.Names.{are_distinct, is_well_formed};
+ghost use Rattle.programs.specs.Limits.{deepest, most_conditions, limits_hold};
+ghost use Rattle.programs.specs.Scope.{ConditionsKnown};
+ghost use Rattle.programs.specs.Standing.{is_true};
+ghost use Rattle.evaluator.specs.Always.{conditions_of};
 ghost use Rattle.txn.specs.declared.build.BuildFault.TheVariants.{Memory};
 
-use catalogue_rules::limits::{counts_fit, names_fit, sum_fits, transactions_fit, tx_names_fit};
-use catalogue_rules::names::{names_have_form, runs_known, transactions_known, tx_names_have_form};
-use compiler::compile::compile;
+use catalogue_rules::limits::{
+    always_cost, always_names_fit, counts_fit, names_fit, sum_fits, transactions_fit, tx_names_fit,
+};
+use catalogue_rules::names::{
+    always_known, always_names_have_form, names_have_form, runs_known, transactions_known,
+    tx_names_have_form,
+};
+use compiler::compile::{compile, ending};
+use evaluator::evaluate::truth;
 use indexmap::IndexSet;
-use programs::limits::{MAX_TRANSACTIONS, MAX_VARIABLES};
-use programs::{Op, Tx, TxId};
+use programs::limits::{MAX_CONDITIONS, MAX_TRANSACTIONS, MAX_VARIABLES};
+use programs::{Cond, Op, Tx, TxId};
 use std::alloc::{AllocError, AllocFailed, Global};
 use thiserror::Error;
 
@@ -27,6 +38,9 @@ pub enum BuildFault {
     /// A limit is passed.
     #[error("a limit is passed")]
     Limit,
+    /// A standing condition is not true of the initial values, be it by no or by a fault.
+    #[error("a standing condition is not true of the initial values")]
+    Broken,
     /// A growth was refused.
     #[error("out of memory")]
     Memory,
@@ -42,27 +56,58 @@ impl From<AllocError> for BuildFault {
 
 /// Whether each name has the form of one, and each id is one of those declared.
 #[tactic(auto, using(crate::proofs::Building::well_formed_is))]
-pub(crate) fn well_formed(vars: &[(String, i64)], txs: &[Tx], runs: &[(TxId, u32)]) -> bool
-    ensures { result ≡ is_well_formed (listing_of vars.now txs.now runs.now) }
+pub(crate) fn well_formed(
+    vars: &[(String, i64)],
+    always: &[(String, Cond)],
+    txs: &[Tx],
+    runs: &[(TxId, u32)],
+) -> bool
+    ensures { result ≡ is_well_formed (listing_of vars.now always.now txs.now runs.now) }
 {
     names_have_form(vars)
+        && always_names_have_form(always)
         && tx_names_have_form(txs)
+        && always_known(always, vars.len())
         && transactions_known(txs, vars.len())
         && runs_known(runs, txs.len())
 }
 
 /// Whether all limits hold.
-#[tactic(auto, using(crate::proofs::Building::limits_are))]
-pub(crate) fn within_limits(vars: &[(String, i64)], txs: &[Tx], runs: &[(TxId, u32)]) -> bool
-    ensures { result ≡ limits_hold (listing_of vars.now txs.now runs.now) }
+#[tactic(auto, using(crate::proofs::Building::unfit_conditions))]
+pub(crate) fn within_limits(
+    vars: &[(String, i64)],
+    always: &[(String, Cond)],
+    txs: &[Tx],
+    runs: &[(TxId, u32)],
+) -> bool
+    ensures { result ≡ limits_hold (listing_of vars.now always.now txs.now runs.now) }
 {
+    let Some(cost) = always_cost(always) else {
+        return false;
+    };
     vars.len() <= MAX_VARIABLES
         && names_fit(vars)
+        && always.len() <= MAX_CONDITIONS
+        && always_names_fit(always)
         && txs.len() <= MAX_TRANSACTIONS
         && tx_names_fit(txs)
-        && transactions_fit(txs)
+        && transactions_fit(txs, cost)
         && counts_fit(runs)
         && sum_fits(runs)
+}
+
+/// Whether each standing condition is true of the state.
+pub(crate) fn upheld(always: &[(String, Cond)], state: &[i64]) -> bool
+    requires { ConditionsKnown (length state.now) (conditions_of always.now) }
+    ensures { result ≡ list_all (λ a. is_true (truth (condition_of a.1) state.now)) always.now }
+{
+    for (_, holds) in always {
+        match truth(holds, state) {
+            Ok(true) => {}
+            _ => return false,
+        }
+    }
+    true
 }
 
 /// The names as a set in their order, if they are distinct.
@@ -71,6 +116,7 @@ fn name_set(alloc: Global, names: Vec<String>) -> Result<IndexSet<String>, Build
     ensures distinct { OnOk result (are_distinct (map string_bytes names.items) ≡ true) }
     ensures name { IfErr result (λ e. e ≡ BuildFault.Name → are_distinct (map string_bytes names.items) ≡ false) }
     ensures limit { IfErr result (λ e. e ≢ BuildFault.Limit) }
+    ensures broken { IfErr result (λ e. e ≢ BuildFault.Broken) }
 {
     let mut set = IndexSet::new(alloc);
     for name in names {
@@ -88,30 +134,37 @@ fn name_set(alloc: Global, names: Vec<String>) -> Result<IndexSet<String>, Build
 pub(crate) struct Declared {
     pub(crate) names: IndexSet<String>,
     pub(crate) initial: Vec<i64>,
+    pub(crate) always_names: IndexSet<String>,
     pub(crate) tx_names: IndexSet<String>,
 }
 
-/// What is declared, if no name is given twice among variables or among transactions.
+/// What is declared, if no name is given twice among variables, among conditions or among
+/// transactions.
 pub(crate) fn declare(
     alloc: Global,
     vars: Vec<(String, i64)>,
+    always: &[(String, Cond)],
     txs: &[Tx],
 ) -> Result<Declared, BuildFault>
     ensures names { IfOk result (λ d. map string_bytes d.names.keys ≡ map (λ v. string_bytes v.0) vars.items) }
     ensures initial { IfOk result (λ d. d.initial.items ≡ map (λ v. v.1) vars.items) }
+    ensures always_names { IfOk result (λ d. map string_bytes d.always_names.keys ≡ map (λ a. string_bytes a.0) always.now) }
     ensures tx_names { IfOk result (λ d. map string_bytes d.tx_names.keys ≡ map (λ t. string_bytes t.name) txs.now) }
-    ensures distinct { OnOk result (are_distinct (map (λ v. string_bytes v.0) vars.items) ≡ true) }
-    ensures tx_distinct { OnOk result (are_distinct (map (λ t. string_bytes t.name) txs.now) ≡ true) }
-    ensures name { IfErr result (λ e. e ≡ BuildFault.Name → (are_distinct (map (λ v. string_bytes v.0) vars.items) && are_distinct (map (λ t. string_bytes t.name) txs.now)) ≡ false) }
+    ensures distinct { OnOk result ((are_distinct (map (λ v. string_bytes v.0) vars.items) && (are_distinct (map (λ a. string_bytes a.0) always.now) && are_distinct (map (λ t. string_bytes t.name) txs.now))) ≡ true) }
+    ensures name { IfErr result (λ e. e ≡ BuildFault.Name → (are_distinct (map (λ v. string_bytes v.0) vars.items) && (are_distinct (map (λ a. string_bytes a.0) always.now) && are_distinct (map (λ t. string_bytes t.name) txs.now))) ≡ false) }
     ensures limit { IfErr result (λ e. e ≢ BuildFault.Limit) }
+    ensures broken { IfErr result (λ e. e ≢ BuildFault.Broken) }
 {
     let (texts, initial) = halves(alloc, vars)?;
     let names = name_set(alloc, texts)?;
+    let always_texts = always_names(alloc, always)?;
+    let always_names = name_set(alloc, always_texts)?;
     let tx_texts = tx_names(alloc, txs)?;
     let tx_names = name_set(alloc, tx_texts)?;
     Ok(Declared {
         names,
         initial,
+        always_names,
         tx_names,
     })
 }
@@ -130,6 +183,17 @@ fn halves(alloc: Global, vars: Vec<(String, i64)>) -> Result<(Vec<String>, Vec<i
     Ok((names, values))
 }
 
+/// The names of the standing conditions.
+fn always_names(alloc: Global, always: &[(String, Cond)]) -> Result<Vec<String>, AllocError>
+    ensures { IfOk result (λ names. map string_bytes names.items ≡ map (λ a. string_bytes a.0) always.now) }
+{
+    let mut names = Vec::with_capacity(alloc, always.len())?;
+    for (name, _) in always {
+        names.push(name.clone()?)?;
+    }
+    Ok(names)
+}
+
 /// The names of the transactions.
 fn tx_names(alloc: Global, txs: &[Tx]) -> Result<Vec<String>, AllocError>
     ensures { IfOk result (λ names. map string_bytes names.items ≡ map (λ t. string_bytes t.name) txs.now) }
@@ -141,10 +205,42 @@ fn tx_names(alloc: Global, txs: &[Tx]) -> Result<Vec<String>, AllocError>
     Ok(names)
 }
 
-/// The code of each transaction, where each is within the limits.
-pub(crate) fn codes(alloc: Global, txs: &[Tx]) -> Result<Vec<Vec<Op>>, AllocError>
-    requires { list_all (λ tx. program_fits (program_of tx)) txs.now ≡ true }
-    ensures { IfOk result (λ codes. map (λ code. code.items) codes.items ≡ map (λ tx. program_code (program_of tx)) txs.now) }
+/// What the listing determines and the catalogue keeps: the own code of each transaction, the end
+/// that all go on into, and each task's transaction.
+#[derive(Drop)]
+pub(crate) struct Derived {
+    pub(crate) codes: Vec<Vec<Op>>,
+    pub(crate) ending: Vec<Op>,
+    pub(crate) task_txs: Vec<TxId>,
+}
+
+/// What is derived so, where nothing is deeper than the limit.
+pub(crate) fn work_out(
+    alloc: Global,
+    always: &[(String, Cond)],
+    txs: &[Tx],
+    runs: &[(TxId, u32)],
+) -> Result<Derived, AllocError>
+    requires few { length always.now ≤ most_conditions }
+    requires shallow { list_all (λ a. nat_le (condition_depth (condition_of a.1)) deepest) always.now ≡ true }
+    requires bodies { list_all (λ tx. nat_le (statement_depth (statement_of tx.body)) deepest) txs.now ≡ true }
+    requires results { list_all (λ tx. nat_le (expression_depth (expression_of tx.result)) deepest) txs.now ≡ true }
+    ensures codes { IfOk result (λ t. map (λ code. code.items) t.codes.items ≡ map (λ tx. transaction_code (statement_of tx.body) (expression_of tx.result)) txs.now) }
+    ensures ending { IfOk result (λ t. t.ending.items ≡ ending_code 0 (conditions_of always.now)) }
+    ensures task_txs { IfOk result (λ t. t.task_txs.items ≡ tasks_of runs.now) }
+{
+    Ok(Derived {
+        codes: codes(alloc, txs)?,
+        ending: ending(alloc, always)?,
+        task_txs: task_txs(alloc, runs)?,
+    })
+}
+
+/// The own code of each transaction, where none is deeper than the limit.
+fn codes(alloc: Global, txs: &[Tx]) -> Result<Vec<Vec<Op>>, AllocError>
+    requires bodies { list_all (λ tx. nat_le (statement_depth (statement_of tx.body)) deepest) txs.now ≡ true }
+    requires results { list_all (λ tx. nat_le (expression_depth (expression_of tx.result)) deepest) txs.now ≡ true }
+    ensures { IfOk result (λ codes. map (λ code. code.items) codes.items ≡ map (λ tx. transaction_code (statement_of tx.body) (expression_of tx.result)) txs.now) }
 {
     let mut codes = Vec::with_capacity(alloc, txs.len())?;
     for tx in txs {
@@ -154,7 +250,7 @@ pub(crate) fn codes(alloc: Global, txs: &[Tx]) -> Result<Vec<Vec<Op>>, AllocErro
 }
 
 /// Each task's transaction.
-pub(crate) fn task_txs(alloc: Global, runs: &[(TxId, u32)]) -> Result<Vec<TxId>, AllocError>
+fn task_txs(alloc: Global, runs: &[(TxId, u32)]) -> Result<Vec<TxId>, AllocError>
     ensures { IfOk result (λ txs. txs.items ≡ tasks_of runs.now) }
 {
     let mut txs = Vec::new(alloc);

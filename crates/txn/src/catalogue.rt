@@ -1,30 +1,37 @@
 //! The catalogue: what a file declares.
 
 ghost use Rattle.std.specs.Prelude.{◌≡◌, ◌<◌, ◌≤◌, ◌^◌, ℕ, List, length, map, slice_get, string_bytes, bytes_eq, position, Some, IfErr, true, false, IfOk, OnOk, IsTrue, ◌↔◌};
-ghost use Rattle.programs.specs.Code.{program_code};
+ghost use Rattle.programs.specs.Code.{transaction_code, ending_code};
 ghost use Rattle.programs.specs.Names.{names_hold};
 ghost use Rattle.programs.specs.Limits.{limits_hold, most_variables};
-ghost use Rattle.programs.specs.Tree.{program_of};
-ghost use Rattle.programs.specs.Listing.{listing_of, tasks, task_tx, program_at, variable_named, transaction_named};
-ghost use Rattle.programs.specs.Scope.{ProgramKnown};
+ghost use Rattle.programs.specs.Tree.{transaction_of, under};
+ghost use Rattle.programs.specs.Listing.{listing_of, conditions, tasks, task_tx, transaction_at, variable_named, transaction_named, condition_named, always_name};
+ghost use Rattle.programs.specs.Scope.{ConditionsKnown, ProgramKnown};
+ghost use Rattle.programs.specs.Standing.{Upholds, upholds};
+ghost use Rattle.evaluator.specs.Always.{conditions_of};
+ghost use Rattle.txn.specs.Conditions.{standing_of};
 
-use crate::build::{BuildFault, codes, declare, task_txs, well_formed, within_limits};
-use crate::same::{same_names, same_programs, same_runs, same_values};
+use crate::build::{BuildFault, declare, upheld, well_formed, within_limits, work_out};
+use crate::same::{same_always, same_names, same_runs, same_transactions, same_values};
 use indexmap::IndexSet;
-use programs::{Op, TaskId, Tx, TxId, VarId};
+use programs::{AlwaysId, Cond, Op, TaskId, Tx, TxId, VarId};
 use std::alloc::Global;
 use std::marker::Model;
 
-/// Variables, transactions and runs, in declared order. A clause sees what they say, as a
-/// `Listing`. In every catalogue names and ids hold, and all limits. It keeps the flat code of each
-/// transaction, which its program determines.
+/// Variables, standing conditions, transactions and runs, in declared order. A clause sees what they
+/// say, as a `Listing`. In every catalogue names and ids hold, and all limits, and each condition is
+/// true of the initial values. It keeps the flat code of each transaction, and once that of the
+/// conditions: the listing determines them.
 #[derive(Drop)]
 pub struct Catalogue {
     names: IndexSet<String>,
     initial: Vec<i64>,
+    always: Vec<(String, Cond)>,
+    always_names: IndexSet<String>,
     tx_names: IndexSet<String>,
     txs: Vec<Tx>,
     codes: Vec<Vec<Op>>,
+    ending: Vec<Op>,
     runs: Vec<(TxId, u32)>,
     task_txs: Vec<TxId>,
 }
@@ -45,64 +52,80 @@ impl Model for Catalogue {
 }
 
 impl Catalogue {
-    /// The catalogue of variables with their initial values, of transactions, and of runs: a
-    /// transaction, and how many tasks run it. Tasks are numbered from 0 in the order of the runs.
+    /// The catalogue of variables with their initial values, of standing conditions with their
+    /// names, of transactions, and of runs: a transaction, and how many tasks run it. Tasks are
+    /// numbered from 0 in the order of the runs.
     ///
     /// Refused by `Name` where a name has not the form of one (a letter, then letters, digits and
-    /// underscores) or is given twice among variables or among transactions, or an id is out of
-    /// range; else by `Limit` where one of the limits of `limits` is passed. `Memory` may come in
-    /// place of any answer, where a growth was refused.
+    /// underscores) or is given twice among variables, among conditions or among transactions, or an
+    /// id is out of range; else by `Limit` where one of the limits of `limits` is passed; else by
+    /// `Broken` where a condition is not true of the initial values. `Memory` may come in place of
+    /// any answer, where a growth was refused.
     pub fn build(
         alloc: Global,
         vars: Vec<(String, i64)>,
+        always: Vec<(String, Cond)>,
         txs: Vec<Tx>,
         runs: Vec<(TxId, u32)>,
     ) -> Result<Catalogue, BuildFault>
-        ensures built { IfOk result (λ c. c ≡ listing_of vars.items txs.items runs.items) }
-        ensures names { OnOk result (names_hold (listing_of vars.items txs.items runs.items) ≡ true) }
-        ensures limits { OnOk result (limits_hold (listing_of vars.items txs.items runs.items) ≡ true) }
-        ensures name { IfErr result (λ e. e ≡ BuildFault.Name → names_hold (listing_of vars.items txs.items runs.items) ≡ false) }
-        ensures limit_after_names { IfErr result (λ e. e ≡ BuildFault.Limit → names_hold (listing_of vars.items txs.items runs.items) ≡ true) }
-        ensures limit { IfErr result (λ e. e ≡ BuildFault.Limit → limits_hold (listing_of vars.items txs.items runs.items) ≡ false) }
+        ensures built { IfOk result (λ c. c ≡ listing_of vars.items always.items txs.items runs.items) }
+        ensures names { OnOk result (names_hold (listing_of vars.items always.items txs.items runs.items) ≡ true) }
+        ensures limits { OnOk result (limits_hold (listing_of vars.items always.items txs.items runs.items) ≡ true) }
+        ensures upheld { OnOk result (upholds (listing_of vars.items always.items txs.items runs.items) (map (λ v. v.1) vars.items) ≡ true) }
+        ensures name { IfErr result (λ e. e ≡ BuildFault.Name → names_hold (listing_of vars.items always.items txs.items runs.items) ≡ false) }
+        ensures limit_after_names { IfErr result (λ e. e ≡ BuildFault.Limit → names_hold (listing_of vars.items always.items txs.items runs.items) ≡ true) }
+        ensures limit { IfErr result (λ e. e ≡ BuildFault.Limit → limits_hold (listing_of vars.items always.items txs.items runs.items) ≡ false) }
+        ensures broken_after_names { IfErr result (λ e. e ≡ BuildFault.Broken → names_hold (listing_of vars.items always.items txs.items runs.items) ≡ true) }
+        ensures broken_after_limits { IfErr result (λ e. e ≡ BuildFault.Broken → limits_hold (listing_of vars.items always.items txs.items runs.items) ≡ true) }
+        ensures broken { IfErr result (λ e. e ≡ BuildFault.Broken → upholds (listing_of vars.items always.items txs.items runs.items) (map (λ v. v.1) vars.items) ≡ false) }
     {
-        if !well_formed(&vars, &txs, &runs) {
+        if !well_formed(&vars, &always, &txs, &runs) {
             return Err(BuildFault::Name);
         }
-        let within = within_limits(&vars, &txs, &runs);
-        let declared = declare(alloc, vars, &txs)?;
+        let within = within_limits(&vars, &always, &txs, &runs);
+        let declared = declare(alloc, vars, &always, &txs)?;
         if !within {
             return Err(BuildFault::Limit);
         }
-        let codes = codes(alloc, &txs)?;
-        let task_txs = task_txs(alloc, &runs)?;
+        if !upheld(&always, &declared.initial) {
+            return Err(BuildFault::Broken);
+        }
+        let derived = work_out(alloc, &always, &txs, &runs)?;
         Ok(Catalogue {
             names: declared.names,
             initial: declared.initial,
+            always,
+            always_names: declared.always_names,
             tx_names: declared.tx_names,
             txs,
-            codes,
+            codes: derived.codes,
+            ending: derived.ending,
             runs,
-            task_txs,
+            task_txs: derived.task_txs,
         })
     }
 
-    /// What every catalogue keeps: a name for each initial value, the rules on names and ids, and
-    /// the limits. It does nothing: its contract is the law.
+    /// What every catalogue keeps: a name for each initial value, the rules on names and ids, the
+    /// limits, and that the initial values keep each standing condition. It does nothing: its
+    /// contract is the law.
     pub fn rules(&self)
         ensures named { length self.now.names ≡ length self.now.initial }
         ensures names { names_hold self.now ≡ true }
         ensures limits { limits_hold self.now ≡ true }
+        ensures upheld { Upholds self.now self.now.initial }
     {
         let _values = self.initial.len();
     }
 
-    /// Whether the two say the same: names, initial values, programs and runs, each in its order.
+    /// Whether the two say the same: names, initial values, standing conditions, transactions and
+    /// runs, each in its order.
     pub fn same(&self, other: &Catalogue) -> bool
         ensures { IsTrue result ↔ (self.now ≡ other.now) }
     {
         same_names(self.names.as_slice(), other.names.as_slice())
             && same_values(self.initial(), other.initial())
-            && same_programs(&self.txs, &other.txs)
+            && same_always(&self.always, &other.always)
+            && same_transactions(&self.txs, &other.txs)
             && same_runs(self.runs(), other.runs())
     }
 
@@ -127,32 +150,53 @@ impl Catalogue {
         requires { task.0 < length (tasks self.now) }
         ensures value { result ≡ task_tx self.now task }
         ensures own { slice_get (tasks self.now) task.0 ≡ Some result }
-        ensures known { result.0 < length self.now.programs }
+        ensures known { result.0 < length self.now.transactions }
     {
         self.task_txs[task.0 as usize]
     }
 
     /// A transaction.
     pub fn tx(&self, id: TxId) -> &Tx
-        requires { id.0 < length self.now.programs }
-        ensures value { program_of result.now ≡ program_at self.now id }
-        ensures known { ProgramKnown (length self.now.initial) (program_of result.now) }
+        requires { id.0 < length self.now.transactions }
+        ensures value { transaction_of result.now ≡ transaction_at self.now id }
+        ensures known { ProgramKnown (length self.now.initial) (under (conditions self.now) (transaction_of result.now)) }
     {
         &self.txs[id.0 as usize]
     }
 
-    /// A transaction's flat code, made when the catalogue was built.
+    /// A transaction's own flat code, made when the catalogue was built: that of its body and of its
+    /// result. It goes on into `ending`.
     pub fn code(&self, id: TxId) -> &[Op]
-        requires { id.0 < length self.now.programs }
-        ensures value { result.now ≡ program_code (program_at self.now id) }
+        requires { id.0 < length self.now.transactions }
+        ensures value { result.now ≡ transaction_code (transaction_at self.now id).body (transaction_at self.now id).result }
         ensures length { length result.now < 2 ^ 63 }
     {
         self.codes[id.0 as usize].as_slice()
     }
 
+    /// The flat code of the standing conditions and of the end, which is the same for all
+    /// transactions.
+    pub fn ending(&self) -> &[Op]
+        ensures value { result.now ≡ ending_code 0 (conditions self.now) }
+        ensures length { length result.now < 2 ^ 63 }
+    {
+        self.ending.as_slice()
+    }
+
+    /// The standing conditions with their names, in declared order.
+    pub fn always(&self) -> &[(String, Cond)]
+        ensures value { map standing_of result.now ≡ self.now.always }
+        ensures conditions { conditions_of result.now ≡ conditions self.now }
+        ensures count { length result.now ≡ length self.now.always }
+        ensures few { length result.now ≤ 64 }
+        ensures known { ConditionsKnown (length self.now.initial) (conditions_of result.now) }
+    {
+        self.always.as_slice()
+    }
+
     /// How many transactions there are.
     pub fn tx_count(&self) -> usize
-        ensures { result ≡ length self.now.programs }
+        ensures { result ≡ length self.now.transactions }
     {
         self.txs.len()
     }
@@ -185,10 +229,28 @@ impl Catalogue {
         }
     }
 
+    /// A standing condition's name.
+    pub fn always_name(&self, id: AlwaysId) -> &str
+        requires { id.0 < length self.now.always }
+        ensures { result.now ≡ always_name self.now id }
+    {
+        self.always[id.0 as usize].0.as_str()
+    }
+
+    /// The standing condition of a name.
+    pub fn always_id(&self, name: &str) -> Option<AlwaysId>
+        ensures { result ≡ condition_named self.now name.now }
+    {
+        match place_of(&self.always_names, name) {
+            Some(place) => Some(AlwaysId(place)),
+            None => None,
+        }
+    }
+
     /// A transaction's name.
     pub fn tx_name(&self, id: TxId) -> &str
-        requires { id.0 < length self.now.programs }
-        ensures { result.now ≡ (program_at self.now id).name }
+        requires { id.0 < length self.now.transactions }
+        ensures { result.now ≡ (transaction_at self.now id).name }
     {
         self.txs[id.0 as usize].name.as_str()
     }

@@ -2,7 +2,8 @@
 //! first difference, takes no memory, and is no deeper than the shallower tree.
 
 ghost use Rattle.std.specs.Prelude.{◌≡◌, ◌↔◌, IsTrue, map, string_bytes};
-ghost use Rattle.programs.specs.Tree.{expression_of, condition_of, statement_of, statements_of_list, program_of};
+ghost use Rattle.programs.specs.Tree.{expression_of, condition_of, statement_of, statements_of_list, transaction_of};
+ghost use Rattle.txn.specs.Conditions.{standing_of};
 
 use programs::{Cond, Expr, Stmt, Tx, TxId};
 
@@ -93,8 +94,8 @@ pub(crate) fn same_runs(a: &[(TxId, u32)], b: &[(TxId, u32)]) -> bool
     a == b
 }
 
-fn same_program(a: &Tx, b: &Tx) -> bool
-    ensures { IsTrue result ↔ (program_of a.now ≡ program_of b.now) }
+fn same_transaction(a: &Tx, b: &Tx) -> bool
+    ensures { IsTrue result ↔ (transaction_of a.now ≡ transaction_of b.now) }
 {
     same_name(a.name.as_str(), b.name.as_str())
         && same_statement(&a.body, &b.body)
@@ -102,15 +103,38 @@ fn same_program(a: &Tx, b: &Tx) -> bool
 }
 
 /// Whether the transactions say the same, in their order.
-pub(crate) fn same_programs(txs: &[Tx], others: &[Tx]) -> bool
-    ensures { IsTrue result ↔ (map program_of txs.now ≡ map program_of others.now) }
+pub(crate) fn same_transactions(txs: &[Tx], others: &[Tx]) -> bool
+    ensures { IsTrue result ↔ (map transaction_of txs.now ≡ map transaction_of others.now) }
 {
     let mut rest = others;
     for tx in txs {
         let [other, more @ ..] = rest else {
             return false;
         };
-        if !same_program(tx, other) {
+        if !same_transaction(tx, other) {
+            return false;
+        }
+        rest = more;
+    }
+    rest.is_empty()
+}
+
+fn same_standing(a: &(String, Cond), b: &(String, Cond)) -> bool
+    ensures { IsTrue result ↔ (standing_of a.now ≡ standing_of b.now) }
+{
+    same_name(a.0.as_str(), b.0.as_str()) && same_condition(&a.1, &b.1)
+}
+
+/// Whether the standing conditions say the same, in their order.
+pub(crate) fn same_always(always: &[(String, Cond)], others: &[(String, Cond)]) -> bool
+    ensures { IsTrue result ↔ (map standing_of always.now ≡ map standing_of others.now) }
+{
+    let mut rest = others;
+    for standing in always {
+        let [other, more @ ..] = rest else {
+            return false;
+        };
+        if !same_standing(standing, other) {
             return false;
         }
         rest = more;

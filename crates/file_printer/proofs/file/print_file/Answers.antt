@@ -1,10 +1,22 @@
-use Rattle.std.proofs.Common.{◌≡◌, ◌∙◌, ◌≤◌, ℕ, List, ◌++◌, length, ap, sym, subst, string_bytes}
+use Rattle.std.proofs.Common.{◌≡◌, ◌∙◌, ◌≤◌, ℕ, true, List, [], ◌∷◌, ◌++◌, length, refl, ap, sym, subst, string_bytes}
+use Rattle.std.specs.List.{list_all}
+use Rattle.std.proofs.lemmas.Bool.{and_from}
+use Rattle.programs.specs.Meaning.{State, truth}
+use Rattle.programs.specs.Tree.{Condition}
+use Rattle.programs.specs.Listing.{conditions}
+use Rattle.programs.specs.Standing.{AllTrue, is_true}
+use Rattle.file_grammar.specs.Written.{form_for}
 use Rattle.file_printer.specs.Canonical.{file_text}
 use Rattle.file_grammar.specs.Spelling.{Spells}
 use Rattle.file_grammar.specs.Tree.{max_len}
 use Rattle.file_printer.proofs.Integers.{integers_of}
 use Rattle.file_printer.proofs.Printed.{printed_spells}
 use Rattle.file_printer.proofs.file.print_file.Goals as goal
+
+-- conditions that are true pass the test
+true_upholds : (cs : List Condition) (m : State) → AllTrue cs m → list_all (λ c. is_true (truth c m)) cs ≡ true
+true_upholds [] m h = refl
+true_upholds (c ∷ cs) m h = and_from _ _ (ap is_true h.0) (true_upholds cs m h.1)
 
 pub returns-clause-again : goal.returns-clause-again
 returns-clause-again c =
@@ -16,9 +28,14 @@ returns-clause-again c =
     let e : string_bytes c.put_file.new.out ≡ file_text l = c.in_ok-put_file.ensures.text ∙ ap (λ (bs : List ℕ). bs ++ file_text l) c.new-out.ensures.bytes in
     λ short. subst (λ (bs : List ℕ). Spells bs l) (sym e)
     (record {
-      spelled = printed_spells l names limits fits (subst (λ (bs : List ℕ). length bs ≤ max_len) e short);
-      valued = sym named;
-      names = names;
-      limits = limits;
-      integers = integers_of l named fits;
+      declared =
+          record {
+            form = form_for l.always;
+            spelled = printed_spells l names limits fits (subst (λ (bs : List ℕ). length bs ≤ max_len) e short);
+            valued = sym named;
+            names = names;
+            limits = limits;
+            integers = integers_of l named fits;
+          };
+      upheld = true_upholds (conditions l) l.initial c.rules.ensures.upheld;
     })

@@ -19,14 +19,14 @@ put_run-requires c =
     let l = c.args.catalogue.now in
     let runs = c.runs-run-items.result.now in
     let i = c.runs.run-index in
-    let known = λ (run : TxId × ℕ). nat_lt run.0.0 (length l.programs) in
+    let known = λ (run : TxId × ℕ). nat_lt run.0.0 (length l.transactions) in
     let all : list_all known runs ≡ true = subst (λ (rs : List (TxId × ℕ)). list_all known rs ≡ true) (sym c.runs-run-items.ensures) (names_parts l c.rules.ensures.names).runs in
     ltb-true _ _ (passes_at known runs i (get_or runs i none) all (slice_get-get_or runs i none c.runs-test.true))
 
 pub runs-preserved : goal.runs-preserved
 runs-preserved c =
     let l = c.args.catalogue.now in
-    let g = written_run l.programs in
+    let g = written_run l.transactions in
     let runs = c.runs-run-items.result.now in
     let i = c.runs.run-index in
     let x = g (get_or runs i none) in

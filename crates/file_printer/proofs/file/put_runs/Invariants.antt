@@ -8,6 +8,6 @@ use Rattle.file_printer.proofs.file.put_runs.Given as goal
 
 abbrev pub invariant-runs : goal.invariant-runs
 invariant-runs l = record {
-  text : string_bytes l.out ≡ string_bytes l.fn.out ++ flat_map (pair_line (codes "run")) (take l.run-index (map (written_run l.catalogue.programs) l.catalogue.runs));
-  fits : AllByRecursion PairFits (take l.run-index (map (written_run l.catalogue.programs) l.catalogue.runs));
+  text : string_bytes l.out ≡ string_bytes l.fn.out ++ flat_map (pair_line (codes "run")) (take l.run-index (map (written_run l.catalogue.transactions) l.catalogue.runs));
+  fits : AllByRecursion PairFits (take l.run-index (map (written_run l.catalogue.transactions) l.catalogue.runs));
 }

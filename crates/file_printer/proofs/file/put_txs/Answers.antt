@@ -1,10 +1,10 @@
 use Rattle.std.proofs.Common.{◌≡◌, ◌∙◌, ◌<◌, [], length, map, Some, ap, sym, arith, pos, string_bytes}
 use Rattle.std.specs.List.{slice_get}
 use Rattle.programs.proofs.Lawful.{limits_parts}
-use Rattle.programs.specs.Tree.{Program, Skip, Int, program_of}
+use Rattle.programs.specs.Tree.{Transaction, Skip, Int, transaction_of}
 use Rattle.file_printer.specs.Canonical.{tx_line}
 use Rattle.file_printer.specs.Fits.{DeclarationFits}
-use Rattle.file_grammar.specs.Written.{written_program}
+use Rattle.file_grammar.specs.Written.{written_transaction}
 use Rattle.text_words.proofs.Pieces.{piece_more, all_more, at_map}
 use Rattle.file_printer.proofs.file.put_txs.Goals as goal
 
@@ -16,13 +16,13 @@ overflow_cast-i c =
 pub txs-preserved : goal.txs-preserved
 txs-preserved c =
     let l = c.args.catalogue.now in
-    let g = written_program l.names in
+    let g = written_transaction l.names in
     let i = c.txs.i in
-    let none : Program = record { name = []; body = Skip; result = Int (pos 0) } in
-    let lt : i < length l.programs = omega (arith, c.tx_count-i-end.ensures, c.txs-test.true) in
-    let x = g (program_of c.tx.result.now) in
-    let at : slice_get (map g l.programs) i ≡ Some x = at_map g l.programs i none lt ∙ ap (λ (p : Program). Some (g p)) (sym c.tx.ensures.value) in
+    let none : Transaction = record { name = []; body = Skip; result = Int (pos 0) } in
+    let lt : i < length l.transactions = omega (arith, c.tx_count-i-end.ensures, c.txs-test.true) in
+    let x = g (transaction_of c.tx.result.now) in
+    let at : slice_get (map g l.transactions) i ≡ Some x = at_map g l.transactions i none lt ∙ ap (λ (t : Transaction). Some (g t)) (sym c.tx.ensures.value) in
     record {
-      text = piece_more tx_line (map g l.programs) i x (string_bytes c.args.out.now) (string_bytes c.txs.out) (string_bytes c.put_tx.new.out) at c.txs.invariant.text c.in_ok-put_tx.ensures.text;
-      fits = all_more DeclarationFits (map g l.programs) i x at c.txs.invariant.fits c.in_ok-put_tx.ensures.fits;
+      text = piece_more tx_line (map g l.transactions) i x (string_bytes c.args.out.now) (string_bytes c.txs.out) (string_bytes c.put_tx.new.out) at c.txs.invariant.text c.in_ok-put_tx.ensures.text;
+      fits = all_more DeclarationFits (map g l.transactions) i x at c.txs.invariant.fits c.in_ok-put_tx.ensures.fits;
     }

@@ -3,19 +3,22 @@ use Rattle.std.specs.Prelude.{slice_index_or}
 use Rattle.std.proofs.lemmas.List as lists
 use Rattle.std.proofs.Math.ListN as list
 use Rattle.programs.specs.declared.code.Op.{Op}
-use Rattle.programs.specs.Code.{program_code}
+use Rattle.programs.specs.Code.{transaction_code}
 use Rattle.programs.specs.Listing.{Listing}
-use Rattle.programs.specs.Tree.{Program}
+use Rattle.programs.specs.Tree.{Transaction}
 use Rattle.txn.proofs.catalogue.Catalogue.code.Goals as goal
 
-code_at : (codes : List (Vec Op Global)) (programs : List Program) (i : ℕ) (code : Vec Op Global) (p : Program) → map (λ code. code.items) codes ≡ map program_code programs → i < length programs → code ≡ list.get_or codes i code → code.items ≡ program_code (slice_index_or programs i p)
-code_at codes programs i code p e lt at =
+abbrev own_code : Transaction → List Op
+own_code t = transaction_code t.body t.result
+
+code_at : (codes : List (Vec Op Global)) (transactions : List Transaction) (i : ℕ) (code : Vec Op Global) (t : Transaction) → map (λ code. code.items) codes ≡ map own_code transactions → i < length transactions → code ≡ list.get_or codes i code → code.items ≡ own_code (slice_index_or transactions i t)
+code_at codes transactions i code t e lt at =
     ap (λ c. c.items) at
     ∙ sym (list.get_or-map (λ (c : Vec Op Global). c.items) codes i code)
     ∙ ap (λ l. list.get_or l i code.items) e
-    ∙ lists.get_or-map program_code programs i p code.items lt
+    ∙ lists.get_or-map own_code transactions i t code.items lt
 
 pub returns-clause-value : goal.returns-clause-value
 returns-clause-value c =
     c.as_slice.ensures.value
-    ∙ code_at c.self.inside.codes.items c.args.self.now.programs c.args.id.0 c.index.result.now _ (c.self.invariant.codes ∙ ap (λ (l : Listing). map program_code l.programs) c.self.view_is) c.requires c.index.ensures
+    ∙ code_at c.self.inside.codes.items c.args.self.now.transactions c.args.id.0 c.index.result.now _ (c.self.invariant.codes ∙ ap (λ (l : Listing). map own_code l.transactions) c.self.view_is) c.requires c.index.ensures

@@ -3,6 +3,7 @@ use Rattle.std.proofs.lemmas.List.{length-map}
 use Rattle.programs.specs.Limits.{limits_hold}
 use Rattle.programs.specs.Listing.{Listing}
 use Rattle.programs.specs.Names.{names_hold}
+use Rattle.programs.specs.Standing.{Upholds}
 use Rattle.txn.proofs.catalogue.Catalogue.rules.Goals as goal
 
 pub returns-clause-named : goal.returns-clause-named
@@ -15,3 +16,6 @@ returns-clause-names c = subst (λ (l : Listing). names_hold l ≡ true) c.self.
 
 pub returns-clause-limits : goal.returns-clause-limits
 returns-clause-limits c = subst (λ (l : Listing). limits_hold l ≡ true) c.self.view_is c.self.invariant.limits
+
+pub returns-clause-upheld : goal.returns-clause-upheld
+returns-clause-upheld c = subst (λ (l : Listing). Upholds l l.initial) c.self.view_is c.self.invariant.upheld

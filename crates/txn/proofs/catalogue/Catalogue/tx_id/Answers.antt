@@ -4,7 +4,7 @@ use Rattle.std.proofs.lemmas.List.{length-map}
 use Rattle.programs.proofs.Lawful.{limits_parts}
 use Rattle.txn.specs.CatalogueInside.{listed}
 use Rattle.programs.specs.Listing.{Listing, as_transaction, transaction_named}
-use Rattle.programs.specs.Tree.{Program}
+use Rattle.programs.specs.Tree.{Transaction}
 use Rattle.txn.proofs.catalogue.Catalogue.tx_id.Goals as goal
 
 pub place_of-requires : goal.place_of-requires
@@ -12,7 +12,7 @@ place_of-requires c =
     let l = listed c.self.inside in
     let few = (limits_parts l c.self.invariant.limits).transactions in
     let e = ap length c.self.invariant.tx_names in
-    omega (arith, few, e, length-map c.self.inside.tx_names.keys string_bytes, length-map l.programs (λ (t : Program). t.name))
+    omega (arith, few, e, length-map c.self.inside.tx_names.keys string_bytes, length-map l.transactions (λ (t : Transaction). t.name))
 
 pub returns-in-Some : goal.returns-in-Some
 returns-in-Some c =
