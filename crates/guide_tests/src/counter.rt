@@ -1,0 +1,38 @@
+//! A counter: a catalogue made in code, and all its tasks run by four workers.
+
+use runner::{OpenGate, Options, run_tasks};
+use std::alloc::{AllocError, Global};
+use txn::{BuildFault, Catalogue, Expr, Stmt, Tx, TxId, VarId};
+
+const X: VarId = VarId(0);
+
+/// `(tx inc (set x (add x 1)) x)`
+fn increment(alloc: Global) -> Result<Tx, AllocError> {
+    let one_more = Expr::Add(Box::new(alloc, Expr::Var(X))?, Box::new(alloc, Expr::Int(1))?);
+    Ok(Tx {
+        name: String::from_str(alloc, "inc")?,
+        body: Stmt::Set(X, one_more),
+        result: Expr::Var(X),
+    })
+}
+
+/// `(var x 5)`, the transaction, and `(run inc 1000)`.
+pub(crate) fn counter(alloc: Global) -> Result<Catalogue, BuildFault> {
+    let vars = vec![in alloc; (String::from_str(alloc, "x")?, 5)]?;
+    let always = Vec::new(alloc);
+    let txs = vec![in alloc; increment(alloc)?]?;
+    let runs = vec![in alloc; (TxId(0), 1000)]?;
+    Catalogue::build(alloc, vars, always, txs, runs)
+}
+
+#[test]
+fn a_thousand_increments(rt: HostRuntime) {
+    let alloc = rt.alloc();
+    let (Ok(catalogue), Some(options)) = (counter(alloc), Options::new(4, 8, 0)) else {
+        panic!(rt; "no catalogue");
+    };
+    match run_tasks(&rt, alloc, &catalogue, options, &OpenGate) {
+        Ok(report) => assert_eq!(rt; report.now_vars.as_slice(), [(1005, 1000)].as_slice()),
+        Err(_) => panic!(rt; "no memory"),
+    }
+}

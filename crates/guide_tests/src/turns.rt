@@ -1,0 +1,41 @@
+//! A book of one's own, turn by turn, with no other thread: take a task, let it have its turn, look at what became of it.
+
+use book::{Book, Serial};
+use cells::Cells;
+use std::alloc::Global;
+use txn::{Catalogue, Memory, Report};
+use txn_text::read_file;
+
+/// Each task has one turn, in order; then the report.
+fn each_in_turn(alloc: Global, catalogue: &Catalogue) -> Result<Report, Memory> {
+    let (cells, publisher, _passes) = Cells::open(alloc, catalogue.initial(), 0)?;
+    let mut book = Book::open(alloc, catalogue, &cells, publisher)?;
+    for _turn in 0..1000 {
+        let Some(task) = book.take() else {
+            break;
+        };
+        match book.serial(alloc, task) {
+            Serial::Committed(_number) => {}
+            Serial::Parked => {}
+            Serial::Abandoned => return Err(Memory),
+            Serial::NotRunning => {}
+        }
+    }
+    book.report(alloc)
+}
+
+#[test]
+fn who_waits_is_parked(rt: HostRuntime) {
+    let file = "(var full 0)(tx get (if (eq full 0) (retry) (set full 0)) 0)(tx put (set full 1) 0)(run get 2)(run put 1)";
+    let alloc = rt.alloc();
+    let Ok(catalogue) = read_file(alloc, file.as_bytes()) else {
+        panic!(rt; "no catalogue");
+    };
+    match each_in_turn(alloc, &catalogue) {
+        Ok(report) => {
+            assert_eq!(rt; report.now, 2);
+            assert_eq!(rt; report.parked.len(), 1);
+        }
+        Err(_) => panic!(rt; "no memory"),
+    }
+}
