@@ -1,19 +1,20 @@
 -- What a program needs and writes: a variable that it may name and that is not logged, and writes in order.
-use Rattle.std.proofs.Common.{◌≡◌, ℕ, zero, suc, ◌<◌, Bool, true, false, [], Option, Some, None, Result, Ok, Err, ℤ, refl, subst}
+use Rattle.std.proofs.Common.{◌≡◌, ℕ, zero, suc, ◌+◌, ◌<◌, Bool, true, false, List, [], ◌∷◌, Option, Some, None, Result, Ok, Err, ℤ, refl, subst}
 use Rattle.std.specs.Ordering.{int_eq}
 use Rattle.std.specs.Int.RustNames.{int_lt, int_le}
 use Rattle.programs.specs.Arithmetic.{sum_of, difference_of, product_of, quotient_of, remainder_of}
-use Rattle.programs.specs.Meaning.{both, negated, and_then, or_else, Ending, Done, Threw, Retried, then_do, unless_retried, with_number, choose, repeated}
-use Rattle.programs.specs.Scope.{ExpressionKnown, ConditionKnown, StatementKnown, StatementsKnown, ProgramKnown}
+use Rattle.programs.specs.Meaning.{both, negated, and_then, or_else, Ending, Done, Threw, Retried, then_do, unless_retried, with_number, choose, repeated, demanded}
+use Rattle.programs.specs.Scope.{ExpressionKnown, ConditionKnown, StatementKnown, StatementsKnown, ConditionsKnown, ProgramKnown}
 use Rattle.programs.specs.declared.ast.VarId.{VarId}
 use Rattle.programs.specs.declared.ast.Fault.{Fault}
-use Rattle.programs.specs.declared.ast.Fault.TheVariants.{User}
+use Rattle.programs.specs.declared.ast.Fault.TheVariants.{User, Broken}
+use Rattle.programs.specs.declared.ast.AlwaysId.{AlwaysId}
 use Rattle.programs.specs.declared.ast.Outcome.{Outcome}
 use Rattle.programs.specs.Tree.{Expression, Int, Var, Add, Sub, Mul, Div, Rem, Condition, Eq, Lt, Le, Not, And, Or, Statement, Skip, Set, Seq, If, Repeat, Retry, OrElse, Throw, Statements, End, More, Program}
-use Rattle.attempt.specs.declared.evaluate.Halt.{Halt}
-use Rattle.attempt.specs.declared.evaluate.Halt.TheVariants.{Need, Fails}
+use Rattle.attempt_machine.specs.declared.evaluate.Halt.{Halt}
+use Rattle.attempt_machine.specs.declared.evaluate.Halt.TheVariants.{Need, Fails}
 use Rattle.attempt.specs.declared.next.Stand.TheVariants as stand
-use Rattle.attempt.specs.Asking.{Known, known_at, write, or_known, or_need, see, halting, see_value, see_truth, see_run, see_run_all, Answer, Needs, Ends, ask, answer_of, answer_by}
+use Rattle.attempt_machine.specs.Asking.{Known, known_at, write, or_known, or_need, see, halting, see_value, see_truth, see_run, see_run_all, blame, see_upheld, see_upheld_result, see_final, Answer, Needs, Ends, ask, answer_of, answer_by}
 use Rattle.own_writes.specs.Order.{AllKnown, Ascending}
 use Rattle.attempt.specs.View.{OnlyOfReturned}
 use Rattle.own_writes.proofs.Pairs.{AllKnown-write, Ascending-write}
@@ -152,8 +153,23 @@ answer_well n log f h (Threw (Need x)) p = p
 answer_well n log f h (Threw (Fails e)) p = ((tt, tt), refl)
 answer_well n log f h Retried p = ((tt, tt), refl)
 
+demanded_asks : (n : ℕ) (log : Known) (id : AlwaysId) (b : Result Bool Halt) (r : Result ℤ Halt) → Asks n log b → Asks n log r → Asks n log (demanded (Fails (Broken id)) (blame (Some id)) b r)
+demanded_asks n log id (Ok true) r p q = q
+demanded_asks n log id (Ok false) r p q = tt
+demanded_asks n log id (Err (Need x)) r p q = p
+demanded_asks n log id (Err (Fails f)) r p q = tt
+
+upheld_asks : (n : ℕ) (log w : Known) (k : ℕ) (cs : List Condition) (v : ℤ) → ConditionsKnown n cs → Asks n log (see_upheld k cs log w v)
+upheld_asks n log w k [] v h = tt
+upheld_asks n log w k (c ∷ cs) v h = demanded_asks n log (record { 0 = k }) _ _ (truth_asks n log w c h.0) (upheld_asks n log w (k + 1) cs v h.1)
+
+final_asks : (n : ℕ) (log w : Known) (cs : List Condition) (r : Result ℤ Halt) → ConditionsKnown n cs → Asks n log r → Asks n log (see_upheld_result cs log w r)
+final_asks n log w cs (Ok v) h p = upheld_asks n log w 0 cs v h
+final_asks n log w cs (Err (Need x)) h p = p
+final_asks n log w cs (Err (Fails f)) h p = tt
+
 pub ask_well : (n : ℕ) (t : Program) (log : Known) → ProgramKnown n t → IsWell n log (ask t log)
-ask_well n t log k = answer_well n log (see_value t.result log) (λ w. value_asks n log w t.result k.1) _ (run_well n log t.body [] k.0 (tt, tt))
+ask_well n t log k = answer_well n log (see_final t log) (λ w. final_asks n log w t.always _ k.1.1 (value_asks n log w t.result k.1.0)) _ (run_well n log t.body [] k.0 (tt, tt))
 
 pub needs_missing : (n : ℕ) (t : Program) (log : Known) (x : VarId) → ProgramKnown n t → ask t log ≡ Needs x → IsMissing n log x
 needs_missing n t log x k e = subst (IsWell n log) e (ask_well n t log k)

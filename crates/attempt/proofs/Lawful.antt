@@ -7,12 +7,13 @@ use Rattle.attempt.specs.declared.attempt.Attempt.TheInside.{Inside}
 use Rattle.attempt.specs.declared.next.Stand.{Stand}
 use Rattle.attempt.specs.declared.next.Stand.TheVariants as stand
 use Rattle.programs.specs.Listing.{program_at}
-use Rattle.attempt.specs.Asking.{Known, ask, Needs, Ends}
+use Rattle.attempt_machine.specs.Asking.{Known, ask, Needs, Ends}
 use Rattle.attempt.specs.AttemptInside.{viewed, IsKept, IsLawful, StandsAt, IsGoing, GoesOn}
-use Rattle.attempt.specs.Place.{place_of, Stops}
-use Rattle.attempt.specs.declared.machine.Machine.{Machine}
-use Rattle.attempt.specs.declared.running.Count.{Count}
-use Rattle.attempt.proofs.Resume.{reached_more}
+use Rattle.attempt_machine.specs.Place.{place_of}
+use Rattle.attempt.specs.Stops.{Stops}
+use Rattle.attempt_machine.specs.declared.machine.Machine.{Machine}
+use Rattle.attempt_machine.specs.declared.running.Count.{Count}
+use Rattle.attempt_machine.proofs.Resume.{reached_more}
 use Rattle.programs.specs.Code.{program_code}
 use Rattle.programs.specs.Tree.{Program}
 use Rattle.attempt.specs.View.{AttemptView, OnlyOfReturned, supplied}

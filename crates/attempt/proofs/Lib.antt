@@ -1,10 +1,4 @@
-pub mod FrameProof
-pub mod Declared
 pub mod Told
 pub mod Answered
+pub mod Under
 pub mod Lawful
-pub mod Runs
-pub mod Resume
-pub mod Going
-pub mod Small
-pub mod Stores

@@ -7,11 +7,11 @@ use Rattle.programs.specs.declared.ast.Outcome.{Outcome}
 use Rattle.programs.specs.declared.ast.Outcome.TheVariants.{Returned, Thrown, Retries}
 use Rattle.attempt.specs.declared.next.Next.{Next}
 use Rattle.attempt.specs.declared.next.Next.TheVariants as next
-use Rattle.attempt.specs.Asking.{Ends, ask}
-use Rattle.attempt.specs.Frame.{Agrees, AnswersAt}
+use Rattle.attempt_machine.specs.Asking.{Ends, ask}
+use Rattle.attempt_machine.specs.Frame.{Agrees, AnswersAt}
 use Rattle.attempt.specs.View.{AttemptView, Answers, HoldsAt, next_of}
 use Rattle.attempt.proofs.Answered.{IsMissing, needs_missing}
-use Rattle.attempt.proofs.FrameProof.{frame_holds}
+use Rattle.attempt_machine.proofs.FrameProof.{frame_holds}
 
 framed : (a : AttemptView) (m : State) → ProgramKnown a.variables a.program → length m ≡ a.variables → Agrees a.log m → AnswersAt (ask a.program a.log) a.program m
 framed a m known len h = frame_holds a.program a.log m (rw len known) h

@@ -7,15 +7,15 @@ use Rattle.programs.specs.Scope.{ProgramKnown}
 use Rattle.programs.specs.Tree.{Program}
 use Rattle.programs.specs.declared.limits.TheConstants.{MAX_COST}
 use Rattle.attempt.specs.declared.attempt.Attempt.TheInside.{Inside}
-use Rattle.attempt.specs.declared.machine.Machine.{Machine}
+use Rattle.attempt_machine.specs.declared.machine.Machine.{Machine}
 use Rattle.attempt.specs.declared.next.Stand.{Stand}
 use Rattle.attempt.specs.declared.next.Stand.TheVariants as stand
-use Rattle.attempt.specs.declared.running.Count.{Count}
-use Rattle.attempt.specs.Asking.{Known, ask, known_at, Needs, Ends}
-use Rattle.attempt.specs.Correct.{IsReached}
-use Rattle.attempt.specs.Machine.{entered_at}
+use Rattle.attempt_machine.specs.declared.running.Count.{Count}
+use Rattle.attempt_machine.specs.Asking.{Known, ask, known_at, Needs, Ends}
+use Rattle.attempt_machine.specs.Correct.{IsReached}
+use Rattle.attempt_machine.specs.Machine.{entered_at}
 use Rattle.own_writes.specs.Order.{AllKnown, Apart, Ascending}
-use Rattle.attempt.specs.Place.{place_of}
+use Rattle.attempt_machine.specs.Place.{place_of}
 use Rattle.attempt.specs.View.{AttemptView, OnlyOfReturned}
 
 -- own writes remain where the program ended
@@ -71,6 +71,6 @@ GoesOn t log m count total (stand.Over o) = Unit {0}
 GoesOn t log m count total stand.Spent = Unit {0}
 
 pub record IsKept (a : Inside) : Type 0 where
-  pub declared : a.id.0 < length a.catalogue.now.programs
+  pub declared : a.id.0 < length a.catalogue.now.transactions
   pub lawful : IsLawful (viewed a)
   pub going : GoesOn (program_at a.catalogue.now a.id) a.log a.machine a.count a.total a.stand

@@ -1,9 +1,9 @@
 pub use Rattle.own_writes.specs.Order
-pub mod Asking
-pub mod Frame
+pub use Rattle.attempt_machine.specs.Asking
+pub use Rattle.attempt_machine.specs.Correct
+pub use Rattle.attempt_machine.specs.Frame
+pub use Rattle.attempt_machine.specs.Room
+pub mod CodedProgram
 pub mod View
 pub mod AttemptInside
-pub mod Machine
-pub mod Correct
-pub mod Place
-pub mod Room
+pub mod Stops

@@ -11,8 +11,8 @@ use Rattle.attempt.specs.declared.next.Stand.{Stand}
 use Rattle.attempt.specs.declared.next.Stand.TheVariants as stand
 use Rattle.attempt.specs.declared.next.Next.{Next}
 use Rattle.attempt.specs.declared.next.Next.TheVariants as next
-use Rattle.attempt.specs.Asking.{Known, ask, Needs, Ends}
-use Rattle.attempt.specs.Frame.{store}
+use Rattle.attempt_machine.specs.Asking.{Known, ask, Needs, Ends}
+use Rattle.attempt_machine.specs.Frame.{store}
 
 pub record AttemptView : Type 0 where
   -- what it evaluates

@@ -4,16 +4,16 @@ ghost use Rattle.std.specs.Prelude.{◌≡◌, ◌≢◌, ◌<◌, ◌≤◌, �
 ghost use Rattle.programs.specs.Cost.{cost};
 ghost use Rattle.programs.specs.Meaning.{State};
 ghost use Rattle.programs.specs.Scope.{ProgramKnown};
-ghost use Rattle.attempt.specs.Asking.{known_at, ask, Ends};
-ghost use Rattle.attempt.specs.Frame.{Agrees};
+ghost use Rattle.attempt_machine.specs.Asking.{known_at, ask, Ends};
+ghost use Rattle.attempt_machine.specs.Frame.{Agrees};
 ghost use Rattle.own_writes.specs.Order.{AllKnown, Apart, Ascending};
-ghost use Rattle.attempt.specs.Room.{NeedsNoMemory};
+ghost use Rattle.attempt_machine.specs.Room.{NeedsNoMemory};
 ghost use Rattle.attempt.specs.View.{fresh_attempt, begun, supplied, idle, next_of, Answers, HoldsAt, OnlyOfReturned};
 
 use crate::log::Log;
-use crate::machine::Machine;
 use crate::next::{Next, Stand, answer};
-use crate::running::{Count, go};
+use crate::running::go;
+use attempt_machine::{Count, Machine};
 use own_writes::Board;
 use std::alloc::Global;
 use std::marker::Model;
@@ -35,7 +35,7 @@ pub struct Attempt<'a> {
 impl<'a> Model for Attempt<'a> {
     ghost use Rattle.attempt.specs.View.{AttemptView};
     ghost use Rattle.std.specs.Coded.{codes};
-    ghost use Rattle.txn.specs.Codes.{coded_program};
+    ghost use Rattle.attempt.specs.CodedProgram.{coded_program};
 
     ghost Value = { AttemptView };
 
@@ -51,7 +51,7 @@ impl<'a> Model for Attempt<'a> {
 impl<'a> Attempt<'a> {
     /// An attempt of a transaction of the catalogue, with an empty log. It takes no memory.
     pub fn new(alloc: Global, catalogue: &'a Catalogue, id: TxId) -> Attempt<'a>
-        requires { id.0 < length catalogue.now.programs }
+        requires { id.0 < length catalogue.now.transactions }
         ensures { result ≡ fresh_attempt catalogue.now id }
     {
         catalogue.rules();
@@ -70,7 +70,7 @@ impl<'a> Attempt<'a> {
     /// Makes it a fresh attempt of a transaction of the catalogue, in the room that it has. It
     /// takes no memory.
     pub fn restart(&mut self, catalogue: &'a Catalogue, id: TxId)
-        requires { id.0 < length catalogue.now.programs }
+        requires { id.0 < length catalogue.now.transactions }
         ensures { self.new ≡ fresh_attempt catalogue.now id }
     {
         catalogue.rules();
@@ -168,6 +168,9 @@ impl<'a> Attempt<'a> {
     /// that is neither written by the transaction nor in the log, or to the end. The answer is
     /// repeated until that variable is supplied, and an end is repeated for good.
     ///
+    /// Where it would return, the standing conditions are tested in their order, over its own writes
+    /// and the log: the first that is not true, or faults, is thrown as broken, and no write remains.
+    ///
     /// Where it ends, then on every state that agrees with the log the transaction ends so too,
     /// and the state after it is that state with the `writes` stored in it.
     ///
@@ -210,9 +213,13 @@ impl<'a> Attempt<'a> {
         ensures short { NeedsNoMemory self.old.program → result ≢ Next.Memory }
     {
         self.catalogue.rules();
-        let tx = self.catalogue.tx(self.id);
-        let code = self.catalogue.code(self.id);
-        let stand = go(&mut self.machine, &mut self.count, tx, code, &self.log);
+        let stand = go(
+            &mut self.machine,
+            &mut self.count,
+            self.catalogue,
+            self.id,
+            &self.log,
+        );
         let total = self.count.entered + self.count.ahead + self.log.len() as u64;
         self.steps = total - self.total;
         self.total = total;

@@ -6,16 +6,12 @@
 //! on every state that agrees with the log.
 #![tactic(auto)]
 
-mod arithmetic;
 pub mod attempt;
-mod evaluate;
-pub mod laws;
 pub mod log;
-mod machine;
 pub mod next;
 mod running;
 
 pub use attempt::Attempt;
-pub use laws::{answers, frame, resumes};
+pub use attempt_machine::{answers, frame, laws, resumes};
 pub use log::Log;
 pub use next::{Next, Stand};

@@ -13,7 +13,7 @@ pub struct Log {
 }
 
 impl Model for Log {
-    ghost use Rattle.attempt.specs.Asking.{Known};
+    ghost use Rattle.attempt_machine.specs.Asking.{Known};
 
     ghost Value = { Known };
 

@@ -61,7 +61,7 @@ fn plain_ends(alloc: Global, catalogue: &Catalogue, x: i64, y: i64) -> Option<(N
         return None;
     }
     let mut state = vec![in alloc; x, y].ok()?;
-    let plain = execute(catalogue.tx(TxId(0)), &mut state).ok()?;
+    let plain = execute(catalogue.tx(TxId(0)), catalogue.always(), &mut state).ok()?;
     Some((told(plain), state))
 }
 
@@ -92,19 +92,35 @@ fn first_unlike(alloc: Global, catalogue: &Catalogue) -> Option<(i64, i64)> {
     None
 }
 
-/// Of the transaction with this body and result it is so from each.
-fn expect_alike(rt: &(impl Abort + Eprint), alloc: Global, rest: &str) {
-    let Ok(text) = repeated(
-        alloc,
-        &[(1, "(var x 0)(var y 0)(tx t "), (1, rest), (1, ")")],
-    ) else {
-        panic!(rt; "no text")
-    };
-    match catalogue(alloc, text.as_str()) {
+/// Of the first transaction of the text it is so from each.
+fn expect_alike_in(rt: &(impl Abort + Eprint), alloc: Global, text: &str) {
+    match catalogue(alloc, text) {
         Some(catalogue) => {
-            assert_eq!(rt; first_unlike(alloc, &catalogue), None, "of {rest}");
+            assert_eq!(rt; first_unlike(alloc, &catalogue), None, "of {text}");
         }
         None => panic!(rt; "no catalogue"),
+    }
+}
+
+/// Of the transaction with this body and result it is so from each.
+fn expect_alike(rt: &(impl Abort + Eprint), alloc: Global, rest: &str) {
+    match repeated(
+        alloc,
+        &[(1, "(var x 0)(var y 0)(tx t "), (1, rest), (1, ")")],
+    ) {
+        Ok(text) => expect_alike_in(rt, alloc, text.as_str()),
+        Err(_) => panic!(rt; "no text"),
+    }
+}
+
+#[test]
+fn conditions_are_tested_as_in_the_plain_evaluation(rt: HostRuntime) {
+    for text in [
+        "(stm 2)(var x 0)(var y 0)(always a (le x 3))(tx t (set x (add x 1)) x)",
+        "(stm 2)(var x 1)(var y 0)(always a (eq 0 (rem y x)))(tx t (skip) 4)",
+        "(stm 2)(var x 0)(var y 0)(always a (le x 0))(always b (le 0 (add x y)))(tx t (set y 1) y)",
+    ] {
+        expect_alike_in(&rt, rt.alloc(), text);
     }
 }
 

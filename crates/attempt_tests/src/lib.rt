@@ -16,4 +16,6 @@ mod parts;
 #[cfg(test)]
 mod play;
 #[cfg(test)]
+mod standing;
+#[cfg(test)]
 mod steps;

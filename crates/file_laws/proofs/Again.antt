@@ -1,23 +1,25 @@
 -- The file of a listing whose names, limits and integers hold is resolved to it.
-use Rattle.std.proofs.Common.{◌≡◌, ℕ, ◌≤◌, ◌<◌, true, List, [], ◌∷◌, length, map, Ok, refl, ap, ◌∙◌, arith}
+use Rattle.std.proofs.Common.{◌≡◌, ℕ, ◌≤◌, ◌<◌, true, ◌&&◌, List, [], ◌∷◌, length, map, Ok, refl, ap, ◌∙◌, arith}
 use Rattle.std.specs.Prelude.{ℤ, pos, nat_lt, nat_le, ◌^◌}
 use Rattle.std.specs.List.{list_all}
 use Rattle.std.proofs.lemmas.List.{length-map}
 use Rattle.std.proofs.lemmas.Bool.{lt-ltb, leb-true}
 use Rattle.programs.specs.declared.ast.TxId.{TxId}
-use Rattle.programs.specs.declared.limits.TheConstants.{MAX_VARIABLES, MAX_TRANSACTIONS, MAX_TASKS, MAX_REPEAT}
+use Rattle.programs.specs.declared.limits.TheConstants.{MAX_TASKS, MAX_REPEAT}
 use Rattle.programs.specs.Arithmetic.{fits}
-use Rattle.programs.specs.Tree.{Expression, Condition, Statement, Statements, Program}
+use Rattle.programs.specs.Tree.{Expression, Condition, Statement, Statements, Transaction, under}
 use Rattle.programs.specs.Tree as t
-use Rattle.programs.specs.Listing.{Listing}
-use Rattle.programs.specs.Names.{are_distinct, knows_expression, knows_condition, knows_statement, knows_statements, knows_program, is_well_formed, names_hold}
+use Rattle.programs.specs.Listing.{Listing, conditions, always_names}
+use Rattle.programs.specs.Names.{are_distinct, knows_expression, knows_condition, knows_statement, knows_statements, knows_transaction, names_hold}
 use Rattle.programs.specs.Limits.{largest_repeat, largest_repeat_of_all, program_fits, limits_hold}
-use Rattle.file_grammar.specs.Written.{written_expression, written_condition, written_statement, written_statements, written_program, written_vars, written_run, written}
+use Rattle.file_grammar.specs.Written.{written_expression, written_condition, written_statement, written_statements, written_always, written_transaction, written_vars, written_run, written_in}
 use Rattle.text_words.specs.Numbers.{number_of, count_of}
-use Rattle.file_grammar.specs.Resolving.{expr_known, cond_known, stmt_known, stmts_known, tx_known, run_known, uses_known, expression_in, condition_in, statement_in, statements_in, each, variable_of, program_in, run_in, converted, pair_name, resolved}
-use Rattle.file_grammar.specs.Spelling.{expression_integers, condition_integers, statement_integers, statements_integers, program_integers, integers_fit}
+use Rattle.file_grammar.specs.Resolving.{expr_known, cond_known, stmt_known, stmts_known, always_known, tx_known, run_known, uses_known, expression_in, condition_in, statement_in, statements_in, each, variable_of, always_in, transaction_in, run_in, converted, pair_name, resolved}
+use Rattle.file_grammar.specs.Spelling.{expression_integers, condition_integers, statement_integers, statements_integers, transaction_integers, integers_fit}
+use Rattle.file_grammar.specs.declared.file.FileForm.{FileForm}
+use Rattle.programs.proofs.Lawful.{names_parts, limits_parts}
 use Rattle.file_laws.proofs.Declared.{both, known_again, id_again, variable_again, declared_again}
-use Rattle.file_laws.proofs.Back.{both_true, names_of_txs}
+use Rattle.file_laws.proofs.Back.{both_true, names_of_conditions, names_of_txs}
 
 -- names that are few and declared once
 pub record Fine (names : List (List ℕ)) : Type 0 where
@@ -106,21 +108,32 @@ mutual
 
 -- ---- lists
 
-programs_again : (names : List (List ℕ)) → Fine names → (ps : List Program) → list_all (knows_program (length names)) ps ≡ true → list_all program_integers ps ≡ true → list_all program_fits ps ≡ true
-    → each (program_in names) (map (written_program names) ps) ≡ Ok ps
-programs_again names fine [] k i h = refl
-programs_again names fine (p ∷ ps) k i h =
+conditions_again : (names : List (List ℕ)) → Fine names → (all : List (List ℕ × Condition)) → list_all (knows_condition (length names)) (map (λ a. a.1) all) ≡ true → list_all condition_integers (map (λ a. a.1) all) ≡ true
+    → each (always_in names) (map (written_always names) all) ≡ Ok all
+conditions_again names fine [] k i = refl
+conditions_again names fine (a ∷ all) k i =
+    let k1 = both _ _ k in let i1 = both _ _ i in
+    rw (condition_again names fine a.1 k1.0 i1.0, conditions_again names fine all k1.1 i1.1) refl
+
+conditions_known : (names : List (List ℕ)) → Fine names → (all : List (List ℕ × Condition)) → list_all (knows_condition (length names)) (map (λ a. a.1) all) ≡ true → list_all (always_known names) (map (written_always names) all) ≡ true
+conditions_known names fine [] k = refl
+conditions_known names fine (a ∷ all) k = let k1 = both _ _ k in both_true _ _ (condition_known names fine a.1 k1.0) (conditions_known names fine all k1.1)
+
+transactions_again : (names : List (List ℕ)) → Fine names → (cs : List Condition) (ts : List Transaction) → list_all (knows_transaction (length names)) ts ≡ true → list_all transaction_integers ts ≡ true
+    → list_all (λ t. program_fits (under cs t)) ts ≡ true → each (transaction_in names) (map (written_transaction names) ts) ≡ Ok ts
+transactions_again names fine cs [] k i h = refl
+transactions_again names fine cs (p ∷ ps) k i h =
     let k1 = both _ _ k in let k2 = both _ _ k1.0 in
     let i1 = both _ _ i in let i2 = both _ _ i1.0 in
     let h1 = both _ _ h in let r = both _ _ (both _ _ (both _ _ h1.0).1).1 in
     let small : largest_repeat p.body ≤ 1000 = leb-true (largest_repeat p.body) MAX_REPEAT r.0 in
-    rw (statement_again names fine p.body k2.0 i2.0 small, expression_again names fine p.result k2.1 i2.1, programs_again names fine ps k1.1 i1.1 h1.1) refl
+    rw (statement_again names fine p.body k2.0 i2.0 small, expression_again names fine p.result k2.1 i2.1, transactions_again names fine cs ps k1.1 i1.1 h1.1) refl
 
-programs_known : (names : List (List ℕ)) → Fine names → (ps : List Program) → list_all (knows_program (length names)) ps ≡ true → list_all (tx_known names) (map (written_program names) ps) ≡ true
-programs_known names fine [] k = refl
-programs_known names fine (p ∷ ps) k =
+transactions_known : (names : List (List ℕ)) → Fine names → (ts : List Transaction) → list_all (knows_transaction (length names)) ts ≡ true → list_all (tx_known names) (map (written_transaction names) ts) ≡ true
+transactions_known names fine [] k = refl
+transactions_known names fine (p ∷ ps) k =
     let k1 = both _ _ k in let k2 = both _ _ k1.0 in
-    both_true _ _ (both_true _ _ (statement_known names fine p.body k2.0) (expression_known names fine p.result k2.1)) (programs_known names fine ps k1.1)
+    both_true _ _ (both_true _ _ (statement_known names fine p.body k2.0) (expression_known names fine p.result k2.1)) (transactions_known names fine ps k1.1)
 
 abbrev paired : List (List ℕ) → List ℤ → List (List ℕ × ℤ)
 paired (name ∷ names) (value ∷ values) = (name, value) ∷ paired names values
@@ -147,52 +160,58 @@ var_names [] values h = refl
 var_names (name ∷ names) [] h = absurd (omega arith)
 var_names (name ∷ names) (value ∷ values) h = ap (λ ns. name ∷ ns) (var_names names values (omega arith))
 
-abbrev names_in : List Program → List (List ℕ)
-names_in programs = map (λ p. p.name) programs
+abbrev names_in : List Transaction → List (List ℕ)
+names_in transactions = map (λ t. t.name) transactions
 
-runs_again : (programs : List Program) → Fine (names_in programs) → (runs : List (TxId × ℕ)) → list_all (λ run. nat_lt run.0.0 (length programs)) runs ≡ true → list_all (λ run. nat_le run.1 MAX_TASKS) runs ≡ true
-    → each (run_in (names_in programs)) (map (written_run programs) runs) ≡ Ok runs
-runs_again programs fine [] k h = refl
-runs_again programs fine (run ∷ runs) k h =
+runs_again : (transactions : List Transaction) → Fine (names_in transactions) → (runs : List (TxId × ℕ)) → list_all (λ run. nat_lt run.0.0 (length transactions)) runs ≡ true → list_all (λ run. nat_le run.1 MAX_TASKS) runs ≡ true
+    → each (run_in (names_in transactions)) (map (written_run transactions) runs) ≡ Ok runs
+runs_again transactions fine [] k h = refl
+runs_again transactions fine (run ∷ runs) k h =
     let k1 = both _ _ k in
     let h1 = both _ _ h in
-    let n : length (names_in programs) ≡ length programs = length-map programs (λ (p : Program). p.name) in
-    let below : nat_lt run.0.0 (length (names_in programs)) ≡ true = ap (nat_lt run.0.0) n ∙ k1.0 in
+    let n : length (names_in transactions) ≡ length transactions = length-map transactions (λ (t : Transaction). t.name) in
+    let below : nat_lt run.0.0 (length (names_in transactions)) ≡ true = ap (nat_lt run.0.0) n ∙ k1.0 in
     let small : run.1 ≤ 65536 = leb-true run.1 MAX_TASKS h1.0 in
-    rw (id_again (names_in programs) run.0.0 fine.distinct fine.few below, count_again run.1 (omega arith), runs_again programs fine runs k1.1 h1.1) refl
+    rw (id_again (names_in transactions) run.0.0 fine.distinct fine.few below, count_again run.1 (omega arith), runs_again transactions fine runs k1.1 h1.1) refl
 
-runs_known : (programs : List Program) → Fine (names_in programs) → (runs : List (TxId × ℕ)) → list_all (λ run. nat_lt run.0.0 (length programs)) runs ≡ true
-    → list_all (run_known (names_in programs)) (map (written_run programs) runs) ≡ true
-runs_known programs fine [] k = refl
-runs_known programs fine (run ∷ runs) k =
+runs_known : (transactions : List Transaction) → Fine (names_in transactions) → (runs : List (TxId × ℕ)) → list_all (λ run. nat_lt run.0.0 (length transactions)) runs ≡ true
+    → list_all (run_known (names_in transactions)) (map (written_run transactions) runs) ≡ true
+runs_known transactions fine [] k = refl
+runs_known transactions fine (run ∷ runs) k =
     let k1 = both _ _ k in
-    let n : length (names_in programs) ≡ length programs = length-map programs (λ (p : Program). p.name) in
-    both_true _ _ (known_again (names_in programs) run.0.0 fine.distinct (ap (nat_lt run.0.0) n ∙ k1.0)) (runs_known programs fine runs k1.1)
+    let n : length (names_in transactions) ≡ length transactions = length-map transactions (λ (t : Transaction). t.name) in
+    both_true _ _ (known_again (names_in transactions) run.0.0 fine.distinct (ap (nat_lt run.0.0) n ∙ k1.0)) (runs_known transactions fine runs k1.1)
 
 -- ---- the whole file
 
-pub resolved_again : (l : Listing) → length l.initial ≡ length l.names → names_hold l ≡ true → limits_hold l ≡ true → integers_fit l ≡ true → resolved (written l) ≡ Ok l
-unfolding names_hold is_well_formed limits_hold integers_fit written uses_known converted resolved
-resolved_again l valued names limits integers =
-    let n = both _ _ names in
-    let w = both _ _ n.0 in
-    let w1 = both _ _ w.1 in
-    let w2 = both _ _ w1.1 in
-    let d = both _ _ n.1 in
-    let m = both _ _ limits in
-    let m1 = both _ _ m.1 in
-    let m2 = both _ _ m1.1 in
-    let m3 = both _ _ m2.1 in
-    let m4 = both _ _ m3.1 in
-    let m5 = both _ _ m4.1 in
-    let i = both _ _ integers in
-    let few : length l.names ≤ 256 = leb-true (length l.names) MAX_VARIABLES m.0 in
-    let tx_few : length l.programs ≤ 256 = leb-true (length l.programs) MAX_TRANSACTIONS m2.0 in
-    let fine : Fine l.names = record { distinct = d.0; few = few } in
-    let tx_fine : Fine (names_in l.programs) = record { distinct = d.1; few = let e = length-map l.programs (λ (p : Program). p.name) in omega arith } in
+pub resolved_again : (form : FileForm) (l : Listing) → length l.initial ≡ length l.names → names_hold l ≡ true → limits_hold l ≡ true → integers_fit l ≡ true → resolved (written_in form l) ≡ Ok l
+unfolding integers_fit written_in uses_known converted resolved
+resolved_again form l valued names limits integers =
+    let n = names_parts l names in
+    let m = limits_parts l limits in
+    let i = both (list_all fits l.initial) (list_all condition_integers (conditions l) && list_all transaction_integers l.transactions) integers in
+    let i1 = both (list_all condition_integers (conditions l)) (list_all transaction_integers l.transactions) i.1 in
+    let fine : Fine l.names = record { distinct = n.distinct; few = m.variables } in
+    let tx_fine : Fine (names_in l.transactions) = record { distinct = n.tx_distinct; few = let few = m.transactions in let e = length-map l.transactions (λ (t : Transaction). t.name) in omega arith } in
     let vars = var_names l.names l.initial valued in
-    let txs = names_of_txs l.names l.programs in
-    let known = both_true _ _ (programs_known l.names fine l.programs w2.0) (runs_known l.programs tx_fine l.runs w2.1) in
+    let always = names_of_conditions l.names l.always in
+    let txs = names_of_txs l.names l.transactions in
+    let others_used = both_true _ _ (transactions_known l.names fine l.transactions n.known) (runs_known l.transactions tx_fine l.runs n.runs) in
+    let used = both_true _ _ (conditions_known l.names fine l.always n.always_known) others_used in
     let first = firsts l.names l.initial valued in
     let second = seconds l.names l.initial valued in
-    rw (vars, declared_again [] l.names d.0, txs, declared_again [] (names_in l.programs) d.1, known, vars_again l.names l.initial i.0, programs_again l.names fine l.programs w2.0 i.1 m4.0, runs_again l.programs tx_fine l.runs w2.1 m5.0, first, second) refl
+    rw (
+      vars,
+      declared_again [] l.names n.distinct,
+      always,
+      declared_again [] (always_names l) n.always_distinct,
+      txs,
+      declared_again [] (names_in l.transactions) n.tx_distinct,
+      used,
+      vars_again l.names l.initial i.0,
+      conditions_again l.names fine l.always n.always_known i1.0,
+      transactions_again l.names fine (conditions l) l.transactions n.known i1.1 m.programs,
+      runs_again l.transactions tx_fine l.runs n.runs m.runs,
+      first,
+      second,
+    ) refl

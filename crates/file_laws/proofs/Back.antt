@@ -6,10 +6,10 @@ use Rattle.std.proofs.lemmas.List.{length-map}
 use Rattle.std.proofs.lemmas.List.Folds.{list_all-map}
 use Rattle.programs.specs.declared.ast.TxId.{TxId}
 use Rattle.programs.specs.Arithmetic.{fits}
-use Rattle.programs.specs.Tree.{Expression, Condition, Statement, Statements, Program}
+use Rattle.programs.specs.Tree.{Expression, Condition, Statement, Statements, Transaction}
 use Rattle.programs.specs.Tree as t
 use Rattle.programs.specs.Listing.{Listing}
-use Rattle.file_grammar.specs.Tree.{Expr, Cond, Stmt, Stmts, NoStmts, MoreStmts, Pair, Declaration, File}
+use Rattle.file_grammar.specs.Tree.{Expr, Cond, Stmt, Stmts, NoStmts, MoreStmts, Pair, Always, Declaration, File}
 use Rattle.file_grammar.specs.Tree as f
 use Rattle.file_grammar.specs.declared.words.Operator.{Operator}
 use Rattle.file_grammar.specs.declared.words.Operator.TheVariants as operator
@@ -19,10 +19,10 @@ use Rattle.file_grammar.specs.declared.words.Connective.{Connective}
 use Rattle.file_grammar.specs.declared.words.Connective.TheVariants as connective
 use Rattle.text_words.specs.declared.fault.ReadFault.{ReadFault}
 use Rattle.text_words.specs.declared.fault.ReadFault.TheVariants as faults
-use Rattle.file_grammar.specs.Written.{name_at, written_expression, written_condition, written_statement, written_statements, written_program, written_vars, written}
+use Rattle.file_grammar.specs.Written.{name_at, written_expression, written_condition, written_statement, written_statements, written_always, written_transaction, written_vars, written_in}
 use Rattle.text_words.specs.Numbers.{number_of, count_of}
-use Rattle.file_grammar.specs.Resolving.{variable_in, place_in, binary, compare, connect, expression_in, condition_in, statement_in, statements_in, each, variable_of, program_in, run_in, listing, converted, pair_name, tx_name, declared_after, uses_known, resolved}
-use Rattle.file_grammar.specs.Spelling.{expression_integers, condition_integers, statement_integers, statements_integers, program_integers, integers_fit}
+use Rattle.file_grammar.specs.Resolving.{variable_in, place_in, binary, compare, connect, expression_in, condition_in, statement_in, statements_in, each, variable_of, always_in, transaction_in, run_in, listing, converted, pair_name, condition_name, tx_name, declared_after, uses_known, resolved}
+use Rattle.file_grammar.specs.Spelling.{expression_integers, condition_integers, statement_integers, statements_integers, transaction_integers, integers_fit}
 use Rattle.text_words.proofs.Steps.{bind_ok, ok_is, done, chosen}
 use Rattle.text_words.proofs.Numerals.{number_is}
 use Rattle.file_laws.proofs.Declared.{id_back, variable_back, declared_is}
@@ -164,14 +164,21 @@ variable_is p v h =
     let made : List ℕ × ℤ = (p.name, n.0) in
     subst (Back pair_of (λ w. fits w.1) p) (ok_is made v n.2) (rw (← q.1) refl, ap fits (sym q.1) ∙ q.0)
 
-program_back : (names : List (List ℕ)) (d : Declaration) (x : Program) → program_in names d ≡ Ok x → Back (written_program names) program_integers d x
-program_back names d x h =
+always_back : (names : List (List ℕ)) (a : Always) (x : List ℕ × Condition) → always_in names a ≡ Ok x → Back (written_always names) (λ y. condition_integers y.1) a x
+always_back names a x h =
+    let c = bind_ok (condition_in names a.condition) _ x h in
+    let p = condition_back names a.condition c.0 c.1 in
+    let made : List ℕ × Condition = (a.name, c.0) in
+    subst (Back (written_always names) (λ y. condition_integers y.1) a) (ok_is made x c.2) (rw p.0 refl, p.1)
+
+transaction_back : (names : List (List ℕ)) (d : Declaration) (x : Transaction) → transaction_in names d ≡ Ok x → Back (written_transaction names) transaction_integers d x
+transaction_back names d x h =
     let a = bind_ok (statement_in names d.body) _ x h in
     let b = bind_ok (expression_in names d.value) _ x a.2 in
     let p = statement_back names d.body a.0 a.1 in
     let q = expression_back names d.value b.0 b.1 in
-    let made : Program = record { name = d.name; body = a.0; result = b.0 } in
-    subst (Back (written_program names) program_integers d) (ok_is made x b.2) (rw (p.0, q.0) refl, both_true _ _ p.1 q.1)
+    let made : Transaction = record { name = d.name; body = a.0; result = b.0 } in
+    subst (Back (written_transaction names) transaction_integers d) (ok_is made x b.2) (rw (p.0, q.0) refl, both_true _ _ p.1 q.1)
 
 abbrev run_written : List (List ℕ) → TxId × ℕ → Pair
 run_written names run = record { name = name_at names run.0.0; value = pos run.1 }
@@ -194,45 +201,55 @@ names_of_vars : (vs : List (List ℕ × ℤ)) → map pair_name (map pair_of vs)
 names_of_vars [] = refl
 names_of_vars (v ∷ vs) = ap (λ ns. v.0 ∷ ns) (names_of_vars vs)
 
-pub names_of_txs : (names : List (List ℕ)) (ps : List Program) → map tx_name (map (written_program names) ps) ≡ map (λ p. p.name) ps
+pub names_of_conditions : (names : List (List ℕ)) (all : List (List ℕ × Condition)) → map condition_name (map (written_always names) all) ≡ map (λ a. a.0) all
+names_of_conditions names [] = refl
+names_of_conditions names (a ∷ all) = ap (λ ns. a.0 ∷ ns) (names_of_conditions names all)
+
+pub names_of_txs : (names : List (List ℕ)) (ts : List Transaction) → map tx_name (map (written_transaction names) ts) ≡ map (λ t. t.name) ts
 names_of_txs names [] = refl
-names_of_txs names (p ∷ ps) = ap (λ ns. p.name ∷ ns) (names_of_txs names ps)
+names_of_txs names (t ∷ ts) = ap (λ ns. t.name ∷ ns) (names_of_txs names ts)
 
 -- ---- the whole file
 
 pub record IsWritten (file : File) (l : Listing) : Type 0 where
-  pub same : written l ≡ file
+  pub same : written_in file.form l ≡ file
   pub valued : length l.initial ≡ length l.names
   pub integers : integers_fit l ≡ true
 
 converted_back : (file : File) (l : Listing) → converted (map pair_name file.vars) (map tx_name file.txs) file ≡ Ok l → IsWritten file l
-unfolding converted written integers_fit
+unfolding converted written_in integers_fit
 converted_back file l h =
     let vars = map pair_name file.vars in
     let txs = map tx_name file.txs in
     let v = bind_ok (each variable_of file.vars) _ l h in
-    let p = bind_ok (each (program_in vars) file.txs) _ l v.2 in
+    let a = bind_ok (each (always_in vars) file.always) _ l v.2 in
+    let p = bind_ok (each (transaction_in vars) file.txs) _ l a.2 in
     let r = bind_ok (each (run_in txs) file.runs) _ l p.2 in
     let vb = each_back variable_of pair_of (λ w. fits w.1) variable_is file.vars v.0 v.1 in
-    let pb = each_back (program_in vars) (written_program vars) program_integers (program_back vars) file.txs p.0 p.1 in
+    let ab = each_back (always_in vars) (written_always vars) (λ y. condition_integers y.1) (always_back vars) file.always a.0 a.1 in
+    let pb = each_back (transaction_in vars) (written_transaction vars) transaction_integers (transaction_back vars) file.txs p.0 p.1 in
     let rb = each_back (run_in txs) (run_written txs) anything (run_back txs) file.runs r.0 r.1 in
     let names : vars ≡ map (λ w. w.0) v.0 = ap (map pair_name) (sym vb.0) ∙ names_of_vars v.0 in
     let tx_names : txs ≡ map (λ q. q.name) p.0 = ap (map tx_name) (sym pb.0) ∙ names_of_txs vars p.0 in
-    let made : Listing = listing v.0 p.0 r.0 in
-    let same_vars : (written made).vars ≡ file.vars = vars_written v.0 ∙ vb.0 in
-    let same_txs : (written made).txs ≡ file.txs = ap (λ (ns : List (List ℕ)). map (written_program ns) p.0) (sym names) ∙ pb.0 in
-    let same_runs : (written made).runs ≡ file.runs = ap (λ (ns : List (List ℕ)). map (run_written ns) r.0) (sym tx_names) ∙ rb.0 in
+    let made : Listing = listing v.0 a.0 p.0 r.0 in
+    let same_vars : (written_in file.form made).vars ≡ file.vars = vars_written v.0 ∙ vb.0 in
+    let same_always : (written_in file.form made).always ≡ file.always = ap (λ (ns : List (List ℕ)). map (written_always ns) a.0) (sym names) ∙ ab.0 in
+    let same_txs : (written_in file.form made).txs ≡ file.txs = ap (λ (ns : List (List ℕ)). map (written_transaction ns) p.0) (sym names) ∙ pb.0 in
+    let same_runs : (written_in file.form made).runs ≡ file.runs = ap (λ (ns : List (List ℕ)). map (run_written ns) r.0) (sym tx_names) ∙ rb.0 in
+    let values = list_all-map fits (λ (w : List ℕ × ℤ). w.1) v.0 ∙ vb.1 in
+    let conditions = list_all-map condition_integers (λ (w : List ℕ × Condition). w.1) a.0 ∙ ab.1 in
     subst (IsWritten file) (ok_is made l r.2) (record {
-      same = rw (same_vars, same_txs, same_runs) refl;
+      same = rw (same_vars, same_always, same_txs, same_runs) refl;
       valued = length-map v.0 (λ (w : List ℕ × ℤ). w.1) ∙ sym (length-map v.0 (λ (w : List ℕ × ℤ). w.0));
-      integers = both_true _ _ (list_all-map fits (λ (w : List ℕ × ℤ). w.1) v.0 ∙ vb.1) pb.1;
+      integers = both_true _ _ values (both_true _ _ conditions pb.1);
     })
 
 pub resolved_back : (file : File) (l : Listing) → resolved file ≡ Ok l → IsWritten file l
 unfolding resolved
 resolved_back file l h =
     let v = bind_ok (declared_after [] (map pair_name file.vars)) _ l h in
-    let x = bind_ok (declared_after [] (map tx_name file.txs)) _ l v.2 in
+    let a = bind_ok (declared_after [] (map condition_name file.always)) _ l v.2 in
+    let x = bind_ok (declared_after [] (map tx_name file.txs)) _ l a.2 in
     elim (chosen (uses_known v.0 x.0 file) (converted v.0 x.0 file) (Err faults.Name) (Ok l) x.2) [
       | inl p ↦ converted_back file l (sym (ap (λ (ns : List (List ℕ)). converted ns x.0 file) (declared_is [] (map pair_name file.vars) v.0 v.1) ∙ ap (λ (ns : List (List ℕ)). converted (map pair_name file.vars) ns file) (declared_is [] (map tx_name file.txs) x.0 x.1)) ∙ p.1)
       | inr p ↦ absurd (let g = p.1 in cc)

@@ -1,6 +1,7 @@
 -- Which faults each step may have.
 use Rattle.std.proofs.Common.{◌≡◌, ℕ, zero, suc, Bool, true, false, cond, List, [], ◌∷◌, length, Result, Ok, Err, ap}
-use Rattle.std.specs.Prelude.{codes}
+use Rattle.std.specs.Prelude.{ℤ, pos, codes}
+use Rattle.std.specs.Ordering.{int_eq}
 use Rattle.std.specs.Str.{bytes_eq}
 use Rattle.text_words.specs.Tokens.{Lexeme, Opens, Closes}
 use Rattle.text_words.specs.Tokens as token
@@ -17,7 +18,9 @@ use Rattle.text_words.specs.declared.fault.ReadFault.{ReadFault}
 use Rattle.text_words.specs.declared.fault.ReadFault.TheVariants as faults
 use Rattle.text_words.specs.Answers.{◌>>=◌}
 use Rattle.text_words.specs.TokenReading.{Read, next_at, as_open, as_close, as_name, as_int, open_at, close_at, name_at, int_at, word_at, form_at, begins, is_open, many, all_of}
-use Rattle.file_grammar.specs.Reading.{operator_of, test_of, keyword_of, binary_with, expr_from, expr_at, cond_with, cond_at, set_with, seq_with, if_with, repeat_with, orelse_with, throw_with, stmt_with, stmt_at, pair_at, tx_at, end_at, file_of}
+use Rattle.file_grammar.specs.Reading.{operator_of, test_of, keyword_of, binary_with, expr_from, expr_at, cond_with, cond_at, set_with, seq_with, if_with, repeat_with, orelse_with, throw_with, stmt_with, stmt_at, pair_at, always_at, conditions_at, tx_at, end_at, form_numbered, announced_at, heading_at, file_of}
+use Rattle.file_grammar.specs.declared.file.FileForm.{FileForm}
+use Rattle.file_grammar.specs.declared.file.FileForm.TheVariants.{One, Two}
 use Rattle.text_words.proofs.Steps.{done}
 
 -- a fault of the result is of this kind
@@ -206,6 +209,15 @@ pair_shape : (word : List ℕ) (ts : List Lexeme) → IsShape (pair_at word ts)
 unfolding pair_at
 pair_shape word ts = bind (form_at word ts) _ (form_shape word ts) (λ inside. bind (name_at inside) _ (name_shape inside) (λ n. bind (int_at n.1) _ (int_shape n.1) (λ v. bind (close_at v.1) _ (close_shape v.1) (λ rest. ok _))))
 
+always_shape : (ts : List Lexeme) → IsShape (always_at ts)
+unfolding always_at
+always_shape ts = bind (form_at (codes "always") ts) _ (form_shape (codes "always") ts) (λ inside. bind (name_at inside) _ (name_shape inside) (λ n. bind (cond_at 31 n.1) _ (cond_shape 31 n.1) (λ c. bind (close_at c.1) _ (close_shape c.1) (λ rest. ok _))))
+
+conditions_shape : (form : FileForm) (ts : List Lexeme) → IsShape (conditions_at form ts)
+unfolding conditions_at
+conditions_shape One ts = ok ([], ts)
+conditions_shape Two ts = all_shape (begins (codes "always")) always_at always_shape ts
+
 tx_shape : (ts : List Lexeme) → IsShape (tx_at ts)
 unfolding tx_at
 tx_shape ts = bind (form_at (codes "tx") ts) _ (form_shape (codes "tx") ts) (λ inside. bind (name_at inside) _ (name_shape inside) (λ n. bind (stmt_at 31 n.1) _ (stmt_shape 31 n.1) (λ b. bind (expr_at 31 b.1) _ (expr_shape 31 b.1) (λ v. bind (close_at v.1) _ (close_shape v.1) (λ rest. ok _)))))
@@ -215,10 +227,24 @@ unfolding end_at
 end_shape [] = ok tt
 end_shape (t ∷ ts) = err
 
+numbered_shape : (number : ℤ) → IsShape (form_numbered number)
+numbered_shape number = only_cond faults.Shape (int_eq number (pos 2)) (done Two) (Err faults.Shape) (ok Two) err
+
+announced_shape : (ts : List Lexeme) → IsShape (announced_at ts)
+unfolding announced_at
+announced_shape ts =
+    bind (form_at (codes "stm") ts) _ (form_shape (codes "stm") ts) (λ inside. bind (int_at inside) _ (int_shape inside) (λ n. bind (form_numbered n.0) _ (numbered_shape n.0) (λ form. bind (close_at n.1) _ (close_shape n.1) (λ rest. ok (form, rest)))))
+
+heading_shape : (ts : List Lexeme) → IsShape (heading_at ts)
+unfolding heading_at
+heading_shape ts = only_cond faults.Shape (begins (codes "stm") ts) (announced_at ts) (done (One, ts)) (announced_shape ts) (ok (One, ts))
+
 pub file_shape : (ts : List Lexeme) → IsShape (file_of ts)
 unfolding file_of
 file_shape ts =
-    bind (all_of (begins (codes "var")) (pair_at (codes "var")) ts) _ (all_shape (begins (codes "var")) (pair_at (codes "var")) (pair_shape (codes "var")) ts)
-    (λ v. bind (all_of (begins (codes "tx")) tx_at v.1) _ (all_shape (begins (codes "tx")) tx_at tx_shape v.1)
+    bind (heading_at ts) _ (heading_shape ts)
+    (λ h. bind (all_of (begins (codes "var")) (pair_at (codes "var")) h.1) _ (all_shape (begins (codes "var")) (pair_at (codes "var")) (pair_shape (codes "var")) h.1)
+    (λ v. bind (conditions_at h.0 v.1) _ (conditions_shape h.0 v.1)
+    (λ a. bind (all_of (begins (codes "tx")) tx_at a.1) _ (all_shape (begins (codes "tx")) tx_at tx_shape a.1)
     (λ t. bind (all_of (begins (codes "run")) (pair_at (codes "run")) t.1) _ (all_shape (begins (codes "run")) (pair_at (codes "run")) (pair_shape (codes "run")) t.1)
-    (λ r. bind (end_at r.1) _ (end_shape r.1) (λ u. ok _))))
+    (λ r. bind (end_at r.1) _ (end_shape r.1) (λ u. ok _))))))

@@ -9,15 +9,16 @@ use Rattle.std.proofs.lemmas.List.Concat.{flat_map-cons}
 use Rattle.programs.specs.declared.ast.VarId.{VarId}
 use Rattle.programs.specs.declared.ast.TxId.{TxId}
 use Rattle.programs.specs.Arithmetic.{fits}
-use Rattle.programs.specs.Tree.{Expression, Condition, Statement, Statements, Program}
+use Rattle.programs.specs.Tree.{Expression, Condition, Statement, Statements, Transaction}
 use Rattle.programs.specs.Tree as t
-use Rattle.programs.specs.Listing.{Listing}
-use Rattle.programs.specs.Names.{is_name, are_new, are_distinct, knows_expression, knows_condition, knows_statement, knows_statements, knows_program, is_well_formed, names_hold}
+use Rattle.programs.specs.Listing.{Listing, conditions, always_names}
+use Rattle.programs.specs.Names.{is_name, are_new, are_distinct, knows_expression, knows_condition, knows_statement, knows_statements, knows_transaction, is_well_formed, names_hold}
 use Rattle.programs.specs.Limits.{limits_hold}
+use Rattle.programs.specs.Standing.{upholds}
 use Rattle.text_words.specs.Bytes.{is_atom_byte, is_in_line, is_int, is_allowed}
 use Rattle.text_words.specs.Tokens.{Lexeme, Opens, Closes, atom, after, tokens_within, tokens}
 use Rattle.text_words.specs.Tokens as token
-use Rattle.file_grammar.specs.Tree.{Expr, Cond, Stmt, Stmts, NoStmts, MoreStmts, Pair, Declaration, File, pair_tokens, tx_tokens, file_tokens, stmt_tokens, expr_tokens, SpellsTree, max_len}
+use Rattle.file_grammar.specs.Tree.{Expr, Cond, Stmt, Stmts, NoStmts, MoreStmts, Pair, Always, Declaration, File, pair_tokens, always_tokens, tx_tokens, heading_tokens, file_tokens, SpellsTree, max_len}
 use Rattle.file_grammar.specs.Tree as f
 use Rattle.file_grammar.specs.declared.words.Operator.{Operator}
 use Rattle.file_grammar.specs.declared.words.Operator.TheVariants as operator
@@ -29,17 +30,17 @@ use Rattle.text_words.specs.declared.fault.ReadFault.{ReadFault}
 use Rattle.text_words.specs.declared.fault.ReadFault.TheVariants as faults
 use Rattle.text_words.specs.Answers.{◌>>=◌}
 use Rattle.file_grammar.specs.Reading.{file_of, tree_of}
-use Rattle.file_grammar.specs.Written.{written}
+use Rattle.file_grammar.specs.Written.{written_in}
 use Rattle.text_words.specs.Numbers.{number_of, count_of}
-use Rattle.file_grammar.specs.Resolving.{placed, place_in, variable_in, is_known, expr_known, cond_known, stmt_known, stmts_known, tx_known, run_known, declared_one, declared_after, binary, compare, connect, expression_in, condition_in, statement_in, statements_in, each, variable_of, program_in, run_in, listing, uses_known, converted, pair_name, tx_name, resolved}
-use Rattle.file_grammar.specs.Spelling.{Spells, lawful, listing_at, fault_in, first_fault}
+use Rattle.file_grammar.specs.Resolving.{placed, place_in, variable_in, is_known, expr_known, cond_known, stmt_known, stmts_known, always_known, tx_known, run_known, declared_one, declared_after, binary, compare, connect, expression_in, condition_in, statement_in, statements_in, each, variable_of, always_in, transaction_in, run_in, listing, uses_known, converted, pair_name, condition_name, tx_name, resolved}
+use Rattle.file_grammar.specs.Spelling.{lawful, listing_at, fault_in, first_fault}
 use Rattle.file_laws.specs.Faults.{names_known, IsFirst}
 use Rattle.text_words.proofs.Steps.{bind_ok, ok_is, done, chosen}
 use Rattle.file_laws.proofs.Declared.{both, id_back, declared_is}
-use Rattle.file_laws.proofs.Back.{both_true, resolved_back, names_of_txs}
+use Rattle.file_laws.proofs.Back.{both_true, resolved_back, names_of_conditions, names_of_txs}
 use Rattle.file_laws.proofs.Again.{var_names}
 use Rattle.file_grammar.proofs.Files.{tree_takes, tree_again}
-use Rattle.file_laws.proofs.Spelt.{spelled_listing}
+use Rattle.file_laws.proofs.Spelt.{kept, none_declared, resolved_declares}
 use Rattle.file_laws.proofs.Blame.{Only, only_ok, only_err, only_bind, only_cond, file_shape}
 
 bool_cases : (b : Bool) → (b ≡ true) ⊎ (b ≡ false)
@@ -130,8 +131,11 @@ variables_limit : (ps : List Pair) → IsLimit (each variable_of ps)
 variables_limit [] = ok []
 variables_limit (p ∷ ps) = bind (variable_of p) _ (bind (number_of p.value) _ (number_limit p.value) (λ n. ok (p.name, n))) (λ y. bind (each variable_of ps) _ (variables_limit ps) (λ ys. ok (y ∷ ys)))
 
-program_limit : (names : List (List ℕ)) (d : Declaration) → tx_known names d ≡ true → IsLimit (program_in names d)
-program_limit names d h =
+always_limit : (names : List (List ℕ)) (a : Always) → always_known names a ≡ true → IsLimit (always_in names a)
+always_limit names a h = bind (condition_in names a.condition) _ (condition_limit names a.condition h) (λ c. ok (a.name, c))
+
+transaction_limit : (names : List (List ℕ)) (d : Declaration) → tx_known names d ≡ true → IsLimit (transaction_in names d)
+transaction_limit names d h =
     let p = both _ _ h in
     bind (statement_in names d.body) _ (statement_limit names d.body p.0) (λ a. bind (expression_in names d.value) _ (expression_limit names d.value p.1) (λ b. ok _))
 
@@ -142,8 +146,11 @@ converted_limit : (vars txs : List (List ℕ)) (file : File) → uses_known vars
 unfolding converted uses_known
 converted_limit vars txs file h =
     let p = both _ _ h in
-    bind (each variable_of file.vars) _ (variables_limit file.vars) (λ v. bind (each (program_in vars) file.txs) _ (each_limit (program_in vars) (tx_known vars) (program_limit vars) file.txs p.0)
-    (λ x. bind (each (run_in txs) file.runs) _ (each_limit (run_in txs) (run_known txs) (run_limit txs) file.runs p.1) (λ r. ok _)))
+    let q = both _ _ p.1 in
+    bind (each variable_of file.vars) _ (variables_limit file.vars)
+    (λ v. bind (each (always_in vars) file.always) _ (each_limit (always_in vars) (always_known vars) (always_limit vars) file.always p.0)
+    (λ a. bind (each (transaction_in vars) file.txs) _ (each_limit (transaction_in vars) (tx_known vars) (transaction_limit vars) file.txs q.0)
+    (λ x. bind (each (run_in txs) file.runs) _ (each_limit (run_in txs) (run_known txs) (run_limit txs) file.runs q.1) (λ r. ok _))))
 
 -- ---- names
 
@@ -170,17 +177,21 @@ resolved_fault : (file : File) (e : ReadFault) → resolved file ≡ Err e → (
 unfolding resolved
 resolved_fault file e h =
     let vars = map pair_name file.vars in
+    let always = map condition_name file.always in
     let txs = map tx_name file.txs in
     elim (bind_err (declared_after [] vars) _ e h) [
       | inl p ↦ let d = declared_fault [] vars e p in inl (d.0, rw d.1 refl)
-      | inr p ↦ elim (bind_err (declared_after [] txs) _ e p.2) [
-        | inl q ↦ let d = declared_fault [] txs e q in inl (d.0, rw (declared_new [] vars p.0 p.1, d.1) refl)
-        | inr q ↦
-            let known = rw (declared_is [] vars p.0 p.1, declared_is [] txs q.0 q.1) at q.2 in
-            elim (bool_cases (uses_known vars txs file)) [
-              | inl u ↦ let g = rw u at known in inr ((converted_limit vars txs file u).by e g, rw (declared_new [] vars p.0 p.1, declared_new [] txs q.0 q.1, u) refl)
-              | inr u ↦ let g = rw u at known in let s : e ≡ faults.Name = cc in inl (s, rw (declared_new [] vars p.0 p.1, declared_new [] txs q.0 q.1, u) refl)
-            ]
+      | inr p ↦ elim (bind_err (declared_after [] always) _ e p.2) [
+        | inl a ↦ let d = declared_fault [] always e a in inl (d.0, rw (declared_new [] vars p.0 p.1, d.1) refl)
+        | inr a ↦ elim (bind_err (declared_after [] txs) _ e a.2) [
+          | inl q ↦ let d = declared_fault [] txs e q in inl (d.0, rw (declared_new [] vars p.0 p.1, declared_new [] always a.0 a.1, d.1) refl)
+          | inr q ↦
+              let known = rw (declared_is [] vars p.0 p.1, declared_is [] txs q.0 q.1) at q.2 in
+              elim (bool_cases (uses_known vars txs file)) [
+                | inl u ↦ let g = rw u at known in inr ((converted_limit vars txs file u).by e g, rw (declared_new [] vars p.0 p.1, declared_new [] always a.0 a.1, declared_new [] txs q.0 q.1, u) refl)
+                | inr u ↦ let g = rw u at known in let s : e ≡ faults.Name = cc in inl (s, rw (declared_new [] vars p.0 p.1, declared_new [] always a.0 a.1, declared_new [] txs q.0 q.1, u) refl)
+              ]
+        ]
       ]
     ]
 
@@ -193,11 +204,13 @@ unfolding resolved
 resolved_known file l h =
     let vars = map pair_name file.vars in
     let txs = map tx_name file.txs in
+    let always = map condition_name file.always in
     let v = bind_ok (declared_after [] vars) _ l h in
-    let x = bind_ok (declared_after [] txs) _ l v.2 in
+    let a = bind_ok (declared_after [] always) _ l v.2 in
+    let x = bind_ok (declared_after [] txs) _ l a.2 in
     let known = known_step file l v.0 x.0 vars txs (declared_is [] vars v.0 v.1) (declared_is [] txs x.0 x.1) x.2 in
     elim (bool_cases (uses_known vars txs file)) [
-      | inl u ↦ let g = rw u at known in (rw (declared_new [] vars v.0 v.1, declared_new [] txs x.0 x.1, u) refl, g)
+      | inl u ↦ let g = rw u at known in (rw (declared_new [] vars v.0 v.1, declared_new [] always a.0 a.1, declared_new [] txs x.0 x.1, u) refl, g)
       | inr u ↦ absurd (let g = rw u at known in cc)
     ]
 
@@ -292,12 +305,18 @@ mutual
       let b = bind_ok (statements_in names others) _ x a.2 in
       subst (λ (y : Statements). knows_statements (length names) y ≡ true) (ok_is (t.More a.0 b.0) x b.2) (both_true _ _ (statement_knows names first a.0 a.1) (statements_knows names others b.0 b.1))
 
-program_knows : (names : List (List ℕ)) (d : Declaration) (x : Program) → program_in names d ≡ Ok x → knows_program (length names) x ≡ true
-program_knows names d x h =
+always_knows : (names : List (List ℕ)) (a : Always) (x : List ℕ × Condition) → always_in names a ≡ Ok x → knows_condition (length names) x.1 ≡ true
+always_knows names a x h =
+    let c = bind_ok (condition_in names a.condition) _ x h in
+    let made : List ℕ × Condition = (a.name, c.0) in
+    subst (λ (y : List ℕ × Condition). knows_condition (length names) y.1 ≡ true) (ok_is made x c.2) (condition_knows names a.condition c.0 c.1)
+
+transaction_knows : (names : List (List ℕ)) (d : Declaration) (x : Transaction) → transaction_in names d ≡ Ok x → knows_transaction (length names) x ≡ true
+transaction_knows names d x h =
     let a = bind_ok (statement_in names d.body) _ x h in
     let b = bind_ok (expression_in names d.value) _ x a.2 in
-    let made : Program = record { name = d.name; body = a.0; result = b.0 } in
-    subst (λ (y : Program). knows_program (length names) y ≡ true) (ok_is made x b.2) (both_true _ _ (statement_knows names d.body a.0 a.1) (expression_knows names d.value b.0 b.1))
+    let made : Transaction = record { name = d.name; body = a.0; result = b.0 } in
+    subst (λ (y : Transaction). knows_transaction (length names) y ≡ true) (ok_is made x b.2) (both_true _ _ (statement_knows names d.body a.0 a.1) (expression_knows names d.value b.0 b.1))
 
 run_knows : (names : List (List ℕ)) (p : Pair) (x : TxId × ℕ) → run_in names p ≡ Ok x → nat_lt x.0.0 (length names) ≡ true
 run_knows names p x h =
@@ -368,13 +387,27 @@ txs_named (d ∷ ds) h =
     let a = all_parts named (tx_tokens d) (flat_map tx_tokens ds) (sym (ap (list_all named) (flat_map-cons tx_tokens d ds)) ∙ h) in
     both_true _ _ (both _ _ (both _ _ a.0).1).0 (txs_named ds a.1)
 
-file_named : (bytes : List ℕ) (file : File) → tokens bytes ≡ file_tokens file → (list_all is_name (map pair_name file.vars) ≡ true) × (list_all is_name (map tx_name file.txs) ≡ true)
+always_named : (all : List Always) → list_all named (flat_map always_tokens all) ≡ true → list_all is_name (map condition_name all) ≡ true
+always_named [] h = refl
+always_named (x ∷ xs) h =
+    let a = all_parts named (always_tokens x) (flat_map always_tokens xs) (sym (ap (list_all named) (flat_map-cons always_tokens x xs)) ∙ h) in
+    both_true _ _ (both _ _ (both _ _ a.0).1).0 (always_named xs a.1)
+
+-- each declared name has the form of one
+record AreNames (file : File) : Type 0 where
+  vars : list_all is_name (map pair_name file.vars) ≡ true
+  always : list_all is_name (map condition_name file.always) ≡ true
+  txs : list_all is_name (map tx_name file.txs) ≡ true
+
+file_named : (bytes : List ℕ) (file : File) → tokens bytes ≡ file_tokens file → AreNames file
 unfolding tokens
 file_named bytes file e =
     let all : list_all named (file_tokens file) ≡ true = sym (ap (list_all named) e) ∙ tokens_named (length bytes) bytes in
-    let a = all_parts named (flat_map (pair_tokens (codes "var")) file.vars) _ all in
-    let b = all_parts named (flat_map tx_tokens file.txs) _ a.1 in
-    (pairs_named (codes "var") file.vars a.0, txs_named file.txs b.0)
+    let h = all_parts named (heading_tokens file.form) _ all in
+    let v = all_parts named (flat_map (pair_tokens (codes "var")) file.vars) _ h.1 in
+    let a = all_parts named (flat_map always_tokens file.always) _ v.1 in
+    let x = all_parts named (flat_map tx_tokens file.txs) _ a.1 in
+    record { vars = pairs_named (codes "var") file.vars v.0; always = always_named file.always a.0; txs = txs_named file.txs x.0 }
 
 abbrev bad_file : ReadFault → Result File ReadFault
 bad_file e = Err e
@@ -382,23 +415,33 @@ bad_file e = Err e
 no_tree : (bytes : List ℕ) (e : ReadFault) → tree_of bytes ≡ Err e → (g : File) → SpellsTree bytes g → ⊥
 no_tree bytes e h g s = let again = tree_again bytes g s in cc
 
-converted_knows : (file : File) (l : Listing) → converted (map pair_name file.vars) (map tx_name file.txs) file ≡ Ok l
-    → (list_all (knows_program (length (map pair_name file.vars))) l.programs ≡ true) × (list_all (λ run. nat_lt run.0.0 (length (map tx_name file.txs))) l.runs ≡ true)
+-- only declared variables and transactions are named
+record KnowsAll (vars txs : List (List ℕ)) (l : Listing) : Type 0 where
+  conditions_known : list_all (knows_condition (length vars)) (conditions l) ≡ true
+  transactions_known : list_all (knows_transaction (length vars)) l.transactions ≡ true
+  runs_known : list_all (λ run. nat_lt run.0.0 (length txs)) l.runs ≡ true
+
+converted_knows : (file : File) (l : Listing) → converted (map pair_name file.vars) (map tx_name file.txs) file ≡ Ok l → KnowsAll (map pair_name file.vars) (map tx_name file.txs) l
 unfolding converted
 converted_knows file l h =
     let vars = map pair_name file.vars in
     let txs = map tx_name file.txs in
+    let n = length vars in
     let v = bind_ok (each variable_of file.vars) _ l h in
-    let p = bind_ok (each (program_in vars) file.txs) _ l v.2 in
+    let a = bind_ok (each (always_in vars) file.always) _ l v.2 in
+    let p = bind_ok (each (transaction_in vars) file.txs) _ l a.2 in
     let r = bind_ok (each (run_in txs) file.runs) _ l p.2 in
-    let made : Listing = listing v.0 p.0 r.0 in
-    subst (λ (m : Listing). (list_all (knows_program (length vars)) m.programs ≡ true) × (list_all (λ run. nat_lt run.0.0 (length txs)) m.runs ≡ true)) (ok_is made l r.2)
-    (each_good (program_in vars) (knows_program (length vars)) (program_knows vars) file.txs p.0 p.1, each_good (run_in txs) (λ run. nat_lt run.0.0 (length txs)) (run_knows txs) file.runs r.0 r.1)
+    let made : Listing = listing v.0 a.0 p.0 r.0 in
+    subst (KnowsAll vars txs) (ok_is made l r.2) (record {
+      conditions_known = list_all-map (knows_condition n) (λ (y : List ℕ × Condition). y.1) a.0 ∙ each_good (always_in vars) (λ y. knows_condition n y.1) (always_knows vars) file.always a.0 a.1;
+      transactions_known = each_good (transaction_in vars) (knows_transaction n) (transaction_knows vars) file.txs p.0 p.1;
+      runs_known = each_good (run_in txs) (λ run. nat_lt run.0.0 (length txs)) (run_knows txs) file.runs r.0 r.1;
+    })
 
 -- ---- the names of a resolved file hold
 
 resolved_names : (bytes : List ℕ) (file : File) (l : Listing) → tokens bytes ≡ file_tokens file → resolved file ≡ Ok l → names_hold l ≡ true
-unfolding names_hold is_well_formed written
+unfolding names_hold is_well_formed written_in
 resolved_names bytes file l spelled h =
     let vars = map pair_name file.vars in
     let txs = map tx_name file.txs in
@@ -407,17 +450,22 @@ resolved_names bytes file l spelled h =
     let n = file_named bytes file spelled in
     let d = both _ _ k.0 in
     let d1 = both _ _ d.1 in
+    let d2 = both _ _ d1.1 in
     let names : l.names ≡ vars = sym (var_names l.names l.initial w.valued) ∙ ap (λ (g : File). map pair_name g.vars) w.same in
-    let programs : map (λ p. p.name) l.programs ≡ txs = sym (names_of_txs l.names l.programs) ∙ ap (λ (g : File). map tx_name g.txs) w.same in
+    let always : always_names l ≡ map condition_name file.always = sym (names_of_conditions l.names l.always) ∙ ap (λ (g : File). map condition_name g.always) w.same in
+    let transactions : map (λ t. t.name) l.transactions ≡ txs = sym (names_of_txs l.names l.transactions) ∙ ap (λ (g : File). map tx_name g.txs) w.same in
     let c = converted_knows file l k.1 in
-    let count : length l.programs ≡ length txs = sym (length-map l.programs (λ (p : Program). p.name)) ∙ ap length programs in
-    let formed : list_all (λ (p : Program). is_name p.name) l.programs ≡ true = sym (list_all-map is_name (λ (p : Program). p.name) l.programs) ∙ ap (list_all is_name) programs ∙ n.1 in
-    let a : list_all is_name l.names ≡ true = ap (list_all is_name) names ∙ n.0 in
-    let k1 : list_all (knows_program (length l.names)) l.programs ≡ true = rw names c.0 in
-    let k2 : list_all (λ run. nat_lt run.0.0 (length l.programs)) l.runs ≡ true = rw count c.1 in
-    let d2 : are_distinct l.names ≡ true = ap are_distinct names ∙ d.0 in
-    let d3 : are_distinct (map (λ p. p.name) l.programs) ≡ true = ap are_distinct programs ∙ d1.0 in
-    rw (a, formed, k1, k2, d2, d3) refl
+    let count : length l.transactions ≡ length txs = sym (length-map l.transactions (λ (t : Transaction). t.name)) ∙ ap length transactions in
+    let a : list_all is_name l.names ≡ true = ap (list_all is_name) names ∙ n.vars in
+    let a1 : list_all is_name (always_names l) ≡ true = ap (list_all is_name) always ∙ n.always in
+    let a2 : list_all (λ (t : Transaction). is_name t.name) l.transactions ≡ true = sym (list_all-map is_name (λ (t : Transaction). t.name) l.transactions) ∙ ap (list_all is_name) transactions ∙ n.txs in
+    let k1 : list_all (knows_condition (length l.names)) (conditions l) ≡ true = rw names c.conditions_known in
+    let k2 : list_all (knows_transaction (length l.names)) l.transactions ≡ true = rw names c.transactions_known in
+    let k3 : list_all (λ run. nat_lt run.0.0 (length l.transactions)) l.runs ≡ true = rw count c.runs_known in
+    let u : are_distinct l.names ≡ true = ap are_distinct names ∙ d.0 in
+    let u1 : are_distinct (always_names l) ≡ true = ap are_distinct always ∙ d1.0 in
+    let u2 : are_distinct (map (λ t. t.name) l.transactions) ≡ true = ap are_distinct transactions ∙ d2.0 in
+    rw (a, a1, a2, k1, k2, k3, u, u1, u2) refl
 
 -- ---- the first fault
 
@@ -432,16 +480,23 @@ tree_fault bytes e h =
       ]
     ]
 
-lawful_fault : (l : Listing) (e : ReadFault) → names_hold l ≡ true → lawful l ≡ Err e → e ≡ faults.Limit
+-- why a listing whose names hold is not lawful
+lawful_fault : (l : Listing) (e : ReadFault) → names_hold l ≡ true → lawful l ≡ Err e → (e ≡ faults.Limit) ⊎ ((e ≡ faults.Broken) × (limits_hold l ≡ true) × (upholds l l.initial ≡ false))
 lawful_fault l e n h =
     let g = rw n at h in
-    elim (chosen (limits_hold l) (done l) (Err faults.Limit) (Err e) g) [
-      | inl p ↦ absurd (let q = p.1 in cc)
-      | inr p ↦ let q = p.1 in cc
+    elim (chosen (limits_hold l) (kept l) (Err faults.Limit) (Err e) g) [
+      | inl p ↦ elim (chosen (upholds l l.initial) (done l) (Err faults.Broken) (Err e) p.1) [
+        | inl u ↦ absurd (let q = u.1 in cc)
+        | inr u ↦ let s : e ≡ faults.Broken = let q = u.1 in cc in inr (s, p.0, u.0)
+      ]
+      | inr p ↦ let s : e ≡ faults.Limit = let q = p.1 in cc in inl s
     ]
 
-none_spelled : (bytes : List ℕ) (e : ReadFault) → listing_at bytes ≡ Err e → (l : Listing) → Spells bytes l → ⊥
-none_spelled bytes e h l s = let g = spelled_listing bytes l s in cc
+-- a tree whose names are known, and a limit in the way
+limit_first : (bytes : List ℕ) (e : ReadFault) (file : File) → listing_at bytes ≡ Err e → e ≡ faults.Limit → SpellsTree bytes file → names_known file ≡ true → IsFirst bytes e
+limit_first bytes e file h is spelled known =
+    let g : listing_at bytes ≡ Err faults.Limit = rw is at h in
+    subst (IsFirst bytes) (sym is) (file, (spelled, known, none_declared bytes g))
 
 is_first : (bytes : List ℕ) (e : ReadFault) → listing_at bytes ≡ Err e → IsFirst bytes e
 unfolding listing_at
@@ -453,11 +508,14 @@ is_first bytes e h =
           elim (bind_err (resolved p.0) _ e p.2) [
             | inl q ↦ elim (resolved_fault p.0 e q) [
               | inl n ↦ subst (IsFirst bytes) (sym n.0) (p.0, (spelled, n.1))
-              | inr n ↦ subst (IsFirst bytes) (sym n.0) (p.0, (spelled, n.1, none_spelled bytes e h))
+              | inr n ↦ limit_first bytes e p.0 h n.0 spelled n.1
             ]
             | inr q ↦
                 let hold = resolved_names bytes p.0 q.0 spelled.spelled q.1 in
-                subst (IsFirst bytes) (sym (lawful_fault q.0 e hold q.2)) (p.0, (spelled, (resolved_known p.0 q.0 q.1).0, none_spelled bytes e h))
+                elim (lawful_fault q.0 e hold q.2) [
+                  | inl n ↦ limit_first bytes e p.0 h n spelled (resolved_known p.0 q.0 q.1).0
+                  | inr n ↦ subst (IsFirst bytes) (sym n.0) (q.0, (resolved_declares bytes p.0 q.0 p.1 q.1 hold n.1, n.2))
+                ]
           ]
     ]
 

@@ -8,7 +8,7 @@ use Rattle.text_words.specs.Bytes.{is_allowed}
 use Rattle.text_words.specs.Tokens.{tokens}
 use Rattle.file_grammar.specs.Tree.{max_len}
 use Rattle.file_grammar.specs.Reading.{tree_of}
-use Rattle.file_grammar.specs.Spelling.{Spells, listing_at, fault_in}
+use Rattle.file_grammar.specs.Spelling.{Declares, Spells, listing_at, fault_in}
 use Rattle.file_laws.specs.Gaps.{IsGap, SplitsNoToken, ReadsAs}
 use Rattle.file_laws.proofs.Gaps.{gap-between}
 
@@ -19,13 +19,20 @@ reads_as bytes others same allowed short others_short = record {
   fault = ap fault_in (listed same allowed);
 }
   where
+    declares : (a b : List ℕ) → tokens a ≡ tokens b → list_all is_allowed a ≡ list_all is_allowed b → length b ≤ max_len → (l : Listing) → Declares a l → Declares b l
+    declares a b t v le l d = record {
+      form = d.form;
+      spelled = record { short = le; allowed = sym v ∙ d.spelled.allowed; spelled = sym t ∙ d.spelled.spelled; formed = d.spelled.formed; shallow = d.spelled.shallow };
+      valued = d.valued;
+      names = d.names;
+      limits = d.limits;
+      integers = d.integers;
+    }
+
     spells : (a b : List ℕ) → tokens a ≡ tokens b → list_all is_allowed a ≡ list_all is_allowed b → length b ≤ max_len → (l : Listing) → Spells a l → Spells b l
     spells a b t v le l s = record {
-      spelled = record { short = le; allowed = sym v ∙ s.spelled.allowed; spelled = sym t ∙ s.spelled.spelled; shallow = s.spelled.shallow };
-      valued = s.valued;
-      names = s.names;
-      limits = s.limits;
-      integers = s.integers;
+      declared = declares a b t v le l s.declared;
+      upheld = s.upheld;
     }
 
     listed : tokens bytes ≡ tokens others → list_all is_allowed bytes ≡ list_all is_allowed others → listing_at bytes ≡ listing_at others

@@ -8,22 +8,24 @@ use Rattle.std.proofs.lemmas.Bool.{and_parts, leb-true}
 use Rattle.std.proofs.lemmas.Fmt.{length-decimal-le, length_signed_le}
 use Rattle.std.proofs.lemmas.List.Elements.{recursion_from_All}
 use Rattle.std.proofs.lemmas.Option.{slice_get-get_or}
-use Rattle.programs.specs.declared.ast.Fault.TheVariants.{User, Overflow, DivideByZero}
+use Rattle.std.proofs.lemmas.List.{length-map}
+use Rattle.programs.specs.declared.ast.AlwaysId.{AlwaysId}
+use Rattle.programs.specs.declared.ast.Fault.TheVariants.{User, Overflow, DivideByZero, Broken}
 use Rattle.programs.specs.declared.ast.Outcome.{Outcome}
 use Rattle.programs.specs.declared.ast.Outcome.TheVariants.{Returned, Thrown, Retries}
 use Rattle.programs.specs.declared.ast.TaskId.{TaskId}
 use Rattle.programs.specs.declared.ast.TxId.{TxId}
 use Rattle.programs.specs.declared.limits.TheConstants.{MAX_TASKS, MAX_NAME}
 use Rattle.programs.specs.declared.report.Entry.{Entry}
-use Rattle.programs.specs.LawfulReport.{FitsCatalogue}
+use Rattle.programs.specs.LawfulReport.{OutcomeKnown, FitsCatalogue}
 use Rattle.programs.specs.Limits.{limits_hold}
-use Rattle.programs.specs.Listing.{Listing, program_at, tasks}
+use Rattle.programs.specs.Listing.{Listing, always_name, always_names, program_at, tasks}
 use Rattle.programs.specs.Told.{Told}
-use Rattle.programs.specs.Tree.{Program, Skip, Int}
+use Rattle.programs.specs.Tree.{Transaction, Skip, Int}
 use Rattle.programs.proofs.Lawful.{limits_parts, few_tasks, passes_at}
 use Rattle.report_printer.specs.ReportFits.{OutcomeFits, ReportFits}
-use Rattle.report_printer.specs.ReportText.{variable_line, variable_lines, entry_line, task_line, report_text, CountsTasks}
-use Rattle.text_words.specs.Words.{line, outcome_text}
+use Rattle.report_printer.specs.ReportText.{variable_line, variable_lines, outcome_text, entry_line, task_line, report_text, CountsTasks}
+use Rattle.text_words.specs.Words.{line}
 
 number_short : (n : ℕ) → n ≤ 65536 → length (decimal n) ≤ 5
 number_short n h = length-decimal-le 5 n (lit< tt) (omega arith) (omega arith)
@@ -37,18 +39,26 @@ variable_short name v a b c =
     let q = number_short v.1 c in
     simp length-append (omega arith)
 
-outcome_short : (o : Outcome) → OutcomeFits o → length (outcome_text o) ≤ 29
-outcome_short (Returned v) h = let p = value_short v h in omega arith
-outcome_short (Thrown (User v)) h = let p = value_short v h in omega arith
-outcome_short (Thrown Overflow) h = lit≤ tt
-outcome_short (Thrown DivideByZero) h = lit≤ tt
-outcome_short Retries h = lit≤ tt
+-- a condition's name, where there is such a condition
+pub condition_short : (l : Listing) → limits_hold l ≡ true → (id : AlwaysId) → id.0 < length l.always → length (always_name l id) ≤ 32
+condition_short l h id lt =
+    let names = always_names l in
+    let inside : id.0 < length names = rw length-map lt in
+    leb-true _ _ (passes_at (λ (name : List ℕ). nat_le (length name) MAX_NAME) names id.0 (get_or names id.0 []) (limits_parts l h).always_names_fit (slice_get-get_or names id.0 [] inside))
 
-entry_short : (l : Listing) (e : Entry) → length (program_at l e.tx).name ≤ 32 → e.number ≤ 65536 → e.task.0 ≤ 65536 → OutcomeFits e.outcome → length (entry_line l e) ≤ 100
-entry_short l e a b c d =
+outcome_short : (l : Listing) → limits_hold l ≡ true → (o : Outcome) → OutcomeFits o → OutcomeKnown (length l.always) o → length (outcome_text l o) ≤ 38
+outcome_short l limits (Returned v) h k = let p = value_short v h in omega arith
+outcome_short l limits (Thrown (User v)) h k = let p = value_short v h in omega arith
+outcome_short l limits (Thrown Overflow) h k = lit≤ tt
+outcome_short l limits (Thrown DivideByZero) h k = lit≤ tt
+outcome_short l limits (Thrown (Broken id)) h k = let p = condition_short l limits id k in omega arith
+outcome_short l limits Retries h k = lit≤ tt
+
+entry_short : (l : Listing) → limits_hold l ≡ true → (e : Entry) → length (program_at l e.tx).name ≤ 32 → e.number ≤ 65536 → e.task.0 ≤ 65536 → OutcomeFits e.outcome → OutcomeKnown (length l.always) e.outcome → length (entry_line l e) ≤ 100
+entry_short l h e a b c d k =
     let p = number_short e.number b in
     let q = number_short e.task.0 c in
-    let r = outcome_short e.outcome d in
+    let r = outcome_short l h e.outcome d k in
     simp length-append (omega arith)
 
 task_short : (l : Listing) (word : List ℕ) (t : TaskId × TxId) → length word ≤ 6 → length (program_at l t.1).name ≤ 32 → t.0.0 ≤ 65536 → length (task_line l word t) ≤ 100
@@ -77,12 +87,12 @@ variables_short (n ∷ names) (v ∷ vs) a b c =
     let ih = variables_short names vs parts.1 b.1 c.1 in
     omega (arith, length-append (variable_line n v) (variable_lines names vs))
 
-pub name_short : (l : Listing) → limits_hold l ≡ true → (tx : TxId) → tx.0 < length l.programs → length (program_at l tx).name ≤ 32
+pub name_short : (l : Listing) → limits_hold l ≡ true → (tx : TxId) → tx.0 < length l.transactions → length (program_at l tx).name ≤ 32
 name_short l h tx lt =
-    let none : Program = record { name = []; body = Skip; result = Int (pos 0) } in
-    leb-true _ _ (passes_at (λ (p : Program). nat_le (length p.name) MAX_NAME) l.programs tx.0 (get_or l.programs tx.0 none) (limits_parts l h).tx_names (slice_get-get_or l.programs tx.0 none lt))
+    let none : Transaction = record { name = []; body = Skip; result = Int (pos 0) } in
+    leb-true _ _ (passes_at (λ (t : Transaction). nat_le (length t.name) MAX_NAME) l.transactions tx.0 (get_or l.transactions tx.0 none) (limits_parts l h).tx_names (slice_get-get_or l.transactions tx.0 none lt))
 
-tasks_short : (l : Listing) → limits_hold l ≡ true → (word : List ℕ) → length word ≤ 6 → (ts : List (TaskId × TxId)) → All (λ p. (p.0.0 < length (tasks l)) × (p.1.0 < length l.programs)) ts → length (flat_map (task_line l word) ts) ≤ 100 * length ts
+tasks_short : (l : Listing) → limits_hold l ≡ true → (word : List ℕ) → length word ≤ 6 → (ts : List (TaskId × TxId)) → All (λ p. (p.0.0 < length (tasks l)) × (p.1.0 < length l.transactions)) ts → length (flat_map (task_line l word) ts) ≤ 100 * length ts
 tasks_short l h word w ts fits =
     let few = few_tasks l h in
     lines_short (task_line l word) ts
@@ -106,7 +116,7 @@ report_short l r h named fits values counts =
     (number_line_short (codes "base") r.base (lit≤ tt) fits.base)
     (variables_short l.names r.base_vars parts.names (recursion_from_All (λ (v : ℤ × ℕ). FitsSigned w64 v.0) r.base_vars values.base) (recursion_from_All (λ (v : ℤ × ℕ). v.1 ≤ MAX_TASKS) r.base_vars fits.base_versions))
     (lines_short (entry_line l) r.entries (recursion_from_All (λ (e : Entry). length (entry_line l e) ≤ 100) r.entries
-    (λ k d lt. let f = fits.entries k d lt in let inside = f.0 in entry_short l (get_or r.entries k d) (name_short l h (get_or r.entries k d).tx f.1) (fits.numbers k d lt) (omega arith) (values.entries k d lt))))
+    (λ k d lt. let f = fits.entries k d lt in let inside = f.0 in entry_short l h (get_or r.entries k d) (name_short l h (get_or r.entries k d).tx f.1) (fits.numbers k d lt) (omega arith) (values.entries k d lt) (fits.faults k d lt))))
     (number_line_short (codes "now") r.current (lit≤ tt) fits.current)
     (variables_short l.names r.current_vars parts.names (recursion_from_All (λ (v : ℤ × ℕ). FitsSigned w64 v.0) r.current_vars values.current) (recursion_from_All (λ (v : ℤ × ℕ). v.1 ≤ MAX_TASKS) r.current_vars fits.current_versions))
     (tasks_short l h (codes "parked") (lit≤ tt) r.parked fits.parked)

@@ -2,6 +2,7 @@
 #![tactic(auto)]
 
 mod line;
+mod names;
 mod report;
 
 pub use report::{print_report, put_number, put_outcome, put_variables};

@@ -3,14 +3,15 @@
 ghost use Rattle.std.specs.Prelude.{◌≡◌, ℕ, ◌+◌, ◌<◌, ◌≤◌, List, [], ◌∷◌, ◌++◌, length, drop};
 ghost use Rattle.std.specs.Fmt.{decimal, signed_decimal};
 ghost use Rattle.std.specs.Str.{IsUtf8};
-ghost use Rattle.text_words.specs.Words.{outcome_text};
 ghost use Rattle.report_printer.specs.declared.line.TheConstants.{ROOM};
 ghost use Rattle.report_printer.specs.ReportFits.{OutcomeFits};
+ghost use Rattle.report_printer.specs.ReportText.{outcome_text};
 
+use crate::names::always_name;
 use itoa::write_digits;
 use std::marker::Model;
 use std::str;
-use txn::{Fault, Outcome};
+use txn::{Catalogue, Fault, Outcome};
 
 /// How many bytes it has room for: more than a line of a report has.
 const ROOM: usize = 128;
@@ -91,10 +92,10 @@ impl LineEnd {
 
     /// Puts how a transaction ended before it.
     #[inline]
-    pub(crate) fn outcome(&mut self, outcome: Outcome)
-        requires room { length self.old + 30 ≤ 128 }
-        ensures text { self.new ≡ outcome_text outcome ++ self.old }
-        ensures short { length self.new ≤ length self.old + 30 }
+    pub(crate) fn outcome(&mut self, catalogue: &Catalogue, outcome: Outcome)
+        requires room { length self.old + 38 ≤ 128 }
+        ensures text { self.new ≡ outcome_text catalogue.now outcome ++ self.old }
+        ensures short { length self.new ≤ length self.old + 38 }
         ensures fits { OutcomeFits outcome }
     {
         match outcome {
@@ -108,6 +109,10 @@ impl LineEnd {
             }
             Outcome::Thrown(Fault::Overflow) => self.word("overflow"),
             Outcome::Thrown(Fault::DivideByZero) => self.word("zerodiv"),
+            Outcome::Thrown(Fault::Broken(id)) => {
+                self.word(always_name(catalogue, id));
+                self.word("broke ");
+            }
             Outcome::Retries => self.word("retries"),
         }
     }

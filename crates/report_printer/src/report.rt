@@ -6,13 +6,13 @@ ghost use Rattle.std.specs.Int.{w64};
 ghost use Rattle.std.specs.List.{flat_map};
 ghost use Rattle.programs.specs.declared.limits.TheConstants.{MAX_VARIABLES};
 ghost use Rattle.programs.specs.LawfulReport.{FitsCatalogue};
-ghost use Rattle.programs.specs.Listing.{program_at};
 ghost use Rattle.programs.specs.Told.{told};
-ghost use Rattle.text_words.specs.Words.{line, outcome_text};
-ghost use Rattle.report_printer.specs.ReportText.{variable_line, variable_lines, entry_line, task_line, report_text, CountsTasks};
+ghost use Rattle.text_words.specs.Words.{line};
+ghost use Rattle.report_printer.specs.ReportText.{variable_line, variable_lines, outcome_text, entry_line, task_line, report_text, CountsTasks};
 ghost use Rattle.report_printer.specs.ReportFits.{OutcomeFits, OutcomesFit, ReportFits, ValuesFit};
 
 use crate::line::LineEnd;
+use crate::names::tx_name;
 use std::alloc::{AllocError, Global};
 use txn::{Catalogue, Entry, Memory, Outcome, Report, TaskId, TxId, VarId};
 
@@ -109,36 +109,31 @@ pub fn put_variables(
     Ok(())
 }
 
-/// Puts how a transaction ended behind the text.
-pub fn put_outcome(out: &mut String, outcome: Outcome) -> Result<(), AllocError>
-    ensures text { OnOk result (string_bytes out.new ≡ string_bytes out.old ++ outcome_text outcome) }
+/// Puts how a transaction ended behind the text: a standing condition that it broke is told by its
+/// name, and by nothing where the catalogue has no such condition.
+pub fn put_outcome(
+    out: &mut String,
+    catalogue: &Catalogue,
+    outcome: Outcome,
+) -> Result<(), AllocError>
+    ensures text { OnOk result (string_bytes out.new ≡ string_bytes out.old ++ outcome_text catalogue.now outcome) }
     ensures fits { OnOk result (OutcomeFits outcome) }
 {
     let mut end = LineEnd::new();
-    end.outcome(outcome);
+    end.outcome(catalogue, outcome);
     out.push_str(end.text())
 }
 
-/// A transaction's name, which is no longer than a name may be.
-fn short_name(catalogue: &Catalogue, tx: TxId) -> &str
-    requires { tx.0 < length catalogue.now.programs }
-    ensures value { result.now ≡ (program_at catalogue.now tx).name }
-    ensures short { length result.now ≤ 32 }
-{
-    catalogue.rules();
-    catalogue.tx_name(tx)
-}
-
 fn put_entry(out: &mut String, catalogue: &Catalogue, entry: &Entry) -> Result<(), AllocError>
-    requires { entry.now.tx.0 < length catalogue.now.programs }
+    requires { entry.now.tx.0 < length catalogue.now.transactions }
     ensures text { OnOk result (string_bytes out.new ≡ string_bytes out.old ++ entry_line catalogue.now entry.now) }
     ensures fits { OnOk result (OutcomeFits entry.now.outcome) }
 {
     let mut line = LineEnd::new();
     line.byte(b'\n');
-    line.outcome(entry.outcome);
+    line.outcome(catalogue, entry.outcome);
     line.byte(b' ');
-    line.word(short_name(catalogue, entry.tx));
+    line.word(tx_name(catalogue, entry.tx));
     line.byte(b' ');
     line.number(u64::from(entry.task.0));
     line.byte(b' ');
@@ -148,7 +143,7 @@ fn put_entry(out: &mut String, catalogue: &Catalogue, entry: &Entry) -> Result<(
 }
 
 fn put_entries(out: &mut String, catalogue: &Catalogue, entries: &[Entry]) -> Result<(), AllocError>
-    requires { All (λ e. e.tx.0 < length catalogue.now.programs) entries.now }
+    requires { All (λ e. e.tx.0 < length catalogue.now.transactions) entries.now }
     ensures text { OnOk result (string_bytes out.new ≡ string_bytes out.old ++ flat_map (entry_line catalogue.now) entries.now) }
     ensures fits { OnOk result (OutcomesFit entries.now) }
 {
@@ -165,7 +160,7 @@ fn put_task(
     task: TaskId,
     tx: TxId,
 ) -> Result<(), AllocError>
-    requires { tx.0 < length catalogue.now.programs }
+    requires { tx.0 < length catalogue.now.transactions }
     ensures { OnOk result (string_bytes out.new ≡ string_bytes out.old ++ task_line catalogue.now kind.now (task, tx)) }
 {
     let mut middle = LineEnd::new();
@@ -184,7 +179,7 @@ fn put_tasks(
     kind: &str,
     tasks: &[(TaskId, TxId)],
 ) -> Result<(), AllocError>
-    requires { All (λ p. p.1.0 < length catalogue.now.programs) tasks.now }
+    requires { All (λ p. p.1.0 < length catalogue.now.transactions) tasks.now }
     ensures { OnOk result (string_bytes out.new ≡ string_bytes out.old ++ flat_map (task_line catalogue.now kind.now) tasks.now) }
 {
     'tasks: for (task, tx) in tasks {

@@ -1,5 +1,5 @@
 use Rattle.std.proofs.Common.{rules}
-use Rattle.attempt.proofs.Declared.{program_known, program_small}
+use Rattle.attempt_machine.proofs.Declared.{program_known, program_small}
 use Rattle.attempt.proofs.attempt.Attempt.restart.Goals as goal
 
 pub invariant_of-self : goal.invariant_of-self
