@@ -13,8 +13,10 @@ use Rattle.programs.specs.declared.limits.TheConstants.{MAX_TASKS}
 use Rattle.programs.specs.Meaning.{outcome}
 use Rattle.programs.specs.Listing.{Listing, tasks, task_tx, program_at}
 use Rattle.programs.specs.Replay.{Snapshot, Replays, applied, opening, entered, Stands, Once}
+use Rattle.programs.specs.Standing.{Upholds}
+use Rattle.programs.proofs.Faults.{outcome_known}
 use Rattle.programs.specs.Told.{Told, base_of, now_of}
-use Rattle.programs.specs.LawfulReport.{LawfulReport, FitsCatalogue, BaseReached, on_lines, Ascends, HasOwn}
+use Rattle.programs.specs.LawfulReport.{LawfulReport, FitsCatalogue, OutcomeKnown, BaseReached, on_lines, Ascends, HasOwn}
 use Rattle.attempt.specs.Asking.{Known}
 use Rattle.book.specs.declared.task.Task.{Task}
 use Rattle.book.specs.declared.task.Task.TheVariants.{Ready, Running, Parked, Done, GivenUp}
@@ -165,14 +167,14 @@ opening_of l base (e ∷ es) few r = absurd (omega (arith, few))
 
 -- what replay says of each entry
 abbrev Sound : Listing → ℕ → Entry → Type 0
-Sound l most e = (e.number ≤ most) × (e.outcome ≢ Retries) × (e.task.0 < length (tasks l))
+Sound l most e = (e.number ≤ most) × (e.outcome ≢ Retries) × (e.task.0 < length (tasks l)) × OutcomeKnown (length l.always) e.outcome
 
 replays_sound : (l : Listing) (a b : Snapshot) (es : List Entry) (most : ℕ) → Replays l a es b → b.number ≤ most → All (Sound l most) es
 replays_sound l a b [] most r le = All-nil (Sound l most)
 replays_sound l a b (e ∷ es) most r le =
     let n : b.number ≡ (applied l e a).number + length es = replays_number l (applied l e a) b es r.1 in
     All-cons (Sound l most) e es
-    (omega (arith, n, applied_number l e a, le), r.0.ends, slice_get_within (tasks l) e.task.0 e.tx r.0.tx)
+    (omega (arith, n, applied_number l e a, le), r.0.ends, slice_get_within (tasks l) e.task.0 e.tx r.0.tx, subst (OutcomeKnown (length l.always)) (sym r.0.outcome_is) (outcome_known l e.tx a.state))
     (replays_sound l (applied l e a) b es most r.1 le)
 
 module _ (b : BookView) (r : Told) (h : LawfulBook b) (f : BookFits b) (idle : IsIdle b) (is : ReportIs b r) where
@@ -260,8 +262,8 @@ module _ (b : BookView) (r : Told) (h : LawfulBook b) (f : BookFits b) (idle : I
       subst (λ (es : List Entry). All (Sound b.catalogue MAX_TASKS) es) (sym is.entries)
       (replays_sound b.catalogue b.base b.present b.journal MAX_TASKS h.replays (omega (arith, f.counted, f.few)))
 
-  known : All (λ (e : Entry). e.tx.0 < length b.catalogue.programs) r.entries
-  known = subst (λ (es : List Entry). All (λ (e : Entry). e.tx.0 < length b.catalogue.programs) es) (sym is.entries) f.known
+  known : All (λ (e : Entry). e.tx.0 < length b.catalogue.transactions) r.entries
+  known = subst (λ (es : List Entry). All (λ (e : Entry). e.tx.0 < length b.catalogue.transactions) es) (sym is.entries) f.known
 
   of_listed : (so : Task → Bool) (ps : List (TaskId × TxId)) (P : TaskId × TxId → Type 0) → ps ≡ listed so b.catalogue 0 b.tasks → ((k : ℕ) (t : Task) → slice_get b.tasks k ≡ Some t → so t ≡ true → P (pair b.catalogue k)) → All P ps
   of_listed so ps P same p =
@@ -301,6 +303,7 @@ module _ (b : BookView) (r : Told) (h : LawfulBook b) (f : BookFits b) (idle : I
         current_versions = λ k d w. omega (arith, recent k d w, f.counted, f.few);
         numbers = λ k d w. (sound k d w).0;
         ends = λ k d w. (sound k d w).1;
+        faults = λ k d w. (sound k d w).3;
         entries = λ k d w. ((sound k d w).2, known k d w);
         parked = λ k d w. (of_listed is_parked r.parked (λ (p : TaskId × TxId). p.0.0 < length (tasks b.catalogue)) is.parked (λ j u e v. within j u e) k d w, is.known k d w);
         memory = λ k d w. (of_listed is_given_up r.memory (λ (p : TaskId × TxId). p.0.0 < length (tasks b.catalogue)) is.memory (λ j u e v. within j u e) k d w, is.known_memory k d w);
@@ -323,6 +326,7 @@ module _ (b : BookView) (r : Told) (h : LawfulBook b) (f : BookFits b) (idle : I
             (subst (λ (s : Snapshot). Replays cat b.base b.journal s) (sym is.current) h.replays));
         base_versions = λ k d w. omega (arith, base_recent k d w, base_number);
         from_opening = from_opening;
+        upheld = subst (λ (s : Snapshot). Upholds cat s.state) (sym is.base) h.upheld.0;
         parked_own = of_listed is_parked r.parked (λ (p : TaskId × TxId). HasOwn cat p.0 p.1) is.parked (λ k u e v. own k u e);
         memory_own = of_listed is_given_up r.memory (λ (p : TaskId × TxId). HasOwn cat p.0 p.1) is.memory (λ k u e v. own k u e);
         once = once_lines;

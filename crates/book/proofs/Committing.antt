@@ -11,6 +11,8 @@ use Rattle.programs.specs.declared.ast.Outcome.{Outcome}
 use Rattle.programs.specs.declared.ast.Outcome.TheVariants.{Retries}
 use Rattle.programs.specs.Meaning.{State, outcome, after}
 use Rattle.programs.specs.Scope.{ProgramKnown}
+use Rattle.programs.specs.Standing.{Upholds}
+use Rattle.programs.proofs.Standing.{after_upholds}
 use Rattle.programs.specs.Listing.{Listing, tasks, task_tx, task_program, program_at}
 use Rattle.programs.specs.Replay.{Snapshot, Applies, versions_after, applied, opening}
 use Rattle.shared_words.proofs.Words.{last_pushed}
@@ -47,6 +49,7 @@ commit_lawful b task frame h f size at within ends =
     let known : (t : ℕ) → t < length set_tasks → ProgramKnown (length new) (task_program l (record { 0 = t })) = λ t less.
     subst (λ (k : ℕ). ProgramKnown k (task_program l (record { 0 = t }))) (sym (size ∙ f.values)) (f.programs t (omega (arith, less, length-set b.tasks task.0 (Done (b.present.number + 1))))) in
     let state = applied_state l e b.present in
+    let stays : Upholds l new = after_upholds (task_program l task) b.present.state h.upheld.1 in
     record {
       past = h.past;
       reached = h.reached;
@@ -59,6 +62,7 @@ commit_lawful b task frame h f size at within ends =
       own = h.own;
       last = last_pushed b.history new ∙ sym state;
       numbered = omega (arith, length-append b.history (new ∷ []), h.numbered, applied_number l e b.present);
+      upheld = (h.upheld.0, subst (Upholds l) (sym state) stays, All-push (λ m. Upholds l m) b.history new h.upheld.2 stays);
     }
 
 abbrev pub made : BookView → ℕ → List State → List Entry → State → List ℕ → List Task → BookView
@@ -70,7 +74,7 @@ pub record Parts (b : BookView) (task : TaskId) (tx : TxId) (how : Outcome) (his
   pub running : IsRunning b task
   pub own : slice_get (tasks b.catalogue) task.0 ≡ Some tx
   pub tx_is : tx ≡ task_tx b.catalogue task
-  pub known : tx.0 < length b.catalogue.programs
+  pub known : tx.0 < length b.catalogue.transactions
   pub how_is : how ≡ outcome (task_program b.catalogue task) b.present.state
   pub ends : how ≢ Retries
   pub state_is : state ≡ after (task_program b.catalogue task) b.present.state
@@ -122,7 +126,7 @@ module _ (b : BookView) (task : TaskId) (tx : TxId) (how : Outcome) (history : L
   pub committed_fits : BookFits b → BookFits (made b (b.present.number + 1) history journal state versions ts)
   committed_fits f =
       let n = b.present.number + 1 in
-      let K : Entry → Type 0 = λ e. e.tx.0 < length b.catalogue.programs in
+      let K : Entry → Type 0 = λ e. e.tx.0 < length b.catalogue.transactions in
       let long : length (versions_after n b.present.state state b.present.versions) ≡ length b.present.state =
       versions_length n b.present.state state b.present.versions p.size (f.versions ∙ sym f.values) in
       record {

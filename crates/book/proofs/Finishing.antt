@@ -10,9 +10,9 @@ use Rattle.programs.specs.Tree.{Program}
 use Rattle.programs.specs.Listing.{task_program}
 use Rattle.shared_words.specs.Stores.{with_changes}
 use Rattle.programs.specs.Meaning.{Ending, Done, Threw, Retried}
-use Rattle.attempt.specs.declared.evaluate.Halt.{Halt}
-use Rattle.attempt.specs.declared.evaluate.Halt.TheVariants.{Need, Fails}
-use Rattle.attempt.specs.Asking.{Known, ask, Ends, answer_by, answer_of, see_run, see_value}
+use Rattle.attempt_machine.specs.declared.evaluate.Halt.{Halt}
+use Rattle.attempt_machine.specs.declared.evaluate.Halt.TheVariants.{Need, Fails}
+use Rattle.attempt.specs.Asking.{Known, ask, Ends, answer_by, answer_of, see_run, see_final}
 use Rattle.attempt.specs.Frame.{Agrees, store}
 use Rattle.attempt.specs.Order.{AllKnown, Ascending}
 use Rattle.attempt.specs.View.{AttemptView, Answers, HoldsAt, idle, next_of}
@@ -65,7 +65,7 @@ by_ending (Threw (Fails f)) result v h = absurd (cc)
 by_ending Retried result v h = let same : [] ≡ v = cc in sym same
 
 none_written : (t : Program) (log v : Known) → ask t log ≡ Ends Retries v → v ≡ []
-none_written t log v e = by_ending (see_run t.body log []) (see_value t.result log) v e
+none_written t log v e = by_ending (see_run t.body log []) (see_final t log) v e
 
 module _ (b : BookView) (task : TaskId) (a new : AttemptView) (r : Next) (h : Ended b task a new r) where
   answered : (r ≡ next_of h.end.ended.0) × (new ≡ idle a)

@@ -1,5 +1,5 @@
 -- What the fields keep through a change of one task, at a checkpoint, and at the opening.
-use Rattle.std.proofs.Common.{◌≡◌, ◌≢◌, Vec, Global, ◌+◌, ◌++◌, ℕ, zero, suc, replicate, ◌<◌, ◌≤◌, List, [], ◌∷◌, length, map, Option, Some, None, set, refl, sym, ◌∙◌, ap, subst, arith, vec_capacity}
+use Rattle.std.proofs.Common.{◌≡◌, Vec, Global, ℕ, zero, suc, replicate, ◌<◌, ◌≤◌, List, [], ◌∷◌, length, map, Option, Some, None, set, refl, sym, ◌∙◌, ap, subst, arith, vec_capacity}
 use Rattle.std.specs.List.{slice_get, All}
 use Rattle.std.proofs.lemmas.List.{length-set, length-map, length-replicate}
 use Rattle.std.proofs.lemmas.List.Elements.{All-nil, All-replicate}
@@ -9,6 +9,7 @@ use Rattle.programs.specs.declared.limits.TheConstants.{MAX_TASKS, MAX_VARIABLES
 use Rattle.programs.specs.Meaning.{State}
 use Rattle.programs.specs.Scope.{ProgramKnown}
 use Rattle.programs.specs.Listing.{Listing, tasks, task_program}
+use Rattle.programs.specs.Standing.{Upholds}
 use Rattle.programs.specs.Replay.{Snapshot, opening}
 use Rattle.book.specs.declared.task.Task.{Task}
 use Rattle.book.specs.declared.task.Task.TheVariants.{Ready, Running, Parked}
@@ -66,7 +67,7 @@ fits_opened l cells few few_variables known =
       recent = none;
       base_recent = none;
       few_variables = few_variables;
-      known = All-nil (λ (e : Entry). e.tx.0 < length l.programs);
+      known = All-nil (λ (e : Entry). e.tx.0 < length l.transactions);
       programs = λ t less. known t (omega (arith, less, size));
       counted = omega (arith, open_count-ready (length (tasks l)), size);
     }
@@ -90,7 +91,7 @@ fits_checkpoint b h =
       base_versions = h.versions;
       recent = h.recent;
       base_recent = h.recent;
-      known = All-nil (λ (e : Entry). e.tx.0 < length b.catalogue.programs);
+      known = All-nil (λ (e : Entry). e.tx.0 < length b.catalogue.transactions);
       programs = h.programs;
       counted = h.counted;
     }
@@ -115,13 +116,13 @@ new_is b n =
     ∙ (ap (λ (y : Snapshot). made b.cells.now (l.initial ∷ []) (opening l) [] y b.board.tasks) n.present
     ∙ ap (λ (t : List Task). made b.cells.now (l.initial ∷ []) (opening l) [] (opening l) t) n.tasks))))
 
-pub kept_opened : (b : Inside) → IsNew b → length (tasks b.catalogue.now) ≤ MAX_TASKS → length b.catalogue.now.initial ≤ MAX_VARIABLES → AllKnow b.catalogue.now → length (tasks b.catalogue.now) ≤ vec_capacity b.journal → length b.catalogue.now.initial ≤ vec_capacity b.changes → b.board.variables ≡ length b.catalogue.now.initial → IsKept b
-kept_opened b n few few_variables known room changes_room variables =
+pub kept_opened : (b : Inside) → IsNew b → length (tasks b.catalogue.now) ≤ MAX_TASKS → length b.catalogue.now.initial ≤ MAX_VARIABLES → AllKnow b.catalogue.now → Upholds b.catalogue.now b.catalogue.now.initial → length (tasks b.catalogue.now) ≤ vec_capacity b.journal → length b.catalogue.now.initial ≤ vec_capacity b.changes → b.board.variables ≡ length b.catalogue.now.initial → IsKept b
+kept_opened b n few few_variables known stands room changes_room variables =
     let l = b.catalogue.now in
     let is = new_is b n in
     let size : length b.board.tasks ≡ length (tasks l) = ap length n.tasks ∙ length-replicate (length (tasks l)) Ready in
     record {
-      lawful = subst LawfulBook (sym is) (lawful_opened l b.cells.now);
+      lawful = subst LawfulBook (sym is) (lawful_opened l b.cells.now stands);
       fits = subst BookFits (sym is) (fits_opened l b.cells.now few few_variables known);
       room = omega (arith, room, size);
       changes_room = changes_room;

@@ -1,13 +1,15 @@
 -- The steps of a book keep it lawful.
-use Rattle.std.proofs.Common.{◌≡◌, ◌≢◌, inl, inr, ℕ, zero, suc, ◌+◌, ◌<◌, List, [], ◌∷◌, ◌++◌, length, Some, set, refl, sym, ◌∙◌, ap, subst, arith}
+use Rattle.std.proofs.Common.{◌≡◌, ◌≢◌, inl, inr, ℕ, zero, suc, ◌+◌, List, [], ◌∷◌, ◌++◌, length, Some, set, refl, sym, ◌∙◌, ap, subst, arith}
 use Rattle.std.specs.List.{slice_get}
-use Rattle.std.proofs.lemmas.List.{map-append, append-nil, length-map, set_past}
+use Rattle.std.proofs.lemmas.List.{map-append, append-nil, length-map}
+use Rattle.std.proofs.lemmas.List.Elements.{All-nil, All-cons}
 use Rattle.std.proofs.lemmas.Bool.{cases_eq}
-use Rattle.std.proofs.lemmas.Option.{same_Some, slice_get_cases}
+use Rattle.std.proofs.lemmas.Option.{same_Some}
 use Rattle.programs.specs.declared.ast.TaskId.{TaskId}
 use Rattle.programs.specs.declared.report.Entry.{Entry}
 use Rattle.programs.specs.Meaning.{State}
 use Rattle.programs.specs.Listing.{Listing, tasks}
+use Rattle.programs.specs.Standing.{Upholds}
 use Rattle.programs.specs.Replay.{Snapshot, Replays, applied, opening, entered}
 use Rattle.attempt.specs.Asking.{Known}
 use Rattle.cells.specs.Cells.{CellsId}
@@ -72,6 +74,7 @@ stands_lawful b task was is h at not_was not_is not_parked =
       own = h.own;
       last = h.last;
       numbered = h.numbered;
+      upheld = h.upheld;
     }
 
 parked_more : (l : Listing) (state : State) (ts : List Task) (task : TaskId) (log : Known) → AreParked l state ts → slice_get ts task.0 ≡ Some Running → Waits l state task log → AreParked l state (set ts task.0 (Parked log))
@@ -95,6 +98,7 @@ parks_lawful b task log h at waits =
       own = h.own;
       last = h.last;
       numbered = h.numbered;
+      upheld = h.upheld;
     }
 
 -- the journal becomes part of the past
@@ -109,6 +113,7 @@ checkpoint_lawful b h =
       own = h.own;
       last = h.last;
       numbered = h.numbered;
+      upheld = (h.upheld.1, h.upheld.1, h.upheld.2);
     }
 
 -- a running task is entered
@@ -147,8 +152,8 @@ open_count-set (x ∷ xs) zero was is h =
     omega (arith, ap open_one e)
 open_count-set (x ∷ xs) (suc t) was is h = omega (arith, open_count-set xs t was is h)
 
-pub lawful_opened : (l : Listing) (cells : CellsId) → LawfulBook (opened l cells)
-lawful_opened l cells =
+pub lawful_opened : (l : Listing) (cells : CellsId) → Upholds l l.initial → LawfulBook (opened l cells)
+lawful_opened l cells u =
     record {
       past = [];
       reached = refl;
@@ -161,4 +166,5 @@ lawful_opened l cells =
       own = refl;
       last = refl;
       numbered = refl;
+      upheld = (u, u, All-cons (λ m. Upholds l m) l.initial [] u (All-nil (λ m. Upholds l m)));
     }

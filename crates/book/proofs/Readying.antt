@@ -4,7 +4,6 @@ use Rattle.std.specs.List.{slice_get}
 use Rattle.std.proofs.lemmas.List.{length-map, set-get_or}
 use Rattle.std.proofs.lemmas.List.Edits.{map_over_more}
 use Rattle.std.proofs.lemmas.Option.{slice_get-get_or, get_or_from_slice_get}
-use Rattle.programs.specs.declared.ast.TaskId.{TaskId}
 use Rattle.attempt.specs.Asking.{Known}
 use Rattle.book.specs.declared.task.Task.{Task}
 use Rattle.book.specs.declared.task.Task.TheVariants.{Ready, Running, Parked, Done, GivenUp}
@@ -51,6 +50,7 @@ readied_lawful b h =
       own = h.own;
       last = h.last;
       numbered = h.numbered;
+      upheld = h.upheld;
     }
 
 open-readied_one : (t : Task) → open_one (readied_one t) ≡ open_one t

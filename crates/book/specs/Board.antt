@@ -5,7 +5,6 @@ use Rattle.programs.specs.declared.ast.VarId.{VarId}
 use Rattle.programs.specs.declared.ast.TaskId.{TaskId}
 use Rattle.shared_words.specs.Stores.{Change}
 use Rattle.attempt.specs.Asking.{Known}
-use Rattle.attempt.specs.Order.{AllKnown}
 use Rattle.book.specs.declared.task.Task.{Task}
 use Rattle.book.specs.declared.task.Task.TheVariants.{Ready, Running, Parked, Done, GivenUp}
 

@@ -1,5 +1,5 @@
 -- What a book keeps at all times: its journal explains every value, each task is in it at most once, parked programs
--- retry, and what was published last is the present.
+-- retry, what was published last is the present, and no state breaks a standing condition.
 use Rattle.std.specs.Prelude.{◌≡◌, ℕ, ◌+◌, ◌<◌, ◌≤◌, List, [], ◌∷◌, ◌++◌, length, Some, slice_get, All}
 use Rattle.programs.specs.declared.ast.TaskId.{TaskId}
 use Rattle.programs.specs.declared.report.Entry.{Entry}
@@ -7,6 +7,7 @@ use Rattle.programs.specs.declared.ast.Outcome.TheVariants.{Retries}
 use Rattle.programs.specs.declared.limits.TheConstants.{MAX_TASKS, MAX_VARIABLES}
 use Rattle.programs.specs.Meaning.{State, outcome}
 use Rattle.programs.specs.Scope.{ProgramKnown}
+use Rattle.programs.specs.Standing.{Upholds}
 use Rattle.programs.specs.Listing.{Listing, tasks, task_program}
 use Rattle.programs.specs.Replay.{Replays, opening, entered}
 use Rattle.shared_words.specs.Words.{last_state}
@@ -32,6 +33,11 @@ pub record Waits (l : Listing) (state : State) (task : TaskId) (log : Known) : T
 abbrev pub AreParked : Listing → State → List Task → Type 0
 AreParked l state ts = (t : ℕ) (log : Known) → slice_get ts t ≡ Some (Parked log) → Waits l state (record { 0 = t }) log
 
+-- each standing condition is true of the base, of the present, and of every state that was published
+abbrev pub KeepsConditions : BookView → Type 0
+KeepsConditions b =
+    Upholds b.catalogue b.base.state × Upholds b.catalogue b.present.state × All (λ m. Upholds b.catalogue m) b.history
+
 pub record LawfulBook (b : BookView) : Type 0 where
   -- the entries before the base
   pub past : List Entry
@@ -43,6 +49,7 @@ pub record LawfulBook (b : BookView) : Type 0 where
   pub own : b.published_to ≡ b.cells
   pub last : last_state b.history ≡ b.present.state
   pub numbered : length b.history ≡ b.present.number + 1
+  pub upheld : KeepsConditions b
 
 -- 1 for a task that has not committed
 abbrev pub open_one : Task → ℕ
@@ -68,7 +75,7 @@ pub record BookFits (b : BookView) : Type 0 where
   pub base_versions : length b.base.versions ≡ length b.catalogue.initial
   pub recent : All (λ v. v ≤ b.present.number) b.present.versions
   pub base_recent : All (λ v. v ≤ b.base.number) b.base.versions
-  pub known : All (λ (e : Entry). e.tx.0 < length b.catalogue.programs) b.journal
+  pub known : All (λ (e : Entry). e.tx.0 < length b.catalogue.transactions) b.journal
   -- each task's program names only variables of the catalogue
   pub programs : (t : ℕ) → t < length b.tasks → ProgramKnown (length b.catalogue.initial) (task_program b.catalogue (record { 0 = t }))
   -- a task is counted by the number, or is still open

@@ -145,5 +145,5 @@ pub record ReportIs (b : BookView) (r : Told) : Type 0 where
   pub current : now_of r ≡ b.present
   pub parked : r.parked ≡ listed is_parked b.catalogue 0 b.tasks
   pub memory : r.memory ≡ listed is_given_up b.catalogue 0 b.tasks
-  pub known : All (λ p. p.1.0 < length b.catalogue.programs) r.parked
-  pub known_memory : All (λ p. p.1.0 < length b.catalogue.programs) r.memory
+  pub known : All (λ p. p.1.0 < length b.catalogue.transactions) r.parked
+  pub known_memory : All (λ p. p.1.0 < length b.catalogue.transactions) r.memory

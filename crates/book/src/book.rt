@@ -23,8 +23,9 @@ use txn::{Catalogue, Entry, Memory, Outcome, Report, TaskId, VarId};
 
 /// The tasks of a catalogue, the journal of those that committed, and the present values. A
 /// clause sees a `BookView`. At all times the journal replays from the base to the present, no
-/// task is entered twice, the program of each parked task retries on the present values, and the
-/// present values are the last state that was published.
+/// task is entered twice, the program of each parked task retries on the present values, the
+/// present values are the last state that was published, and every state keeps the standing
+/// conditions.
 #[derive(Drop)]
 pub struct Book<'a> {
     catalogue: &'a Catalogue,
@@ -63,7 +64,7 @@ impl<'a> Book<'a> {
     ghost use Rattle.programs.specs.Told.{told};
     ghost use Rattle.book.specs.View.{opened, IsRunning, stands, committed, checkpointed};
     ghost use Rattle.book.specs.Turns.{Taken, IsEndOf, Finished, IsLeft, Served, Turn, Drains, kept_short, readied, IsIdle, ReportIs};
-    ghost use Rattle.book.specs.LawfulBook.{LawfulBook, BookFits, Waits};
+    ghost use Rattle.book.specs.LawfulBook.{LawfulBook, BookFits, KeepsConditions, Waits};
 
     /// All tasks ready, number 0, the initial values, an empty journal. `Memory` only where a
     /// growth was refused.
@@ -291,10 +292,12 @@ impl<'a> Book<'a> {
         })
     }
 
-    /// What every book keeps. It does nothing: its contract is the law.
+    /// What every book keeps: among it, that no state it holds or published breaks a standing
+    /// condition. It does nothing: its contract is the law.
     pub fn law(&self)
         ensures lawful { LawfulBook self.now }
         ensures fits { BookFits self.now }
+        ensures upheld { KeepsConditions self.now }
     {
         let _ = &self.board;
     }

@@ -13,7 +13,7 @@ pub fn evaluate<'c>(
     tx: TxId,
     values: &[i64],
 ) -> Result<(), Memory>
-    requires known { tx.0 < length catalogue.now.programs }
+    requires known { tx.0 < length catalogue.now.transactions }
     requires values { length values.now ≡ length catalogue.now.initial }
     ensures { OnOk result (EndsOn catalogue.now tx values.now attempt.new) }
 {

@@ -1,6 +1,7 @@
 //! The book: how each task stands, the journal of those that committed, and the present values,
 //! which it publishes to the cells. Whatever is called in whatever order, the journal replays to
-//! exactly the present values and versions, no task is entered twice, and parked programs retry.
+//! exactly the present values and versions, no task is entered twice, parked programs retry, and no
+//! state breaks a standing condition.
 #![tactic(auto)]
 
 mod board;

@@ -16,7 +16,7 @@ pub fn parked(
 ) -> Result<Vec<(TaskId, TxId)>, AllocError>
     requires { length tasks.now ≡ length (listed_tasks catalogue.now) }
     ensures tasks { IfOk result (λ v. v.items ≡ listed is_parked catalogue.now 0 tasks.now) }
-    ensures known { IfOk result (λ v. All (λ p. p.1.0 < length catalogue.now.programs) v.items) }
+    ensures known { IfOk result (λ v. All (λ p. p.1.0 < length catalogue.now.transactions) v.items) }
 {
     let mut found = Vec::new(alloc);
     for i in 0..catalogue.tasks() {
@@ -36,7 +36,7 @@ pub fn given_up(
 ) -> Result<Vec<(TaskId, TxId)>, AllocError>
     requires { length tasks.now ≡ length (listed_tasks catalogue.now) }
     ensures tasks { IfOk result (λ v. v.items ≡ listed is_given_up catalogue.now 0 tasks.now) }
-    ensures known { IfOk result (λ v. All (λ p. p.1.0 < length catalogue.now.programs) v.items) }
+    ensures known { IfOk result (λ v. All (λ p. p.1.0 < length catalogue.now.transactions) v.items) }
 {
     let mut found = Vec::new(alloc);
     for i in 0..catalogue.tasks() {

@@ -14,14 +14,15 @@ use std::alloc::Global;
 use text_words::ReadFault;
 use txn::{BuildFault, Catalogue};
 
-/// The catalogue of the parts, or which of names and limits does not hold.
+/// The catalogue of the parts, or which of names, limits and conditions does not hold.
 fn built(alloc: Global, parts: Parts) -> Result<Catalogue, ReadFault>
     ensures { Gives (λ c. c) result (lawful (view_parts parts)) }
 {
-    match Catalogue::build(alloc, parts.vars, parts.txs, parts.runs) {
+    match Catalogue::build(alloc, parts.vars, parts.always, parts.txs, parts.runs) {
         Ok(catalogue) => Ok(catalogue),
         Err(BuildFault::Name) => Err(ReadFault::Name),
         Err(BuildFault::Limit) => Err(ReadFault::Limit),
+        Err(BuildFault::Broken) => Err(ReadFault::Broken),
         Err(BuildFault::Memory) => Err(ReadFault::Memory),
     }
 }
@@ -37,10 +38,11 @@ fn read(alloc: Global, bytes: &[u8]) -> Result<Catalogue, ReadFault>
 
 /// Reads a file. It is `Ok` exactly where the bytes spell a catalogue by the rules of the
 /// language: at most 1,048,576 bytes, a reading by the grammar with at most 32 parentheses open at
-/// a time, names declared once and before nothing else is asked of them, and all limits kept.
-/// Otherwise the fault is the first of `TooLong`, `BadByte`, `Shape`, `Name` and `Limit` that
-/// applies, each judged over all the bytes before the next is. `Memory` may come in place of any
-/// answer, where a growth was refused. It takes time and memory linear in the input.
+/// a time, names declared once and before nothing else is asked of them, all limits kept, and each
+/// standing condition true of the initial values. Otherwise the fault is the first of `TooLong`,
+/// `BadByte`, `Shape`, `Name`, `Limit` and `Broken` that applies, each judged over all the bytes
+/// before the next is. `Memory` may come in place of any answer, where a growth was refused. It
+/// takes time and memory linear in the input.
 pub fn read_file(alloc: Global, bytes: &[u8]) -> Result<Catalogue, ReadFault>
     // What is read is spelled so.
     ensures found { IfOk result (λ c. Spells bytes.now c) }

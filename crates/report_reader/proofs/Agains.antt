@@ -1,14 +1,16 @@
 -- The words of a report that fits the catalogue tell that report.
-use Rattle.std.proofs.Common.{◌≡◌, ◌≢◌, ◌∙◌, ℕ, suc, ◌+◌, ◌<◌, ◌≤◌, ◌^◌, Bool, true, List, [], ◌∷◌, ◌++◌, length, map, Result, Ok, refl, sym, ap, arith}
+use Rattle.std.proofs.Common.{◌≡◌, ◌≢◌, ◌∙◌, ℕ, suc, ◌+◌, ◌<◌, ◌≤◌, ◌^◌, Bool, true, List, [], ◌∷◌, ◌++◌, length, map, get_or, Result, Ok, refl, sym, ap, arith}
 use Rattle.std.specs.Prelude.{ℤ, pos, negsuc, FitsSigned, codes, is_some}
 use Rattle.std.specs.Int.{w64}
 use Rattle.std.specs.Fmt.{decimal, signed_decimal}
 use Rattle.std.specs.List.{flat_map, list_all, AllByRecursion}
 use Rattle.std.proofs.lemmas.Bool.{and_parts, and_from, lt-ltb}
+use Rattle.std.proofs.lemmas.List.{length-map}
 use Rattle.std.proofs.lemmas.List.Elements.{recursion_from_All}
 use Rattle.std.proofs.lemmas.Option.{slice_get-get_or}
 use Rattle.std.proofs.lemmas.Slice.Eq.{bytes_eq-Decides}
 use Rattle.programs.specs.Arithmetic.{fits}
+use Rattle.programs.specs.declared.ast.AlwaysId.{AlwaysId}
 use Rattle.programs.specs.declared.ast.TaskId.{TaskId}
 use Rattle.programs.specs.declared.ast.TxId.{TxId}
 use Rattle.programs.specs.declared.ast.Fault.TheVariants as fault
@@ -16,22 +18,22 @@ use Rattle.programs.specs.declared.ast.Outcome.{Outcome}
 use Rattle.programs.specs.declared.ast.Outcome.TheVariants as outcome
 use Rattle.programs.specs.declared.limits.TheConstants.{MAX_TASKS}
 use Rattle.programs.specs.declared.report.Entry as told
-use Rattle.programs.specs.LawfulReport.{FitsCatalogue}
-use Rattle.programs.specs.Listing.{Listing, tasks, program_at}
+use Rattle.programs.specs.LawfulReport.{OutcomeKnown, FitsCatalogue}
+use Rattle.programs.specs.Listing.{Listing, always_name, always_names, tasks, program_at}
 use Rattle.programs.specs.Names.{is_name, names_hold}
 use Rattle.programs.specs.Told.{Told}
-use Rattle.programs.specs.Tree.{Program, Skip, Int}
+use Rattle.programs.specs.Tree.{Transaction, Skip, Int}
 use Rattle.programs.proofs.Lawful.{names_parts, passes_at}
 use Rattle.text_words.specs.Bytes.{int_value}
 use Rattle.report_printer.specs.ReportFits.{OutcomeFits, ReportFits}
-use Rattle.report_printer.specs.ReportText.{variable_line, variable_lines, entry_line, task_line, report_text}
+use Rattle.report_printer.specs.ReportText.{variable_line, variable_lines, outcome_text, entry_line, task_line, report_text}
 use Rattle.text_words.specs.Numbers.{number_of}
-use Rattle.text_words.specs.Words.{line, outcome_text}
+use Rattle.text_words.specs.Words.{line}
 use Rattle.text_words.specs.declared.fault.ReadFault.{ReadFault}
-use Rattle.report_reader.specs.Raw.{Variable, Ending, Returned, Threw, Overflow, DivideByZero, Entry, Task, Raw, is_number, variable_words, ending_words, entry_words, task_words, raw_text, IsVariable, IsEnding, IsEntry, IsTask, IsRaw}
-use Rattle.report_reader.specs.Resolving.{below, named_as, is_known, entries_known, tasks_known, variables_known, transactions_known, names_known, count_in, task_id, variable_told, outcome_told, entry_told, task_told, each, told_of, resolved}
+use Rattle.report_reader.specs.Raw.{Variable, Ending, Returned, Threw, Overflow, DivideByZero, Broke, Entry, Task, Raw, is_number, variable_words, ending_words, entry_words, task_words, raw_text, IsVariable, IsEnding, IsEntry, IsTask, IsRaw}
+use Rattle.report_reader.specs.Resolving.{below, named_as, is_known, entries_known, tasks_known, variables_known, transactions_known, condition_known, conditions_known, names_known, count_in, task_id, variable_told, outcome_told, entry_told, task_told, each, told_of, resolved}
 use Rattle.report_reader.proofs.Numbers.{decimal_number, decimal_value, int_printed, printed_value, below_is}
-use Rattle.report_reader.proofs.Places.{tx_named, tx_again}
+use Rattle.report_reader.proofs.Places.{tx_named, tx_again, condition_is, always_again}
 
 -- ---- words
 
@@ -53,13 +55,19 @@ task_id_again l task few lt = rw (decimal_value task.0 (omega arith), below_is (
 pub small : (n : ℕ) → n ≤ MAX_TASKS → is_number (decimal n) ≡ true
 small n h = decimal_number n (omega arith)
 
-abbrev nothing : Program
+abbrev nothing : Transaction
 nothing = record { name = []; body = Skip; result = Int (pos 0) }
 
-tx_is_name : (l : Listing) (tx : TxId) → names_hold l ≡ true → tx.0 < length l.programs → is_name (program_at l tx).name ≡ true
-tx_is_name l tx h lt = passes_at (λ (t : Program). is_name t.name) l.programs tx.0 (program_at l tx) (names_parts l h).tx_forms (slice_get-get_or l.programs tx.0 nothing lt)
+tx_is_name : (l : Listing) (tx : TxId) → names_hold l ≡ true → tx.0 < length l.transactions → is_name (program_at l tx).name ≡ true
+tx_is_name l tx h lt = passes_at (λ (t : Transaction). is_name t.name) l.transactions tx.0 (get_or l.transactions tx.0 nothing) (names_parts l h).tx_forms (slice_get-get_or l.transactions tx.0 nothing lt)
 
-tx_is_known : (l : Listing) (tx : TxId) → names_hold l ≡ true → tx.0 < length l.programs → is_known l (program_at l tx).name ≡ true
+condition_is_name : (l : Listing) (id : AlwaysId) → names_hold l ≡ true → id.0 < length l.always → is_name (always_name l id) ≡ true
+condition_is_name l id h lt =
+    let names = always_names l in
+    let inside : id.0 < length names = rw length-map lt in
+    passes_at is_name names id.0 (always_name l id) (names_parts l h).always_forms (slice_get-get_or names id.0 [] inside)
+
+tx_is_known : (l : Listing) (tx : TxId) → names_hold l ≡ true → tx.0 < length l.transactions → is_known l (program_at l tx).name ≡ true
 tx_is_known l tx h lt = ap is_some (tx_named l tx h lt)
 
 -- ---- variables
@@ -97,39 +105,45 @@ variables_again (name ∷ names) (x ∷ xs) count forms values versions =
 
 -- ---- entries
 
-pub written_ending : Outcome → Ending
-written_ending (outcome.Returned v) = Returned (signed_decimal v)
-written_ending (outcome.Thrown (fault.User v)) = Threw (signed_decimal v)
-written_ending (outcome.Thrown fault.Overflow) = Overflow
-written_ending (outcome.Thrown fault.DivideByZero) = DivideByZero
-written_ending outcome.Retries = Overflow
+pub written_ending : Listing → Outcome → Ending
+written_ending l (outcome.Returned v) = Returned (signed_decimal v)
+written_ending l (outcome.Thrown (fault.User v)) = Threw (signed_decimal v)
+written_ending l (outcome.Thrown fault.Overflow) = Overflow
+written_ending l (outcome.Thrown fault.DivideByZero) = DivideByZero
+written_ending l (outcome.Thrown (fault.Broken id)) = Broke (always_name l id)
+written_ending l outcome.Retries = Overflow
 
-record OutcomeAgain (o : Outcome) : Type 0 where
-  words : IsEnding (written_ending o)
-  told : outcome_told (written_ending o) ≡ Ok o
-  text : (word : List ℕ) → line (word ∷ outcome_text o ∷ []) ≡ line (word ∷ ending_words (written_ending o))
+record OutcomeAgain (l : Listing) (o : Outcome) : Type 0 where
+  words : IsEnding (written_ending l o)
+  known : condition_known l (written_ending l o) ≡ true
+  told : outcome_told l (written_ending l o) ≡ Ok o
+  text : (word : List ℕ) → line (word ∷ outcome_text l o ∷ []) ≡ line (word ∷ ending_words (written_ending l o))
 
-outcome_again : (o : Outcome) → OutcomeFits o → o ≢ outcome.Retries → OutcomeAgain o
+outcome_again : (l : Listing) → names_hold l ≡ true → (o : Outcome) → OutcomeFits o → OutcomeKnown (length l.always) o → o ≢ outcome.Retries → OutcomeAgain l o
 unfolding written_ending
-outcome_again (outcome.Returned v) f ends = record { words = int_printed v f; told = rw (value_again v f) refl; text = λ word. refl }
-outcome_again (outcome.Thrown (fault.User v)) f ends = record { words = int_printed v f; told = rw (value_again v f) refl; text = λ word. refl }
-outcome_again (outcome.Thrown fault.Overflow) f ends = record { words = tt; told = refl; text = λ word. refl }
-outcome_again (outcome.Thrown fault.DivideByZero) f ends = record { words = tt; told = refl; text = λ word. refl }
-outcome_again outcome.Retries f ends = absurd (ends refl)
+outcome_again l names (outcome.Returned v) f k ends = record { words = int_printed v f; known = refl; told = rw (value_again v f) refl; text = λ word. refl }
+outcome_again l names (outcome.Thrown (fault.User v)) f k ends = record { words = int_printed v f; known = refl; told = rw (value_again v f) refl; text = λ word. refl }
+outcome_again l names (outcome.Thrown fault.Overflow) f k ends = record { words = tt; known = refl; told = refl; text = λ word. refl }
+outcome_again l names (outcome.Thrown fault.DivideByZero) f k ends = record { words = tt; known = refl; told = refl; text = λ word. refl }
+outcome_again l names (outcome.Thrown (fault.Broken id)) f k ends =
+    record { words = condition_is_name l id names k; known = ap is_some (condition_is l id names k); told = rw (always_again l id names k) refl; text = λ word. refl }
+outcome_again l names outcome.Retries f k ends = absurd (ends refl)
 
 abbrev written_entry : Listing → told.Entry → Entry
-written_entry l e = record { number = decimal e.number; task = decimal e.task.0; name = (program_at l e.tx).name; ending = written_ending e.outcome }
+written_entry l e = record { number = decimal e.number; task = decimal e.task.0; name = (program_at l e.tx).name; ending = written_ending l e.outcome }
 
 -- an entry that fits the catalogue
 record EntryFits (l : Listing) (e : told.Entry) : Type 0 where
   number : e.number ≤ MAX_TASKS
   ends : e.outcome ≢ outcome.Retries
-  ids : (e.task.0 < length (tasks l)) × (e.tx.0 < length l.programs)
+  ids : (e.task.0 < length (tasks l)) × (e.tx.0 < length l.transactions)
   value : OutcomeFits e.outcome
+  fault_known : OutcomeKnown (length l.always) e.outcome
 
 record EntryAgain (l : Listing) (e : told.Entry) : Type 0 where
   words : IsEntry (written_entry l e)
   known : is_known l (written_entry l e).name ≡ true
+  condition : condition_known l (written_entry l e).ending ≡ true
   told : entry_told l (written_entry l e) ≡ Ok e
   text : entry_line l e ≡ line (entry_words (written_entry l e))
 
@@ -137,10 +151,11 @@ entry_again : (l : Listing) (e : told.Entry) → names_hold l ≡ true → lengt
 unfolding entry_told
 entry_again l e names few f =
     let task_known = f.ids.0 in
-    let o = outcome_again e.outcome f.value f.ends in
+    let o = outcome_again l names e.outcome f.value f.fault_known f.ends in
     record {
       words = record { number = small e.number f.number; task = small e.task.0 (omega arith); name = tx_is_name l e.tx names f.ids.1; ending = o.words };
       known = tx_is_known l e.tx names f.ids.1;
+      condition = o.known;
       told = rw (count_again e.number f.number, task_id_again l e.task few f.ids.0, tx_again l e.tx names f.ids.1, o.told) refl;
       text = ap (λ (t : List ℕ). codes "entry" ++ (codes " " ++ (decimal e.number ++ (codes " " ++ (decimal e.task.0 ++ (codes " " ++ t)))))) (o.text (program_at l e.tx).name);
     }
@@ -151,7 +166,7 @@ abbrev written_task : Listing → TaskId × TxId → Task
 written_task l t = record { task = decimal t.0.0; name = (program_at l t.1).name }
 
 abbrev IdsFit : Listing → TaskId × TxId → Type 0
-IdsFit l t = (t.0.0 < length (tasks l)) × (t.1.0 < length l.programs)
+IdsFit l t = (t.0.0 < length (tasks l)) × (t.1.0 < length l.transactions)
 
 record TaskAgain (l : Listing) (t : TaskId × TxId) : Type 0 where
   words : IsTask (written_task l t)
@@ -187,9 +202,9 @@ text_again P w f g same [] h = refl
 text_again P w f g same (y ∷ ys) h = ap (λ (t : List ℕ). t ++ flat_map f ys) (same y h.0) ∙ ap (λ (t : List ℕ). g (w y) ++ t) (text_again P w f g same ys h.1)
 
 entries_fit : (l : Listing) (es : List told.Entry) → AllByRecursion (λ (e : told.Entry). e.number ≤ MAX_TASKS) es → AllByRecursion (λ (e : told.Entry). e.outcome ≢ outcome.Retries) es
-    → AllByRecursion (λ (e : told.Entry). (e.task.0 < length (tasks l)) × (e.tx.0 < length l.programs)) es → AllByRecursion (λ (e : told.Entry). OutcomeFits e.outcome) es → AllByRecursion (EntryFits l) es
-entries_fit l [] a b c d = tt
-entries_fit l (e ∷ es) a b c d = (record { number = a.0; ends = b.0; ids = c.0; value = d.0 }, entries_fit l es a.1 b.1 c.1 d.1)
+    → AllByRecursion (λ (e : told.Entry). (e.task.0 < length (tasks l)) × (e.tx.0 < length l.transactions)) es → AllByRecursion (λ (e : told.Entry). OutcomeFits e.outcome) es → AllByRecursion (λ (e : told.Entry). OutcomeKnown (length l.always) e.outcome) es → AllByRecursion (EntryFits l) es
+entries_fit l [] a b c d k = tt
+entries_fit l (e ∷ es) a b c d k = (record { number = a.0; ends = b.0; ids = c.0; value = d.0; fault_known = k.0 }, entries_fit l es a.1 b.1 c.1 d.1 k.1)
 
 -- ---- all lines
 
@@ -215,9 +230,9 @@ given_told : (l : Listing) (r : Raw) (t : Told) → count_in r.base ≡ Ok t.bas
 unfolding told_of
 given_told l r t a b c d e f g = rw (a, b, c, d, e, f, g) refl
 
-all_known : (l : Listing) (r : Raw) → named_as l.names r.base_vars ≡ true → named_as l.names r.current_vars ≡ true → entries_known l r.entries ≡ true → tasks_known l r.parked ≡ true → tasks_known l r.memory ≡ true → names_known l r ≡ true
+all_known : (l : Listing) (r : Raw) → named_as l.names r.base_vars ≡ true → named_as l.names r.current_vars ≡ true → entries_known l r.entries ≡ true → tasks_known l r.parked ≡ true → tasks_known l r.memory ≡ true → conditions_known l r.entries ≡ true → names_known l r ≡ true
 unfolding names_known variables_known transactions_known
-all_known l r a b c d e = and_from _ _ (and_from _ _ a b) (and_from _ _ c (and_from _ _ d e))
+all_known l r a b c d e f = and_from _ _ (and_from _ _ a b) (and_from _ _ (and_from _ _ c (and_from _ _ d e)) f)
 
 resolved_by : (l : Listing) (r : Raw) (t : Told) → names_known l r ≡ true → told_of l r ≡ Ok t → resolved l r ≡ Ok t
 unfolding resolved
@@ -241,8 +256,9 @@ report_again l t named names few f v =
     let entries = entries_fit l t.entries
     (recursion_from_All (λ (e : told.Entry). e.number ≤ MAX_TASKS) t.entries f.numbers)
     (recursion_from_All (λ (e : told.Entry). e.outcome ≢ outcome.Retries) t.entries f.ends)
-    (recursion_from_All (λ (e : told.Entry). (e.task.0 < length (tasks l)) × (e.tx.0 < length l.programs)) t.entries f.entries)
-    (recursion_from_All (λ (e : told.Entry). OutcomeFits e.outcome) t.entries v.entries) in
+    (recursion_from_All (λ (e : told.Entry). (e.task.0 < length (tasks l)) × (e.tx.0 < length l.transactions)) t.entries f.entries)
+    (recursion_from_All (λ (e : told.Entry). OutcomeFits e.outcome) t.entries v.entries)
+    (recursion_from_All (λ (e : told.Entry). OutcomeKnown (length l.always) e.outcome) t.entries f.faults) in
     let parked = recursion_from_All (IdsFit l) t.parked f.parked in
     let memory = recursion_from_All (IdsFit l) t.memory f.memory in
     let entry = λ (e : told.Entry) (h : EntryFits l e). entry_again l e names few h in
@@ -251,7 +267,8 @@ report_again l t named names few f v =
     let known = all_known l r base_vars.named current_vars.named
     (tests_again (EntryFits l) (λ (e : Entry). is_known l e.name) (written_entry l) (λ e h. (entry e h).known) t.entries entries)
     (tests_again (IdsFit l) (λ (x : Task). is_known l x.name) (written_task l) (λ x h. (task x h).known) t.parked parked)
-    (tests_again (IdsFit l) (λ (x : Task). is_known l x.name) (written_task l) (λ x h. (task x h).known) t.memory memory) in
+    (tests_again (IdsFit l) (λ (x : Task). is_known l x.name) (written_task l) (λ x h. (task x h).known) t.memory memory)
+    (tests_again (EntryFits l) (λ (e : Entry). condition_known l e.ending) (written_entry l) (λ e h. (entry e h).condition) t.entries entries) in
     record {
       words = record {
         base = small t.base f.base;

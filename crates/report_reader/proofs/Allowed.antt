@@ -9,7 +9,7 @@ use Rattle.std.proofs.lemmas.List.Folds.{list_all-append}
 use Rattle.programs.specs.Names.{is_name, is_name_byte}
 use Rattle.text_words.specs.Bytes.{is_allowed, is_int}
 use Rattle.text_words.specs.Words.{line}
-use Rattle.report_reader.specs.Raw.{Variable, Ending, Returned, Threw, Overflow, DivideByZero, Entry, Task, Raw, is_number, variable_words, ending_words, entry_words, task_words, number_words, raw_text, IsVariable, IsEnding, IsEntry, IsTask, IsRaw}
+use Rattle.report_reader.specs.Raw.{Variable, Ending, Returned, Threw, Overflow, DivideByZero, Broke, Entry, Task, Raw, is_number, variable_words, ending_words, entry_words, task_words, number_words, raw_text, IsVariable, IsEnding, IsEntry, IsTask, IsRaw}
 use Rattle.report_reader.specs.Reports.{IsWritten}
 use Rattle.report_reader.proofs.Numbers.{is_int_byte, name_bytes, int_bytes, number_is_int}
 
@@ -71,6 +71,7 @@ ending_allowed (Returned value) h = and_from _ _ refl (and_from _ _ (int_allowed
 ending_allowed (Threw value) h = and_from _ _ refl (and_from _ _ (int_allowed value h) refl)
 ending_allowed Overflow h = refl
 ending_allowed DivideByZero h = refl
+ending_allowed (Broke name) h = and_from _ _ refl (and_from _ _ (name_allowed name h) refl)
 
 entry_allowed : (e : Entry) → IsEntry e → words_allowed (entry_words e) ≡ true
 entry_allowed e h =

@@ -17,21 +17,21 @@ use Rattle.programs.specs.declared.ast.Outcome.{Outcome}
 use Rattle.programs.specs.declared.ast.Outcome.TheVariants as outcome
 use Rattle.programs.specs.declared.limits.TheConstants.{MAX_TASKS}
 use Rattle.programs.specs.declared.report.Entry as told
-use Rattle.programs.specs.LawfulReport.{FitsCatalogue}
+use Rattle.programs.specs.LawfulReport.{OutcomeKnown, FitsCatalogue}
 use Rattle.programs.specs.Listing.{Listing, tasks}
 use Rattle.programs.specs.Told.{Told}
 use Rattle.text_words.specs.Bytes.{is_int, int_value}
 use Rattle.report_printer.specs.ReportFits.{OutcomeFits, ReportFits}
-use Rattle.report_printer.specs.ReportText.{variable_line, variable_lines, entry_line, task_line, report_text}
+use Rattle.report_printer.specs.ReportText.{variable_line, variable_lines, outcome_text, entry_line, task_line, report_text}
 use Rattle.text_words.specs.Numbers.{number_of}
-use Rattle.text_words.specs.Words.{line, outcome_text}
+use Rattle.text_words.specs.Words.{line}
 use Rattle.text_words.specs.declared.fault.ReadFault.{ReadFault}
 use Rattle.text_words.proofs.Numerals.{number_is}
 use Rattle.text_words.proofs.Steps.{bind_ok, ok_is}
-use Rattle.report_reader.specs.Raw.{Variable, Ending, Returned, Threw, Overflow, DivideByZero, Entry, Task, Raw, is_number, variable_words, ending_words, entry_words, task_words, number_words, raw_text, IsVariable, IsEnding, IsEntry, IsTask, IsRaw}
-use Rattle.report_reader.specs.Resolving.{below, named_as, variables_known, names_known, count_in, task_id, tx_id, variable_told, outcome_told, entry_told, task_told, each, told_of}
+use Rattle.report_reader.specs.Raw.{Variable, Ending, Returned, Threw, Overflow, DivideByZero, Broke, Entry, Task, Raw, is_number, variable_words, ending_words, entry_words, task_words, number_words, raw_text, IsVariable, IsEnding, IsEntry, IsTask, IsRaw}
+use Rattle.report_reader.specs.Resolving.{below, named_as, variables_known, names_known, count_in, task_id, tx_id, always_id, variable_told, outcome_told, entry_told, task_told, each, told_of}
 use Rattle.report_reader.proofs.Numbers.{number_written, int_written, below_gives}
-use Rattle.report_reader.proofs.Places.{tx_back}
+use Rattle.report_reader.proofs.Places.{tx_back, always_back}
 
 fits_signed : (z : ℤ) → fits z ≡ true → FitsSigned w64 z
 fits_signed (pos n) h = record { sfits = ltb-true n (2 ^ 63) h }
@@ -99,39 +99,53 @@ variable_back name v x is named e =
       version = version.most;
     })
 
-pub record OutcomeBack (e : Ending) (o : Outcome) : Type 0 where
-  pub text : (word : List ℕ) → line (word ∷ ending_words e) ≡ line (word ∷ outcome_text o ∷ [])
+pub record OutcomeBack (l : Listing) (e : Ending) (o : Outcome) : Type 0 where
+  pub text : (word : List ℕ) → line (word ∷ ending_words e) ≡ line (word ∷ outcome_text l o ∷ [])
   pub fits : OutcomeFits o
+  pub known : OutcomeKnown (length l.always) o
   pub ends : o ≢ outcome.Retries
 
-outcome_back : (e : Ending) (o : Outcome) → IsEnding e → outcome_told e ≡ Ok o → OutcomeBack e o
-outcome_back (Returned value) o is e =
+outcome_back : (l : Listing) (e : Ending) (o : Outcome) → IsEnding e → outcome_told l e ≡ Ok o → OutcomeBack l e o
+outcome_back l (Returned value) o is e =
     let a = bind_ok (number_of (int_value value)) _ o e in
     let v = value_back value a.0 is a.1 in
     let made : Outcome = outcome.Returned a.0 in
-    subst (OutcomeBack (Returned value)) (ok_is made o a.2) (record {
+    subst (OutcomeBack l (Returned value)) (ok_is made o a.2) (record {
       text = λ word. ap (λ (n : List ℕ). line (word ∷ codes "returned" ∷ n ∷ [])) (sym v.written);
       fits = v.fits;
+      known = tt;
       ends = λ h. cc;
     })
-outcome_back (Threw value) o is e =
+outcome_back l (Threw value) o is e =
     let a = bind_ok (number_of (int_value value)) _ o e in
     let v = value_back value a.0 is a.1 in
     let made : Outcome = outcome.Thrown (fault.User a.0) in
-    subst (OutcomeBack (Threw value)) (ok_is made o a.2) (record {
+    subst (OutcomeBack l (Threw value)) (ok_is made o a.2) (record {
       text = λ word. ap (λ (n : List ℕ). line (word ∷ codes "threw" ∷ n ∷ [])) (sym v.written);
       fits = v.fits;
+      known = tt;
       ends = λ h. cc;
     })
-outcome_back Overflow o is e = subst (OutcomeBack Overflow) (ok_is (outcome.Thrown fault.Overflow) o e) (record { text = λ word. refl; fits = tt; ends = λ h. cc })
-outcome_back DivideByZero o is e = subst (OutcomeBack DivideByZero) (ok_is (outcome.Thrown fault.DivideByZero) o e) (record { text = λ word. refl; fits = tt; ends = λ h. cc })
+outcome_back l Overflow o is e = subst (OutcomeBack l Overflow) (ok_is (outcome.Thrown fault.Overflow) o e) (record { text = λ word. refl; fits = tt; known = tt; ends = λ h. cc })
+outcome_back l DivideByZero o is e = subst (OutcomeBack l DivideByZero) (ok_is (outcome.Thrown fault.DivideByZero) o e) (record { text = λ word. refl; fits = tt; known = tt; ends = λ h. cc })
+outcome_back l (Broke name) o is e =
+    let a = bind_ok (always_id l name) _ o e in
+    let c = always_back l name a.0 a.1 in
+    let made : Outcome = outcome.Thrown (fault.Broken a.0) in
+    subst (OutcomeBack l (Broke name)) (ok_is made o a.2) (record {
+      text = λ word. ap (λ (n : List ℕ). line (word ∷ codes "broke" ∷ n ∷ [])) (sym c.name_is);
+      fits = tt;
+      known = c.known;
+      ends = λ h. cc;
+    })
 
 pub record EntryBack (l : Listing) (e : Entry) (x : told.Entry) : Type 0 where
   pub text : line (entry_words e) ≡ entry_line l x
   pub number : x.number ≤ MAX_TASKS
   pub fits : OutcomeFits x.outcome
+  pub fault_known : OutcomeKnown (length l.always) x.outcome
   pub ends : x.outcome ≢ outcome.Retries
-  pub ids : (x.task.0 < length (tasks l)) × (x.tx.0 < length l.programs)
+  pub ids : (x.task.0 < length (tasks l)) × (x.tx.0 < length l.transactions)
 
 entry_back : (l : Listing) → length (tasks l) ≤ MAX_TASKS → (e : Entry) (x : told.Entry) → IsEntry e → entry_told l e ≡ Ok x → EntryBack l e x
 unfolding entry_told
@@ -139,26 +153,27 @@ entry_back l few e x is h =
     let a = bind_ok (count_in e.number) _ x h in
     let b = bind_ok (task_id l e.task) _ x a.2 in
     let c = bind_ok (tx_id l e.name) _ x b.2 in
-    let d = bind_ok (outcome_told e.ending) _ x c.2 in
+    let d = bind_ok (outcome_told l e.ending) _ x c.2 in
     let number = count_back e.number a.0 is.number a.1 in
     let task = task_id_back l e.task b.0 few is.task b.1 in
     let tx = tx_back l e.name c.0 c.1 in
-    let ended = outcome_back e.ending d.0 is.ending d.1 in
+    let ended = outcome_back l e.ending d.0 is.ending d.1 in
     let made : told.Entry = record { number = a.0; task = b.0; tx = c.0; outcome = d.0 } in
     subst (EntryBack l e) (ok_is made x d.2) (record {
       text = ap (λ (t : List ℕ). codes "entry" ++ (codes " " ++ (e.number ++ (codes " " ++ (e.task ++ (codes " " ++ t)))))) (ended.text e.name)
-          ∙ ap (λ (n : List ℕ). line (codes "entry" ∷ n ∷ e.task ∷ e.name ∷ outcome_text d.0 ∷ [])) (sym number.written)
-          ∙ ap (λ (n : List ℕ). line (codes "entry" ∷ decimal a.0 ∷ n ∷ e.name ∷ outcome_text d.0 ∷ [])) (sym task.written)
-          ∙ ap (λ (n : List ℕ). line (codes "entry" ∷ decimal a.0 ∷ decimal b.0.0 ∷ n ∷ outcome_text d.0 ∷ [])) (sym tx.name_is);
+          ∙ ap (λ (n : List ℕ). line (codes "entry" ∷ n ∷ e.task ∷ e.name ∷ outcome_text l d.0 ∷ [])) (sym number.written)
+          ∙ ap (λ (n : List ℕ). line (codes "entry" ∷ decimal a.0 ∷ n ∷ e.name ∷ outcome_text l d.0 ∷ [])) (sym task.written)
+          ∙ ap (λ (n : List ℕ). line (codes "entry" ∷ decimal a.0 ∷ decimal b.0.0 ∷ n ∷ outcome_text l d.0 ∷ [])) (sym tx.name_is);
       number = number.most;
       fits = ended.fits;
+      fault_known = ended.known;
       ends = ended.ends;
       ids = (task.known, tx.known);
     })
 
 pub record TaskLineBack (l : Listing) (word : List ℕ) (t : Task) (x : TaskId × TxId) : Type 0 where
   pub text : line (task_words word t) ≡ task_line l word x
-  pub ids : (x.0.0 < length (tasks l)) × (x.1.0 < length l.programs)
+  pub ids : (x.0.0 < length (tasks l)) × (x.1.0 < length l.transactions)
 
 task_back : (l : Listing) → length (tasks l) ≤ MAX_TASKS → (word : List ℕ) (t : Task) (x : TaskId × TxId) → IsTask t → task_told l t ≡ Ok x → TaskLineBack l word t x
 unfolding task_told
@@ -281,9 +296,10 @@ told_back l r t named few is known e =
         current_versions = All-from_recursion (λ (x : ℤ × ℕ). x.1 ≤ MAX_TASKS) f.0 current_vars.versions;
         numbers = All-from_recursion (λ (x : told.Entry). x.number ≤ MAX_TASKS) c.0 (pairs_all (EntryBack l) (λ (x : told.Entry). x.number ≤ MAX_TASKS) (λ x y q. q.number) r.entries c.0 entries);
         ends = All-from_recursion (λ (x : told.Entry). x.outcome ≢ outcome.Retries) c.0 (pairs_all (EntryBack l) (λ (x : told.Entry). x.outcome ≢ outcome.Retries) (λ x y q. q.ends) r.entries c.0 entries);
-        entries = All-from_recursion (λ (x : told.Entry). (x.task.0 < length (tasks l)) × (x.tx.0 < length l.programs)) c.0 (pairs_all (EntryBack l) (λ (x : told.Entry). (x.task.0 < length (tasks l)) × (x.tx.0 < length l.programs)) (λ x y q. q.ids) r.entries c.0 entries);
-        parked = All-from_recursion (λ (x : TaskId × TxId). (x.0.0 < length (tasks l)) × (x.1.0 < length l.programs)) g.0 (pairs_all (TaskLineBack l (codes "parked")) (λ (x : TaskId × TxId). (x.0.0 < length (tasks l)) × (x.1.0 < length l.programs)) (λ x y q. q.ids) r.parked g.0 parked);
-        memory = All-from_recursion (λ (x : TaskId × TxId). (x.0.0 < length (tasks l)) × (x.1.0 < length l.programs)) h.0 (pairs_all (TaskLineBack l (codes "memory")) (λ (x : TaskId × TxId). (x.0.0 < length (tasks l)) × (x.1.0 < length l.programs)) (λ x y q. q.ids) r.memory h.0 memory);
+        faults = All-from_recursion (λ (x : told.Entry). OutcomeKnown (length l.always) x.outcome) c.0 (pairs_all (EntryBack l) (λ (x : told.Entry). OutcomeKnown (length l.always) x.outcome) (λ x y q. q.fault_known) r.entries c.0 entries);
+        entries = All-from_recursion (λ (x : told.Entry). (x.task.0 < length (tasks l)) × (x.tx.0 < length l.transactions)) c.0 (pairs_all (EntryBack l) (λ (x : told.Entry). (x.task.0 < length (tasks l)) × (x.tx.0 < length l.transactions)) (λ x y q. q.ids) r.entries c.0 entries);
+        parked = All-from_recursion (λ (x : TaskId × TxId). (x.0.0 < length (tasks l)) × (x.1.0 < length l.transactions)) g.0 (pairs_all (TaskLineBack l (codes "parked")) (λ (x : TaskId × TxId). (x.0.0 < length (tasks l)) × (x.1.0 < length l.transactions)) (λ x y q. q.ids) r.parked g.0 parked);
+        memory = All-from_recursion (λ (x : TaskId × TxId). (x.0.0 < length (tasks l)) × (x.1.0 < length l.transactions)) h.0 (pairs_all (TaskLineBack l (codes "memory")) (λ (x : TaskId × TxId). (x.0.0 < length (tasks l)) × (x.1.0 < length l.transactions)) (λ x y q. q.ids) r.memory h.0 memory);
       };
       values = record {
         base = All-from_recursion (λ (x : ℤ × ℕ). FitsSigned w64 x.0) b.0 base_vars.values;

@@ -1,14 +1,13 @@
 -- Which faults each step may have.
-use Rattle.std.proofs.Common.{◌≡◌, ℕ, zero, suc, ◌+◌, Bool, true, false, cond, List, [], ◌∷◌, Option, Some, None, Result, Ok, Err, ap, length}
+use Rattle.std.proofs.Common.{◌≡◌, ℕ, zero, suc, ◌+◌, Bool, true, false, ◌&&◌, cond, List, [], ◌∷◌, Option, Some, None, Result, Ok, Err, ap, length, refl}
 use Rattle.std.specs.Prelude.{codes, ℤ, nat_lt, is_some}
 use Rattle.std.specs.List.{list_all}
 use Rattle.std.specs.Str.{bytes_eq}
 use Rattle.std.specs.Str.Parse.{digits_value}
-use Rattle.std.proofs.lemmas.Bool.{and_parts}
+use Rattle.std.proofs.lemmas.Bool.{and_parts, and_from}
 use Rattle.programs.specs.Arithmetic.{fits}
-use Rattle.programs.specs.declared.ast.TxId.{TxId}
 use Rattle.programs.specs.declared.limits.TheConstants.{MAX_TASKS}
-use Rattle.programs.specs.Listing.{Listing, tasks, transaction_named}
+use Rattle.programs.specs.Listing.{Listing, tasks, transaction_named, condition_named}
 use Rattle.programs.specs.Names.{is_name}
 use Rattle.text_words.specs.Bytes.{is_int, int_value}
 use Rattle.text_words.specs.Answers.{◌>>=◌}
@@ -17,9 +16,9 @@ use Rattle.text_words.specs.declared.fault.ReadFault.{ReadFault}
 use Rattle.text_words.specs.declared.fault.ReadFault.TheVariants as faults
 use Rattle.text_words.proofs.Steps.{done}
 use Rattle.report_reader.specs.Lines.{Line, Whole, Cut, first_line, parted}
-use Rattle.report_reader.specs.Raw.{Variable, Ending, Returned, Threw, Overflow, DivideByZero, Entry, Task, Raw, is_number}
-use Rattle.report_reader.specs.Reading.{given, word_at, name_in, int_in, number_in, expect, behind, after_word, variable_in, valued_in, ending_in, entry_in, task_in, numbered_in, line_at, lines_at, begins, all_at, end_at, raw_at}
-use Rattle.report_reader.specs.Resolving.{is_known, variables_known, transactions_known, names_known, below, count_in, task_id, found, tx_id, variable_told, outcome_told, entry_told, task_told, each, told_of}
+use Rattle.report_reader.specs.Raw.{Variable, Ending, Returned, Threw, Overflow, DivideByZero, Broke, Entry, Task, Raw, is_number}
+use Rattle.report_reader.specs.Reading.{given, word_at, name_in, int_in, number_in, expect, behind, after_word, variable_in, valued_in, broke_in, worded_in, ending_in, entry_in, task_in, numbered_in, line_at, lines_at, begins, all_at, end_at, raw_at}
+use Rattle.report_reader.specs.Resolving.{is_known, condition_known, conditions_known, variables_known, transactions_known, names_known, below, count_in, task_id, found, tx_id, always_id, variable_told, outcome_told, entry_told, task_told, each, told_of}
 
 -- a fault of the result is of this kind
 pub record Only {A : Type 0} (kind : ReadFault) (r : Result A ReadFault) : Type 0 where
@@ -84,17 +83,26 @@ variable_shape text =
     then faults.Shape _ _ (word_shape text) (λ first. then faults.Shape _ _ (word_shape first.1) (λ second. then faults.Shape _ _ (name_shape first.0)
     (λ name. then faults.Shape _ _ (int_shape second.0) (λ value. then faults.Shape _ _ (number_shape second.1) (λ version. ok faults.Shape _)))))
 
-valued_shape : (text : List ℕ) → IsShape (valued_in text)
+valued_shape : (word text : List ℕ) → IsShape (valued_in word text)
 unfolding valued_in
-valued_shape text =
-    then faults.Shape _ _ (word_shape text) (λ word. then faults.Shape _ _ (int_shape word.1) (λ value.
-    either faults.Shape (bytes_eq word.0 (codes "returned")) _ _ (ok faults.Shape (Returned value)) (either faults.Shape (bytes_eq word.0 (codes "threw")) _ _ (ok faults.Shape (Threw value)) (err faults.Shape))))
+valued_shape word text =
+    then faults.Shape _ _ (int_shape text) (λ value.
+    either faults.Shape (bytes_eq word (codes "returned")) _ _ (ok faults.Shape (Returned value)) (either faults.Shape (bytes_eq word (codes "threw")) _ _ (ok faults.Shape (Threw value)) (err faults.Shape)))
+
+broke_shape : (text : List ℕ) → IsShape (broke_in text)
+unfolding broke_in
+broke_shape text = then faults.Shape _ _ (name_shape text) (λ name. ok faults.Shape (Broke name))
+
+worded_shape : (text : List ℕ) → IsShape (worded_in text)
+unfolding worded_in
+worded_shape text =
+    then faults.Shape _ _ (word_shape text) (λ word. either faults.Shape (bytes_eq word.0 (codes "broke")) _ _ (broke_shape word.1) (valued_shape word.0 word.1))
 
 ending_shape : (text : List ℕ) → IsShape (ending_in text)
 unfolding ending_in
 ending_shape text =
     either faults.Shape (bytes_eq text (codes "overflow")) _ _ (ok faults.Shape Overflow)
-    (either faults.Shape (bytes_eq text (codes "zerodiv")) _ _ (ok faults.Shape DivideByZero) (valued_shape text))
+    (either faults.Shape (bytes_eq text (codes "zerodiv")) _ _ (ok faults.Shape DivideByZero) (worded_shape text))
 
 entry_shape : (text : List ℕ) → IsShape (entry_in text)
 unfolding entry_in
@@ -165,9 +173,9 @@ pub task_id_limit : (l : Listing) (text : List ℕ) → IsLimit (task_id l text)
 unfolding task_id
 task_id_limit l text = then faults.Limit _ _ (below_limit (length (tasks l)) (digits_value 10 text)) (λ n. ok faults.Limit _)
 
-found_limit : (o : Option TxId) → is_some o ≡ true → IsLimit (found o)
+found_limit : {A : Type 0} (o : Option A) → is_some o ≡ true → IsLimit (found o)
 found_limit None h = absurd cc
-found_limit (Some tx) h = ok faults.Limit tx
+found_limit (Some x) h = ok faults.Limit x
 
 tx_limit : (l : Listing) (name : List ℕ) → is_known l name ≡ true → IsLimit (tx_id l name)
 unfolding tx_id
@@ -177,17 +185,24 @@ variable_limit : (v : Variable) → IsLimit (variable_told v)
 unfolding variable_told
 variable_limit v = then faults.Limit _ _ (number_limit (int_value v.value)) (λ value. then faults.Limit _ _ (count_limit v.version) (λ version. ok faults.Limit _))
 
-outcome_limit : (x : Ending) → IsLimit (outcome_told x)
-outcome_limit (Returned value) = then faults.Limit _ _ (number_limit (int_value value)) (λ v. ok faults.Limit _)
-outcome_limit (Threw value) = then faults.Limit _ _ (number_limit (int_value value)) (λ v. ok faults.Limit _)
-outcome_limit Overflow = ok faults.Limit _
-outcome_limit DivideByZero = ok faults.Limit _
+always_limit : (l : Listing) (name : List ℕ) → is_some (condition_named l name) ≡ true → IsLimit (always_id l name)
+unfolding always_id
+always_limit l name h = found_limit (condition_named l name) h
 
-entry_limit : (l : Listing) (e : Entry) → is_known l e.name ≡ true → IsLimit (entry_told l e)
+outcome_limit : (l : Listing) (x : Ending) → condition_known l x ≡ true → IsLimit (outcome_told l x)
+outcome_limit l (Returned value) h = then faults.Limit _ _ (number_limit (int_value value)) (λ v. ok faults.Limit _)
+outcome_limit l (Threw value) h = then faults.Limit _ _ (number_limit (int_value value)) (λ v. ok faults.Limit _)
+outcome_limit l Overflow h = ok faults.Limit _
+outcome_limit l DivideByZero h = ok faults.Limit _
+outcome_limit l (Broke name) h = then faults.Limit _ _ (always_limit l name h) (λ id. ok faults.Limit _)
+
+entry_limit : (l : Listing) (e : Entry) → (is_known l e.name && condition_known l e.ending) ≡ true → IsLimit (entry_told l e)
 unfolding entry_told
-entry_limit l e h =
+entry_limit l e both =
+    let p = and_parts (is_known l e.name) (condition_known l e.ending) both in
+    let h = p.0 in
     then faults.Limit _ _ (count_limit e.number) (λ number. then faults.Limit _ _ (task_id_limit l e.task) (λ task. then faults.Limit _ _ (tx_limit l e.name h)
-    (λ tx. then faults.Limit _ _ (outcome_limit e.ending) (λ outcome. ok faults.Limit _))))
+    (λ tx. then faults.Limit _ _ (outcome_limit l e.ending p.1) (λ outcome. ok faults.Limit _))))
 
 task_limit : (l : Listing) (t : Task) → is_known l t.name ≡ true → IsLimit (task_told l t)
 unfolding task_told
@@ -203,17 +218,28 @@ any_limit : {A B : Type 0} (one : A → Result B ReadFault) → ((x : A) → IsL
 any_limit one h [] = ok faults.Limit _
 any_limit one h (x ∷ xs) = then faults.Limit _ _ (h x) (λ y. then faults.Limit _ _ (any_limit one h xs) (λ ys. ok faults.Limit _))
 
-told_given : (l : Listing) (r : Raw) → transactions_known l r ≡ true → IsLimit (told_of l r)
+-- what passes two tests passes both at once
+both_pass : {A : Type 0} (p q : A → Bool) (xs : List A) → list_all p xs ≡ true → list_all q xs ≡ true → list_all (λ x. p x && q x) xs ≡ true
+both_pass p q [] a b = refl
+both_pass p q (x ∷ xs) a b =
+    let a' = and_parts (p x) (list_all p xs) a in
+    let b' = and_parts (q x) (list_all q xs) b in
+    and_from _ _ (and_from _ _ a'.0 b'.0) (both_pass p q xs a'.1 b'.1)
+
+told_given : (l : Listing) (r : Raw) → transactions_known l r ≡ true → conditions_known l r.entries ≡ true → IsLimit (told_of l r)
 unfolding told_of transactions_known
-told_given l r h =
+told_given l r h k =
     let a = and_parts _ _ h in
+    let entries = both_pass (λ (e : Entry). is_known l e.name) (λ (e : Entry). condition_known l e.ending) r.entries a.0 k in
     let b = and_parts _ _ a.1 in
     then faults.Limit _ _ (count_limit r.base) (λ base. then faults.Limit _ _ (any_limit variable_told variable_limit r.base_vars)
-    (λ base_vars. then faults.Limit _ _ (each_limit (λ (e : Entry). is_known l e.name) (entry_told l) (entry_limit l) r.entries a.0)
+    (λ base_vars. then faults.Limit _ _ (each_limit (λ (e : Entry). is_known l e.name && condition_known l e.ending) (entry_told l) (entry_limit l) r.entries entries)
     (λ entries. then faults.Limit _ _ (count_limit r.current) (λ current. then faults.Limit _ _ (any_limit variable_told variable_limit r.current_vars)
     (λ current_vars. then faults.Limit _ _ (each_limit (λ (t : Task). is_known l t.name) (task_told l) (task_limit l) r.parked b.0)
     (λ parked. then faults.Limit _ _ (each_limit (λ (t : Task). is_known l t.name) (task_told l) (task_limit l) r.memory b.1) (λ memory. ok faults.Limit _)))))))
 
 pub told_limit : (l : Listing) (r : Raw) → names_known l r ≡ true → IsLimit (told_of l r)
 unfolding names_known
-told_limit l r h = told_given l r (and_parts (variables_known l r) (transactions_known l r) h).1
+told_limit l r h =
+    let k = and_parts (transactions_known l r) (conditions_known l r.entries) (and_parts (variables_known l r) (transactions_known l r && conditions_known l r.entries) h).1 in
+    told_given l r k.0 k.1

@@ -7,7 +7,7 @@ use Rattle.std.proofs.lemmas.List.Folds.{list_all-map}
 use Rattle.std.proofs.lemmas.Option.{same_Some}
 use Rattle.programs.specs.Listing.{Listing}
 use Rattle.report_reader.specs.Raw.{Entry, Task}
-use Rattle.report_reader.specs.Resolving.{is_known, entries_known, tasks_known, transactions_known, named_as}
+use Rattle.report_reader.specs.Resolving.{is_known, entries_known, tasks_known, variables_known, transactions_known, condition_known, conditions_known, names_known, named_as}
 use Rattle.report_reader.specs.View.{view_entry, view_entries, view_task, view_tasks, view_variables, view_raw}
 use Rattle.report_reader.specs.declared.raw.RawEntry.{RawEntry}
 use Rattle.report_reader.specs.declared.raw.RawTask.{RawTask}
@@ -19,6 +19,9 @@ entries_mapped l es = list_all-map (λ (e : Entry). is_known l e.name) view_entr
 
 pub tasks_mapped : (l : Listing) (ts : List RawTask) → tasks_known l (view_tasks ts) ≡ list_all (λ t. is_known l t.name.now) ts
 tasks_mapped l ts = list_all-map (λ (t : Task). is_known l t.name) view_task ts
+
+pub conditions_mapped : (l : Listing) (es : List RawEntry) → conditions_known l (view_entries es) ≡ list_all (λ e. condition_known l (view_entry e).ending) es
+conditions_mapped l es = list_all-map (λ (e : Entry). condition_known l e.ending) view_entry es
 
 at_place : {X : Type 0} (xs : List X) (i : ℕ) (x : X) → slice_get xs i ≡ Some x → drop i xs ≡ x ∷ drop (suc i) xs
 at_place [] i x e = absurd cc
@@ -48,6 +51,19 @@ pub transactions_are : (l : Listing) (r : RawReport) (a b c : Bool)
     → transactions_known l (view_raw r) ≡ (a && (b && c))
 unfolding transactions_known
 transactions_are l r a b c p q s = rw (entries_mapped l r.entries.items, tasks_mapped l r.parked.items, tasks_mapped l r.memory.items, p, q, s) refl
+
+third : (a b c : Bool) → a ≡ true → b ≡ true → (a && (b && c)) ≡ c
+third true true c p q = refl
+third true false c p q = absurd cc
+third false b c p q = absurd cc
+
+-- where variables and transactions are known, all names are where the conditions are
+pub names_are : (l : Listing) (r : RawReport) (es : List RawEntry) (c : Bool) → es ≡ r.entries.items → c ≡ list_all (λ e. condition_known l (view_entry e).ending) es
+    → variables_known l (view_raw r) ≡ true → transactions_known l (view_raw r) ≡ true → c ≡ names_known l (view_raw r)
+unfolding names_known
+names_are l r es c same conditions v t =
+    conditions ∙ ap (λ (xs : List RawEntry). list_all (λ e. condition_known l (view_entry e).ending) xs) same ∙ sym (conditions_mapped l r.entries.items)
+    ∙ sym (third (variables_known l (view_raw r)) (transactions_known l (view_raw r)) (conditions_known l (view_entries r.entries.items)) v t)
 
 pub all_three : (a b c total : Bool) → total ≡ (a && (b && c)) → a ≡ true → b ≡ true → c ≡ total
 all_three true true c total e p q = sym e

@@ -140,6 +140,7 @@ which faults.BadByte l bytes rules h = inr (first_is l bytes faults.BadByte rule
 which faults.Shape l bytes rules h = inr (first_is l bytes faults.Shape rules h)
 which faults.Name l bytes rules h = inr (first_is l bytes faults.Name rules h)
 which faults.Limit l bytes rules h = inr (first_is l bytes faults.Limit rules h)
+which faults.Broken l bytes rules h = inr (first_is l bytes faults.Broken rules h)
 which faults.Memory l bytes rules h = inl refl
 
 pub is_fault : {X : Type 0} (view : X → Told) (l : Listing) (bytes : List ℕ) (r : Result X ReadFault) → Rules l → Gives view r (report_at l bytes) → IfErr r (λ e. (e ≡ faults.Memory) ⊎ IsFirst l bytes e)

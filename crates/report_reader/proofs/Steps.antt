@@ -9,8 +9,8 @@ use Rattle.text_words.specs.declared.fault.ReadFault.{ReadFault}
 use Rattle.text_words.specs.declared.fault.ReadFault.TheVariants.{Shape}
 use Rattle.text_words.proofs.Steps.{bind_ok, done, ok_is, chosen}
 use Rattle.report_reader.specs.Lines.{parted}
-use Rattle.report_reader.specs.Raw.{is_number, Variable, Ending, Returned, Threw, Overflow, DivideByZero, Entry, Task, variable_words, ending_words, entry_words, task_words, number_words, IsVariable, IsEnding, IsEntry, IsTask}
-use Rattle.report_reader.specs.Reading.{given, word_at, name_in, int_in, number_in, expect, behind_word, behind, after_word, variable_in, valued_in, ending_in, entry_in, task_in, numbered_in, begins}
+use Rattle.report_reader.specs.Raw.{is_number, Variable, Ending, Returned, Threw, Overflow, DivideByZero, Broke, Entry, Task, variable_words, ending_words, entry_words, task_words, number_words, IsVariable, IsEnding, IsEntry, IsTask}
+use Rattle.report_reader.specs.Reading.{given, word_at, name_in, int_in, number_in, expect, behind_word, behind, after_word, variable_in, valued_in, broke_in, worded_in, ending_in, entry_in, task_in, numbered_in, begins}
 use Rattle.report_reader.proofs.Parting.{lacks, parted_takes, parted_again}
 use Rattle.report_reader.proofs.Numbers.{name_lacks, int_lacks, number_lacks}
 
@@ -160,25 +160,48 @@ variable_again v h =
       number_again v.version h.version,
     ) refl
 
-pub valued_takes : (text : List ℕ) (x : Ending) → valued_in text ≡ Ok x → Takes ending_words IsEnding text x
+valued_takes : (word text : List ℕ) (x : Ending) → valued_in word text ≡ Ok x → Takes ending_words IsEnding (word ++ 32 ∷ text) x
 unfolding valued_in
-valued_takes text x e =
-    let a = bind_ok (word_at text) _ x e in
-    let b = bind_ok (int_in a.0.1) _ x a.2 in
-    let i = int_takes a.0.1 b.0 b.1 in
-    let front = λ (word : List ℕ). ap (λ (w : List ℕ). word ++ 32 ∷ w) i.same in
-    elim (chosen (bytes_eq a.0.0 (codes "returned")) (done (Returned b.0)) _ (Ok x) b.2) [
-      | inl p ↦ subst (Takes ending_words IsEnding text) (ok_is (Returned b.0) x p.1) (record {
-        same = word_takes text a.0 a.1 ∙ ap (λ (w : List ℕ). w ++ 32 ∷ a.0.1) ((bytes_eq-Decides a.0.0 (codes "returned")).0 p.0) ∙ front (codes "returned");
+valued_takes word text x e =
+    let b = bind_ok (int_in text) _ x e in
+    let i = int_takes text b.0 b.1 in
+    let front = λ (w : List ℕ). ap (λ (v : List ℕ). w ++ 32 ∷ v) i.same in
+    elim (chosen (bytes_eq word (codes "returned")) (done (Returned b.0)) _ (Ok x) b.2) [
+      | inl p ↦ subst (Takes ending_words IsEnding (word ++ 32 ∷ text)) (ok_is (Returned b.0) x p.1) (record {
+        same = ap (λ (w : List ℕ). w ++ 32 ∷ text) ((bytes_eq-Decides word (codes "returned")).0 p.0) ∙ front (codes "returned");
         is = i.passes;
       })
-      | inr p ↦ elim (chosen (bytes_eq a.0.0 (codes "threw")) (done (Threw b.0)) (Err Shape) (Ok x) p.1) [
-        | inl q ↦ subst (Takes ending_words IsEnding text) (ok_is (Threw b.0) x q.1) (record {
-          same = word_takes text a.0 a.1 ∙ ap (λ (w : List ℕ). w ++ 32 ∷ a.0.1) ((bytes_eq-Decides a.0.0 (codes "threw")).0 q.0) ∙ front (codes "threw");
+      | inr p ↦ elim (chosen (bytes_eq word (codes "threw")) (done (Threw b.0)) (Err Shape) (Ok x) p.1) [
+        | inl q ↦ subst (Takes ending_words IsEnding (word ++ 32 ∷ text)) (ok_is (Threw b.0) x q.1) (record {
+          same = ap (λ (w : List ℕ). w ++ 32 ∷ text) ((bytes_eq-Decides word (codes "threw")).0 q.0) ∙ front (codes "threw");
           is = i.passes;
         })
         | inr q ↦ absurd (let h = q.1 in cc)
       ]
+    ]
+
+broke_takes : (text : List ℕ) (x : Ending) → broke_in text ≡ Ok x → Takes ending_words IsEnding (codes "broke" ++ 32 ∷ text) x
+unfolding broke_in
+broke_takes text x e =
+    let b = bind_ok (name_in text) _ x e in
+    let n = name_takes text b.0 b.1 in
+    subst (Takes ending_words IsEnding (codes "broke" ++ 32 ∷ text)) (ok_is (Broke b.0) x b.2) (record {
+      same = ap (λ (v : List ℕ). codes "broke" ++ 32 ∷ v) n.same;
+      is = n.passes;
+    })
+
+worded_takes : (text : List ℕ) (x : Ending) → worded_in text ≡ Ok x → Takes ending_words IsEnding text x
+unfolding worded_in
+worded_takes text x e =
+    let a = bind_ok (word_at text) _ x e in
+    let same = word_takes text a.0 a.1 in
+    elim (chosen (bytes_eq a.0.0 (codes "broke")) (broke_in a.0.1) (valued_in a.0.0 a.0.1) (Ok x) a.2) [
+      | inl p ↦
+          let b = broke_takes a.0.1 x p.1 in
+          record { same = same ∙ ap (λ (w : List ℕ). w ++ 32 ∷ a.0.1) ((bytes_eq-Decides a.0.0 (codes "broke")).0 p.0) ∙ b.same; is = b.is }
+      | inr p ↦
+          let b = valued_takes a.0.0 a.0.1 x p.1 in
+          record { same = same ∙ b.same; is = b.is }
     ]
 
 pub ending_takes : (text : List ℕ) (x : Ending) → ending_in text ≡ Ok x → Takes ending_words IsEnding text x
@@ -186,22 +209,27 @@ unfolding ending_in
 ending_takes text x e =
     elim (chosen (bytes_eq text (codes "overflow")) (done Overflow) _ (Ok x) e) [
       | inl p ↦ subst (Takes ending_words IsEnding text) (ok_is Overflow x p.1) (record { same = (bytes_eq-Decides text (codes "overflow")).0 p.0; is = tt })
-      | inr p ↦ elim (chosen (bytes_eq text (codes "zerodiv")) (done DivideByZero) (valued_in text) (Ok x) p.1) [
+      | inr p ↦ elim (chosen (bytes_eq text (codes "zerodiv")) (done DivideByZero) (worded_in text) (Ok x) p.1) [
         | inl q ↦ subst (Takes ending_words IsEnding text) (ok_is DivideByZero x q.1) (record { same = (bytes_eq-Decides text (codes "zerodiv")).0 q.0; is = tt })
-        | inr q ↦ valued_takes text x q.1
+        | inr q ↦ worded_takes text x q.1
       ]
     ]
 
-valued_again : (word value : List ℕ) → lacks 32 word ≡ true → is_int value ≡ true → valued_in (word ++ 32 ∷ value) ≡ (let r : Result Ending ReadFault = cond (bytes_eq word (codes "returned")) (Ok (Returned value)) (cond (bytes_eq word (codes "threw")) (Ok (Threw value)) (Err Shape)) in r)
-unfolding valued_in
-valued_again word value a b = rw (word_again word value a, int_again value b) refl
+valued_again : (word value : List ℕ) → lacks 32 word ≡ true → bytes_eq word (codes "broke") ≡ false → is_int value ≡ true → worded_in (word ++ 32 ∷ value) ≡ (let r : Result Ending ReadFault = cond (bytes_eq word (codes "returned")) (Ok (Returned value)) (cond (bytes_eq word (codes "threw")) (Ok (Threw value)) (Err Shape)) in r)
+unfolding valued_in worded_in
+valued_again word value a o b = rw (word_again word value a, o, int_again value b) refl
+
+broke_again : (name : List ℕ) → is_name name ≡ true → worded_in (codes "broke" ++ 32 ∷ name) ≡ Ok (Broke name)
+unfolding broke_in worded_in
+broke_again name h = rw (word_again (codes "broke") name refl, name_again name h) refl
 
 pub ending_again : (x : Ending) → IsEnding x → ending_in (text_of (ending_words x)) ≡ Ok x
 unfolding ending_in
-ending_again (Returned value) h = valued_again (codes "returned") value refl h
-ending_again (Threw value) h = valued_again (codes "threw") value refl h
+ending_again (Returned value) h = valued_again (codes "returned") value refl refl h
+ending_again (Threw value) h = valued_again (codes "threw") value refl refl h
 ending_again Overflow h = refl
 ending_again DivideByZero h = refl
+ending_again (Broke name) h = broke_again name h
 
 pub entry_takes : (text : List ℕ) (x : Entry) → entry_in text ≡ Ok x → Takes entry_words IsEntry text x
 unfolding entry_in
@@ -237,6 +265,7 @@ entry_takes text x e =
     words a b c (Threw value) = refl
     words a b c Overflow = refl
     words a b c DivideByZero = refl
+    words a b c (Broke name) = refl
 
 pub entry_text : (e : Entry) → text_of (entry_words e) ≡ codes "entry" ++ 32 ∷ (e.number ++ 32 ∷ (e.task ++ 32 ∷ (e.name ++ 32 ∷ text_of (ending_words e.ending))))
 entry_text e = same e.number e.task e.name e.ending
@@ -246,6 +275,7 @@ entry_text e = same e.number e.task e.name e.ending
     same a b c (Threw value) = refl
     same a b c Overflow = refl
     same a b c DivideByZero = refl
+    same a b c (Broke name) = refl
 
 entry_read : (e : Entry) → IsEntry e → entry_in (codes "entry" ++ 32 ∷ (e.number ++ 32 ∷ (e.task ++ 32 ∷ (e.name ++ 32 ∷ text_of (ending_words e.ending))))) ≡ Ok e
 unfolding entry_in

@@ -7,7 +7,7 @@ use Rattle.std.proofs.lemmas.List.{append-nil}
 use Rattle.std.proofs.lemmas.List.Folds.{list_all-append}
 use Rattle.text_words.specs.Words.{line}
 use Rattle.report_reader.specs.Lines.{Line, Whole, lines}
-use Rattle.report_reader.specs.Raw.{Variable, Ending, Returned, Threw, Overflow, DivideByZero, Entry, Task, Raw, is_number, variable_words, ending_words, entry_words, task_words, number_words, raw_text, IsVariable, IsEnding, IsEntry, IsTask, IsRaw}
+use Rattle.report_reader.specs.Raw.{Variable, Ending, Returned, Threw, Overflow, DivideByZero, Broke, Entry, Task, Raw, is_number, variable_words, ending_words, entry_words, task_words, number_words, raw_text, IsVariable, IsEnding, IsEntry, IsTask, IsRaw}
 use Rattle.report_reader.specs.Reading.{raw_at}
 use Rattle.report_reader.specs.Reports.{IsWritten, max_len}
 use Rattle.report_reader.proofs.Parting.{lacks, bytes_of, bytes_lines, lines_text, lines_nil}
@@ -74,6 +74,7 @@ ending_lacks (Returned value) h = and_from _ _ refl (and_from _ _ (int_lacks 10 
 ending_lacks (Threw value) h = and_from _ _ refl (and_from _ _ (int_lacks 10 refl value h) refl)
 ending_lacks Overflow h = refl
 ending_lacks DivideByZero h = refl
+ending_lacks (Broke name) h = and_from _ _ refl (and_from _ _ (name_lacks 10 refl name h) refl)
 
 entry_line : (e : Entry) → IsEntry e → Makes (line (entry_words e)) (line_of entry_words e ∷ [])
 entry_line e h =

@@ -18,6 +18,7 @@ pub data Ending : Type 0 where
   Threw : (value : List ℕ) → Ending
   Overflow : Ending
   DivideByZero : Ending
+  Broke : (name : List ℕ) → Ending
 
 -- NUMBER TASK NAME and how it ended
 pub record Entry : Type 0 where
@@ -50,6 +51,7 @@ ending_words (Returned value) = codes "returned" ∷ value ∷ []
 ending_words (Threw value) = codes "threw" ∷ value ∷ []
 ending_words Overflow = codes "overflow" ∷ []
 ending_words DivideByZero = codes "zerodiv" ∷ []
+ending_words (Broke name) = codes "broke" ∷ name ∷ []
 
 abbrev pub entry_words : Entry → List (List ℕ)
 entry_words e = codes "entry" ∷ e.number ∷ e.task ∷ e.name ∷ ending_words e.ending
@@ -88,6 +90,7 @@ IsEnding (Returned value) = is_int value ≡ true
 IsEnding (Threw value) = is_int value ≡ true
 IsEnding Overflow = Unit {0}
 IsEnding DivideByZero = Unit {0}
+IsEnding (Broke name) = is_name name ≡ true
 
 pub record IsEntry (e : Entry) : Type 0 where
   pub number : is_number e.number ≡ true

@@ -7,7 +7,7 @@ use Rattle.text_words.specs.Answers.{◌>>=◌}
 use Rattle.text_words.specs.declared.fault.ReadFault.{ReadFault}
 use Rattle.text_words.specs.declared.fault.ReadFault.TheVariants.{Shape}
 use Rattle.report_reader.specs.Lines.{Line, Whole, Cut, first_line, parted}
-use Rattle.report_reader.specs.Raw.{Variable, Ending, Returned, Threw, Overflow, DivideByZero, Entry, Task, Raw, is_number}
+use Rattle.report_reader.specs.Raw.{Variable, Ending, Returned, Threw, Overflow, DivideByZero, Broke, Entry, Task, Raw, is_number}
 
 -- ---- words
 
@@ -55,14 +55,26 @@ variable_in text = do
   version ← number_in second.1
   Ok (record { name = name; value = value; version = version })
 
-unfoldable pub valued_in : List ℕ → Result Ending ReadFault
-valued_in text = do
+-- behind a word, the value with which an ending comes
+unfoldable pub valued_in : List ℕ → List ℕ → Result Ending ReadFault
+valued_in word text = do
+  value ← int_in text
+  if bytes_eq word (codes "returned") then Ok (Returned value) else (if bytes_eq word (codes "threw") then Ok (Threw value) else Err Shape)
+
+-- the name of the condition that is broken
+unfoldable pub broke_in : List ℕ → Result Ending ReadFault
+broke_in text = do
+  name ← name_in text
+  Ok (Broke name)
+
+-- an ending of two words
+unfoldable pub worded_in : List ℕ → Result Ending ReadFault
+worded_in text = do
   word ← word_at text
-  value ← int_in word.1
-  if bytes_eq word.0 (codes "returned") then Ok (Returned value) else (if bytes_eq word.0 (codes "threw") then Ok (Threw value) else Err Shape)
+  if bytes_eq word.0 (codes "broke") then broke_in word.1 else valued_in word.0 word.1
 
 unfoldable pub ending_in : List ℕ → Result Ending ReadFault
-ending_in text = if bytes_eq text (codes "overflow") then Ok Overflow else (if bytes_eq text (codes "zerodiv") then Ok DivideByZero else valued_in text)
+ending_in text = if bytes_eq text (codes "overflow") then Ok Overflow else (if bytes_eq text (codes "zerodiv") then Ok DivideByZero else worded_in text)
 
 unfoldable pub entry_in : List ℕ → Result Entry ReadFault
 entry_in text = do

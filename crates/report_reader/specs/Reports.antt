@@ -9,7 +9,7 @@ use Rattle.text_words.specs.Answers.{◌>>=◌}
 use Rattle.report_printer.specs.ReportText.{report_text}
 use Rattle.report_printer.specs.ReportFits.{ReportFits}
 use Rattle.text_words.specs.declared.fault.ReadFault.{ReadFault}
-use Rattle.text_words.specs.declared.fault.ReadFault.TheVariants.{TooLong, BadByte, Shape, Name, Limit, Memory}
+use Rattle.text_words.specs.declared.fault.ReadFault.TheVariants.{TooLong, BadByte, Shape, Name, Limit, Broken, Memory}
 use Rattle.report_reader.specs.Lines.{lines}
 use Rattle.report_reader.specs.Raw.{Raw, raw_text, IsRaw}
 use Rattle.report_reader.specs.Reading.{raw_at}
@@ -42,6 +42,8 @@ IsFirst l bytes Shape = (length bytes ≤ max_len) × (list_all is_allowed bytes
 IsFirst l bytes Name = (r : Raw) × (IsWritten (length l.names) bytes r × (names_known l r ≡ false))
 -- they are, all names are known, and yet they are the text of no report
 IsFirst l bytes Limit = (r : Raw) × (IsWritten (length l.names) bytes r × (names_known l r ≡ true) × ((t : Told) → IsReport l bytes t → ⊥))
+-- these are no faults of a report
+IsFirst l bytes Broken = ⊥
 IsFirst l bytes Memory = ⊥
 
 -- the same, read in order

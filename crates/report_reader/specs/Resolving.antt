@@ -3,6 +3,7 @@ use Rattle.std.specs.Prelude.{ℕ, ◌+◌, ℤ, Bool, true, false, is_some, ◌
 use Rattle.std.specs.List.{list_all}
 use Rattle.std.specs.Str.{bytes_eq}
 use Rattle.std.specs.Str.Parse.{digits_value}
+use Rattle.programs.specs.declared.ast.AlwaysId.{AlwaysId}
 use Rattle.programs.specs.declared.ast.TaskId.{TaskId}
 use Rattle.programs.specs.declared.ast.TxId.{TxId}
 use Rattle.programs.specs.declared.ast.Fault.TheVariants as fault
@@ -10,14 +11,14 @@ use Rattle.programs.specs.declared.ast.Outcome.{Outcome}
 use Rattle.programs.specs.declared.ast.Outcome.TheVariants as outcome
 use Rattle.programs.specs.declared.report.Entry as told
 use Rattle.programs.specs.declared.limits.TheConstants.{MAX_TASKS}
-use Rattle.programs.specs.Listing.{Listing, tasks, transaction_named}
+use Rattle.programs.specs.Listing.{Listing, tasks, transaction_named, condition_named}
 use Rattle.programs.specs.Told.{Told}
 use Rattle.text_words.specs.Bytes.{int_value}
 use Rattle.text_words.specs.Answers.{◌>>=◌}
 use Rattle.text_words.specs.Numbers.{number_of}
 use Rattle.text_words.specs.declared.fault.ReadFault.{ReadFault}
 use Rattle.text_words.specs.declared.fault.ReadFault.TheVariants.{Name, Limit}
-use Rattle.report_reader.specs.Raw.{Variable, Ending, Returned, Threw, Overflow, DivideByZero, Entry, Task, Raw}
+use Rattle.report_reader.specs.Raw.{Variable, Ending, Returned, Threw, Overflow, DivideByZero, Broke, Entry, Task, Raw}
 
 -- ---- names
 
@@ -45,8 +46,19 @@ tasks_known l tasks = list_all (λ t. is_known l t.name) tasks
 unfoldable pub transactions_known : Listing → Raw → Bool
 transactions_known l r = entries_known l r.entries && (tasks_known l r.parked && tasks_known l r.memory)
 
+-- no broken condition, or one of the catalogue's
+abbrev pub condition_known : Listing → Ending → Bool
+condition_known l (Returned value) = true
+condition_known l (Threw value) = true
+condition_known l Overflow = true
+condition_known l DivideByZero = true
+condition_known l (Broke name) = is_some (condition_named l name)
+
+abbrev pub conditions_known : Listing → List Entry → Bool
+conditions_known l entries = list_all (λ e. condition_known l e.ending) entries
+
 unfoldable pub names_known : Listing → Raw → Bool
-names_known l r = variables_known l r && transactions_known l r
+names_known l r = variables_known l r && (transactions_known l r && conditions_known l r.entries)
 
 -- ---- numbers and ids
 
@@ -62,12 +74,15 @@ count_in text = below (MAX_TASKS + 1) (digits_value 10 text)
 unfoldable pub task_id : Listing → List ℕ → Result TaskId ReadFault
 task_id l text = below (length (tasks l)) (digits_value 10 text) >>= λ n. Ok (record { 0 = n })
 
-abbrev pub found : Option TxId → Result TxId ReadFault
+abbrev pub found : {A : Type 0} → Option A → Result A ReadFault
 found None = Err Name
-found (Some tx) = Ok tx
+found (Some x) = Ok x
 
 unfoldable pub tx_id : Listing → List ℕ → Result TxId ReadFault
 tx_id l name = found (transaction_named l name)
+
+unfoldable pub always_id : Listing → List ℕ → Result AlwaysId ReadFault
+always_id l name = found (condition_named l name)
 
 -- ---- lines
 
@@ -77,18 +92,19 @@ variable_told v = do
   version ← count_in v.version
   Ok (value, version)
 
-abbrev pub outcome_told : Ending → Result Outcome ReadFault
-outcome_told (Returned value) = number_of (int_value value) >>= λ v. Ok (outcome.Returned v)
-outcome_told (Threw value) = number_of (int_value value) >>= λ v. Ok (outcome.Thrown (fault.User v))
-outcome_told Overflow = Ok (outcome.Thrown fault.Overflow)
-outcome_told DivideByZero = Ok (outcome.Thrown fault.DivideByZero)
+abbrev pub outcome_told : Listing → Ending → Result Outcome ReadFault
+outcome_told l (Returned value) = number_of (int_value value) >>= λ v. Ok (outcome.Returned v)
+outcome_told l (Threw value) = number_of (int_value value) >>= λ v. Ok (outcome.Thrown (fault.User v))
+outcome_told l Overflow = Ok (outcome.Thrown fault.Overflow)
+outcome_told l DivideByZero = Ok (outcome.Thrown fault.DivideByZero)
+outcome_told l (Broke name) = always_id l name >>= λ id. Ok (outcome.Thrown (fault.Broken id))
 
 unfoldable pub entry_told : Listing → Entry → Result told.Entry ReadFault
 entry_told l e = do
   number ← count_in e.number
   task ← task_id l e.task
   tx ← tx_id l e.name
-  outcome ← outcome_told e.ending
+  outcome ← outcome_told l e.ending
   Ok (record { number = number; task = task; tx = tx; outcome = outcome })
 
 unfoldable pub task_told : Listing → Task → Result (TaskId × TxId) ReadFault

@@ -18,6 +18,7 @@ pub(crate) enum RawEnding<'a> {
     Threw(Numeral<'a>),
     Overflow,
     DivideByZero,
+    Broke(&'a str),
 }
 
 /// The line of an entry.

@@ -5,7 +5,7 @@ ghost use Rattle.std.specs.List.{list_all};
 ghost use Rattle.programs.specs.Told.{told};
 ghost use Rattle.text_words.specs.Answers.{Gives};
 ghost use Rattle.text_words.specs.declared.fault.ReadFault.TheVariants.{Limit};
-ghost use Rattle.report_reader.specs.Resolving.{named_as, is_known, variables_known, transactions_known, names_known, count_in, task_id, tx_id, variable_told, outcome_told, entry_told, task_told, each, told_of, resolved};
+ghost use Rattle.report_reader.specs.Resolving.{named_as, is_known, condition_known, variables_known, transactions_known, names_known, count_in, task_id, tx_id, always_id, variable_told, outcome_told, entry_told, task_told, each, told_of, resolved};
 ghost use Rattle.report_reader.specs.View.{view_variable, view_variables, view_ending, view_entry, view_entries, view_task, view_tasks, view_raw};
 
 use crate::numeral::Count;
@@ -13,7 +13,7 @@ use crate::raw::{RawEnding, RawEntry, RawReport, RawTask, RawVariable};
 use std::alloc::Global;
 use text_words::ReadFault;
 use txn::limits::MAX_TASKS;
-use txn::{Catalogue, Entry, Fault, Outcome, Report, TaskId, TxId, VarId};
+use txn::{AlwaysId, Catalogue, Entry, Fault, Outcome, Report, TaskId, TxId, VarId};
 
 /// Whether each line has the name of the variable at its place.
 fn named_as(catalogue: &Catalogue, vars: &[RawVariable<'_>]) -> bool
@@ -45,6 +45,25 @@ fn tasks_known(catalogue: &Catalogue, tasks: &[RawTask<'_>]) -> bool
     ensures { result ≡ list_all (λ t. is_known catalogue.now (view_task t).name) tasks.now }
 {
     tasks.iter().all(|t| is_known(catalogue, t.name))
+}
+
+/// Whether it is no broken condition, or one of the catalogue's.
+fn condition_known(catalogue: &Catalogue, ending: RawEnding<'_>) -> bool
+    ensures { result ≡ condition_known catalogue.now (view_ending ending.entry) }
+{
+    match ending {
+        RawEnding::Broke(name) => catalogue.always_id(name).is_some(),
+        RawEnding::Returned(_)
+        | RawEnding::Threw(_)
+        | RawEnding::Overflow
+        | RawEnding::DivideByZero => true,
+    }
+}
+
+fn conditions_known(catalogue: &Catalogue, entries: &[RawEntry<'_>]) -> bool
+    ensures { result ≡ list_all (λ e. condition_known catalogue.now (view_entry e).ending) entries.now }
+{
+    entries.iter().all(|e| condition_known(catalogue, e.ending))
 }
 
 /// Whether each variable's lines have its name.
@@ -80,7 +99,13 @@ fn names_known(catalogue: &Catalogue, report: &RawReport<'_>) -> bool
     requires current { length report.now.now_vars.items ≡ length catalogue.now.names }
     ensures { result ≡ names_known catalogue.now (view_raw report.entry.now) }
 {
-    variables_known(catalogue, report) && transactions_known(catalogue, report)
+    if !variables_known(catalogue, report) {
+        return false;
+    }
+    if !transactions_known(catalogue, report) {
+        return false;
+    }
+    conditions_known(catalogue, &report.entries)
 }
 
 /// A number or a version.
@@ -107,6 +132,13 @@ fn tx_id(catalogue: &Catalogue, name: &str) -> Result<TxId, ReadFault>
     catalogue.tx_id(name).ok_or(ReadFault::Name)
 }
 
+#[tactic(auto, unfolding(crate::specs::Resolving::always_id))]
+fn always_id(catalogue: &Catalogue, name: &str) -> Result<AlwaysId, ReadFault>
+    ensures { Gives (λ x. x) result (always_id catalogue.now name.now) }
+{
+    catalogue.always_id(name).ok_or(ReadFault::Name)
+}
+
 #[tactic(auto, unfolding(crate::specs::Resolving::variable_told))]
 fn variable_told(v: RawVariable<'_>) -> Result<(i64, u64), ReadFault>
     ensures { Gives (λ x. x) result (variable_told (view_variable v.entry)) }
@@ -126,8 +158,8 @@ fn variables_told(alloc: Global, vars: &[RawVariable<'_>]) -> Result<Vec<(i64, u
     Ok(made)
 }
 
-fn outcome_told(ending: RawEnding<'_>) -> Result<Outcome, ReadFault>
-    ensures { Gives (λ x. x) result (outcome_told (view_ending ending.entry)) }
+fn outcome_told(catalogue: &Catalogue, ending: RawEnding<'_>) -> Result<Outcome, ReadFault>
+    ensures { Gives (λ x. x) result (outcome_told catalogue.now (view_ending ending.entry)) }
 {
     match ending {
         RawEnding::Returned(value) => {
@@ -140,6 +172,10 @@ fn outcome_told(ending: RawEnding<'_>) -> Result<Outcome, ReadFault>
         }
         RawEnding::Overflow => Ok(Outcome::Thrown(Fault::Overflow)),
         RawEnding::DivideByZero => Ok(Outcome::Thrown(Fault::DivideByZero)),
+        RawEnding::Broke(name) => {
+            let id = always_id(catalogue, name)?;
+            Ok(Outcome::Thrown(Fault::Broken(id)))
+        }
     }
 }
 
@@ -150,7 +186,7 @@ fn entry_told(catalogue: &Catalogue, e: RawEntry<'_>) -> Result<Entry, ReadFault
     let number = count_in(e.number)?;
     let task = task_id(catalogue, e.task)?;
     let tx = tx_id(catalogue, e.name)?;
-    let outcome = outcome_told(e.ending)?;
+    let outcome = outcome_told(catalogue, e.ending)?;
     Ok(Entry {
         number,
         task,

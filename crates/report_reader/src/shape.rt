@@ -3,7 +3,7 @@
 ghost use Rattle.std.specs.Prelude.{◌≡◌, ◌<◌, ◌≤◌, IfOk, IfSome, length, codes};
 ghost use Rattle.text_words.specs.Answers.{Gives};
 ghost use Rattle.report_reader.specs.Lines.{lines};
-ghost use Rattle.report_reader.specs.Reading.{variable_in, valued_in, ending_in, entry_in, task_in, numbered_in, expect, line_at, lines_at, next_at, all_at, end_at, raw_at};
+ghost use Rattle.report_reader.specs.Reading.{variable_in, valued_in, broke_in, worded_in, ending_in, entry_in, task_in, numbered_in, expect, line_at, lines_at, next_at, all_at, end_at, raw_at};
 ghost use Rattle.report_reader.specs.View.{view_variable, view_variables, view_ending, view_entry, view_entries, view_task, view_tasks, view_next, view_raw};
 
 use crate::lines::{next_line, word_of};
@@ -29,19 +29,40 @@ fn variable_in(text: &[u8]) -> Result<RawVariable<'_>, ReadFault>
     })
 }
 
-/// An ending that has a value.
+/// The ending of this word and a value.
 #[tactic(auto, unfolding(crate::specs::Reading::valued_in))]
-fn valued_in(text: &[u8]) -> Result<RawEnding<'_>, ReadFault>
-    ensures { Gives view_ending result (valued_in text.now) }
+fn valued_in<'a>(word: &[u8], text: &'a [u8]) -> Result<RawEnding<'a>, ReadFault>
+    ensures { Gives view_ending result (valued_in word.now text.now) }
 {
-    let (word, rest) = word_of(text)?;
-    let value = numeral_of(rest)?;
+    let value = numeral_of(text)?;
     if is_word(word, "returned") {
         Ok(RawEnding::Returned(value))
     } else if is_word(word, "threw") {
         Ok(RawEnding::Threw(value))
     } else {
         Err(ReadFault::Shape)
+    }
+}
+
+/// The ending by a condition of this name.
+#[tactic(auto, unfolding(crate::specs::Reading::broke_in))]
+fn broke_in(text: &[u8]) -> Result<RawEnding<'_>, ReadFault>
+    ensures { Gives view_ending result (broke_in text.now) }
+{
+    let name = name_of(text)?;
+    Ok(RawEnding::Broke(name))
+}
+
+/// An ending of two words.
+#[tactic(auto, unfolding(crate::specs::Reading::worded_in))]
+fn worded_in(text: &[u8]) -> Result<RawEnding<'_>, ReadFault>
+    ensures { Gives view_ending result (worded_in text.now) }
+{
+    let (word, rest) = word_of(text)?;
+    if is_word(word, "broke") {
+        broke_in(rest)
+    } else {
+        valued_in(word, rest)
     }
 }
 
@@ -54,7 +75,7 @@ fn ending_in(text: &[u8]) -> Result<RawEnding<'_>, ReadFault>
     } else if is_word(text, "zerodiv") {
         Ok(RawEnding::DivideByZero)
     } else {
-        valued_in(text)
+        worded_in(text)
     }
 }
 

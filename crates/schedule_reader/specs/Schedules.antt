@@ -6,7 +6,7 @@ use Rattle.programs.specs.Listing.{Listing}
 use Rattle.text_words.specs.Bytes.{is_allowed}
 use Rattle.text_words.specs.Answers.{◌>>=◌}
 use Rattle.text_words.specs.declared.fault.ReadFault.{ReadFault}
-use Rattle.text_words.specs.declared.fault.ReadFault.TheVariants.{TooLong, BadByte, Shape, Name, Limit, Memory}
+use Rattle.text_words.specs.declared.fault.ReadFault.TheVariants.{TooLong, BadByte, Shape, Name, Limit, Broken, Memory}
 use Rattle.report_reader.specs.Lines.{lines}
 use Rattle.schedule_reader.specs.Spelling.{schedule_text, MoveFits}
 use Rattle.schedule_reader.specs.Raw.{Raw, raw_text, IsRaw}
@@ -39,6 +39,8 @@ IsFirst l bytes Shape = (length bytes ≤ max_len) × (list_all is_allowed bytes
 IsFirst l bytes Name = (raws : List Raw) × (IsWritten bytes raws × (names_known l raws ≡ false))
 -- they are, all variables are known, and yet they are the text of no moves
 IsFirst l bytes Limit = (raws : List Raw) × (IsWritten bytes raws × (names_known l raws ≡ true) × ((moves : List Move) → IsSchedule l bytes moves → ⊥))
+-- these are no faults of a schedule
+IsFirst l bytes Broken = ⊥
 IsFirst l bytes Memory = ⊥
 
 -- the same, read in order

@@ -15,4 +15,5 @@ pub use Rattle.file_printer.specs.Canonical
 pub use Rattle.file_printer.specs.Fits
 pub use Rattle.report_printer.specs.ReportText
 pub use Rattle.report_printer.specs.ReportFits
+pub use Rattle.file_grammar.specs.declared.file
 pub use Rattle.text_words.specs.declared.fault

@@ -1,5 +1,5 @@
-use Rattle.std.proofs.Common.{◌≡◌, ◌<◌, false, Bool, List, [], length, get_or, set, sym, ◌∙◌, ap, arith}
-use Rattle.book.proofs.Sleeping.{Flagging, no_pair, flagging_next, flagging_last, flagging_known, flagging_room, set_read}
+use Rattle.std.proofs.Common.{false, Bool, List, get_or, set, ◌∙◌, ap, arith}
+use Rattle.book.proofs.Sleeping.{no_pair, flagging_next, flagging_known, flagging_room, set_read}
 use Rattle.book.proofs.sleepers.leave.Goals as goal
 
 pub index_mut-requires : goal.index_mut-requires

@@ -1,4 +1,4 @@
-use Rattle.std.proofs.Common.{◌≡◌, Bool, false, List, map, replicate, refl, sym, ◌∙◌, ap, subst}
+use Rattle.std.proofs.Common.{Bool, false, List, map, replicate, sym, ◌∙◌, ap, subst}
 use Rattle.book.specs.declared.task.Task.{Task}
 use Rattle.book.specs.declared.task.Task.TheVariants.{Running}
 use Rattle.book.specs.Turns.{readied_one}

@@ -1,4 +1,4 @@
-use Rattle.std.proofs.Common.{◌≡◌, ◌<◌, ℕ, Bool, true, List, [], Some, length, set, get_or, refl, sym, ◌∙◌, ap, subst}
+use Rattle.std.proofs.Common.{◌≡◌, ◌<◌, ℕ, true, List, [], Some, length, set, get_or, refl, sym, ◌∙◌, ap, subst}
 use Rattle.std.specs.List.{slice_get}
 use Rattle.std.proofs.lemmas.Option.{same_Some, slice_get_within, slice_get_read}
 use Rattle.attempt.specs.Asking.{Known}

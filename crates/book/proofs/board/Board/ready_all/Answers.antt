@@ -1,4 +1,4 @@
-use Rattle.std.proofs.Common.{◌≡◌, ◌<◌, ◌∙◌, arith, ap, sym, length, Some, map, take, drop, length-append, length-take, length-drop}
+use Rattle.std.proofs.Common.{◌<◌, ◌∙◌, arith, ap, length, map, take, drop, length-append, length-take, length-drop}
 use Rattle.std.proofs.lemmas.List.{length-map}
 use Rattle.book.specs.Board.{BoardView}
 use Rattle.book.specs.Turns.{readied_one}

@@ -1,9 +1,9 @@
-use Rattle.std.proofs.Common.{◌≡◌, ℕ, Bool, true, false, List, [], Some, length, get_or, set, refl, sym, ◌∙◌, ap, subst}
+use Rattle.std.proofs.Common.{◌≡◌, false, List, [], Some, length, get_or, refl, sym, ◌∙◌, ap, subst}
 use Rattle.std.specs.List.{slice_get}
 use Rattle.std.proofs.lemmas.Option.{slice_get_within, slice_get_read}
 use Rattle.attempt.specs.Asking.{Known}
 use Rattle.book.specs.declared.task.Task.{Task}
-use Rattle.book.specs.declared.task.Task.TheVariants.{Ready, Parked}
+use Rattle.book.specs.declared.task.Task.TheVariants.{Parked}
 use Rattle.book.specs.Board.{BoardView, flagged}
 use Rattle.book.specs.BoardInside.{AreSets}
 use Rattle.book.proofs.Sets.{sets_rouse}

@@ -1,13 +1,13 @@
-use Rattle.std.proofs.Common.{◌≡◌, ◌<◌, ℕ, true, List, Option, Some, None, length, refl, sym, ◌∙◌, ap, subst, arith}
+use Rattle.std.proofs.Common.{true, List, Option, refl, sym, ◌∙◌, ap, subst, arith}
 use Rattle.std.specs.List.{slice_get}
 use Rattle.std.proofs.lemmas.Option.{slice_get_within}
 use Rattle.programs.specs.declared.ast.TaskId.{TaskId}
-use Rattle.task_set.specs.Members.{IsLowest, HasNone}
+use Rattle.task_set.specs.Members.{HasNone}
 use Rattle.book.specs.declared.task.Task.{Task}
 use Rattle.book.specs.declared.task.Task.TheVariants.{Ready, Running}
 use Rattle.book.specs.Board.{BoardView, IsTaken, placed, with_tasks}
 use Rattle.book.specs.BoardInside.{AreSets, board_of}
-use Rattle.book.proofs.Sets.{sets_ready, ready_in, in_ready, board_is}
+use Rattle.book.proofs.Sets.{sets_ready, ready_in, in_ready}
 use Rattle.book.proofs.board.Board.take.Goals as goal
 
 pub returns-in_err-found : goal.returns-in_err-found

@@ -1,6 +1,5 @@
-use Rattle.std.proofs.Common.{◌≡◌, ◌<◌, ℕ, List, length, map, refl, sym, ◌∙◌, ap, subst, arith}
-use Rattle.book.specs.declared.task.Task.{Task}
-use Rattle.book.specs.Board.{BoardView, with_tasks, woken_by}
+use Rattle.std.proofs.Common.{map, ◌∙◌, ap, arith}
+use Rattle.book.specs.Board.{BoardView, woken_by}
 use Rattle.book.proofs.Sets.{board_is}
 use Rattle.book.proofs.Waking.{waking_next, waking_last}
 use Rattle.book.proofs.board.Board.wake.Goals as goal

@@ -1,8 +1,7 @@
-use Rattle.std.proofs.Common.{◌≡◌, ◌<◌, ℕ, Bool, true, List, [], Some, length, get_or, map, refl, sym, ◌∙◌, ap, subst, arith}
+use Rattle.std.proofs.Common.{◌≡◌, ◌<◌, Bool, true, List, Some, map, sym, ◌∙◌, ap, subst, arith}
 use Rattle.std.specs.List.{slice_get}
-use Rattle.task_set.specs.Members.{IsLowest, HasNone}
-use Rattle.book.specs.declared.task.Task.{Task}
-use Rattle.book.specs.Board.{BoardView, with_tasks, waits_for, woken_for}
+use Rattle.task_set.specs.Members.{HasNone}
+use Rattle.book.specs.Board.{BoardView, waits_for, woken_for}
 use Rattle.book.proofs.Draining.{weigh}
 use Rattle.book.proofs.Sets.{asleep_now, board_is}
 use Rattle.book.proofs.Waking.{waits_is_parked, woken_first, woken_last, fewer_wait, waiting_one}

@@ -1,16 +1,13 @@
-use Rattle.std.proofs.Common.{◌≡◌, ◌<◌, ℕ, ◌+◌, ◌++◌, ◌∷◌, [], List, length, map, set, sym, subst, ap, ◌∙◌, arith}
-use Rattle.std.specs.List.{slice_get}
+use Rattle.std.proofs.Common.{◌≡◌, ◌<◌, ℕ, ◌+◌, ◌++◌, ◌∷◌, [], length, map, set, sym, subst, ap, ◌∙◌, arith}
 use Rattle.programs.specs.Meaning.{State, outcome, after}
 use Rattle.programs.specs.Listing.{task_program}
 use Rattle.shared_words.specs.Stores.{AreChanges, with_changes, id_of}
 use Rattle.attempt.specs.Asking.{Known}
-use Rattle.attempt.specs.Order.{AllKnown}
-use Rattle.book.specs.declared.task.Task.{Task}
 use Rattle.book.specs.declared.task.Task.TheVariants.{Running, Done}
 use Rattle.book.specs.View.{BookView, IsRunning, committed, woken}
 use Rattle.book.specs.Board.{BoardView, woken_by}
 use Rattle.cells.specs.Cells.{CellsId}
-use Rattle.book.specs.LawfulBook.{LawfulBook, BookFits, AreParked}
+use Rattle.book.specs.LawfulBook.{LawfulBook, BookFits}
 use Rattle.book.specs.BookInside.{book_of}
 use Rattle.book.proofs.Laws.{open_count-set, replays_number}
 use Rattle.book.proofs.Waking.{all_woken_by}

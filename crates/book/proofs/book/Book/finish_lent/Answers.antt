@@ -1,4 +1,4 @@
-use Rattle.std.proofs.Common.{◌≡◌, List, Some, true, false, length, inl, inr, w64, refl, arith, sym, subst, ap, ◌∙◌}
+use Rattle.std.proofs.Common.{◌≡◌, Some, true, false, length, inl, inr, w64, refl, arith, sym, subst, ap, ◌∙◌}
 use Rattle.std.specs.List.{slice_get}
 use mir.Val.{to_z, of_z}
 use Rattle.std.proofs.lemmas.Int.{to_z-of_z}
@@ -10,7 +10,6 @@ use Rattle.attempt.specs.Frame.{Agrees}
 use Rattle.attempt.specs.Order.{AllKnown, Ascending}
 use Rattle.attempt.specs.View.{AttemptView, Answers, HoldsAt, idle, next_of}
 use Rattle.attempt.specs.declared.next.Next.{Next}
-use Rattle.book.specs.declared.task.Task.{Task}
 use Rattle.book.specs.declared.task.Task.TheVariants.{Running, Parked}
 use Rattle.book.specs.declared.book.Book.TheInside.{Inside}
 use Rattle.book.specs.View.{BookView, IsRunning, stands}

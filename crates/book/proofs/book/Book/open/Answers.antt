@@ -1,10 +1,9 @@
-use Rattle.std.proofs.Common.{◌≡◌, ◌∙◌, arith, ap, sym, refl, true, List, ℤ, length, replicate}
-use Rattle.std.proofs.lemmas.List.{length-replicate}
+use Rattle.std.proofs.Common.{◌≡◌, ◌∙◌, arith, ap, true, List, ℤ, length, replicate}
 use Rattle.std.proofs.lemmas.Option.{slice_get-get_or}
 use Rattle.programs.specs.Listing.{Listing, tasks, task_tx}
 use Rattle.programs.specs.Names.{names_hold}
 use Rattle.programs.proofs.Lawful.{known_task}
-use Rattle.attempt.proofs.Declared.{program_known}
+use Rattle.attempt_machine.proofs.Declared.{program_known}
 use Rattle.book.specs.declared.task.Task.TheVariants.{Ready}
 use Rattle.book.specs.BookInside.{snapshot_of}
 use Rattle.book.proofs.Kept.{opening_is, kept_opened, AllKnow}
@@ -35,6 +34,7 @@ invariant_of-result c =
     (omega (arith, n, c.tasks-count.ensures.few))
     (omega (arith, ap length i, c.initial.ensures.few))
     (all_know l c.rules.ensures.named c.rules.ensures.names)
+    c.rules.ensures.upheld
     (omega (arith, n, c.in_ok-with_capacity.ensures.capacity))
     (omega (arith, size, c.in_ok-with_capacity-2.ensures.capacity))
     (c.in_ok-open.ensures.variables ∙ size)

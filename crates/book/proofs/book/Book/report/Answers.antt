@@ -27,6 +27,6 @@ returns c =
       current = snapshot_told b.present.number c.in_ok-pairs-2.field-0.items b.present refl two.values two.versions ∙ ap (λ (x : BookView). x.present) v;
       parked = three.tasks ∙ (ap (λ (ts : List Task). listed is_parked b.catalogue 0 ts) c.tasks.ensures ∙ ap (λ (x : BookView). listed is_parked x.catalogue 0 x.tasks) v);
       memory = four.tasks ∙ (ap (λ (ts : List Task). listed is_given_up b.catalogue 0 ts) c.tasks-2.ensures ∙ ap (λ (x : BookView). listed is_given_up x.catalogue 0 x.tasks) v);
-      known = subst (λ (x : BookView). All (λ (p : TaskId × TxId). p.1.0 < length x.catalogue.programs) c.in_ok-parked.field-0.items) v three.known;
-      known_memory = subst (λ (x : BookView). All (λ (p : TaskId × TxId). p.1.0 < length x.catalogue.programs) c.in_ok-given_up.field-0.items) v four.known;
+      known = subst (λ (x : BookView). All (λ (p : TaskId × TxId). p.1.0 < length x.catalogue.transactions) c.in_ok-parked.field-0.items) v three.known;
+      known_memory = subst (λ (x : BookView). All (λ (p : TaskId × TxId). p.1.0 < length x.catalogue.transactions) c.in_ok-given_up.field-0.items) v four.known;
     }
