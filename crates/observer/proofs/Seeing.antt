@@ -1,5 +1,5 @@
 -- The pass while a transaction is observed, and the end of the attempt.
-use Rattle.std.proofs.Common.{◌≡◌, ◌∙◌, ◌+◌, ℕ, ℤ, true, false, List, length, ap, subst, sym}
+use Rattle.std.proofs.Common.{◌≡◌, ◌∙◌, ◌+◌, ℕ, ℤ, List, length, ap, subst, sym}
 use Rattle.programs.specs.declared.ast.Outcome.{Outcome}
 use Rattle.programs.specs.declared.ast.TxId.{TxId}
 use Rattle.programs.specs.Listing.{Listing, program_at}
