@@ -46,7 +46,7 @@ pub fn observe(
     catalogue: &Catalogue,
     tx: TxId,
 ) -> Observed
-    requires known { tx.0 < length catalogue.now.programs }
+    requires known { tx.0 < length catalogue.now.transactions }
     requires own { pass.old.cells ≡ cells.now }
     requires variables { cells.now.variables ≡ length catalogue.now.initial }
     ensures observes { ObservesBy pass.old pass.new }

@@ -1,17 +1,18 @@
 -- The frame theorem at the tasks of a catalogue.
 use Rattle.std.proofs.Common.{◌≡◌, ℕ, zero, suc, true, List, [], ◌∷◌, length, Some, pos, sym, refl, ◌∙◌, subst, slice_get, slice_index_or}
 use Rattle.std.proofs.Math.ListN.{length-set}
-use Rattle.programs.specs.Listing.{Listing, task_program, task_tx}
+use Rattle.programs.specs.Listing.{Listing, conditions, task_program, task_tx}
 use Rattle.programs.specs.Meaning.{State, outcome, after}
 use Rattle.programs.specs.Names.{names_hold}
-use Rattle.programs.specs.Scope.{ProgramKnown}
-use Rattle.programs.specs.Tree.{Skip, Int}
+use Rattle.programs.specs.Scope.{ConditionsKnown, ProgramKnown}
+use Rattle.programs.specs.Tree.{Skip, Int, under}
 use Rattle.programs.specs.declared.ast.Outcome.{Outcome}
 use Rattle.programs.specs.declared.ast.TaskId.{TaskId}
 use Rattle.programs.proofs.Lawful.{known_at}
+use Rattle.evaluator.proofs.Always.{conditions_known}
 use Rattle.attempt.specs.Asking.{Known, Answer, Ends, ask}
 use Rattle.attempt.specs.Frame.{Agrees, store, AnswersBy}
-use Rattle.attempt.proofs.FrameProof.{frame_holds}
+use Rattle.attempt_machine.proofs.FrameProof.{frame_holds}
 
 -- each task's program names only variables that are there
 pub record IsSound (l : Listing) : Type 0 where
@@ -25,8 +26,9 @@ found (x ∷ xs) (suc i) d P each other = found xs i d P each other
 -- the rules on names of a catalogue
 pub sound_by : (l : Listing) → names_hold l ≡ true → length l.names ≡ length l.initial → IsSound l
 sound_by l names same = record {
-  known = λ a. found l.programs (task_tx l a).0 (record { name = []; body = Skip; result = Int (pos 0) }) (ProgramKnown (length l.initial))
-      (λ t e. subst (λ (n : ℕ). ProgramKnown n t) same (known_at l (task_tx l a).0 t names e)) (tt, tt);
+  known = λ a. found l.transactions (task_tx l a).0 (record { name = []; body = Skip; result = Int (pos 0) }) (λ t. ProgramKnown (length l.initial) (under (conditions l) t))
+      (λ t e. subst (λ (n : ℕ). ProgramKnown n (under (conditions l) t)) same (known_at l (task_tx l a).0 t names e))
+      (tt, (tt, subst (λ (n : ℕ). ConditionsKnown n (conditions l)) same (conditions_known l names)));
 }
 
 pub length-store : (writes : Known) (m : State) → length (store writes m) ≡ length m

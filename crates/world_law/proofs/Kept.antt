@@ -65,6 +65,7 @@ pub record Holds (k : Listing) (w : World) : Type 0 where
   pub words : WordsMean w.words commit
   pub under : Under k w.attempts w.committer commit
   pub states : (n : ℕ) → n < length w.history → length (state_of w.history n) ≡ length k.initial
+  pub begins : state_of w.history 0 ≡ k.initial
   pub reads : (i : ℕ) (y : Started) → slice_get w.attempts i ≡ Some y → ReadsHold w y
   pub loads : (i : ℕ) (y : Started) → slice_get w.attempts i ≡ Some y → LoadsHold k w y
   pub alone : (i j : ℕ) (y z : Started) → slice_get w.attempts i ≡ Some y → slice_get w.attempts j ≡ Some z → y.task ≡ z.task → is_live y.fate ≡ true → is_live z.fate ≡ true → i ≡ j
@@ -167,6 +168,7 @@ changed_kept k w i y y' h r never = record {
   words = h.words;
   under = under_set k w.attempts i y' w.committer h.commit r.apart h.under;
   states = h.states;
+  begins = h.begins;
   reads = λ j z at. ⊎_elim
       (λ (t : (j ≢ i) × (slice_get w.attempts j ≡ Some z)). h.reads j z t.1)
       (λ (t : (j ≡ i) × (y' ≡ z)). subst (ReadsHold w) t.1 r.reads)
@@ -203,6 +205,7 @@ begun_kept k w a f h can never = record {
   words = h.words;
   under = under_push k w.attempts new w.committer h.commit h.under;
   states = h.states;
+  begins = h.begins;
   reads = λ j z at. ⊎_elim
       (λ (e : slice_get w.attempts j ≡ Some z). h.reads j z e)
       (λ (e : (j ≡ length w.attempts) × (new ≡ z)). subst (ReadsHold w) e.1 (let clock = h.words.clock in let same = ap (λ (l : List State). length l) h.history in omega arith, tt))
@@ -263,6 +266,7 @@ asked_kept k w a i y o ws sound h stands none goes agrees = record {
     };
   };
   states = h.states;
+  begins = h.begins;
   reads = h.reads;
   loads = h.loads;
   alone = h.alone;

@@ -74,6 +74,7 @@ opening_holds k w o = subst (Holds k) (sym same) record {
     },
   );
   states = λ n l. ap (λ (j : ℕ). length (state_of (k.initial ∷ []) j)) (only k.initial n l);
+  begins = refl;
   reads = λ i y e. absurd (none_at i y e);
   loads = λ i y e. absurd (none_at i y e);
   alone = λ i j y z e. absurd (none_at i y e);

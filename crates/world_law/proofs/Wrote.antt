@@ -70,6 +70,7 @@ module _ (k : Listing) (w : World) (c : Committer) (s : Store) (ws : List ℕ) (
     words = went.0.0;
     under = pending_more k w.attempts c h.commit s p next.1 went.1;
     states = h.states;
+    begins = h.begins;
     reads = h.reads;
     loads = λ i y at x needs. (sampling_stays _ _ _ _ y.rv _ (went.0.1 x.0) y.loads (h.loads i y at x needs).0, (h.loads i y at x needs).1);
     alone = h.alone;
@@ -102,6 +103,7 @@ module _ (k : Listing) (w : World) (c : Committer) (s : Store) (ws : List ℕ) (
         (λ early. ap (λ (u : State). length u) (state_before w.history new n early) ∙ h.states n early)
         (λ late. ap (λ (u : State). length u) (state_new w.history new n (omega (arith, more)))
         ∙ (same_size p.base p.before c.changes p.rest p.are ∙ (ap (λ (u : State). length u) (p.rest.settled.1 ∙ ap last_state first) ∙ h.states (number - 1) (omega (arith, some)))));
+    begins = state_before w.history new 0 some ∙ h.begins;
     reads = λ i y at. let r = h.reads i y at in ((let l = r.0 in omega (arith, more)), subst (Agrees y.log) (sym (state_before w.history new y.rv r.0)) r.1);
     loads = λ i y at x needs. (
       sampling_stays _ _ _ _ y.rv _ (went.0.1 x.0) y.loads
@@ -176,6 +178,7 @@ finished_kept k w c y h is all at = record {
   words = h.words;
   under = (p.before + 1, rests_again p.base p.before c.changes p.rest p.are h.commit (as_freeing p.base p.before c.changes c.stored (length c.changes) h.commit p.phase (omega (arith, total))));
   states = h.states;
+  begins = h.begins;
   reads = λ j z g. ⊎_elim
       (λ (t : (j ≢ c.place) × (slice_get w.attempts j ≡ Some z)). h.reads j z t.1)
       (λ (t : (j ≡ c.place) × (y' ≡ z)). subst (ReadsHold w) t.1 (h.reads c.place y at))

@@ -31,7 +31,8 @@ pair =
     record {
       names = (120 ∷ []) ∷ (121 ∷ []) ∷ [];
       initial = pos 1 ∷ pos 1 ∷ [];
-      programs =
+      always = [];
+      transactions =
           record { name = 115 ∷ []; body = Skip; result = Add (Var x) (Var y) }
           ∷ record { name = 98 ∷ []; body = Seq (More (Set x (Int (pos 2))) (More (Set y (Int (pos 2))) End)); result = Int (pos 0) }
           ∷ [];
@@ -71,7 +72,8 @@ back_and_forth =
     record {
       names = (120 ∷ []) ∷ [];
       initial = pos 1 ∷ [];
-      programs =
+      always = [];
+      transactions =
           record { name = 103 ∷ []; body = Skip; result = Var x }
           ∷ record { name = 116 ∷ []; body = Set x (Int (pos 2)); result = Int (pos 0) }
           ∷ record { name = 111 ∷ []; body = Set x (Int (pos 1)); result = Int (pos 0) }

@@ -1,5 +1,7 @@
 //! What holds whatever happens in the world.
 
+ghost use Rattle.std.specs.Prelude.{All};
+ghost use Rattle.programs.specs.Standing.{Upholds};
 ghost use Rattle.world_law.specs.World.{World, IsOpening};
 ghost use Rattle.world_law.specs.Next.{Reachable, Run};
 ghost use Rattle.world_law.specs.Opacity.{Opaque, WordsHold};
@@ -9,12 +11,13 @@ use txn::Catalogue;
 
 /// Whatever happens in the world of a catalogue, in whatever order and wherever want of memory
 /// comes, each attempt's reads are those of one state of the history, whatever became of it; each
-/// state was made by exactly one attempt, whose program leads to it; no task commits twice; and
-/// the words mean what they should, between any two loads and stores. It does nothing: its
-/// contract is the law.
+/// state was made by exactly one attempt, whose program leads to it; no task commits twice; the
+/// words mean what they should, between any two loads and stores; and each standing condition is
+/// true of every state of the history. It does nothing: its contract is the law.
 pub fn opacity(catalogue: &Catalogue)
     ensures opaque { (w : World) → Reachable catalogue.now w → Opaque catalogue.now w }
     ensures words { (w : World) → Reachable catalogue.now w → WordsHold catalogue.now w }
+    ensures upheld { (w : World) → Reachable catalogue.now w → All (λ m. Upholds catalogue.now m) w.history }
 {
     catalogue.rules();
 }
