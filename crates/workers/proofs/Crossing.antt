@@ -83,7 +83,7 @@ tx_sync : IsSync tx.the_row
 tx_sync = declared_sync tx.the_type (search (sendable, crosses) depth 20, (stmt_sync, (expr_sync, tt)))
 
 pub catalogue_sync : IsSync catalogue.the_row
-catalogue_sync = let t = tx_sync in let o = op.the_sync in search (sendable, crosses) depth 60
+catalogue_sync = let t = tx_sync in let c = cond_sync in let o = op.the_sync in search (sendable, crosses) depth 80 fits 6000
 
 pub book_send : (ℓ : NamedLft) → IsSend (book.the_row ℓ)
 book_send ℓ = let a = catalogue_sync in let b = cells.the_sync in let c = publisher.the_send in let d = stored.the_send in let e = task.the_send in let f = entry.the_send in let h = board.the_send in search (sendable, crosses) depth 60

@@ -26,7 +26,7 @@ pub(crate) trait Naming: Send {
 }
 
 impl Naming for Brand {
-    ghost catalogue = { record { names = []; initial = []; programs = []; runs = [] } };
+    ghost catalogue = { record { names = []; initial = []; always = []; transactions = []; runs = [] } };
 }
 
 /// A book of the run's catalogue.

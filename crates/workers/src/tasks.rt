@@ -1,8 +1,9 @@
 //! Runs all tasks of a catalogue.
 
 ghost use Rattle.std.specs.Prelude.{◌≡◌, ◌∷◌, [], length, All, IfOk};
-ghost use Rattle.programs.specs.Told.{told};
+ghost use Rattle.programs.specs.Told.{told, base_of, now_of};
 ghost use Rattle.programs.specs.LawfulReport.{LawfulReport, BaseReached};
+ghost use Rattle.programs.specs.Standing.{Upholds};
 
 use crate::gate::Gate;
 use crate::shared::{Naming, open, settle};
@@ -21,7 +22,7 @@ use txn::{Catalogue, Memory, Report};
 ///
 /// The workers read the cells by a pass each, and share the book behind a lock, which publishes to
 /// the cells. When they have ended, the book gives a turn to what is left, and no task is ready or
-/// running when it reports.
+/// running when it reports. Each standing condition is true of the values that it reports.
 pub fn run_tasks<R: Threads + Wait + Sync, G: Gate>(
     rt: &R,
     alloc: Global,
@@ -31,6 +32,7 @@ pub fn run_tasks<R: Threads + Wait + Sync, G: Gate>(
 ) -> Result<Report, Memory>
     ensures lawful { IfOk result (λ r. LawfulReport catalogue.now (told r)) }
     ensures reached { IfOk result (λ r. BaseReached catalogue.now (told r)) }
+    ensures upheld { IfOk result (λ r. Upholds catalogue.now (base_of (told r)).state × Upholds catalogue.now (now_of (told r)).state) }
 {
     let (cells, publisher, passes) = Cells::open(
         alloc,

@@ -26,7 +26,7 @@ pub(crate) fn attempt_on<'c, G: Gate>(
     gate: &G,
     task: TaskId,
 ) -> Result<(), Cut>
-    requires known { tx.0 < length catalogue.now.programs }
+    requires known { tx.0 < length catalogue.now.transactions }
     requires own { pass.old.cells ≡ cells.now }
     requires variables { cells.now.variables ≡ length catalogue.now.initial }
     ensures cells { pass.new.cells ≡ pass.old.cells }
