@@ -10,3 +10,4 @@ pub mod Kept
 pub mod Wrote
 pub mod Reached
 pub mod Working
+pub mod Single
