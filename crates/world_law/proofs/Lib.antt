@@ -11,3 +11,4 @@ pub mod Wrote
 pub mod Reached
 pub mod Working
 pub mod Upheld
+pub mod Single

@@ -3,3 +3,4 @@ pub mod Next
 pub mod Commits
 pub mod Opacity
 pub mod Worked
+pub mod Determined

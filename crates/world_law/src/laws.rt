@@ -5,6 +5,7 @@ ghost use Rattle.programs.specs.Standing.{Upholds};
 ghost use Rattle.world_law.specs.World.{World, IsOpening};
 ghost use Rattle.world_law.specs.Next.{Reachable, Run};
 ghost use Rattle.world_law.specs.Opacity.{Opaque, WordsHold};
+ghost use Rattle.world_law.specs.Determined.{HasOneAnswer, HasOneRefusal};
 ghost use Rattle.world_law.specs.Worked.{pair, pair_opening, torn_events, torn_answers, torn_end, back_and_forth, back_opening, back_events, back_answers, back_end};
 
 use txn::Catalogue;
@@ -18,6 +19,17 @@ pub fn opacity(catalogue: &Catalogue)
     ensures opaque { (w : World) → Reachable catalogue.now w → Opaque catalogue.now w }
     ensures words { (w : World) → Reachable catalogue.now w → WordsHold catalogue.now w }
     ensures upheld { (w : World) → Reachable catalogue.now w → All (λ m. Upholds catalogue.now m) w.history }
+{
+    catalogue.rules();
+}
+
+/// Nothing but want of memory is left open: in each world that events lead to, two answers of one
+/// event that are no want of memory are equal, and so are the worlds after them. The worlds after
+/// want of memory are equal too, and it comes only where the attempt could go on. It does nothing:
+/// its contract is the law.
+pub fn one_answer(catalogue: &Catalogue)
+    ensures answer { (w : World) → Reachable catalogue.now w → HasOneAnswer catalogue.now w }
+    ensures refusal { (w : World) → Reachable catalogue.now w → HasOneRefusal catalogue.now w }
 {
     catalogue.rules();
 }

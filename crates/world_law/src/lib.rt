@@ -4,11 +4,11 @@
 //! `events` names what may happen, what is seen of it, and what becomes of an attempt. What each
 //! event does stands in `specs/World.antt` and `specs/Next.antt`, over plain data. `laws` has the
 //! theorem: whatever happens, in whatever order, all that an attempt reads is of one state of the
-//! history.
+//! history; and that the world leaves nothing open but want of memory.
 #![tactic(auto)]
 
 pub mod events;
 pub mod laws;
 
 pub use events::{Event, Fate, Seen};
-pub use laws::opacity;
+pub use laws::{one_answer, opacity};

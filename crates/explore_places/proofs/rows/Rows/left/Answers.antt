@@ -1,4 +1,4 @@
-use Rattle.std.proofs.Common.{rules, ◌≡◌, ℕ, ◌+◌, ◌-◌, ◌*◌, ◌<◌, ◌≤◌, ℤ, List, [], ◌∷◌, ◌++◌, length, get_or, take, drop, true, false, refl, sym, ◌∙◌, ap, subst, arith}
+use Rattle.std.proofs.Common.{ℕ, ◌*◌, List, length, take, drop, ◌∙◌, ap, arith}
 use Rattle.explore_law.specs.Orders.{Place}
 use Rattle.explore_places.proofs.FlatRows.{part_lefts, row_is}
 use Rattle.explore_places.proofs.rows.Rows.left.Goals as goal

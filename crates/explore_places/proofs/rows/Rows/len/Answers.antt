@@ -1,4 +1,4 @@
-use Rattle.std.proofs.Common.{rules, ◌≡◌, ℕ, ◌+◌, ◌-◌, ◌*◌, ◌<◌, ◌≤◌, [], ◌∷◌, ◌++◌, length, get_or, take, drop, refl, sym, ◌∙◌, ap, arith}
+use Rattle.std.proofs.Common.{length, sym, ◌∙◌, ap}
 use Rattle.explore_places.specs.Shelf.{Shelf}
 use Rattle.explore_places.proofs.FlatRows.{length-rows}
 use Rattle.explore_places.proofs.rows.Rows.len.Goals as goal

@@ -1,4 +1,4 @@
-use Rattle.std.proofs.Common.{rules, ◌≡◌, ℕ, ◌+◌, ◌-◌, ◌*◌, ◌<◌, ◌≤◌, ℤ, List, [], ◌∷◌, ◌++◌, length, get_or, take, drop, true, false, refl, sym, ◌∙◌, ap, subst, arith}
+use Rattle.std.proofs.Common.{[], arith}
 use Rattle.explore_places.proofs.FlatRows.{count_is, kept_values, kept_both, pushed, on_err}
 use Rattle.explore_places.proofs.rows.Rows.push.Goals as goal
 

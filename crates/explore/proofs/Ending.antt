@@ -1,0 +1,218 @@
+-- What is found when the search is done.
+use Rattle.std.proofs.Common.{◌≡◌, ℕ, zero, suc, ◌+◌, ◌<◌, ◌≤◌, true, false, List, [], ◌∷◌, ◌++◌, length, map, replicate, get_or, Some, refl, sym, ◌∙◌, ap, subst, inl, inr, ⊎_elim, arith}
+use Rattle.std.specs.Prelude.{All, slice_get}
+use Rattle.std.specs.List.{Contains}
+use Rattle.std.specs.List.Sorted.{IsPermutation, IsSorted}
+use Rattle.std.proofs.lemmas.List.{length-map, get_or-map, length-replicate}
+use Rattle.std.proofs.lemmas.List.Elements.{All-from_get_or}
+use Rattle.std.proofs.lemmas.List.Edits.{swapped_from_swap, length-swap}
+use Rattle.std.specs.List.{swap}
+use Rattle.std.proofs.lemmas.List.Sorted.{IsPermutation-keeps, IsPermutation-sym, Contains-permutation}
+use Rattle.std.proofs.lemmas.Option.{slice_get_within, slice_get-get_or, get_or_from_slice_get}
+use Rattle.std.proofs.lemmas.Bool.{cases_lt, cases_eq}
+use Rattle.programs.specs.declared.ast.TxId.{TxId}
+use Rattle.programs.specs.Listing.{Listing, tasks}
+use Rattle.explore_law.specs.declared.found.Kinds.{Kinds}
+use Rattle.explore_law.specs.declared.found.Found.{Found}
+use Rattle.explore_law.specs.Orders.{Place, first_place, Reached}
+use Rattle.explore_law.specs.Explored.{Kind, Returning, Throwing, Overflowing, DividingByZero, shows, IsOnce, ReachesMore, Explored, end_place, end_places, place_cmp}
+use Rattle.explore_law.specs.declared.found.End.{End}
+use Rattle.std.specs.Ordering.{is_lt}
+use Rattle.explore_places.specs.Shelf.{Shelf, Adds, nowhere}
+use Rattle.explore_places.specs.Indexed.{place_at}
+use Rattle.explore_places.proofs.Indexing.{contains_at, at_contains, any_default}
+use Rattle.explore.specs.Noting.{none_seen}
+use Rattle.explore.specs.Searching.{IsTried, IsSearched, IsUnderWay, first_shelf}
+use Rattle.explore.proofs.Counting.{length-counted}
+use Rattle.explore.proofs.Whole.{reached_first, all_reached, all_seen, all_ends}
+use Rattle.explore.proofs.Trying.{ended_on}
+
+-- a list that lists nothing twice, by places
+abbrev Apart : List Place → Type 0
+Apart ps = (i j : ℕ) → i < length ps → j < length ps → get_or ps i nowhere ≡ get_or ps j nowhere → i ≡ j
+
+once_from_apart : (ps : List Place) → Apart ps → IsOnce ps
+once_from_apart ps h i j p e f = h i j (slice_get_within ps i p e) (slice_get_within ps j p f) (get_or_from_slice_get ps i p nowhere e ∙ sym (get_or_from_slice_get ps j p nowhere f))
+
+apart_swapped : (n a b : ℕ) (f g : ℕ → Place) → a < n → b < n → ((i j : ℕ) → i < n → j < n → f i ≡ f j → i ≡ j) → g a ≡ f b → g b ≡ f a → ((m : ℕ) → (m ≡ a → ⊥) → (m ≡ b → ⊥) → g m ≡ f m)
+    → (i j : ℕ) → i < n → j < n → g i ≡ g j → i ≡ j
+apart_swapped n a b f g la lb h ga gb other i j li lj e =
+    ⊎_elim
+    (λ (ia : i ≡ a).
+    let gi : g i ≡ f b = ap g ia ∙ ga in
+    ⊎_elim (λ (ja : j ≡ a). ia ∙ sym ja)
+    (λ (ja : j ≡ a → ⊥). ⊎_elim
+    (λ (jb : j ≡ b). let same : b ≡ a = h b a lb la (sym gi ∙ e ∙ ap g jb ∙ gb) in ia ∙ sym same ∙ sym jb)
+    (λ (jb : j ≡ b → ⊥). absurd (jb (h j b lj lb (sym (other j ja jb) ∙ sym e ∙ gi))))
+    (cases_eq j b))
+    (cases_eq j a))
+    (λ (ia : i ≡ a → ⊥). ⊎_elim
+    (λ (ib : i ≡ b).
+    let gi : g i ≡ f a = ap g ib ∙ gb in
+    ⊎_elim (λ (ja : j ≡ a). let same : a ≡ b = h a b la lb (sym gi ∙ e ∙ ap g ja ∙ ga) in ib ∙ sym same ∙ sym ja)
+    (λ (ja : j ≡ a → ⊥). ⊎_elim (λ (jb : j ≡ b). ib ∙ sym jb) (λ (jb : j ≡ b → ⊥). absurd (ja (h j a lj la (sym (other j ja jb) ∙ sym e ∙ gi)))) (cases_eq j b))
+    (cases_eq j a))
+    (λ (ib : i ≡ b → ⊥).
+    let gi = other i ia ib in
+    ⊎_elim (λ (ja : j ≡ a). absurd (ib (h i b li lb (sym gi ∙ e ∙ ap g ja ∙ ga))))
+    (λ (ja : j ≡ a → ⊥). ⊎_elim (λ (jb : j ≡ b). absurd (ia (h i a li la (sym gi ∙ e ∙ ap g jb ∙ gb)))) (λ (jb : j ≡ b → ⊥). h i j li lj (sym gi ∙ e ∙ other j ja jb)) (cases_eq j b))
+    (cases_eq j a))
+    (cases_eq i b))
+    (cases_eq i a)
+
+-- the ends' places, before they are put in order
+numbered : (ps : List Place) (ends : List ℕ) (i : ℕ) → i < length ends → get_or (map (place_at ps) ends) i nowhere ≡ place_at ps (get_or ends i 0)
+numbered ps [] i h = absurd (omega arith)
+numbered ps (x ∷ ends) zero h = refl
+numbered ps (x ∷ ends) (suc i) h = numbered ps ends i (omega arith)
+
+ends_low : (l : Listing) (ps : List Place) (kinds : List Kinds) (ends : List ℕ) (c k : ℕ) → IsSearched l ps kinds ends c k → (i : ℕ) → i < length ends → get_or ends i 0 < c
+ends_low l ps kinds ends c k s i h = ((s.ends_are (get_or ends i 0)).0 (i, h, any_default ends i (get_or ends i 0) 0 h)).0
+
+pub ends_listed : (l : Listing) (ps : List Place) (kinds : List Kinds) (ends : List ℕ) (k : ℕ) → IsSearched l ps kinds ends (length ps) k → All (λ (i : ℕ). i < length ps) ends
+ends_listed l ps kinds ends k s = All-from_get_or (λ (i : ℕ). i < length ps) ends 0 (λ i h. ends_low l ps kinds ends (length ps) k s i h)
+
+rising_apart : (ends : List ℕ) → ((i j : ℕ) → i < j → j < length ends → get_or ends i 0 < get_or ends j 0) → (i j : ℕ) → i < length ends → j < length ends → get_or ends i 0 ≡ get_or ends j 0 → i ≡ j
+rising_apart ends up i j li lj e =
+    ⊎_elim (λ (h : i < j). absurd (let low = up i j h lj in omega (arith, low, e)))
+    (λ (h : j ≤ i). ⊎_elim (λ (k : j < i). absurd (let low = up j i k li in omega (arith, low, e))) (λ (k : i ≤ j). omega (arith, h, k)) (cases_lt j i))
+    (cases_lt i j)
+
+ends_apart : (l : Listing) (ps : List Place) (kinds : List Kinds) (ends : List ℕ) (k : ℕ) → ((i j : ℕ) → i < length ps → j < length ps → place_at ps i ≡ place_at ps j → i ≡ j)
+    → IsSearched l ps kinds ends (length ps) k → Apart (map (place_at ps) ends)
+ends_apart l ps kinds ends k once s i j li lj e =
+    let size = length-map ends (place_at ps) in
+    let a : i < length ends = omega (arith, size, li) in
+    let b : j < length ends = omega (arith, size, lj) in
+    let same = once (get_or ends i 0) (get_or ends j 0) (ends_low l ps kinds ends (length ps) k s i a) (ends_low l ps kinds ends (length ps) k s j b)
+    (sym (numbered ps ends i a) ∙ e ∙ numbered ps ends j b) in
+    rising_apart ends s.ascend i j a b same
+
+apart_from_once : (ps : List Place) → IsOnce ps → Apart ps
+apart_from_once ps h i j li lj e = h i j (get_or ps i nowhere) (slice_get-get_or ps i nowhere li) (slice_get-get_or ps j nowhere lj ∙ ap Some (sym e))
+
+-- a list in another order lists nothing twice either
+apart_reordered : (ps qs : List Place) → IsPermutation ps qs → Apart ps → Apart qs
+apart_reordered ps qs moved h =
+    IsPermutation-keeps ps Apart h
+    (λ xs a b la lb before.
+    let size = length-swap xs a b in
+    let sw = swapped_from_swap xs (swap xs a b) a b nowhere la lb refl in
+    λ i j li lj e.
+    apart_swapped (length xs) a b (λ k. get_or xs k nowhere) (λ k. get_or (swap xs a b) k nowhere) la lb before sw.0 sw.1 sw.2 i j (omega (arith, size, li)) (omega (arith, size, lj)) e)
+    qs moved
+
+contained : (ps : List Place) (ends : List ℕ) (p : Place) → Contains (map (place_at ps) ends) p → (i : ℕ) × (Contains ends i) × (place_at ps i ≡ p)
+contained ps ends p h =
+    let at = at_contains (map (place_at ps) ends) p h in
+    let low : at.0 < length ends = omega (arith, at.1, length-map ends (place_at ps)) in
+    (get_or ends at.0 0, (at.0, low, any_default ends at.0 (get_or ends at.0 0) 0 low), sym (numbered ps ends at.0 low) ∙ at.2)
+
+contains_numbered : (ps : List Place) (ends : List ℕ) (p : Place) (i : ℕ) → Contains ends i → place_at ps i ≡ p → Contains (map (place_at ps) ends) p
+contains_numbered ps ends p i (j, low, e) is =
+    contains_at (map (place_at ps) ends) j p (omega (arith, low, length-map ends (place_at ps)))
+    (numbered ps ends j low ∙ ap (place_at ps) (any_default ends j 0 i low ∙ e) ∙ is)
+
+-- the answer of a search that is done is exact
+pub explored : (l : Listing) (limit : ℕ) (s : Shelf) (kinds : List Kinds) (ends : List ℕ) (f : Found) → IsUnderWay l limit s kinds ends (length s.places) 0 → IsOnce s.places
+    → f.states ≡ length s.places → f.kinds.items ≡ kinds → IsPermutation (map (place_at s.places) ends) (end_places f) → IsSorted place_cmp (end_places f) → Explored l f
+explored l limit s kinds ends f h once states same moved sorted =
+    let d = h.searched in
+    let ps = s.places in
+    record {
+      places = ps;
+      reached = record { once = once; all = all_reached l ps kinds ends d };
+      states = states;
+      each = ap length same ∙ d.each;
+      kinds = λ tx ks kind is.
+          let at : slice_get kinds tx.0 ≡ Some ks = sym (ap (λ (xs : List Kinds). slice_get xs tx.0) same) ∙ is in
+          let own : get_or kinds tx.0 none_seen ≡ ks = get_or_from_slice_get kinds tx.0 ks none_seen at in
+          let seen = all_seen l ps kinds ends d tx kind (slice_get_within kinds tx.0 ks at) in
+          (λ e. seen.0 (ap (λ (k : Kinds). shows k kind) own ∙ e), λ w. ap (λ (k : Kinds). shows k kind) (sym own) ∙ seen.1 w);
+      ends = λ p. (
+        λ c. let at = contained ps ends p (Contains-permutation (end_places f) (map (place_at ps) ends) p (IsPermutation-sym (map (place_at ps) ends) (end_places f) moved) c) in (all_ends l ps kinds ends d p).0 at,
+        λ r. let at = (all_ends l ps kinds ends d p).1 r in Contains-permutation (map (place_at ps) ends) (end_places f) p moved (contains_numbered ps ends p at.0 at.1 at.2),
+      );
+      ends_once = once_from_apart (end_places f) (apart_reordered (map (place_at ps) ends) (end_places f) moved (ends_apart l ps kinds ends 0 (apart_from_once ps once) d));
+      ends_ascend = sorted;
+    }
+
+-- the start: the first place alone, and no outcome
+first_only : (l : Listing) (i : ℕ) → i < 1 → place_at (first_place l ∷ []) i ≡ first_place l
+first_only l zero h = refl
+first_only l (suc i) h = absurd (omega arith)
+
+none_shown : (n k : ℕ) (kind : Kind) → shows (get_or (replicate n none_seen) k none_seen) kind ≡ true → ⊥
+none_shown zero k Returning h = absurd (cc)
+none_shown zero k Throwing h = absurd (cc)
+none_shown zero k Overflowing h = absurd (cc)
+none_shown zero k DividingByZero h = absurd (cc)
+none_shown (suc n) zero Returning h = absurd (cc)
+none_shown (suc n) zero Throwing h = absurd (cc)
+none_shown (suc n) zero Overflowing h = absurd (cc)
+none_shown (suc n) zero DividingByZero h = absurd (cc)
+none_shown (suc n) (suc k) kind h = none_shown n k kind h
+
+none_tried : (i : ℕ) (tx : TxId) → IsTried 0 0 i tx → ⊥
+none_tried i tx (inl h) = absurd (omega arith)
+none_tried i tx (inr (e, h)) = absurd (omega arith)
+
+pub begun : (l : Listing) (limit : ℕ) (kinds : List Kinds) → 0 < limit → limit ≤ 16777216 → kinds ≡ replicate (length l.programs) none_seen → IsUnderWay l limit (first_shelf l) kinds [] 0 0
+begun l limit kinds some small none =
+    let ps = first_place l ∷ [] in
+    record {
+      searched = record {
+        first = contains_at ps 0 (first_place l) (omega arith) refl;
+        reached = λ i h. subst (Reached l) (sym (first_only l i h)) (reached_first l);
+        closed = λ i tx h tried turn. absurd (none_tried i tx tried);
+        each = ap length none ∙ length-replicate (length l.programs) none_seen;
+        kinds_are = λ tx kind known.
+            (λ h. absurd (none_shown (length l.programs) tx.0 kind (sym (ap (λ (ks : List Kinds). shows (get_or ks tx.0 none_seen) kind) none) ∙ h)), λ w. absurd (none_tried w.i tx w.tried));
+        ends_are = λ i. (λ h. absurd (let at : h.0 < 0 = h.1 in omega (arith, at)), λ e. absurd (let at : i < 0 = e.0 in omega (arith, at)));
+        ascend = λ i j less low. absurd (omega arith);
+      };
+      variables = refl;
+      transactions = refl;
+      sized = λ i h.
+          let at = first_only l i h in
+          (ap (λ (p : Place). length p.state) at, ap (λ (p : Place). length p.left) at ∙ length-counted (length l.programs) (tasks l));
+      few = omega arith;
+      small = small;
+    }
+
+pub one_reached : (l : Listing) → ReachesMore l 0
+one_reached l =
+    record {
+      places = first_place l ∷ [];
+      once = once_from_apart (first_place l ∷ []) (λ i j li lj e. let a : i < 1 = li in let b : j < 1 = lj in omega (arith, a, b));
+      reached = λ p h. let at = at_contains (first_place l ∷ []) p h in subst (Reached l) (sym (first_only l at.0 at.1) ∙ at.2) (reached_first l);
+      more = omega arith;
+    }
+
+-- without a transaction the first place is the end
+pub alone : (l : Listing) (limit : ℕ) (s : Shelf) (kinds : List Kinds) → s ≡ first_shelf l → length l.programs ≡ 0 → IsUnderWay l limit s kinds [] 0 0 → IsUnderWay l limit s kinds (0 ∷ []) (length s.places) 0
+alone l limit s kinds is none h =
+    let one : length s.places ≡ 1 = ap (λ (t : Shelf). length t.places) is in
+    subst (λ (c : ℕ). IsUnderWay l limit s kinds (0 ∷ []) c 0) (sym one) (ended_on l limit s kinds [] 0 0 (sym none) (omega (arith, one)) (λ moved. omega (arith, moved.before)) h)
+
+abbrev shelf : ℕ → ℕ → List Place → Shelf
+shelf n m ps = record { variables = n; transactions = m; places = ps }
+
+pub first_is : (l : Listing) (old new : Shelf) → old ≡ record { variables = length l.initial; transactions = length l.programs; places = [] } → Adds old new (first_place l) → new ≡ first_shelf l
+first_is l old new is adds =
+    let empty : old.places ≡ [] = ap (λ (s : Shelf). s.places) is in
+    let places : new.places ≡ first_place l ∷ [] =
+    ⊎_elim (λ w. absurd (let none : w.0.0 < 0 = subst (λ (ps : List Place). w.0.0 < length ps) empty w.0.1 in omega (arith, none)))
+    (λ w. w.1 ∙ ap (λ (ps : List Place). ps ++ first_place l ∷ []) empty) adds.added in
+    let variables : new.variables ≡ length l.initial = adds.variables ∙ ap (λ (s : Shelf). s.variables) is in
+    let transactions : new.transactions ≡ length l.programs = adds.transactions ∙ ap (λ (s : Shelf). s.transactions) is in
+    ap (λ (n : ℕ). shelf n new.transactions new.places) variables ∙ ap (λ (n : ℕ). shelf (length l.initial) n new.places) transactions ∙ ap (shelf (length l.initial) (length l.programs)) places
+
+pub sorted_places : (es : List End) → ((k : ℕ) (d : End) → 0 ≤ k → k + 1 < length es → is_lt (place_cmp (end_place (get_or es (k + 1) d)) (end_place (get_or es k d))) ≡ false) → IsSorted place_cmp (map end_place es)
+sorted_places [] h k d low high = absurd (omega arith)
+sorted_places (e ∷ es) h k d low high =
+    let less : k + 1 < length (e ∷ es) = omega (arith, high, length-map (e ∷ es) end_place) in
+    let a = get_or-map end_place (e ∷ es) (k + 1) e d less in
+    let b = get_or-map end_place (e ∷ es) k e d (omega (arith, less)) in
+    let one : is_lt (place_cmp (end_place (get_or (e ∷ es) (k + 1) e)) (get_or (map end_place (e ∷ es)) k d)) ≡ false = subst (λ (q : Place). is_lt (place_cmp (end_place (get_or (e ∷ es) (k + 1) e)) q) ≡ false) (sym b) (h k e low less) in
+    subst (λ (p : Place). is_lt (place_cmp p (get_or (map end_place (e ∷ es)) k d)) ≡ false) (sym a) one

@@ -1,0 +1,157 @@
+-- The steps of a search.
+use Rattle.std.proofs.Common.{◌≡◌, ◌⊎◌, ℕ, ◌+◌, ◌<◌, ◌≤◌, true, List, length, get_or, set, Some, refl, sym, ◌∙◌, ap, subst, inl, inr, ⊎_elim, arith}
+use Rattle.std.specs.List.{Contains}
+use Rattle.std.proofs.lemmas.List.{get_or-set_same, get_or-set_other, length-set}
+use Rattle.std.proofs.lemmas.Bool.{cases_lt, cases_eq}
+use Rattle.programs.specs.declared.ast.TxId.{TxId}
+use Rattle.programs.specs.declared.ast.Outcome.{Outcome}
+use Rattle.programs.specs.declared.ast.Outcome.TheVariants.{Returned, Thrown, Retries}
+use Rattle.programs.specs.declared.ast.Fault.TheVariants.{User, Overflow, DivideByZero}
+use Rattle.programs.specs.Listing.{Listing, program_at}
+use Rattle.programs.specs.Meaning.{outcome}
+use Rattle.explore_law.specs.declared.found.Kinds.{Kinds}
+use Rattle.explore_law.specs.Orders.{Place, HasTurn, turned}
+use Rattle.explore_law.specs.Explored.{Kind, Returning, Throwing, Overflowing, DividingByZero, kind_of, shows}
+use Rattle.explore_places.specs.Indexed.{place_at}
+use Rattle.explore.specs.Noting.{none_seen, noted}
+use Rattle.explore.specs.Searching.{IsTried, WasSeen, IsSearched}
+
+pub noted_new : (ks : Kinds) (o : Outcome) (kind : Kind) → kind_of o ≡ Some kind → shows (noted ks o) kind ≡ true
+noted_new ks (Returned v) Returning h = refl
+noted_new ks (Thrown (User v)) Throwing h = refl
+noted_new ks (Thrown Overflow) Overflowing h = refl
+noted_new ks (Thrown DivideByZero) DividingByZero h = refl
+noted_new ks o kind h = absurd (cc)
+
+pub noted_old : (ks : Kinds) (o : Outcome) (kind : Kind) → shows ks kind ≡ true → shows (noted ks o) kind ≡ true
+noted_old ks (Returned v) Returning h = refl
+noted_old ks (Returned v) Throwing h = h
+noted_old ks (Returned v) Overflowing h = h
+noted_old ks (Returned v) DividingByZero h = h
+noted_old ks (Thrown (User v)) Returning h = h
+noted_old ks (Thrown (User v)) Throwing h = refl
+noted_old ks (Thrown (User v)) Overflowing h = h
+noted_old ks (Thrown (User v)) DividingByZero h = h
+noted_old ks (Thrown Overflow) Returning h = h
+noted_old ks (Thrown Overflow) Throwing h = h
+noted_old ks (Thrown Overflow) Overflowing h = refl
+noted_old ks (Thrown Overflow) DividingByZero h = h
+noted_old ks (Thrown DivideByZero) Returning h = h
+noted_old ks (Thrown DivideByZero) Throwing h = h
+noted_old ks (Thrown DivideByZero) Overflowing h = h
+noted_old ks (Thrown DivideByZero) DividingByZero h = refl
+noted_old ks Retries kind h = h
+
+pub noted_only : (ks : Kinds) (o : Outcome) (kind : Kind) → shows (noted ks o) kind ≡ true → (shows ks kind ≡ true) ⊎ (kind_of o ≡ Some kind)
+noted_only ks (Returned v) Returning h = inr refl
+noted_only ks (Returned v) Throwing h = inl h
+noted_only ks (Returned v) Overflowing h = inl h
+noted_only ks (Returned v) DividingByZero h = inl h
+noted_only ks (Thrown (User v)) Returning h = inl h
+noted_only ks (Thrown (User v)) Throwing h = inr refl
+noted_only ks (Thrown (User v)) Overflowing h = inl h
+noted_only ks (Thrown (User v)) DividingByZero h = inl h
+noted_only ks (Thrown Overflow) Returning h = inl h
+noted_only ks (Thrown Overflow) Throwing h = inl h
+noted_only ks (Thrown Overflow) Overflowing h = inr refl
+noted_only ks (Thrown Overflow) DividingByZero h = inl h
+noted_only ks (Thrown DivideByZero) Returning h = inl h
+noted_only ks (Thrown DivideByZero) Throwing h = inl h
+noted_only ks (Thrown DivideByZero) Overflowing h = inl h
+noted_only ks (Thrown DivideByZero) DividingByZero h = inr refl
+noted_only ks Retries kind h = inl h
+
+abbrev transaction : ℕ → TxId
+transaction n = record { 0 = n }
+
+-- what was tried with one more transaction: that one, or what was tried before
+tried_more : (c i : ℕ) (t tx : TxId) → IsTried c (tx.0 + 1) i t → IsTried c tx.0 i t ⊎ ((i ≡ c) × (t ≡ tx))
+tried_more c i t tx (inl low) = inl (inl low)
+tried_more c i t tx (inr (e, low)) =
+    ⊎_elim (λ (h : t.0 < tx.0). inl (inr (e, h))) (λ (h : tx.0 ≤ t.0). let same : t.0 ≡ tx.0 = omega (arith, low, h) in inr (e, ap transaction same)) (cases_lt t.0 tx.0)
+
+tried_still : (c k i : ℕ) (t : TxId) → IsTried c k i t → IsTried c (k + 1) i t
+tried_still c k i t (inl low) = inl low
+tried_still c k i t (inr (e, low)) = inr (e, omega (arith, low))
+
+seen_still : (l : Listing) (ps : List Place) (c k : ℕ) (t : TxId) (kind : Kind) → WasSeen l ps c k t kind → WasSeen l ps c (k + 1) t kind
+seen_still l ps c k t kind w = record { i = w.i; within = w.within; tried = tried_still c k w.i t w.tried; turn = w.turn; ends = w.ends }
+
+-- what was seen with one more transaction: a turn of that one here, or what was seen before
+seen_more : (l : Listing) (ps : List Place) (c : ℕ) (t tx : TxId) (kind : Kind) → WasSeen l ps c (tx.0 + 1) t kind
+    → WasSeen l ps c tx.0 t kind ⊎ ((t ≡ tx) × HasTurn l (place_at ps c) tx × (kind_of (outcome (program_at l tx) (place_at ps c).state) ≡ Some kind))
+seen_more l ps c t tx kind w =
+    ⊎_elim (λ (h : IsTried c tx.0 w.i t). inl (record { i = w.i; within = w.within; tried = h; turn = w.turn; ends = w.ends }))
+    (λ (h : (w.i ≡ c) × (t ≡ tx)).
+    let P : ℕ → TxId → Type 0 = λ i u. HasTurn l (place_at ps i) u × (kind_of (outcome (program_at l u) (place_at ps i).state) ≡ Some kind) in
+    let there : P w.i t = (w.turn, w.ends) in
+    let at : P c t = subst (λ (i : ℕ). P i t) h.0 there in
+    let here : P c tx = subst (P c) h.1 at in
+    inr (h.1, here.0, here.1))
+    (tried_more c w.i t tx w.tried)
+
+-- one more transaction was tried here, in vain or not
+pub searched_more : (l : Listing) (ps : List Place) (kinds more : List Kinds) (ends : List ℕ) (c : ℕ) (tx : TxId)
+    → (HasTurn l (place_at ps c) tx → Contains ps (turned l (place_at ps c) tx))
+    → length more ≡ length kinds
+    → ((t : TxId) (kind : Kind) → t.0 < length kinds → shows (get_or kinds t.0 none_seen) kind ≡ true → shows (get_or more t.0 none_seen) kind ≡ true)
+    → ((kind : Kind) → HasTurn l (place_at ps c) tx → kind_of (outcome (program_at l tx) (place_at ps c).state) ≡ Some kind → shows (get_or more tx.0 none_seen) kind ≡ true)
+    → ((t : TxId) (kind : Kind) → t.0 < length kinds → shows (get_or more t.0 none_seen) kind ≡ true → (shows (get_or kinds t.0 none_seen) kind ≡ true) ⊎ WasSeen l ps c (tx.0 + 1) t kind)
+    → IsSearched l ps kinds ends c tx.0 → IsSearched l ps more ends c (tx.0 + 1)
+searched_more l ps kinds more ends c tx leads size old new only s =
+    record {
+      first = s.first;
+      reached = s.reached;
+      closed = λ i t within tried turn.
+          ⊎_elim (λ (h : IsTried c tx.0 i t). s.closed i t within h turn)
+          (λ (h : (i ≡ c) × (t ≡ tx)).
+          let P : ℕ → TxId → Type 0 = λ j u. HasTurn l (place_at ps j) u → Contains ps (turned l (place_at ps j) u) in
+          let here : P c t = subst (P c) (sym h.1) leads in
+          let there : P i t = subst (λ (j : ℕ). P j t) (sym h.0) here in
+          there turn)
+          (tried_more c i t tx tried);
+      each = size ∙ s.each;
+      kinds_are = λ t kind known.
+          let low : t.0 < length kinds = omega (arith, known, size) in (
+            λ h. ⊎_elim (λ (e : shows (get_or kinds t.0 none_seen) kind ≡ true). seen_still l ps c tx.0 t kind ((s.kinds_are t kind low).0 e)) (λ (w : WasSeen l ps c (tx.0 + 1) t kind). w) (only t kind low h),
+            λ w. ⊎_elim (λ (b : WasSeen l ps c tx.0 t kind). old t kind low ((s.kinds_are t kind low).1 b))
+                (λ (b : (t ≡ tx) × HasTurn l (place_at ps c) tx × (kind_of (outcome (program_at l tx) (place_at ps c).state) ≡ Some kind)).
+                subst (λ (u : TxId). shows (get_or more u.0 none_seen) kind ≡ true) (sym b.0) (new kind b.1 b.2))
+                (seen_more l ps c t tx kind w),
+          );
+      ends_are = s.ends_are;
+      ascend = s.ascend;
+    }
+
+pub searched_none : (l : Listing) (ps : List Place) (kinds : List Kinds) (ends : List ℕ) (c : ℕ) (tx : TxId) → (HasTurn l (place_at ps c) tx → ⊥)
+    → IsSearched l ps kinds ends c tx.0 → IsSearched l ps kinds ends c (tx.0 + 1)
+searched_none l ps kinds ends c tx none s =
+    searched_more l ps kinds kinds ends c tx (λ turn. absurd (none turn)) refl (λ t kind low h. h) (λ kind turn e. absurd (none turn)) (λ t kind low h. inl h) s
+
+pub searched_some : (l : Listing) (ps : List Place) (kinds : List Kinds) (ends : List ℕ) (c : ℕ) (tx : TxId) (o : Outcome)
+    → c < length ps → tx.0 < length kinds → HasTurn l (place_at ps c) tx → outcome (program_at l tx) (place_at ps c).state ≡ o → Contains ps (turned l (place_at ps c) tx)
+    → IsSearched l ps kinds ends c tx.0 → IsSearched l ps (set kinds tx.0 (noted (get_or kinds tx.0 none_seen) o)) ends c (tx.0 + 1)
+searched_some l ps kinds ends c tx o here low turn is leads s =
+    let ks = get_or kinds tx.0 none_seen in
+    let more = set kinds tx.0 (noted ks o) in
+    let at : get_or more tx.0 none_seen ≡ noted ks o = get_or-set_same kinds tx.0 (noted ks o) none_seen low in
+    let P : Kind → Kinds → Type 0 = λ kind k. shows k kind ≡ true in
+    searched_more l ps kinds more ends c tx (λ t. leads) (length-set kinds tx.0 (noted ks o))
+    (λ t kind within h.
+    ⊎_elim (λ (e : t.0 ≡ tx.0).
+    let before : P kind ks = subst (λ (n : ℕ). P kind (get_or kinds n none_seen)) e h in
+    subst (λ (n : ℕ). P kind (get_or more n none_seen)) (sym e) (subst (P kind) (sym at) (noted_old ks o kind before)))
+    (λ (e : t.0 ≡ tx.0 → ⊥). subst (P kind) (sym (get_or-set_other kinds tx.0 t.0 (noted ks o) none_seen e)) h)
+    (cases_eq t.0 tx.0))
+    (λ kind t e. subst (P kind) (sym at) (noted_new ks o kind (ap kind_of (sym is) ∙ e)))
+    (λ t kind within h.
+    ⊎_elim (λ (e : t.0 ≡ tx.0).
+    let shown : P kind (noted ks o) = subst (P kind) at (subst (λ (n : ℕ). P kind (get_or more n none_seen)) e h) in
+    ⊎_elim (λ (b : shows ks kind ≡ true). inl (subst (λ (n : ℕ). P kind (get_or kinds n none_seen)) (sym e) b))
+    (λ (b : kind_of o ≡ Some kind).
+    let one : WasSeen l ps c (tx.0 + 1) tx kind = record { i = c; within = here; tried = inr (refl, omega arith); turn = turn; ends = ap kind_of is ∙ b } in
+    inr (subst (λ (u : TxId). WasSeen l ps c (tx.0 + 1) u kind) (ap transaction (sym e)) one))
+    (noted_only ks o kind shown))
+    (λ (e : t.0 ≡ tx.0 → ⊥). inl (subst (P kind) (get_or-set_other kinds tx.0 t.0 (noted ks o) none_seen e) h))
+    (cases_eq t.0 tx.0))
+    s

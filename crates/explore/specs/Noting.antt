@@ -1,0 +1,16 @@
+-- Which outcomes were seen, with one more.
+use Rattle.std.specs.Prelude.{true, false}
+use Rattle.programs.specs.declared.ast.Outcome.{Outcome}
+use Rattle.programs.specs.declared.ast.Outcome.TheVariants.{Returned, Thrown, Retries}
+use Rattle.programs.specs.declared.ast.Fault.TheVariants.{User, Overflow, DivideByZero}
+use Rattle.explore_law.specs.declared.found.Kinds.{Kinds}
+
+abbrev pub none_seen : Kinds
+none_seen = record { returned = false; threw = false; overflow = false; zerodiv = false }
+
+abbrev pub noted : Kinds → Outcome → Kinds
+noted ks (Returned v) = record { returned = true; threw = ks.threw; overflow = ks.overflow; zerodiv = ks.zerodiv }
+noted ks (Thrown (User v)) = record { returned = ks.returned; threw = true; overflow = ks.overflow; zerodiv = ks.zerodiv }
+noted ks (Thrown Overflow) = record { returned = ks.returned; threw = ks.threw; overflow = true; zerodiv = ks.zerodiv }
+noted ks (Thrown DivideByZero) = record { returned = ks.returned; threw = ks.threw; overflow = ks.overflow; zerodiv = true }
+noted ks Retries = ks
