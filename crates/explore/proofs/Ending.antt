@@ -15,7 +15,7 @@ use Rattle.programs.specs.Listing.{Listing, tasks}
 use Rattle.explore_law.specs.declared.found.Kinds.{Kinds}
 use Rattle.explore_law.specs.declared.found.Found.{Found}
 use Rattle.explore_law.specs.Orders.{Place, first_place, Reached}
-use Rattle.explore_law.specs.Explored.{Kind, Returning, Throwing, Overflowing, DividingByZero, shows, IsOnce, ReachesMore, Explored, end_place, end_places, place_cmp}
+use Rattle.explore_law.specs.Explored.{Kind, Returning, Throwing, Overflowing, DividingByZero, Breaking, shows, IsOnce, ReachesMore, Explored, end_place, end_places, place_cmp}
 use Rattle.explore_law.specs.declared.found.End.{End}
 use Rattle.std.specs.Ordering.{is_lt}
 use Rattle.explore_places.specs.Shelf.{Shelf, Adds, nowhere}
@@ -147,17 +147,19 @@ none_shown zero k Returning h = absurd (cc)
 none_shown zero k Throwing h = absurd (cc)
 none_shown zero k Overflowing h = absurd (cc)
 none_shown zero k DividingByZero h = absurd (cc)
+none_shown zero k Breaking h = absurd (cc)
 none_shown (suc n) zero Returning h = absurd (cc)
 none_shown (suc n) zero Throwing h = absurd (cc)
 none_shown (suc n) zero Overflowing h = absurd (cc)
 none_shown (suc n) zero DividingByZero h = absurd (cc)
+none_shown (suc n) zero Breaking h = absurd (cc)
 none_shown (suc n) (suc k) kind h = none_shown n k kind h
 
 none_tried : (i : ℕ) (tx : TxId) → IsTried 0 0 i tx → ⊥
 none_tried i tx (inl h) = absurd (omega arith)
 none_tried i tx (inr (e, h)) = absurd (omega arith)
 
-pub begun : (l : Listing) (limit : ℕ) (kinds : List Kinds) → 0 < limit → limit ≤ 16777216 → kinds ≡ replicate (length l.programs) none_seen → IsUnderWay l limit (first_shelf l) kinds [] 0 0
+pub begun : (l : Listing) (limit : ℕ) (kinds : List Kinds) → 0 < limit → limit ≤ 16777216 → kinds ≡ replicate (length l.transactions) none_seen → IsUnderWay l limit (first_shelf l) kinds [] 0 0
 begun l limit kinds some small none =
     let ps = first_place l ∷ [] in
     record {
@@ -165,9 +167,9 @@ begun l limit kinds some small none =
         first = contains_at ps 0 (first_place l) (omega arith) refl;
         reached = λ i h. subst (Reached l) (sym (first_only l i h)) (reached_first l);
         closed = λ i tx h tried turn. absurd (none_tried i tx tried);
-        each = ap length none ∙ length-replicate (length l.programs) none_seen;
+        each = ap length none ∙ length-replicate (length l.transactions) none_seen;
         kinds_are = λ tx kind known.
-            (λ h. absurd (none_shown (length l.programs) tx.0 kind (sym (ap (λ (ks : List Kinds). shows (get_or ks tx.0 none_seen) kind) none) ∙ h)), λ w. absurd (none_tried w.i tx w.tried));
+            (λ h. absurd (none_shown (length l.transactions) tx.0 kind (sym (ap (λ (ks : List Kinds). shows (get_or ks tx.0 none_seen) kind) none) ∙ h)), λ w. absurd (none_tried w.i tx w.tried));
         ends_are = λ i. (λ h. absurd (let at : h.0 < 0 = h.1 in omega (arith, at)), λ e. absurd (let at : i < 0 = e.0 in omega (arith, at)));
         ascend = λ i j less low. absurd (omega arith);
       };
@@ -175,7 +177,7 @@ begun l limit kinds some small none =
       transactions = refl;
       sized = λ i h.
           let at = first_only l i h in
-          (ap (λ (p : Place). length p.state) at, ap (λ (p : Place). length p.left) at ∙ length-counted (length l.programs) (tasks l));
+          (ap (λ (p : Place). length p.state) at, ap (λ (p : Place). length p.left) at ∙ length-counted (length l.transactions) (tasks l));
       few = omega arith;
       small = small;
     }
@@ -190,7 +192,7 @@ one_reached l =
     }
 
 -- without a transaction the first place is the end
-pub alone : (l : Listing) (limit : ℕ) (s : Shelf) (kinds : List Kinds) → s ≡ first_shelf l → length l.programs ≡ 0 → IsUnderWay l limit s kinds [] 0 0 → IsUnderWay l limit s kinds (0 ∷ []) (length s.places) 0
+pub alone : (l : Listing) (limit : ℕ) (s : Shelf) (kinds : List Kinds) → s ≡ first_shelf l → length l.transactions ≡ 0 → IsUnderWay l limit s kinds [] 0 0 → IsUnderWay l limit s kinds (0 ∷ []) (length s.places) 0
 alone l limit s kinds is none h =
     let one : length s.places ≡ 1 = ap (λ (t : Shelf). length t.places) is in
     subst (λ (c : ℕ). IsUnderWay l limit s kinds (0 ∷ []) c 0) (sym one) (ended_on l limit s kinds [] 0 0 (sym none) (omega (arith, one)) (λ moved. omega (arith, moved.before)) h)
@@ -198,15 +200,15 @@ alone l limit s kinds is none h =
 abbrev shelf : ℕ → ℕ → List Place → Shelf
 shelf n m ps = record { variables = n; transactions = m; places = ps }
 
-pub first_is : (l : Listing) (old new : Shelf) → old ≡ record { variables = length l.initial; transactions = length l.programs; places = [] } → Adds old new (first_place l) → new ≡ first_shelf l
+pub first_is : (l : Listing) (old new : Shelf) → old ≡ record { variables = length l.initial; transactions = length l.transactions; places = [] } → Adds old new (first_place l) → new ≡ first_shelf l
 first_is l old new is adds =
     let empty : old.places ≡ [] = ap (λ (s : Shelf). s.places) is in
     let places : new.places ≡ first_place l ∷ [] =
     ⊎_elim (λ w. absurd (let none : w.0.0 < 0 = subst (λ (ps : List Place). w.0.0 < length ps) empty w.0.1 in omega (arith, none)))
     (λ w. w.1 ∙ ap (λ (ps : List Place). ps ++ first_place l ∷ []) empty) adds.added in
     let variables : new.variables ≡ length l.initial = adds.variables ∙ ap (λ (s : Shelf). s.variables) is in
-    let transactions : new.transactions ≡ length l.programs = adds.transactions ∙ ap (λ (s : Shelf). s.transactions) is in
-    ap (λ (n : ℕ). shelf n new.transactions new.places) variables ∙ ap (λ (n : ℕ). shelf (length l.initial) n new.places) transactions ∙ ap (shelf (length l.initial) (length l.programs)) places
+    let transactions : new.transactions ≡ length l.transactions = adds.transactions ∙ ap (λ (s : Shelf). s.transactions) is in
+    ap (λ (n : ℕ). shelf n new.transactions new.places) variables ∙ ap (λ (n : ℕ). shelf (length l.initial) n new.places) transactions ∙ ap (shelf (length l.initial) (length l.transactions)) places
 
 pub sorted_places : (es : List End) → ((k : ℕ) (d : End) → 0 ≤ k → k + 1 < length es → is_lt (place_cmp (end_place (get_or es (k + 1) d)) (end_place (get_or es k d))) ≡ false) → IsSorted place_cmp (map end_place es)
 sorted_places [] h k d low high = absurd (omega arith)

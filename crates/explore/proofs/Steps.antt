@@ -6,12 +6,12 @@ use Rattle.std.proofs.lemmas.Bool.{cases_lt, cases_eq}
 use Rattle.programs.specs.declared.ast.TxId.{TxId}
 use Rattle.programs.specs.declared.ast.Outcome.{Outcome}
 use Rattle.programs.specs.declared.ast.Outcome.TheVariants.{Returned, Thrown, Retries}
-use Rattle.programs.specs.declared.ast.Fault.TheVariants.{User, Overflow, DivideByZero}
+use Rattle.programs.specs.declared.ast.Fault.TheVariants.{User, Overflow, DivideByZero, Broken}
 use Rattle.programs.specs.Listing.{Listing, program_at}
 use Rattle.programs.specs.Meaning.{outcome}
 use Rattle.explore_law.specs.declared.found.Kinds.{Kinds}
 use Rattle.explore_law.specs.Orders.{Place, HasTurn, turned}
-use Rattle.explore_law.specs.Explored.{Kind, Returning, Throwing, Overflowing, DividingByZero, kind_of, shows}
+use Rattle.explore_law.specs.Explored.{Kind, Returning, Throwing, Overflowing, DividingByZero, Breaking, kind_of, shows}
 use Rattle.explore_places.specs.Indexed.{place_at}
 use Rattle.explore.specs.Noting.{none_seen, noted}
 use Rattle.explore.specs.Searching.{IsTried, WasSeen, IsSearched}
@@ -21,6 +21,7 @@ noted_new ks (Returned v) Returning h = refl
 noted_new ks (Thrown (User v)) Throwing h = refl
 noted_new ks (Thrown Overflow) Overflowing h = refl
 noted_new ks (Thrown DivideByZero) DividingByZero h = refl
+noted_new ks (Thrown (Broken id)) Breaking h = refl
 noted_new ks o kind h = absurd (cc)
 
 pub noted_old : (ks : Kinds) (o : Outcome) (kind : Kind) → shows ks kind ≡ true → shows (noted ks o) kind ≡ true
@@ -28,18 +29,27 @@ noted_old ks (Returned v) Returning h = refl
 noted_old ks (Returned v) Throwing h = h
 noted_old ks (Returned v) Overflowing h = h
 noted_old ks (Returned v) DividingByZero h = h
+noted_old ks (Returned v) Breaking h = h
 noted_old ks (Thrown (User v)) Returning h = h
 noted_old ks (Thrown (User v)) Throwing h = refl
 noted_old ks (Thrown (User v)) Overflowing h = h
 noted_old ks (Thrown (User v)) DividingByZero h = h
+noted_old ks (Thrown (User v)) Breaking h = h
 noted_old ks (Thrown Overflow) Returning h = h
 noted_old ks (Thrown Overflow) Throwing h = h
 noted_old ks (Thrown Overflow) Overflowing h = refl
 noted_old ks (Thrown Overflow) DividingByZero h = h
+noted_old ks (Thrown Overflow) Breaking h = h
 noted_old ks (Thrown DivideByZero) Returning h = h
 noted_old ks (Thrown DivideByZero) Throwing h = h
 noted_old ks (Thrown DivideByZero) Overflowing h = h
 noted_old ks (Thrown DivideByZero) DividingByZero h = refl
+noted_old ks (Thrown DivideByZero) Breaking h = h
+noted_old ks (Thrown (Broken id)) Returning h = h
+noted_old ks (Thrown (Broken id)) Throwing h = h
+noted_old ks (Thrown (Broken id)) Overflowing h = h
+noted_old ks (Thrown (Broken id)) DividingByZero h = h
+noted_old ks (Thrown (Broken id)) Breaking h = refl
 noted_old ks Retries kind h = h
 
 pub noted_only : (ks : Kinds) (o : Outcome) (kind : Kind) → shows (noted ks o) kind ≡ true → (shows ks kind ≡ true) ⊎ (kind_of o ≡ Some kind)
@@ -47,18 +57,27 @@ noted_only ks (Returned v) Returning h = inr refl
 noted_only ks (Returned v) Throwing h = inl h
 noted_only ks (Returned v) Overflowing h = inl h
 noted_only ks (Returned v) DividingByZero h = inl h
+noted_only ks (Returned v) Breaking h = inl h
 noted_only ks (Thrown (User v)) Returning h = inl h
 noted_only ks (Thrown (User v)) Throwing h = inr refl
 noted_only ks (Thrown (User v)) Overflowing h = inl h
 noted_only ks (Thrown (User v)) DividingByZero h = inl h
+noted_only ks (Thrown (User v)) Breaking h = inl h
 noted_only ks (Thrown Overflow) Returning h = inl h
 noted_only ks (Thrown Overflow) Throwing h = inl h
 noted_only ks (Thrown Overflow) Overflowing h = inr refl
 noted_only ks (Thrown Overflow) DividingByZero h = inl h
+noted_only ks (Thrown Overflow) Breaking h = inl h
 noted_only ks (Thrown DivideByZero) Returning h = inl h
 noted_only ks (Thrown DivideByZero) Throwing h = inl h
 noted_only ks (Thrown DivideByZero) Overflowing h = inl h
 noted_only ks (Thrown DivideByZero) DividingByZero h = inr refl
+noted_only ks (Thrown DivideByZero) Breaking h = inl h
+noted_only ks (Thrown (Broken id)) Returning h = inl h
+noted_only ks (Thrown (Broken id)) Throwing h = inl h
+noted_only ks (Thrown (Broken id)) Overflowing h = inl h
+noted_only ks (Thrown (Broken id)) DividingByZero h = inl h
+noted_only ks (Thrown (Broken id)) Breaking h = inr refl
 noted_only ks Retries kind h = inl h
 
 abbrev transaction : ℕ → TxId

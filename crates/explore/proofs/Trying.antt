@@ -43,7 +43,7 @@ leads_reached l s kinds ends c k tx p q o is low to h =
     subst (Reached l) (sym to.leads) (reached_more l p tx here to.turn)
 
 pub tried_some : (l : Listing) (limit : ℕ) (s new : Shelf) (kinds : List Kinds) (ends : List ℕ) (c : ℕ) (tx : TxId) (p q : Place) (o : Outcome) → p ≡ place_at s.places c → c < length s.places
-    → tx.0 < length l.programs → TurnsTo l p tx q o → Adds s new q → length q.state ≡ s.variables → length q.left ≡ s.transactions → length new.places ≤ limit
+    → tx.0 < length l.transactions → TurnsTo l p tx q o → Adds s new q → length q.state ≡ s.variables → length q.left ≡ s.transactions → length new.places ≤ limit
     → IsUnderWay l limit s kinds ends c tx.0 → IsUnderWay l limit new (set kinds tx.0 (noted (get_or kinds tx.0 none_seen) o)) ends c (tx.0 + 1)
 tried_some l limit s new kinds ends c tx p q o is low known to adds wide deep few h =
     let reached = leads_reached l s kinds ends c tx.0 tx p q o is low to h.searched in
@@ -96,7 +96,7 @@ moved_more l p r tx old new false before now is if_yes if_no =
           (cases_lt h.tx.0 tx.0),
     )
 
-pub moved_on : (l : Listing) (limit : ℕ) (s : Shelf) (kinds : List Kinds) (ends : List ℕ) (c n : ℕ) → n ≡ length l.programs → c < length s.places → HasMoved l (place_at s.places c) n
+pub moved_on : (l : Listing) (limit : ℕ) (s : Shelf) (kinds : List Kinds) (ends : List ℕ) (c n : ℕ) → n ≡ length l.transactions → c < length s.places → HasMoved l (place_at s.places c) n
     → IsUnderWay l limit s kinds ends c n → IsUnderWay l limit s kinds ends (c + 1) 0
 moved_on l limit s kinds ends c n all low moved h =
     record {
@@ -108,7 +108,7 @@ moved_on l limit s kinds ends c n all low moved h =
       small = h.small;
     }
 
-pub ended_on : (l : Listing) (limit : ℕ) (s : Shelf) (kinds : List Kinds) (ends : List ℕ) (c n : ℕ) → n ≡ length l.programs → c < length s.places → (HasMoved l (place_at s.places c) n → ⊥)
+pub ended_on : (l : Listing) (limit : ℕ) (s : Shelf) (kinds : List Kinds) (ends : List ℕ) (c n : ℕ) → n ≡ length l.transactions → c < length s.places → (HasMoved l (place_at s.places c) n → ⊥)
     → IsUnderWay l limit s kinds ends c n → IsUnderWay l limit s kinds (ends ++ c ∷ []) (c + 1) 0
 ended_on l limit s kinds ends c n all low none h =
     record {

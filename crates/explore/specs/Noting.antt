@@ -2,15 +2,16 @@
 use Rattle.std.specs.Prelude.{true, false}
 use Rattle.programs.specs.declared.ast.Outcome.{Outcome}
 use Rattle.programs.specs.declared.ast.Outcome.TheVariants.{Returned, Thrown, Retries}
-use Rattle.programs.specs.declared.ast.Fault.TheVariants.{User, Overflow, DivideByZero}
+use Rattle.programs.specs.declared.ast.Fault.TheVariants.{User, Overflow, DivideByZero, Broken}
 use Rattle.explore_law.specs.declared.found.Kinds.{Kinds}
 
 abbrev pub none_seen : Kinds
-none_seen = record { returned = false; threw = false; overflow = false; zerodiv = false }
+none_seen = record { returned = false; threw = false; overflow = false; zerodiv = false; broke = false }
 
 abbrev pub noted : Kinds → Outcome → Kinds
-noted ks (Returned v) = record { returned = true; threw = ks.threw; overflow = ks.overflow; zerodiv = ks.zerodiv }
-noted ks (Thrown (User v)) = record { returned = ks.returned; threw = true; overflow = ks.overflow; zerodiv = ks.zerodiv }
-noted ks (Thrown Overflow) = record { returned = ks.returned; threw = ks.threw; overflow = true; zerodiv = ks.zerodiv }
-noted ks (Thrown DivideByZero) = record { returned = ks.returned; threw = ks.threw; overflow = ks.overflow; zerodiv = true }
+noted ks (Returned v) = record { returned = true; threw = ks.threw; overflow = ks.overflow; zerodiv = ks.zerodiv; broke = ks.broke }
+noted ks (Thrown (User v)) = record { returned = ks.returned; threw = true; overflow = ks.overflow; zerodiv = ks.zerodiv; broke = ks.broke }
+noted ks (Thrown Overflow) = record { returned = ks.returned; threw = ks.threw; overflow = true; zerodiv = ks.zerodiv; broke = ks.broke }
+noted ks (Thrown DivideByZero) = record { returned = ks.returned; threw = ks.threw; overflow = ks.overflow; zerodiv = true; broke = ks.broke }
+noted ks (Thrown (Broken id)) = record { returned = ks.returned; threw = ks.threw; overflow = ks.overflow; zerodiv = ks.zerodiv; broke = true }
 noted ks Retries = ks

@@ -28,7 +28,7 @@ pub record IsSearched (l : Listing) (ps : List Place) (kinds : List Kinds) (ends
   pub reached : (i : ℕ) → i < length ps → Reached l (place_at ps i)
   -- each turn that was tried leads to a listed place
   pub closed : (i : ℕ) (tx : TxId) → i < length ps → IsTried c k i tx → HasTurn l (place_at ps i) tx → Contains ps (turned l (place_at ps i) tx)
-  pub each : length kinds ≡ length l.programs
+  pub each : length kinds ≡ length l.transactions
   pub kinds_are : (tx : TxId) (kind : Kind) → tx.0 < length kinds → (shows (slice_index_or kinds tx.0 none_seen) kind ≡ true ↔ WasSeen l ps c k tx kind)
   -- the ends are those of the places before, ascending
   pub ends_are : (i : ℕ) → (Contains ends i ↔ ((i < c) × IsEnd l (place_at ps i)))
@@ -46,13 +46,13 @@ StaysAt old new i = (i < length new.places) × (place_at new.places i ≡ place_
 
 -- the list of the first place alone
 abbrev pub first_shelf : Listing → Shelf
-first_shelf l = record { variables = length l.initial; transactions = length l.programs; places = first_place l ∷ [] }
+first_shelf l = record { variables = length l.initial; transactions = length l.transactions; places = first_place l ∷ [] }
 
 -- a search within the limit
 pub record IsUnderWay (l : Listing) (limit : ℕ) (s : Shelf) (kinds : List Kinds) (ends : List ℕ) (c k : ℕ) : Type 0 where
   pub searched : IsSearched l s.places kinds ends c k
   pub variables : s.variables ≡ length l.initial
-  pub transactions : s.transactions ≡ length l.programs
+  pub transactions : s.transactions ≡ length l.transactions
   pub sized : (i : ℕ) → i < length s.places → (length (place_at s.places i).state ≡ s.variables) × (length (place_at s.places i).left ≡ s.transactions)
   pub few : length s.places ≤ limit
   pub small : limit ≤ 16777216

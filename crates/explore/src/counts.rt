@@ -9,7 +9,7 @@ use txn::{Catalogue, TaskId};
 
 /// For each transaction how many of the tasks run it.
 pub(crate) fn task_counts(alloc: Global, catalogue: &Catalogue) -> Result<Vec<u32>, AllocError>
-    ensures { IfOk result (λ counts. counts.items ≡ counted (length catalogue.now.programs) (tasks catalogue.now)) }
+    ensures { IfOk result (λ counts. counts.items ≡ counted (length catalogue.now.transactions) (tasks catalogue.now)) }
 {
     let mut counts = vec![in alloc; 0; catalogue.tx_count()]?;
     let tasks = catalogue.tasks();

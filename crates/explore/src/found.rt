@@ -104,6 +104,7 @@ fn no_kinds(alloc: Global, count: usize) -> Result<Vec<Kinds>, AllocError>
         threw: false,
         overflow: false,
         zerodiv: false,
+        broke: false,
     };
     vec![in alloc; none; count]
 }

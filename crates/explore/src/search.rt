@@ -108,7 +108,7 @@ fn try_turn<'a>(
     i: usize,
     tx: TxId,
 ) -> Result<bool, Unexplored>
-    requires known { tx.0 < length catalogue.now.programs }
+    requires known { tx.0 < length catalogue.now.transactions }
     requires listed { i < length s.old.places.places }
     requires so_far { IsUnderWay catalogue.now limit s.old.places s.old.kinds.items s.old.ends.items i tx.0 }
     ensures on { OnOk result (IsUnderWay catalogue.now limit s.new.places s.new.kinds.items s.new.ends.items i (tx.0 + 1)) }
@@ -148,6 +148,7 @@ fn note(kinds: Kinds, outcome: Outcome) -> Kinds
         Outcome::Thrown(Fault::User(_)) => kinds.threw = true,
         Outcome::Thrown(Fault::Overflow) => kinds.overflow = true,
         Outcome::Thrown(Fault::DivideByZero) => kinds.zerodiv = true,
+        Outcome::Thrown(Fault::Broken(_)) => kinds.broke = true,
         Outcome::Retries => {}
     }
     kinds

@@ -18,7 +18,7 @@ fn run_on<'a>(
     tx: TxId,
     values: &mut Vec<i64>,
 ) -> Result<Outcome, Memory>
-    requires known { tx.0 < length catalogue.now.programs }
+    requires known { tx.0 < length catalogue.now.transactions }
     requires values { length values.old.items ≡ length catalogue.now.initial }
     ensures outcome { IfOk result (λ o. outcome (program_at catalogue.now tx) values.old.items ≡ o) }
     ensures after { OnOk result (values.new.items ≡ after (program_at catalogue.now tx) values.old.items) }
@@ -36,7 +36,7 @@ fn outcome_on<'a>(
     tx: TxId,
     values: &[i64],
 ) -> Result<Outcome, Memory>
-    requires known { tx.0 < length catalogue.now.programs }
+    requires known { tx.0 < length catalogue.now.transactions }
     requires values { length values.now ≡ length catalogue.now.initial }
     ensures outcome { IfOk result (λ o. outcome (program_at catalogue.now tx) values.now ≡ o) }
     ensures after { OnOk result (after (program_at catalogue.now tx) values.now ≡ store attempt.new.writes values.now) }
@@ -91,9 +91,9 @@ pub(crate) fn take_turn<'a>(
     values: &mut Vec<i64>,
     left: &mut Vec<u32>,
 ) -> Result<Option<Outcome>, Memory>
-    requires known { tx.0 < length catalogue.now.programs }
+    requires known { tx.0 < length catalogue.now.transactions }
     requires values { length values.old.items ≡ length catalogue.now.initial }
-    requires left { length left.old.items ≡ length catalogue.now.programs }
+    requires left { length left.old.items ≡ length catalogue.now.transactions }
     ensures turn { IfOk result (Turns catalogue.now (place values.old.items left.old.items) tx (place values.new.items left.new.items)) }
     ensures values { OnOk result (length values.new.items ≡ length values.old.items) }
     ensures left { OnOk result (length left.new.items ≡ length left.old.items) }

@@ -8,7 +8,7 @@ use Rattle.std.specs.Ordering.{int_cmp, nat_cmp, ordering_then}
 use Rattle.programs.specs.declared.ast.TxId.{TxId}
 use Rattle.programs.specs.declared.ast.Outcome.{Outcome}
 use Rattle.programs.specs.declared.ast.Outcome.TheVariants.{Returned, Thrown, Retries}
-use Rattle.programs.specs.declared.ast.Fault.TheVariants.{User, Overflow, DivideByZero}
+use Rattle.programs.specs.declared.ast.Fault.TheVariants.{User, Overflow, DivideByZero, Broken}
 use Rattle.programs.specs.Listing.{Listing, program_at}
 use Rattle.programs.specs.Meaning.{outcome}
 use Rattle.explore_law.specs.declared.found.End.{End}
@@ -22,12 +22,14 @@ pub data Kind : Type 0 where
   Throwing : Kind
   Overflowing : Kind
   DividingByZero : Kind
+  Breaking : Kind
 
 abbrev pub kind_of : Outcome → Option Kind
 kind_of (Returned v) = Some Returning
 kind_of (Thrown (User v)) = Some Throwing
 kind_of (Thrown Overflow) = Some Overflowing
 kind_of (Thrown DivideByZero) = Some DividingByZero
+kind_of (Thrown (Broken id)) = Some Breaking
 kind_of Retries = None
 
 -- whether the kind is among those
@@ -36,6 +38,7 @@ shows ks Returning = ks.returned
 shows ks Throwing = ks.threw
 shows ks Overflowing = ks.overflow
 shows ks DividingByZero = ks.zerodiv
+shows ks Breaking = ks.broke
 
 -- some turn of the transaction, at a reached place, ends so
 pub record Somewhere (l : Listing) (tx : TxId) (kind : Kind) : Type 0 where
@@ -71,7 +74,7 @@ pub record Explored (l : Listing) (f : Found) : Type 0 where
   pub reached : ListsReached l places
   pub states : f.states ≡ length places
   -- a transaction is said to end so exactly where some turn of it does
-  pub each : length f.kinds.items ≡ length l.programs
+  pub each : length f.kinds.items ≡ length l.transactions
   pub kinds : (tx : TxId) (ks : Kinds) (kind : Kind) → slice_get f.kinds.items tx.0 ≡ Some ks → (shows ks kind ≡ true ↔ Somewhere l tx kind)
   -- the ends are the reached places without a turn, each once and in order
   pub ends : (p : Place) → (Contains (end_places f) p ↔ (Reached l p × IsEnd l p))

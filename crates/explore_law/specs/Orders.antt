@@ -21,7 +21,7 @@ counted n (tx ∷ rest) = slice_set (counted n rest) tx.0 (count_at (counted n r
 
 -- the initial values, and no task done
 abbrev pub first_place : Listing → Place
-first_place l = record { state = l.initial; left = counted (length l.programs) (tasks l) }
+first_place l = record { state = l.initial; left = counted (length l.transactions) (tasks l) }
 
 -- a transaction with tasks left has a turn where it does not retry
 pub record HasTurn (l : Listing) (p : Place) (tx : TxId) : Type 0 where

@@ -14,6 +14,8 @@ pub struct Kinds {
     pub threw: bool,
     pub overflow: bool,
     pub zerodiv: bool,
+    /// It was thrown that a standing condition is broken.
+    pub broke: bool,
 }
 
 /// What is found of all orders of a file's tasks.

@@ -4,4 +4,4 @@ use Rattle.explore_law.specs.Orders.{counted}
 use Rattle.explore.proofs.counts.task_counts.Given as goal
 
 abbrev pub invariant-tasks : goal.invariant-tasks
-invariant-tasks l = l.counts.items ≡ counted (length l.catalogue.programs) (drop (l.tasks - l.done) (tasks l.catalogue))
+invariant-tasks l = l.counts.items ≡ counted (length l.catalogue.transactions) (drop (l.tasks - l.done) (tasks l.catalogue))

@@ -7,4 +7,4 @@ use Rattle.explore.proofs.found.first_listed.Goals as goal
 pub insert-requires-clause-transactions : goal.insert-requires-clause-transactions
 insert-requires-clause-transactions c =
     let l = c.args.catalogue.now in
-    omega (arith, ap length c.as_slice.ensures.value, ap length c.in_ok-left.ensures, length-counted (length l.programs) (tasks l), ap (λ (s : Shelf). s.transactions) c.in_ok-places.ensures, c.tx_count.ensures)
+    omega (arith, ap length c.as_slice.ensures.value, ap length c.in_ok-left.ensures, length-counted (length l.transactions) (tasks l), ap (λ (s : Shelf). s.transactions) c.in_ok-places.ensures, c.tx_count.ensures)

@@ -16,7 +16,7 @@ returns-in_ok-note_end-clause-on c =
     let s = c.turns.s in
     let i = c.turns.invariant in
     let n = c.turns.tx in
-    let all : n ≡ length l.programs = omega (arith, c.turns.auto.tx-end, c.turns-test.false, c.tx_count-tx-end.ensures) in
+    let all : n ≡ length l.transactions = omega (arith, c.turns.auto.tx-end, c.turns-test.false, c.tx_count-tx-end.ensures) in
     let none : HasMoved l (place_at s.places.places c.args.i) n → ⊥ = λ h.
     let before : HasMoved l (place_at c.args.s.now.places.places c.args.i) n = subst (λ (p : Place). HasMoved l p n) i.stays.1 h in
     true≢false (sym (i.moved.1 before) ∙ c.if-not-moves.true) in
@@ -29,6 +29,6 @@ returns-else-not-moves-clause-on c =
     let s = c.turns.s in
     let i = c.turns.invariant in
     let n = c.turns.tx in
-    let all : n ≡ length l.programs = omega (arith, c.turns.auto.tx-end, c.turns-test.false, c.tx_count-tx-end.ensures) in
+    let all : n ≡ length l.transactions = omega (arith, c.turns.auto.tx-end, c.turns-test.false, c.tx_count-tx-end.ensures) in
     let moved : HasMoved l (place_at s.places.places c.args.i) n = subst (λ (p : Place). HasMoved l p n) (sym i.stays.1) (i.moved.0 c.if-not-moves.false) in
     moved_on l c.args.limit s.places s.kinds.items s.ends.items c.args.i n all i.stays.0 moved i.so_far

@@ -1,5 +1,8 @@
-use Rattle.std.proofs.Common.{◌≡◌, ◌+◌, ◌<◌, ℤ, List, length, get_or, set, sym, ◌∙◌, ap, subst, arith}
-use Rattle.explore_law.specs.Orders.{Place}
+use Rattle.std.proofs.Common.{◌≡◌, ◌+◌, ◌<◌, ℤ, List, length, get_or, set, Option, Some, None, refl, sym, ◌∙◌, ap, subst, arith}
+use Rattle.programs.specs.declared.ast.TxId.{TxId}
+use Rattle.programs.specs.declared.ast.Outcome.{Outcome}
+use Rattle.programs.specs.Listing.{Listing}
+use Rattle.explore_law.specs.Orders.{Place, HasTurn}
 use Rattle.explore_law.specs.declared.found.Kinds.{Kinds}
 use Rattle.explore_places.specs.Shelf.{Adds, place}
 use Rattle.explore_places.specs.Indexed.{place_at}
@@ -7,8 +10,27 @@ use Rattle.explore_places.proofs.Indexing.{any_default, place_is}
 use Rattle.explore.specs.Noting.{none_seen, noted}
 use Rattle.explore.specs.Turns.{Turns, TurnsTo}
 use Rattle.explore.specs.Searching.{IsUnderWay}
-use Rattle.explore.proofs.Trying.{tried_some, too_many}
+use Rattle.explore.proofs.Trying.{tried_none, tried_some, too_many}
 use Rattle.explore.proofs.search.try_turn.Goals as goal
+
+no_turn : (l : Listing) (p q : Place) (tx : TxId) (t : Option Outcome) → Turns l p tx q t → ((o : Outcome) → t ≡ Some o → ⊥) → HasTurn l p tx → ⊥
+no_turn l p q tx None h n = h
+no_turn l p q tx (Some o) h n = absurd (n o refl)
+
+pub returns-in_default-clause-on : goal.returns-in_default-clause-on
+returns-in_default-clause-on c =
+    let l = c.args.catalogue.now in
+    let s = c.args.s.now in
+    let i = c.args.i in
+    let tx = c.args.tx in
+    let here = place_at s.places.places i in
+    let a : c.copy.new.list.items ≡ here.state = c.in_ok-copy.ensures ∙ c.values.ensures in
+    let b : c.copy-2.new.list.items ≡ here.left = c.in_ok-copy-2.ensures ∙ c.left.ensures in
+    let p = place c.copy.new.list.items c.copy-2.new.list.items in
+    let is : p ≡ here = sym (place_is here c.copy.new.list.items c.copy-2.new.list.items (sym a) (sym b)) in
+    let q = place c.take_turn.new.values.items c.take_turn.new.left.items in
+    let none : HasTurn l p tx → ⊥ = no_turn l p q tx c.in_ok-turn.turn c.in_ok-turn.ensures.turn c.in_default.not-Some in
+    tried_none l c.args.limit s.places s.kinds.items s.ends.items i tx p is none c.requires.so_far
 
 pub returns-then-len-limit-clause-more : goal.returns-then-len-limit-clause-more
 returns-then-len-limit-clause-more c = λ same.
