@@ -38,7 +38,7 @@ fn many_variables_are_read_and_written(rt: HostRuntime) {
 }
 
 /// Each operand waits for the one on its right, and each loop for the one inside it, 31 deep; so
-/// the operands and the loops take all the room that there is.
+/// the operands and the loops take all the room that a body and a result can.
 #[test]
 fn the_deepest_programs_have_room(rt: HostRuntime) {
     let parts = [

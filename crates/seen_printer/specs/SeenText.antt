@@ -3,7 +3,8 @@ use Rattle.std.specs.Prelude.{ℕ, ◌+◌, List, [], ◌∷◌, ◌++◌, codes
 use Rattle.std.specs.Fmt.{decimal}
 use Rattle.programs.specs.declared.ast.VarId.{VarId}
 use Rattle.programs.specs.Listing.{Listing}
-use Rattle.text_words.specs.Words.{line, outcome_text}
+use Rattle.report_printer.specs.ReportText.{outcome_text}
+use Rattle.text_words.specs.Words.{line}
 use Rattle.world_law.specs.declared.events.Seen.{Seen}
 use Rattle.world_law.specs.declared.events.Seen.TheVariants.{Idle, Needs, Ended, Loaded, Stale, Parked, Commits, Stored, Committed, Dropped, Spent}
 
@@ -14,7 +15,7 @@ variable_name l x = slice_index_or l.names x.0 []
 abbrev pub seen_text : Listing → Seen → List ℕ
 seen_text l Idle = codes "idle"
 seen_text l (Needs x) = codes "needs " ++ variable_name l x
-seen_text l (Ended o) = codes "ended " ++ outcome_text o
+seen_text l (Ended o) = codes "ended " ++ outcome_text l o
 seen_text l Loaded = codes "loaded"
 seen_text l Stale = codes "stale"
 seen_text l Parked = codes "parked"

@@ -36,7 +36,7 @@ fn put_what(out: &mut String, catalogue: &Catalogue, seen: Seen) -> Result<(), A
         }
         Seen::Ended(outcome) => {
             out.push_str("ended ")?;
-            put_outcome(out, outcome)?;
+            put_outcome(out, catalogue, outcome)?;
         }
         Seen::Loaded => out.push_str("loaded")?,
         Seen::Stale => out.push_str("stale")?,
