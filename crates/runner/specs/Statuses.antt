@@ -17,6 +17,7 @@ kind_line read.BadByte = codes "stm: file: F2 BadByte"
 kind_line read.Shape = codes "stm: file: F3 Shape"
 kind_line read.Name = codes "stm: file: F4 Name"
 kind_line read.Limit = codes "stm: file: F5 Limit"
+kind_line read.Broken = codes "stm: file: F7 Broken"
 kind_line read.Memory = codes "stm: out of memory"
 
 abbrev pub schedule_line : ReadFault → List ℕ
@@ -25,6 +26,7 @@ schedule_line read.BadByte = codes "stm: schedule: F2 BadByte"
 schedule_line read.Shape = codes "stm: schedule: F3 Shape"
 schedule_line read.Name = codes "stm: schedule: F4 Name"
 schedule_line read.Limit = codes "stm: schedule: F5 Limit"
+schedule_line read.Broken = codes "stm: schedule: F7 Broken"
 schedule_line read.Memory = codes "stm: out of memory"
 
 abbrev pub line_of : RunFault → List ℕ

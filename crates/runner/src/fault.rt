@@ -20,7 +20,7 @@ pub enum RunFault {
     #[error("{}", RunFault::Output.line())]
     Output,
     /// The file is spelled, and its schedule is the text of no moves, by a fault of this kind, which
-    /// is never `Memory`. Nothing was written.
+    /// is never `Memory` nor `Broken`. Nothing was written.
     #[error("{}", RunFault::Schedule(*.0).line())]
     Schedule(ReadFault),
 }
@@ -65,6 +65,7 @@ fn input_line(kind: ReadFault) -> &'static str
         ReadFault::Shape => "stm: file: F3 Shape",
         ReadFault::Name => "stm: file: F4 Name",
         ReadFault::Limit => "stm: file: F5 Limit",
+        ReadFault::Broken => "stm: file: F7 Broken",
         ReadFault::Memory => "stm: out of memory",
     }
 }
@@ -78,6 +79,7 @@ fn schedule_line(kind: ReadFault) -> &'static str
         ReadFault::Shape => "stm: schedule: F3 Shape",
         ReadFault::Name => "stm: schedule: F4 Name",
         ReadFault::Limit => "stm: schedule: F5 Limit",
+        ReadFault::Broken => "stm: schedule: F7 Broken",
         ReadFault::Memory => "stm: out of memory",
     }
 }
