@@ -36,8 +36,8 @@ length_named r = omega (arith, length-append (map on_line r.entries) (r.parked +
 pub known_tasks : (l : Listing) (r : Told) → FitsCatalogue l r → All (λ p. p.0.0 < length (tasks l)) (named r)
 known_tasks l r f =
     let P : TaskId × TxId → Type 0 = λ p. p.0.0 < length (tasks l) in
-    let E : Entry → Type 0 = λ e. (e.task.0 < length (tasks l)) × (e.tx.0 < length l.programs) in
-    let Q : TaskId × TxId → Type 0 = λ p. (p.0.0 < length (tasks l)) × (p.1.0 < length l.programs) in
+    let E : Entry → Type 0 = λ e. (e.task.0 < length (tasks l)) × (e.tx.0 < length l.transactions) in
+    let Q : TaskId × TxId → Type 0 = λ p. (p.0.0 < length (tasks l)) × (p.1.0 < length l.transactions) in
     let F : Entry → Type 0 = λ e. P (on_line e) in
     All-append P (map on_line r.entries) (r.parked ++ r.memory)
     (All-map P on_line r.entries (All-weaker E F (λ e h. h.0) r.entries f.entries))

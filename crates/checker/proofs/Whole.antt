@@ -57,6 +57,7 @@ lawful l r fits h =
       replays = replays l (base_of r) r.entries (now_of r) h.entries h.present entries.0 fits.ends;
       base_versions = h.base.versions;
       from_opening = h.base.from_opening;
+      upheld = h.base.upheld;
       parked_own = others.0;
       memory_own = others.1;
       once = h.tasks.once;
@@ -69,7 +70,7 @@ lawful l r fits h =
 pub all_hold : (l : Listing) (r : Told) → LawfulReport l r → AllHold l r
 all_hold l r h =
     record {
-      base = record { from_opening = h.from_opening; versions = h.base_versions };
+      base = record { from_opening = h.from_opening; versions = h.base_versions; upheld = h.upheld };
       entries = go_on l (base_of r) r.entries (now_of r) h.replays;
       present = leads l (base_of r) r.entries (now_of r) h.replays;
       tasks = record {

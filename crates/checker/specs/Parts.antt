@@ -7,13 +7,15 @@ use Rattle.programs.specs.declared.report.Entry.{Entry}
 use Rattle.programs.specs.Meaning.{outcome}
 use Rattle.programs.specs.Listing.{Listing, tasks, program_at}
 use Rattle.programs.specs.Replay.{Snapshot, applied, opening, Once}
+use Rattle.programs.specs.Standing.{Upholds}
 use Rattle.programs.specs.Told.{Told, base_of, now_of}
 use Rattle.programs.specs.LawfulReport.{on_lines, Ascends, HasOwn}
 
--- a base of number 0 is the opening snapshot, and no version of a base is above its number
+-- a base of number 0 is the opening snapshot, no version of a base is above its number, and each standing condition is true on its values
 pub record BaseHolds (l : Listing) (r : Told) : Type 0 where
   pub from_opening : r.base ≡ 0 → base_of r ≡ opening l
   pub versions : All (λ v. v.1 ≤ r.base) r.base_vars
+  pub upheld : Upholds l (base_of r).state
 
 -- an entry goes on from a snapshot: with the next number, and as the transaction that it names ends there
 pub record GoesOn (l : Listing) (e : Entry) (s : Snapshot) : Type 0 where

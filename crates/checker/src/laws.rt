@@ -2,7 +2,8 @@
 
 ghost use Rattle.std.specs.Prelude.{◌≡◌, ◌↔◌, ℕ, List};
 ghost use Rattle.programs.specs.Listing.{Listing};
-ghost use Rattle.programs.specs.Told.{Told};
+ghost use Rattle.programs.specs.Standing.{Upholds};
+ghost use Rattle.programs.specs.Told.{Told, base_of, now_of};
 ghost use Rattle.programs.specs.LawfulReport.{FitsCatalogue, LawfulReport};
 ghost use Rattle.checker.specs.declared.verdict.Verdict.{Verdict as VerdictOf};
 ghost use Rattle.txn_text.specs.Spelling.{Spells};
@@ -24,4 +25,9 @@ pub fn lawful_where_all_parts_hold()
 /// The text of a lawful report of a file is judged good: it is never too long to be read.
 pub fn lawful_texts_are_good()
     ensures { (file : List ℕ) (l : Listing) (r : Told) → Spells file l → LawfulReport l r → ReportFits r → Judges file (report_text l r) Good }
+{}
+
+/// A lawful report breaks no standing condition: each is true of its base, and of its present.
+pub fn lawful_reports_uphold()
+    ensures { (l : Listing) (r : Told) → LawfulReport l r → Upholds l (base_of r).state × Upholds l (now_of r).state }
 {}

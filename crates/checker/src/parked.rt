@@ -11,12 +11,12 @@ use txn::{Catalogue, Outcome, TaskId, TxId};
 
 /// Whether a transaction asks to be run again.
 fn retries(catalogue: &Catalogue, tx: TxId, values: &Vec<i64>) -> Result<bool, AllocError>
-    requires known { tx.0 < length catalogue.now.programs }
+    requires known { tx.0 < length catalogue.now.transactions }
     requires values { length values.now.items ≡ length catalogue.now.initial }
     ensures { IfOk result (λ yes. IsTrue yes ↔ (outcome (program_at catalogue.now tx) values.now.items ≡ Retries)) }
 {
     let mut state = values.clone()?;
-    match execute(catalogue.tx(tx), &mut state)? {
+    match execute(catalogue.tx(tx), catalogue.always(), &mut state)? {
         Outcome::Retries => Ok(true),
         Outcome::Returned(_) | Outcome::Thrown(_) => Ok(false),
     }
@@ -28,7 +28,7 @@ pub(crate) fn all_retry(
     values: &Vec<i64>,
     parked: &[(TaskId, TxId)],
 ) -> Result<bool, AllocError>
-    requires known { All (λ p. p.1.0 < length catalogue.now.programs) parked.now }
+    requires known { All (λ p. p.1.0 < length catalogue.now.transactions) parked.now }
     requires values { length values.now.items ≡ length catalogue.now.initial }
     ensures { IfOk result (λ yes. IsTrue yes ↔ All (λ p. outcome (program_at catalogue.now p.1) values.now.items ≡ Retries) parked.now) }
 {

@@ -24,7 +24,7 @@ pub(crate) fn step(
     entry: &Entry,
     stage: &mut Stage,
 ) -> Result<bool, AllocError>
-    requires known { entry.now.tx.0 < length catalogue.now.programs }
+    requires known { entry.now.tx.0 < length catalogue.now.transactions }
     requires values { length stage.old.values.items ≡ length catalogue.now.initial }
     requires versions { length stage.old.versions.items ≡ length catalogue.now.initial }
     ensures goes_on { IfOk result (λ yes. IsTrue yes ↔ GoesOn catalogue.now entry.now (view stage.old)) }
@@ -36,7 +36,11 @@ pub(crate) fn step(
         return Ok(false);
     }
     let before = stage.values.clone()?;
-    let outcome = execute(catalogue.tx(entry.tx), &mut stage.values)?;
+    let outcome = execute(
+        catalogue.tx(entry.tx),
+        catalogue.always(),
+        &mut stage.values,
+    )?;
     if outcome != entry.outcome {
         return Ok(false);
     }
@@ -51,7 +55,7 @@ pub(crate) fn replay(
     base: Stage,
     entries: &[Entry],
 ) -> Result<Option<Stage>, AllocError>
-    requires known { All (λ e. e.tx.0 < length catalogue.now.programs) entries.now }
+    requires known { All (λ e. e.tx.0 < length catalogue.now.transactions) entries.now }
     requires values { length base.values.items ≡ length catalogue.now.initial }
     requires versions { length base.versions.items ≡ length catalogue.now.initial }
     ensures hold { IfOk result (λ s. IsSome s ↔ AllGoOn catalogue.now (view base) entries.now) }

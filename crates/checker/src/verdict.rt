@@ -9,7 +9,7 @@ pub enum Part {
     /// The bytes are the text of a report that fits the file.
     Text,
     /// The base: where its number is 0, the initial values with versions 0; no version above the
-    /// number.
+    /// number; and each standing condition true on the values.
     Base,
     /// The entries: each has the next number, and the outcome of the transaction that its line
     /// names.

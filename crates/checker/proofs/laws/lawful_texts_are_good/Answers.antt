@@ -6,9 +6,9 @@ use Rattle.checker.proofs.laws.lawful_texts_are_good.Goals as goal
 
 pub returns : goal.returns
 returns c file l r spells lawful values =
-    let few : length (tasks l) ≤ 65536 = few_tasks l spells.limits in
+    let few : length (tasks l) ≤ 65536 = few_tasks l spells.declared.limits in
     let counts : length r.entries + (length r.parked + length r.memory) ≤ 65536 = omega (arith, lawful.accounted, few) in
-    let short = report_short l r spells.limits (sym spells.valued) lawful.fits values counts in
+    let short = report_short l r spells.declared.limits (sym spells.declared.valued) lawful.fits values counts in
     record {
       listing = l;
       spelled = spells;

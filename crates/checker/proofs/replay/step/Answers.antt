@@ -1,7 +1,8 @@
-use Rattle.std.proofs.Common.{◌≡◌, ◌∙◌, ap, sym, length, rules, arith}
+use Rattle.std.proofs.Common.{◌≡◌, ◌∙◌, List, ap, sym, length, rules, arith}
 use Rattle.std.proofs.lemmas.List.Elements.{same_from_all_zip}
 use Rattle.programs.specs.Meaning.{after}
-use Rattle.programs.specs.Listing.{program_at}
+use Rattle.programs.specs.Listing.{conditions, program_at}
+use Rattle.programs.specs.Tree.{Condition, Transaction, transaction_of, under}
 use Rattle.programs.specs.Replay.{Snapshot, versions_after, applied}
 use Rattle.checker.specs.View.{view}
 use Rattle.checker.proofs.Raising.{versions_length}
@@ -14,7 +15,9 @@ returns-clause-applied c _ =
     let e = c.args.entry.now in
     let s = view c.args.stage.now in
     let same : c.in_ok-before.before.items ≡ s.state = search (rules, same_from_all_zip, c.in_ok-before.ensures.cases) in
-    let state : c.execute.new.state.items ≡ after (program_at l e.tx) s.state = c.in_ok-outcome.ensures.after ∙ ap (λ p. after p s.state) c.tx.ensures.value in
+    let state : c.execute.new.state.items ≡ after (program_at l e.tx) s.state = c.in_ok-outcome.ensures.after
+    ∙ (ap (λ (cs : List Condition). after (under cs (transaction_of c.tx.result.now)) s.state) c.always.ensures.conditions
+    ∙ ap (λ (t : Transaction). after (under (conditions l) t) s.state) c.tx.ensures.value) in
     let versions : c.raise.new.versions.items ≡ versions_after e.number s.state (after (program_at l e.tx) s.state) s.versions =
     c.raise.ensures ∙ (ap (λ m. versions_after e.number m c.deref-2.result.now s.versions) (c.deref.ensures.value ∙ same)
     ∙ ap (λ m. versions_after e.number s.state m s.versions) (c.deref-2.ensures.value ∙ state)) in
