@@ -16,13 +16,23 @@ fn increment(alloc: Global) -> Result<Tx, AllocError> {
     })
 }
 
-/// `(var x 5)`, the transaction, and `(run inc 1000)`.
-pub(crate) fn counter(alloc: Global) -> Result<Catalogue, BuildFault> {
-    let vars = vec![in alloc; (String::from_str(alloc, "x")?, 5)]?;
-    let always = Vec::new(alloc);
-    let txs = vec![in alloc; increment(alloc)?]?;
+/// `(var x 5)`
+fn variables(alloc: Global) -> Result<Vec<(String, i64)>, AllocError> {
+    let x = (String::from_str(alloc, "x")?, 5);
+    Ok(vec![in alloc; x]?)
+}
+
+/// The transaction, and `(run inc 1000)`.
+fn tasks(alloc: Global) -> Result<(Vec<Tx>, Vec<(TxId, u32)>), AllocError> {
+    let transactions = vec![in alloc; increment(alloc)?]?;
     let runs = vec![in alloc; (TxId(0), 1000)]?;
-    Catalogue::build(alloc, vars, always, txs, runs)
+    Ok((transactions, runs))
+}
+
+/// The catalogue of all that, with no standing conditions.
+pub(crate) fn counter(alloc: Global) -> Result<Catalogue, BuildFault> {
+    let (transactions, runs) = tasks(alloc)?;
+    Catalogue::build(alloc, variables(alloc)?, Vec::new(alloc), transactions, runs)
 }
 
 #[test]
