@@ -19,3 +19,5 @@ mod seen;
 mod telling;
 #[cfg(test)]
 mod texts;
+#[cfg(test)]
+mod uses;

@@ -1,0 +1,41 @@
+use Rattle.std.proofs.Common.{◌≡◌, ◌≢◌, ◌∙◌, ◌-◌, ap, sym, subst, inl, Some, slice_get}
+use Rattle.programs.specs.Listing.{Listing, task_program}
+use Rattle.programs.specs.Meaning.{outcome, after}
+use Rattle.programs.specs.declared.ast.Outcome.TheVariants.{Retries}
+use Rattle.shared_words.specs.Words.{state_of}
+use Rattle.attempt.specs.Asking.{Known}
+use Rattle.attempt.specs.Frame.{Agrees}
+use Rattle.world_law.specs.World.{Started, World}
+use Rattle.world_law.specs.Opacity.{Opaque}
+use Rattle.world_tests.specs.Uses.{PairsAreOfOneState, CommitsAreOfPrograms, TasksCommitOnce}
+use Rattle.world_tests.proofs.uses.concludes.Goals as goal
+
+same_some : (a b : Started) → Some a ≡ Some b → a ≡ b
+same_some a b e = cc
+
+pairs : (l : Listing) (w : World) → Opaque l w → PairsAreOfOneState w
+pairs l w o i y x z u v at is =
+    let r = o.reads i y at in
+    let agrees = subst (λ (log : Known). Agrees log (state_of w.history y.rv)) is r.1.0 in
+    (y.rv, r.0, agrees.0, agrees.1.0)
+
+commits : (l : Listing) (w : World) → Opaque l w → CommitsAreOfPrograms l w
+commits l w o i n y at is low high =
+    let made = o.makers n low high in
+    let here = made.4 i y (at, inl is) in
+    let same = same_some made.1 y (sym made.2.0 ∙ (ap (slice_get w.attempts) (sym here) ∙ at)) in (
+      subst (λ (z : Started). state_of w.history n ≡ after (task_program l z.task) (state_of w.history (n - 1))) same made.3.leads,
+      subst (λ (z : Started). outcome (task_program l z.task) (state_of w.history (n - 1)) ≢ Retries) same made.3.goes_on,
+    )
+
+once : (l : Listing) (w : World) → Opaque l w → TasksCommitOnce w
+once l w o = o.once
+
+pub returns-clause-pairs : goal.returns-clause-pairs
+returns-clause-pairs c w reached = pairs c.args.catalogue.now w (c.opacity.ensures.opaque w reached)
+
+pub returns-clause-commits : goal.returns-clause-commits
+returns-clause-commits c w reached = commits c.args.catalogue.now w (c.opacity.ensures.opaque w reached)
+
+pub returns-clause-once : goal.returns-clause-once
+returns-clause-once c w reached = once c.args.catalogue.now w (c.opacity.ensures.opaque w reached)

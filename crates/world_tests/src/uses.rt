@@ -1,0 +1,35 @@
+//! What a caller can rest on: what follows from the laws of the world, and from them alone.
+
+ghost use Rattle.world_law.specs.World.{World};
+ghost use Rattle.world_law.specs.Next.{Reachable};
+ghost use Rattle.world_law.specs.Determined.{HasOneAnswer, HasOneRefusal};
+ghost use Rattle.world_tests.specs.Uses.{PairsAreOfOneState, CommitsAreOfPrograms, TasksCommitOnce};
+
+use crate::parts::{PAIR, catalogue};
+use txn::Catalogue;
+use world_law::{one_answer, opacity};
+
+/// What two variables were when an attempt read them is so in one state; a commit's state is that
+/// of its program; and no task commits twice.
+fn concludes(catalogue: &Catalogue)
+    ensures pairs { (w : World) → Reachable catalogue.now w → PairsAreOfOneState w }
+    ensures commits { (w : World) → Reachable catalogue.now w → CommitsAreOfPrograms catalogue.now w }
+    ensures once { (w : World) → Reachable catalogue.now w → TasksCommitOnce w }
+{
+    opacity(catalogue);
+}
+
+/// What is seen of an event leaves nothing open.
+fn foretells(catalogue: &Catalogue)
+    ensures answer { (w : World) → Reachable catalogue.now w → HasOneAnswer catalogue.now w }
+    ensures refusal { (w : World) → Reachable catalogue.now w → HasOneRefusal catalogue.now w }
+{
+    one_answer(catalogue);
+}
+
+#[test]
+fn the_laws_are_of_every_catalogue(rt: HostRuntime) {
+    let pair = catalogue(&rt, rt.alloc(), PAIR);
+    concludes(&pair);
+    foretells(&pair);
+}
