@@ -8,9 +8,9 @@ import os
 import random
 
 from parts import TOP, run, shown
-from refusals import INCREMENTS, REPORTS
+from refusals import BROKEN_REPORTS, FILES as RUNS, INCREMENTS, REPORTS
 
-SHAPE, NAME, LIMIT, LONG, BYTE = "F3 Shape", "F4 Name", "F5 Limit", "F1 TooLong", "F2 BadByte"
+SHAPE, NAME, LIMIT, LONG, BYTE, BROKEN = "F3 Shape", "F4 Name", "F5 Limit", "F1 TooLong", "F2 BadByte", "F7 Broken"
 EMPTY = "base 0\nnow 0\nend\n"
 
 
@@ -32,6 +32,10 @@ def variables(count):
 
 def transactions(count):
     return "".join(f"(tx t{i} (skip) {i})\n" for i in range(count))
+
+
+def standing(count):
+    return "(stm 2)" + "".join(f"(always c{i} (le {i} {i}))\n" for i in range(count))
 
 
 # Each file: its text, and the kind of its first fault (None: it is read), or the report that it has to give.
@@ -69,6 +73,26 @@ FILES = {
     "a cost of 1,000,000": ("(tx t (seq (repeat 999 (repeat 999 (skip))) (repeat 996 (skip))) 0)(run t 1)", None),
     "a cost of 1,000,001": ("(tx t (seq (repeat 999 (repeat 999 (skip))) (repeat 997 (skip))) 0)(run t 1)", LIMIT),
     "a cost that no machine can count": (f"(tx t {nested(30, '(repeat 1000 ', '(skip)')} 0)(run t 1)", LIMIT),
+    "form 2 alone": ("(stm 2)", "=" + EMPTY),
+    "form 2 behind blanks and a comment": (" ; form 2\n( stm\n2 )", "=" + EMPTY),
+    "form 1 by its number": ("(stm 1)", SHAPE),
+    "form 3": ("(stm 3)", SHAPE),
+    "form 2 twice": ("(stm 2)(stm 2)", SHAPE),
+    "a condition in form 1": ("(always c (eq 0 0))", SHAPE),
+    "a condition behind a transaction": ("(stm 2)(tx t (skip) 0)(always c (eq 0 0))", SHAPE),
+    "64 conditions": (standing(64), "=" + EMPTY),
+    "65 conditions": (standing(65), LIMIT),
+    "a condition's name of 32 bytes": (f"(stm 2)(always {'a' * 32} (eq 0 0))", "=" + EMPTY),
+    "a condition's name of 33 bytes": (f"(stm 2)(always {'a' * 33} (eq 0 1))", LIMIT),
+    "a condition that is declared twice": ("(stm 2)(always c (eq 0 0))(always c (eq 0 1))", NAME),
+    "a condition on an unknown variable": ("(stm 2)(always c (eq x 0))", NAME),
+    "a standing condition inside 30 others": (f"(stm 2)(always c {nested(30, '(not ', '(eq 0 0)')})", "=" + EMPTY),
+    "a standing condition inside 31 others": (f"(stm 2)(always c {nested(31, '(not ', '(eq 0 1)')})", SHAPE),
+    "a cost of 1,000,000 with a condition": ("(stm 2)(always c (eq 0 0))(tx t (seq (repeat 999 (repeat 999 (skip))) (repeat 993 (skip))) 0)(run t 1)", None),
+    "a cost of 1,000,001 with a condition": ("(stm 2)(always c (eq 0 0))(tx t (seq (repeat 999 (repeat 999 (skip))) (repeat 994 (skip))) 0)(run t 1)", LIMIT),
+    "a condition that is not true": ("(stm 2)(var x 1)(always c (eq x 0))(tx t (set x 0) x)(run t 1)", BROKEN),
+    "a condition that has a fault": ("(stm 2)(var x 0)(always c (le 0 (div 1 x)))(tx t (set x 1) x)(run t 1)", BROKEN),
+    "a number out of range beside a condition that is not true": ("(stm 2)(var x 9223372036854775808)(always c (eq 0 1))", LIMIT),
     "a statement of 170,000 parts": (f"(tx t (seq {'(skip)' * 170000}) 0)(run t 1)", None),
 }
 
@@ -101,17 +125,19 @@ def try_file(trials, program, what, text, wanted):
 def try_beginnings(trials, program):
     """Each beginning of a file and of its report, and of a schedule."""
     by = os.path.basename(program)
-    names = [trials.write(f"first-{n}", INCREMENTS[:n]) for n in range(len(INCREMENTS) + 1)]
-    ends = list(trials.pool.map(lambda name: run([program, "run", name, "--workers", "1"], trials.folder), names))
-    read = [n for n, it in enumerate(ends) if (it.status, it.err) == (0, b"")]
-    faults = [f"the first {n} bytes: {shown(it)}" for n, it in enumerate(ends) if n not in read and it[:3] != (2, b"", b"stm: file: F3 Shape\n")]
-    faults += [] if read == [0, 9, 37, 48] else [f"read are the beginnings of {read}"]
-    trials.tell(f"{by} run, each beginning of a file", faults, f"of {len(ends)} the ones of 0, 9, 37 and 48 bytes are read, each other is F3")
-    trials.write("input", INCREMENTS)
-    names = [trials.write(f"first-{n}", REPORTS[0][:n]) for n in range(len(REPORTS[0]))]
-    ends = list(trials.pool.map(lambda name: run([program, "check", "input", name], trials.folder), names))
-    faults = [f"the first {n} bytes: {shown(it)}" for n, it in enumerate(ends) if it[:3] != (1, b"bad 1\n", b"")]
-    trials.tell(f"{by} check, each beginning of a report", faults, f"all {len(ends)} are bad 1")
+    moves = RUNS["conditions that are broken"]
+    for text, report, wholes in (INCREMENTS, REPORTS[0], [0, 9, 37, 48]), (moves, BROKEN_REPORTS[0][0], [0, 7, 18, 27, 58, 79, 134, 155, 167, 179]):
+        names = [trials.write(f"first-{n}", text[:n]) for n in range(len(text) + 1)]
+        ends = list(trials.pool.map(lambda name: run([program, "run", name, "--workers", "1"], trials.folder), names))
+        read = [n for n, it in enumerate(ends) if (it.status, it.err) == (0, b"")]
+        faults = [f"the first {n} bytes: {shown(it)}" for n, it in enumerate(ends) if n not in read and it[:3] != (2, b"", b"stm: file: F3 Shape\n")]
+        faults += [] if read == wholes else [f"read are the beginnings of {read}"]
+        trials.tell(f"{by} run, each beginning of a file", faults, f"of {len(ends)} the ones of {wholes} bytes are read, each other is F3")
+        trials.write("input", text)
+        names = [trials.write(f"first-{n}", report[:n]) for n in range(len(report))]
+        ends = list(trials.pool.map(lambda name: run([program, "check", "input", name], trials.folder), names))
+        faults = [f"the first {n} bytes: {shown(it)}" for n, it in enumerate(ends) if it[:3] != (1, b"bad 1\n", b"")]
+        trials.tell(f"{by} check, each beginning of a report", faults, f"all {len(ends)} are bad 1")
 
 
 def tampered(text, chance):
@@ -162,7 +188,7 @@ def try_tampered(trials, program, count):
         if kind == "schedule" and ended.status == 0:
             return ended, ended.err == b"" and ended.out.endswith(b"end\n")
         what = b"schedule" if kind == "schedule" else b"file"
-        return ended, (ended.status, ended.out) == (2, b"") and ended.err[:-1] in [b"stm: %s: %s" % (what, it.encode()) for it in (LONG, BYTE, SHAPE, NAME, LIMIT)]
+        return ended, (ended.status, ended.out) == (2, b"") and ended.err[:-1] in [b"stm: %s: %s" % (what, it.encode()) for it in (LONG, BYTE, SHAPE, NAME, LIMIT, BROKEN)]
 
     for (kind, text, words), (ended, ok) in zip(cases, trials.pool.map(one, cases)):
         ends[ended.status] = ends.get(ended.status, 0) + 1

@@ -17,6 +17,9 @@ FILES = {
     "a retry with no way out": "(tx t (orelse (retry) (retry)) 0)(run t 1)",
     "a buffer of one place": "(var full 0)(var cell 0)(tx get (seq (if (eq full 0) (retry) (skip)) (set full 0)) cell)"
     "(tx put (seq (if (eq full 1) (retry) (skip)) (set cell 42) (set full 1)) 0)(run get 1)(run put 1)",
+    "conditions that are broken": "(stm 2)(var a 100)(var b 0)(always sum (eq (add a b) 100))(always pos (le 0 a))"
+    "(tx move (seq (set a (sub a 60)) (set b (add b 60))) a)(tx leak (set a 0) a)(run move 2)(run leak 1)",
+    "a condition with a fault": "(stm 2)(var x 1)(always ok (le 0 (div 1 x)))(tx z (set x 0) x)(run z 1)",
     "twelve variables": "".join(f"(var v{i} 0)" for i in range(12))
     + "(tx t (seq" + "".join(f" (orelse (seq (set v{i} 1) (retry)) (set v{i} (add v{i} 1)))" for i in range(12)) + ") v0)(run t 2)",
 }
@@ -34,6 +37,14 @@ REPORTS = [
     "base 0\nx 5 0\nentry 1 1 inc returned 6\nnow 1\nx 6 1\nmemory 0 inc\nend\n",
 ]
 VERDICTS = ["good", "bad 3", "bad 2", "bad 4", "bad 5", "bad 1", "bad 6", "good", "good"]
+
+# Reports of conditions that are broken, with their verdicts.
+BROKEN_REPORTS = [
+    ("base 1\na 40 1\nb 60 1\nentry 2 1 move broke pos\nentry 3 2 leak broke sum\nnow 3\na 40 1\nb 60 1\nend\n", "good"),
+    ("base 1\na 40 1\nb 60 1\nentry 2 1 move broke neg\nentry 3 2 leak broke sum\nnow 3\na 40 1\nb 60 1\nend\n", "bad 1"),
+    ("base 1\na 40 1\nb 50 1\nentry 2 1 move broke pos\nentry 3 2 leak broke sum\nnow 3\na 40 1\nb 50 1\nend\n", "bad 2"),
+    ("base 1\na 40 1\nb 60 1\nentry 2 1 move broke sum\nentry 3 2 leak broke sum\nnow 3\na 40 1\nb 60 1\nend\n", "bad 3"),
+]
 
 PAIR = "(var x 1)(var y 1)(tx sum (skip) (add x y))(tx both (seq (set x 2) (set y 2)) 0)(run sum 1)(run both 1)"
 
@@ -54,6 +65,10 @@ SCHEDULES = {
     "what is not possible": (
         PAIR,
         "word\ndrop 0\nbegin 0\nfirst 0 x\nbegin 1\ncommit 1\nvalue 0\nsecond 0\nbegin 1\n",
+    ),
+    "conditions that are broken": (
+        FILES["conditions that are broken"],
+        "begin 0\nread 0 a\nread 0 b\nask 0\nword\nbegin 2\nread 2 b\nword\nword\nword\nword\nword\nword\ncommit 2\nbegin 1\nread 1 a\nread 1 b\ncommit 1\n",
     ),
     "branches that retry": (FILES["twelve variables"], "begin 0\n" + "".join(f"read 0 v{i}\n" for i in range(12)) + "commit 0\n"),
 }
@@ -172,10 +187,11 @@ def try_refusals(trials, program):
         trials.write(name, open(f"{TOP}/crates/stm/data/{name}", "rb").read())
     good = lambda ended, _: (ended.status, ended.err) == (0, b"") and refusals.is_good(program, stored[1], ended.out)
     refusals.try_all(f"{by}, the stored run", [program, *stored], good)
-    for i, (report, verdict) in enumerate(zip(REPORTS, VERDICTS)):
+    reports = [("two-increments", *it) for it in zip(REPORTS, VERDICTS)] + [("conditions-that-are-broken", *it) for it in BROKEN_REPORTS]
+    for i, (file, report, verdict) in enumerate(reports):
         name = trials.write(f"report-{i}", report)
         told = (int(verdict != "good"), f"{verdict}\n".encode(), b"")
-        refusals.try_all(f"{by} check, {verdict}", [program, "check", "two-increments", name], lambda it, _, told=told: it[:3] == told)
+        refusals.try_all(f"{by} check of {file}, {verdict}", [program, "check", file, name], lambda it, _, told=told: it[:3] == told)
     for name, (file, schedule) in SCHEDULES.items():
         words = [program, "world", trials.write("world", file), trials.write("schedule", schedule)]
         refusals.try_all(f"{by} world, {name}", words, is_beginning)

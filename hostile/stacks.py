@@ -26,6 +26,8 @@ FILES = {
     "repeats": f"(var x 0)(tx t {nested(29, '(repeat 1 ', '(set x (add x 1))')} x)(run t 3)",
     "first alternatives": f"(var x 0)(tx t {nested(14, '(orelse (seq (set x (add x 1)) ', '(retry)', ') (set x (add x 7)))')} x)(run t 3)",
     "second alternatives": f"(var x 0)(tx t {nested(29, '(orelse (retry) ', '(set x 7)')} x)(run t 3)",
+    "a standing condition in a condition": f"(stm 2)(var x 0)(always c {nested(30, '(not ', '(le 0 x)')})(tx t (set x (add x 1)) x)(run t 3)",
+    "64 standing conditions on 256 variables": "(stm 2)" + variables(256) + "".join(f"(always c{i} (lt v{i} v{255 - i}))" for i in range(64)) + "(tx t (set v9 (add v9 7)) v9)(run t 300)",
     "a statement of 170,000 parts": f"(tx t (seq {'(skip)' * 170000}) 0)(run t 1)",
     "256 variables, each read and written": variables(256) + "(tx t (seq" + "".join(f" (set v{i} (add v{i} 1))" for i in range(256)) + ") 0)(run t 300)",
     "256 transactions of 256 tasks": transactions(256) + "".join(f"(run t{i} 256)" for i in range(256)),

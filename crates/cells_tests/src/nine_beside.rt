@@ -55,7 +55,7 @@ fn observe_some(
 ) -> bool
     requires own { pass.cells ≡ cells.now }
     requires variables { cells.now.variables ≡ length catalogue.now.initial }
-    requires known { 0 < length catalogue.now.programs }
+    requires known { 0 < length catalogue.now.transactions }
 {
     let mut last = 0;
     'times: for _ in 0..count {
@@ -81,7 +81,7 @@ fn both(
     requires start { publisher.history ≡ nine (pos 0) ∷ [] }
     requires pass { pass.cells ≡ cells.now }
     requires variables { cells.now.variables ≡ length catalogue.now.initial }
-    requires known { 0 < length catalogue.now.programs }
+    requires known { 0 < length catalogue.now.transactions }
 {
     let (_, fine) = join(
         rt,
@@ -89,7 +89,7 @@ fn both(
             requires { (publisher.cells ≡ cells.now) × (publisher.history ≡ nine (pos 0) ∷ []) }
         { publish_some(cells, publisher, 1000) },
         move || -> bool
-            requires { (pass.cells ≡ cells.now) × (cells.now.variables ≡ length catalogue.now.initial) × (0 < length catalogue.now.programs) }
+            requires { (pass.cells ≡ cells.now) × (cells.now.variables ≡ length catalogue.now.initial) × (0 < length catalogue.now.transactions) }
         { observe_some(alloc, cells, pass, catalogue, 1000) },
     );
     fine

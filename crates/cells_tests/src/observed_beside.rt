@@ -27,7 +27,7 @@ fn observe_some(
 ) -> (Pass, bool)
     requires own { pass.cells ≡ cells.now }
     requires variables { cells.now.variables ≡ length catalogue.now.initial }
-    requires known { 0 < length catalogue.now.programs }
+    requires known { 0 < length catalogue.now.transactions }
     ensures own { result.0.cells ≡ pass.cells }
 {
     let mut fine = true;
@@ -55,7 +55,7 @@ fn both(
     requires start { publisher.history ≡ (pos 1 ∷ pos 1 ∷ []) ∷ [] }
     requires pass { pass.cells ≡ cells.now }
     requires variables { cells.now.variables ≡ length catalogue.now.initial }
-    requires known { 0 < length catalogue.now.programs }
+    requires known { 0 < length catalogue.now.transactions }
     ensures publisher { result.0.cells ≡ publisher.cells }
     ensures pass { result.1.0.cells ≡ pass.cells }
 {
@@ -66,7 +66,7 @@ fn both(
             ensures { result.cells ≡ cells.entry.now }
         { publish_some(cells, publisher, 1000) },
         move || -> (Pass, bool)
-            requires { (pass.cells ≡ cells.now) × (cells.now.variables ≡ length catalogue.now.initial) × (0 < length catalogue.now.programs) }
+            requires { (pass.cells ≡ cells.now) × (cells.now.variables ≡ length catalogue.now.initial) × (0 < length catalogue.now.transactions) }
             ensures { result.0.cells ≡ cells.entry.now }
         { observe_some(alloc, cells, pass, catalogue, 1000) },
     )
@@ -86,7 +86,7 @@ fn sums_are_of_one_state(
     requires start { publisher.history ≡ (pos 1 ∷ pos 1 ∷ []) ∷ [] }
     requires pass { pass.cells ≡ cells.now }
     requires variables { cells.now.variables ≡ length catalogue.now.initial }
-    requires known { 0 < length catalogue.now.programs }
+    requires known { 0 < length catalogue.now.transactions }
 {
     let (mut publisher, (mut pass, fine)) = both(rt, alloc, cells, publisher, pass, catalogue);
     assert!(rt; fine);

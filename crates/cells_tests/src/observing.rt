@@ -155,7 +155,7 @@ fn first_is_told(
     requires published { publisher.old.cells ≡ cells.now }
     requires start { publisher.old.history ≡ (pos 5 ∷ []) ∷ [] }
     requires variables { length catalogue.now.initial ≤ cells.now.variables }
-    requires known { 0 < length catalogue.now.programs }
+    requires known { 0 < length catalogue.now.transactions }
 {
     let mut attempt = Attempt::new(alloc, catalogue, TxId(0));
     is_told_six(rt, cells, publisher, pass, &mut attempt);

@@ -11,6 +11,13 @@ pub(crate) const FILE: &str = "(var x 5)(tx inc (set x (add x 1)) x)(run inc 2)"
 pub(crate) const REPORT: &str =
     "base 0\nx 5 0\nentry 1 0 inc returned 6\nentry 2 1 inc returned 7\nnow 2\nx 7 2\nend\n";
 
+/// A condition that a fault of its own breaks.
+pub(crate) const DIVISION: &str =
+    "(stm 2)(var x 1)(always ok (le 0 (div 1 x)))(tx z (set x 0) x)(run z 1)";
+
+/// The report of a run of it.
+pub(crate) const BROKEN: &str = "base 0\nx 1 0\nentry 1 0 z broke ok\nnow 1\nx 1 0\nend\n";
+
 /// The number of the part that a report of a file fails first, and 0 where it is lawful. `None`
 /// where the file is refused.
 pub(crate) fn failed(alloc: Global, file: &str, report: &[u8]) -> Option<u8> {
@@ -34,9 +41,9 @@ pub(crate) fn expect_parts(
     }
 }
 
-/// Whether the report of the two increments can't be read.
-pub(crate) fn is_unread(alloc: Global, report: &[u8]) -> bool {
-    match check(alloc, FILE.as_bytes(), report) {
+/// Whether the report of a file can't be read.
+pub(crate) fn is_unread(alloc: Global, file: &str, report: &[u8]) -> bool {
+    match check(alloc, file.as_bytes(), report) {
         Ok(verdict) => verdict == Verdict::Bad(Part::Text),
         Err(_) => false,
     }

@@ -1,39 +1,72 @@
 //! Texts that are cut, changed and oversized.
 
-use crate::parts::{FILE, REPORT, expect_parts, failed, is_unread};
+use crate::parts::{BROKEN, DIVISION, FILE, REPORT, expect_parts, failed, is_unread};
 use std::alloc::{AllocError, Global};
+use std::process::Abort;
 
-#[test]
-fn every_beginning_is_refused(rt: HostRuntime) {
-    let bytes = REPORT.as_bytes();
+/// No beginning of this report can be read.
+fn refuses_beginnings(rt: &(impl Abort + Eprint), alloc: Global, file: &str, report: &str) {
+    let bytes = report.as_bytes();
     for length in 0..bytes.len() {
-        assert!(rt; is_unread(rt.alloc(), &bytes[..length]), "of {length}");
+        assert!(rt; is_unread(alloc, file, &bytes[..length]), "of {length}");
     }
 }
 
-/// Whether a report of the two increments is lawful.
-fn is_lawful(alloc: Global, report: &[u8]) -> Option<bool> {
-    match failed(alloc, FILE, report) {
+#[test]
+fn every_beginning_is_refused(rt: HostRuntime) {
+    refuses_beginnings(&rt, rt.alloc(), FILE, REPORT);
+    refuses_beginnings(&rt, rt.alloc(), DIVISION, BROKEN);
+}
+
+/// Whether a report of a file is lawful.
+fn is_lawful(alloc: Global, file: &str, report: &[u8]) -> Option<bool> {
+    match failed(alloc, file, report) {
         Some(part) => Some(part == 0),
         None => None,
     }
 }
 
 /// Each byte is replaced by each other, and none of what comes of it is lawful.
-#[test]
-fn every_change_of_one_byte_is_found(rt: HostRuntime) {
-    let alloc = rt.alloc();
-    let Ok(mut text) = REPORT.as_bytes().to_vec(alloc) else {
+fn finds_changes(rt: &(impl Abort + Eprint), alloc: Global, file: &str, report: &str) {
+    let Ok(mut text) = report.as_bytes().to_vec(alloc) else {
         panic!(rt; "no text")
     };
     for place in 0..text.len() {
         let before = text[place];
         for byte in 0..=255u8 {
             text[place] = byte;
-            let is_so = is_lawful(alloc, text.as_slice()) == Some(byte == before);
+            let is_so = is_lawful(alloc, file, text.as_slice()) == Some(byte == before);
             assert!(rt; is_so, "of {byte} at {place}");
         }
         text[place] = before;
+    }
+}
+
+#[test]
+fn every_change_of_one_byte_is_found(rt: HostRuntime) {
+    finds_changes(&rt, rt.alloc(), FILE, REPORT);
+    finds_changes(&rt, rt.alloc(), DIVISION, BROKEN);
+}
+
+#[test]
+fn what_names_no_condition_is_refused(rt: HostRuntime) {
+    for ending in [
+        "broke no",
+        "broke z",
+        "broke x",
+        "broke 7",
+        "broke",
+        "broke ",
+        "broke ok ok",
+        "broken ok",
+    ] {
+        match format!(in rt.alloc(); "base 0\nx 1 0\nentry 1 0 z {ending}\nnow 1\nx 1 0\nend\n") {
+            Ok(report) => {
+                let is_so = is_unread(rt.alloc(), DIVISION, report.as_bytes());
+                assert!(rt; is_so, "of {ending}");
+            }
+            Err(_) => panic!(rt; "no text"),
+        }
     }
 }
 
@@ -45,7 +78,10 @@ fn what_is_no_number_is_refused(rt: HostRuntime) {
         "base 0\nx 5 0\nentry 01 0 inc returned 6\nnow 1\nx 6 1\nmemory 1 inc\nend\n",
         "base 0\nx 5 0\nentry 1 2 inc returned 6\nnow 1\nx 6 1\nmemory 1 inc\nend\n",
     ] {
-        assert!(rt; is_unread(rt.alloc(), report.as_bytes()), "of {report}");
+        assert!(rt;
+            is_unread(rt.alloc(), FILE, report.as_bytes()),
+            "of {report}"
+        );
     }
 }
 
@@ -62,7 +98,7 @@ fn with_digits(alloc: Global, count: u32) -> Result<String, AllocError> {
 #[test]
 fn a_base_of_ten_thousand_digits_is_refused(rt: HostRuntime) {
     match with_digits(rt.alloc(), 10_000) {
-        Ok(report) => assert!(rt; is_unread(rt.alloc(), report.as_bytes())),
+        Ok(report) => assert!(rt; is_unread(rt.alloc(), FILE, report.as_bytes())),
         Err(_) => panic!(rt; "no text"),
     }
 }

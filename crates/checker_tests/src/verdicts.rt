@@ -1,6 +1,6 @@
 //! Reports with each verdict.
 
-use crate::parts::{FILE, REPORT, expect_parts};
+use crate::parts::{BROKEN, DIVISION, FILE, REPORT, expect_parts};
 use checker::{Part, Verdict, check};
 use txn_text::ReadFault;
 
@@ -102,10 +102,51 @@ fn a_base_that_was_moved_is_good(rt: HostRuntime) {
 }
 
 #[test]
+fn conditions_are_judged(rt: HostRuntime) {
+    let file = "(stm 2)(var a 100)(var b 0)(always sum (eq (add a b) 100))(always pos (le 0 a))\
+        (tx move (seq (set a (sub a 60)) (set b (add b 60))) a)(tx leak (set a 0) a)(run move 2)(run leak 1)";
+    let reports = [
+        (
+            "base 0\na 100 0\nb 0 0\nentry 1 0 move returned 40\nentry 2 1 move broke pos\nentry 3 2 leak broke sum\nnow 3\na 40 1\nb 60 1\nend\n",
+            0,
+        ),
+        (
+            "base 1\na 40 1\nb 60 1\nentry 2 1 move broke pos\nentry 3 2 leak broke sum\nnow 3\na 40 1\nb 60 1\nend\n",
+            0,
+        ),
+        (
+            "base 1\na 40 1\nb 50 1\nentry 2 1 move broke pos\nentry 3 2 leak broke sum\nnow 3\na 40 1\nb 50 1\nend\n",
+            2,
+        ),
+        (
+            "base 1\na -40 1\nb 140 1\nentry 2 1 move broke pos\nentry 3 2 leak broke sum\nnow 3\na -40 1\nb 140 1\nend\n",
+            2,
+        ),
+        (
+            "base 1\na 40 1\nb 60 1\nentry 2 1 move broke sum\nentry 3 2 leak broke sum\nnow 3\na 40 1\nb 60 1\nend\n",
+            3,
+        ),
+        (
+            "base 1\na 40 1\nb 60 1\nentry 2 1 move returned -20\nentry 3 2 leak broke sum\nnow 3\na -20 2\nb 120 2\nend\n",
+            3,
+        ),
+    ];
+    expect_parts(&rt, rt.alloc(), file, &reports);
+    let reports = [(BROKEN, 0), ("base 1\nx 0 1\nnow 1\nx 0 1\nend\n", 2)];
+    expect_parts(&rt, rt.alloc(), DIVISION, &reports);
+}
+
+#[test]
 fn a_fault_of_the_file_is_told(rt: HostRuntime) {
     for report in ["", REPORT] {
         let answer = check(rt.alloc(), b"(var x", report.as_bytes());
         assert!(rt; answer.err() == Some(ReadFault::Shape));
+        let answer = check(
+            rt.alloc(),
+            b"(stm 2)(always no (eq 0 1))",
+            report.as_bytes(),
+        );
+        assert!(rt; answer.err() == Some(ReadFault::Broken));
     }
 }
 

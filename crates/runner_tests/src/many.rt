@@ -16,21 +16,37 @@ const BUFFER: &str =
 const PASSED_ON: &str =
     "base 0\nfull 0 0\ncell 0 0\nentry 1 1 put returned 0\nentry 2 0 get returned 42\nnow 2\nfull 0 2\ncell 42 1\nend\n";
 
+const MOVES: &str =
+    "(stm 2)(var a 100)(var b 0)(always sum (eq (add a b) 100))(always pos (le 0 a))(tx again (seq (if (eq a 100) (retry) (skip)) (set a (sub a 60)) (set b (add b 60))) a)(tx move (seq (set a (sub a 60)) (set b (add b 60))) a)(run again 1)(run move 1)";
+
+const MOVED_ONCE: &str =
+    "base 0\na 100 0\nb 0 0\nentry 1 1 move returned 40\nentry 2 0 again broke pos\nnow 2\na 40 1\nb 60 1\nend\n";
+
 const THOUSAND: &str = "(var x 5)(tx inc (set x (add x 1)) x)(run inc 1000)";
 
-/// Any number of workers passes a value on.
-fn passes_on(rt: &(impl Abort + Eprint + Threads + Wait + Sync), alloc: Global, workers: u32) {
-    let options = options(rt, workers, 8, 0);
-    let (text, fault) = run_with(rt, alloc, BUFFER.as_bytes(), options);
-    let is_so = fault.is_none() && text.as_slice() == PASSED_ON.as_bytes();
-    assert!(rt; is_so, "of {workers}");
+/// Any number of workers makes this report of the file.
+fn expect_of_any_number(
+    rt: &(impl Abort + Eprint + Threads + Wait + Sync),
+    alloc: Global,
+    file: &str,
+    report: &str,
+) {
+    for workers in 1..17 {
+        let options = options(rt, workers, 8, 0);
+        let (text, fault) = run_with(rt, alloc, file.as_bytes(), options);
+        let is_so = fault.is_none() && text.as_slice() == report.as_bytes();
+        assert!(rt; is_so, "of {workers}");
+    }
 }
 
 #[test]
 fn any_number_of_workers_passes_a_value_on(rt: HostRuntime) {
-    for workers in 1..17 {
-        passes_on(&rt, rt.alloc(), workers);
-    }
+    expect_of_any_number(&rt, rt.alloc(), BUFFER, PASSED_ON);
+}
+
+#[test]
+fn no_number_of_workers_breaks_a_condition(rt: HostRuntime) {
+    expect_of_any_number(&rt, rt.alloc(), MOVES, MOVED_ONCE);
 }
 
 /// How often each task was at a point. At `Ended` it counts only what came between `Taken` and

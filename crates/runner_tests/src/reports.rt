@@ -81,6 +81,28 @@ fn faults_of_numbers(rt: HostRuntime) {
 }
 
 #[test]
+fn standing_conditions(rt: HostRuntime) {
+    let alloc = rt.alloc();
+    for (input, report) in [
+        (
+            "(stm 2)(var a 100)(var b 0)(always sum (eq (add a b) 100))(always pos (le 0 a))(tx move (seq (set a (sub a 60)) (set b (add b 60))) a)(tx leak (set a 0) a)(run move 2)(run leak 1)",
+            "base 0\na 100 0\nb 0 0\nentry 1 0 move returned 40\nentry 2 1 move broke pos\nentry 3 2 leak broke sum\nnow 3\na 40 1\nb 60 1\nend\n",
+        ),
+        (
+            "(stm 2)(var x 1)(always ok (le 0 (div 1 x)))(tx z (set x 0) x)(run z 1)",
+            "base 0\nx 1 0\nentry 1 0 z broke ok\nnow 1\nx 1 0\nend\n",
+        ),
+        ("(stm 2)", "base 0\nnow 0\nend\n"),
+        (
+            "(stm 2)(var x 1)(always ok (eq x 1))(tx f (seq (set x 2) (throw 7)) x)(tx d (set x 2) (div 1 0))(tx w (set x 1) x)(run f 1)(run d 1)(run w 1)",
+            "base 0\nx 1 0\nentry 1 0 f threw 7\nentry 2 1 d zerodiv\nentry 3 2 w returned 1\nnow 3\nx 1 0\nend\n",
+        ),
+    ] {
+        expect_report(&rt, alloc, input, report);
+    }
+}
+
+#[test]
 fn a_checkpoint_moves_the_base(rt: HostRuntime) {
     let input = "(var x 5)(tx inc (set x (add x 1)) x)(run inc 3)";
     let (text, fault) = run_with(&rt, rt.alloc(), input.as_bytes(), options(&rt, 1, 8, 2));

@@ -22,6 +22,7 @@ fn faults_of_the_input_have_their_texts(rt: HostRuntime) {
         (ReadFault::Shape, "stm: file: F3 Shape"),
         (ReadFault::Name, "stm: file: F4 Name"),
         (ReadFault::Limit, "stm: file: F5 Limit"),
+        (ReadFault::Broken, "stm: file: F7 Broken"),
     ] {
         expect_text(&rt, rt.alloc(), RunFault::Input(kind), text, 2);
     }

@@ -7,14 +7,14 @@ use txn::names::is_name;
 use txn::{BuildFault, Catalogue, Expr, Stmt, Tx, TxId};
 
 /// How a catalogue is refused, if it is.
-type Refusal = Result<Option<BuildFault>, AllocError>;
+pub(crate) type Refusal = Result<Option<BuildFault>, AllocError>;
 
 fn repeat(alloc: Global, count: u32, body: Stmt) -> Result<Stmt, AllocError> {
     Ok(Stmt::Repeat(count, Box::new(alloc, body)?))
 }
 
 /// The fault by which a catalogue is refused, if it is.
-fn refusal(built: Result<Catalogue, BuildFault>) -> Option<BuildFault> {
+pub(crate) fn refusal(built: Result<Catalogue, BuildFault>) -> Option<BuildFault> {
     match built {
         Ok(_) => None,
         Err(fault) => Some(fault),
@@ -22,7 +22,7 @@ fn refusal(built: Result<Catalogue, BuildFault>) -> Option<BuildFault> {
 }
 
 /// It is refused so.
-fn expect(rt: &(impl Abort + Eprint), found: Refusal, want: Option<BuildFault>) {
+pub(crate) fn expect(rt: &(impl Abort + Eprint), found: Refusal, want: Option<BuildFault>) {
     match found {
         Ok(found) => assert_eq!(rt; found, want),
         Err(_) => panic!(rt; "no memory"),
@@ -30,7 +30,7 @@ fn expect(rt: &(impl Abort + Eprint), found: Refusal, want: Option<BuildFault>) 
 }
 
 /// The transaction `t` of this body.
-fn tx(alloc: Global, body: Stmt) -> Result<Tx, AllocError> {
+pub(crate) fn tx(alloc: Global, body: Stmt) -> Result<Tx, AllocError> {
     Ok(Tx {
         name: String::from_str(alloc, "t")?,
         body,
@@ -42,7 +42,7 @@ fn tx(alloc: Global, body: Stmt) -> Result<Tx, AllocError> {
 fn refused(alloc: Global, vars: Vec<(String, i64)>, body: Stmt) -> Refusal {
     let txs = vec![in alloc; tx(alloc, body)?]?;
     let runs = vec![in alloc; (TxId(0), 1)]?;
-    Ok(refusal(Catalogue::build(alloc, vars, txs, runs)))
+    Ok(refusal(Catalogue::build(alloc, vars, Vec::new(alloc), txs, runs)))
 }
 
 /// So it is of these variables.
@@ -69,7 +69,7 @@ fn refused_txs(alloc: Global, count: u32, runs: Vec<(TxId, u32)>) -> Refusal {
             result: Expr::Int(0),
         })?;
     }
-    let built = Catalogue::build(alloc, Vec::new(alloc), txs, runs);
+    let built = Catalogue::build(alloc, Vec::new(alloc), Vec::new(alloc), txs, runs);
     Ok(refusal(built))
 }
 
@@ -81,7 +81,7 @@ fn refused_run(alloc: Global, count: u32) -> Refusal {
 /// How a catalogue of one transaction and these runs is refused.
 fn refused_one(alloc: Global, runs: Vec<(TxId, u32)>) -> Refusal {
     let txs = vec![in alloc; tx(alloc, Stmt::Skip)?]?;
-    let built = Catalogue::build(alloc, Vec::new(alloc), txs, runs);
+    let built = Catalogue::build(alloc, Vec::new(alloc), Vec::new(alloc), txs, runs);
     Ok(refusal(built))
 }
 
@@ -109,7 +109,7 @@ fn names_have_32_bytes_at_most(rt: HostRuntime) {
 }
 
 /// 999 times 999 skips and then this many: it costs 999,003 and this much more.
-fn costly(alloc: Global, more: u32) -> Result<Stmt, AllocError> {
+pub(crate) fn costly(alloc: Global, more: u32) -> Result<Stmt, AllocError> {
     let inner = repeat(alloc, 999, Stmt::Skip)?;
     let many = repeat(alloc, 999, inner)?;
     let rest = repeat(alloc, more, Stmt::Skip)?;

@@ -1,4 +1,4 @@
-//! The flat code of transactions, spelled out by hand.
+//! The own code of transactions, spelled out by hand.
 
 use crate::parts::{X, catalogue_of};
 use std::alloc::Global;
@@ -30,17 +30,16 @@ fn an_increment_loads_adds_and_stores(rt: HostRuntime) {
     let want = [
         Op::Load(3, X),
         Op::Push(1, 1),
-        Op::Sum,
+        Op::Sum(None),
         Op::Store(X),
         Op::Push(1, 0),
-        Op::Give,
     ];
     expect_code(&rt, rt.alloc(), "(set x (add x 1))", &want);
 }
 
 #[test]
 fn an_empty_sequence_is_counted(rt: HostRuntime) {
-    let want = [Op::Nop(1), Op::Push(1, 0), Op::Give];
+    let want = [Op::Nop(1), Op::Push(1, 0)];
     expect_code(&rt, rt.alloc(), "(seq)", &want);
 }
 
@@ -59,7 +58,6 @@ fn branches_are_passed(rt: HostRuntime) {
         Op::Load(2, X),
         Op::Toss,
         Op::Push(1, 0),
-        Op::Give,
     ];
     let body = "(orelse (retry) (if (eq x 1) (skip) (throw x)))";
     expect_code(&rt, rt.alloc(), body, &want);
@@ -83,19 +81,18 @@ fn right_sides_and_loops_are_passed(rt: HostRuntime) {
         Op::Nop(1),
         Op::Again(11),
         Op::Push(1, 0),
-        Op::Give,
     ];
     let body = "(repeat 3 (if (and (lt x 1) (le x 2)) (skip) (seq)))";
     expect_code(&rt, rt.alloc(), body, &want);
 }
 
-/// Whether the first transaction has 64 instructions, of which the first is the deepest load.
+/// Whether the first transaction has 63 instructions, of which the first is the deepest load.
 fn is_deepest(catalogue: &Catalogue) -> bool {
     if catalogue.tx_count() == 0 {
         return false;
     }
     let code = catalogue.code(TxId(0));
-    code.len() == 64 && code.first() == Some(&Op::Load(32, X))
+    code.len() == 63 && code.first() == Some(&Op::Load(32, X))
 }
 
 /// A transaction as deep as the limit allows.

@@ -3,7 +3,7 @@
 use crate::parts::catalogue_of;
 use std::alloc::{AllocError, Global};
 use std::process::Abort;
-use txn::evaluate::{execute, holds, value};
+use txn::evaluate::{execute, truth, value};
 use txn::{Catalogue, Cond, Expr, Fault, Outcome, TxId};
 
 /// Whether a run of the first transaction from the initial state ends so, and leaves this state.
@@ -14,7 +14,7 @@ fn runs_so(alloc: Global, catalogue: &Catalogue, want: Outcome, left: &[i64]) ->
     let Ok(mut state) = catalogue.initial().to_vec(alloc) else {
         return false;
     };
-    match execute(catalogue.tx(TxId(0)), &mut state) {
+    match execute(catalogue.tx(TxId(0)), catalogue.always(), &mut state) {
         Ok(how) => how == want && state.as_slice() == left,
         Err(_) => false,
     }
@@ -64,6 +64,6 @@ fn conditions_look_right_only_where_needed(rt: HostRuntime) -> Result<(), AllocE
     let no = Cond::Eq(one, Expr::Int(2));
     let never = Cond::Eq(faulty, Expr::Int(0));
     let both = Cond::And(Box::new(alloc, no)?, Box::new(alloc, never)?);
-    assert!(rt; holds(&both, &[]) == Ok(false));
+    assert!(rt; truth(&both, &[]) == Ok(false));
     Ok(())
 }

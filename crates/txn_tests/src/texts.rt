@@ -13,5 +13,9 @@ fn want_of_memory_has_its_line(rt: HostRuntime) -> Result<(), AllocError> {
         format!(in rt.alloc(); "{}", BuildFault::Limit)?.as_str(),
         "a limit is passed"
     );
+    assert_eq!(rt;
+        format!(in rt.alloc(); "{}", BuildFault::Broken)?.as_str(),
+        "a standing condition is not true of the initial values"
+    );
     Ok(())
 }

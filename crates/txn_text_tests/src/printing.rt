@@ -11,7 +11,7 @@ use txn::{Catalogue, Entry, Fault, Outcome, Report, TaskId, TxId};
 use txn_text::{print_file, print_report};
 
 /// Whether the file is printed so.
-fn is_printed(alloc: Global, input: &str, canonical: &str) -> bool {
+pub(crate) fn is_printed(alloc: Global, input: &str, canonical: &str) -> bool {
     let Some(catalogue) = catalogue(alloc, input) else {
         return false;
     };
@@ -56,7 +56,7 @@ fn entry(task: u32, outcome: Outcome) -> Entry
 
 /// Four entries, one for each way to end, and two tasks that are left.
 fn report(alloc: Global) -> Result<Report, AllocError>
-    ensures { (l : Listing) → length l.initial ≡ 0 → length l.programs ≡ 1 → length (tasks l) ≡ 6
+    ensures { (l : Listing) → length l.initial ≡ 0 → length l.transactions ≡ 1 → length (tasks l) ≡ 6
         → IfOk result (λ r. FitsCatalogue l (told r)) }
 {
     Ok(Report {

@@ -127,6 +127,7 @@ fn faults_have_names(rt: HostRuntime) {
         (ReadFault::Name, "F4 Name"),
         (ReadFault::Limit, "F5 Limit"),
         (ReadFault::Memory, "F6 Memory"),
+        (ReadFault::Broken, "F7 Broken"),
     ] {
         assert!(rt; is_told(rt.alloc(), fault, text), "of {text}");
     }

@@ -1,6 +1,7 @@
 //! The running world.
 
-ghost use Rattle.std.specs.Prelude.{◌≡◌, ◌<◌, take, length, map, IfOk, IfErr, OnOk, OnErr, IsOk, string_bytes};
+ghost use Rattle.std.specs.Prelude.{◌≡◌, ◌<◌, take, length, map, All, IfOk, IfErr, OnOk, OnErr, IsOk, string_bytes};
+ghost use Rattle.programs.specs.Standing.{Upholds};
 ghost use Rattle.world_events.specs.Inside.{state_items};
 ghost use Rattle.world.specs.Telling.{Tells};
 ghost use Rattle.world_law.specs.World.{IsOpening};
@@ -147,11 +148,12 @@ impl<'a> World<'a> {
     }
 
     /// Whatever happened: each attempt's reads are those of one state of the history, each state
-    /// was made by exactly one attempt, no task commits twice, and the words mean what they should.
-    /// It does nothing: its contract is the law.
+    /// was made by exactly one attempt, no task commits twice, the words mean what they should, and
+    /// each standing condition is true of every state. It does nothing: its contract is the law.
     pub fn opaque(&self)
         ensures opaque { Opaque self.now.listing self.now.world }
         ensures words { WordsHold self.now.listing self.now.world }
+        ensures upheld { All (λ m. Upholds self.now.listing m) self.now.world.history }
     {
         self.scene.catalogue.rules();
     }

@@ -1,7 +1,10 @@
 use Rattle.std.proofs.Common.{subst}
+use Rattle.std.specs.List.{All}
+use Rattle.programs.specs.Standing.{Upholds}
 use Rattle.world_law.specs.Opacity.{Opaque, WordsHold}
 use Rattle.world_law.proofs.Framed.{sound_by}
 use Rattle.world_law.proofs.Reached.{reached_opaque, reached_words}
+use Rattle.world_law.proofs.Upheld.{reached_upheld}
 use Rattle.world.specs.View.{WorldView}
 use Rattle.world_events.specs.Inside.{listing, world_of}
 use Rattle.world.proofs.world.World.opaque.Goals as goal
@@ -17,3 +20,9 @@ returns-clause-words c =
     let s = c.self.inside.scene in
     subst (λ (v : WorldView). WordsHold v.listing v.world) c.self.view_is
     (reached_words (listing s) (sound_by (listing s) c.rules.ensures.names c.rules.ensures.named) (world_of s) c.self.invariant.reached)
+
+pub returns-clause-upheld : goal.returns-clause-upheld
+returns-clause-upheld c =
+    let s = c.self.inside.scene in
+    subst (λ (v : WorldView). All (λ m. Upholds v.listing m) v.world.history) c.self.view_is
+    (reached_upheld (listing s) (sound_by (listing s) c.rules.ensures.names c.rules.ensures.named) c.rules.ensures.upheld (world_of s) c.self.invariant.reached)
