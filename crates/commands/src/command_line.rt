@@ -52,7 +52,7 @@ const RUN: &str =
     "Runs the tasks of a file and prints a report: the base, the journal, the present values and versions, and the tasks that wait.";
 
 const EXAMPLE: &str =
-    "A file declares variables, transactions and runs:\n\n    (var x 5)\n    (tx inc (set x (add x 1)) x)\n    (run inc 2)\n\nThe statements are skip, set, seq, if, repeat, retry, orelse and throw.\n\nStatus: 0 done, 2 the file is refused, 3 the command line is refused,\n4 a file cannot be read or the output cannot be written, 5 out of memory.";
+    "A file declares variables, transactions and runs:\n\n    (var x 5)\n    (tx inc (set x (add x 1)) x)\n    (run inc 2)\n\nIn a file that begins with (stm 2) standing conditions may follow the variables. A\ntransaction that would leave one of them untrue has no effect:\n\n    (always small (lt x 7))\n\nThe statements are skip, set, seq, if, repeat, retry, orelse and throw.\n\nStatus: 0 done, 2 the file is refused, 3 the command line is refused,\n4 a file cannot be read or the output cannot be written, 5 out of memory.";
 
 const CHECK: &str =
     "Checks a report of a file: replays its journal and says whether the report is lawful, without trust in who made it.";

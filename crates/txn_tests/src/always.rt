@@ -68,7 +68,11 @@ fn names_of_conditions_hold(rt: HostRuntime) {
     let longer = "a23456789012345678901234567890123";
     let name = Some(BuildFault::Name);
     expect(&rt, refused_one(alloc, long, is(5)), None);
-    expect(&rt, refused_one(alloc, longer, is(5)), Some(BuildFault::Limit));
+    expect(
+        &rt,
+        refused_one(alloc, longer, is(5)),
+        Some(BuildFault::Limit),
+    );
     expect(&rt, refused_one(alloc, "1a", is(5)), name);
     expect(&rt, refused_one(alloc, "", is(5)), name);
     let twice = refused_two(alloc, ("a", is(5)), ("a", is(5)));
@@ -205,7 +209,10 @@ fn told(alloc: Global) -> Built {
     let half = Expr::Div(Box::new(alloc, Expr::Var(X))?, two);
     let always = vec![in alloc;
         (String::from_str(alloc, "small")?, small),
-        (String::from_str(alloc, "half")?, Cond::Eq(half, Expr::Int(2)))
+        (
+            String::from_str(alloc, "half")?,
+            Cond::Eq(half, Expr::Int(2))
+        ),
     ]?;
     let txs = vec![in alloc; tx(alloc, Stmt::Skip)?]?;
     Ok(Catalogue::build(alloc, vars, always, txs, Vec::new(alloc)))
