@@ -51,8 +51,12 @@ fn a_schedule_that_is_too_long(rt: HostRuntime) {
 
 #[test]
 fn the_file_is_judged_before_the_schedule(rt: HostRuntime) {
-    let fault = RunFault::Input(ReadFault::Shape);
-    expect_fault(&rt, rt.alloc(), "(var x", b"begin 0", fault);
+    for (file, kind) in [
+        ("(var x", ReadFault::Shape),
+        ("(stm 2)(always no (eq 0 1))", ReadFault::Broken),
+    ] {
+        expect_fault(&rt, rt.alloc(), file, b"begin 0", RunFault::Input(kind));
+    }
 }
 
 /// How the world of the empty file is written to this room, and how many calls failed.

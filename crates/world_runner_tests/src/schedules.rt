@@ -69,3 +69,21 @@ fn a_retry_is_parked_and_one_more_is_dropped(rt: HostRuntime) {
         attempt 0 0 parked\nattempt 0 0 dropped\nend\n";
     expect_text(&rt, rt.alloc(), file, schedule, wanted);
 }
+
+/// The second attempt ends amid the stores of the first.
+#[test]
+fn conditions_are_broken_and_commit(rt: HostRuntime) {
+    let file = "(stm 2)(var a 100)(var b 0)(always sum (eq (add a b) 100))(always pos (le 0 a))\
+        (tx move (seq (set a (sub a 60)) (set b (add b 60))) a)(tx leak (set a 0) a)\
+        (run move 2)(run leak 1)";
+    let schedule = "begin 0\nread 0 a\nread 0 b\nask 0\nword\nbegin 2\nread 2 b\ncommit 2\nword\n\
+        word\nword\nword\nword\nword\ncommit 2\nbegin 2\nread 2 b\nask 2\nbegin 1\nread 1 a\n\
+        word\nread 1 b\ncommit 1\n";
+    let wanted = b"1 needs a\n2 needs b\n3 ended returned 40\n4 commits 1\n5 stored\n\
+        6 needs b\n7 ended broke sum\n8 idle\n9 stored\n10 stored\n11 stored\n12 stored\n\
+        13 stored\n14 committed 1\n15 stale\n16 needs b\n17 ended broke sum\n18 commits 2\n\
+        19 needs a\n20 needs b\n21 committed 2\n22 ended broke pos\n23 committed 3\n\
+        now 3\na 40 1\nb 60 1\nattempt 0 0 committed 1 a 100 b 0\nattempt 2 0 stale b 0\n\
+        attempt 2 1 committed 2 b 60\nattempt 1 1 committed 3 a 40 b 60\nend\n";
+    expect_text(&rt, rt.alloc(), file, schedule, wanted);
+}
