@@ -43,7 +43,13 @@ fn a_condition_needs_what_the_body_did_not_read(rt: HostRuntime) {
         Step::Total(7),
         Step::Advance(Next::Returned(3), 0),
     ];
-    plays_under(&rt, rt.alloc(), "(always ok (le x y))", "(set x 3) x", &steps);
+    plays_under(
+        &rt,
+        rt.alloc(),
+        "(always ok (le x y))",
+        "(set x 3) x",
+        &steps,
+    );
 }
 
 #[test]
@@ -56,7 +62,13 @@ fn a_broken_condition_leaves_no_writes(rt: HostRuntime) {
         Step::Total(7),
         Step::Advance(broke(0), 0),
     ];
-    plays_under(&rt, rt.alloc(), "(always ok (le x y))", "(set x 3) x", &steps);
+    plays_under(
+        &rt,
+        rt.alloc(),
+        "(always ok (le x y))",
+        "(set x 3) x",
+        &steps,
+    );
 }
 
 /// What is written counts, and not what was read before.
@@ -69,7 +81,13 @@ fn a_condition_is_of_the_state_after(rt: HostRuntime) {
             Step::Log(&[(X, before)]),
             Step::Total(9),
         ];
-        plays_under(&rt, rt.alloc(), "(always ok (lt x 6))", "(set x (add x 1)) x", &steps);
+        plays_under(
+            &rt,
+            rt.alloc(),
+            "(always ok (lt x 6))",
+            "(set x (add x 1)) x",
+            &steps,
+        );
     }
 }
 
@@ -80,9 +98,18 @@ fn a_fault_in_a_condition_breaks_it(rt: HostRuntime) {
         ("(always ok (le 0 (div 1 x)))", "(set x 0) 7"),
         ("(always ok (le 0 (rem 1 x)))", "(set x 0) 7"),
         ("(always ok (not (eq 9 (div 1 x))))", "(set x 0) 7"),
-        ("(always ok (lt x (add x 1)))", "(set x 9223372036854775807) 7"),
-        ("(always ok (le x (mul x 2)))", "(set x 9223372036854775807) 7"),
-        ("(always ok (lt (sub x 1) x))", "(set x -9223372036854775808) 7"),
+        (
+            "(always ok (lt x (add x 1)))",
+            "(set x 9223372036854775807) 7",
+        ),
+        (
+            "(always ok (le x (mul x 2)))",
+            "(set x 9223372036854775807) 7",
+        ),
+        (
+            "(always ok (lt (sub x 1) x))",
+            "(set x -9223372036854775808) 7",
+        ),
     ] {
         let steps = [Step::Answer(broke(0)), Step::Writes(&[])];
         plays_under(&rt, rt.alloc(), condition, body, &steps);
@@ -98,7 +125,13 @@ fn the_first_broken_condition_is_named(rt: HostRuntime) {
         ("(set x 10) x", broke(0), 6),
     ] {
         let steps = [Step::Advance(answer, entered)];
-        plays_under(&rt, rt.alloc(), "(always a (le x 9))(always b (le x 5))", body, &steps);
+        plays_under(
+            &rt,
+            rt.alloc(),
+            "(always a (le x 9))(always b (le x 5))",
+            body,
+            &steps,
+        );
     }
 }
 
@@ -132,7 +165,13 @@ fn conditions_go_on_where_they_waited(rt: HostRuntime) {
         Step::Log(&[(X, 3), (Y, 3)]),
         Step::Total(10),
     ];
-    plays_under(&rt, rt.alloc(), "(always a (eq x x))(always b (le x y))", "(skip) 7", &steps);
+    plays_under(
+        &rt,
+        rt.alloc(),
+        "(always a (eq x x))(always b (le x y))",
+        "(skip) 7",
+        &steps,
+    );
 }
 
 /// Each operand waits for the one on its right, 31 deep, with the result below them all; so they

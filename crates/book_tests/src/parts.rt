@@ -31,6 +31,15 @@ pub(crate) fn waiting(rt: &impl Abort, alloc: Global) -> Catalogue {
     catalogue(rt, alloc, WAITING)
 }
 
+const STANDING: &str =
+    "(stm 2)(var x 5)(always low (le x 6))(tx wait (if (eq x 5) (retry) (skip)) x)(tx x_to_9 (set x 9) 0)(tx x_to_6 (set x 6) 0)(run wait 1)(run x_to_9 1)(run x_to_6 1)";
+
+/// x is 5, and has to stay at 6 or less. Task 0 waits until it is not 5, task 1 sets it to 9, task 2
+/// to 6.
+pub(crate) fn standing(rt: &impl Abort, alloc: Global) -> Catalogue {
+    catalogue(rt, alloc, STANDING)
+}
+
 /// One transaction that adds 1 to each of so many variables, all 0, and so many runs of it.
 fn adding_to_all(alloc: Global, variables: u32, runs: u32) -> Result<String, AllocError> {
     let mut text = String::new(alloc);

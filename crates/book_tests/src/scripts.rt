@@ -2,7 +2,7 @@
 //! memory is refused.
 
 use crate::ample::{commits_all, runs_all};
-use crate::parts::{increments, on_all, waiting};
+use crate::parts::{increments, on_all, standing, waiting};
 use crate::steps::{ended, ends, exists, gives_up, report_of, takes, tells_x, turns};
 use book::{Book, Finish, Serial};
 use cells::Cells;
@@ -17,6 +17,7 @@ pub(crate) enum Script {
     TellsEntry,
     Wakes,
     ComesBack,
+    StaysParked,
     GivesUp,
     IsFor,
     MeetsWantOfMemory,
@@ -31,6 +32,8 @@ pub(crate) enum Of {
     Increments(u32),
     /// One task that waits, and those that it may wait for.
     Waiting,
+    /// The same, where one of those would break a condition.
+    Standing,
     /// So many variables, and so many tasks that add 1 to each.
     OnAll(u32, u32),
 }
@@ -40,6 +43,7 @@ pub(crate) fn expect(rt: &impl Abort, alloc: Global, of: Of, script: Script) {
     let catalogue = match of {
         Of::Increments(runs) => increments(rt, alloc, runs),
         Of::Waiting => waiting(rt, alloc),
+        Of::Standing => standing(rt, alloc),
         Of::OnAll(variables, runs) => on_all(rt, alloc, variables, runs),
     };
     over(rt, alloc, &catalogue, script);
@@ -68,6 +72,7 @@ fn follow(
         Script::TellsEntry => tells_entry(rt, alloc, book),
         Script::Wakes => wakes(rt, alloc, book, catalogue),
         Script::ComesBack => comes_back(rt, alloc, book, catalogue),
+        Script::StaysParked => stays_parked(rt, alloc, book, catalogue),
         Script::GivesUp => gives_up_once(rt, alloc, book, catalogue),
         Script::IsFor => is_for(rt, alloc, book),
         Script::MeetsWantOfMemory => meets_want_of_memory(rt, alloc, book, catalogue),
@@ -124,6 +129,20 @@ fn comes_back(rt: &impl Abort, alloc: Global, book: &mut Book<'_>, catalogue: &C
     tells_x(rt, alloc, book, (0, 5, 0), 2, (2, 5, 2));
     let report = report_of(rt, alloc, book);
     assert_eq!(rt; report.parked.as_slice(), [(TaskId(0), TxId(0))].as_slice());
+}
+
+/// What breaks a condition changes nothing, and so wakes nobody.
+fn stays_parked(rt: &impl Abort, alloc: Global, book: &mut Book<'_>, catalogue: &Catalogue) {
+    takes(rt, book, TaskId(0));
+    turns(rt, alloc, book, catalogue, TaskId(0), Serial::Parked);
+    takes(rt, book, TaskId(1));
+    turns(rt, alloc, book, catalogue, TaskId(1), Serial::Committed(1));
+    tells_x(rt, alloc, book, (0, 5, 0), 1, (1, 5, 0));
+    takes(rt, book, TaskId(2));
+    turns(rt, alloc, book, catalogue, TaskId(2), Serial::Committed(2));
+    takes(rt, book, TaskId(0));
+    turns(rt, alloc, book, catalogue, TaskId(0), Serial::Committed(3));
+    tells_x(rt, alloc, book, (0, 5, 0), 3, (3, 6, 2));
 }
 
 fn gives_up_once(rt: &impl Abort, alloc: Global, book: &mut Book<'_>, catalogue: &Catalogue) {
@@ -195,6 +214,11 @@ fn a_commit_wakes_by_what_it_changes(rt: HostRuntime) {
 #[test]
 fn a_value_that_comes_back_validates(rt: HostRuntime) {
     expect(&rt, rt.alloc(), Of::Waiting, Script::ComesBack);
+}
+
+#[test]
+fn a_broken_condition_wakes_nobody(rt: HostRuntime) {
+    expect(&rt, rt.alloc(), Of::Standing, Script::StaysParked);
 }
 
 #[test]

@@ -11,9 +11,10 @@ const ACCOUNTS: &str = "(stm 2)(var a 100)(var b 0)(always sum (eq (add a b) 100
 #[test]
 fn a_leak_is_refused(rt: HostRuntime) {
     let alloc = rt.alloc();
-    let (Ok(catalogue), Some(options)) =
-        (read_file(alloc, ACCOUNTS.as_bytes()), Options::new(1, 8, 0))
-    else {
+    let (Ok(catalogue), Some(options)) = (
+        read_file(alloc, ACCOUNTS.as_bytes()),
+        Options::new(1, 8, 0),
+    ) else {
         panic!(rt; "no catalogue");
     };
     match run_tasks(&rt, alloc, &catalogue, options, &OpenGate) {

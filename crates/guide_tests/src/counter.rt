@@ -8,7 +8,10 @@ const X: VarId = VarId(0);
 
 /// `(tx inc (set x (add x 1)) x)`
 fn increment(alloc: Global) -> Result<Tx, AllocError> {
-    let one_more = Expr::Add(Box::new(alloc, Expr::Var(X))?, Box::new(alloc, Expr::Int(1))?);
+    let one_more = Expr::Add(
+        Box::new(alloc, Expr::Var(X))?,
+        Box::new(alloc, Expr::Int(1))?,
+    );
     Ok(Tx {
         name: String::from_str(alloc, "inc")?,
         body: Stmt::Set(X, one_more),
@@ -32,7 +35,13 @@ fn tasks(alloc: Global) -> Result<(Vec<Tx>, Vec<(TxId, u32)>), AllocError> {
 /// The catalogue of all that, with no standing conditions.
 pub(crate) fn counter(alloc: Global) -> Result<Catalogue, BuildFault> {
     let (transactions, runs) = tasks(alloc)?;
-    Catalogue::build(alloc, variables(alloc)?, Vec::new(alloc), transactions, runs)
+    Catalogue::build(
+        alloc,
+        variables(alloc)?,
+        Vec::new(alloc),
+        transactions,
+        runs,
+    )
 }
 
 #[test]

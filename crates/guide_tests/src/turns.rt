@@ -26,7 +26,8 @@ fn each_in_turn(alloc: Global, catalogue: &Catalogue) -> Result<Report, Memory> 
 
 #[test]
 fn who_waits_is_parked(rt: HostRuntime) {
-    let file = "(var full 0)(tx get (if (eq full 0) (retry) (set full 0)) 0)(tx put (set full 1) 0)(run get 2)(run put 1)";
+    let file =
+        "(var full 0)(tx get (if (eq full 0) (retry) (set full 0)) 0)(tx put (set full 1) 0)(run get 2)(run put 1)";
     let alloc = rt.alloc();
     let Ok(catalogue) = read_file(alloc, file.as_bytes()) else {
         panic!(rt; "no catalogue");

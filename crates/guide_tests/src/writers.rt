@@ -32,7 +32,14 @@ fn lines_are_counted(rt: HostRuntime) {
         panic!(rt; "no options");
     };
     let mut out = Out::new(Lines { count: 0 });
-    let ran = run_bytes(&rt, rt.alloc(), file.as_bytes(), options, &OpenGate, &mut out);
+    let ran = run_bytes(
+        &rt,
+        rt.alloc(),
+        file.as_bytes(),
+        options,
+        &OpenGate,
+        &mut out,
+    );
     assert!(rt; ran.is_ok());
     assert_eq!(rt; out.into_inner().count, 7);
 }

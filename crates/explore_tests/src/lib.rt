@@ -1,0 +1,5 @@
+//! Tests of the public calls of `explore`.
+#![tactic(auto)]
+
+#[cfg(test)]
+mod orders;

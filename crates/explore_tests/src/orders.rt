@@ -1,0 +1,104 @@
+//! What is found of small files.
+
+use explore::{End, Found, Kinds, Unexplored, explore};
+use std::alloc::{AllocError, Global};
+use txn_text::read_file;
+
+const INCREMENT: &str = "(var x 5)(tx inc (set x (add x 1)) x)(run inc 2)";
+
+/// Two tasks that each take one fork and then the other, in steps of their own.
+const FORKS: &str = "(var a 0)(var b 0)(var p 0)(var q 0)\
+    (tx pa (seq (if (eq a 0) (skip) (retry)) (set a 1) (set p 1)) 0)\
+    (tx pb (seq (if (and (eq p 1) (eq b 0)) (skip) (retry)) (set a 0) (set p 2)) 0)\
+    (tx qb (seq (if (eq b 0) (skip) (retry)) (set b 1) (set q 1)) 0)\
+    (tx qa (seq (if (and (eq q 1) (eq a 0)) (skip) (retry)) (set b 0) (set q 2)) 0)\
+    (run pa 1)(run pb 1)(run qb 1)(run qa 1)";
+
+/// What is found of the file of this text, of at most so many places.
+fn found(alloc: Global, text: &str, limit: u32) -> Result<Found, Unexplored>
+    requires { limit ≤ 16777216 }
+{
+    match read_file(alloc, text.as_bytes()) {
+        Ok(catalogue) => explore(alloc, &catalogue, limit),
+        Err(_) => Err(Unexplored::Memory),
+    }
+}
+
+/// How many places and how many ends the file of this text has.
+fn counts(alloc: Global, text: &str) -> Option<(usize, usize)> {
+    match found(alloc, text, 1_000_000) {
+        Ok(found) => Some((found.states, found.ends.len())),
+        Err(_) => None,
+    }
+}
+
+fn end(alloc: Global, values: &[i64], waiting: &[u32]) -> Result<End, AllocError> {
+    let mut end = End {
+        values: Vec::new(alloc),
+        waiting: Vec::new(alloc),
+    };
+    end.values.extend_from_slice(values)?;
+    end.waiting.extend_from_slice(waiting)?;
+    Ok(end)
+}
+
+#[test]
+fn places_and_ends_are_counted(rt: HostRuntime) {
+    let alloc = rt.alloc();
+    assert!(rt; counts(alloc, "") == Some((1, 1)));
+    assert!(rt; counts(alloc, INCREMENT) == Some((3, 1)));
+    assert!(rt;
+        counts(
+            alloc,
+            "(var x 0)(tx a (set x 1) x)(tx b (set x 2) x)(run a 1)(run b 1)"
+        ) == Some((5, 2))
+    );
+    assert!(rt; counts(alloc, "(tx t (retry) 0)(run t 3)") == Some((1, 1)));
+    assert!(rt; counts(alloc, "(tx t (skip) 0)(run t 65536)") == Some((65537, 1)));
+}
+
+#[test]
+fn two_who_wait_for_one_another_are_found(rt: HostRuntime) {
+    let alloc = rt.alloc();
+    match (
+        found(alloc, FORKS, 1_000_000),
+        end(alloc, &[1, 1, 1, 1], &[0, 1, 0, 1]),
+    ) {
+        (Ok(found), Ok(stuck)) => {
+            let mut ends = found.ends.iter();
+            assert!(rt; ends.any(|end| *end == stuck));
+        }
+        _ => panic!(rt; "not explored"),
+    }
+}
+
+#[test]
+fn the_outcomes_of_each_transaction_are_told(rt: HostRuntime) {
+    let text =
+        "(var x 10)(tx pay (seq (if (lt x 6) (throw 1) (skip)) (set x (sub x 6))) x)(tx none (retry) 0)(run pay 2)(run none 1)";
+    match found(rt.alloc(), text, 1_000_000) {
+        Ok(found) => {
+            let pay = Kinds {
+                returned: true,
+                threw: true,
+                overflow: false,
+                zerodiv: false,
+            };
+            assert!(rt; found.kinds.first() == Some(&pay));
+            assert!(rt; found.states == 3);
+        }
+        Err(_) => panic!(rt; "not explored"),
+    }
+}
+
+#[test]
+fn more_places_than_were_asked_for_are_refused(rt: HostRuntime) {
+    let alloc = rt.alloc();
+    for (limit, fits) in [(0, false), (1, false), (2, false), (3, true)] {
+        match found(alloc, INCREMENT, limit) {
+            Ok(_) => assert!(rt; fits),
+            Err(Unexplored::More) => assert!(rt; !fits),
+            Err(Unexplored::Memory) => panic!(rt; "no memory"),
+        }
+    }
+}
