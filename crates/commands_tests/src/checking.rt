@@ -41,6 +41,8 @@ fn a_refused_file_is_2_whatever_the_report(rt: HostRuntime) {
     for report in [b"".as_slice(), REPORT] {
         let host = checking(rt.alloc(), b"(var x", report);
         ends(&rt, &host, 2, 0, Some("stm: file: F3 Shape\n"));
+        let host = checking(rt.alloc(), b"(stm 2)(always no (eq 0 1))", report);
+        ends(&rt, &host, 2, 0, Some("stm: file: F7 Broken\n"));
     }
 }
 

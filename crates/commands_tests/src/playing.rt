@@ -40,6 +40,8 @@ fn a_refused_file_is_2_whatever_the_schedule(rt: HostRuntime) {
     for schedule in [b"".as_slice(), b"begin", SCHEDULE] {
         let host = playing(rt.alloc(), b"(var x", schedule);
         ends(&rt, &host, 2, 0, Some("stm: file: F3 Shape\n"));
+        let host = playing(rt.alloc(), b"(stm 2)(always no (eq 0 1))", schedule);
+        ends(&rt, &host, 2, 0, Some("stm: file: F7 Broken\n"));
     }
 }
 

@@ -56,6 +56,8 @@ fn what_is_asked_for_is_0(rt: HostRuntime) {
 fn a_refused_file_is_2(rt: HostRuntime) {
     let host = Host::new(rt.alloc(), RUN, b"(var x");
     ends(&rt, &host, 2, 0, Some("stm: file: F3 Shape\n"));
+    let host = Host::new(rt.alloc(), RUN, b"(stm 2)(always no (eq 0 1))");
+    ends(&rt, &host, 2, 0, Some("stm: file: F7 Broken\n"));
 }
 
 #[test]
