@@ -20,6 +20,12 @@ const BUFFER: &str =
     "(var full 0)(var cell 0)(tx get (seq (if (eq full 0) (retry) (skip)) (set full 0)) cell)\
     (tx put (seq (if (eq full 1) (retry) (skip)) (set cell 42) (set full 1)) 0)(run get 1)(run put 1)";
 
+const MOVES: &str =
+    "(stm 2)(var a 100)(var b 0)(always sum (eq (add a b) 100))(always pos (le 0 a))\
+    (tx move (seq (set a (sub a 60)) (set b (add b 60))) a)(tx leak (set a 0) a)(run move 2)(run leak 1)";
+
+const DIVISION: &str = "(stm 2)(var x 1)(always ok (le 0 (div 1 x)))(tx z (set x 0) x)(run z 1)";
+
 const PAIR: &str = "(var x 1)(var y 1)(tx sum (skip) (add x y))\
     (tx both (seq (set x 2) (set y 2)) 0)(run sum 1)(run both 1)";
 
@@ -101,11 +107,13 @@ fn a_run_writes_nothing_or_a_good_report(rt: HostRuntime) {
     expect_good(&rt, rt.alloc(), INCREMENTS);
     expect_good(&rt, rt.alloc(), RETRY);
     expect_good(&rt, rt.alloc(), BUFFER);
+    expect_good(&rt, rt.alloc(), MOVES);
+    expect_good(&rt, rt.alloc(), DIVISION);
 }
 
-/// The check of a report of two increments: good for part 0, bad by this part, or refused memory.
-fn expect_verdict(rt: &impl Abort, alloc: Global, part: u8, report: &str) {
-    match verdict(rt, alloc, INCREMENTS, report.as_bytes()) {
+/// The check of a report of a file: good for part 0, bad by this part, or refused memory.
+fn expect_verdict(rt: &impl Abort, alloc: Global, file: &str, part: u8, report: &str) {
+    match verdict(rt, alloc, file, report.as_bytes()) {
         Some(Verdict::Good) => assert!(rt; part == 0),
         Some(Verdict::Bad(found)) => assert!(rt; found.number() == part),
         None => {}
@@ -148,10 +156,26 @@ const VERDICTS: [(u8, &str); 8] = [
     ),
 ];
 
+/// Reports of a condition that is broken, likewise.
+const CONDITIONS: [(u8, &str); 3] = [
+    (
+        0,
+        "base 0\nx 1 0\nentry 1 0 z broke ok\nnow 1\nx 1 0\nend\n",
+    ),
+    (
+        1,
+        "base 0\nx 1 0\nentry 1 0 z broke no\nnow 1\nx 1 0\nend\n",
+    ),
+    (2, "base 1\nx 0 1\nnow 1\nx 0 1\nend\n"),
+];
+
 #[test]
 fn a_check_has_its_verdict_or_none(rt: HostRuntime) {
     for (part, report) in VERDICTS {
-        expect_verdict(&rt, rt.alloc(), part, report);
+        expect_verdict(&rt, rt.alloc(), INCREMENTS, part, report);
+    }
+    for (part, report) in CONDITIONS {
+        expect_verdict(&rt, rt.alloc(), DIVISION, part, report);
     }
 }
 
