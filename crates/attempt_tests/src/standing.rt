@@ -10,11 +10,11 @@ use txn::{AlwaysId, Fault};
 
 /// Under these conditions over x and y, which are 1, a transaction of this body and result goes by
 /// these steps.
-fn plays_under(
+fn plays_under<'t>(
     rt: &(impl Abort + Eprint),
     alloc: Global,
-    conditions: &str,
-    transaction: &str,
+    conditions: &'t str,
+    transaction: &'t str,
     steps: &[Step<'_>],
 ) {
     let parts = [
