@@ -1,5 +1,7 @@
 //! What is found of small files.
 
+ghost use Rattle.std.specs.Prelude.{◌≤◌};
+
 use explore::{End, Found, Kinds, Unexplored, explore};
 use std::alloc::{AllocError, Global};
 use txn_text::read_file;
@@ -83,6 +85,7 @@ fn the_outcomes_of_each_transaction_are_told(rt: HostRuntime) {
                 threw: true,
                 overflow: false,
                 zerodiv: false,
+                broke: false,
             };
             assert!(rt; found.kinds.first() == Some(&pay));
             assert!(rt; found.states == 3);
