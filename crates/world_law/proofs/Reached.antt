@@ -8,7 +8,7 @@ use Rattle.std.proofs.lemmas.Bool.Decides.{Decides-int_eq}
 use Rattle.programs.specs.Listing.{Listing, task_program}
 use Rattle.programs.specs.Meaning.{State}
 use Rattle.shared_words.specs.Words.{WordsMean, value_of, state_of, value_word}
-use Rattle.shared_words.specs.Stores.{opened}
+use Rattle.shared_words.specs.Stores.{no_change, new_of, opened}
 use Rattle.shared_words.specs.Loads.{LoadedIs}
 use Rattle.programs.specs.declared.ast.TaskId.{TaskId}
 use Rattle.programs.specs.declared.ast.VarId.{VarId}
@@ -208,7 +208,7 @@ wanted_pair (Needs z) log c x d e = pair_at log c.checked x d e
 wanted_pair (Ends o ws) log c x d e = absurd (cc)
 
 -- a read that ends well in a check
-compared_kept : (k : Listing) (w : World) (a : TaskId) (i first bits : ℕ) (y : Started) (x : VarId) (c : Check) (b : Bool) → int_eq (cast_signed w64 bits) (get_or y.log c.checked (x, pos 0)).1 ≡ b → Holds k w → Reading k w a i y x (first ∷ bits ∷ []) → version_now w x ≡ first → y.check ≡ Some c
+compared_kept : (k : Listing) (w : World) (a : TaskId) (i first bits : ℕ) (y : Started) (x : VarId) (c : Check) (b : Bool) → int_eq (cast_signed w64 bits) (new_of y.log c.checked) ≡ b → Holds k w → Reading k w a i y x (first ∷ bits ∷ []) → version_now w x ≡ first → y.check ≡ Some c
     → Holds k (changed w i (if b then checks_on k y c.candidate (c.checked + 1) (slice_get y.log (c.checked + 1)) else (seen.Changed, with_fate y fate.Stale)).1)
 compared_kept k w a i first bits y x c true e h r same is =
     let o : Option (VarId × ℤ) = slice_get y.log (c.checked + 1) in
@@ -217,16 +217,16 @@ compared_kept k w a i first bits y x c true e h r same is =
     let so_far : CheckHolds w.history y.log (Some c) = subst (CheckHolds w.history y.log) is reads.2 in
     let own : bound y ≡ c.candidate = ap (λ (q : Option Check). bound_by y.rv q) is in
     let s = subst (λ (n : ℕ). LoadedOf w n x (first ∷ bits ∷ [])) own (loads_of k w a i y x (first ∷ bits ∷ []) h r) in
-    let pair = wanted_pair (stand k y) y.log c x (x, pos 0) (ap (wanted_by (stand k y) y.log) (sym is) ∙ r.0.1) in
-    let value = read_is w c.candidate first bits x s same ∙ (Decides-int_eq (cast_signed w64 bits) (get_or y.log c.checked (x, pos 0)).1).0 e in
+    let pair = wanted_pair (stand k y) y.log c x no_change (ap (wanted_by (stand k y) y.log) (sym is) ∙ r.0.1) in
+    let value = read_is w c.candidate first bits x s same ∙ (Decides-int_eq (cast_signed w64 bits) (new_of y.log c.checked)).0 e in
     goes_to k w a i y (checks_on k y c.candidate (c.checked + 1) o).1 h r.0.0 apart (checked_task k y c.candidate (c.checked + 1) o)
-    (checked_reads k w y c.candidate (c.checked + 1) o refl reads so_far.within (agrees_next y.log c.checked (state_of w.history c.candidate) x (get_or y.log c.checked (x, pos 0)).1 pair so_far.agrees value))
+    (checked_reads k w y c.candidate (c.checked + 1) o refl reads so_far.within (agrees_next y.log c.checked (state_of w.history c.candidate) x (new_of y.log c.checked) pair so_far.agrees value))
     (λ z wants. checked_loads k w y c.candidate (c.checked + 1) o z) (λ n f. standing_of w a i y r.0.0 n (sym (checked_fate k y c.candidate (c.checked + 1) o) ∙ f))
 compared_kept k w a i first bits y x c false e h r same is = fate_kept k w a i y fate.Stale h r.0.0 (reads_apart k w i y x h r.0.0.0 r.0.1) (λ n f. absurd (cc))
 
 second_kept : (k : Listing) (w : World) (a : TaskId) (i first bits : ℕ) (y : Started) (x : VarId) (o : Option Check) → Holds k w → Reading k w a i y x (first ∷ bits ∷ []) → version_now w x ≡ first → y.check ≡ o → Holds k (changed w i (reads_on k y x bits o).1)
 second_kept k w a i first bits y x None h r same is = read_kept k w a i first bits y x y.fate h r same is (standing_of w a i y r.0.0)
-second_kept k w a i first bits y x (Some c) h r same is = compared_kept k w a i first bits y x c (int_eq (cast_signed w64 bits) (get_or y.log c.checked (x, pos 0)).1) refl h r same is
+second_kept k w a i first bits y x (Some c) h r same is = compared_kept k w a i first bits y x c (int_eq (cast_signed w64 bits) (new_of y.log c.checked)) refl h r same is
 
 second_on : (k : Listing) (w w' : World) (a : TaskId) (s : Seen) → Holds k w
     → (i first bits : ℕ) × (y : Started) × (x : VarId) × Reading k w a i y x (first ∷ bits ∷ []) × (version_now w x ≡ first) × (s ≡ (reads_on k y x bits y.check).0) × (w' ≡ changed w i (reads_on k y x bits y.check).1) → Holds k w'

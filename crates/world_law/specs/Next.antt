@@ -1,10 +1,11 @@
 -- What each event does to the world, and what is seen of it.
-use Rattle.std.specs.Prelude.{◌≡◌, ◌≢◌, ◌⊎◌, ℕ, ◌+◌, ◌*◌, ◌%◌, ◌<◌, ◌≤◌, List, [], ◌∷◌, length, slice_index, slice_index_or, if◌then◌else◌, true, ℤ, pos, Option, Some, None}
+use Rattle.std.specs.Prelude.{◌≡◌, ◌≢◌, ◌⊎◌, ℕ, ◌+◌, ◌*◌, ◌%◌, ◌<◌, ◌≤◌, List, [], ◌∷◌, length, slice_index, if◌then◌else◌, true, ℤ, Option, Some, None}
 use Rattle.std.specs.List.{slice_get}
 use Rattle.std.specs.Ordering.{int_eq}
 use Rattle.std.specs.Int.{w64, cast_signed}
 use Rattle.programs.specs.Listing.{Listing, task_program}
 use Rattle.shared_words.specs.Words.{last_state}
+use Rattle.shared_words.specs.Stores.{new_of}
 use Rattle.programs.specs.declared.ast.TaskId.{TaskId}
 use Rattle.programs.specs.declared.ast.VarId.{VarId}
 use Rattle.programs.specs.declared.ast.Outcome.{Outcome}
@@ -34,7 +35,7 @@ checks_on l y n checked None = (told (stand l y), moved y n)
 abbrev pub reads_on : Listing → Started → VarId → ℕ → Option Check → Seen × Started
 reads_on l y x bits None = (told (stand l (with_read y x bits)), with_read y x bits)
 reads_on l y x bits (Some c) =
-    if int_eq (cast_signed w64 bits) (slice_index_or y.log c.checked (x, pos 0)).1
+    if int_eq (cast_signed w64 bits) (new_of y.log c.checked)
     then checks_on l y c.candidate (c.checked + 1) (slice_get y.log (c.checked + 1))
     else (seen.Changed, with_fate y fate.Stale)
 
