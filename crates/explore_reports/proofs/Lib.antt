@@ -1,0 +1,5 @@
+pub mod Counts
+pub mod Shuffles
+pub mod Sizes
+pub mod Leading
+pub mod Whole
