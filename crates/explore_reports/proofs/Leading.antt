@@ -42,13 +42,13 @@ parked_txs l (p ∷ ps) h =
     ap (λ t. t ∷ map (tx_of l) (map (λ (q : TaskId × TxId). q.0.0) ps)) (own_tx l p.0.0 p.1 (All-head (Own l) p ps h))
     ∙ ap (λ ts. p.1 ∷ ts) (parked_txs l ps (All-tail (Own l) p ps h))
 
-abbrev place : State → List ℕ → Place
+abbrev pub place : State → List ℕ → Place
 place m left = record { state = m; left = left }
 
 pub same_place : (p : Place) (m : State) (left : List ℕ) → p.state ≡ m → p.left ≡ left → place m left ≡ p
 same_place p m left a b = ap (λ (x : State). place x left) (sym a) ∙ ap (λ (y : List ℕ). place p.state y) (sym b)
 
-applied_state : (l : Listing) (e : Entry) (s : Snapshot) → (applied l e s).state ≡ after (program_at l e.tx) s.state
+pub applied_state : (l : Listing) (e : Entry) (s : Snapshot) → (applied l e s).state ≡ after (program_at l e.tx) s.state
 unfolding applied
 applied_state l e s = refl
 
@@ -64,7 +64,7 @@ applies_turn l e s p rest names r state left =
       ends = λ h. r.ends (r.outcome_is ∙ (ap (outcome (program_at l e.tx)) (sym state) ∙ h));
     }
 
-turned_left : (l : Listing) (tx : TxId) (p : Place) (rest : List TxId) → tx.0 < length l.transactions
+pub turned_left : (l : Listing) (tx : TxId) (p : Place) (rest : List TxId) → tx.0 < length l.transactions
     → p.left ≡ counted (length l.transactions) (tx ∷ rest) → (turned l p tx).left ≡ counted (length l.transactions) rest
 turned_left l tx p rest low left =
     ap (λ (c : List ℕ). set c tx.0 (count_at c tx - 1)) left ∙ counted_less (length l.transactions) tx rest low

@@ -32,22 +32,26 @@ applied_number : (l : Listing) (e : Entry) (s : Snapshot) → (applied l e s).nu
 unfolding applied
 applied_number l e s = refl
 
-replays_number : (l : Listing) (a b : Snapshot) (xs : List Entry) → Replays l a xs b → b.number ≡ a.number + length xs
+pub replays_number : (l : Listing) (a b : Snapshot) (xs : List Entry) → Replays l a xs b → b.number ≡ a.number + length xs
 replays_number l a b [] r = ap (λ (z : Snapshot). z.number) r ∙ omega arith
 replays_number l a b (x ∷ xs) r =
     let h : b.number ≡ (applied l x a).number + length xs = replays_number l (applied l x a) b xs r.1 in
     omega (arith, r.0.number, applied_number l x a, h)
 
+-- the catalogue's tasks by their numbers
+pub tasks_numbered : (l : Listing) → map (tx_of l) (range_with_len 0 (length (tasks l))) ≡ tasks l
+tasks_numbered l =
+    let none : TxId = record { 0 = 0 } in
+    mapped_range (tasks l) (tasks l) none 0 (λ i. let same : 0 + i ≡ i = omega arith in ap (λ k. get_or (tasks l) k none) same)
+
 -- all tasks, each once, count as the catalogue lists them
-pub counted_all : (l : Listing) (n : ℕ) (xs : List ℕ) → Once xs → ((u : ℕ) → Stands xs u → u < length (tasks l)) → length xs ≡ length (tasks l) → counted n (map (tx_of l) xs) ≡ counted n (tasks l)
+counted_all : (l : Listing) (n : ℕ) (xs : List ℕ) → Once xs → ((u : ℕ) → Stands xs u → u < length (tasks l)) → length xs ≡ length (tasks l) → counted n (map (tx_of l) xs) ≡ counted n (tasks l)
 counted_all l n xs once within size =
     let count = length (tasks l) in
-    let none : TxId = record { 0 = 0 } in
-    let long : length (range_with_len 0 count) ≡ count = length-range_with_len 0 count in
     counted_same n (tx_of l) xs (range_with_len 0 count) once
     (λ u on. stands_range 0 count u (omega arith) (let h = within u on in omega (arith, h)))
-    (size ∙ sym long)
-    ∙ ap (counted n) (mapped_range (tasks l) (tasks l) none 0 (λ i. let same : 0 + i ≡ i = omega arith in ap (λ k. get_or (tasks l) k none) same))
+    (size ∙ sym (length-range_with_len 0 count))
+    ∙ ap (counted n) (tasks_numbered l)
 
 abbrev ids : List (TaskId × TxId) → List ℕ
 ids ps = map (λ (p : TaskId × TxId). p.0.0) ps
@@ -81,7 +85,7 @@ module _ (l : Listing) (r : Told) (lawful : LawfulReport l r) (none : r.memory �
       (stands_either (entered r.entries) (ids r.parked) u on)
 
   -- of a report from the opening on, its entries
-  pub from_opening : r.base ≡ 0 → Journey l r
+  from_opening : r.base ≡ 0 → Journey l r
   from_opening zero_is =
       record {
         entries = r.entries;
@@ -127,6 +131,11 @@ module _ (l : Listing) (r : Told) (lawful : LawfulReport l r) (none : r.memory �
       ∙ ap (λ (ts : List TxId). txs j.entries ++ ts) (parked_txs l r.parked lawful.parked_own)) in
       leads_by l (opening l) j.entries (now_of r) (first_place l) (parked_by r) names j.replays refl
       (sym (counted_all l n all j.once j.within size) ∙ ap (counted n) parts)
+
+  -- of a report from the opening on, by its entries
+  pub opening_leads : names_hold l ≡ true → r.base ≡ 0 → Leads l (first_place l) (txs r.entries) (end_of l r)
+  unfolding from_opening
+  opening_leads names zero_is = journey_leads names (from_opening zero_is)
 
   parked_retries : (ps : List (TaskId × TxId)) (i : ℕ) (tx : TxId) → All (λ (p : TaskId × TxId). outcome (program_at l p.1) (now_of r).state ≡ Retries) ps
       → slice_get (map (λ (p : TaskId × TxId). p.1) ps) i ≡ Some tx → outcome (program_at l tx) (now_of r).state ≡ Retries

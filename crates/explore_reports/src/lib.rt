@@ -7,6 +7,6 @@
 
 pub mod laws;
 mod queues;
-mod witness;
+mod turns;
 
-pub use witness::witness;
+pub use turns::witness;

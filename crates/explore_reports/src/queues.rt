@@ -42,7 +42,8 @@ fn add(waiting: &mut Vec<Vec<u32>>, tx: TxId, task: u32) -> Result<(), AllocErro
     requires { tx.0 < length waiting.old.items }
     ensures { OnOk result (queues waiting.new.items ≡ slice_set (queues waiting.old.items) tx.0 (queue_at (queues waiting.old.items) tx.0 ++ task ∷ [])) }
 {
-    waiting[tx.0 as usize].push(task)
+    waiting[tx.0 as usize].push(task)?;
+    Ok(())
 }
 
 /// Takes the lowest task of the transaction that is left.

@@ -27,6 +27,7 @@ pub fn witness(alloc: Global, catalogue: &Catalogue, turns: &[TxId]) -> Result<R
     ensures ends { IfOk result (λ r. (p : Place) → Leads catalogue.now (first_place catalogue.now) turns.now p → EndsAt catalogue.now (told r) p) }
     ensures turns { IfOk result (λ r. entered_by (told r).entries ≡ turns.now) }
 {
+    catalogue.rules();
     let (cells, publisher, _passes) = Cells::open(alloc, catalogue.initial(), 0)?;
     let mut book = Book::open(alloc, catalogue, &cells, publisher)?;
     take_all(&mut book, catalogue.tasks());
