@@ -1,5 +1,5 @@
 -- The book after given turns, and the report that it tells.
-use Rattle.std.proofs.Common.{◌≡◌, ◌≢◌, ℕ, zero, suc, ◌+◌, ◌≤◌, true, List, [], ◌∷◌, ◌++◌, length, map, take, refl, sym, ◌∙◌, ap, subst, arith, append_assoc}
+use Rattle.std.proofs.Common.{◌≡◌, ℕ, zero, suc, ◌≤◌, true, List, [], ◌∷◌, ◌++◌, length, take, refl, sym, ◌∙◌, ap, subst, arith, append_assoc}
 use Rattle.std.proofs.lemmas.List.{map-append, append-nil}
 use Rattle.std.specs.Prelude.{Result, Ok, Err, IfOk}
 use Rattle.programs.specs.declared.ast.TxId.{TxId}
@@ -7,13 +7,12 @@ use Rattle.programs.specs.declared.ast.TaskId.{TaskId}
 use Rattle.programs.specs.declared.report.Entry.{Entry}
 use Rattle.programs.specs.Names.{names_hold}
 use Rattle.programs.specs.Listing.{Listing}
-use Rattle.programs.specs.Replay.{Snapshot, opening}
-use Rattle.programs.specs.Told.{Told, base_of}
+use Rattle.programs.specs.Told.{Told}
 use Rattle.programs.specs.LawfulReport.{LawfulReport}
 use Rattle.book.specs.declared.task.Serial.{Serial}
 use Rattle.book.specs.declared.task.Serial.TheVariants as serial
 use Rattle.book.specs.View.{BookView, committed, entry_of}
-use Rattle.book.specs.Turns.{Served, Taken, Turn, Drains, kept_short, readied}
+use Rattle.book.specs.Turns.{Served, Turn, Drains, kept_short, readied}
 use Rattle.explore_law.specs.Orders.{Place, first_place, Leads, IsEnd}
 use Rattle.explore_reports.specs.Ends.{EndsAt, end_of}
 use Rattle.explore_reports.specs.Giving.{entered_by}

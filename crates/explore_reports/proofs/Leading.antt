@@ -1,5 +1,5 @@
 -- A journal that is replayed is a way through the places.
-use Rattle.std.proofs.Common.{◌≡◌, ◌≢◌, ℕ, zero, suc, ◌+◌, ◌-◌, ◌<◌, true, List, [], ◌∷◌, ◌++◌, length, map, get_or, set, Some, refl, sym, ◌∙◌, ap, subst, arith}
+use Rattle.std.proofs.Common.{◌≡◌, ◌≢◌, ℕ, ◌-◌, ◌<◌, true, List, [], ◌∷◌, ◌++◌, length, map, set, Some, refl, sym, ◌∙◌, ap, subst, arith}
 use Rattle.std.specs.List.{slice_get, All}
 use Rattle.std.proofs.lemmas.List.Elements.{All-head, All-tail}
 use Rattle.std.proofs.lemmas.Option.{get_or_from_slice_get}
@@ -75,9 +75,10 @@ leads_by l s [] now p rest names r state left =
     same_place p now.state (counted (length l.transactions) rest) (state ∙ ap (λ (x : Snapshot). x.state) (sym r)) left
 leads_by l s (e ∷ es) now p rest names r state left =
     let low = known_task l e.task.0 e.tx names r.0.tx in
-    let next : (turned l p e.tx).state ≡ (applied l e s).state = ap (after (program_at l e.tx)) state ∙ sym (applied_state l e s) in
-    (applies_turn l e s p (txs es ++ rest) names r.0 state left,
-      leads_by l (applied l e s) es now (turned l p e.tx) rest names r.1 next (turned_left l e.tx p (txs es ++ rest) low left))
+    let next : (turned l p e.tx).state ≡ (applied l e s).state = ap (after (program_at l e.tx)) state ∙ sym (applied_state l e s) in (
+      applies_turn l e s p (txs es ++ rest) names r.0 state left,
+      leads_by l (applied l e s) es now (turned l p e.tx) rest names r.1 next (turned_left l e.tx p (txs es ++ rest) low left),
+    )
 
 -- turns lead to one place
 pub leads_once : (l : Listing) (p : Place) (turns : List TxId) (q r : Place) → Leads l p turns q → Leads l p turns r → q ≡ r

@@ -1,5 +1,5 @@
 -- A report for each end: turns are given to tasks, the first that is left of each transaction.
-use Rattle.std.proofs.Common.{◌≡◌, ◌≢◌, ◌⊎◌, inl, inr, ℕ, zero, suc, ◌+◌, ◌<◌, ◌≤◌, true, ℤ, List, [], ◌∷◌, ◌++◌, length, map, get_or, replicate, Some, refl, sym, ◌∙◌, ap, subst, ⊎_elim, arith, length-append}
+use Rattle.std.proofs.Common.{◌≡◌, ◌≢◌, ℕ, zero, suc, ◌+◌, ◌<◌, ◌≤◌, true, ℤ, List, [], ◌∷◌, ◌++◌, length, map, replicate, Some, refl, sym, ◌∙◌, ap, subst, arith, length-append}
 use Rattle.std.specs.List.{slice_get, All, Contains, range_with_len}
 use Rattle.std.proofs.lemmas.List.{length-map, map-append, append-nil, length-replicate}
 use Rattle.std.proofs.lemmas.List.Elements.{All-nil, All-cons, All-head, All-tail}
@@ -12,20 +12,20 @@ use Rattle.programs.specs.declared.report.Entry.{Entry}
 use Rattle.programs.specs.Meaning.{State, outcome, after}
 use Rattle.programs.specs.Names.{names_hold}
 use Rattle.programs.specs.Standing.{Upholds}
-use Rattle.programs.specs.Listing.{Listing, tasks, task_tx, program_at}
-use Rattle.programs.specs.Replay.{Snapshot, Applies, Replays, applied, opening, entered, versions_after, Stands, Once}
+use Rattle.programs.specs.Listing.{Listing, tasks, program_at}
+use Rattle.programs.specs.Replay.{Snapshot, Applies, Replays, applied, opening, entered, Stands, Once}
 use Rattle.programs.specs.Told.{Told, snapshot_at, base_of, now_of}
 use Rattle.programs.specs.LawfulReport.{LawfulReport, FitsCatalogue, OutcomeKnown, Ascends, HasOwn}
 use Rattle.programs.specs.Limits.{most_tasks, limits_hold}
 use Rattle.programs.proofs.Lawful.{known_task, few_tasks}
 use Rattle.programs.proofs.Faults.{outcome_known}
-use Rattle.explore_law.specs.Orders.{Place, first_place, HasTurn, turned, Leads, Reached, IsEnd, counted, count_at}
+use Rattle.explore_law.specs.Orders.{Place, first_place, turned, Leads, Reached, IsEnd, counted, count_at}
 use Rattle.explore_law.specs.declared.found.Found.{Found}
 use Rattle.explore_law.specs.Explored.{Explored, end_places}
-use Rattle.explore_reports.specs.Ends.{EndsAt, HasReport, end_of}
+use Rattle.explore_reports.specs.Ends.{HasReport}
 use Rattle.explore_reports.proofs.Counts.{counted_middle, counted_stands, stands_counted}
-use Rattle.explore_reports.proofs.Shuffles.{split_at, stands_middle, stands_more, stands_there, once_apart, once_without, once_cons, once_head, once_tail, stands_left, stands_right, stands_either, mapped_range, range_stands}
-use Rattle.explore_reports.proofs.Leading.{txs, tx_of, place, same_place, applied_state, turned_left, retries_or_not}
+use Rattle.explore_reports.proofs.Shuffles.{split_at, stands_more, once_apart, once_cons, stands_right, range_stands}
+use Rattle.explore_reports.proofs.Leading.{txs, tx_of, same_place, applied_state, turned_left, retries_or_not}
 use Rattle.explore_reports.proofs.Whole.{replays_number, tasks_numbered}
 use Rattle.explore_reports.proofs.Sizes.{after_sized, versions_sized, versions_recent}
 

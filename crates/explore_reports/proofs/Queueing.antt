@@ -1,20 +1,20 @@
 -- The queues of tasks that are left.
-use Rattle.std.proofs.Common.{◌≡◌, ◌≢◌, ◌⊎◌, inl, inr, ℕ, zero, suc, ◌+◌, ◌-◌, ◌<◌, ◌≤◌, List, [], ◌∷◌, ◌++◌, length, map, get_or, set, drop, replicate, Option, Some, None, refl, sym, ◌∙◌, ap, subst, ⊎_elim, arith, length-append}
+use Rattle.std.proofs.Common.{◌≡◌, ◌⊎◌, inl, inr, ℕ, zero, suc, ◌+◌, ◌<◌, ◌≤◌, List, [], ◌∷◌, ◌++◌, length, map, get_or, set, drop, replicate, Option, Some, None, refl, sym, ◌∙◌, ap, subst, ⊎_elim, arith, length-append}
 use Rattle.std.specs.Prelude.{MatchOption, vec_len}
 use Rattle.std.specs.declared.alloc.Global.{Global}
 use Rattle.std.specs.declared.vec.Vec.{Vec}
 use Rattle.std.specs.List.{slice_get}
 use Rattle.std.specs.Option.{option_to_list}
-use Rattle.std.proofs.lemmas.List.{length-map, map-append, map-set, length-set, get_or-map, get_or-set_same, get_or-set_other}
+use Rattle.std.proofs.lemmas.List.{length-map, map-set, get_or-map, get_or-set_same, get_or-set_other}
 use Rattle.std.proofs.lemmas.Option.{same_Some}
 use Rattle.std.proofs.lemmas.Bool.{cases_eq}
 use Rattle.programs.specs.declared.ast.TxId.{TxId}
 use Rattle.programs.specs.Listing.{Listing, tasks}
 use Rattle.programs.specs.Replay.{Stands, Once}
-use Rattle.explore_law.specs.Orders.{counted, count_at}
+use Rattle.explore_law.specs.Orders.{counted}
 use Rattle.explore_reports.specs.Giving.{queues, queue_at, Leaves, AreOwn}
 use Rattle.explore_reports.proofs.Counts.{length-counted}
-use Rattle.explore_reports.proofs.Shuffles.{once_append, once_cons}
+use Rattle.explore_reports.proofs.Shuffles.{once_append}
 
 pub get_append_at : {X : Type 0} (xs : List X) (y : X) → slice_get (xs ++ y ∷ []) (length xs) ≡ Some y
 get_append_at [] y = refl

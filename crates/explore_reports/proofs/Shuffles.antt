@@ -71,7 +71,7 @@ counted_same n f (x ∷ xs) ys once sub size =
     let a = s.1 in
     let less : (u : ℕ) → Stands xs u → Stands (b ++ a) u =
     λ u on. ⊎_elim (λ (same : u ≡ x). absurd (once_head x xs once (subst (Stands xs) same on))) (λ (h : Stands (b ++ a) u). h)
-        (stands_middle b a x u (subst (λ (zs : List ℕ). Stands zs u) s.2 (sub u (suc on.0, on.1)))) in
+    (stands_middle b a x u (subst (λ (zs : List ℕ). Stands zs u) s.2 (sub u (suc on.0, on.1)))) in
     let few : length xs ≡ length (b ++ a) = omega (arith, size, ap length s.2, length_middle b a x) in
     let rest : counted n (map f xs) ≡ counted n (map f (b ++ a)) = counted_same n f xs (b ++ a) (once_tail x xs once) less few in
     let first : counted n (f x ∷ map f xs) ≡ counted n (f x ∷ map f (b ++ a)) =

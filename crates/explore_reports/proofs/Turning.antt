@@ -1,5 +1,5 @@
 -- A turn that is given is one among the orders.
-use Rattle.std.proofs.Common.{◌≡◌, ◌≢◌, ◌⊎◌, inl, inr, ℕ, zero, suc, ◌+◌, ◌-◌, ◌<◌, ◌≤◌, List, [], ◌∷◌, ◌++◌, length, map, get_or, set, replicate, Option, Some, None, refl, sym, ◌∙◌, ap, subst, ⊎_elim, arith, length-append}
+use Rattle.std.proofs.Common.{◌≡◌, ◌⊎◌, ℕ, zero, suc, ◌+◌, ◌-◌, ◌<◌, ◌≤◌, List, [], ◌∷◌, ◌++◌, length, map, get_or, set, replicate, Option, Some, None, refl, sym, ◌∙◌, ap, subst, ⊎_elim, arith, length-append}
 use Rattle.std.specs.List.{slice_get}
 use Rattle.std.specs.Option.{option_map}
 use Rattle.std.proofs.lemmas.List.{length-map, map-append, map-set, get_or-map, get_or-set_same, get_or-set_other, get_or_past}
@@ -7,19 +7,17 @@ use Rattle.std.proofs.lemmas.Option.{same_Some, slice_get_within, slice_get-map}
 use Rattle.std.proofs.lemmas.Bool.{cases_eq, cases_lt}
 use Rattle.programs.specs.declared.ast.TxId.{TxId}
 use Rattle.programs.specs.declared.ast.TaskId.{TaskId}
-use Rattle.programs.specs.declared.ast.Outcome.TheVariants.{Retries}
 use Rattle.programs.specs.declared.report.Entry.{Entry}
 use Rattle.programs.specs.Meaning.{State, outcome, after}
 use Rattle.programs.specs.Listing.{Listing, tasks, task_tx, task_program, program_at}
-use Rattle.programs.specs.Replay.{Snapshot, applied, opening, Stands, Once}
+use Rattle.programs.specs.Replay.{Snapshot, applied, opening}
 use Rattle.book.specs.declared.task.Task.{Task}
 use Rattle.book.specs.declared.task.Task.TheVariants.{Ready, Running, Done}
 use Rattle.book.specs.declared.task.Serial.{Serial}
 use Rattle.book.specs.declared.task.Serial.TheVariants as serial
-use Rattle.book.specs.View.{BookView, IsRunning, stands, committed, entry_of, woken, opened}
+use Rattle.book.specs.View.{BookView, committed, entry_of, woken, opened}
 use Rattle.book.specs.Turns.{Served, Taken}
-use Rattle.cells.specs.Cells.{CellsId}
-use Rattle.explore_law.specs.Orders.{Place, HasTurn, turned, first_place, Leads, counted, count_at}
+use Rattle.explore_law.specs.Orders.{HasTurn, turned, first_place, counted, count_at}
 use Rattle.explore_reports.specs.Giving.{entered_by, IsTaken, queue_at, Leaves, AreOwn, IsUnderWay, place_of}
 use Rattle.explore_reports.proofs.Leading.{own_tx, place, applied_state}
 use Rattle.explore_reports.proofs.Queueing.{get_append_at, get_append_left}
@@ -126,22 +124,24 @@ module _ (b : BookView) (qs more : List (List ℕ)) (tx : TxId) (t : ℕ) (u : I
       ⊎_elim
       (λ (low : tx.0 < length qs).
       let in_rest : slice_get w.0 i ≡ Some v = ap (λ (q : List ℕ). slice_get q i) (sym (ap (queue_at (set qs tx.0 w.0)) same ∙ get_or-set_same qs tx.0 w.0 [] low)) ∙ e' in
-      let before : slice_get (queue_at qs tx.0) i ≡ Some v = ap (λ (q : List ℕ). slice_get q i) w.1 ∙ get_append_left w.0 (t ∷ []) i v in_rest in
-      (ap (λ (j : ℕ). slice_get (queue_at qs j) i) same ∙ before,
-        λ is. let one : i ≡ length w.0 = u.own.once tx.0 i (length w.0) v before (at_end ∙ ap Some (sym is)) in omega (arith, one, slice_get_within w.0 i v in_rest)))
+      let before : slice_get (queue_at qs tx.0) i ≡ Some v = ap (λ (q : List ℕ). slice_get q i) w.1 ∙ get_append_left w.0 (t ∷ []) i v in_rest in (
+        ap (λ (j : ℕ). slice_get (queue_at qs j) i) same ∙ before,
+        λ is. let one : i ≡ length w.0 = u.own.once tx.0 i (length w.0) v before (at_end ∙ ap Some (sym is)) in omega (arith, one, slice_get_within w.0 i v in_rest),
+      ))
       (λ (high : length qs ≤ tx.0).
       let empty : List ℕ = [] in
       let bad : slice_get empty (length w.0) ≡ Some t = ap (λ (q : List ℕ). slice_get q (length w.0)) (sym (get_or_past qs tx.0 [] high)) ∙ at_end in
       absurd (cc))
       (cases_lt tx.0 (length qs)))
       (λ (apart : k ≡ tx.0 → ⊥).
-      let before : slice_get (queue_at qs k) i ≡ Some v = ap (λ (q : List ℕ). slice_get q i) (sym (get_or-set_other qs tx.0 k w.0 [] apart)) ∙ e' in
-      (before,
+      let before : slice_get (queue_at qs k) i ≡ Some v = ap (λ (q : List ℕ). slice_get q i) (sym (get_or-set_other qs tx.0 k w.0 [] apart)) ∙ e' in (
+        before,
         λ is.
             let a : slice_get (tasks b.catalogue) v ≡ Some (record { 0 = k }) = u.own.own k i v before in
             let c : slice_get (tasks b.catalogue) t ≡ Some tx = u.own.own tx.0 (length w.0) t at_end in
             let d : Some (transaction k) ≡ Some tx = sym a ∙ (ap (slice_get (tasks b.catalogue)) is ∙ c) in
-            apart (ap (λ (x : TxId). x.0) (same_Some (transaction k) tx d))))
+            apart (ap (λ (x : TxId). x.0) (same_Some (transaction k) tx d)),
+      ))
       (cases_eq k tx.0)
 
   committed_base : (committed b task).base ≡ b.base

@@ -1,5 +1,5 @@
 -- Where a whole report ends.
-use Rattle.std.proofs.Common.{◌≡◌, ◌≢◌, ◌⊎◌, inl, inr, ℕ, zero, suc, ◌+◌, ◌<◌, ◌≤◌, List, [], ◌∷◌, ◌++◌, length, map, get_or, Some, refl, sym, ◌∙◌, ap, subst, ⊎_elim, arith, length-append, append_assoc, true}
+use Rattle.std.proofs.Common.{◌≡◌, ◌⊎◌, ℕ, zero, suc, ◌+◌, ◌<◌, List, [], ◌∷◌, ◌++◌, length, map, get_or, Some, refl, sym, ◌∙◌, ap, subst, ⊎_elim, arith, length-append, append_assoc, true}
 use Rattle.std.specs.List.{slice_get, All, Contains, range_with_len}
 use Rattle.std.proofs.lemmas.List.{length-map, map-append, append-nil}
 use Rattle.std.proofs.lemmas.List.Elements.{All-head, All-tail}
@@ -11,12 +11,11 @@ use Rattle.programs.specs.declared.ast.Outcome.TheVariants.{Retries}
 use Rattle.programs.specs.declared.report.Entry.{Entry}
 use Rattle.programs.specs.Meaning.{outcome}
 use Rattle.programs.specs.Names.{names_hold}
-use Rattle.programs.specs.Listing.{Listing, tasks, task_tx, program_at}
+use Rattle.programs.specs.Listing.{Listing, tasks, program_at}
 use Rattle.programs.specs.Replay.{Snapshot, Replays, applied, opening, entered, Stands, Once}
 use Rattle.programs.specs.Told.{Told, base_of, now_of}
 use Rattle.programs.specs.LawfulReport.{LawfulReport, BaseReached, on_lines}
-use Rattle.programs.proofs.Lawful.{known_task}
-use Rattle.explore_law.specs.Orders.{Place, first_place, HasTurn, Leads, Reached, IsEnd, counted, count_at}
+use Rattle.explore_law.specs.Orders.{first_place, Leads, Reached, IsEnd, counted, count_at}
 use Rattle.explore_law.specs.declared.found.Found.{Found}
 use Rattle.explore_law.specs.Explored.{Explored, end_places}
 use Rattle.explore_reports.specs.Ends.{IsWhole, end_of, NobodyWaits}

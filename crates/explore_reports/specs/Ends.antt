@@ -1,5 +1,5 @@
 -- Where reports end, among all orders.
-use Rattle.std.specs.Prelude.{◌≡◌, ◌⊎◌, ℕ, List, [], map, length}
+use Rattle.std.specs.Prelude.{◌≡◌, ◌⊎◌, List, [], map, length}
 use Rattle.programs.specs.declared.ast.TaskId.{TaskId}
 use Rattle.programs.specs.declared.ast.TxId.{TxId}
 use Rattle.programs.specs.Listing.{Listing}
