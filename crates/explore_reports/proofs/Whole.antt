@@ -17,8 +17,9 @@ use Rattle.programs.specs.Told.{Told, base_of, now_of}
 use Rattle.programs.specs.LawfulReport.{LawfulReport, BaseReached, on_lines}
 use Rattle.explore_law.specs.Orders.{first_place, Leads, Reached, IsEnd, counted, count_at}
 use Rattle.explore_law.specs.declared.found.Found.{Found}
-use Rattle.explore_law.specs.Explored.{Explored, end_places}
-use Rattle.explore_reports.specs.Ends.{IsWhole, end_of, NobodyWaits}
+use Rattle.explore_law.specs.Explored.{Explored, end_place, end_places}
+use Rattle.explore_law.specs.Ways.{IsWayToEnd}
+use Rattle.explore_reports.specs.Ends.{IsWhole, end_of, NobodyWaits, LeadsToEnd}
 use Rattle.explore_reports.proofs.Counts.{counted_stands, stands_counted}
 use Rattle.explore_reports.proofs.Shuffles.{counted_same, mapped_range, stands_range, stands_either, stands_within, once_append}
 use Rattle.explore_reports.proofs.Leading.{txs, tx_of, entered_txs, parked_txs, leads_by}
@@ -176,3 +177,14 @@ pub whole_nobody : (l : Listing) (f : Found) (r : Told) → names_hold l ≡ tru
 whole_nobody l f r names found nobody h =
     let on = whole_listed l f r names found h in
     nobody_parked l r h.lawful h.none_stopped (subst NobodyWaits on.2 (nobody on.0 (end_of l r) on.1))
+
+mapped_at : {X Y : Type 0} (f : X → Y) (xs : List X) (i : ℕ) (x : X) → slice_get xs i ≡ Some x → (i < length (map f xs)) × ((d : Y) → get_or (map f xs) i d ≡ f x)
+mapped_at f [] i x e = absurd (cc)
+mapped_at f (y ∷ ys) zero x e = (omega arith, λ d. ap f (same_Some y x e))
+mapped_at f (y ∷ ys) (suc i) x e = let h = mapped_at f ys i x e in (omega (arith, h.0), h.1)
+
+pub way_leads : (l : Listing) (f : Found) (k : ℕ) (turns : List TxId) → Explored l f → IsWayToEnd l f k turns → LeadsToEnd l turns
+way_leads l f k turns found w =
+    let place = end_place w.end in
+    let on = mapped_at end_place f.ends.items k w.end w.listed in
+    record { place = place; leads = w.way.leads; last = ((found.ends place).0 (k, on.0, on.1 place)).1 }

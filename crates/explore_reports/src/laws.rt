@@ -1,12 +1,14 @@
 //! What is so of all orders and of all reports, for every catalogue.
 
-ghost use Rattle.std.specs.Prelude.{◌≡◌, [], All};
+ghost use Rattle.std.specs.Prelude.{◌≡◌, ℕ, List, [], All};
 ghost use Rattle.std.specs.List.{Contains};
 ghost use Rattle.programs.specs.Told.{Told};
+ghost use Rattle.programs.specs.declared.ast.TxId.{TxId as TxIdOf};
 ghost use Rattle.explore_law.specs.declared.found.Found.{Found as FoundOf};
 ghost use Rattle.explore_law.specs.Orders.{Place, Reached, IsEnd};
 ghost use Rattle.explore_law.specs.Explored.{Explored, end_places};
-ghost use Rattle.explore_reports.specs.Ends.{IsWhole, HasReport, NobodyWaits, end_of};
+ghost use Rattle.explore_law.specs.Ways.{IsWayToEnd};
+ghost use Rattle.explore_reports.specs.Ends.{IsWhole, HasReport, LeadsToEnd, NobodyWaits, end_of};
 
 use txn::Catalogue;
 
@@ -34,6 +36,13 @@ pub fn ends_have_reports(catalogue: &Catalogue)
 /// Where nobody waits at any end that is listed, no report leaves a task parked.
 pub fn nobody_waits_for_ever(catalogue: &Catalogue)
     ensures { (f : FoundOf) (r : Told) → Explored catalogue.now f → All NobodyWaits (end_places f) → IsWhole catalogue.now r → r.parked ≡ [] }
+{
+    catalogue.rules();
+}
+
+/// The way to an end that is listed leads to an end, so that it has a `witness`.
+pub fn ways_lead_to_ends(catalogue: &Catalogue)
+    ensures { (f : FoundOf) (k : ℕ) (turns : List TxIdOf) → Explored catalogue.now f → IsWayToEnd catalogue.now f k turns → LeadsToEnd catalogue.now turns }
 {
     catalogue.rules();
 }
