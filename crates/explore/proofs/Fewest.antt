@@ -1,5 +1,5 @@
 -- All ways to a place have as many turns.
-use Rattle.std.proofs.Common.{◌≡◌, ℕ, ◌+◌, ◌-◌, ◌<◌, ◌≤◌, List, [], ◌∷◌, length, get_or, set, sum_by, ap, arith}
+use Rattle.std.proofs.Common.{◌≡◌, ℕ, ◌+◌, ◌-◌, List, [], ◌∷◌, length, get_or, sum_by, ap, arith}
 use Rattle.std.proofs.lemmas.List.Sums.{sum_by-set}
 use Rattle.programs.specs.declared.ast.TxId.{TxId}
 use Rattle.programs.specs.Listing.{Listing}

@@ -12,6 +12,6 @@ mod search;
 mod turn;
 mod way;
 
-pub use explore_law::{End, Found, Kinds};
 pub use counts::task_counts;
+pub use explore_law::{End, Found, Kinds};
 pub use found::{MAX_STATES, Unexplored, explore, way_to_end};

@@ -1,10 +1,9 @@
-use Rattle.std.proofs.Common.{◌≡◌, ◌≢◌, ℕ, ◌<◌, List, Some, length, get_or, map, refl, sym, ◌∙◌, ap, subst, arith}
+use Rattle.std.proofs.Common.{◌≡◌, ℕ, ◌<◌, List, Some, length, get_or, map, refl, sym, ◌∙◌, ap, subst, arith}
 use Rattle.std.specs.Prelude.{All, slice_get}
 use Rattle.std.specs.List.Sorted.{IsPermutation}
 use Rattle.explore_law.specs.declared.found.End.{End}
 use Rattle.explore_law.specs.declared.found.Found.{Found}
 use Rattle.std.proofs.lemmas.Option.{slice_get_read}
-use Rattle.explore_law.specs.Orders.{Place}
 use Rattle.explore_law.specs.Explored.{Explored, end_place}
 use Rattle.explore_law.specs.Ways.{IsWay}
 use Rattle.explore_places.specs.Indexed.{place_at}

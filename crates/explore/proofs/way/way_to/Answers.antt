@@ -1,8 +1,7 @@
-use Rattle.std.proofs.Common.{◌≡◌, ℕ, List, reverse, sym, ◌∙◌, subst, arith}
+use Rattle.std.proofs.Common.{◌≡◌, ℕ, List, reverse, sym, subst, arith}
 use Rattle.programs.specs.declared.ast.TxId.{TxId}
 use Rattle.explore_law.specs.Orders.{Place, first_place, Leads}
 use Rattle.explore_places.specs.Indexed.{place_at}
-use Rattle.explore_law.specs.Ways.{IsWay}
 use Rattle.explore.proofs.Fewest.{any_way}
 use Rattle.explore.proofs.way.way_to.Goals as goal
 
