@@ -12,8 +12,9 @@ pub use program::Program;
 pub use store::{Brought, Store};
 pub use worker::{Tried, Worker};
 
-/// A host may pass both to other threads. It does nothing: that it checks is the law.
-pub fn cross(store: Store, worker: Worker) {
+/// A host may pass each of them to other threads. It lets them go: that it checks is the law.
+pub fn cross(program: Program, store: Store, worker: Worker) {
+    sent(program);
     sent(store);
     sent(worker);
 }
