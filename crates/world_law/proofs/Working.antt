@@ -1,10 +1,10 @@
 -- The runs that were worked out by hand, step by step.
-use Rattle.std.proofs.Common.{◌≡◌, ℕ, zero, suc, false, ◌==◌, List, [], ◌∷◌, ℤ, pos, sym, refl, ap, ◌∙◌, inr, arith, Option, Some, None, slice_get, lit<, eq-eqb}
+use Rattle.std.proofs.Common.{◌≡◌, ℕ, zero, suc, true, false, ◌==◌, List, [], ◌∷◌, ℤ, pos, sym, refl, ap, ◌∙◌, inr, arith, Option, Some, None, slice_get, lit<, eq-eqb}
 use Rattle.std.proofs.lemmas.Bool.{false≢true}
 use Rattle.programs.specs.declared.ast.TaskId.{TaskId}
 use Rattle.programs.specs.declared.ast.Outcome.TheVariants.{Returned, Retries}
 use Rattle.world_law.specs.declared.events.Fate.TheVariants as fate
-use Rattle.world_law.specs.World.{Started, World, Committer, Lock, Put, Tick, Free, is_live, with_loads, with_fate, IsOpening}
+use Rattle.world_law.specs.World.{Started, World, Committer, Lock, Put, Tick, Free, is_live, with_loads, with_fate, stale_at_load, IsOpening}
 use Rattle.world_law.specs.Next.{Run}
 use Rattle.world_law.specs.Worked.{x, y, task, pair, pair_opening, torn_events, torn_answers, torn_end, back_and_forth, back_opening, back_events, back_answers, back_end}
 
@@ -28,10 +28,10 @@ abbrev world : List ℕ → List (List ℤ) → List Started → Option Committe
 world words history attempts committer = record { words = words; history = history; attempts = attempts; committer = committer }
 
 abbrev began : ℕ → ℕ → Started
-began a rv = record { task = task a; rv = rv; log = []; loads = []; fate = fate.Running }
+began a rv = record { task = task a; rv = rv; log = []; loads = []; fate = fate.Running; movable = false; check = None }
 
 abbrev read_x : Started
-read_x = record { task = task 0; rv = 0; log = (x, pos 1) ∷ []; loads = []; fate = fate.Running }
+read_x = record { task = task 0; rv = 0; log = (x, pos 1) ∷ []; loads = []; fate = fate.Running; movable = false; check = None }
 
 pub torn_holds : Run pair pair_opening torn_events torn_answers torn_end
 torn_holds = (
@@ -74,7 +74,7 @@ torn_holds = (
                           world (1 ∷ 2 ∷ 2 ∷ 2 ∷ 2 ∷ []) ((pos 1 ∷ pos 1 ∷ []) ∷ (pos 2 ∷ pos 2 ∷ []) ∷ []) (read_x ∷ with_fate (began 1 0) (fate.Committed 1) ∷ []) (None),
                           (record { place = 1; number = 1; changes = (x, pos 2) ∷ (y, pos 2) ∷ []; stored = 6 }, Free 1, 1 ∷ 2 ∷ 2 ∷ 2 ∷ 2 ∷ [], began 1 0, (refl, refl, refl), refl, refl, refl, refl),
                           (
-                            world (1 ∷ 2 ∷ 2 ∷ 2 ∷ 2 ∷ []) ((pos 1 ∷ pos 1 ∷ []) ∷ (pos 2 ∷ pos 2 ∷ []) ∷ []) (with_fate (read_x) fate.Stale ∷ with_fate (began 1 0) (fate.Committed 1) ∷ []) (None),
+                            world (1 ∷ 2 ∷ 2 ∷ 2 ∷ 2 ∷ []) ((pos 1 ∷ pos 1 ∷ []) ∷ (pos 2 ∷ pos 2 ∷ []) ∷ []) (stale_at_load read_x ∷ with_fate (began 1 0) (fate.Committed 1) ∷ []) (None),
                             (0, read_x, (((refl, refl, refl), refl), refl), inr (omega arith), refl),
                             refl,
                           ),

@@ -1,5 +1,5 @@
 -- Two runs of the world worked out by hand, event by event.
-use Rattle.std.specs.Prelude.{ℕ, List, [], ◌∷◌, pos, None}
+use Rattle.std.specs.Prelude.{ℕ, true, false, List, [], ◌∷◌, pos, None}
 use Rattle.programs.specs.Listing.{Listing}
 use Rattle.programs.specs.Tree.{Int, Var, Add, Skip, Set, Seq, End, More}
 use Rattle.programs.specs.declared.ast.TaskId.{TaskId}
@@ -60,8 +60,8 @@ torn_end = record {
   words = 1 ∷ 2 ∷ 2 ∷ 2 ∷ 2 ∷ [];
   history = (pos 1 ∷ pos 1 ∷ []) ∷ (pos 2 ∷ pos 2 ∷ []) ∷ [];
   attempts =
-      record { task = task 0; rv = 0; log = (x, pos 1) ∷ []; loads = []; fate = fate.Stale }
-      ∷ record { task = task 1; rv = 0; log = []; loads = []; fate = fate.Committed 1 }
+      record { task = task 0; rv = 0; log = (x, pos 1) ∷ []; loads = []; fate = fate.Stale; movable = true; check = None }
+      ∷ record { task = task 1; rv = 0; log = []; loads = []; fate = fate.Committed 1; movable = false; check = None }
       ∷ [];
   committer = None;
 }
@@ -103,9 +103,9 @@ back_end = record {
   words = 3 ∷ 4 ∷ 1 ∷ [];
   history = (pos 1 ∷ []) ∷ (pos 2 ∷ []) ∷ (pos 1 ∷ []) ∷ (pos 1 ∷ []) ∷ [];
   attempts =
-      record { task = task 0; rv = 0; log = (x, pos 1) ∷ []; loads = []; fate = fate.Committed 3 }
-      ∷ record { task = task 1; rv = 0; log = []; loads = []; fate = fate.Committed 1 }
-      ∷ record { task = task 2; rv = 1; log = []; loads = []; fate = fate.Committed 2 }
+      record { task = task 0; rv = 0; log = (x, pos 1) ∷ []; loads = []; fate = fate.Committed 3; movable = false; check = None }
+      ∷ record { task = task 1; rv = 0; log = []; loads = []; fate = fate.Committed 1; movable = false; check = None }
+      ∷ record { task = task 2; rv = 1; log = []; loads = []; fate = fate.Committed 2; movable = false; check = None }
       ∷ [];
   committer = None;
 }
