@@ -71,7 +71,7 @@ compared_less l y c false z e = absurd (cc)
 
 compared_so : (l : Listing) (y : Started) (c : Check) (b : Bool) (z : VarId) → (compared l y c b).0 ≡ seen.Checks z → (compared l y c b).1.check ≢ None
 compared_so l y c true z e = checks_so l y c.candidate (c.checked + 1) (slice_get y.log (c.checked + 1)) z e
-compared_so l y c false z e f = absurd (cc)
+compared_so l y c false z e = absurd (cc)
 
 reads_less : (l : Listing) (y : Started) (x : VarId) (bits : ℕ) (o : Option Check) (z : VarId) → (reads_on l y x bits o).0 ≡ seen.Checks z → pairs_left (reads_on l y x bits o).1.log (reads_on l y x bits o).1.check < pairs_left y.log o
 reads_less l y x bits None z e = absurd (told_no _ z e)
@@ -152,7 +152,7 @@ pub leads_read : (l k : Listing) (start w mid : World) (a : TaskId) (x : VarId) 
 leads_read l k start w mid a x s t own is on r s' v j h = on s' v (suc j) (x, mid, t, is, subst (λ (q : Listing). Reads q w a x t mid) own r, h)
 
 pub leads_end : (l : Listing) (start w : World) (a : TaskId) (s : Seen) → ((x : VarId) → s ≢ seen.Checks x) → LeadsOn l start a s w → Moves l start a s w
-leads_end l start w a s no on = on s w 0 (no, refl, refl)
+leads_end l start w a s other on = on s w 0 (other, refl, refl)
 
 -- while a variable is checked, the attempt checks
 abbrev pub ChecksNow : World → TaskId → Seen → Type 0
