@@ -159,16 +159,16 @@ pub(crate) fn settle<N: Naming>(
     let Named { mut book, of: _ } = named;
     book.law();
     book.drain(alloc, every);
-    report(alloc, book)
+    report(alloc, &book)
 }
 
 /// The report of a book with no task ready or running.
-fn report(alloc: Global, book: Book<'_>) -> Result<Report, Memory>
-    requires { IsIdle book }
-    ensures lawful { IfOk result (λ r. LawfulReport book.entry.catalogue (told r)) }
-    ensures reached { IfOk result (λ r. BaseReached book.entry.catalogue (told r)) }
-    ensures is { IfOk result (λ r. ReportIs book.entry (told r)) }
+fn report(alloc: Global, book: &Book<'_>) -> Result<Report, Memory>
+    requires { IsIdle book.now }
+    ensures lawful { IfOk result (λ r. LawfulReport book.now.catalogue (told r)) }
+    ensures reached { IfOk result (λ r. BaseReached book.now.catalogue (told r)) }
+    ensures is { IfOk result (λ r. ReportIs book.now (told r)) }
 {
     book.law();
-    book.into_report(alloc)
+    book.report(alloc)
 }
