@@ -5,7 +5,10 @@
 //! transfer. In the end the report is judged.
 
 use std::sync::atomic::{AtomicBool, Ordering};
-use stm::{and, eq, le, lt, seq, set, skip, var, when, Brought, Declare, Expr, Observed, Program, Store, Tried, Var, Worker};
+use stm::{
+    and, eq, le, lt, seq, set, skip, var, when, Brought, Declare, Expr, Observed, Program, Store, Tried, Var,
+    Worker,
+};
 
 const ACCOUNTS: usize = 8;
 const EACH: i64 = 100;
@@ -78,10 +81,8 @@ fn main() -> Result<(), stm::Error> {
             }
             Ok::<u32, stm::Error>(audits)
         });
-        let working: Vec<_> = tellers
-            .iter_mut()
-            .map(|teller| scope.spawn(|| serve(&store, teller)))
-            .collect();
+        let working: Vec<_> =
+            tellers.iter_mut().map(|teller| scope.spawn(|| serve(&store, teller))).collect();
         for teller in working {
             teller.join().expect("a teller ends")?;
         }

@@ -27,11 +27,7 @@ fn batch(from: State) -> Result<Program, stm::Error> {
     queue.always("counted", and(le(0, &waiting), le(&waiting, &longest)));
     let draw = || set(&seed, rem(var(&seed) * 1_103_515_245 + 12_345, 2_147_483_648));
     let grown = when(lt(&longest, &waiting), set(&longest, &waiting), skip());
-    let comes = when(
-        lt(rem(&seed, 3000), 2000),
-        seq([set(&waiting, var(&waiting) + 1), grown]),
-        skip(),
-    );
+    let comes = when(lt(rem(&seed, 3000), 2000), seq([set(&waiting, var(&waiting) + 1), grown]), skip());
     let goes = when(
         and(lt(rem(&seed, 4000), 3000), lt(0, &waiting)),
         seq([set(&waiting, var(&waiting) - 1), set(&served, var(&served) + 1)]),

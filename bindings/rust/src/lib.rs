@@ -25,10 +25,10 @@ mod raw;
 mod store;
 
 pub use declare::{
-    and, div, eq, int, le, lt, not, or, or_else, rem, repeat, retry, seq, set, skip, throw, var, when,
-    Cond, Declare, Expr, Stmt, Tx, Var,
+    and, div, eq, int, le, lt, not, or, or_else, rem, repeat, retry, seq, set, skip, throw, var, when, Cond,
+    Declare, Expr, Stmt, Tx, Var,
 };
-pub use error::Error;
+pub use error::{Error, ScheduleFault};
 pub use raw::{Brought, Observed, Tried, Verdict};
 pub use store::{run, run_with, Program, Retry, Store, Worker};
 

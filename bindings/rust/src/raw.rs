@@ -16,9 +16,24 @@ struct Told {
 }
 
 extern "C" {
-    fn stm_run_one(file: *const u8, file_length: usize, checkpoint: u32, room: *mut u8, room_length: usize, wanted: *mut usize) -> i32;
+    fn stm_run_one(
+        file: *const u8,
+        file_length: usize,
+        checkpoint: u32,
+        room: *mut u8,
+        room_length: usize,
+        wanted: *mut usize,
+    ) -> i32;
     fn stm_check(file: *const u8, file_length: usize, report: *const u8, report_length: usize) -> i32;
-    fn stm_world(file: *const u8, file_length: usize, schedule: *const u8, schedule_length: usize, room: *mut u8, room_length: usize, wanted: *mut usize) -> i32;
+    fn stm_world(
+        file: *const u8,
+        file_length: usize,
+        schedule: *const u8,
+        schedule_length: usize,
+        room: *mut u8,
+        room_length: usize,
+        wanted: *mut usize,
+    ) -> i32;
     fn stm_program_read(file: *const u8, file_length: usize, out: *mut Handle) -> i32;
     fn stm_program_drop(program: Handle);
     fn stm_program_tasks(program: *mut Handle) -> usize;
@@ -146,7 +161,15 @@ pub fn world(file: &[u8], schedule: &[u8]) -> Result<String, Error> {
     text(|room, wanted| {
         // SAFETY: as `run_one`.
         unsafe {
-            stm_world(file.as_ptr(), file.len(), schedule.as_ptr(), schedule.len(), room.as_mut_ptr(), room.len(), wanted)
+            stm_world(
+                file.as_ptr(),
+                file.len(),
+                schedule.as_ptr(),
+                schedule.len(),
+                room.as_mut_ptr(),
+                room.len(),
+                wanted,
+            )
         }
     })
 }

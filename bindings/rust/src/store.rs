@@ -67,18 +67,12 @@ impl Store {
     /// All tasks ready, the initial values, an empty journal, and room for so many workers, at most
     /// 32. A journal of `checkpoint` entries is followed by a checkpoint; 0: never.
     pub fn open(program: &Program, workers: usize, checkpoint: u32) -> Result<Store, Error> {
-        Ok(Store {
-            raw: Mutex::new(held(&program.raw).open(workers, checkpoint)?),
-            program: program.id,
-        })
+        Ok(Store { raw: Mutex::new(held(&program.raw).open(workers, checkpoint)?), program: program.id })
     }
 
     /// A worker, for one thread.
     pub fn worker(&self) -> Result<Worker, Error> {
-        Ok(Worker {
-            raw: held(&self.raw).worker()?,
-            program: self.program,
-        })
+        Ok(Worker { raw: held(&self.raw).worker()?, program: self.program })
     }
 
     /// The lowest ready task, which is then running.

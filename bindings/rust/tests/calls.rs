@@ -94,7 +94,9 @@ fn threads_share_a_store() {
 
 #[test]
 fn an_observer_sees_one_state() {
-    let program = Program::read("(var x 0)\n(tx inc (set x (add x 1)) x)\n(tx get (skip) x)\n(run inc 20000)\n").unwrap();
+    let program =
+        Program::read("(var x 0)\n(tx inc (set x (add x 1)) x)\n(tx get (skip) x)\n(run inc 20000)\n")
+            .unwrap();
     let get = program.transaction("get").unwrap();
     let store = Store::open(&program, 2, 0).unwrap();
     let (mut worker, mut watcher) = (store.worker().unwrap(), store.worker().unwrap());

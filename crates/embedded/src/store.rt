@@ -9,6 +9,7 @@ ghost use Rattle.programs.specs.LawfulReport.{LawfulReport, BaseReached};
 ghost use Rattle.book.specs.View.{opened, checkpointed, stands, IsRunning};
 ghost use Rattle.book.specs.Turns.{Taken, Turn, Drains, readied, kept_short, IsIdle, ReportIs};
 ghost use Rattle.book.specs.declared.task.Task.TheVariants as Task;
+ghost use Rattle.book.specs.LawfulBook.{LawfulBook, BookFits, KeepsConditions};
 ghost use Rattle.embedded.specs.Working.{Brings, ServedBy, IsTextOf, as_turn};
 
 use crate::program::Program;
@@ -182,6 +183,18 @@ impl Store {
     {
         self.book.drain(self.alloc, self.every);
         printed(self.alloc, self.catalogue, &self.book)
+    }
+
+    /// What every store keeps: its journal explains the present, no task is entered twice, what waits
+    /// retries on the present values, and no state that it had breaks a standing condition of its
+    /// program. It does nothing: its contract is the law.
+    pub fn law(&self)
+        ensures lawful { LawfulBook self.now.book }
+        ensures fits { BookFits self.now.book }
+        ensures upheld { KeepsConditions self.now.book }
+        ensures named { self.now.book.catalogue ≡ self.now.catalogue.now }
+    {
+        self.book.law();
     }
 
     /// The program that it is of.

@@ -20,7 +20,8 @@ fn step(store: &mut Store, worker: &mut Worker) -> Option<Brought>
     }
 }
 
-const FILE: &str = "(var x 5)(tx inc (set x (add x 1)) x)(tx wait (if (lt x 9) (retry) (skip)) x)(run inc 1)(run wait 1)";
+const FILE: &str =
+    "(var x 5)(tx inc (set x (add x 1)) x)(tx wait (if (lt x 9) (retry) (skip)) x)(run inc 1)(run wait 1)";
 
 #[test]
 fn a_store_is_worked_on(rt: HostRuntime) {
@@ -39,7 +40,10 @@ fn a_store_is_worked_on(rt: HostRuntime) {
     assert!(rt; step(&mut store, &mut worker).is_none());
     assert!(rt; worker.observe(TxId(0)) == Observed::Outcome(Outcome::Returned(7)));
     match store.report() {
-        Ok(text) => assert!(rt; text.as_str() == "base 0\nx 5 0\nentry 1 0 inc returned 6\nnow 1\nx 6 1\nparked 1 wait\nend\n"),
+        Ok(text) => assert!(rt;
+            text.as_str()
+                == "base 0\nx 5 0\nentry 1 0 inc returned 6\nnow 1\nx 6 1\nparked 1 wait\nend\n"
+        ),
         Err(_) => panic!(rt; "no memory"),
     }
 }
@@ -61,7 +65,9 @@ fn a_host_meets_the_limits(rt: HostRuntime) {
     assert!(rt; store.give_up(TaskId(0)));
     store.checkpoint();
     match store.report() {
-        Ok(text) => assert!(rt; text.as_str() == "base 0\nx 5 0\nnow 0\nx 5 0\nparked 1 wait\nmemory 0 inc\nend\n"),
+        Ok(text) => assert!(rt;
+            text.as_str() == "base 0\nx 5 0\nnow 0\nx 5 0\nparked 1 wait\nmemory 0 inc\nend\n"
+        ),
         Err(_) => panic!(rt; "no memory"),
     }
 }

@@ -1,6 +1,9 @@
 //! What the calls answer in numbers: 0 or more where they did what they are for, else why not.
 
+ghost use Rattle.std.specs.Prelude.{◌≢◌, pos};
+
 use book::{Finish, Serial};
+use checker::Part;
 use embedded::{Brought, Tried};
 use observer::Observed;
 use txn::{Fault, Outcome, TaskId};
@@ -34,7 +37,10 @@ pub(crate) fn unknown() -> Told {
     kind(UNKNOWN)
 }
 
-pub(crate) fn file_fault(fault: ReadFault) -> i32 {
+/// Why a file is refused. Never 0.
+pub(crate) fn file_fault(fault: ReadFault) -> i32
+    ensures { result ≢ pos 0 }
+{
     match fault {
         ReadFault::TooLong => -1,
         ReadFault::BadByte => -2,
@@ -46,7 +52,10 @@ pub(crate) fn file_fault(fault: ReadFault) -> i32 {
     }
 }
 
-pub(crate) fn schedule_fault(fault: ReadFault) -> i32 {
+/// Why a schedule is refused. Never 0.
+pub(crate) fn schedule_fault(fault: ReadFault) -> i32
+    ensures { result ≢ pos 0 }
+{
     match fault {
         ReadFault::TooLong => -21,
         ReadFault::BadByte => -22,
@@ -55,6 +64,20 @@ pub(crate) fn schedule_fault(fault: ReadFault) -> i32 {
         ReadFault::Limit => -25,
         ReadFault::Memory => MEMORY,
         ReadFault::Broken => -27,
+    }
+}
+
+/// The part of a report that does not hold. Never 0.
+pub(crate) fn bad_part(part: Part) -> i32
+    ensures { result ≢ pos 0 }
+{
+    match part {
+        Part::Text => 1,
+        Part::Base => 2,
+        Part::Entries => 3,
+        Part::Present => 4,
+        Part::Tasks => 5,
+        Part::Parked => 6,
     }
 }
 

@@ -1,12 +1,13 @@
 //! All tasks of a file, one after another on the calling thread, and the report.
 
-ghost use Rattle.std.specs.Prelude.{◌≡◌, IfOk, IfErr, ◌⊎◌, Some, string_bytes};
+ghost use Rattle.std.specs.Prelude.{◌≡◌, pos, IfOk, IfErr, ◌⊎◌, Some, string_bytes};
 ghost use Rattle.programs.specs.Told.{told};
 ghost use Rattle.programs.specs.LawfulReport.{LawfulReport, BaseReached};
 ghost use Rattle.file_grammar.specs.Spelling.{first_fault};
 ghost use Rattle.text_words.specs.declared.fault.ReadFault.TheVariants as ReadFault;
 ghost use Rattle.book.specs.Turns.{IsIdle};
 ghost use Rattle.runner.specs.Running.{IsReportOf};
+ghost use Rattle.stm_c.specs.Rooms.{Holds};
 
 use crate::codes::file_fault;
 use crate::writing::copy;
@@ -26,7 +27,9 @@ pub extern "C" fn stm_run_one(
     checkpoint: u32,
     room: &mut [u8],
     wanted: &mut usize,
-) -> i32 {
+) -> i32
+    ensures done { result ≡ pos 0 → Holds (IsReportOf file.now) room.old room.new wanted.new }
+{
     *wanted = 0;
     match report_of(alloc, file, checkpoint) {
         Ok(text) => copy(text.as_bytes(), room, wanted),

@@ -8,7 +8,8 @@ use crate::codes::SHORT;
 /// text is goes to `wanted` in any case.
 pub(crate) fn copy(text: &[u8], room: &mut [u8], wanted: &mut usize) -> i32
     ensures wanted { wanted.new ≡ length text.now }
-    ensures fits { length text.now ≤ length room.old → (result ≡ pos 0) × (room.new ≡ text.now ++ drop (length text.now) room.old) }
+    ensures fits { length text.now ≤ length room.old → result ≡ pos 0 }
+    ensures done { result ≡ pos 0 → room.new ≡ text.now ++ drop (length text.now) room.old }
     ensures short { length room.old < length text.now → (result ≡ SHORT) × (room.new ≡ room.old) }
 {
     *wanted = text.len();
