@@ -11,9 +11,9 @@ pub record PassRecord : Type 0 where
   -- how often it loaded the clock, and how often another word
   pub clock_loads : ℕ
   pub word_loads : ℕ
-  -- what the clock load of the last begin gave
+  -- what the clock load of the last begin or extend gave
   pub rv : ℕ
-  -- the variable and the loads of the last read since that begin
+  -- the variable and the loads of the last read since that begin or extend
   pub variable : ℕ
   pub loads : List ℕ
 
@@ -37,7 +37,7 @@ loaded n r = record r { word_loads = r.word_loads + 1; loads = r.loads ++ n ∷ 
 abbrev pub met : List (List ℤ) → PassRecord → PassRecord
 met h r = record r { seen = h; clock_loads = r.clock_loads + 1 }
 
--- the value of x in the state of the last begin
+-- the value of x in the state of the last begin or extend
 abbrev pub value_at : PassRecord → ℕ → ℤ
 value_at r x = value_of (state_of r.seen r.rv) x
 

@@ -120,21 +120,21 @@ module _ (c : Scene) (a : TaskId) (x : VarId) (i : ℕ) (t t' : Trial) (s : Seen
       let m = runs_on (listing c) t g r.2 in
       let equal = turn d true is ((Decides-int_eq (cast_signed w64 bits) (new_of t.attempt.log d.checked)).1 h.0) in
       put_leads c i t t' (Second a) s k
-          (record {
+      (record {
         was = r.0;
         task = on_task t d.candidate (d.checked + 1) o s t' h.1;
         live = λ e. k.live i t r.0 (ap is_live r.2);
         kept = on_kept c t d.candidate (d.checked + 1) o s t' g m h.1;
         own = λ p is place. mine (owner_of c.committer p i is place);
       })
-          (by_check s refl (inr (told_on t needs.0 d.candidate (d.checked + 1) o s t' needs.1 h.1))
-          (seen_on c t needs.0 d.candidate (d.checked + 1) o s t' g needs.1 h.1 ∙ ap (λ (q : Seen × Started). q.0) equal)
-          (then_on c t d.candidate (d.checked + 1) o s t' h.1 ∙ ap (λ (q : Seen × Started). q.1) equal))
+      (by_check s refl (inr (told_on t needs.0 d.candidate (d.checked + 1) o s t' needs.1 h.1))
+      (seen_on c t needs.0 d.candidate (d.checked + 1) o s t' g needs.1 h.1 ∙ ap (λ (q : Seen × Started). q.0) equal)
+      (then_on c t d.candidate (d.checked + 1) o s t' h.1 ∙ ap (λ (q : Seen × Started). q.1) equal))
   compared d is (inr h) =
       let differ = turn d false is (unequal (cast_signed w64 bits) (new_of t.attempt.log d.checked) h.0) in
       put_leads c i t t' (Second a) s k
-          (replaces c a i t t' k r mine (record t { fate = fate.Stale }) h.2 refl (good c a i t t' k r mine t.rv t.loads fate.Stale t.movable t.check))
-          (by_check s refl (inl h.1) (h.1 ∙ ap (λ (q : Seen × Started). q.0) differ) (ap started_of h.2 ∙ ap (λ (q : Seen × Started). q.1) differ))
+      (replaces c a i t t' k r mine (record t { fate = fate.Stale }) h.2 refl (good c a i t t' k r mine t.rv t.loads fate.Stale t.movable t.check))
+      (by_check s refl (inl h.1) (h.1 ∙ ap (λ (q : Seen × Started). q.0) differ) (ap started_of h.2 ∙ ap (λ (q : Seen × Started). q.1) differ))
     where
       unequal : (p q : ℤ) → p ≢ q → int_eq p q ≡ false
       unequal p q n = by (int_eq p q) refl
@@ -210,15 +210,15 @@ module _ (c : Scene) (a : TaskId) (k : Kept c) where
       let can : CanGoAgain (listing c) (world_of c) a i (started_of t) x.0 =
       (can_some c k a i t is.1 is.0 dead, latest_to c a i t k is task, may.0, may.1, stands_at (listing c) t x.0 g x.1) in
       put_leads c i t t' (Again a) s k
-          (record {
+      (record {
         was = is.0;
         task = on_task z clock 0 o s t' h;
         live = λ e. ap (λ (b : TaskId). slice_get c.latest.items b.0) task ∙ is.1;
         kept = on_kept c z clock 0 o s t' kept m h;
         own = λ p e place. stale_apart c i t k is.0 may.0 (owner_of c.committer p i e place);
       })
-          (by_again i t t' s (told_on z x.0 clock 0 o s t' x.1 h) x.0 can (seen_on c z x.0 clock 0 o s t' kept x.1 h)
-          (world_put c i t' ∙ ap (changed (world_of c) i) (then_on c z clock 0 o s t' h)))
+      (by_again i t t' s (told_on z x.0 clock 0 o s t' x.1 h) x.0 can (seen_on c z x.0 clock 0 o s t' kept x.1 h)
+      (world_put c i t' ∙ ap (changed (world_of c) i) (then_on c z clock 0 o s t' h)))
     where
       by_again : (i : ℕ) (t t' : Trial) (s : Seen) {z : VarId} → ((x : VarId) × (s ≡ seen.Checks x)) ⊎ (s ≡ seen.Needs z) → (x : VarId) → CanGoAgain (listing c) (world_of c) a i (started_of t) x → s ≡ (goes_again (listing c) (world_of c) (started_of t)).0
           → world_of (with_trial c i t') ≡ changed (world_of c) i (goes_again (listing c) (world_of c) (started_of t)).1 → Steps (listing c) (world_of c) (Again a) s (world_of (with_trial c i t'))
