@@ -80,6 +80,8 @@ COMMAND_LINES = [
     ["run", "--help"],
     ["check", "--help"],
     ["world", "--help"],
+    ["print", "--help"],
+    ["print", "two-increments", "--from", "no-such-file"],
     ["--version"],
     [],
     ["bogus"],
@@ -195,6 +197,10 @@ def try_refusals(trials, program):
     for name, (file, schedule) in SCHEDULES.items():
         words = [program, "world", trials.write("world", file), trials.write("schedule", schedule)]
         refusals.try_all(f"{by} world, {name}", words, is_beginning)
+    file, wrong = trials.write("two-increments", INCREMENTS), trials.write("wrong", "(var x 5)(var y 1)(tx t (set z 1) x)")
+    texts = [["print", file], ["print", "conditions-that-are-broken"], ["print", wrong], ["print", file, "--from", "report-0"], ["print", file, "--from", "report-1"]]
+    for words in texts:
+        refusals.try_all(" ".join([by, *words]), [program, *words], same)
     for words in COMMAND_LINES:
         refusals.try_all(" ".join([by, *words]), [program, *words], same)
 

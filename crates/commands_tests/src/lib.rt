@@ -11,4 +11,6 @@ mod host;
 #[cfg(test)]
 mod playing;
 #[cfg(test)]
+mod printing;
+#[cfg(test)]
 mod program;
