@@ -80,6 +80,7 @@ COMMAND_LINES = [
     ["run", "--help"],
     ["check", "--help"],
     ["world", "--help"],
+    ["explore", "--help"],
     ["--version"],
     [],
     ["bogus"],
@@ -93,6 +94,8 @@ COMMAND_LINES = [
     ["run", "two-increments", "another"],
     ["check", "two-increments"],
     ["world", "two-increments"],
+    ["explore", "two-increments", "--states", "0"],
+    ["explore", "no-such-file"],
     ["run", "no-such-file"],
     ["check", "two-increments", "no-such-file"],
 ]
@@ -195,6 +198,11 @@ def try_refusals(trials, program):
     for name, (file, schedule) in SCHEDULES.items():
         words = [program, "world", trials.write("world", file), trials.write("schedule", schedule)]
         refusals.try_all(f"{by} world, {name}", words, is_beginning)
+    for name in FILES:
+        file = name.replace(" ", "-")
+        refusals.try_all(f"{by} explore, {name}", [program, "explore", file, "--states", "2000"], same)
+        refusals.try_all(f"{by} explore, {name}, to an end", [program, "explore", file, "--states", "2000", "--to", "1"], same)
+        refusals.try_all(f"{by} explore, {name}, of one state", [program, "explore", file, "--states", "1"], same)
     for words in COMMAND_LINES:
         refusals.try_all(" ".join([by, *words]), [program, *words], same)
 
