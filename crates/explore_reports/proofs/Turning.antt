@@ -68,7 +68,7 @@ get_replicate zero k x low = absurd (omega (arith, low))
 get_replicate (suc n) zero x low = refl
 get_replicate (suc n) (suc k) x low = get_replicate n k x (omega (arith, low))
 
-pub taken_none : (b : BookView) → b ≡ opened b.catalogue b.cells → IsTaken b.catalogue 0 b
+pub taken_none : (b : BookView) → b ≡ opened b.catalogue b.cells 0 → IsTaken b.catalogue 0 b
 taken_none b e =
     record {
       catalogue = refl;

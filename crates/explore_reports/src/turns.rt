@@ -40,7 +40,7 @@ pub fn witness(alloc: Global, catalogue: &Catalogue, turns: &[TxId]) -> Result<R
 
 /// Takes all tasks of a book in which none was taken.
 fn take_all(book: &mut Book<'_>, count: usize)
-    requires opened { book.old ≡ opened book.old.catalogue book.old.cells }
+    requires opened { book.old ≡ opened book.old.catalogue book.old.cells 0 }
     requires count { count ≡ length (tasks book.old.catalogue) }
     ensures { IsTaken book.old.catalogue count book.new }
 {

@@ -9,6 +9,8 @@ mod counter;
 #[cfg(test)]
 mod gates;
 #[cfg(test)]
+mod hosting;
+#[cfg(test)]
 mod turns;
 #[cfg(test)]
 mod writers;

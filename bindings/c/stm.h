@@ -1,0 +1,242 @@
+/* stm: transactions over named variables, for hosts in C and C++.
+ *
+ * Link with libstm_c.a (`rt lib` in crates/stm_c) and heap.c, which stands beside this file.
+ *
+ * What the host owes, and no call can test:
+ *   1. A store's handle is given to one call at a time: its calls stand under a lock of the host's.
+ *   2. A worker's handle is given to one call at a time. Its calls need no lock, while other threads
+ *      use the store and other workers.
+ *   3. A worker is brought to its own store, or to another store of a program that says the same.
+ *   4. A handle is copied only to move it: only one copy is used on. What it holds is never written.
+ *   5. A pointer that goes with a length is to that many bytes, and is not null even where that is 0.
+ *   6. No call is made from a signal handler, nor from the forked child of a process with threads.
+ *
+ * What stays in memory until the process ends: what a program says, once for each `stm_program_read`,
+ * and the cells of each store (two words a variable). All else goes with its handle.
+ */
+#ifndef STM_H
+#define STM_H
+
+#include <stddef.h>
+#include <stdint.h>
+
+#ifdef __cplusplus
+extern "C" {
+#endif
+
+/* What the calls answer: 0 or more where they did what they are for, else why not. */
+enum stm_code {
+    /* Done: the attempt ended, the task committed, the transaction returned, the report is good. */
+    STM_DONE = 0,
+    /* `finish`, `serial`: the program retries, and the task is parked. `observe`: it retries. */
+    STM_RETRIES = 1,
+    /* What was read is no longer so: try again. */
+    STM_STALE = 2,
+    /* The task was not running, and nothing changed. */
+    STM_NOT_RUNNING = 3,
+    /* Want of memory: the task was given up. */
+    STM_GIVEN_UP = 4,
+    /* `observe`: thrown by the program, with the value; a result outside 64 bits; a division by 0; a
+       standing condition that would not be true, with its number. */
+    STM_THROWN = 5,
+    STM_OVERFLOW = 6,
+    STM_DIVIDE_BY_ZERO = 7,
+    STM_BROKEN = 8,
+    /* The file is refused: too long; a byte that is not allowed; not of the grammar; a name; a limit. */
+    STM_FILE_TOO_LONG = -1,
+    STM_FILE_BAD_BYTE = -2,
+    STM_FILE_SHAPE = -3,
+    STM_FILE_NAME = -4,
+    STM_FILE_LIMIT = -5,
+    /* A growth was refused. */
+    STM_MEMORY = -6,
+    /* The file is refused: a standing condition is not true of the initial values. */
+    STM_FILE_BROKEN = -7,
+    /* The room is too short; how long it has to be was written. */
+    STM_SHORT = -8,
+    /* There is no such task, transaction or variable. */
+    STM_UNKNOWN = -9,
+    /* More than 32 workers, or no worker left; or the program has no transaction. */
+    STM_NO_WORKER = -10,
+    /* The worker has no ended attempt to bring. */
+    STM_NOT_ENDED = -11,
+    /* The handle is empty; or `out` is not. */
+    STM_EMPTY = -12,
+    STM_FULL = -13,
+    /* The schedule is refused, for the reasons of a file. */
+    STM_SCHEDULE_TOO_LONG = -21,
+    STM_SCHEDULE_BAD_BYTE = -22,
+    STM_SCHEDULE_SHAPE = -23,
+    STM_SCHEDULE_NAME = -24,
+    STM_SCHEDULE_LIMIT = -25
+};
+
+/* A code, and a number that goes with it: of the entry, or what was returned or thrown. */
+typedef struct stm_told {
+    int32_t code;
+    int64_t value;
+} stm_told;
+
+/* Whole files. `wanted` is how long the text is; with STM_SHORT, how long the room has to be. No
+ * report is longer than 8388608 bytes. */
+
+/* Runs all tasks of the file on the calling thread, and copies the report into the room. A journal of
+ * `checkpoint` entries is followed by a checkpoint; 0: never. */
+int32_t stm_run_one(const uint8_t *file, size_t file_length, uint32_t checkpoint, uint8_t *room,
+                    size_t room_length, size_t *wanted);
+
+/* Whether the report is lawful for the file: STM_DONE, or 1 to 6 for the first part that does not hold
+ * (text, base, entries, present, tasks, parked). */
+int32_t stm_check(const uint8_t *file, size_t file_length, const uint8_t *report, size_t report_length);
+
+/* Plays the schedule on the stepped world of the file, and copies what is seen into the room. */
+int32_t stm_world(const uint8_t *file, size_t file_length, const uint8_t *schedule, size_t schedule_length,
+                  uint8_t *room, size_t room_length, size_t *wanted);
+
+/* Handles. Each is one pointer that only the library reads; `{0}` is an empty one. */
+typedef struct stm_program { void *at; } stm_program;
+typedef struct stm_store { void *at; } stm_store;
+typedef struct stm_worker { void *at; } stm_worker;
+
+/* The exports. Each takes handles that are not empty; the calls that follow test it first. */
+int32_t stm_program_read(const uint8_t *file, size_t file_length, stm_program *out);
+void stm_program_drop(stm_program program);
+size_t stm_program_tasks(stm_program *program);
+size_t stm_program_variables(stm_program *program);
+size_t stm_program_transactions(stm_program *program);
+int64_t stm_program_variable(stm_program *program, const uint8_t *name, size_t name_length);
+int64_t stm_program_transaction(stm_program *program, const uint8_t *name, size_t name_length);
+int32_t stm_store_open(stm_program *program, size_t workers, uint32_t checkpoint, stm_store *out);
+void stm_store_drop(stm_store store);
+int32_t stm_store_worker(stm_store *store, stm_worker *out);
+int64_t stm_store_take(stm_store *store);
+stm_told stm_store_finish(stm_store *store, stm_worker *worker);
+stm_told stm_store_serial(stm_store *store, uint32_t task);
+int32_t stm_store_give_up(stm_store *store, uint32_t task);
+void stm_store_checkpoint(stm_store *store);
+int32_t stm_store_report(stm_store *store, uint8_t *room, size_t room_length, size_t *wanted);
+int32_t stm_worker_try(stm_worker *worker, uint32_t task);
+stm_told stm_worker_observe(stm_worker *worker, uint32_t transaction);
+void stm_worker_drop(stm_worker worker);
+
+#ifdef __cplusplus
+}
+#endif
+
+/* What a host calls: the exports, behind a test for empty handles. */
+
+static inline stm_told stm_told_of(int32_t code) {
+    stm_told told = {code, 0};
+    return told;
+}
+
+/* Reads a program. STM_FULL where `out` is not empty. */
+static inline int32_t stm_read(const uint8_t *file, size_t file_length, stm_program *out) {
+    return out->at ? (int32_t)STM_FULL : stm_program_read(file, file_length, out);
+}
+
+/* Opens a store of the program for at most 32 workers. `checkpoint` is as for `stm_run_one`. */
+static inline int32_t stm_open(stm_program *program, size_t workers, uint32_t checkpoint, stm_store *out) {
+    if (!program->at) return STM_EMPTY;
+    return out->at ? (int32_t)STM_FULL : stm_store_open(program, workers, checkpoint, out);
+}
+
+/* A worker of the store, for one thread. Under the lock. */
+static inline int32_t stm_hire(stm_store *store, stm_worker *out) {
+    if (!store->at) return STM_EMPTY;
+    return out->at ? (int32_t)STM_FULL : stm_store_worker(store, out);
+}
+
+/* The lowest ready task, which is then running; -1 where none is ready. Under the lock. */
+static inline int64_t stm_take(stm_store *store) { return store->at ? stm_store_take(store) : (int64_t)STM_EMPTY; }
+
+/* Evaluates the task on one state, with no lock: STM_DONE, STM_STALE, STM_MEMORY, STM_UNKNOWN. */
+static inline int32_t stm_try(stm_worker *worker, uint32_t task) {
+    return worker->at ? stm_worker_try(worker, task) : (int32_t)STM_EMPTY;
+}
+
+/* Brings the worker's ended attempt to the store, under the lock: STM_DONE with the number of the
+ * entry, STM_RETRIES (the task is parked), STM_STALE, STM_NOT_RUNNING, STM_NOT_ENDED. */
+static inline stm_told stm_finish(stm_store *store, stm_worker *worker) {
+    return store->at && worker->at ? stm_store_finish(store, worker) : stm_told_of(STM_EMPTY);
+}
+
+/* A turn of a running task on the present values, under the lock: as `stm_finish`, never stale;
+ * STM_GIVEN_UP; STM_UNKNOWN. */
+static inline stm_told stm_serial(stm_store *store, uint32_t task) {
+    return store->at ? stm_store_serial(store, task) : stm_told_of(STM_EMPTY);
+}
+
+/* A running task is given up, under the lock: STM_DONE, STM_NOT_RUNNING, STM_UNKNOWN. */
+static inline int32_t stm_give_up(stm_store *store, uint32_t task) {
+    return store->at ? stm_store_give_up(store, task) : (int32_t)STM_EMPTY;
+}
+
+/* The base becomes the present, and the journal is empty. Under the lock. */
+static inline int32_t stm_checkpoint(stm_store *store) {
+    if (!store->at) return STM_EMPTY;
+    stm_store_checkpoint(store);
+    return STM_DONE;
+}
+
+/* Gives each task that is ready or running a turn, and copies the report into the room. Under the
+ * lock. Where the answer is STM_SHORT, call again with room for `wanted` bytes. */
+static inline int32_t stm_report(stm_store *store, uint8_t *room, size_t room_length, size_t *wanted) {
+    return store->at ? stm_store_report(store, room, room_length, wanted) : (int32_t)STM_EMPTY;
+}
+
+/* How the transaction would end on one state, with no lock: STM_DONE with the value that it returns,
+ * STM_RETRIES, STM_STALE, STM_THROWN .. STM_BROKEN, STM_MEMORY, STM_UNKNOWN. */
+static inline stm_told stm_observe(stm_worker *worker, uint32_t transaction) {
+    return worker->at ? stm_worker_observe(worker, transaction) : stm_told_of(STM_EMPTY);
+}
+
+/* Let go, and leave the handle empty. An empty one stays so. */
+static inline void stm_program_free(stm_program *program) {
+    if (program->at) stm_program_drop(*program);
+    program->at = NULL;
+}
+static inline void stm_store_free(stm_store *store) {
+    if (store->at) stm_store_drop(*store);
+    store->at = NULL;
+}
+static inline void stm_worker_free(stm_worker *worker) {
+    if (worker->at) stm_worker_drop(*worker);
+    worker->at = NULL;
+}
+
+/* A code's word. */
+static inline const char *stm_word(int32_t code) {
+    switch (code) {
+    case STM_DONE: return "done";
+    case STM_RETRIES: return "retries";
+    case STM_STALE: return "stale";
+    case STM_NOT_RUNNING: return "not running";
+    case STM_GIVEN_UP: return "given up";
+    case STM_THROWN: return "thrown";
+    case STM_OVERFLOW: return "overflow";
+    case STM_DIVIDE_BY_ZERO: return "divide by zero";
+    case STM_BROKEN: return "broken condition";
+    case STM_FILE_TOO_LONG: return "file: too long";
+    case STM_FILE_BAD_BYTE: return "file: bad byte";
+    case STM_FILE_SHAPE: return "file: shape";
+    case STM_FILE_NAME: return "file: name";
+    case STM_FILE_LIMIT: return "file: limit";
+    case STM_MEMORY: return "out of memory";
+    case STM_FILE_BROKEN: return "file: broken condition";
+    case STM_SHORT: return "room too short";
+    case STM_UNKNOWN: return "unknown task, transaction or variable";
+    case STM_NO_WORKER: return "no worker";
+    case STM_NOT_ENDED: return "no ended attempt";
+    case STM_EMPTY: return "empty handle";
+    case STM_FULL: return "full handle";
+    case STM_SCHEDULE_TOO_LONG: return "schedule: too long";
+    case STM_SCHEDULE_BAD_BYTE: return "schedule: bad byte";
+    case STM_SCHEDULE_SHAPE: return "schedule: shape";
+    case STM_SCHEDULE_NAME: return "schedule: name";
+    case STM_SCHEDULE_LIMIT: return "schedule: limit";
+    default: return "unknown code";
+    }
+}
+
+#endif

@@ -1,0 +1,226 @@
+//! A program declared in Rust: its parts make the text of a file, which the library reads.
+
+use crate::error::Error;
+use crate::store::Program;
+use std::fmt::Write;
+use std::ops::{Add, Div, Mul, Rem, Sub};
+
+/// A declared variable.
+#[derive(Clone, Debug)]
+pub struct Var(String);
+
+/// A declared transaction.
+#[derive(Clone, Debug)]
+pub struct Tx(String);
+
+/// An expression: a number of 64 signed bits, or a fault.
+#[derive(Clone, Debug)]
+pub struct Expr(String);
+
+/// A condition.
+#[derive(Clone, Debug)]
+pub struct Cond(String);
+
+/// A statement.
+#[derive(Clone, Debug)]
+pub struct Stmt(String);
+
+/// The value of a variable.
+pub fn var(var: &Var) -> Expr {
+    Expr(var.0.clone())
+}
+
+/// A number.
+pub fn int(value: i64) -> Expr {
+    Expr(value.to_string())
+}
+
+impl From<i64> for Expr {
+    fn from(value: i64) -> Expr {
+        int(value)
+    }
+}
+
+impl From<&Var> for Expr {
+    fn from(name: &Var) -> Expr {
+        var(name)
+    }
+}
+
+fn two(word: &str, left: Expr, right: Expr) -> String {
+    format!("({word} {} {})", left.0, right.0)
+}
+
+macro_rules! operator {
+    ($trait:ident, $method:ident, $word:literal) => {
+        impl<R: Into<Expr>> $trait<R> for Expr {
+            type Output = Expr;
+            fn $method(self, right: R) -> Expr {
+                Expr(two($word, self, right.into()))
+            }
+        }
+    };
+}
+
+operator!(Add, add, "add");
+operator!(Sub, sub, "sub");
+operator!(Mul, mul, "mul");
+operator!(Div, div, "div");
+operator!(Rem, rem, "rem");
+
+/// The quotient, cut towards zero.
+pub fn div(left: impl Into<Expr>, right: impl Into<Expr>) -> Expr {
+    left.into() / right.into()
+}
+
+/// The remainder, with the sign of the left one.
+pub fn rem(left: impl Into<Expr>, right: impl Into<Expr>) -> Expr {
+    left.into() % right.into()
+}
+
+/// Whether they are equal.
+pub fn eq(left: impl Into<Expr>, right: impl Into<Expr>) -> Cond {
+    Cond(two("eq", left.into(), right.into()))
+}
+
+/// Whether the left one is less.
+pub fn lt(left: impl Into<Expr>, right: impl Into<Expr>) -> Cond {
+    Cond(two("lt", left.into(), right.into()))
+}
+
+/// Whether the left one is at most the right one.
+pub fn le(left: impl Into<Expr>, right: impl Into<Expr>) -> Cond {
+    Cond(two("le", left.into(), right.into()))
+}
+
+/// Whether it is not so.
+pub fn not(cond: Cond) -> Cond {
+    Cond(format!("(not {})", cond.0))
+}
+
+/// Whether both are so.
+pub fn and(left: Cond, right: Cond) -> Cond {
+    Cond(format!("(and {} {})", left.0, right.0))
+}
+
+/// Whether one of them is so.
+pub fn or(left: Cond, right: Cond) -> Cond {
+    Cond(format!("(or {} {})", left.0, right.0))
+}
+
+/// Does nothing.
+pub fn skip() -> Stmt {
+    Stmt("(skip)".to_string())
+}
+
+/// Gives the variable the value.
+pub fn set(var: &Var, value: impl Into<Expr>) -> Stmt {
+    Stmt(format!("(set {} {})", var.0, value.into().0))
+}
+
+/// Its parts in turn.
+pub fn seq(parts: impl IntoIterator<Item = Stmt>) -> Stmt {
+    let mut text = "(seq".to_string();
+    for part in parts {
+        text.push(' ');
+        text.push_str(&part.0);
+    }
+    text.push(')');
+    Stmt(text)
+}
+
+/// The first where the condition is so, else the second.
+pub fn when(cond: Cond, yes: Stmt, no: Stmt) -> Stmt {
+    Stmt(format!("(if {} {} {})", cond.0, yes.0, no.0))
+}
+
+/// So many times, at most 1000.
+pub fn repeat(times: u32, body: Stmt) -> Stmt {
+    Stmt(format!("(repeat {times} {})", body.0))
+}
+
+/// Gives this state up: the task waits for a change of what it read.
+pub fn retry() -> Stmt {
+    Stmt("(retry)".to_string())
+}
+
+/// The first, unless that retries; then the second.
+pub fn or_else(first: Stmt, second: Stmt) -> Stmt {
+    Stmt(format!("(orelse {} {})", first.0, second.0))
+}
+
+/// Throws the value.
+pub fn throw(value: impl Into<Expr>) -> Stmt {
+    Stmt(format!("(throw {})", value.into().0))
+}
+
+/// The declarations of a program.
+///
+/// ```
+/// use stm::{le, lt, seq, set, var, when, retry, skip, Declare};
+///
+/// let mut bank = Declare::new();
+/// let alice = bank.var("alice", 100);
+/// let bob = bank.var("bob", 20);
+/// bank.always("solvent", le(0, var(&alice)));
+/// let pay = bank.tx(
+///     "pay",
+///     seq([
+///         when(lt(var(&alice), 60), retry(), skip()),
+///         set(&alice, var(&alice) - 60),
+///         set(&bob, var(&bob) + 60),
+///     ]),
+///     var(&bob),
+/// );
+/// bank.run(&pay, 2);
+/// let report = stm::run(&bank.program()?, 1)?;
+/// assert_eq!(stm::present(&report, "bob"), Some(80));
+/// assert!(report.contains("parked 1 pay\n"));
+/// # Ok::<(), stm::Error>(())
+/// ```
+#[derive(Clone, Debug, Default)]
+pub struct Declare {
+    vars: String,
+    always: String,
+    txs: String,
+    runs: String,
+}
+
+impl Declare {
+    /// Nothing declared yet.
+    pub fn new() -> Declare {
+        Declare::default()
+    }
+
+    /// A variable with its initial value.
+    pub fn var(&mut self, name: &str, value: i64) -> Var {
+        let _ = writeln!(self.vars, "(var {name} {value})");
+        Var(name.to_string())
+    }
+
+    /// A standing condition, which each state keeps.
+    pub fn always(&mut self, name: &str, cond: Cond) {
+        let _ = writeln!(self.always, "(always {name} {})", cond.0);
+    }
+
+    /// A transaction: a body, and a result that sees what the body wrote.
+    pub fn tx(&mut self, name: &str, body: Stmt, result: impl Into<Expr>) -> Tx {
+        let _ = writeln!(self.txs, "(tx {name} {} {})", body.0, result.into().0);
+        Tx(name.to_string())
+    }
+
+    /// So many tasks that run the transaction.
+    pub fn run(&mut self, tx: &Tx, times: u32) {
+        let _ = writeln!(self.runs, "(run {} {times})", tx.0);
+    }
+
+    /// The text of a file of form 2.
+    pub fn text(&self) -> String {
+        format!("(stm 2)\n{}{}{}{}", self.vars, self.always, self.txs, self.runs)
+    }
+
+    /// The program, or why the file is refused.
+    pub fn program(&self) -> Result<Program, Error> {
+        Program::read(&self.text())
+    }
+}

@@ -1,0 +1,66 @@
+//! Transactions over named variables: what the library proved in Rattle does, for Rust.
+//!
+//! A [`Program`] declares variables, standing conditions, transactions and tasks. A [`Store`] has
+//! its tasks, its journal and its present values; threads share it by a reference. A [`Worker`] is
+//! what one thread has: it evaluates a task without a lock, and brings the end to the store.
+//!
+//! ```
+//! use stm::{set, var, Declare};
+//!
+//! let mut declare = Declare::new();
+//! let x = declare.var("x", 5);
+//! let inc = declare.tx("inc", set(&x, var(&x) + 1), var(&x));
+//! declare.run(&inc, 1000);
+//! let program = declare.program()?;
+//!
+//! let report = stm::run(&program, 2)?;
+//! assert_eq!(stm::present(&report, "x"), Some(1005));
+//! assert_eq!(stm::check(program.text(), &report)?, stm::Verdict::Good);
+//! # Ok::<(), stm::Error>(())
+//! ```
+
+mod declare;
+mod error;
+mod raw;
+mod store;
+
+pub use declare::{
+    and, div, eq, int, le, lt, not, or, or_else, rem, repeat, retry, seq, set, skip, throw, var, when, Cond,
+    Declare, Expr, Stmt, Tx, Var,
+};
+pub use error::{Error, ScheduleFault};
+pub use raw::{Brought, Observed, Tried, Verdict};
+pub use store::{run, run_with, Program, Retry, Store, Worker};
+
+/// All tasks of a file, one after another on this thread: its report. A journal of `checkpoint`
+/// entries is followed by a checkpoint; 0: never.
+///
+/// ```
+/// let report = stm::run_one("(var x 1) (tx two (set x (add x x)) x) (run two 3)", 0)?;
+/// assert!(report.ends_with("now 3\nx 8 3\nend\n"));
+/// # Ok::<(), stm::Error>(())
+/// ```
+pub fn run_one(file: &str, checkpoint: u32) -> Result<String, Error> {
+    raw::run_one(file.as_bytes(), checkpoint)
+}
+
+/// Whether a report is lawful for a file.
+pub fn check(file: &str, report: &str) -> Result<Verdict, Error> {
+    raw::check(file.as_bytes(), report.as_bytes())
+}
+
+/// What is seen of a schedule of single loads and stores, on the stepped world of a file.
+pub fn world(file: &str, schedule: &str) -> Result<String, Error> {
+    raw::world(file.as_bytes(), schedule.as_bytes())
+}
+
+/// The value of a variable in the last lines of a report, which are the present ones.
+pub fn present(report: &str, name: &str) -> Option<i64> {
+    report.lines().rev().find_map(|line| {
+        let mut words = line.split(' ');
+        let named = words.next() == Some(name);
+        let value = words.next()?.parse().ok()?;
+        let version: Option<u64> = words.next()?.parse().ok();
+        (named && version.is_some() && words.next().is_none()).then_some(value)
+    })
+}

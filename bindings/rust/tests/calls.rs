@@ -1,0 +1,141 @@
+//! Each call once where it does what it is for, and at its limits.
+
+use stm::{Brought, Declare, Error, Observed, Program, Retry, Store, Tried, Verdict};
+
+const FILE: &str = "(var x 5)\n(tx inc (set x (add x 1)) x)\n(tx wait (if (lt x 100) (retry) (skip)) x)\n(run inc 2)\n(run wait 1)\n";
+
+#[test]
+fn whole_files() {
+    let report = stm::run_one(FILE, 0).unwrap();
+    assert_eq!(report, "base 0\nx 5 0\nentry 1 0 inc returned 6\nentry 2 1 inc returned 7\nnow 2\nx 7 2\nparked 2 wait\nend\n");
+    assert_eq!(stm::check(FILE, &report), Ok(Verdict::Good));
+    assert_eq!(stm::check(FILE, &report.replace("x 7 2", "x 8 2")), Ok(Verdict::Bad(4)));
+    assert_eq!(stm::check("(", &report), Err(Error::Shape));
+    assert_eq!(stm::run_one("(var x 1)(var x 2)", 0), Err(Error::Name));
+    assert_eq!(stm::run_one("(stm 2)(var x 1)(always low (lt x 1))", 0), Err(Error::Broken));
+    assert!(stm::world(FILE, "begin 0\n").is_ok());
+    assert!(matches!(stm::world(FILE, "nothing\n"), Err(Error::Schedule(_))));
+}
+
+#[test]
+fn a_store_turn_by_turn() {
+    let program = Program::read(FILE).unwrap();
+    assert_eq!((program.tasks(), program.variable("x"), program.variable("y")), (3, Some(0), None));
+    let (inc, wait) = (program.transaction("inc").unwrap(), program.transaction("wait").unwrap());
+    let store = Store::open(&program, 2, 0).unwrap();
+    let mut worker = store.worker().unwrap();
+    let mut other = store.worker().unwrap();
+    assert!(matches!(store.worker(), Err(Error::NoWorker)));
+    assert_eq!(store.finish(&mut worker), Ok(Brought::NotEnded));
+    assert_eq!(worker.try_task(3), Err(Error::Unknown));
+    assert_eq!(store.serial(3), Err(Error::Unknown));
+    assert_eq!(worker.observe(2), Err(Error::Unknown));
+
+    assert_eq!((store.take(), store.take()), (Some(0), Some(1)));
+    assert_eq!(worker.try_task(0), Ok(Tried::Ended));
+    assert_eq!(other.try_task(1), Ok(Tried::Ended));
+    assert_eq!(store.finish(&mut worker), Ok(Brought::Committed(1)));
+    assert_eq!(store.finish(&mut other), Ok(Brought::Stale));
+    assert_eq!(store.serial(1), Ok(Brought::Committed(2)));
+    assert_eq!(store.serial(1), Ok(Brought::NotRunning));
+    assert_eq!(other.observe(inc), Ok(Observed::Returned(8)));
+    assert_eq!(other.observe(wait), Ok(Observed::Retries));
+
+    assert_eq!(store.take(), Some(2));
+    assert_eq!(worker.try_task(2), Ok(Tried::Ended));
+    assert_eq!(store.finish(&mut worker), Ok(Brought::Parked));
+    assert_eq!(store.take(), None);
+    assert_eq!(store.give_up(2), Ok(false));
+    assert_eq!(store.give_up(3), Err(Error::Unknown));
+    store.checkpoint();
+    let report = store.report().unwrap();
+    assert_eq!(report, "base 2\nx 7 2\nnow 2\nx 7 2\nparked 2 wait\nend\n");
+    assert_eq!(stm::check(FILE, &report), Ok(Verdict::Good));
+    drop(store);
+    assert_eq!(other.observe(inc), Ok(Observed::Returned(8)));
+}
+
+#[test]
+fn what_is_given_up_is_reported() {
+    let program = Program::read(FILE).unwrap();
+    let store = Store::open(&program, 0, 0).unwrap();
+    assert_eq!(store.take(), Some(0));
+    assert_eq!(store.give_up(0), Ok(true));
+    let report = store.report().unwrap();
+    assert!(report.ends_with("memory 0 inc\nend\n"));
+    assert_eq!(stm::check(FILE, &report), Ok(Verdict::Good));
+    assert!(matches!(Store::open(&program, 33, 0), Err(Error::NoWorker)));
+}
+
+#[test]
+fn what_an_observer_sees_of_faults() {
+    let file = "(stm 2)(var x 1)(always one (eq x 1))(tx user (throw 7) x)(tx high (skip) (add 9223372036854775807 x))(tx zero (skip) (div x 0))(tx two (set x 2) x)(run user 1)";
+    let program = Program::read(file).unwrap();
+    let store = Store::open(&program, 1, 0).unwrap();
+    let mut worker = store.worker().unwrap();
+    assert_eq!(worker.observe(0), Ok(Observed::Thrown(7)));
+    assert_eq!(worker.observe(1), Ok(Observed::Overflow));
+    assert_eq!(worker.observe(2), Ok(Observed::DivideByZero));
+    assert_eq!(worker.observe(3), Ok(Observed::Broken(0)));
+}
+
+#[test]
+fn threads_share_a_store() {
+    let file = "(var x 5)\n(tx inc (set x (add x 1)) x)\n(run inc 20000)\n";
+    for workers in [0, 1, 2, 4, 8] {
+        for checkpoint in [0, 7] {
+            let program = Program::read(file).unwrap();
+            let report = stm::run_with(&program, workers, Retry { tries: 8, checkpoint }).unwrap();
+            assert_eq!(stm::present(&report, "x"), Some(20005));
+            assert_eq!(stm::check(file, &report), Ok(Verdict::Good));
+        }
+    }
+}
+
+#[test]
+fn an_observer_sees_one_state() {
+    let program =
+        Program::read("(var x 0)\n(tx inc (set x (add x 1)) x)\n(tx get (skip) x)\n(run inc 20000)\n")
+            .unwrap();
+    let get = program.transaction("get").unwrap();
+    let store = Store::open(&program, 2, 0).unwrap();
+    let (mut worker, mut watcher) = (store.worker().unwrap(), store.worker().unwrap());
+    std::thread::scope(|scope| {
+        let store = &store;
+        scope.spawn(move || {
+            while let Some(task) = store.take() {
+                assert_eq!(worker.try_task(task), Ok(Tried::Ended));
+                assert!(matches!(store.finish(&mut worker), Ok(Brought::Committed(_))));
+            }
+        });
+        let mut last = 0;
+        for _ in 0..10_000 {
+            if let Observed::Returned(value) = watcher.observe(get).unwrap() {
+                assert!(value >= last);
+                last = value;
+            }
+        }
+    });
+    assert_eq!(watcher.observe(get), Ok(Observed::Returned(20000)));
+}
+
+#[test]
+fn a_worker_of_another_program_is_refused() {
+    let (a, b) = (Program::read(FILE).unwrap(), Program::read(FILE).unwrap());
+    let (first, second) = (Store::open(&a, 1, 0).unwrap(), Store::open(&b, 1, 0).unwrap());
+    let mut worker = second.worker().unwrap();
+    assert_eq!(first.finish(&mut worker), Err(Error::OtherProgram));
+}
+
+#[test]
+fn a_program_without_tasks_is_observed() {
+    let mut declare = Declare::new();
+    let x = declare.var("x", 3);
+    declare.tx("get", stm::skip(), &x);
+    let program = declare.program().unwrap();
+    let store = Store::open(&program, 1, 0).unwrap();
+    assert_eq!(store.worker().unwrap().observe(0), Ok(Observed::Returned(3)));
+    assert_eq!(store.take(), None);
+    assert!(matches!(Declare::new().program().map(|p| p.tasks()), Ok(0)));
+    assert!(stm::run(&Declare::new().program().unwrap(), 2).is_ok());
+}

@@ -1,0 +1,120 @@
+/* Each request for memory is refused in turn: every call answers, nothing is lost but what the header says stays.
+ *
+ *     memory FILE
+ *
+ * It brings its own memory, and counts blocks and requests.
+ */
+#include "stm.h"
+
+#include <stdio.h>
+#include <stdlib.h>
+
+struct block {
+    size_t got;
+    void *at;
+};
+
+struct block rattle_alloc(size_t size, size_t align);
+struct block rattle_realloc(void *old, size_t old_size, size_t size, size_t align);
+void rattle_dealloc(void *old);
+
+static char nothing;
+static long requests, refused, blocks;
+
+static int refuses(void) { return ++requests == refused; }
+
+struct block rattle_alloc(size_t size, size_t align) {
+    void *at = refuses() ? NULL : malloc(size ? size : align);
+    struct block block = {at != NULL, at ? at : &nothing};
+    if (at) blocks++;
+    return block;
+}
+
+struct block rattle_realloc(void *old, size_t old_size, size_t size, size_t align) {
+    (void)old_size;
+    void *at = refuses() ? NULL : realloc(old, size ? size : align);
+    struct block block = {at != NULL, at ? at : &nothing};
+    return block;
+}
+
+void rattle_dealloc(void *old) {
+    blocks--;
+    free(old);
+}
+
+static uint8_t file[1 << 20], room[8388608];
+static size_t length, wanted;
+
+/* All tasks by one worker; what is refused is given up. Whether a refusal was told. */
+static int host(long *kept) {
+    int told_of = 0;
+    stm_program program = {0};
+    stm_store store = {0};
+    stm_worker worker = {0};
+    told_of |= stm_read(file, length, &program) == STM_MEMORY;
+    *kept = blocks;
+    told_of |= stm_open(&program, 2, 0, &store) == STM_MEMORY;
+    told_of |= stm_hire(&store, &worker) == STM_MEMORY;
+    for (int64_t task; worker.at && (task = stm_take(&store)) >= 0;) {
+        int32_t tried = stm_try(&worker, (uint32_t)task);
+        if (tried == STM_MEMORY) {
+            told_of = 1;
+            if (stm_give_up(&store, (uint32_t)task) != STM_DONE) exit(6);
+        } else if (stm_finish(&store, &worker).code < 0) {
+            exit(6);
+        }
+    }
+    int32_t code = stm_report(&store, room, sizeof room, &wanted);
+    if (code == STM_MEMORY) {
+        told_of = 1;
+        code = stm_report(&store, room, sizeof room, &wanted);
+    }
+    if (code != (store.at ? STM_DONE : STM_EMPTY)) exit(6);
+    refused = 0;
+    if (code == STM_DONE && stm_check(file, length, room, wanted) != STM_DONE) exit(7);
+    stm_worker_free(&worker);
+    stm_store_free(&store);
+    stm_program_free(&program);
+    return told_of;
+}
+
+int main(int count, char **words) {
+    if (count < 2) return 9;
+    FILE *input = fopen(words[1], "rb");
+    if (!input) return 9;
+    length = fread(file, 1, sizeof file, input);
+    fclose(input);
+    /* Whole files: without a refusal nothing is left; with one the answer is want of memory, and nothing is left. */
+    long all;
+    if (stm_run_one(file, length, 0, room, sizeof room, &wanted) != STM_DONE || blocks != 0) return 2;
+    for (all = requests, refused = 1; refused <= all; refused++) {
+        requests = 0;
+        int32_t code = stm_run_one(file, length, 0, room, sizeof room, &wanted);
+        if (blocks != 0) return 3;
+        if (code == STM_DONE) {
+            long turn = refused;
+            refused = 0;
+            if (stm_check(file, length, room, wanted) != STM_DONE) return 3;
+            refused = turn;
+        } else if (code != STM_MEMORY) {
+            return 3;
+        }
+    }
+    /* A store: what stays is what the program says, and the cells; a refusal changes nothing of that. */
+    long kept, before = blocks;
+    refused = 0;
+    requests = 0;
+    host(&kept);
+    long stays = blocks - before;
+    if (stays < 1) return 4;
+    all = requests;
+    for (long turn = 1; turn <= all; turn++) {
+        before = blocks;
+        requests = 0;
+        refused = turn;
+        host(&kept);
+        if (blocks - before > stays) return 5;
+    }
+    printf("%ld requests refused, %ld blocks stay\n", all, stays);
+    return 0;
+}

@@ -1,0 +1,117 @@
+/* All tasks of a file by so many threads, with an observer beside them; the report is judged.
+ *
+ *     threads FILE THREADS [CHECKPOINT]
+ */
+#include "stm.h"
+
+#include <pthread.h>
+#include <stdio.h>
+#include <stdlib.h>
+#include <time.h>
+
+enum { STALE_TRIES = 8, MOST = 32 };
+
+static pthread_mutex_t lock = PTHREAD_MUTEX_INITIALIZER;
+static stm_store store;
+static size_t transactions;
+static int ended;
+
+static int is_ended(void) {
+    pthread_mutex_lock(&lock);
+    int now = ended;
+    pthread_mutex_unlock(&lock);
+    return now;
+}
+
+static void run(stm_worker *worker, uint32_t task) {
+    for (int tries = 0; tries < STALE_TRIES; tries++) {
+        int32_t tried = stm_try(worker, task);
+        if (tried != STM_DONE && tried != STM_STALE) break;
+        if (tried == STM_STALE) continue;
+        pthread_mutex_lock(&lock);
+        stm_told told = stm_finish(&store, worker);
+        pthread_mutex_unlock(&lock);
+        if (told.code != STM_STALE) return;
+    }
+    pthread_mutex_lock(&lock);
+    stm_serial(&store, task);
+    pthread_mutex_unlock(&lock);
+}
+
+static void *work(void *argument) {
+    for (;;) {
+        pthread_mutex_lock(&lock);
+        int64_t task = stm_take(&store);
+        pthread_mutex_unlock(&lock);
+        if (task < 0) return NULL;
+        run(argument, (uint32_t)task);
+    }
+}
+
+static void *watch(void *argument) {
+    while (!is_ended()) {
+        for (size_t tx = 0; tx < transactions; tx++) {
+            if (stm_observe(argument, (uint32_t)tx).code < 0) exit(8);
+        }
+    }
+    return NULL;
+}
+
+static double seconds(void) {
+    struct timespec now;
+    clock_gettime(CLOCK_MONOTONIC, &now);
+    return (double)now.tv_sec + (double)now.tv_nsec / 1e9;
+}
+
+int main(int count, char **words) {
+    static uint8_t file[1 << 20], report[8388608];
+    static stm_worker workers[MOST];
+    static pthread_t pool[MOST];
+    if (count < 3) return 9;
+    FILE *input = fopen(words[1], "rb");
+    if (!input) return 9;
+    size_t length = fread(file, 1, sizeof file, input), wanted = 0;
+    fclose(input);
+    int threads = atoi(words[2]);
+    stm_program program = {0};
+    stm_worker observer = {0};
+    if (stm_read(file, length, &program) != STM_DONE) return 2;
+    if (stm_read(file, length, &program) != STM_FULL) return 2;
+    transactions = stm_program_transactions(&program);
+    if (stm_open(&program, 33, 0, &store) != STM_NO_WORKER) return 2;
+    uint32_t checkpoint = count > 3 ? (uint32_t)atoi(words[3]) : 0;
+    if (stm_open(&program, (size_t)threads + 1, checkpoint, &store) != STM_DONE) return 2;
+    for (int i = 0; i < threads; i++) {
+        if (stm_hire(&store, &workers[i]) != STM_DONE) return 3;
+    }
+    if (stm_hire(&store, &observer) != STM_DONE) return 3;
+    stm_worker none = {0};
+    if (stm_hire(&store, &none) != STM_NO_WORKER || none.at) return 3;
+    uint32_t tasks = (uint32_t)stm_program_tasks(&program);
+    if (stm_try(&observer, tasks) != STM_UNKNOWN || stm_try(&none, 0) != STM_EMPTY) return 3;
+    if (stm_finish(&store, &observer).code != STM_NOT_ENDED) return 3;
+    if (stm_serial(&store, tasks).code != STM_UNKNOWN || stm_give_up(&store, tasks) != STM_UNKNOWN) return 3;
+    pthread_t watching;
+    double begin = seconds();
+    if (pthread_create(&watching, NULL, watch, &observer)) return 4;
+    for (int i = 0; i < threads; i++) {
+        if (pthread_create(&pool[i], NULL, work, &workers[i])) return 4;
+    }
+    for (int i = 0; i < threads; i++) pthread_join(pool[i], NULL);
+    double end = seconds();
+    pthread_mutex_lock(&lock);
+    ended = 1;
+    pthread_mutex_unlock(&lock);
+    pthread_join(watching, NULL);
+    if (stm_report(&store, report, 3, &wanted) != STM_SHORT) return 5;
+    if (stm_report(&store, report, sizeof report, &wanted) != STM_DONE) return 5;
+    int32_t verdict = stm_check(file, length, report, wanted);
+    stm_store_free(&store);
+    stm_store_free(&store);
+    for (int i = 0; i < threads; i++) stm_worker_free(&workers[i]);
+    stm_worker_free(&observer);
+    stm_program_free(&program);
+    fprintf(stderr, "%d threads: %.1f ms\n", threads, (end - begin) * 1e3);
+    printf("%s\n", verdict == STM_DONE ? "good" : "bad");
+    return verdict == STM_DONE ? 0 : 1;
+}

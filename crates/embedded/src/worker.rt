@@ -1,0 +1,133 @@
+//! What one thread has: a pass, and an attempt for life.
+
+ghost use Rattle.std.specs.Prelude.{◌≡◌, ◌<◌, true, length, None};
+ghost use Rattle.std.specs.Coded.{codes};
+ghost use Rattle.std.specs.Option.{ForSome};
+ghost use Rattle.attempt.specs.CodedProgram.{coded_program};
+ghost use Rattle.programs.specs.Listing.{tasks, task_program};
+ghost use Rattle.cells.specs.Passing.{at};
+ghost use Rattle.observer.specs.Observing.{ObservesBy, IsObserved};
+ghost use Rattle.embedded.specs.Working.{TriedBy, is_over};
+
+use crate::trying::attempt_on;
+use attempt::Attempt;
+use cells::{Cells, Pass};
+use observer::{Cut, Observed};
+use std::alloc::Global;
+use txn::{Catalogue, TaskId, TxId};
+
+/// How a try ended.
+#[derive(Clone, Copy, Debug, PartialEq, Eq)]
+pub enum Tried {
+    /// The attempt has ended, and is to be brought to the store.
+    Ended,
+    /// A variable that it needs was changed meanwhile: try again.
+    Stale,
+    /// A growth was refused: give the task up, or try again.
+    Memory,
+}
+
+/// A reader of a store's cells, and an attempt, for one thread at a time. It may outlive its store.
+#[derive(Drop)]
+pub struct Worker {
+    pub(crate) catalogue: &'static Catalogue,
+    cells: &'static Cells,
+    pass: Pass,
+    pub(crate) attempt: Attempt<'static>,
+    /// The task of an attempt that has ended and was not brought to the store yet.
+    pub(crate) ended: Option<TaskId>,
+    ghost own: { pass.cells ≡ cells.now },
+    ghost counted: { cells.now.variables ≡ length catalogue.now.initial },
+    ghost exists: { ForSome ended (λ t. t.0 < length (tasks catalogue.now)) },
+    ghost program: { ForSome ended (λ t. attempt.program ≡ task_program catalogue.now t) } by { Prim.hlevel (codes, coded_program) },
+    ghost variables: { ForSome ended (λ _. attempt.variables ≡ length catalogue.now.initial) },
+    ghost over: { ForSome ended (λ _. is_over attempt.stand ≡ true) },
+}
+
+impl Worker {
+    /// A worker of a catalogue that has a transaction.
+    pub(crate) fn open(
+        alloc: Global,
+        catalogue: &'static Catalogue,
+        cells: &'static Cells,
+        pass: Pass,
+    ) -> Worker
+        requires own { pass.cells ≡ cells.now }
+        requires counted { cells.now.variables ≡ length catalogue.now.initial }
+        requires some { 0 < length catalogue.now.transactions }
+        ensures catalogue { result.catalogue.now ≡ catalogue.now }
+        ensures cells { result.cells.now ≡ cells.now }
+        ensures pass { result.pass ≡ pass }
+        ensures ended { result.ended ≡ None }
+    {
+        Worker {
+            catalogue,
+            cells,
+            pass,
+            attempt: Attempt::new(alloc, catalogue, TxId(0)),
+            ended: None,
+        }
+    }
+
+    /// Evaluates the task's transaction on one state of the cells, with no lock. Nothing is written,
+    /// and it waits for nobody. What was tried before and not brought to the store is forgotten.
+    ///
+    /// `Ended`: the attempt has ended as the transaction ends on that state, and is of this task.
+    /// The task has to exist; whether it was taken is judged by the store.
+    pub fn try_task(&mut self, task: TaskId) -> Tried
+        requires exists { task.0 < length (tasks self.old.catalogue.now) }
+        ensures tried { TriedBy self.old.catalogue.now task self.old.pass result self.new.pass self.new.attempt self.new.ended }
+        ensures catalogue { self.new.catalogue.now ≡ self.old.catalogue.now }
+        ensures cells { self.new.cells.now ≡ self.old.cells.now }
+    {
+        let tx = self.catalogue.task_tx(task);
+        self.ended = None;
+        match attempt_on(
+            &mut self.attempt,
+            self.catalogue,
+            tx,
+            self.cells,
+            &mut self.pass,
+        ) {
+            Ok(_) => {
+                self.ended = Some(task);
+                Tried::Ended
+            }
+            Err(Cut::Stale) => Tried::Stale,
+            Err(Cut::Memory) => Tried::Memory,
+        }
+    }
+
+    /// How the transaction would end on one state of the cells, with no lock. Nothing is written,
+    /// and it waits for nobody. What was tried before and not brought to the store is forgotten.
+    ///
+    /// The transaction has to exist.
+    pub fn observe(&mut self, tx: TxId) -> Observed
+        requires known { tx.0 < length self.old.catalogue.now.transactions }
+        ensures observes { ObservesBy self.old.pass self.new.pass }
+        ensures answer { IsObserved self.old.catalogue.now tx self.old.pass self.new.pass result }
+        ensures ended { self.new.ended ≡ None }
+        ensures catalogue { self.new.catalogue.now ≡ self.old.catalogue.now }
+        ensures cells { self.new.cells.now ≡ self.old.cells.now }
+    {
+        self.ended = None;
+        match attempt_on(
+            &mut self.attempt,
+            self.catalogue,
+            tx,
+            self.cells,
+            &mut self.pass,
+        ) {
+            Ok(outcome) => Observed::Outcome(outcome),
+            Err(Cut::Stale) => Observed::Stale,
+            Err(Cut::Memory) => Observed::Memory,
+        }
+    }
+
+    /// The program that it is of.
+    pub fn catalogue(&self) -> &'static Catalogue
+        ensures { result.now ≡ self.now.catalogue.now }
+    {
+        self.catalogue
+    }
+}

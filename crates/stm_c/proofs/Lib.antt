@@ -1,0 +1,3 @@
+pub mod ProgramHandle
+pub mod StoreHandle
+pub mod WorkerHandle

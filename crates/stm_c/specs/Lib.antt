@@ -1,0 +1,4 @@
+pub mod ProgramHandle
+pub mod Rooms
+pub mod StoreHandle
+pub mod WorkerHandle

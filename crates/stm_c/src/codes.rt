@@ -1,0 +1,150 @@
+//! What the calls answer in numbers: 0 or more where they did what they are for, else why not.
+
+ghost use Rattle.std.specs.Prelude.{◌≢◌, pos};
+
+use book::{Finish, Serial};
+use checker::Part;
+use embedded::{Brought, Tried};
+use observer::Observed;
+use txn::{Fault, Outcome, TaskId};
+use txn_text::ReadFault;
+
+/// Want of memory.
+pub(crate) const MEMORY: i32 = -6;
+/// The room is too short; how long it has to be was written.
+pub(crate) const SHORT: i32 = -8;
+/// There is no such task, transaction or variable.
+pub(crate) const UNKNOWN: i32 = -9;
+/// More workers than a store can have, or than it was opened for; or no transaction to work on.
+pub(crate) const NO_WORKER: i32 = -10;
+/// The worker has no ended attempt to bring.
+pub(crate) const NOT_ENDED: i32 = -11;
+
+/// A kind, and a number.
+#[repr(C)]
+#[derive(Clone, Copy)]
+pub struct Told {
+    pub kind: i32,
+    pub value: i64,
+}
+
+fn kind(kind: i32) -> Told {
+    Told { kind, value: 0 }
+}
+
+/// No such task or transaction.
+pub(crate) fn unknown() -> Told {
+    kind(UNKNOWN)
+}
+
+/// Why a file is refused. Never 0.
+pub(crate) fn file_fault(fault: ReadFault) -> i32
+    ensures { result ≢ pos 0 }
+{
+    match fault {
+        ReadFault::TooLong => -1,
+        ReadFault::BadByte => -2,
+        ReadFault::Shape => -3,
+        ReadFault::Name => -4,
+        ReadFault::Limit => -5,
+        ReadFault::Memory => MEMORY,
+        ReadFault::Broken => -7,
+    }
+}
+
+/// Why a schedule is refused. Never 0.
+pub(crate) fn schedule_fault(fault: ReadFault) -> i32
+    ensures { result ≢ pos 0 }
+{
+    match fault {
+        ReadFault::TooLong => -21,
+        ReadFault::BadByte => -22,
+        ReadFault::Shape => -23,
+        ReadFault::Name => -24,
+        ReadFault::Limit => -25,
+        ReadFault::Memory => MEMORY,
+        ReadFault::Broken => -27,
+    }
+}
+
+/// The part of a report that does not hold. Never 0.
+pub(crate) fn bad_part(part: Part) -> i32
+    ensures { result ≢ pos 0 }
+{
+    match part {
+        Part::Text => 1,
+        Part::Base => 2,
+        Part::Entries => 3,
+        Part::Present => 4,
+        Part::Tasks => 5,
+        Part::Parked => 6,
+    }
+}
+
+pub(crate) fn task_number(task: Option<TaskId>) -> i64 {
+    match task {
+        Some(task) => i64::from(task.0),
+        None => -1,
+    }
+}
+
+fn committed(number: u64) -> Told {
+    Told {
+        kind: 0,
+        value: i64::try_from(number).unwrap_or(i64::MAX),
+    }
+}
+
+/// 0 committed, with the number of its entry; 1 parked; 2 stale; 3 the task was not running.
+pub(crate) fn brought(how: Brought) -> Told {
+    match how {
+        Brought::NotEnded => kind(NOT_ENDED),
+        Brought::Finished(Finish::Committed(number)) => committed(number),
+        Brought::Finished(Finish::Parked) => kind(1),
+        Brought::Finished(Finish::Stale) => kind(2),
+        Brought::Finished(Finish::NotRunning) => kind(3),
+    }
+}
+
+/// As `brought`; 4 given up for want of memory.
+pub(crate) fn served(how: Serial) -> Told {
+    match how {
+        Serial::Committed(number) => committed(number),
+        Serial::Parked => kind(1),
+        Serial::NotRunning => kind(3),
+        Serial::Abandoned => kind(4),
+    }
+}
+
+/// 0 ended, 2 stale.
+pub(crate) fn tried(how: Tried) -> i32 {
+    match how {
+        Tried::Ended => 0,
+        Tried::Stale => 2,
+        Tried::Memory => MEMORY,
+    }
+}
+
+/// 0 returned, with the value; 1 retries; 2 stale; 5 thrown by the program, with the value;
+/// 6 overflow; 7 division by zero; 8 a standing condition broken, with its number.
+pub(crate) fn observed(how: Observed) -> Told {
+    match how {
+        Observed::Outcome(Outcome::Returned(value)) => Told { kind: 0, value },
+        Observed::Outcome(Outcome::Retries) => kind(1),
+        Observed::Outcome(Outcome::Thrown(fault)) => thrown(fault),
+        Observed::Stale => kind(2),
+        Observed::Memory => kind(MEMORY),
+    }
+}
+
+fn thrown(fault: Fault) -> Told {
+    match fault {
+        Fault::User(value) => Told { kind: 5, value },
+        Fault::Overflow => kind(6),
+        Fault::DivideByZero => kind(7),
+        Fault::Broken(condition) => Told {
+            kind: 8,
+            value: i64::from(condition.0),
+        },
+    }
+}

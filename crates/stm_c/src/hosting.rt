@@ -1,0 +1,177 @@
+//! A store, as a handle: its calls stand under the host's lock.
+
+ghost use Rattle.std.specs.Prelude.{◌≡◌, ◌<◌, length};
+ghost use Rattle.programs.specs.Listing.{tasks};
+
+use crate::codes::{MEMORY, NO_WORKER, Told, UNKNOWN, brought, served, task_number, unknown};
+use crate::parts::Parts;
+use crate::program_handle::ProgramHandle;
+use crate::reading::program_of;
+use crate::store_handle::{StoreHandle, give as give_store};
+use crate::worker_handle::{WorkerHandle, give as give_worker};
+use crate::writing::copy;
+use core::mem::replace_with;
+use embedded::Store;
+use std::alloc::Global;
+use txn::TaskId;
+
+/// Opens a store of the program, for so many workers. 0, and `out` holds it; -6, -10: want of
+/// memory, more than 32 workers; `out` is as it was.
+#[unsafe(no_mangle)]
+pub extern "C" fn stm_store_open(
+    alloc: Global,
+    program: &mut ProgramHandle,
+    workers: usize,
+    checkpoint: u32,
+    out: &mut *mut u8,
+) -> i32 {
+    if workers > 32 {
+        return NO_WORKER;
+    }
+    let Ok(store) = Store::open(alloc, program_of(program), workers, checkpoint) else {
+        return MEMORY;
+    };
+    let Ok(made) = Box::new(alloc, store) else {
+        return MEMORY;
+    };
+    *out = give_store(Parts::of(made));
+    0
+}
+
+/// Lets a store go. Its workers may be used and let go afterwards.
+#[unsafe(no_mangle)]
+pub extern "C" fn stm_store_drop(store: StoreHandle) {
+    drop(store.into_parts().into_box());
+}
+
+/// A worker of the store. 0, and `out` holds it; -6, -10: want of memory, no worker left.
+#[unsafe(no_mangle)]
+pub extern "C" fn stm_store_worker(
+    alloc: Global,
+    store: &mut StoreHandle,
+    out: &mut *mut u8,
+) -> i32 {
+    let found = replace_with(store, (), |store, _| {
+        let mut held = store.into_parts().into_box();
+        let found = held.worker();
+        (StoreHandle::of_parts(Parts::of(held)), found)
+    });
+    let Some(worker) = found else {
+        return NO_WORKER;
+    };
+    let Ok(made) = Box::new(alloc, worker) else {
+        return MEMORY;
+    };
+    *out = give_worker(Parts::of(made));
+    0
+}
+
+/// The lowest ready task, which is then running, or -1 where none is ready.
+#[unsafe(no_mangle)]
+pub extern "C" fn stm_store_take(store: &mut StoreHandle) -> i64 {
+    replace_with(store, (), |store, _| {
+        let mut held = store.into_parts().into_box();
+        let taken = task_number(held.take());
+        (StoreHandle::of_parts(Parts::of(held)), taken)
+    })
+}
+
+/// Brings a worker's ended attempt to the store.
+///
+/// The worker has to be of this store, or of another one of a program that says the same.
+#[unsafe(no_mangle)]
+pub extern "C" fn stm_store_finish(store: &mut StoreHandle, worker: &mut WorkerHandle) -> Told
+    requires { worker.old.value.catalogue.now ≡ store.old.value.catalogue.now }
+{
+    replace_with(
+        store,
+        worker,
+        |store, worker|
+            requires { worker.now.value.catalogue.now ≡ store.value.catalogue.now }
+        {
+            let mut held = store.into_parts().into_box();
+            let how = finished(&mut held, worker);
+            (StoreHandle::of_parts(Parts::of(held)), how)
+        },
+    )
+}
+
+fn finished(store: &mut Store, worker: &mut WorkerHandle) -> Told
+    requires { worker.old.value.catalogue.now ≡ store.old.catalogue.now }
+{
+    replace_with(
+        worker,
+        store,
+        |worker, store|
+            requires { worker.value.catalogue.now ≡ store.now.catalogue.now }
+        {
+            let mut held = worker.into_parts().into_box();
+            let how = store.finish(&mut held);
+            (WorkerHandle::of_parts(Parts::of(held)), brought(how))
+        },
+    )
+}
+
+/// A turn of a running task on the present values.
+#[unsafe(no_mangle)]
+pub extern "C" fn stm_store_serial(store: &mut StoreHandle, task: u32) -> Told {
+    replace_with(store, task, |store, task| {
+        let mut held = store.into_parts().into_box();
+        let how = turn(&mut held, task);
+        (StoreHandle::of_parts(Parts::of(held)), how)
+    })
+}
+
+fn turn(store: &mut Store, task: u32) -> Told {
+    if task as usize >= store.catalogue().tasks() {
+        return unknown();
+    }
+    served(store.serial(TaskId(task)))
+}
+
+/// Gives a running task up: 0; 3 where it was not running; -9 where there is no such task.
+#[unsafe(no_mangle)]
+pub extern "C" fn stm_store_give_up(store: &mut StoreHandle, task: u32) -> i32 {
+    replace_with(store, task, |store, task| {
+        let mut held = store.into_parts().into_box();
+        let how = given_up(&mut held, task);
+        (StoreHandle::of_parts(Parts::of(held)), how)
+    })
+}
+
+fn given_up(store: &mut Store, task: u32) -> i32 {
+    if task as usize >= store.catalogue().tasks() {
+        return UNKNOWN;
+    }
+    if store.give_up(TaskId(task)) { 0 } else { 3 }
+}
+
+/// The base becomes the present, and the journal is empty.
+#[unsafe(no_mangle)]
+pub extern "C" fn stm_store_checkpoint(store: &mut StoreHandle) {
+    replace_with(store, (), |store, _| {
+        let mut held = store.into_parts().into_box();
+        held.checkpoint();
+        (StoreHandle::of_parts(Parts::of(held)), ())
+    });
+}
+
+/// Gives what is left a turn, and copies the report's text into the room: 0, and `wanted` is how
+/// long it is. -6: want of memory. -8: the room is too short, and `wanted` is how much is needed.
+#[unsafe(no_mangle)]
+pub extern "C" fn stm_store_report(
+    store: &mut StoreHandle,
+    room: &mut [u8],
+    wanted: &mut usize,
+) -> i32 {
+    *wanted = 0;
+    let told = replace_with(store, (), |store, _| {
+        let mut held = store.into_parts().into_box();
+        let told = held.report();
+        (StoreHandle::of_parts(Parts::of(held)), told)
+    });
+    match told {
+        Ok(text) => copy(text.as_bytes(), room, wanted),
+        Err(_) => MEMORY,
+    }
+}

@@ -1,0 +1,49 @@
+//! A worker, as a handle: its calls take no lock, by one thread at a time.
+
+use crate::codes::{Told, UNKNOWN, observed, tried, unknown};
+use crate::parts::Parts;
+use crate::worker_handle::WorkerHandle;
+use core::mem::replace_with;
+use embedded::Worker;
+use txn::{TaskId, TxId};
+
+/// Evaluates the task on one state: 0 it has ended, 2 a read was stale, -6 want of memory, -9 there
+/// is no such task.
+#[unsafe(no_mangle)]
+pub extern "C" fn stm_worker_try(worker: &mut WorkerHandle, task: u32) -> i32 {
+    replace_with(worker, task, |worker, task| {
+        let mut held = worker.into_parts().into_box();
+        let how = try_task(&mut held, task);
+        (WorkerHandle::of_parts(Parts::of(held)), how)
+    })
+}
+
+fn try_task(worker: &mut Worker, task: u32) -> i32 {
+    if task as usize >= worker.catalogue().tasks() {
+        return UNKNOWN;
+    }
+    tried(worker.try_task(TaskId(task)))
+}
+
+/// How the transaction would end on one state.
+#[unsafe(no_mangle)]
+pub extern "C" fn stm_worker_observe(worker: &mut WorkerHandle, tx: u32) -> Told {
+    replace_with(worker, tx, |worker, tx| {
+        let mut held = worker.into_parts().into_box();
+        let how = observe(&mut held, tx);
+        (WorkerHandle::of_parts(Parts::of(held)), how)
+    })
+}
+
+fn observe(worker: &mut Worker, tx: u32) -> Told {
+    if tx as usize >= worker.catalogue().tx_count() {
+        return unknown();
+    }
+    observed(worker.observe(TxId(tx)))
+}
+
+/// Lets a worker go.
+#[unsafe(no_mangle)]
+pub extern "C" fn stm_worker_drop(worker: WorkerHandle) {
+    drop(worker.into_parts().into_box());
+}

@@ -1,0 +1,21 @@
+//! Where a text goes: into the room that the host lends.
+
+ghost use Rattle.std.specs.Prelude.{◌≡◌, ◌≤◌, ◌<◌, ◌++◌, pos, drop, length};
+
+use crate::codes::SHORT;
+
+/// Copies the text to the begin of the room, where it fits; what is behind it stays. How long the
+/// text is goes to `wanted` in any case.
+pub(crate) fn copy(text: &[u8], room: &mut [u8], wanted: &mut usize) -> i32
+    ensures wanted { wanted.new ≡ length text.now }
+    ensures fits { length text.now ≤ length room.old → result ≡ pos 0 }
+    ensures done { result ≡ pos 0 → room.new ≡ text.now ++ drop (length text.now) room.old }
+    ensures short { length room.old < length text.now → (result ≡ SHORT) × (room.new ≡ room.old) }
+{
+    *wanted = text.len();
+    if text.len() > room.len() {
+        return SHORT;
+    }
+    room[..text.len()].copy_from_slice(text);
+    0
+}
