@@ -82,6 +82,7 @@ COMMAND_LINES = [
     ["world", "--help"],
     ["print", "--help"],
     ["print", "two-increments", "--from", "no-such-file"],
+    ["explore", "--help"],
     ["--version"],
     [],
     ["bogus"],
@@ -95,6 +96,8 @@ COMMAND_LINES = [
     ["run", "two-increments", "another"],
     ["check", "two-increments"],
     ["world", "two-increments"],
+    ["explore", "two-increments", "--states", "0"],
+    ["explore", "no-such-file"],
     ["run", "no-such-file"],
     ["check", "two-increments", "no-such-file"],
 ]
@@ -201,6 +204,11 @@ def try_refusals(trials, program):
     texts = [["print", file], ["print", "conditions-that-are-broken"], ["print", wrong], ["print", file, "--from", "report-0"], ["print", file, "--from", "report-1"]]
     for words in texts:
         refusals.try_all(" ".join([by, *words]), [program, *words], same)
+    for name in FILES:
+        file = name.replace(" ", "-")
+        refusals.try_all(f"{by} explore, {name}", [program, "explore", file, "--states", "2000"], same)
+        refusals.try_all(f"{by} explore, {name}, to an end", [program, "explore", file, "--states", "2000", "--to", "1"], same)
+        refusals.try_all(f"{by} explore, {name}, of one state", [program, "explore", file, "--states", "1"], same)
     for words in COMMAND_LINES:
         refusals.try_all(" ".join([by, *words]), [program, *words], same)
 

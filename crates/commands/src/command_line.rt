@@ -1,5 +1,6 @@
 //! The command line.
 
+use crate::exploring_words::{Orders, explore_command, wanted_orders};
 use clap::error::ErrorKind;
 use clap::{Arg, ArgMatches, Command, Error, value_parser};
 use runner::Options;
@@ -16,6 +17,8 @@ pub enum Request<'a> {
     World(Played<'a>),
     /// To print a file.
     Print(Print<'a>),
+    /// To see all orders of a file's tasks.
+    Explore(Orders<'a>),
 }
 
 /// A file to run.
@@ -57,7 +60,7 @@ pub struct Print<'a> {
 const VERSION: &str = "0.1.0";
 
 const ABOUT: &str =
-    "Software transactional memory with retry and orElse: runs the transactions of a file, reports what they did, checks such reports, plays schedules on the stepped world, and prints files in their one form.";
+    "Software transactional memory with retry and orElse: runs the transactions of a file, reports what they did, checks such reports, plays schedules on the stepped world, sees every order of a file's tasks, and prints files in their one form.";
 
 const RUN: &str =
     "Runs the tasks of a file and prints a report: the base, the journal, the present values and versions, and the tasks that wait.";
@@ -104,6 +107,7 @@ fn command<'a>(alloc: Global) -> Result<Command<'a>, AllocError> {
         .subcommand(run)?
         .subcommand(check_command(alloc)?)?
         .subcommand(world_command(alloc)?)?
+        .subcommand(explore_command(alloc)?)?
         .subcommand(print_command(alloc)?)
 }
 
@@ -122,7 +126,7 @@ fn run_command<'a>(alloc: Global) -> Result<Command<'a>, AllocError> {
 }
 
 /// The option `--NAME N` of a number in this range, ends included, with this one where it is left out.
-fn number<'a>(
+pub(crate) fn number<'a>(
     alloc: Global,
     name: &'a str,
     range: (i64, i64),
@@ -194,7 +198,7 @@ pub fn parse<'a>(alloc: Global, words: &'a [String]) -> Result<Request<'a>, Erro
     }
     Err(command.error(
         ErrorKind::ValueValidation,
-        "the number of workers must be 1 to 16, that of tries 1 to 64, and that of the checkpoint at most 65536",
+        "the number of workers must be 1 to 16, that of tries 1 to 64, that of the checkpoint at most 65536, and that of states 1 to 16777216",
     )?)
 }
 
@@ -213,6 +217,11 @@ fn request_of<'a>(matches: &ArgMatches<'a>) -> Option<Request<'a>> {
     if let Some(print) = matches.subcommand_matches("print") {
         if let Some(request) = print_paths(print) {
             return Some(Request::Print(request));
+        }
+    }
+    if let Some(words) = matches.subcommand_matches("explore") {
+        if let Some(request) = wanted_orders(words) {
+            return Some(Request::Explore(request));
         }
     }
     if let Some(run) = matches.subcommand_matches("run") {

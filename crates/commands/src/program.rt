@@ -8,6 +8,7 @@ ghost use Rattle.commands.specs.Files.{RanFile, Unread, Wordless, read_of, faile
 use crate::answer::{Answer, told};
 use crate::checking::check_files;
 use crate::command_line::{Request, parse};
+use crate::exploring::{explore_file, witness_file};
 use crate::playing::play_files;
 use crate::printing::print_files;
 use clap::error::ErrorKind;
@@ -55,6 +56,13 @@ fn answer<T: Threads + Wait + Sync, R: Files + Env + Print + Eprint + AllocGloba
         Ok(Request::Print(request)) => {
             let mut out = Out::new(io::writer(rt));
             print_files(rt, &request, &mut out)
+        }
+        Ok(Request::Explore(request)) => {
+            let mut out = Out::new(io::writer(rt));
+            match request.to {
+                Some(end) => witness_file(rt, request.file, request.limit, end, &mut out),
+                None => explore_file(rt, request.file, request.limit, &mut out),
+            }
         }
         Err(error) => shown(rt, &error),
     }

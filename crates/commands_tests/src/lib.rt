@@ -7,6 +7,8 @@ mod checking;
 #[cfg(test)]
 mod command_line;
 #[cfg(test)]
+mod exploring;
+#[cfg(test)]
 mod host;
 #[cfg(test)]
 mod playing;
