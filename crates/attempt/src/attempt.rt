@@ -200,7 +200,9 @@ impl<'a> Attempt<'a> {
         }
     }
 
-    /// Goes on with the machine where it stands.
+    /// Goes on with the machine where it stands. It is a call of its own, so that an answer that is
+    /// repeated costs little.
+    #[inline(never)]
     fn go_on(&mut self) -> Next
         requires fresh { self.old.stand ≡ Stand.Fresh }
         ensures answers { Answers result self.new }

@@ -12,6 +12,7 @@ pub mod evaluate;
 pub mod laws;
 pub mod machine;
 pub mod running;
+pub mod spot;
 
 pub use evaluate::{Halt, Told};
 pub use laws::{answers, frame, resumes};

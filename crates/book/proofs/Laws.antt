@@ -152,8 +152,8 @@ open_count-set (x ∷ xs) zero was is h =
     omega (arith, ap open_one e)
 open_count-set (x ∷ xs) (suc t) was is h = omega (arith, open_count-set xs t was is h)
 
-pub lawful_opened : (l : Listing) (cells : CellsId) → Upholds l l.initial → LawfulBook (opened l cells)
-lawful_opened l cells u =
+pub lawful_opened : (l : Listing) (cells : CellsId) (spare : ℕ) → Upholds l l.initial → LawfulBook (opened l cells spare)
+lawful_opened l cells spare u =
     record {
       past = [];
       reached = refl;

@@ -4,6 +4,7 @@ mod Woken
 mod Agreeing
 mod Readying
 pub mod Draining
+mod Submitting
 mod Kept
 mod Sleeping
 mod Sets

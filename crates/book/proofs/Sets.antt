@@ -1,7 +1,8 @@
 -- The sets of a board, as one task comes to stand otherwise.
-use Rattle.std.proofs.Common.{◌≡◌, inl, inr, ℕ, zero, suc, ◌<◌, ◌≤◌, Bool, true, false, List, [], ◌∷◌, length, map, Some, get_or, set, replicate, refl, sym, ◌∙◌, ap, subst, arith}
+use Rattle.std.proofs.Common.{◌≡◌, ◌≢◌, inl, inr, ℕ, zero, suc, ◌+◌, ◌<◌, ◌≤◌, Bool, true, false, cond, List, [], ◌∷◌, ◌++◌, length, map, Some, None, get_or, set, replicate, refl, sym, ◌∙◌, ap, subst, arith}
 use Rattle.std.specs.List.{slice_get}
 use Rattle.std.proofs.lemmas.Bool.{cases_eq, cond_both}
+use Rattle.std.proofs.lemmas.Option.{slice_get_within}
 use Rattle.std.proofs.lemmas.List.{length-set, length-map, length-replicate, map-set, get_or-replicate}
 use Rattle.std.proofs.lemmas.Option.{same_Some}
 use Rattle.programs.specs.declared.limits.TheConstants.{MAX_TASKS}
@@ -12,9 +13,12 @@ use Rattle.book.specs.declared.task.Task.TheVariants.{Ready, Running, Parked, Do
 use Rattle.book.specs.Board.{BoardView, with_tasks, is_ready, waits_for, names, flagged}
 use Rattle.book.specs.Turns.{readied_one}
 use Rattle.book.specs.declared.board.Board.TheInside.{Inside}
-use Rattle.book.specs.BoardInside.{AreSets, IsSorted, board_of}
+use Rattle.book.specs.BoardInside.{AreSets, IsSorted, board_of, places}
 use Rattle.book.proofs.Sleeping.{set_read}
-use Rattle.book.proofs.Lists.{get_set_same, get_set_other, set_same, map_get, get_map, get_replicate}
+use Rattle.book.proofs.Lists.{get_append_left, get_append, get_set_same, get_set_other, set_same, map_get, get_map, get_replicate}
+
+none_less : (t : ℕ) → t < 0 → ⊥
+none_less t less = omega (arith, less)
 
 -- one task stands otherwise, and each set has its flag so
 pub sets_placed : (ts : List Task) (ready now_ready : List Bool) (sleepers now_sleepers : List (List Bool)) (t : ℕ) (was is : Task) → AreSets ts ready sleepers → slice_get ts t ≡ Some was → now_ready ≡ set ready t (is_ready is) → length now_sleepers ≡ length sleepers
@@ -116,17 +120,71 @@ ready_in ts ready sleepers k h e =
 pub in_ready : (ts : List Task) (ready : List Bool) (sleepers : List (List Bool)) (k : ℕ) → AreSets ts ready sleepers → slice_get ts k ≡ Some Ready → slice_get ready k ≡ Some true
 in_ready ts ready sleepers k h e = ap (λ (r : List Bool). slice_get r k) h.ready ∙ map_get is_ready ts k Ready e
 
-pub board_is : (b : BoardView) (ts us : List Task) (n : ℕ) → ts ≡ us → n ≡ b.variables → (let r : BoardView = record { tasks = ts; variables = n } in r) ≡ with_tasks b us
-board_is b ts us n e f =
-    ap (λ (xs : List Task). let r : BoardView = record { tasks = xs; variables = n } in r) e
-    ∙ ap (λ (k : ℕ). let r : BoardView = record { tasks = us; variables = k } in r) f
+pub board_is : (b : BoardView) (ts us : List Task) (n m : ℕ) → ts ≡ us → n ≡ b.variables → m ≡ b.spare → (let r : BoardView = record { tasks = ts; variables = n; spare = m } in r) ≡ with_tasks b us
+board_is b ts us n m e f g =
+    ap (λ (xs : List Task). let r : BoardView = record { tasks = xs; variables = n; spare = m } in r) e
+    ∙ (ap (λ (k : ℕ). let r : BoardView = record { tasks = us; variables = k; spare = m } in r) f
+    ∙ ap (λ (k : ℕ). let r : BoardView = record { tasks = us; variables = b.variables; spare = k } in r) g)
+
+-- a change of a task is one of its place
+pub places_set : (ts : List Task) (n t : ℕ) (is : Task) → t < length ts → set (places ts n) t is ≡ places (set ts t is) n
+places_set [] n t is less = absurd (none_less t less)
+places_set (x ∷ ts) n zero is less = refl
+places_set (x ∷ ts) n (suc t) is less = ap (λ (us : List Task). x ∷ us) (places_set ts n t is (omega (arith, less)))
+
+-- a task stands at its place
+pub at_place : (ts : List Task) (n t : ℕ) (was : Task) → slice_get ts t ≡ Some was → slice_get (places ts n) t ≡ Some was
+at_place ts n t was e = get_append_left ts (replicate n Running) t was e
+
+-- what does not run stands at a task's place
+pub from_place : (ts : List Task) (n t : ℕ) (was : Task) → slice_get (places ts n) t ≡ Some was → (Running ≡ was → ⊥) → slice_get ts t ≡ Some was
+from_place ts n t was e other =
+    elim (get_append ts (replicate n Running) t was e) [ inl h ↦ h | inr h ↦ absurd (other (get_replicate n h.0 Running was h.2)) ]
+
+-- the next place becomes a task's
+pub place_taken : (ts : List Task) (n : ℕ) → set (places ts (suc n)) (length ts) Ready ≡ places (ts ++ Ready ∷ []) n
+place_taken [] n = refl
+place_taken (x ∷ ts) n = ap (λ (us : List Task). x ∷ us) (place_taken ts n)
+
+-- who waits at a place is a task
+pub waits_at : (x : ℕ) (ts : List Task) (n t : ℕ) → slice_get (map (waits_for x) (places ts n)) t ≡ Some true → slice_get (map (waits_for x) ts) t ≡ Some true
+waits_at x ts n t e =
+    let g = get_map (waits_for x) (places ts n) t true e in
+    map_get (waits_for x) ts t g.0 (from_place ts n t g.0 g.1 (λ same. let bad : waits_for x Running ≡ true = ap (waits_for x) same ∙ g.2 in cc)) ∙ ap Some g.2
+
+pub at_waits : (x : ℕ) (ts : List Task) (n t : ℕ) → slice_get (map (waits_for x) ts) t ≡ Some true → slice_get (map (waits_for x) (places ts n)) t ≡ Some true
+at_waits x ts n t e =
+    let g = get_map (waits_for x) ts t true e in
+    map_get (waits_for x) (places ts n) t g.0 (at_place ts n t g.0 g.1) ∙ ap Some g.2
+
+-- a task that stands otherwise does so at its place
+pub placed_stand : (ts now : List Task) (n t : ℕ) (was is : Task) (ready : List Bool) (sleepers : List (List Bool)) → slice_get ts t ≡ Some was → now ≡ set ts t is → AreSets (set (places ts n) t is) ready sleepers → AreSets (places now n) ready sleepers
+placed_stand ts now n t was is ready sleepers at e h =
+    subst (λ (us : List Task). AreSets (places us n) ready sleepers) (sym e)
+    (subst (λ (us : List Task). AreSets us ready sleepers) (places_set ts n t is (slice_get_within ts t was at)) h)
 
 -- the set of a variable, seen from outside
-pub asleep_now : (b : Inside) (v : BoardView) (x : ℕ) (s : List Bool) → board_of b ≡ v → IsSorted b → x < v.variables → s ≡ get_or b.sleepers.items x s → s ≡ map (waits_for x) v.tasks
+pub asleep_now : (b : Inside) (v : BoardView) (x : ℕ) (s : List Bool) → board_of b ≡ v → IsSorted b → x < v.variables → s ≡ get_or b.sleepers.items x s → s ≡ map (waits_for x) (places v.tasks v.spare)
 asleep_now b v x s view k low e =
     let within : x < length b.sleepers.items = omega (arith, low, ap (λ (w : BoardView). w.variables) view) in
-    set_read b.sleepers.items x s within e ∙ (k.asleep x within ∙ ap (λ (w : BoardView). map (waits_for x) w.tasks) view)
+    set_read b.sleepers.items x s within e ∙ (k.sets.asleep x within ∙ ap (λ (w : BoardView). map (waits_for x) (places w.tasks w.spare)) view)
 
 pub readied_all : (n : ℕ) → map readied_one (replicate n Running) ≡ replicate n Ready
 readied_all zero = refl
 readied_all (suc n) = ap (λ (ts : List Task). Ready ∷ ts) (readied_all n)
+
+pub all_places : (n m : ℕ) → places (replicate n Running) m ≡ replicate (n + m) Running
+all_places zero m = ap (λ (k : ℕ). replicate k Running) (let e : m ≡ 0 + m = omega arith in e)
+all_places (suc n) m =
+    ap (λ (ts : List Task). Running ∷ ts) (all_places n m) ∙ ap (λ (k : ℕ). replicate k Running) (let e : suc (n + m) ≡ suc n + m = omega arith in e)
+
+next_place : (ts : List Task) (n : ℕ) → slice_get (places ts (suc n)) (length ts) ≡ Some Running
+next_place [] n = refl
+next_place (x ∷ ts) n = next_place ts n
+
+-- a ready task more, at the next place
+pub placed_more : (ts now : List Task) (n m : ℕ) (ready now_ready : List Bool) (sleepers : List (List Bool)) → n ≡ suc m → now ≡ ts ++ Ready ∷ [] → now_ready ≡ set ready (length ts) true → AreSets (places ts n) ready sleepers → AreSets (places now m) now_ready sleepers
+placed_more ts now n m ready now_ready sleepers e f g h =
+    subst (λ (us : List Task). AreSets (places us m) now_ready sleepers) (sym f)
+    (subst (λ (us : List Task). AreSets us now_ready sleepers) (place_taken ts m)
+    (sets_ready (places ts (suc m)) ready now_ready sleepers (length ts) Running Ready (subst (λ (k : ℕ). AreSets (places ts k) ready sleepers) e h) (next_place ts m) g (λ x. refl) (λ log bad. cc)))

@@ -1,5 +1,5 @@
 -- How the tasks stand, which of them wait for a variable, and what a change wakes.
-use Rattle.std.specs.Prelude.{◌≡◌, ◌≢◌, ℕ, ℤ, ◌<◌, Bool, true, false, nat_eq, if◌then◌else◌, List, Option, Some, None, slice_get, slice_set}
+use Rattle.std.specs.Prelude.{◌≡◌, ◌≢◌, ℕ, ℤ, ◌<◌, ◌-◌, Bool, true, false, nat_eq, if◌then◌else◌, List, [], ◌∷◌, ◌++◌, Option, Some, None, slice_get, slice_set}
 use Rattle.std.specs.List.{list_any}
 use Rattle.programs.specs.declared.ast.VarId.{VarId}
 use Rattle.programs.specs.declared.ast.TaskId.{TaskId}
@@ -13,6 +13,8 @@ pub record BoardView : Type 0 where
   pub tasks : List Task
   -- how many variables a task can wait for
   pub variables : ℕ
+  -- for how many tasks more there is room
+  pub spare : ℕ
 
 abbrev pub with_tasks : BoardView → List Task → BoardView
 with_tasks b ts = record b { tasks = ts }
@@ -28,6 +30,10 @@ IsTaken old (Some task) new =
     (slice_get old.tasks task.0 ≡ Some Ready)
     × ((k : ℕ) → k < task.0 → slice_get old.tasks k ≢ Some Ready)
     × (new ≡ placed old task Running)
+
+-- the board with a ready task more
+abbrev pub with_one_more : BoardView → BoardView
+with_one_more b = record b { tasks = b.tasks ++ Ready ∷ []; spare = b.spare - 1 }
 
 abbrev pub IsParked : Option Task → Type 0
 IsParked o = (log : Known) × (o ≡ Some (Parked log))

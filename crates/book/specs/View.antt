@@ -1,5 +1,5 @@
 -- What contracts see of a book, and what a commit does to it.
-use Rattle.std.specs.Prelude.{◌≡◌, ◌+◌, ℤ, Bool, not, if◌then◌else◌, List, [], ◌∷◌, ◌++◌, map, length, replicate, Some, slice_get, slice_set}
+use Rattle.std.specs.Prelude.{◌≡◌, ℕ, ◌+◌, ℤ, Bool, not, if◌then◌else◌, List, [], ◌∷◌, ◌++◌, map, length, replicate, Some, slice_get, slice_set}
 use Rattle.std.specs.List.{list_any}
 use Rattle.std.specs.Ordering.{int_eq}
 use Rattle.programs.specs.declared.ast.VarId.{VarId}
@@ -26,10 +26,12 @@ pub record BookView : Type 0 where
   pub present : Snapshot
   -- how each task stands
   pub tasks : List Task
+  -- how many tasks more can be submitted
+  pub spare : ℕ
 
--- all tasks ready, nothing entered
-abbrev pub opened : Listing → CellsId → BookView
-opened l cells =
+-- all tasks ready, nothing entered, and room for so many tasks more
+abbrev pub opened : Listing → CellsId → ℕ → BookView
+opened l cells spare =
     record {
       catalogue = l;
       cells = cells;
@@ -39,6 +41,7 @@ opened l cells =
       journal = [];
       present = opening l;
       tasks = replicate (length (tasks l)) Ready;
+      spare = spare;
     }
 
 abbrev pub IsRunning : BookView → TaskId → Type 0

@@ -1,11 +1,11 @@
 //! How each task stands, with the sets by which the lowest ready task and those to wake are found.
 
-ghost use Rattle.std.specs.Prelude.{◌≡◌, ◌≢◌, ◌<◌, ◌≤◌, ℕ, length, map, replicate, IfOk, MatchBool, Some, slice_get};
+ghost use Rattle.std.specs.Prelude.{◌≡◌, ◌≢◌, ◌<◌, ◌≤◌, ℕ, length, map, replicate, IfOk, MatchBool, Some, slice_get, ◌+◌, ◌++◌, ◌∷◌, [], vec_len, vec_capacity};
 ghost use Rattle.programs.specs.declared.limits.TheConstants.{MAX_TASKS};
 ghost use Rattle.shared_words.specs.Stores.{id_of};
 ghost use Rattle.attempt.specs.Order.{AllKnown};
 ghost use Rattle.book.specs.Turns.{readied_one};
-ghost use Rattle.book.specs.Board.{IsParked, IsTaken, placed, with_tasks, woken_for, woken_by};
+ghost use Rattle.book.specs.Board.{IsParked, IsTaken, placed, with_tasks, with_one_more, woken_for, woken_by};
 
 use crate::sleepers::{enter, leave, none_asleep};
 use crate::task::{Task, stand};
@@ -19,6 +19,8 @@ use txn::{TaskId, VarId};
 #[derive(Drop)]
 pub struct Board {
     tasks: Vec<Task>,
+    /// How many tasks more there is room for.
+    spare: usize,
     /// The ready tasks.
     ready: TaskSet,
     /// For each variable the parked tasks whose log names it.
@@ -41,16 +43,25 @@ impl Model for Board {
 }
 
 impl Board {
-    /// All tasks ready, and a set for each variable. It is the one call that takes memory.
-    pub fn open(alloc: Global, count: usize, variables: usize) -> Result<Board, AllocError>
-        requires { count ≤ MAX_TASKS }
+    /// All tasks ready, and a set for each variable; room for so many tasks more. It is the one call
+    /// that takes memory.
+    pub fn open(
+        alloc: Global,
+        count: usize,
+        spare: usize,
+        variables: usize,
+    ) -> Result<Board, AllocError>
+        requires { count + spare ≤ MAX_TASKS }
         ensures tasks { IfOk result (λ b. b.tasks ≡ replicate count Task.Ready) }
         ensures variables { IfOk result (λ b. b.variables ≡ variables) }
+        ensures spare { IfOk result (λ b. b.spare ≡ spare) }
     {
+        let room = count + spare;
         let mut board = Board {
-            tasks: all_running(alloc, count)?,
-            ready: TaskSet::with_room(alloc, count)?,
-            sleepers: none_asleep(alloc, variables, count)?,
+            tasks: all_running(alloc, count, room)?,
+            spare,
+            ready: TaskSet::with_room(alloc, room)?,
+            sleepers: none_asleep(alloc, variables, room)?,
         };
         // So far no task is in a set, as none is ready.
         board.ready_all();
@@ -80,6 +91,26 @@ impl Board {
         let task = TaskId(found as u32);
         stand(&mut self.tasks, task, Task::Running);
         Some(task)
+    }
+
+    /// A ready task more, for which there is room. It takes no memory.
+    pub fn add(&mut self) -> TaskId
+        requires { 0 < self.old.spare }
+        ensures task { result.0 ≡ length self.old.tasks }
+        ensures added { self.new ≡ with_one_more self.old }
+    {
+        let task = TaskId(self.tasks.len() as u32);
+        self.spare -= 1;
+        add_ready(&mut self.tasks);
+        self.ready.insert(task.0 as usize);
+        task
+    }
+
+    /// How many tasks more there is room for.
+    pub fn spare(&self) -> usize
+        ensures { result ≡ self.now.spare }
+    {
+        self.spare
     }
 
     /// A running task is done, with the journal entry of this number.
@@ -166,12 +197,26 @@ impl Board {
     }
 }
 
-fn all_running(alloc: Global, count: usize) -> Result<Vec<Task>, AllocError>
-    ensures { IfOk result (λ v. v.items ≡ replicate count Task.Running) }
+/// So many running tasks, and room for tasks up to this many.
+fn all_running(alloc: Global, count: usize, room: usize) -> Result<Vec<Task>, AllocError>
+    ensures tasks { IfOk result (λ v. v.items ≡ replicate count Task.Running) }
+    ensures room { IfOk result (λ v. room ≤ vec_capacity v) }
 {
-    let mut tasks = Vec::with_capacity(alloc, count)?;
+    let mut tasks = Vec::with_capacity(alloc, room)?;
     for _ in 0..count {
         tasks.push(Task::Running)?;
     }
     Ok(tasks)
+}
+
+/// Adds a ready task, for which there is room.
+fn add_ready(tasks: &mut Vec<Task>)
+    requires { vec_len tasks.old < vec_capacity tasks.old }
+    ensures items { tasks.new.items ≡ tasks.old.items ++ Task.Ready ∷ [] }
+    ensures capacity { vec_capacity tasks.old ≤ vec_capacity tasks.new }
+{
+    match tasks.push(Task::Ready) {
+        Ok(()) => {}
+        Err(_) => unreachable!(),
+    }
 }

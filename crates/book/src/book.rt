@@ -1,6 +1,7 @@
 //! The book: how each task stands, the journal, and the present values.
 
-ghost use Rattle.std.specs.Prelude.{◌≡◌, ◌≢◌, ◌<◌, ◌≤◌, ◌+◌, ◌++◌, ◌∷◌, [], ℕ, length, map, IfOk, IsTrue, ◌↔◌, MatchBool, vec_len, vec_capacity, All};
+ghost use Rattle.std.specs.Prelude.{◌≡◌, ◌≢◌, ◌<◌, ◌≤◌, ◌+◌, ◌++◌, ◌∷◌, [], ℕ, length, map, IfOk, IsTrue, ◌↔◌, MatchBool, vec_len, vec_capacity, All, Some, slice_get};
+ghost use Rattle.programs.specs.declared.limits.TheConstants.{MAX_TASKS};
 ghost use Rattle.shared_words.specs.Stores.{with_changes};
 ghost use Rattle.attempt.specs.Asking.{Known};
 ghost use Rattle.attempt.specs.Frame.{Agrees};
@@ -15,11 +16,12 @@ use crate::listing::{given_up, parked};
 use crate::stored::{Stored, opening, pairs};
 use crate::task::{Finish, Serial};
 use crate::validate::agrees;
+use crate::whose::transaction_of;
 use attempt::{Attempt, Log, Next, frame};
 use cells::{Cells, Pass, Publisher};
 use std::alloc::Global;
 use std::marker::Model;
-use txn::{Catalogue, Entry, Memory, Outcome, Report, TaskId, VarId};
+use txn::{Catalogue, Entry, Memory, Outcome, Report, TaskId, TxId, VarId};
 
 /// The tasks of a catalogue, the journal of those that committed, and the present values. A
 /// clause sees a `BookView`. At all times the journal replays from the base to the present, no
@@ -29,6 +31,8 @@ use txn::{Catalogue, Entry, Memory, Outcome, Report, TaskId, VarId};
 #[derive(Drop)]
 pub struct Book<'a> {
     catalogue: &'a Catalogue,
+    /// The transactions of the tasks that were submitted.
+    submitted: Vec<TxId>,
     cells: &'a Cells,
     publisher: Publisher,
     base: Stored,
@@ -58,7 +62,9 @@ impl<'a> Model for Book<'a> {
 
 impl<'a> Book<'a> {
     ghost use Rattle.programs.specs.Meaning.{outcome, after};
-    ghost use Rattle.programs.specs.Listing.{task_program};
+    ghost use Rattle.programs.specs.Listing.{tasks, task_tx, task_program};
+    ghost use Rattle.txn.specs.Grown.{SameButRuns};
+    ghost use Rattle.book.specs.Submitted.{Submits};
     ghost use Rattle.programs.specs.declared.ast.Outcome as Outcome;
     ghost use Rattle.book.specs.declared.task.Task.TheVariants as Task;
     ghost use Rattle.programs.specs.Told.{told};
@@ -80,21 +86,86 @@ impl<'a> Book<'a> {
     ) -> Result<Book<'a>, Memory>
         requires own { publisher.cells ≡ cells.now }
         requires unused { publisher.history ≡ catalogue.now.initial ∷ [] }
-        ensures { IfOk result (λ b. b ≡ opened catalogue.now cells.now) }
+        ensures { IfOk result (λ b. b ≡ opened catalogue.now cells.now 0) }
+    {
+        let _count = catalogue.tasks();
+        Book::open_with_room(alloc, catalogue, cells, publisher, 0)
+    }
+
+    /// As `open`, with room for so many tasks more, which can be submitted.
+    pub fn open_with_room(
+        alloc: Global,
+        catalogue: &'a Catalogue,
+        cells: &'a Cells,
+        publisher: Publisher,
+        spare: usize,
+    ) -> Result<Book<'a>, Memory>
+        requires own { publisher.cells ≡ cells.now }
+        requires unused { publisher.history ≡ catalogue.now.initial ∷ [] }
+        requires few { length (tasks catalogue.now) + spare ≤ MAX_TASKS }
+        ensures { IfOk result (λ b. b ≡ opened catalogue.now cells.now spare) }
     {
         let count = catalogue.tasks();
         let variables = catalogue.initial().len();
         catalogue.rules();
+        let room = count + spare;
         Ok(Book {
             catalogue,
             cells,
             publisher,
+            submitted: Vec::with_capacity(alloc, spare)?,
             base: opening(alloc, catalogue.initial())?,
-            journal: Vec::with_capacity(alloc, count)?,
+            journal: Vec::with_capacity(alloc, room)?,
             present: opening(alloc, catalogue.initial())?,
             changes: Vec::with_capacity(alloc, variables)?,
-            board: Board::open(alloc, count, variables)?,
+            board: Board::open(alloc, count, spare, variables)?,
         })
+    }
+
+    /// A ready task of the transaction more, with the next number. `None` and no change exactly if
+    /// there is no room for it. It takes no memory.
+    pub fn submit(&mut self, tx: TxId) -> Option<TaskId>
+        requires { tx.0 < length self.old.catalogue.transactions }
+        ensures { Submits self.old tx result self.new }
+    {
+        if self.board.spare() == 0 {
+            return None;
+        }
+        self.catalogue.tx(tx);
+        note(&mut self.submitted, tx);
+        Some(self.board.add())
+    }
+
+    /// How many tasks more can be submitted.
+    pub fn spare(&self) -> usize
+        ensures { result ≡ self.now.spare }
+    {
+        self.board.spare()
+    }
+
+    /// The transaction that a task runs.
+    pub fn task_tx(&self, task: TaskId) -> TxId
+        requires { task.0 < length self.now.tasks }
+        ensures value { result ≡ task_tx self.now.catalogue task }
+        ensures own { slice_get (tasks self.now.catalogue) task.0 ≡ Some result }
+        ensures known { result.0 < length self.now.catalogue.transactions }
+    {
+        transaction_of(self.catalogue, &self.submitted, task)
+    }
+
+    /// Whether there is such a task, and it runs this transaction.
+    pub fn runs(&self, task: TaskId, tx: TxId) -> bool
+        ensures { IsTrue result ↔ (slice_get (tasks self.now.catalogue) task.0 ≡ Some tx) }
+    {
+        (task.0 as usize) < self.tasks() && self.task_tx(task).0 == tx.0
+    }
+
+    /// How many tasks the book has: those of its catalogue, and those that were submitted.
+    pub fn tasks(&self) -> usize
+        ensures value { result ≡ length self.now.tasks }
+        ensures listed { result ≡ length (tasks self.now.catalogue) }
+    {
+        self.board.tasks().len()
     }
 
     /// The lowest ready task, which is then running. `None` exactly if none is ready. It takes no
@@ -156,7 +227,7 @@ impl<'a> Book<'a> {
         ensures catalogue { self.new.catalogue ≡ self.old.catalogue }
     {
         let catalogue = self.catalogue;
-        let mut attempt = Attempt::new(alloc, catalogue, catalogue.task_tx(task));
+        let mut attempt = Attempt::new(alloc, catalogue, self.task_tx(task));
         self.serve(&mut attempt, task)
     }
 
@@ -170,7 +241,7 @@ impl<'a> Book<'a> {
             return Serial::NotRunning;
         }
         let catalogue = self.catalogue;
-        let tx = catalogue.task_tx(task);
+        let tx = transaction_of(catalogue, &self.submitted, task);
         let Ok(_) = evaluate(attempt, catalogue, tx, &self.present.values) else {
             let _ = self.give_up(task);
             return Serial::Abandoned;
@@ -262,11 +333,13 @@ impl<'a> Book<'a> {
         self.publisher.meet(cells, pass);
     }
 
-    /// Whether the book was opened with an equal catalogue.
+    /// Whether the catalogue declares what the book's does: the same variables with the same
+    /// initial values, the same standing conditions, the same transactions. Their runs may differ:
+    /// `tasks` tells how many tasks the book has, and `runs` which transaction each of them runs.
     pub fn is_for(&self, catalogue: &Catalogue) -> bool
-        ensures { IsTrue result ↔ (self.now.catalogue ≡ catalogue.now) }
+        ensures { IsTrue result ↔ SameButRuns self.now.catalogue catalogue.now }
     {
-        self.catalogue.same(catalogue)
+        self.catalogue.same_but_runs(catalogue)
     }
 
     /// How many entries the journal has.
@@ -287,8 +360,8 @@ impl<'a> Book<'a> {
             entries: self.journal.as_slice().to_vec(alloc)?,
             now: self.present.number,
             now_vars: pairs(alloc, &self.present)?,
-            parked: parked(alloc, self.catalogue, self.board.tasks())?,
-            memory: given_up(alloc, self.catalogue, self.board.tasks())?,
+            parked: parked(alloc, self.catalogue, &self.submitted, self.board.tasks())?,
+            memory: given_up(alloc, self.catalogue, &self.submitted, self.board.tasks())?,
         })
     }
 
@@ -325,7 +398,7 @@ impl<'a> Book<'a> {
         // Its law: a program that retries over a log does so on each state that agrees with the log.
         frame();
         let number = self.present.number + 1;
-        let tx = self.catalogue.task_tx(task);
+        let tx = transaction_of(self.catalogue, &self.submitted, task);
         note_changes(&mut self.changes, writes, &self.present.values);
         let cells = self.cells;
         self.publisher.publish(cells, &self.changes);
@@ -359,6 +432,18 @@ fn enter(journal: &mut Vec<Entry>, entry: Entry)
     ensures capacity { vec_capacity journal.old ≤ vec_capacity journal.new }
 {
     match journal.push(entry) {
+        Ok(()) => {}
+        Err(_) => unreachable!(),
+    }
+}
+
+/// Adds a transaction, for which there is room.
+fn note(submitted: &mut Vec<TxId>, tx: TxId)
+    requires { vec_len submitted.old < vec_capacity submitted.old }
+    ensures items { submitted.new.items ≡ submitted.old.items ++ tx ∷ [] }
+    ensures capacity { vec_capacity submitted.old ≤ vec_capacity submitted.new }
+{
+    match submitted.push(tx) {
         Ok(()) => {}
         Err(_) => unreachable!(),
     }

@@ -13,6 +13,7 @@ mod sleepers;
 mod stored;
 mod task;
 mod validate;
+mod whose;
 
 pub use book::Book;
 pub use task::{Finish, Serial};

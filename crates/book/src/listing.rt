@@ -1,10 +1,13 @@
 //! The tasks that a report lists.
 
-ghost use Rattle.std.specs.Prelude.{◌≡◌, ◌<◌, length, IfOk, All};
+ghost use Rattle.std.specs.Prelude.{◌≡◌, ◌<◌, ◌≤◌, length, IfOk, All};
 ghost use Rattle.programs.specs.Listing.{tasks as listed_tasks};
+ghost use Rattle.programs.specs.declared.limits.TheConstants.{MAX_TASKS};
+ghost use Rattle.txn.specs.Grown.{grown};
 ghost use Rattle.book.specs.Turns.{listed, is_parked, is_given_up};
 
 use crate::task::Task;
+use crate::whose::transaction_of;
 use std::alloc::{AllocError, Global};
 use txn::{Catalogue, TaskId, TxId};
 
@@ -12,17 +15,20 @@ use txn::{Catalogue, TaskId, TxId};
 pub fn parked(
     alloc: Global,
     catalogue: &Catalogue,
+    submitted: &Vec<TxId>,
     tasks: &[Task],
 ) -> Result<Vec<(TaskId, TxId)>, AllocError>
-    requires { length tasks.now ≡ length (listed_tasks catalogue.now) }
-    ensures tasks { IfOk result (λ v. v.items ≡ listed is_parked catalogue.now 0 tasks.now) }
+    requires size { length tasks.now ≡ length (listed_tasks (grown catalogue.now submitted.now.items)) }
+    requires few { length tasks.now ≤ MAX_TASKS }
+    requires submitted { All (λ tx. tx.0 < length catalogue.now.transactions) submitted.now.items }
+    ensures tasks { IfOk result (λ v. v.items ≡ listed is_parked (grown catalogue.now submitted.now.items) 0 tasks.now) }
     ensures known { IfOk result (λ v. All (λ p. p.1.0 < length catalogue.now.transactions) v.items) }
 {
     let mut found = Vec::new(alloc);
-    for i in 0..catalogue.tasks() {
+    for i in 0..tasks.len() {
         if matches!(&tasks[i], Task::Parked(_)) {
             let task = TaskId(i as u32);
-            found.push((task, catalogue.task_tx(task)))?;
+            found.push((task, transaction_of(catalogue, submitted, task)))?;
         }
     }
     Ok(found)
@@ -32,17 +38,20 @@ pub fn parked(
 pub fn given_up(
     alloc: Global,
     catalogue: &Catalogue,
+    submitted: &Vec<TxId>,
     tasks: &[Task],
 ) -> Result<Vec<(TaskId, TxId)>, AllocError>
-    requires { length tasks.now ≡ length (listed_tasks catalogue.now) }
-    ensures tasks { IfOk result (λ v. v.items ≡ listed is_given_up catalogue.now 0 tasks.now) }
+    requires size { length tasks.now ≡ length (listed_tasks (grown catalogue.now submitted.now.items)) }
+    requires few { length tasks.now ≤ MAX_TASKS }
+    requires submitted { All (λ tx. tx.0 < length catalogue.now.transactions) submitted.now.items }
+    ensures tasks { IfOk result (λ v. v.items ≡ listed is_given_up (grown catalogue.now submitted.now.items) 0 tasks.now) }
     ensures known { IfOk result (λ v. All (λ p. p.1.0 < length catalogue.now.transactions) v.items) }
 {
     let mut found = Vec::new(alloc);
-    for i in 0..catalogue.tasks() {
+    for i in 0..tasks.len() {
         if matches!(&tasks[i], Task::GivenUp) {
             let task = TaskId(i as u32);
-            found.push((task, catalogue.task_tx(task)))?;
+            found.push((task, transaction_of(catalogue, submitted, task)))?;
         }
     }
     Ok(found)

@@ -49,7 +49,8 @@ pub enum Serial {
 /// The task stands so from now on.
 pub fn stand(tasks: &mut Vec<Task>, task: TaskId, how: Task)
     requires { task.0 < length tasks.old.items }
-    ensures { tasks.new.items ≡ slice_set tasks.old.items task.0 how }
+    ensures items { tasks.new.items ≡ slice_set tasks.old.items task.0 how }
+    ensures capacity { vec_capacity tasks.new ≡ vec_capacity tasks.old }
 {
     tasks[task.0 as usize] = how;
 }

@@ -17,3 +17,5 @@ mod parts;
 mod scripts;
 #[cfg(test)]
 mod steps;
+#[cfg(test)]
+mod submitting;

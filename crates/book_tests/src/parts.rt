@@ -31,6 +31,14 @@ pub(crate) fn waiting(rt: &impl Abort, alloc: Global) -> Catalogue {
     catalogue(rt, alloc, WAITING)
 }
 
+const WAITING_TWICE: &str =
+    "(var x 5)(tx wait (if (eq x 5) (retry) (skip)) x)(tx x_to_6 (set x 6) 0)(run wait 2)";
+
+/// Both tasks wait until x is not 5. The transaction that sets it to 6 has no run.
+pub(crate) fn waiting_twice(rt: &impl Abort, alloc: Global) -> Catalogue {
+    catalogue(rt, alloc, WAITING_TWICE)
+}
+
 const STANDING: &str =
     "(stm 2)(var x 5)(always low (le x 6))(tx wait (if (eq x 5) (retry) (skip)) x)(tx x_to_9 (set x 9) 0)(tx x_to_6 (set x 6) 0)(run wait 1)(run x_to_9 1)(run x_to_6 1)";
 

@@ -156,11 +156,15 @@ fn gives_up_once(rt: &impl Abort, alloc: Global, book: &mut Book<'_>, catalogue:
     assert_eq!(rt; report.memory.as_slice(), [(TaskId(0), TxId(0))].as_slice());
 }
 
-/// The book is of two increments.
+/// The book is of two increments. A catalogue with other runs declares the same.
 fn is_for(rt: &impl Abort, alloc: Global, book: &Book<'_>) {
     let twin = increments(rt, alloc, 2);
     assert!(rt; book.is_for(&twin));
-    let other = increments(rt, alloc, 3);
+    assert!(rt; book.tasks() == twin.tasks());
+    let longer = increments(rt, alloc, 3);
+    assert!(rt; book.is_for(&longer));
+    assert!(rt; book.tasks() != longer.tasks());
+    let other = waiting(rt, alloc);
     assert!(rt; !book.is_for(&other));
 }
 

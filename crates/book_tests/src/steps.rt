@@ -1,6 +1,8 @@
 //! One call of a book, and what it has to answer.
 
 ghost use Rattle.std.specs.Prelude.{◌≡◌, ◌<◌, length};
+ghost use Rattle.programs.specs.Listing.{task_tx};
+ghost use Rattle.txn.specs.Grown.{SameButRuns};
 ghost use Rattle.book.specs.Turns.{IsEndOf};
 
 use attempt::{Attempt, Next};
@@ -9,14 +11,17 @@ use std::alloc::Global;
 use std::process::Abort;
 use txn::{Catalogue, Memory, Report, TaskId};
 
-/// Stops the test where the book is not of the catalogue or the task does not exist.
+/// Stops the test where the book is not of the catalogue's programs, or the task does not exist or
+/// runs another transaction than the catalogue says.
 pub(crate) fn exists(rt: &impl Abort, book: &Book<'_>, catalogue: &Catalogue, task: TaskId)
-    ensures own { book.now.catalogue ≡ catalogue.now }
+    ensures own { SameButRuns book.now.catalogue catalogue.now }
+    ensures runs { task_tx book.now.catalogue task ≡ task_tx catalogue.now task }
     ensures exists { task.0 < length book.now.tasks }
 {
-    book.law();
     assert!(rt; book.is_for(catalogue));
     assert!(rt; (task.0 as usize) < catalogue.tasks());
+    assert!(rt; (task.0 as usize) < book.tasks());
+    assert!(rt; book.task_tx(task) == catalogue.task_tx(task));
 }
 
 /// The next task is this one.
@@ -80,7 +85,7 @@ pub(crate) fn ends_lent(
 }
 
 /// Tells the attempt what it needs of these values.
-fn tell(rt: &impl Abort, attempt: &mut Attempt<'_>, values: &[i64]) -> Result<(), Memory>
+pub(crate) fn tell(rt: &impl Abort, attempt: &mut Attempt<'_>, values: &[i64]) -> Result<(), Memory>
     ensures program { attempt.new.program ≡ attempt.old.program }
     ensures variables { attempt.new.variables ≡ attempt.old.variables }
 {

@@ -60,7 +60,7 @@ impl Store {
         every: u32,
     ) -> Result<Store, Memory>
         requires { workers ≤ 32 }
-        ensures opened { IfOk result (λ s. s.book ≡ opened program.catalogue.now s.cells.now) }
+        ensures opened { IfOk result (λ s. s.book ≡ opened program.catalogue.now s.cells.now 0) }
         ensures catalogue { IfOk result (λ s. s.catalogue.now ≡ program.catalogue.now) }
         ensures workers { IfOk result (λ s. length s.passes.items ≡ workers) }
         ensures every { IfOk result (λ s. s.every ≡ every) }

@@ -1,6 +1,6 @@
 -- What is found when the search is done.
 use Rattle.std.proofs.Common.{◌≡◌, ℕ, zero, suc, ◌+◌, ◌<◌, ◌≤◌, true, false, List, [], ◌∷◌, ◌++◌, length, map, replicate, get_or, Some, refl, sym, ◌∙◌, ap, subst, inl, inr, ⊎_elim, arith}
-use Rattle.std.specs.Prelude.{All, slice_get}
+use Rattle.std.specs.Prelude.{All, slice_get, option_map}
 use Rattle.std.specs.List.{Contains}
 use Rattle.std.specs.List.Sorted.{IsPermutation, IsSorted}
 use Rattle.std.proofs.lemmas.List.{length-map, get_or-map, length-replicate}
@@ -8,7 +8,7 @@ use Rattle.std.proofs.lemmas.List.Elements.{All-from_get_or}
 use Rattle.std.proofs.lemmas.List.Edits.{swapped_from_swap, length-swap}
 use Rattle.std.specs.List.{swap}
 use Rattle.std.proofs.lemmas.List.Sorted.{IsPermutation-keeps, IsPermutation-sym, Contains-permutation}
-use Rattle.std.proofs.lemmas.Option.{slice_get_within, slice_get-get_or, get_or_from_slice_get}
+use Rattle.std.proofs.lemmas.Option.{slice_get_within, slice_get-get_or, slice_get-map, get_or_from_slice_get}
 use Rattle.std.proofs.lemmas.Bool.{cases_lt, cases_eq}
 use Rattle.programs.specs.declared.ast.TxId.{TxId}
 use Rattle.programs.specs.Listing.{Listing, tasks}
@@ -102,7 +102,7 @@ apart_reordered ps qs moved h =
     apart_swapped (length xs) a b (λ k. get_or xs k nowhere) (λ k. get_or (swap xs a b) k nowhere) la lb before sw.0 sw.1 sw.2 i j (omega (arith, size, li)) (omega (arith, size, lj)) e)
     qs moved
 
-contained : (ps : List Place) (ends : List ℕ) (p : Place) → Contains (map (place_at ps) ends) p → (i : ℕ) × (Contains ends i) × (place_at ps i ≡ p)
+pub contained : (ps : List Place) (ends : List ℕ) (p : Place) → Contains (map (place_at ps) ends) p → (i : ℕ) × (Contains ends i) × (place_at ps i ≡ p)
 contained ps ends p h =
     let at = at_contains (map (place_at ps) ends) p h in
     let low : at.0 < length ends = omega (arith, at.1, length-map ends (place_at ps)) in
@@ -112,6 +112,20 @@ contains_numbered : (ps : List Place) (ends : List ℕ) (p : Place) (i : ℕ) �
 contains_numbered ps ends p i (j, low, e) is =
     contains_at (map (place_at ps) ends) j p (omega (arith, low, length-map ends (place_at ps)))
     (numbered ps ends j low ∙ ap (place_at ps) (any_default ends j 0 i low ∙ e) ∙ is)
+
+missing_at : (ps : List Place) (numbers : List ℕ) (p : Place) (i : ℕ) → Contains numbers i → place_at ps i ≡ p → ((j d : ℕ) → j < length numbers → place_at ps (get_or numbers j d) ≡ p → ⊥) → ⊥
+missing_at ps numbers p i (j, low, e) is none = none j i low (ap (place_at ps) e ∙ is)
+
+-- a listed end is the place of one of the numbers
+pub never_missing : (ps : List Place) (numbers : List ℕ) (es : List End) (k : ℕ) (e : End) → IsPermutation (map (place_at ps) numbers) (map end_place es) → slice_get es k ≡ Some e
+    → ((j d : ℕ) → j < length numbers → place_at ps (get_or numbers j d) ≡ end_place e → ⊥) → ⊥
+never_missing ps numbers es k e moved is none =
+    let p = end_place e in
+    let listed : slice_get (map end_place es) k ≡ Some p = slice_get-map end_place es k ∙ ap (option_map end_place) is in
+    let there : Contains (map end_place es) p = contains_at (map end_place es) k p (slice_get_within (map end_place es) k p listed) (get_or_from_slice_get (map end_place es) k p nowhere listed) in
+    let here : Contains (map (place_at ps) numbers) p = Contains-permutation (map end_place es) (map (place_at ps) numbers) p (IsPermutation-sym (map (place_at ps) numbers) (map end_place es) moved) there in
+    let at = contained ps numbers p here in
+    missing_at ps numbers p at.0 at.1 at.2 none
 
 -- the answer of a search that is done is exact
 pub explored : (l : Listing) (limit : ℕ) (s : Shelf) (kinds : List Kinds) (ends : List ℕ) (f : Found) → IsUnderWay l limit s kinds ends (length s.places) 0 → IsOnce s.places
@@ -142,17 +156,22 @@ first_only : (l : Listing) (i : ℕ) → i < 1 → place_at (first_place l ∷ [
 first_only l zero h = refl
 first_only l (suc i) h = absurd (omega arith)
 
+unset : (n i : ℕ) → get_or (replicate n false) i false ≡ true → ⊥
+unset zero i h = absurd (cc)
+unset (suc n) zero h = absurd (cc)
+unset (suc n) (suc i) h = unset n i h
+
 none_shown : (n k : ℕ) (kind : Kind) → shows (get_or (replicate n none_seen) k none_seen) kind ≡ true → ⊥
 none_shown zero k Returning h = absurd (cc)
 none_shown zero k Throwing h = absurd (cc)
 none_shown zero k Overflowing h = absurd (cc)
 none_shown zero k DividingByZero h = absurd (cc)
-none_shown zero k Breaking h = absurd (cc)
+none_shown zero k (Breaking id) h = unset 64 id.0 h
 none_shown (suc n) zero Returning h = absurd (cc)
 none_shown (suc n) zero Throwing h = absurd (cc)
 none_shown (suc n) zero Overflowing h = absurd (cc)
 none_shown (suc n) zero DividingByZero h = absurd (cc)
-none_shown (suc n) zero Breaking h = absurd (cc)
+none_shown (suc n) zero (Breaking id) h = unset 64 id.0 h
 none_shown (suc n) (suc k) kind h = none_shown n k kind h
 
 none_tried : (i : ℕ) (tx : TxId) → IsTried 0 0 i tx → ⊥

@@ -5,3 +5,5 @@ pub mod Whole
 pub mod Running
 pub mod Trying
 pub mod Ending
+pub mod Charting
+pub mod Fewest

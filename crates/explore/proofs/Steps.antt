@@ -1,12 +1,14 @@
 -- The steps of a search.
-use Rattle.std.proofs.Common.{◌≡◌, ◌⊎◌, ℕ, ◌+◌, ◌<◌, ◌≤◌, true, List, length, get_or, set, Some, refl, sym, ◌∙◌, ap, subst, inl, inr, ⊎_elim, arith}
+use Rattle.std.proofs.Common.{◌≡◌, ◌⊎◌, ℕ, zero, suc, ◌+◌, ◌<◌, ◌≤◌, Bool, true, false, List, [], ◌∷◌, length, get_or, set, Some, refl, sym, ◌∙◌, ap, subst, inl, inr, ⊎_elim, arith}
 use Rattle.std.specs.List.{Contains}
 use Rattle.std.proofs.lemmas.List.{get_or-set_same, get_or-set_other, length-set}
 use Rattle.std.proofs.lemmas.Bool.{cases_lt, cases_eq}
+use Rattle.programs.specs.declared.ast.AlwaysId.{AlwaysId}
 use Rattle.programs.specs.declared.ast.TxId.{TxId}
 use Rattle.programs.specs.declared.ast.Outcome.{Outcome}
 use Rattle.programs.specs.declared.ast.Outcome.TheVariants.{Returned, Thrown, Retries}
 use Rattle.programs.specs.declared.ast.Fault.TheVariants.{User, Overflow, DivideByZero, Broken}
+use Rattle.programs.specs.LawfulReport.{OutcomeKnown}
 use Rattle.programs.specs.Listing.{Listing, program_at}
 use Rattle.programs.specs.Meaning.{outcome}
 use Rattle.explore_law.specs.declared.found.Kinds.{Kinds}
@@ -16,40 +18,60 @@ use Rattle.explore_places.specs.Indexed.{place_at}
 use Rattle.explore.specs.Noting.{none_seen, noted}
 use Rattle.explore.specs.Searching.{IsTried, WasSeen, IsSearched}
 
-pub noted_new : (ks : Kinds) (o : Outcome) (kind : Kind) → kind_of o ≡ Some kind → shows (noted ks o) kind ≡ true
-noted_new ks (Returned v) Returning h = refl
-noted_new ks (Thrown (User v)) Throwing h = refl
-noted_new ks (Thrown Overflow) Overflowing h = refl
-noted_new ks (Thrown DivideByZero) DividingByZero h = refl
-noted_new ks (Thrown (Broken id)) Breaking h = refl
-noted_new ks o kind h = absurd (cc)
+-- a flag that is set, among the others
+set_shows : (bs : List Bool) (i j : ℕ) → get_or bs j false ≡ true → get_or (set bs i true) j false ≡ true
+set_shows [] i j h = absurd (cc)
+set_shows (b ∷ bs) zero zero h = refl
+set_shows (b ∷ bs) zero (suc j) h = h
+set_shows (b ∷ bs) (suc i) zero h = h
+set_shows (b ∷ bs) (suc i) (suc j) h = set_shows bs i j h
+
+set_only : (bs : List Bool) (i j : ℕ) → get_or (set bs i true) j false ≡ true → (get_or bs j false ≡ true) ⊎ (i ≡ j)
+set_only [] i j h = absurd (cc)
+set_only (b ∷ bs) zero zero h = inr refl
+set_only (b ∷ bs) zero (suc j) h = inl h
+set_only (b ∷ bs) (suc i) zero h = inl h
+set_only (b ∷ bs) (suc i) (suc j) h = ⊎_elim (λ (k : get_or bs j false ≡ true). inl k) (λ (e : i ≡ j). inr (ap suc e)) (set_only bs i j h)
+
+abbrev condition : ℕ → AlwaysId
+condition n = record { 0 = n }
+
+pub noted_new : (ks : Kinds) (o : Outcome) (kind : Kind) → OutcomeKnown (length ks.broke) o → kind_of o ≡ Some kind → shows (noted ks o) kind ≡ true
+noted_new ks (Returned v) Returning known h = refl
+noted_new ks (Thrown (User v)) Throwing known h = refl
+noted_new ks (Thrown Overflow) Overflowing known h = refl
+noted_new ks (Thrown DivideByZero) DividingByZero known h = refl
+noted_new ks (Thrown (Broken id)) (Breaking j) known h =
+    let same : id ≡ j = cc in
+    subst (λ (c : AlwaysId). get_or (set ks.broke id.0 true) c.0 false ≡ true) same (get_or-set_same ks.broke id.0 true false known)
+noted_new ks o kind known h = absurd (cc)
 
 pub noted_old : (ks : Kinds) (o : Outcome) (kind : Kind) → shows ks kind ≡ true → shows (noted ks o) kind ≡ true
 noted_old ks (Returned v) Returning h = refl
 noted_old ks (Returned v) Throwing h = h
 noted_old ks (Returned v) Overflowing h = h
 noted_old ks (Returned v) DividingByZero h = h
-noted_old ks (Returned v) Breaking h = h
+noted_old ks (Returned v) (Breaking j) h = h
 noted_old ks (Thrown (User v)) Returning h = h
 noted_old ks (Thrown (User v)) Throwing h = refl
 noted_old ks (Thrown (User v)) Overflowing h = h
 noted_old ks (Thrown (User v)) DividingByZero h = h
-noted_old ks (Thrown (User v)) Breaking h = h
+noted_old ks (Thrown (User v)) (Breaking j) h = h
 noted_old ks (Thrown Overflow) Returning h = h
 noted_old ks (Thrown Overflow) Throwing h = h
 noted_old ks (Thrown Overflow) Overflowing h = refl
 noted_old ks (Thrown Overflow) DividingByZero h = h
-noted_old ks (Thrown Overflow) Breaking h = h
+noted_old ks (Thrown Overflow) (Breaking j) h = h
 noted_old ks (Thrown DivideByZero) Returning h = h
 noted_old ks (Thrown DivideByZero) Throwing h = h
 noted_old ks (Thrown DivideByZero) Overflowing h = h
 noted_old ks (Thrown DivideByZero) DividingByZero h = refl
-noted_old ks (Thrown DivideByZero) Breaking h = h
+noted_old ks (Thrown DivideByZero) (Breaking j) h = h
 noted_old ks (Thrown (Broken id)) Returning h = h
 noted_old ks (Thrown (Broken id)) Throwing h = h
 noted_old ks (Thrown (Broken id)) Overflowing h = h
 noted_old ks (Thrown (Broken id)) DividingByZero h = h
-noted_old ks (Thrown (Broken id)) Breaking h = refl
+noted_old ks (Thrown (Broken id)) (Breaking j) h = set_shows ks.broke id.0 j.0 h
 noted_old ks Retries kind h = h
 
 pub noted_only : (ks : Kinds) (o : Outcome) (kind : Kind) → shows (noted ks o) kind ≡ true → (shows ks kind ≡ true) ⊎ (kind_of o ≡ Some kind)
@@ -57,27 +79,28 @@ noted_only ks (Returned v) Returning h = inr refl
 noted_only ks (Returned v) Throwing h = inl h
 noted_only ks (Returned v) Overflowing h = inl h
 noted_only ks (Returned v) DividingByZero h = inl h
-noted_only ks (Returned v) Breaking h = inl h
+noted_only ks (Returned v) (Breaking j) h = inl h
 noted_only ks (Thrown (User v)) Returning h = inl h
 noted_only ks (Thrown (User v)) Throwing h = inr refl
 noted_only ks (Thrown (User v)) Overflowing h = inl h
 noted_only ks (Thrown (User v)) DividingByZero h = inl h
-noted_only ks (Thrown (User v)) Breaking h = inl h
+noted_only ks (Thrown (User v)) (Breaking j) h = inl h
 noted_only ks (Thrown Overflow) Returning h = inl h
 noted_only ks (Thrown Overflow) Throwing h = inl h
 noted_only ks (Thrown Overflow) Overflowing h = inr refl
 noted_only ks (Thrown Overflow) DividingByZero h = inl h
-noted_only ks (Thrown Overflow) Breaking h = inl h
+noted_only ks (Thrown Overflow) (Breaking j) h = inl h
 noted_only ks (Thrown DivideByZero) Returning h = inl h
 noted_only ks (Thrown DivideByZero) Throwing h = inl h
 noted_only ks (Thrown DivideByZero) Overflowing h = inl h
 noted_only ks (Thrown DivideByZero) DividingByZero h = inr refl
-noted_only ks (Thrown DivideByZero) Breaking h = inl h
+noted_only ks (Thrown DivideByZero) (Breaking j) h = inl h
 noted_only ks (Thrown (Broken id)) Returning h = inl h
 noted_only ks (Thrown (Broken id)) Throwing h = inl h
 noted_only ks (Thrown (Broken id)) Overflowing h = inl h
 noted_only ks (Thrown (Broken id)) DividingByZero h = inl h
-noted_only ks (Thrown (Broken id)) Breaking h = inr refl
+noted_only ks (Thrown (Broken id)) (Breaking j) h =
+    ⊎_elim (λ (k : get_or ks.broke j.0 false ≡ true). inl k) (λ (e : id.0 ≡ j.0). inr (ap (λ (n : ℕ). Some (Breaking (condition n))) e)) (set_only ks.broke id.0 j.0 h)
 noted_only ks Retries kind h = inl h
 
 abbrev transaction : ℕ → TxId
@@ -148,9 +171,9 @@ searched_none l ps kinds ends c tx none s =
     searched_more l ps kinds kinds ends c tx (λ turn. absurd (none turn)) refl (λ t kind low h. h) (λ kind turn e. absurd (none turn)) (λ t kind low h. inl h) s
 
 pub searched_some : (l : Listing) (ps : List Place) (kinds : List Kinds) (ends : List ℕ) (c : ℕ) (tx : TxId) (o : Outcome)
-    → c < length ps → tx.0 < length kinds → HasTurn l (place_at ps c) tx → outcome (program_at l tx) (place_at ps c).state ≡ o → Contains ps (turned l (place_at ps c) tx)
+    → c < length ps → tx.0 < length kinds → OutcomeKnown (length (get_or kinds tx.0 none_seen).broke) o → HasTurn l (place_at ps c) tx → outcome (program_at l tx) (place_at ps c).state ≡ o → Contains ps (turned l (place_at ps c) tx)
     → IsSearched l ps kinds ends c tx.0 → IsSearched l ps (set kinds tx.0 (noted (get_or kinds tx.0 none_seen) o)) ends c (tx.0 + 1)
-searched_some l ps kinds ends c tx o here low turn is leads s =
+searched_some l ps kinds ends c tx o here low fits turn is leads s =
     let ks = get_or kinds tx.0 none_seen in
     let more = set kinds tx.0 (noted ks o) in
     let at : get_or more tx.0 none_seen ≡ noted ks o = get_or-set_same kinds tx.0 (noted ks o) none_seen low in
@@ -162,7 +185,7 @@ searched_some l ps kinds ends c tx o here low turn is leads s =
     subst (λ (n : ℕ). P kind (get_or more n none_seen)) (sym e) (subst (P kind) (sym at) (noted_old ks o kind before)))
     (λ (e : t.0 ≡ tx.0 → ⊥). subst (P kind) (sym (get_or-set_other kinds tx.0 t.0 (noted ks o) none_seen e)) h)
     (cases_eq t.0 tx.0))
-    (λ kind t e. subst (P kind) (sym at) (noted_new ks o kind (ap kind_of (sym is) ∙ e)))
+    (λ kind t e. subst (P kind) (sym at) (noted_new ks o kind fits (ap kind_of (sym is) ∙ e)))
     (λ t kind within h.
     ⊎_elim (λ (e : t.0 ≡ tx.0).
     let shown : P kind (noted ks o) = subst (P kind) at (subst (λ (n : ℕ). P kind (get_or more n none_seen)) e h) in

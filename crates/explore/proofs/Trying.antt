@@ -4,6 +4,12 @@ use Rattle.std.specs.Bool.{Decides}
 use Rattle.std.specs.List.{Contains}
 use Rattle.programs.specs.declared.ast.TxId.{TxId}
 use Rattle.programs.specs.declared.ast.Outcome.{Outcome}
+use Rattle.programs.specs.declared.ast.Outcome.TheVariants.{Returned, Thrown, Retries}
+use Rattle.programs.specs.declared.ast.Fault.TheVariants.{User, Overflow, DivideByZero, Broken}
+use Rattle.programs.specs.Limits.{limits_hold}
+use Rattle.programs.proofs.Lawful.{limits_parts}
+use Rattle.programs.proofs.Faults.{outcome_known}
+use Rattle.programs.specs.LawfulReport.{OutcomeKnown}
 use Rattle.programs.specs.Listing.{Listing, program_at}
 use Rattle.programs.specs.Meaning.{outcome}
 use Rattle.std.proofs.lemmas.Bool.{cases_lt, true≢false}
@@ -43,9 +49,9 @@ leads_reached l s kinds ends c k tx p q o is low to h =
     subst (Reached l) (sym to.leads) (reached_more l p tx here to.turn)
 
 pub tried_some : (l : Listing) (limit : ℕ) (s new : Shelf) (kinds : List Kinds) (ends : List ℕ) (c : ℕ) (tx : TxId) (p q : Place) (o : Outcome) → p ≡ place_at s.places c → c < length s.places
-    → tx.0 < length l.transactions → TurnsTo l p tx q o → Adds s new q → length q.state ≡ s.variables → length q.left ≡ s.transactions → length new.places ≤ limit
+    → tx.0 < length l.transactions → OutcomeKnown (length (get_or kinds tx.0 none_seen).broke) o → TurnsTo l p tx q o → Adds s new q → length q.state ≡ s.variables → length q.left ≡ s.transactions → length new.places ≤ limit
     → IsUnderWay l limit s kinds ends c tx.0 → IsUnderWay l limit new (set kinds tx.0 (noted (get_or kinds tx.0 none_seen) o)) ends c (tx.0 + 1)
-tried_some l limit s new kinds ends c tx p q o is low known to adds wide deep few h =
+tried_some l limit s new kinds ends c tx p q o is low known fits to adds wide deep few h =
     let reached = leads_reached l s kinds ends c tx.0 tx p q o is low to h.searched in
     let grown = searched_grows l s new q kinds ends c tx.0 adds reached low h.searched in
     let g = adds_grows s new q adds in
@@ -53,7 +59,7 @@ tried_some l limit s new kinds ends c tx p q o is low known to adds wide deep fe
     let there : Contains new.places (turned l p tx) = subst (Contains new.places) to.leads (adds_contains s new q adds) in
     let P : Place → Type 0 = λ x. (length x.state ≡ s.variables) × (length x.left ≡ s.transactions) in
     record {
-      searched = searched_some l new.places kinds ends c tx o (omega (arith, low, g.longer)) (omega (arith, known, h.searched.each)) (subst (λ (x : Place). HasTurn l x tx) at to.turn)
+      searched = searched_some l new.places kinds ends c tx o (omega (arith, low, g.longer)) (omega (arith, known, h.searched.each)) fits (subst (λ (x : Place). HasTurn l x tx) at to.turn)
           (ap (λ (x : Place). outcome (program_at l tx) x.state) (sym at) ∙ to.ends) (subst (λ (x : Place). Contains new.places (turned l x tx)) at there) grown;
       variables = adds.variables ∙ h.variables;
       transactions = adds.transactions ∙ h.transactions;
@@ -119,3 +125,16 @@ ended_on l limit s kinds ends c n all low none h =
       few = h.few;
       small = h.small;
     }
+
+-- a condition that the outcome names has a flag
+pub outcome_more : (m n : ℕ) (o : Outcome) → m ≤ n → OutcomeKnown m o → OutcomeKnown n o
+outcome_more m n (Returned v) h known = tt
+outcome_more m n (Thrown (User v)) h known = tt
+outcome_more m n (Thrown Overflow) h known = tt
+outcome_more m n (Thrown DivideByZero) h known = tt
+outcome_more m n (Thrown (Broken id)) h known = let low : id.0 < m = known in omega (arith, low, h)
+outcome_more m n Retries h known = tt
+
+pub turn_flagged : (l : Listing) (p q : Place) (tx : TxId) (o : Outcome) → limits_hold l ≡ true → TurnsTo l p tx q o → OutcomeKnown 64 o
+turn_flagged l p q tx o rules to =
+    outcome_more (length l.always) 64 o (omega (arith, (limits_parts l rules).conditions_few)) (subst (OutcomeKnown (length l.always)) to.ends (outcome_known l tx p.state))

@@ -1,3 +1,4 @@
 pub mod Turns
 pub mod Noting
 pub mod Searching
+pub mod Charted

@@ -1,17 +1,17 @@
 -- Which outcomes were seen, with one more.
-use Rattle.std.specs.Prelude.{true, false}
+use Rattle.std.specs.Prelude.{true, false, replicate, slice_set}
 use Rattle.programs.specs.declared.ast.Outcome.{Outcome}
 use Rattle.programs.specs.declared.ast.Outcome.TheVariants.{Returned, Thrown, Retries}
 use Rattle.programs.specs.declared.ast.Fault.TheVariants.{User, Overflow, DivideByZero, Broken}
 use Rattle.explore_law.specs.declared.found.Kinds.{Kinds}
 
 abbrev pub none_seen : Kinds
-none_seen = record { returned = false; threw = false; overflow = false; zerodiv = false; broke = false }
+none_seen = record { returned = false; threw = false; overflow = false; zerodiv = false; broke = replicate 64 false }
 
 abbrev pub noted : Kinds → Outcome → Kinds
 noted ks (Returned v) = record { returned = true; threw = ks.threw; overflow = ks.overflow; zerodiv = ks.zerodiv; broke = ks.broke }
 noted ks (Thrown (User v)) = record { returned = ks.returned; threw = true; overflow = ks.overflow; zerodiv = ks.zerodiv; broke = ks.broke }
 noted ks (Thrown Overflow) = record { returned = ks.returned; threw = ks.threw; overflow = true; zerodiv = ks.zerodiv; broke = ks.broke }
 noted ks (Thrown DivideByZero) = record { returned = ks.returned; threw = ks.threw; overflow = ks.overflow; zerodiv = true; broke = ks.broke }
-noted ks (Thrown (Broken id)) = record { returned = ks.returned; threw = ks.threw; overflow = ks.overflow; zerodiv = ks.zerodiv; broke = true }
+noted ks (Thrown (Broken id)) = record { returned = ks.returned; threw = ks.threw; overflow = ks.overflow; zerodiv = ks.zerodiv; broke = slice_set ks.broke id.0 true }
 noted ks Retries = ks

@@ -7,8 +7,8 @@ ghost use Rattle.explore_law.specs.Orders.{counted};
 use std::alloc::{AllocError, Global};
 use txn::{Catalogue, TaskId};
 
-/// For each transaction how many of the tasks run it.
-pub(crate) fn task_counts(alloc: Global, catalogue: &Catalogue) -> Result<Vec<u32>, AllocError>
+/// For each transaction how many of the tasks run it. `Err` where memory was refused.
+pub fn task_counts(alloc: Global, catalogue: &Catalogue) -> Result<Vec<u32>, AllocError>
     ensures { IfOk result (λ counts. counts.items ≡ counted (length catalogue.now.transactions) (tasks catalogue.now)) }
 {
     let mut counts = vec![in alloc; 0; catalogue.tx_count()]?;

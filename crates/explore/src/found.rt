@@ -6,15 +6,19 @@ ghost use Rattle.explore_law.specs.Orders.{Place};
 ghost use Rattle.explore_law.specs.Explored.{Explored, ReachesMore, end_place, place_cmp};
 ghost use Rattle.explore_places.specs.Indexed.{place_at};
 ghost use Rattle.explore.specs.Searching.{IsUnderWay, first_shelf};
+ghost use Rattle.explore_law.specs.Ways.{WayOfEnd};
+ghost use Rattle.explore.specs.Charted.{IsCharted};
 ghost use Rattle.explore.specs.Noting.{none_seen};
 
 use crate::counts::task_counts;
 use crate::search::{Search, copy, try_orders};
+use crate::way::{number_of, way_to};
 use explore_law::{End, Found, Kinds};
 use explore_places::Places;
 use std::alloc::{AllocError, Global};
 use thiserror::Error;
-use txn::{Catalogue, Memory};
+use txn::limits::MAX_CONDITIONS;
+use txn::{Catalogue, Memory, TxId};
 
 /// The most places that can be asked for.
 pub const MAX_STATES: u32 = 16_777_216;
@@ -61,9 +65,7 @@ pub fn explore(alloc: Global, catalogue: &Catalogue, limit: u32) -> Result<Found
     ensures few { IfOk result (λ f. f.states ≤ limit) }
     ensures more { IfErr result (λ e. e ≡ Unexplored.More → ReachesMore catalogue.now limit) }
 {
-    let limit = limit as usize;
-    let mut s = begin(alloc, catalogue, limit)?;
-    try_orders(alloc, &mut s, catalogue, limit)?;
+    let s = searched(alloc, catalogue, limit as usize)?;
     s.places.law();
     let ends = end_places(alloc, &s.places, s.ends.as_slice())?;
     Ok(Found {
@@ -73,12 +75,53 @@ pub fn explore(alloc: Global, catalogue: &Catalogue, limit: u32) -> Result<Found
     })
 }
 
+/// Turns that lead from the first place to the end of this number, counted from 0, of those that
+/// `explore` finds; no fewer turns do. `None` where there are no more than so many ends.
+///
+/// `More` where more than `limit` places are reached; then nothing is said of them. `Memory` where
+/// a growth was refused.
+pub fn way_to_end(
+    alloc: Global,
+    catalogue: &Catalogue,
+    limit: u32,
+    end: usize,
+) -> Result<Option<Vec<TxId>>, Unexplored>
+    requires { limit ≤ MAX_STATES }
+    ensures way { IfOk result (WayOfEnd catalogue.now end) }
+    ensures more { IfErr result (λ e. e ≡ Unexplored.More → ReachesMore catalogue.now limit) }
+{
+    let s = searched(alloc, catalogue, limit as usize)?;
+    s.places.law();
+    let ends = end_places(alloc, &s.places, s.ends.as_slice())?;
+    let Some(end) = ends.get(end) else {
+        return Ok(None);
+    };
+    let Some(number) = number_of(&s.places, s.ends.as_slice(), end) else {
+        return Ok(None);
+    };
+    let way = way_to(alloc, catalogue, &s.places, s.came.as_slice(), number)?;
+    Ok(Some(way))
+}
+
+/// The search that has tried each turn at each place that is reached.
+fn searched(alloc: Global, catalogue: &Catalogue, limit: usize) -> Result<Search, Unexplored>
+    requires { limit ≤ MAX_STATES }
+    ensures done { IfOk result (λ s. IsUnderWay catalogue.now limit s.places s.kinds.items s.ends.items (length s.places.places) 0) }
+    ensures charted { IfOk result (λ s. IsCharted catalogue.now s.places.places s.came.items) }
+    ensures more { IfErr result (λ e. e ≡ Unexplored.More → ReachesMore catalogue.now limit) }
+{
+    let mut s = begin(alloc, catalogue, limit)?;
+    try_orders(alloc, &mut s, catalogue, limit)?;
+    Ok(s)
+}
+
 /// The search that knows the first place alone.
 fn begin(alloc: Global, catalogue: &Catalogue, limit: usize) -> Result<Search, Unexplored>
     requires { limit ≤ MAX_STATES }
     ensures begun { IfOk result (λ s. IsUnderWay catalogue.now limit s.places s.kinds.items s.ends.items 0 0) }
     ensures first { IfOk result (λ s. s.places ≡ first_shelf catalogue.now) }
     ensures none { IfOk result (λ s. s.ends.items ≡ []) }
+    ensures charted { IfOk result (λ s. IsCharted catalogue.now s.places.places s.came.items) }
     ensures more { IfErr result (λ e. e ≡ Unexplored.More → ReachesMore catalogue.now limit) }
 {
     if limit == 0 {
@@ -88,6 +131,7 @@ fn begin(alloc: Global, catalogue: &Catalogue, limit: usize) -> Result<Search, U
     let places = first_listed(alloc, catalogue, limit)?;
     Ok(Search {
         places,
+        came: Vec::new(alloc),
         kinds,
         ends: Vec::new(alloc),
         values: Vec::new(alloc),
@@ -99,14 +143,20 @@ fn begin(alloc: Global, catalogue: &Catalogue, limit: usize) -> Result<Search, U
 fn no_kinds(alloc: Global, count: usize) -> Result<Vec<Kinds>, AllocError>
     ensures { IfOk result (λ kinds. kinds.items ≡ replicate count none_seen) }
 {
-    let none = Kinds {
+    let none = no_kind();
+    vec![in alloc; none; count]
+}
+
+fn no_kind() -> Kinds
+    ensures { result ≡ none_seen }
+{
+    Kinds {
         returned: false,
         threw: false,
         overflow: false,
         zerodiv: false,
-        broke: false,
-    };
-    vec![in alloc; none; count]
+        broke: [false; MAX_CONDITIONS],
+    }
 }
 
 /// The list of the first place alone.

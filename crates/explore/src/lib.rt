@@ -10,6 +10,8 @@ mod counts;
 mod found;
 mod search;
 mod turn;
+mod way;
 
+pub use counts::task_counts;
 pub use explore_law::{End, Found, Kinds};
-pub use found::{MAX_STATES, Unexplored, explore};
+pub use found::{MAX_STATES, Unexplored, explore, way_to_end};

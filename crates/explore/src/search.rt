@@ -7,6 +7,8 @@ ghost use Rattle.explore_law.specs.Orders.{HasTurn};
 ghost use Rattle.explore_law.specs.Explored.{ReachesMore};
 ghost use Rattle.explore_law.specs.declared.found.Kinds.{Kinds};
 ghost use Rattle.explore_places.specs.Indexed.{place_at};
+ghost use Rattle.programs.specs.LawfulReport.{OutcomeKnown};
+ghost use Rattle.explore.specs.Charted.{Charts, IsCharted};
 ghost use Rattle.explore.specs.Noting.{noted};
 ghost use Rattle.explore.specs.Searching.{IsUnderWay, StaysAt, first_shelf};
 
@@ -18,10 +20,19 @@ use explore_places::Places;
 use std::alloc::{AllocError, Global};
 use txn::{Catalogue, Fault, Outcome, TxId};
 
+/// From which place, and by a turn of which transaction, a place was found.
+#[derive(Clone, Copy)]
+pub(crate) struct Came {
+    pub(crate) from: u32,
+    pub(crate) by: TxId,
+}
+
 /// What was found so far.
 #[derive(Drop)]
 pub(crate) struct Search {
     pub(crate) places: Places,
+    /// For each place but the first, how it was found.
+    pub(crate) came: Vec<Came>,
     /// For each transaction, how its turns ended.
     pub(crate) kinds: Vec<Kinds>,
     /// The numbers of the places without a turn.
@@ -41,7 +52,9 @@ pub(crate) fn try_orders(
     requires begun { IsUnderWay catalogue.now limit s.old.places s.old.kinds.items s.old.ends.items 0 0 }
     requires first { s.old.places ≡ first_shelf catalogue.now }
     requires none { s.old.ends.items ≡ [] }
+    requires charted { IsCharted catalogue.now s.old.places.places s.old.came.items }
     ensures done { OnOk result (IsUnderWay catalogue.now limit s.new.places s.new.kinds.items s.new.ends.items (length s.new.places.places) 0) }
+    ensures charted { OnOk result (IsCharted catalogue.now s.new.places.places s.new.came.items) }
     ensures more { IfErr result (λ e. e ≡ Unexplored.More → ReachesMore catalogue.now limit) }
 {
     if catalogue.tx_count() == 0 {
@@ -60,7 +73,9 @@ fn try_places<'a>(
     limit: usize,
 ) -> Result<(), Unexplored>
     requires begun { IsUnderWay catalogue.now limit s.old.places s.old.kinds.items s.old.ends.items 0 0 }
+    requires charted { IsCharted catalogue.now s.old.places.places s.old.came.items }
     ensures done { OnOk result (IsUnderWay catalogue.now limit s.new.places s.new.kinds.items s.new.ends.items (length s.new.places.places) 0) }
+    ensures charted { OnOk result (IsCharted catalogue.now s.new.places.places s.new.came.items) }
     ensures more { IfErr result (λ e. e ≡ Unexplored.More → ReachesMore catalogue.now limit) }
 {
     let mut i = 0;
@@ -81,8 +96,10 @@ fn try_all<'a>(
 ) -> Result<(), Unexplored>
     requires listed { i < length s.old.places.places }
     requires so_far { IsUnderWay catalogue.now limit s.old.places s.old.kinds.items s.old.ends.items i 0 }
+    requires charted { IsCharted catalogue.now s.old.places.places s.old.came.items }
     ensures on { OnOk result (IsUnderWay catalogue.now limit s.new.places s.new.kinds.items s.new.ends.items (i + 1) 0) }
     ensures listed { OnOk result (i < length s.new.places.places) }
+    ensures charted { OnOk result (IsCharted catalogue.now s.new.places.places s.new.came.items) }
     ensures more { IfErr result (λ e. e ≡ Unexplored.More → ReachesMore catalogue.now limit) }
 {
     catalogue.rules();
@@ -111,11 +128,14 @@ fn try_turn<'a>(
     requires known { tx.0 < length catalogue.now.transactions }
     requires listed { i < length s.old.places.places }
     requires so_far { IsUnderWay catalogue.now limit s.old.places s.old.kinds.items s.old.ends.items i tx.0 }
+    requires charted { IsCharted catalogue.now s.old.places.places s.old.came.items }
     ensures on { OnOk result (IsUnderWay catalogue.now limit s.new.places s.new.kinds.items s.new.ends.items i (tx.0 + 1)) }
     ensures stays { OnOk result (StaysAt s.old.places s.new.places i) }
     ensures turn { IfOk result (λ moves. Decides moves (HasTurn catalogue.now (place_at s.old.places.places i) tx)) }
+    ensures charted { OnOk result (IsCharted catalogue.now s.new.places.places s.new.came.items) }
     ensures more { IfErr result (λ e. e ≡ Unexplored.More → ReachesMore catalogue.now limit) }
 {
+    catalogue.rules();
     copy(&mut s.values, s.places.values(i))?;
     copy(&mut s.left, s.places.left(i))?;
     let turn = take_turn(attempt, catalogue, tx, &mut s.values, &mut s.left)?;
@@ -127,8 +147,23 @@ fn try_turn<'a>(
     if s.places.len() > limit {
         return Err(Unexplored::More);
     }
+    let step = Came {
+        from: i as u32,
+        by: tx,
+    };
+    chart(&mut s.came, s.places.len(), step)?;
     s.kinds[tx.0 as usize] = note(s.kinds[tx.0 as usize], outcome);
     Ok(true)
+}
+
+/// Notes how the last of so many places was found, unless that is known.
+fn chart(came: &mut Vec<Came>, places: usize, step: Came) -> Result<(), AllocError>
+    ensures { OnOk result (Charts came.old.items places step came.new.items) }
+{
+    if came.len() + 1 < places {
+        came.push(step)?;
+    }
+    Ok(())
 }
 
 fn note_end(ends: &mut Vec<u32>, i: u32) -> Result<(), AllocError>
@@ -140,7 +175,9 @@ fn note_end(ends: &mut Vec<u32>, i: u32) -> Result<(), AllocError>
 
 /// The outcomes that were seen, with one more.
 fn note(kinds: Kinds, outcome: Outcome) -> Kinds
-    ensures { result ≡ noted kinds outcome }
+    requires { OutcomeKnown 64 outcome }
+    ensures value { result ≡ noted kinds outcome }
+    ensures flags { length kinds.broke ≡ 64 }
 {
     let mut kinds = kinds;
     match outcome {
@@ -148,7 +185,7 @@ fn note(kinds: Kinds, outcome: Outcome) -> Kinds
         Outcome::Thrown(Fault::User(_)) => kinds.threw = true,
         Outcome::Thrown(Fault::Overflow) => kinds.overflow = true,
         Outcome::Thrown(Fault::DivideByZero) => kinds.zerodiv = true,
-        Outcome::Thrown(Fault::Broken(_)) => kinds.broke = true,
+        Outcome::Thrown(Fault::Broken(id)) => kinds.broke[id.0 as usize] = true,
         Outcome::Retries => {}
     }
     kinds

@@ -1,10 +1,11 @@
 -- What an exact answer says of all orders.
-use Rattle.std.specs.Prelude.{◌≡◌, ◌↔◌, ℕ, ◌<◌, Bool, true, false, List, map, length, Option, Some, None, slice_get}
+use Rattle.std.specs.Prelude.{◌≡◌, ◌↔◌, ℕ, ◌<◌, Bool, true, false, List, map, length, Option, Some, None, slice_get, slice_index_or}
 use Rattle.std.specs.List.{Contains}
 use Rattle.std.specs.List.Sorted.{IsSorted}
 use Rattle.std.specs.Cmp.Lexicographic.{slice_cmp}
 use Rattle.std.specs.declared.cmp.Ordering.{Ordering}
 use Rattle.std.specs.Ordering.{int_cmp, nat_cmp, ordering_then}
+use Rattle.programs.specs.declared.ast.AlwaysId.{AlwaysId}
 use Rattle.programs.specs.declared.ast.TxId.{TxId}
 use Rattle.programs.specs.declared.ast.Outcome.{Outcome}
 use Rattle.programs.specs.declared.ast.Outcome.TheVariants.{Returned, Thrown, Retries}
@@ -22,14 +23,14 @@ pub data Kind : Type 0 where
   Throwing : Kind
   Overflowing : Kind
   DividingByZero : Kind
-  Breaking : Kind
+  Breaking : (id : AlwaysId) → Kind
 
 abbrev pub kind_of : Outcome → Option Kind
 kind_of (Returned v) = Some Returning
 kind_of (Thrown (User v)) = Some Throwing
 kind_of (Thrown Overflow) = Some Overflowing
 kind_of (Thrown DivideByZero) = Some DividingByZero
-kind_of (Thrown (Broken id)) = Some Breaking
+kind_of (Thrown (Broken id)) = Some (Breaking id)
 kind_of Retries = None
 
 -- whether the kind is among those
@@ -38,7 +39,7 @@ shows ks Returning = ks.returned
 shows ks Throwing = ks.threw
 shows ks Overflowing = ks.overflow
 shows ks DividingByZero = ks.zerodiv
-shows ks Breaking = ks.broke
+shows ks (Breaking id) = slice_index_or ks.broke id.0 false
 
 -- some turn of the transaction, at a reached place, ends so
 pub record Somewhere (l : Listing) (tx : TxId) (kind : Kind) : Type 0 where

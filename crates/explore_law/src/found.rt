@@ -1,5 +1,7 @@
 //! What is found of all orders.
 
+use programs::limits::MAX_CONDITIONS;
+
 /// A place without a turn: the values, and for each transaction how many of its tasks wait.
 #[derive(Debug, PartialEq, Eq, PartialOrd, Ord, Drop)]
 pub struct End {
@@ -14,8 +16,8 @@ pub struct Kinds {
     pub threw: bool,
     pub overflow: bool,
     pub zerodiv: bool,
-    /// It was thrown that a standing condition is broken.
-    pub broke: bool,
+    /// For each standing condition, whether it was thrown that it is broken.
+    pub broke: [bool; MAX_CONDITIONS],
 }
 
 /// What is found of all orders of a file's tasks.

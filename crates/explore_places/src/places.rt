@@ -81,6 +81,14 @@ impl Places {
         self.rows.left(i)
     }
 
+    /// Whether the place of this number has these values and counts.
+    pub fn is_at(&self, i: usize, values: &[i64], left: &[u32]) -> bool
+        requires { i < length self.now.places }
+        ensures { Decides result (slice_index_or self.now.places i nowhere ≡ place values.now left.now) }
+    {
+        self.rows.is_at(i, values, left)
+    }
+
     /// No place is listed twice. It does nothing: its contract is the law.
     pub fn law(&self)
         ensures { IsOnce self.now.places }

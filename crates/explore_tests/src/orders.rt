@@ -2,8 +2,9 @@
 
 ghost use Rattle.std.specs.Prelude.{◌≤◌};
 
-use explore::{End, Found, Kinds, Unexplored, explore};
+use explore::{End, Found, Kinds, Unexplored, explore, task_counts, way_to_end};
 use std::alloc::{AllocError, Global};
+use txn::TxId;
 use txn_text::read_file;
 
 const INCREMENT: &str = "(var x 5)(tx inc (set x (add x 1)) x)(run inc 2)";
@@ -85,12 +86,63 @@ fn the_outcomes_of_each_transaction_are_told(rt: HostRuntime) {
                 threw: true,
                 overflow: false,
                 zerodiv: false,
-                broke: false,
+                broke: [false; 64],
             };
             assert!(rt; found.kinds.first() == Some(&pay));
             assert!(rt; found.states == 3);
         }
         Err(_) => panic!(rt; "not explored"),
+    }
+}
+
+#[test]
+fn the_condition_that_is_broken_is_told(rt: HostRuntime) {
+    let text =
+        "(stm 2)(var x 1)(always low (lt x 9))(always high (lt 0 x))(tx t (set x (sub x 1)) x)(run t 1)";
+    match found(rt.alloc(), text, 1_000_000) {
+        Ok(found) => match found.kinds.first() {
+            Some(kinds) => {
+                assert!(rt; kinds.broke[1] && !kinds.broke[0]);
+                assert!(rt; !kinds.returned && !kinds.threw);
+            }
+            None => panic!(rt; "no kinds"),
+        },
+        Err(_) => panic!(rt; "not explored"),
+    }
+}
+
+/// The turns of the way to the end of this number, if there is one.
+fn way(alloc: Global, text: &str, end: usize) -> Option<Vec<TxId>> {
+    match read_file(alloc, text.as_bytes()) {
+        Ok(catalogue) => way_to_end(alloc, &catalogue, 1_000_000, end).ok().flatten(),
+        Err(_) => None,
+    }
+}
+
+#[test]
+fn the_way_to_where_two_wait_is_told(rt: HostRuntime) {
+    let alloc = rt.alloc();
+    match way(alloc, FORKS, 1) {
+        Some(way) => assert!(rt; way.as_slice() == [TxId(0), TxId(2)].as_slice()),
+        None => panic!(rt; "no way"),
+    }
+    assert!(rt; way(alloc, FORKS, 2).is_none());
+    match way(alloc, "", 0) {
+        Some(way) => assert!(rt; way.is_empty()),
+        None => panic!(rt; "no way"),
+    }
+}
+
+#[test]
+fn tasks_are_counted_by_transaction(rt: HostRuntime) {
+    let alloc = rt.alloc();
+    let text = "(tx a (skip) 0)(tx b (skip) 0)(tx c (skip) 0)(run c 2)(run a 1)(run c 3)";
+    match read_file(alloc, text.as_bytes()) {
+        Ok(catalogue) => match task_counts(alloc, &catalogue) {
+            Ok(counts) => assert!(rt; counts.as_slice() == [1, 0, 5].as_slice()),
+            Err(_) => panic!(rt; "no memory"),
+        },
+        Err(_) => panic!(rt; "not read"),
     }
 }
 

@@ -5,6 +5,8 @@
 #![tactic(auto)]
 
 #[cfg(test)]
+mod many_workers;
+#[cfg(test)]
 mod one_byte;
 #[cfg(test)]
 mod parts;

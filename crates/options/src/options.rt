@@ -41,6 +41,14 @@ impl Options {
         })
     }
 
+    /// All bounds of the three numbers. It does nothing: its contract is the law.
+    pub fn law(&self)
+        ensures { AreAllowed self.now }
+    {
+        // To look at a field is to be told what the type keeps.
+        let _workers = self.workers;
+    }
+
     /// How many workers run the tasks.
     pub fn workers(&self) -> u32
         ensures value { result ≡ self.now.workers }

@@ -2,8 +2,8 @@
 
 use crate::ast::{TaskId, VarId};
 
-/// A line of a schedule. `Read` and `Commit` are several single steps played in a row, each other
-/// line is one.
+/// A line of a schedule. `Read`, `Commit` and `Move` are several single steps played in a row, each
+/// other line is one.
 #[derive(Clone, Copy, Debug, PartialEq, Eq)]
 pub enum Move {
     /// The task begins an attempt.
@@ -24,4 +24,8 @@ pub enum Move {
     Ask(TaskId),
     /// The one that commits does its next store.
     Word,
+    /// The task's latest attempt, which became stale at a load, runs again.
+    Again(TaskId),
+    /// .. and while it checks a variable, that is read.
+    Move(TaskId),
 }

@@ -27,7 +27,8 @@ fn an_end_is_held_until_the_other_committed(rt: HostRuntime) {
 #[test]
 fn a_need_is_held_until_the_other_committed(rt: HostRuntime) {
     let hold = Hold::new(NEEDS, FINISHED[1]);
-    hold_two(&rt, rt.alloc(), 8, hold, none(), SWAPPED);
+    let ends = hold_two(&rt, rt.alloc(), 8, hold, none(), SWAPPED);
+    assert_eq!(rt; ends, 1);
 }
 
 #[test]

@@ -14,6 +14,8 @@ mod outputs;
 #[cfg(test)]
 mod parts;
 #[cfg(test)]
+mod points;
+#[cfg(test)]
 mod refusals;
 #[cfg(test)]
 mod reports;

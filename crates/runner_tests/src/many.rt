@@ -164,3 +164,22 @@ fn eight_workers_count_to_a_thousand(rt: HostRuntime) {
     assert!(rt; fault.is_none());
     assert!(rt; text.as_slice().ends_with(b"\nnow 1000\nx 1005 1000\nend\n"));
 }
+
+/// A journal that begins anew at 300 entries is that of the last 100 of a thousand tasks.
+#[test]
+fn any_number_of_workers_keeps_the_journal_short(rt: HostRuntime) {
+    for workers in 1..17 {
+        let options = options(&rt, workers, 8, 300);
+        let (text, fault) = run_with(&rt, rt.alloc(), THOUSAND.as_bytes(), options);
+        assert!(rt; fault.is_none());
+        assert!(rt;
+            text.as_slice()
+                .starts_with(b"base 900\nx 905 900\nentry 901 "),
+            "of {workers}"
+        );
+        assert!(rt;
+            text.as_slice().ends_with(b"\nnow 1000\nx 1005 1000\nend\n"),
+            "of {workers}"
+        );
+    }
+}

@@ -1,6 +1,6 @@
 //! A run from bytes to bytes, and what has to come of it.
 
-use runner::{OpenGate, Options, Out, RunFault, run_bytes};
+use runner::{Gate, OpenGate, Options, Out, RunFault, run_bytes};
 use std::alloc::Global;
 use std::process::Abort;
 use std::sync::Wait;
@@ -25,6 +25,21 @@ pub(crate) fn run_with(
     let mut out = Out::new(Vec::new(alloc));
     let fault = run_bytes(rt, alloc, input, options, &OpenGate, &mut out).err();
     (out.into_inner(), fault)
+}
+
+/// What a run of the text with these options writes under a gate, `None` where it ends in a fault.
+pub(crate) fn run_under<G: Gate>(
+    rt: &(impl Threads + Wait + Sync),
+    alloc: Global,
+    input: &str,
+    options: Options,
+    gate: &G,
+) -> Option<Vec<u8>> {
+    let mut out = Out::new(Vec::new(alloc));
+    match run_bytes(rt, alloc, input.as_bytes(), options, gate, &mut out) {
+        Ok(()) => Some(out.into_inner()),
+        Err(_) => None,
+    }
 }
 
 /// What a run of the text by one worker writes, and the fault where it ends in one.

@@ -15,6 +15,7 @@ fn options_have_limits(rt: HostRuntime) {
         assert_eq!(rt; Options::new(workers, tries, checkpoint), None);
     }
     let options = options(&rt, 16, 64, 65536);
+    options.law();
     assert_eq!(rt; options.workers(), 16);
     assert_eq!(rt; options.tries(), 64);
     assert_eq!(rt; options.checkpoint(), 65536);

@@ -39,6 +39,8 @@ written_move l (move.Value task) = OfTask of_task.Value (decimal task.0)
 written_move l (move.Second task) = OfTask of_task.Second (decimal task.0)
 written_move l (move.Ask task) = OfTask of_task.Ask (decimal task.0)
 written_move l move.Word = Word
+written_move l (move.Again task) = OfTask of_task.Again (decimal task.0)
+written_move l (move.Move task) = OfTask of_task.Move (decimal task.0)
 
 -- the line is read as the move
 record ReadAgain (l : Listing) (r : Raw) (m : Move) : Type 0 where
@@ -79,6 +81,8 @@ move_again l keeps (move.Value task) h = of_task_again l keeps of_task.Value tas
 move_again l keeps (move.Second task) h = of_task_again l keeps of_task.Second task h
 move_again l keeps (move.Ask task) h = of_task_again l keeps of_task.Ask task h
 move_again l keeps move.Word h = record { words = tt; known = refl; told = refl; text = refl }
+move_again l keeps (move.Again task) h = of_task_again l keeps of_task.Again task h
+move_again l keeps (move.Move task) h = of_task_again l keeps of_task.Move task h
 
 -- ---- all lines
 

@@ -32,6 +32,8 @@ task_words l of_task.Drop task = refl
 task_words l of_task.Value task = refl
 task_words l of_task.Second task = refl
 task_words l of_task.Ask task = refl
+task_words l of_task.Again task = refl
+task_words l of_task.Move task = refl
 
 task_fits : (l : Listing) (v : TaskVerb) (task : TaskId) → TaskFits l task → MoveFits l (task_move v task)
 task_fits l of_task.Begin task h = h
@@ -40,6 +42,8 @@ task_fits l of_task.Drop task h = h
 task_fits l of_task.Value task h = h
 task_fits l of_task.Second task h = h
 task_fits l of_task.Ask task h = h
+task_fits l of_task.Again task h = h
+task_fits l of_task.Move task h = h
 
 pub variable_words : (l : Listing) (v : VariableVerb) (task : TaskId) (x : VarId) → move_words l (variable_move v task x) ≡ variable_word v ∷ decimal task.0 ∷ variable_name l x ∷ []
 variable_words l of_variable.Read task x = refl

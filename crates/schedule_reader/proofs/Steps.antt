@@ -42,7 +42,9 @@ task_verb_is word v e =
     (chosen_word task_word word (codes "drop") task.Drop v _ refl
     (chosen_word task_word word (codes "value") task.Value v _ refl
     (chosen_word task_word word (codes "second") task.Second v _ refl
-    (chosen_word task_word word (codes "ask") task.Ask v _ refl (no_word task_word word v)))))) e
+    (chosen_word task_word word (codes "ask") task.Ask v _ refl
+    (chosen_word task_word word (codes "again") task.Again v _ refl
+    (chosen_word task_word word (codes "move") task.Move v _ refl (no_word task_word word v)))))))) e
 
 task_verb_again : (v : TaskVerb) → task_verb (task_word v) ≡ Some v
 unfolding task_verb
@@ -52,6 +54,8 @@ task_verb_again task.Drop = refl
 task_verb_again task.Value = refl
 task_verb_again task.Second = refl
 task_verb_again task.Ask = refl
+task_verb_again task.Again = refl
+task_verb_again task.Move = refl
 
 variable_verb_is : (word : List ℕ) (v : VariableVerb) → variable_verb word ≡ Some v → word ≡ variable_word v
 unfolding variable_verb
@@ -81,6 +85,8 @@ task_word_is task.Drop = record { spaceless = refl; in_line = refl }
 task_word_is task.Value = record { spaceless = refl; in_line = refl }
 task_word_is task.Second = record { spaceless = refl; in_line = refl }
 task_word_is task.Ask = record { spaceless = refl; in_line = refl }
+task_word_is task.Again = record { spaceless = refl; in_line = refl }
+task_word_is task.Move = record { spaceless = refl; in_line = refl }
 
 pub variable_word_is : (v : VariableVerb) → IsVerb (variable_word v)
 variable_word_is variable.Read = record { spaceless = refl; in_line = refl }

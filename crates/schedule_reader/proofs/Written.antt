@@ -54,6 +54,8 @@ task_word_allowed task.Drop = refl
 task_word_allowed task.Value = refl
 task_word_allowed task.Second = refl
 task_word_allowed task.Ask = refl
+task_word_allowed task.Again = refl
+task_word_allowed task.Move = refl
 
 variable_word_allowed : (v : VariableVerb) → allowed (variable_word v) ≡ true
 variable_word_allowed variable.Read = refl

@@ -24,6 +24,8 @@ task_word of_task.Drop = codes "drop"
 task_word of_task.Value = codes "value"
 task_word of_task.Second = codes "second"
 task_word of_task.Ask = codes "ask"
+task_word of_task.Again = codes "again"
+task_word of_task.Move = codes "move"
 
 abbrev pub variable_word : VariableVerb → List ℕ
 variable_word of_variable.Read = codes "read"

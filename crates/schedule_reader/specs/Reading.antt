@@ -21,7 +21,9 @@ task_verb word =
     else (if bytes_eq word (codes "value") then Some task.Value
     else (if bytes_eq word (codes "second") then Some task.Second
     else (if bytes_eq word (codes "ask") then Some task.Ask
-    else None)))))
+    else (if bytes_eq word (codes "again") then Some task.Again
+    else (if bytes_eq word (codes "move") then Some task.Move
+    else None)))))))
 
 unfoldable pub variable_verb : List ℕ → Option VariableVerb
 variable_verb word =

@@ -43,6 +43,8 @@ task_move of_task.Drop task = move.Drop task
 task_move of_task.Value task = move.Value task
 task_move of_task.Second task = move.Second task
 task_move of_task.Ask task = move.Ask task
+task_move of_task.Again task = move.Again task
+task_move of_task.Move task = move.Move task
 
 abbrev pub variable_move : VariableVerb → TaskId → VarId → Move
 variable_move of_variable.Read task x = move.Read task x

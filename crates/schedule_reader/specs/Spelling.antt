@@ -5,7 +5,8 @@ use Rattle.std.specs.Fmt.{decimal}
 use Rattle.programs.specs.declared.ast.TaskId.{TaskId}
 use Rattle.programs.specs.declared.ast.VarId.{VarId}
 use Rattle.programs.specs.declared.moves.Move.{Move}
-use Rattle.programs.specs.declared.moves.Move.TheVariants.{Begin, Read, Commit, Drop, First, Value, Second, Ask, Word}
+use Rattle.programs.specs.declared.moves.Move.TheVariants as move
+use Rattle.programs.specs.declared.moves.Move.TheVariants.{Begin, Read, Commit, Drop, First, Value, Second, Ask, Word, Again}
 use Rattle.programs.specs.Listing.{Listing, tasks}
 use Rattle.text_words.specs.Words.{line}
 
@@ -24,6 +25,8 @@ move_words l (Value task) = codes "value" ∷ decimal task.0 ∷ []
 move_words l (Second task) = codes "second" ∷ decimal task.0 ∷ []
 move_words l (Ask task) = codes "ask" ∷ decimal task.0 ∷ []
 move_words l Word = codes "word" ∷ []
+move_words l (Again task) = codes "again" ∷ decimal task.0 ∷ []
+move_words l (move.Move task) = codes "move" ∷ decimal task.0 ∷ []
 
 abbrev pub schedule_text : Listing → List Move → List ℕ
 schedule_text l moves = flat_map (λ m. line (move_words l m)) moves
@@ -46,3 +49,5 @@ MoveFits l (Value task) = TaskFits l task
 MoveFits l (Second task) = TaskFits l task
 MoveFits l (Ask task) = TaskFits l task
 MoveFits l Word = Unit {0}
+MoveFits l (Again task) = TaskFits l task
+MoveFits l (move.Move task) = TaskFits l task

@@ -11,6 +11,8 @@ pub(crate) enum TaskVerb {
     Value,
     Second,
     Ask,
+    Again,
+    Move,
 }
 
 /// The first word of a line that names a task and a variable.

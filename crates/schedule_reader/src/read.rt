@@ -32,8 +32,8 @@ fn read(alloc: Global, bytes: &[u8], catalogue: &Catalogue) -> Result<Vec<Move>,
 
 /// Reads a schedule of a catalogue. It is `Ok` exactly where the bytes, at most 1,048,576, are the
 /// text of moves: a line for each, one of `begin A`, `read A X`, `commit A`, `drop A`, `first A X`,
-/// `value A`, `second A`, `ask A` and `word`, with A one of the catalogue's tasks and X the name of
-/// one of its variables; the empty text is that of no move. Otherwise the fault is the first of
+/// `value A`, `second A`, `ask A`, `word`, `again A` and `move A`, with A one of the catalogue's
+/// tasks and X the name of one of its variables; the empty text is that of no move. Otherwise the fault is the first of
 /// `TooLong`, `BadByte`, `Shape`, `Name` (an unknown variable) and `Limit` (a task out of range)
 /// that applies, each judged over all the bytes before the next is. `Memory` may come in place of
 /// any answer, where a growth was refused. It takes time and memory linear in the input.

@@ -39,6 +39,8 @@ fn task_move(verb: TaskVerb, task: TaskId) -> Move
         TaskVerb::Value => Move::Value(task),
         TaskVerb::Second => Move::Second(task),
         TaskVerb::Ask => Move::Ask(task),
+        TaskVerb::Again => Move::Again(task),
+        TaskVerb::Move => Move::Move(task),
     }
 }
 

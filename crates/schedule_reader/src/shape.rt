@@ -27,6 +27,10 @@ fn task_verb(word: &[u8]) -> Option<TaskVerb>
         Some(TaskVerb::Second)
     } else if is_word(word, "ask") {
         Some(TaskVerb::Ask)
+    } else if is_word(word, "again") {
+        Some(TaskVerb::Again)
+    } else if is_word(word, "move") {
+        Some(TaskVerb::Move)
     } else {
         None
     }

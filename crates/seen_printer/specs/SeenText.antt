@@ -6,7 +6,7 @@ use Rattle.programs.specs.Listing.{Listing}
 use Rattle.report_printer.specs.ReportText.{outcome_text}
 use Rattle.text_words.specs.Words.{line}
 use Rattle.world_law.specs.declared.events.Seen.{Seen}
-use Rattle.world_law.specs.declared.events.Seen.TheVariants.{Idle, Needs, Ended, Loaded, Stale, Parked, Commits, Stored, Committed, Dropped, Spent}
+use Rattle.world_law.specs.declared.events.Seen.TheVariants.{Idle, Needs, Ended, Loaded, Stale, Parked, Commits, Stored, Committed, Dropped, Spent, Checks, Changed}
 
 -- the name of a variable
 abbrev pub variable_name : Listing → VarId → List ℕ
@@ -24,6 +24,8 @@ seen_text l Stored = codes "stored"
 seen_text l (Committed n) = codes "committed " ++ decimal n
 seen_text l Dropped = codes "dropped"
 seen_text l Spent = codes "memory"
+seen_text l (Checks x) = codes "checks " ++ variable_name l x
+seen_text l Changed = codes "changed"
 
 -- K SEEN
 abbrev pub seen_line : Listing → ℕ → Seen → List ℕ

@@ -46,6 +46,11 @@ fn put_what(out: &mut String, catalogue: &Catalogue, seen: Seen) -> Result<(), A
         Seen::Committed(n) => write!(out, "committed {n}")?,
         Seen::Dropped => out.push_str("dropped")?,
         Seen::Spent => out.push_str("memory")?,
+        Seen::Checks(x) => {
+            out.push_str("checks ")?;
+            out.push_str(name_of(catalogue, x))?;
+        }
+        Seen::Changed => out.push_str("changed")?,
     }
     Ok(())
 }

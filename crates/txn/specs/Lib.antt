@@ -26,4 +26,5 @@ pub use Rattle.evaluator.specs.Flow
 pub use Rattle.evaluator.specs.Worked
 pub mod Codes
 pub mod Conditions
+pub mod Grown
 pub mod CatalogueInside

@@ -1,6 +1,6 @@
 //! The catalogue: what a file declares.
 
-ghost use Rattle.std.specs.Prelude.{◌≡◌, ◌<◌, ◌≤◌, ◌^◌, ℕ, List, length, map, slice_get, string_bytes, bytes_eq, position, Some, IfErr, true, false, IfOk, OnOk, IsTrue, ◌↔◌};
+ghost use Rattle.std.specs.Prelude.{◌≡◌, ◌<◌, ◌≤◌, ◌+◌, ◌^◌, ℕ, All, List, length, map, slice_get, string_bytes, bytes_eq, position, Some, IfErr, true, false, IfOk, OnOk, IsTrue, ◌↔◌};
 ghost use Rattle.programs.specs.Code.{transaction_code, ending_code};
 ghost use Rattle.programs.specs.Names.{names_hold};
 ghost use Rattle.programs.specs.Limits.{limits_hold, most_variables};
@@ -10,12 +10,14 @@ ghost use Rattle.programs.specs.Scope.{ConditionsKnown, ProgramKnown};
 ghost use Rattle.programs.specs.Standing.{Upholds, upholds};
 ghost use Rattle.evaluator.specs.Always.{conditions_of};
 ghost use Rattle.txn.specs.Conditions.{standing_of};
+ghost use Rattle.txn.specs.Grown.{grown, SameButRuns};
 
 use crate::build::{BuildFault, declare, upheld, well_formed, within_limits, work_out};
+use crate::copy::{Copies, always_of, runs_with, transactions_of, variables_of};
 use crate::same::{same_always, same_names, same_runs, same_transactions, same_values};
 use indexmap::IndexSet;
-use programs::{AlwaysId, Cond, Op, TaskId, Tx, TxId, VarId};
-use std::alloc::Global;
+use programs::{AlwaysId, Cond, Memory, Op, TaskId, Tx, TxId, VarId};
+use std::alloc::{AllocError, Global};
 use std::marker::Model;
 
 /// Variables, standing conditions, transactions and runs, in declared order. A clause sees what they
@@ -122,11 +124,49 @@ impl Catalogue {
     pub fn same(&self, other: &Catalogue) -> bool
         ensures { IsTrue result ↔ (self.now ≡ other.now) }
     {
+        self.same_but_runs(other) && same_runs(self.runs(), other.runs())
+    }
+
+    /// Whether the two say the same but for their runs: names, initial values, standing conditions
+    /// and transactions, each in its order.
+    pub fn same_but_runs(&self, other: &Catalogue) -> bool
+        ensures { IsTrue result ↔ SameButRuns self.now other.now }
+    {
         same_names(self.names.as_slice(), other.names.as_slice())
             && same_values(self.initial(), other.initial())
             && same_always(&self.always, &other.always)
             && same_transactions(&self.txs, &other.txs)
-            && same_runs(self.runs(), other.runs())
+    }
+
+    /// A copy with a run of one task more for each of these transactions, after the other runs: the
+    /// catalogue of a book to which they were submitted in this order. `Memory` only where a growth
+    /// was refused.
+    pub fn grown(&self, alloc: Global, more: &[TxId]) -> Result<Catalogue, Memory>
+        requires known { All (λ tx. tx.0 < length self.now.transactions) more.now }
+        requires few { length (tasks self.now) + length more.now ≤ 65536 }
+        ensures { IfOk result (λ c. c ≡ grown self.now more.now) }
+    {
+        self.rules();
+        let copies = self.copies(alloc, more)?;
+        match Catalogue::build(alloc, copies.vars, copies.always, copies.txs, copies.runs) {
+            Ok(catalogue) => Ok(catalogue),
+            Err(BuildFault::Name) => unreachable!(),
+            Err(BuildFault::Limit) => unreachable!(),
+            Err(BuildFault::Broken) => unreachable!(),
+            Err(BuildFault::Memory) => Err(Memory),
+        }
+    }
+
+    /// Copies of what it is built of, with a run more for each of these transactions.
+    fn copies(&self, alloc: Global, more: &[TxId]) -> Result<Copies, AllocError>
+        ensures { IfOk result (λ c. listing_of c.vars.items c.always.items c.txs.items c.runs.items ≡ grown self.now more.now) }
+    {
+        Ok(Copies {
+            vars: variables_of(alloc, self.names.as_slice(), self.initial())?,
+            always: always_of(alloc, &self.always)?,
+            txs: transactions_of(alloc, &self.txs)?,
+            runs: runs_with(alloc, self.runs(), more)?,
+        })
     }
 
     /// The initial values, in declared order.

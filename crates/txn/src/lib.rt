@@ -14,6 +14,7 @@
 
 pub mod build;
 pub mod catalogue;
+mod copy;
 mod same;
 
 pub use build::BuildFault;

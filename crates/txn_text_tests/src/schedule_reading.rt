@@ -90,3 +90,10 @@ fn single_loads(rt: HostRuntime) {
     ];
     assert!(rt; are_moves(rt.alloc(), PAIR, text, &wanted));
 }
+
+#[test]
+fn an_attempt_runs_again(rt: HostRuntime) {
+    let text = b"again 0\nmove 1\nagain 1\n";
+    let wanted = [Move::Again(A), Move::Move(B), Move::Again(B)];
+    assert!(rt; are_moves(rt.alloc(), PAIR, text, &wanted));
+}

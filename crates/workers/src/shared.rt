@@ -1,15 +1,17 @@
 //! The book behind its lock: one function for each time under the lock.
 //!
-//! What a lock holds is known by its type alone. So the type says of which catalogue the book is:
-//! a run picks a name, and the name has the run's catalogue.
+//! What a lock holds is known by its type alone. So the type says of which catalogue the book is, and
+//! how short its journal is kept: a run picks a name, and the name has the run's catalogue and after
+//! how many entries a checkpoint is made.
 
-ghost use Rattle.std.specs.Prelude.{◌≡◌, ◌<◌, [], ◌∷◌, length, IfOk, IfSome};
+ghost use Rattle.std.specs.Prelude.{◌≡◌, ◌<◌, ℕ, [], ◌∷◌, length, IfOk, IfSome};
 ghost use Rattle.std.specs.Coded.{codes};
 ghost use Rattle.txn.specs.Codes.{coded_listing};
 ghost use Rattle.programs.specs.Listing.{Listing, tasks};
 ghost use Rattle.programs.specs.Told.{told};
 ghost use Rattle.programs.specs.LawfulReport.{LawfulReport, BaseReached};
-ghost use Rattle.book.specs.Turns.{IsEndOf, IsIdle};
+ghost use Rattle.book.specs.Turns.{IsEndOf, IsIdle, ReportIs};
+ghost use Rattle.workers.specs.Journals.{IsShort, KeepsShort};
 
 use crate::waiting::lock;
 use attempt::Attempt;
@@ -20,21 +22,27 @@ use std::marker::{Brand, PhantomData};
 use std::sync::{Mutex, Wait};
 use txn::{Catalogue, Memory, Report, TaskId};
 
-/// Which catalogue a run is of. Each run picks it.
+/// Which catalogue a run is of, and after how many entries a checkpoint is made, 0 for never. Each
+/// run picks both.
 pub(crate) trait Naming: Send {
     ghost catalogue: { Listing };
+
+    ghost every: { ℕ };
 }
 
 impl Naming for Brand {
     ghost catalogue = { record { names = []; initial = []; always = []; transactions = []; runs = [] } };
+
+    ghost every = { 0 };
 }
 
-/// A book of the run's catalogue.
+/// A book of the run's catalogue, with a journal as short as the run keeps it.
 #[derive(Drop)]
 pub(crate) struct Named<'a, N: Naming> {
     book: Book<'a>,
     of: PhantomData<N>,
     ghost of_catalogue: { book.catalogue ≡ N.catalogue } by { Prim.hlevel (codes, coded_listing) },
+    ghost short: { IsShort N.every book.base.number (length book.journal) },
 }
 
 /// How a try ended.
@@ -97,6 +105,7 @@ pub(crate) fn finish<R: Wait, N: Naming>(
     task: TaskId,
     attempt: &mut Attempt<'_>,
 ) -> Tried
+    requires every { every ≡ N.every }
     requires exists { task.0 < length (tasks N.catalogue) }
     requires ended { IsEndOf N.catalogue task attempt.old }
 {
@@ -122,7 +131,8 @@ pub(crate) fn serial<R: Wait, N: Naming>(
     every: u32,
     task: TaskId,
 ) -> Tried
-    requires { task.0 < length (tasks N.catalogue) }
+    requires every { every ≡ N.every }
+    requires exists { task.0 < length (tasks N.catalogue) }
 {
     let mut named = lock(rt, shared);
     let book = &mut named.book;
@@ -141,10 +151,13 @@ pub(crate) fn settle<N: Naming>(
     every: u32,
     named: Named<'_, N>,
 ) -> Result<Report, Memory>
+    requires every { every ≡ N.every }
     ensures lawful { IfOk result (λ r. LawfulReport N.catalogue (told r)) }
     ensures reached { IfOk result (λ r. BaseReached N.catalogue (told r)) }
+    ensures short { IfOk result (λ r. KeepsShort N.every (told r)) }
 {
     let Named { mut book, of: _ } = named;
+    book.law();
     book.drain(alloc, every);
     report(alloc, &book)
 }
@@ -154,6 +167,7 @@ fn report(alloc: Global, book: &Book<'_>) -> Result<Report, Memory>
     requires { IsIdle book.now }
     ensures lawful { IfOk result (λ r. LawfulReport book.now.catalogue (told r)) }
     ensures reached { IfOk result (λ r. BaseReached book.now.catalogue (told r)) }
+    ensures is { IfOk result (λ r. ReportIs book.now (told r)) }
 {
     book.law();
     book.report(alloc)

@@ -4,6 +4,7 @@ ghost use Rattle.std.specs.Prelude.{◌≡◌, ◌∷◌, [], length, All, IfOk}
 ghost use Rattle.programs.specs.Told.{told, base_of, now_of};
 ghost use Rattle.programs.specs.LawfulReport.{LawfulReport, BaseReached};
 ghost use Rattle.programs.specs.Standing.{Upholds};
+ghost use Rattle.workers.specs.Journals.{KeepsShort};
 
 use crate::gate::Gate;
 use crate::shared::{Naming, open, settle};
@@ -22,7 +23,9 @@ use txn::{Catalogue, Memory, Report};
 ///
 /// The workers read the cells by a pass each, and share the book behind a lock, which publishes to
 /// the cells. When they have ended, the book gives a turn to what is left, and no task is ready or
-/// running when it reports. Each standing condition is true of the values that it reports.
+/// running when it reports. Each standing condition is true of the values that it reports. With a
+/// checkpoint after each N entries the journal has fewer than N, and the base is a multiple of N;
+/// with none the base is 0.
 pub fn run_tasks<R: Threads + Wait + Sync, G: Gate>(
     rt: &R,
     alloc: Global,
@@ -33,6 +36,7 @@ pub fn run_tasks<R: Threads + Wait + Sync, G: Gate>(
     ensures lawful { IfOk result (λ r. LawfulReport catalogue.now (told r)) }
     ensures reached { IfOk result (λ r. BaseReached catalogue.now (told r)) }
     ensures upheld { IfOk result (λ r. Upholds catalogue.now (base_of (told r)).state × Upholds catalogue.now (now_of (told r)).state) }
+    ensures short { IfOk result (λ r. KeepsShort options.checkpoint (told r)) }
 {
     let (cells, publisher, passes) = Cells::open(
         alloc,
@@ -60,8 +64,10 @@ fn run_named<R: Threads + Wait + Sync, G: Gate, N: Naming>(
     requires unused { publisher.history ≡ catalogue.now.initial ∷ [] }
     requires passes { All (λ p. p.cells ≡ cells.now) passes.items }
     requires variables { cells.now.variables ≡ length catalogue.now.initial }
+    requires every { options.checkpoint ≡ N.every }
     ensures lawful { IfOk result (λ r. LawfulReport catalogue.now (told r)) }
     ensures reached { IfOk result (λ r. BaseReached catalogue.now (told r)) }
+    ensures short { IfOk result (λ r. KeepsShort options.checkpoint (told r)) }
 {
     let every = options.checkpoint();
     let shared = Mutex::new(open::<N>(alloc, catalogue, cells, publisher)?);

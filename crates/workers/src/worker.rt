@@ -34,6 +34,7 @@ pub(crate) struct Crew<'a, 'b, G: Gate, N: Naming> {
     /// After how many journal entries a checkpoint is made, 0 for never.
     pub(crate) every: u32,
     ghost named: { catalogue.now ≡ N.catalogue } by { Prim.hlevel (codes, coded_listing) },
+    ghost kept: { every ≡ N.every },
     ghost variables: { cells.now.variables ≡ length catalogue.now.initial },
 }
 

@@ -2,3 +2,4 @@ pub mod Reaching
 pub mod Stored
 pub mod Changed
 pub mod Lined
+pub mod Moved

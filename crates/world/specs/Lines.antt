@@ -5,7 +5,7 @@ use Rattle.programs.specs.declared.ast.TaskId.{TaskId}
 use Rattle.programs.specs.declared.ast.VarId.{VarId}
 use Rattle.programs.specs.declared.moves.Move.{Move}
 use Rattle.programs.specs.declared.moves.Move.TheVariants as line
-use Rattle.world_law.specs.declared.events.Event.TheVariants.{Begin, First, Value, Second, Ask, Word, Drop}
+use Rattle.world_law.specs.declared.events.Event.TheVariants.{Begin, First, Value, Second, Ask, Word, Drop, Again}
 use Rattle.world_law.specs.declared.events.Seen.{Seen}
 use Rattle.world_law.specs.declared.events.Seen.TheVariants as seen
 use Rattle.world_law.specs.World.{World, Committer}
@@ -47,6 +47,18 @@ Commits l w a s w' =
     (((n : ℕ) → s ≢ seen.Commits n) × Next l w (Ask a) s w')
     ⊎ ((n : ℕ) × (mid : World) × Next l w (Ask a) (seen.Commits n) mid × StoresLast l n mid s w')
 
+-- ---- a move
+
+-- It was seen that s, and while a variable is checked, that is read, so many times. At last it is seen that s'.
+abbrev pub ChecksCount : ℕ → Listing → World → TaskId → Seen → Seen → World → Type 0
+ChecksCount zero l w a s s' w' = ((x : VarId) → s ≢ seen.Checks x) × (s' ≡ s) × (w' ≡ w)
+ChecksCount (suc k) l w a s s' w' =
+    (x : VarId) × (mid : World) × (t : Seen) × (s ≡ seen.Checks x) × Reads l w a x t mid × ChecksCount k l mid a t s' w'
+
+-- the stale attempt runs again, and while it checks a variable, that is read
+abbrev pub Moves : Listing → World → TaskId → Seen → World → Type 0
+Moves l w a s w' = (mid : World) × (t : Seen) × (k : ℕ) × Next l w (Again a) t mid × ChecksCount k l mid a t s w'
+
 -- ---- a line
 
 abbrev pub Plays : Listing → World → Move → Seen → World → Type 0
@@ -59,6 +71,8 @@ Plays l w (line.Value a) s w' = Next l w (Value a) s w'
 Plays l w (line.Second a) s w' = Next l w (Second a) s w'
 Plays l w (line.Ask a) s w' = Next l w (Ask a) s w'
 Plays l w line.Word s w' = Next l w Word s w'
+Plays l w (line.Again a) s w' = Next l w (Again a) s w'
+Plays l w (line.Move a) s w' = Moves l w a s w'
 
 -- the events of the line before one that was refused: only the last of a read has any before it that may be
 abbrev pub PlaysPart : Listing → World → Move → World → Type 0
@@ -71,4 +85,6 @@ PlaysFree (line.First a x) = Unit {0}
 PlaysFree (line.Value a) = Unit {0}
 PlaysFree (line.Drop a) = Unit {0}
 PlaysFree line.Word = Unit {0}
+PlaysFree (line.Again a) = Unit {0}
+PlaysFree (line.Move a) = Unit {0}
 PlaysFree m = ⊥

@@ -1,7 +1,8 @@
 //! One line of a schedule.
 
 ghost use Rattle.std.specs.Prelude.{◌≡◌, IfOk, OnErr, IsOk};
-ghost use Rattle.world.specs.Lines.{Reads, ReadsPart, Commits, Plays, PlaysPart, PlaysFree, IsCommitting, StoresLast};
+ghost use Rattle.world.specs.Lines.{Reads, ReadsPart, Commits, Moves, Plays, PlaysPart, PlaysFree, IsCommitting, StoresLast};
+ghost use Rattle.world_events.specs.Runs.{IsChecking};
 
 use crate::world::World;
 use txn::{Memory, Move, TaskId, VarId};
@@ -24,6 +25,8 @@ pub(crate) fn play(world: &mut World<'_>, line: Move) -> Result<Seen, Memory>
         Move::Second(task) => world.step(Event::Second(task)),
         Move::Ask(task) => world.step(Event::Ask(task)),
         Move::Word => world.step(Event::Word),
+        Move::Again(task) => world.step(Event::Again(task)),
+        Move::Move(task) => move_on(world, task),
     }
 }
 
@@ -32,6 +35,7 @@ fn read(world: &mut World<'_>, task: TaskId, x: VarId) -> Result<Seen, Memory>
     ensures listing { world.new.listing ≡ world.old.listing }
     ensures ok { IfOk result (λ s. Reads world.old.listing world.old.world task x s world.new.world) }
     ensures refused { OnErr result (ReadsPart world.old.listing world.old.world task x world.new.world) }
+    ensures sure { IsChecking world.old.world task → IsOk result }
 {
     match world.step(Event::First(task, x))? {
         Seen::Loaded => {
@@ -39,6 +43,21 @@ fn read(world: &mut World<'_>, task: TaskId, x: VarId) -> Result<Seen, Memory>
             world.step(Event::Second(task))
         }
         seen => Ok(seen),
+    }
+}
+
+/// The stale attempt runs again, and while it checks a variable that is read. It is never refused.
+fn move_on(world: &mut World<'_>, task: TaskId) -> Result<Seen, Memory>
+    ensures listing { world.new.listing ≡ world.old.listing }
+    ensures ok { IfOk result (λ s. Moves world.old.listing world.old.world task s world.new.world) }
+    ensures sure { IsOk result }
+{
+    let mut seen = world.step(Event::Again(task))?;
+    'checks: loop {
+        match seen {
+            Seen::Checks(x) => seen = read(world, task, x)?,
+            _ => return Ok(seen),
+        }
     }
 }
 

@@ -6,7 +6,7 @@ ghost use Rattle.world_events.specs.Inside.{state_items};
 ghost use Rattle.world.specs.Telling.{Tells};
 ghost use Rattle.world_law.specs.World.{IsOpening};
 ghost use Rattle.world_law.specs.Next.{Next};
-ghost use Rattle.world_events.specs.Runs.{LeadTo, MayBeRefused, TakesNone};
+ghost use Rattle.world_events.specs.Runs.{LeadTo, MayBeRefused, TakesNone, EndsCheck};
 ghost use Rattle.world.specs.Lines.{Plays, PlaysPart, PlaysFree};
 ghost use Rattle.world.specs.WorldText.{IsWorldText, PutsWorld};
 ghost use Rattle.world_law.specs.Opacity.{Opaque, WordsHold};
@@ -59,13 +59,14 @@ impl<'a> World<'a> {
     /// One event happens, and what is seen of it is told.
     ///
     /// `Memory` where an attempt has no room to begin, a log can't grow, or the state that a commit
-    /// would make has no room; then nothing changed. `First`, `Value`, `Word` and `Drop` take no
-    /// memory.
+    /// would make has no room; then nothing changed. `First`, `Value`, `Word`, `Drop` and `Again` take
+    /// no memory, nor does `Second` of an attempt that checks.
     pub fn step(&mut self, event: Event) -> Result<Seen, Memory>
         ensures listing { self.new.listing ≡ self.old.listing }
         ensures ok { IfOk result (λ s. Next self.old.listing self.old.world event s self.new.world) }
         ensures refused { OnErr result (self.new.world ≡ self.old.world) }
         ensures sure { TakesNone event → IsOk result }
+        ensures checks { EndsCheck self.old.world event → IsOk result }
     {
         let seen = happen(&mut self.scene, event)?;
         Ok(seen)
@@ -94,8 +95,8 @@ impl<'a> World<'a> {
     /// the answer of the last one.
     ///
     /// `Memory` where an event is refused; those of the line before it happened. The lines of the
-    /// events that take no memory are never refused, and of a read or a commit the last load or the
-    /// question alone.
+    /// events that take no memory are never refused, nor is a move, and of a read or a commit the last
+    /// load or the question alone.
     pub fn play(&mut self, line: Move) -> Result<Seen, Memory>
         ensures listing { self.new.listing ≡ self.old.listing }
         ensures ok { IfOk result (λ s. Plays self.old.listing self.old.world line s self.new.world) }

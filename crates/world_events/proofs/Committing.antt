@@ -68,6 +68,7 @@ states_stay c v k e = record {
     tasks = k.tasks;
     live = k.live;
     latest = k.latest;
+    last = k.last;
     committer = owned c.committer k.committer;
   };
   world = ap (λ (l : List (Vec ℤ Global)). record (world_of c) { history = take c.count (map state_items l) }) e;
@@ -147,6 +148,7 @@ module _ (c : Scene) (i : ℕ) (v : Vec (Vec ℤ Global) Global) (following : Ve
     tasks = k.tasks;
     live = k.live;
     latest = k.latest;
+    last = k.last;
     committer = publishing;
   }
 

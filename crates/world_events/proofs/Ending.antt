@@ -23,7 +23,7 @@ use Rattle.world_events.specs.Inside.{listing, world_of, all_states, with_trial,
 use Rattle.world_events.specs.Asks.{FindsEnded, Commits}
 use Rattle.world_events.proofs.Putting.{world_put, put_leads}
 use Rattle.world_events.proofs.Owning.{stops}
-use Rattle.world_events.proofs.Standing.{asks, running_from, running_to}
+use Rattle.world_events.proofs.Standing.{asks, running_from, running_to, runs_on}
 use Rattle.world_events.proofs.Lasting.{history_length}
 
 ends_so : (o : Outcome) (v : AttemptView) → Answers (next_of o) v → ask v.program v.log ≡ Ends o v.writes
@@ -54,7 +54,7 @@ module _ (c : Scene) (a : TaskId) (k : Kept c) where
   pub ask_idle : FindsEnded c a None → Steps (listing c) (world_of c) (Ask a) seen.Idle (world_of c)
   ask_idle f = (
     λ i y o ws can. let u = running_from c a i y can.0.0 in let g = k.trials i u.0 u.1.0 in
-        f i u.0 o u.1 (at_end u.0.attempt o ws u.0.at (g.runs u.1.2) g.answers (sym (asks (listing c) u.0 g) ∙ (ap (stand (listing c)) u.2 ∙ can.0.1))),
+        f i u.0 o u.1 (at_end u.0.attempt o ws u.0.at (runs_on (listing c) u.0 g u.1.2) g.answers (sym (asks (listing c) u.0 g) ∙ (ap (stand (listing c)) u.2 ∙ can.0.1))),
     refl,
   )
 
@@ -64,12 +64,12 @@ module _ (c : Scene) (a : TaskId) (k : Kept c) where
 
     pub stale_leads : (Agrees y.attempt.log (last_state (take c.count (all_states c))) → ⊥) → Leads c (Ask a) seen.Stale (with_trial c i (record y { fate = fate.Stale }))
     stale_leads apart = put_leads c i y (record y { fate = fate.Stale }) (Ask a) seen.Stale k
-        (stops c i y (record y { fate = fate.Stale }) k r.0 (not_owner c.committer i empty) fate.Stale (λ e. cc) refl refl)
+        (stops c i y (record y { fate = fate.Stale }) k r.0 (not_owner c.committer i empty) fate.Stale r.2 refl refl)
         (i, started_of y, o, y.attempt.writes, can_ask, apart, world_put c i (record y { fate = fate.Stale }))
 
     pub parked_leads : Agrees y.attempt.log (last_state (take c.count (all_states c))) → o ≡ Retries → Leads c (Ask a) seen.Parked (with_trial c i (record y { fate = fate.Parked }))
     parked_leads agree retries = put_leads c i y (record y { fate = fate.Parked }) (Ask a) seen.Parked k
-        (stops c i y (record y { fate = fate.Parked }) k r.0 (not_owner c.committer i empty) fate.Parked (λ e. cc) refl refl)
+        (stops c i y (record y { fate = fate.Parked }) k r.0 (not_owner c.committer i empty) fate.Parked r.2 refl refl)
         (i, started_of y, y.attempt.writes, subst (λ (q : Outcome). CanAsk (listing c) (world_of c) a i (started_of y) q y.attempt.writes) retries can_ask, agree, world_put c i (record y { fate = fate.Parked }))
 
     pub commits_leads : Agrees y.attempt.log (last_state (take c.count (all_states c))) → (o ≢ Retries) → (s : Seen) (c' : Scene) → Commits c i s c' → Leads c (Ask a) s c'

@@ -50,5 +50,6 @@ module _ (c : Scene) (rest : List ℕ) (m : Vec ℤ Global) (words : c.words.ite
     tasks = ap length latest ∙ length-replicate (length (tasks (listing c))) None;
     live = λ i y e l. absurd (none_there i y e);
     latest = λ a i e. absurd (nothing (length (tasks (listing c))) a i None refl (ap (λ (l : List (Option ℕ)). slice_get l a) (sym latest) ∙ e));
+    last = λ i y e. absurd (none_there i y e);
     committer = subst (CommitterKept c) (sym committer) (one ∙ sym size);
   }

@@ -1,5 +1,5 @@
 -- An attempt that ends its read, and one that begins, go on as the world says.
-use Rattle.std.proofs.Common.{◌≡◌, ◌≢◌, ℕ, ◌<◌, List, [], ◌∷◌, length, sym, refl, ap, ◌∙◌, subst}
+use Rattle.std.proofs.Common.{◌≡◌, ◌≢◌, ℕ, ◌<◌, Bool, List, [], ◌∷◌, length, Option, Some, None, option_map, sym, refl, ap, ◌∙◌, subst}
 use Rattle.programs.specs.Listing.{Listing, task_program}
 use Rattle.programs.specs.Tree.{Program}
 use Rattle.programs.specs.declared.ast.TaskId.{TaskId}
@@ -13,22 +13,22 @@ use Rattle.world_law.specs.declared.events.Fate.TheVariants as fate
 use Rattle.world_law.specs.declared.events.Seen.{Seen}
 use Rattle.world_law.specs.declared.events.Seen.TheVariants as seen
 use Rattle.world_law.specs.declared.events.Event.TheVariants.{Second}
-use Rattle.world_law.specs.World.{Started, World, Reading, changed, stand, is_live, version_now, with_read, with_fate}
-use Rattle.world_law.specs.Next.{Next as Steps, told}
+use Rattle.world_law.specs.World.{Check, Started, World, Reading, changed, stand, is_live, version_now, with_read, with_fate}
+use Rattle.world_law.specs.Next.{Next as Steps, told, reads_on}
 use Rattle.world_events.specs.declared.trial.Loads.{Loads}
 use Rattle.world_events.specs.declared.trial.Loads.TheVariants as loads
+use Rattle.world_events.specs.declared.trial.Checking.{Checking}
 use Rattle.world_events.specs.declared.trial.Trial.{Trial}
 use Rattle.world_events.specs.declared.scene.Scene.{Scene}
-use Rattle.world_events.specs.Trials.{loads_of, started_of, TrialKept, GoesOn, LoadsSecond, told_value, answer_seen, answer_fate}
-use Rattle.world_events.specs.Inside.{listing, world_of, with_trial, Kept, IsTheRunning, IsOnly, Leads}
+use Rattle.world_events.specs.Trials.{loads_of, check_of, started_of, wants, TrialKept, GoesOn, told_value, answer_seen, answer_fate}
+use Rattle.world_events.specs.Inside.{listing, world_of, with_trial, Kept, IsTheRunning, Leads}
 use Rattle.world_events.proofs.Putting.{world_put, put_leads}
 use Rattle.world_events.proofs.Owning.{owner_of, needs_apart}
-use Rattle.world_events.proofs.Standing.{reading_to, reading_from, the_one, loads_value, with_fate_kept}
-use Rattle.world_events.proofs.Loading.{became, becomes, replaces}
+use Rattle.world_events.proofs.Standing.{reading_to}
 
-pub same_started : (a b : TaskId) (n m : ℕ) (g h : Known) (p q : List ℕ) (f e : Fate) → a ≡ b → n ≡ m → g ≡ h → p ≡ q → f ≡ e
-    → (let s : Started = record { task = a; rv = n; log = g; loads = p; fate = f } in s) ≡ record { task = b; rv = m; log = h; loads = q; fate = e }
-same_started a b n m g h p q f e i j k l o = cc
+pub same_started : (a b : TaskId) (n m : ℕ) (g h : Known) (p q : List ℕ) (f e : Fate) (c d : Bool) (r s : Option Check) → a ≡ b → n ≡ m → g ≡ h → p ≡ q → f ≡ e → c ≡ d → r ≡ s
+    → (let y : Started = record { task = a; rv = n; log = g; loads = p; fate = f; movable = c; check = r } in y) ≡ record { task = b; rv = m; log = h; loads = q; fate = e; movable = d; check = s }
+same_started a b n m g h p q f e c d r s i j k l o u v = λ t. record { task = i t; rv = j t; log = k t; loads = l t; fate = o t; movable = u t; check = v t }
 
 -- what is seen is what its program answers
 pub tells : (n : Next) (v : AttemptView) → n ≢ next.Memory → Answers n v → answer_seen n ≡ told (ask v.program v.log)
@@ -54,15 +54,12 @@ module _ (l : Listing) (y : Trial) (s : Seen) (y' : Trial) (p : y.attempt.progra
     variables = g.variables ∙ v;
     answers = g.answers;
     needs = λ x e. subst (λ (n : ℕ). x.0 < n) (g.variables ∙ v) (g.needs x e);
-    runs = λ e m. let bad : fate.Spent ≡ fate.Running = sym (g.fate ∙ ap (λ (n : Next). answer_fate n y.fate) m) ∙ e in cc;
+    spent = λ m. g.fate ∙ ap (λ (n : Next). answer_fate n y.fate) m;
   }
 
--- an attempt that ended its read of x
-module _ (c : Scene) (a : TaskId) (x : VarId) (i : ℕ) (t t' : Trial) (s : Seen) (k : Kept c) (r : IsTheRunning c a i t) (at : t.at ≡ next.Need x)
+-- an attempt that ended its read of x, without a check
+module _ (c : Scene) (a : TaskId) (x : VarId) (i : ℕ) (t t' : Trial) (s : Seen) (k : Kept c) (r : IsTheRunning c a i t) (at : wants t ≡ Some x) (plain : t.check ≡ None)
     (first bits : ℕ) (ls : t.loads ≡ loads.Value first bits) (same : version_now (world_of c) x ≡ first) (g : GoesOn (told_value t x bits) s t') where
-  l : Listing
-  l = listing c
-
   abbrev w : World
   w = world_of c
 
@@ -72,43 +69,38 @@ module _ (c : Scene) (a : TaskId) (x : VarId) (i : ℕ) (t t' : Trial) (s : Seen
   reads : Reading (listing c) w a i (started_of t) x (first ∷ bits ∷ [])
   reads = subst (λ (o : Loads). Reading (listing c) w a i (started_of t) x (loads_of o)) ls (reading_to c a i t x k r at)
 
+  no_check : (started_of t).check ≡ None
+  no_check = ap (λ (o : Option Checking). option_map check_of o) plain
+
   asked : ask t'.attempt.program t'.attempt.log ≡ stand (listing c) (with_read (started_of t) x bits)
   asked = ap (λ (p : Program). ask p t'.attempt.log) (g.program ∙ (k.trials i t r.0).program) ∙ ap (ask (task_program (listing c) t.task)) g.log
 
   ended : (f : Fate) → t'.fate ≡ f → w' ≡ changed w i (with_fate (with_read (started_of t) x bits) f)
-  ended f e = world_put c i t' ∙ ap (changed w i) (same_started t'.task t.task t'.rv t.rv t'.attempt.log _ (loads_of t'.loads) [] t'.fate f g.task g.rv g.log (ap loads_of g.loads) e)
+  ended f e = world_put c i t' ∙ ap (changed w i)
+      (same_started t'.task t.task t'.rv t.rv t'.attempt.log _ (loads_of t'.loads) [] t'.fate f t'.movable t.movable (option_map check_of t'.check) (option_map check_of t.check) g.task g.rv g.log (ap loads_of g.loads) e g.movable (ap (λ (o : Option Checking). option_map check_of o) g.check))
 
-  running : (n : Next) → t'.at ≡ n → n ≢ next.Memory → w' ≡ changed w i (with_read (started_of t) x bits)
-  running n e m = ended t.fate (g.fate ∙ (ap (λ (q : Next). answer_fate q t.fate) e ∙ fates n t.fate m))
+  -- what it read without a check it knows
+  known : reads_on (listing c) (started_of t) x bits None ≡ reads_on (listing c) (started_of t) x bits (started_of t).check
+  known = ap (reads_on (listing c) (started_of t) x bits) (sym no_check)
 
-  tells_it : (n : Next) → t'.at ≡ n → n ≢ next.Memory → answer_seen n ≡ told (stand (listing c) (with_read (started_of t) x bits))
-  tells_it n e m = tells n t'.attempt m (subst (λ (q : Next). Answers q t'.attempt) e g.answers) ∙ ap told asked
+  running : (n : Next) → t'.at ≡ n → n ≢ next.Memory → w' ≡ changed w i (reads_on (listing c) (started_of t) x bits (started_of t).check).1
+  running n e m = ended t.fate (g.fate ∙ (ap (λ (q : Next). answer_fate q t.fate) e ∙ fates n t.fate m)) ∙ ap (λ (q : Seen × Started). changed w i q.1) known
+
+  tells_it : (n : Next) → t'.at ≡ n → n ≢ next.Memory → answer_seen n ≡ (reads_on (listing c) (started_of t) x bits (started_of t).check).0
+  tells_it n e m = tells n t'.attempt m (subst (λ (q : Next). Answers q t'.attempt) e g.answers) ∙ (ap told asked ∙ ap (λ (q : Seen × Started). q.0) known)
 
   by_answer : (n : Next) → t'.at ≡ n → Steps (listing c) w (Second a) (answer_seen n) w'
   by_answer (next.Need z) e = (i, first, bits, started_of t, x, reads, same, tells_it (next.Need z) e (λ b. cc), running (next.Need z) e (λ b. cc))
   by_answer (next.Returned z) e = (i, first, bits, started_of t, x, reads, same, tells_it (next.Returned z) e (λ b. cc), running (next.Returned z) e (λ b. cc))
   by_answer (next.Thrown z) e = (i, first, bits, started_of t, x, reads, same, tells_it (next.Thrown z) e (λ b. cc), running (next.Thrown z) e (λ b. cc))
   by_answer next.Retry e = (i, first, bits, started_of t, x, reads, same, tells_it next.Retry e (λ b. cc), running next.Retry e (λ b. cc))
-  by_answer next.Memory e = (i, first, bits, started_of t, x, reads, same, ended fate.Spent (g.fate ∙ ap (λ (q : Next). answer_fate q t.fate) e))
+  by_answer next.Memory e = (i, first, bits, started_of t, x, reads, same, no_check, ended fate.Spent (g.fate ∙ ap (λ (q : Next). answer_fate q t.fate) e))
 
   pub second_goes : Leads c (Second a) s (with_trial c i t')
   second_goes = put_leads c i t t' (Second a) s k (record {
     was = r.0;
     task = g.task;
-    live = λ e. ap is_live r.2;
+    live = λ e. k.live i t r.0 (ap is_live r.2);
     kept = gone_kept (listing c) (told_value t x bits) s t' (k.trials i t r.0).program (k.trials i t r.0).variables g;
     own = λ p is place. needs_apart c i t x k r.0 at (owner_of c.committer p i is place);
   }) (subst (λ (q : Seen). Steps (listing c) w (Second a) q w') (sym g.seen) (by_answer t'.at refl))
-
-pub second_leads : (c : Scene) (a : TaskId) (x : VarId) (i : ℕ) (t t' : Trial) (s : Seen) → Kept c → IsTheRunning c a i t → IsOnly c a i → t.at ≡ next.Need x
-    → LoadsSecond t x (version_now (world_of c) x) s t' → Leads c (Second a) s (with_trial c i t')
-second_leads c a x i t t' seen.Idle k r only at h =
-    put_leads c i t t' (Second a) seen.Idle k (replaces c a i t t' k r (needs_apart c i t x k r.0 at) t h.1 refl (k.trials i t r.0)) (
-      λ j first bits y z q. let u = reading_from c a j y z (first ∷ bits ∷ []) k q in
-          h.0 first bits (ap (λ (v : Trial). v.loads) (the_one c a i j t u.0 r only u.1) ∙ loads_value u.0.loads first bits u.3),
-      became c i t t' h.1 r.0,
-    )
-second_leads c a x i t t' seen.Stale k r only at h =
-    put_leads c i t t' (Second a) seen.Stale k (replaces c a i t t' k r (needs_apart c i t x k r.0 at) (record t { fate = fate.Stale }) h.4 refl (with_fate_kept (listing c) t fate.Stale (k.trials i t r.0) (λ e. cc)))
-    (i, h.0, h.1, started_of t, x, subst (λ (o : Loads). Reading (listing c) (world_of c) a i (started_of t) x (loads_of o)) h.2 (reading_to c a i t x k r at), h.3, becomes c i t t' _ h.4)
-second_leads c a x i t t' s k r only at h = second_goes c a x i t t' s k r at h.0 h.1 h.2 h.3 h.4

@@ -6,6 +6,7 @@ pub mod Finding
 pub mod Owning
 pub mod Starting
 pub mod Going
+pub mod Checking
 pub mod Logs
 pub mod Working
 pub mod Lasting

@@ -1,5 +1,5 @@
 -- Logs and the states that they agree with.
-use Rattle.std.proofs.Common.{◌≡◌, ℕ, ℤ, zero, suc, ◌<◌, [], ◌∷◌, Some, refl, sym, ◌∙◌, ap, arith, slice_get}
+use Rattle.std.proofs.Common.{◌≡◌, ℕ, ℤ, zero, suc, ◌<◌, ◌≤◌, length, [], ◌∷◌, Some, None, refl, sym, ◌∙◌, ap, arith, slice_get}
 use Rattle.programs.specs.declared.ast.VarId.{VarId}
 use Rattle.programs.specs.Meaning.{State, value_at}
 use Rattle.attempt.specs.Asking.{Known}
@@ -22,3 +22,9 @@ agrees_pair (q ∷ rest) m zero p h e =
     let same : q ≡ p = cc in
     ap (λ (x : VarId × ℤ). value_at m x.0) (sym same) ∙ (h.0 ∙ ap (λ (x : VarId × ℤ). x.1) same)
 agrees_pair (q ∷ rest) m (suc i) p h e = agrees_pair rest m i p h.1 e
+
+-- where a log ends
+pub past_end : (log : Known) (i : ℕ) → length log ≤ i → slice_get log i ≡ None
+past_end [] i low = refl
+past_end (p ∷ rest) zero low = absurd (omega arith)
+past_end (p ∷ rest) (suc i) low = past_end rest i (omega arith)

@@ -11,11 +11,11 @@ use Rattle.world_law.specs.Next.{Next as Steps}
 use Rattle.world_events.specs.declared.trial.Trial.{Trial}
 use Rattle.world_events.specs.declared.scene.Publishing.{Publishing}
 use Rattle.world_events.specs.declared.scene.Scene.{Scene}
-use Rattle.world_events.specs.Trials.{started_of}
+use Rattle.world_events.specs.Trials.{started_of, wants}
 use Rattle.world_events.specs.Inside.{listing, world_of, with_trial, committer_of, CommitterKept, Kept, IsTheRunning, IsOnly, IsOwner, Leads}
 use Rattle.world_events.proofs.Seeing.{same_place}
 use Rattle.world_events.proofs.Putting.{Replaces, world_put, put_leads}
-use Rattle.world_events.proofs.Standing.{running_from, running_to, with_fate_kept}
+use Rattle.world_events.proofs.Standing.{running_from, running_to, runs_on, other_kept, wants_needs}
 
 pub owner_from : (o : Option Publishing) (c : Committer) (i : ℕ) → option_map committer_of o ≡ Some c → c.place ≡ i → IsOwner o i
 owner_from None c i e is = absurd (cc)
@@ -30,18 +30,18 @@ owner_of None p i e is = absurd (cc)
 owner_of (Some q) p i e is = let same : q ≡ p = cc in ap (λ (d : Publishing). d.place) same ∙ is
 
 -- an attempt that stops
-pub stops : (c : Scene) (i : ℕ) (t t' : Trial) → Kept c → slice_get c.trials.items i ≡ Some t → (IsOwner c.committer i → ⊥) → (f : Rattle.world_law.specs.declared.events.Fate.Fate) → f ≢ fate.Running
+pub stops : (c : Scene) (i : ℕ) (t t' : Trial) → Kept c → slice_get c.trials.items i ≡ Some t → (IsOwner c.committer i → ⊥) → (f : Rattle.world_law.specs.declared.events.Fate.Fate) → t.fate ≡ fate.Running
     → Rattle.world_law.specs.World.is_live f ≡ Rattle.std.proofs.Common.false → t' ≡ record t { fate = f } → Replaces c i t t'
-stops c i t t' k at own f n dead e = Rattle.std.proofs.Common.subst (λ (u : Trial). Replaces c i t u) (sym e) (record {
+stops c i t t' k at own f run dead e = Rattle.std.proofs.Common.subst (λ (u : Trial). Replaces c i t u) (sym e) (record {
   was = at;
   task = refl;
   live = λ l. absurd (Rattle.std.proofs.Common.true≢false (sym l ∙ dead));
-  kept = with_fate_kept (listing c) t f (k.trials i t at) n;
+  kept = other_kept (listing c) t t.rv t.loads f t.movable t.check (k.trials i t at) (runs_on (listing c) t (k.trials i t at) run);
   own = λ p is place. own (owner_of c.committer p i is place);
 })
 
 pub drop_leads : (c : Scene) (a : TaskId) (i : ℕ) (t : Trial) → Kept c → IsTheRunning c a i t → (IsOwner c.committer i → ⊥) → Leads c (Drop a) seen.Dropped (with_trial c i (record t { fate = fate.Dropped }))
-drop_leads c a i t k r own = put_leads c i t (record t { fate = fate.Dropped }) (Drop a) seen.Dropped k (stops c i t (record t { fate = fate.Dropped }) k r.0 own fate.Dropped (λ e. cc) refl refl)
+drop_leads c a i t k r own = put_leads c i t (record t { fate = fate.Dropped }) (Drop a) seen.Dropped k (stops c i t (record t { fate = fate.Dropped }) k r.0 own fate.Dropped r.2 refl refl)
     (i, started_of t, (running_to c a i t r, λ d e is. own (owner_from c.committer d i e is)), world_put c i (record t { fate = fate.Dropped }))
 
 pub drop_idle : (c : Scene) (a : TaskId) (i : ℕ) → IsOnly c a i → IsOwner c.committer i → Steps (listing c) (world_of c) (Drop a) seen.Idle (world_of c)
@@ -51,10 +51,13 @@ drop_idle c a i only own = (
   refl,
 )
 
--- an attempt that needs a variable is not the committer's
-pub needs_apart : (c : Scene) (i : ℕ) (t : Trial) (x : VarId) → Kept c → slice_get c.trials.items i ≡ Some t → t.at ≡ next.Need x → IsOwner c.committer i → ⊥
-needs_apart c i t x k at needs own = owned c.committer k.committer own
+-- an attempt that reads is not the committer's
+pub needs_apart : (c : Scene) (i : ℕ) (t : Trial) (x : VarId) → Kept c → slice_get c.trials.items i ≡ Some t → wants t ≡ Some x → IsOwner c.committer i → ⊥
+needs_apart c i t x k at reads own = owned c.committer k.committer own
   where
+    needs : (z : VarId) × (t.at ≡ next.Need z)
+    needs = wants_needs t.at t.attempt.log t.check x reads
+
     owned : (o : Option Publishing) → CommitterKept c o → IsOwner o i → ⊥
     owned None h w = w
-    owned (Some p) h w = h.runs.3 x (ap (λ (u : Trial). u.at) (same_place c.trials.items p.place i h.runs.0 t h.runs.1 at (sym w)) ∙ needs)
+    owned (Some p) h w = h.runs.3 needs.0 (ap (λ (u : Trial). u.at) (same_place c.trials.items p.place i h.runs.0 t h.runs.1 at (sym w)) ∙ needs.1)

@@ -1,5 +1,5 @@
 -- Another attempt at a place.
-use Rattle.std.proofs.Common.{◌≡◌, ℕ, List, map, set, ⊎_elim, sym, refl, ap, ◌∙◌, subst, true, Option, Some, None, slice_get}
+use Rattle.std.proofs.Common.{◌≡◌, ℕ, List, map, set, ⊎_elim, sym, refl, ap, ◌∙◌, subst, true, arith, Option, Some, None, slice_get}
 use Rattle.std.specs.declared.alloc.Global.{Global}
 use Rattle.std.specs.declared.vec.Vec.{Vec}
 use Rattle.std.specs.Vec.{with_item}
@@ -22,7 +22,7 @@ use Rattle.world_events.proofs.Seeing.{seen_set, set_same}
 pub record Replaces (c : Scene) (i : ℕ) (t t' : Trial) : Type 0 where
   pub was : slice_get c.trials.items i ≡ Some t
   pub task : t'.task ≡ t.task
-  pub live : is_live t'.fate ≡ true → is_live t.fate ≡ true
+  pub live : is_live t'.fate ≡ true → slice_get c.latest.items t.task.0 ≡ Some (Some i)
   pub kept : TrialKept (listing c) t'
   pub own : (p : Publishing) → c.committer ≡ Some p → p.place ≡ i → ⊥
 
@@ -48,7 +48,7 @@ kept_put c i t t' k r = record {
   trials = λ j y e. ⊎_elim (λ h. k.trials j y h.1) (λ h. subst (TrialKept (listing c)) h.1 r.kept) (get_set c.trials.items i j t' t y r.was e);
   tasks = k.tasks;
   live = λ j y e l. ⊎_elim (λ h. k.live j y h.1 l)
-      (λ h. let old = k.live i t r.was (r.live (ap (λ (u : Trial). is_live u.fate) h.1 ∙ l)) in
+      (λ h. let old = r.live (ap (λ (u : Trial). is_live u.fate) h.1 ∙ l) in
       let task : y.task ≡ t.task = ap (λ (u : Trial). u.task) (sym h.1) ∙ r.task in
       let place : j ≡ i = h.0 in
       ap (λ (a : ℕ). slice_get c.latest.items a) (ap (λ (v : Rattle.programs.specs.declared.ast.TaskId.TaskId). v.0) task) ∙ (old ∙ ap (λ (n : ℕ). Some (Some n)) (sym place)))
@@ -60,6 +60,11 @@ kept_put c i t t' k r = record {
         ap (λ (v : Rattle.programs.specs.declared.ast.TaskId.TaskId). v.0) r.task ∙ (ap (λ (u : Trial). u.task.0) (same_at j same o.0 o.1) ∙ o.2),
       ))
       (λ other. (o.0, get_set_other c.trials.items i j t' other ∙ o.1, o.2));
+  last = λ j y e. ⊎_elim (λ h. k.last j y h.1)
+      (λ h. let o = k.last i t r.was in
+      let task : t.task ≡ y.task = sym r.task ∙ ap (λ (u : Trial). u.task) h.1 in
+      (o.0, ap (λ (v : Rattle.programs.specs.declared.ast.TaskId.TaskId). slice_get c.latest.items v.0) (sym task) ∙ o.1, (let at = h.0 in omega (arith, o.2))))
+      (get_set c.trials.items i j t' t y r.was e);
   committer = committer_put c i t t' c.committer r refl k.committer;
 }
   where
@@ -76,6 +81,7 @@ kept_items c v k e = record {
   tasks = k.tasks;
   live = λ i y at. k.live i y (ap (λ (l : List Trial). slice_get l i) (sym e) ∙ at);
   latest = λ a i at. let o = k.latest a i at in (o.0, ap (λ (l : List Trial). slice_get l i) e ∙ o.1, o.2);
+  last = λ i y at. k.last i y (ap (λ (l : List Trial). slice_get l i) (sym e) ∙ at);
   committer = owned c.committer k.committer;
 }
   where

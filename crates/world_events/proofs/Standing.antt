@@ -1,21 +1,22 @@
 -- Where a running attempt stands.
-use Rattle.std.proofs.Common.{◌≡◌, ◌≢◌, ℕ, List, [], ◌∷◌, sym, refl, ap, ◌∙◌, subst}
+use Rattle.std.proofs.Common.{◌≡◌, ◌≢◌, ℕ, Bool, List, [], ◌∷◌, sym, refl, ap, ◌∙◌, subst, Option, Some, None, option_map}
 use Rattle.programs.specs.Listing.{Listing}
 use Rattle.programs.specs.Tree.{Program}
 use Rattle.programs.specs.declared.ast.TaskId.{TaskId}
 use Rattle.programs.specs.declared.ast.VarId.{VarId}
-use Rattle.attempt.specs.Asking.{Needs, ask}
-use Rattle.attempt.specs.View.{Answers}
+use Rattle.attempt.specs.Asking.{Known, Answer, Needs, ask}
+use Rattle.attempt.specs.View.{Answers, AttemptView}
 use Rattle.attempt.specs.declared.next.Next.{Next}
 use Rattle.attempt.specs.declared.next.Next.TheVariants as next
 use Rattle.world_law.specs.declared.events.Fate.{Fate}
 use Rattle.world_law.specs.declared.events.Fate.TheVariants as fate
-use Rattle.world_law.specs.World.{Started, stand, Reading, IsRunning}
+use Rattle.world_law.specs.World.{Started, stand, wanted_by, wanted, Reading, IsRunning}
 use Rattle.world_events.specs.declared.trial.Loads.{Loads}
 use Rattle.world_events.specs.declared.trial.Loads.TheVariants as loads
+use Rattle.world_events.specs.declared.trial.Checking.{Checking}
 use Rattle.world_events.specs.declared.trial.Trial.{Trial}
 use Rattle.world_events.specs.declared.scene.Scene.{Scene}
-use Rattle.world_events.specs.Trials.{loads_of, started_of, TrialKept}
+use Rattle.world_events.specs.Trials.{loads_of, check_of, started_of, wanted_at, wants, TrialKept}
 use Rattle.world_events.specs.Inside.{listing, world_of, Kept, IsTheRunning, IsOnly}
 use Rattle.world_events.proofs.Seeing.{seen_at, seen_from, same_place}
 
@@ -33,8 +34,38 @@ at_needs l t x (next.Thrown f) is m a e = absurd (let s = sym a.0 ∙ e in cc)
 at_needs l t x next.Retry is m a e = absurd (let s = sym a.0 ∙ e in cc)
 at_needs l t x next.Memory is m a e = absurd (m refl)
 
-pub needs_at : (l : Listing) (t : Trial) (x : VarId) → TrialKept l t → t.fate ≡ fate.Running → stand l (started_of t) ≡ Needs x → t.at ≡ next.Need x
-needs_at l t x k run e = at_needs l t x t.at refl (k.runs run) k.answers (sym (asks l t k) ∙ e)
+-- an attempt that is not spent met no want of memory
+pub no_want : (l : Listing) (t : Trial) → TrialKept l t → t.fate ≢ fate.Spent → t.at ≢ next.Memory
+no_want l t k n e = n (k.spent e)
+
+pub runs_on : (l : Listing) (t : Trial) → TrialKept l t → t.fate ≡ fate.Running → t.at ≢ next.Memory
+runs_on l t k run e = let bad : fate.Running ≡ fate.Spent = sym run ∙ k.spent e in cc
+
+pub needs_at : (l : Listing) (t : Trial) (x : VarId) → TrialKept l t → t.fate ≢ fate.Spent → stand l (started_of t) ≡ Needs x → t.at ≡ next.Need x
+needs_at l t x k n e = at_needs l t x t.at refl (no_want l t k n) k.answers (sym (asks l t k) ∙ e)
+
+-- the variable that it reads
+on_need : (x : VarId) (log : Known) (o : Option Checking) → wanted_by (Needs x) log (option_map check_of o) ≡ wanted_at (next.Need x) log o
+on_need x log None = refl
+on_need x log (Some c) = refl
+
+wants_by : (n : Next) (v : AttemptView) (o : Option Checking) → n ≢ next.Memory → Answers n v → wanted_by (ask v.program v.log) v.log (option_map check_of o) ≡ wanted_at n v.log o
+wants_by (next.Need z) v o m a = ap (λ (r : Answer). wanted_by r v.log (option_map check_of o)) a.0 ∙ on_need z v.log o
+wants_by (next.Returned x) v o m a = ap (λ (r : Answer). wanted_by r v.log (option_map check_of o)) a.0
+wants_by (next.Thrown f) v o m a = ap (λ (r : Answer). wanted_by r v.log (option_map check_of o)) a.0
+wants_by next.Retry v o m a = ap (λ (r : Answer). wanted_by r v.log (option_map check_of o)) a.0
+wants_by next.Memory v o m a = absurd (m refl)
+
+pub wants_is : (l : Listing) (t : Trial) → TrialKept l t → t.at ≢ next.Memory → wanted l (started_of t) ≡ wants t
+wants_is l t k m = ap (λ (r : Answer). wanted_by r t.attempt.log (option_map check_of t.check)) (asks l t k) ∙ wants_by t.at t.attempt t.check m k.answers
+
+-- an attempt that reads needs a variable
+pub wants_needs : (n : Next) (log : Known) (o : Option Checking) (x : VarId) → wanted_at n log o ≡ Some x → (z : VarId) × (n ≡ next.Need z)
+wants_needs (next.Need z) log o x e = (z, refl)
+wants_needs (next.Returned v) log o x e = absurd (cc)
+wants_needs (next.Thrown f) log o x e = absurd (cc)
+wants_needs next.Retry log o x e = absurd (cc)
+wants_needs next.Memory log o x e = absurd (cc)
 
 -- the world's running attempt is one of these
 pub running_from : (c : Scene) (a : TaskId) (j : ℕ) (y : Started) → IsRunning (world_of c) a j y → (t : Trial) × IsTheRunning c a j t × (started_of t ≡ y)
@@ -48,12 +79,13 @@ running_to c a i t r = (seen_at c.trials.items i t r.0, r.1, r.2)
 pub the_one : (c : Scene) (a : TaskId) (i j : ℕ) (t u : Trial) → IsTheRunning c a i t → IsOnly c a i → IsTheRunning c a j u → t ≡ u
 the_one c a i j t u r only q = same_place c.trials.items i j t u r.0 q.0 (only j u q)
 
-pub reading_to : (c : Scene) (a : TaskId) (i : ℕ) (t : Trial) (x : VarId) → Kept c → IsTheRunning c a i t → t.at ≡ next.Need x → Reading (listing c) (world_of c) a i (started_of t) x (loads_of t.loads)
-reading_to c a i t x k r e = ((running_to c a i t r, stands_at (listing c) t x (k.trials i t r.0) e), refl)
+pub reading_to : (c : Scene) (a : TaskId) (i : ℕ) (t : Trial) (x : VarId) → Kept c → IsTheRunning c a i t → wants t ≡ Some x → Reading (listing c) (world_of c) a i (started_of t) x (loads_of t.loads)
+reading_to c a i t x k r e = let g = k.trials i t r.0 in ((running_to c a i t r, wants_is (listing c) t g (runs_on (listing c) t g r.2) ∙ e), refl)
 
-pub reading_from : (c : Scene) (a : TaskId) (j : ℕ) (y : Started) (x : VarId) (ls : List ℕ) → Kept c → Reading (listing c) (world_of c) a j y x ls → (t : Trial) × IsTheRunning c a j t × (t.at ≡ next.Need x) × (loads_of t.loads ≡ ls)
+pub reading_from : (c : Scene) (a : TaskId) (j : ℕ) (y : Started) (x : VarId) (ls : List ℕ) → Kept c → Reading (listing c) (world_of c) a j y x ls → (t : Trial) × IsTheRunning c a j t × (wants t ≡ Some x) × (loads_of t.loads ≡ ls)
 reading_from c a j y x ls k r = let s = running_from c a j y r.0.0 in
-    (s.0, s.1, needs_at (listing c) s.0 x (k.trials j s.0 s.1.0) s.1.2 (ap (stand (listing c)) s.2 ∙ r.0.1), ap (λ (u : Started). u.loads) s.2 ∙ r.1)
+    let g = k.trials j s.0 s.1.0 in
+    (s.0, s.1, sym (wants_is (listing c) s.0 g (runs_on (listing c) s.0 g s.1.2)) ∙ (ap (wanted (listing c)) s.2 ∙ r.0.1), ap (λ (u : Started). u.loads) s.2 ∙ r.1)
 
 pub loads_nothing : (o : Loads) → loads_of o ≡ [] → o ≡ loads.Nothing
 loads_nothing loads.Nothing e = refl
@@ -70,9 +102,6 @@ loads_value loads.Nothing a b e = absurd (cc)
 loads_value (loads.Version d) a b e = absurd (cc)
 loads_value (loads.Value d f) a b e = let s : d ≡ a = cc in let q : f ≡ b = cc in cc
 
--- with another fate, and no other
-pub with_fate_kept : (l : Listing) (t : Trial) (f : Fate) → TrialKept l t → (f ≢ fate.Running) → TrialKept l (record t { fate = f })
-with_fate_kept l t f k n = record { program = k.program; variables = k.variables; answers = k.answers; needs = k.needs; runs = λ e. absurd (n e) }
-
-pub with_loads_kept : (l : Listing) (t : Trial) (o : Loads) → TrialKept l t → TrialKept l (record t { loads = o })
-with_loads_kept l t o k = record { program = k.program; variables = k.variables; answers = k.answers; needs = k.needs; runs = k.runs }
+-- one that met no want of memory may be otherwise in all but its program and its answer
+pub other_kept : (l : Listing) (t : Trial) (n : ℕ) (o : Loads) (f : Fate) (b : Bool) (q : Option Checking) → TrialKept l t → t.at ≢ next.Memory → TrialKept l (record t { rv = n; loads = o; fate = f; movable = b; check = q })
+other_kept l t n o f b q k m = record { program = k.program; variables = k.variables; answers = k.answers; needs = k.needs; spent = λ e. absurd (m e) }

@@ -1,5 +1,5 @@
 -- An attempt that begins.
-use Rattle.std.proofs.Common.{◌≡◌, ◌≢◌, ◌⊎◌, ℕ, ◌<◌, get_or, List, [], ◌∷◌, ◌++◌, length, map, set, slice_index, ⊎_elim, Bool, true, false, Option, Some, None, slice_get, refl, sym, ap, ◌∙◌, subst, arith, true≢false}
+use Rattle.std.proofs.Common.{◌≡◌, ◌≢◌, ◌⊎◌, ℕ, ◌<◌, ◌≤◌, get_or, List, [], ◌∷◌, ◌++◌, length, map, set, slice_index, ⊎_elim, Bool, true, false, Option, Some, None, option_map, slice_get, refl, sym, ap, ◌∙◌, subst, arith, true≢false}
 use mathlib.Core.Logic.{dite}
 use native.Mathlib.Decide.{ℕ_discrete}
 use Rattle.std.specs.declared.alloc.Global.{Global}
@@ -21,10 +21,11 @@ use Rattle.world_law.specs.declared.events.Event.TheVariants.{Begin}
 use Rattle.world_law.specs.World.{Started, CanBegin, is_live, begun}
 use Rattle.world_law.specs.Next.{Next as Steps, told}
 use Rattle.world_law.proofs.Places.{get_set_same, get_set_other, get_push, get_push_old}
+use Rattle.world_events.specs.declared.trial.Checking.{Checking}
 use Rattle.world_events.specs.declared.trial.Trial.{Trial}
 use Rattle.world_events.specs.declared.scene.Publishing.{Publishing}
 use Rattle.world_events.specs.declared.scene.Scene.{Scene}
-use Rattle.world_events.specs.Trials.{started_of, loads_of, TrialKept, Begins, answer_seen, answer_fate}
+use Rattle.world_events.specs.Trials.{started_of, loads_of, check_of, TrialKept, Begins, answer_seen, answer_fate}
 use Rattle.world_events.specs.Inside.{listing, world_of, CommitterKept, Kept, Leads}
 use Rattle.world_events.proofs.Seeing.{seen_at, seen_from, seen_push, same_place, get_push_new}
 use Rattle.world_events.proofs.Going.{same_started, tells, fates}
@@ -103,12 +104,19 @@ module _ (c : Scene) (v : Vec Trial Global) (a : TaskId) (t : Trial) (s : Seen) 
         let at : n ≡ i = cc in
         (t, ap (slice_get v.items) (sym at) ∙ new_v, ap (λ (u : TaskId). u.0) b.task ∙ sym same))
         (λ other. let o = k.latest p i (sym (get_set_other c.latest.items a.0 p (Some n) other) ∙ e) in (o.0, old_v i o.0 o.1, o.2));
+    last = λ j y e. ⊎_elim
+        (λ h. dite (ℕ_discrete y.task.0 a.0)
+        (λ same. (n, ap (slice_get (set c.latest.items a.0 (Some n))) same ∙ there, (let low = slice_get_within c.trials.items j y h in omega (arith, place))))
+        (λ other. let o = k.last j y h in (o.0, get_set_other c.latest.items a.0 y.task.0 (Some n) other ∙ o.1, o.2)))
+        (λ h. let task : y.task ≡ a = ap (λ (u : Trial). u.task) (sym h.1) ∙ b.task in
+        (n, ap (λ (u : TaskId). slice_get (set c.latest.items a.0 (Some n)) u.0) task ∙ there, (let at = h.0 in omega (arith, place))))
+        (get_v j y e);
     committer = owned c.committer k.committer;
   }
 
   world_is : (f : Fate) → t.fate ≡ f → world_of c' ≡ begun (world_of c) a f
   world_is f e = ap (λ (l : List Started). record (world_of c) { attempts = l }) (ap (map started_of) is ∙ (seen_push c.trials.items t ∙
-      ap (λ (y : Started). map started_of c.trials.items ++ y ∷ []) (same_started t.task a t.rv (slice_index c.words.items 0) t.attempt.log [] (loads_of t.loads) [] t.fate f b.task b.number b.log (ap loads_of b.loads) e)))
+      ap (λ (y : Started). map started_of c.trials.items ++ y ∷ []) (same_started t.task a t.rv (slice_index c.words.items 0) t.attempt.log [] (loads_of t.loads) [] t.fate f t.movable false (option_map check_of t.check) None b.task b.number b.log (ap loads_of b.loads) e b.movable (ap (λ (o : Option Checking). option_map check_of o) b.check))))
 
   tells_it : (m : Next) → t.at ≡ m → m ≢ next.Memory → answer_seen m ≡ told (ask (task_program (listing c) a) [])
   tells_it m e mem = tells m t.attempt mem (subst (λ (q : Next). Answers q t.attempt) e b.kept.answers)

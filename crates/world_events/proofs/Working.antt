@@ -23,7 +23,7 @@ use Rattle.world_events.specs.Trials.{started_of}
 use Rattle.world_events.specs.Inside.{listing, world_of, all_states, committer_of, with_trial, IsReady, PublishingKept, CommitterKept, Kept, Leads}
 use Rattle.world_events.specs.Steps.{count_after, MayWrite, with_committer}
 use Rattle.world_events.proofs.Seeing.{seen_at, seen_set}
-use Rattle.world_events.proofs.Standing.{with_fate_kept}
+use Rattle.world_events.proofs.Standing.{runs_on, other_kept}
 use Rattle.world_events.proofs.Putting.{kept_put}
 
 bit : (b : Bool) → (if b then 1 else 0) ≤ 1
@@ -140,6 +140,7 @@ module _ (c : Scene) (p : Publishing) (s : Store) (k : Kept (with_committer c p)
       tasks = k.tasks;
       live = k.live;
       latest = k.latest;
+      last = k.last;
       committer = h;
     }
 
@@ -182,8 +183,8 @@ module _ (c : Scene) (p : Publishing) (s : Store) (k : Kept (with_committer c p)
         kept = kept_put (after o) p.place y over (kept_after o (none_kept last)) (record {
           was = here;
           task = refl;
-          live = λ e. ap is_live runs;
-          kept = with_fate_kept (listing c) y (fate.Committed p.number) (k.trials p.place y here) (λ e. cc);
+          live = λ e. k.live p.place y here (ap is_live runs);
+          kept = other_kept (listing c) y y.rv y.loads (fate.Committed p.number) y.movable y.check (k.trials p.place y here) (runs_on (listing c) y (k.trials p.place y here) runs);
           own = λ q is place. let bad : Some q ≡ None = sym is ∙ empty in cc;
         });
         next = (committer_of p, s, v.items, started_of y, (refl, at, w), omega (arith, many_stores cs, last), refl, seen_at c.trials.items p.place y here, ended last);

@@ -19,7 +19,7 @@ use Rattle.world_law.specs.Next.{Next}
 use Rattle.world_events.specs.declared.trial.Trial.{Trial}
 use Rattle.world_events.specs.declared.scene.Publishing.{Publishing}
 use Rattle.world_events.specs.declared.scene.Scene.{Scene}
-use Rattle.world_events.specs.Trials.{started_of, TrialKept}
+use Rattle.world_events.specs.Trials.{started_of, wants, MayGoAgain, TrialKept}
 
 abbrev pub listing : Scene → Listing
 listing c = c.catalogue.now
@@ -71,6 +71,8 @@ pub record Kept (c : Scene) : Type 0 where
   -- a task's live attempt is its latest
   pub live : (i : ℕ) (y : Trial) → slice_get c.trials.items i ≡ Some y → is_live y.fate ≡ true → slice_get c.latest.items y.task.0 ≡ Some (Some i)
   pub latest : (a i : ℕ) → slice_get c.latest.items a ≡ Some (Some i) → (y : Trial) × (slice_get c.trials.items i ≡ Some y) × (y.task.0 ≡ a)
+  -- and it is the last that began
+  pub last : (i : ℕ) (y : Trial) → slice_get c.trials.items i ≡ Some y → (j : ℕ) × (slice_get c.latest.items y.task.0 ≡ Some (Some j)) × (i ≤ j)
   pub committer : CommitterKept c c.committer
 
 -- with another attempt at the place i
@@ -89,11 +91,20 @@ abbrev pub FindsRunning : Scene → TaskId → Option ℕ → Type 0
 FindsRunning c a (Some i) = (y : Trial) × IsTheRunning c a i y × IsOnly c a i
 FindsRunning c a None = (i : ℕ) (y : Trial) → IsTheRunning c a i y → ⊥
 
--- .. and the variable that it needs
+-- .. and the variable that it reads
 abbrev pub FindsReading : Scene → TaskId → Option (ℕ × VarId) → Type 0
 FindsReading c a (Some r) =
-    (y : Trial) × IsTheRunning c a r.0 y × (y.at ≡ next.Need r.1) × IsOnly c a r.0 × (r.1.0 < length (listing c).initial)
-FindsReading c a None = (i : ℕ) (y : Trial) (x : VarId) → IsTheRunning c a i y → y.at ≡ next.Need x → ⊥
+    (y : Trial) × IsTheRunning c a r.0 y × (wants y ≡ Some r.1) × IsOnly c a r.0 × (r.1.0 < length (listing c).initial)
+FindsReading c a None = (i : ℕ) (y : Trial) (x : VarId) → IsTheRunning c a i y → wants y ≡ Some x → ⊥
+
+-- y, at the place i, is the latest attempt of the task a
+abbrev pub IsTheLatest : Scene → TaskId → ℕ → Trial → Type 0
+IsTheLatest c a i y = (slice_get c.trials.items i ≡ Some y) × (slice_get c.latest.items a.0 ≡ Some (Some i))
+
+-- the place of the task's latest attempt, which may run again
+abbrev pub FindsStale : Scene → TaskId → Option ℕ → Type 0
+FindsStale c a (Some i) = (y : Trial) × IsTheLatest c a i y × (y.task ≡ a) × MayGoAgain y
+FindsStale c a None = (i : ℕ) (y : Trial) → IsTheLatest c a i y → MayGoAgain y → ⊥
 
 abbrev pub IsOwner : Option Publishing → ℕ → Type 0
 IsOwner None i = ⊥

@@ -1,7 +1,12 @@
 -- An attempt that began, as the world keeps it, and what its loads do to it.
-use Rattle.std.specs.Prelude.{◌≡◌, ◌≢◌, ◌⊎◌, ℕ, ◌*◌, ◌%◌, ◌<◌, ◌≤◌, List, [], ◌∷◌, length}
+use Rattle.std.specs.Prelude.{◌≡◌, ◌≢◌, ◌⊎◌, ℕ, ◌*◌, ◌+◌, ◌%◌, ◌<◌, ◌≤◌, true, false, List, [], ◌∷◌, length, ℤ, Option, Some, None}
 use Rattle.programs.specs.Listing.{Listing, task_program}
+use Rattle.std.specs.List.{slice_get}
+use Rattle.std.specs.Option.{option_map}
 use Rattle.std.specs.Int.{w64, cast_signed}
+use Rattle.shared_words.specs.Stores.{new_of}
+use Rattle.attempt.specs.Asking.{Known}
+use Rattle.attempt.specs.declared.next.Stand.TheVariants as stand
 use Rattle.programs.specs.declared.ast.VarId.{VarId}
 use Rattle.programs.specs.declared.ast.TaskId.{TaskId}
 use Rattle.programs.specs.declared.ast.Outcome.TheVariants.{Returned, Thrown, Retries}
@@ -12,9 +17,10 @@ use Rattle.world_law.specs.declared.events.Fate.{Fate}
 use Rattle.world_law.specs.declared.events.Fate.TheVariants as fate
 use Rattle.world_law.specs.declared.events.Seen.{Seen}
 use Rattle.world_law.specs.declared.events.Seen.TheVariants as seen
-use Rattle.world_law.specs.World.{Started}
+use Rattle.world_law.specs.World.{Check, Started, bound}
 use Rattle.world_events.specs.declared.trial.Loads.{Loads}
 use Rattle.world_events.specs.declared.trial.Loads.TheVariants as loads
+use Rattle.world_events.specs.declared.trial.Checking.{Checking}
 use Rattle.world_events.specs.declared.trial.Trial.{Trial}
 
 abbrev pub loads_of : Loads → List ℕ
@@ -22,25 +28,47 @@ loads_of loads.Nothing = []
 loads_of (loads.Version first) = first ∷ []
 loads_of (loads.Value first bits) = first ∷ bits ∷ []
 
+abbrev pub check_of : Checking → Check
+check_of c = record { candidate = c.candidate; checked = c.checked }
+
 -- the attempt of the world
 abbrev pub started_of : Trial → Started
-started_of y = record { task = y.task; rv = y.rv; log = y.attempt.log; loads = loads_of y.loads; fate = y.fate }
+started_of y = record {
+  task = y.task;
+  rv = y.rv;
+  log = y.attempt.log;
+  loads = loads_of y.loads;
+  fate = y.fate;
+  movable = y.movable;
+  check = option_map check_of y.check;
+}
 
--- it evaluates its task's program, stands at its last answer, and runs only where that is no want of memory
+-- the variable that it reads: the one that it needs, or, while it checks, that of the pair that it has come to
+abbrev pub wanted_at : Next → Known → Option Checking → Option VarId
+wanted_at (next.Need x) log None = Some x
+wanted_at (next.Need x) log (Some c) = option_map (λ (p : VarId × ℤ). p.0) (slice_get log c.checked)
+wanted_at n log o = None
+
+abbrev pub wants : Trial → Option VarId
+wants y = wanted_at y.at y.attempt.log y.check
+
+-- it evaluates its task's program, stands at its last answer, and is spent where that is want of memory
 pub record TrialKept (l : Listing) (y : Trial) : Type 0 where
   pub program : y.attempt.program ≡ task_program l y.task
   pub variables : y.attempt.variables ≡ length l.initial
   pub answers : Answers y.at y.attempt
   pub needs : (x : VarId) → y.at ≡ next.Need x → x.0 < length l.initial
-  pub runs : y.fate ≡ fate.Running → y.at ≢ next.Memory
+  pub spent : y.at ≡ next.Memory → y.fate ≡ fate.Spent
 
 -- the load of a version word
 abbrev pub LoadsFirst : Trial → ℕ → Seen → Trial → Type 0
 LoadsFirst y version seen.Idle y' = (y.loads ≢ loads.Nothing) × (y' ≡ y)
 LoadsFirst y version seen.Stale y' =
-    (y.loads ≡ loads.Nothing) × ((version % 2 ≡ 1) ⊎ (2 * y.rv < version)) × (y' ≡ record y { fate = fate.Stale })
+    (y.loads ≡ loads.Nothing) × ((version % 2 ≡ 1) ⊎ (2 * bound (started_of y) < version))
+    × (y' ≡ record y { fate = fate.Stale; movable = true })
 LoadsFirst y version seen.Loaded y' =
-    (y.loads ≡ loads.Nothing) × (version % 2 ≡ 0) × (version ≤ 2 * y.rv) × (y' ≡ record y { loads = loads.Version version })
+    (y.loads ≡ loads.Nothing) × (version % 2 ≡ 0) × (version ≤ 2 * bound (started_of y))
+    × (y' ≡ record y { loads = loads.Version version })
 LoadsFirst y version s y' = ⊥
 
 -- the load of a value word
@@ -67,6 +95,8 @@ pub record GoesOn (y : Trial) (s : Seen) (y' : Trial) : Type 0 where
   pub task : y'.task ≡ y.task
   pub rv : y'.rv ≡ y.rv
   pub loads : y'.loads ≡ y.loads
+  pub movable : y'.movable ≡ y.movable
+  pub check : y'.check ≡ y.check
   pub log : y'.attempt.log ≡ y.attempt.log
   pub program : y'.attempt.program ≡ y.attempt.program
   pub variables : y'.attempt.variables ≡ y.attempt.variables
@@ -79,13 +109,46 @@ pub record GoesOn (y : Trial) (s : Seen) (y' : Trial) : Type 0 where
 abbrev pub told_value : Trial → VarId → ℕ → Trial
 told_value y x bits = record y { attempt = supplied y.attempt x (cast_signed w64 bits); loads = loads.Nothing }
 
--- the second load of a version word
+-- it has found so many of the pairs that it read to be so in the state n, of which this is the next
+abbrev pub ChecksOnWith : Trial → ℕ → ℕ → Option (VarId × ℤ) → Seen → Trial → Type 0
+ChecksOnWith y n checked (Some p) s y' =
+    (s ≡ seen.Checks p.0) × (y' ≡ record y { loads = loads.Nothing; check = Some record { candidate = n; checked = checked } })
+ChecksOnWith y n checked None s y' = (s ≡ answer_seen y.at) × (y' ≡ record y { rv = n; loads = loads.Nothing; check = None })
+
+abbrev pub ChecksOn : Trial → ℕ → ℕ → Seen → Trial → Type 0
+ChecksOn y n checked s y' = ChecksOnWith y n checked (slice_get y.attempt.log checked) s y'
+
+-- it compares a value with the one that it read before
+abbrev pub Compares : Trial → Checking → ℤ → Seen → Trial → Type 0
+Compares y c v s y' =
+    ((v ≡ new_of y.attempt.log c.checked) × ChecksOn y c.candidate (c.checked + 1) s y')
+    ⊎ ((v ≢ new_of y.attempt.log c.checked) × (s ≡ seen.Changed) × (y' ≡ record y { fate = fate.Stale }))
+
+-- its read of x, whose value word was `bits`, is good
+abbrev pub ReadsOn : Trial → VarId → ℕ → Option Checking → Seen → Trial → Type 0
+ReadsOn y x bits None s y' = GoesOn (told_value y x bits) s y'
+ReadsOn y x bits (Some c) s y' = Compares y c (cast_signed w64 bits) s y'
+
+-- it may end a read of x
+abbrev pub CanEndRead : Trial → VarId → Option Checking → Type 0
+CanEndRead y x None = y.attempt.stand ≡ stand.Needs x
+CanEndRead y x (Some c) = c.checked < length y.attempt.log
+
+-- the second load of a version word: there was no value, or the read is stale, or good
 abbrev pub LoadsSecond : Trial → VarId → ℕ → Seen → Trial → Type 0
-LoadsSecond y x version seen.Idle y' = ((first bits : ℕ) → y.loads ≢ loads.Value first bits) × (y' ≡ y)
-LoadsSecond y x version seen.Stale y' =
-    (first bits : ℕ) × (y.loads ≡ loads.Value first bits) × (version ≢ first) × (y' ≡ record y { fate = fate.Stale })
 LoadsSecond y x version s y' =
-    (first bits : ℕ) × (y.loads ≡ loads.Value first bits) × (version ≡ first) × GoesOn (told_value y x bits) s y'
+    (((first bits : ℕ) → y.loads ≢ loads.Value first bits) × (s ≡ seen.Idle) × (y' ≡ y))
+    ⊎ ((first bits : ℕ) × (y.loads ≡ loads.Value first bits)
+    × (((version ≢ first) × (s ≡ seen.Stale) × (y' ≡ record y { fate = fate.Stale; movable = true }))
+    ⊎ ((version ≡ first) × ReadsOn y x bits y.check s y')))
+
+-- it became stale at a load, when it needed a variable
+abbrev pub MayGoAgain : Trial → Type 0
+MayGoAgain y = (y.fate ≡ fate.Stale) × (y.movable ≡ true) × ((x : VarId) × (y.at ≡ next.Need x))
+
+-- it runs again, with what it loaded of the clock
+abbrev pub GoesAgain : Trial → ℕ → Seen → Trial → Type 0
+GoesAgain y clock s y' = ChecksOn (record y { fate = fate.Running; movable = false }) clock 0 s y'
 
 -- an attempt of the task a that has gone on with nothing read
 pub record Begins (l : Listing) (a : TaskId) (rv : ℕ) (y : Trial) (s : Seen) : Type 0 where
@@ -93,6 +156,8 @@ pub record Begins (l : Listing) (a : TaskId) (rv : ℕ) (y : Trial) (s : Seen) :
   pub number : y.rv ≡ rv
   pub log : y.attempt.log ≡ []
   pub loads : y.loads ≡ loads.Nothing
+  pub movable : y.movable ≡ false
+  pub check : y.check ≡ None
   pub kept : TrialKept l y
   pub fate : y.fate ≡ answer_fate y.at fate.Running
   pub seen : s ≡ answer_seen y.at

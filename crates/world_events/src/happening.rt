@@ -2,12 +2,13 @@
 
 ghost use Rattle.std.specs.Prelude.{◌≡◌, IfOk, OnErr, IsOk};
 ghost use Rattle.world_law.specs.Next.{Reachable};
-ghost use Rattle.world_events.specs.Runs.{TakesNone};
+ghost use Rattle.world_events.specs.Runs.{TakesNone, EndsCheck};
 ghost use Rattle.world_events.specs.Inside.{Kept, Leads, Stays, listing, world_of};
 
 use crate::asking::ask;
 use crate::beginning::begin;
 use crate::dropping::drop_attempt;
+use crate::moving::again;
 use crate::reading::{first, second, value};
 use crate::scene::Scene;
 use crate::storing::word;
@@ -21,6 +22,7 @@ pub fn happen(scene: &mut Scene, event: Event) -> Result<Seen, Memory>
     ensures ok { IfOk result (λ s. Leads scene.old event s scene.new) }
     ensures refused { OnErr result (Stays scene.old scene.new) }
     ensures sure { TakesNone event → IsOk result }
+    ensures checks { EndsCheck (world_of scene.old) event → IsOk result }
 {
     match event {
         Event::Begin(task) => begin(scene, task),
@@ -30,5 +32,6 @@ pub fn happen(scene: &mut Scene, event: Event) -> Result<Seen, Memory>
         Event::Ask(task) => ask(scene, task),
         Event::Word => Ok(word(scene)),
         Event::Drop(task) => Ok(drop_attempt(scene, task)),
+        Event::Again(task) => Ok(again(scene, task)),
     }
 }

@@ -9,6 +9,7 @@ pub mod asking;
 pub mod beginning;
 pub mod dropping;
 pub mod happening;
+pub mod moving;
 pub mod opening;
 pub mod reading;
 pub mod scene;

@@ -1,7 +1,8 @@
 //! The three loads of a read.
 
-ghost use Rattle.std.specs.Prelude.{◌≡◌, IfOk, OnErr};
-ghost use Rattle.world_events.specs.Inside.{Kept, Leads, Stays};
+ghost use Rattle.std.specs.Prelude.{◌≡◌, IfOk, OnErr, IsOk};
+ghost use Rattle.world_events.specs.Inside.{Kept, Leads, Stays, world_of};
+ghost use Rattle.world_events.specs.Runs.{IsChecking};
 ghost use Rattle.world_law.specs.declared.events.Event.TheVariants.{First, Value, Second};
 
 use crate::scene::{Scene, reading};
@@ -40,10 +41,12 @@ pub fn value(scene: &mut Scene, task: TaskId) -> Seen
 }
 
 /// The attempt of a task ends its read. `Memory` where its log can't grow; then nothing changed.
+/// While it checks that does not come.
 pub fn second(scene: &mut Scene, task: TaskId) -> Result<Seen, Memory>
     requires { Kept scene.old }
     ensures ok { IfOk result (λ s. Leads scene.old (Second task) s scene.new) }
     ensures refused { OnErr result (Stays scene.old scene.new) }
+    ensures checks { IsChecking (world_of scene.old) task → IsOk result }
 {
     match reading(scene, task) {
         Some((place, x)) => {

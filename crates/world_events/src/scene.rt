@@ -4,7 +4,6 @@ ghost use Rattle.std.specs.Prelude.{◌≡◌, Decides};
 ghost use Rattle.world_events.specs.Inside.{Kept, FindsRunning, FindsReading, IsOwner};
 
 use crate::trial::Trial;
-use attempt::Next;
 use txn::{Catalogue, TaskId, VarId};
 use world_law::Fate;
 
@@ -49,16 +48,16 @@ pub fn running(scene: &Scene, task: TaskId) -> Option<usize>
     }
 }
 
-/// The place of the running attempt of a task, if it has one that needs a variable, and that
+/// The place of the running attempt of a task, if it has one that reads a variable, and that
 /// variable.
 pub fn reading(scene: &Scene, task: TaskId) -> Option<(usize, VarId)>
     requires { Kept scene.now }
     ensures { FindsReading scene.now task result }
 {
     let place = running(scene, task)?;
-    match scene.trials[place].at {
-        Next::Need(x) => Some((place, x)),
-        _ => None,
+    match scene.trials[place].wants() {
+        Some(x) => Some((place, x)),
+        None => None,
     }
 }
 

@@ -1,10 +1,15 @@
 //! An attempt that began, and its loads.
 
-ghost use Rattle.std.specs.Prelude.{◌≡◌, ◌<◌, length, IfOk, OnErr};
+ghost use Rattle.std.specs.Prelude.{◌≡◌, ◌≢◌, ◌<◌, length, true, None, Some, IfOk, OnErr, IsOk, Decides};
 ghost use Rattle.programs.specs.Listing.{tasks};
 ghost use Rattle.attempt.specs.declared.next.Stand.TheVariants as Stand;
-ghost use Rattle.world_law.specs.World.{is_live};
-ghost use Rattle.world_events.specs.Trials.{LoadsFirst, LoadsValue, LoadsSecond, GoesOn, Begins, answer_seen, answer_fate};
+ghost use Rattle.world_law.specs.declared.events.Seen.TheVariants as seen;
+ghost use Rattle.world_law.specs.declared.events.Fate.TheVariants as fate;
+ghost use Rattle.attempt.specs.declared.next.Next.TheVariants as next;
+ghost use Rattle.programs.specs.declared.ast.VarId.{VarId};
+ghost use Rattle.world_law.specs.World.{bound, is_live};
+ghost use Rattle.world_events.specs.declared.trial.Checking.{Checking};
+ghost use Rattle.world_events.specs.Trials.{started_of, wants, CanEndRead, MayGoAgain, ChecksOn, Compares, LoadsFirst, LoadsValue, LoadsSecond, ReadsOn, GoesOn, GoesAgain, Begins, told_value, answer_seen, answer_fate};
 
 use attempt::{Attempt, Next};
 use std::alloc::Global;
@@ -21,7 +26,16 @@ pub enum Loads {
     Value(u64, u64),
 }
 
-/// An attempt that began. `at` is what it answered last.
+/// The state that an attempt which runs again checks: its number, and how many of the pairs that it
+/// read it has found to be so there.
+#[derive(Clone, Copy, Debug, PartialEq, Eq)]
+pub struct Checking {
+    pub candidate: u64,
+    pub checked: usize,
+}
+
+/// An attempt that began. `at` is what it answered last; `movable` says that it became stale at a
+/// load, and so may run again.
 #[derive(Drop)]
 pub struct Trial<'a> {
     pub task: TaskId,
@@ -30,18 +44,62 @@ pub struct Trial<'a> {
     pub at: Next,
     pub loads: Loads,
     pub fate: Fate,
+    pub movable: bool,
+    pub check: Option<Checking>,
 }
 
 impl<'a> Trial<'a> {
+    /// The variable that it reads: the one that it needs, or, while it checks, that of the pair that
+    /// it has come to.
+    pub fn wants(&self) -> Option<VarId>
+        requires { (x : VarId) → self.now.at ≡ next.Need x → x.0 < self.now.attempt.variables }
+        ensures value { result ≡ wants self.now }
+        ensures known { (x : VarId) → result ≡ Some x → x.0 < self.now.attempt.variables }
+    {
+        match self.at {
+            Next::Need(x) => match self.check {
+                Some(check) => {
+                    let log = self.attempt.log();
+                    if check.checked < log.len() {
+                        Some(log[check.checked].0)
+                    } else {
+                        None
+                    }
+                }
+                None => Some(x),
+            },
+            _ => None,
+        }
+    }
+
+    /// The number of the state whose values it loads.
+    fn bound(&self) -> u64
+        ensures { result ≡ bound (started_of self.now) }
+    {
+        match self.check {
+            Some(check) => check.candidate,
+            None => self.rv,
+        }
+    }
+
+    /// It becomes stale at a load.
+    fn go_stale(&mut self) -> Seen
+        ensures told { result ≡ seen.Stale }
+        ensures stale { self.new ≡ record self.old { fate = fate.Stale; movable = true } }
+    {
+        self.fate = Fate::Stale;
+        self.movable = true;
+        Seen::Stale
+    }
+
     /// It begins a read: it loads the version word.
     pub fn load_first(&mut self, version: u64) -> Seen
         ensures { LoadsFirst self.old version result self.new }
     {
         match self.loads {
             Loads::Nothing => {
-                if version % 2 == 1 || self.rv < version / 2 {
-                    self.fate = Fate::Stale;
-                    Seen::Stale
+                if version % 2 == 1 || self.bound() < version / 2 {
+                    self.go_stale()
                 } else {
                     self.loads = Loads::Version(version);
                     Seen::Loaded
@@ -64,26 +122,100 @@ impl<'a> Trial<'a> {
         }
     }
 
-    /// It ends its read of x, which it needs: it loads the version word again, and where that is
-    /// the one that it loaded first it knows the value, and goes on. `Memory` where its log can't
-    /// grow; then it is as it was.
+    /// It ends its read of x, which it wants: it loads the version word again, and where that is
+    /// the one that it loaded first the read is good. `Memory` where its log can't grow; then it is
+    /// as it was. While it checks that does not come.
     pub fn load_second(&mut self, x: VarId, version: u64) -> Result<Seen, Memory>
-        requires { self.old.attempt.stand ≡ Stand.Needs x }
+        requires { CanEndRead self.old x self.old.check }
         ensures ok { IfOk result (λ s. LoadsSecond self.old x version s self.new) }
         ensures refused { OnErr result (self.new ≡ self.old) }
+        ensures sure { self.old.check ≢ None → IsOk result }
     {
         match self.loads {
             Loads::Value(first, bits) => {
                 if version != first {
-                    self.fate = Fate::Stale;
-                    return Ok(Seen::Stale);
+                    return Ok(self.go_stale());
                 }
-                self.attempt.supply(x, bits.cast_signed())?;
-                self.loads = Loads::Nothing;
-                Ok(self.go_on())
+                self.end_read(x, bits)
             }
             _ => Ok(Seen::Idle),
         }
+    }
+
+    /// Its read of x is good: it knows the value, or compares it with what it read before.
+    fn end_read(&mut self, x: VarId, bits: u64) -> Result<Seen, Memory>
+        requires { CanEndRead self.old x self.old.check }
+        ensures ok { IfOk result (λ s. ReadsOn self.old x bits self.old.check s self.new) }
+        ensures refused { OnErr result (self.new ≡ self.old) }
+        ensures sure { self.old.check ≢ None → IsOk result }
+    {
+        match self.check {
+            Some(check) => Ok(self.compare(check, bits.cast_signed())),
+            None => self.know(x, bits),
+        }
+    }
+
+    /// It knows the value of x, which it needs, and goes on.
+    fn know(&mut self, x: VarId, bits: u64) -> Result<Seen, Memory>
+        requires { self.old.attempt.stand ≡ Stand.Needs x }
+        ensures ok { IfOk result (λ s. GoesOn (told_value self.old x bits) s self.new) }
+        ensures refused { OnErr result (self.new ≡ self.old) }
+    {
+        self.attempt.supply(x, bits.cast_signed())?;
+        self.loads = Loads::Nothing;
+        Ok(self.go_on())
+    }
+
+    /// It compares a value with the one that it read before, and goes on with its check where they
+    /// are the same.
+    fn compare(&mut self, check: Checking, value: i64) -> Seen
+        requires { check.checked < length self.old.attempt.log }
+        ensures { Compares self.old check value result self.new }
+    {
+        if self.attempt.log()[check.checked].1 == value {
+            self.check_on(check.candidate, check.checked + 1)
+        } else {
+            self.fate = Fate::Stale;
+            Seen::Changed
+        }
+    }
+
+    /// It has found so many of the pairs that it read to be so in the state of this number: it
+    /// checks the next one, or, where none is left, it has moved there.
+    fn check_on(&mut self, candidate: u64, checked: usize) -> Seen
+        ensures { ChecksOn self.old candidate checked result self.new }
+    {
+        self.loads = Loads::Nothing;
+        match self.attempt.log().get(checked).copied() {
+            Some((x, _)) => {
+                self.check = Some(Checking { candidate, checked });
+                Seen::Checks(x)
+            }
+            None => {
+                self.rv = candidate;
+                self.check = None;
+                seen_of(self.at)
+            }
+        }
+    }
+
+    /// Whether it may run again: it became stale at a load.
+    pub fn may_go_again(&self) -> bool
+        ensures { Decides result (MayGoAgain self.now) }
+    {
+        match (self.at, self.fate) {
+            (Next::Need(_), Fate::Stale) => self.movable,
+            _ => false,
+        }
+    }
+
+    /// It runs again: it has loaded the clock, and checks what it read in that state.
+    pub fn go_again(&mut self, clock: u64) -> Seen
+        ensures { GoesAgain self.old clock result self.new }
+    {
+        self.fate = Fate::Running;
+        self.movable = false;
+        self.check_on(clock, 0)
     }
 
     /// It evaluates as far as it can.
@@ -115,6 +247,8 @@ pub fn begun<'a>(
         at,
         loads: Loads::Nothing,
         fate: fate_after(at, Fate::Running),
+        movable: false,
+        check: None,
     };
     (trial, seen_of(at))
 }

@@ -1,5 +1,5 @@
 -- What holds of a world, and how the events of readers keep it.
-use Rattle.std.proofs.Common.{◌≡◌, ◌≢◌, ℕ, ◌+◌, ◌-◌, ◌*◌, ◌%◌, ◌<◌, ◌≤◌, true, List, [], ◌∷◌, ◌++◌, length, take, get_or, set, sym, refl, ap, ◌∙◌, subst, ⊎_elim, inl, arith, Option, Some, None, slice_get}
+use Rattle.std.proofs.Common.{◌≡◌, ◌≢◌, ℕ, ◌+◌, ◌-◌, ◌*◌, ◌%◌, ◌<◌, ◌≤◌, true, false, List, [], ◌∷◌, ◌++◌, length, take, get_or, set, sym, refl, ap, ◌∙◌, subst, ⊎_elim, inl, arith, Option, Some, None, slice_get}
 use Rattle.std.proofs.lemmas.Bool.{false≢true}
 use Rattle.std.proofs.lemmas.Option.{slice_get_within}
 use Rattle.programs.specs.Listing.{Listing, task_program}
@@ -16,7 +16,7 @@ use Rattle.attempt.specs.Asking.{Known, Needs, Ends}
 use Rattle.attempt.specs.Frame.{Agrees, store}
 use Rattle.world_law.specs.declared.events.Fate.{Fate}
 use Rattle.world_law.specs.declared.events.Fate.TheVariants as fate
-use Rattle.world_law.specs.World.{Started, World, Committer, is_live, CanBegin, Stands, Apart, stand, begun, changed, version_now, value_now, committing, stores, differences}
+use Rattle.world_law.specs.World.{Check, Started, World, Committer, is_live, CanBegin, IsRunning, Stands, Apart, stand, wanted, bound_by, bound, begun, changed, version_now, value_now, committing, stores, differences}
 use Rattle.world_law.specs.Commits.{IsResting, IsAsFar, after_stores}
 use Rattle.world_law.specs.Opacity.{Explains, IsPast, Makes, Made, Opaque, WordsHold}
 use Rattle.world_law.proofs.Places.{get_set_other, get_set, get_push_old, get_push, same_some}
@@ -42,22 +42,44 @@ abbrev pub Under : Listing → List Started → Option Committer → Commit → 
 Under k attempts None commit = (n : ℕ) × IsResting commit n
 Under k attempts (Some c) commit = Pending k attempts c commit
 
--- a read that goes on found an unlocked version no later than rv
+-- a read that goes on found an unlocked version no later than its state
 abbrev pub WasFirst : ℕ → List ℕ → Type 0
 WasFirst rv [] = Unit {0}
 WasFirst rv (first ∷ more) = (first % 2 ≡ 0) × (first ≤ 2 * rv)
 
 -- what an attempt has loaded of x
-abbrev pub LoadedOf : World → Started → VarId → List ℕ → Type 0
-LoadedOf w y x loads =
-    SamplingHolds (version_now w x) (value_now w x) y.rv (value_of (state_of w.history y.rv) x.0) loads × WasFirst y.rv loads
+abbrev pub LoadedOf : World → ℕ → VarId → List ℕ → Type 0
+LoadedOf w rv x loads =
+    SamplingHolds (version_now w x) (value_now w x) rv (value_of (state_of w.history rv) x.0) loads × WasFirst rv loads
 
 abbrev pub LoadsHold : Listing → World → Started → Type 0
-LoadsHold k w y = (x : VarId) → stand k y ≡ Needs x → LoadedOf w y x y.loads
+LoadsHold k w y = (x : VarId) → wanted k y ≡ Some x → LoadedOf w (bound y) x y.loads
+
+-- what an attempt has checked is so in the state that it checks
+pub record CheckedSo (h : List State) (log : Known) (c : Check) : Type 0 where
+  pub within : c.candidate < length h
+  pub agrees : Agrees (take c.checked log) (state_of h c.candidate)
+
+abbrev pub CheckHolds : List State → Known → Option Check → Type 0
+CheckHolds h log None = Unit {0}
+CheckHolds h log (Some c) = CheckedSo h log c
 
 -- what an attempt read is so in its state
-abbrev pub ReadsHold : World → Started → Type 0
-ReadsHold w y = (y.rv < length w.history) × Agrees y.log (state_of w.history y.rv)
+abbrev pub ReadsHold : List State → Started → Type 0
+ReadsHold h y = (y.rv < length h) × Agrees y.log (state_of h y.rv) × CheckHolds h y.log y.check
+
+-- it loads the values of a state of the history
+pub bound_within : (h : List State) (log : Known) (rv : ℕ) (o : Option Check) → rv < length h → CheckHolds h log o → bound_by rv o < length h
+bound_within h log rv None low c = low
+bound_within h log rv (Some d) low c = c.within
+
+-- it stays so while the history grows
+pub check_grows : (h g : List State) (log : Known) (o : Option Check) → ((n : ℕ) → n < length h → (n < length g) × (state_of g n ≡ state_of h n)) → CheckHolds h log o → CheckHolds g log o
+check_grows h g log None grows c = tt
+check_grows h g log (Some d) grows c = let e = grows d.candidate c.within in record { within = e.0; agrees = subst (Agrees (take d.checked log)) (sym e.1) c.agrees }
+
+check_of : (h : List State) (log : Known) (o : Option Check) (c : Check) → CheckHolds h log o → o ≡ Some c → CheckedSo h log c
+check_of h log o c holds e = subst (CheckHolds h log) e holds
 
 pub record Holds (k : Listing) (w : World) : Type 0 where
   pub commit : Commit
@@ -66,7 +88,7 @@ pub record Holds (k : Listing) (w : World) : Type 0 where
   pub under : Under k w.attempts w.committer commit
   pub states : (n : ℕ) → n < length w.history → length (state_of w.history n) ≡ length k.initial
   pub begins : state_of w.history 0 ≡ k.initial
-  pub reads : (i : ℕ) (y : Started) → slice_get w.attempts i ≡ Some y → ReadsHold w y
+  pub reads : (i : ℕ) (y : Started) → slice_get w.attempts i ≡ Some y → ReadsHold w.history y
   pub loads : (i : ℕ) (y : Started) → slice_get w.attempts i ≡ Some y → LoadsHold k w y
   pub alone : (i j : ℕ) (y z : Started) → slice_get w.attempts i ≡ Some y → slice_get w.attempts j ≡ Some z → y.task ≡ z.task → is_live y.fate ≡ true → is_live z.fate ≡ true → i ≡ j
   pub numbered : (i n : ℕ) (y : Started) → Makes w n i y → n < length w.history
@@ -89,7 +111,8 @@ words_from k w h = record {
   history = h.history;
   words = h.words;
   far = as_far k w.attempts w.committer h.commit h.under;
-  loads = λ i y x at needs. (h.loads i y at x needs).0;
+  loads = λ i y x at wants. (h.loads i y at x wants).0;
+  checks = λ i y c at is. let so = check_of w.history y.log y.check c (h.reads i y at).2 is in (so.within, so.agrees);
 }
 
 pub running_not : (n : ℕ) → fate.Running ≢ fate.Committed n
@@ -102,12 +125,16 @@ not_past : (o : Option Committer) (i n : ℕ) → Apart o i → IsPast o i n →
 not_past None i n a p = p
 not_past (Some c) i n a p = a c refl p.0
 
--- the running attempt y at the place i becomes y'
+-- no two of these attempts that are live are of one task
+abbrev pub AreAlone : List Started → Type 0
+AreAlone l = (i j : ℕ) (y z : Started) → slice_get l i ≡ Some y → slice_get l j ≡ Some z → y.task ≡ z.task → is_live y.fate ≡ true → is_live z.fate ≡ true → i ≡ j
+
+-- the attempt y at the place i, which has not committed, becomes y'
 pub record Replaces (k : Listing) (w : World) (i : ℕ) (y y' : Started) : Type 0 where
   pub was : slice_get w.attempts i ≡ Some y
-  pub running : y.fate ≡ fate.Running
-  pub task : y'.task ≡ y.task
-  pub reads : ReadsHold w y'
+  pub standing : (n : ℕ) → y.fate ≢ fate.Committed n
+  pub alone : AreAlone (set w.attempts i y')
+  pub reads : ReadsHold w.history y'
   pub loads : LoadsHold k w y'
   pub apart : Apart w.committer i
 
@@ -119,11 +146,23 @@ back l i y y' was run task j z at live = ⊎_elim
     (λ (t : (j ≡ i) × (y' ≡ z)). (y, ap (slice_get l) t.0 ∙ was, sym task ∙ ap (λ (u : Started). u.task) t.1, run))
     (get_set l i j y' y z was at)
 
-pub alone_changed : (k : Listing) (w : World) (i : ℕ) (y y' : Started) → Holds k w → slice_get w.attempts i ≡ Some y → y.fate ≡ fate.Running → y'.task ≡ y.task → (j l : ℕ) (u z : Started) → slice_get (set w.attempts i y') j ≡ Some u → slice_get (set w.attempts i y') l ≡ Some z
-    → u.task ≡ z.task → is_live u.fate ≡ true → is_live z.fate ≡ true → j ≡ l
+pub alone_changed : (k : Listing) (w : World) (i : ℕ) (y y' : Started) → Holds k w → slice_get w.attempts i ≡ Some y → y.fate ≡ fate.Running → y'.task ≡ y.task → AreAlone (set w.attempts i y')
 alone_changed k w i y y' h was run task j l u z at at' same live live' =
     let b = back w.attempts i y y' was (ap is_live run) task j u at live in let c = back w.attempts i y y' was (ap is_live run) task l z at' live' in
     h.alone j l b.0 c.0 b.1 c.1 (b.2 ∙ (same ∙ sym c.2)) b.3 c.3
+
+-- where the task had no live attempt
+pub alone_again : (k : Listing) (w : World) (a : TaskId) (i : ℕ) (y y' : Started) → Holds k w → slice_get w.attempts i ≡ Some y → CanBegin k w a → y'.task ≡ a → AreAlone (set w.attempts i y')
+alone_again k w a i y y' h was can task j l u z at at' same live live' = ⊎_elim
+    (λ (t : (j ≢ i) × (slice_get w.attempts j ≡ Some u)). ⊎_elim
+    (λ (t' : (l ≢ i) × (slice_get w.attempts l ≡ Some z)). h.alone j l u z t.1 t'.1 same live live')
+    (λ (t' : (l ≡ i) × (y' ≡ z)). absurd (false≢true (sym (can.1 j u t.1 (same ∙ (ap (λ (v : Started). v.task) (sym t'.1) ∙ task))) ∙ live)))
+    (get_set w.attempts i l y' y z was at'))
+    (λ (t : (j ≡ i) × (y' ≡ u)). ⊎_elim
+    (λ (t' : (l ≢ i) × (slice_get w.attempts l ≡ Some z)). absurd (false≢true (sym (can.1 l z t'.1 (sym same ∙ (ap (λ (v : Started). v.task) (sym t.1) ∙ task))) ∙ live')))
+    (λ (t' : (l ≡ i) × (y' ≡ z)). t.0 ∙ sym t'.0)
+    (get_set w.attempts i l y' y z was at'))
+    (get_set w.attempts i j y' y u was at)
 
 under_set : (k : Listing) (l : List Started) (i : ℕ) (y' : Started) (o : Option Committer) (commit : Commit) → Apart o i → Under k l o commit → Under k (set l i y') o commit
 under_set k l i y' None commit a u = u
@@ -171,13 +210,13 @@ changed_kept k w i y y' h r never = record {
   begins = h.begins;
   reads = λ j z at. ⊎_elim
       (λ (t : (j ≢ i) × (slice_get w.attempts j ≡ Some z)). h.reads j z t.1)
-      (λ (t : (j ≡ i) × (y' ≡ z)). subst (ReadsHold w) t.1 r.reads)
+      (λ (t : (j ≡ i) × (y' ≡ z)). subst (ReadsHold w.history) t.1 r.reads)
       (get_set w.attempts i j y' y z r.was at);
   loads = λ j z at. ⊎_elim
       (λ (t : (j ≢ i) × (slice_get w.attempts j ≡ Some z)). h.loads j z t.1)
       (λ (t : (j ≡ i) × (y' ≡ z)). subst (LoadsHold k w) t.1 r.loads)
       (get_set w.attempts i j y' y z r.was at);
-  alone = alone_changed k w i y y' h r.was r.running r.task;
+  alone = r.alone;
   numbered = λ j n z m. h.numbered j n z (old j n z m).1;
   made = λ n low high. let m = h.made n low high in
       (m.0, m.1, (get_set_other w.attempts i m.0 y' (apart m.0 n m.1 m.2) ∙ m.2.0, m.2.1), m.3, λ j z mk. m.4 j z (old j n z mk).1);
@@ -185,7 +224,7 @@ changed_kept k w i y y' h r never = record {
   where
     apart : (j n : ℕ) (z : Started) → Makes w n j z → j ≢ i
     apart j n z m same = ⊎_elim
-        (λ (e : z.fate ≡ fate.Committed n). running_not n (sym r.running ∙ (ap (λ (u : Started). u.fate) (same_some y z (sym r.was ∙ (ap (slice_get w.attempts) (sym same) ∙ m.0))) ∙ e)))
+        (λ (e : z.fate ≡ fate.Committed n). r.standing n (ap (λ (u : Started). u.fate) (same_some y z (sym r.was ∙ (ap (slice_get w.attempts) (sym same) ∙ m.0))) ∙ e))
         (λ (p : IsPast w.committer j n). not_past w.committer i n r.apart (subst (λ (v : ℕ). IsPast w.committer v n) same p))
         m.1
 
@@ -208,7 +247,7 @@ begun_kept k w a f h can never = record {
   begins = h.begins;
   reads = λ j z at. ⊎_elim
       (λ (e : slice_get w.attempts j ≡ Some z). h.reads j z e)
-      (λ (e : (j ≡ length w.attempts) × (new ≡ z)). subst (ReadsHold w) e.1 (let clock = h.words.clock in let same = ap (λ (l : List State). length l) h.history in omega arith, tt))
+      (λ (e : (j ≡ length w.attempts) × (new ≡ z)). subst (ReadsHold w.history) e.1 (let clock = h.words.clock in let same = ap (λ (l : List State). length l) h.history in omega arith, tt, tt))
       (get_push w.attempts new j z at);
   loads = λ j z at. ⊎_elim
       (λ (e : slice_get w.attempts j ≡ Some z). h.loads j z e)
@@ -230,7 +269,7 @@ begun_kept k w a f h can never = record {
 }
   where
     new : Started
-    new = record { task = a; rv = get_or w.words 0 0; log = []; loads = []; fate = f }
+    new = record { task = a; rv = get_or w.words 0 0; log = []; loads = []; fate = f; movable = false; check = None }
 
     old : (j n : ℕ) (z : Started) → Makes (begun w a f) n j z → Makes w n j z
     old j n z m = ⊎_elim

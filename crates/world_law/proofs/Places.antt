@@ -1,5 +1,5 @@
 -- Lists at their places.
-use Rattle.std.proofs.Common.{◌≡◌, ◌≢◌, ◌⊎◌, ℕ, zero, suc, List, [], ◌∷◌, ◌++◌, length, set, ℤ, sym, refl, ap, ◌∙◌, ⊎_elim, inl, inr, Some, slice_get}
+use Rattle.std.proofs.Common.{◌≡◌, ◌≢◌, ◌⊎◌, ℕ, zero, suc, ◌+◌, take, List, [], ◌∷◌, ◌++◌, length, set, ℤ, sym, refl, ap, ◌∙◌, subst, arith, ⊎_elim, inl, inr, Some, None, slice_get}
 use mathlib.Core.Logic.{dite}
 use native.Mathlib.Decide.{ℕ_discrete}
 use Rattle.programs.specs.Meaning.{State, value_at}
@@ -42,3 +42,22 @@ module _ {X : Type 0} where
 pub agrees_more : (log : Known) (m : State) (x : VarId) (v : ℤ) → Agrees log m → value_at m x ≡ v → Agrees (log ++ (x, v) ∷ []) m
 agrees_more [] m x v a e = (e, tt)
 agrees_more (p ∷ log) m x v a e = (a.0, agrees_more log m x v a.1 e)
+
+-- one pair more of what was read
+agrees_suc : (log : Known) (n : ℕ) (m : State) (x : VarId) (v : ℤ) → slice_get log n ≡ Some (x, v) → Agrees (take n log) m → value_at m x ≡ v → Agrees (take (suc n) log) m
+agrees_suc [] n m x v e a is = absurd (cc)
+agrees_suc (p ∷ log) zero m x v e a is = let same : p ≡ (x, v) = cc in (ap (λ (q : VarId × ℤ). value_at m q.0) same ∙ (is ∙ sym (ap (λ (q : VarId × ℤ). q.1) same)), tt)
+agrees_suc (p ∷ log) (suc n) m x v e a is = (a.0, agrees_suc log n m x v e a.1 is)
+
+pub agrees_next : (log : Known) (n : ℕ) (m : State) (x : VarId) (v : ℤ) → slice_get log n ≡ Some (x, v) → Agrees (take n log) m → value_at m x ≡ v → Agrees (take (n + 1) log) m
+agrees_next log n m x v e a is = let next : suc n ≡ n + 1 = omega arith in subst (λ (k : ℕ). Agrees (take k log) m) next (agrees_suc log n m x v e a is)
+
+-- where none is left it is all that was read
+pub agrees_all : (log : Known) (n : ℕ) (m : State) → slice_get log n ≡ None → Agrees (take n log) m → Agrees log m
+agrees_all [] n m e a = tt
+agrees_all (p ∷ log) zero m e a = absurd (cc)
+agrees_all (p ∷ log) (suc n) m e a = (a.0, agrees_all log n m e a.1)
+
+pub agrees_none : (log : Known) (m : State) → Agrees (take 0 log) m
+agrees_none [] m = tt
+agrees_none (p ∷ log) m = tt

@@ -1,5 +1,5 @@
 -- Two answers of one event are equal, and so are the worlds after them.
-use Rattle.std.proofs.Common.{◌≡◌, ◌≢◌, ◌⊎◌, ℕ, ◌+◌, ◌*◌, ◌%◌, ◌<◌, ◌≤◌, List, [], ◌∷◌, length, sym, refl, ap, ◌∙◌, subst, inl, inr, arith, Option, Some, None, slice_get, set, ℤ, true}
+use Rattle.std.proofs.Common.{◌≡◌, ◌≢◌, ◌⊎◌, ℕ, ◌+◌, ◌*◌, ◌%◌, ◌<◌, ◌≤◌, List, [], ◌∷◌, length, sym, refl, ap, ◌∙◌, subst, inl, inr, arith, Option, Some, None, slice_get, get_or, set, ℤ, true}
 use Rattle.std.specs.Int.{w64, cast_unsigned}
 use Rattle.std.proofs.lemmas.Int.{of_z-to_z}
 use Rattle.programs.specs.Listing.{Listing, task_program}
@@ -11,11 +11,11 @@ use Rattle.programs.specs.declared.ast.Outcome.TheVariants.{Retries}
 use Rattle.attempt.specs.Asking.{Known, Answer, Needs, Ends, ask}
 use Rattle.attempt.specs.Frame.{Agrees}
 use Rattle.world_law.specs.declared.events.Fate.TheVariants as fate
-use Rattle.world_law.specs.declared.events.Event.TheVariants.{Begin, First, Value, Second, Ask, Word, Drop}
+use Rattle.world_law.specs.declared.events.Event.TheVariants.{Begin, First, Value, Second, Ask, Word, Drop, Again}
 use Rattle.world_law.specs.declared.events.Seen.{Seen}
 use Rattle.world_law.specs.declared.events.Seen.TheVariants as seen
-use Rattle.world_law.specs.World.{Started, World, Committer, AreBits, is_live, CanBegin, IsRunning, Reading, stand, begun, changed, version_now, value_now, with_loads, with_read, with_fate, committing, Store, Lock, Put, Tick, Free, stores, Writes, stored, finished}
-use Rattle.world_law.specs.Next.{Next, told, CanAsk, CanDrop, IsNextStore}
+use Rattle.world_law.specs.World.{Check, Started, World, Committer, AreBits, is_live, CanBegin, IsRunning, IsLatest, Reading, stand, wanted, bound, begun, changed, version_now, value_now, with_loads, with_read, with_fate, stale_at_load, running_again, committing, Store, Lock, Put, Tick, Free, stores, Writes, stored, finished}
+use Rattle.world_law.specs.Next.{Next, told, checks_on, reads_on, goes_again, CanGoAgain, CanAsk, CanDrop, IsNextStore}
 use Rattle.world_law.specs.Determined.{HasOneAnswer, HasOneRefusal}
 use Rattle.world_law.proofs.Places.{same_some}
 use Rattle.world_law.proofs.Kept.{Holds}
@@ -45,8 +45,9 @@ one_running l w a i j y z h run run' =
 one_answer : (l : Listing) (y z : Started) (r r' : Answer) → y ≡ z → stand l y ≡ r → stand l z ≡ r' → r ≡ r'
 one_answer l y z r r' same is is' = sym is ∙ (ap (stand l) same ∙ is')
 
-same_need : (x z : VarId) → Needs x ≡ Needs z → x ≡ z
-same_need x z e = cc
+-- an attempt reads one variable
+one_wanted : (l : Listing) (y z : Started) (x u : VarId) → y ≡ z → wanted l y ≡ Some x → wanted l z ≡ Some u → x ≡ u
+one_wanted l y z x u same is is' = same_some x u (sym is ∙ (ap (wanted l) same ∙ is'))
 
 same_outcome : (o o' : Outcome) (ws ws' : Known) → Ends o ws ≡ Ends o' ws' → o ≡ o'
 same_outcome o o' ws ws' e = cc
@@ -71,8 +72,8 @@ FirstAt l w a x = (i : ℕ) × (y : Started) × Reading l w a i y x []
 
 abbrev FirstTo : (l : Listing) (w : World) (a : TaskId) (x : VarId) → FirstAt l w a x → Seen → World → Type 0
 FirstTo l w a x p s v =
-    (((version_now w x % 2 ≡ 1) ⊎ (2 * p.1.rv < version_now w x)) × (s ≡ seen.Stale) × (v ≡ changed w p.0 (with_fate p.1 fate.Stale)))
-    ⊎ ((version_now w x % 2 ≡ 0) × (version_now w x ≤ 2 * p.1.rv) × (s ≡ seen.Loaded) × (v ≡ changed w p.0 (with_loads p.1 (version_now w x ∷ []))))
+    (((version_now w x % 2 ≡ 1) ⊎ (2 * bound p.1 < version_now w x)) × (s ≡ seen.Stale) × (v ≡ changed w p.0 (stale_at_load p.1)))
+    ⊎ ((version_now w x % 2 ≡ 0) × (version_now w x ≤ 2 * bound p.1) × (s ≡ seen.Loaded) × (v ≡ changed w p.0 (with_loads p.1 (version_now w x ∷ []))))
 
 first_comes : (l : Listing) (w : World) (a : TaskId) (x : VarId) (s : Seen) (v : World) → Next l w (First a x) s v → Comes (FirstAt l w a x) (FirstTo l w a x) w s v
 first_comes l w a x seen.Idle v n = inl (λ p. n.0 p.0 p.1 p.2, refl, n.1)
@@ -86,11 +87,11 @@ first_apart version rv rv' e (inr late) even low = absurd (omega arith)
 
 first_once : (l : Listing) (w : World) (a : TaskId) (x : VarId) (s s' : Seen) (v v' : World) → Holds l w → (p q : FirstAt l w a x) → FirstTo l w a x p s v → FirstTo l w a x q s' v' → Same s v s' v'
 first_once l w a x s s' v v' h p q (inl n) (inl m) = let e = one_running l w a p.0 q.0 p.1 q.1 h p.2.0.0 q.2.0.0 in
-    (n.1 ∙ sym m.1, n.2 ∙ ((λ t. changed w (e.0 t) (with_fate (e.1 t) fate.Stale)) ∙ sym m.2))
+    (n.1 ∙ sym m.1, n.2 ∙ ((λ t. changed w (e.0 t) (stale_at_load (e.1 t))) ∙ sym m.2))
 first_once l w a x s s' v v' h p q (inl n) (inr m) = let e = one_running l w a p.0 q.0 p.1 q.1 h p.2.0.0 q.2.0.0 in
-    first_apart (version_now w x) p.1.rv q.1.rv (ap (λ (y : Started). y.rv) e.1) n.0 m.0 m.1
+    first_apart (version_now w x) (bound p.1) (bound q.1) (ap bound e.1) n.0 m.0 m.1
 first_once l w a x s s' v v' h p q (inr n) (inl m) = let e = one_running l w a q.0 p.0 q.1 p.1 h q.2.0.0 p.2.0.0 in
-    first_apart (version_now w x) q.1.rv p.1.rv (ap (λ (y : Started). y.rv) e.1) m.0 n.0 n.1
+    first_apart (version_now w x) (bound q.1) (bound p.1) (ap bound e.1) m.0 n.0 n.1
 first_once l w a x s s' v v' h p q (inr n) (inr m) = let e = one_running l w a p.0 q.0 p.1 q.1 h p.2.0.0 q.2.0.0 in
     (n.2 ∙ sym m.2, n.3 ∙ ((λ t. changed w (e.0 t) (with_loads (e.1 t) (version_now w x ∷ []))) ∙ sym m.3))
 
@@ -110,7 +111,7 @@ value_comes l w a s v n = absurd n
 value_once : (l : Listing) (w : World) (a : TaskId) (s s' : Seen) (v v' : World) → Holds l w → (p q : ValueAt l w a) → ValueTo l w a p s v → ValueTo l w a q s' v' → Same s v s' v'
 value_once l w a s s' v v' h p q n m =
     let e = one_running l w a p.0 q.0 p.2 q.2 h p.4.0.0 q.4.0.0 in
-    let x = same_need p.3 q.3 (one_answer l p.2 q.2 (Needs p.3) (Needs q.3) e.1 p.4.0.1 q.4.0.1) in
+    let x = one_wanted l p.2 q.2 p.3 q.3 e.1 p.4.0.1 q.4.0.1 in
     let f = same_head p.1 q.1 [] [] (sym p.4.1 ∙ (ap (λ (y : Started). y.loads) e.1 ∙ q.4.1)) in
     (n.0 ∙ sym m.0, n.1 ∙ ((λ t. changed w (e.0 t) (with_loads (e.1 t) (f t ∷ value_now w (x t) ∷ []))) ∙ sym m.1))
 
@@ -121,8 +122,8 @@ SecondAt l w a = (i first bits : ℕ) × (y : Started) × (x : VarId) × Reading
 
 abbrev SecondTo : (l : Listing) (w : World) (a : TaskId) → SecondAt l w a → Seen → World → Type 0
 SecondTo l w a p s v =
-    ((version_now w p.4 ≢ p.1) × (s ≡ seen.Stale) × (v ≡ changed w p.0 (with_fate p.3 fate.Stale)))
-    ⊎ ((version_now w p.4 ≡ p.1) × (s ≡ told (stand l (with_read p.3 p.4 p.2))) × (v ≡ changed w p.0 (with_read p.3 p.4 p.2)))
+    ((version_now w p.4 ≢ p.1) × (s ≡ seen.Stale) × (v ≡ changed w p.0 (stale_at_load p.3)))
+    ⊎ ((version_now w p.4 ≡ p.1) × (s ≡ (reads_on l p.3 p.4 p.2 p.3.check).0) × (v ≡ changed w p.0 (reads_on l p.3 p.4 p.2 p.3.check).1))
 
 second_comes : (l : Listing) (w : World) (a : TaskId) (s : Seen) (v : World) → Next l w (Second a) s v → s ≢ seen.Spent → Comes (SecondAt l w a) (SecondTo l w a) w s v
 second_comes l w a seen.Idle v n room = inl (λ p. n.0 p.0 p.1 p.2 p.3 p.4 p.5, refl, n.1)
@@ -147,19 +148,19 @@ one_read l w a h p q =
       first = same_head p.1 q.1 (p.2 ∷ []) (q.2 ∷ []) loads;
       bits = same_head p.2 q.2 [] [] (same_tail p.1 q.1 (p.2 ∷ []) (q.2 ∷ []) loads);
       attempt = e.1;
-      variable = same_need p.4 q.4 (one_answer l p.3 q.3 (Needs p.4) (Needs q.4) e.1 p.5.0.1 q.5.0.1);
+      variable = one_wanted l p.3 q.3 p.4 q.4 e.1 p.5.0.1 q.5.0.1;
     }
 
 second_once : (l : Listing) (w : World) (a : TaskId) (s s' : Seen) (v v' : World) → Holds l w → (p q : SecondAt l w a) → SecondTo l w a p s v → SecondTo l w a q s' v' → Same s v s' v'
 second_once l w a s s' v v' h p q (inl n) (inl m) = let e = one_read l w a h p q in
-    (n.1 ∙ sym m.1, n.2 ∙ ((λ t. changed w (e.place t) (with_fate (e.attempt t) fate.Stale)) ∙ sym m.2))
+    (n.1 ∙ sym m.1, n.2 ∙ ((λ t. changed w (e.place t) (stale_at_load (e.attempt t))) ∙ sym m.2))
 second_once l w a s s' v v' h p q (inl n) (inr m) = let e = one_read l w a h p q in
     absurd (n.0 (ap (version_now w) e.variable ∙ (m.0 ∙ sym e.first)))
 second_once l w a s s' v v' h p q (inr n) (inl m) = let e = one_read l w a h p q in
     absurd (m.0 (ap (version_now w) (sym e.variable) ∙ (n.0 ∙ e.first)))
 second_once l w a s s' v v' h p q (inr n) (inr m) = let e = one_read l w a h p q in (
-  n.1 ∙ ((λ t. told (stand l (with_read (e.attempt t) (e.variable t) (e.bits t)))) ∙ sym m.1),
-  n.2 ∙ ((λ t. changed w (e.place t) (with_read (e.attempt t) (e.variable t) (e.bits t))) ∙ sym m.2),
+  n.1 ∙ ((λ t. (reads_on l (e.attempt t) (e.variable t) (e.bits t) (e.attempt t).check).0) ∙ sym m.1),
+  n.2 ∙ ((λ t. changed w (e.place t) (reads_on l (e.attempt t) (e.variable t) (e.bits t) (e.attempt t).check).1) ∙ sym m.2),
 )
 
 -- Ask
@@ -270,6 +271,32 @@ drop_once : (l : Listing) (w : World) (a : TaskId) (s s' : Seen) (v v' : World) 
 drop_once l w a s s' v v' h p q n m = let e = one_running l w a p.0 q.0 p.1 q.1 h p.2.0 q.2.0 in
     (n.0 ∙ sym m.0, n.1 ∙ ((λ t. changed w (e.0 t) (with_fate (e.1 t) fate.Dropped)) ∙ sym m.1))
 
+-- Again
+
+abbrev AgainAt : Listing → World → TaskId → Type 0
+AgainAt l w a = (i : ℕ) × (y : Started) × (x : VarId) × CanGoAgain l w a i y x
+
+abbrev AgainTo : (l : Listing) (w : World) (a : TaskId) → AgainAt l w a → Seen → World → Type 0
+AgainTo l w a p s v = (s ≡ (goes_again l w p.1).0) × (v ≡ changed w p.0 (goes_again l w p.1).1)
+
+again_comes : (l : Listing) (w : World) (a : TaskId) (s : Seen) (v : World) → Next l w (Again a) s v → Comes (AgainAt l w a) (AgainTo l w a) w s v
+again_comes l w a seen.Idle v n = inl (λ p. n.0 p.0 p.1 p.2 p.3, refl, n.1)
+again_comes l w a s v n = inr ((n.0, n.1, n.2, n.3), (n.4, n.5))
+
+-- a task has one latest attempt
+one_latest : (w : World) (a : TaskId) (i j : ℕ) (y z : Started) → IsLatest w a i y → IsLatest w a j z → (i ≡ j) × (y ≡ z)
+one_latest w a i j y z latest latest' =
+    let same : i ≡ j = omega (arith, latest.2 j z latest'.0 latest'.1, latest'.2 i y latest.0 latest.1) in
+    (same, same_some y z (sym latest.0 ∙ (ap (slice_get w.attempts) same ∙ latest'.0)))
+
+again_once : (l : Listing) (w : World) (a : TaskId) (s s' : Seen) (v v' : World) → (p q : AgainAt l w a) → AgainTo l w a p s v → AgainTo l w a q s' v' → Same s v s' v'
+again_once l w a s s' v v' p q n m = let e = one_latest w a p.0 q.0 p.1 q.1 p.3.1 q.3.1 in
+    (n.0 ∙ ((λ t. (goes_again l w (e.1 t)).0) ∙ sym m.0), n.1 ∙ ((λ t. changed w (e.0 t) (goes_again l w (e.1 t)).1) ∙ sym m.1))
+
+checks_not : (l : Listing) (y : Started) (n checked : ℕ) (o : Option (VarId × ℤ)) → (checks_on l y n checked o).0 ≢ seen.Spent
+checks_not l y n checked (Some p) e = absurd (cc)
+checks_not l y n checked None e = told_not (stand l y) e
+
 -- Begin
 
 abbrev BeginTo : (l : Listing) (w : World) (a : TaskId) → CanBegin l w a → Seen → World → Type 0
@@ -298,17 +325,19 @@ single_answer l w h Word s s' v v' n m room room' =
     comes_once (WordAt w) (WordTo w) w s s' v v' (word_once w s s' v v') (word_comes l w s v n) (word_comes l w s' v' m)
 single_answer l w h (Drop a) s s' v v' n m room room' =
     comes_once (DropAt w a) (DropTo w a) w s s' v v' (drop_once l w a s s' v v' h) (drop_comes l w a s v n) (drop_comes l w a s' v' m)
+single_answer l w h (Again a) s s' v v' n m room room' =
+    comes_once (AgainAt l w a) (AgainTo l w a) w s s' v v' (again_once l w a s s' v v') (again_comes l w a s v n) (again_comes l w a s' v' m)
 
 -- an attempt that begins, or goes on after a read, may have another answer than want of memory
 could_begin : (l : Listing) (w : World) (a : TaskId) (r : Answer) → CanBegin l w a → r ≡ ask (task_program l a) [] → (s : Seen) × (u : World) × (s ≢ seen.Spent) × Next l w (Begin a) s u
 could_begin l w a (Needs x) can e = (seen.Needs x, begun w a fate.Running, told_not (Needs x), (can, ap told e, refl))
 could_begin l w a (Ends o ws) can e = (seen.Ended o, begun w a fate.Running, told_not (Ends o ws), (can, ap told e, refl))
 
-could_go_on : (l : Listing) (w : World) (a : TaskId) (r : Answer) (p : SecondAt l w a) → version_now w p.4 ≡ p.1 → r ≡ stand l (with_read p.3 p.4 p.2) → (s : Seen) × (u : World) × (s ≢ seen.Spent) × Next l w (Second a) s u
-could_go_on l w a (Needs x) p same e =
-    (seen.Needs x, changed w p.0 (with_read p.3 p.4 p.2), told_not (Needs x), (p.0, p.1, p.2, p.3, p.4, p.5, same, ap told e, refl))
-could_go_on l w a (Ends o ws) p same e =
-    (seen.Ended o, changed w p.0 (with_read p.3 p.4 p.2), told_not (Ends o ws), (p.0, p.1, p.2, p.3, p.4, p.5, same, ap told e, refl))
+could_go_on : (l : Listing) (w : World) (a : TaskId) (r : Answer) (p : SecondAt l w a) → version_now w p.4 ≡ p.1 → p.3.check ≡ None → r ≡ stand l (with_read p.3 p.4 p.2) → (s : Seen) × (u : World) × (s ≢ seen.Spent) × Next l w (Second a) s u
+could_go_on l w a (Needs x) p same plain e =
+    (seen.Needs x, changed w p.0 (reads_on l p.3 p.4 p.2 p.3.check).1, told_not (Needs x), (p.0, p.1, p.2, p.3, p.4, p.5, same, ap told e ∙ ap (λ (o : Option Check). (reads_on l p.3 p.4 p.2 o).0) (sym plain), refl))
+could_go_on l w a (Ends o ws) p same plain e =
+    (seen.Ended o, changed w p.0 (reads_on l p.3 p.4 p.2 p.3.check).1, told_not (Ends o ws), (p.0, p.1, p.2, p.3, p.4, p.5, same, ap told e ∙ ap (λ (o : Option Check). (reads_on l p.3 p.4 p.2 o).0) (sym plain), refl))
 
 pub single_refusal : (l : Listing) (w : World) → Holds l w → HasOneRefusal l w
 single_refusal l w h (Begin a) v v' n m = (n.1 ∙ sym m.1, could_begin l w a (ask (task_program l a) []) n.0 refl)
@@ -318,9 +347,10 @@ single_refusal l w h (Second a) v v' n m =
     let p : SecondAt l w a = (n.0, n.1, n.2, n.3, n.4, n.5) in
     let q : SecondAt l w a = (m.0, m.1, m.2, m.3, m.4, m.5) in
     let e = one_read l w a h p q in (
-      n.7 ∙ ((λ t. changed w (e.place t) (with_fate (with_read (e.attempt t) (e.variable t) (e.bits t)) fate.Spent)) ∙ sym m.7),
-      could_go_on l w a (stand l (with_read p.3 p.4 p.2)) p n.6 refl,
+      n.8 ∙ ((λ t. changed w (e.place t) (with_fate (with_read (e.attempt t) (e.variable t) (e.bits t)) fate.Spent)) ∙ sym m.8),
+      could_go_on l w a (stand l (with_read p.3 p.4 p.2)) p n.6 n.7 refl,
     )
 single_refusal l w h (Ask a) v v' n m = absurd n
 single_refusal l w h Word v v' n m = absurd n
 single_refusal l w h (Drop a) v v' n m = absurd n
+single_refusal l w h (Again a) v v' n m = absurd (checks_not l (running_again n.1) (get_or w.words 0 0) 0 (slice_get n.1.log 0) (sym n.4))

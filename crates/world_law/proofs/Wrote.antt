@@ -10,7 +10,7 @@ use Rattle.shared_words.specs.Loads.{SamplingHolds}
 use Rattle.shared_words.proofs.Words.{longer, state_before, state_new}
 use Rattle.attempt.specs.Frame.{Agrees}
 use Rattle.world_law.specs.declared.events.Fate.TheVariants as fate
-use Rattle.world_law.specs.World.{Started, World, Committer, version_now, value_now, with_fate, Store, Tick, stores, history_after, stored, finished}
+use Rattle.world_law.specs.World.{Started, World, Committer, bound, version_now, value_now, with_fate, Store, Tick, stores, history_after, stored, finished}
 use Rattle.world_law.specs.Next.{IsNextStore}
 use Rattle.world_law.specs.Commits.{after_store}
 use Rattle.world_law.specs.Opacity.{Explains, IsPast, Makes, Made}
@@ -19,7 +19,7 @@ use Rattle.world_law.proofs.Places.{get_set_same, get_set_other, get_set, same_s
 use Rattle.world_law.proofs.Order.{IsStore, Locks, Puts, Ticks, Frees, store_at, after_next, many_stores}
 use Rattle.world_law.proofs.Resting.{Phase, rests_again, same_size}
 use Rattle.world_law.proofs.Storing.{Went, goes_on, as_freeing, history_before}
-use Rattle.world_law.proofs.Kept.{Pending, Under, LoadsHold, ReadsHold, Holds, alone_changed, running_not, same_number}
+use Rattle.world_law.proofs.Kept.{Pending, Under, LoadsHold, ReadsHold, Holds, bound_within, check_grows, alone_changed, running_not, same_number}
 
 pub under_way : (k : Listing) (w : World) (c : Committer) (h : Holds k w) → w.committer ≡ Some c → Pending k w.attempts c h.commit
 under_way k w c h is = subst (λ (q : Option Committer). Under k w.attempts q h.commit) is h.under
@@ -72,7 +72,7 @@ module _ (k : Listing) (w : World) (c : Committer) (s : Store) (ws : List ℕ) (
     states = h.states;
     begins = h.begins;
     reads = h.reads;
-    loads = λ i y at x needs. (sampling_stays _ _ _ _ y.rv _ (went.0.1 x.0) y.loads (h.loads i y at x needs).0, (h.loads i y at x needs).1);
+    loads = λ i y at x needs. (sampling_stays _ _ _ _ (bound y) _ (went.0.1 x.0) y.loads (h.loads i y at x needs).0, (h.loads i y at x needs).1);
     alone = h.alone;
     numbered = λ i n y m. h.numbered i n y (old i n y m);
     made = λ n low high. let v = h.made n low high in (v.0, v.1, new v.0 n v.1 v.2, v.3, λ j z m. v.4 j z (old j n z m));
@@ -104,10 +104,15 @@ module _ (k : Listing) (w : World) (c : Committer) (s : Store) (ws : List ℕ) (
         (λ late. ap (λ (u : State). length u) (state_new w.history new n (omega (arith, more)))
         ∙ (same_size p.base p.before c.changes p.rest p.are ∙ (ap (λ (u : State). length u) (p.rest.settled.1 ∙ ap last_state first) ∙ h.states (number - 1) (omega (arith, some)))));
     begins = state_before w.history new 0 some ∙ h.begins;
-    reads = λ i y at. let r = h.reads i y at in ((let l = r.0 in omega (arith, more)), subst (Agrees y.log) (sym (state_before w.history new y.rv r.0)) r.1);
+    reads = λ i y at. let r = h.reads i y at in (
+      (let l = r.0 in omega (arith, more)),
+      subst (Agrees y.log) (sym (state_before w.history new y.rv r.0)) r.1,
+      check_grows w.history (w.history ++ new ∷ []) y.log y.check (λ n low. ((let l = low in omega (arith, more)), state_before w.history new n low)) r.2,
+    );
     loads = λ i y at x needs. (
-      sampling_stays _ _ _ _ y.rv _ (went.0.1 x.0) y.loads
-          (subst (λ (u : State). SamplingHolds (version_now w x) (value_now w x) y.rv (value_of u x.0) y.loads) (sym (state_before w.history new y.rv (h.reads i y at).0)) (h.loads i y at x needs).0),
+      sampling_stays _ _ _ _ (bound y) _ (went.0.1 x.0) y.loads
+          (subst (λ (u : State). SamplingHolds (version_now w x) (value_now w x) (bound y) (value_of u x.0) y.loads)
+          (sym (state_before w.history new (bound y) (let r = h.reads i y at in bound_within w.history y.log y.rv y.check r.0 r.2))) (h.loads i y at x needs).0),
       (h.loads i y at x needs).1,
     );
     alone = h.alone;
@@ -181,7 +186,7 @@ finished_kept k w c y h is all at = record {
   begins = h.begins;
   reads = λ j z g. ⊎_elim
       (λ (t : (j ≢ c.place) × (slice_get w.attempts j ≡ Some z)). h.reads j z t.1)
-      (λ (t : (j ≡ c.place) × (y' ≡ z)). subst (ReadsHold w) t.1 (h.reads c.place y at))
+      (λ (t : (j ≡ c.place) × (y' ≡ z)). subst (ReadsHold w.history) t.1 (h.reads c.place y at))
       (get_set w.attempts c.place j y' y z at g);
   loads = λ j z g. ⊎_elim
       (λ (t : (j ≢ c.place) × (slice_get w.attempts j ≡ Some z)). h.loads j z t.1)

@@ -1,5 +1,5 @@
 -- What holds of each world that events lead to.
-use Rattle.std.specs.Prelude.{◌≡◌, ◌≢◌, ◌⊎◌, ℕ, ◌-◌, ◌*◌, ◌<◌, length, Option, Some, None}
+use Rattle.std.specs.Prelude.{◌≡◌, ◌≢◌, ◌⊎◌, ℕ, ◌-◌, ◌*◌, ◌<◌, length, take, Option, Some, None}
 use Rattle.std.specs.List.{slice_get}
 use Rattle.programs.specs.Listing.{Listing, task_program}
 use Rattle.programs.specs.Meaning.{State, outcome, after}
@@ -8,10 +8,10 @@ use Rattle.shared_words.specs.Loads.{SamplingHolds}
 use Rattle.programs.specs.declared.ast.VarId.{VarId}
 use Rattle.programs.specs.declared.ast.Outcome.{Outcome}
 use Rattle.programs.specs.declared.ast.Outcome.TheVariants.{Retries}
-use Rattle.attempt.specs.Asking.{Known, Needs, Ends}
+use Rattle.attempt.specs.Asking.{Known, Ends}
 use Rattle.attempt.specs.Frame.{Agrees}
 use Rattle.world_law.specs.declared.events.Fate.TheVariants as fate
-use Rattle.world_law.specs.World.{Started, Committer, World, stand, version_now, value_now}
+use Rattle.world_law.specs.World.{Check, Started, Committer, World, stand, wanted, bound, version_now, value_now}
 use Rattle.world_law.specs.Commits.{IsAsFar}
 
 -- what the attempt read is so in the state m, and it ended, if it did, as its program ends there
@@ -55,12 +55,15 @@ pub record Opaque (l : Listing) (w : World) : Type 0 where
       → y.fate ≡ fate.Committed m → z.fate ≡ fate.Committed n → y.task ≡ z.task → i ≡ j
 
 -- What the words mean, between any two loads and stores. The words are what the commits stored, as far as the committer
--- is; and of the variable that an attempt needs, no version word is below what it loaded of it, and either a greater one
--- is there now, or the value, also the one that it loaded, is that of its state.
+-- is; and of the variable that an attempt reads, no version word is below what it loaded of it, and either a greater one
+-- is there now, or the value, also the one that it loaded, is that of its state, or of the one that it checks.
 pub record WordsHold (l : Listing) (w : World) : Type 0 where
   pub commit : Commit
   pub history : commit.history ≡ w.history
   pub words : WordsMean w.words commit
   pub far : IsAsFar w.committer commit
-  pub loads : (i : ℕ) (y : Started) (x : VarId) → slice_get w.attempts i ≡ Some y → stand l y ≡ Needs x
-      → SamplingHolds (version_now w x) (value_now w x) y.rv (value_of (state_of w.history y.rv) x.0) y.loads
+  pub loads : (i : ℕ) (y : Started) (x : VarId) → slice_get w.attempts i ≡ Some y → wanted l y ≡ Some x
+      → SamplingHolds (version_now w x) (value_now w x) (bound y) (value_of (state_of w.history (bound y)) x.0) y.loads
+  -- the state that an attempt checks is one of the history, and so many of the pairs that it read are so in it
+  pub checks : (i : ℕ) (y : Started) (c : Check) → slice_get w.attempts i ≡ Some y → y.check ≡ Some c
+      → (c.candidate < length w.history) × Agrees (take c.checked y.log) (state_of w.history c.candidate)

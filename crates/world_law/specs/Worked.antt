@@ -1,17 +1,19 @@
--- Two runs of the world worked out by hand, event by event.
-use Rattle.std.specs.Prelude.{ℕ, List, [], ◌∷◌, pos, None}
+-- Runs of the world worked out by hand, event by event.
+use Rattle.std.specs.Prelude.{ℕ, Bool, true, false, List, [], ◌∷◌, pos, Option, Some, None}
 use Rattle.programs.specs.Listing.{Listing}
 use Rattle.programs.specs.Tree.{Int, Var, Add, Skip, Set, Seq, End, More}
 use Rattle.programs.specs.declared.ast.TaskId.{TaskId}
 use Rattle.programs.specs.declared.ast.TxId.{TxId}
 use Rattle.programs.specs.declared.ast.VarId.{VarId}
 use Rattle.programs.specs.declared.ast.Outcome.TheVariants.{Returned}
+use Rattle.attempt.specs.Asking.{Known}
+use Rattle.world_law.specs.declared.events.Fate.{Fate}
 use Rattle.world_law.specs.declared.events.Fate.TheVariants as fate
 use Rattle.world_law.specs.declared.events.Event.{Event}
-use Rattle.world_law.specs.declared.events.Event.TheVariants.{Begin, First, Value, Second, Ask, Word}
+use Rattle.world_law.specs.declared.events.Event.TheVariants.{Begin, First, Value, Second, Ask, Word, Again}
 use Rattle.world_law.specs.declared.events.Seen.{Seen}
 use Rattle.world_law.specs.declared.events.Seen.TheVariants as seen
-use Rattle.world_law.specs.World.{World}
+use Rattle.world_law.specs.World.{Check, Started, World}
 
 abbrev pub x : VarId
 x = record { 0 = 0 }
@@ -60,8 +62,8 @@ torn_end = record {
   words = 1 ∷ 2 ∷ 2 ∷ 2 ∷ 2 ∷ [];
   history = (pos 1 ∷ pos 1 ∷ []) ∷ (pos 2 ∷ pos 2 ∷ []) ∷ [];
   attempts =
-      record { task = task 0; rv = 0; log = (x, pos 1) ∷ []; loads = []; fate = fate.Stale }
-      ∷ record { task = task 1; rv = 0; log = []; loads = []; fate = fate.Committed 1 }
+      record { task = task 0; rv = 0; log = (x, pos 1) ∷ []; loads = []; fate = fate.Stale; movable = true; check = None }
+      ∷ record { task = task 1; rv = 0; log = []; loads = []; fate = fate.Committed 1; movable = false; check = None }
       ∷ [];
   committer = None;
 }
@@ -103,9 +105,115 @@ back_end = record {
   words = 3 ∷ 4 ∷ 1 ∷ [];
   history = (pos 1 ∷ []) ∷ (pos 2 ∷ []) ∷ (pos 1 ∷ []) ∷ (pos 1 ∷ []) ∷ [];
   attempts =
-      record { task = task 0; rv = 0; log = (x, pos 1) ∷ []; loads = []; fate = fate.Committed 3 }
-      ∷ record { task = task 1; rv = 0; log = []; loads = []; fate = fate.Committed 1 }
-      ∷ record { task = task 2; rv = 1; log = []; loads = []; fate = fate.Committed 2 }
+      record { task = task 0; rv = 0; log = (x, pos 1) ∷ []; loads = []; fate = fate.Committed 3; movable = false; check = None }
+      ∷ record { task = task 1; rv = 0; log = []; loads = []; fate = fate.Committed 1; movable = false; check = None }
+      ∷ record { task = task 2; rv = 1; log = []; loads = []; fate = fate.Committed 2; movable = false; check = None }
+      ∷ [];
+  committer = None;
+}
+
+-- a state that is checked, and how many pairs were found to be so there
+abbrev pub at : ℕ → ℕ → Check
+at n checked = record { candidate = n; checked = checked }
+
+abbrev pub attempt : ℕ → ℕ → Known → List ℕ → Fate → Bool → Option Check → Started
+attempt a rv log loads f movable check = record { task = task a; rv = rv; log = log; loads = loads; fate = f; movable = movable; check = check }
+
+-- One task adds x and y, which are both 1; the other sets y to 5.
+abbrev pub half : Listing
+half =
+    record {
+      names = (120 ∷ []) ∷ (121 ∷ []) ∷ [];
+      initial = pos 1 ∷ pos 1 ∷ [];
+      always = [];
+      transactions =
+          record { name = 115 ∷ []; body = Skip; result = Add (Var x) (Var y) }
+          ∷ record { name = 116 ∷ []; body = Set y (Int (pos 5)); result = Int (pos 0) }
+          ∷ [];
+      runs = (tx 0, 1) ∷ (tx 1, 1) ∷ [];
+    }
+
+-- A moment that moves. One task has read x; another sets y to 5; and the first, which then finds y stale, checks x, which is
+-- as it was, and reads y in the later state.
+abbrev pub moved_events : List Event
+moved_events =
+    Begin (task 0) ∷ First (task 0) x ∷ Value (task 0) ∷ Second (task 0) ∷ Begin (task 1)
+    ∷ Ask (task 1) ∷ Word ∷ Word ∷ Word ∷ Word
+    ∷ First (task 0) y ∷ Again (task 0) ∷ First (task 0) x ∷ Value (task 0) ∷ Second (task 0)
+    ∷ First (task 0) y ∷ Value (task 0) ∷ Second (task 0) ∷ Ask (task 0) ∷ Word
+    ∷ []
+
+abbrev pub moved_answers : List Seen
+moved_answers =
+    seen.Needs x ∷ seen.Loaded ∷ seen.Loaded ∷ seen.Needs y ∷ seen.Ended (Returned (pos 0))
+    ∷ seen.Commits 1 ∷ seen.Stored ∷ seen.Stored ∷ seen.Stored ∷ seen.Committed 1
+    ∷ seen.Stale ∷ seen.Checks x ∷ seen.Loaded ∷ seen.Loaded ∷ seen.Needs y
+    ∷ seen.Loaded ∷ seen.Loaded ∷ seen.Ended (Returned (pos 6)) ∷ seen.Commits 2 ∷ seen.Committed 2
+    ∷ []
+
+abbrev pub moved_end : World
+moved_end = record {
+  words = 2 ∷ 0 ∷ 1 ∷ 2 ∷ 5 ∷ [];
+  history = (pos 1 ∷ pos 1 ∷ []) ∷ (pos 1 ∷ pos 5 ∷ []) ∷ (pos 1 ∷ pos 5 ∷ []) ∷ [];
+  attempts =
+      attempt 0 1 ((x, pos 1) ∷ (y, pos 5) ∷ []) [] (fate.Committed 2) false None
+      ∷ attempt 1 0 [] [] (fate.Committed 1) false None
+      ∷ [];
+  committer = None;
+}
+
+-- What was read has changed: the torn pair, and then the check of x, which is another by now.
+abbrev pub refused_events : List Event
+refused_events =
+    Begin (task 0) ∷ First (task 0) x ∷ Value (task 0) ∷ Second (task 0) ∷ Begin (task 1)
+    ∷ Ask (task 1) ∷ Word ∷ Word ∷ Word ∷ Word
+    ∷ Word ∷ Word ∷ Word ∷ First (task 0) y ∷ Again (task 0)
+    ∷ First (task 0) x ∷ Value (task 0) ∷ Second (task 0)
+    ∷ []
+
+abbrev pub refused_answers : List Seen
+refused_answers =
+    seen.Needs x ∷ seen.Loaded ∷ seen.Loaded ∷ seen.Needs y ∷ seen.Ended (Returned (pos 0))
+    ∷ seen.Commits 1 ∷ seen.Stored ∷ seen.Stored ∷ seen.Stored ∷ seen.Stored
+    ∷ seen.Stored ∷ seen.Stored ∷ seen.Committed 1 ∷ seen.Stale ∷ seen.Checks x
+    ∷ seen.Loaded ∷ seen.Loaded ∷ seen.Changed
+    ∷ []
+
+abbrev pub refused_end : World
+refused_end = record {
+  words = 1 ∷ 2 ∷ 2 ∷ 2 ∷ 2 ∷ [];
+  history = (pos 1 ∷ pos 1 ∷ []) ∷ (pos 2 ∷ pos 2 ∷ []) ∷ [];
+  attempts =
+      attempt 0 0 ((x, pos 1) ∷ []) (2 ∷ 2 ∷ []) fate.Stale false (Some (at 1 0))
+      ∷ attempt 1 0 [] [] (fate.Committed 1) false None
+      ∷ [];
+  committer = None;
+}
+
+-- Nothing was read: the attempt moves at once. Once it runs it is not possible again.
+abbrev pub fresh_events : List Event
+fresh_events =
+    Begin (task 0) ∷ Begin (task 1) ∷ Ask (task 1) ∷ Word ∷ Word
+    ∷ Word ∷ Word ∷ Word ∷ Word ∷ Word
+    ∷ First (task 0) x ∷ Again (task 0) ∷ First (task 0) x ∷ Value (task 0) ∷ Second (task 0)
+    ∷ First (task 0) y ∷ Value (task 0) ∷ Second (task 0) ∷ Again (task 0)
+    ∷ []
+
+abbrev pub fresh_answers : List Seen
+fresh_answers =
+    seen.Needs x ∷ seen.Ended (Returned (pos 0)) ∷ seen.Commits 1 ∷ seen.Stored ∷ seen.Stored
+    ∷ seen.Stored ∷ seen.Stored ∷ seen.Stored ∷ seen.Stored ∷ seen.Committed 1
+    ∷ seen.Stale ∷ seen.Needs x ∷ seen.Loaded ∷ seen.Loaded ∷ seen.Needs y
+    ∷ seen.Loaded ∷ seen.Loaded ∷ seen.Ended (Returned (pos 4)) ∷ seen.Idle
+    ∷ []
+
+abbrev pub fresh_end : World
+fresh_end = record {
+  words = 1 ∷ 2 ∷ 2 ∷ 2 ∷ 2 ∷ [];
+  history = (pos 1 ∷ pos 1 ∷ []) ∷ (pos 2 ∷ pos 2 ∷ []) ∷ [];
+  attempts =
+      attempt 0 1 ((x, pos 2) ∷ (y, pos 2) ∷ []) [] fate.Running false None
+      ∷ attempt 1 0 [] [] (fate.Committed 1) false None
       ∷ [];
   committer = None;
 }

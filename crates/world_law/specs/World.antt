@@ -1,7 +1,8 @@
 -- A world: words, a history of states, the attempts that read, and the one that commits.
-use Rattle.std.specs.Prelude.{◌≡◌, ◌≢◌, ℕ, ◌+◌, ◌*◌, ◌<◌, ◌^◌, Bool, true, false, if◌then◌else◌, List, [], ◌∷◌, ◌++◌, map, length, slice_index, slice_set, ℤ, Option, Some, None}
+use Rattle.std.specs.Prelude.{◌≡◌, ◌≢◌, ℕ, ◌+◌, ◌*◌, ◌<◌, ◌≤◌, ◌^◌, Bool, true, false, if◌then◌else◌, List, [], ◌∷◌, ◌++◌, map, length, slice_index, slice_set, ℤ, Option, Some, None}
 use Rattle.std.specs.List.{slice_get}
 use Rattle.std.specs.Ordering.{int_eq}
+use Rattle.std.specs.Option.{option_map}
 use Rattle.std.specs.Int.{w64, cast_signed}
 use Rattle.programs.specs.Listing.{Listing, tasks, task_program}
 use Rattle.programs.specs.Meaning.{State}
@@ -9,10 +10,16 @@ use Rattle.shared_words.specs.Words.{last_state, version_word, value_word}
 use Rattle.shared_words.specs.Stores.{Change, with_changes}
 use Rattle.programs.specs.declared.ast.TaskId.{TaskId}
 use Rattle.programs.specs.declared.ast.VarId.{VarId}
-use Rattle.attempt.specs.Asking.{Known, Answer, Needs, ask}
+use Rattle.attempt.specs.Asking.{Known, Answer, Needs, Ends, ask}
 use Rattle.attempt.specs.Frame.{store}
 use Rattle.world_law.specs.declared.events.Fate.{Fate}
 use Rattle.world_law.specs.declared.events.Fate.TheVariants as fate
+
+-- a state that an attempt may move to: its number, which it loaded of the clock, and how many of the pairs that it read it
+-- has found to be so there
+pub record Check : Type 0 where
+  pub candidate : ℕ
+  pub checked : ℕ
 
 -- an attempt that began
 pub record Started : Type 0 where
@@ -24,6 +31,10 @@ pub record Started : Type 0 where
   -- what the read that it is in has loaded: the version word, and then the value word
   pub loads : List ℕ
   pub fate : Fate
+  -- whether it became stale at a load, and so may run again
+  pub movable : Bool
+  -- where it runs again, and has not moved yet, the state that it checks
+  pub check : Option Check
 
 -- the committer: the place of its attempt, the number of the state that it makes, what changes, and how many of its
 -- stores are done
@@ -85,9 +96,32 @@ stand l y = ask (task_program l y.task) y.log
 abbrev pub Stands : Listing → World → TaskId → ℕ → Started → Answer → Type 0
 Stands l w a i y r = IsRunning w a i y × (stand l y ≡ r)
 
--- it needs the variable x, and has loaded so much of it
+-- the variable that an attempt reads: the one that it needs, or, while it checks, that of the pair that it has come to
+abbrev pub wanted_by : Answer → Known → Option Check → Option VarId
+wanted_by (Needs x) log None = Some x
+wanted_by (Needs x) log (Some c) = option_map (λ (p : VarId × ℤ). p.0) (slice_get log c.checked)
+wanted_by (Ends o writes) log check = None
+
+abbrev pub wanted : Listing → Started → Option VarId
+wanted l y = wanted_by (stand l y) y.log y.check
+
+-- the number of the state whose values it loads: its own, or, while it checks, that of the state that it checks
+abbrev pub bound_by : ℕ → Option Check → ℕ
+bound_by rv None = rv
+bound_by rv (Some c) = c.candidate
+
+abbrev pub bound : Started → ℕ
+bound y = bound_by y.rv y.check
+
+-- the running attempt of the task reads the variable x, and has loaded so much of it
 abbrev pub Reading : Listing → World → TaskId → ℕ → Started → VarId → List ℕ → Type 0
-Reading l w a i y x loads = Stands l w a i y (Needs x) × (y.loads ≡ loads)
+Reading l w a i y x loads = (IsRunning w a i y × (wanted l y ≡ Some x)) × (y.loads ≡ loads)
+
+-- y, at the place i, is the attempt of the task a that began last
+abbrev pub IsLatest : World → TaskId → ℕ → Started → Type 0
+IsLatest w a i y =
+    (slice_get w.attempts i ≡ Some y) × (y.task ≡ a)
+    × ((j : ℕ) (z : Started) → slice_get w.attempts j ≡ Some z → z.task ≡ a → j ≤ i)
 
 -- no committer is of the attempt at the place i
 abbrev pub Apart : Option Committer → ℕ → Type 0
@@ -102,7 +136,9 @@ value_now w x = slice_index w.words (value_word x.0)
 -- the world with an attempt more, of which this became at once
 abbrev pub begun : World → TaskId → Fate → World
 begun w a f =
-    record w { attempts = w.attempts ++ record { task = a; rv = slice_index w.words 0; log = []; loads = []; fate = f } ∷ [] }
+    record w {
+      attempts = w.attempts ++ record { task = a; rv = slice_index w.words 0; log = []; loads = []; fate = f; movable = false; check = None } ∷ [];
+    }
 
 -- the world with another attempt at the place i
 abbrev pub changed : World → ℕ → Started → World
@@ -117,6 +153,22 @@ with_read y x bits = record y { log = y.log ++ (x, cast_signed w64 bits) ∷ [];
 
 abbrev pub with_fate : Started → Fate → Started
 with_fate y f = record y { fate = f }
+
+-- it became stale at a load
+abbrev pub stale_at_load : Started → Started
+stale_at_load y = record y { fate = fate.Stale; movable = true }
+
+-- it runs again
+abbrev pub running_again : Started → Started
+running_again y = record y { fate = fate.Running; movable = false }
+
+-- it has found so many of the pairs that it read to be so in the state n, and goes on to check the next one
+abbrev pub checking : Started → ℕ → ℕ → Started
+checking y n checked = record y { loads = []; check = Some record { candidate = n; checked = checked } }
+
+-- it has found all of them to be so there, and moves to the state n
+abbrev pub moved : Started → ℕ → Started
+moved y n = record y { rv = n; loads = []; check = None }
 
 -- the variables, from number n on, whose values differ, with their new values
 abbrev pub differences : ℕ → State → State → List Change

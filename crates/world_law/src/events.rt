@@ -19,6 +19,9 @@ pub enum Event {
     Word,
     /// The task's attempt is dropped.
     Drop(TaskId),
+    /// The task's latest attempt, which became stale at a load, runs again: it loads the clock, and
+    /// checks whether all that it read is so in that state too.
+    Again(TaskId),
 }
 
 /// What is seen of an event.
@@ -46,6 +49,10 @@ pub enum Seen {
     Dropped,
     /// The attempt met want of memory.
     Spent,
+    /// The attempt runs again, and checks this variable.
+    Checks(VarId),
+    /// What it read of the variable that it checked is no longer so.
+    Changed,
 }
 
 /// What became of an attempt.

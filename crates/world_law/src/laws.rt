@@ -6,7 +6,7 @@ ghost use Rattle.world_law.specs.World.{World, IsOpening};
 ghost use Rattle.world_law.specs.Next.{Reachable, Run};
 ghost use Rattle.world_law.specs.Opacity.{Opaque, WordsHold};
 ghost use Rattle.world_law.specs.Determined.{HasOneAnswer, HasOneRefusal};
-ghost use Rattle.world_law.specs.Worked.{pair, pair_opening, torn_events, torn_answers, torn_end, back_and_forth, back_opening, back_events, back_answers, back_end};
+ghost use Rattle.world_law.specs.Worked.{pair, pair_opening, torn_events, torn_answers, torn_end, back_and_forth, back_opening, back_events, back_answers, back_end, half, moved_events, moved_answers, moved_end, refused_events, refused_answers, refused_end, fresh_events, fresh_answers, fresh_end};
 
 use txn::Catalogue;
 
@@ -34,12 +34,18 @@ pub fn one_answer(catalogue: &Catalogue)
     catalogue.rules();
 }
 
-/// Two runs worked out by hand, event by event. A task that has read one of two variables before
-/// both were changed finds its next read stale. A value that goes away and comes back lets a task
-/// that read it before commit.
+/// Runs worked out by hand, event by event. A task that has read one of two variables before both
+/// were changed finds its next read stale. A value that goes away and comes back lets a task that
+/// read it before commit. An attempt whose read is stale runs again: it moves to a later state where
+/// all that it read is so there too, and commits; where a value has changed it is stale for good;
+/// and where it had read nothing it moves at once.
 pub fn worked_runs()
     ensures pair { IsOpening pair pair_opening }
     ensures torn { Run pair pair_opening torn_events torn_answers torn_end }
     ensures single { IsOpening back_and_forth back_opening }
     ensures back { Run back_and_forth back_opening back_events back_answers back_end }
+    ensures half { IsOpening half pair_opening }
+    ensures moved { Run half pair_opening moved_events moved_answers moved_end }
+    ensures refused { Run pair pair_opening refused_events refused_answers refused_end }
+    ensures fresh { Run pair pair_opening fresh_events fresh_answers fresh_end }
 {}

@@ -1,6 +1,7 @@
 //! Schedules and their exact texts.
 
-use crate::parts::{PAIR, expect_text};
+use crate::parts::{PAIR, expect_text, played};
+use std::alloc::Global;
 
 #[test]
 fn the_empty_schedule_is_the_world_as_it_opens(rt: HostRuntime) {
@@ -86,4 +87,54 @@ fn conditions_are_broken_and_commit(rt: HostRuntime) {
         now 3\na 40 1\nb 60 1\nattempt 0 0 committed 1 a 100 b 0\nattempt 2 0 stale b 0\n\
         attempt 2 1 committed 2 b 60\nattempt 1 1 committed 3 a 40 b 60\nend\n";
     expect_text(&rt, rt.alloc(), file, schedule, wanted);
+}
+
+#[test]
+fn a_moved_attempt_commits(rt: HostRuntime) {
+    let file = "(var x 1)(var y 1)(tx sum (skip) (add x y))(tx sety (set y 5) 0)\
+        (run sum 1)(run sety 1)";
+    let schedule = "begin 0\nread 0 x\nbegin 1\ncommit 1\nread 0 y\nmove 0\nread 0 y\n\
+        commit 0\n";
+    let wanted = b"1 needs x\n2 needs y\n3 ended returned 0\n4 committed 1\n5 stale\n\
+        6 needs y\n7 ended returned 6\n8 committed 2\nnow 2\nx 1 0\ny 5 1\n\
+        attempt 0 1 committed 2 x 1 y 5\nattempt 1 0 committed 1\nend\n";
+    expect_text(&rt, rt.alloc(), file, schedule, wanted);
+}
+
+#[test]
+fn what_was_read_has_changed(rt: HostRuntime) {
+    let schedule = "begin 0\nread 0 x\nbegin 1\ncommit 1\nread 0 y\nmove 0\n";
+    let wanted = b"1 needs x\n2 needs y\n3 ended returned 0\n4 committed 1\n5 stale\n\
+        6 changed\nnow 1\nx 2 1\ny 2 1\nattempt 0 0 stale x 1\n\
+        attempt 1 0 committed 1\nend\n";
+    expect_text(&rt, rt.alloc(), PAIR, schedule, wanted);
+}
+
+#[test]
+fn an_attempt_with_nothing_read_moves(rt: HostRuntime) {
+    let schedule = "begin 0\nbegin 1\ncommit 1\nread 0 x\nmove 0\nread 0 x\nread 0 y\n\
+        move 0\n";
+    let wanted = b"1 needs x\n2 ended returned 0\n3 committed 1\n4 stale\n5 needs x\n\
+        6 needs y\n7 ended returned 4\n8 idle\nnow 1\nx 2 1\ny 2 1\n\
+        attempt 0 1 running x 2 y 2\nattempt 1 0 committed 1\nend\n";
+    expect_text(&rt, rt.alloc(), PAIR, schedule, wanted);
+}
+
+/// How many lines a schedule of this line, so often, shows, and whether it ends well.
+fn lines_of(alloc: Global, line: &str, count: usize) -> Option<usize> {
+    let schedule = match line.repeat(alloc, count) {
+        Ok(schedule) => schedule,
+        Err(_) => return None,
+    };
+    let (seen, fault, _) = played(alloc, PAIR, schedule.as_bytes());
+    if fault.is_some() {
+        return None;
+    }
+    Some(seen.iter().filter(|byte| **byte == b'\n').count())
+}
+
+/// A million bytes of it.
+#[test]
+fn again_as_often_as_can_be(rt: HostRuntime) {
+    assert_eq!(rt; lines_of(rt.alloc(), "again 0\n", 125_000), Some(125_004));
 }

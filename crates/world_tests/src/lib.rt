@@ -6,6 +6,8 @@ mod commits;
 #[cfg(test)]
 mod lines;
 #[cfg(test)]
+mod moves;
+#[cfg(test)]
 mod parts;
 #[cfg(test)]
 mod reads;

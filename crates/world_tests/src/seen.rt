@@ -10,7 +10,7 @@ use world_law::Seen;
 const TWO: &str = "(var x 1)(var last 2)";
 
 /// What is seen, and its line.
-const LINES: [(Seen, &str); 15] = [
+const LINES: [(Seen, &str); 18] = [
     (Seen::Idle, "7 idle\n"),
     (Seen::Needs(X), "7 needs x\n"),
     (Seen::Needs(Y), "7 needs last\n"),
@@ -35,6 +35,9 @@ const LINES: [(Seen, &str); 15] = [
     (Seen::Stored, "7 stored\n"),
     (Seen::Committed(65536), "7 committed 65536\n"),
     (Seen::Dropped, "7 dropped\n"),
+    (Seen::Checks(X), "7 checks x\n"),
+    (Seen::Checks(Y), "7 checks last\n"),
+    (Seen::Changed, "7 changed\n"),
 ];
 
 /// Whether line 7 of what is seen is this.

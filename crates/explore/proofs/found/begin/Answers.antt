@@ -16,4 +16,4 @@ returns-clause-begun c =
     let none = c.in_ok-kinds.ensures ∙ ap (λ (n : ℕ). replicate n none_seen) c.tx_count.ensures in
     let start = begun l c.args.limit kinds (omega (arith, c.if-limit-eq0.false)) c.requires none in
     let listed = subst (λ (s : Shelf). IsUnderWay l c.args.limit s kinds [] 0 0) (sym c.in_ok-places.ensures) start in
-    subst (λ (ends : List ℕ). IsUnderWay l c.args.limit c.in_ok-places.places kinds ends 0 0) (sym c.new.ensures.items) listed
+    subst (λ (ends : List ℕ). IsUnderWay l c.args.limit c.in_ok-places.places kinds ends 0 0) (sym c.new-2.ensures.items) listed

@@ -8,12 +8,12 @@ use Rattle.explore.proofs.found.explore.Goals as goal
 
 pub end_places-requires : goal.end_places-requires
 end_places-requires c =
-    let s = c.try_orders.new.s in
-    subst (λ (ends : List ℕ). All (λ (i : ℕ). i < length s.places.places) ends) (sym c.as_slice.ensures.value) (ends_listed c.args.catalogue.now s.places.places s.kinds.items s.ends.items 0 c.in_ok-try_orders.ensures.done.searched)
+    let s = c.in_ok-s.s in
+    subst (λ (ends : List ℕ). All (λ (i : ℕ). i < length s.places.places) ends) (sym c.as_slice.ensures.value) (ends_listed c.args.catalogue.now s.places.places s.kinds.items s.ends.items 0 c.in_ok-s.ensures.done.searched)
 
 pub returns-clause-explored : goal.returns-clause-explored
 returns-clause-explored c =
-    let s = c.try_orders.new.s in
+    let s = c.in_ok-s.s in
     let ps = s.places.places in
     let same : IsPermutation (map (place_at ps) s.ends.items) (map end_place c.in_ok-ends.ends.items) = subst (λ (ends : List ℕ). IsPermutation (map (place_at ps) ends) (map end_place c.in_ok-ends.ends.items)) c.as_slice.ensures.value c.in_ok-ends.ensures.same in
-    explored c.args.catalogue.now c.args.limit s.places s.kinds.items s.ends.items (record { states = c.len.result; kinds = s.kinds; ends = c.in_ok-ends.ends }) c.in_ok-try_orders.ensures.done c.law.ensures c.len.ensures refl same c.in_ok-ends.ensures.ascending
+    explored c.args.catalogue.now c.args.limit s.places s.kinds.items s.ends.items (record { states = c.len.result; kinds = s.kinds; ends = c.in_ok-ends.ends }) c.in_ok-s.ensures.done c.law.ensures c.len.ensures refl same c.in_ok-ends.ensures.ascending

@@ -3,7 +3,7 @@ use Rattle.explore.specs.Searching.{IsUnderWay}
 use Rattle.explore.proofs.search.try_places.Goals as goal
 
 pub places-preserved : goal.places-preserved
-places-preserved c = record { so_far = c.in_ok-try_all.ensures.on; within = omega (arith, c.in_ok-try_all.ensures.listed) }
+places-preserved c = record { so_far = c.in_ok-try_all.ensures.on; charted = c.in_ok-try_all.ensures.charted; within = omega (arith, c.in_ok-try_all.ensures.listed) }
 
 pub returns-clause-done : goal.returns-clause-done
 returns-clause-done c =

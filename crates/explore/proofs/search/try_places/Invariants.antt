@@ -1,4 +1,5 @@
 use Rattle.std.proofs.Common.{◌-◌, ◌≤◌, length}
+use Rattle.explore.specs.Charted.{IsCharted}
 use Rattle.explore.specs.Searching.{IsUnderWay}
 use Rattle.explore.proofs.search.try_places.Given as goal
 
@@ -6,6 +7,7 @@ abbrev pub invariant-places : goal.invariant-places
 invariant-places l =
     record {
       so_far : IsUnderWay l.catalogue l.limit l.s.places l.s.kinds.items l.s.ends.items l.i 0;
+      charted : IsCharted l.catalogue l.s.places.places l.s.came.items;
       within : l.i ≤ length l.s.places.places;
     }
 

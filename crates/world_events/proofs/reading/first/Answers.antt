@@ -1,4 +1,4 @@
-use Rattle.std.proofs.Common.{◌≡◌, ℕ, ◌+◌, ◌*◌, ap, ◌∙◌, subst, refl, arith}
+use Rattle.std.proofs.Common.{◌≡◌, ℕ, ◌+◌, ◌*◌, Some, ap, ◌∙◌, subst, refl, arith}
 use Rattle.std.proofs.lemmas.Option.{slice_get_within}
 use Rattle.programs.specs.declared.ast.VarId.{VarId}
 use Rattle.world_law.specs.declared.events.Event.TheVariants.{First}
@@ -32,7 +32,7 @@ returns-else-needed-x c =
     let h : LoadsFirst f.0 (version_now (world_of s) c.args.x) c.load_first.result c.load_first.new.self =
     subst (λ (t : Trial). LoadsFirst t (version_now (world_of s) c.args.x) c.load_first.result c.load_first.new.self) same
     (subst (λ (n : ℕ). LoadsFirst c.index_mut.result.now n c.load_first.result c.load_first.new.self) word c.load_first.ensures) in
-    first_leads s c.args.task c.args.x c.in-Some.place f.0 c.load_first.new.self c.load_first.result c.requires f.1 f.3 (f.2 ∙ ap (λ (v : VarId). Rattle.attempt.specs.declared.next.Next.TheVariants.Need v) x) h
+    first_leads s c.args.task c.args.x c.in-Some.place f.0 c.load_first.new.self c.load_first.result c.requires f.1 f.3 (f.2 ∙ ap (λ (v : VarId). Some v) x) h
 
 pub returns-in-None : goal.returns-in-None
 returns-in-None c =

@@ -1,15 +1,15 @@
-use Rattle.std.proofs.Common.{◌≡◌, ℕ, ◌+◌, ◌*◌, sym, ap, ◌∙◌, subst, refl, arith}
+use Rattle.std.proofs.Common.{◌≡◌, ℕ, ◌+◌, ◌*◌, sym, ap, ◌∙◌, subst, refl, arith, rules}
 use Rattle.attempt.specs.View.{Answers}
 use Rattle.attempt.specs.declared.next.Next.{Next}
 use Rattle.world_law.specs.declared.events.Event.TheVariants.{Second}
 use Rattle.world_law.specs.World.{version_now}
 use Rattle.world_events.specs.declared.trial.Trial.{Trial}
-use Rattle.world_events.specs.Trials.{LoadsSecond}
+use Rattle.world_events.specs.Trials.{CanEndRead, LoadsSecond}
 use Rattle.world_events.specs.Inside.{world_of, with_trial, Stays}
 use Rattle.world_events.proofs.Seeing.{read_is, word_read, on_err}
 use Rattle.world_events.proofs.Standing.{reading_from}
 use Rattle.world_events.proofs.Putting.{idle_leads, put_stays}
-use Rattle.world_events.proofs.Going.{second_leads}
+use Rattle.world_events.proofs.Checking.{second_leads, can_end, checks_now}
 use Rattle.world_events.proofs.reading.second.Goals as goal
 
 pub load_second-requires : goal.load_second-requires
@@ -17,7 +17,7 @@ load_second-requires c =
     let s = c.args.scene.now in
     let f = c.in-Some.ensures in
     let same : c.index_mut.result.now ≡ f.0 = read_is s.trials.items c.in-Some.place f.0 c.index_mut.result.now f.1.0 c.index_mut.ensures.value in
-    ap (λ (t : Trial). t.attempt.stand) same ∙ (subst (λ (n : Next). Answers n f.0.attempt) f.2 (c.requires.trials c.in-Some.place f.0 f.1.0).answers).1
+    subst (λ (t : Trial). CanEndRead t c.in-Some.x t.check) (sym same) (can_end s c.in-Some.place f.0 c.in-Some.x c.requires f.1.0 f.2)
 
 pub returns-in_err-seen-in-Some-clause-refused : goal.returns-in_err-seen-in-Some-clause-refused
 returns-in_err-seen-in-Some-clause-refused c =
@@ -42,3 +42,11 @@ pub returns-in-None-clause-ok : goal.returns-in-None-clause-ok
 returns-in-None-clause-ok c =
     let s = c.args.scene.now in
     idle_leads s (Second c.args.task) c.requires (λ i first bits y x q. let u = reading_from s c.args.task i y x _ c.requires q in c.in-None.ensures i u.0 x u.1 u.2, refl)
+
+pub returns-in_err-seen-in-Some-clause-checks : goal.returns-in_err-seen-in-Some-clause-checks
+returns-in_err-seen-in-Some-clause-checks c h =
+    let s = c.args.scene.now in
+    let f = c.in-Some.ensures in
+    let same : c.index_mut.result.now ≡ f.0 = read_is s.trials.items c.in-Some.place f.0 c.index_mut.result.now f.1.0 c.index_mut.ensures.value in
+    let sure = c.load_second.ensures.sure (λ e. checks_now s c.args.task c.in-Some.place f.0 f.1 h (ap (λ (t : Trial). t.check) (sym same) ∙ e)) in
+    search (rules, sure)

@@ -16,12 +16,14 @@ returns c =
       number = refl;
       log = c.advance-at.ensures.log ∙ ap (λ (a : AttemptView). a.log) fresh;
       loads = refl;
+      movable = refl;
+      check = refl;
       kept = record {
         program = c.advance-at.ensures.program ∙ (ap (λ (a : AttemptView). a.program) fresh ∙ ap (program_at l) c.task_tx.ensures.value);
         variables = vars;
         answers = c.advance-at.ensures.answers;
         needs = λ x e. subst (λ (n : ℕ). x.0 < n) vars (c.advance-at.ensures.needed x e).0;
-        runs = λ e m. let bad : fate.Spent ≡ fate.Running = sym (c.fate_after.ensures ∙ ap (λ (n : Next). answer_fate n fate.Running) m) ∙ e in cc;
+        spent = λ m. c.fate_after.ensures ∙ ap (λ (n : Next). answer_fate n fate.Running) m;
       };
       fate = c.fate_after.ensures;
       seen = c.seen_of.ensures;

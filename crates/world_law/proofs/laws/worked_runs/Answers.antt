@@ -1,4 +1,4 @@
-use Rattle.world_law.proofs.Working.{torn_holds, back_holds, pair_opens, back_opens}
+use Rattle.world_law.proofs.Working.{torn_holds, back_holds, pair_opens, back_opens, half_opens, moved_holds, refused_holds, fresh_holds}
 use Rattle.world_law.proofs.laws.worked_runs.Goals as goal
 
 pub returns-clause-pair : goal.returns-clause-pair
@@ -12,3 +12,15 @@ returns-clause-single c = back_opens
 
 pub returns-clause-back : goal.returns-clause-back
 returns-clause-back c = back_holds
+
+pub returns-clause-half : goal.returns-clause-half
+returns-clause-half c = half_opens
+
+pub returns-clause-moved : goal.returns-clause-moved
+returns-clause-moved c = moved_holds
+
+pub returns-clause-refused : goal.returns-clause-refused
+returns-clause-refused c = refused_holds
+
+pub returns-clause-fresh : goal.returns-clause-fresh
+returns-clause-fresh c = fresh_holds

@@ -18,7 +18,7 @@ pub invariant_of-self-in-Over : goal.invariant_of-self-in-Over
 invariant_of-self-in-Over c =
     let i = c.self.inside in
     let m = c.go-stand.new.m in
-    let after : Machine = record { pc = m.pc; stack = m.stack; loops = m.loops; own = c.settle.new.self } in
+    let after : Machine = record { at = m.at; stack = m.stack; loops = m.loops; own = c.settle.new.self; end = m.end } in
     let count = c.go-stand.new.count in
     let stops = c.go-stand.ensures.stops in
     let few = c.go-stand.ensures.few in

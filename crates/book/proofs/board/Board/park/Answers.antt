@@ -1,14 +1,15 @@
-use Rattle.std.proofs.Common.{◌≡◌, ◌<◌, ℕ, true, List, [], Some, length, set, get_or, refl, sym, ◌∙◌, ap, subst}
+use Rattle.std.proofs.Common.{◌≡◌, ◌<◌, ℕ, Bool, true, List, [], Some, length, set, get_or, refl, sym, ◌∙◌, ap, subst, arith}
 use Rattle.std.specs.List.{slice_get}
+use Rattle.std.proofs.lemmas.List.{length-set}
 use Rattle.std.proofs.lemmas.Option.{same_Some, slice_get_within, slice_get_read}
 use Rattle.attempt.specs.Asking.{Known}
 use Rattle.attempt.specs.Order.{AllKnown}
 use Rattle.book.specs.declared.task.Task.{Task}
 use Rattle.book.specs.declared.task.Task.TheVariants.{Running, Parked}
 use Rattle.book.specs.Board.{BoardView, flagged}
-use Rattle.book.specs.BoardInside.{AreSets}
+use Rattle.book.specs.BoardInside.{places, AreSets}
 use Rattle.book.proofs.Lists.{get_set_same}
-use Rattle.book.proofs.Sets.{sets_park}
+use Rattle.book.proofs.Sets.{sets_park, placed_stand, at_place}
 use Rattle.book.proofs.board.Board.park.Goals as goal
 
 -- what was put there is found there
@@ -25,9 +26,12 @@ invariant_of-self c =
     let at : slice_get s.tasks.items t ≡ Some Running = ap (λ (b : BoardView). slice_get b.tasks t) c.self.view_is ∙ c.requires.running in
     let known = subst (λ (b : BoardView). AllKnown b.variables c.args.log) (sym c.self.view_is) c.requires.known in
     let same : c.in-Parked.log ≡ c.args.log =
-    same_log s.tasks.items c.stand.new.tasks.items t c.args.log c.in-Parked.log at c.stand.ensures
+    same_log s.tasks.items c.stand.new.tasks.items t c.args.log c.in-Parked.log at c.stand.ensures.items
     (λ less. slice_get_read c.stand.new.tasks.items (length c.stand.new.tasks.items) t c.index.result.now refl less c.index.ensures ∙ ap Some c.in-Parked.is) in
-    subst (λ (ts : List Task). AreSets ts s.ready c.enter.new.sleepers.items) (sym c.stand.ensures)
-    (sets_park s.tasks.items s.ready s.sleepers.items c.enter.new.sleepers.items t c.args.log c.self.invariant at c.enter.ensures.size
-    (λ x. c.enter.ensures.each x ∙ ap (λ (log : Known). flagged true log t x (get_or s.sleepers.items x [])) (c.as_slice.ensures ∙ same))
-    known)
+    record {
+      sets = placed_stand s.tasks.items c.stand.new.tasks.items s.spare t Running (Parked c.args.log) s.ready c.enter.new.sleepers.items at c.stand.ensures.items
+          (sets_park (places s.tasks.items s.spare) s.ready s.sleepers.items c.enter.new.sleepers.items t c.args.log c.self.invariant.sets (at_place s.tasks.items s.spare t Running at) c.enter.ensures.size
+          (λ x. c.enter.ensures.each x ∙ ap (λ (log : Known). flagged true log t x (get_or s.sleepers.items x [])) (c.as_slice.ensures ∙ same))
+          known);
+      room = omega (arith, c.self.invariant.room, ap length c.stand.ensures.items, length-set s.tasks.items t (Parked c.args.log), c.stand.ensures.capacity);
+    }

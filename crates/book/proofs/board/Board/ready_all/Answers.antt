@@ -19,10 +19,12 @@ loop-i-preserved c =
           record {
             tasks = ap (λ (b : BoardView). b.tasks) (w.self-is ∙ w.make_ready.ensures) ∙ readied_running_one was now i within c.loop-i.invariant.tasks w.if-is_running.ensures;
             variables = ap (λ (b : BoardView). b.variables) (w.self-is ∙ w.make_ready.ensures) ∙ c.loop-i.invariant.variables;
+            spare = ap (λ (b : BoardView). b.spare) (w.self-is ∙ w.make_ready.ensures) ∙ c.loop-i.invariant.spare;
           }
       | else-is_running w ↦
           record {
             tasks = ap (λ (b : BoardView). b.tasks) w.self-is ∙ readied_other_one was now i within inside c.loop-i.invariant.tasks w.if-is_running.ensures;
             variables = ap (λ (b : BoardView). b.variables) w.self-is ∙ c.loop-i.invariant.variables;
+            spare = ap (λ (b : BoardView). b.spare) w.self-is ∙ c.loop-i.invariant.spare;
           }
     ]

@@ -1,12 +1,13 @@
-use Rattle.std.proofs.Common.{◌≡◌, false, List, [], Some, length, get_or, refl, sym, ◌∙◌, ap, subst}
+use Rattle.std.proofs.Common.{◌≡◌, ℕ, Bool, true, false, List, [], Some, length, get_or, set, refl, sym, ◌∙◌, ap, subst, arith}
 use Rattle.std.specs.List.{slice_get}
+use Rattle.std.proofs.lemmas.List.{length-set}
 use Rattle.std.proofs.lemmas.Option.{slice_get_within, slice_get_read}
 use Rattle.attempt.specs.Asking.{Known}
 use Rattle.book.specs.declared.task.Task.{Task}
-use Rattle.book.specs.declared.task.Task.TheVariants.{Parked}
+use Rattle.book.specs.declared.task.Task.TheVariants.{Ready, Parked}
 use Rattle.book.specs.Board.{BoardView, flagged}
-use Rattle.book.specs.BoardInside.{AreSets}
-use Rattle.book.proofs.Sets.{sets_rouse}
+use Rattle.book.specs.BoardInside.{places, AreSets}
+use Rattle.book.proofs.Sets.{sets_rouse, placed_stand, at_place}
 use Rattle.book.proofs.board.Board.rouse.Goals as goal
 
 pub invariant_of-self : goal.invariant_of-self
@@ -17,6 +18,9 @@ invariant_of-self c =
     let within = slice_get_within s.tasks.items t (Parked c.requires.0) parked in
     let at : slice_get s.tasks.items t ≡ Some (Parked c.in-Parked.log) =
     slice_get_read s.tasks.items (length s.tasks.items) t c.index.result.now refl within c.index.ensures ∙ ap Some c.in-Parked.is in
-    subst (λ (ts : List Task). AreSets ts c.insert.new.self c.leave.new.sleepers.items) (sym c.stand.ensures)
-    (sets_rouse s.tasks.items s.ready c.insert.new.self s.sleepers.items c.leave.new.sleepers.items t c.in-Parked.log c.self.invariant at c.insert.ensures c.leave.ensures.size
-    (λ x. c.leave.ensures.each x ∙ ap (λ (log : Known). flagged false log t x (get_or s.sleepers.items x [])) c.as_slice.ensures))
+    record {
+      sets = placed_stand s.tasks.items c.stand.new.tasks.items s.spare t (Parked c.in-Parked.log) Ready c.insert.new.self c.leave.new.sleepers.items at c.stand.ensures.items
+          (sets_rouse (places s.tasks.items s.spare) s.ready c.insert.new.self s.sleepers.items c.leave.new.sleepers.items t c.in-Parked.log c.self.invariant.sets (at_place s.tasks.items s.spare t (Parked c.in-Parked.log) at) c.insert.ensures c.leave.ensures.size
+          (λ x. c.leave.ensures.each x ∙ ap (λ (log : Known). flagged false log t x (get_or s.sleepers.items x [])) c.as_slice.ensures));
+      room = omega (arith, c.self.invariant.room, ap length c.stand.ensures.items, length-set s.tasks.items t (Ready), c.stand.ensures.capacity);
+    }

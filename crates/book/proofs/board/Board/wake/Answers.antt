@@ -10,11 +10,12 @@ loop-change-preserved c =
     record {
       tasks = waking_next c.args.changes.now c.args.self.now.tasks l.change-index l.self.tasks c.wake_for.new.self.tasks c.loop-change-test.true (ap (λ (b : BoardView). b.tasks) c.wake_for.ensures) l.invariant.tasks;
       variables = ap (λ (b : BoardView). b.variables) c.wake_for.ensures ∙ l.invariant.variables;
+      spare = ap (λ (b : BoardView). b.spare) c.wake_for.ensures ∙ l.invariant.spare;
     }
 
 pub returns : goal.returns
 returns c =
     let l = c.loop-change in
-    board_is c.args.self.now l.self.tasks (map (woken_by c.args.changes.now) c.args.self.now.tasks) l.self.variables
+    board_is c.args.self.now l.self.tasks (map (woken_by c.args.changes.now) c.args.self.now.tasks) l.self.variables l.self.spare
     (waking_last c.args.changes.now c.args.self.now.tasks l.change-index l.self.tasks (omega (arith, c.loop-change-test.false)) l.invariant.tasks)
-    l.invariant.variables
+    l.invariant.variables l.invariant.spare

@@ -8,6 +8,7 @@ abbrev pub invariant-loop-found : goal.invariant-loop-found
 invariant-loop-found l = record {
   tasks : map (woken_for l.variable) l.self.tasks ≡ map (woken_for l.variable) l.initial.self.tasks;
   variables : l.self.variables ≡ l.initial.self.variables;
+  spare : l.self.spare ≡ l.initial.self.spare;
 }
 
 abbrev pub decreases-loop-found : goal.decreases-loop-found

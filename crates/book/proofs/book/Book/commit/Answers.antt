@@ -43,7 +43,7 @@ enter-requires c =
 at_end : (c : After-enter) → IsRunning (book_of c.self.inside) c.args.task
 at_end c = subst (λ (b : BookView). IsRunning b c.args.task) (sym c.self.view_is) c.requires.running
 
-parts : (c : After-enter) → Parts (book_of c.self.inside) c.args.task c.task_tx-tx.result c.args.how c.publish.new.self.history c.enter.new.journal.items c.store_changes.new.values.items c.store_changes.new.versions.items c.wake.new.self.tasks
+parts : (c : After-enter) → Parts (book_of c.self.inside) c.args.task c.transaction_of-tx.result c.args.how c.publish.new.self.history c.enter.new.journal.items c.store_changes.new.values.items c.store_changes.new.versions.items c.wake.new.self.tasks
 parts c =
     let b = book_of c.self.inside in
     let old = b.present.state in
@@ -60,9 +60,9 @@ parts c =
     subst (λ (v : BookView). after (task_program v.catalogue task) v.present.state ≡ with_changes v.present.state c.args.writes.now) (sym c.self.view_is) c.requires.after in
     record {
       running = at_end c;
-      own = c.task_tx-tx.ensures.own;
-      tx_is = c.task_tx-tx.ensures.value;
-      known = c.task_tx-tx.ensures.known;
+      own = c.transaction_of-tx.ensures.own;
+      tx_is = c.transaction_of-tx.ensures.value;
+      known = c.transaction_of-tx.ensures.known;
       how_is = subst (λ (v : BookView). c.args.how ≡ outcome (task_program v.catalogue task) v.present.state) (sym c.self.view_is) c.requires.outcome;
       ends = c.requires.ends;
       state_is = stored ∙ (told ∙ sym after_is);
@@ -79,6 +79,9 @@ parts c =
           ∙ (all_woken_by old changes done are ∙ ap (λ (m : State). map (woken old m) done) (sym stored))));
     }
 
+same_spare : (c : After-enter) → c.self.inside.board.spare ≡ c.wake.new.self.spare
+same_spare c = sym (ap (λ (x : BoardView). x.spare) c.wake.ensures ∙ ap (λ (x : BoardView). x.spare) c.finish.ensures)
+
 pub invariant_of-self : goal.invariant_of-self
 invariant_of-self c =
     let k = c.self.invariant in
@@ -88,10 +91,15 @@ invariant_of-self c =
     let size = committed_length _ _ _ _ _ _ _ _ _ p in
     let view = made b (b.present.number + 1) c.publish.new.self.history c.enter.new.journal.items c.store_changes.new.values.items c.store_changes.new.versions.items c.wake.new.self.tasks in
     let own = sym c.publish.ensures.cells in
+    let same = same_spare c in
+    let seen : CellsId → ℕ → BookView = λ x y. record view { published_to = x; spare = y } in
     record {
-      lawful = subst (λ (x : CellsId). LawfulBook (record view { published_to = x })) own (committed_lawful _ _ _ _ _ _ _ _ _ p c.frame.ensures k.lawful k.fits);
-      fits = subst (λ (x : CellsId). BookFits (record view { published_to = x })) own (committed_fits _ _ _ _ _ _ _ _ _ p k.fits);
-      room = omega (arith, k.room, size, c.enter.ensures.capacity);
+      lawful = subst (λ (y : ℕ). LawfulBook (seen c.publish.new.self.cells y)) same (subst (λ (x : CellsId). LawfulBook (seen x b.spare)) own (committed_lawful _ _ _ _ _ _ _ _ _ p c.frame.ensures k.lawful k.fits));
+      fits = subst (λ (y : ℕ). BookFits (seen c.publish.new.self.cells y)) same (subst (λ (x : CellsId). BookFits (seen x b.spare)) own (committed_fits _ _ _ _ _ _ _ _ _ p k.fits));
+      room = omega (arith, k.room, size, c.enter.ensures.capacity, same);
+      submit_room = omega (arith, k.submit_room, same);
+      few = omega (arith, k.few, size, same);
+      submitted = k.submitted;
       changes_room = omega (arith, k.changes_room, c.note_changes.ensures.capacity);
       variables = ap (λ (x : BoardView). x.variables) c.wake.ensures ∙ (ap (λ (x : BoardView). x.variables) c.finish.ensures ∙ k.variables);
     }
@@ -100,5 +108,6 @@ pub returns-clause-committed : goal.returns-clause-committed
 returns-clause-committed c =
     let b = book_of c.self.inside in
     let view = made b (b.present.number + 1) c.publish.new.self.history c.enter.new.journal.items c.store_changes.new.values.items c.store_changes.new.versions.items c.wake.new.self.tasks in
-    let published : CellsId → BookView = λ x. record view { published_to = x } in
-    ap published c.publish.ensures.cells ∙ (committed_is _ _ _ _ _ _ _ _ _ (parts c) ∙ ap (λ (v : BookView). committed v c.args.task) c.self.view_is)
+    let seen : CellsId → ℕ → BookView = λ x y. record view { published_to = x; spare = y } in
+    ap (seen c.publish.new.self.cells) (sym (same_spare c))
+    ∙ (ap (λ (x : CellsId). seen x b.spare) c.publish.ensures.cells ∙ (committed_is _ _ _ _ _ _ _ _ _ (parts c) ∙ ap (λ (v : BookView). committed v c.args.task) c.self.view_is))

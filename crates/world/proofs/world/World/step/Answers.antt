@@ -1,3 +1,6 @@
+use Rattle.std.proofs.Common.{rules, sym, subst}
+use Rattle.world_events.specs.Runs.{EndsCheck}
+use Rattle.world.specs.View.{WorldView}
 use Rattle.world.proofs.Reaching.{reached_led}
 use Rattle.world.proofs.world.World.step.Goals as goal
 
@@ -6,3 +9,8 @@ invariant_of-self-2 c = record {
   kept = c.in_ok-seen.ensures.ok.kept;
   reached = reached_led c.self.inside.scene c.happen.new.scene c.args.event c.in_ok-seen.seen c.self.invariant.reached c.in_ok-seen.ensures.ok;
 }
+
+pub returns-in_err-seen-clause-checks : goal.returns-in_err-seen-clause-checks
+returns-in_err-seen-clause-checks c h =
+    let sure = c.happen.ensures.checks (subst (λ (v : WorldView). EndsCheck v.world c.args.event) (sym c.self.view_is) h) in
+    search (rules, sure)

@@ -7,7 +7,7 @@ use Rattle.attempt_machine.proofs.Declared.{program_known}
 use Rattle.book.specs.declared.task.Task.TheVariants.{Ready}
 use Rattle.book.specs.BookInside.{snapshot_of}
 use Rattle.book.proofs.Kept.{opening_is, kept_opened, AllKnow}
-use Rattle.book.proofs.book.Book.open.Goals as goal
+use Rattle.book.proofs.book.Book.open_with_room.Goals as goal
 
 all_know : (l : Listing) → length l.names ≡ length l.initial → names_hold l ≡ true → AllKnow l
 all_know l named names t less =
@@ -28,13 +28,15 @@ invariant_of-result c =
       unused = c.requires.unused;
       base = opening_is l (snapshot_of c.in_ok-opening.field-0) a.number (a.values ∙ i) (a.versions ∙ ap (λ (xs : List ℤ). replicate (length xs) 0) i);
       present = opening_is l (snapshot_of c.in_ok-opening-2.field-0) b.number (b.values ∙ i2) (b.versions ∙ ap (λ (xs : List ℤ). replicate (length xs) 0) i2);
-      journal = c.in_ok-with_capacity.ensures.items;
+      submitted = c.in_ok-with_capacity.ensures.items;
+      journal = c.in_ok-with_capacity-2.ensures.items;
       tasks = c.in_ok-open.ensures.tasks ∙ ap (λ k. replicate k Ready) n;
     })
-    (omega (arith, n, c.tasks-count.ensures.few))
+    (omega (arith, c.requires.few, c.in_ok-open.ensures.spare))
     (omega (arith, ap length i, c.initial.ensures.few))
     (all_know l c.rules.ensures.named c.rules.ensures.names)
     c.rules.ensures.upheld
-    (omega (arith, n, c.in_ok-with_capacity.ensures.capacity))
-    (omega (arith, size, c.in_ok-with_capacity-2.ensures.capacity))
+    (omega (arith, n, c.in_ok-open.ensures.spare, c.in_ok-with_capacity-2.ensures.capacity))
+    (omega (arith, c.in_ok-open.ensures.spare, c.in_ok-with_capacity.ensures.capacity))
+    (omega (arith, size, c.in_ok-with_capacity-3.ensures.capacity))
     (c.in_ok-open.ensures.variables ∙ size)

@@ -1,0 +1,80 @@
+-- The text of what is found.
+use Rattle.std.specs.Prelude.{ℕ, zero, suc, ◌+◌, ℤ, pos, Bool, true, false, nat_lt, List, [], ◌∷◌, ◌++◌, codes, length, Option, Some, None, slice_get, slice_index_or}
+use Rattle.std.specs.List.{list_any}
+use Rattle.std.specs.Fmt.{decimal, signed_decimal}
+use Rattle.programs.specs.Listing.{Listing, tasks, always_name, transaction_at}
+use Rattle.explore_law.specs.declared.found.End.{End}
+use Rattle.explore_law.specs.declared.found.Kinds.{Kinds}
+use Rattle.explore_law.specs.declared.found.Found.{Found}
+use Rattle.explore_law.specs.Orders.{counted}
+use Rattle.text_words.specs.Words.{line}
+
+-- the text where that is so
+abbrev pub only : Bool → List ℕ → List ℕ
+only true text = text
+only false text = []
+
+-- the texts of the numbers below n, in turn
+abbrev pub each_below : (ℕ → List ℕ) → ℕ → List ℕ
+each_below text zero = []
+each_below text (suc n) = each_below text n ++ text n
+
+abbrev pub variable_name : Listing → ℕ → List ℕ
+variable_name l k = slice_index_or l.names k []
+
+abbrev pub tx_name : Listing → ℕ → List ℕ
+tx_name l k = (transaction_at l (record { 0 = k })).name
+
+-- some number of the list is not 0
+abbrev pub some_wait : List ℕ → Bool
+some_wait counts = list_any (λ n. nat_lt 0 n) counts
+
+-- some end leaves a task of the transaction of number k waiting
+abbrev pub parks : List End → ℕ → Bool
+parks ends k = list_any (λ (e : End). nat_lt 0 (slice_index_or e.waiting.items k 0)) ends
+
+-- the standing condition of number k, where it is among the broken ones
+abbrev pub broke_word : Listing → Kinds → ℕ → List ℕ
+broke_word l ks k = only (slice_index_or ks.broke k false) (codes " broke " ++ always_name l (record { 0 = k }))
+
+-- in which ways turns end, other than by a broken condition
+abbrev pub flag_words : Kinds → List ℕ
+flag_words ks = only ks.returned (codes " returned") ++ (only ks.threw (codes " threw") ++ (only ks.overflow (codes " overflow") ++ only ks.zerodiv (codes " zerodiv")))
+
+-- tx NAME, in which ways its turns end, and whether it waits at an end
+abbrev pub tx_line : Listing → ℕ → Bool → Option Kinds → List ℕ
+tx_line l k waits None = []
+tx_line l k waits (Some ks) = codes "tx " ++ (tx_name l k ++ (flag_words ks ++ (each_below (broke_word l ks) (length l.always) ++ (only waits (codes " parks") ++ codes "\n"))))
+
+-- the line of the transaction of number k, where a task runs it
+abbrev pub tx_part : Listing → List ℕ → Found → ℕ → List ℕ
+tx_part l counts f k = only (nat_lt 0 (slice_index_or counts k 0)) (tx_line l k (parks f.ends.items k) (slice_get f.kinds.items k))
+
+-- a variable and its value
+abbrev pub value_words : Listing → List ℤ → ℕ → List ℕ
+value_words l values k = codes " " ++ (variable_name l k ++ (codes " " ++ signed_decimal (slice_index_or values k (pos 0))))
+
+-- a transaction and how many of its tasks wait, where one does
+abbrev pub waiting_words : Listing → List ℕ → ℕ → List ℕ
+waiting_words l counts k = only (nat_lt 0 (slice_index_or counts k 0)) (codes " " ++ (tx_name l k ++ (codes " " ++ decimal (slice_index_or counts k 0))))
+
+-- parked, and those that wait
+abbrev pub parked_words : Listing → List ℕ → List ℕ
+parked_words l counts = only (some_wait counts) (codes " parked" ++ each_below (waiting_words l counts) (length counts))
+
+-- the line of an end: its number, the values, and what waits
+abbrev pub end_line : Listing → ℕ → Option End → List ℕ
+end_line l k None = []
+end_line l k (Some e) = decimal (k + 1) ++ (each_below (value_words l e.values.items) (length e.values.items) ++ (parked_words l e.waiting.items ++ codes "\n"))
+
+abbrev pub found_text : Listing → Found → List ℕ
+found_text l f =
+    line (codes "states" ∷ decimal f.states ∷ [])
+    ++ (each_below (tx_part l (counted (length l.transactions) (tasks l)) f) (length l.transactions)
+    ++ (line (codes "ends" ∷ decimal (length f.ends.items) ∷ [])
+    ++ (each_below (λ k. end_line l k (slice_get f.ends.items k)) (length f.ends.items)
+    ++ codes "end\n")))
+
+-- where more places are reached than were asked for
+abbrev pub more_text : ℕ → List ℕ
+more_text limit = codes "more than " ++ (decimal limit ++ codes " states\n")

@@ -1,0 +1,3 @@
+pub mod FoundText
+pub mod Showing
+pub mod Bounds

@@ -1,0 +1,13 @@
+//! Every order of a file's tasks: from the bytes of the file to the bytes of what is found.
+#![tactic(auto)]
+
+mod bytes;
+mod limit;
+mod printer;
+mod sight;
+mod words;
+
+pub use bytes::explore_bytes;
+pub use limit::Limit;
+pub use printer::print_found;
+pub use sight::Sight;

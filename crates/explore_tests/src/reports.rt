@@ -1,0 +1,98 @@
+//! The report of a run that comes to a given end, and what a caller has by the laws.
+
+ghost use Rattle.std.specs.Prelude.{All, IsTrue};
+ghost use Rattle.programs.specs.Told.{told};
+ghost use Rattle.explore_law.specs.Explored.{Explored, end_places};
+ghost use Rattle.explore_reports.specs.Ends.{IsWhole, NobodyWaits};
+
+use checker::{Verdict, check};
+use explore::{Found, way_to_end};
+use explore_reports::laws::{
+    ends_have_reports, nobody_waits_for_ever, reports_come_to_ends, ways_lead_to_ends,
+};
+use explore_reports::witness;
+use std::alloc::Global;
+use txn::{Catalogue, Report};
+use txn_text::{print_report, read_file};
+
+/// Two tasks that each take one of what one task puts there.
+const TAKERS: &str = "(var x 0)(tx take (if (eq x 0) (retry) (set x (sub x 1))) 0)\
+    (tx put (set x 1) 0)(run take 2)(run put 1)";
+
+/// Three tasks that wait for ever.
+const WAITERS: &str = "(tx t (retry) 0)(run t 3)";
+
+/// The text of the report of a run that comes to the end of this number.
+fn text_to_end(alloc: Global, catalogue: &Catalogue, end: usize) -> Option<String> {
+    let Ok(found) = way_to_end(alloc, catalogue, 1_000_000, end) else {
+        return None;
+    };
+    let Some(way) = found else {
+        return None;
+    };
+    ways_lead_to_ends(catalogue);
+    let Ok(report) = witness(alloc, catalogue, way.as_slice()) else {
+        return None;
+    };
+    print_report(alloc, catalogue, &report).ok()
+}
+
+/// The same of the file of this text.
+fn report_to_end(alloc: Global, file: &str, end: usize) -> Option<String> {
+    match read_file(alloc, file.as_bytes()) {
+        Ok(catalogue) => text_to_end(alloc, &catalogue, end),
+        Err(_) => None,
+    }
+}
+
+fn is_good(alloc: Global, file: &str, report: &str) -> bool {
+    match check(alloc, file.as_bytes(), report.as_bytes()) {
+        Ok(verdict) => verdict == Verdict::Good,
+        Err(_) => false,
+    }
+}
+
+#[test]
+fn the_report_of_the_way_to_an_end_is_good(rt: HostRuntime) {
+    let alloc = rt.alloc();
+    let taken = "base 0\nx 0 0\nentry 1 2 put returned 0\nentry 2 0 take returned 0\nnow 2\nx 0 2\nparked 1 take\nend\n";
+    let waited = "base 0\nnow 0\nparked 0 t\nparked 1 t\nparked 2 t\nend\n";
+    for (file, wanted) in [
+        (TAKERS, taken),
+        (WAITERS, waited),
+        ("", "base 0\nnow 0\nend\n"),
+    ] {
+        match report_to_end(alloc, file, 0) {
+            Some(text) => {
+                assert!(rt; text.as_str() == wanted);
+                assert!(rt; is_good(alloc, file, &text));
+            }
+            None => panic!(rt; "no report"),
+        }
+        assert!(rt; report_to_end(alloc, file, 1).is_none());
+    }
+}
+
+/// Where nobody waits at any end, a report names no parked task.
+fn nobody_is_parked(catalogue: &Catalogue, found: &Found, report: &Report) -> bool
+    requires explored { Explored catalogue.now found.now }
+    requires nobody { All NobodyWaits (end_places found.now) }
+    requires whole { IsWhole catalogue.now (told report.now) }
+    ensures { IsTrue result }
+{
+    nobody_waits_for_ever(catalogue);
+    report.parked.is_empty()
+}
+
+#[test]
+fn the_laws_are_of_every_catalogue(rt: HostRuntime) {
+    match read_file(rt.alloc(), TAKERS.as_bytes()) {
+        Ok(catalogue) => {
+            reports_come_to_ends(&catalogue);
+            ends_have_reports(&catalogue);
+            nobody_waits_for_ever(&catalogue);
+            ways_lead_to_ends(&catalogue);
+        }
+        Err(_) => panic!(rt; "not read"),
+    }
+}

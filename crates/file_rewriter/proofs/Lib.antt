@@ -1,0 +1,4 @@
+mod Rows
+mod Same
+mod Moved
+mod Values

@@ -1,0 +1,66 @@
+//! A file of many parts, what a run of it reports, and what has to stand in that.
+
+use crate::texts::{Part, text_of};
+use checker::{Verdict, check};
+use runner::{OpenGate, Options, Out, run_bytes};
+use std::alloc::Global;
+use std::process::Abort;
+use std::sync::Wait;
+use std::thread::Threads;
+
+/// How a file is run, and what has to stand in its report: how many lines, and what is its last.
+#[derive(Clone, Copy)]
+pub(crate) struct Wanted<'a> {
+    pub(crate) workers: u32,
+    pub(crate) checkpoint: u32,
+    pub(crate) lines: usize,
+    pub(crate) end: &'a str,
+}
+
+/// The report of the file, where the run ends well.
+fn report_of(
+    rt: &(impl Threads + Wait + Sync),
+    alloc: Global,
+    file: &[u8],
+    workers: u32,
+    checkpoint: u32,
+) -> Option<Vec<u8>> {
+    let options = Options::new(workers, 8, checkpoint)?;
+    let mut out = Out::new(Vec::new(alloc));
+    match run_bytes(rt, alloc, file, options, &OpenGate, &mut out) {
+        Ok(()) => Some(out.into_inner()),
+        Err(_) => None,
+    }
+}
+
+/// How many lines the text has, and whether one of them has ended by want of memory.
+pub(crate) fn lines_of(text: &[u8]) -> (usize, bool) {
+    let mut lines = 0usize;
+    let mut wants = false;
+    for line in text.split(|byte| *byte == b'\n') {
+        lines = lines.saturating_add(1);
+        wants = wants || line.starts_with(b"memory ");
+    }
+    (lines, wants)
+}
+
+/// The file is run and reported with nothing stopped by want of memory, and the report is lawful.
+pub(crate) fn runs_whole(
+    rt: &(impl Abort + Eprint + Threads + Wait + Sync),
+    alloc: Global,
+    parts: &[Part],
+    wanted: &Wanted,
+) {
+    let Ok(file) = text_of(alloc, parts) else {
+        panic!(rt; "no text")
+    };
+    let file = file.as_bytes();
+    let Some(report) = report_of(rt, alloc, file, wanted.workers, wanted.checkpoint) else {
+        panic!(rt; "no report")
+    };
+    let (lines, wants) = lines_of(report.as_slice());
+    assert_eq!(rt; lines, wanted.lines);
+    assert!(rt; !wants);
+    assert!(rt; report.as_slice().ends_with(wanted.end.as_bytes()));
+    assert!(rt; check(alloc, file, report.as_slice()) == Ok(Verdict::Good));
+}
