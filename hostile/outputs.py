@@ -33,7 +33,7 @@ def try_outputs(trials, program):
         ok = ended.status == wanted[0] and (wanted[1] is None or ended.err == wanted[1]) and ended.out in (b"", b"base 0\n")
         trials.tell(f"{by} {what} {redirect}".rstrip(), [] if ok else [shown(ended)], f"status {wanted[0]}")
 
-    for words in (["run", file], ["check", file, report], ["world", file, schedule], ["--help"], ["run", "--help"], ["--version"]):
+    for words in (["run", file], ["check", file, report], ["world", file, schedule], ["explore", file], ["--help"], ["run", "--help"], ["--version"]):
         for redirect in (FULL, CLOSED):
             expect(" ".join(words), words, UNWRITTEN, redirect)
     expect("run many, read to its first line", ["run", many], (4, None), after='2>said | head -n 1; test "$(cat said)" = "stm: cannot write" && exit 4')
@@ -45,6 +45,7 @@ def try_outputs(trials, program):
         expect(f"run, {what}", ["run", path], UNREAD)
         expect(f"check, {what}", ["check", file, path], UNREAD)
         expect(f"world, {what}", ["world", file, path], UNREAD)
+        expect(f"explore, {what}", ["explore", path], UNREAD)
     expect("run, a file with no end", ["run", "/dev/zero"], LONG)
     expect("run, a file with no end, of any bytes", ["run", "/dev/urandom"], LONG)
     expect("world, a schedule with no end", ["world", file, "/dev/zero"], (2, b"stm: schedule: F1 TooLong\n"))

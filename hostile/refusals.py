@@ -80,6 +80,9 @@ COMMAND_LINES = [
     ["run", "--help"],
     ["check", "--help"],
     ["world", "--help"],
+    ["print", "--help"],
+    ["print", "two-increments", "--from", "no-such-file"],
+    ["explore", "--help"],
     ["--version"],
     [],
     ["bogus"],
@@ -93,6 +96,8 @@ COMMAND_LINES = [
     ["run", "two-increments", "another"],
     ["check", "two-increments"],
     ["world", "two-increments"],
+    ["explore", "two-increments", "--states", "0"],
+    ["explore", "no-such-file"],
     ["run", "no-such-file"],
     ["check", "two-increments", "no-such-file"],
 ]
@@ -195,6 +200,15 @@ def try_refusals(trials, program):
     for name, (file, schedule) in SCHEDULES.items():
         words = [program, "world", trials.write("world", file), trials.write("schedule", schedule)]
         refusals.try_all(f"{by} world, {name}", words, is_beginning)
+    file, wrong = trials.write("two-increments", INCREMENTS), trials.write("wrong", "(var x 5)(var y 1)(tx t (set z 1) x)")
+    texts = [["print", file], ["print", "conditions-that-are-broken"], ["print", wrong], ["print", file, "--from", "report-0"], ["print", file, "--from", "report-1"]]
+    for words in texts:
+        refusals.try_all(" ".join([by, *words]), [program, *words], same)
+    for name in FILES:
+        file = name.replace(" ", "-")
+        refusals.try_all(f"{by} explore, {name}", [program, "explore", file, "--states", "2000"], same)
+        refusals.try_all(f"{by} explore, {name}, to an end", [program, "explore", file, "--states", "2000", "--to", "1"], same)
+        refusals.try_all(f"{by} explore, {name}, of one state", [program, "explore", file, "--states", "1"], same)
     for words in COMMAND_LINES:
         refusals.try_all(" ".join([by, *words]), [program, *words], same)
 

@@ -1,10 +1,12 @@
 # Completions of stm for bash: source this file, or put it where bash-completion looks.
 _stm() {
     local word=${COMP_WORDS[COMP_CWORD]} command=${COMP_WORDS[1]}
-    local commands="run check world help"
+    local commands="run check world explore print help"
     local options="--help"
     case $command in
     run) options="--workers --tries --checkpoint --help" ;;
+    print) options="--from --help" ;;
+    explore) options="--states --to --help" ;;
     esac
     if [ "$COMP_CWORD" -eq 1 ]; then
         COMPREPLY=($(compgen -W "$commands --help --version" -- "$word"))

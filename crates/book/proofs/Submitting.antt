@@ -1,8 +1,7 @@
 -- A task that is submitted: the listing grows by it, and the book stays lawful.
-use Rattle.std.proofs.Common.{◌≡◌, inl, inr, ℕ, ◌+◌, ◌-◌, ◌<◌, ◌≤◌, List, [], ◌∷◌, ◌++◌, length, map, replicate, get_or, Some, refl, sym, ◌∙◌, ap, subst, arith, length-append}
-use Rattle.std.specs.List.{slice_get, flat_map, All}
-use Rattle.std.proofs.lemmas.List.{append-nil, append_assoc, map-append, get_or_append_left, get_or-append-add}
-use Rattle.std.proofs.lemmas.Grind.{flat_map-append}
+use Rattle.std.proofs.Common.{◌≡◌, inl, inr, ℕ, ◌+◌, ◌-◌, ◌<◌, ◌≤◌, List, [], ◌∷◌, ◌++◌, length, get_or, Some, refl, sym, ◌∙◌, ap, subst, arith, length-append}
+use Rattle.std.specs.List.{slice_get}
+use Rattle.std.proofs.lemmas.List.{get_or_append_left, get_or-append-add}
 use Rattle.std.proofs.lemmas.Option.{slice_get_within, slice_get_read}
 use Rattle.programs.specs.declared.ast.TaskId.{TaskId}
 use Rattle.programs.specs.declared.ast.TxId.{TxId}
@@ -10,8 +9,8 @@ use Rattle.programs.specs.declared.report.Entry.{Entry}
 use Rattle.programs.specs.declared.limits.TheConstants.{MAX_TASKS}
 use Rattle.programs.specs.Meaning.{State, outcome}
 use Rattle.programs.specs.Scope.{ProgramKnown}
-use Rattle.programs.specs.Listing.{Listing, tasks, tasks_of, task_tx, task_program, program_at}
-use Rattle.programs.specs.Replay.{Snapshot, Applies, Replays, applied, opening, entered}
+use Rattle.programs.specs.Listing.{Listing, tasks, task_tx, task_program, program_at}
+use Rattle.programs.specs.Replay.{Snapshot, Replays, applied, opening}
 use Rattle.attempt.specs.Asking.{Known, ask}
 use Rattle.book.specs.declared.task.Task.{Task}
 use Rattle.book.specs.declared.task.Task.TheVariants.{Ready, Parked, Done}

@@ -128,7 +128,7 @@ impl<'a> Book<'a> {
         requires { tx.0 < length self.old.catalogue.transactions }
         ensures { Submits self.old tx result self.new }
     {
-        if self.board.spare() == 0 {
+        if self.spare() == 0 {
             return None;
         }
         self.catalogue.tx(tx);
@@ -362,6 +362,31 @@ impl<'a> Book<'a> {
             now_vars: pairs(alloc, &self.present)?,
             parked: parked(alloc, self.catalogue, &self.submitted, self.board.tasks())?,
             memory: given_up(alloc, self.catalogue, &self.submitted, self.board.tasks())?,
+        })
+    }
+
+    /// As `report`, of a book that ends with it: the report takes the journal over, where `report`
+    /// copies it.
+    pub fn into_report(self, alloc: Global) -> Result<Report, Memory>
+        ensures { IfOk result (λ r. ReportIs self.entry (told r)) }
+    {
+        let Book {
+            catalogue,
+            submitted,
+            base,
+            journal,
+            present,
+            board,
+            ..
+        } = self;
+        Ok(Report {
+            base: base.number,
+            base_vars: pairs(alloc, &base)?,
+            entries: journal,
+            now: present.number,
+            now_vars: pairs(alloc, &present)?,
+            parked: parked(alloc, catalogue, &submitted, board.tasks())?,
+            memory: given_up(alloc, catalogue, &submitted, board.tasks())?,
         })
     }
 

@@ -118,13 +118,26 @@ fn while_others_run(rt: &impl Abort, alloc: Global, book: &mut Book<'_>, catalog
     assert!(rt; !book.runs(TaskId(2), TxId(1)));
     assert!(rt; !book.runs(TaskId(3), TxId(0)));
     takes(rt, book, TaskId(1));
-    ends_on(rt, alloc, book, catalogue, TaskId(1), &[5], Finish::Committed(1));
+    ends_on(
+        rt,
+        alloc,
+        book,
+        catalogue,
+        TaskId(1),
+        &[5],
+        Finish::Committed(1),
+    );
     ends_on(rt, alloc, book, catalogue, TaskId(0), &[5], Finish::Stale);
     book.drain(alloc, 0);
     assert_eq!(rt; book.journal_len(), 3);
     let report = report_of(rt, alloc, book);
     assert_eq!(rt; report.now, 3);
-    assert_eq!(rt; report.entries[0].task, TaskId(1));
+    assert!(rt;
+        report
+            .entries
+            .first()
+            .is_some_and(|entry| entry.task == TaskId(1))
+    );
     assert!(rt; book.is_for(catalogue));
 }
 
@@ -152,7 +165,12 @@ fn while_all_are_parked(
     let report = report_of(rt, alloc, book);
     assert_eq!(rt; report.now, 4);
     assert!(rt; report.parked.is_empty());
-    assert_eq!(rt; report.entries[3].task, TaskId(3));
+    assert!(rt;
+        report
+            .entries
+            .last()
+            .is_some_and(|entry| entry.task == TaskId(3))
+    );
 }
 
 /// There is room for all tasks that there may be.

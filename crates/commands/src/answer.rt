@@ -11,7 +11,8 @@ pub enum Answer {
     /// A report was printed or found lawful, or the text of a world, or the help or the version that
     /// was asked for, was printed.
     Done,
-    /// A report was found not to be lawful, and the verdict was printed.
+    /// A report was found not to be lawful, and the verdict was printed; or more places are reached
+    /// than were asked for, and that was printed.
     Unlawful,
     /// The command line is refused, and it was said why.
     Refused,
@@ -21,7 +22,7 @@ pub enum Answer {
     Failed(RunFault),
 }
 
-/// The status to end with: 0 done, 1 the report that was checked is not lawful, 2 the file is refused, 3 the command line is refused, 4 a file
+/// The status to end with: 0 done, 1 the report that was checked is not lawful or more places are reached than were asked for, 2 the file is refused, 3 the command line is refused, 4 a file
 /// cannot be read or the output cannot be written, 5 out of memory.
 pub fn status(answer: Answer) -> u8
     ensures { result ≡ exit_status answer }

@@ -71,7 +71,7 @@ fn tell<S: Sink>(verdict: Verdict, sink: &mut S) -> Answer
 }
 
 /// What comes of a verdict that was told.
-fn answer_of(verdict: Verdict) -> Answer
+pub(crate) fn answer_of(verdict: Verdict) -> Answer
     ensures { result ≡ verdict_answer verdict }
 {
     match verdict {

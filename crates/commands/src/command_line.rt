@@ -1,5 +1,6 @@
 //! The command line.
 
+use crate::exploring_words::{Orders, explore_command, wanted_orders};
 use clap::error::ErrorKind;
 use clap::{Arg, ArgMatches, Command, Error, value_parser};
 use runner::Options;
@@ -14,6 +15,10 @@ pub enum Request<'a> {
     Check(Check<'a>),
     /// To play a schedule.
     World(Played<'a>),
+    /// To print a file.
+    Print(Print<'a>),
+    /// To see all orders of a file's tasks.
+    Explore(Orders<'a>),
 }
 
 /// A file to run.
@@ -43,10 +48,19 @@ pub struct Played<'a> {
     pub schedule: &'a str,
 }
 
+/// A file to print.
+#[derive(Drop)]
+pub struct Print<'a> {
+    /// Its path.
+    pub file: &'a str,
+    /// The path of the report whose present values the variables begin at.
+    pub report: Option<&'a str>,
+}
+
 const VERSION: &str = "0.1.0";
 
 const ABOUT: &str =
-    "Software transactional memory with retry and orElse: runs the transactions of a file, reports what they did, checks such reports, and plays schedules on the stepped world.";
+    "Software transactional memory with retry and orElse: runs the transactions of a file, reports what they did, checks such reports, plays schedules on the stepped world, sees every order of a file's tasks, and prints files in their one form.";
 
 const RUN: &str =
     "Runs the tasks of a file and prints a report: the base, the journal, the present values and versions, and the tasks that wait.";
@@ -69,6 +83,12 @@ const SCHEDULE: &str =
 const SEEN: &str =
     "Prints for each line its number and what is seen: idle, needs X, ended OUTCOME,\nloaded, stale, parked, commits N, stored, committed N, dropped, memory, checks X or\nchanged.\nThen the present number, values and versions, and each attempt with its task,\nthe number of the state that it reads, its fate, and what it has read.\n\nStatus: 0 done, 2 the file or the schedule is refused, 3 the command line is refused,\n4 a file cannot be read or the output cannot be written, 5 out of memory.";
 
+const PRINT: &str =
+    "Prints the one text of a file that says what it says: one form a line, one space between two tokens, no comments.";
+
+const PRINTED: &str =
+    "Printing what was printed changes nothing. Comments are no part of it: they are left out.\n\nWith --from each variable begins at the value that it has at the report's present, so\nthat work goes on where the report ended. The report has to be lawful for the file, else\n`bad` and the first part that fails are printed, as `stm check` does.\n\nStatus: 0 done, 1 the report is not good, 2 the file is refused, 3 the command line is\nrefused, 4 a file cannot be read or the output cannot be written, 5 out of memory.\n\nExample: stm run a.stm > a.report; stm print a.stm --from a.report > b.stm";
+
 const WORKERS: &str = "How many workers run the tasks, 1 to 16";
 
 const TRIES: &str = "After how many stale tries a task is run alone, 1 to 64";
@@ -86,7 +106,9 @@ fn command<'a>(alloc: Global) -> Result<Command<'a>, AllocError> {
         .arg_required_else_help(true)
         .subcommand(run)?
         .subcommand(check_command(alloc)?)?
-        .subcommand(world_command(alloc)?)
+        .subcommand(world_command(alloc)?)?
+        .subcommand(explore_command(alloc)?)?
+        .subcommand(print_command(alloc)?)
 }
 
 /// The command `stm run`.
@@ -104,7 +126,7 @@ fn run_command<'a>(alloc: Global) -> Result<Command<'a>, AllocError> {
 }
 
 /// The option `--NAME N` of a number in this range, ends included, with this one where it is left out.
-fn number<'a>(
+pub(crate) fn number<'a>(
     alloc: Global,
     name: &'a str,
     range: (i64, i64),
@@ -150,6 +172,22 @@ fn world_command<'a>(alloc: Global) -> Result<Command<'a>, AllocError> {
         .arg(schedule)
 }
 
+/// The command `stm print`.
+fn print_command<'a>(alloc: Global) -> Result<Command<'a>, AllocError> {
+    let file = Arg::new(alloc, "FILE")
+        .required(true)
+        .help("The path of the file to print");
+    let from = Arg::new(alloc, "from")
+        .long("from")
+        .value_name("REPORT")
+        .help("The path of a report of the file, whose present values the variables begin at");
+    Command::new(alloc, "print")
+        .about(PRINT)
+        .after_help(PRINTED)
+        .arg(file)?
+        .arg(from)
+}
+
 /// What the words ask for. An `Err` has the text to show: help or the version, where it was asked for,
 /// or what is wrong with the words.
 pub fn parse<'a>(alloc: Global, words: &'a [String]) -> Result<Request<'a>, Error> {
@@ -160,7 +198,7 @@ pub fn parse<'a>(alloc: Global, words: &'a [String]) -> Result<Request<'a>, Erro
     }
     Err(command.error(
         ErrorKind::ValueValidation,
-        "the number of workers must be 1 to 16, that of tries 1 to 64, and that of the checkpoint at most 65536",
+        "the number of workers must be 1 to 16, that of tries 1 to 64, that of the checkpoint at most 65536, and that of states 1 to 16777216",
     )?)
 }
 
@@ -174,6 +212,16 @@ fn request_of<'a>(matches: &ArgMatches<'a>) -> Option<Request<'a>> {
     if let Some(world) = matches.subcommand_matches("world") {
         if let Some(request) = world_paths(world) {
             return Some(Request::World(request));
+        }
+    }
+    if let Some(print) = matches.subcommand_matches("print") {
+        if let Some(request) = print_paths(print) {
+            return Some(Request::Print(request));
+        }
+    }
+    if let Some(words) = matches.subcommand_matches("explore") {
+        if let Some(request) = wanted_orders(words) {
+            return Some(Request::Explore(request));
         }
     }
     if let Some(run) = matches.subcommand_matches("run") {
@@ -203,4 +251,10 @@ fn world_paths<'a>(matches: &ArgMatches<'a>) -> Option<Played<'a>> {
     let file = matches.get_str("FILE")?;
     let schedule = matches.get_str("SCHEDULE")?;
     Some(Played { file, schedule })
+}
+
+fn print_paths<'a>(matches: &ArgMatches<'a>) -> Option<Print<'a>> {
+    let file = matches.get_str("FILE")?;
+    let report = matches.get_str("from");
+    Some(Print { file, report })
 }

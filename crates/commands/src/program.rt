@@ -8,7 +8,9 @@ ghost use Rattle.commands.specs.Files.{RanFile, Unread, Wordless, read_of, faile
 use crate::answer::{Answer, told};
 use crate::checking::check_files;
 use crate::command_line::{Request, parse};
+use crate::exploring::{explore_file, witness_file};
 use crate::playing::play_files;
+use crate::printing::print_files;
 use clap::error::ErrorKind;
 use runner::{OpenGate, Options, Out, RunFault, Sink, run_bytes};
 use std::alloc::Global;
@@ -50,6 +52,17 @@ fn answer<T: Threads + Wait + Sync, R: Files + Env + Print + Eprint + AllocGloba
         Ok(Request::World(request)) => {
             let mut out = Out::new(io::writer(rt));
             play_files(rt, request.file, request.schedule, &mut out)
+        }
+        Ok(Request::Print(request)) => {
+            let mut out = Out::new(io::writer(rt));
+            print_files(rt, &request, &mut out)
+        }
+        Ok(Request::Explore(request)) => {
+            let mut out = Out::new(io::writer(rt));
+            match request.to {
+                Some(end) => witness_file(rt, request.file, request.limit, end, &mut out),
+                None => explore_file(rt, request.file, request.limit, &mut out),
+            }
         }
         Err(error) => shown(rt, &error),
     }

@@ -7,8 +7,12 @@ mod checking;
 #[cfg(test)]
 mod command_line;
 #[cfg(test)]
+mod exploring;
+#[cfg(test)]
 mod host;
 #[cfg(test)]
 mod playing;
+#[cfg(test)]
+mod printing;
 #[cfg(test)]
 mod program;

@@ -1,3 +1,4 @@
 pub mod FoundText
 pub mod Showing
 pub mod Bounds
+pub mod Witness

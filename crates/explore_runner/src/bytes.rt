@@ -63,7 +63,7 @@ fn shown(alloc: Global, file: &[u8], limit: u32) -> Result<(Sight, String), RunF
 }
 
 /// The catalogue that the bytes spell.
-fn catalogue_of(alloc: Global, file: &[u8]) -> Result<Catalogue, RunFault>
+pub(crate) fn catalogue_of(alloc: Global, file: &[u8]) -> Result<Catalogue, RunFault>
     ensures spelled { IfOk result (λ catalogue. Spells file.now catalogue) }
     ensures refused { IfErr result (IsRefused file.now) }
 {

@@ -8,3 +8,14 @@ pub enum Sight {
     /// More places are reached than were asked for, so nothing is said of them.
     More,
 }
+
+/// What came of asking for a report that comes to an end.
+#[derive(Clone, Copy, Debug, PartialEq, Eq)]
+pub enum Witnessed {
+    /// There is one.
+    Report,
+    /// There is no end of that number.
+    NoEnd,
+    /// More places are reached than were asked for, so nothing is said of them.
+    Beyond,
+}

@@ -1,7 +1,9 @@
-//! Tests of the public calls of `explore` and of `explore_reports`.
+//! Tests of the public calls of `explore`, of `explore_reports` and of `explore_runner`.
 #![tactic(auto)]
 
 #[cfg(test)]
 mod orders;
 #[cfg(test)]
 mod reports;
+#[cfg(test)]
+mod texts;

@@ -55,7 +55,8 @@ fn is_good(alloc: Global, file: &str, report: &str) -> bool {
 #[test]
 fn the_report_of_the_way_to_an_end_is_good(rt: HostRuntime) {
     let alloc = rt.alloc();
-    let taken = "base 0\nx 0 0\nentry 1 2 put returned 0\nentry 2 0 take returned 0\nnow 2\nx 0 2\nparked 1 take\nend\n";
+    let taken =
+        "base 0\nx 0 0\nentry 1 2 put returned 0\nentry 2 0 take returned 0\nnow 2\nx 0 2\nparked 1 take\nend\n";
     let waited = "base 0\nnow 0\nparked 0 t\nparked 1 t\nparked 2 t\nend\n";
     for (file, wanted) in [
         (TAKERS, taken),

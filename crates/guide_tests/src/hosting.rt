@@ -5,7 +5,7 @@ ghost use Rattle.std.specs.Prelude.{◌≡◌};
 use book::{Finish, Serial};
 use embedded::{Brought, Program, Store, Tried, Worker};
 use observer::Observed;
-use txn::{Outcome, TaskId, TxId};
+use txn::{Outcome, TxId};
 use txn_text::ReadFault;
 
 /// One task: a try with no lock, and its end under the host's lock.
@@ -38,6 +38,9 @@ fn a_store_is_worked_on(rt: HostRuntime) {
     assert!(rt; step(&mut store, &mut worker) == Some(Brought::Finished(Finish::Committed(1))));
     assert!(rt; step(&mut store, &mut worker) == Some(Brought::Finished(Finish::Parked)));
     assert!(rt; step(&mut store, &mut worker).is_none());
+    if worker.catalogue().tx_count() == 0 {
+        panic!(rt; "no transaction");
+    }
     assert!(rt; worker.observe(TxId(0)) == Observed::Outcome(Outcome::Returned(7)));
     match store.report() {
         Ok(text) => assert!(rt;
@@ -59,10 +62,12 @@ fn a_host_meets_the_limits(rt: HostRuntime) {
         panic!(rt; "no store");
     };
     assert!(rt; store.worker().is_none());
-    assert!(rt; store.serial(TaskId(0)) == Serial::NotRunning);
-    assert!(rt; !store.give_up(TaskId(0)));
-    assert!(rt; store.take() == Some(TaskId(0)));
-    assert!(rt; store.give_up(TaskId(0)));
+    let Some(task) = store.take() else {
+        panic!(rt; "no task");
+    };
+    assert!(rt; store.give_up(task));
+    assert!(rt; !store.give_up(task));
+    assert!(rt; store.serial(task) == Serial::NotRunning);
     store.checkpoint();
     match store.report() {
         Ok(text) => assert!(rt;

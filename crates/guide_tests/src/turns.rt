@@ -3,7 +3,7 @@
 use book::{Book, Serial};
 use cells::Cells;
 use std::alloc::Global;
-use txn::{Catalogue, Memory, Report};
+use txn::{Catalogue, Memory, Report, TxId};
 use txn_text::read_file;
 
 /// Each task has one turn, in order; then the report.
@@ -24,6 +24,20 @@ fn each_in_turn(alloc: Global, catalogue: &Catalogue) -> Result<Report, Memory> 
     book.report(alloc)
 }
 
+/// All tasks have their turns, and then one task more of the transaction, which may wake others.
+/// `None` where there is no such transaction, or there are as many tasks as there may be.
+fn and_one_more(alloc: Global, catalogue: &Catalogue, tx: TxId) -> Result<Option<Report>, Memory> {
+    if catalogue.tasks() == 65536 || tx.0 as usize >= catalogue.tx_count() {
+        return Ok(None);
+    }
+    let (cells, publisher, _passes) = Cells::open(alloc, catalogue.initial(), 0)?;
+    let mut book = Book::open_with_room(alloc, catalogue, &cells, publisher, 1)?;
+    book.drain(alloc, 0);
+    let _task = book.submit(tx);
+    book.drain(alloc, 0);
+    Ok(Some(book.into_report(alloc)?))
+}
+
 #[test]
 fn who_waits_is_parked(rt: HostRuntime) {
     let file =
@@ -38,5 +52,22 @@ fn who_waits_is_parked(rt: HostRuntime) {
             assert_eq!(rt; report.parked.len(), 1);
         }
         Err(_) => panic!(rt; "no memory"),
+    }
+}
+
+#[test]
+fn who_waits_is_woken_by_a_submitted_task(rt: HostRuntime) {
+    let file =
+        "(var full 0)(tx get (if (eq full 0) (retry) (set full 0)) 0)(tx put (set full 1) 0)(run get 2)(run put 1)";
+    let alloc = rt.alloc();
+    let Ok(catalogue) = read_file(alloc, file.as_bytes()) else {
+        panic!(rt; "no catalogue");
+    };
+    match and_one_more(alloc, &catalogue, TxId(1)) {
+        Ok(Some(report)) => {
+            assert_eq!(rt; report.now, 4);
+            assert!(rt; report.parked.is_empty());
+        }
+        _ => panic!(rt; "no report"),
     }
 }

@@ -1,9 +1,12 @@
 //! Tests of the public calls of `world_runner`: what is printed of schedules, refusals,
-//! and writers that fail; and of those of `sink`, by writers of its own.
+//! and writers that fail; of those of `sink`, by writers of its own; and of those of
+//! `file_rewriter`.
 #![tactic(auto)]
 
 #[cfg(test)]
 mod parts;
+#[cfg(test)]
+mod printed;
 #[cfg(test)]
 mod refusals;
 #[cfg(test)]

@@ -1,8 +1,7 @@
-use Rattle.std.proofs.Common.{◌≡◌, ◌<◌, ◌-◌, ℕ, length, sym, ◌∙◌, ap, subst, arith}
-use Rattle.std.specs.List.{slice_get}
+use Rattle.std.proofs.Common.{◌<◌, ◌-◌, length, sym, subst, arith}
 use Rattle.std.proofs.lemmas.Option.{get_or_from_slice_get}
 use Rattle.programs.specs.declared.ast.TxId.{TxId}
-use Rattle.programs.specs.Listing.{tasks, task_tx}
+use Rattle.programs.specs.Listing.{tasks}
 use Rattle.txn.specs.Grown.{grown}
 use Rattle.book.proofs.Submitting.{grown_own, new_within, new_own}
 use Rattle.book.proofs.whose.transaction_of.Goals as goal

@@ -1,4 +1,4 @@
-use Rattle.std.proofs.Common.{◌≡◌, ◌<◌, ◌-◌, ℕ, suc, true, length, slice_set, sym, ◌∙◌, ap, arith, length-append, [], ◌∷◌}
+use Rattle.std.proofs.Common.{◌≡◌, ◌<◌, ◌-◌, ℕ, suc, true, length, slice_set, ◌∙◌, ap, arith, length-append, [], ◌∷◌}
 use Rattle.book.specs.declared.task.Task.TheVariants.{Ready}
 use Rattle.book.specs.Board.{BoardView}
 use Rattle.book.proofs.Sets.{placed_more}

@@ -1,10 +1,9 @@
-use Rattle.std.proofs.Common.{◌≡◌, List, Some, refl, sym, ◌∙◌, ap, subst, arith, length}
+use Rattle.std.proofs.Common.{◌≡◌, Some, refl, ◌∙◌, ap, arith, length}
 use Rattle.std.specs.List.{slice_get}
 use Rattle.std.proofs.lemmas.List.{length-set}
-use Rattle.book.specs.declared.task.Task.{Task}
 use Rattle.book.specs.declared.task.Task.TheVariants.{Ready, Running}
 use Rattle.book.specs.Board.{BoardView}
-use Rattle.book.specs.BoardInside.{places, AreSets}
+use Rattle.book.specs.BoardInside.{places}
 use Rattle.book.proofs.Sets.{sets_ready, placed_stand, at_place}
 use Rattle.book.proofs.board.Board.make_ready.Goals as goal
 

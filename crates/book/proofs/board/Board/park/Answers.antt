@@ -1,4 +1,4 @@
-use Rattle.std.proofs.Common.{◌≡◌, ◌<◌, ℕ, Bool, true, List, [], Some, length, set, get_or, refl, sym, ◌∙◌, ap, subst, arith}
+use Rattle.std.proofs.Common.{◌≡◌, ◌<◌, ℕ, true, List, [], Some, length, set, get_or, refl, sym, ◌∙◌, ap, subst, arith}
 use Rattle.std.specs.List.{slice_get}
 use Rattle.std.proofs.lemmas.List.{length-set}
 use Rattle.std.proofs.lemmas.Option.{same_Some, slice_get_within, slice_get_read}
@@ -7,7 +7,7 @@ use Rattle.attempt.specs.Order.{AllKnown}
 use Rattle.book.specs.declared.task.Task.{Task}
 use Rattle.book.specs.declared.task.Task.TheVariants.{Running, Parked}
 use Rattle.book.specs.Board.{BoardView, flagged}
-use Rattle.book.specs.BoardInside.{places, AreSets}
+use Rattle.book.specs.BoardInside.{places}
 use Rattle.book.proofs.Lists.{get_set_same}
 use Rattle.book.proofs.Sets.{sets_park, placed_stand, at_place}
 use Rattle.book.proofs.board.Board.park.Goals as goal

@@ -1,12 +1,11 @@
-use Rattle.std.proofs.Common.{◌≡◌, ℕ, Bool, true, false, List, [], Some, length, get_or, set, refl, sym, ◌∙◌, ap, subst, arith}
+use Rattle.std.proofs.Common.{◌≡◌, false, [], Some, length, get_or, refl, ◌∙◌, ap, arith}
 use Rattle.std.specs.List.{slice_get}
 use Rattle.std.proofs.lemmas.List.{length-set}
 use Rattle.std.proofs.lemmas.Option.{slice_get_within, slice_get_read}
 use Rattle.attempt.specs.Asking.{Known}
-use Rattle.book.specs.declared.task.Task.{Task}
 use Rattle.book.specs.declared.task.Task.TheVariants.{Ready, Parked}
 use Rattle.book.specs.Board.{BoardView, flagged}
-use Rattle.book.specs.BoardInside.{places, AreSets}
+use Rattle.book.specs.BoardInside.{places}
 use Rattle.book.proofs.Sets.{sets_rouse, placed_stand, at_place}
 use Rattle.book.proofs.board.Board.rouse.Goals as goal
 

@@ -1,15 +1,14 @@
-use Rattle.std.proofs.Common.{◌≡◌, ℕ, true, List, Option, Some, length, refl, sym, ◌∙◌, ap, subst, arith}
+use Rattle.std.proofs.Common.{◌≡◌, ℕ, true, Option, Some, length, refl, sym, ◌∙◌, ap, subst, arith}
 use Rattle.std.specs.List.{slice_get}
 use Rattle.std.proofs.lemmas.List.{length-set}
 use Rattle.book.specs.declared.board.Board.TheInside.{Inside}
 use Rattle.std.proofs.lemmas.Option.{slice_get_within}
 use Rattle.programs.specs.declared.ast.TaskId.{TaskId}
 use Rattle.task_set.specs.Members.{HasNone}
-use Rattle.book.specs.declared.task.Task.{Task}
 use Rattle.book.specs.declared.task.Task.TheVariants.{Ready, Running}
 use Rattle.book.specs.Board.{BoardView, IsTaken, placed, with_tasks}
-use Rattle.book.specs.BoardInside.{places, IsSorted, AreSets, board_of}
-use Rattle.book.proofs.Sets.{placed_stand, at_place, from_place, sets_ready, ready_in, in_ready, board_is}
+use Rattle.book.specs.BoardInside.{places, IsSorted, board_of}
+use Rattle.book.proofs.Sets.{placed_stand, at_place, from_place, sets_ready, ready_in, in_ready}
 use Rattle.book.proofs.board.Board.take.Goals as goal
 
 -- what is in the set of the ready tasks is a ready task

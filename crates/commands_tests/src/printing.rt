@@ -1,0 +1,42 @@
+//! Each status of `stm print`.
+
+use crate::host::Host;
+use crate::program::ends;
+
+const PRINT: &[&[u8]] = &[b"stm", b"print", b"a.stm"];
+
+const FROM: &[&[u8]] = &[b"stm", b"print", b"a.stm", b"--from", b"a.report"];
+
+const INCREMENT: &[u8] = b"(var x 5)(tx inc (set x (add x 1)) x)(run inc 2)";
+
+const REPORT: &[u8] =
+    b"base 0\nx 5 0\nentry 1 0 inc returned 6\nentry 2 1 inc returned 7\nnow 2\nx 7 2\nend\n";
+
+#[test]
+fn a_file_is_printed(rt: HostRuntime) {
+    let host = Host::new(rt.alloc(), PRINT, INCREMENT);
+    ends(&rt, &host, 0, 1, Some(""));
+    assert!(rt; host.taken.get() == INCREMENT.len() + 3);
+}
+
+#[test]
+fn a_file_is_printed_from_a_report(rt: HostRuntime) {
+    let mut host = Host::new(rt.alloc(), FROM, INCREMENT);
+    host.report = REPORT;
+    ends(&rt, &host, 0, 1, Some(""));
+    assert!(rt; host.taken.get() == INCREMENT.len() + 3);
+}
+
+#[test]
+fn an_unlawful_report_is_1(rt: HostRuntime) {
+    let mut host = Host::new(rt.alloc(), FROM, INCREMENT);
+    host.report = &REPORT[1..];
+    ends(&rt, &host, 1, 1, Some(""));
+    assert!(rt; host.taken.get() == b"bad 1\n".len());
+}
+
+#[test]
+fn a_refused_file_is_2(rt: HostRuntime) {
+    let host = Host::new(rt.alloc(), PRINT, b"(var x");
+    ends(&rt, &host, 2, 0, Some("stm: file: F3 Shape\n"));
+}

@@ -1,0 +1,87 @@
+//! From the bytes of a file to the bytes of a report that comes to one of its ends.
+
+ghost use Rattle.std.specs.Prelude.{◌≡◌, ◌+◌, ◌<◌, ◌≤◌, ◌^◌, true, IfOk, OnOk, IfErr, string_bytes};
+ghost use Rattle.runner.specs.Running.{output_failures};
+ghost use Rattle.explore_law.specs.Orders.{Place, Leads, first_place};
+ghost use Rattle.explore_reports.specs.Ends.{LeadsToEnd};
+ghost use Rattle.explore_runner.specs.Showing.{IsRefused};
+ghost use Rattle.explore_runner.specs.Witness.{Answered, IsAnswer, IsReportTo};
+
+use crate::bytes::catalogue_of;
+use crate::limit::Limit;
+use crate::printer::print_more;
+use crate::sight::Witnessed;
+use explore::{MAX_STATES, Unexplored, way_to_end};
+use explore_reports::laws::ways_lead_to_ends;
+use explore_reports::witness;
+use report_printer::print_report;
+use runner::RunFault;
+use sink::{Sink, put_all};
+use std::alloc::Global;
+use txn::{Catalogue, Memory, TxId};
+
+/// Writes to the sink a report of a run of the file that the bytes spell: one that comes to the end
+/// of this number, counted from 0, of those that are found when all orders are seen, by as few turns
+/// as any order has to it. At most as many places are looked at as the limit says.
+///
+/// `Report`: exactly the text of one such report was written, and then flushed. `NoEnd`: there are
+/// no more than so many ends; nothing was written. `Beyond`: the line was written that says that
+/// more places are reached. `Input`: the bytes spell no file, and this is the first kind of fault
+/// that they have; nothing was written. `Memory`: a growth was refused; nothing was written.
+/// `Output`: a call of the sink failed, the only one, and a beginning of one such text was written.
+pub fn witness_bytes<S: Sink>(
+    alloc: Global,
+    file: &[u8],
+    limit: Limit,
+    end: usize,
+    sink: &mut S,
+) -> Result<Witnessed, RunFault>
+    requires { S.failed sink.old < 2 ^ 63 }
+    ensures answered { Answered file.now limit end (S.bytes sink.old) (S.bytes sink.new) result }
+    ensures flushed { OnOk result (S.flushed sink.new ≡ true) }
+    ensures failures { S.failed sink.new ≡ S.failed sink.old + output_failures result }
+{
+    match answer_of(alloc, file, limit.states(), end) {
+        Ok((answer, text)) => match put_all(sink, text.as_bytes()) {
+            Ok(()) => Ok(answer),
+            Err(_) => Err(RunFault::Output),
+        },
+        Err(fault) => Err(fault),
+    }
+}
+
+/// The text of a report that comes to the end of this number, if there is one.
+fn answer_of(
+    alloc: Global,
+    file: &[u8],
+    limit: u32,
+    end: usize,
+) -> Result<(Witnessed, String), RunFault>
+    requires { limit ≤ MAX_STATES }
+    ensures shown { IfOk result (λ s. IsAnswer file.now limit end s.0 (string_bytes s.1)) }
+    ensures refused { IfErr result (IsRefused file.now) }
+{
+    let catalogue = catalogue_of(alloc, file)?;
+    ways_lead_to_ends(&catalogue);
+    match way_to_end(alloc, &catalogue, limit, end) {
+        Ok(Some(way)) => match report_of(alloc, &catalogue, way.as_slice()) {
+            Ok(text) => Ok((Witnessed::Report, text)),
+            Err(_) => Err(RunFault::Memory),
+        },
+        Ok(None) => Ok((Witnessed::NoEnd, String::new(alloc))),
+        Err(Unexplored::More) => match print_more(alloc, limit) {
+            Ok(text) => Ok((Witnessed::Beyond, text)),
+            Err(_) => Err(RunFault::Memory),
+        },
+        Err(Unexplored::Memory) => Err(RunFault::Memory),
+    }
+}
+
+/// The text of the report of a run that takes these turns, which have to lead to an end.
+fn report_of(alloc: Global, catalogue: &Catalogue, turns: &[TxId]) -> Result<String, Memory>
+    requires { LeadsToEnd catalogue.now turns.now }
+    ensures { IfOk result (λ text. (p : Place) → Leads catalogue.now (first_place catalogue.now) turns.now p → IsReportTo catalogue.now turns.now p (string_bytes text)) }
+{
+    let report = witness(alloc, catalogue, turns)?;
+    print_report(alloc, catalogue, &report)
+}
