@@ -120,6 +120,17 @@ fn an_attempt_with_nothing_read_moves(rt: HostRuntime) {
     expect_text(&rt, rt.alloc(), PAIR, schedule, wanted);
 }
 
+/// How many lines the text has.
+fn newlines(text: &[u8]) -> usize {
+    let mut count: usize = 0;
+    for byte in text {
+        if *byte == b'\n' {
+            count = count.saturating_add(1);
+        }
+    }
+    count
+}
+
 /// How many lines a schedule of this line, so often, shows, and whether it ends well.
 fn lines_of(alloc: Global, line: &str, count: usize) -> Option<usize> {
     let schedule = match line.repeat(alloc, count) {
@@ -130,7 +141,7 @@ fn lines_of(alloc: Global, line: &str, count: usize) -> Option<usize> {
     if fault.is_some() {
         return None;
     }
-    Some(seen.iter().filter(|byte| **byte == b'\n').count())
+    Some(newlines(&seen))
 }
 
 /// A million bytes of it.
