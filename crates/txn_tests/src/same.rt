@@ -50,24 +50,17 @@ fn runs_alone_may_differ(rt: HostRuntime) {
 const WHOLE: &str =
     "(stm 2)(var x 5)(var y -1)(always low (le x (add y 9)))(tx t (if (and (lt x 7) (not (eq y 0))) (orelse (seq (set x (mul x 2)) (retry)) (throw (div x 3))) (repeat 4 (set y (rem y 2)))) (sub x y))(tx u (skip) 1)(run t 2)";
 
-/// Whether the catalogue of the text, grown by these, is the one of the other text.
-fn grows_to(alloc: Global, text: &str, more: &[TxId], other: &str) -> Option<bool> {
-    let catalogue = catalogue(alloc, text)?;
-    let other = crate::parts::catalogue(alloc, other)?;
-    is_grown(alloc, &catalogue, more, &other)
-}
+/// The same with two runs more.
+const LONGER: &str =
+    "(stm 2)(var x 5)(var y -1)(always low (le x (add y 9)))(tx t (if (and (lt x 7) (not (eq y 0))) (orelse (seq (set x (mul x 2)) (retry)) (throw (div x 3))) (repeat 4 (set y (rem y 2)))) (sub x y))(tx u (skip) 1)(run t 2)(run u 1)(run t 1)";
 
-fn is_grown(
-    alloc: Global,
-    catalogue: &Catalogue,
-    more: &[TxId],
-    other: &Catalogue,
-) -> Option<bool> {
-    let known = more.iter().all(|tx| (tx.0 as usize) < catalogue.tx_count());
-    if !known || more.len() > 65536 - catalogue.tasks() {
+/// Whether the catalogue, grown by a task of the second transaction and one of the first, is the other
+/// one.
+fn is_grown_by_two(alloc: Global, catalogue: &Catalogue, other: &Catalogue) -> Option<bool> {
+    if catalogue.tx_count() < 2 || catalogue.tasks() > 65534 {
         return None;
     }
-    match catalogue.grown(alloc, more) {
+    match catalogue.grown(alloc, &[TxId(1), TxId(0)]) {
         Ok(grown) => Some(grown.same(other)),
         Err(_) => None,
     }
@@ -75,19 +68,31 @@ fn is_grown(
 
 #[test]
 fn a_grown_catalogue_has_the_new_runs_at_its_end(rt: HostRuntime) {
-    let alloc = rt.alloc();
-    let Ok(text) = format!(in alloc; "{WHOLE}(run u 1)(run t 1)") else {
-        return;
+    let Some(whole) = catalogue(rt.alloc(), WHOLE) else {
+        panic!(rt; "no catalogue")
     };
-    let more = [TxId(1), TxId(0)];
-    assert!(rt; grows_to(alloc, WHOLE, &more, text.as_str()) == Some(true));
-    assert!(rt; grows_to(alloc, WHOLE, &more, WHOLE) == Some(false));
-    assert!(rt; grows_to(alloc, WHOLE, &[], WHOLE) == Some(true));
+    let Some(longer) = catalogue(rt.alloc(), LONGER) else {
+        panic!(rt; "no catalogue")
+    };
+    assert!(rt; is_grown_by_two(rt.alloc(), &whole, &longer) == Some(true));
+    assert!(rt; is_grown_by_two(rt.alloc(), &whole, &whole) == Some(false));
+}
+
+/// Whether the catalogue, grown by a task of the first transaction, has so many tasks.
+fn is_grown_to(alloc: Global, catalogue: &Catalogue, count: usize) -> Option<bool> {
+    if catalogue.tx_count() < 1 || catalogue.tasks() > 65535 {
+        return None;
+    }
+    match catalogue.grown(alloc, &[TxId(0)]) {
+        Ok(grown) => Some(grown.tasks() == count),
+        Err(_) => None,
+    }
 }
 
 #[test]
 fn a_catalogue_grows_to_the_limit(rt: HostRuntime) {
-    let full = "(tx t (skip) 0)(run t 65535)";
-    let text = "(tx t (skip) 0)(run t 65535)(run t 1)";
-    assert!(rt; grows_to(rt.alloc(), full, &[TxId(0)], text) == Some(true));
+    let Some(full) = catalogue(rt.alloc(), "(tx t (skip) 0)(run t 65535)") else {
+        panic!(rt; "no catalogue")
+    };
+    assert!(rt; is_grown_to(rt.alloc(), &full, 65536) == Some(true));
 }
