@@ -2,7 +2,7 @@
 use Rattle.std.specs.Prelude.{◌≡◌, ℕ, List, take, Option}
 use Rattle.std.specs.Io.KnownBytes.{Appends, Keeps}
 use Rattle.txn_text.specs.Faults.{IsFirst}
-use Rattle.runner.specs.declared.fault.RunFault.TheVariants.{Input, Memory, Output, Schedule}
+use Rattle.run_faults.specs.declared.fault.RunFault.TheVariants.{Input, Memory, Output, Schedule}
 use Rattle.checker.specs.declared.verdict.Verdict.{Verdict}
 use Rattle.checker.specs.declared.verdict.Verdict.TheVariants.{Good, Bad}
 use Rattle.checker.specs.Lines.{line_of}

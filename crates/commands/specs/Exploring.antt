@@ -7,7 +7,7 @@ use Rattle.explore_runner.specs.declared.sight.Sight.{Sight}
 use Rattle.explore_runner.specs.declared.sight.Sight.TheVariants as sight
 use Rattle.explore_runner.specs.declared.sight.Witnessed.{Witnessed}
 use Rattle.explore_runner.specs.declared.sight.Witnessed.TheVariants.{Report, NoEnd, Beyond}
-use Rattle.runner.specs.declared.fault.RunFault.{RunFault}
+use Rattle.run_faults.specs.declared.fault.RunFault.{RunFault}
 use Rattle.commands.specs.declared.answer.Answer.{Answer}
 use Rattle.commands.specs.declared.answer.Answer.TheVariants.{Done, Unlawful, Refused, Unreadable, Failed}
 

@@ -1,9 +1,10 @@
 -- What of a file is read, what a run of a file leaves, and what an error is answered with.
 use Rattle.std.specs.Prelude.{◌≡◌, ◌≢◌, ◌⊎◌, ℕ, List, take, Option, Result, Ok, Err}
 use Rattle.std.specs.Io.KnownBytes.{Keeps}
-use Rattle.runner.specs.Running.{Ran, output_failures}
-use Rattle.runner.specs.declared.fault.RunFault.{RunFault}
-use Rattle.runner.specs.declared.fault.RunFault.TheVariants.{Memory}
+use Rattle.run_faults.specs.Failures.{output_failures}
+use Rattle.runner.specs.Running.{Ran}
+use Rattle.run_faults.specs.declared.fault.RunFault.{RunFault}
+use Rattle.run_faults.specs.declared.fault.RunFault.TheVariants.{Memory}
 use Rattle.std.specs.declared.io.ErrorKind.{ErrorKind}
 use Rattle.std.specs.declared.io.ErrorKind.TheVariants.{OutOfMemory}
 use Rattle.commands.specs.declared.answer.Answer.{Answer}

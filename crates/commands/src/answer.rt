@@ -3,7 +3,7 @@
 ghost use Rattle.std.specs.Prelude.{◌≡◌};
 ghost use Rattle.commands.specs.Statuses.{exit_status};
 
-use runner::RunFault;
+use run_faults::RunFault;
 
 /// What came of the command line.
 #[derive(Clone, Copy, Debug, PartialEq, Eq)]

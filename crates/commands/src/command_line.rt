@@ -3,7 +3,7 @@
 use crate::exploring_words::{Orders, explore_command, wanted_orders};
 use clap::error::ErrorKind;
 use clap::{Arg, ArgMatches, Command, Error, value_parser};
-use runner::Options;
+use options::Options;
 use std::alloc::{AllocError, Global};
 
 /// What the command line asks for.

@@ -7,7 +7,7 @@ ghost use Rattle.commands.specs.Exploring.{ExploredFile, WitnessedFile};
 use crate::answer::Answer;
 use crate::program::{contents, unread};
 use explore_runner::{Limit, Sight, Witnessed, explore_bytes, witness_bytes};
-use runner::Sink;
+use sink::Sink;
 use std::rt::Files;
 
 /// Sees every order of a file's tasks, and writes what is found to the sink.

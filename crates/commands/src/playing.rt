@@ -6,8 +6,8 @@ ghost use Rattle.commands.specs.Playing.{PlayedFiles, schedule_of};
 
 use crate::answer::Answer;
 use crate::program::{contents, unread};
-use runner::Sink;
 use schedule_reader::MAX_SCHEDULE;
+use sink::Sink;
 use std::alloc::Global;
 use std::io::Read;
 use std::rt::Files;

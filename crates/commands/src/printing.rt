@@ -10,7 +10,7 @@ use crate::checking::{answer_of, report_contents};
 use crate::command_line::Print;
 use crate::program::{contents, unread};
 use file_rewriter::{print_bytes, print_on_bytes};
-use runner::Sink;
+use sink::Sink;
 use std::rt::Files;
 
 /// Prints what the command line asks for.

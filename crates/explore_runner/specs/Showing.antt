@@ -3,8 +3,8 @@ use Rattle.std.specs.Prelude.{◌≡◌, ℕ, List, take, Option, Some, Result, 
 use Rattle.std.specs.Io.KnownBytes.{Appends, Keeps}
 use Rattle.programs.specs.Listing.{Listing}
 use Rattle.txn_text.specs.Spelling.{Spells, first_fault}
-use Rattle.runner.specs.declared.fault.RunFault.{RunFault}
-use Rattle.runner.specs.declared.fault.RunFault.TheVariants.{Input, Memory, Output, Schedule}
+use Rattle.run_faults.specs.declared.fault.RunFault.{RunFault}
+use Rattle.run_faults.specs.declared.fault.RunFault.TheVariants.{Input, Memory, Output, Schedule}
 use Rattle.explore_law.specs.declared.found.Found.{Found}
 use Rattle.explore_law.specs.Explored.{Explored, ReachesMore}
 use Rattle.explore_runner.specs.FoundText.{found_text, more_text}

@@ -6,8 +6,8 @@ use Rattle.programs.specs.Listing.{Listing}
 use Rattle.programs.specs.Told.{Told}
 use Rattle.report_printer.specs.ReportText.{report_text}
 use Rattle.txn_text.specs.Spelling.{Spells, first_fault}
-use Rattle.runner.specs.declared.fault.RunFault.{RunFault}
-use Rattle.runner.specs.declared.fault.RunFault.TheVariants.{Input, Memory, Output, Schedule}
+use Rattle.run_faults.specs.declared.fault.RunFault.{RunFault}
+use Rattle.run_faults.specs.declared.fault.RunFault.TheVariants.{Input, Memory, Output, Schedule}
 use Rattle.explore_law.specs.declared.found.Found.{Found}
 use Rattle.explore_law.specs.Orders.{Place}
 use Rattle.explore_law.specs.Explored.{Explored, ReachesMore, end_place}

@@ -1,14 +1,14 @@
 //! From the bytes of a file to the bytes of what is found of all orders of its tasks.
 
 ghost use Rattle.std.specs.Prelude.{◌≡◌, ◌+◌, ◌<◌, ◌≤◌, ◌^◌, true, IfOk, OnOk, IfErr, string_bytes};
-ghost use Rattle.runner.specs.Running.{output_failures};
+ghost use Rattle.run_faults.specs.Failures.{output_failures};
 ghost use Rattle.explore_runner.specs.Showing.{IsShown, IsRefused, Showed};
 
 use crate::limit::Limit;
 use crate::printer::{print_found, print_more};
 use crate::sight::Sight;
 use explore::{MAX_STATES, Unexplored, explore};
-use runner::RunFault;
+use run_faults::RunFault;
 use sink::{Sink, put_all};
 use std::alloc::Global;
 use txn::Catalogue;

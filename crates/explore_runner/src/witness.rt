@@ -1,7 +1,7 @@
 //! From the bytes of a file to the bytes of a report that comes to one of its ends.
 
 ghost use Rattle.std.specs.Prelude.{◌≡◌, ◌+◌, ◌<◌, ◌≤◌, ◌^◌, true, IfOk, OnOk, IfErr, string_bytes};
-ghost use Rattle.runner.specs.Running.{output_failures};
+ghost use Rattle.run_faults.specs.Failures.{output_failures};
 ghost use Rattle.explore_law.specs.Orders.{Place, Leads, first_place};
 ghost use Rattle.explore_reports.specs.Ends.{LeadsToEnd};
 ghost use Rattle.explore_runner.specs.Showing.{IsRefused};
@@ -15,7 +15,7 @@ use explore::{MAX_STATES, Unexplored, way_to_end};
 use explore_reports::laws::ways_lead_to_ends;
 use explore_reports::witness;
 use report_printer::print_report;
-use runner::RunFault;
+use run_faults::RunFault;
 use sink::{Sink, put_all};
 use std::alloc::Global;
 use txn::{Catalogue, Memory, TxId};

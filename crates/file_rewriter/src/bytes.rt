@@ -5,14 +5,14 @@ ghost use Rattle.programs.specs.Told.{told};
 ghost use Rattle.programs.specs.LawfulReport.{LawfulReport};
 ghost use Rattle.txn_text.specs.Spelling.{Spells};
 ghost use Rattle.file_rewriter.specs.GoingOn.{going_on};
-ghost use Rattle.runner.specs.Running.{output_failures};
+ghost use Rattle.run_faults.specs.Failures.{output_failures};
 ghost use Rattle.checker.specs.declared.verdict.Verdict.{Verdict as VerdictOf};
 ghost use Rattle.file_rewriter.specs.Printing.{IsAnswer, IsPrinted, IsTextOf, IsRefused, Printed, PrintedOn};
 
 use crate::judge::{Judgement, judged};
 use crate::next::going_on;
 use checker::Verdict;
-use runner::RunFault;
+use run_faults::RunFault;
 use sink::{Sink, put_all};
 use std::alloc::Global;
 use txn::{Catalogue, Memory, Report};

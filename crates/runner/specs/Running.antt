@@ -7,8 +7,8 @@ use Rattle.programs.specs.LawfulReport.{LawfulReport, BaseReached}
 use Rattle.txn_text.specs.Spelling.{Spells, first_fault}
 use Rattle.txn_text.specs.ReportText.{report_text}
 use Rattle.txn_text.specs.ReportFits.{ReportFits}
-use Rattle.runner.specs.declared.fault.RunFault.{RunFault}
-use Rattle.runner.specs.declared.fault.RunFault.TheVariants.{Input, Memory, Output, Schedule}
+use Rattle.run_faults.specs.declared.fault.RunFault.{RunFault}
+use Rattle.run_faults.specs.declared.fault.RunFault.TheVariants.{Input, Memory, Output, Schedule}
 
 -- the text is that of one lawful report of exactly the file that the input spells, whose values are of 64 signed bits
 pub record IsReportOf (input text : List ℕ) : Type 0 where
@@ -41,14 +41,6 @@ Ran input old new (Err Memory) = Keeps old new
 Ran input old new (Err Output) = WroteBeginning input old new
 -- a run of all tasks has no schedule
 Ran input old new (Err (Schedule kind)) = ⊥
-
--- a run adds one failure of the sink exactly where it answers `Output`
-abbrev pub output_failures : {U : Type 0} → Result U RunFault → ℕ
-output_failures (Ok u) = 0
-output_failures (Err (Input kind)) = 0
-output_failures (Err Memory) = 0
-output_failures (Err Output) = 1
-output_failures (Err (Schedule kind)) = 0
 
 -- why no report came of the input
 abbrev pub IsRefused : List ℕ → RunFault → Type 0

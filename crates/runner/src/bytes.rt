@@ -1,10 +1,11 @@
 //! From the bytes of a file to the bytes of its report.
 
 ghost use Rattle.std.specs.Prelude.{◌≡◌, ◌+◌, ◌<◌, ◌^◌, true, IfOk, OnOk, IfErr, string_bytes};
-ghost use Rattle.runner.specs.Running.{IsReportOf, IsRefused, Ran, output_failures};
+ghost use Rattle.run_faults.specs.Failures.{output_failures};
+ghost use Rattle.runner.specs.Running.{IsReportOf, IsRefused, Ran};
 
-use crate::fault::RunFault;
 use options::Options;
+use run_faults::RunFault;
 use sink::{Sink, put_all};
 use std::alloc::Global;
 use std::sync::Wait;

@@ -2,7 +2,7 @@
 
 use crate::codes::{MEMORY, file_fault, schedule_fault};
 use crate::writing::copy;
-use runner::RunFault;
+use run_faults::RunFault;
 use sink::Out;
 use std::alloc::Global;
 use world_runner::world_bytes;

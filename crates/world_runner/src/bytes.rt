@@ -1,11 +1,11 @@
 //! From the bytes of a file and of a schedule to the bytes of what is seen.
 
 ghost use Rattle.std.specs.Prelude.{◌≡◌, ◌+◌, ◌<◌, ◌^◌, true, IfOk, OnOk, IfErr, string_bytes};
-ghost use Rattle.runner.specs.Running.{output_failures};
+ghost use Rattle.run_faults.specs.Failures.{output_failures};
 ghost use Rattle.world_runner.specs.Showing.{IsShowing, IsRefused, Showed};
 
 use crate::lines::played;
-use runner::RunFault;
+use run_faults::RunFault;
 use schedule_reader::read_schedule;
 use sink::{Sink, put_all};
 use std::alloc::Global;

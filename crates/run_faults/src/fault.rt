@@ -2,8 +2,8 @@
 
 ghost use Rattle.std.specs.Prelude.{◌≡◌};
 
+use text_words::ReadFault;
 use thiserror::Error;
-use txn_text::ReadFault;
 
 /// Why a run did not end in a report, or a schedule in the text of its world. Its text is `line()`.
 #[derive(Clone, Copy, Debug, PartialEq, Eq, Error)]
@@ -26,7 +26,7 @@ pub enum RunFault {
 }
 
 impl RunFault {
-    ghost use Rattle.runner.specs.Statuses.{status_of, line_of};
+    ghost use Rattle.run_faults.specs.Statuses.{status_of, line_of};
 
     /// The status that the program ends with: 2 where the input is refused, 4 where the output
     /// failed, 5 for want of memory.
@@ -54,7 +54,7 @@ impl RunFault {
     }
 }
 
-ghost use Rattle.runner.specs.Statuses.{kind_line, schedule_line};
+ghost use Rattle.run_faults.specs.Statuses.{kind_line, schedule_line};
 
 fn input_line(kind: ReadFault) -> &'static str
     ensures { result.now ≡ kind_line kind }

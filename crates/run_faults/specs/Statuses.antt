@@ -1,9 +1,9 @@
 -- The status and the line of each fault of a run.
 use Rattle.std.specs.Prelude.{ℕ, List, codes}
-use Rattle.txn_text.specs.fault.ReadFault.{ReadFault}
-use Rattle.txn_text.specs.fault.ReadFault.TheVariants as read
-use Rattle.runner.specs.declared.fault.RunFault.{RunFault}
-use Rattle.runner.specs.declared.fault.RunFault.TheVariants.{Input, Memory, Output, Schedule}
+use Rattle.text_words.specs.declared.fault.ReadFault.{ReadFault}
+use Rattle.text_words.specs.declared.fault.ReadFault.TheVariants as read
+use Rattle.run_faults.specs.declared.fault.RunFault.{RunFault}
+use Rattle.run_faults.specs.declared.fault.RunFault.TheVariants.{Input, Memory, Output, Schedule}
 
 abbrev pub status_of : RunFault → ℕ
 status_of (Input kind) = 2
