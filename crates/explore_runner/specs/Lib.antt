@@ -1,4 +1,3 @@
 pub mod FoundText
 pub mod Showing
-pub mod Bounds
 pub mod Witness

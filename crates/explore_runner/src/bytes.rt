@@ -4,10 +4,10 @@ ghost use Rattle.std.specs.Prelude.{◌≡◌, ◌+◌, ◌<◌, ◌≤◌, ◌^
 ghost use Rattle.run_faults.specs.Failures.{output_failures};
 ghost use Rattle.explore_runner.specs.Showing.{IsShown, IsRefused, Showed};
 
-use crate::limit::Limit;
 use crate::printer::{print_found, print_more};
 use crate::sight::Sight;
 use explore::{MAX_STATES, Unexplored, explore};
+use explore_options::Limit;
 use run_faults::RunFault;
 use sink::{Sink, put_all};
 use std::alloc::Global;

@@ -2,14 +2,13 @@
 #![tactic(auto)]
 
 mod bytes;
-mod limit;
 mod printer;
 mod sight;
 mod witness;
 mod words;
 
 pub use bytes::explore_bytes;
-pub use limit::Limit;
+pub use explore_options::Limit;
 pub use printer::print_found;
 pub use sight::{Sight, Witnessed};
 pub use witness::witness_bytes;

@@ -8,10 +8,10 @@ ghost use Rattle.explore_runner.specs.Showing.{IsRefused};
 ghost use Rattle.explore_runner.specs.Witness.{Answered, IsAnswer, IsReportTo};
 
 use crate::bytes::catalogue_of;
-use crate::limit::Limit;
 use crate::printer::print_more;
 use crate::sight::Witnessed;
 use explore::{MAX_STATES, Unexplored, way_to_end};
+use explore_options::Limit;
 use explore_reports::laws::ways_lead_to_ends;
 use explore_reports::witness;
 use report_printer::print_report;

@@ -1,7 +1,7 @@
 //! How many places are looked at, at most.
 
 ghost use Rattle.std.specs.Prelude.{◌≡◌, ◌≤◌, ◌↔◌, IsSome, IfSome};
-ghost use Rattle.explore_runner.specs.Bounds.{IsAllowed};
+ghost use Rattle.explore_options.specs.Bounds.{IsAllowed};
 
 use std::marker::Model;
 
@@ -13,7 +13,7 @@ pub struct Limit {
 
 impl Model for Limit {
     ghost use Rattle.std.specs.Prelude.{ℕ};
-    ghost use Rattle.explore_runner.specs.Bounds.{IsAllowed};
+    ghost use Rattle.explore_options.specs.Bounds.{IsAllowed};
 
     ghost Value = { ℕ };
 
@@ -34,6 +34,14 @@ impl Limit {
             return None;
         }
         Some(Limit { states })
+    }
+
+    /// The bounds of the number. It does nothing: its contract is the law.
+    pub fn law(&self)
+        ensures { IsAllowed self.now }
+    {
+        // To look at the field is to be told what the type keeps.
+        let _states = self.states;
     }
 
     /// The number.
