@@ -1,30 +1,15 @@
--- What of a file is read, what a run of a file leaves, and what an error is answered with.
-use Rattle.std.specs.Prelude.{◌≡◌, ◌≢◌, ◌⊎◌, ℕ, List, take, Option, Result, Ok, Err}
+-- What of a file is read, and what a run of a file leaves.
+use Rattle.std.specs.Prelude.{ℕ, List, take, Option, Result, Ok, Err}
 use Rattle.std.specs.Io.KnownBytes.{Keeps}
 use Rattle.run_faults.specs.Failures.{output_failures}
 use Rattle.runner.specs.Running.{Ran}
 use Rattle.run_faults.specs.declared.fault.RunFault.{RunFault}
-use Rattle.run_faults.specs.declared.fault.RunFault.TheVariants.{Memory}
-use Rattle.std.specs.declared.io.ErrorKind.{ErrorKind}
-use Rattle.std.specs.declared.io.ErrorKind.TheVariants.{OutOfMemory}
-use Rattle.commands.specs.declared.answer.Answer.{Answer}
-use Rattle.commands.specs.declared.answer.Answer.TheVariants.{Done, Unlawful, Refused, Unreadable, Failed}
+use Rattle.answers.specs.declared.answer.Answer.{Answer}
+use Rattle.answers.specs.declared.answer.Answer.TheVariants.{Done, Unlawful, Refused, Unreadable, Failed}
 
 -- a file has at most 1,048,576 bytes: with one byte more it is known to be too long
 abbrev pub read_of : List ℕ → List ℕ
 read_of all = take 1048577 all
-
--- by the kind of the error: why a file was not read
-abbrev pub Unread : ErrorKind → Answer → Type 0
-Unread kind a =
-    ((kind ≡ OutOfMemory) × (a ≡ Failed Memory))
-    ⊎ ((kind ≢ OutOfMemory) × (a ≡ Unreadable))
-
--- by the kind of the error: why there are no words
-abbrev pub Wordless : ErrorKind → Answer → Type 0
-Wordless kind a =
-    ((kind ≡ OutOfMemory) × (a ≡ Failed Memory))
-    ⊎ ((kind ≢ OutOfMemory) × (a ≡ Refused))
 
 -- the answers of a run of bytes
 abbrev pub done : Result (Unit {0}) RunFault

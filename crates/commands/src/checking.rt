@@ -4,8 +4,8 @@ ghost use Rattle.std.specs.Prelude.{◌≡◌, ◌<◌, ◌+◌, ◌^◌, true, 
 ghost use Rattle.commands.specs.Files.{failed_calls};
 ghost use Rattle.commands.specs.Checking.{Told, Checked, CheckedFiles, verdict_answer, report_of};
 
-use crate::answer::Answer;
-use crate::program::{contents, unread};
+use crate::program::contents;
+use answers::{Answer, unread};
 use checker::{Verdict, check};
 use report_reader::MAX_REPORT;
 use run_faults::RunFault;

@@ -4,9 +4,10 @@ ghost use Rattle.std.specs.Prelude.{◌≡◌, ◌<◌, ◌+◌, ◌^◌, true};
 ghost use Rattle.commands.specs.Files.{failed_calls};
 ghost use Rattle.commands.specs.Exploring.{ExploredFile, WitnessedFile};
 
-use crate::answer::Answer;
-use crate::program::{contents, unread};
-use explore_runner::{Limit, Sight, Witnessed, explore_bytes, witness_bytes};
+use crate::program::contents;
+use answers::{Answer, unread};
+use explore_options::Limit;
+use explore_runner::{Sight, Witnessed, explore_bytes, witness_bytes};
 use sink::Sink;
 use std::rt::Files;
 

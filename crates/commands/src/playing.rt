@@ -4,8 +4,8 @@ ghost use Rattle.std.specs.Prelude.{◌≡◌, ◌<◌, ◌+◌, ◌^◌, true, 
 ghost use Rattle.commands.specs.Files.{failed_calls};
 ghost use Rattle.commands.specs.Playing.{PlayedFiles, schedule_of};
 
-use crate::answer::Answer;
-use crate::program::{contents, unread};
+use crate::program::contents;
+use answers::{Answer, unread};
 use schedule_reader::MAX_SCHEDULE;
 use sink::Sink;
 use std::alloc::Global;

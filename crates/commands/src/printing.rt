@@ -5,10 +5,10 @@ ghost use Rattle.std.specs.Prelude.{◌≡◌, ◌<◌, ◌+◌, ◌^◌, true};
 ghost use Rattle.commands.specs.Files.{failed_calls};
 ghost use Rattle.commands.specs.Printing.{PrintedAs, PrintedFile, PrintedOnFiles};
 
-use crate::answer::Answer;
 use crate::checking::{answer_of, report_contents};
-use crate::command_line::Print;
-use crate::program::{contents, unread};
+use crate::program::contents;
+use answers::{Answer, unread};
+use command_line::Print;
 use file_rewriter::{print_bytes, print_on_bytes};
 use sink::Sink;
 use std::rt::Files;

@@ -1,18 +1,14 @@
 //! The program: words and files in, a report and a status out.
 
-ghost use Rattle.std.specs.Prelude.{◌≡◌, ◌≢◌, ◌⊎◌, ◌<◌, ◌+◌, ◌^◌, true, IfOk, IfSome};
-ghost use Rattle.std.specs.IoError.{error_kind};
-ghost use Rattle.clap.specs.Values.{kind_of};
-ghost use Rattle.commands.specs.Files.{RanFile, Unread, Wordless, read_of, failed_calls};
+ghost use Rattle.std.specs.Prelude.{◌≡◌, ◌<◌, ◌+◌, ◌^◌, true, IfOk, IfSome};
+ghost use Rattle.commands.specs.Files.{RanFile, read_of, failed_calls};
 
-use crate::answer::{Answer, told};
 use crate::checking::check_files;
-use crate::command_line::{Request, parse};
 use crate::exploring::{explore_file, witness_file};
 use crate::playing::play_files;
 use crate::printing::print_files;
-use clap::error::ErrorKind;
-use run_faults::RunFault;
+use answers::{Answer, told, unread};
+use command_line::{Request, asked, words_given};
 use options::Options;
 use runner::{OpenGate, run_bytes};
 use sink::{Out, Sink};
@@ -21,7 +17,7 @@ use std::io::Read;
 use std::rt::{Env, Files};
 use std::sync::Wait;
 use std::thread::Threads;
-use std::{env, fs, io};
+use std::{fs, io};
 use txn_text::MAX_FILE;
 
 /// Does what the command line asks for, and tells the status to end with. Threads come from the
@@ -39,11 +35,11 @@ fn answer<T: Threads + Wait + Sync, R: Files + Env + Print + Eprint + AllocGloba
     threads: &T,
     rt: &R,
 ) -> Answer {
-    let words = match words(rt) {
+    let words = match words_given(rt) {
         Ok(words) => words,
-        Err(error) => return wordless(rt, &error),
+        Err(answer) => return answer,
     };
-    match parse(rt.alloc(), words.as_slice()) {
+    match asked(rt, words.as_slice()) {
         Ok(Request::Run(request)) => {
             let mut out = Out::new(io::writer(rt));
             run_file(threads, rt, request.file, request.options, &mut out)
@@ -67,25 +63,8 @@ fn answer<T: Threads + Wait + Sync, R: Files + Env + Print + Eprint + AllocGloba
                 None => explore_file(rt, request.file, request.limit, &mut out),
             }
         }
-        Err(error) => shown(rt, &error),
+        Err(answer) => answer,
     }
-}
-
-/// The words of the command line. A word that is not UTF-8 is refused: the standard library takes
-/// paths as UTF-8 alone, so a file of such a name could not be opened.
-fn words<R: Env + AllocGlobal>(rt: &R) -> io::Result<Vec<String>> {
-    Ok(env::args(rt)?.collect(rt.alloc())?)
-}
-
-/// Says why there are no words.
-fn wordless<R: Eprint>(rt: &R, error: &io::Error) -> Answer
-    ensures { Wordless (error_kind error.now) result }
-{
-    if error.kind() == io::ErrorKind::OutOfMemory {
-        return Answer::Failed(RunFault::Memory);
-    }
-    let _unheard = rt.eprintln("stm: the command line is not UTF-8");
-    Answer::Refused
 }
 
 /// Runs a file, and writes its report to the sink.
@@ -130,32 +109,4 @@ fn up_to_limit<I: Read + Drop>(alloc: Global, input: I) -> io::Result<Vec<u8>>
     let mut bytes = Vec::new(alloc);
     input.take(MAX_FILE as u64 + 1).read_to_end(&mut bytes)?;
     Ok(bytes)
-}
-
-/// Why a file was not read: it cannot be, or there is no memory to read it into.
-pub fn unread(error: &io::Error) -> Answer
-    ensures { Unread (error_kind error.now) result }
-{
-    if error.kind() == io::ErrorKind::OutOfMemory {
-        return Answer::Failed(RunFault::Memory);
-    }
-    Answer::Unreadable
-}
-
-/// Shows help or the version, or what is wrong with the command line.
-fn shown<R: Print + Eprint>(rt: &R, error: &clap::Error) -> Answer
-    ensures memory { kind_of error.now ≡ ErrorKind.OutOfMemory → result ≡ Answer.Failed RunFault.Memory }
-    ensures help { kind_of error.now ≡ ErrorKind.DisplayHelp → (result ≡ Answer.Done) ⊎ (result ≡ Answer.Failed RunFault.Output) }
-    ensures version { kind_of error.now ≡ ErrorKind.DisplayVersion → (result ≡ Answer.Done) ⊎ (result ≡ Answer.Failed RunFault.Output) }
-    ensures refused { kind_of error.now ≢ ErrorKind.OutOfMemory → kind_of error.now ≢ ErrorKind.DisplayHelp → kind_of error.now ≢ ErrorKind.DisplayVersion → result ≡ Answer.Refused }
-{
-    if error.kind() == ErrorKind::OutOfMemory {
-        return Answer::Failed(RunFault::Memory);
-    }
-    let asked = !error.use_stderr();
-    match error.print(rt) {
-        Ok(()) if asked => Answer::Done,
-        Err(_) if asked => Answer::Failed(RunFault::Output),
-        _ => Answer::Refused,
-    }
 }

@@ -1,8 +1,8 @@
 //! The words of `stm explore`.
 
-use crate::command_line::number;
+use crate::words::number;
 use clap::{Arg, ArgMatches, Command, value_parser};
-use explore_runner::Limit;
+use explore_options::Limit;
 use std::alloc::{AllocError, Global};
 
 /// A file of which all orders are to be seen.

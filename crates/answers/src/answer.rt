@@ -1,7 +1,7 @@
 //! How the program ends: what came of the command line, and the status of each.
 
 ghost use Rattle.std.specs.Prelude.{◌≡◌};
-ghost use Rattle.commands.specs.Statuses.{exit_status};
+ghost use Rattle.answers.specs.Statuses.{exit_status};
 
 use run_faults::RunFault;
 

@@ -1,7 +1,7 @@
 //! The command line: what is asked for, help, and refusals.
 
 use clap::error::ErrorKind;
-use commands::command_line::{Request, parse};
+use command_line::{Request, parse};
 use std::alloc::{AllocError, Global};
 use std::process::Abort;
 

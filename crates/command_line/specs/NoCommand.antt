@@ -1,0 +1,15 @@
+-- How a process ends that asks for no command.
+use Rattle.run_faults.specs.declared.fault.RunFault.TheVariants.{Input, Memory, Output, Schedule}
+use Rattle.answers.specs.declared.answer.Answer.{Answer}
+use Rattle.answers.specs.declared.answer.Answer.TheVariants.{Done, Unlawful, Refused, Unreadable, Failed}
+
+-- help or the version was shown, or could not be; or the words are refused; or there was no memory. No file was looked at
+abbrev pub IsNoCommand : Answer → Type 0
+IsNoCommand Done = Unit {0}
+IsNoCommand Unlawful = ⊥
+IsNoCommand Refused = Unit {0}
+IsNoCommand Unreadable = ⊥
+IsNoCommand (Failed (Input kind)) = ⊥
+IsNoCommand (Failed Memory) = Unit {0}
+IsNoCommand (Failed Output) = Unit {0}
+IsNoCommand (Failed (Schedule kind)) = ⊥
