@@ -2,6 +2,7 @@
 
 use clap::error::ErrorKind;
 use command_line::{Request, parse};
+use explore_options::Limit;
 use std::alloc::{AllocError, Global};
 use std::process::Abort;
 
@@ -132,6 +133,15 @@ fn mistakes_are_refused(rt: HostRuntime) {
         "stm world a",
         "stm world a b c",
         "stm world a b --workers 1",
+        "stm explore",
+        "stm explore a b",
+        "stm explore a --states 0",
+        "stm explore a --states 16777217",
+        "stm explore a --to 0",
+        "stm explore a --to 16777217",
+        "stm print",
+        "stm print a b",
+        "stm print a --from",
     ] {
         expect_mistake(&rt, rt.alloc(), line);
     }
@@ -192,6 +202,8 @@ fn help_is_shown(rt: HostRuntime) {
         "stm help check",
         "stm world --help",
         "stm help world",
+        "stm explore --help",
+        "stm print --help",
     ] {
         expect_help(&rt, rt.alloc(), line);
     }
@@ -213,4 +225,59 @@ fn expect_version(rt: &impl Abort, alloc: Global, line: &str, version: &str) {
 #[test]
 fn the_version_is_shown(rt: HostRuntime) {
     expect_version(&rt, rt.alloc(), "stm --version", "stm 0.1.0\n");
+}
+
+/// A command line asks to see the orders of `a.stm`, of so many places, or for a report to this end.
+fn expect_orders(rt: &impl Abort, alloc: Global, line: &str, wanted: (u32, Option<usize>)) {
+    let words = words(rt, alloc, line);
+    match parse(alloc, words.as_slice()) {
+        Ok(Request::Explore(request)) => {
+            assert!(rt; request.file == "a.stm");
+            assert!(rt; request.limit.states() == wanted.0);
+            assert!(rt; request.to == wanted.1);
+        }
+        _ => panic!(rt; "no orders are asked for"),
+    }
+}
+
+#[test]
+fn orders_are_asked_for(rt: HostRuntime) {
+    let alloc = rt.alloc();
+    expect_orders(&rt, alloc, "stm explore a.stm", (1000000, None));
+    expect_orders(&rt, alloc, "stm explore a.stm --states 1 --to 1", (1, Some(0)));
+    expect_orders(
+        &rt,
+        alloc,
+        "stm explore --to=16777216 --states=16777216 a.stm",
+        (16777216, Some(16777215)),
+    );
+}
+
+/// A command line asks to print `a.stm`, from this report.
+fn expect_print(rt: &impl Abort, alloc: Global, line: &str, report: Option<&str>) {
+    let words = words(rt, alloc, line);
+    match parse(alloc, words.as_slice()) {
+        Ok(Request::Print(request)) => {
+            assert!(rt; request.file == "a.stm");
+            assert!(rt; request.report == report);
+        }
+        _ => panic!(rt; "no print is asked for"),
+    }
+}
+
+#[test]
+fn a_print_is_asked_for(rt: HostRuntime) {
+    let alloc = rt.alloc();
+    expect_print(&rt, alloc, "stm print a.stm", None);
+    expect_print(&rt, alloc, "stm print a.stm --from b", Some("b"));
+}
+
+#[test]
+fn the_law_of_a_limit(rt: HostRuntime) {
+    for states in [1, 16777216] {
+        match Limit::new(states) {
+            Some(limit) => limit.law(),
+            None => panic!(rt; "no limit"),
+        }
+    }
 }
