@@ -244,7 +244,12 @@ fn expect_orders(rt: &impl Abort, alloc: Global, line: &str, wanted: (u32, Optio
 fn orders_are_asked_for(rt: HostRuntime) {
     let alloc = rt.alloc();
     expect_orders(&rt, alloc, "stm explore a.stm", (1000000, None));
-    expect_orders(&rt, alloc, "stm explore a.stm --states 1 --to 1", (1, Some(0)));
+    expect_orders(
+        &rt,
+        alloc,
+        "stm explore a.stm --states 1 --to 1",
+        (1, Some(0)),
+    );
     expect_orders(
         &rt,
         alloc,
