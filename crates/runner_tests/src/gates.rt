@@ -2,7 +2,9 @@
 //! side and evaluate with no lock held.
 
 use crate::holds::{Hold, IN_TURN, Place, SWAPPED, hold_run, hold_two};
-use runner::Point;
+use crate::parts::{options, run_under};
+use runner::{Gate, Point};
+use std::sync::atomic::{AtomicU64, Ordering};
 use txn::TaskId;
 
 const TAKEN: [Place; 2] = [(Point::Taken, TaskId(0)), (Point::Taken, TaskId(1))];
@@ -67,4 +69,30 @@ fn a_moved_attempt_commits_at_its_first_try(rt: HostRuntime) {
     let hold = Hold::after(1, NEEDS, FINISHED[1]);
     let ends = hold_run(&rt, rt.alloc(), SUM, 1, hold, none(), MOVED);
     assert_eq!(rt; ends, 1);
+}
+
+/// An open gate that would count its calls.
+#[derive(Drop)]
+struct Opened {
+    calls: AtomicU64,
+}
+
+impl Gate for Opened {
+    const IS_OPEN: bool = true;
+
+    fn at(&self, _point: Point, _task: TaskId) {
+        self.calls.fetch_add(1, Ordering::SeqCst);
+    }
+}
+
+#[test]
+fn an_open_gate_is_not_called(rt: HostRuntime) {
+    for workers in [1, 2] {
+        let gate = Opened {
+            calls: AtomicU64::new(0),
+        };
+        let ran = run_under(&rt, rt.alloc(), SUM, options(&rt, workers, 1, 0), &gate);
+        assert!(rt; ran.is_some());
+        assert_eq!(rt; gate.calls.load(Ordering::SeqCst), 0);
+    }
 }

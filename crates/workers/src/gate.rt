@@ -18,13 +18,26 @@ pub enum Point {
 /// What a worker calls at each of these points, while it holds no lock. A gate that waits there
 /// holds that worker and no other.
 pub trait Gate: Sync {
+    /// Whether the gate is open: then no worker calls it, and so it cannot tell how often a worker
+    /// takes the lock, nor whether there are workers at all.
+    const IS_OPEN: bool = false;
+
     /// The worker that has this task is at this point.
     fn at(&self, point: Point, task: TaskId);
 }
 
-/// A gate that does nothing.
+/// A gate that no worker calls.
 pub struct OpenGate;
 
 impl Gate for OpenGate {
+    const IS_OPEN: bool = true;
+
     fn at(&self, _point: Point, _task: TaskId) {}
+}
+
+/// A worker that has this task comes to the point: it calls the gate, unless that is open.
+pub(crate) fn stop_at<G: Gate>(gate: &G, point: Point, task: TaskId) {
+    if !G::IS_OPEN {
+        gate.at(point, task);
+    }
 }

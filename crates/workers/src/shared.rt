@@ -4,7 +4,7 @@
 //! how short its journal is kept: a run picks a name, and the name has the run's catalogue and after
 //! how many entries a checkpoint is made.
 
-ghost use Rattle.std.specs.Prelude.{◌≡◌, ◌<◌, ℕ, [], ◌∷◌, length, IfOk, IfSome};
+ghost use Rattle.std.specs.Prelude.{◌≡◌, ◌≢◌, ◌<◌, ℕ, [], ◌∷◌, length, IfOk, IfSome, Option, Some};
 ghost use Rattle.std.specs.Coded.{codes};
 ghost use Rattle.txn.specs.Codes.{coded_listing};
 ghost use Rattle.programs.specs.Listing.{Listing, tasks};
@@ -12,6 +12,7 @@ ghost use Rattle.programs.specs.Told.{told};
 ghost use Rattle.programs.specs.LawfulReport.{LawfulReport, BaseReached};
 ghost use Rattle.book.specs.Turns.{IsEndOf, IsIdle, ReportIs};
 ghost use Rattle.workers.specs.Journals.{IsShort, KeepsShort};
+ghost use Rattle.workers.specs.declared.shared.Tried.TheVariants.{Passed};
 
 use crate::waiting::lock;
 use attempt::Attempt;
@@ -50,6 +51,9 @@ pub(crate) struct Named<'a, N: Naming> {
 pub(crate) enum Tried {
     /// The task is committed, parked or given up.
     Over,
+    /// The task is committed or parked, and at the same time under the lock the next one was taken,
+    /// if one was ready.
+    Passed(Option<TaskId>),
     /// The task was not running.
     NotRunning,
     /// What was read is no longer so. The task is still running.
@@ -81,6 +85,13 @@ pub(crate) fn take<R: Wait, N: Naming>(rt: &R, shared: &Mutex<Named<'_, N>>) -> 
     ensures { IfSome result (λ t. t.0 < length (tasks N.catalogue)) }
 {
     let mut named = lock(rt, shared);
+    next(&mut named)
+}
+
+/// The lowest ready task, which is then running.
+fn next<N: Naming>(named: &mut Named<'_, N>) -> Option<TaskId>
+    ensures { IfSome result (λ t. t.0 < length (tasks N.catalogue)) }
+{
     let book = &mut named.book;
     book.law();
     book.take()
@@ -96,11 +107,33 @@ pub(crate) fn give_up<R: Wait, N: Naming>(rt: &R, shared: &Mutex<Named<'_, N>>, 
     book.give_up(task);
 }
 
-/// Brings the end of an attempt to the book; the worker keeps the attempt. A commit that makes the
-/// journal long enough is followed by a checkpoint, before the lock is let go.
+/// Brings the end of an attempt to the book; the worker keeps the attempt. Where it goes `on` and
+/// the task is over, it takes the next one before the lock is let go.
 pub(crate) fn finish<R: Wait, N: Naming>(
     rt: &R,
     shared: &Mutex<Named<'_, N>>,
+    every: u32,
+    task: TaskId,
+    attempt: &mut Attempt<'_>,
+    on: bool,
+) -> Tried
+    requires every { every ≡ N.every }
+    requires exists { task.0 < length (tasks N.catalogue) }
+    requires ended { IsEndOf N.catalogue task attempt.old }
+    ensures next { (t : TaskId) → result ≡ Passed (Some t) → t.0 < length (tasks N.catalogue) }
+{
+    let mut named = lock(rt, shared);
+    let tried = end(&mut named, every, task, attempt);
+    if on && tried == Tried::Over {
+        return Tried::Passed(next(&mut named));
+    }
+    tried
+}
+
+/// Brings the end of an attempt to the book. A commit that makes the journal long enough is
+/// followed by a checkpoint.
+fn end<N: Naming>(
+    named: &mut Named<'_, N>,
     every: u32,
     task: TaskId,
     attempt: &mut Attempt<'_>,
@@ -108,8 +141,8 @@ pub(crate) fn finish<R: Wait, N: Naming>(
     requires every { every ≡ N.every }
     requires exists { task.0 < length (tasks N.catalogue) }
     requires ended { IsEndOf N.catalogue task attempt.old }
+    ensures { (next : Option TaskId) → result ≢ Passed next }
 {
-    let mut named = lock(rt, shared);
     let book = &mut named.book;
     book.law();
     match book.finish_lent(task, attempt) {

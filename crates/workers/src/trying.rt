@@ -5,7 +5,7 @@ ghost use Rattle.cells.specs.Passing.{at};
 ghost use Rattle.observer.specs.Observing.{ObservesBy, IsStaleFrom};
 ghost use Rattle.workers.specs.Working.{EndsOver};
 
-use crate::gate::{Gate, Point};
+use crate::gate::{Gate, Point, stop_at};
 use attempt::{Attempt, Next};
 use cells::{Cells, Pass};
 use observer::{Cut, tell};
@@ -40,12 +40,12 @@ pub(crate) fn attempt_on<'c, G: Gate>(
     loop {
         match attempt.advance() {
             Next::Need(x) => {
-                gate.at(Point::Needs, task);
+                stop_at(gate, Point::Needs, task);
                 tell(attempt, x, cells, pass)?;
             }
             Next::Memory => return Err(Cut::Memory),
             Next::Returned(_) | Next::Thrown(_) | Next::Retry => {
-                gate.at(Point::Ended, task);
+                stop_at(gate, Point::Ended, task);
                 return Ok(());
             }
         }

@@ -4,12 +4,13 @@
 //! that is stale, are each one stale try; after so many of them the task has its turn under the
 //! lock. A try that moved is none.
 
-ghost use Rattle.std.specs.Prelude.{◌≡◌, ◌<◌, length};
+ghost use Rattle.std.specs.Prelude.{◌≡◌, ◌<◌, length, IfSome, Some};
 ghost use Rattle.std.specs.Coded.{codes};
 ghost use Rattle.txn.specs.Codes.{coded_listing};
 ghost use Rattle.programs.specs.Listing.{tasks};
+ghost use Rattle.workers.specs.declared.shared.Tried.TheVariants.{Passed};
 
-use crate::gate::{Gate, Point};
+use crate::gate::{Gate, Point, stop_at};
 use crate::shared::{Named, Naming, Tried, finish, give_up, serial, take};
 use crate::trying::attempt_on;
 use crate::waiting::rest_after;
@@ -49,11 +50,8 @@ pub(crate) fn work<R: Wait, G: Gate, N: Naming>(rt: &R, crew: &Crew<'_, '_, G, N
     let mut attempt = first_attempt(crew, first);
     let mut task = first;
     for _ in rt.forever() {
-        crew.gate.at(Point::Taken, task);
-        if run_task(rt, crew, &mut pass, &mut attempt, task) {
-            crew.gate.at(Point::Finished, task);
-        }
-        let Some(next) = take(rt, crew.shared) else {
+        stop_at(crew.gate, Point::Taken, task);
+        let Some(next) = run_task(rt, crew, &mut pass, &mut attempt, task) else {
             return;
         };
         task = next;
@@ -68,31 +66,52 @@ fn first_attempt<'a, G: Gate, N: Naming>(crew: &Crew<'a, '_, G, N>, task: TaskId
     Attempt::new(crew.alloc, catalogue, catalogue.task_tx(task))
 }
 
-/// All tries of a task that was taken, and then a turn under the lock. Whether the task is then
-/// committed, parked or given up.
+/// All tries of a task that was taken, and then a turn under the lock. The next task, `None` if
+/// none is ready.
 fn run_task<'a, R: Wait, G: Gate, N: Naming>(
     rt: &R,
     crew: &Crew<'a, '_, G, N>,
     pass: &mut Pass,
     attempt: &mut Attempt<'a>,
     task: TaskId,
-) -> bool
+) -> Option<TaskId>
     requires exists { task.0 < length (tasks N.catalogue) }
     requires own { pass.old.cells ≡ crew.now.cells.now }
     ensures own { pass.new.cells ≡ pass.old.cells }
+    ensures next { IfSome result (λ t. t.0 < length (tasks N.catalogue)) }
 {
     for stale in 0..crew.tries {
         match try_task(rt, crew, pass, attempt, task) {
-            Tried::Over => return true,
-            Tried::NotRunning => return false,
-            Tried::Stale => rest_after(stale),
+            Tried::Passed(next) => return next,
+            Tried::Over => return go_on(rt, crew, task),
+            Tried::NotRunning => return take(rt, crew.shared),
+            Tried::Stale => {
+                if stale + 1 < crew.tries {
+                    rest_after(stale);
+                }
+            }
             Tried::Memory => {
                 give_up(rt, crew.shared, task);
-                return true;
+                return go_on(rt, crew, task);
             }
         }
     }
-    serial(rt, crew.alloc, crew.shared, crew.every, task) == Tried::Over
+    if serial(rt, crew.alloc, crew.shared, crew.every, task) == Tried::Over {
+        return go_on(rt, crew, task);
+    }
+    take(rt, crew.shared)
+}
+
+/// Tells that the task is over, and then takes the next one.
+fn go_on<R: Wait, G: Gate, N: Naming>(
+    rt: &R,
+    crew: &Crew<'_, '_, G, N>,
+    task: TaskId,
+) -> Option<TaskId>
+    ensures { IfSome result (λ t. t.0 < length (tasks N.catalogue)) }
+{
+    stop_at(crew.gate, Point::Finished, task);
+    take(rt, crew.shared)
 }
 
 /// One try: the attempt outside the lock, and its end.
@@ -106,11 +125,12 @@ fn try_task<'a, R: Wait, G: Gate, N: Naming>(
     requires exists { task.0 < length (tasks N.catalogue) }
     requires own { pass.old.cells ≡ crew.now.cells.now }
     ensures own { pass.new.cells ≡ pass.old.cells }
+    ensures next { (t : TaskId) → result ≡ Passed (Some t) → t.0 < length (tasks N.catalogue) }
 {
     let catalogue = crew.catalogue;
     let tx = catalogue.task_tx(task);
     match attempt_on(attempt, catalogue, tx, crew.cells, pass, crew.gate, task) {
-        Ok(()) => finish(rt, crew.shared, crew.every, task, attempt),
+        Ok(()) => finish(rt, crew.shared, crew.every, task, attempt, G::IS_OPEN),
         Err(Cut::Stale) => Tried::Stale,
         Err(Cut::Memory) => Tried::Memory,
     }

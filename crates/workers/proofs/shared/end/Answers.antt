@@ -1,10 +1,10 @@
 use Rattle.std.proofs.Common.{◌∙◌}
 use Rattle.workers.proofs.Journals.{finish_short}
-use Rattle.workers.proofs.shared.finish.Goals as goal
+use Rattle.workers.proofs.shared.end.Goals as goal
 
-pub invariant_of-book-in-Committed : goal.invariant_of-book-in-Committed
-invariant_of-book-in-Committed g c =
-    let named = c.deref_mut.result.now in
+pub invariant_of-named-in-Committed : goal.invariant_of-named-in-Committed
+invariant_of-named-in-Committed g c =
+    let named = c.args.named.now in
     record {
       of_catalogue = c.keep_short.ensures.catalogue ∙ (c.in-Committed.ensures.catalogue ∙ named.of_catalogue);
       short = finish_short c.args.every g.N.Naming.every c.requires.every named.book c.law.ensures.lawful named.short _ _ c.args.task c.in-Committed.number c.in-Committed.ensures.finished.4 c.keep_short.ensures.kept_short;
