@@ -1,11 +1,13 @@
 """Input that is cut, oversized and tampered with: each ends as it has to, or, tampered with at random, with some answer.
 
 What is read runs with status 0, and its report is good; what is not ends with status 2, nothing on standard output
-and the line with the kind of its first fault. A text that is no report of a file is `bad 1`.
+and the line with the kind of its first fault. A text that is no report of a file is `bad 1`. What `explain` says of
+each is of the same kind, or begins with the same verdict.
 """
 
 import os
 import random
+import re
 
 from parts import TOP, run, shown
 from refusals import BROKEN_REPORTS, FILES as RUNS, INCREMENTS, REPORTS
@@ -108,6 +110,23 @@ NO_REPORTS = {
 }
 
 
+def is_explained(program, folder, file, ended):
+    """Whether `explain` says of a file what `run` ended with: `good`, or a place and the same kind."""
+    told = run([program, "explain", file], folder)
+    if ended.status == 0:
+        return told[:3] == (0, b"good\n", b"")
+    kind = re.escape(ended.err[len(b"stm: file: ") : -1])
+    line = rb"line [1-9][0-9]*, column [1-9][0-9]*: " + kind + rb": [ -~]+\n"
+    return (told.status, told.err) == (2, ended.err) and re.fullmatch(line, told.out) is not None
+
+
+def is_judged(program, folder, file, report, ended):
+    """Whether `explain` says of a report what `check` said: its verdict, and of one that is not good more than that."""
+    told = run([program, "explain", file, report], folder)
+    more = told.out.count(b"\n") > 1 if ended.status == 1 else told.out == ended.out
+    return (told.status, told.err) == (ended.status, ended.err) and told.out.startswith(ended.out) and more
+
+
 def try_file(trials, program, what, text, wanted):
     file = trials.write("input", text)
     ended = run([program, "run", file, "--workers", "1"], trials.folder)
@@ -118,6 +137,7 @@ def try_file(trials, program, what, text, wanted):
         good = run([program, "check", file, "output"], trials.folder)
         ok = (ended.status, ended.err) == (0, b"") and good[:3] == (0, b"good\n", b"")
         ok = ok and (not wanted or ended.out == wanted[1:].encode())
+    ok = ok and is_explained(program, trials.folder, file, ended)
     trials.tell(f"{os.path.basename(program)} run, {what}", [] if ok else [shown(ended)], wanted if wanted and wanted[0] == "F" else "read")
     return ended
 
@@ -182,12 +202,15 @@ def try_tampered(trials, program, count):
         if kind == "stm" and ended.status == 0:
             output = trials.write(f"{text}-output", ended.out)
             judged = run([program, "check", text, output], trials.folder)
-            return ended, judged[:3] == (0, b"good\n", b"") and ended.err == b""
+            return ended, judged[:3] == (0, b"good\n", b"") and ended.err == b"" and is_explained(program, trials.folder, text, ended)
         if kind == "report" and ended.status in (0, 1):
-            return ended, ended.err == b"" and (ended.out == b"good\n" if ended.status == 0 else ended.out[:4] == b"bad ")
+            told = is_judged(program, trials.folder, words[1], text, ended)
+            return ended, told and ended.err == b"" and (ended.out == b"good\n" if ended.status == 0 else ended.out[:4] == b"bad ")
         if kind == "schedule" and ended.status == 0:
             return ended, ended.err == b"" and ended.out.endswith(b"end\n")
         what = b"schedule" if kind == "schedule" else b"file"
+        if kind == "stm" and not is_explained(program, trials.folder, text, ended):
+            return ended, False
         return ended, (ended.status, ended.out) == (2, b"") and ended.err[:-1] in [b"stm: %s: %s" % (what, it.encode()) for it in (LONG, BYTE, SHAPE, NAME, LIMIT, BROKEN)]
 
     for (kind, text, words), (ended, ok) in zip(cases, trials.pool.map(one, cases)):
@@ -195,7 +218,7 @@ def try_tampered(trials, program, count):
         if not ok:
             faults.append(f"{' '.join(words)}: {shown(ended)}")
     told = ", ".join(f"{n} with status {status}" for status, n in sorted(ends.items()))
-    trials.tell(f"{os.path.basename(program)}, {count} texts tampered with at random", faults, f"{told}; each report good")
+    trials.tell(f"{os.path.basename(program)}, {count} texts tampered with at random", faults, f"{told}; each report good, each explained as it ended")
 
 
 def try_inputs(trials, program):

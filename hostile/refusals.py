@@ -83,6 +83,8 @@ COMMAND_LINES = [
     ["print", "--help"],
     ["print", "two-increments", "--from", "no-such-file"],
     ["explore", "--help"],
+    ["explain", "--help"],
+    ["explain", "two-increments", "no-such-file"],
     ["--version"],
     [],
     ["bogus"],
@@ -202,6 +204,8 @@ def try_refusals(trials, program):
         refusals.try_all(f"{by} world, {name}", words, is_beginning)
     file, wrong = trials.write("two-increments", INCREMENTS), trials.write("wrong", "(var x 5)(var y 1)(tx t (set z 1) x)")
     texts = [["print", file], ["print", "conditions-that-are-broken"], ["print", wrong], ["print", file, "--from", "report-0"], ["print", file, "--from", "report-1"]]
+    texts += [["explain", file], ["explain", wrong], ["explain", trials.write("shapeless", "(var x 5)(tx t (seq (skip) 1) x)")]]
+    texts += [["explain", file, f"report-{i}"] for i in range(len(REPORTS))] + [["explain", wrong, "report-0"]]
     for words in texts:
         refusals.try_all(" ".join([by, *words]), [program, *words], same)
     for name in FILES:

@@ -54,7 +54,7 @@ enum stm_code {
     STM_FILE_BROKEN = -7,
     /* The room is too short; how long it has to be was written. */
     STM_SHORT = -8,
-    /* There is no such task, transaction or variable. */
+    /* There is no such task, transaction or variable; or the store runs another transaction as this task. */
     STM_UNKNOWN = -9,
     /* More than 32 workers, or no worker left; or the program has no transaction. */
     STM_NO_WORKER = -10,
@@ -63,6 +63,10 @@ enum stm_code {
     /* The handle is empty; or `out` is not. */
     STM_EMPTY = -12,
     STM_FULL = -13,
+    /* No room for another task; or there would be more tasks than 65536. */
+    STM_NO_ROOM = -14,
+    /* A task is ready or running, and the report could not account for it. */
+    STM_WORK_LEFT = -15,
     /* The schedule is refused, for the reasons of a file. */
     STM_SCHEDULE_TOO_LONG = -21,
     STM_SCHEDULE_BAD_BYTE = -22,
@@ -76,6 +80,17 @@ typedef struct stm_told {
     int32_t code;
     int64_t value;
 } stm_told;
+
+/* A task that was taken, and its transaction; the task -1 (or STM_EMPTY) where there is none. */
+typedef struct stm_job {
+    int64_t task;
+    uint32_t transaction;
+} stm_job;
+
+/* How many tasks are ready, running, parked, done, and given up for want of memory. */
+typedef struct stm_counts {
+    size_t ready, running, parked, done, given_up;
+} stm_counts;
 
 /* Whole files. `wanted` is how long the text is; with STM_SHORT, how long the room has to be. No
  * report is longer than 8388608 bytes. */
@@ -107,15 +122,27 @@ size_t stm_program_transactions(stm_program *program);
 int64_t stm_program_variable(stm_program *program, const uint8_t *name, size_t name_length);
 int64_t stm_program_transaction(stm_program *program, const uint8_t *name, size_t name_length);
 int32_t stm_store_open(stm_program *program, size_t workers, uint32_t checkpoint, stm_store *out);
+int32_t stm_store_open_with_room(stm_program *program, size_t workers, uint32_t checkpoint, size_t spare,
+                                 stm_store *out);
 void stm_store_drop(stm_store store);
 int32_t stm_store_worker(stm_store *store, stm_worker *out);
 int64_t stm_store_take(stm_store *store);
+stm_job stm_store_take_job(stm_store *store);
+int64_t stm_store_submit(stm_store *store, uint32_t transaction);
+size_t stm_store_spare(stm_store *store);
+size_t stm_store_tasks(stm_store *store);
+void stm_store_counts(stm_store *store, stm_counts *out);
+int32_t stm_store_value(stm_store *store, const uint8_t *name, size_t name_length, int64_t *value,
+                        uint64_t *version);
 stm_told stm_store_finish(stm_store *store, stm_worker *worker);
 stm_told stm_store_serial(stm_store *store, uint32_t task);
 int32_t stm_store_give_up(stm_store *store, uint32_t task);
 void stm_store_checkpoint(stm_store *store);
 int32_t stm_store_report(stm_store *store, uint8_t *room, size_t room_length, size_t *wanted);
+int32_t stm_store_report_now(stm_store *store, uint8_t *room, size_t room_length, size_t *wanted);
+int32_t stm_store_file(stm_store *store, uint8_t *room, size_t room_length, size_t *wanted);
 int32_t stm_worker_try(stm_worker *worker, uint32_t task);
+int32_t stm_worker_try_job(stm_worker *worker, uint32_t task, uint32_t transaction);
 stm_told stm_worker_observe(stm_worker *worker, uint32_t transaction);
 void stm_worker_drop(stm_worker worker);
 
@@ -141,6 +168,33 @@ static inline int32_t stm_open(stm_program *program, size_t workers, uint32_t ch
     return out->at ? (int32_t)STM_FULL : stm_store_open(program, workers, checkpoint, out);
 }
 
+/* As `stm_open`, with room for so many tasks more, which can be submitted. STM_NO_ROOM. */
+static inline int32_t stm_open_with_room(stm_program *program, size_t workers, uint32_t checkpoint, size_t spare,
+                                         stm_store *out) {
+    if (!program->at) return STM_EMPTY;
+    return out->at ? (int32_t)STM_FULL : stm_store_open_with_room(program, workers, checkpoint, spare, out);
+}
+
+/* A ready task of the transaction more: its number, STM_NO_ROOM or STM_UNKNOWN. It takes no memory.
+ * Under the lock. */
+static inline int64_t stm_submit(stm_store *store, uint32_t transaction) {
+    return store->at ? stm_store_submit(store, transaction) : (int64_t)STM_EMPTY;
+}
+
+/* How many tasks stand how. Under the lock. */
+static inline int32_t stm_counted(stm_store *store, stm_counts *out) {
+    if (!store->at) return STM_EMPTY;
+    stm_store_counts(store, out);
+    return STM_DONE;
+}
+
+/* The present value of the variable of this name, and the number of the last entry that changed it:
+ * STM_DONE, and both were written; STM_UNKNOWN. Under the lock. */
+static inline int32_t stm_value(stm_store *store, const uint8_t *name, size_t name_length, int64_t *value,
+                                uint64_t *version) {
+    return store->at ? stm_store_value(store, name, name_length, value, version) : (int32_t)STM_EMPTY;
+}
+
 /* A worker of the store, for one thread. Under the lock. */
 static inline int32_t stm_hire(stm_store *store, stm_worker *out) {
     if (!store->at) return STM_EMPTY;
@@ -150,7 +204,22 @@ static inline int32_t stm_hire(stm_store *store, stm_worker *out) {
 /* The lowest ready task, which is then running; -1 where none is ready. Under the lock. */
 static inline int64_t stm_take(stm_store *store) { return store->at ? stm_store_take(store) : (int64_t)STM_EMPTY; }
 
-/* Evaluates the task on one state, with no lock: STM_DONE, STM_STALE, STM_MEMORY, STM_UNKNOWN. */
+/* As `stm_take`, with the transaction that the task runs, which a worker has to be told of a task that
+ * was submitted. Under the lock. */
+static inline stm_job stm_take_job(stm_store *store) {
+    stm_job none = {STM_EMPTY, 0};
+    return store->at ? stm_store_take_job(store) : none;
+}
+
+/* Evaluates a job that was taken on one state, with no lock: as `stm_try`. */
+static inline int32_t stm_try_job(stm_worker *worker, stm_job job) {
+    if (!worker->at) return STM_EMPTY;
+    if (job.task < 0 || job.task > 65535) return STM_UNKNOWN;
+    return stm_worker_try_job(worker, (uint32_t)job.task, job.transaction);
+}
+
+/* Evaluates a task of the program on one state, with no lock: STM_DONE, STM_STALE, STM_MEMORY,
+ * STM_UNKNOWN. */
 static inline int32_t stm_try(stm_worker *worker, uint32_t task) {
     return worker->at ? stm_worker_try(worker, task) : (int32_t)STM_EMPTY;
 }
@@ -183,6 +252,17 @@ static inline int32_t stm_checkpoint(stm_store *store) {
  * lock. Where the answer is STM_SHORT, call again with room for `wanted` bytes. */
 static inline int32_t stm_report(stm_store *store, uint8_t *room, size_t room_length, size_t *wanted) {
     return store->at ? stm_store_report(store, room, room_length, wanted) : (int32_t)STM_EMPTY;
+}
+
+/* As `stm_report`, with no turn given: STM_WORK_LEFT where a task is ready or running. Under the lock. */
+static inline int32_t stm_report_now(stm_store *store, uint8_t *room, size_t room_length, size_t *wanted) {
+    return store->at ? stm_store_report_now(store, room, room_length, wanted) : (int32_t)STM_EMPTY;
+}
+
+/* Copies the file as it has become, with a run for each task that was submitted, into the room: with the
+ * report of the same moment a pair that `stm_check` finds good. STM_FILE_TOO_LONG. Under the lock. */
+static inline int32_t stm_file(stm_store *store, uint8_t *room, size_t room_length, size_t *wanted) {
+    return store->at ? stm_store_file(store, room, room_length, wanted) : (int32_t)STM_EMPTY;
 }
 
 /* How the transaction would end on one state, with no lock: STM_DONE with the value that it returns,
@@ -230,6 +310,8 @@ static inline const char *stm_word(int32_t code) {
     case STM_NOT_ENDED: return "no ended attempt";
     case STM_EMPTY: return "empty handle";
     case STM_FULL: return "full handle";
+    case STM_NO_ROOM: return "no room for another task";
+    case STM_WORK_LEFT: return "work left";
     case STM_SCHEDULE_TOO_LONG: return "schedule: too long";
     case STM_SCHEDULE_BAD_BYTE: return "schedule: bad byte";
     case STM_SCHEDULE_SHAPE: return "schedule: shape";

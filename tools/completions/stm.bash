@@ -1,7 +1,7 @@
 # Completions of stm for bash: source this file, or put it where bash-completion looks.
 _stm() {
     local word=${COMP_WORDS[COMP_CWORD]} command=${COMP_WORDS[1]}
-    local commands="run check world explore print help"
+    local commands="run check world explore print explain help"
     local options="--help"
     case $command in
     run) options="--workers --tries --checkpoint --help" ;;

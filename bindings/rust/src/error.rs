@@ -24,6 +24,10 @@ pub enum Error {
     /// A store has at most 32 workers, and as many as it was opened for; its program has to have a
     /// transaction.
     NoWorker,
+    /// There is no room for another task, or there would be more than 65,536 tasks.
+    NoRoom,
+    /// A task is ready or running, and the report could not account for it.
+    WorkLeft,
     /// The schedule is refused. The fault is what a file would have been refused for.
     Schedule(ScheduleFault),
     /// A worker was brought to the store of another program.
@@ -52,6 +56,8 @@ impl fmt::Display for Error {
             Error::Memory => "out of memory",
             Error::Unknown => "there is no such task, transaction or variable",
             Error::NoWorker => "the store has no worker left",
+            Error::NoRoom => "there is no room for another task",
+            Error::WorkLeft => "a task is ready or running",
             Error::Schedule(ScheduleFault::TooLong) => "the schedule is too long",
             Error::Schedule(ScheduleFault::BadByte) => "the schedule has a byte that is not allowed",
             Error::Schedule(ScheduleFault::Shape) => "the schedule is not of the grammar",

@@ -29,7 +29,7 @@ pub use declare::{
     Declare, Expr, Stmt, Tx, Var,
 };
 pub use error::{Error, ScheduleFault};
-pub use raw::{Brought, Observed, Tried, Verdict};
+pub use raw::{Brought, Counts, Job, Observed, Tried, Verdict};
 pub use store::{run, run_with, Program, Retry, Store, Worker};
 
 /// All tasks of a file, one after another on this thread: its report. A journal of `checkpoint`

@@ -15,6 +15,35 @@ struct Told {
     value: i64,
 }
 
+#[repr(C)]
+struct Taken {
+    task: i64,
+    transaction: u32,
+}
+
+/// How many tasks stand how. Together they are all tasks.
+#[repr(C)]
+#[derive(Clone, Copy, Debug, Default, PartialEq, Eq)]
+pub struct Counts {
+    /// They can be taken.
+    pub ready: usize,
+    /// They were taken, and are neither done nor parked nor given up since.
+    pub running: usize,
+    /// They wait for a change of what they read.
+    pub parked: usize,
+    /// They committed.
+    pub done: usize,
+    /// They met want of memory.
+    pub given_up: usize,
+}
+
+/// A task that was taken, and the transaction that it runs.
+#[derive(Clone, Copy, Debug, PartialEq, Eq)]
+pub struct Job {
+    pub task: u32,
+    pub transaction: u32,
+}
+
 extern "C" {
     fn stm_run_one(
         file: *const u8,
@@ -39,16 +68,36 @@ extern "C" {
     fn stm_program_tasks(program: *mut Handle) -> usize;
     fn stm_program_variable(program: *mut Handle, name: *const u8, name_length: usize) -> i64;
     fn stm_program_transaction(program: *mut Handle, name: *const u8, name_length: usize) -> i64;
-    fn stm_store_open(program: *mut Handle, workers: usize, checkpoint: u32, out: *mut Handle) -> i32;
+    fn stm_store_open_with_room(
+        program: *mut Handle,
+        workers: usize,
+        checkpoint: u32,
+        spare: usize,
+        out: *mut Handle,
+    ) -> i32;
     fn stm_store_drop(store: Handle);
     fn stm_store_worker(store: *mut Handle, out: *mut Handle) -> i32;
-    fn stm_store_take(store: *mut Handle) -> i64;
+    fn stm_store_take_job(store: *mut Handle) -> Taken;
+    fn stm_store_submit(store: *mut Handle, transaction: u32) -> i64;
+    fn stm_store_spare(store: *mut Handle) -> usize;
+    fn stm_store_tasks(store: *mut Handle) -> usize;
+    fn stm_store_counts(store: *mut Handle, out: *mut Counts);
+    fn stm_store_value(
+        store: *mut Handle,
+        name: *const u8,
+        name_length: usize,
+        value: *mut i64,
+        version: *mut u64,
+    ) -> i32;
     fn stm_store_finish(store: *mut Handle, worker: *mut Handle) -> Told;
     fn stm_store_serial(store: *mut Handle, task: u32) -> Told;
     fn stm_store_give_up(store: *mut Handle, task: u32) -> i32;
     fn stm_store_checkpoint(store: *mut Handle);
     fn stm_store_report(store: *mut Handle, room: *mut u8, room_length: usize, wanted: *mut usize) -> i32;
+    fn stm_store_report_now(store: *mut Handle, room: *mut u8, room_length: usize, wanted: *mut usize) -> i32;
+    fn stm_store_file(store: *mut Handle, room: *mut u8, room_length: usize, wanted: *mut usize) -> i32;
     fn stm_worker_try(worker: *mut Handle, task: u32) -> i32;
+    fn stm_worker_try_job(worker: *mut Handle, task: u32, transaction: u32) -> i32;
     fn stm_worker_observe(worker: *mut Handle, transaction: u32) -> Told;
     fn stm_worker_drop(worker: Handle);
 }
@@ -87,6 +136,8 @@ pub enum Brought {
     GivenUp,
     /// The worker has no ended attempt.
     NotEnded,
+    /// The store has no such task, or runs another transaction as it: nothing changed.
+    OtherTask,
 }
 
 /// How a transaction would end.
@@ -116,6 +167,8 @@ fn error_of(code: i32) -> Error {
         -7 => Error::Broken,
         -9 => Error::Unknown,
         -10 => Error::NoWorker,
+        -14 => Error::NoRoom,
+        -15 => Error::WorkLeft,
         -21 => Error::Schedule(ScheduleFault::TooLong),
         -22 => Error::Schedule(ScheduleFault::BadByte),
         -23 => Error::Schedule(ScheduleFault::Shape),
@@ -182,6 +235,7 @@ fn brought(told: Told) -> Brought {
         3 => Brought::NotRunning,
         4 => Brought::GivenUp,
         -11 => Brought::NotEnded,
+        -9 => Brought::OtherTask,
         other => unreachable!("the library answers {other}"),
     }
 }
@@ -229,10 +283,10 @@ impl RawProgram {
         u32::try_from(unsafe { stm_program_transaction(&mut self.0, name.as_ptr(), name.len()) }).ok()
     }
 
-    pub fn open(&mut self, workers: usize, checkpoint: u32) -> Result<RawStore, Error> {
+    pub fn open(&mut self, workers: usize, checkpoint: u32, spare: usize) -> Result<RawStore, Error> {
         let mut out = empty();
         // SAFETY: as `tasks`; `out` is only written, and holds a store where the answer is 0.
-        match unsafe { stm_store_open(&mut self.0, workers, checkpoint, &mut out) } {
+        match unsafe { stm_store_open_with_room(&mut self.0, workers, checkpoint, spare, &mut out) } {
             0 => Ok(RawStore(out)),
             code => Err(error_of(code)),
         }
@@ -249,9 +303,56 @@ impl RawStore {
         }
     }
 
-    pub fn take(&mut self) -> Option<u32> {
+    pub fn take(&mut self) -> Option<Job> {
         // SAFETY: `&mut self`.
-        u32::try_from(unsafe { stm_store_take(&mut self.0) }).ok()
+        let taken = unsafe { stm_store_take_job(&mut self.0) };
+        Some(Job { task: u32::try_from(taken.task).ok()?, transaction: taken.transaction })
+    }
+
+    pub fn submit(&mut self, transaction: u32) -> Result<u32, Error> {
+        // SAFETY: `&mut self`. The library tests the number.
+        let task = unsafe { stm_store_submit(&mut self.0, transaction) };
+        u32::try_from(task).map_err(|_| error_of(task as i32))
+    }
+
+    pub fn spare(&mut self) -> usize {
+        // SAFETY: `&mut self`.
+        unsafe { stm_store_spare(&mut self.0) }
+    }
+
+    pub fn tasks(&mut self) -> usize {
+        // SAFETY: `&mut self`.
+        unsafe { stm_store_tasks(&mut self.0) }
+    }
+
+    pub fn counts(&mut self) -> Counts {
+        let mut out = Counts::default();
+        // SAFETY: `&mut self`; `out` is only written.
+        unsafe { stm_store_counts(&mut self.0, &mut out) };
+        out
+    }
+
+    pub fn value(&mut self, name: &str) -> Option<(i64, u64)> {
+        let (mut value, mut version) = (0, 0);
+        // SAFETY: `&mut self`; a slice that is borrowed for the call; both numbers are only written.
+        match unsafe { stm_store_value(&mut self.0, name.as_ptr(), name.len(), &mut value, &mut version) } {
+            0 => Some((value, version)),
+            _ => None,
+        }
+    }
+
+    pub fn report_now(&mut self) -> Result<String, Error> {
+        text(|room, wanted| {
+            // SAFETY: `&mut self`; room and length are borrowed for the call.
+            unsafe { stm_store_report_now(&mut self.0, room.as_mut_ptr(), room.len(), wanted) }
+        })
+    }
+
+    pub fn file(&mut self) -> Result<String, Error> {
+        text(|room, wanted| {
+            // SAFETY: as `report_now`.
+            unsafe { stm_store_file(&mut self.0, room.as_mut_ptr(), room.len(), wanted) }
+        })
     }
 
     /// The worker has to be of a store of the same program: the caller keeps that.
@@ -291,15 +392,24 @@ impl RawStore {
     }
 }
 
+fn tried(code: i32) -> Result<Tried, Error> {
+    match code {
+        0 => Ok(Tried::Ended),
+        2 => Ok(Tried::Stale),
+        -6 => Ok(Tried::Memory),
+        code => Err(error_of(code)),
+    }
+}
+
 impl RawWorker {
     pub fn try_task(&mut self, task: u32) -> Result<Tried, Error> {
         // SAFETY: `&mut self`. The library tests the task.
-        match unsafe { stm_worker_try(&mut self.0, task) } {
-            0 => Ok(Tried::Ended),
-            2 => Ok(Tried::Stale),
-            -6 => Ok(Tried::Memory),
-            code => Err(error_of(code)),
-        }
+        tried(unsafe { stm_worker_try(&mut self.0, task) })
+    }
+
+    pub fn try_job(&mut self, job: Job) -> Result<Tried, Error> {
+        // SAFETY: `&mut self`. The library tests the transaction, and the store the task.
+        tried(unsafe { stm_worker_try_job(&mut self.0, job.task, job.transaction) })
     }
 
     pub fn observe(&mut self, transaction: u32) -> Result<Observed, Error> {

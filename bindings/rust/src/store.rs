@@ -1,7 +1,7 @@
 //! Programs, stores and workers, safe to use.
 
 use crate::error::Error;
-use crate::raw::{Brought, Observed, RawProgram, RawStore, RawWorker, Tried};
+use crate::raw::{Brought, Counts, Job, Observed, RawProgram, RawStore, RawWorker, Tried};
 use std::sync::atomic::{AtomicU64, Ordering};
 use std::sync::{Mutex, MutexGuard, PoisonError};
 
@@ -67,7 +67,74 @@ impl Store {
     /// All tasks ready, the initial values, an empty journal, and room for so many workers, at most
     /// 32. A journal of `checkpoint` entries is followed by a checkpoint; 0: never.
     pub fn open(program: &Program, workers: usize, checkpoint: u32) -> Result<Store, Error> {
-        Ok(Store { raw: Mutex::new(held(&program.raw).open(workers, checkpoint)?), program: program.id })
+        Store::open_with_room(program, workers, checkpoint, 0)
+    }
+
+    /// As `open`, with room for so many tasks more, which can be submitted.
+    ///
+    /// ```
+    /// use stm::{Program, Store, Verdict};
+    ///
+    /// let program = Program::read("(var x 1) (tx two (set x (add x x)) x)")?;
+    /// let store = Store::open_with_room(&program, 0, 0, 1)?;
+    /// assert_eq!(store.submit(0), Ok(0));
+    /// let report = store.report()?;
+    /// assert_eq!(store.value("x"), Some((2, 1)));
+    /// assert_eq!(stm::check(&store.file()?, &report)?, Verdict::Good);
+    /// # Ok::<(), stm::Error>(())
+    /// ```
+    pub fn open_with_room(
+        program: &Program,
+        workers: usize,
+        checkpoint: u32,
+        spare: usize,
+    ) -> Result<Store, Error> {
+        let raw = held(&program.raw).open(workers, checkpoint, spare)?;
+        Ok(Store { raw: Mutex::new(raw), program: program.id })
+    }
+
+    /// A ready task of the transaction more: its number. It takes no memory.
+    pub fn submit(&self, transaction: u32) -> Result<u32, Error> {
+        held(&self.raw).submit(transaction)
+    }
+
+    /// How many tasks more can be submitted.
+    pub fn spare(&self) -> usize {
+        held(&self.raw).spare()
+    }
+
+    /// How many tasks there are: those of the program, and those that were submitted.
+    pub fn tasks(&self) -> usize {
+        held(&self.raw).tasks()
+    }
+
+    /// How many tasks stand how.
+    pub fn counts(&self) -> Counts {
+        held(&self.raw).counts()
+    }
+
+    /// The present value of the variable of this name, and the number of the last entry that changed
+    /// it, 0 where none did.
+    pub fn value(&self, name: &str) -> Option<(i64, u64)> {
+        held(&self.raw).value(name)
+    }
+
+    /// The file as it has become, with a run for each task that was submitted. With the report of the
+    /// same moment it is a pair that `check` finds good.
+    pub fn file(&self) -> Result<String, Error> {
+        held(&self.raw).file()
+    }
+
+    /// As `report`, with no turn given: `WorkLeft` where a task is ready or running.
+    pub fn report_now(&self) -> Result<String, Error> {
+        held(&self.raw).report_now()
+    }
+
+    /// `report` and `file` of one moment.
+    pub fn report_and_file(&self) -> Result<(String, String), Error> {
+        let mut raw = held(&self.raw);
+        let report = raw.report()?;
+        Ok((report, raw.file()?))
     }
 
     /// A worker, for one thread.
@@ -77,6 +144,12 @@ impl Store {
 
     /// The lowest ready task, which is then running.
     pub fn take(&self) -> Option<u32> {
+        self.take_job().map(|job| job.task)
+    }
+
+    /// As `take`, with the transaction that the task runs, which a worker has to be told of a task
+    /// that was submitted.
+    pub fn take_job(&self) -> Option<Job> {
         held(&self.raw).take()
     }
 
@@ -110,9 +183,14 @@ impl Store {
 }
 
 impl Worker {
-    /// Evaluates the task on one state, without a lock.
+    /// Evaluates a task of the program on one state, without a lock.
     pub fn try_task(&mut self, task: u32) -> Result<Tried, Error> {
         self.raw.try_task(task)
+    }
+
+    /// Evaluates a job that was taken on one state, without a lock.
+    pub fn try_job(&mut self, job: Job) -> Result<Tried, Error> {
+        self.raw.try_job(job)
     }
 
     /// How the transaction would end on one state, without a lock.

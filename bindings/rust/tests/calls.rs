@@ -1,6 +1,6 @@
 //! Each call once where it does what it is for, and at its limits.
 
-use stm::{Brought, Declare, Error, Observed, Program, Retry, Store, Tried, Verdict};
+use stm::{Brought, Counts, Declare, Error, Job, Observed, Program, Retry, Store, Tried, Verdict};
 
 const FILE: &str = "(var x 5)\n(tx inc (set x (add x 1)) x)\n(tx wait (if (lt x 100) (retry) (skip)) x)\n(run inc 2)\n(run wait 1)\n";
 
@@ -138,4 +138,67 @@ fn a_program_without_tasks_is_observed() {
     assert_eq!(store.take(), None);
     assert!(matches!(Declare::new().program().map(|p| p.tasks()), Ok(0)));
     assert!(stm::run(&Declare::new().program().unwrap(), 2).is_ok());
+}
+
+const WAITING: &str = "(var full 0)\n(tx get (if (eq full 0) (retry) (set full 0)) full)\n(tx put (set full 1) full)\n(run get 1)\n";
+
+#[test]
+fn tasks_are_submitted_while_all_wait() {
+    let program = Program::read(WAITING).unwrap();
+    let store = Store::open_with_room(&program, 1, 0, 2).unwrap();
+    let mut worker = store.worker().unwrap();
+    assert!(matches!(Store::open_with_room(&program, 1, 0, 65536), Err(Error::NoRoom)));
+    let get = store.take_job().unwrap();
+    assert_eq!(get, Job { task: 0, transaction: 0 });
+    assert_eq!(store.report_now(), Err(Error::WorkLeft));
+    assert_eq!(worker.try_job(get), Ok(Tried::Ended));
+    assert_eq!(store.finish(&mut worker), Ok(Brought::Parked));
+    assert!(store.report_now().unwrap().ends_with("parked 0 get\nend\n"));
+
+    let put = program.transaction("put").unwrap();
+    assert_eq!(store.submit(2), Err(Error::Unknown));
+    assert_eq!((store.submit(put), store.submit(put)), (Ok(1), Ok(2)));
+    assert_eq!((store.submit(put), store.spare(), store.tasks()), (Err(Error::NoRoom), 0, 3));
+    let job = store.take_job().unwrap();
+    assert_eq!(worker.try_task(1), Err(Error::Unknown));
+    assert_eq!(worker.try_job(Job { transaction: 0, ..job }), Ok(Tried::Ended));
+    assert_eq!(store.finish(&mut worker), Ok(Brought::OtherTask));
+    assert_eq!(worker.try_job(Job { transaction: 2, ..job }), Err(Error::Unknown));
+    assert_eq!(worker.try_job(job), Ok(Tried::Ended));
+    assert_eq!(store.finish(&mut worker), Ok(Brought::Committed(1)));
+    assert_eq!((store.value("full"), store.value("empty")), (Some((1, 1)), None));
+    assert_eq!(store.counts(), Counts { ready: 2, done: 1, ..Counts::default() });
+    let (report, file) = store.report_and_file().unwrap();
+    assert!(file.ends_with("(run get 1)\n(run put 1)\n(run put 1)\n"));
+    assert_eq!(stm::check(&file, &report), Ok(Verdict::Good));
+    assert_eq!(store.report_now(), Ok(report));
+}
+
+#[test]
+fn tasks_are_submitted_while_threads_run() {
+    let program = Program::read("(var x 0)\n(tx inc (set x (add x 1)) x)\n").unwrap();
+    let store = Store::open_with_room(&program, 2, 0, 2000).unwrap();
+    let crew = [store.worker().unwrap(), store.worker().unwrap()];
+    std::thread::scope(|scope| {
+        let store = &store;
+        for mut worker in crew {
+            scope.spawn(move || {
+                while store.counts().done < 2000 {
+                    let Some(job) = store.take_job() else {
+                        std::thread::yield_now();
+                        continue;
+                    };
+                    while worker.try_job(job) != Ok(Tried::Ended)
+                        || !matches!(store.finish(&mut worker), Ok(Brought::Committed(_)))
+                    {}
+                }
+            });
+        }
+        for task in 0..2000 {
+            assert_eq!(store.submit(0), Ok(task));
+        }
+    });
+    let (report, file) = store.report_and_file().unwrap();
+    assert_eq!(stm::present(&report, "x"), Some(2000));
+    assert_eq!(stm::check(&file, &report), Ok(Verdict::Good));
 }

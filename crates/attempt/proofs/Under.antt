@@ -1,6 +1,6 @@
 -- The program and the code of a transaction of a catalogue.
 use Rattle.std.proofs.Common.{◌≡◌, List, ◌++◌, ◌∙◌, ap, map, String, Global}
-use Rattle.programs.specs.Code.{program_code, transaction_code, ending_code}
+use Rattle.programs.specs.Fused.{own_code, common_code, machine_code}
 use Rattle.programs.specs.Listing.{Listing, conditions, program_at, transaction_at}
 use Rattle.programs.specs.Tree.{condition_of, transaction_of, under}
 use Rattle.programs.specs.declared.ast.Cond.{Cond}
@@ -12,5 +12,5 @@ use Rattle.attempt_machine.specs.Place.{program_under}
 pub same_program : (l : Listing) (id : TxId) (always : List (String Global × Cond)) (tx : Tx) → map (λ a. condition_of a.1) always ≡ conditions l → transaction_of tx ≡ transaction_at l id → program_under always tx ≡ program_at l id
 same_program l id always tx e f = ap (λ cs. under cs (transaction_of tx)) e ∙ ap (under (conditions l)) f
 
-pub same_code : (l : Listing) (id : TxId) (own ending : List Op) → own ≡ transaction_code (transaction_at l id).body (transaction_at l id).result → ending ≡ ending_code 0 (conditions l) → own ++ ending ≡ program_code (program_at l id)
-same_code l id own ending e f = ap (λ c. c ++ ending) e ∙ ap (λ c. transaction_code (transaction_at l id).body (transaction_at l id).result ++ c) f
+pub same_code : (l : Listing) (id : TxId) (own ending : List Op) → own ≡ own_code (transaction_at l id).body (transaction_at l id).result → ending ≡ common_code (conditions l) → own ++ ending ≡ machine_code (program_at l id)
+same_code l id own ending e f = ap (λ c. c ++ ending) e ∙ ap (λ c. own_code (transaction_at l id).body (transaction_at l id).result ++ c) f

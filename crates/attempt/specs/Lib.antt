@@ -2,6 +2,7 @@ pub use Rattle.own_writes.specs.Order
 pub use Rattle.attempt_machine.specs.Asking
 pub use Rattle.attempt_machine.specs.Correct
 pub use Rattle.attempt_machine.specs.Frame
+pub use Rattle.attempt_machine.specs.Fused
 pub use Rattle.attempt_machine.specs.Room
 pub mod CodedProgram
 pub mod View

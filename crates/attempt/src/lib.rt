@@ -12,6 +12,6 @@ pub mod next;
 mod running;
 
 pub use attempt::Attempt;
-pub use attempt_machine::{answers, frame, laws, resumes};
+pub use attempt_machine::{answers, frame, fuses, laws, resumes};
 pub use log::Log;
 pub use next::{Next, Stand};

@@ -3,5 +3,6 @@ pub mod Declared
 pub mod Runs
 pub mod Resume
 pub mod Going
+pub mod Kept
 pub mod Small
 pub mod Stores

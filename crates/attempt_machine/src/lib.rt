@@ -4,7 +4,7 @@
 //! the log, or to the end, through the transaction's own code and then through that of the standing
 //! conditions. `frame` says why this is safe: an end that was reached over a log is the end on every
 //! state that agrees with the log. `answers` and `resumes` say that the machine answers what the
-//! definitions ask, and that it goes on where it waited.
+//! definitions ask, and that it goes on where it waited, and `fuses` that fused code does the same.
 #![tactic(auto)]
 
 mod arithmetic;
@@ -15,6 +15,6 @@ pub mod running;
 pub mod spot;
 
 pub use evaluate::{Halt, Told};
-pub use laws::{answers, frame, resumes};
+pub use laws::{answers, frame, fuses, resumes};
 pub use machine::Machine;
 pub use running::{Count, run};

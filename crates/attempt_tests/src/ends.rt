@@ -159,3 +159,37 @@ fn quotients_end_as_in_the_plain_evaluation(rt: HostRuntime) {
         expect_alike(&rt, rt.alloc(), rest);
     }
 }
+
+/// What is fused, with results that fit and results that do not.
+#[test]
+fn fused_instructions_end_as_in_the_plain_evaluation(rt: HostRuntime) {
+    for rest in [
+        "(set y (add x 3)) (sub y x)",
+        "(set y (sub x 3)) (add y x)",
+        "(set x (add x 9223372036854775807)) x",
+        "(set x (sub x -9223372036854775808)) x",
+        "(skip) (add (mul x 1) 1)",
+        "(skip) (sub (mul x 1) 1)",
+        "(skip) (add (mul x 1) y)",
+        "(skip) (sub (mul x 1) y)",
+        "(orelse (seq (set x (add y 1)) (retry)) (set y (sub x 1))) y",
+        "(if (eq x 1) (set y 7) (set y 8)) y",
+        "(if (lt x 1) (set y 7) (set y 8)) y",
+        "(if (le x 1) (set y 7) (set y 8)) y",
+    ] {
+        expect_alike(&rt, rt.alloc(), rest);
+    }
+}
+
+/// A fault of a fused instruction in a condition is named as any other.
+#[test]
+fn fused_instructions_are_blamed_on_their_condition(rt: HostRuntime) {
+    for text in [
+        "(stm 2)(var x 0)(var y 0)(always a (le 0 (add (mul x 1) 1)))(tx t (skip) 4)",
+        "(stm 2)(var x 0)(var y 0)(always a (le (sub (mul x 1) 1) 8))(tx t (skip) 4)",
+        "(stm 2)(var x 0)(var y 0)(always b (eq y y))(always a (le 0 (add (mul x 1) y)))(tx t (skip) 4)",
+        "(stm 2)(var x 0)(var y 0)(always b (eq y y))(always a (le 0 (sub (mul x 1) y)))(tx t (skip) 4)",
+    ] {
+        expect_alike_in(&rt, rt.alloc(), text);
+    }
+}

@@ -2,7 +2,7 @@
 
 use crate::parts::{X, Y};
 use crate::play::{Step, plays};
-use attempt::{Next, answers, frame, resumes};
+use attempt::{Next, answers, frame, fuses, resumes};
 use txn::Fault;
 
 #[test]
@@ -85,5 +85,6 @@ fn a_retry_keeps_its_log(rt: HostRuntime) {
 fn laws_can_be_called(_rt: HostRuntime) {
     frame();
     answers();
+    fuses();
     resumes();
 }

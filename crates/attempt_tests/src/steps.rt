@@ -36,6 +36,8 @@ fn an_operator_is_one_node_and_its_operands(rt: HostRuntime) {
         ("(div 1 0)", 4),
         ("(add (div 1 0) 2)", 5),
         ("(add 2 (div 1 0))", 6),
+        ("(add 9223372036854775807 1)", 4),
+        ("(sub -9223372036854775808 1)", 4),
     ] {
         enters(&rt, rt.alloc(), "(skip)", answer, want);
     }

@@ -190,3 +190,8 @@ module _ (a b : BookView) (task : TaskId) (taken : Taken a (Some task) b) where
 pub drains_catalogue : (every : ℕ) (a b : BookView) → Drains every a b → b.catalogue ≡ a.catalogue
 drains_catalogue every a b Drains.NoTurn = refl
 drains_catalogue every a b (Drains.OneMore m task d taken t) = turn_catalogue _ m task taken every b t ∙ drains_catalogue every a _ d
+
+-- a turn, and then those that follow it
+pub drains_first : (every : ℕ) (a b : BookView) (task : TaskId) (c d : BookView) → Taken a (Some task) b → Turn every b task c → Drains every c d → Drains every a d
+drains_first every a b task c d taken turn Drains.NoTurn = Drains.OneMore b task Drains.NoTurn taken turn
+drains_first every a b task c d taken turn (Drains.OneMore m other before its done) = Drains.OneMore m other (drains_first every a b task c _ taken turn before) its done

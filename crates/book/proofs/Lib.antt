@@ -16,4 +16,5 @@ mod Committing
 mod Reporting
 pub mod Accounts
 mod Finishing
+mod Tallies
 pub mod Logs

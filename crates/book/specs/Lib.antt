@@ -6,3 +6,4 @@ pub mod Submitted
 pub mod Board
 pub mod BoardInside
 pub mod Agreeing
+pub mod Counting

@@ -138,6 +138,10 @@ listed so l n [] = []
 listed so l n (t ∷ ts) =
     if so t then (record { 0 = n }, task_tx l (record { 0 = n })) ∷ listed so l (n + 1) ts else listed so l (n + 1) ts
 
+-- the book whose journal is empty
+abbrev pub without_journal : BookView → BookView
+without_journal b = record b { journal = [] }
+
 -- `report`
 pub record ReportIs (b : BookView) (r : Told) : Type 0 where
   pub base : base_of r ≡ b.base

@@ -11,6 +11,7 @@ ghost use Rattle.book.specs.Turns.{is_committed};
 
 use crate::board::Board;
 use crate::changing::{note_changes, store_changes};
+use crate::counting::{Counts, counts_of};
 use crate::evaluate::evaluate;
 use crate::listing::{given_up, parked};
 use crate::stored::{Stored, opening, pairs};
@@ -65,11 +66,12 @@ impl<'a> Book<'a> {
     ghost use Rattle.programs.specs.Listing.{tasks, task_tx, task_program};
     ghost use Rattle.txn.specs.Grown.{SameButRuns};
     ghost use Rattle.book.specs.Submitted.{Submits};
+    ghost use Rattle.book.specs.Counting.{AreCounts, IsPresent};
     ghost use Rattle.programs.specs.declared.ast.Outcome as Outcome;
     ghost use Rattle.book.specs.declared.task.Task.TheVariants as Task;
     ghost use Rattle.programs.specs.Told.{told};
     ghost use Rattle.book.specs.View.{opened, IsRunning, stands, committed, checkpointed};
-    ghost use Rattle.book.specs.Turns.{Taken, IsEndOf, Finished, IsLeft, Served, Turn, Drains, kept_short, readied, IsIdle, ReportIs};
+    ghost use Rattle.book.specs.Turns.{Taken, IsEndOf, Finished, IsLeft, Served, Turn, Drains, kept_short, readied, IsIdle, without_journal, ReportIs};
     ghost use Rattle.book.specs.LawfulBook.{LawfulBook, BookFits, KeepsConditions, Waits};
 
     /// All tasks ready, number 0, the initial values, an empty journal. `Memory` only where a
@@ -166,6 +168,41 @@ impl<'a> Book<'a> {
         ensures listed { result ≡ length (tasks self.now.catalogue) }
     {
         self.board.tasks().len()
+    }
+
+    /// How many tasks stand how. Its time grows with the tasks.
+    pub fn counts(&self) -> Counts
+        ensures { AreCounts self.now.tasks result }
+    {
+        counts_of(self.board.tasks())
+    }
+
+    /// Whether no task is ready or running. Its time grows with the tasks.
+    pub fn is_idle(&self) -> bool
+        ensures { IsTrue result ↔ IsIdle self.now }
+    {
+        let counts = self.counts();
+        counts.ready == 0 && counts.running == 0
+    }
+
+    /// The present value of a variable, and its version: the number of the last entry that changed
+    /// it, 0 where none did. `None` exactly where there is no such variable.
+    pub fn present(&self, variable: VarId) -> Option<(i64, u64)>
+        ensures { IsPresent self.now variable result }
+    {
+        let place = variable.0 as usize;
+        if place >= self.present.values.len() {
+            return None;
+        }
+        Some((self.present.values[place], self.present.versions[place]))
+    }
+
+    /// The catalogue that the book is of now: that which it was opened on, with a run of one task
+    /// more for each task that was submitted. `Memory` only where a growth was refused.
+    pub fn catalogue(&self, alloc: Global) -> Result<Catalogue, Memory>
+        ensures { IfOk result (λ c. c ≡ self.now.catalogue) }
+    {
+        self.catalogue.grown(alloc, self.submitted.as_slice())
     }
 
     /// The lowest ready task, which is then running. `None` exactly if none is ready. It takes no
@@ -291,7 +328,7 @@ impl<'a> Book<'a> {
     }
 
     /// Makes each running task ready, and then gives the lowest ready task a turn on the present
-    /// values until none is ready.
+    /// values until none is ready. One attempt, which is restarted, serves them all.
     ///
     /// Where `every` is not 0, a commit that makes the journal at least `every` entries long is
     /// followed by a checkpoint. A turn that meets want of memory gives its task up.
@@ -301,8 +338,13 @@ impl<'a> Book<'a> {
         ensures catalogue { self.new.catalogue ≡ self.old.catalogue }
     {
         self.make_ready();
+        let Some(first) = self.take() else {
+            return;
+        };
+        let mut attempt = Attempt::new(alloc, self.catalogue, self.task_tx(first));
+        self.turn(&mut attempt, every, first);
         while let Some(task) = self.take() {
-            self.turn(alloc, every, task);
+            self.turn(&mut attempt, every, task);
         }
     }
 
@@ -313,12 +355,12 @@ impl<'a> Book<'a> {
         self.board.ready_all();
     }
 
-    /// The turn of a task that was taken.
-    fn turn(&mut self, alloc: Global, every: u32, task: TaskId)
+    /// The turn of a task that was taken, by an attempt that is restarted for it.
+    fn turn(&mut self, attempt: &mut Attempt<'a>, every: u32, task: TaskId)
         requires { IsRunning self.old task }
         ensures { Turn every self.old task self.new }
     {
-        let how = self.serial(alloc, task);
+        let how = self.serve(attempt, task);
         self.keep_short(every, how);
     }
 
@@ -354,15 +396,9 @@ impl<'a> Book<'a> {
     pub fn report(&self, alloc: Global) -> Result<Report, Memory>
         ensures { IfOk result (λ r. ReportIs self.now (told r)) }
     {
-        Ok(Report {
-            base: self.base.number,
-            base_vars: pairs(alloc, &self.base)?,
-            entries: self.journal.as_slice().to_vec(alloc)?,
-            now: self.present.number,
-            now_vars: pairs(alloc, &self.present)?,
-            parked: parked(alloc, self.catalogue, &self.submitted, self.board.tasks())?,
-            memory: given_up(alloc, self.catalogue, &self.submitted, self.board.tasks())?,
-        })
+        let mut report = self.all_but_entries(alloc)?;
+        report.entries = self.journal.as_slice().to_vec(alloc)?;
+        Ok(report)
     }
 
     /// As `report`, of a book that ends with it: the report takes the journal over, where `report`
@@ -370,23 +406,23 @@ impl<'a> Book<'a> {
     pub fn into_report(self, alloc: Global) -> Result<Report, Memory>
         ensures { IfOk result (λ r. ReportIs self.entry (told r)) }
     {
-        let Book {
-            catalogue,
-            submitted,
-            base,
-            journal,
-            present,
-            board,
-            ..
-        } = self;
+        let mut report = self.all_but_entries(alloc)?;
+        report.entries = self.journal;
+        Ok(report)
+    }
+
+    /// The report but for its entries.
+    fn all_but_entries(&self, alloc: Global) -> Result<Report, Memory>
+        ensures { IfOk result (λ r. ReportIs (without_journal self.now) (told r)) }
+    {
         Ok(Report {
-            base: base.number,
-            base_vars: pairs(alloc, &base)?,
-            entries: journal,
-            now: present.number,
-            now_vars: pairs(alloc, &present)?,
-            parked: parked(alloc, catalogue, &submitted, board.tasks())?,
-            memory: given_up(alloc, catalogue, &submitted, board.tasks())?,
+            base: self.base.number,
+            base_vars: pairs(alloc, &self.base)?,
+            entries: Vec::new(alloc),
+            now: self.present.number,
+            now_vars: pairs(alloc, &self.present)?,
+            parked: parked(alloc, self.catalogue, &self.submitted, self.board.tasks())?,
+            memory: given_up(alloc, self.catalogue, &self.submitted, self.board.tasks())?,
         })
     }
 

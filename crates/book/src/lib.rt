@@ -7,6 +7,7 @@
 mod board;
 mod book;
 mod changing;
+mod counting;
 mod evaluate;
 mod listing;
 mod sleepers;
@@ -16,4 +17,5 @@ mod validate;
 mod whose;
 
 pub use book::Book;
+pub use counting::Counts;
 pub use task::{Finish, Serial};

@@ -10,6 +10,8 @@ mod beside;
 #[cfg(test)]
 mod lent;
 #[cfg(test)]
+mod looking;
+#[cfg(test)]
 mod opening;
 #[cfg(test)]
 mod parts;

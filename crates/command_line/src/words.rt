@@ -1,5 +1,6 @@
 //! The command line.
 
+use crate::explaining_words::{Explain, explain_command, wanted_explanation};
 use crate::exploring_words::{Orders, explore_command, wanted_orders};
 use clap::error::ErrorKind;
 use clap::{Arg, ArgMatches, Command, Error, value_parser};
@@ -19,6 +20,8 @@ pub enum Request<'a> {
     Print(Print<'a>),
     /// To see all orders of a file's tasks.
     Explore(Orders<'a>),
+    /// To explain a file, or a report.
+    Explain(Explain<'a>),
 }
 
 /// A file to run.
@@ -60,7 +63,10 @@ pub struct Print<'a> {
 const VERSION: &str = "0.1.0";
 
 const ABOUT: &str =
-    "Software transactional memory with retry and orElse: runs the transactions of a file, reports what they did, checks such reports, plays schedules on the stepped world, sees every order of a file's tasks, and prints files in their one form.";
+    "Software transactional memory with retry and orElse: runs the transactions of a file, reports what they did, checks such reports, plays schedules on the stepped world, sees every order of a file's tasks, prints files in their one form, and tells what is wrong with a file or a report.";
+
+const STATUSES: &str =
+    "Status: 0 done, the report is good; 1 the report is not good, or more places are reached\nthan may be looked at; 2 the file or the schedule is refused; 3 the command line is\nrefused; 4 a file cannot be read or the output cannot be written; 5 out of memory.\n\nA file or a schedule is refused by the first kind of fault that applies to it, and the\nstandard error names it, as in `stm: file: F3 Shape`:\n\n    F1 TooLong    more than 1048576 bytes\n    F2 BadByte    a byte that is neither a newline nor printable ASCII\n    F3 Shape      not of the form of a file, or a line that is none of a schedule's\n    F4 Name       a name that is declared twice, or not declared\n    F5 Limit      a number, a count, a name or a cost past its limit\n    F7 Broken     a standing condition that is not true of the initial values";
 
 const RUN: &str =
     "Runs the tasks of a file and prints a report: the base, the journal, the present values and versions, and the tasks that wait.";
@@ -102,13 +108,15 @@ fn command<'a>(alloc: Global) -> Result<Command<'a>, AllocError> {
     Command::new(alloc, "stm")
         .version(VERSION)
         .about(ABOUT)
+        .after_help(STATUSES)
         .subcommand_required(true)
         .arg_required_else_help(true)
         .subcommand(run)?
         .subcommand(check_command(alloc)?)?
         .subcommand(world_command(alloc)?)?
         .subcommand(explore_command(alloc)?)?
-        .subcommand(print_command(alloc)?)
+        .subcommand(print_command(alloc)?)?
+        .subcommand(explain_command(alloc)?)
 }
 
 /// The command `stm run`.
@@ -217,6 +225,11 @@ fn request_of<'a>(matches: &ArgMatches<'a>) -> Option<Request<'a>> {
     if let Some(print) = matches.subcommand_matches("print") {
         if let Some(request) = print_paths(print) {
             return Some(Request::Print(request));
+        }
+    }
+    if let Some(words) = matches.subcommand_matches("explain") {
+        if let Some(request) = wanted_explanation(words) {
+            return Some(Request::Explain(request));
         }
     }
     if let Some(words) = matches.subcommand_matches("explore") {

@@ -204,6 +204,7 @@ fn help_is_shown(rt: HostRuntime) {
         "stm help world",
         "stm explore --help",
         "stm print --help",
+        "stm explain --help",
     ] {
         expect_help(&rt, rt.alloc(), line);
     }
@@ -275,6 +276,25 @@ fn a_print_is_asked_for(rt: HostRuntime) {
     let alloc = rt.alloc();
     expect_print(&rt, alloc, "stm print a.stm", None);
     expect_print(&rt, alloc, "stm print a.stm --from b", Some("b"));
+}
+
+/// A command line asks to explain `a.stm`, or this report of it.
+fn expect_explain(rt: &impl Abort, alloc: Global, line: &str, report: Option<&str>) {
+    let words = words(rt, alloc, line);
+    match parse(alloc, words.as_slice()) {
+        Ok(Request::Explain(request)) => {
+            assert!(rt; request.file == "a.stm");
+            assert!(rt; request.report == report);
+        }
+        _ => panic!(rt; "nothing to explain is asked for"),
+    }
+}
+
+#[test]
+fn an_explanation_is_asked_for(rt: HostRuntime) {
+    let alloc = rt.alloc();
+    expect_explain(&rt, alloc, "stm explain a.stm", None);
+    expect_explain(&rt, alloc, "stm explain a.stm b", Some("b"));
 }
 
 #[test]

@@ -1,13 +1,15 @@
 //! The commands of the program `stm`, from the words of the command line to the status to end with.
 //!
-//! `program`, `checking`, `playing`, `exploring` and `printing` have the files. The words are those of the library
+//! `program`, `checking`, `playing`, `exploring`, `explaining` and `printing` have the files. The words are those of the library
 //! `command_line`, and the statuses those of `answers`. What the commands do is in libraries, too: `runner` goes
 //! from the bytes of a file to the bytes of its report, `checker` from the bytes of both to a verdict, `world_runner` from the bytes of
 //! a file and of a schedule to the bytes of what is seen, `explore_runner` from the bytes of a file to
-//! the bytes of what is found of all orders, and `file_rewriter` writes files anew.
+//! the bytes of what is found of all orders, `file_rewriter` writes files anew, and
+//! `explain_runner` and `report_explainer` go to the bytes of what is wrong with a file or a report.
 #![tactic(auto)]
 
 pub mod checking;
+pub mod explaining;
 pub mod exploring;
 pub mod playing;
 pub mod printing;

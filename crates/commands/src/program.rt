@@ -4,6 +4,7 @@ ghost use Rattle.std.specs.Prelude.{◌≡◌, ◌<◌, ◌+◌, ◌^◌, true, 
 ghost use Rattle.commands.specs.Files.{RanFile, read_of, failed_calls};
 
 use crate::checking::check_files;
+use crate::explaining::explain_files;
 use crate::exploring::{explore_file, witness_file};
 use crate::playing::play_files;
 use crate::printing::print_files;
@@ -62,6 +63,10 @@ fn answer<T: Threads + Wait + Sync, R: Files + Env + Print + Eprint + AllocGloba
                 Some(end) => witness_file(rt, request.file, request.limit, end, &mut out),
                 None => explore_file(rt, request.file, request.limit, &mut out),
             }
+        }
+        Ok(Request::Explain(request)) => {
+            let mut out = Out::new(io::writer(rt));
+            explain_files(rt, &request, &mut out)
         }
         Err(answer) => answer,
     }

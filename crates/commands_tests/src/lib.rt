@@ -4,6 +4,8 @@
 #[cfg(test)]
 mod checking;
 #[cfg(test)]
+mod explaining;
+#[cfg(test)]
 mod exploring;
 #[cfg(test)]
 mod host;

@@ -3,13 +3,18 @@
 //! lock.
 #![tactic(auto)]
 
+mod job;
+pub mod laws;
 mod program;
 mod store;
+mod telling;
 mod trying;
 mod worker;
 
+pub use job::Job;
 pub use program::Program;
 pub use store::{Brought, Store};
+pub use telling::{FileFault, ReportFault};
 pub use worker::{Tried, Worker};
 
 /// A host may pass each of them to other threads. It lets them go: that it checks is the law.

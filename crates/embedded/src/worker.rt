@@ -4,17 +4,18 @@ ghost use Rattle.std.specs.Prelude.{◌≡◌, ◌<◌, true, length, None};
 ghost use Rattle.std.specs.Coded.{codes};
 ghost use Rattle.std.specs.Option.{ForSome};
 ghost use Rattle.attempt.specs.CodedProgram.{coded_program};
-ghost use Rattle.programs.specs.Listing.{tasks, task_program};
+ghost use Rattle.programs.specs.Listing.{program_at};
 ghost use Rattle.cells.specs.Passing.{at};
 ghost use Rattle.observer.specs.Observing.{ObservesBy, IsObserved};
 ghost use Rattle.embedded.specs.Working.{TriedBy, is_over};
 
+use crate::job::Job;
 use crate::trying::attempt_on;
 use attempt::Attempt;
 use cells::{Cells, Pass};
 use observer::{Cut, Observed};
 use std::alloc::Global;
-use txn::{Catalogue, TaskId, TxId};
+use txn::{Catalogue, TxId};
 
 /// How a try ended.
 #[derive(Clone, Copy, Debug, PartialEq, Eq)]
@@ -34,12 +35,11 @@ pub struct Worker {
     cells: &'static Cells,
     pass: Pass,
     pub(crate) attempt: Attempt<'static>,
-    /// The task of an attempt that has ended and was not brought to the store yet.
-    pub(crate) ended: Option<TaskId>,
+    /// That which an attempt was for that has ended and was not brought to the store yet.
+    pub(crate) ended: Option<Job>,
     ghost own: { pass.cells ≡ cells.now },
     ghost counted: { cells.now.variables ≡ length catalogue.now.initial },
-    ghost exists: { ForSome ended (λ t. t.0 < length (tasks catalogue.now)) },
-    ghost program: { ForSome ended (λ t. attempt.program ≡ task_program catalogue.now t) } by { Prim.hlevel (codes, coded_program) },
+    ghost program: { ForSome ended (λ j. attempt.program ≡ program_at catalogue.now j.tx) } by { Prim.hlevel (codes, coded_program) },
     ghost variables: { ForSome ended (λ _. attempt.variables ≡ length catalogue.now.initial) },
     ghost over: { ForSome ended (λ _. is_over attempt.stand ≡ true) },
 }
@@ -69,28 +69,28 @@ impl Worker {
         }
     }
 
-    /// Evaluates the task's transaction on one state of the cells, with no lock. Nothing is written,
+    /// Evaluates the job's transaction on one state of the cells, with no lock. Nothing is written,
     /// and it waits for nobody. What was tried before and not brought to the store is forgotten.
     ///
-    /// `Ended`: the attempt has ended as the transaction ends on that state, and is of this task.
-    /// The task has to exist; whether it was taken is judged by the store.
-    pub fn try_task(&mut self, task: TaskId) -> Tried
-        requires exists { task.0 < length (tasks self.old.catalogue.now) }
-        ensures tried { TriedBy self.old.catalogue.now task self.old.pass result self.new.pass self.new.attempt self.new.ended }
+    /// `Ended`: the attempt has ended as the transaction ends on that state, and is for this job.
+    /// The transaction has to exist; whether the store has this task, and has it running, is judged
+    /// by the store.
+    pub fn try_job(&mut self, job: Job) -> Tried
+        requires known { job.tx.0 < length self.old.catalogue.now.transactions }
+        ensures tried { TriedBy self.old.catalogue.now job self.old.pass result self.new.pass self.new.attempt self.new.ended }
         ensures catalogue { self.new.catalogue.now ≡ self.old.catalogue.now }
         ensures cells { self.new.cells.now ≡ self.old.cells.now }
     {
-        let tx = self.catalogue.task_tx(task);
         self.ended = None;
         match attempt_on(
             &mut self.attempt,
             self.catalogue,
-            tx,
+            job.tx,
             self.cells,
             &mut self.pass,
         ) {
             Ok(_) => {
-                self.ended = Some(task);
+                self.ended = Some(job);
                 Tried::Ended
             }
             Err(Cut::Stale) => Tried::Stale,

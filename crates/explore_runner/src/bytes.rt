@@ -1,7 +1,9 @@
 //! From the bytes of a file to the bytes of what is found of all orders of its tasks.
 
-ghost use Rattle.std.specs.Prelude.{◌≡◌, ◌+◌, ◌<◌, ◌≤◌, ◌^◌, true, IfOk, OnOk, IfErr, string_bytes};
+ghost use Rattle.std.specs.Prelude.{◌≡◌, ◌+◌, ◌<◌, ◌≤◌, ◌^◌, ℕ, List, true, IfOk, OnOk, IfErr, string_bytes};
 ghost use Rattle.run_faults.specs.Failures.{output_failures};
+ghost use Rattle.run_faults.specs.declared.fault.RunFault.TheVariants as RunFault;
+ghost use Rattle.txn_text.specs.Spelling.{Spells};
 ghost use Rattle.explore_runner.specs.Showing.{IsShown, IsRefused, Showed};
 
 use crate::printer::{print_found, print_more};
@@ -48,9 +50,20 @@ fn shown(alloc: Global, file: &[u8], limit: u32) -> Result<(Sight, String), RunF
     ensures shown { IfOk result (λ s. IsShown file.now limit s.0 (string_bytes s.1)) }
     ensures refused { IfErr result (IsRefused file.now) }
 {
-    let catalogue = catalogue_of(alloc, file)?;
-    match explore(alloc, &catalogue, limit) {
-        Ok(found) => match print_found(alloc, &catalogue, &found) {
+    match catalogue_of(alloc, file) {
+        Ok(catalogue) => shown_of(alloc, &catalogue, limit),
+        Err(fault) => Err(fault),
+    }
+}
+
+/// The text of what is found of the catalogue, which is that of each file that spells it.
+fn shown_of(alloc: Global, catalogue: &Catalogue, limit: u32) -> Result<(Sight, String), RunFault>
+    requires { limit ≤ MAX_STATES }
+    ensures shown { IfOk result (λ s. (file : List ℕ) → Spells file catalogue.now → IsShown file limit s.0 (string_bytes s.1)) }
+    ensures refused { IfErr result (λ fault. fault ≡ RunFault.Memory) }
+{
+    match explore(alloc, catalogue, limit) {
+        Ok(found) => match print_found(alloc, catalogue, &found) {
             Ok(text) => Ok((Sight::Whole, text)),
             Err(_) => Err(RunFault::Memory),
         },
@@ -73,5 +86,3 @@ pub(crate) fn catalogue_of(alloc: Global, file: &[u8]) -> Result<Catalogue, RunF
         Err(kind) => Err(RunFault::Input(kind)),
     }
 }
-
-ghost use Rattle.txn_text.specs.Spelling.{Spells};

@@ -1,7 +1,9 @@
 //! From the bytes of a file to the bytes of a report that comes to one of its ends.
 
-ghost use Rattle.std.specs.Prelude.{◌≡◌, ◌+◌, ◌<◌, ◌≤◌, ◌^◌, true, IfOk, OnOk, IfErr, string_bytes};
+ghost use Rattle.std.specs.Prelude.{◌≡◌, ◌+◌, ◌<◌, ◌≤◌, ◌^◌, ℕ, List, true, IfOk, OnOk, IfErr, string_bytes};
 ghost use Rattle.run_faults.specs.Failures.{output_failures};
+ghost use Rattle.run_faults.specs.declared.fault.RunFault.TheVariants as RunFault;
+ghost use Rattle.txn_text.specs.Spelling.{Spells};
 ghost use Rattle.explore_law.specs.Orders.{Place, Leads, first_place};
 ghost use Rattle.explore_reports.specs.Ends.{LeadsToEnd};
 ghost use Rattle.explore_runner.specs.Showing.{IsRefused};
@@ -61,10 +63,26 @@ fn answer_of(
     ensures shown { IfOk result (λ s. IsAnswer file.now limit end s.0 (string_bytes s.1)) }
     ensures refused { IfErr result (IsRefused file.now) }
 {
-    let catalogue = catalogue_of(alloc, file)?;
-    ways_lead_to_ends(&catalogue);
-    match way_to_end(alloc, &catalogue, limit, end) {
-        Ok(Some(way)) => match report_of(alloc, &catalogue, way.as_slice()) {
+    match catalogue_of(alloc, file) {
+        Ok(catalogue) => answer_over(alloc, &catalogue, limit, end),
+        Err(fault) => Err(fault),
+    }
+}
+
+/// The text of a report of a run of the catalogue, which is that of each file that spells it.
+fn answer_over(
+    alloc: Global,
+    catalogue: &Catalogue,
+    limit: u32,
+    end: usize,
+) -> Result<(Witnessed, String), RunFault>
+    requires { limit ≤ MAX_STATES }
+    ensures shown { IfOk result (λ s. (file : List ℕ) → Spells file catalogue.now → IsAnswer file limit end s.0 (string_bytes s.1)) }
+    ensures refused { IfErr result (λ fault. fault ≡ RunFault.Memory) }
+{
+    ways_lead_to_ends(catalogue);
+    match way_to_end(alloc, catalogue, limit, end) {
+        Ok(Some(way)) => match report_of(alloc, catalogue, way.as_slice()) {
             Ok(text) => Ok((Witnessed::Report, text)),
             Err(_) => Err(RunFault::Memory),
         },

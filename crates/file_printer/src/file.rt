@@ -6,7 +6,7 @@ ghost use Rattle.std.specs.List.{AllByRecursion, flat_map};
 ghost use Rattle.programs.specs.Scope.{ConditionKnown, ProgramKnown};
 ghost use Rattle.programs.specs.Tree.{condition_of, transaction_of, under};
 ghost use Rattle.programs.specs.Listing.{conditions};
-ghost use Rattle.txn.specs.Conditions.{standing_of};
+ghost use Rattle.program_copies.specs.Conditions.{standing_of};
 ghost use Rattle.file_grammar.specs.Written.{form_for, written_vars, written_always, written_transaction, written_run, written_in, written};
 ghost use Rattle.file_grammar.specs.Spelling.{Spells};
 ghost use Rattle.file_printer.specs.Canonical.{heading_text, pair_line, always_line, tx_line, file_text};

@@ -1,4 +1,3 @@
-mod Rows
 mod Same
 mod Moved
 mod Values

@@ -11,7 +11,7 @@ use Rattle.programs.specs.Listing.{Listing, listing_of, conditions}
 use Rattle.programs.specs.Names.{names_hold, is_well_formed}
 use Rattle.programs.specs.Limits.{limits_hold}
 use Rattle.programs.specs.Standing.{AllTrue, is_true}
-use Rattle.txn.specs.Conditions.{standing_of}
+use Rattle.program_copies.specs.Conditions.{standing_of}
 
 abbrev pub with_values : Listing → State → Listing
 with_values l state = record l { initial = state }

@@ -6,6 +6,7 @@ ghost use Rattle.programs.specs.LawfulReport.{LawfulReport};
 ghost use Rattle.txn_text.specs.Spelling.{Spells};
 ghost use Rattle.file_rewriter.specs.GoingOn.{going_on};
 ghost use Rattle.run_faults.specs.Failures.{output_failures};
+ghost use Rattle.run_faults.specs.declared.fault.RunFault.TheVariants as RunFault;
 ghost use Rattle.checker.specs.declared.verdict.Verdict.{Verdict as VerdictOf};
 ghost use Rattle.file_rewriter.specs.Printing.{IsAnswer, IsPrinted, IsTextOf, IsRefused, Printed, PrintedOn};
 
@@ -92,11 +93,13 @@ fn printed(alloc: Global, bytes: &[u8]) -> Result<String, RunFault>
     ensures printed { IfOk result (λ text. IsPrinted bytes.now (string_bytes text)) }
     ensures refused { IfErr result (IsRefused bytes.now) }
 {
-    let catalogue = catalogue_of(alloc, bytes)?;
-    let Ok(text) = text_of(alloc, &catalogue) else {
-        return Err(RunFault::Memory);
-    };
-    Ok(text)
+    match catalogue_of(alloc, bytes) {
+        Ok(catalogue) => match text_of(alloc, &catalogue) {
+            Ok(text) => Ok(text),
+            Err(_) => Err(RunFault::Memory),
+        },
+        Err(fault) => Err(fault),
+    }
 }
 
 /// The canonical text of the file that goes on where the report ended.
@@ -113,23 +116,35 @@ fn answered(alloc: Global, bytes: &[u8], report: &[u8]) -> Result<(Verdict, Stri
     ensures answered { IfOk result (λ x. IsAnswer bytes.now report.now x.0 (string_bytes x.1)) }
     ensures refused { IfErr result (IsRefused bytes.now) }
 {
-    let catalogue = catalogue_of(alloc, bytes)?;
-    let Ok(judged) = judged(alloc, bytes, &catalogue, report) else {
-        return Err(RunFault::Memory);
-    };
-    match judged {
-        Judgement::Lawful(report) => {
-            let Ok(text) = text_on(alloc, &catalogue, &report) else {
-                return Err(RunFault::Memory);
-            };
-            Ok((Verdict::Good, text))
-        }
-        Judgement::Bad(part) => {
+    match catalogue_of(alloc, bytes) {
+        Ok(catalogue) => answered_of(alloc, bytes, &catalogue, report),
+        Err(fault) => Err(fault),
+    }
+}
+
+/// The verdict on the report of the catalogue that the bytes spell, and what is written of it.
+fn answered_of(
+    alloc: Global,
+    bytes: &[u8],
+    catalogue: &Catalogue,
+    report: &[u8],
+) -> Result<(Verdict, String), RunFault>
+    requires { Spells bytes.now catalogue.now }
+    ensures answered { IfOk result (λ x. IsAnswer bytes.now report.now x.0 (string_bytes x.1)) }
+    ensures refused { IfErr result (λ fault. fault ≡ RunFault.Memory) }
+{
+    match judged(alloc, bytes, catalogue, report) {
+        Ok(Judgement::Lawful(report)) => match text_on(alloc, catalogue, &report) {
+            Ok(text) => Ok((Verdict::Good, text)),
+            Err(_) => Err(RunFault::Memory),
+        },
+        Ok(Judgement::Bad(part)) => {
             let verdict = Verdict::Bad(part);
             match String::from_str(alloc, verdict.line()) {
                 Ok(line) => Ok((verdict, line)),
                 Err(_) => Err(RunFault::Memory),
             }
         }
+        Err(_) => Err(RunFault::Memory),
     }
 }

@@ -9,8 +9,9 @@ ghost use Rattle.programs.specs.Told.{told};
 ghost use Rattle.programs.specs.LawfulReport.{LawfulReport};
 ghost use Rattle.file_rewriter.specs.GoingOn.{going_on};
 
-use crate::copies::{copied_conditions, copied_transactions};
+use crate::copies::copied_transactions;
 use checker::laws::lawful_reports_uphold;
+use program_copies::copy::always_of;
 use std::alloc::{AllocError, Global};
 use txn::{BuildFault, Catalogue, Cond, Memory, Report, Tx, TxId, VarId};
 
@@ -90,7 +91,7 @@ pub fn going_on(alloc: Global, catalogue: &Catalogue, report: &Report) -> Result
     let _few = catalogue.initial();
     let values = values_of(alloc, &report.now_vars)?;
     let vars = variables(alloc, catalogue, &values)?;
-    let always = copied_conditions(alloc, catalogue.always())?;
+    let always = always_of(alloc, catalogue.always())?;
     let txs = copied_transactions(alloc, catalogue)?;
     let runs = copied_runs(alloc, catalogue.runs())?;
     built(alloc, vars, always, txs, runs)

@@ -13,8 +13,8 @@ fn step(store: &mut Store, worker: &mut Worker) -> Option<Brought>
     requires { worker.old.catalogue.now ≡ store.old.catalogue.now }
     ensures { worker.new.catalogue.now ≡ store.new.catalogue.now }
 {
-    let task = store.take()?;
-    match worker.try_task(task) {
+    let job = store.take()?;
+    match worker.try_job(job) {
         Tried::Ended => Some(store.finish(worker)),
         Tried::Stale | Tried::Memory => None,
     }
@@ -62,12 +62,12 @@ fn a_host_meets_the_limits(rt: HostRuntime) {
         panic!(rt; "no store");
     };
     assert!(rt; store.worker().is_none());
-    let Some(task) = store.take() else {
+    let Some(job) = store.take() else {
         panic!(rt; "no task");
     };
-    assert!(rt; store.give_up(task));
-    assert!(rt; !store.give_up(task));
-    assert!(rt; store.serial(task) == Serial::NotRunning);
+    assert!(rt; store.give_up(job.task));
+    assert!(rt; !store.give_up(job.task));
+    assert!(rt; store.serial(job.task) == Serial::NotRunning);
     store.checkpoint();
     match store.report() {
         Ok(text) => assert!(rt;

@@ -11,6 +11,8 @@ mod gates;
 #[cfg(test)]
 mod hosting;
 #[cfg(test)]
+mod submitting;
+#[cfg(test)]
 mod turns;
 #[cfg(test)]
 mod writers;

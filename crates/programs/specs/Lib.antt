@@ -4,6 +4,7 @@ pub mod Meaning
 pub mod Cost
 pub mod Depth
 pub mod Code
+pub mod Fused
 pub mod Scope
 pub mod Listing
 pub mod Standing

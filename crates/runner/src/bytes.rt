@@ -1,6 +1,7 @@
 //! From the bytes of a file to the bytes of its report.
 
-ghost use Rattle.std.specs.Prelude.{◌≡◌, ◌+◌, ◌<◌, ◌^◌, true, IfOk, OnOk, IfErr, string_bytes};
+ghost use Rattle.std.specs.Prelude.{◌≡◌, ◌+◌, ◌<◌, ◌^◌, ℕ, List, true, IfOk, OnOk, IfErr, string_bytes};
+ghost use Rattle.txn_text.specs.Spelling.{Spells};
 ghost use Rattle.run_faults.specs.Failures.{output_failures};
 ghost use Rattle.runner.specs.Running.{IsReportOf, IsRefused, Ran};
 
@@ -10,6 +11,7 @@ use sink::{Sink, put_all};
 use std::alloc::Global;
 use std::sync::Wait;
 use std::thread::Threads;
+use txn::Catalogue;
 use txn_text::{ReadFault, print_report, read_file};
 use workers::{Gate, run_tasks};
 
@@ -52,15 +54,28 @@ fn report_of<R: Threads + Wait + Sync, G: Gate>(
     ensures report { IfOk result (λ text. IsReportOf bytes.now (string_bytes text)) }
     ensures refused { IfErr result (IsRefused bytes.now) }
 {
-    let catalogue = match read_file(alloc, bytes) {
-        Ok(catalogue) => catalogue,
-        Err(ReadFault::Memory) => return Err(RunFault::Memory),
-        Err(kind) => return Err(RunFault::Input(kind)),
-    };
-    let Ok(report) = run_tasks(rt, alloc, &catalogue, options, gate) else {
+    match read_file(alloc, bytes) {
+        Ok(catalogue) => report_on(rt, alloc, &catalogue, options, gate),
+        Err(ReadFault::Memory) => Err(RunFault::Memory),
+        Err(kind) => Err(RunFault::Input(kind)),
+    }
+}
+
+/// The text of a lawful report of the catalogue, which is that of each file that spells it.
+fn report_on<R: Threads + Wait + Sync, G: Gate>(
+    rt: &R,
+    alloc: Global,
+    catalogue: &Catalogue,
+    options: Options,
+    gate: &G,
+) -> Result<String, RunFault>
+    ensures report { IfOk result (λ text. (file : List ℕ) → Spells file catalogue.now → IsReportOf file (string_bytes text)) }
+    ensures refused { IfErr result (λ fault. (file : List ℕ) → IsRefused file fault) }
+{
+    let Ok(report) = run_tasks(rt, alloc, catalogue, options, gate) else {
         return Err(RunFault::Memory);
     };
-    match print_report(alloc, &catalogue, &report) {
+    match print_report(alloc, catalogue, &report) {
         Ok(text) => Ok(text),
         Err(_) => Err(RunFault::Memory),
     }

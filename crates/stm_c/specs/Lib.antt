@@ -1,3 +1,4 @@
+pub mod Looking
 pub mod ProgramHandle
 pub mod Rooms
 pub mod StoreHandle

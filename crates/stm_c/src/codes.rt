@@ -1,10 +1,11 @@
 //! What the calls answer in numbers: 0 or more where they did what they are for, else why not.
 
-ghost use Rattle.std.specs.Prelude.{◌≢◌, pos};
+ghost use Rattle.std.specs.Prelude.{◌≡◌, ◌≢◌, pos};
+ghost use Rattle.stm_c.specs.Looking.{number_of_task};
 
 use book::{Finish, Serial};
 use checker::Part;
-use embedded::{Brought, Tried};
+use embedded::{Brought, Job, Tried};
 use observer::Observed;
 use txn::{Fault, Outcome, TaskId};
 use txn_text::ReadFault;
@@ -20,12 +21,36 @@ pub(crate) const NO_WORKER: i32 = -10;
 /// The worker has no ended attempt to bring.
 pub(crate) const NOT_ENDED: i32 = -11;
 
+/// There is no room for another task; or there would be more tasks than there may be.
+pub(crate) const NO_ROOM: i32 = -14;
+/// A task is ready or running, and the report could not account for it.
+pub(crate) const WORK_LEFT: i32 = -15;
+
 /// A kind, and a number.
 #[repr(C)]
 #[derive(Clone, Copy)]
 pub struct Told {
     pub kind: i32,
     pub value: i64,
+}
+
+/// A task that was taken, and its transaction.
+#[repr(C)]
+#[derive(Clone, Copy)]
+pub struct Taken {
+    pub task: i64,
+    pub tx: u32,
+}
+
+/// How many tasks stand how.
+#[repr(C)]
+#[derive(Clone, Copy)]
+pub struct Standing {
+    pub ready: usize,
+    pub running: usize,
+    pub parked: usize,
+    pub done: usize,
+    pub given_up: usize,
 }
 
 fn kind(kind: i32) -> Told {
@@ -81,10 +106,24 @@ pub(crate) fn bad_part(part: Part) -> i32
     }
 }
 
-pub(crate) fn task_number(task: Option<TaskId>) -> i64 {
+/// The number of a task that was submitted.
+pub(crate) fn submitted(task: Option<TaskId>) -> i64
+    ensures { result ≡ number_of_task task }
+{
     match task {
         Some(task) => i64::from(task.0),
-        None => -1,
+        None => i64::from(NO_ROOM),
+    }
+}
+
+/// A job, or the task -1 where there is none.
+pub(crate) fn job_of(job: Option<Job>) -> Taken {
+    match job {
+        Some(job) => Taken {
+            task: i64::from(job.task.0),
+            tx: job.tx.0,
+        },
+        None => Taken { task: -1, tx: 0 },
     }
 }
 
@@ -99,6 +138,7 @@ fn committed(number: u64) -> Told {
 pub(crate) fn brought(how: Brought) -> Told {
     match how {
         Brought::NotEnded => kind(NOT_ENDED),
+        Brought::OtherTask => kind(UNKNOWN),
         Brought::Finished(Finish::Committed(number)) => committed(number),
         Brought::Finished(Finish::Parked) => kind(1),
         Brought::Finished(Finish::Stale) => kind(2),

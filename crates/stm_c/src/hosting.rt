@@ -3,7 +3,9 @@
 ghost use Rattle.std.specs.Prelude.{◌≡◌, ◌<◌, length};
 ghost use Rattle.programs.specs.Listing.{tasks};
 
-use crate::codes::{MEMORY, NO_WORKER, Told, UNKNOWN, brought, served, task_number, unknown};
+use crate::codes::{
+    MEMORY, NO_ROOM, NO_WORKER, Taken, Told, UNKNOWN, brought, job_of, served, unknown,
+};
 use crate::parts::Parts;
 use crate::program_handle::ProgramHandle;
 use crate::reading::program_of;
@@ -11,7 +13,7 @@ use crate::store_handle::{StoreHandle, give as give_store};
 use crate::worker_handle::{WorkerHandle, give as give_worker};
 use crate::writing::copy;
 use core::mem::replace_with;
-use embedded::Store;
+use embedded::{Program, Store};
 use std::alloc::Global;
 use txn::TaskId;
 
@@ -25,10 +27,38 @@ pub extern "C" fn stm_store_open(
     checkpoint: u32,
     out: &mut *mut u8,
 ) -> i32 {
+    open(alloc, program_of(program), workers, checkpoint, 0, out)
+}
+
+/// As `stm_store_open`, with room for so many tasks more. -14: there would be more tasks than there
+/// may be.
+#[unsafe(no_mangle)]
+pub extern "C" fn stm_store_open_with_room(
+    alloc: Global,
+    program: &mut ProgramHandle,
+    workers: usize,
+    checkpoint: u32,
+    spare: usize,
+    out: &mut *mut u8,
+) -> i32 {
+    open(alloc, program_of(program), workers, checkpoint, spare, out)
+}
+
+fn open(
+    alloc: Global,
+    program: Program,
+    workers: usize,
+    checkpoint: u32,
+    spare: usize,
+    out: &mut *mut u8,
+) -> i32 {
     if workers > 32 {
         return NO_WORKER;
     }
-    let Ok(store) = Store::open(alloc, program_of(program), workers, checkpoint) else {
+    if spare > 65536 - program.catalogue().tasks() {
+        return NO_ROOM;
+    }
+    let Ok(store) = Store::open_with_room(alloc, program, workers, checkpoint, spare) else {
         return MEMORY;
     };
     let Ok(made) = Box::new(alloc, store) else {
@@ -66,14 +96,25 @@ pub extern "C" fn stm_store_worker(
     0
 }
 
+/// The lowest ready task, which is then running, with its transaction; the task -1 where none is
+/// ready.
+#[unsafe(no_mangle)]
+pub extern "C" fn stm_store_take_job(store: &mut StoreHandle) -> Taken {
+    take(store)
+}
+
+fn take(store: &mut StoreHandle) -> Taken {
+    replace_with(store, (), |store, _| {
+        let mut held = store.into_parts().into_box();
+        let taken = job_of(held.take());
+        (StoreHandle::of_parts(Parts::of(held)), taken)
+    })
+}
+
 /// The lowest ready task, which is then running, or -1 where none is ready.
 #[unsafe(no_mangle)]
 pub extern "C" fn stm_store_take(store: &mut StoreHandle) -> i64 {
-    replace_with(store, (), |store, _| {
-        let mut held = store.into_parts().into_box();
-        let taken = task_number(held.take());
-        (StoreHandle::of_parts(Parts::of(held)), taken)
-    })
+    take(store).task
 }
 
 /// Brings a worker's ended attempt to the store.
@@ -123,7 +164,7 @@ pub extern "C" fn stm_store_serial(store: &mut StoreHandle, task: u32) -> Told {
 }
 
 fn turn(store: &mut Store, task: u32) -> Told {
-    if task as usize >= store.catalogue().tasks() {
+    if task as usize >= store.tasks() {
         return unknown();
     }
     served(store.serial(TaskId(task)))
@@ -140,7 +181,7 @@ pub extern "C" fn stm_store_give_up(store: &mut StoreHandle, task: u32) -> i32 {
 }
 
 fn given_up(store: &mut Store, task: u32) -> i32 {
-    if task as usize >= store.catalogue().tasks() {
+    if task as usize >= store.tasks() {
         return UNKNOWN;
     }
     if store.give_up(TaskId(task)) { 0 } else { 3 }

@@ -4,11 +4,33 @@ use crate::codes::{Told, UNKNOWN, observed, tried, unknown};
 use crate::parts::Parts;
 use crate::worker_handle::WorkerHandle;
 use core::mem::replace_with;
-use embedded::Worker;
+use embedded::{Job, Worker};
 use txn::{TaskId, TxId};
 
-/// Evaluates the task on one state: 0 it has ended, 2 a read was stale, -6 want of memory, -9 there
-/// is no such task.
+/// Evaluates the transaction on one state, for this task of a store: 0 it has ended, 2 a read was
+/// stale, -6 want of memory, -9 there is no such transaction.
+#[unsafe(no_mangle)]
+pub extern "C" fn stm_worker_try_job(worker: &mut WorkerHandle, task: u32, tx: u32) -> i32 {
+    let job = Job {
+        task: TaskId(task),
+        tx: TxId(tx),
+    };
+    replace_with(worker, job, |worker, job| {
+        let mut held = worker.into_parts().into_box();
+        let how = try_job(&mut held, job);
+        (WorkerHandle::of_parts(Parts::of(held)), how)
+    })
+}
+
+fn try_job(worker: &mut Worker, job: Job) -> i32 {
+    if job.tx.0 as usize >= worker.catalogue().tx_count() {
+        return UNKNOWN;
+    }
+    tried(worker.try_job(job))
+}
+
+/// Evaluates a task of the program on one state: 0 it has ended, 2 a read was stale, -6 want of
+/// memory, -9 the program has no such task.
 #[unsafe(no_mangle)]
 pub extern "C" fn stm_worker_try(worker: &mut WorkerHandle, task: u32) -> i32 {
     replace_with(worker, task, |worker, task| {
@@ -22,7 +44,9 @@ fn try_task(worker: &mut Worker, task: u32) -> i32 {
     if task as usize >= worker.catalogue().tasks() {
         return UNKNOWN;
     }
-    tried(worker.try_task(TaskId(task)))
+    let task = TaskId(task);
+    let tx = worker.catalogue().task_tx(task);
+    tried(worker.try_job(Job { task, tx }))
 }
 
 /// How the transaction would end on one state.

@@ -13,7 +13,7 @@ use Rattle.programs.specs.declared.ast.Cond.{Cond}
 use Rattle.programs.specs.Tree.{Condition, condition_of, Transaction, transaction_of, statement_of, expression_of, under}
 use Rattle.programs.specs.Meaning.{State, truth}
 use Rattle.programs.specs.Listing.{Listing, listing_of, conditions}
-use Rattle.programs.specs.Code.{transaction_code}
+use Rattle.programs.specs.Fused.{own_code}
 use Rattle.programs.specs.Cost.{conditions_cost}
 use Rattle.programs.specs.Depth.{condition_depth, statement_depth, expression_depth}
 use Rattle.programs.specs.Scope.{ConditionsKnown}
@@ -24,7 +24,7 @@ use Rattle.programs.specs.Limits.{deepest, most_tasks, most_variables, most_cond
 use Rattle.catalogue_rules.specs.Beside.{fits_beside}
 use Rattle.catalogue_rules.proofs.Beside.{all_fit_beside}
 use Rattle.evaluator.specs.Always.{conditions_of}
-use Rattle.txn.specs.Conditions.{standing_of}
+use Rattle.program_copies.specs.Conditions.{standing_of}
 use Rattle.evaluator.proofs.Always as declared
 
 list_any-map : {X Y : Type 0} (p : Y → Bool) (f : X → Y) (xs : List X) → list_any p (map f xs) ≡ list_any (λ x. p (f x)) xs
@@ -128,8 +128,8 @@ pub tx_names_are : (txs : List Tx) → map (λ (tx : Tx). string_bytes tx.name) 
 tx_names_are txs = sym (map-map (λ (t : Transaction). t.name) transaction_of txs)
 
 -- their codes, over what `build` is given
-pub codes_are : (txs : List Tx) → map (λ (tx : Tx). transaction_code (statement_of tx.body) (expression_of tx.result)) txs ≡ map (λ (t : Transaction). transaction_code t.body t.result) (map transaction_of txs)
-codes_are txs = sym (map-map (λ (t : Transaction). transaction_code t.body t.result) transaction_of txs)
+pub codes_are : (txs : List Tx) → map (λ (tx : Tx). own_code (statement_of tx.body) (expression_of tx.result)) txs ≡ map (λ (t : Transaction). own_code t.body t.result) (map transaction_of txs)
+codes_are txs = sym (map-map (λ (t : Transaction). own_code t.body t.result) transaction_of txs)
 
 pub not_well_formed : (l : Listing) → is_well_formed l ≡ false → names_hold l ≡ false
 unfolding names_hold

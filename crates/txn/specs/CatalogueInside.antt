@@ -2,12 +2,12 @@
 use Rattle.std.specs.Prelude.{◌≡◌, map, length, string_bytes, true}
 use Rattle.txn.specs.declared.catalogue.Catalogue.TheInside.{Inside}
 use Rattle.programs.specs.Tree.{transaction_of}
-use Rattle.programs.specs.Code.{transaction_code, ending_code}
+use Rattle.programs.specs.Fused.{own_code, common_code}
 use Rattle.programs.specs.Listing.{Listing, conditions, always_names, tasks_of}
 use Rattle.programs.specs.Names.{names_hold}
 use Rattle.programs.specs.Limits.{limits_hold}
 use Rattle.programs.specs.Standing.{Upholds}
-use Rattle.txn.specs.Conditions.{standing_of}
+use Rattle.program_copies.specs.Conditions.{standing_of}
 
 abbrev pub listed : Inside → Listing
 listed c =
@@ -27,6 +27,6 @@ pub record IsKept (c : Inside) : Type 0 where
   pub always_names : map string_bytes c.always_names.keys ≡ always_names (listed c)
   pub tx_names : map string_bytes c.tx_names.keys ≡ map (λ t. t.name) (listed c).transactions
   -- each transaction's own code, and the end that all go on into
-  pub codes : map (λ code. code.items) c.codes.items ≡ map (λ t. transaction_code t.body t.result) (listed c).transactions
-  pub ending : c.ending.items ≡ ending_code 0 (conditions (listed c))
+  pub codes : map (λ code. code.items) c.codes.items ≡ map (λ t. own_code t.body t.result) (listed c).transactions
+  pub ending : c.ending.items ≡ common_code (conditions (listed c))
   pub task_txs : c.task_txs.items ≡ tasks_of c.runs.items

@@ -21,10 +21,10 @@ pub use Rattle.programs.specs.declared.report
 pub use Rattle.shared_words.specs.Words
 pub use Rattle.shared_words.specs.Stores
 pub use Rattle.shared_words.specs.Loads
+pub use Rattle.program_copies.specs.Conditions
 pub use Rattle.evaluator.specs.Always
 pub use Rattle.evaluator.specs.Flow
 pub use Rattle.evaluator.specs.Worked
 pub mod Codes
-pub mod Conditions
 pub mod Grown
 pub mod CatalogueInside

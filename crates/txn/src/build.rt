@@ -3,14 +3,14 @@
 ghost use Rattle.std.specs.Prelude.{◌≡◌, ◌++◌, ◌≤◌, ◌&&◌, true, false, IfOk, IfErr, OnOk, ◌≢◌, map, length, nat_le, string_bytes, replicate};
 ghost use Rattle.std.specs.List.{list_all};
 ghost use Rattle.programs.specs.Meaning.{truth};
-ghost use Rattle.programs.specs.Code.{transaction_code, ending_code};
+ghost use Rattle.programs.specs.Fused.{own_code, common_code};
 ghost use Rattle.programs.specs.Depth.{condition_depth, statement_depth, expression_depth};
 ghost use Rattle.programs.specs.Tree.{condition_of, expression_of, statement_of};
 ghost use Rattle.programs.specs.Listing.{listing_of, tasks_of};
-ghost use Rattle.programs.specs.Names.{are_distinct, is_well_formed};
+ghost use Rattle.programs.specs.Names.{are_distinct, is_well_formed, names_hold};
 ghost use Rattle.programs.specs.Limits.{deepest, most_conditions, limits_hold};
 ghost use Rattle.programs.specs.Scope.{ConditionsKnown};
-ghost use Rattle.programs.specs.Standing.{is_true};
+ghost use Rattle.programs.specs.Standing.{is_true, upholds};
 ghost use Rattle.evaluator.specs.Always.{conditions_of};
 ghost use Rattle.txn.specs.declared.build.BuildFault.TheVariants.{Memory};
 
@@ -56,7 +56,7 @@ impl From<AllocError> for BuildFault {
 
 /// Whether each name has the form of one, and each id is one of those declared.
 #[tactic(auto, using(crate::proofs::Building::well_formed_is))]
-pub(crate) fn well_formed(
+fn well_formed(
     vars: &[(String, i64)],
     always: &[(String, Cond)],
     txs: &[Tx],
@@ -74,7 +74,7 @@ pub(crate) fn well_formed(
 
 /// Whether all limits hold.
 #[tactic(auto, using(crate::proofs::Building::unfit_conditions))]
-pub(crate) fn within_limits(
+fn within_limits(
     vars: &[(String, i64)],
     always: &[(String, Cond)],
     txs: &[Tx],
@@ -97,7 +97,7 @@ pub(crate) fn within_limits(
 }
 
 /// Whether each standing condition is true of the state.
-pub(crate) fn upheld(always: &[(String, Cond)], state: &[i64]) -> bool
+fn upheld(always: &[(String, Cond)], state: &[i64]) -> bool
     requires { ConditionsKnown (length state.now) (conditions_of always.now) }
     ensures { result ≡ list_all (λ a. is_true (truth (condition_of a.1) state.now)) always.now }
 {
@@ -129,6 +129,15 @@ fn name_set(alloc: Global, names: Vec<String>) -> Result<IndexSet<String>, Build
     Ok(set)
 }
 
+/// What a catalogue is built of.
+#[derive(Drop)]
+pub(crate) struct Copies {
+    pub(crate) vars: Vec<(String, i64)>,
+    pub(crate) always: Vec<(String, Cond)>,
+    pub(crate) txs: Vec<Tx>,
+    pub(crate) runs: Vec<(TxId, u32)>,
+}
+
 /// What a catalogue declares: the names, and the initial values.
 #[derive(Drop)]
 pub(crate) struct Declared {
@@ -140,7 +149,7 @@ pub(crate) struct Declared {
 
 /// What is declared, if no name is given twice among variables, among conditions or among
 /// transactions.
-pub(crate) fn declare(
+fn declare(
     alloc: Global,
     vars: Vec<(String, i64)>,
     always: &[(String, Cond)],
@@ -167,6 +176,42 @@ pub(crate) fn declare(
         always_names,
         tx_names,
     })
+}
+
+/// What is declared, where names, limits and standing conditions hold; else the first that does not.
+pub(crate) fn judged(
+    alloc: Global,
+    vars: Vec<(String, i64)>,
+    always: &[(String, Cond)],
+    txs: &[Tx],
+    runs: &[(TxId, u32)],
+) -> Result<Declared, BuildFault>
+    ensures declared_names { IfOk result (λ d. map string_bytes d.names.keys ≡ map (λ v. string_bytes v.0) vars.items) }
+    ensures initial { IfOk result (λ d. d.initial.items ≡ map (λ v. v.1) vars.items) }
+    ensures always_names { IfOk result (λ d. map string_bytes d.always_names.keys ≡ map (λ a. string_bytes a.0) always.now) }
+    ensures tx_names { IfOk result (λ d. map string_bytes d.tx_names.keys ≡ map (λ t. string_bytes t.name) txs.now) }
+    ensures names { OnOk result (names_hold (listing_of vars.items always.now txs.now runs.now) ≡ true) }
+    ensures limits { OnOk result (limits_hold (listing_of vars.items always.now txs.now runs.now) ≡ true) }
+    ensures upheld { OnOk result (upholds (listing_of vars.items always.now txs.now runs.now) (map (λ v. v.1) vars.items) ≡ true) }
+    ensures name { IfErr result (λ e. e ≡ BuildFault.Name → names_hold (listing_of vars.items always.now txs.now runs.now) ≡ false) }
+    ensures limit_after_names { IfErr result (λ e. e ≡ BuildFault.Limit → names_hold (listing_of vars.items always.now txs.now runs.now) ≡ true) }
+    ensures limit { IfErr result (λ e. e ≡ BuildFault.Limit → limits_hold (listing_of vars.items always.now txs.now runs.now) ≡ false) }
+    ensures broken_after_names { IfErr result (λ e. e ≡ BuildFault.Broken → names_hold (listing_of vars.items always.now txs.now runs.now) ≡ true) }
+    ensures broken_after_limits { IfErr result (λ e. e ≡ BuildFault.Broken → limits_hold (listing_of vars.items always.now txs.now runs.now) ≡ true) }
+    ensures broken { IfErr result (λ e. e ≡ BuildFault.Broken → upholds (listing_of vars.items always.now txs.now runs.now) (map (λ v. v.1) vars.items) ≡ false) }
+{
+    if !well_formed(&vars, always, txs, runs) {
+        return Err(BuildFault::Name);
+    }
+    let within = within_limits(&vars, always, txs, runs);
+    let declared = declare(alloc, vars, always, txs)?;
+    if !within {
+        return Err(BuildFault::Limit);
+    }
+    if !upheld(always, &declared.initial) {
+        return Err(BuildFault::Broken);
+    }
+    Ok(declared)
 }
 
 /// The names of the variables, and their initial values.
@@ -225,8 +270,8 @@ pub(crate) fn work_out(
     requires shallow { list_all (λ a. nat_le (condition_depth (condition_of a.1)) deepest) always.now ≡ true }
     requires bodies { list_all (λ tx. nat_le (statement_depth (statement_of tx.body)) deepest) txs.now ≡ true }
     requires results { list_all (λ tx. nat_le (expression_depth (expression_of tx.result)) deepest) txs.now ≡ true }
-    ensures codes { IfOk result (λ t. map (λ code. code.items) t.codes.items ≡ map (λ tx. transaction_code (statement_of tx.body) (expression_of tx.result)) txs.now) }
-    ensures ending { IfOk result (λ t. t.ending.items ≡ ending_code 0 (conditions_of always.now)) }
+    ensures codes { IfOk result (λ t. map (λ code. code.items) t.codes.items ≡ map (λ tx. own_code (statement_of tx.body) (expression_of tx.result)) txs.now) }
+    ensures ending { IfOk result (λ t. t.ending.items ≡ common_code (conditions_of always.now)) }
     ensures task_txs { IfOk result (λ t. t.task_txs.items ≡ tasks_of runs.now) }
 {
     Ok(Derived {
@@ -240,7 +285,7 @@ pub(crate) fn work_out(
 fn codes(alloc: Global, txs: &[Tx]) -> Result<Vec<Vec<Op>>, AllocError>
     requires bodies { list_all (λ tx. nat_le (statement_depth (statement_of tx.body)) deepest) txs.now ≡ true }
     requires results { list_all (λ tx. nat_le (expression_depth (expression_of tx.result)) deepest) txs.now ≡ true }
-    ensures { IfOk result (λ codes. map (λ code. code.items) codes.items ≡ map (λ tx. transaction_code (statement_of tx.body) (expression_of tx.result)) txs.now) }
+    ensures { IfOk result (λ codes. map (λ code. code.items) codes.items ≡ map (λ tx. own_code (statement_of tx.body) (expression_of tx.result)) txs.now) }
 {
     let mut codes = Vec::with_capacity(alloc, txs.len())?;
     for tx in txs {

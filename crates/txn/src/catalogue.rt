@@ -1,7 +1,7 @@
 //! The catalogue: what a file declares.
 
 ghost use Rattle.std.specs.Prelude.{◌≡◌, ◌<◌, ◌≤◌, ◌+◌, ◌^◌, ℕ, All, List, length, map, slice_get, string_bytes, bytes_eq, position, Some, IfErr, true, false, IfOk, OnOk, IsTrue, ◌↔◌};
-ghost use Rattle.programs.specs.Code.{transaction_code, ending_code};
+ghost use Rattle.programs.specs.Fused.{own_code, common_code};
 ghost use Rattle.programs.specs.Names.{names_hold};
 ghost use Rattle.programs.specs.Limits.{limits_hold, most_variables};
 ghost use Rattle.programs.specs.Tree.{transaction_of, under};
@@ -9,13 +9,13 @@ ghost use Rattle.programs.specs.Listing.{listing_of, conditions, tasks, task_tx,
 ghost use Rattle.programs.specs.Scope.{ConditionsKnown, ProgramKnown};
 ghost use Rattle.programs.specs.Standing.{Upholds, upholds};
 ghost use Rattle.evaluator.specs.Always.{conditions_of};
-ghost use Rattle.txn.specs.Conditions.{standing_of};
+ghost use Rattle.program_copies.specs.Conditions.{standing_of};
 ghost use Rattle.txn.specs.Grown.{grown, SameButRuns};
 
-use crate::build::{BuildFault, declare, upheld, well_formed, within_limits, work_out};
-use crate::copy::{Copies, always_of, runs_with, transactions_of, variables_of};
-use crate::same::{same_always, same_names, same_runs, same_transactions, same_values};
+use crate::build::{BuildFault, Copies, judged, work_out};
 use indexmap::IndexSet;
+use program_copies::copy::{always_of, runs_with, transactions_of, variables_of};
+use program_copies::same::{same_always, same_names, same_runs, same_transactions, same_values};
 use programs::{AlwaysId, Cond, Memory, Op, TaskId, Tx, TxId, VarId};
 use std::alloc::{AllocError, Global};
 use std::marker::Model;
@@ -81,17 +81,7 @@ impl Catalogue {
         ensures broken_after_limits { IfErr result (λ e. e ≡ BuildFault.Broken → limits_hold (listing_of vars.items always.items txs.items runs.items) ≡ true) }
         ensures broken { IfErr result (λ e. e ≡ BuildFault.Broken → upholds (listing_of vars.items always.items txs.items runs.items) (map (λ v. v.1) vars.items) ≡ false) }
     {
-        if !well_formed(&vars, &always, &txs, &runs) {
-            return Err(BuildFault::Name);
-        }
-        let within = within_limits(&vars, &always, &txs, &runs);
-        let declared = declare(alloc, vars, &always, &txs)?;
-        if !within {
-            return Err(BuildFault::Limit);
-        }
-        if !upheld(&always, &declared.initial) {
-            return Err(BuildFault::Broken);
-        }
+        let declared = judged(alloc, vars, &always, &txs, &runs)?;
         let derived = work_out(alloc, &always, &txs, &runs)?;
         Ok(Catalogue {
             names: declared.names,
@@ -208,7 +198,7 @@ impl Catalogue {
     /// result. It goes on into `ending`.
     pub fn code(&self, id: TxId) -> &[Op]
         requires { id.0 < length self.now.transactions }
-        ensures value { result.now ≡ transaction_code (transaction_at self.now id).body (transaction_at self.now id).result }
+        ensures value { result.now ≡ own_code (transaction_at self.now id).body (transaction_at self.now id).result }
         ensures length { length result.now < 2 ^ 63 }
     {
         self.codes[id.0 as usize].as_slice()
@@ -217,7 +207,7 @@ impl Catalogue {
     /// The flat code of the standing conditions and of the end, which is the same for all
     /// transactions.
     pub fn ending(&self) -> &[Op]
-        ensures value { result.now ≡ ending_code 0 (conditions self.now) }
+        ensures value { result.now ≡ common_code (conditions self.now) }
         ensures length { length result.now < 2 ^ 63 }
     {
         self.ending.as_slice()

@@ -14,8 +14,6 @@
 
 pub mod build;
 pub mod catalogue;
-mod copy;
-mod same;
 
 pub use build::BuildFault;
 pub use catalogue::Catalogue;

@@ -242,13 +242,13 @@ fn the_end_asks_each_condition_and_gives(rt: HostRuntime) {
     let (first, second) = (AlwaysId(0), AlwaysId(1));
     let want = [
         Op::Load(2, X),
-        Op::Push(1, 5),
+        Op::AtMostInt(1, 5),
         Op::AtMost,
         Op::Demand(first),
         Op::Load(3, X),
         Op::Push(1, 2),
         Op::Quotient(Some(second)),
-        Op::Push(1, 2),
+        Op::EqualInt(1, 2),
         Op::Equal,
         Op::Demand(second),
         Op::Give,

@@ -26,15 +26,54 @@ fn an_instruction_has_16_bytes(rt: HostRuntime) {
 }
 
 #[test]
-fn an_increment_loads_adds_and_stores(rt: HostRuntime) {
+fn an_increment_is_fused(rt: HostRuntime) {
     let want = [
-        Op::Load(3, X),
-        Op::Push(1, 1),
+        Op::StoreSum(3, 0, 0, 1),
+        Op::SumInt(1, 1),
         Op::Sum(None),
         Op::Store(X),
         Op::Push(1, 0),
     ];
     expect_code(&rt, rt.alloc(), "(set x (add x 1))", &want);
+}
+
+#[test]
+fn a_difference_is_fused(rt: HostRuntime) {
+    let want = [
+        Op::StoreDifference(3, 0, 0, 7),
+        Op::DifferenceInt(1, 7),
+        Op::Difference(None),
+        Op::Store(X),
+        Op::Push(1, 0),
+    ];
+    expect_code(&rt, rt.alloc(), "(set x (sub x 7))", &want);
+}
+
+#[test]
+fn a_variable_to_the_right_is_fused(rt: HostRuntime) {
+    let want = [
+        Op::Load(4, X),
+        Op::SumVar(1, X),
+        Op::Sum(None),
+        Op::DifferenceVar(1, X),
+        Op::Difference(None),
+        Op::Store(X),
+        Op::Push(1, 0),
+    ];
+    expect_code(&rt, rt.alloc(), "(set x (sub (add x x) x))", &want);
+}
+
+/// A product and a quotient have no fused form, nor has a number to the left.
+#[test]
+fn what_is_not_fused_stays(rt: HostRuntime) {
+    let want = [
+        Op::Push(3, 2),
+        Op::Load(1, X),
+        Op::Product(None),
+        Op::Store(X),
+        Op::Push(1, 0),
+    ];
+    expect_code(&rt, rt.alloc(), "(set x (mul 2 x))", &want);
 }
 
 #[test]
@@ -50,7 +89,7 @@ fn branches_are_passed(rt: HostRuntime) {
         Op::Back(1),
         Op::Keep(8),
         Op::Load(3, X),
-        Op::Push(1, 1),
+        Op::EqualInt(1, 1),
         Op::Equal,
         Op::Unless(2),
         Op::Nop(1),
@@ -69,11 +108,11 @@ fn right_sides_and_loops_are_passed(rt: HostRuntime) {
         Op::Nop(1),
         Op::Begin(3, 12),
         Op::Load(4, X),
-        Op::Push(1, 1),
+        Op::LessInt(1, 1),
         Op::Less,
         Op::AndTo(3),
         Op::Load(2, X),
-        Op::Push(1, 2),
+        Op::AtMostInt(1, 2),
         Op::AtMost,
         Op::Unless(2),
         Op::Nop(1),

@@ -13,6 +13,8 @@ pub use Rattle.file_laws.specs.Faults
 pub use Rattle.file_laws.specs.Gaps
 pub use Rattle.file_printer.specs.Canonical
 pub use Rattle.file_printer.specs.Fits
+pub use Rattle.report_reader.specs.Reports
+pub use Rattle.schedule_reader.specs.Schedules
 pub use Rattle.report_printer.specs.ReportText
 pub use Rattle.report_printer.specs.ReportFits
 pub use Rattle.file_grammar.specs.declared.file

@@ -24,35 +24,46 @@ pub(crate) enum Kind {
     Schedule,
 }
 
-/// The catalogue of a text, `None` where it is no file or memory is refused.
-pub(crate) fn catalogue(alloc: Global, text: &str) -> Option<Catalogue> {
+/// What is asked of the catalogue of a text, `None` where it is no file or memory is refused.
+pub(crate) fn on_file<T, F: Fn(&Catalogue) -> T + Drop>(
+    alloc: Global,
+    text: &str,
+    ask: F,
+) -> Option<T>
+    requires { F.IsAlwaysCallable ask }
+{
     match read_file(alloc, text.as_bytes()) {
-        Ok(catalogue) => Some(catalogue),
+        Ok(catalogue) => Some(ask(&catalogue)),
         Err(_) => None,
     }
 }
 
+/// Whether the text is a file, and this holds of its catalogue.
+pub(crate) fn is_file<F: Fn(&Catalogue) -> bool + Drop>(alloc: Global, text: &str, holds: F) -> bool
+    requires { F.IsAlwaysCallable holds }
+{
+    on_file(alloc, text, holds) == Some(true)
+}
+
 fn file_fault(alloc: Global, text: &[u8]) -> Option<ReadFault> {
-    match read_file(alloc, text) {
-        Ok(_) => None,
-        Err(fault) => Some(fault),
-    }
+    read_file(alloc, text).err()
 }
 
 fn report_fault(alloc: Global, text: &[u8]) -> Option<ReadFault> {
-    let Some(catalogue) = catalogue(alloc, INCREMENTS) else {
-        return Some(ReadFault::Memory);
-    };
-    match read_report(alloc, text, &catalogue) {
-        Ok(_) => None,
-        Err(fault) => Some(fault),
+    match on_file(alloc, INCREMENTS, |catalogue| {
+        read_report(alloc, text, catalogue).err()
+    }) {
+        Some(fault) => fault,
+        None => Some(ReadFault::Memory),
     }
 }
 
 /// What the text is read as, where it is a schedule of the file.
 fn moves(alloc: Global, file: &str, text: &[u8]) -> Result<Vec<Move>, ReadFault> {
-    match catalogue(alloc, file) {
-        Some(catalogue) => read_schedule(alloc, text, &catalogue),
+    match on_file(alloc, file, |catalogue| {
+        read_schedule(alloc, text, catalogue)
+    }) {
+        Some(moves) => moves,
         None => Err(ReadFault::Memory),
     }
 }
@@ -66,10 +77,7 @@ pub(crate) fn are_moves(alloc: Global, file: &str, text: &[u8], wanted: &[Move])
 }
 
 fn schedule_fault(alloc: Global, text: &[u8]) -> Option<ReadFault> {
-    match moves(alloc, PAIR, text) {
-        Ok(_) => None,
-        Err(fault) => Some(fault),
-    }
+    moves(alloc, PAIR, text).err()
 }
 
 /// Why a text is refused, if it is.

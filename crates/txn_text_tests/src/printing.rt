@@ -5,41 +5,53 @@ ghost use Rattle.programs.specs.Listing.{Listing, tasks};
 ghost use Rattle.programs.specs.LawfulReport.{FitsCatalogue};
 ghost use Rattle.programs.specs.Told.{told};
 
-use crate::parts::catalogue;
+use crate::parts::is_file;
 use std::alloc::{AllocError, Global};
+use std::process::Abort;
 use txn::{Catalogue, Entry, Fault, Outcome, Report, TaskId, TxId};
 use txn_text::{print_file, print_report};
 
-/// Whether the file is printed so.
-pub(crate) fn is_printed(alloc: Global, input: &str, canonical: &str) -> bool {
-    let Some(catalogue) = catalogue(alloc, input) else {
-        return false;
-    };
-    match print_file(alloc, &catalogue) {
+/// Whether the catalogue's file is printed so.
+fn prints(alloc: Global, catalogue: &Catalogue, canonical: &str) -> bool {
+    match print_file(alloc, catalogue) {
         Ok(text) => text.as_str() == canonical,
         Err(_) => false,
     }
 }
 
+/// Whether the file is printed so.
+pub(crate) fn is_printed(alloc: Global, input: &str, canonical: &str) -> bool {
+    is_file(alloc, input, |catalogue| {
+        prints(alloc, catalogue, canonical)
+    })
+}
+
+/// Each file is printed as the text beside it.
+pub(crate) fn expect_printed(rt: &(impl Abort + Eprint), alloc: Global, files: &[(&str, &str)]) {
+    for (input, canonical) in files {
+        assert!(rt; is_printed(alloc, input, canonical), "of {input}");
+    }
+}
+
+const FILES: &[(&str, &str)] = &[
+    ("", ""),
+    (
+        "(var x 5)(tx inc (set x (add x 1)) x)(run inc 2)",
+        "(var x 5)\n(tx inc (set x (add x 1)) x)\n(run inc 2)\n",
+    ),
+    (
+        "(var x 0)(tx t (orelse (seq (set x 9) (retry)) (skip)) x)(run t 1)",
+        "(var x 0)\n(tx t (orelse (seq (set x 9) (retry)) (skip)) x)\n(run t 1)\n",
+    ),
+    (
+        "(tx t ( seq ) 0) ; a comment\n(run t 1)",
+        "(tx t (seq) 0)\n(run t 1)\n",
+    ),
+];
+
 #[test]
 fn files_are_printed_in_one_way(rt: HostRuntime) {
-    for (input, canonical) in [
-        ("", ""),
-        (
-            "(var x 5)(tx inc (set x (add x 1)) x)(run inc 2)",
-            "(var x 5)\n(tx inc (set x (add x 1)) x)\n(run inc 2)\n",
-        ),
-        (
-            "(var x 0)(tx t (orelse (seq (set x 9) (retry)) (skip)) x)(run t 1)",
-            "(var x 0)\n(tx t (orelse (seq (set x 9) (retry)) (skip)) x)\n(run t 1)\n",
-        ),
-        (
-            "(tx t ( seq ) 0) ; a comment\n(run t 1)",
-            "(tx t (seq) 0)\n(run t 1)\n",
-        ),
-    ] {
-        assert!(rt; is_printed(rt.alloc(), input, canonical), "of {input}");
-    }
+    expect_printed(&rt, rt.alloc(), FILES);
 }
 
 /// The entry of a task of the first transaction, with the number that follows the task's.
@@ -93,8 +105,10 @@ fn is_report(alloc: Global, catalogue: &Catalogue, lines: &str) -> bool {
 fn reports_are_printed_line_by_line(rt: HostRuntime) {
     let lines =
         "base 0\nentry 1 0 t returned -9223372036854775808\nentry 2 1 t threw -7\nentry 3 2 t overflow\nentry 4 3 t zerodiv\nnow 4\nparked 4 t\nmemory 5 t\nend\n";
-    match catalogue(rt.alloc(), "(tx t (skip) 0)(run t 6)") {
-        Some(catalogue) => assert!(rt; is_report(rt.alloc(), &catalogue, lines)),
-        None => panic!(rt; "no catalogue"),
-    }
+    let alloc = rt.alloc();
+    assert!(rt;
+        is_file(alloc, "(tx t (skip) 0)(run t 6)", |catalogue| {
+            is_report(alloc, catalogue, lines)
+        })
+    );
 }

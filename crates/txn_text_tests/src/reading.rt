@@ -1,6 +1,6 @@
 //! Files that are read, and files that are refused, each with its kind.
 
-use crate::parts::{INCREMENTS, Kind, catalogue, expect_beginnings, expect_faults, fault};
+use crate::parts::{INCREMENTS, Kind, expect_beginnings, expect_faults, fault, is_file};
 use std::alloc::Global;
 use txn::{Catalogue, TxId, VarId};
 use txn_text::{ReadFault, laws};
@@ -15,25 +15,22 @@ fn are_increments(file: &Catalogue) -> bool {
 
 #[test]
 fn reads_increments(rt: HostRuntime) {
-    match catalogue(rt.alloc(), INCREMENTS) {
-        Some(file) => assert!(rt; are_increments(&file)),
-        None => panic!(rt; "no file"),
-    }
+    assert!(rt; is_file(rt.alloc(), INCREMENTS, are_increments));
 }
 
-#[test]
-fn reads_every_form(rt: HostRuntime) {
-    let text = "(var entry -9223372036854775808)(var now 0)(var end 7)
+const EVERY_FORM: &str = "(var entry -9223372036854775808)(var now 0)(var end 7)
         (tx all (seq (skip) (set now (sub (mul entry 2) (div end (rem now 3))))
             (if (and (eq now 1) (or (not (lt end 2)) (le 0 end))) (retry) (throw 4))
             (repeat 1000 (orelse (retry) (skip)))) (add now end))
         (run all 0) ; nothing runs";
-    match catalogue(rt.alloc(), text) {
-        Some(file) => {
-            assert!(rt; file.initial() == [i64::MIN, 0, 7].as_slice() && file.tasks() == 0);
-        }
-        None => panic!(rt; "no file"),
-    }
+
+fn has_every_form(file: &Catalogue) -> bool {
+    file.initial() == [i64::MIN, 0, 7].as_slice() && file.tasks() == 0
+}
+
+#[test]
+fn reads_every_form(rt: HostRuntime) {
+    assert!(rt; is_file(rt.alloc(), EVERY_FORM, has_every_form));
 }
 
 #[test]
@@ -44,26 +41,28 @@ fn reads_beginnings(rt: HostRuntime) {
     expect_beginnings(&rt, rt.alloc(), Kind::File, text, &[0, 9, 37]);
 }
 
+const SHAPES: &[&str] = &[
+    "(var x",
+    "(var x -0)",
+    "(var x 01)",
+    "(var 1x 1)",
+    "(var x 1))",
+    "(run t 1)(tx t (skip) 0)",
+    "(tx t skip 0)",
+    "(tx t (skip) (neg 1))",
+    "(var x 9223372036854775808)(var y 01)",
+];
+
 #[test]
 fn tells_shapes(rt: HostRuntime) {
-    let texts = [
-        "(var x",
-        "(var x -0)",
-        "(var x 01)",
-        "(var 1x 1)",
-        "(var x 1))",
-        "(run t 1)(tx t (skip) 0)",
-        "(tx t skip 0)",
-        "(tx t (skip) (neg 1))",
-        "(var x 9223372036854775808)(var y 01)",
-    ];
-    expect_faults(&rt, rt.alloc(), Kind::File, &texts, Some(ReadFault::Shape));
+    expect_faults(&rt, rt.alloc(), Kind::File, SHAPES, Some(ReadFault::Shape));
 }
+
+const COMMENTS: &[&str] = &[";", "; (var x\n(var x 1)", "(var x 1;)\n)"];
 
 #[test]
 fn reads_past_comments(rt: HostRuntime) {
-    let texts = [";", "; (var x\n(var x 1)", "(var x 1;)\n)"];
-    expect_faults(&rt, rt.alloc(), Kind::File, &texts, None);
+    expect_faults(&rt, rt.alloc(), Kind::File, COMMENTS, None);
 }
 
 #[test]
@@ -73,41 +72,44 @@ fn tells_bytes(rt: HostRuntime) {
     expect_faults(&rt, rt.alloc(), Kind::File, &["\t"], bad);
 }
 
+const NAMES: &[&str] = &[
+    "(var x 9223372036854775808)(var x 1)",
+    "(tx t (set y 9223372036854775808) 0)",
+    "(tx t (repeat 1001 (skip)) y)",
+    "(tx t (skip) 0)(run u 1)",
+    "(tx t (skip) aaaaaaaaaaaaaaaaaaaaaaaaaaaaaaaaa)",
+];
+
 #[test]
 fn tells_names(rt: HostRuntime) {
-    let texts = [
-        "(var x 9223372036854775808)(var x 1)",
-        "(tx t (set y 9223372036854775808) 0)",
-        "(tx t (repeat 1001 (skip)) y)",
-        "(tx t (skip) 0)(run u 1)",
-        "(tx t (skip) aaaaaaaaaaaaaaaaaaaaaaaaaaaaaaaaa)",
-    ];
-    expect_faults(&rt, rt.alloc(), Kind::File, &texts, Some(ReadFault::Name));
+    expect_faults(&rt, rt.alloc(), Kind::File, NAMES, Some(ReadFault::Name));
 }
+
+const LIMITS: &[&str] = &[
+    "(var x 9223372036854775808)",
+    "(var aaaaaaaaaaaaaaaaaaaaaaaaaaaaaaaaa 1)",
+    "(tx t (repeat 1001 (skip)) 0)",
+    "(tx t (repeat -1 (skip)) 0)",
+    "(tx t (repeat 1000 (repeat 1000 (skip))) 0)",
+    "(tx t (skip) 0)(run t 65537)",
+    "(tx t (skip) 0)(run t 65536)(run t 1)",
+];
 
 #[test]
 fn tells_limits(rt: HostRuntime) {
-    let texts = [
-        "(var x 9223372036854775808)",
-        "(var aaaaaaaaaaaaaaaaaaaaaaaaaaaaaaaaa 1)",
-        "(tx t (repeat 1001 (skip)) 0)",
-        "(tx t (repeat -1 (skip)) 0)",
-        "(tx t (repeat 1000 (repeat 1000 (skip))) 0)",
-        "(tx t (skip) 0)(run t 65537)",
-        "(tx t (skip) 0)(run t 65536)(run t 1)",
-    ];
-    expect_faults(&rt, rt.alloc(), Kind::File, &texts, Some(ReadFault::Limit));
+    expect_faults(&rt, rt.alloc(), Kind::File, LIMITS, Some(ReadFault::Limit));
 }
+
+const WITHIN_LIMITS: &[&str] = &[
+    "(var x 1)(tx x (skip) x)(run x 1)",
+    "(var aaaaaaaaaaaaaaaaaaaaaaaaaaaaaaaa 1)",
+    "(tx t (repeat 999 (repeat 999 (skip))) 0)",
+    "(tx t (skip) 0)(run t 65536)",
+];
 
 #[test]
 fn reads_to_the_limits(rt: HostRuntime) {
-    let texts = [
-        "(var x 1)(tx x (skip) x)(run x 1)",
-        "(var aaaaaaaaaaaaaaaaaaaaaaaaaaaaaaaa 1)",
-        "(tx t (repeat 999 (repeat 999 (skip))) 0)",
-        "(tx t (skip) 0)(run t 65536)",
-    ];
-    expect_faults(&rt, rt.alloc(), Kind::File, &texts, None);
+    expect_faults(&rt, rt.alloc(), Kind::File, WITHIN_LIMITS, None);
 }
 
 /// Whether the fault is told so.

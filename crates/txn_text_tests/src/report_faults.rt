@@ -10,49 +10,52 @@ fn every_beginning_is_refused_by_its_shape(rt: HostRuntime) {
     expect_beginnings(&rt, rt.alloc(), Kind::Report, REPORT.as_bytes(), &[]);
 }
 
+const OTHER_NUMBERS: &[&str] = &[
+    "base -1\nx 5 0\nnow 0\nx 5 0\nend\n",
+    "base 00\nx 5 0\nnow 0\nx 5 0\nend\n",
+    "base 0\nx -0 0\nnow 0\nx 5 0\nend\n",
+    "base 0\nx 5 0\nentry 01 0 inc returned 6\nnow 0\nx 5 0\nend\n",
+    "base 0\nx 5 0\nnow 0\nx 5 0\nend\nend\n",
+    "base 0\nx 5  0\nnow 0\nx 5 0\nend\n",
+    "base 0\nx 5 0\nentry 1 0 inc retries\nnow 0\nx 5 0\nend\n",
+];
+
 #[test]
 fn numbers_have_one_text(rt: HostRuntime) {
-    let texts = [
-        "base -1\nx 5 0\nnow 0\nx 5 0\nend\n",
-        "base 00\nx 5 0\nnow 0\nx 5 0\nend\n",
-        "base 0\nx -0 0\nnow 0\nx 5 0\nend\n",
-        "base 0\nx 5 0\nentry 01 0 inc returned 6\nnow 0\nx 5 0\nend\n",
-        "base 0\nx 5 0\nnow 0\nx 5 0\nend\nend\n",
-        "base 0\nx 5  0\nnow 0\nx 5 0\nend\n",
-        "base 0\nx 5 0\nentry 1 0 inc retries\nnow 0\nx 5 0\nend\n",
-    ];
     expect_faults(
         &rt,
         rt.alloc(),
         Kind::Report,
-        &texts,
+        OTHER_NUMBERS,
         Some(ReadFault::Shape),
     );
 }
 
+const NAMES: &[&str] = &[
+    "base 0\ny 5 0\nnow 0\nx 5 0\nend\n",
+    "base 65537\nx 5 0\nentry 1 0 other returned 6\nnow 0\nx 5 0\nend\n",
+    "base 0\nx 5 0\nnow 0\nx 9223372036854775808 0\nparked 0 other\nend\n",
+];
+
 #[test]
 fn names_come_before_limits(rt: HostRuntime) {
-    let texts = [
-        "base 0\ny 5 0\nnow 0\nx 5 0\nend\n",
-        "base 65537\nx 5 0\nentry 1 0 other returned 6\nnow 0\nx 5 0\nend\n",
-        "base 0\nx 5 0\nnow 0\nx 9223372036854775808 0\nparked 0 other\nend\n",
-    ];
-    expect_faults(&rt, rt.alloc(), Kind::Report, &texts, Some(ReadFault::Name));
+    expect_faults(&rt, rt.alloc(), Kind::Report, NAMES, Some(ReadFault::Name));
 }
+
+const LIMITS: &[&str] = &[
+    "base 65537\nx 5 0\nnow 0\nx 5 0\nend\n",
+    "base 0\nx 5 65537\nnow 0\nx 5 0\nend\n",
+    "base 0\nx 9223372036854775808 0\nnow 0\nx 5 0\nend\n",
+    "base 0\nx 5 0\nentry 1 2 inc returned 6\nnow 0\nx 5 0\nend\n",
+];
 
 #[test]
 fn limits_are_judged_last(rt: HostRuntime) {
-    let texts = [
-        "base 65537\nx 5 0\nnow 0\nx 5 0\nend\n",
-        "base 0\nx 5 65537\nnow 0\nx 5 0\nend\n",
-        "base 0\nx 9223372036854775808 0\nnow 0\nx 5 0\nend\n",
-        "base 0\nx 5 0\nentry 1 2 inc returned 6\nnow 0\nx 5 0\nend\n",
-    ];
     expect_faults(
         &rt,
         rt.alloc(),
         Kind::Report,
-        &texts,
+        LIMITS,
         Some(ReadFault::Limit),
     );
 }

@@ -1,6 +1,6 @@
 //! Reports that are read, and printed again as the same bytes.
 
-use crate::parts::{INCREMENTS, catalogue};
+use crate::parts::{INCREMENTS, is_file, on_file};
 use report_reader::read_report;
 use std::alloc::Global;
 use std::process::Abort;
@@ -13,12 +13,11 @@ pub(crate) const REPORT: &str =
 
 /// The report of a file that is read from a text.
 fn report_of(rt: &impl Abort, alloc: Global, file: &str, text: &str) -> Report {
-    let Some(catalogue) = catalogue(alloc, file) else {
-        panic!(rt; "no catalogue")
-    };
-    match read_report(alloc, text.as_bytes(), &catalogue) {
-        Ok(report) => report,
-        Err(_) => panic!(rt; "no report"),
+    match on_file(alloc, file, |catalogue| {
+        read_report(alloc, text.as_bytes(), catalogue)
+    }) {
+        Some(Ok(report)) => report,
+        _ => panic!(rt; "no report"),
     }
 }
 
@@ -72,10 +71,9 @@ fn prints_again(alloc: Global, catalogue: &Catalogue, text: &str) -> bool {
 
 /// So it is of the two increments.
 fn increments_print_again(alloc: Global, text: &str) -> bool {
-    match catalogue(alloc, INCREMENTS) {
-        Some(catalogue) => prints_again(alloc, &catalogue, text),
-        None => false,
-    }
+    is_file(alloc, INCREMENTS, |catalogue| {
+        prints_again(alloc, catalogue, text)
+    })
 }
 
 #[test]

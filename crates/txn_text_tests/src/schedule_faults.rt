@@ -5,62 +5,65 @@ use crate::repeated::repeated_fault;
 use schedule_reader::MAX_SCHEDULE;
 use txn_text::ReadFault;
 
+const OTHER_LINES: &[&str] = &[
+    "begin 0",
+    "begin  0\n",
+    "begin 0 \n",
+    " begin 0\n",
+    "begin\n",
+    "begin 00\n",
+    "begin 01\n",
+    "begin -1\n",
+    "begin 0 x\n",
+    "read 0\n",
+    "read 0 1\n",
+    "read x 0\n",
+    "word 0\n",
+    "words\n",
+    "Begin 0\n",
+    "\n",
+    "begin 0\n\nword\n",
+    "begin 0\nword",
+];
+
 #[test]
 fn lines_have_one_text(rt: HostRuntime) {
-    let texts = [
-        "begin 0",
-        "begin  0\n",
-        "begin 0 \n",
-        " begin 0\n",
-        "begin\n",
-        "begin 00\n",
-        "begin 01\n",
-        "begin -1\n",
-        "begin 0 x\n",
-        "read 0\n",
-        "read 0 1\n",
-        "read x 0\n",
-        "word 0\n",
-        "words\n",
-        "Begin 0\n",
-        "\n",
-        "begin 0\n\nword\n",
-        "begin 0\nword",
-    ];
     expect_faults(
         &rt,
         rt.alloc(),
         Kind::Schedule,
-        &texts,
+        OTHER_LINES,
         Some(ReadFault::Shape),
     );
 }
 
+const NAMES: &[&str] = &["read 0 z\n", "begin 2\nread 0 z\n", "first 2 xx\n"];
+
 #[test]
 fn names_come_before_limits(rt: HostRuntime) {
-    let texts = ["read 0 z\n", "begin 2\nread 0 z\n", "first 2 xx\n"];
     expect_faults(
         &rt,
         rt.alloc(),
         Kind::Schedule,
-        &texts,
+        NAMES,
         Some(ReadFault::Name),
     );
 }
 
+const LIMITS: &[&str] = &[
+    "begin 2\n",
+    "read 2 x\n",
+    "begin 18446744073709551616\n",
+    "word\nask 99999999999999999999999999999999999999\n",
+];
+
 #[test]
 fn limits_are_judged_last(rt: HostRuntime) {
-    let texts = [
-        "begin 2\n",
-        "read 2 x\n",
-        "begin 18446744073709551616\n",
-        "word\nask 99999999999999999999999999999999999999\n",
-    ];
     expect_faults(
         &rt,
         rt.alloc(),
         Kind::Schedule,
-        &texts,
+        LIMITS,
         Some(ReadFault::Limit),
     );
 }

@@ -192,16 +192,16 @@ pub(crate) fn settle<N: Naming>(
     let Named { mut book, of: _ } = named;
     book.law();
     book.drain(alloc, every);
-    report(alloc, &book)
+    report(alloc, book)
 }
 
-/// The report of a book with no task ready or running.
-fn report(alloc: Global, book: &Book<'_>) -> Result<Report, Memory>
-    requires { IsIdle book.now }
-    ensures lawful { IfOk result (λ r. LawfulReport book.now.catalogue (told r)) }
-    ensures reached { IfOk result (λ r. BaseReached book.now.catalogue (told r)) }
-    ensures is { IfOk result (λ r. ReportIs book.now (told r)) }
+/// The report of a book with no task ready or running, which takes its journal over.
+fn report(alloc: Global, book: Book<'_>) -> Result<Report, Memory>
+    requires { IsIdle book }
+    ensures lawful { IfOk result (λ r. LawfulReport book.entry.catalogue (told r)) }
+    ensures reached { IfOk result (λ r. BaseReached book.entry.catalogue (told r)) }
+    ensures is { IfOk result (λ r. ReportIs book.entry (told r)) }
 {
     book.law();
-    book.report(alloc)
+    book.into_report(alloc)
 }

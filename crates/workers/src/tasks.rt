@@ -23,7 +23,8 @@ use txn::{Catalogue, Memory, Report};
 ///
 /// The workers read the cells by a pass each, and share the book behind a lock, which publishes to
 /// the cells. When they have ended, the book gives a turn to what is left, and no task is ready or
-/// running when it reports. Each standing condition is true of the values that it reports. With a
+/// running when it reports. One worker whose gate is open would do just what these turns do, so
+/// all is left to them. Each standing condition is true of the values that it reports. With a
 /// checkpoint after each N entries the journal has fewer than N, and the base is a multiple of N;
 /// with none the base is 0.
 pub fn run_tasks<R: Threads + Wait + Sync, G: Gate>(
@@ -80,7 +81,9 @@ fn run_named<R: Threads + Wait + Sync, G: Gate, N: Naming>(
         tries: options.tries(),
         every,
     };
-    run_crew(rt, &crew, passes);
+    if options.workers() > 1 || !G::IS_OPEN {
+        run_crew(rt, &crew, passes);
+    }
     settle(alloc, every, shared.into_inner())
 }
 

@@ -1,3 +1,4 @@
+pub use Rattle.world_law.specs.Opacity
 pub use Rattle.world_events.specs.Inside
 pub use Rattle.world_events.specs.Runs
 pub mod View

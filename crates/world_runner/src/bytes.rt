@@ -1,6 +1,7 @@
 //! From the bytes of a file and of a schedule to the bytes of what is seen.
 
-ghost use Rattle.std.specs.Prelude.{◌≡◌, ◌+◌, ◌<◌, ◌^◌, true, IfOk, OnOk, IfErr, string_bytes};
+ghost use Rattle.std.specs.Prelude.{◌≡◌, ◌+◌, ◌<◌, ◌^◌, ℕ, List, true, IfOk, OnOk, IfErr, string_bytes};
+ghost use Rattle.txn_text.specs.Spelling.{Spells};
 ghost use Rattle.run_faults.specs.Failures.{output_failures};
 ghost use Rattle.world_runner.specs.Showing.{IsShowing, IsRefused, Showed};
 
@@ -9,6 +10,7 @@ use run_faults::RunFault;
 use schedule_reader::read_schedule;
 use sink::{Sink, put_all};
 use std::alloc::Global;
+use txn::Catalogue;
 use txn_text::{ReadFault, read_file};
 
 /// Plays the schedule that the second bytes are the text of, on the world of the file that the
@@ -45,18 +47,25 @@ fn shown(alloc: Global, file: &[u8], schedule: &[u8]) -> Result<String, RunFault
     ensures shown { IfOk result (λ text. IsShowing file.now schedule.now (string_bytes text)) }
     ensures refused { IfErr result (IsRefused file.now schedule.now) }
 {
-    let catalogue = match read_file(alloc, file) {
-        Ok(catalogue) => catalogue,
-        Err(ReadFault::Memory) => return Err(RunFault::Memory),
-        Err(kind) => return Err(RunFault::Input(kind)),
-    };
-    let moves = match read_schedule(alloc, schedule, &catalogue) {
-        Ok(moves) => moves,
-        Err(ReadFault::Memory) => return Err(RunFault::Memory),
-        Err(kind) => return Err(RunFault::Schedule(kind)),
-    };
-    match played(alloc, &catalogue, &moves) {
-        Ok(text) => Ok(text),
-        Err(_) => Err(RunFault::Memory),
+    match read_file(alloc, file) {
+        Ok(catalogue) => shown_of(alloc, &catalogue, schedule),
+        Err(ReadFault::Memory) => Err(RunFault::Memory),
+        Err(kind) => Err(RunFault::Input(kind)),
+    }
+}
+
+/// What is seen of the schedule on the world of the catalogue, which is that of each file that spells
+/// it.
+fn shown_of(alloc: Global, catalogue: &Catalogue, schedule: &[u8]) -> Result<String, RunFault>
+    ensures shown { IfOk result (λ text. (file : List ℕ) → Spells file catalogue.now → IsShowing file schedule.now (string_bytes text)) }
+    ensures refused { IfErr result (λ fault. (file : List ℕ) → Spells file catalogue.now → IsRefused file schedule.now fault) }
+{
+    match read_schedule(alloc, schedule, catalogue) {
+        Ok(moves) => match played(alloc, catalogue, &moves) {
+            Ok(text) => Ok(text),
+            Err(_) => Err(RunFault::Memory),
+        },
+        Err(ReadFault::Memory) => Err(RunFault::Memory),
+        Err(kind) => Err(RunFault::Schedule(kind)),
     }
 }

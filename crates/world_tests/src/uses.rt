@@ -7,7 +7,7 @@ ghost use Rattle.world_tests.specs.Uses.{PairsAreOfOneState, CommitsAreOfProgram
 
 use crate::parts::{PAIR, catalogue};
 use txn::Catalogue;
-use world_law::{one_answer, opacity};
+use world::{one_answer, opacity};
 
 /// What two variables were when an attempt read them is so in one state; a commit's state is that
 /// of its program; and no task commits twice.

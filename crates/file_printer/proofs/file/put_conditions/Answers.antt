@@ -4,7 +4,7 @@ use Rattle.std.specs.Option.{option_map}
 use Rattle.std.proofs.lemmas.Option.{slice_get-map, slice_get-get_or}
 use Rattle.programs.specs.Tree.{Condition}
 use Rattle.programs.specs.declared.ast.Cond.{Cond}
-use Rattle.txn.specs.Conditions.{standing_of}
+use Rattle.program_copies.specs.Conditions.{standing_of}
 use Rattle.file_printer.specs.Canonical.{always_line}
 use Rattle.file_printer.specs.Fits.{AlwaysFits}
 use Rattle.file_grammar.specs.Written.{written_always}

@@ -6,7 +6,7 @@ use Rattle.programs.specs.Tree.{Condition}
 use Rattle.programs.specs.Listing.{Listing, conditions}
 use Rattle.programs.specs.Scope.{ConditionsKnown}
 use Rattle.txn.specs.CatalogueInside.{listed}
-use Rattle.txn.specs.Conditions.{standing_of}
+use Rattle.program_copies.specs.Conditions.{standing_of}
 use Rattle.evaluator.specs.Always.{conditions_of}
 use Rattle.evaluator.proofs.Always.{conditions_known}
 use Rattle.txn.proofs.catalogue.Catalogue.always.Goals as goal

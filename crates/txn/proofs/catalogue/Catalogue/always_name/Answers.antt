@@ -5,7 +5,7 @@ use Rattle.std.proofs.lemmas.List as lists
 use Rattle.std.proofs.Math.ListN as list
 use Rattle.programs.specs.declared.ast.Cond.{Cond}
 use Rattle.programs.specs.Listing.{Listing, always_names}
-use Rattle.txn.specs.Conditions.{standing_of}
+use Rattle.program_copies.specs.Conditions.{standing_of}
 use Rattle.txn.proofs.Building.{always_names_are}
 use Rattle.txn.proofs.catalogue.Catalogue.always_name.Goals as goal
 

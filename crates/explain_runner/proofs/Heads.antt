@@ -1,0 +1,23 @@
+-- A line begins with its head.
+use Rattle.std.proofs.Common.{◌≡◌, ℕ, List, [], ◌∷◌, ◌++◌, sym, ap, ◌∙◌, append_assoc}
+use Rattle.std.specs.Prelude.{codes}
+use Rattle.explainer.specs.Places.{line_at, column_at}
+use Rattle.explainer.specs.declared.explaining.Refusal.{Refusal}
+use Rattle.explain_runner.specs.Telling.{Begins, head, head_of, told_line, kind_name}
+
+rest_of : List ℕ → List ℕ → List ℕ
+rest_of words found = words ++ (found ++ codes "\n")
+
+apart : (line column : ℕ) (kind words found : List ℕ) → told_line line column kind words found ≡ head line column kind ++ rest_of words found
+unfolding rest_of
+apart line column kind words found = sym (simp append_assoc)
+
+pub begins_head : (bytes : List ℕ) (refusal : Refusal) (line column : ℕ) (kind words found text : List ℕ)
+    → line ≡ line_at bytes refusal.place → column ≡ column_at bytes refusal.place → kind ≡ kind_name refusal.kind → text ≡ told_line line column kind words found → Begins (head_of bytes refusal) text
+begins_head bytes refusal line column kind words found text is_line is_column is_kind e = (
+  rest_of words found,
+  e ∙ apart line column kind words found
+      ∙ ap (λ (n : ℕ). head n column kind ++ rest_of words found) is_line
+      ∙ ap (λ (n : ℕ). head (line_at bytes refusal.place) n kind ++ rest_of words found) is_column
+      ∙ ap (λ (k : List ℕ). head (line_at bytes refusal.place) (column_at bytes refusal.place) k ++ rest_of words found) is_kind,
+)

@@ -1,0 +1,8 @@
+//! From the bytes of a file to the line that says whether it is read, or where and why it is not.
+#![tactic(auto)]
+
+mod bytes;
+mod text;
+mod words;
+
+pub use bytes::{Told, explain_bytes};

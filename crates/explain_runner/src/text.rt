@@ -1,0 +1,77 @@
+//! The line that tells where and why a file is refused.
+
+ghost use Rattle.std.specs.Prelude.{◌≡◌, ◌≤◌, ℕ, length, IfOk, string_bytes};
+ghost use Rattle.explain_runner.specs.Telling.{told_line, Begins, head_of, kind_name};
+
+use crate::words::words;
+use explainer::{Refusal, position_of};
+use std::alloc::{AllocError, Global};
+use std::str;
+use text_words::ReadFault;
+
+/// The name of a kind of fault.
+fn kind_name(kind: ReadFault) -> &'static str
+    ensures { result.now ≡ kind_name kind }
+{
+    match kind {
+        ReadFault::TooLong => "F1 TooLong",
+        ReadFault::BadByte => "F2 BadByte",
+        ReadFault::Shape => "F3 Shape",
+        ReadFault::Name => "F4 Name",
+        ReadFault::Limit => "F5 Limit",
+        ReadFault::Memory => "F6 Memory",
+        ReadFault::Broken => "F7 Broken",
+    }
+}
+
+/// The line of its parts.
+fn line_of(
+    alloc: Global,
+    line: usize,
+    column: usize,
+    kind: &str,
+    words: &str,
+    found: &str,
+) -> Result<String, AllocError>
+    ensures { IfOk result (λ text. string_bytes text ≡ told_line line column kind.now words.now found.now) }
+{
+    format!(in alloc; "line {line}, column {column}: {kind}: {words}{found}\n")
+}
+
+/// What stands first in these bytes, as far as it is short: a parenthesis or an atom.
+fn standing(bytes: &[u8]) -> &str {
+    let len = match bytes {
+        [b'(' | b')', ..] => 1,
+        _ => bytes
+            .iter()
+            .take_while(|b| !matches!(**b, b'\n' | b' ' | b'(' | b')' | b';'))
+            .count(),
+    };
+    let shown = len.min(40).min(bytes.len());
+    str::from_utf8(&bytes[..shown]).unwrap_or("")
+}
+
+/// What is said of what stands at a place.
+fn found(alloc: Global, kind: ReadFault, bytes: &[u8]) -> Result<String, AllocError> {
+    if matches!(kind, ReadFault::TooLong | ReadFault::BadByte) {
+        return String::from_str(alloc, "");
+    }
+    if bytes.is_empty() {
+        return String::from_str(alloc, "; here the file ends");
+    }
+    let standing = standing(bytes);
+    format!(in alloc; "; here stands {standing}")
+}
+
+/// The line that tells where and why a file is refused.
+pub(crate) fn told(alloc: Global, bytes: &[u8], refusal: &Refusal) -> Result<String, AllocError>
+    requires { refusal.now.place ≤ length bytes.now }
+    ensures { IfOk result (λ text. Begins (head_of bytes.now refusal.entry.now) (string_bytes text)) }
+{
+    let at = position_of(bytes, refusal.place);
+    let found = found(alloc, refusal.kind, &bytes[refusal.place..])?;
+    let kind = kind_name(refusal.kind);
+    let words = words(refusal.finding);
+    let text = line_of(alloc, at.line, at.column, kind, words, found.as_str())?;
+    Ok(text)
+}

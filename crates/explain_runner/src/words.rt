@@ -1,0 +1,126 @@
+//! What is wrong with a file, in words.
+
+use explainer::wanted::{NameUse, NumberUse, Section, Wanted};
+use explainer::{Finding, LimitFault, NameFault};
+
+/// What is wrong, in words.
+pub(crate) fn words(finding: Finding) -> &'static str {
+    match finding {
+        Finding::TooLong => "a file has at most 1048576 bytes",
+        Finding::BadByte => "no file has this byte: a file has newlines and the bytes 32 to 126",
+        Finding::Unwanted(None) => "nothing more is wanted",
+        Finding::Unwanted(Some(wanted)) => wanted_words(wanted),
+        Finding::Name(fault) => name_words(fault),
+        Finding::Limit(fault) => limit_words(fault),
+        Finding::Untrue => "this standing condition is not true of the initial values",
+        Finding::Unplaced => "something in the file",
+    }
+}
+
+fn wanted_words(wanted: Wanted) -> &'static str {
+    match wanted {
+        Wanted::Declarations(part) => declaration_words(part),
+        Wanted::Word(part) => word_words(part),
+        Wanted::FormNumber => "the number of the form is wanted, which is 2",
+        Wanted::Close => "a closing parenthesis is wanted",
+        Wanted::Name(used) => used_words(used),
+        Wanted::Number(used) => number_words(used),
+        Wanted::Expr(0) => "a number or a variable is wanted: 32 parentheses are open",
+        Wanted::Expr(_) => {
+            "an expression is wanted: INT, NAME, (add EXPR EXPR), (sub ..), (mul ..), (div ..) or (rem ..)"
+        }
+        Wanted::Operator(_) => "the word of an expression is wanted: add, sub, mul, div or rem",
+        Wanted::Cond(_) => {
+            "a condition is wanted: (eq EXPR EXPR), (lt ..), (le ..), (not COND), (and COND COND) or (or COND COND)"
+        }
+        Wanted::Test(0) => "eq, lt or le is wanted: 32 parentheses are open",
+        Wanted::Test(_) => "the word of a condition is wanted: eq, lt, le, not, and or or",
+        Wanted::Stmt(_) => {
+            "a statement is wanted: (skip), (set NAME EXPR), (seq STMT ..), (if COND STMT STMT), (repeat INT STMT), (retry), (orelse STMT STMT) or (throw EXPR)"
+        }
+        Wanted::Keyword(0) => "skip, set, seq, retry or throw is wanted: 32 parentheses are open",
+        Wanted::Keyword(_) => {
+            "the word of a statement is wanted: skip, set, seq, if, repeat, retry, orelse or throw"
+        }
+        Wanted::Parts(0) => "a closing parenthesis is wanted: 32 parentheses are open",
+        Wanted::Parts(_) => "a statement or a closing parenthesis is wanted",
+    }
+}
+
+fn declaration_words(part: Section) -> &'static str {
+    match part {
+        Section::Start =>
+            "a declaration is wanted: (var NAME INT), (tx NAME STMT EXPR), (run NAME INT), or first of all (stm 2)",
+        Section::Variables =>
+            "a declaration is wanted: (var NAME INT), (tx NAME STMT EXPR) or (run NAME INT)",
+        Section::VariablesOfTwo => {
+            "a declaration is wanted: (var NAME INT), (always NAME COND), (tx NAME STMT EXPR) or (run NAME INT)"
+        }
+        Section::Conditions => {
+            "a declaration is wanted: (always NAME COND), (tx NAME STMT EXPR) or (run NAME INT)"
+        }
+        Section::Transactions => "a declaration is wanted: (tx NAME STMT EXPR) or (run NAME INT)",
+        Section::Runs => "a declaration is wanted: (run NAME INT)",
+    }
+}
+
+fn word_words(part: Section) -> &'static str {
+    match part {
+        Section::Start =>
+            "var, tx, run or stm is wanted; always only in a file that begins with (stm 2)",
+        Section::Variables =>
+            "var, tx or run is wanted; always only in a file that begins with (stm 2)",
+        Section::VariablesOfTwo => "var, always, tx or run is wanted",
+        Section::Conditions =>
+            "always, tx or run is wanted: variables stand before standing conditions",
+        Section::Transactions => {
+            "tx or run is wanted: variables and standing conditions stand before transactions"
+        }
+        Section::Runs =>
+            "run is wanted: variables, standing conditions and transactions stand before runs",
+    }
+}
+
+fn used_words(used: NameUse) -> &'static str {
+    match used {
+        NameUse::Variable => "the name of a variable is wanted",
+        NameUse::Condition => "the name of a standing condition is wanted",
+        NameUse::Transaction => "the name of a transaction is wanted",
+        NameUse::Target => "the name of the variable to set is wanted",
+        NameUse::Called => "the name of the transaction to run is wanted",
+    }
+}
+
+fn number_words(used: NumberUse) -> &'static str {
+    match used {
+        NumberUse::Initial => "the initial value is wanted, an INT",
+        NumberUse::Turns => "the number of turns is wanted, an INT",
+        NumberUse::Tasks => "the number of tasks is wanted, an INT",
+    }
+}
+
+fn name_words(fault: NameFault) -> &'static str {
+    match fault {
+        NameFault::Twice(NameUse::Condition) =>
+            "a standing condition of this name is declared before",
+        NameFault::Twice(NameUse::Transaction) => "a transaction of this name is declared before",
+        NameFault::Twice(_) => "a variable of this name is declared before",
+        NameFault::NoVariable => "no variable of this name is declared",
+        NameFault::NoTransaction => "no transaction of this name is declared",
+    }
+}
+
+fn limit_words(fault: LimitFault) -> &'static str {
+    match fault {
+        LimitFault::Number => "a number is one of -9223372036854775808 to 9223372036854775807",
+        LimitFault::Turns => "a number of turns is one of 0 to 1000",
+        LimitFault::Tasks => "a number of tasks is one of 0 to 65536",
+        LimitFault::AllTasks => "with this run there are more than 65536 tasks",
+        LimitFault::Name => "a name has at most 32 bytes",
+        LimitFault::Variables => "there are at most 256 variables",
+        LimitFault::Conditions => "there are at most 64 standing conditions",
+        LimitFault::Transactions => "there are at most 256 transactions",
+        LimitFault::Cost =>
+            "the cost of this is more than 1000000, with that of the standing conditions",
+    }
+}

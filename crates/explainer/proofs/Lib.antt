@@ -1,0 +1,10 @@
+pub mod Gaps
+pub mod Prefixes
+pub mod Chains
+pub mod Forms
+pub mod Declared
+pub mod Advances
+pub mod Endings
+pub mod Stacks
+pub mod Walked
+pub mod Known

@@ -1,0 +1,154 @@
+//! Tasks that come in while a store is worked on.
+
+ghost use Rattle.std.specs.Prelude.{◌≡◌};
+
+use book::{Counts, Finish};
+use checker::{Verdict, check};
+use embedded::{Brought, Job, Program, ReportFault, Store, Tried, Worker};
+use std::alloc::Global;
+use std::process::Abort;
+use txn::{TaskId, TxId};
+
+const FILE: &str =
+    "(var full 0)(tx get (if (eq full 0) (retry) (set full 0)) full)(tx put (set full 1) full)(run get 1)";
+
+/// A task of the transaction of this name comes in: its number, or `None` where there is no such
+/// transaction, or no room.
+fn comes_in(store: &mut Store, name: &str) -> Option<TaskId>
+    ensures { store.new.catalogue.now ≡ store.old.catalogue.now }
+{
+    let tx = store.catalogue().tx_id(name)?;
+    if tx.0 as usize >= store.catalogue().tx_count() {
+        return None;
+    }
+    store.submit(tx)
+}
+
+/// A store of the file with room for so many tasks more, and its worker.
+fn opened(rt: &impl Abort, alloc: Global, spare: usize) -> (Store, Worker)
+    ensures { result.1.catalogue.now ≡ result.0.catalogue.now }
+{
+    let Ok(program) = Program::read(alloc, FILE.as_bytes()) else {
+        panic!(rt; "no program");
+    };
+    assert!(rt; program.catalogue().tasks() == 1 && spare <= 2);
+    let Ok(mut store) = Store::open_with_room(alloc, program, 1, 0, spare) else {
+        panic!(rt; "no store");
+    };
+    let Some(worker) = store.worker() else {
+        panic!(rt; "no worker");
+    };
+    (store, worker)
+}
+
+/// The next job is this one, and its end is this.
+fn ends(rt: &impl Abort, store: &mut Store, worker: &mut Worker, job: Job, how: Finish)
+    requires { worker.old.catalogue.now ≡ store.old.catalogue.now }
+    ensures { worker.new.catalogue.now ≡ store.new.catalogue.now }
+{
+    let Some(taken) = store.take() else {
+        panic!(rt; "no job");
+    };
+    assert_eq!(rt; taken, job);
+    assert_eq!(rt; worker.try_job(taken), Tried::Ended);
+    assert_eq!(rt; store.finish(worker), Brought::Finished(how));
+}
+
+const GET: TxId = TxId(0);
+
+const PUT: TxId = TxId(1);
+
+/// The store's file and its report are a pair that a check finds good.
+fn agree(rt: &impl Abort, alloc: Global, store: &mut Store) {
+    let (Ok(report), Ok(file)) = (store.report(), store.file()) else {
+        panic!(rt; "no text");
+    };
+    match check(alloc, file.as_bytes(), report.as_bytes()) {
+        Ok(verdict) => assert_eq!(rt; verdict, Verdict::Good),
+        Err(_) => panic!(rt; "no verdict"),
+    }
+}
+
+#[test]
+fn tasks_come_in_while_others_run(rt: HostRuntime) {
+    let alloc = rt.alloc();
+    let (mut store, mut worker) = opened(&rt, alloc, 2);
+    assert_eq!(rt;
+        store.take(),
+        Some(Job {
+            task: TaskId(0),
+            tx: GET
+        })
+    );
+    assert_eq!(rt; comes_in(&mut store, "put"), Some(TaskId(1)));
+    assert_eq!(rt; comes_in(&mut store, "get"), Some(TaskId(2)));
+    assert_eq!(rt; comes_in(&mut store, "get"), None);
+    assert_eq!(rt; comes_in(&mut store, "none"), None);
+    assert_eq!(rt; (store.tasks(), store.spare()), (3, 0));
+    let put = Job {
+        task: TaskId(1),
+        tx: PUT,
+    };
+    ends(&rt, &mut store, &mut worker, put, Finish::Committed(1));
+    assert_eq!(rt; store.value("full"), Some((1, 1)));
+    assert_eq!(rt; store.value("empty"), None);
+    let counts = Counts {
+        ready: 1,
+        running: 1,
+        parked: 0,
+        done: 1,
+        given_up: 0,
+    };
+    assert_eq!(rt; store.counts(), counts);
+    assert!(rt; matches!(store.report_now(), Err(ReportFault::WorkLeft)));
+    agree(&rt, alloc, &mut store);
+    assert!(rt; store.report_now().is_ok());
+    match store.file() {
+        Ok(file) => assert!(rt;
+            file.as_str()
+                .ends_with("(run get 1)\n(run put 1)\n(run get 1)\n")
+        ),
+        Err(_) => panic!(rt; "no file"),
+    }
+}
+
+#[test]
+fn a_task_that_comes_in_wakes_those_that_wait(rt: HostRuntime) {
+    let alloc = rt.alloc();
+    let (mut store, mut worker) = opened(&rt, alloc, 1);
+    let get = Job {
+        task: TaskId(0),
+        tx: GET,
+    };
+    let put = Job {
+        task: TaskId(1),
+        tx: PUT,
+    };
+    ends(&rt, &mut store, &mut worker, get, Finish::Parked);
+    assert_eq!(rt; store.take(), None);
+    assert!(rt; store.report_now().is_ok());
+    assert_eq!(rt; comes_in(&mut store, "put"), Some(TaskId(1)));
+    ends(&rt, &mut store, &mut worker, put, Finish::Committed(1));
+    ends(&rt, &mut store, &mut worker, get, Finish::Committed(2));
+    agree(&rt, alloc, &mut store);
+}
+
+#[test]
+fn a_task_of_another_store_is_not_brought(rt: HostRuntime) {
+    let alloc = rt.alloc();
+    let (mut store, mut worker) = opened(&rt, alloc, 1);
+    assert_eq!(rt; store.finish(&mut worker), Brought::NotEnded);
+    if worker.catalogue().tx_count() < 2 {
+        panic!(rt; "no transaction");
+    }
+    let stranger = Job {
+        task: TaskId(1),
+        tx: PUT,
+    };
+    assert_eq!(rt; worker.try_job(stranger), Tried::Ended);
+    assert_eq!(rt; store.finish(&mut worker), Brought::OtherTask);
+    assert_eq!(rt; comes_in(&mut store, "get"), Some(TaskId(1)));
+    assert_eq!(rt; worker.try_job(stranger), Tried::Ended);
+    assert_eq!(rt; store.finish(&mut worker), Brought::OtherTask);
+    assert_eq!(rt; store.finish(&mut worker), Brought::NotEnded);
+}

@@ -1,0 +1,14 @@
+mod First
+mod Raising
+mod Replaying
+mod Bases
+mod Presents
+mod Seen
+mod Named
+mod Order
+mod Judging
+mod Lined
+mod Places
+mod Numbered
+mod Verdicts
+mod Letters

@@ -1,0 +1,9 @@
+pub mod View
+pub mod First
+pub mod Parts
+pub mod Flaws
+pub mod Steps
+pub mod Rows
+pub mod Explaining
+pub mod Texts
+pub mod Writing
