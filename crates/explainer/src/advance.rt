@@ -96,46 +96,34 @@ fn behind_kind(stack: &mut Vec<Wanted>, part: Section, word: &str) -> Result<boo
     let Some(next) = part_behind(part, kind) else {
         return Ok(false);
     };
-    let rest = Wanted::Declarations(next);
+    let (rest, close) = (Wanted::Declarations(next), Wanted::Close);
     match kind {
-        Kind::Form => want(stack, &[rest, Wanted::Close, Wanted::FormNumber]),
-        Kind::Variable => want(
-            stack,
-            &[
-                rest,
-                Wanted::Close,
-                Wanted::Number(NumberUse::Initial),
-                Wanted::Name(NameUse::Variable),
-            ],
-        ),
-        Kind::Condition => want(
-            stack,
-            &[
-                rest,
-                Wanted::Close,
-                Wanted::Cond(30),
-                Wanted::Name(NameUse::Condition),
-            ],
-        ),
-        Kind::Transaction => want(
-            stack,
-            &[
-                rest,
-                Wanted::Close,
-                Wanted::Expr(31),
-                Wanted::Stmt(30),
-                Wanted::Name(NameUse::Transaction),
-            ],
-        ),
-        Kind::Run => want(
-            stack,
-            &[
-                rest,
-                Wanted::Close,
-                Wanted::Number(NumberUse::Tasks),
-                Wanted::Name(NameUse::Called),
-            ],
-        ),
+        Kind::Form => want(stack, &[rest, close, Wanted::FormNumber]),
+        Kind::Variable => {
+            let (name, value) = (NameUse::Variable, NumberUse::Initial);
+            want(
+                stack,
+                &[rest, close, Wanted::Number(value), Wanted::Name(name)],
+            )
+        }
+        Kind::Condition => {
+            let name = Wanted::Name(NameUse::Condition);
+            want(stack, &[rest, close, Wanted::Cond(30), name])
+        }
+        Kind::Transaction => {
+            let name = Wanted::Name(NameUse::Transaction);
+            want(
+                stack,
+                &[rest, close, Wanted::Expr(31), Wanted::Stmt(30), name],
+            )
+        }
+        Kind::Run => {
+            let (name, tasks) = (NameUse::Called, NumberUse::Tasks);
+            want(
+                stack,
+                &[rest, close, Wanted::Number(tasks), Wanted::Name(name)],
+            )
+        }
     }
 }
 

@@ -2,7 +2,11 @@
 
 use explainer::{Explanation, Finding, explain, position_of};
 use std::alloc::Global;
+use std::process::Abort;
 use text_words::ReadFault;
+
+/// A text, and the line and column where it is refused.
+pub(crate) type Case = (&'static str, usize, usize);
 
 /// The kind, the line, the column and the finding of a file that is refused.
 #[derive(Clone, Copy)]
@@ -43,5 +47,12 @@ pub(crate) fn is_at(
     match told_of(alloc, text.as_bytes()) {
         Some(told) => told.kind == kind && told.line == line && told.column == column,
         None => false,
+    }
+}
+
+/// Whether each text is refused for a fault of this kind at its place.
+pub(crate) fn all_at(rt: &(impl Abort + Eprint), alloc: Global, kind: ReadFault, cases: &[Case]) {
+    for &(text, line, column) in cases {
+        assert!(rt; is_at(alloc, text, kind, line, column));
     }
 }
