@@ -94,13 +94,24 @@ pub(crate) fn wrong_name(alloc: Global, bytes: &[u8]) -> Result<Option<WrongName
         conditions: IndexSet::new(alloc),
         transactions: IndexSet::new(alloc),
     };
+    first_wrong(bytes, &mut stack, &mut declared)
+}
+
+/// The first such name, where this is wanted at the beginning and nothing is declared yet.
+fn first_wrong<'a>(
+    bytes: &'a [u8],
+    stack: &mut Vec<Wanted>,
+    declared: &mut Declared<'a>,
+) -> Result<Option<WrongName>, Memory>
+    ensures { IfOk result (λ found. IfSome found (λ w. IsTokenPlace bytes.now w.place)) }
+{
     let mut at = 0;
     'tokens: loop {
-        let Ok(step) = next_step(bytes, at, &mut stack) else {
+        let Ok(step) = next_step(bytes, at, stack) else {
             return Err(Memory);
         };
         if let Some((used, name)) = used_name(step.wanted, step.token) {
-            if let Some(fault) = judged(&mut declared, used, name)? {
+            if let Some(fault) = judged(declared, used, name)? {
                 return Ok(Some(WrongName {
                     place: step.place,
                     fault,

@@ -1,5 +1,5 @@
 use Rattle.std.proofs.Common.{◌≤◌, ◌-◌, length}
-use Rattle.explainer.proofs.names.wrong_name.Given as goal
+use Rattle.explainer.proofs.names.first_wrong.Given as goal
 
 abbrev pub invariant-tokens : goal.invariant-tokens
 invariant-tokens l = l.at ≤ length l.bytes
