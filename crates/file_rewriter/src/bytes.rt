@@ -88,16 +88,24 @@ fn text_of(alloc: Global, catalogue: &Catalogue) -> Result<String, Memory>
     print_file(alloc, catalogue)
 }
 
+/// The canonical text of the catalogue, or that there was no memory for it.
+fn text_or_fault(alloc: Global, catalogue: &Catalogue) -> Result<String, RunFault>
+    ensures text { IfOk result (λ text. IsTextOf catalogue.now (string_bytes text)) }
+    ensures refused { IfErr result (λ fault. fault ≡ RunFault.Memory) }
+{
+    match text_of(alloc, catalogue) {
+        Ok(text) => Ok(text),
+        Err(_) => Err(RunFault::Memory),
+    }
+}
+
 /// The canonical text of the file that the bytes spell.
 fn printed(alloc: Global, bytes: &[u8]) -> Result<String, RunFault>
     ensures printed { IfOk result (λ text. IsPrinted bytes.now (string_bytes text)) }
     ensures refused { IfErr result (IsRefused bytes.now) }
 {
     match catalogue_of(alloc, bytes) {
-        Ok(catalogue) => match text_of(alloc, &catalogue) {
-            Ok(text) => Ok(text),
-            Err(_) => Err(RunFault::Memory),
-        },
+        Ok(catalogue) => text_or_fault(alloc, &catalogue),
         Err(fault) => Err(fault),
     }
 }
