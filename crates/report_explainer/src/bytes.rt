@@ -74,12 +74,28 @@ fn answered(alloc: Global, bytes: &[u8], report: &[u8]) -> Result<(Verdict, Stri
     ensures answered { IfOk result (λ x. IsAnswer bytes.now report.now x.0 (string_bytes x.1)) }
     ensures refused { IfErr result (IsRefused bytes.now) }
 {
-    let catalogue = catalogue_of(alloc, bytes)?;
-    let Ok(explanation) = explain(alloc, &catalogue, report) else {
+    match catalogue_of(alloc, bytes) {
+        Ok(catalogue) => answered_of(alloc, bytes, &catalogue, report),
+        Err(fault) => Err(fault),
+    }
+}
+
+/// The verdict on the report of the catalogue that the bytes spell, and what is said of it.
+fn answered_of(
+    alloc: Global,
+    bytes: &[u8],
+    catalogue: &Catalogue,
+    report: &[u8],
+) -> Result<(Verdict, String), RunFault>
+    requires { Spells bytes.now catalogue.now }
+    ensures answered { IfOk result (λ x. IsAnswer bytes.now report.now x.0 (string_bytes x.1)) }
+    ensures refused { IfErr result (λ fault. fault ≡ RunFault.Memory) }
+{
+    let Ok(explanation) = explain(alloc, catalogue, report) else {
         return Err(RunFault::Memory);
     };
-    let Ok(text) = text_of(alloc, &catalogue, explanation) else {
-        return Err(RunFault::Memory);
-    };
-    Ok((explanation.verdict(), text))
+    match text_of(alloc, catalogue, explanation) {
+        Ok(text) => Ok((explanation.verdict(), text)),
+        Err(_) => Err(RunFault::Memory),
+    }
 }
