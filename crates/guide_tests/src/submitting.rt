@@ -69,27 +69,24 @@ fn agree(rt: &impl Abort, alloc: Global, store: &mut Store) {
     }
 }
 
-#[test]
-fn tasks_come_in_while_others_run(rt: HostRuntime) {
-    let alloc = rt.alloc();
-    let (mut store, mut worker) = opened(&rt, alloc, 2);
-    assert_eq!(rt;
-        store.take(),
-        Some(Job {
-            task: TaskId(0),
-            tx: GET
-        })
-    );
-    assert_eq!(rt; comes_in(&mut store, "put"), Some(TaskId(1)));
-    assert_eq!(rt; comes_in(&mut store, "get"), Some(TaskId(2)));
-    assert_eq!(rt; comes_in(&mut store, "get"), None);
-    assert_eq!(rt; comes_in(&mut store, "none"), None);
-    assert_eq!(rt; (store.tasks(), store.spare()), (3, 0));
-    let put = Job {
-        task: TaskId(1),
-        tx: PUT,
+/// The first task is taken, and two come in: then there is no room for more.
+fn two_come_in(rt: &impl Abort, store: &mut Store)
+    ensures { store.new.catalogue.now ≡ store.old.catalogue.now }
+{
+    let first = Job {
+        task: TaskId(0),
+        tx: GET,
     };
-    ends(&rt, &mut store, &mut worker, put, Finish::Committed(1));
+    assert_eq!(rt; store.take(), Some(first));
+    assert_eq!(rt; comes_in(store, "put"), Some(TaskId(1)));
+    assert_eq!(rt; comes_in(store, "get"), Some(TaskId(2)));
+    assert_eq!(rt; comes_in(store, "get"), None);
+    assert_eq!(rt; comes_in(store, "none"), None);
+    assert_eq!(rt; (store.tasks(), store.spare()), (3, 0));
+}
+
+/// What the store tells while one task is ready, one is running and one is done.
+fn tells_of_three(rt: &impl Abort, store: &mut Store) {
     assert_eq!(rt; store.value("full"), Some((1, 1)));
     assert_eq!(rt; store.value("empty"), None);
     let counts = Counts {
@@ -101,8 +98,10 @@ fn tasks_come_in_while_others_run(rt: HostRuntime) {
     };
     assert_eq!(rt; store.counts(), counts);
     assert!(rt; matches!(store.report_now(), Err(ReportFault::WorkLeft)));
-    agree(&rt, alloc, &mut store);
-    assert!(rt; store.report_now().is_ok());
+}
+
+/// The file ends with the run that it had, and those that came in.
+fn lists_three(rt: &impl Abort, store: &Store) {
     match store.file() {
         Ok(file) => assert!(rt;
             file.as_str()
@@ -110,6 +109,22 @@ fn tasks_come_in_while_others_run(rt: HostRuntime) {
         ),
         Err(_) => panic!(rt; "no file"),
     }
+}
+
+#[test]
+fn tasks_come_in_while_others_run(rt: HostRuntime) {
+    let alloc = rt.alloc();
+    let (mut store, mut worker) = opened(&rt, alloc, 2);
+    two_come_in(&rt, &mut store);
+    let put = Job {
+        task: TaskId(1),
+        tx: PUT,
+    };
+    ends(&rt, &mut store, &mut worker, put, Finish::Committed(1));
+    tells_of_three(&rt, &mut store);
+    agree(&rt, alloc, &mut store);
+    assert!(rt; store.report_now().is_ok());
+    lists_three(&rt, &store);
 }
 
 #[test]

@@ -48,10 +48,24 @@ pub(crate) fn work<R: Wait, G: Gate, N: Naming>(rt: &R, crew: &Crew<'_, '_, G, N
         return;
     };
     let mut attempt = first_attempt(crew, first);
+    serve(rt, crew, &mut pass, &mut attempt, first);
+}
+
+/// Gives the task its tries, and then each next one, until none is ready.
+fn serve<'a, R: Wait, G: Gate, N: Naming>(
+    rt: &R,
+    crew: &Crew<'a, '_, G, N>,
+    pass: &mut Pass,
+    attempt: &mut Attempt<'a>,
+    first: TaskId,
+)
+    requires exists { first.0 < length (tasks N.catalogue) }
+    requires own { pass.old.cells ≡ crew.now.cells.now }
+{
     let mut task = first;
     for _ in rt.forever() {
         stop_at(crew.gate, Point::Taken, task);
-        let Some(next) = run_task(rt, crew, &mut pass, &mut attempt, task) else {
+        let Some(next) = run_task(rt, crew, pass, attempt, task) else {
             return;
         };
         task = next;

@@ -1,6 +1,6 @@
 use Rattle.std.proofs.Common.{◌≡◌, ◌<◌, length}
 use Rattle.programs.specs.Listing.{tasks}
-use Rattle.workers.proofs.worker.work.Given as goal
+use Rattle.workers.proofs.worker.serve.Given as goal
 
 abbrev pub invariant-loop : goal.invariant-loop
 invariant-loop g l =
