@@ -3,7 +3,7 @@
 ghost use Rattle.std.specs.Prelude.{◌≡◌, pos, IfOk, IfErr, ◌⊎◌, Some, string_bytes};
 ghost use Rattle.programs.specs.Told.{told};
 ghost use Rattle.programs.specs.LawfulReport.{LawfulReport, BaseReached};
-ghost use Rattle.file_grammar.specs.Spelling.{first_fault};
+ghost use Rattle.file_grammar.specs.Spelling.{Spells, first_fault};
 ghost use Rattle.text_words.specs.declared.fault.ReadFault.TheVariants as ReadFault;
 ghost use Rattle.book.specs.Turns.{IsIdle};
 ghost use Rattle.runner.specs.Running.{IsReportOf};
@@ -42,11 +42,27 @@ fn report_of(alloc: Global, bytes: &[u8], checkpoint: u32) -> Result<String, Rea
     ensures report { IfOk result (λ text. IsReportOf bytes.now (string_bytes text)) }
     ensures fault { IfErr result (λ e. (e ≡ ReadFault.Memory) ⊎ (first_fault bytes.now ≡ Some e)) }
 {
-    let catalogue = read_file(alloc, bytes)?;
-    let Ok(report) = run_alone(alloc, &catalogue, checkpoint) else {
+    match read_file(alloc, bytes) {
+        Ok(catalogue) => report_text(alloc, bytes, &catalogue, checkpoint),
+        Err(fault) => Err(fault),
+    }
+}
+
+/// The text of a lawful report of the catalogue that the bytes spell.
+fn report_text(
+    alloc: Global,
+    bytes: &[u8],
+    catalogue: &Catalogue,
+    checkpoint: u32,
+) -> Result<String, ReadFault>
+    requires { Spells bytes.now catalogue.now }
+    ensures report { IfOk result (λ text. IsReportOf bytes.now (string_bytes text)) }
+    ensures fault { IfErr result (λ e. e ≡ ReadFault.Memory) }
+{
+    let Ok(report) = run_alone(alloc, catalogue, checkpoint) else {
         return Err(ReadFault::Memory);
     };
-    match print_report(alloc, &catalogue, &report) {
+    match print_report(alloc, catalogue, &report) {
         Ok(text) => Ok(text),
         Err(_) => Err(ReadFault::Memory),
     }
