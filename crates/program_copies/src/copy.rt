@@ -1,7 +1,7 @@
 //! Copies of what a catalogue declares: each says what its original says.
 
 ghost use Rattle.std.specs.Prelude.{◌≡◌, ◌++◌, IfOk, length, map, string_bytes};
-ghost use Rattle.programs.specs.Tree.{expression_of, condition_of, statement_of, transaction_of};
+ghost use Rattle.programs.specs.Tree.{If, expression_of, condition_of, statement_of, transaction_of};
 ghost use Rattle.program_copies.specs.Conditions.{standing_of};
 
 use programs::{Cond, Expr, Stmt, Tx, TxId};
@@ -35,13 +35,30 @@ fn condition(alloc: Global, c: &Cond) -> Result<Cond, AllocError>
     ensures { IfOk result (λ d. condition_of d ≡ condition_of c.now) }
 {
     Ok(match c {
-        Cond::Eq(a, b) => Cond::Eq(expression(alloc, a)?, expression(alloc, b)?),
-        Cond::Lt(a, b) => Cond::Lt(expression(alloc, a)?, expression(alloc, b)?),
-        Cond::Le(a, b) => Cond::Le(expression(alloc, a)?, expression(alloc, b)?),
+        Cond::Eq(a, b) => {
+            let (first, second) = sides(alloc, a, b)?;
+            Cond::Eq(first, second)
+        }
+        Cond::Lt(a, b) => {
+            let (first, second) = sides(alloc, a, b)?;
+            Cond::Lt(first, second)
+        }
+        Cond::Le(a, b) => {
+            let (first, second) = sides(alloc, a, b)?;
+            Cond::Le(first, second)
+        }
         Cond::Not(a) => Cond::Not(boxed_condition(alloc, a)?),
         Cond::And(a, b) => Cond::And(boxed_condition(alloc, a)?, boxed_condition(alloc, b)?),
         Cond::Or(a, b) => Cond::Or(boxed_condition(alloc, a)?, boxed_condition(alloc, b)?),
     })
+}
+
+/// Copies of the two sides of a comparison.
+fn sides(alloc: Global, a: &Expr, b: &Expr) -> Result<(Expr, Expr), AllocError>
+    ensures { IfOk result (λ p. (expression_of p.0 ≡ expression_of a.now) × (expression_of p.1 ≡ expression_of b.now)) }
+{
+    let first = expression(alloc, a)?;
+    Ok((first, expression(alloc, b)?))
 }
 
 #[cycle(conditions)]
@@ -62,19 +79,34 @@ fn statement(alloc: Global, s: &Stmt) -> Result<Stmt, AllocError>
         Stmt::Set(x, e) => Ok(Stmt::Set(*x, expression(alloc, e)?)),
         Stmt::Seq(parts) => Ok(Stmt::Seq(statements(alloc, parts.as_slice())?)),
         Stmt::If(c, a, b) => {
-            let test = condition(alloc, c)?;
             let first = boxed_statement(alloc, a)?;
-            let second = boxed_statement(alloc, b)?;
-            Ok(Stmt::If(test, first, second))
+            let (first, second) = beside(alloc, b, first)?;
+            tested(alloc, c, first, second)
         }
         Stmt::Repeat(n, a) => Ok(Stmt::Repeat(*n, boxed_statement(alloc, a)?)),
         Stmt::OrElse(a, b) => {
             let first = boxed_statement(alloc, a)?;
-            let second = boxed_statement(alloc, b)?;
+            let (first, second) = beside(alloc, b, first)?;
             Ok(Stmt::OrElse(first, second))
         }
         Stmt::Throw(e) => Ok(Stmt::Throw(expression(alloc, e)?)),
     }
+}
+
+/// The box, and beside it a copy of a statement.
+#[cycle(statements)]
+fn beside(alloc: Global, s: &Stmt, first: Box<Stmt>) -> Result<(Box<Stmt>, Box<Stmt>), AllocError>
+    ensures { IfOk result (λ p. (statement_of p.0.value ≡ statement_of first.value) × (statement_of p.1.value ≡ statement_of s.now)) }
+{
+    let second = boxed_statement(alloc, s)?;
+    Ok((first, second))
+}
+
+/// The choice between two branches by a copy of the condition.
+fn tested(alloc: Global, c: &Cond, first: Box<Stmt>, second: Box<Stmt>) -> Result<Stmt, AllocError>
+    ensures { IfOk result (λ s. statement_of s ≡ If (condition_of c.now) (statement_of first.value) (statement_of second.value)) }
+{
+    Ok(Stmt::If(condition(alloc, c)?, first, second))
 }
 
 #[cycle(statements)]
@@ -100,11 +132,17 @@ fn statements(alloc: Global, parts: &[Stmt]) -> Result<Vec<Stmt>, AllocError>
 pub fn copied_transaction(alloc: Global, tx: &Tx) -> Result<Tx, AllocError>
     ensures { IfOk result (λ t. transaction_of t ≡ transaction_of tx.now) }
 {
-    Ok(Tx {
-        name: tx.name.clone()?,
-        body: statement(alloc, &tx.body)?,
-        result: expression(alloc, &tx.result)?,
-    })
+    let name = tx.name.clone()?;
+    let (body, result) = body_and_result(alloc, tx)?;
+    Ok(Tx { name, body, result })
+}
+
+/// Copies of what a transaction does and of what it returns.
+fn body_and_result(alloc: Global, tx: &Tx) -> Result<(Stmt, Expr), AllocError>
+    ensures { IfOk result (λ p. (statement_of p.0 ≡ statement_of tx.now.body) × (expression_of p.1 ≡ expression_of tx.now.result)) }
+{
+    let body = statement(alloc, &tx.body)?;
+    Ok((body, expression(alloc, &tx.result)?))
 }
 
 /// The transactions, in their order.
