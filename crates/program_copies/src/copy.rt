@@ -35,30 +35,13 @@ fn condition(alloc: Global, c: &Cond) -> Result<Cond, AllocError>
     ensures { IfOk result (λ d. condition_of d ≡ condition_of c.now) }
 {
     Ok(match c {
-        Cond::Eq(a, b) => {
-            let (first, second) = sides(alloc, a, b)?;
-            Cond::Eq(first, second)
-        }
-        Cond::Lt(a, b) => {
-            let (first, second) = sides(alloc, a, b)?;
-            Cond::Lt(first, second)
-        }
-        Cond::Le(a, b) => {
-            let (first, second) = sides(alloc, a, b)?;
-            Cond::Le(first, second)
-        }
+        Cond::Eq(a, b) => Cond::Eq(expression(alloc, a)?, expression(alloc, b)?),
+        Cond::Lt(a, b) => Cond::Lt(expression(alloc, a)?, expression(alloc, b)?),
+        Cond::Le(a, b) => Cond::Le(expression(alloc, a)?, expression(alloc, b)?),
         Cond::Not(a) => Cond::Not(boxed_condition(alloc, a)?),
         Cond::And(a, b) => Cond::And(boxed_condition(alloc, a)?, boxed_condition(alloc, b)?),
         Cond::Or(a, b) => Cond::Or(boxed_condition(alloc, a)?, boxed_condition(alloc, b)?),
     })
-}
-
-/// Copies of the two sides of a comparison.
-fn sides(alloc: Global, a: &Expr, b: &Expr) -> Result<(Expr, Expr), AllocError>
-    ensures { IfOk result (λ p. (expression_of p.0 ≡ expression_of a.now) × (expression_of p.1 ≡ expression_of b.now)) }
-{
-    let first = expression(alloc, a)?;
-    Ok((first, expression(alloc, b)?))
 }
 
 #[cycle(conditions)]
