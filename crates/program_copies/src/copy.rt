@@ -124,8 +124,8 @@ pub fn copied_transaction(alloc: Global, tx: &Tx) -> Result<Tx, AllocError>
 fn body_and_result(alloc: Global, tx: &Tx) -> Result<(Stmt, Expr), AllocError>
     ensures { IfOk result (λ p. (statement_of p.0 ≡ statement_of tx.now.body) × (expression_of p.1 ≡ expression_of tx.now.result)) }
 {
-    let body = statement(alloc, &tx.body)?;
-    Ok((body, expression(alloc, &tx.result)?))
+    let result = expression(alloc, &tx.result)?;
+    Ok((statement(alloc, &tx.body)?, result))
 }
 
 /// The transactions, in their order.
