@@ -1,5 +1,6 @@
 //! The words of `stm explain`.
 
+use crate::words::{Request, described, required, with_two};
 use clap::{Arg, ArgMatches, Command};
 use std::alloc::{AllocError, Global};
 
@@ -20,22 +21,18 @@ const EXPLAINED: &str =
 
 /// The command `stm explain`.
 pub(crate) fn explain_command<'a>(alloc: Global) -> Result<Command<'a>, AllocError> {
-    let file = Arg::new(alloc, "FILE")
-        .required(true)
-        .help("The path of the file to explain");
-    let report = Arg::new(alloc, "REPORT").help(
-        "The path of a report of it, which is explained in its place",
-    );
-    Command::new(alloc, "explain")
-        .about(EXPLAIN)
-        .after_help(EXPLAINED)
-        .arg(file)?
-        .arg(report)
+    with_two(
+        described(alloc, "explain", EXPLAIN, EXPLAINED),
+        required(alloc, "FILE", "The path of the file to explain"),
+        Arg::new(alloc, "REPORT").help(
+            "The path of a report of it, which is explained in its place",
+        ),
+    )
 }
 
 /// What the words ask for.
-pub(crate) fn wanted_explanation<'a>(matches: &ArgMatches<'a>) -> Option<Explain<'a>> {
+pub(crate) fn wanted_explanation<'a>(matches: &ArgMatches<'a>) -> Option<Request<'a>> {
     let file = matches.get_str("FILE")?;
     let report = matches.get_str("REPORT");
-    Some(Explain { file, report })
+    Some(Request::Explain(Explain { file, report }))
 }

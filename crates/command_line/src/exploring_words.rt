@@ -1,6 +1,6 @@
 //! The words of `stm explore`.
 
-use crate::words::number;
+use crate::words::{Request, described, number, required, with_two};
 use clap::{Arg, ArgMatches, Command, value_parser};
 use explore_options::Limit;
 use std::alloc::{AllocError, Global};
@@ -29,29 +29,30 @@ const STATES: &str = "How many places are looked at, at most, 1 to 16777216";
 
 /// The command `stm explore`.
 pub(crate) fn explore_command<'a>(alloc: Global) -> Result<Command<'a>, AllocError> {
-    let file = Arg::new(alloc, "FILE")
-        .required(true)
-        .help("The path of the file whose orders are seen");
-    let to = Arg::new(alloc, "to")
+    let explore = with_two(
+        described(alloc, "explore", EXPLORE, FOUND),
+        required(alloc, "FILE", "The path of the file whose orders are seen"),
+        number(alloc, "states", (1, 16_777_216), "1000000", STATES),
+    )?;
+    explore.arg(to(alloc))
+}
+
+/// The option `--to K`.
+fn to<'a>(alloc: Global) -> Arg<'a> {
+    Arg::new(alloc, "to")
         .long("to")
         .value_name("K")
         .value_parser(value_parser!(u32).range(1..=16_777_216))
-        .help(TO);
-    Command::new(alloc, "explore")
-        .about(EXPLORE)
-        .after_help(FOUND)
-        .arg(file)?
-        .arg(number(alloc, "states", (1, 16_777_216), "1000000", STATES))?
-        .arg(to)
+        .help(TO)
 }
 
 /// What the words ask for.
-pub(crate) fn wanted_orders<'a>(matches: &ArgMatches<'a>) -> Option<Orders<'a>> {
+pub(crate) fn wanted_orders<'a>(matches: &ArgMatches<'a>) -> Option<Request<'a>> {
     let file = matches.get_str("FILE")?;
     let states = matches.get_one::<u32>("states")?;
     let limit = Limit::new(states)?;
     let to = matches
         .get_one::<u32>("to")
         .map(|number| (number as usize).saturating_sub(1));
-    Some(Orders { file, limit, to })
+    Some(Request::Explore(Orders { file, limit, to }))
 }

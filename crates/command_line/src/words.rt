@@ -104,33 +104,66 @@ const CHECKPOINT: &str =
 
 /// The command `stm` with its subcommands.
 fn command<'a>(alloc: Global) -> Result<Command<'a>, AllocError> {
-    let run = run_command(alloc)?;
-    Command::new(alloc, "stm")
+    let stm = added(Ok(root(alloc)), run_command(alloc));
+    let stm = added(stm, check_command(alloc));
+    let stm = added(stm, world_command(alloc));
+    let stm = added(stm, explore_command(alloc));
+    let stm = added(stm, print_command(alloc));
+    added(stm, explain_command(alloc))
+}
+
+/// The command `stm` without its subcommands.
+fn root<'a>(alloc: Global) -> Command<'a> {
+    described(alloc, "stm", ABOUT, STATUSES)
         .version(VERSION)
-        .about(ABOUT)
-        .after_help(STATUSES)
         .subcommand_required(true)
         .arg_required_else_help(true)
-        .subcommand(run)?
-        .subcommand(check_command(alloc)?)?
-        .subcommand(world_command(alloc)?)?
-        .subcommand(explore_command(alloc)?)?
-        .subcommand(print_command(alloc)?)?
-        .subcommand(explain_command(alloc)?)
+}
+
+/// The command with one more subcommand, if there was memory for both.
+fn added<'a>(
+    command: Result<Command<'a>, AllocError>,
+    subcommand: Result<Command<'a>, AllocError>,
+) -> Result<Command<'a>, AllocError> {
+    command?.subcommand(subcommand?)
+}
+
+/// A command of this name, what it does, and what its help ends with.
+pub(crate) fn described<'a>(
+    alloc: Global,
+    name: &'a str,
+    about: &'a str,
+    after: &'a str,
+) -> Command<'a> {
+    Command::new(alloc, name).about(about).after_help(after)
+}
+
+/// The command with two more arguments.
+pub(crate) fn with_two<'a>(
+    command: Command<'a>,
+    first: Arg<'a>,
+    second: Arg<'a>,
+) -> Result<Command<'a>, AllocError> {
+    command.arg(first)?.arg(second)
+}
+
+/// An argument that has to be given, by its place.
+pub(crate) fn required<'a>(alloc: Global, name: &'a str, help: &'a str) -> Arg<'a> {
+    Arg::new(alloc, name).required(true).help(help)
 }
 
 /// The command `stm run`.
 fn run_command<'a>(alloc: Global) -> Result<Command<'a>, AllocError> {
-    let file = Arg::new(alloc, "FILE")
-        .required(true)
-        .help("The path of the file to run");
-    Command::new(alloc, "run")
-        .about(RUN)
-        .after_help(EXAMPLE)
-        .arg(file)?
-        .arg(number(alloc, "workers", (1, 16), "4", WORKERS))?
-        .arg(number(alloc, "tries", (1, 64), "8", TRIES))?
-        .arg(number(alloc, "checkpoint", (0, 65536), "0", CHECKPOINT))
+    let run = with_two(
+        described(alloc, "run", RUN, EXAMPLE),
+        required(alloc, "FILE", "The path of the file to run"),
+        number(alloc, "workers", (1, 16), "4", WORKERS),
+    )?;
+    with_two(
+        run,
+        number(alloc, "tries", (1, 64), "8", TRIES),
+        number(alloc, "checkpoint", (0, 65536), "0", CHECKPOINT),
+    )
 }
 
 /// The option `--NAME N` of a number in this range, ends included, with this one where it is left out.
@@ -151,123 +184,103 @@ pub(crate) fn number<'a>(
 
 /// The command `stm check`.
 fn check_command<'a>(alloc: Global) -> Result<Command<'a>, AllocError> {
-    let file = Arg::new(alloc, "FILE")
-        .required(true)
-        .help("The path of the file that was run");
-    let report = Arg::new(alloc, "REPORT")
-        .required(true)
-        .help("The path of the report of it");
-    Command::new(alloc, "check")
-        .about(CHECK)
-        .after_help(VERDICTS)
-        .arg(file)?
-        .arg(report)
+    with_two(
+        described(alloc, "check", CHECK, VERDICTS),
+        required(alloc, "FILE", "The path of the file that was run"),
+        required(alloc, "REPORT", "The path of the report of it"),
+    )
 }
 
 /// The command `stm world`.
 fn world_command<'a>(alloc: Global) -> Result<Command<'a>, AllocError> {
-    let file = Arg::new(alloc, "FILE")
-        .required(true)
-        .help("The path of the file whose tasks take part");
-    let schedule = Arg::new(alloc, "SCHEDULE")
-        .required(true)
-        .help("The path of the schedule to play")
-        .long_help(SCHEDULE);
-    Command::new(alloc, "world")
-        .about(WORLD)
-        .after_help(SEEN)
-        .arg(file)?
-        .arg(schedule)
+    with_two(
+        described(alloc, "world", WORLD, SEEN),
+        required(alloc, "FILE", "The path of the file whose tasks take part"),
+        required(alloc, "SCHEDULE", "The path of the schedule to play").long_help(SCHEDULE),
+    )
 }
 
 /// The command `stm print`.
 fn print_command<'a>(alloc: Global) -> Result<Command<'a>, AllocError> {
-    let file = Arg::new(alloc, "FILE")
-        .required(true)
-        .help("The path of the file to print");
-    let from = Arg::new(alloc, "from")
+    with_two(
+        described(alloc, "print", PRINT, PRINTED),
+        required(alloc, "FILE", "The path of the file to print"),
+        from(alloc),
+    )
+}
+
+/// The option `--from REPORT`.
+fn from<'a>(alloc: Global) -> Arg<'a> {
+    Arg::new(alloc, "from")
         .long("from")
         .value_name("REPORT")
-        .help("The path of a report of the file, whose present values the variables begin at");
-    Command::new(alloc, "print")
-        .about(PRINT)
-        .after_help(PRINTED)
-        .arg(file)?
-        .arg(from)
+        .help("The path of a report of the file, whose present values the variables begin at")
 }
 
 /// What the words ask for. An `Err` has the text to show: help or the version, where it was asked for,
 /// or what is wrong with the words.
 pub fn parse<'a>(alloc: Global, words: &'a [String]) -> Result<Request<'a>, Error> {
     let mut command = command(alloc)?;
-    let matches = command.try_get_matches_from_mut(words)?;
-    if let Some(request) = request_of(&matches) {
-        return Ok(request);
+    request_by(&mut command, words)
+}
+
+/// What the words ask of this command.
+fn request_by<'a>(command: &mut Command<'a>, words: &'a [String]) -> Result<Request<'a>, Error> {
+    match request_in_range(command, words)? {
+        Some(request) => Ok(request),
+        None => Err(command.error(
+            ErrorKind::ValueValidation,
+            "the number of workers must be 1 to 16, that of tries 1 to 64, that of the checkpoint at most 65536, and that of states 1 to 16777216",
+        )?),
     }
-    Err(command.error(
-        ErrorKind::ValueValidation,
-        "the number of workers must be 1 to 16, that of tries 1 to 64, that of the checkpoint at most 65536, and that of states 1 to 16777216",
-    )?)
+}
+
+/// What the words ask of this command. `None`: a number is out of its range.
+fn request_in_range<'a>(
+    command: &mut Command<'a>,
+    words: &'a [String],
+) -> Result<Option<Request<'a>>, Error> {
+    let matches = command.try_get_matches_from_mut(words)?;
+    Ok(request_of(&matches))
 }
 
 /// What the subcommand that was given asks for.
 fn request_of<'a>(matches: &ArgMatches<'a>) -> Option<Request<'a>> {
-    if let Some(check) = matches.subcommand_matches("check") {
-        if let Some(request) = check_paths(check) {
-            return Some(Request::Check(request));
-        }
+    let (name, words) = matches.subcommand()?;
+    match name {
+        "run" => wanted_run(words),
+        "check" => wanted_check(words),
+        "world" => wanted_world(words),
+        "explore" => wanted_orders(words),
+        "print" => wanted_print(words),
+        "explain" => wanted_explanation(words),
+        _ => None,
     }
-    if let Some(world) = matches.subcommand_matches("world") {
-        if let Some(request) = world_paths(world) {
-            return Some(Request::World(request));
-        }
-    }
-    if let Some(print) = matches.subcommand_matches("print") {
-        if let Some(request) = print_paths(print) {
-            return Some(Request::Print(request));
-        }
-    }
-    if let Some(words) = matches.subcommand_matches("explain") {
-        if let Some(request) = wanted_explanation(words) {
-            return Some(Request::Explain(request));
-        }
-    }
-    if let Some(words) = matches.subcommand_matches("explore") {
-        if let Some(request) = wanted_orders(words) {
-            return Some(Request::Explore(request));
-        }
-    }
-    if let Some(run) = matches.subcommand_matches("run") {
-        if let Some(request) = run_options(run) {
-            return Some(Request::Run(request));
-        }
-    }
-    None
 }
 
-fn run_options<'a>(matches: &ArgMatches<'a>) -> Option<Run<'a>> {
+fn wanted_run<'a>(matches: &ArgMatches<'a>) -> Option<Request<'a>> {
     let file = matches.get_str("FILE")?;
     let workers = matches.get_one::<u32>("workers")?;
     let tries = matches.get_one::<u32>("tries")?;
     let checkpoint = matches.get_one::<u32>("checkpoint")?;
     let options = Options::new(workers, tries, checkpoint)?;
-    Some(Run { file, options })
+    Some(Request::Run(Run { file, options }))
 }
 
-fn check_paths<'a>(matches: &ArgMatches<'a>) -> Option<Check<'a>> {
+fn wanted_check<'a>(matches: &ArgMatches<'a>) -> Option<Request<'a>> {
     let file = matches.get_str("FILE")?;
     let report = matches.get_str("REPORT")?;
-    Some(Check { file, report })
+    Some(Request::Check(Check { file, report }))
 }
 
-fn world_paths<'a>(matches: &ArgMatches<'a>) -> Option<Played<'a>> {
+fn wanted_world<'a>(matches: &ArgMatches<'a>) -> Option<Request<'a>> {
     let file = matches.get_str("FILE")?;
     let schedule = matches.get_str("SCHEDULE")?;
-    Some(Played { file, schedule })
+    Some(Request::World(Played { file, schedule }))
 }
 
-fn print_paths<'a>(matches: &ArgMatches<'a>) -> Option<Print<'a>> {
+fn wanted_print<'a>(matches: &ArgMatches<'a>) -> Option<Request<'a>> {
     let file = matches.get_str("FILE")?;
     let report = matches.get_str("from");
-    Some(Print { file, report })
+    Some(Request::Print(Print { file, report }))
 }

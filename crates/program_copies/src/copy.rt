@@ -1,7 +1,7 @@
 //! Copies of what a catalogue declares: each says what its original says.
 
 ghost use Rattle.std.specs.Prelude.{◌≡◌, ◌++◌, IfOk, length, map, string_bytes};
-ghost use Rattle.programs.specs.Tree.{expression_of, condition_of, statement_of, transaction_of};
+ghost use Rattle.programs.specs.Tree.{If, expression_of, condition_of, statement_of, transaction_of};
 ghost use Rattle.program_copies.specs.Conditions.{standing_of};
 
 use programs::{Cond, Expr, Stmt, Tx, TxId};
@@ -62,19 +62,34 @@ fn statement(alloc: Global, s: &Stmt) -> Result<Stmt, AllocError>
         Stmt::Set(x, e) => Ok(Stmt::Set(*x, expression(alloc, e)?)),
         Stmt::Seq(parts) => Ok(Stmt::Seq(statements(alloc, parts.as_slice())?)),
         Stmt::If(c, a, b) => {
-            let test = condition(alloc, c)?;
             let first = boxed_statement(alloc, a)?;
-            let second = boxed_statement(alloc, b)?;
-            Ok(Stmt::If(test, first, second))
+            let (first, second) = beside(alloc, b, first)?;
+            tested(alloc, c, first, second)
         }
         Stmt::Repeat(n, a) => Ok(Stmt::Repeat(*n, boxed_statement(alloc, a)?)),
         Stmt::OrElse(a, b) => {
             let first = boxed_statement(alloc, a)?;
-            let second = boxed_statement(alloc, b)?;
+            let (first, second) = beside(alloc, b, first)?;
             Ok(Stmt::OrElse(first, second))
         }
         Stmt::Throw(e) => Ok(Stmt::Throw(expression(alloc, e)?)),
     }
+}
+
+/// The box, and beside it a copy of a statement.
+#[cycle(statements)]
+fn beside(alloc: Global, s: &Stmt, first: Box<Stmt>) -> Result<(Box<Stmt>, Box<Stmt>), AllocError>
+    ensures { IfOk result (λ p. (statement_of p.0.value ≡ statement_of first.value) × (statement_of p.1.value ≡ statement_of s.now)) }
+{
+    let second = boxed_statement(alloc, s)?;
+    Ok((first, second))
+}
+
+/// The choice between two branches by a copy of the condition.
+fn tested(alloc: Global, c: &Cond, first: Box<Stmt>, second: Box<Stmt>) -> Result<Stmt, AllocError>
+    ensures { IfOk result (λ s. statement_of s ≡ If (condition_of c.now) (statement_of first.value) (statement_of second.value)) }
+{
+    Ok(Stmt::If(condition(alloc, c)?, first, second))
 }
 
 #[cycle(statements)]
@@ -100,11 +115,17 @@ fn statements(alloc: Global, parts: &[Stmt]) -> Result<Vec<Stmt>, AllocError>
 pub fn copied_transaction(alloc: Global, tx: &Tx) -> Result<Tx, AllocError>
     ensures { IfOk result (λ t. transaction_of t ≡ transaction_of tx.now) }
 {
-    Ok(Tx {
-        name: tx.name.clone()?,
-        body: statement(alloc, &tx.body)?,
-        result: expression(alloc, &tx.result)?,
-    })
+    let name = tx.name.clone()?;
+    let (body, result) = body_and_result(alloc, tx)?;
+    Ok(Tx { name, body, result })
+}
+
+/// Copies of what a transaction does and of what it returns.
+fn body_and_result(alloc: Global, tx: &Tx) -> Result<(Stmt, Expr), AllocError>
+    ensures { IfOk result (λ p. (statement_of p.0 ≡ statement_of tx.now.body) × (expression_of p.1 ≡ expression_of tx.now.result)) }
+{
+    let result = expression(alloc, &tx.result)?;
+    Ok((statement(alloc, &tx.body)?, result))
 }
 
 /// The transactions, in their order.

@@ -1,5 +1,6 @@
 use Rattle.std.proofs.Common.{◌≡◌, ◌∙◌, sym, ap, subst, refl, ◌↔◌, IsTrue, Bool, ◌==◌, List, [], ◌∷◌, length, drop, arith, length-drop}
 use Rattle.std.specs.Cmp.{unsigned_Decides}
+use Rattle.std.proofs.lemmas.Grind.{common_steps}
 use Rattle.std.proofs.lemmas.List.{nil_from_length}
 use Rattle.programs.specs.declared.ast.Stmt.{Stmt}
 use Rattle.programs.specs.Tree.{Seq, End, Statements, statement_of, statements_of_list}
@@ -28,3 +29,39 @@ same_statements-returns t c =
     let told = nothing_left c.loop-part.rest.now c.is_empty.result c.is_empty.ensures in
     let whole = subst (λ (l : List Stmt). (statements_of_list l ≡ statements_of_list c.loop-part.rest.now) ↔ (statements_of_list c.args.parts.now ≡ statements_of_list c.args.others.now)) done c.loop-part.invariant in
     (λ h. whole.0 (told.0 h), λ e. told.1 (whole.1 e))
+
+pub same_statement-returns-in-Skip-Skip : goal.same_statement-returns-in-Skip-Skip
+same_statement-returns-in-Skip-Skip t c = grind (arith, common_steps)
+
+pub same_statement-returns-then-x-y : goal.same_statement-returns-then-x-y
+same_statement-returns-then-x-y t c = grind (arith, common_steps)
+
+pub same_statement-returns-else-x-y : goal.same_statement-returns-else-x-y
+same_statement-returns-else-x-y t c = grind (arith, common_steps)
+
+pub same_statement-returns-then-same_statement : goal.same_statement-returns-then-same_statement
+same_statement-returns-then-same_statement t c = grind (arith, common_steps)
+
+pub same_statement-returns-else-same_statement : goal.same_statement-returns-else-same_statement
+same_statement-returns-else-same_statement t c = grind (arith, common_steps)
+
+pub same_statement-returns-then-same_statement-2 : goal.same_statement-returns-then-same_statement-2
+same_statement-returns-then-same_statement-2 t c = grind (arith, common_steps)
+
+pub same_statement-returns-else-same_statement-2 : goal.same_statement-returns-else-same_statement-2
+same_statement-returns-else-same_statement-2 t c = grind (arith, common_steps)
+
+pub same_statement-returns-then-m-n : goal.same_statement-returns-then-m-n
+same_statement-returns-then-m-n t c = grind (arith, common_steps)
+
+pub same_statement-returns-else-m-n : goal.same_statement-returns-else-m-n
+same_statement-returns-else-m-n t c = grind (arith, common_steps)
+
+pub same_statement-returns-in-Throw-Throw : goal.same_statement-returns-in-Throw-Throw
+same_statement-returns-in-Throw-Throw t c = grind (arith, common_steps)
+
+pub same_statements-returns-in_default : goal.same_statements-returns-in_default
+same_statements-returns-in_default t c = grind (arith, common_steps)
+
+pub same_statements-returns-then-not-same_statement : goal.same_statements-returns-then-not-same_statement
+same_statements-returns-then-not-same_statement t c = grind (arith, common_steps)
