@@ -57,9 +57,8 @@ fn negation_of(alloc: Global, depth: u32, bytes: &[u8]) -> Result<(RawCond<'_>, 
     ensures value { Gives (λ x. (view_cond x.0, tokens x.1.now)) result (cond_with (expr_at depth) (cond_at depth) Negates (tokens bytes.now)) }
     ensures shorter { IfOk result (λ x. length x.1.now < length bytes.now) }
 {
-    let (inner, rest) = cond_of(alloc, depth, bytes)?;
+    let (inner, rest) = boxed(alloc, depth, bytes)?;
     let rest = close(rest)?;
-    let inner = Box::new(alloc, inner)?;
     Ok((RawCond::Not(inner), rest))
 }
 
@@ -73,10 +72,19 @@ fn connection_of(
     ensures value { Gives (λ x. (view_cond x.0, tokens x.1.now)) result (cond_with (expr_at depth) (cond_at depth) (Connects connective) (tokens bytes.now)) }
     ensures shorter { IfOk result (λ x. length x.1.now < length bytes.now) }
 {
-    let (left, rest) = cond_of(alloc, depth, bytes)?;
-    let (right, rest) = cond_of(alloc, depth, rest)?;
+    let (left, rest) = boxed(alloc, depth, bytes)?;
+    let (right, rest) = boxed(alloc, depth, rest)?;
     let rest = close(rest)?;
-    let left = Box::new(alloc, left)?;
-    let right = Box::new(alloc, right)?;
     Ok((RawCond::Connect(connective, left, right), rest))
+}
+
+/// A condition that stands in another.
+#[cycle(conds)]
+fn boxed(alloc: Global, depth: u32, bytes: &[u8]) -> Result<(Box<RawCond<'_>>, &[u8]), ReadFault>
+    ensures value { Gives (λ x. (view_cond x.0.value, tokens x.1.now)) result (cond_at depth (tokens bytes.now)) }
+    ensures shorter { IfOk result (λ x. length x.1.now < length bytes.now) }
+{
+    let (made, rest) = cond_of(alloc, depth, bytes)?;
+    let held = Box::new(alloc, made)?;
+    Ok((held, rest))
 }

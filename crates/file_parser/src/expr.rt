@@ -46,10 +46,19 @@ fn binary_of(alloc: Global, depth: u32, bytes: &[u8]) -> Result<(RawExpr<'_>, &[
 {
     let (word, rest) = name_of(bytes)?;
     let operator = operator_of(word)?;
-    let (left, rest) = expr_of(alloc, depth, rest)?;
-    let (right, rest) = expr_of(alloc, depth, rest)?;
+    let (left, rest) = boxed(alloc, depth, rest)?;
+    let (right, rest) = boxed(alloc, depth, rest)?;
     let rest = close(rest)?;
-    let left = Box::new(alloc, left)?;
-    let right = Box::new(alloc, right)?;
     Ok((RawExpr::Binary(operator, left, right), rest))
+}
+
+/// An expression that stands in another.
+#[cycle(exprs)]
+fn boxed(alloc: Global, depth: u32, bytes: &[u8]) -> Result<(Box<RawExpr<'_>>, &[u8]), ReadFault>
+    ensures value { Gives (λ x. (view_expr x.0.value, tokens x.1.now)) result (expr_at depth (tokens bytes.now)) }
+    ensures shorter { IfOk result (λ x. length x.1.now < length bytes.now) }
+{
+    let (made, rest) = expr_of(alloc, depth, bytes)?;
+    let held = Box::new(alloc, made)?;
+    Ok((held, rest))
 }

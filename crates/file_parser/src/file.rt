@@ -1,17 +1,20 @@
 //! Files as trees of texts.
 
-ghost use Rattle.std.specs.Prelude.{◌≡◌, ◌<◌, IfOk, length, codes};
+ghost use Rattle.std.specs.Prelude.{◌≡◌, ◌<◌, List, Ok, IfOk, length, codes};
 ghost use Rattle.text_words.specs.Bytes.{int_value};
-ghost use Rattle.text_words.specs.Tokens.{tokens};
-ghost use Rattle.text_words.specs.Answers.{Gives};
+ghost use Rattle.text_words.specs.Tokens.{Lexeme, tokens};
+ghost use Rattle.text_words.specs.Answers.{Gives, ◌>>=◌ as ◌>>=ᴿ◌};
+ghost use Rattle.file_grammar.specs.Tree.{Declaration};
 ghost use Rattle.file_grammar.specs.Reading.{pair_at, always_at, conditions_at, tx_at, end_at, form_numbered, announced_at, heading_at, file_of, tree_of};
-ghost use Rattle.text_words.specs.TokenReading.{begins, all_of};
-ghost use Rattle.file_grammar.specs.View.{view_pair, view_pairs, view_always, view_conditions, view_tx, view_txs, view_file};
+ghost use Rattle.text_words.specs.TokenReading.{begins, all_of, close_at};
+ghost use Rattle.file_grammar.specs.View.{view_expr, view_stmt, view_pair, view_pairs, view_always, view_conditions, view_tx, view_txs, view_file};
 
 use crate::cond::cond_of;
 use crate::expr::expr_of;
 use crate::stmt::stmt_of;
+use file_grammar::expr::RawExpr;
 use file_grammar::file::{FileForm, RawAlways, RawFile, RawPair, RawTx};
+use file_grammar::stmt::RawStmt;
 use std::alloc::Global;
 use text_words::ReadFault;
 use text_words::bytes::are_allowed;
@@ -42,8 +45,13 @@ fn always_of(alloc: Global, bytes: &[u8]) -> Result<(RawAlways<'_>, &[u8]), Read
     let rest = form(bytes, "always")?;
     let (name, rest) = name_of(rest)?;
     let (condition, rest) = cond_of(alloc, INNER_DEPTH, rest)?;
-    let rest = close(rest)?;
-    Ok((RawAlways { name, condition }, rest))
+    match close(rest) {
+        Ok(rest) => Ok((RawAlways { name, condition }, rest)),
+        Err(fault) => {
+            drop(condition);
+            Err(fault)
+        }
+    }
 }
 
 #[tactic(auto, unfolding(file_grammar::specs::Reading::tx_at))]
@@ -54,9 +62,33 @@ fn tx_of(alloc: Global, bytes: &[u8]) -> Result<(RawTx<'_>, &[u8]), ReadFault>
     let rest = form(bytes, "tx")?;
     let (name, rest) = name_of(rest)?;
     let (body, rest) = stmt_of(alloc, INNER_DEPTH, rest)?;
-    let (value, rest) = expr_of(alloc, INNER_DEPTH, rest)?;
-    let rest = close(rest)?;
-    Ok((RawTx { name, body, value }, rest))
+    match expr_of(alloc, INNER_DEPTH, rest) {
+        Ok((value, rest)) => closed_tx(name, body, value, rest),
+        Err(fault) => {
+            drop(body);
+            Err(fault)
+        }
+    }
+}
+
+/// A transaction behind its value.
+fn closed_tx<'a>(
+    name: &'a str,
+    body: RawStmt<'a>,
+    value: RawExpr<'a>,
+    bytes: &'a [u8],
+) -> Result<(RawTx<'a>, &'a [u8]), ReadFault>
+    ensures value { Gives {Y = Declaration × List Lexeme} (λ x. (view_tx x.0, tokens x.1.now)) result (close_at (tokens bytes.now) >>=ᴿ λ rest. Ok (record { name = name.now; body = view_stmt body.entry; value = view_expr value.entry }, rest)) }
+    ensures shorter { IfOk result (λ x. length x.1.now < length bytes.now) }
+{
+    match close(bytes) {
+        Ok(rest) => Ok((RawTx { name, body, value }, rest)),
+        Err(fault) => {
+            drop(body);
+            drop(value);
+            Err(fault)
+        }
+    }
 }
 
 fn pairs_of<'a>(

@@ -1,13 +1,16 @@
 //! Statements as the file has them.
 
-ghost use Rattle.std.specs.Prelude.{◌≡◌, ◌<◌, ◌≤◌, IfOk, length};
-ghost use Rattle.text_words.specs.Tokens.{tokens};
-ghost use Rattle.text_words.specs.Answers.{Gives};
+ghost use Rattle.std.specs.Prelude.{◌≡◌, ◌<◌, ◌≤◌, List, Ok, IfOk, length};
+ghost use Rattle.text_words.specs.Tokens.{Lexeme, tokens};
+ghost use Rattle.text_words.specs.Answers.{Gives, ◌>>=◌ as ◌>>=ᴿ◌};
+ghost use Rattle.text_words.specs.TokenReading.{close_at};
+ghost use Rattle.file_grammar.specs.Tree.{Stmt, If};
 ghost use Rattle.file_grammar.specs.Reading.{expr_at, cond_at, stmt_at, set_with, seq_with, if_with, repeat_with, orelse_with, throw_with};
-ghost use Rattle.file_grammar.specs.View.{view_stmt};
+ghost use Rattle.file_grammar.specs.View.{view_cond, view_stmt};
 
 use crate::cond::cond_of;
 use crate::expr::expr_of;
+use file_grammar::cond::RawCond;
 use file_grammar::stmt::RawStmt;
 use file_grammar::words::{Keyword, keyword_of};
 use std::alloc::Global;
@@ -82,10 +85,40 @@ fn if_of(alloc: Global, depth: u32, bytes: &[u8]) -> Result<(RawStmt<'_>, &[u8])
     ensures shorter { IfOk result (λ x. length x.1.now < length bytes.now) }
 {
     let (test, rest) = cond_of(alloc, depth, bytes)?;
-    let (first, rest) = boxed(alloc, depth, rest)?;
-    let (second, rest) = boxed(alloc, depth, rest)?;
-    let rest = close(rest)?;
-    Ok((RawStmt::If(test, first, second), rest))
+    match boxed(alloc, depth, rest) {
+        Ok((first, rest)) => choice_of(alloc, depth, test, first, rest),
+        Err(fault) => {
+            drop(test);
+            Err(fault)
+        }
+    }
+}
+
+/// A choice behind its first branch.
+#[cycle(stmts)]
+fn choice_of<'a>(
+    alloc: Global,
+    depth: u32,
+    test: RawCond<'a>,
+    first: Box<RawStmt<'a>>,
+    bytes: &'a [u8],
+) -> Result<(RawStmt<'a>, &'a [u8]), ReadFault>
+    ensures value { Gives {Y = Stmt × List Lexeme} (λ x. (view_stmt x.0, tokens x.1.now)) result (stmt_at depth (tokens bytes.now) >>=ᴿ λ second. close_at second.1 >>=ᴿ λ rest. Ok (If (view_cond test.entry) (view_stmt first.entry.value) second.0, rest)) }
+    ensures shorter { IfOk result (λ x. length x.1.now < length bytes.now) }
+{
+    match boxed(alloc, depth, bytes) {
+        Ok((second, rest)) => match close(rest) {
+            Ok(rest) => Ok((RawStmt::If(test, first, second), rest)),
+            Err(fault) => {
+                drop(test);
+                Err(fault)
+            }
+        },
+        Err(fault) => {
+            drop(test);
+            Err(fault)
+        }
+    }
 }
 
 #[cycle(stmts)]
@@ -129,6 +162,11 @@ fn throw_of(alloc: Global, depth: u32, bytes: &[u8]) -> Result<(RawStmt<'_>, &[u
     ensures shorter { IfOk result (λ x. length x.1.now < length bytes.now) }
 {
     let (value, rest) = expr_of(alloc, depth, bytes)?;
-    let rest = close(rest)?;
-    Ok((RawStmt::Throw(value), rest))
+    match close(rest) {
+        Ok(rest) => Ok((RawStmt::Throw(value), rest)),
+        Err(fault) => {
+            drop(value);
+            Err(fault)
+        }
+    }
 }

@@ -1,11 +1,13 @@
 //! From the tree of a file to conditions and transactions: names as ids, and integers as numbers of
 //! the machine.
 
-ghost use Rattle.std.specs.Prelude.{◌≡◌, map};
+ghost use Rattle.std.specs.Prelude.{◌≡◌, Ok, IfOk, IfErr, [], map};
 ghost use Rattle.programs.specs.Tree.{expression_of, condition_of, statement_of, transaction_of};
-ghost use Rattle.text_words.specs.Answers.{Gives};
-ghost use Rattle.file_grammar.specs.Resolving.{place_in, variable_in, binary, compare, connect, expression_in, condition_in, statement_in, variable_of, always_in, transaction_in, run_in, each, converted, resolved};
-ghost use Rattle.file_grammar.specs.Tree.{Compare, Set, Throw};
+ghost use Rattle.text_words.specs.Answers.{Gives, Fails, ◌>>=◌ as ◌>>=ᴿ◌};
+ghost use Rattle.file_grammar.specs.Resolving.{declared_after, condition_name, tx_name, place_in, variable_in, binary, compare, connect, expression_in, condition_in, statement_in, variable_of, always_in, transaction_in, run_in, each, converted, resolved};
+ghost use Rattle.text_words.specs.Bytes.{int_value};
+ghost use Rattle.file_grammar.specs.Reading.{row};
+ghost use Rattle.file_grammar.specs.Tree.{Compare, Set, Seq, Repeat, Throw};
 ghost use Rattle.file_resolver.specs.Texts.{texts};
 ghost use Rattle.file_grammar.specs.View.{view_expr, view_cond, view_stmt, view_stmts, view_pair, view_pairs, view_always, view_conditions, view_tx, view_txs, view_file};
 ghost use Rattle.file_resolver.specs.Parts.{view_variable, view_condition, view_parts};
@@ -20,6 +22,7 @@ use indexmap::IndexSet;
 use programs::{Cond, Expr, Stmt, Tx, TxId, VarId};
 use std::alloc::Global;
 use text_words::ReadFault;
+use text_words::numeral::Numeral;
 
 /// The place of a declared name.
 #[tactic(auto, unfolding(file_grammar::specs::Resolving::place_in))]
@@ -50,6 +53,7 @@ fn binary(op: Operator, left: Box<Expr>, right: Box<Expr>) -> Expr
     }
 }
 
+#[cycle(expressions)]
 fn expression(alloc: Global, names: &IndexSet<&str>, e: &RawExpr<'_>) -> Result<Expr, ReadFault>
     ensures { Gives expression_of result (expression_in (texts names.now.keys) (view_expr e.now)) }
 {
@@ -63,13 +67,25 @@ fn expression(alloc: Global, names: &IndexSet<&str>, e: &RawExpr<'_>) -> Result<
             Ok(Expr::Var(id))
         }
         RawExpr::Binary(op, left, right) => {
-            let left = expression(alloc, names, left)?;
-            let right = expression(alloc, names, right)?;
-            let left = Box::new(alloc, left)?;
-            let right = Box::new(alloc, right)?;
+            let left = boxed_expression(alloc, names, left)?;
+            let right = boxed_expression(alloc, names, right)?;
             Ok(binary(*op, left, right))
         }
     }
+}
+
+/// An expression that stands in another.
+#[cycle(expressions)]
+fn boxed_expression(
+    alloc: Global,
+    names: &IndexSet<&str>,
+    e: &RawExpr<'_>,
+) -> Result<Box<Expr>, ReadFault>
+    ensures { Gives (λ b. expression_of b.value) result (expression_in (texts names.now.keys) (view_expr e.now)) }
+{
+    let made = expression(alloc, names, e)?;
+    let held = Box::new(alloc, made)?;
+    Ok(held)
 }
 
 fn compare(op: Comparison, left: Expr, right: Expr) -> Cond
@@ -163,21 +179,24 @@ fn statement(alloc: Global, names: &IndexSet<&str>, s: &RawStmt<'_>) -> Result<S
     match s {
         RawStmt::Skip => Ok(Stmt::Skip),
         RawStmt::Set(name, value) => setting(alloc, names, *name, value),
-        RawStmt::Seq(parts) => {
-            let parts = statements(alloc, names, parts.as_slice())?;
-            Ok(Stmt::Seq(parts))
-        }
+        RawStmt::Seq(parts) => sequence(alloc, names, parts.as_slice()),
         RawStmt::If(test, first, second) => {
             let test = condition(alloc, names, test)?;
-            let first = boxed_statement(alloc, names, first)?;
-            let second = boxed_statement(alloc, names, second)?;
-            Ok(Stmt::If(test, first, second))
+            match boxed_statement(alloc, names, first) {
+                Ok(first) => match boxed_statement(alloc, names, second) {
+                    Ok(second) => Ok(Stmt::If(test, first, second)),
+                    Err(fault) => {
+                        drop(test);
+                        Err(fault)
+                    }
+                },
+                Err(fault) => {
+                    drop(test);
+                    Err(fault)
+                }
+            }
         }
-        RawStmt::Repeat(count, body) => {
-            let count = count.count()?;
-            let body = boxed_statement(alloc, names, body)?;
-            Ok(Stmt::Repeat(count, body))
-        }
+        RawStmt::Repeat(count, body) => repetition(alloc, names, *count, body),
         RawStmt::Retry => Ok(Stmt::Retry),
         RawStmt::OrElse(first, second) => {
             let first = boxed_statement(alloc, names, first)?;
@@ -186,6 +205,30 @@ fn statement(alloc: Global, names: &IndexSet<&str>, s: &RawStmt<'_>) -> Result<S
         }
         RawStmt::Throw(value) => throwing(alloc, names, value),
     }
+}
+
+/// The statements of a sequence as one.
+#[cycle(resolving)]
+fn sequence(alloc: Global, names: &IndexSet<&str>, parts: &[RawStmt<'_>]) -> Result<Stmt, ReadFault>
+    ensures { Gives statement_of result (statement_in (texts names.now.keys) (Seq (row (view_stmts parts.now)))) }
+{
+    let parts = statements(alloc, names, parts)?;
+    Ok(Stmt::Seq(parts))
+}
+
+/// A statement that is run a number of times.
+#[cycle(resolving)]
+fn repetition(
+    alloc: Global,
+    names: &IndexSet<&str>,
+    count: Numeral<'_>,
+    body: &RawStmt<'_>,
+) -> Result<Stmt, ReadFault>
+    ensures { Gives statement_of result (statement_in (texts names.now.keys) (Repeat (int_value count.entry.text.now) (view_stmt body.now))) }
+{
+    let count = count.count()?;
+    let body = boxed_statement(alloc, names, body)?;
+    Ok(Stmt::Repeat(count, body))
 }
 
 #[cycle(resolving)]
@@ -258,7 +301,9 @@ fn always_from(
 ) -> Result<(String, Cond), ReadFault>
     ensures { Gives view_condition result (always_in (texts names.now.keys) (view_always raw.entry)) }
 {
-    always(alloc, names, &raw)
+    let made = always(alloc, names, &raw);
+    drop(raw);
+    made
 }
 
 /// The conditions that have to stand. The tree of each is let go as soon as it is made.
@@ -282,15 +327,22 @@ fn transaction(alloc: Global, names: &IndexSet<&str>, tx: &RawTx<'_>) -> Result<
 {
     let name = String::from_str(alloc, tx.name)?;
     let body = statement(alloc, names, &tx.body)?;
-    let result = expression(alloc, names, &tx.value)?;
-    Ok(Tx { name, body, result })
+    match expression(alloc, names, &tx.value) {
+        Ok(result) => Ok(Tx { name, body, result }),
+        Err(fault) => {
+            drop(body);
+            Err(fault)
+        }
+    }
 }
 
 /// A transaction, whose tree is let go.
 fn transaction_from(alloc: Global, names: &IndexSet<&str>, tx: RawTx<'_>) -> Result<Tx, ReadFault>
     ensures { Gives transaction_of result (transaction_in (texts names.now.keys) (view_tx tx.entry)) }
 {
-    transaction(alloc, names, &tx)
+    let made = transaction(alloc, names, &tx);
+    drop(tx);
+    made
 }
 
 /// The transactions. The tree of each is let go as soon as it is made, so that no more than one of
@@ -363,17 +415,56 @@ fn convert(
     })
 }
 
+/// The names of variables and of transactions, where each name is declared once and only declared
+/// ones are used.
+#[tactic(auto, unfolding(file_grammar::specs::Resolving::resolved))]
+fn judged_names<'a>(
+    alloc: Global,
+    file: &RawFile<'a>,
+) -> Result<(IndexSet<&'a str>, IndexSet<&'a str>), ReadFault>
+    ensures known { IfOk result (λ names. resolved (view_file file.now) ≡ converted (texts names.0.keys) (texts names.1.keys) (view_file file.now)) }
+    ensures fault { IfErr result (λ fault. Fails fault (resolved (view_file file.now))) }
+{
+    let vars = var_names(alloc, &file.vars)?;
+    match later_names(alloc, file) {
+        Ok(txs) => {
+            if !uses_known(&vars, &txs, file) {
+                drop(vars);
+                drop(txs);
+                return Err(ReadFault::Name);
+            }
+            Ok((vars, txs))
+        }
+        Err(fault) => {
+            drop(vars);
+            Err(fault)
+        }
+    }
+}
+
+/// The names of transactions, where those of conditions are declared once too.
+fn later_names<'a>(alloc: Global, file: &RawFile<'a>) -> Result<IndexSet<&'a str>, ReadFault>
+    ensures { Gives (λ names. texts names.keys) result (declared_after [] (map condition_name (view_file file.now).always) >>=ᴿ λ _. declared_after [] (map tx_name (view_file file.now).txs)) }
+{
+    condition_names(alloc, &file.always)?;
+    tx_names(alloc, &file.txs)
+}
+
 /// What the file declares, or its first fault: names are judged over the whole file before any
 /// number is.
-#[tactic(auto, unfolding(file_grammar::specs::Resolving::resolved))]
 pub fn resolve(alloc: Global, file: RawFile<'_>) -> Result<Parts, ReadFault>
     ensures { Gives view_parts result (resolved (view_file file.entry)) }
 {
-    let vars = var_names(alloc, &file.vars)?;
-    condition_names(alloc, &file.always)?;
-    let txs = tx_names(alloc, &file.txs)?;
-    if !uses_known(&vars, &txs, &file) {
-        return Err(ReadFault::Name);
+    match judged_names(alloc, &file) {
+        Ok((vars, txs)) => {
+            let parts = convert(alloc, &vars, &txs, file);
+            drop(vars);
+            drop(txs);
+            parts
+        }
+        Err(fault) => {
+            drop(file);
+            Err(fault)
+        }
     }
-    convert(alloc, &vars, &txs, file)
 }

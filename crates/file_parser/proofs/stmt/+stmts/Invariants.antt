@@ -7,10 +7,10 @@ use Rattle.text_words.proofs.Many.{with_front}
 use Rattle.file_parser.proofs.stmt.+stmts.Given as goal
 
 abbrev pub decreases-stmt_of : goal.decreases-stmt_of
-decreases-stmt_of l = 3 * l.depth
+decreases-stmt_of l = 4 * l.depth
 
 abbrev pub decreases-seq_of : goal.decreases-seq_of
-decreases-seq_of l = 3 * l.depth + 2
+decreases-seq_of l = 4 * l.depth + 3
 
 abbrev pub invariant-seq_of-parts : goal.invariant-seq_of-parts
 invariant-seq_of-parts l = record {
@@ -23,13 +23,16 @@ abbrev pub decreases-seq_of-parts : goal.decreases-seq_of-parts
 decreases-seq_of-parts l = length l.rest
 
 abbrev pub decreases-if_of : goal.decreases-if_of
-decreases-if_of l = 3 * l.depth + 2
+decreases-if_of l = 4 * l.depth + 3
 
 abbrev pub decreases-repeat_of : goal.decreases-repeat_of
-decreases-repeat_of l = 3 * l.depth + 2
+decreases-repeat_of l = 4 * l.depth + 3
 
 abbrev pub decreases-orelse_of : goal.decreases-orelse_of
-decreases-orelse_of l = 3 * l.depth + 2
+decreases-orelse_of l = 4 * l.depth + 3
 
 abbrev pub decreases-boxed : goal.decreases-boxed
-decreases-boxed l = 3 * l.depth + 1
+decreases-boxed l = 4 * l.depth + 1
+
+abbrev pub decreases-choice_of : goal.decreases-choice_of
+decreases-choice_of l = 4 * l.depth + 2
