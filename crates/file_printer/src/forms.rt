@@ -45,26 +45,11 @@ pub(crate) fn put_expr(out: &mut String, catalogue: &Catalogue, e: &Expr) -> Res
     match e {
         Expr::Int(n) => put_int(out, *n),
         Expr::Var(x) => put_name(out, catalogue, *x),
-        Expr::Add(a, b) => {
-            put_first_expression(out, catalogue, "add", a)?;
-            put_last_expression(out, catalogue, b)
-        }
-        Expr::Sub(a, b) => {
-            put_first_expression(out, catalogue, "sub", a)?;
-            put_last_expression(out, catalogue, b)
-        }
-        Expr::Mul(a, b) => {
-            put_first_expression(out, catalogue, "mul", a)?;
-            put_last_expression(out, catalogue, b)
-        }
-        Expr::Div(a, b) => {
-            put_first_expression(out, catalogue, "div", a)?;
-            put_last_expression(out, catalogue, b)
-        }
-        Expr::Rem(a, b) => {
-            put_first_expression(out, catalogue, "rem", a)?;
-            put_last_expression(out, catalogue, b)
-        }
+        Expr::Add(a, b) => put_operation(out, catalogue, "add", a, b),
+        Expr::Sub(a, b) => put_operation(out, catalogue, "sub", a, b),
+        Expr::Mul(a, b) => put_operation(out, catalogue, "mul", a, b),
+        Expr::Div(a, b) => put_operation(out, catalogue, "div", a, b),
+        Expr::Rem(a, b) => put_operation(out, catalogue, "rem", a, b),
     }
 }
 
@@ -99,7 +84,8 @@ fn put_last_expression(out: &mut String, catalogue: &Catalogue, e: &Expr) -> Res
 }
 
 /// A word and two expressions, in parentheses.
-fn put_comparison(
+#[cycle(exprs)]
+fn put_operation(
     out: &mut String,
     catalogue: &Catalogue,
     word: &str,
@@ -123,22 +109,35 @@ fn put_cond(out: &mut String, catalogue: &Catalogue, c: &Cond) -> Result<(), All
     ensures fits { OnOk result (CondFits (written_condition catalogue.now.names (condition_of c.now))) }
 {
     match c {
-        Cond::Eq(a, b) => put_comparison(out, catalogue, "eq", a, b),
-        Cond::Lt(a, b) => put_comparison(out, catalogue, "lt", a, b),
-        Cond::Le(a, b) => put_comparison(out, catalogue, "le", a, b),
+        Cond::Eq(a, b) => put_operation(out, catalogue, "eq", a, b),
+        Cond::Lt(a, b) => put_operation(out, catalogue, "lt", a, b),
+        Cond::Le(a, b) => put_operation(out, catalogue, "le", a, b),
         Cond::Not(c) => {
             put_first_condition(out, catalogue, "not", c)?;
             out.push_str(")")
         }
-        Cond::And(a, b) => {
-            put_first_condition(out, catalogue, "and", a)?;
-            put_last_condition(out, catalogue, b)
-        }
-        Cond::Or(a, b) => {
-            put_first_condition(out, catalogue, "or", a)?;
-            put_last_condition(out, catalogue, b)
-        }
+        Cond::And(a, b) => put_connection(out, catalogue, "and", a, b),
+        Cond::Or(a, b) => put_connection(out, catalogue, "or", a, b),
     }
+}
+
+/// A word and two conditions, in parentheses.
+#[cycle(conds)]
+fn put_connection(
+    out: &mut String,
+    catalogue: &Catalogue,
+    word: &str,
+    left: &Cond,
+    right: &Cond,
+) -> Result<(), AllocError>
+    requires left { ConditionKnown (length catalogue.now.names) (condition_of left.now) }
+    requires right { ConditionKnown (length catalogue.now.names) (condition_of right.now) }
+    ensures text { OnOk result (string_bytes out.new ≡ string_bytes out.old ++ form_text word.now (spaced (cond_text (written_condition catalogue.now.names (condition_of left.now))) ++ spaced (cond_text (written_condition catalogue.now.names (condition_of right.now))))) }
+    ensures left_fits { OnOk result (CondFits (written_condition catalogue.now.names (condition_of left.now))) }
+    ensures right_fits { OnOk result (CondFits (written_condition catalogue.now.names (condition_of right.now))) }
+{
+    put_first_condition(out, catalogue, word, left)?;
+    put_last_condition(out, catalogue, right)
 }
 
 /// A parenthesis, a word, and a condition as the first part.
