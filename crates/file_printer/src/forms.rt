@@ -37,7 +37,7 @@ fn put_name(out: &mut String, catalogue: &Catalogue, x: VarId) -> Result<(), All
 }
 
 #[cycle(exprs)]
-pub(crate) fn put_expr(out: &mut String, catalogue: &Catalogue, e: &Expr) -> Result<(), AllocError>
+fn put_expr(out: &mut String, catalogue: &Catalogue, e: &Expr) -> Result<(), AllocError>
     requires { ExpressionKnown (length catalogue.now.names) (expression_of e.now) }
     ensures text { OnOk result (string_bytes out.new ≡ string_bytes out.old ++ expr_text (written_expression catalogue.now.names (expression_of e.now))) }
     ensures fits { OnOk result (ExprFits (written_expression catalogue.now.names (expression_of e.now))) }
@@ -73,7 +73,11 @@ fn put_first_expression(
 
 /// An expression as the last part, and the closing parenthesis.
 #[cycle(exprs)]
-fn put_last_expression(out: &mut String, catalogue: &Catalogue, e: &Expr) -> Result<(), AllocError>
+pub(crate) fn put_last_expression(
+    out: &mut String,
+    catalogue: &Catalogue,
+    e: &Expr,
+) -> Result<(), AllocError>
     requires { ExpressionKnown (length catalogue.now.names) (expression_of e.now) }
     ensures text { OnOk result (string_bytes out.new ≡ string_bytes out.old ++ (spaced (expr_text (written_expression catalogue.now.names (expression_of e.now))) ++ codes ")")) }
     ensures fits { OnOk result (ExprFits (written_expression catalogue.now.names (expression_of e.now))) }
@@ -186,7 +190,7 @@ fn put_set(out: &mut String, catalogue: &Catalogue, x: VarId, e: &Expr) -> Resul
 }
 
 #[cycle(put_stmt)]
-pub(crate) fn put_stmt(out: &mut String, catalogue: &Catalogue, s: &Stmt) -> Result<(), AllocError>
+fn put_stmt(out: &mut String, catalogue: &Catalogue, s: &Stmt) -> Result<(), AllocError>
     requires { StatementKnown (length catalogue.now.names) (statement_of s.now) }
     ensures text { OnOk result (string_bytes out.new ≡ string_bytes out.old ++ stmt_text (written_statement catalogue.now.names (statement_of s.now))) }
     ensures fits { OnOk result (StmtFits (written_statement catalogue.now.names (statement_of s.now))) }
@@ -219,7 +223,7 @@ pub(crate) fn put_stmt(out: &mut String, catalogue: &Catalogue, s: &Stmt) -> Res
 
 /// A statement behind a space.
 #[cycle(put_stmt)]
-fn put_part(out: &mut String, catalogue: &Catalogue, s: &Stmt) -> Result<(), AllocError>
+pub(crate) fn put_part(out: &mut String, catalogue: &Catalogue, s: &Stmt) -> Result<(), AllocError>
     requires { StatementKnown (length catalogue.now.names) (statement_of s.now) }
     ensures text { OnOk result (string_bytes out.new ≡ string_bytes out.old ++ spaced (stmt_text (written_statement catalogue.now.names (statement_of s.now)))) }
     ensures fits { OnOk result (StmtFits (written_statement catalogue.now.names (statement_of s.now))) }
