@@ -21,6 +21,13 @@ fn put_int(out: &mut String, n: i64) -> Result<(), AllocError>
     write!(out, "{n}")
 }
 
+/// A parenthesis, a word and a space.
+fn put_opening(out: &mut String, word: &str) -> Result<(), AllocError>
+    ensures { OnOk result (string_bytes out.new ≡ string_bytes out.old ++ (codes "(" ++ (word.now ++ codes " "))) }
+{
+    write!(out, "({word} ")
+}
+
 /// The beginning of a repeated statement, to its count.
 fn put_repeat(out: &mut String, n: u32) -> Result<(), AllocError>
     ensures text { OnOk result (string_bytes out.new ≡ string_bytes out.old ++ (codes "(repeat " ++ decimal n)) }
@@ -65,9 +72,7 @@ fn put_first_expression(
     ensures text { OnOk result (string_bytes out.new ≡ string_bytes out.old ++ (codes "(" ++ (word.now ++ spaced (expr_text (written_expression catalogue.now.names (expression_of e.now)))))) }
     ensures fits { OnOk result (ExprFits (written_expression catalogue.now.names (expression_of e.now))) }
 {
-    out.push_str("(")?;
-    out.push_str(word)?;
-    out.push_str(" ")?;
+    put_opening(out, word)?;
     put_expr(out, catalogue, e)
 }
 
@@ -156,9 +161,7 @@ fn put_first_condition(
     ensures text { OnOk result (string_bytes out.new ≡ string_bytes out.old ++ (codes "(" ++ (word.now ++ spaced (cond_text (written_condition catalogue.now.names (condition_of c.now)))))) }
     ensures fits { OnOk result (CondFits (written_condition catalogue.now.names (condition_of c.now))) }
 {
-    out.push_str("(")?;
-    out.push_str(word)?;
-    out.push_str(" ")?;
+    put_opening(out, word)?;
     put_cond(out, catalogue, c)
 }
 
