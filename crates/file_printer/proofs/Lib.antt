@@ -6,3 +6,4 @@ pub mod Spellings
 pub mod Depths
 pub mod Printed
 pub mod Integers
+pub mod Parts

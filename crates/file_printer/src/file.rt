@@ -12,7 +12,7 @@ ghost use Rattle.file_grammar.specs.Spelling.{Spells};
 ghost use Rattle.file_printer.specs.Canonical.{heading_text, pair_line, always_line, tx_line, file_text};
 ghost use Rattle.file_printer.specs.Fits.{PairFits, AlwaysFits, DeclarationFits, FileFits};
 
-use crate::forms::{put_expr, put_last_condition, put_stmt};
+use crate::forms::{put_last_condition, put_last_expression, put_part};
 use std::alloc::{AllocError, Global};
 use std::fmt::Write;
 use txn::{Catalogue, Cond, Memory, Tx, TxId, VarId};
@@ -40,8 +40,7 @@ fn put_file(out: &mut String, catalogue: &Catalogue) -> Result<(), AllocError>
     put_vars(out, catalogue)?;
     put_conditions(out, catalogue)?;
     put_txs(out, catalogue)?;
-    put_runs(out, catalogue)?;
-    Ok(())
+    put_runs(out, catalogue)
 }
 
 /// The form, which is told only where there are conditions.
@@ -107,12 +106,9 @@ fn put_tx(out: &mut String, catalogue: &Catalogue, tx: &Tx) -> Result<(), AllocE
 {
     out.push_str("(tx ")?;
     out.push_str(tx.name.as_str())?;
-    out.push_str(" ")?;
-    put_stmt(out, catalogue, &tx.body)?;
-    out.push_str(" ")?;
-    put_expr(out, catalogue, &tx.result)?;
-    out.push_str(")\n")?;
-    Ok(())
+    put_part(out, catalogue, &tx.body)?;
+    put_last_expression(out, catalogue, &tx.result)?;
+    out.push_str("\n")
 }
 
 fn put_txs(out: &mut String, catalogue: &Catalogue) -> Result<(), AllocError>

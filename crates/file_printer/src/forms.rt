@@ -21,6 +21,13 @@ fn put_int(out: &mut String, n: i64) -> Result<(), AllocError>
     write!(out, "{n}")
 }
 
+/// A parenthesis, a word and a space.
+fn put_opening(out: &mut String, word: &str) -> Result<(), AllocError>
+    ensures { OnOk result (string_bytes out.new ≡ string_bytes out.old ++ (codes "(" ++ (word.now ++ codes " "))) }
+{
+    write!(out, "({word} ")
+}
+
 /// The beginning of a repeated statement, to its count.
 fn put_repeat(out: &mut String, n: u32) -> Result<(), AllocError>
     ensures text { OnOk result (string_bytes out.new ≡ string_bytes out.old ++ (codes "(repeat " ++ decimal n)) }
@@ -37,7 +44,7 @@ fn put_name(out: &mut String, catalogue: &Catalogue, x: VarId) -> Result<(), All
 }
 
 #[cycle(exprs)]
-pub(crate) fn put_expr(out: &mut String, catalogue: &Catalogue, e: &Expr) -> Result<(), AllocError>
+fn put_expr(out: &mut String, catalogue: &Catalogue, e: &Expr) -> Result<(), AllocError>
     requires { ExpressionKnown (length catalogue.now.names) (expression_of e.now) }
     ensures text { OnOk result (string_bytes out.new ≡ string_bytes out.old ++ expr_text (written_expression catalogue.now.names (expression_of e.now))) }
     ensures fits { OnOk result (ExprFits (written_expression catalogue.now.names (expression_of e.now))) }
@@ -45,26 +52,11 @@ pub(crate) fn put_expr(out: &mut String, catalogue: &Catalogue, e: &Expr) -> Res
     match e {
         Expr::Int(n) => put_int(out, *n),
         Expr::Var(x) => put_name(out, catalogue, *x),
-        Expr::Add(a, b) => {
-            put_first_expression(out, catalogue, "add", a)?;
-            put_last_expression(out, catalogue, b)
-        }
-        Expr::Sub(a, b) => {
-            put_first_expression(out, catalogue, "sub", a)?;
-            put_last_expression(out, catalogue, b)
-        }
-        Expr::Mul(a, b) => {
-            put_first_expression(out, catalogue, "mul", a)?;
-            put_last_expression(out, catalogue, b)
-        }
-        Expr::Div(a, b) => {
-            put_first_expression(out, catalogue, "div", a)?;
-            put_last_expression(out, catalogue, b)
-        }
-        Expr::Rem(a, b) => {
-            put_first_expression(out, catalogue, "rem", a)?;
-            put_last_expression(out, catalogue, b)
-        }
+        Expr::Add(a, b) => put_operation(out, catalogue, "add", a, b),
+        Expr::Sub(a, b) => put_operation(out, catalogue, "sub", a, b),
+        Expr::Mul(a, b) => put_operation(out, catalogue, "mul", a, b),
+        Expr::Div(a, b) => put_operation(out, catalogue, "div", a, b),
+        Expr::Rem(a, b) => put_operation(out, catalogue, "rem", a, b),
     }
 }
 
@@ -80,15 +72,17 @@ fn put_first_expression(
     ensures text { OnOk result (string_bytes out.new ≡ string_bytes out.old ++ (codes "(" ++ (word.now ++ spaced (expr_text (written_expression catalogue.now.names (expression_of e.now)))))) }
     ensures fits { OnOk result (ExprFits (written_expression catalogue.now.names (expression_of e.now))) }
 {
-    out.push_str("(")?;
-    out.push_str(word)?;
-    out.push_str(" ")?;
+    put_opening(out, word)?;
     put_expr(out, catalogue, e)
 }
 
 /// An expression as the last part, and the closing parenthesis.
 #[cycle(exprs)]
-fn put_last_expression(out: &mut String, catalogue: &Catalogue, e: &Expr) -> Result<(), AllocError>
+pub(crate) fn put_last_expression(
+    out: &mut String,
+    catalogue: &Catalogue,
+    e: &Expr,
+) -> Result<(), AllocError>
     requires { ExpressionKnown (length catalogue.now.names) (expression_of e.now) }
     ensures text { OnOk result (string_bytes out.new ≡ string_bytes out.old ++ (spaced (expr_text (written_expression catalogue.now.names (expression_of e.now))) ++ codes ")")) }
     ensures fits { OnOk result (ExprFits (written_expression catalogue.now.names (expression_of e.now))) }
@@ -99,7 +93,8 @@ fn put_last_expression(out: &mut String, catalogue: &Catalogue, e: &Expr) -> Res
 }
 
 /// A word and two expressions, in parentheses.
-fn put_comparison(
+#[cycle(exprs)]
+fn put_operation(
     out: &mut String,
     catalogue: &Catalogue,
     word: &str,
@@ -123,22 +118,35 @@ fn put_cond(out: &mut String, catalogue: &Catalogue, c: &Cond) -> Result<(), All
     ensures fits { OnOk result (CondFits (written_condition catalogue.now.names (condition_of c.now))) }
 {
     match c {
-        Cond::Eq(a, b) => put_comparison(out, catalogue, "eq", a, b),
-        Cond::Lt(a, b) => put_comparison(out, catalogue, "lt", a, b),
-        Cond::Le(a, b) => put_comparison(out, catalogue, "le", a, b),
+        Cond::Eq(a, b) => put_operation(out, catalogue, "eq", a, b),
+        Cond::Lt(a, b) => put_operation(out, catalogue, "lt", a, b),
+        Cond::Le(a, b) => put_operation(out, catalogue, "le", a, b),
         Cond::Not(c) => {
             put_first_condition(out, catalogue, "not", c)?;
             out.push_str(")")
         }
-        Cond::And(a, b) => {
-            put_first_condition(out, catalogue, "and", a)?;
-            put_last_condition(out, catalogue, b)
-        }
-        Cond::Or(a, b) => {
-            put_first_condition(out, catalogue, "or", a)?;
-            put_last_condition(out, catalogue, b)
-        }
+        Cond::And(a, b) => put_connection(out, catalogue, "and", a, b),
+        Cond::Or(a, b) => put_connection(out, catalogue, "or", a, b),
     }
+}
+
+/// A word and two conditions, in parentheses.
+#[cycle(conds)]
+fn put_connection(
+    out: &mut String,
+    catalogue: &Catalogue,
+    word: &str,
+    left: &Cond,
+    right: &Cond,
+) -> Result<(), AllocError>
+    requires left { ConditionKnown (length catalogue.now.names) (condition_of left.now) }
+    requires right { ConditionKnown (length catalogue.now.names) (condition_of right.now) }
+    ensures text { OnOk result (string_bytes out.new ≡ string_bytes out.old ++ form_text word.now (spaced (cond_text (written_condition catalogue.now.names (condition_of left.now))) ++ spaced (cond_text (written_condition catalogue.now.names (condition_of right.now))))) }
+    ensures left_fits { OnOk result (CondFits (written_condition catalogue.now.names (condition_of left.now))) }
+    ensures right_fits { OnOk result (CondFits (written_condition catalogue.now.names (condition_of right.now))) }
+{
+    put_first_condition(out, catalogue, word, left)?;
+    put_last_condition(out, catalogue, right)
 }
 
 /// A parenthesis, a word, and a condition as the first part.
@@ -153,9 +161,7 @@ fn put_first_condition(
     ensures text { OnOk result (string_bytes out.new ≡ string_bytes out.old ++ (codes "(" ++ (word.now ++ spaced (cond_text (written_condition catalogue.now.names (condition_of c.now)))))) }
     ensures fits { OnOk result (CondFits (written_condition catalogue.now.names (condition_of c.now))) }
 {
-    out.push_str("(")?;
-    out.push_str(word)?;
-    out.push_str(" ")?;
+    put_opening(out, word)?;
     put_cond(out, catalogue, c)
 }
 
@@ -187,7 +193,7 @@ fn put_set(out: &mut String, catalogue: &Catalogue, x: VarId, e: &Expr) -> Resul
 }
 
 #[cycle(put_stmt)]
-pub(crate) fn put_stmt(out: &mut String, catalogue: &Catalogue, s: &Stmt) -> Result<(), AllocError>
+fn put_stmt(out: &mut String, catalogue: &Catalogue, s: &Stmt) -> Result<(), AllocError>
     requires { StatementKnown (length catalogue.now.names) (statement_of s.now) }
     ensures text { OnOk result (string_bytes out.new ≡ string_bytes out.old ++ stmt_text (written_statement catalogue.now.names (statement_of s.now))) }
     ensures fits { OnOk result (StmtFits (written_statement catalogue.now.names (statement_of s.now))) }
@@ -220,7 +226,7 @@ pub(crate) fn put_stmt(out: &mut String, catalogue: &Catalogue, s: &Stmt) -> Res
 
 /// A statement behind a space.
 #[cycle(put_stmt)]
-fn put_part(out: &mut String, catalogue: &Catalogue, s: &Stmt) -> Result<(), AllocError>
+pub(crate) fn put_part(out: &mut String, catalogue: &Catalogue, s: &Stmt) -> Result<(), AllocError>
     requires { StatementKnown (length catalogue.now.names) (statement_of s.now) }
     ensures text { OnOk result (string_bytes out.new ≡ string_bytes out.old ++ spaced (stmt_text (written_statement catalogue.now.names (statement_of s.now)))) }
     ensures fits { OnOk result (StmtFits (written_statement catalogue.now.names (statement_of s.now))) }

@@ -163,14 +163,14 @@ fn put_task(
     requires { tx.0 < length catalogue.now.transactions }
     ensures { OnOk result (string_bytes out.new ≡ string_bytes out.old ++ task_line catalogue.now kind.now (task, tx)) }
 {
-    let mut middle = LineEnd::new();
-    middle.byte(b' ');
-    middle.number(u64::from(task.0));
-    middle.byte(b' ');
     out.push_str(kind)?;
-    out.push_str(middle.text())?;
-    out.push_str(catalogue.tx_name(tx))?;
-    out.push_str("\n")
+    let mut end = LineEnd::new();
+    end.byte(b'\n');
+    end.word(tx_name(catalogue, tx));
+    end.byte(b' ');
+    end.number(u64::from(task.0));
+    end.byte(b' ');
+    out.push_str(end.text())
 }
 
 fn put_tasks(

@@ -4,7 +4,7 @@ use crate::numeral::Count;
 use text_words::numeral::Numeral;
 
 /// The line of a variable.
-#[derive(Clone, Copy, Debug)]
+#[derive(Clone, Copy)]
 pub(crate) struct RawVariable<'a> {
     pub(crate) name: &'a str,
     pub(crate) value: Numeral<'a>,
@@ -12,7 +12,7 @@ pub(crate) struct RawVariable<'a> {
 }
 
 /// How an entry's transaction ended.
-#[derive(Clone, Copy, Debug)]
+#[derive(Clone, Copy)]
 pub(crate) enum RawEnding<'a> {
     Returned(Numeral<'a>),
     Threw(Numeral<'a>),
@@ -22,7 +22,7 @@ pub(crate) enum RawEnding<'a> {
 }
 
 /// The line of an entry.
-#[derive(Clone, Copy, Debug)]
+#[derive(Clone, Copy)]
 pub(crate) struct RawEntry<'a> {
     pub(crate) number: Count<'a>,
     pub(crate) task: Count<'a>,
@@ -31,14 +31,14 @@ pub(crate) struct RawEntry<'a> {
 }
 
 /// The line of a task that is parked, or that was given up.
-#[derive(Clone, Copy, Debug)]
+#[derive(Clone, Copy)]
 pub(crate) struct RawTask<'a> {
     pub(crate) task: Count<'a>,
     pub(crate) name: &'a str,
 }
 
 /// All lines.
-#[derive(Debug, Drop)]
+#[derive(Drop)]
 pub(crate) struct RawReport<'a> {
     pub(crate) base: Count<'a>,
     pub(crate) base_vars: Vec<RawVariable<'a>>,

@@ -6,19 +6,23 @@ ghost use Rattle.report_reader.specs.Lines.{lines};
 ghost use Rattle.report_reader.specs.Reading.{variable_in, valued_in, broke_in, worded_in, ending_in, entry_in, task_in, numbered_in, expect, line_at, lines_at, next_at, all_at, end_at, raw_at};
 ghost use Rattle.report_reader.specs.View.{view_variable, view_variables, view_ending, view_entry, view_entries, view_task, view_tasks, view_next, view_raw};
 
-use crate::lines::{next_line, word_of};
+use crate::lines::{next_line, part};
 use crate::numeral::Count;
 use crate::raw::{RawEnding, RawEntry, RawReport, RawTask, RawVariable};
-use crate::words::{after_word, begins, count_of, expect, is_word, name_of, numeral_of};
+use crate::words::{begins, behind, count_of, expect, is_word, name_of, numeral_of};
 use std::alloc::Global;
 use text_words::ReadFault;
 
-#[tactic(auto, unfolding(crate::specs::Reading::variable_in))]
+#[tactic(auto, unfolding(crate::specs::Reading::variable_in, crate::specs::Reading::word_at))]
 fn variable_in(text: &[u8]) -> Result<RawVariable<'_>, ReadFault>
     ensures { Gives view_variable result (variable_in text.now) }
 {
-    let (first, rest) = word_of(text)?;
-    let (second, third) = word_of(rest)?;
+    let Some((first, rest)) = part(text, b' ') else {
+        return Err(ReadFault::Shape);
+    };
+    let Some((second, third)) = part(rest, b' ') else {
+        return Err(ReadFault::Shape);
+    };
     let name = name_of(first)?;
     let value = numeral_of(second)?;
     let version = count_of(third)?;
@@ -54,11 +58,13 @@ fn broke_in(text: &[u8]) -> Result<RawEnding<'_>, ReadFault>
 }
 
 /// An ending of two words.
-#[tactic(auto, unfolding(crate::specs::Reading::worded_in))]
+#[tactic(auto, unfolding(crate::specs::Reading::worded_in, crate::specs::Reading::word_at))]
 fn worded_in(text: &[u8]) -> Result<RawEnding<'_>, ReadFault>
     ensures { Gives view_ending result (worded_in text.now) }
 {
-    let (word, rest) = word_of(text)?;
+    let Some((word, rest)) = part(text, b' ') else {
+        return Err(ReadFault::Shape);
+    };
     if is_word(word, "broke") {
         broke_in(rest)
     } else {
@@ -79,14 +85,22 @@ fn ending_in(text: &[u8]) -> Result<RawEnding<'_>, ReadFault>
     }
 }
 
-#[tactic(auto, unfolding(crate::specs::Reading::entry_in))]
+#[tactic(auto, unfolding(crate::specs::Reading::entry_in, crate::specs::Reading::after_word, crate::specs::Reading::word_at))]
 fn entry_in(text: &[u8]) -> Result<RawEntry<'_>, ReadFault>
     ensures { Gives view_entry result (entry_in text.now) }
 {
-    let first = after_word(text, "entry")?;
-    let (second, rest) = word_of(first)?;
-    let (third, rest) = word_of(rest)?;
-    let (fourth, rest) = word_of(rest)?;
+    let Some(first) = behind(text, "entry") else {
+        return Err(ReadFault::Shape);
+    };
+    let Some((second, rest)) = part(first, b' ') else {
+        return Err(ReadFault::Shape);
+    };
+    let Some((third, rest)) = part(rest, b' ') else {
+        return Err(ReadFault::Shape);
+    };
+    let Some((fourth, rest)) = part(rest, b' ') else {
+        return Err(ReadFault::Shape);
+    };
     let number = count_of(second)?;
     let task = count_of(third)?;
     let name = name_of(fourth)?;
@@ -99,24 +113,32 @@ fn entry_in(text: &[u8]) -> Result<RawEntry<'_>, ReadFault>
     })
 }
 
-#[tactic(auto, unfolding(crate::specs::Reading::task_in))]
+#[tactic(auto, unfolding(crate::specs::Reading::task_in, crate::specs::Reading::after_word, crate::specs::Reading::word_at))]
 fn task_in<'a>(text: &'a [u8], word: &str) -> Result<RawTask<'a>, ReadFault>
     ensures { Gives view_task result (task_in word.now text.now) }
 {
-    let first = after_word(text, word)?;
-    let (second, third) = word_of(first)?;
+    let Some(first) = behind(text, word) else {
+        return Err(ReadFault::Shape);
+    };
+    let Some((second, third)) = part(first, b' ') else {
+        return Err(ReadFault::Shape);
+    };
     let task = count_of(second)?;
     let name = name_of(third)?;
     Ok(RawTask { task, name })
 }
 
 /// The next line, which is this word and a number.
-#[tactic(auto, unfolding(crate::specs::Reading::numbered_in, crate::specs::Reading::line_at))]
+#[tactic(auto, unfolding(crate::specs::Reading::numbered_in, crate::specs::Reading::after_word, crate::specs::Reading::line_at))]
 fn number_at<'a>(bytes: &'a [u8], word: &str) -> Result<(Count<'a>, &'a [u8]), ReadFault>
     ensures { Gives (λ x. (x.0.text.now, lines x.1.now)) result (line_at (numbered_in word.now) (lines bytes.now)) }
 {
-    let (line, rest) = next_line(bytes).ok_or(ReadFault::Shape)?;
-    let number = after_word(line, word)?;
+    let Some((line, rest)) = next_line(bytes) else {
+        return Err(ReadFault::Shape);
+    };
+    let Some(number) = behind(line, word) else {
+        return Err(ReadFault::Shape);
+    };
     let count = count_of(number)?;
     Ok((count, rest))
 }
@@ -126,7 +148,9 @@ fn number_at<'a>(bytes: &'a [u8], word: &str) -> Result<(Count<'a>, &'a [u8]), R
 fn variable_at(bytes: &[u8]) -> Result<(RawVariable<'_>, &[u8]), ReadFault>
     ensures { Gives (λ x. (view_variable x.0, lines x.1.now)) result (line_at variable_in (lines bytes.now)) }
 {
-    let (line, rest) = next_line(bytes).ok_or(ReadFault::Shape)?;
+    let Some((line, rest)) = next_line(bytes) else {
+        return Err(ReadFault::Shape);
+    };
     let variable = variable_in(line)?;
     Ok((variable, rest))
 }
@@ -212,7 +236,9 @@ fn tasks_at<'a>(
 fn last_at(bytes: &[u8]) -> Result<&[u8], ReadFault>
     ensures { Gives (λ x. (tt, lines x.now)) result (line_at (expect (codes "end")) (lines bytes.now)) }
 {
-    let (line, rest) = next_line(bytes).ok_or(ReadFault::Shape)?;
+    let Some((line, rest)) = next_line(bytes) else {
+        return Err(ReadFault::Shape);
+    };
     expect(line, "end")?;
     Ok(rest)
 }

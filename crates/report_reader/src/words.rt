@@ -4,7 +4,7 @@ ghost use Rattle.std.specs.Prelude.{◌≡◌, IfErr};
 ghost use Rattle.std.specs.Str.{bytes_eq};
 ghost use Rattle.text_words.specs.Answers.{Gives};
 ghost use Rattle.text_words.specs.declared.fault.ReadFault.TheVariants.{Shape};
-ghost use Rattle.report_reader.specs.Reading.{name_in, int_in, number_in, expect, behind, after_word, begins};
+ghost use Rattle.report_reader.specs.Reading.{name_in, int_in, number_in, expect, behind, begins};
 ghost use Rattle.report_reader.specs.View.{view_text};
 
 use crate::bytes::is_number;
@@ -78,21 +78,13 @@ pub(crate) fn expect(text: &[u8], wanted: &str) -> Result<(), ReadFault>
 
 /// The words behind the first one, where that is this word.
 #[tactic(auto, unfolding(crate::specs::Reading::behind))]
-fn behind<'a>(text: &'a [u8], wanted: &str) -> Option<&'a [u8]>
+pub(crate) fn behind<'a>(text: &'a [u8], wanted: &str) -> Option<&'a [u8]>
     ensures { view_text result ≡ behind wanted.now text.now }
 {
     match part(text, b' ') {
         Some((word, rest)) if is_word(word, wanted) => Some(rest),
         _ => None,
     }
-}
-
-/// This word, and the words behind it.
-#[tactic(auto, unfolding(crate::specs::Reading::after_word))]
-pub(crate) fn after_word<'a>(text: &'a [u8], wanted: &str) -> Result<&'a [u8], ReadFault>
-    ensures { Gives (λ x. x.now) result (after_word wanted.now text.now) }
-{
-    behind(text, wanted).ok_or(ReadFault::Shape)
 }
 
 /// Whether the line begins with this word.

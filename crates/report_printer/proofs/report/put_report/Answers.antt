@@ -1,4 +1,4 @@
-use Rattle.std.proofs.Common.{◌∙◌, ℕ, ℤ, List, [], ◌∷◌, ◌++◌, length, ap, arith, string_bytes}
+use Rattle.std.proofs.Common.{◌∙◌, ℕ, ℤ, List, [], ◌∷◌, ◌++◌, length, ap, arith, subst, string_bytes}
 use Rattle.std.specs.Prelude.{codes}
 use Rattle.std.specs.Fmt.{decimal}
 use Rattle.std.specs.List.{flat_map}
@@ -6,6 +6,7 @@ use Rattle.programs.proofs.Lawful.{limits_parts}
 use Rattle.programs.specs.declared.ast.TaskId.{TaskId}
 use Rattle.programs.specs.declared.ast.TxId.{TxId}
 use Rattle.programs.specs.declared.report.Entry.{Entry}
+use Rattle.report_printer.specs.ReportFits.{OutcomesFit, ValuesFit}
 use Rattle.report_printer.specs.ReportText.{variable_lines, entry_line, task_line}
 use Rattle.text_words.specs.Words.{line}
 use Rattle.report_printer.proofs.Appends.{eight_pieces}
@@ -45,3 +46,11 @@ returns-clause-text c =
     (c.in_ok-put_tasks.ensures ∙ ap (λ (ts : List (TaskId × TxId)). o5 ++ parked ts) c.deref-4.ensures.value)
     (c.in_ok-put_tasks-2.ensures ∙ ap (λ (ts : List (TaskId × TxId)). o6 ++ memory ts) c.deref-5.ensures.value)
     c.in_ok-push_str.ensures.bytes
+
+pub returns-clause-fits : goal.returns-clause-fits
+returns-clause-fits c =
+    record {
+      base = subst ValuesFit c.deref.ensures.value c.in_ok-put_variables.ensures.fits;
+      entries = subst OutcomesFit c.deref-2.ensures.value c.in_ok-put_entries.ensures.fits;
+      current = subst ValuesFit c.deref-3.ensures.value c.in_ok-put_variables-2.ensures.fits;
+    }
