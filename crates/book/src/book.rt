@@ -406,9 +406,8 @@ impl<'a> Book<'a> {
     pub fn into_report(self, alloc: Global) -> Result<Report, Memory>
         ensures { IfOk result (λ r. ReportIs self.entry (told r)) }
     {
-        let mut report = self.all_but_entries(alloc)?;
-        report.entries = self.journal;
-        Ok(report)
+        let report = self.all_but_entries(alloc)?;
+        Ok(with_entries(report, self.journal))
     }
 
     /// The report but for its entries.
@@ -484,6 +483,14 @@ impl<'a> Book<'a> {
         );
         number
     }
+}
+
+/// The report, with these entries in place of its own.
+fn with_entries(mut report: Report, entries: Vec<Entry>) -> Report
+    ensures { result ≡ record report { entries = entries } }
+{
+    report.entries = entries;
+    report
 }
 
 /// Adds an entry, for which there is room.
