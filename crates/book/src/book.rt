@@ -343,8 +343,18 @@ impl<'a> Book<'a> {
         };
         let mut attempt = Attempt::new(alloc, self.catalogue, self.task_tx(first));
         self.turn(&mut attempt, every, first);
+        self.turns(&mut attempt, every);
+    }
+
+    /// Gives the lowest ready task a turn until none is ready, by an attempt that is restarted for
+    /// each.
+    fn turns(&mut self, attempt: &mut Attempt<'a>, every: u32)
+        requires { (k : ℕ) → slice_get self.old.tasks k ≢ Some Task.Running }
+        ensures turns { Drains every self.old self.new }
+        ensures idle { IsIdle self.new }
+    {
         while let Some(task) = self.take() {
-            self.turn(&mut attempt, every, task);
+            self.turn(attempt, every, task);
         }
     }
 
@@ -406,8 +416,9 @@ impl<'a> Book<'a> {
     pub fn into_report(self, alloc: Global) -> Result<Report, Memory>
         ensures { IfOk result (λ r. ReportIs self.entry (told r)) }
     {
-        let report = self.all_but_entries(alloc)?;
-        Ok(with_entries(report, self.journal))
+        let mut report = self.all_but_entries(alloc)?;
+        report.entries = self.journal;
+        Ok(report)
     }
 
     /// The report but for its entries.
@@ -483,14 +494,6 @@ impl<'a> Book<'a> {
         );
         number
     }
-}
-
-/// The report, with these entries in place of its own.
-fn with_entries(mut report: Report, entries: Vec<Entry>) -> Report
-    ensures { result ≡ record report { entries = entries } }
-{
-    report.entries = entries;
-    report
 }
 
 /// Adds an entry, for which there is room.
