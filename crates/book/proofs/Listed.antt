@@ -28,7 +28,7 @@ module _ (so : Task → Bool) (l : Listing) (ts : List Task) (n i : ℕ) (t : Ta
   one_listed found new tx e more own low told =
       subst (λ (xs : List (TaskId × TxId)). Lists so l ts n (i + 1) xs) (sym more) (
         append_assoc found ((record { 0 = i }, tx) ∷ []) rest
-        ∙ (ap (λ (x : TxId). found ++ (record { 0 = i }, x) ∷ rest) own ∙ (ap (λ (xs : List (TaskId × TxId)). found ++ xs) (sym (from_here true e)) ∙ told.0)),
+            ∙ (ap (λ (x : TxId). found ++ (record { 0 = i }, x) ∷ rest) own ∙ (ap (λ (xs : List (TaskId × TxId)). found ++ xs) (sym (from_here true e)) ∙ told.0)),
         All-push (λ (p : TaskId × TxId). p.1.0 < n) found (record { 0 = i }, tx) told.1 low,
       )
 

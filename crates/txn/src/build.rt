@@ -228,10 +228,7 @@ fn names_and_values(
 }
 
 /// The names of the variables, if they are distinct.
-fn variable_names(
-    alloc: Global,
-    vars: Vec<(String, i64)>,
-) -> Result<IndexSet<String>, BuildFault>
+fn variable_names(alloc: Global, vars: Vec<(String, i64)>) -> Result<IndexSet<String>, BuildFault>
     ensures ok { IfOk result (λ s. map string_bytes s.keys ≡ map (λ v. string_bytes v.0) vars.items) }
     ensures distinct { OnOk result (are_distinct (map (λ v. string_bytes v.0) vars.items) ≡ true) }
     ensures name { IfErr result (λ e. e ≡ BuildFault.Name → are_distinct (map (λ v. string_bytes v.0) vars.items) ≡ false) }
@@ -261,10 +258,7 @@ fn other_names(
 }
 
 /// The names of the standing conditions, if they are distinct.
-fn condition_names(
-    alloc: Global,
-    always: &[(String, Cond)],
-) -> Result<IndexSet<String>, BuildFault>
+fn condition_names(alloc: Global, always: &[(String, Cond)]) -> Result<IndexSet<String>, BuildFault>
     ensures ok { IfOk result (λ s. map string_bytes s.keys ≡ map (λ a. string_bytes a.0) always.now) }
     ensures distinct { OnOk result (are_distinct (map (λ a. string_bytes a.0) always.now) ≡ true) }
     ensures name { IfErr result (λ e. e ≡ BuildFault.Name → are_distinct (map (λ a. string_bytes a.0) always.now) ≡ false) }

@@ -18,10 +18,10 @@ loop-i-preserved c =
     let new = c.if-is_given_up.found.items in
     elim c.if-is_given_up.branch [
       | then-is_given_up+in_ok-push w ↦
-        let more = ap (λ (v : Vec (TaskId × TxId) Global). v.items) w.found-is ∙ w.in_ok-push.ensures.items in
-        let tx = w.transaction_of.ensures in
-        one_listed is_given_up l ts n i t c.loop-i-test.true c.index-tasks-i.is found new w.transaction_of.result w.if-is_given_up.ensures more tx.value tx.known c.loop-i.invariant
+          let more = ap (λ (v : Vec (TaskId × TxId) Global). v.items) w.found-is ∙ w.in_ok-push.ensures.items in
+          let tx = w.transaction_of.ensures in
+          one_listed is_given_up l ts n i t c.loop-i-test.true c.index-tasks-i.is found new w.transaction_of.result w.if-is_given_up.ensures more tx.value tx.known c.loop-i.invariant
       | else-is_given_up w ↦
-        let same = ap (λ (v : Vec (TaskId × TxId) Global). v.items) w.found-is in
-        none_listed is_given_up l ts n i t c.loop-i-test.true c.index-tasks-i.is found new w.if-is_given_up.ensures same c.loop-i.invariant
+          let same = ap (λ (v : Vec (TaskId × TxId) Global). v.items) w.found-is in
+          none_listed is_given_up l ts n i t c.loop-i-test.true c.index-tasks-i.is found new w.if-is_given_up.ensures same c.loop-i.invariant
     ]
