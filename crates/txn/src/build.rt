@@ -201,13 +201,28 @@ pub(crate) fn judged(
     }
     let within = within_limits(&vars, always, txs, runs);
     let declared = declare(alloc, vars, always, txs)?;
+    allowed(within, always, &declared.initial)?;
+    Ok(declared)
+}
+
+/// Refused by `Limit` unless the limits hold, and else by `Broken` unless each standing condition
+/// is true of the state.
+fn allowed(within: bool, always: &[(String, Cond)], state: &[i64]) -> Result<(), BuildFault>
+    requires { ConditionsKnown (length state.now) (conditions_of always.now) }
+    ensures within { OnOk result (within ≡ true) }
+    ensures upheld { OnOk result (list_all (λ a. is_true (truth (condition_of a.1) state.now)) always.now ≡ true) }
+    ensures name { IfErr result (λ e. e ≢ BuildFault.Name) }
+    ensures limit { IfErr result (λ e. e ≡ BuildFault.Limit → within ≡ false) }
+    ensures after_limits { IfErr result (λ e. e ≡ BuildFault.Broken → within ≡ true) }
+    ensures broken { IfErr result (λ e. e ≡ BuildFault.Broken → list_all (λ a. is_true (truth (condition_of a.1) state.now)) always.now ≡ false) }
+{
     if !within {
         return Err(BuildFault::Limit);
     }
-    if !upheld(always, &declared.initial) {
+    if !upheld(always, state) {
         return Err(BuildFault::Broken);
     }
-    Ok(declared)
+    Ok(())
 }
 
 /// The names of the variables, if they are distinct, and their initial values.
