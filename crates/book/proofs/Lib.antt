@@ -14,6 +14,7 @@ mod Storing
 mod Raising
 mod Committing
 mod Reporting
+mod Listed
 pub mod Accounts
 mod Finishing
 mod Tallies

@@ -343,8 +343,18 @@ impl<'a> Book<'a> {
         };
         let mut attempt = Attempt::new(alloc, self.catalogue, self.task_tx(first));
         self.turn(&mut attempt, every, first);
+        self.turns(&mut attempt, every);
+    }
+
+    /// Gives the lowest ready task a turn until none is ready, by an attempt that is restarted for
+    /// each.
+    fn turns(&mut self, attempt: &mut Attempt<'a>, every: u32)
+        requires { (k : ℕ) → slice_get self.old.tasks k ≢ Some Task.Running }
+        ensures turns { Drains every self.old self.new }
+        ensures idle { IsIdle self.new }
+    {
         while let Some(task) = self.take() {
-            self.turn(&mut attempt, every, task);
+            self.turn(attempt, every, task);
         }
     }
 

@@ -26,7 +26,7 @@ pub fn parked(
 {
     let mut found = Vec::new(alloc);
     for i in 0..tasks.len() {
-        if matches!(&tasks[i], Task::Parked(_)) {
+        if is_parked(&tasks[i]) {
             let task = TaskId(i as u32);
             found.push((task, transaction_of(catalogue, submitted, task)))?;
         }
@@ -49,10 +49,22 @@ pub fn given_up(
 {
     let mut found = Vec::new(alloc);
     for i in 0..tasks.len() {
-        if matches!(&tasks[i], Task::GivenUp) {
+        if is_given_up(&tasks[i]) {
             let task = TaskId(i as u32);
             found.push((task, transaction_of(catalogue, submitted, task)))?;
         }
     }
     Ok(found)
+}
+
+fn is_parked(task: &Task) -> bool
+    ensures { result ≡ is_parked task.now }
+{
+    matches!(task, Task::Parked(_))
+}
+
+fn is_given_up(task: &Task) -> bool
+    ensures { result ≡ is_given_up task.now }
+{
+    matches!(task, Task::GivenUp)
 }

@@ -164,12 +164,8 @@ fn declare(
     ensures limit { IfErr result (λ e. e ≢ BuildFault.Limit) }
     ensures broken { IfErr result (λ e. e ≢ BuildFault.Broken) }
 {
-    let (texts, initial) = halves(alloc, vars)?;
-    let names = name_set(alloc, texts)?;
-    let always_texts = always_names(alloc, always)?;
-    let always_names = name_set(alloc, always_texts)?;
-    let tx_texts = tx_names(alloc, txs)?;
-    let tx_names = name_set(alloc, tx_texts)?;
+    let (names, initial) = names_and_values(alloc, vars)?;
+    let (always_names, tx_names) = other_names(alloc, always, txs)?;
     Ok(Declared {
         names,
         initial,
@@ -205,27 +201,121 @@ pub(crate) fn judged(
     }
     let within = within_limits(&vars, always, txs, runs);
     let declared = declare(alloc, vars, always, txs)?;
-    if !within {
-        return Err(BuildFault::Limit);
-    }
-    if !upheld(always, &declared.initial) {
-        return Err(BuildFault::Broken);
-    }
+    allowed(within, always, &declared.initial)?;
     Ok(declared)
 }
 
-/// The names of the variables, and their initial values.
-fn halves(alloc: Global, vars: Vec<(String, i64)>) -> Result<(Vec<String>, Vec<i64>), AllocError>
-    ensures names { IfOk result (λ h. map string_bytes h.0.items ≡ map (λ v. string_bytes v.0) vars.items) }
-    ensures initial { IfOk result (λ h. h.1.items ≡ map (λ v. v.1) vars.items) }
+/// Refused by `Limit` unless the limits hold, and else by `Broken` unless each standing condition
+/// is true of the state.
+fn allowed(within: bool, always: &[(String, Cond)], state: &[i64]) -> Result<(), BuildFault>
+    requires { ConditionsKnown (length state.now) (conditions_of always.now) }
+    ensures within { OnOk result (within ≡ true) }
+    ensures upheld { OnOk result (list_all (λ a. is_true (truth (condition_of a.1) state.now)) always.now ≡ true) }
+    ensures name { IfErr result (λ e. e ≢ BuildFault.Name) }
+    ensures limit { IfErr result (λ e. e ≡ BuildFault.Limit → within ≡ false) }
+    ensures after_limits { IfErr result (λ e. e ≡ BuildFault.Broken → within ≡ true) }
+    ensures broken { IfErr result (λ e. e ≡ BuildFault.Broken → list_all (λ a. is_true (truth (condition_of a.1) state.now)) always.now ≡ false) }
+{
+    if !within {
+        return Err(BuildFault::Limit);
+    }
+    if !upheld(always, state) {
+        return Err(BuildFault::Broken);
+    }
+    Ok(())
+}
+
+/// The names of the variables, if they are distinct, and their initial values.
+fn names_and_values(
+    alloc: Global,
+    vars: Vec<(String, i64)>,
+) -> Result<(IndexSet<String>, Vec<i64>), BuildFault>
+    ensures names { IfOk result (λ d. map string_bytes d.0.keys ≡ map (λ v. string_bytes v.0) vars.items) }
+    ensures initial { IfOk result (λ d. d.1.items ≡ map (λ v. v.1) vars.items) }
+    ensures distinct { OnOk result (are_distinct (map (λ v. string_bytes v.0) vars.items) ≡ true) }
+    ensures name { IfErr result (λ e. e ≡ BuildFault.Name → are_distinct (map (λ v. string_bytes v.0) vars.items) ≡ false) }
+    ensures limit { IfErr result (λ e. e ≢ BuildFault.Limit) }
+    ensures broken { IfErr result (λ e. e ≢ BuildFault.Broken) }
+{
+    let initial = initial_values(alloc, &vars)?;
+    let names = variable_names(alloc, vars)?;
+    Ok((names, initial))
+}
+
+/// The names of the variables, if they are distinct.
+fn variable_names(alloc: Global, vars: Vec<(String, i64)>) -> Result<IndexSet<String>, BuildFault>
+    ensures ok { IfOk result (λ s. map string_bytes s.keys ≡ map (λ v. string_bytes v.0) vars.items) }
+    ensures distinct { OnOk result (are_distinct (map (λ v. string_bytes v.0) vars.items) ≡ true) }
+    ensures name { IfErr result (λ e. e ≡ BuildFault.Name → are_distinct (map (λ v. string_bytes v.0) vars.items) ≡ false) }
+    ensures limit { IfErr result (λ e. e ≢ BuildFault.Limit) }
+    ensures broken { IfErr result (λ e. e ≢ BuildFault.Broken) }
+{
+    let texts = variable_texts(alloc, vars)?;
+    name_set(alloc, texts)
+}
+
+/// The names of the standing conditions and those of the transactions, if each are distinct.
+fn other_names(
+    alloc: Global,
+    always: &[(String, Cond)],
+    txs: &[Tx],
+) -> Result<(IndexSet<String>, IndexSet<String>), BuildFault>
+    ensures always_names { IfOk result (λ d. map string_bytes d.0.keys ≡ map (λ a. string_bytes a.0) always.now) }
+    ensures tx_names { IfOk result (λ d. map string_bytes d.1.keys ≡ map (λ t. string_bytes t.name) txs.now) }
+    ensures distinct { OnOk result ((are_distinct (map (λ a. string_bytes a.0) always.now) && are_distinct (map (λ t. string_bytes t.name) txs.now)) ≡ true) }
+    ensures name { IfErr result (λ e. e ≡ BuildFault.Name → (are_distinct (map (λ a. string_bytes a.0) always.now) && are_distinct (map (λ t. string_bytes t.name) txs.now)) ≡ false) }
+    ensures limit { IfErr result (λ e. e ≢ BuildFault.Limit) }
+    ensures broken { IfErr result (λ e. e ≢ BuildFault.Broken) }
+{
+    let always_names = condition_names(alloc, always)?;
+    let tx_names = transaction_names(alloc, txs)?;
+    Ok((always_names, tx_names))
+}
+
+/// The names of the standing conditions, if they are distinct.
+fn condition_names(alloc: Global, always: &[(String, Cond)]) -> Result<IndexSet<String>, BuildFault>
+    ensures ok { IfOk result (λ s. map string_bytes s.keys ≡ map (λ a. string_bytes a.0) always.now) }
+    ensures distinct { OnOk result (are_distinct (map (λ a. string_bytes a.0) always.now) ≡ true) }
+    ensures name { IfErr result (λ e. e ≡ BuildFault.Name → are_distinct (map (λ a. string_bytes a.0) always.now) ≡ false) }
+    ensures limit { IfErr result (λ e. e ≢ BuildFault.Limit) }
+    ensures broken { IfErr result (λ e. e ≢ BuildFault.Broken) }
+{
+    let texts = always_names(alloc, always)?;
+    name_set(alloc, texts)
+}
+
+/// The names of the transactions, if they are distinct.
+fn transaction_names(alloc: Global, txs: &[Tx]) -> Result<IndexSet<String>, BuildFault>
+    ensures ok { IfOk result (λ s. map string_bytes s.keys ≡ map (λ t. string_bytes t.name) txs.now) }
+    ensures distinct { OnOk result (are_distinct (map (λ t. string_bytes t.name) txs.now) ≡ true) }
+    ensures name { IfErr result (λ e. e ≡ BuildFault.Name → are_distinct (map (λ t. string_bytes t.name) txs.now) ≡ false) }
+    ensures limit { IfErr result (λ e. e ≢ BuildFault.Limit) }
+    ensures broken { IfErr result (λ e. e ≢ BuildFault.Broken) }
+{
+    let texts = tx_names(alloc, txs)?;
+    name_set(alloc, texts)
+}
+
+/// The initial values of the variables.
+fn initial_values(alloc: Global, vars: &[(String, i64)]) -> Result<Vec<i64>, AllocError>
+    ensures { IfOk result (λ values. values.items ≡ map (λ v. v.1) vars.now) }
+{
+    let mut values = Vec::with_capacity(alloc, vars.len())?;
+    for (_, value) in vars {
+        values.push(*value)?;
+    }
+    Ok(values)
+}
+
+/// The names of the variables, taken out of them.
+fn variable_texts(alloc: Global, vars: Vec<(String, i64)>) -> Result<Vec<String>, AllocError>
+    ensures { IfOk result (λ names. map string_bytes names.items ≡ map (λ v. string_bytes v.0) vars.items) }
 {
     let mut names = Vec::with_capacity(alloc, vars.len())?;
-    let mut values = Vec::with_capacity(alloc, vars.len())?;
-    for (name, value) in vars {
+    for (name, _) in vars {
         names.push(name)?;
-        values.push(value)?;
     }
-    Ok((names, values))
+    Ok(names)
 }
 
 /// The names of the standing conditions.

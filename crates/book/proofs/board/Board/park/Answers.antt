@@ -9,7 +9,7 @@ use Rattle.book.specs.declared.task.Task.TheVariants.{Running, Parked}
 use Rattle.book.specs.Board.{BoardView, flagged}
 use Rattle.book.specs.BoardInside.{places}
 use Rattle.book.proofs.Lists.{get_set_same}
-use Rattle.book.proofs.Sets.{sets_park, placed_stand, at_place}
+use Rattle.book.proofs.Sets.{sets_park, placed_stand, at_place, roomy}
 use Rattle.book.proofs.board.Board.park.Goals as goal
 
 -- what was put there is found there
@@ -35,3 +35,21 @@ invariant_of-self c =
           known);
       room = omega (arith, c.self.invariant.room, ap length c.stand.ensures.items, length-set s.tasks.items t (Parked c.args.log), c.stand.ensures.capacity);
     }
+
+pub unreachable-requires : goal.unreachable-requires
+unreachable-requires c =
+    let s = c.self.inside in
+    let t = c.args.task.0 in
+    let new = c.stand.new.tasks.items in
+    let at : slice_get s.tasks.items t ≡ Some Running = ap (λ (b : BoardView). slice_get b.tasks t) c.self.view_is ∙ c.requires.running in
+    let there : slice_get new t ≡ Some (Parked c.args.log) = ap (λ (ts : List Task). slice_get ts t) c.stand.ensures.items ∙ get_set_same s.tasks.items t Running (Parked c.args.log) at in
+    let read = slice_get_read new (length new) t c.index.result.now refl (slice_get_within new t (Parked c.args.log) there) c.index.ensures in
+    c.in_default.not-Parked c.args.log (same_Some _ _ (sym read ∙ there))
+
+pub enter-requires-clause-room : goal.enter-requires-clause-room
+enter-requires-clause-room c =
+    let s = c.self.inside in
+    let t = c.args.task.0 in
+    let at : slice_get s.tasks.items t ≡ Some Running = ap (λ (b : BoardView). slice_get b.tasks t) c.self.view_is ∙ c.requires.running in
+    let place = at_place s.tasks.items s.spare t Running at in
+    roomy (places s.tasks.items s.spare) s.ready s.sleepers.items t c.self.invariant.sets (slice_get_within (places s.tasks.items s.spare) t Running place)

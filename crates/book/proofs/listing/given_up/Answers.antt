@@ -1,0 +1,27 @@
+use Rattle.std.proofs.Common.{◌∙◌, ap, length, Vec, Global}
+use Rattle.programs.specs.declared.ast.TaskId.{TaskId}
+use Rattle.programs.specs.declared.ast.TxId.{TxId}
+use Rattle.txn.specs.Grown.{grown}
+use Rattle.book.specs.Turns.{is_given_up}
+use Rattle.book.proofs.Listed.{one_listed, none_listed}
+use Rattle.book.proofs.listing.given_up.Goals as goal
+use Rattle.book.proofs.listing.given_up.Goals.{then-is_given_up+in_ok-push, else-is_given_up}
+
+pub loop-i-preserved : goal.loop-i-preserved
+loop-i-preserved c =
+    let l = grown c.args.catalogue.now c.args.submitted.now.items in
+    let n = length c.args.catalogue.now.transactions in
+    let ts = c.args.tasks.now in
+    let i = c.loop-i.i in
+    let t = c.index-tasks-i.result in
+    let found = c.loop-i.found.items in
+    let new = c.if-is_given_up.found.items in
+    elim c.if-is_given_up.branch [
+      | then-is_given_up+in_ok-push w ↦
+          let more = ap (λ (v : Vec (TaskId × TxId) Global). v.items) w.found-is ∙ w.in_ok-push.ensures.items in
+          let tx = w.transaction_of.ensures in
+          one_listed is_given_up l ts n i t c.loop-i-test.true c.index-tasks-i.is found new w.transaction_of.result w.if-is_given_up.ensures more tx.value tx.known c.loop-i.invariant
+      | else-is_given_up w ↦
+          let same = ap (λ (v : Vec (TaskId × TxId) Global). v.items) w.found-is in
+          none_listed is_given_up l ts n i t c.loop-i-test.true c.index-tasks-i.is found new w.if-is_given_up.ensures same c.loop-i.invariant
+    ]
