@@ -2,22 +2,22 @@
 use Rattle.std.proofs.Common.{◌≡◌, ℕ, zero, suc, ◌+◌, ◌<◌, Bool, true, false, List, [], ◌∷◌, Option, Some, None, Result, Ok, Err, ℤ, refl, subst}
 use Rattle.std.specs.Ordering.{int_eq}
 use Rattle.std.specs.Int.RustNames.{int_lt, int_le}
-use Rattle.programs.specs.Arithmetic.{sum_of, difference_of, product_of, quotient_of, remainder_of}
-use Rattle.programs.specs.Meaning.{both, negated, and_then, or_else, Ending, Done, Threw, Retried, then_do, unless_retried, with_number, choose, repeated, demanded}
-use Rattle.programs.specs.Scope.{ExpressionKnown, ConditionKnown, StatementKnown, StatementsKnown, ConditionsKnown, ProgramKnown}
-use Rattle.programs.specs.declared.ast.VarId.{VarId}
-use Rattle.programs.specs.declared.ast.Fault.{Fault}
-use Rattle.programs.specs.declared.ast.Fault.TheVariants.{User, Broken}
-use Rattle.programs.specs.declared.ast.AlwaysId.{AlwaysId}
-use Rattle.programs.specs.declared.ast.Outcome.{Outcome}
-use Rattle.programs.specs.Tree.{Expression, Int, Var, Add, Sub, Mul, Div, Rem, Condition, Eq, Lt, Le, Not, And, Or, Statement, Skip, Set, Seq, If, Repeat, Retry, OrElse, Throw, Statements, End, More, Program}
+use Rattle.txn_programs.specs.Arithmetic.{sum_of, difference_of, product_of, quotient_of, remainder_of}
+use Rattle.txn_programs.specs.Meaning.{both, negated, and_then, or_else, Ending, Done, Threw, Retried, then_do, unless_retried, with_number, choose, repeated, demanded}
+use Rattle.txn_programs.specs.Scope.{ExpressionKnown, ConditionKnown, StatementKnown, StatementsKnown, ConditionsKnown, ProgramKnown}
+use Rattle.txn_programs.specs.declared.ast.VarId.{VarId}
+use Rattle.txn_programs.specs.declared.ast.Fault.{Fault}
+use Rattle.txn_programs.specs.declared.ast.Fault.TheVariants.{User, Broken}
+use Rattle.txn_programs.specs.declared.ast.AlwaysId.{AlwaysId}
+use Rattle.txn_programs.specs.declared.ast.Outcome.{Outcome}
+use Rattle.txn_programs.specs.Tree.{Expression, Int, Var, Add, Sub, Mul, Div, Rem, Condition, Eq, Lt, Le, Not, And, Or, Statement, Skip, Set, Seq, If, Repeat, Retry, OrElse, Throw, Statements, End, More, Program}
 use Rattle.attempt_machine.specs.declared.evaluate.Halt.{Halt}
 use Rattle.attempt_machine.specs.declared.evaluate.Halt.TheVariants.{Need, Fails}
 use Rattle.attempt.specs.declared.next.Stand.TheVariants as stand
 use Rattle.attempt_machine.specs.Asking.{Known, known_at, write, or_known, or_need, see, halting, see_value, see_truth, see_run, see_run_all, blame, see_upheld, see_upheld_result, see_final, Answer, Needs, Ends, ask, answer_of, answer_by}
-use Rattle.own_writes.specs.Order.{AllKnown, Ascending}
+use Rattle.attempt_writes.specs.Order.{AllKnown, Ascending}
 use Rattle.attempt.specs.View.{OnlyOfReturned}
-use Rattle.own_writes.proofs.Pairs.{AllKnown-write, Ascending-write}
+use Rattle.attempt_writes.proofs.Pairs.{AllKnown-write, Ascending-write}
 
 -- a variable that is asked for may be named, and is not logged
 abbrev pub IsMissing : ℕ → Known → VarId → Type 0

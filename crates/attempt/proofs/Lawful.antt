@@ -1,12 +1,12 @@
 -- An attempt stays lawful: where it waits, where it is over, and where it is told a variable.
 use Rattle.std.proofs.Common.{◌≡◌, ◌≤◌, ◌+◌, ◌-◌, ◌∷◌, ◌++◌, ℕ, length, arith, ℤ, [], subst, sym, refl, length-append}
-use Rattle.programs.specs.Cost.{cost}
-use Rattle.programs.specs.declared.ast.VarId.{VarId}
-use Rattle.programs.specs.declared.ast.Outcome.{Outcome}
+use Rattle.txn_programs.specs.Cost.{cost}
+use Rattle.txn_programs.specs.declared.ast.VarId.{VarId}
+use Rattle.txn_programs.specs.declared.ast.Outcome.{Outcome}
 use Rattle.attempt.specs.declared.attempt.Attempt.TheInside.{Inside}
 use Rattle.attempt.specs.declared.next.Stand.{Stand}
 use Rattle.attempt.specs.declared.next.Stand.TheVariants as stand
-use Rattle.programs.specs.Listing.{program_at}
+use Rattle.txn_programs.specs.Listing.{program_at}
 use Rattle.attempt_machine.specs.Asking.{Known, ask, Needs, Ends}
 use Rattle.attempt.specs.AttemptInside.{viewed, IsKept, IsLawful, StandsAt, IsGoing, GoesOn}
 use Rattle.attempt_machine.specs.Place.{place_of}
@@ -14,11 +14,11 @@ use Rattle.attempt.specs.Stops.{Stops}
 use Rattle.attempt_machine.specs.declared.machine.Machine.{Machine}
 use Rattle.attempt_machine.specs.declared.running.Count.{Count}
 use Rattle.attempt_machine.proofs.Resume.{reached_more}
-use Rattle.programs.specs.Code.{program_code}
-use Rattle.programs.specs.Tree.{Program}
+use Rattle.txn_programs.specs.Code.{program_code}
+use Rattle.txn_programs.specs.Tree.{Program}
 use Rattle.attempt.specs.View.{AttemptView, OnlyOfReturned, supplied}
 use Rattle.attempt.proofs.Answered.{needs_missing, ends_well}
-use Rattle.own_writes.proofs.Pairs.{AllKnown-append, Apart-append}
+use Rattle.attempt_writes.proofs.Pairs.{AllKnown-append, Apart-append}
 
 pub waiting : (a : AttemptView) (x : VarId) (n total : ℕ) → IsLawful a → ask a.program a.log ≡ Needs x → n ≤ cost a.program → total ≤ cost a.program + length a.log →
     IsLawful (record { program = a.program; variables = a.variables; log = a.log; writes = []; stand = stand.Needs x; steps = n; total = total })

@@ -1,10 +1,10 @@
 -- What an answer says: of the variable that is needed, and of a state that agrees with the log.
 use Rattle.std.proofs.Common.{◌≡◌, subst, length}
-use Rattle.programs.specs.Meaning.{State}
-use Rattle.programs.specs.Scope.{ProgramKnown}
-use Rattle.programs.specs.declared.ast.VarId.{VarId}
-use Rattle.programs.specs.declared.ast.Outcome.{Outcome}
-use Rattle.programs.specs.declared.ast.Outcome.TheVariants.{Returned, Thrown, Retries}
+use Rattle.txn_programs.specs.Meaning.{State}
+use Rattle.txn_programs.specs.Scope.{ProgramKnown}
+use Rattle.txn_programs.specs.declared.ast.VarId.{VarId}
+use Rattle.txn_programs.specs.declared.ast.Outcome.{Outcome}
+use Rattle.txn_programs.specs.declared.ast.Outcome.TheVariants.{Returned, Thrown, Retries}
 use Rattle.attempt.specs.declared.next.Next.{Next}
 use Rattle.attempt.specs.declared.next.Next.TheVariants as next
 use Rattle.attempt_machine.specs.Asking.{Ends, ask}

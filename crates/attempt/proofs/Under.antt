@@ -1,12 +1,12 @@
 -- The program and the code of a transaction of a catalogue.
 use Rattle.std.proofs.Common.{◌≡◌, List, ◌++◌, ◌∙◌, ap, map, String, Global}
-use Rattle.programs.specs.Fused.{own_code, common_code, machine_code}
-use Rattle.programs.specs.Listing.{Listing, conditions, program_at, transaction_at}
-use Rattle.programs.specs.Tree.{condition_of, transaction_of, under}
-use Rattle.programs.specs.declared.ast.Cond.{Cond}
-use Rattle.programs.specs.declared.ast.Tx.{Tx}
-use Rattle.programs.specs.declared.ast.TxId.{TxId}
-use Rattle.programs.specs.declared.code.Op.{Op}
+use Rattle.txn_programs.specs.Fused.{own_code, common_code, machine_code}
+use Rattle.txn_programs.specs.Listing.{Listing, conditions, program_at, transaction_at}
+use Rattle.txn_programs.specs.Tree.{condition_of, transaction_of, under}
+use Rattle.txn_programs.specs.declared.ast.Cond.{Cond}
+use Rattle.txn_programs.specs.declared.ast.Tx.{Tx}
+use Rattle.txn_programs.specs.declared.ast.TxId.{TxId}
+use Rattle.txn_programs.specs.declared.code.Op.{Op}
 use Rattle.attempt_machine.specs.Place.{program_under}
 
 pub same_program : (l : Listing) (id : TxId) (always : List (String Global × Cond)) (tx : Tx) → map (λ a. condition_of a.1) always ≡ conditions l → transaction_of tx ≡ transaction_at l id → program_under always tx ≡ program_at l id

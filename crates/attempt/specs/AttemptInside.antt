@@ -1,11 +1,11 @@
 -- What the fields of an attempt mean, and what they keep.
 use Rattle.std.specs.Prelude.{◌≡◌, ℕ, ◌+◌, ◌<◌, ◌≤◌, [], length, None}
-use Rattle.programs.specs.Code.{program_code}
-use Rattle.programs.specs.Cost.{cost}
-use Rattle.programs.specs.Listing.{program_at}
-use Rattle.programs.specs.Scope.{ProgramKnown}
-use Rattle.programs.specs.Tree.{Program}
-use Rattle.programs.specs.declared.limits.TheConstants.{MAX_COST}
+use Rattle.txn_programs.specs.Code.{program_code}
+use Rattle.txn_programs.specs.Cost.{cost}
+use Rattle.txn_programs.specs.Listing.{program_at}
+use Rattle.txn_programs.specs.Scope.{ProgramKnown}
+use Rattle.txn_programs.specs.Tree.{Program}
+use Rattle.txn_programs.specs.declared.limits.TheConstants.{MAX_COST}
 use Rattle.attempt.specs.declared.attempt.Attempt.TheInside.{Inside}
 use Rattle.attempt_machine.specs.declared.machine.Machine.{Machine}
 use Rattle.attempt.specs.declared.next.Stand.{Stand}
@@ -14,7 +14,7 @@ use Rattle.attempt_machine.specs.declared.running.Count.{Count}
 use Rattle.attempt_machine.specs.Asking.{Known, ask, known_at, Needs, Ends}
 use Rattle.attempt_machine.specs.Correct.{IsReached}
 use Rattle.attempt_machine.specs.Machine.{entered_at}
-use Rattle.own_writes.specs.Order.{AllKnown, Apart, Ascending}
+use Rattle.attempt_writes.specs.Order.{AllKnown, Apart, Ascending}
 use Rattle.attempt_machine.specs.Place.{place_of}
 use Rattle.attempt.specs.View.{AttemptView, OnlyOfReturned}
 

@@ -1,7 +1,7 @@
 -- How a program is stored in a model's value: as trees of numbers that give it back.
 use Rattle.std.specs.Prelude.{ℕ, List, refl}
 use Rattle.std.specs.Coded.{Coded, code_by, coded×, coded_ℕ, coded_list}
-use Rattle.programs.specs.Tree.{Expression, Condition, Statement, Program}
+use Rattle.txn_programs.specs.Tree.{Expression, Condition, Statement, Program}
 use Rattle.txn.specs.Codes.{coded_expression, coded_condition, coded_statement}
 
 abbrev pub coded_program : Coded Program

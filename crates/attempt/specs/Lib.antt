@@ -1,4 +1,4 @@
-pub use Rattle.own_writes.specs.Order
+pub use Rattle.attempt_writes.specs.Order
 pub use Rattle.attempt_machine.specs.Asking
 pub use Rattle.attempt_machine.specs.Correct
 pub use Rattle.attempt_machine.specs.Frame

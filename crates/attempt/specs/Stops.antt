@@ -1,6 +1,6 @@
 -- How an attempt stands when its machine stops.
 use Rattle.std.specs.Prelude.{ℕ}
-use Rattle.programs.specs.Tree.{Program}
+use Rattle.txn_programs.specs.Tree.{Program}
 use Rattle.attempt.specs.declared.next.Stand.{Stand}
 use Rattle.attempt.specs.declared.next.Stand.TheVariants as stand
 use Rattle.attempt_machine.specs.declared.evaluate.Told.TheVariants as told

@@ -1,12 +1,12 @@
 -- What a contract sees of an attempt, and what an answer says.
 use Rattle.std.specs.Prelude.{◌≡◌, ℕ, ℤ, [], ◌∷◌, ◌++◌, length}
-use Rattle.programs.specs.Tree.{Program}
-use Rattle.programs.specs.Listing.{Listing, program_at}
-use Rattle.programs.specs.Meaning.{State, outcome, after}
-use Rattle.programs.specs.declared.ast.VarId.{VarId}
-use Rattle.programs.specs.declared.ast.TxId.{TxId}
-use Rattle.programs.specs.declared.ast.Outcome.{Outcome}
-use Rattle.programs.specs.declared.ast.Outcome.TheVariants.{Returned, Thrown, Retries}
+use Rattle.txn_programs.specs.Tree.{Program}
+use Rattle.txn_programs.specs.Listing.{Listing, program_at}
+use Rattle.txn_programs.specs.Meaning.{State, outcome, after}
+use Rattle.txn_programs.specs.declared.ast.VarId.{VarId}
+use Rattle.txn_programs.specs.declared.ast.TxId.{TxId}
+use Rattle.txn_programs.specs.declared.ast.Outcome.{Outcome}
+use Rattle.txn_programs.specs.declared.ast.Outcome.TheVariants.{Returned, Thrown, Retries}
 use Rattle.attempt.specs.declared.next.Stand.{Stand}
 use Rattle.attempt.specs.declared.next.Stand.TheVariants as stand
 use Rattle.attempt.specs.declared.next.Next.{Next}

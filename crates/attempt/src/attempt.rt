@@ -1,12 +1,12 @@
 //! An attempt: a transaction, what it was told, and where it stands.
 
 ghost use Rattle.std.specs.Prelude.{◌≡◌, ◌≢◌, ◌<◌, ◌≤◌, ◌+◌, ◌++◌, ◌∷◌, [], None, length, IsOk, OnOk, OnErr};
-ghost use Rattle.programs.specs.Cost.{cost};
-ghost use Rattle.programs.specs.Meaning.{State};
-ghost use Rattle.programs.specs.Scope.{ProgramKnown};
+ghost use Rattle.txn_programs.specs.Cost.{cost};
+ghost use Rattle.txn_programs.specs.Meaning.{State};
+ghost use Rattle.txn_programs.specs.Scope.{ProgramKnown};
 ghost use Rattle.attempt_machine.specs.Asking.{known_at, ask, Ends};
 ghost use Rattle.attempt_machine.specs.Frame.{Agrees};
-ghost use Rattle.own_writes.specs.Order.{AllKnown, Apart, Ascending};
+ghost use Rattle.attempt_writes.specs.Order.{AllKnown, Apart, Ascending};
 ghost use Rattle.attempt_machine.specs.Room.{NeedsNoMemory};
 ghost use Rattle.attempt.specs.View.{fresh_attempt, begun, supplied, idle, next_of, Answers, HoldsAt, OnlyOfReturned};
 
@@ -14,7 +14,7 @@ use crate::log::Log;
 use crate::next::{Next, Stand, answer};
 use crate::running::go;
 use attempt_machine::{Count, Machine};
-use own_writes::Board;
+use attempt_writes::Board;
 use std::alloc::Global;
 use std::marker::Model;
 use txn::{Catalogue, Memory, Outcome, TxId, VarId};

@@ -2,7 +2,7 @@
 
 ghost use Rattle.std.specs.Prelude.{◌≡◌};
 
-use own_writes::Layer;
+use attempt_writes::Layer;
 use std::marker::Model;
 use txn::VarId;
 

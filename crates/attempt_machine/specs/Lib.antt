@@ -1,4 +1,4 @@
-pub use Rattle.own_writes.specs.Order
+pub use Rattle.attempt_writes.specs.Order
 pub mod Asking
 pub mod Frame
 pub mod Machine

@@ -1,9 +1,9 @@
 //! Arithmetic: the rules of the plain meaning.
 
 ghost use Rattle.std.specs.Prelude.{◌≡◌};
-ghost use Rattle.programs.specs.Arithmetic.{sum_of, difference_of, product_of, quotient_of, remainder_of};
+ghost use Rattle.txn_programs.specs.Arithmetic.{sum_of, difference_of, product_of, quotient_of, remainder_of};
 
-use programs::Fault;
+use txn_programs::Fault;
 
 pub fn sum(x: i64, y: i64) -> Result<i64, Fault>
     ensures { result ≡ sum_of x y }

@@ -1,6 +1,6 @@
 //! What stops an evaluation over a log.
 
-use programs::{Fault, Outcome, VarId};
+use txn_programs::{Fault, Outcome, VarId};
 
 /// Why an evaluation over a log stops.
 #[derive(Clone, Copy)]

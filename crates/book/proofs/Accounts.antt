@@ -5,18 +5,18 @@ use Rattle.std.proofs.lemmas.Bool.{cases_eq, cases_lt, cond_both}
 use Rattle.std.proofs.lemmas.List.{length-map, map-append}
 use Rattle.std.proofs.lemmas.List.Elements.{All-nil, All-cons, All-head, All-tail}
 use Rattle.std.proofs.lemmas.Option.{same_Some, slice_get_within, slice_get-get_or}
-use Rattle.programs.specs.declared.ast.TxId.{TxId}
-use Rattle.programs.specs.declared.ast.TaskId.{TaskId}
-use Rattle.programs.specs.declared.report.Entry.{Entry}
-use Rattle.programs.specs.declared.ast.Outcome.TheVariants.{Retries}
-use Rattle.programs.specs.declared.limits.TheConstants.{MAX_TASKS}
-use Rattle.programs.specs.Meaning.{outcome}
-use Rattle.programs.specs.Listing.{Listing, tasks, task_tx, program_at}
-use Rattle.programs.specs.Replay.{Snapshot, Replays, applied, opening, entered, Stands, Once}
-use Rattle.programs.specs.Standing.{Upholds}
-use Rattle.programs.proofs.Faults.{outcome_known}
-use Rattle.programs.specs.Told.{Told, base_of, now_of}
-use Rattle.programs.specs.LawfulReport.{LawfulReport, FitsCatalogue, OutcomeKnown, BaseReached, on_lines, Ascends, HasOwn}
+use Rattle.txn_programs.specs.declared.ast.TxId.{TxId}
+use Rattle.txn_programs.specs.declared.ast.TaskId.{TaskId}
+use Rattle.txn_programs.specs.declared.report.Entry.{Entry}
+use Rattle.txn_programs.specs.declared.ast.Outcome.TheVariants.{Retries}
+use Rattle.txn_programs.specs.declared.limits.TheConstants.{MAX_TASKS}
+use Rattle.txn_programs.specs.Meaning.{outcome}
+use Rattle.txn_programs.specs.Listing.{Listing, tasks, task_tx, program_at}
+use Rattle.txn_programs.specs.Replay.{Snapshot, Replays, applied, opening, entered, Stands, Once}
+use Rattle.txn_programs.specs.Standing.{Upholds}
+use Rattle.txn_programs.proofs.Faults.{outcome_known}
+use Rattle.txn_programs.specs.Told.{Told, base_of, now_of}
+use Rattle.txn_programs.specs.LawfulReport.{LawfulReport, FitsCatalogue, OutcomeKnown, BaseReached, on_lines, Ascends, HasOwn}
 use Rattle.attempt.specs.Asking.{Known}
 use Rattle.book.specs.declared.task.Task.{Task}
 use Rattle.book.specs.declared.task.Task.TheVariants.{Ready, Running, Parked, Done, GivenUp}

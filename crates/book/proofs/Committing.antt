@@ -4,19 +4,19 @@ use Rattle.std.specs.List.{slice_get, All}
 use Rattle.std.proofs.lemmas.List.{length-set}
 use Rattle.std.proofs.lemmas.List.Elements.{All-push}
 use Rattle.std.proofs.lemmas.Option.{slice_get_within, slice_get-get_or}
-use Rattle.programs.specs.declared.ast.TxId.{TxId}
-use Rattle.programs.specs.declared.ast.TaskId.{TaskId}
-use Rattle.programs.specs.declared.report.Entry.{Entry}
-use Rattle.programs.specs.declared.ast.Outcome.{Outcome}
-use Rattle.programs.specs.declared.ast.Outcome.TheVariants.{Retries}
-use Rattle.programs.specs.Meaning.{State, outcome, after}
-use Rattle.programs.specs.Scope.{ProgramKnown}
-use Rattle.programs.specs.Standing.{Upholds}
-use Rattle.programs.proofs.Standing.{after_upholds}
-use Rattle.programs.specs.Listing.{Listing, tasks, task_tx, task_program, program_at}
-use Rattle.programs.specs.Replay.{Snapshot, Applies, versions_after, applied, opening}
-use Rattle.shared_words.proofs.Words.{last_pushed}
-use Rattle.shared_words.specs.Stores.{with_changes}
+use Rattle.txn_programs.specs.declared.ast.TxId.{TxId}
+use Rattle.txn_programs.specs.declared.ast.TaskId.{TaskId}
+use Rattle.txn_programs.specs.declared.report.Entry.{Entry}
+use Rattle.txn_programs.specs.declared.ast.Outcome.{Outcome}
+use Rattle.txn_programs.specs.declared.ast.Outcome.TheVariants.{Retries}
+use Rattle.txn_programs.specs.Meaning.{State, outcome, after}
+use Rattle.txn_programs.specs.Scope.{ProgramKnown}
+use Rattle.txn_programs.specs.Standing.{Upholds}
+use Rattle.txn_programs.proofs.Standing.{after_upholds}
+use Rattle.txn_programs.specs.Listing.{Listing, tasks, task_tx, task_program, program_at}
+use Rattle.txn_programs.specs.Replay.{Snapshot, Applies, versions_after, applied, opening}
+use Rattle.txn_words.proofs.Words.{last_pushed}
+use Rattle.txn_words.specs.Stores.{with_changes}
 use Rattle.attempt.specs.Asking.{Known}
 use Rattle.attempt.specs.Frame.{FrameTheorem}
 use Rattle.book.specs.declared.task.Task.{Task}

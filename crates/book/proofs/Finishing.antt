@@ -1,15 +1,15 @@
 -- What the end of an attempt says of the present state.
 use Rattle.std.proofs.Common.{◌≡◌, ◌≢◌, ℤ, Result, Ok, Err, [], length, refl, sym, ◌∙◌, ap, subst}
-use Rattle.programs.specs.declared.ast.TaskId.{TaskId}
-use Rattle.programs.specs.declared.ast.VarId.{VarId}
-use Rattle.programs.specs.declared.ast.Fault.{Fault}
-use Rattle.programs.specs.declared.ast.Outcome.{Outcome}
-use Rattle.programs.specs.declared.ast.Outcome.TheVariants.{Returned, Thrown, Retries}
-use Rattle.programs.specs.Meaning.{State, outcome, after}
-use Rattle.programs.specs.Tree.{Program}
-use Rattle.programs.specs.Listing.{task_program}
-use Rattle.shared_words.specs.Stores.{with_changes}
-use Rattle.programs.specs.Meaning.{Ending, Done, Threw, Retried}
+use Rattle.txn_programs.specs.declared.ast.TaskId.{TaskId}
+use Rattle.txn_programs.specs.declared.ast.VarId.{VarId}
+use Rattle.txn_programs.specs.declared.ast.Fault.{Fault}
+use Rattle.txn_programs.specs.declared.ast.Outcome.{Outcome}
+use Rattle.txn_programs.specs.declared.ast.Outcome.TheVariants.{Returned, Thrown, Retries}
+use Rattle.txn_programs.specs.Meaning.{State, outcome, after}
+use Rattle.txn_programs.specs.Tree.{Program}
+use Rattle.txn_programs.specs.Listing.{task_program}
+use Rattle.txn_words.specs.Stores.{with_changes}
+use Rattle.txn_programs.specs.Meaning.{Ending, Done, Threw, Retried}
 use Rattle.attempt_machine.specs.declared.evaluate.Halt.{Halt}
 use Rattle.attempt_machine.specs.declared.evaluate.Halt.TheVariants.{Need, Fails}
 use Rattle.attempt.specs.Asking.{Known, ask, Ends, answer_by, answer_of, see_run, see_final}

@@ -3,14 +3,14 @@ use Rattle.std.proofs.Common.{◌≡◌, Vec, Global, ◌+◌, ◌-◌, ◌++◌
 use Rattle.std.specs.List.{slice_get, All}
 use Rattle.std.proofs.lemmas.List.{length-set, length-map, length-replicate}
 use Rattle.std.proofs.lemmas.List.Elements.{All-nil, All-push, All-replicate}
-use Rattle.programs.specs.declared.ast.TaskId.{TaskId}
-use Rattle.programs.specs.declared.report.Entry.{Entry}
-use Rattle.programs.specs.declared.limits.TheConstants.{MAX_TASKS, MAX_VARIABLES}
-use Rattle.programs.specs.Meaning.{State}
-use Rattle.programs.specs.Scope.{ProgramKnown}
-use Rattle.programs.specs.Listing.{Listing, tasks, task_program, program_at}
-use Rattle.programs.specs.Standing.{Upholds}
-use Rattle.programs.specs.Replay.{Snapshot, opening}
+use Rattle.txn_programs.specs.declared.ast.TaskId.{TaskId}
+use Rattle.txn_programs.specs.declared.report.Entry.{Entry}
+use Rattle.txn_programs.specs.declared.limits.TheConstants.{MAX_TASKS, MAX_VARIABLES}
+use Rattle.txn_programs.specs.Meaning.{State}
+use Rattle.txn_programs.specs.Scope.{ProgramKnown}
+use Rattle.txn_programs.specs.Listing.{Listing, tasks, task_program, program_at}
+use Rattle.txn_programs.specs.Standing.{Upholds}
+use Rattle.txn_programs.specs.Replay.{Snapshot, opening}
 use Rattle.book.specs.declared.task.Task.{Task}
 use Rattle.book.specs.declared.task.Task.TheVariants.{Ready, Running, Parked}
 use Rattle.book.specs.declared.book.Book.TheInside.{Inside}
@@ -22,7 +22,7 @@ use Rattle.book.specs.LawfulBook.{LawfulBook, BookFits, Waits, open_one, open_co
 use Rattle.book.specs.BookInside.{book_of, snapshot_of, IsKept}
 use Rattle.attempt.specs.Asking.{Known}
 use Rattle.book.specs.declared.stored.Stored.{Stored}
-use Rattle.programs.specs.declared.ast.TxId.{TxId}
+use Rattle.txn_programs.specs.declared.ast.TxId.{TxId}
 use Rattle.txn.specs.Grown.{grown}
 use Rattle.book.specs.Submitted.{submitted}
 use Rattle.txn.proofs.Growing.{grown_none, grown_more}

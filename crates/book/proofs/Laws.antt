@@ -5,12 +5,12 @@ use Rattle.std.proofs.lemmas.List.{map-append, append-nil, length-map}
 use Rattle.std.proofs.lemmas.List.Elements.{All-nil, All-cons}
 use Rattle.std.proofs.lemmas.Bool.{cases_eq}
 use Rattle.std.proofs.lemmas.Option.{same_Some}
-use Rattle.programs.specs.declared.ast.TaskId.{TaskId}
-use Rattle.programs.specs.declared.report.Entry.{Entry}
-use Rattle.programs.specs.Meaning.{State}
-use Rattle.programs.specs.Listing.{Listing, tasks}
-use Rattle.programs.specs.Standing.{Upholds}
-use Rattle.programs.specs.Replay.{Snapshot, Replays, applied, opening, entered}
+use Rattle.txn_programs.specs.declared.ast.TaskId.{TaskId}
+use Rattle.txn_programs.specs.declared.report.Entry.{Entry}
+use Rattle.txn_programs.specs.Meaning.{State}
+use Rattle.txn_programs.specs.Listing.{Listing, tasks}
+use Rattle.txn_programs.specs.Standing.{Upholds}
+use Rattle.txn_programs.specs.Replay.{Snapshot, Replays, applied, opening, entered}
 use Rattle.attempt.specs.Asking.{Known}
 use Rattle.cells.specs.Cells.{CellsId}
 use Rattle.book.specs.declared.task.Task.{Task}

@@ -4,9 +4,9 @@ use Rattle.std.specs.Ordering.{int_eq}
 use Rattle.std.proofs.lemmas.Bool.{cond-true, cond-false, false_from_ne_true}
 use Rattle.std.proofs.lemmas.Bool.Decides.{Decides-int_eq}
 use Rattle.std.proofs.lemmas.List.{length-set, drop_more, drop_all}
-use Rattle.shared_words.specs.Words.{value_of}
-use Rattle.shared_words.specs.Stores.{Change, id_of, new_of, no_change, AreChanges, with_changes}
-use Rattle.programs.specs.Replay.{versions_after}
+use Rattle.txn_words.specs.Words.{value_of}
+use Rattle.txn_words.specs.Stores.{Change, id_of, new_of, no_change, AreChanges, with_changes}
+use Rattle.txn_programs.specs.Replay.{versions_after}
 
 versions_same : (n : ℕ) (m : List ℤ) (was : List ℕ) → length was ≡ length m → versions_after n m m was ≡ was
 versions_same n [] [] h = refl

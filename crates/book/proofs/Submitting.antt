@@ -3,14 +3,14 @@ use Rattle.std.proofs.Common.{◌≡◌, inl, inr, ℕ, ◌+◌, ◌-◌, ◌<�
 use Rattle.std.specs.List.{slice_get}
 use Rattle.std.proofs.lemmas.List.{get_or_append_left, get_or-append-add}
 use Rattle.std.proofs.lemmas.Option.{slice_get_within, slice_get_read}
-use Rattle.programs.specs.declared.ast.TaskId.{TaskId}
-use Rattle.programs.specs.declared.ast.TxId.{TxId}
-use Rattle.programs.specs.declared.report.Entry.{Entry}
-use Rattle.programs.specs.declared.limits.TheConstants.{MAX_TASKS}
-use Rattle.programs.specs.Meaning.{State, outcome}
-use Rattle.programs.specs.Scope.{ProgramKnown}
-use Rattle.programs.specs.Listing.{Listing, tasks, task_tx, task_program, program_at}
-use Rattle.programs.specs.Replay.{Snapshot, Replays, applied, opening}
+use Rattle.txn_programs.specs.declared.ast.TaskId.{TaskId}
+use Rattle.txn_programs.specs.declared.ast.TxId.{TxId}
+use Rattle.txn_programs.specs.declared.report.Entry.{Entry}
+use Rattle.txn_programs.specs.declared.limits.TheConstants.{MAX_TASKS}
+use Rattle.txn_programs.specs.Meaning.{State, outcome}
+use Rattle.txn_programs.specs.Scope.{ProgramKnown}
+use Rattle.txn_programs.specs.Listing.{Listing, tasks, task_tx, task_program, program_at}
+use Rattle.txn_programs.specs.Replay.{Snapshot, Replays, applied, opening}
 use Rattle.attempt.specs.Asking.{Known, ask}
 use Rattle.book.specs.declared.task.Task.{Task}
 use Rattle.book.specs.declared.task.Task.TheVariants.{Ready, Parked, Done}
@@ -20,7 +20,7 @@ use Rattle.txn.specs.Grown.{grown}
 use Rattle.txn.proofs.Growing.{tasks_grown}
 use Rattle.book.specs.Submitted.{submitted}
 use Rattle.std.proofs.lemmas.Bool.{cases_eq}
-use Rattle.programs.specs.Tree.{Program}
+use Rattle.txn_programs.specs.Tree.{Program}
 use Rattle.book.proofs.Lists.{get_append_left, get_append_right, get_append_last}
 
 -- an old task keeps its transaction, and so its program

@@ -6,9 +6,9 @@ use Rattle.std.specs.Ordering.{int_eq}
 use Rattle.std.proofs.lemmas.Bool.{cases_eq, cases_Bool, cond_both, cond-true, cond-false, eq-eqb, ne_eqb, false_from_ne_true}
 use Rattle.std.proofs.lemmas.Bool.Decides.{Decides-int_eq}
 use Rattle.std.proofs.lemmas.List.{length-set, get_or-set_same, get_or-set_other, drop_more, drop_all}
-use Rattle.programs.specs.Meaning.{State}
-use Rattle.shared_words.specs.Words.{value_of}
-use Rattle.shared_words.specs.Stores.{Change, id_of, no_change, AreChanges, with_changes}
+use Rattle.txn_programs.specs.Meaning.{State}
+use Rattle.txn_words.specs.Words.{value_of}
+use Rattle.txn_words.specs.Stores.{Change, id_of, no_change, AreChanges, with_changes}
 use Rattle.attempt.specs.Asking.{Known}
 use Rattle.book.specs.declared.task.Task.{Task}
 use Rattle.book.specs.declared.task.Task.TheVariants.{Ready, Running, Parked, Done, GivenUp}

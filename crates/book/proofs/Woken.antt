@@ -6,13 +6,13 @@ use Rattle.std.proofs.lemmas.Bool.{or_parts, cond_both}
 use Rattle.std.proofs.lemmas.Bool.Decides.{Decides-int_eq}
 use Rattle.std.proofs.lemmas.List.{length-map}
 use Rattle.std.proofs.lemmas.Option.{slice_get_within}
-use Rattle.programs.specs.declared.ast.VarId.{VarId}
-use Rattle.programs.specs.declared.report.Entry.{Entry}
-use Rattle.programs.specs.declared.ast.Outcome.TheVariants.{Retries}
-use Rattle.programs.specs.Meaning.{State, value_at, outcome, after}
-use Rattle.programs.specs.Scope.{ProgramKnown}
-use Rattle.programs.specs.Tree.{Program}
-use Rattle.programs.specs.Listing.{Listing, task_program}
+use Rattle.txn_programs.specs.declared.ast.VarId.{VarId}
+use Rattle.txn_programs.specs.declared.report.Entry.{Entry}
+use Rattle.txn_programs.specs.declared.ast.Outcome.TheVariants.{Retries}
+use Rattle.txn_programs.specs.Meaning.{State, value_at, outcome, after}
+use Rattle.txn_programs.specs.Scope.{ProgramKnown}
+use Rattle.txn_programs.specs.Tree.{Program}
+use Rattle.txn_programs.specs.Listing.{Listing, task_program}
 use Rattle.attempt.specs.Asking.{Known, Answer, Ends, ask}
 use Rattle.attempt.specs.Frame.{Agrees, AnswersBy, FrameTheorem}
 use Rattle.book.specs.declared.task.Task.{Task}

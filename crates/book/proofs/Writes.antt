@@ -4,9 +4,9 @@ use Rattle.std.specs.Ordering.{int_eq}
 use Rattle.std.proofs.lemmas.Bool.{cond-true, cond-false, false_from_ne_true, true≢false}
 use Rattle.std.proofs.lemmas.Bool.Decides.{Decides-int_eq}
 use Rattle.std.proofs.lemmas.List.{append_assoc, append-nil, length-append, drop_more, drop_all, set_comm, set-get_or, get_or-set_other}
-use Rattle.programs.specs.declared.ast.VarId.{VarId}
-use Rattle.shared_words.specs.Words.{value_of}
-use Rattle.shared_words.specs.Stores.{Change, id_of, new_of, no_change, AreChanges, with_changes}
+use Rattle.txn_programs.specs.declared.ast.VarId.{VarId}
+use Rattle.txn_words.specs.Words.{value_of}
+use Rattle.txn_words.specs.Stores.{Change, id_of, new_of, no_change, AreChanges, with_changes}
 use Rattle.attempt.specs.Asking.{Known}
 use Rattle.attempt.specs.Frame.{store}
 use Rattle.attempt.specs.Order.{AllKnown, AllAfter, Ascending}

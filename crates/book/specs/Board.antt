@@ -1,9 +1,9 @@
 -- How the tasks stand, which of them wait for a variable, and what a change wakes.
 use Rattle.std.specs.Prelude.{◌≡◌, ◌≢◌, ℕ, ℤ, ◌<◌, ◌-◌, Bool, true, false, nat_eq, if◌then◌else◌, List, [], ◌∷◌, ◌++◌, Option, Some, None, slice_get, slice_set}
 use Rattle.std.specs.List.{list_any}
-use Rattle.programs.specs.declared.ast.VarId.{VarId}
-use Rattle.programs.specs.declared.ast.TaskId.{TaskId}
-use Rattle.shared_words.specs.Stores.{Change}
+use Rattle.txn_programs.specs.declared.ast.VarId.{VarId}
+use Rattle.txn_programs.specs.declared.ast.TaskId.{TaskId}
+use Rattle.txn_words.specs.Stores.{Change}
 use Rattle.attempt.specs.Asking.{Known}
 use Rattle.book.specs.declared.task.Task.{Task}
 use Rattle.book.specs.declared.task.Task.TheVariants.{Ready, Running, Parked, Done, GivenUp}

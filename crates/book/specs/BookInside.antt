@@ -1,8 +1,8 @@
 -- What the fields of a book mean, and what they keep.
 use Rattle.std.specs.Prelude.{◌≡◌, ◌<◌, ◌≤◌, ◌+◌, length, All, vec_capacity}
-use Rattle.programs.specs.declared.ast.TxId.{TxId}
-use Rattle.programs.specs.declared.limits.TheConstants.{MAX_TASKS}
-use Rattle.programs.specs.Replay.{Snapshot}
+use Rattle.txn_programs.specs.declared.ast.TxId.{TxId}
+use Rattle.txn_programs.specs.declared.limits.TheConstants.{MAX_TASKS}
+use Rattle.txn_programs.specs.Replay.{Snapshot}
 use Rattle.book.specs.declared.stored.Stored.{Stored}
 use Rattle.book.specs.declared.book.Book.TheInside.{Inside}
 use Rattle.book.specs.View.{BookView}

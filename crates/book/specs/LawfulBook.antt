@@ -1,16 +1,16 @@
 -- What a book keeps at all times: its journal explains every value, each task is in it at most once, parked programs
 -- retry, what was published last is the present, and no state breaks a standing condition.
 use Rattle.std.specs.Prelude.{◌≡◌, ℕ, ◌+◌, ◌<◌, ◌≤◌, List, [], ◌∷◌, ◌++◌, length, Some, slice_get, All}
-use Rattle.programs.specs.declared.ast.TaskId.{TaskId}
-use Rattle.programs.specs.declared.report.Entry.{Entry}
-use Rattle.programs.specs.declared.ast.Outcome.TheVariants.{Retries}
-use Rattle.programs.specs.declared.limits.TheConstants.{MAX_TASKS, MAX_VARIABLES}
-use Rattle.programs.specs.Meaning.{State, outcome}
-use Rattle.programs.specs.Scope.{ProgramKnown}
-use Rattle.programs.specs.Standing.{Upholds}
-use Rattle.programs.specs.Listing.{Listing, tasks, task_program}
-use Rattle.programs.specs.Replay.{Replays, opening, entered}
-use Rattle.shared_words.specs.Words.{last_state}
+use Rattle.txn_programs.specs.declared.ast.TaskId.{TaskId}
+use Rattle.txn_programs.specs.declared.report.Entry.{Entry}
+use Rattle.txn_programs.specs.declared.ast.Outcome.TheVariants.{Retries}
+use Rattle.txn_programs.specs.declared.limits.TheConstants.{MAX_TASKS, MAX_VARIABLES}
+use Rattle.txn_programs.specs.Meaning.{State, outcome}
+use Rattle.txn_programs.specs.Scope.{ProgramKnown}
+use Rattle.txn_programs.specs.Standing.{Upholds}
+use Rattle.txn_programs.specs.Listing.{Listing, tasks, task_program}
+use Rattle.txn_programs.specs.Replay.{Replays, opening, entered}
+use Rattle.txn_words.specs.Words.{last_state}
 use Rattle.attempt.specs.Asking.{Known, ask, Ends}
 use Rattle.attempt.specs.Frame.{Agrees}
 use Rattle.attempt.specs.Order.{AllKnown}

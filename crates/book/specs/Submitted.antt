@@ -1,7 +1,7 @@
 -- What a submitted task does to a book.
 use Rattle.std.specs.Prelude.{◌≡◌, ◌-◌, length, Option, Some, None, [], ◌∷◌, ◌++◌}
-use Rattle.programs.specs.declared.ast.TxId.{TxId}
-use Rattle.programs.specs.declared.ast.TaskId.{TaskId}
+use Rattle.txn_programs.specs.declared.ast.TxId.{TxId}
+use Rattle.txn_programs.specs.declared.ast.TaskId.{TaskId}
 use Rattle.txn.specs.Grown.{grown}
 use Rattle.book.specs.declared.task.Task.TheVariants.{Ready}
 use Rattle.book.specs.View.{BookView}

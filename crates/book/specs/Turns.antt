@@ -1,12 +1,12 @@
 -- What the calls of a book answer, and the book that each leaves.
 use Rattle.std.specs.Prelude.{◌≡◌, ◌≢◌, ℕ, ◌+◌, ◌<◌, Bool, true, false, ◌&&◌, nat_lt, nat_le, if◌then◌else◌, List, [], ◌∷◌, length, Option, Some, None, slice_get, All, map}
-use Rattle.programs.specs.declared.ast.TaskId.{TaskId}
-use Rattle.programs.specs.declared.ast.TxId.{TxId}
-use Rattle.programs.specs.declared.ast.Outcome.TheVariants.{Retries}
-use Rattle.programs.specs.declared.ast.Outcome.{Outcome}
-use Rattle.programs.specs.Meaning.{State, outcome}
-use Rattle.programs.specs.Listing.{Listing, task_tx, task_program, program_at}
-use Rattle.programs.specs.Told.{Told, base_of, now_of}
+use Rattle.txn_programs.specs.declared.ast.TaskId.{TaskId}
+use Rattle.txn_programs.specs.declared.ast.TxId.{TxId}
+use Rattle.txn_programs.specs.declared.ast.Outcome.TheVariants.{Retries}
+use Rattle.txn_programs.specs.declared.ast.Outcome.{Outcome}
+use Rattle.txn_programs.specs.Meaning.{State, outcome}
+use Rattle.txn_programs.specs.Listing.{Listing, task_tx, task_program, program_at}
+use Rattle.txn_programs.specs.Told.{Told, base_of, now_of}
 use Rattle.attempt.specs.Asking.{Known}
 use Rattle.attempt.specs.Frame.{Agrees}
 use Rattle.attempt.specs.View.{AttemptView, begun, idle}

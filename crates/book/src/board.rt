@@ -1,8 +1,8 @@
 //! How each task stands, with the sets by which the lowest ready task and those to wake are found.
 
 ghost use Rattle.std.specs.Prelude.{◌≡◌, ◌≢◌, ◌<◌, ◌≤◌, ℕ, length, map, replicate, IfOk, MatchBool, Some, slice_get, ◌+◌, ◌++◌, ◌∷◌, [], vec_len, vec_capacity};
-ghost use Rattle.programs.specs.declared.limits.TheConstants.{MAX_TASKS};
-ghost use Rattle.shared_words.specs.Stores.{id_of};
+ghost use Rattle.txn_programs.specs.declared.limits.TheConstants.{MAX_TASKS};
+ghost use Rattle.txn_words.specs.Stores.{id_of};
 ghost use Rattle.attempt.specs.Order.{AllKnown};
 ghost use Rattle.book.specs.Turns.{readied_one};
 ghost use Rattle.book.specs.Board.{IsParked, IsTaken, placed, with_tasks, with_one_more, woken_for, woken_by};
@@ -10,9 +10,9 @@ ghost use Rattle.book.specs.Board.{IsParked, IsTaken, placed, with_tasks, with_o
 use crate::sleepers::{enter, leave, none_asleep};
 use crate::task::{Task, stand};
 use attempt::Log;
+use book_task_set::TaskSet;
 use std::alloc::{AllocError, Global};
 use std::marker::Model;
-use task_set::TaskSet;
 use txn::{TaskId, VarId};
 
 /// How each task stands. A clause sees the tasks, and for how many variables there are sets.

@@ -1,8 +1,8 @@
 //! The book: how each task stands, the journal, and the present values.
 
 ghost use Rattle.std.specs.Prelude.{◌≡◌, ◌≢◌, ◌<◌, ◌≤◌, ◌+◌, ◌++◌, ◌∷◌, [], ℕ, length, map, IfOk, IsTrue, ◌↔◌, MatchBool, vec_len, vec_capacity, All, Some, slice_get};
-ghost use Rattle.programs.specs.declared.limits.TheConstants.{MAX_TASKS};
-ghost use Rattle.shared_words.specs.Stores.{with_changes};
+ghost use Rattle.txn_programs.specs.declared.limits.TheConstants.{MAX_TASKS};
+ghost use Rattle.txn_words.specs.Stores.{with_changes};
 ghost use Rattle.attempt.specs.Asking.{Known};
 ghost use Rattle.attempt.specs.Frame.{Agrees};
 ghost use Rattle.attempt.specs.Order.{Ascending, AllKnown};
@@ -62,14 +62,14 @@ impl<'a> Model for Book<'a> {
 }
 
 impl<'a> Book<'a> {
-    ghost use Rattle.programs.specs.Meaning.{outcome, after};
-    ghost use Rattle.programs.specs.Listing.{tasks, task_tx, task_program};
+    ghost use Rattle.txn_programs.specs.Meaning.{outcome, after};
+    ghost use Rattle.txn_programs.specs.Listing.{tasks, task_tx, task_program};
     ghost use Rattle.txn.specs.Grown.{SameButRuns};
     ghost use Rattle.book.specs.Submitted.{Submits};
     ghost use Rattle.book.specs.Counting.{AreCounts, IsPresent};
-    ghost use Rattle.programs.specs.declared.ast.Outcome as Outcome;
+    ghost use Rattle.txn_programs.specs.declared.ast.Outcome as Outcome;
     ghost use Rattle.book.specs.declared.task.Task.TheVariants as Task;
-    ghost use Rattle.programs.specs.Told.{told};
+    ghost use Rattle.txn_programs.specs.Told.{told};
     ghost use Rattle.book.specs.View.{opened, IsRunning, stands, committed, checkpointed};
     ghost use Rattle.book.specs.Turns.{Taken, IsEndOf, Finished, IsLeft, Served, Turn, Drains, kept_short, readied, IsIdle, without_journal, ReportIs};
     ghost use Rattle.book.specs.LawfulBook.{LawfulBook, BookFits, KeepsConditions, Waits};

@@ -1,7 +1,7 @@
 //! How many tasks stand how.
 
 ghost use Rattle.std.specs.Prelude.{◌≡◌, ◌+◌, ◌<◌, ◌≤◌, length, cond};
-ghost use Rattle.programs.specs.declared.limits.TheConstants.{MAX_TASKS};
+ghost use Rattle.txn_programs.specs.declared.limits.TheConstants.{MAX_TASKS};
 ghost use Rattle.book.specs.Counting.{AreCounts, WithOneMore};
 
 use crate::task::Task;

@@ -1,8 +1,8 @@
 //! The tasks that a report lists.
 
 ghost use Rattle.std.specs.Prelude.{◌≡◌, ◌<◌, ◌≤◌, length, IfOk, All};
-ghost use Rattle.programs.specs.Listing.{tasks as listed_tasks};
-ghost use Rattle.programs.specs.declared.limits.TheConstants.{MAX_TASKS};
+ghost use Rattle.txn_programs.specs.Listing.{tasks as listed_tasks};
+ghost use Rattle.txn_programs.specs.declared.limits.TheConstants.{MAX_TASKS};
 ghost use Rattle.txn.specs.Grown.{grown};
 ghost use Rattle.book.specs.Turns.{listed, is_parked, is_given_up};
 

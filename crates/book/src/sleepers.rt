@@ -2,11 +2,11 @@
 
 ghost use Rattle.std.specs.Prelude.{◌≡◌, ◌<◌, ◌≤◌, ℕ, [], true, false, length, replicate, IfOk, slice_index_or};
 ghost use Rattle.attempt.specs.Order.{AllKnown};
-ghost use Rattle.task_set.specs.declared.set.TheConstants.{MAX_ROOM};
+ghost use Rattle.book_task_set.specs.declared.set.TheConstants.{MAX_ROOM};
 ghost use Rattle.book.specs.Board.{flagged};
 
+use book_task_set::TaskSet;
 use std::alloc::{AllocError, Global};
-use task_set::TaskSet;
 use txn::VarId;
 
 /// An empty set for each variable, with room for all tasks.

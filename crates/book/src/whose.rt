@@ -1,7 +1,7 @@
 //! Whose task it is: one of the catalogue's, or one that was submitted.
 
 ghost use Rattle.std.specs.Prelude.{◌≡◌, ◌<◌, length, slice_get, Some, All};
-ghost use Rattle.programs.specs.Listing.{tasks, task_tx};
+ghost use Rattle.txn_programs.specs.Listing.{tasks, task_tx};
 ghost use Rattle.txn.specs.Grown.{grown};
 
 use txn::{Catalogue, TaskId, TxId};

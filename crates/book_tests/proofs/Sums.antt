@@ -3,13 +3,13 @@ use Rattle.std.proofs.Common.{◌≡◌, Bool, true, false, if◌then◌else◌,
 use Rattle.std.specs.Prelude.{◌+ℤ◌}
 use Rattle.std.specs.Ordering.{int_eq}
 use Rattle.std.proofs.lemmas.Bool.Decides.{Decides-int_eq}
-use Rattle.programs.specs.Arithmetic.{fits}
-use Rattle.programs.specs.declared.ast.Fault.{Fault}
-use Rattle.programs.specs.declared.ast.Fault.TheVariants.{Overflow}
-use Rattle.programs.specs.Meaning.{State, both, truth}
-use Rattle.programs.specs.Standing.{AllTrue, Upholds}
-use Rattle.programs.specs.Listing.{Listing, conditions}
-use Rattle.programs.specs.Tree.{Condition}
+use Rattle.txn_programs.specs.Arithmetic.{fits}
+use Rattle.txn_programs.specs.declared.ast.Fault.{Fault}
+use Rattle.txn_programs.specs.declared.ast.Fault.TheVariants.{Overflow}
+use Rattle.txn_programs.specs.Meaning.{State, both, truth}
+use Rattle.txn_programs.specs.Standing.{AllTrue, Upholds}
+use Rattle.txn_programs.specs.Listing.{Listing, conditions}
+use Rattle.txn_programs.specs.Tree.{Condition}
 use Rattle.book_tests.specs.Balance.{sum_stays, sum_of_accounts}
 
 equal_by : (x y : ℤ) → int_eq x y ≡ true → x ≡ y

@@ -1,8 +1,8 @@
 -- Two accounts whose sum stays 100.
 use Rattle.std.specs.Prelude.{ℤ, ◌+ℤ◌, pos, List, [], ◌∷◌}
-use Rattle.programs.specs.declared.ast.VarId.{VarId}
-use Rattle.programs.specs.Meaning.{State, value_at}
-use Rattle.programs.specs.Tree.{Condition, Eq, Add, Var, Int}
+use Rattle.txn_programs.specs.declared.ast.VarId.{VarId}
+use Rattle.txn_programs.specs.Meaning.{State, value_at}
+use Rattle.txn_programs.specs.Tree.{Condition, Eq, Add, Var, Int}
 
 abbrev pub a : VarId
 a = record { 0 = 0 }

@@ -2,8 +2,8 @@
 //! becomes of a transaction that would change it.
 
 ghost use Rattle.std.specs.Prelude.{◌≡◌, [], ◌∷◌, pos, IfOk, All};
-ghost use Rattle.programs.specs.Listing.{conditions, listing_of};
-ghost use Rattle.programs.specs.Tree.{condition_of};
+ghost use Rattle.txn_programs.specs.Listing.{conditions, listing_of};
+ghost use Rattle.txn_programs.specs.Tree.{condition_of};
 ghost use Rattle.book_tests.specs.Balance.{sum_stays, sum_of_accounts};
 
 use crate::steps::report_of;

@@ -1,7 +1,7 @@
 //! One call of a book, and what it has to answer.
 
 ghost use Rattle.std.specs.Prelude.{◌≡◌, ◌<◌, length};
-ghost use Rattle.programs.specs.Listing.{task_tx};
+ghost use Rattle.txn_programs.specs.Listing.{task_tx};
 ghost use Rattle.txn.specs.Grown.{SameButRuns};
 ghost use Rattle.book.specs.Turns.{IsEndOf};
 

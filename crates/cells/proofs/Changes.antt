@@ -4,7 +4,7 @@ use mathlib.Core.Logic.{dite}
 use native.Mathlib.Decide.{ℕ_discrete}
 use Rattle.std.proofs.lemmas.List.{length-take-le}
 use Rattle.std.proofs.lemmas.List.Sums.{fold_more}
-use Rattle.shared_words.specs.Stores.{Change, no_change, id_of}
+use Rattle.txn_words.specs.Stores.{Change, no_change, id_of}
 
 -- the count of stores, from one change to the next
 pub one_more : (cs : List Change) (n k : ℕ) → k < length cs → n + length (take (k + 1) cs) ≡ n + length (take k cs) + 1

@@ -3,12 +3,12 @@ use Rattle.std.proofs.Common.{◌≡◌, ◌≢◌, ℕ, ◌+◌, ◌-◌, ◌*�
 use mathlib.Core.Option.{none}
 use Rattle.std.specs.Int.{w64, cast_signed}
 use Rattle.atomic_table.specs.Table.{step, keeps, stepped, Allows}
-use Rattle.shared_words.specs.Words.{Commit, version_word, value_word, StartsWith, WordsMean}
-use Rattle.shared_words.specs.Stores.{after_lock, after_value, after_clock, after_release, MayLock, MayStore, MayRelease}
-use Rattle.shared_words.specs.Loads.{ReaderHolds}
-use Rattle.shared_words.proofs.Words.{starts_whole}
-use Rattle.shared_words.proofs.Stores.{Keeps, lock_keeps, value_keeps, clock_keeps, release_keeps}
-use Rattle.shared_words.proofs.Loads.{reader_stays}
+use Rattle.txn_words.specs.Words.{Commit, version_word, value_word, StartsWith, WordsMean}
+use Rattle.txn_words.specs.Stores.{after_lock, after_value, after_clock, after_release, MayLock, MayStore, MayRelease}
+use Rattle.txn_words.specs.Loads.{ReaderHolds}
+use Rattle.txn_words.proofs.Words.{starts_whole}
+use Rattle.txn_words.proofs.Stores.{Keeps, lock_keeps, value_keeps, clock_keeps, release_keeps}
+use Rattle.txn_words.proofs.Loads.{reader_stays}
 use Rattle.cells.specs.Sight.{Sight, publishing, commit_of}
 use Rattle.cells.specs.Rule.{WordsHold}
 use Rattle.cells.specs.Steps.{Seated, Moves, locks, stores_value, stores_clock, releases}

@@ -5,9 +5,9 @@ use lib.ListN.{get_elem?}
 use lib.Seq.{set-get_or}
 use Rattle.atomic_table.specs.Table.{step, keeps, Allows, Splits, Joins}
 use Rattle.atomic_table.proofs.Lists.{at_snoc, set_else}
-use Rattle.shared_words.specs.Words.{Commit, StartsWith}
-use Rattle.shared_words.specs.Loads.{PassRecord, met, ReaderHolds}
-use Rattle.shared_words.proofs.Loads.{meeting_right}
+use Rattle.txn_words.specs.Words.{Commit, StartsWith}
+use Rattle.txn_words.specs.Loads.{PassRecord, met, ReaderHolds}
+use Rattle.txn_words.proofs.Loads.{meeting_right}
 use Rattle.cells.specs.Sight.{Sight, publishing, reading, meeting, nothing}
 use Rattle.cells.specs.Rule.{WordsHold}
 use Rattle.cells.specs.Steps.{Seated, meets}

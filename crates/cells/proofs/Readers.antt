@@ -5,10 +5,10 @@ use lib.Seq.{set-get_or}
 use Rattle.std.specs.Int.{w64, cast_signed}
 use Rattle.atomic_table.specs.Table.{step, keeps, stepped, Allows}
 use Rattle.atomic_table.specs.Seated.{TableId}
-use Rattle.shared_words.specs.Words.{state_of, last_state, version_word, value_word, StartsWith}
-use Rattle.shared_words.specs.Loads.{PassRecord, begun, sampled, loaded, met, value_at, ReaderHolds}
-use Rattle.shared_words.proofs.Words.{seen_state}
-use Rattle.shared_words.proofs.Loads.{same_width, begin_right, sample_right, value_right, again_right, again_tells}
+use Rattle.txn_words.specs.Words.{state_of, last_state, version_word, value_word, StartsWith}
+use Rattle.txn_words.specs.Loads.{PassRecord, begun, sampled, loaded, met, value_at, ReaderHolds}
+use Rattle.txn_words.proofs.Words.{seen_state}
+use Rattle.txn_words.proofs.Loads.{same_width, begin_right, sample_right, value_right, again_right, again_tells}
 use Rattle.cells.specs.Sight.{Sight, reading, record_of}
 use Rattle.cells.specs.Rule.{WordsHold}
 use Rattle.cells.specs.Steps.{Seated, begins, samples, loads_value, samples_again}

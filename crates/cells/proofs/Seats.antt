@@ -4,8 +4,8 @@ use mathlib.Core.Option.{some}
 use lib.ListN.{get_elem?}
 use Rattle.atomic_table.specs.Table.{State}
 use Rattle.atomic_table.proofs.Lists.{at_set}
-use Rattle.shared_words.specs.Words.{Commit}
-use Rattle.shared_words.specs.Loads.{PassRecord, ReaderHolds}
+use Rattle.txn_words.specs.Words.{Commit}
+use Rattle.txn_words.specs.Loads.{PassRecord, ReaderHolds}
 use Rattle.cells.specs.Sight.{Sight, publishing, reading}
 use Rattle.cells.specs.Rule.{WordsHold}
 

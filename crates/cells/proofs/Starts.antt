@@ -7,10 +7,10 @@ use lib.ListN.{get_elem?, get_or-append}
 use Rattle.std.specs.Int.{w64, cast_signed}
 use Rattle.atomic_table.specs.Table.{opening, Splits}
 use Rattle.atomic_table.proofs.Lists.{at_snoc}
-use Rattle.shared_words.specs.Words.{Commit, value_of, version_word, value_word}
-use Rattle.shared_words.specs.Stores.{opened}
-use Rattle.shared_words.specs.Loads.{enrolled, ReaderHolds}
-use Rattle.shared_words.proofs.Words.{starts_whole, all_free, all_zero, opened_sized, opens}
+use Rattle.txn_words.specs.Words.{Commit, value_of, version_word, value_word}
+use Rattle.txn_words.specs.Stores.{opened}
+use Rattle.txn_words.specs.Loads.{enrolled, ReaderHolds}
+use Rattle.txn_words.proofs.Words.{starts_whole, all_free, all_zero, opened_sized, opens}
 use Rattle.cells.specs.Sight.{Sight, publishing, reading}
 use Rattle.cells.specs.Rule.{WordsHold}
 use Rattle.cells.specs.Publishing.{IsResting}

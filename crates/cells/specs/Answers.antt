@@ -1,8 +1,8 @@
 -- What a read and an extension answer.
 use Rattle.std.specs.Prelude.{◌≡◌, ◌≢◌, ℕ, ◌<◌, true, false, List, length, ℤ}
-use Rattle.shared_words.specs.Words.{value_of}
-use Rattle.shared_words.specs.Stores.{Change, id_of, new_of}
-use Rattle.shared_words.specs.Loads.{ShowsStale}
+use Rattle.txn_words.specs.Words.{value_of}
+use Rattle.txn_words.specs.Stores.{Change, id_of, new_of}
+use Rattle.txn_words.specs.Loads.{ShowsStale}
 use Rattle.cells.specs.declared.pass.Read.{Read}
 use Rattle.cells.specs.declared.pass.Read.TheVariants.{Value, Stale}
 use Rattle.cells.specs.declared.pass.Extend.{Extend}

@@ -1,9 +1,9 @@
 -- What a caller sees of a pass: its cells, whether it is open, and what it has loaded.
 use Rattle.std.specs.Prelude.{◌≡◌, ℕ, ◌+◌, ◌*◌, ◌≤◌, Bool, false, true, List, length, ℤ}
 use Rattle.atomic_table.specs.Seated.{TableId}
-use Rattle.shared_words.specs.Words.{state_of, StartsWith}
-use Rattle.shared_words.specs.Stores.{Change}
-use Rattle.shared_words.specs.Loads.{PassRecord, enrolled}
+use Rattle.txn_words.specs.Words.{state_of, StartsWith}
+use Rattle.txn_words.specs.Stores.{Change}
+use Rattle.txn_words.specs.Loads.{PassRecord, enrolled}
 use Rattle.cells.specs.Cells.{CellsId}
 
 pub record Passing : Type 0 where

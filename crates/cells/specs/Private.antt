@@ -3,9 +3,9 @@ use Rattle.std.specs.Prelude.{◌≡◌, ℕ, ◌+◌, ◌*◌, ◌%◌, ◌<◌
 use Rattle.std.specs.Int.{w64, cast_signed}
 use Rattle.atomic_table.specs.Seated.{TableId}
 use Rattle.atomic_table.specs.declared.shared.Seat.{Seat}
-use Rattle.shared_words.specs.Words.{Commit, value_of, state_of, last_state, version_word, value_word, StartsWith}
-use Rattle.shared_words.specs.Stores.{Change, id_of, with_changes}
-use Rattle.shared_words.specs.Loads.{PassRecord, begun, loaded, value_at}
+use Rattle.txn_words.specs.Words.{Commit, value_of, state_of, last_state, version_word, value_word, StartsWith}
+use Rattle.txn_words.specs.Stores.{Change, id_of, with_changes}
+use Rattle.txn_words.specs.Loads.{PassRecord, begun, loaded, value_at}
 use Rattle.cells.specs.Cells.{CellsId}
 use Rattle.cells.specs.Sight.{Sight, publishing, reading, commit_of, record_of}
 

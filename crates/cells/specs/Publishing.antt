@@ -1,7 +1,7 @@
 -- What a caller sees of the publisher: its cells, and the history of the states that it published.
 use Rattle.std.specs.Prelude.{◌≡◌, ℕ, ◌+◌, ◌≤◌, false, List, length, slice_index, slice_index_or, ℤ}
 use Rattle.atomic_table.specs.Seated.{TableId}
-use Rattle.shared_words.specs.Words.{Commit, last_state}
+use Rattle.txn_words.specs.Words.{Commit, last_state}
 use Rattle.cells.specs.Cells.{CellsId}
 
 pub record Publishing : Type 0 where

@@ -3,8 +3,8 @@ use Rattle.std.specs.Prelude.{◌≡◌, ℕ, IfSome}
 use mathlib.Core.Option.{some}
 use lib.ListN.{get_elem?}
 use Rattle.atomic_table.specs.Table.{State}
-use Rattle.shared_words.specs.Words.{Commit, WordsMean}
-use Rattle.shared_words.specs.Loads.{ReaderHolds}
+use Rattle.txn_words.specs.Words.{Commit, WordsMean}
+use Rattle.txn_words.specs.Loads.{ReaderHolds}
 use Rattle.cells.specs.Sight.{Sight}
 
 -- One seat, `writer`, is the publisher's, and the words mean what it stored. Each reader's record holds of the words

@@ -1,7 +1,7 @@
 -- What a seat at the shared words knows: what the publisher stored, or what a reader loaded.
 use Rattle.std.specs.Prelude.{[], Option, Some, None, false}
-use Rattle.shared_words.specs.Words.{Commit}
-use Rattle.shared_words.specs.Loads.{PassRecord, enrolled}
+use Rattle.txn_words.specs.Words.{Commit}
+use Rattle.txn_words.specs.Loads.{PassRecord, enrolled}
 
 pub record Sight : Type 0 where
   pub publisher : Option Commit

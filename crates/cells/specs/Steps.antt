@@ -4,9 +4,9 @@
 use Rattle.std.specs.Prelude.{◌≡◌, ℕ, ◌+◌, ◌-◌, ◌*◌, ◌%◌, ◌/◌, ◌<◌, ◌≤◌, List, [], ◌∷◌, length, ℤ}
 use Rattle.std.specs.Int.{w64, cast_signed}
 use Rattle.atomic_table.specs.Table.{Me, Step}
-use Rattle.shared_words.specs.Words.{Commit, state_of, last_state, StartsWith}
-use Rattle.shared_words.specs.Stores.{after_lock, after_value, after_clock, after_release}
-use Rattle.shared_words.specs.Loads.{PassRecord, begun, sampled, loaded, met, value_at}
+use Rattle.txn_words.specs.Words.{Commit, state_of, last_state, StartsWith}
+use Rattle.txn_words.specs.Stores.{after_lock, after_value, after_clock, after_release}
+use Rattle.txn_words.specs.Loads.{PassRecord, begun, sampled, loaded, met, value_at}
 use Rattle.cells.specs.Sight.{Sight, publishing, reading, meeting}
 
 -- a seat, with the slots that it holds: here none

@@ -6,9 +6,9 @@
 //! 2 `LoadVersion`, 3 `LoadValue`, 4 `LoadVersionAgain`; 5 `LockVersion`, 6 `StoreValue`,
 //! 7 `StoreClock`, 8 `ReleaseVersion`.
 ghost use Rattle.std.specs.Prelude.{◌≡◌, ◌+◌, ◌^◌, ◌<◌, ◌≤◌, length, slice_index, IfOk};
-ghost use Rattle.shared_words.specs.Words.{StartsWith};
-ghost use Rattle.shared_words.specs.Stores.{opened, MayLock, MayStore, MayRelease, after_lock, after_value, after_clock, after_release};
-ghost use Rattle.shared_words.specs.Loads.{enrolled, sampled, loaded, met};
+ghost use Rattle.txn_words.specs.Words.{StartsWith};
+ghost use Rattle.txn_words.specs.Stores.{opened, MayLock, MayStore, MayRelease, after_lock, after_value, after_clock, after_release};
+ghost use Rattle.txn_words.specs.Loads.{enrolled, sampled, loaded, met};
 ghost use Rattle.cells.specs.Sight.{publishing, reading, commit_of, record_of};
 ghost use Rattle.cells.specs.Private.{AreFirstWords, IsPublisher, IsReader, IsSameSeat, HasBegun, HasSampled, HasVersion, HasValue, reader_cells};
 

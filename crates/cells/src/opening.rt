@@ -10,8 +10,8 @@ use crate::pass::Pass;
 use crate::publisher::Publisher;
 use crate::sight::Sight;
 use atomic_table::Seat;
-use programs::Memory;
 use std::alloc::{AllocError, Global};
+use txn_programs::Memory;
 
 impl Cells {
     /// Makes cells whose variables have these values, the one publisher of them, and so many

@@ -1,14 +1,14 @@
 //! What reads the cells, with no lock.
 ghost use Rattle.std.specs.Prelude.{◌≡◌, ℕ, ◌<◌, true, false, length};
-ghost use Rattle.shared_words.specs.Stores.{id_of};
+ghost use Rattle.txn_words.specs.Stores.{id_of};
 ghost use Rattle.cells.specs.Passing.{at, BeginsBy, ReadsBy, ExtendsBy};
 ghost use Rattle.cells.specs.Answers.{IsReadBy, IsExtendedBy};
 
 use crate::cells::Cells;
 use crate::sight::Sight;
 use atomic_table::Seat;
-use programs::VarId;
 use std::marker::Model;
+use txn_programs::VarId;
 
 /// What a read answers.
 #[derive(Clone, Copy, Debug, PartialEq, Eq)]

@@ -1,7 +1,7 @@
 //! What changes the cells, one state at a time.
 ghost use Rattle.std.specs.Prelude.{◌≡◌, ◌+◌, ◌*◌, ◌^◌, ◌≤◌, [], ◌∷◌, ◌++◌, length};
-ghost use Rattle.shared_words.specs.Words.{last_state};
-ghost use Rattle.shared_words.specs.Stores.{AreChanges, with_changes};
+ghost use Rattle.txn_words.specs.Words.{last_state};
+ghost use Rattle.txn_words.specs.Stores.{AreChanges, with_changes};
 ghost use Rattle.cells.specs.Passing.{MeetsBy};
 
 use crate::cells::Cells;
@@ -9,8 +9,8 @@ use crate::pass::Pass;
 use crate::sight::Sight;
 use crate::stores::{lock_all, release_all, store_all};
 use atomic_table::Seat;
-use programs::VarId;
 use std::marker::Model;
+use txn_programs::VarId;
 
 /// The one that may change the cells.
 ///

@@ -8,7 +8,7 @@ use std::snapshot::Snapshot;
 pub struct WordsRule;
 
 impl TableRule<(), Sight, Snapshot<Vec<i64>>> for WordsRule {
-    ghost use Rattle.shared_words.specs.Stores.{opened};
+    ghost use Rattle.txn_words.specs.Stores.{opened};
     ghost use Rattle.cells.specs.Rule.{WordsHold};
     ghost use Rattle.cells.specs.Sight.{publishing};
 
@@ -102,7 +102,7 @@ impl Play<(), Sight> for ReleaseVersion {
 pub struct Enroll;
 
 impl Split<Sight> for Enroll {
-    ghost use Rattle.shared_words.specs.Loads.{enrolled};
+    ghost use Rattle.txn_words.specs.Loads.{enrolled};
     ghost use Rattle.cells.specs.Sight.{reading, commit_of};
 
     ghost left = { λ v. v };

@@ -1,14 +1,14 @@
 //! The stores of a publish, kind by kind. In each contract `c` is what was stored before the call.
 ghost use Rattle.std.specs.Prelude.{◌≡◌, ◌≢◌, ℕ, ◌+◌, ◌-◌, ◌^◌, ◌<◌, ◌≤◌, false, Bool, length, slice_index, slice_index_or};
-ghost use Rattle.shared_words.specs.Words.{value_of, state_of, last_state};
-ghost use Rattle.shared_words.specs.Stores.{AreChanges, id_of};
+ghost use Rattle.txn_words.specs.Words.{value_of, state_of, last_state};
+ghost use Rattle.txn_words.specs.Stores.{AreChanges, id_of};
 ghost use Rattle.cells.specs.Sight.{publishing, commit_of};
 ghost use Rattle.cells.specs.Private.{IsSeated, IsSameSeat, AreLocked, all_locked, all_stored, all_released, numbered_by};
 
 use crate::board::Board;
 use crate::sight::Sight;
 use atomic_table::Seat;
-use programs::VarId;
+use txn_programs::VarId;
 
 /// Sets the lock bit of each variable that changes.
 pub(crate) fn lock_all(

@@ -1,7 +1,7 @@
 -- Nine variables that all get one value.
 use Rattle.std.proofs.Common.{◌≡◌, ◌≢◌, ◌∙◌, ℕ, zero, suc, ◌<◌, List, [], ◌∷◌, length, ℤ, refl, sym, arith}
-use Rattle.shared_words.specs.Words.{value_of}
-use Rattle.shared_words.specs.Stores.{Change, id_of, new_of, AreChanges}
+use Rattle.txn_words.specs.Words.{value_of}
+use Rattle.txn_words.specs.Stores.{Change, id_of, new_of, AreChanges}
 use Rattle.cells_tests.specs.Nine.{nine}
 
 abbrev pub all_nine : ℤ → List Change

@@ -1,7 +1,7 @@
 //! A reader beside a publisher, in two threads.
 
 ghost use Rattle.std.specs.Prelude.{◌≡◌, ◌≤◌, [], ◌∷◌, pos, IfSome};
-ghost use Rattle.shared_words.specs.Words.{value_of, StartsWith};
+ghost use Rattle.txn_words.specs.Words.{value_of, StartsWith};
 ghost use Rattle.cells.specs.Passing.{at};
 
 use crate::parts::{X, Y};

@@ -1,13 +1,13 @@
 //! Extends a pass by what was read, one after another with publishing.
 
 ghost use Rattle.std.specs.Prelude.{◌≡◌, ℕ, ◌<◌, ◌≤◌, [], ◌∷◌, pos, length};
-ghost use Rattle.shared_words.specs.Stores.{id_of};
+ghost use Rattle.txn_words.specs.Stores.{id_of};
 
 use crate::observing::{catalogue, told};
 use crate::parts::{X, Y, begins, is_stale, sees};
 use attempt::Attempt;
 use cells::{Cells, Extend, Pass, Publisher};
-use observer::Cut;
+use run_observer::Cut;
 use std::process::Abort;
 use txn::{TxId, VarId};
 

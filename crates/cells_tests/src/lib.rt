@@ -1,4 +1,4 @@
-//! Tests of the public calls of `cells`, `observer` and `task_set`.
+//! Tests of the public calls of `cells`, `run_observer` and `book_task_set`.
 #![tactic(auto)]
 
 #[cfg(test)]

@@ -1,10 +1,10 @@
-//! Which numbers are in a `task_set`, and which is the lowest, by values worked out by hand.
+//! Which numbers are in a `book_task_set`, and which is the lowest, by values worked out by hand.
 
 ghost use Rattle.std.specs.Prelude.{◌≡◌, ◌≤◌, replicate, false};
 
+use book_task_set::{MAX_ROOM, TaskSet};
 use std::alloc::Global;
 use std::process::Abort;
-use task_set::{MAX_ROOM, TaskSet};
 
 /// A set with room for so many numbers.
 fn with_room(rt: &impl Abort, alloc: Global, room: usize) -> TaskSet

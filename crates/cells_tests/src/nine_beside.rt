@@ -5,7 +5,7 @@ ghost use Rattle.cells_tests.specs.Nine.{nine};
 
 use crate::observing::catalogue;
 use cells::{Cells, Pass, Publisher};
-use observer::{Observed, observe};
+use run_observer::{Observed, observe};
 use std::alloc::Global;
 use std::process::Abort;
 use std::thread::{Threads, join};

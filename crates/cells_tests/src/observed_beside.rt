@@ -5,7 +5,7 @@ ghost use Rattle.std.specs.Prelude.{◌≡◌, ◌<◌, [], ◌∷◌, pos, leng
 use crate::beside::publish_some;
 use crate::observing::{catalogue, sees};
 use cells::{Cells, Pass, Publisher};
-use observer::{Observed, observe};
+use run_observer::{Observed, observe};
 use std::alloc::Global;
 use std::process::Abort;
 use std::thread::{Threads, join};

@@ -5,7 +5,7 @@ ghost use Rattle.std.specs.Prelude.{◌≡◌, ◌<◌, ◌≤◌, [], ◌∷◌
 use crate::parts::{X, begins, publish_six, sees as shows};
 use attempt::{Attempt, Next};
 use cells::{Cells, Pass, Publisher};
-use observer::{Cut, Observed, observe, tell};
+use run_observer::{Cut, Observed, observe, tell};
 use std::alloc::Global;
 use std::process::Abort;
 use txn::{Catalogue, Fault, Outcome, TxId};

@@ -2,13 +2,13 @@
 use Rattle.std.proofs.Common.{◌≡◌, ◌∙◌, ◌↔◌, IsTrue, Bool, suc, ◌+◌, ◌<◌, List, [], ◌∷◌, ◌++◌, length, refl, sym, ap, subst, arith, map, length-append}
 use Rattle.std.specs.List.{All}
 use Rattle.std.proofs.lemmas.List.Elements.{All-append, All-map, All-weaker}
-use Rattle.programs.specs.declared.ast.TaskId.{TaskId}
-use Rattle.programs.specs.declared.ast.TxId.{TxId}
-use Rattle.programs.specs.declared.report.Entry.{Entry}
-use Rattle.programs.specs.Listing.{Listing, tasks}
-use Rattle.programs.specs.Replay.{entered, Once}
-use Rattle.programs.specs.Told.{Told}
-use Rattle.programs.specs.LawfulReport.{FitsCatalogue, on_lines, Ascends, HasOwn}
+use Rattle.txn_programs.specs.declared.ast.TaskId.{TaskId}
+use Rattle.txn_programs.specs.declared.ast.TxId.{TxId}
+use Rattle.txn_programs.specs.declared.report.Entry.{Entry}
+use Rattle.txn_programs.specs.Listing.{Listing, tasks}
+use Rattle.txn_programs.specs.Replay.{entered, Once}
+use Rattle.txn_programs.specs.Told.{Told}
+use Rattle.txn_programs.specs.LawfulReport.{FitsCatalogue, on_lines, Ascends, HasOwn}
 use Rattle.checker.specs.Parts.{named, on_line, TasksHold}
 use Rattle.checker.proofs.Lists.{numbers}
 

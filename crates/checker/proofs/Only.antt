@@ -1,8 +1,8 @@
 -- Which verdict it is on bytes, and that it is the only one.
 use Rattle.std.proofs.Common.{◌≡◌, ℕ, List, refl, subst}
-use Rattle.programs.specs.Listing.{Listing}
-use Rattle.programs.specs.Told.{Told}
-use Rattle.report_reader.specs.Reports.{IsReport}
+use Rattle.txn_programs.specs.Listing.{Listing}
+use Rattle.txn_programs.specs.Told.{Told}
+use Rattle.text_report_reader.specs.Reports.{IsReport}
 use Rattle.checker.specs.declared.verdict.Part.TheVariants.{Text, Base, Entries, Present, Tasks, Parked}
 use Rattle.checker.specs.declared.verdict.Verdict.{Verdict}
 use Rattle.checker.specs.declared.verdict.Verdict.TheVariants.{Good, Bad}

@@ -2,10 +2,10 @@
 use Rattle.std.proofs.Common.{◌≡◌, ◌∙◌, ℕ, ◌≤◌, ℤ, List, [], ◌∷◌, length, refl, ap, arith, map, replicate}
 use Rattle.std.specs.List.{All}
 use Rattle.std.proofs.lemmas.List.Elements.{All-head, All-tail}
-use Rattle.programs.specs.Listing.{Listing}
-use Rattle.programs.specs.Meaning.{State}
-use Rattle.programs.specs.Replay.{Snapshot, opening}
-use Rattle.programs.specs.Told.{snapshot_at}
+use Rattle.txn_programs.specs.Listing.{Listing}
+use Rattle.txn_programs.specs.Meaning.{State}
+use Rattle.txn_programs.specs.Replay.{Snapshot, opening}
+use Rattle.txn_programs.specs.Told.{snapshot_at}
 
 zeros : (vars : List (ℤ × ℕ)) → All (λ v. v.1 ≤ 0) vars → map (λ v. v.1) vars ≡ replicate (length (map (λ v. v.0) vars)) 0
 zeros [] h = refl

@@ -4,8 +4,8 @@ use Rattle.std.specs.List.{slice_get}
 use Rattle.std.specs.Ordering.{int_eq}
 use Rattle.std.proofs.lemmas.Bool.{cond-true, cond-false, false_from_ne_true}
 use Rattle.std.proofs.lemmas.Bool.Decides.{Decides-int_eq}
-use Rattle.programs.specs.Meaning.{State}
-use Rattle.programs.specs.Replay.{versions_after}
+use Rattle.txn_programs.specs.Meaning.{State}
+use Rattle.txn_programs.specs.Replay.{versions_after}
 
 -- the versions after the first i variables were compared
 abbrev pub raised : ℕ → ℕ → State → State → List ℕ → List ℕ

@@ -2,14 +2,14 @@
 use Rattle.std.proofs.Common.{◌≡◌, ◌≢◌, List, [], ◌∷◌, ◌++◌, map}
 use Rattle.std.specs.List.{All}
 use Rattle.std.proofs.lemmas.List.Elements.{All-nil, All-cons, All-head, All-tail, All-append}
-use Rattle.programs.specs.declared.ast.TaskId.{TaskId}
-use Rattle.programs.specs.declared.ast.TxId.{TxId}
-use Rattle.programs.specs.declared.ast.Outcome.TheVariants.{Retries}
-use Rattle.programs.specs.declared.report.Entry.{Entry}
-use Rattle.programs.specs.Listing.{Listing}
-use Rattle.programs.specs.Replay.{Snapshot, Replays, applied}
-use Rattle.programs.specs.Told.{Told, base_of, now_of}
-use Rattle.programs.specs.LawfulReport.{FitsCatalogue, LawfulReport, HasOwn}
+use Rattle.txn_programs.specs.declared.ast.TaskId.{TaskId}
+use Rattle.txn_programs.specs.declared.ast.TxId.{TxId}
+use Rattle.txn_programs.specs.declared.ast.Outcome.TheVariants.{Retries}
+use Rattle.txn_programs.specs.declared.report.Entry.{Entry}
+use Rattle.txn_programs.specs.Listing.{Listing}
+use Rattle.txn_programs.specs.Replay.{Snapshot, Replays, applied}
+use Rattle.txn_programs.specs.Told.{Told, base_of, now_of}
+use Rattle.txn_programs.specs.LawfulReport.{FitsCatalogue, LawfulReport, HasOwn}
 use Rattle.checker.specs.Parts.{AllGoOn, led_to, on_line}
 use Rattle.checker.specs.Verdicts.{AllHold}
 

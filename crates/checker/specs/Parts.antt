@@ -1,15 +1,15 @@
 -- The parts of a lawful report, in the order in which they are judged.
 use Rattle.std.specs.Prelude.{◌≡◌, ◌+◌, ◌≤◌, List, [], ◌∷◌, ◌++◌, map, length, All}
-use Rattle.programs.specs.declared.ast.TaskId.{TaskId}
-use Rattle.programs.specs.declared.ast.TxId.{TxId}
-use Rattle.programs.specs.declared.ast.Outcome.TheVariants.{Retries}
-use Rattle.programs.specs.declared.report.Entry.{Entry}
-use Rattle.programs.specs.Meaning.{outcome}
-use Rattle.programs.specs.Listing.{Listing, tasks, program_at}
-use Rattle.programs.specs.Replay.{Snapshot, applied, opening, Once}
-use Rattle.programs.specs.Standing.{Upholds}
-use Rattle.programs.specs.Told.{Told, base_of, now_of}
-use Rattle.programs.specs.LawfulReport.{on_lines, Ascends, HasOwn}
+use Rattle.txn_programs.specs.declared.ast.TaskId.{TaskId}
+use Rattle.txn_programs.specs.declared.ast.TxId.{TxId}
+use Rattle.txn_programs.specs.declared.ast.Outcome.TheVariants.{Retries}
+use Rattle.txn_programs.specs.declared.report.Entry.{Entry}
+use Rattle.txn_programs.specs.Meaning.{outcome}
+use Rattle.txn_programs.specs.Listing.{Listing, tasks, program_at}
+use Rattle.txn_programs.specs.Replay.{Snapshot, applied, opening, Once}
+use Rattle.txn_programs.specs.Standing.{Upholds}
+use Rattle.txn_programs.specs.Told.{Told, base_of, now_of}
+use Rattle.txn_programs.specs.LawfulReport.{on_lines, Ascends, HasOwn}
 
 -- a base of number 0 is the opening snapshot, no version of a base is above its number, and each standing condition is true on its values
 pub record BaseHolds (l : Listing) (r : Told) : Type 0 where

@@ -1,10 +1,10 @@
 -- Which verdict is that on a report.
 use Rattle.std.specs.Prelude.{ℕ, List}
-use Rattle.programs.specs.Listing.{Listing}
-use Rattle.programs.specs.Told.{Told}
-use Rattle.programs.specs.LawfulReport.{LawfulReport}
+use Rattle.txn_programs.specs.Listing.{Listing}
+use Rattle.txn_programs.specs.Told.{Told}
+use Rattle.txn_programs.specs.LawfulReport.{LawfulReport}
 use Rattle.txn_text.specs.Spelling.{Spells}
-use Rattle.report_reader.specs.Reports.{IsReport}
+use Rattle.text_report_reader.specs.Reports.{IsReport}
 use Rattle.checker.specs.declared.verdict.Part.{Part}
 use Rattle.checker.specs.declared.verdict.Part.TheVariants.{Text, Base, Entries, Present, Tasks, Parked}
 use Rattle.checker.specs.declared.verdict.Verdict.{Verdict}

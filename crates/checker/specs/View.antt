@@ -1,5 +1,5 @@
 -- What a stage of the replay says, and not where it lies in memory.
-use Rattle.programs.specs.Replay.{Snapshot}
+use Rattle.txn_programs.specs.Replay.{Snapshot}
 use Rattle.checker.specs.declared.stage.Stage.{Stage}
 
 abbrev pub view : Stage → Snapshot

@@ -1,8 +1,8 @@
 //! Judging a report that was read.
 
 ghost use Rattle.std.specs.Prelude.{◌≡◌, IfOk};
-ghost use Rattle.programs.specs.Told.{told};
-ghost use Rattle.programs.specs.LawfulReport.{FitsCatalogue};
+ghost use Rattle.txn_programs.specs.Told.{told};
+ghost use Rattle.txn_programs.specs.LawfulReport.{FitsCatalogue};
 ghost use Rattle.checker.specs.Verdicts.{IsVerdict};
 
 use crate::opening::base_holds;

@@ -1,10 +1,10 @@
 //! What is so of every verdict, whatever was checked.
 
 ghost use Rattle.std.specs.Prelude.{◌≡◌, ◌↔◌, ℕ, List};
-ghost use Rattle.programs.specs.Listing.{Listing};
-ghost use Rattle.programs.specs.Standing.{Upholds};
-ghost use Rattle.programs.specs.Told.{Told, base_of, now_of};
-ghost use Rattle.programs.specs.LawfulReport.{FitsCatalogue, LawfulReport};
+ghost use Rattle.txn_programs.specs.Listing.{Listing};
+ghost use Rattle.txn_programs.specs.Standing.{Upholds};
+ghost use Rattle.txn_programs.specs.Told.{Told, base_of, now_of};
+ghost use Rattle.txn_programs.specs.LawfulReport.{FitsCatalogue, LawfulReport};
 ghost use Rattle.checker.specs.declared.verdict.Verdict.{Verdict as VerdictOf};
 ghost use Rattle.txn_text.specs.Spelling.{Spells};
 ghost use Rattle.txn_text.specs.ReportText.{report_text};

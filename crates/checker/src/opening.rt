@@ -1,10 +1,10 @@
 //! The base of a report.
 
 ghost use Rattle.std.specs.Prelude.{◌≡◌, ◌≤◌, ◌↔◌, IsTrue, All, length};
-ghost use Rattle.programs.specs.Scope.{ConditionsKnown};
-ghost use Rattle.programs.specs.Standing.{AllTrue, Upholds};
-ghost use Rattle.programs.specs.Told.{told, snapshot_at};
-ghost use Rattle.evaluator.specs.Always.{conditions_of};
+ghost use Rattle.txn_programs.specs.Scope.{ConditionsKnown};
+ghost use Rattle.txn_programs.specs.Standing.{AllTrue, Upholds};
+ghost use Rattle.txn_programs.specs.Told.{told, snapshot_at};
+ghost use Rattle.txn_evaluator.specs.Always.{conditions_of};
 ghost use Rattle.checker.specs.View.{view};
 ghost use Rattle.checker.specs.Parts.{BaseHolds};
 

@@ -1,9 +1,9 @@
 //! The parked tasks of a report.
 
 ghost use Rattle.std.specs.Prelude.{◌≡◌, ◌<◌, ◌↔◌, IfOk, IsTrue, All, length, vec_len};
-ghost use Rattle.programs.specs.declared.ast.Outcome.TheVariants.{Retries};
-ghost use Rattle.programs.specs.Listing.{program_at};
-ghost use Rattle.programs.specs.Meaning.{outcome};
+ghost use Rattle.txn_programs.specs.declared.ast.Outcome.TheVariants.{Retries};
+ghost use Rattle.txn_programs.specs.Listing.{program_at};
+ghost use Rattle.txn_programs.specs.Meaning.{outcome};
 
 use std::alloc::AllocError;
 use txn::evaluate::execute;

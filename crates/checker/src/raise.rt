@@ -1,7 +1,7 @@
 //! The versions after an entry.
 
 ghost use Rattle.std.specs.Prelude.{◌≡◌, length};
-ghost use Rattle.programs.specs.Replay.{versions_after};
+ghost use Rattle.txn_programs.specs.Replay.{versions_after};
 
 /// Sets the version of each variable whose value differs to the number.
 pub(crate) fn raise(number: u64, olds: &[i64], news: &[i64], versions: &mut Vec<u64>)

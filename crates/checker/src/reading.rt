@@ -1,7 +1,7 @@
 //! Checking the bytes of a report.
 
 ghost use Rattle.std.specs.Prelude.{◌≡◌, ◌⊎◌, IfOk, IfErr};
-ghost use Rattle.programs.specs.Listing.{Listing};
+ghost use Rattle.txn_programs.specs.Listing.{Listing};
 ghost use Rattle.txn_text.specs.Spelling.{Spells};
 ghost use Rattle.txn_text.specs.Faults.{IsFirst};
 ghost use Rattle.txn_text.specs.fault.ReadFault.TheVariants.{Memory as MemoryFault};
@@ -10,8 +10,8 @@ ghost use Rattle.checker.specs.Verdicts.{IsVerdictOn, Judges};
 
 use crate::judge::verdict_on;
 use crate::verdict::{Part, Verdict};
-use report_reader::read_report;
 use std::alloc::Global;
+use text_report_reader::read_report;
 use txn::{Catalogue, Memory};
 use txn_text::{ReadFault, read_file};
 

@@ -1,7 +1,7 @@
 //! Entries replayed, each by the transaction that its line names.
 
 ghost use Rattle.std.specs.Prelude.{◌≡◌, ◌+◌, ◌<◌, ◌↔◌, IfOk, IsTrue, IsSome, IfSome, All, length, true};
-ghost use Rattle.programs.specs.Replay.{applied};
+ghost use Rattle.txn_programs.specs.Replay.{applied};
 ghost use Rattle.checker.specs.View.{view};
 ghost use Rattle.checker.specs.Parts.{GoesOn, AllGoOn, led_to};
 

@@ -1,7 +1,7 @@
 //! A stage of the replay.
 
 ghost use Rattle.std.specs.Prelude.{◌≡◌, ◌↔◌, IfOk, IsTrue, map};
-ghost use Rattle.programs.specs.Told.{snapshot_at};
+ghost use Rattle.txn_programs.specs.Told.{snapshot_at};
 ghost use Rattle.checker.specs.View.{view};
 
 use std::alloc::{AllocError, Global};

@@ -1,10 +1,10 @@
 //! The tasks on a report's lines.
 
 ghost use Rattle.std.specs.Prelude.{◌≡◌, ◌+◌, ◌<◌, ◌↔◌, IfOk, IsTrue, All, length, map};
-ghost use Rattle.programs.specs.Listing.{tasks as listed_tasks};
-ghost use Rattle.programs.specs.Replay.{Once};
-ghost use Rattle.programs.specs.Told.{told};
-ghost use Rattle.programs.specs.LawfulReport.{Ascends, FitsCatalogue, HasOwn};
+ghost use Rattle.txn_programs.specs.Listing.{tasks as listed_tasks};
+ghost use Rattle.txn_programs.specs.Replay.{Once};
+ghost use Rattle.txn_programs.specs.Told.{told};
+ghost use Rattle.txn_programs.specs.LawfulReport.{Ascends, FitsCatalogue, HasOwn};
 ghost use Rattle.checker.specs.Parts.{named, on_line, TasksHold};
 
 use std::alloc::{AllocError, Global};

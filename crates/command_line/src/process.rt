@@ -5,8 +5,8 @@ ghost use Rattle.clap.specs.Values.{kind_of};
 ghost use Rattle.command_line.specs.NoCommand.{IsNoCommand};
 
 use crate::words::{Request, parse};
-use answers::{Answer, wordless};
 use clap::error::ErrorKind;
+use command_answers::{Answer, wordless};
 use run_faults::RunFault;
 use std::rt::Env;
 use std::{env, io};

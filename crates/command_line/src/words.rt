@@ -4,7 +4,7 @@ use crate::explaining_words::{Explain, explain_command, wanted_explanation};
 use crate::exploring_words::{Orders, explore_command, wanted_orders};
 use clap::error::ErrorKind;
 use clap::{Arg, ArgMatches, Command, Error, value_parser};
-use options::Options;
+use run_options::Options;
 use std::alloc::{AllocError, Global};
 
 /// What the command line asks for.

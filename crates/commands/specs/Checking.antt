@@ -7,8 +7,8 @@ use Rattle.checker.specs.declared.verdict.Verdict.{Verdict}
 use Rattle.checker.specs.declared.verdict.Verdict.TheVariants.{Good, Bad}
 use Rattle.checker.specs.Lines.{line_of}
 use Rattle.checker.specs.Verdicts.{Judges}
-use Rattle.answers.specs.declared.answer.Answer.{Answer}
-use Rattle.answers.specs.declared.answer.Answer.TheVariants.{Done, Unlawful, Refused, Unreadable, Failed}
+use Rattle.command_answers.specs.declared.answer.Answer.{Answer}
+use Rattle.command_answers.specs.declared.answer.Answer.TheVariants.{Done, Unlawful, Refused, Unreadable, Failed}
 
 -- a report has at most 8,388,608 bytes: with one byte more it is known to be too long
 abbrev pub report_of : List ℕ → List ℕ

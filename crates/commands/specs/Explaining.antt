@@ -8,9 +8,9 @@ use Rattle.run_faults.specs.declared.fault.RunFault.TheVariants.{Input, Memory, 
 use Rattle.explain_runner.specs.Telling.{Telling}
 use Rattle.explain_runner.specs.declared.bytes.Told.{Told}
 use Rattle.explain_runner.specs.declared.bytes.Told.TheVariants as file
-use Rattle.report_explainer.specs.Writing.{Written}
-use Rattle.answers.specs.declared.answer.Answer.{Answer}
-use Rattle.answers.specs.declared.answer.Answer.TheVariants.{Done, Unlawful, Refused, Unreadable, Failed}
+use Rattle.explain_reports.specs.Writing.{Written}
+use Rattle.command_answers.specs.declared.answer.Answer.{Answer}
+use Rattle.command_answers.specs.declared.answer.Answer.TheVariants.{Done, Unlawful, Refused, Unreadable, Failed}
 
 -- the answers of explaining bytes
 abbrev pub told : Told → Result Told RunFault

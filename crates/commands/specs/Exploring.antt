@@ -8,8 +8,8 @@ use Rattle.explore_runner.specs.declared.sight.Sight.TheVariants as sight
 use Rattle.explore_runner.specs.declared.sight.Witnessed.{Witnessed}
 use Rattle.explore_runner.specs.declared.sight.Witnessed.TheVariants.{Report, NoEnd, Beyond}
 use Rattle.run_faults.specs.declared.fault.RunFault.{RunFault}
-use Rattle.answers.specs.declared.answer.Answer.{Answer}
-use Rattle.answers.specs.declared.answer.Answer.TheVariants.{Done, Unlawful, Refused, Unreadable, Failed}
+use Rattle.command_answers.specs.declared.answer.Answer.{Answer}
+use Rattle.command_answers.specs.declared.answer.Answer.TheVariants.{Done, Unlawful, Refused, Unreadable, Failed}
 
 -- the answers of exploring bytes
 abbrev pub seen : Sight → Result Sight RunFault

@@ -4,8 +4,8 @@ use Rattle.std.specs.Io.KnownBytes.{Keeps}
 use Rattle.run_faults.specs.Failures.{output_failures}
 use Rattle.runner.specs.Running.{Ran}
 use Rattle.run_faults.specs.declared.fault.RunFault.{RunFault}
-use Rattle.answers.specs.declared.answer.Answer.{Answer}
-use Rattle.answers.specs.declared.answer.Answer.TheVariants.{Done, Unlawful, Refused, Unreadable, Failed}
+use Rattle.command_answers.specs.declared.answer.Answer.{Answer}
+use Rattle.command_answers.specs.declared.answer.Answer.TheVariants.{Done, Unlawful, Refused, Unreadable, Failed}
 
 -- a file has at most 1,048,576 bytes: with one byte more it is known to be too long
 abbrev pub read_of : List ℕ → List ℕ

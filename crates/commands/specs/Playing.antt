@@ -3,8 +3,8 @@ use Rattle.std.specs.Prelude.{ℕ, List, take, Option}
 use Rattle.std.specs.Io.KnownBytes.{Keeps}
 use Rattle.world_runner.specs.Showing.{Showed}
 use Rattle.commands.specs.Files.{done, ended}
-use Rattle.answers.specs.declared.answer.Answer.{Answer}
-use Rattle.answers.specs.declared.answer.Answer.TheVariants.{Done, Unlawful, Refused, Unreadable, Failed}
+use Rattle.command_answers.specs.declared.answer.Answer.{Answer}
+use Rattle.command_answers.specs.declared.answer.Answer.TheVariants.{Done, Unlawful, Refused, Unreadable, Failed}
 
 -- a schedule has at most 1,048,576 bytes: with one byte more it is known to be too long
 abbrev pub schedule_of : List ℕ → List ℕ

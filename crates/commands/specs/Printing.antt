@@ -3,10 +3,10 @@ use Rattle.std.specs.Prelude.{ℕ, List, Option, None, Some, Ok, Err}
 use Rattle.std.specs.Io.KnownBytes.{Keeps}
 use Rattle.checker.specs.declared.verdict.Verdict.TheVariants.{Good, Bad}
 use Rattle.checker.specs.declared.verdict.Part.{Part}
-use Rattle.file_rewriter.specs.Printing.{Printed, PrintedOn}
+use Rattle.print_files.specs.Printing.{Printed, PrintedOn}
 use Rattle.commands.specs.Files.{done, ended}
-use Rattle.answers.specs.declared.answer.Answer.{Answer}
-use Rattle.answers.specs.declared.answer.Answer.TheVariants.{Done, Unlawful, Refused, Unreadable, Failed}
+use Rattle.command_answers.specs.declared.answer.Answer.{Answer}
+use Rattle.command_answers.specs.declared.answer.Answer.TheVariants.{Done, Unlawful, Refused, Unreadable, Failed}
 
 -- by the answer: what printing some bytes leaves that ends so, or nothing was written
 abbrev pub PrintedFile : Option (List ℕ) → Option (List ℕ) → Answer → Type 0

@@ -5,15 +5,15 @@ ghost use Rattle.commands.specs.Files.{failed_calls};
 ghost use Rattle.commands.specs.Checking.{Told, Checked, CheckedFiles, verdict_answer, report_of};
 
 use crate::program::contents;
-use answers::{Answer, unread};
 use checker::{Verdict, check};
-use report_reader::MAX_REPORT;
+use command_answers::{Answer, unread};
 use run_faults::RunFault;
-use sink::{Sink, put_all};
+use run_sink::{Sink, put_all};
 use std::alloc::Global;
 use std::io::Read;
 use std::rt::Files;
 use std::{fs, io};
+use text_report_reader::MAX_REPORT;
 use txn_text::ReadFault;
 
 /// Checks a report of a file, and writes the verdict's line to the sink. Both are read before

@@ -7,11 +7,11 @@ ghost use Rattle.commands.specs.Explaining.{ExplainedAs, ExplainedFile, Explaine
 
 use crate::checking::{answer_of, report_contents};
 use crate::program::contents;
-use answers::{Answer, unread};
+use command_answers::{Answer, unread};
 use command_line::Explain;
 use explain_runner::{Told, explain_bytes};
 use run_faults::RunFault;
-use sink::Sink;
+use run_sink::Sink;
 use std::rt::Files;
 
 /// Explains what the command line asks for.
@@ -72,7 +72,7 @@ fn explain_report_at<R: Files + AllocGlobal, S: Sink>(
         Ok(bytes) => bytes,
         Err(error) => return unread(&error),
     };
-    match report_explainer::explain_bytes(rt.alloc(), file.as_slice(), report.as_slice(), sink) {
+    match explain_reports::explain_bytes(rt.alloc(), file.as_slice(), report.as_slice(), sink) {
         Ok(verdict) => answer_of(verdict),
         Err(fault) => Answer::Failed(fault),
     }

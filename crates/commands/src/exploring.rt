@@ -5,10 +5,10 @@ ghost use Rattle.commands.specs.Files.{failed_calls};
 ghost use Rattle.commands.specs.Exploring.{ExploredFile, WitnessedFile};
 
 use crate::program::contents;
-use answers::{Answer, unread};
+use command_answers::{Answer, unread};
 use explore_options::Limit;
 use explore_runner::{Sight, Witnessed, explore_bytes, witness_bytes};
-use sink::Sink;
+use run_sink::Sink;
 use std::rt::Files;
 
 /// Sees every order of a file's tasks, and writes what is found to the sink.

@@ -1,11 +1,11 @@
 //! The commands of the program `stm`, from the words of the command line to the status to end with.
 //!
 //! `program`, `checking`, `playing`, `exploring`, `explaining` and `printing` have the files. The words are those of the library
-//! `command_line`, and the statuses those of `answers`. What the commands do is in libraries, too: `runner` goes
+//! `command_line`, and the statuses those of `command_answers`. What the commands do is in libraries, too: `runner` goes
 //! from the bytes of a file to the bytes of its report, `checker` from the bytes of both to a verdict, `world_runner` from the bytes of
 //! a file and of a schedule to the bytes of what is seen, `explore_runner` from the bytes of a file to
-//! the bytes of what is found of all orders, `file_rewriter` writes files anew, and
-//! `explain_runner` and `report_explainer` go to the bytes of what is wrong with a file or a report.
+//! the bytes of what is found of all orders, `print_files` writes files anew, and
+//! `explain_runner` and `explain_reports` go to the bytes of what is wrong with a file or a report.
 #![tactic(auto)]
 
 pub mod checking;

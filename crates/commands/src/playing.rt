@@ -5,13 +5,13 @@ ghost use Rattle.commands.specs.Files.{failed_calls};
 ghost use Rattle.commands.specs.Playing.{PlayedFiles, schedule_of};
 
 use crate::program::contents;
-use answers::{Answer, unread};
-use schedule_reader::MAX_SCHEDULE;
-use sink::Sink;
+use command_answers::{Answer, unread};
+use run_sink::Sink;
 use std::alloc::Global;
 use std::io::Read;
 use std::rt::Files;
 use std::{fs, io};
+use text_schedule_reader::MAX_SCHEDULE;
 use world_runner::world_bytes;
 
 /// Plays a schedule of a file, and writes the text of the world that it leads to to the sink. Both

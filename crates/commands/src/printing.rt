@@ -7,10 +7,10 @@ ghost use Rattle.commands.specs.Printing.{PrintedAs, PrintedFile, PrintedOnFiles
 
 use crate::checking::{answer_of, report_contents};
 use crate::program::contents;
-use answers::{Answer, unread};
+use command_answers::{Answer, unread};
 use command_line::Print;
-use file_rewriter::{print_bytes, print_on_bytes};
-use sink::Sink;
+use print_files::{print_bytes, print_on_bytes};
+use run_sink::Sink;
 use std::rt::Files;
 
 /// Prints what the command line asks for.

@@ -1,8 +1,8 @@
 -- A line begins with its head.
 use Rattle.std.proofs.Common.{◌≡◌, ℕ, List, [], ◌∷◌, ◌++◌, sym, ap, ◌∙◌, append_assoc}
 use Rattle.std.specs.Prelude.{codes}
-use Rattle.explainer.specs.Places.{line_at, column_at}
-use Rattle.explainer.specs.declared.explaining.Refusal.{Refusal}
+use Rattle.explain_files.specs.Places.{line_at, column_at}
+use Rattle.explain_files.specs.declared.explaining.Refusal.{Refusal}
 use Rattle.explain_runner.specs.Telling.{Begins, head, head_of, told_line, kind_name}
 
 rest_of : List ℕ → List ℕ → List ℕ

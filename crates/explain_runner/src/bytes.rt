@@ -5,9 +5,9 @@ ghost use Rattle.run_faults.specs.Failures.{output_failures};
 ghost use Rattle.explain_runner.specs.Telling.{Telling, IsTextOf};
 
 use crate::text::told;
-use explainer::{Explanation, explain};
+use explain_files::{Explanation, explain};
 use run_faults::RunFault;
-use sink::{Sink, put_all};
+use run_sink::{Sink, put_all};
 use std::alloc::Global;
 use text_words::ReadFault;
 use txn::Memory;

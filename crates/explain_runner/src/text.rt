@@ -4,7 +4,7 @@ ghost use Rattle.std.specs.Prelude.{◌≡◌, ◌≤◌, ℕ, length, IfOk, str
 ghost use Rattle.explain_runner.specs.Telling.{told_line, Begins, head_of, kind_name};
 
 use crate::words::words;
-use explainer::{Refusal, position_of};
+use explain_files::{Refusal, position_of};
 use std::alloc::{AllocError, Global};
 use std::str;
 use text_words::ReadFault;

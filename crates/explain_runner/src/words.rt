@@ -1,7 +1,7 @@
 //! What is wrong with a file, in words.
 
-use explainer::wanted::{NameUse, NumberUse, Section, Wanted};
-use explainer::{Finding, LimitFault, NameFault};
+use explain_files::wanted::{NameUse, NumberUse, Section, Wanted};
+use explain_files::{Finding, LimitFault, NameFault};
 
 /// What is wrong, in words.
 pub(crate) fn words(finding: Finding) -> &'static str {

@@ -3,11 +3,11 @@ use Rattle.std.proofs.Common.{◌≡◌, ℕ, zero, suc, ◌+◌, ◌<◌, ◌�
 use Rattle.std.specs.Prelude.{slice_get}
 use Rattle.std.proofs.lemmas.List.{length-set, length-replicate, get_or_past, get_or-set_same, get_or-set_other}
 use Rattle.std.proofs.lemmas.Bool.{cases_lt, cases_eq}
-use Rattle.programs.specs.declared.ast.TxId.{TxId}
-use Rattle.programs.specs.declared.ast.VarId.{VarId}
-use Rattle.programs.specs.Meaning.{State}
-use Rattle.own_writes.specs.Known.{Known}
-use Rattle.own_writes.specs.Order.{AllKnown}
+use Rattle.txn_programs.specs.declared.ast.TxId.{TxId}
+use Rattle.txn_programs.specs.declared.ast.VarId.{VarId}
+use Rattle.txn_programs.specs.Meaning.{State}
+use Rattle.attempt_writes.specs.Known.{Known}
+use Rattle.attempt_writes.specs.Order.{AllKnown}
 use Rattle.attempt.specs.Frame.{store}
 use Rattle.explore_law.specs.Orders.{counted, count_at}
 

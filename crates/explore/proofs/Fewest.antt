@@ -1,8 +1,8 @@
 -- All ways to a place have as many turns.
 use Rattle.std.proofs.Common.{◌≡◌, ℕ, ◌+◌, ◌-◌, List, [], ◌∷◌, length, get_or, sum_by, ap, arith}
 use Rattle.std.proofs.lemmas.List.Sums.{sum_by-set}
-use Rattle.programs.specs.declared.ast.TxId.{TxId}
-use Rattle.programs.specs.Listing.{Listing}
+use Rattle.txn_programs.specs.declared.ast.TxId.{TxId}
+use Rattle.txn_programs.specs.Listing.{Listing}
 use Rattle.explore_law.specs.Orders.{Place, first_place, HasTurn, turned, Leads}
 use Rattle.explore_law.specs.Ways.{IsWay}
 use Rattle.explore.proofs.Whole.{turn_known}

@@ -1,11 +1,11 @@
 -- An attempt on known values.
 use Rattle.std.proofs.Common.{◌≡◌, length, sym, ◌∙◌, subst}
-use Rattle.programs.specs.declared.ast.TxId.{TxId}
-use Rattle.programs.specs.declared.ast.Outcome.{Outcome}
-use Rattle.programs.specs.declared.ast.Outcome.TheVariants.{Returned, Thrown, Retries}
-use Rattle.programs.specs.Listing.{Listing, program_at}
-use Rattle.programs.specs.Meaning.{State, outcome, after}
-use Rattle.programs.specs.Tree.{Program}
+use Rattle.txn_programs.specs.declared.ast.TxId.{TxId}
+use Rattle.txn_programs.specs.declared.ast.Outcome.{Outcome}
+use Rattle.txn_programs.specs.declared.ast.Outcome.TheVariants.{Returned, Thrown, Retries}
+use Rattle.txn_programs.specs.Listing.{Listing, program_at}
+use Rattle.txn_programs.specs.Meaning.{State, outcome, after}
+use Rattle.txn_programs.specs.Tree.{Program}
 use Rattle.attempt.specs.declared.next.Next.{Next}
 use Rattle.attempt.specs.Frame.{Agrees, store}
 use Rattle.attempt.specs.View.{AttemptView, HoldsAt, next_of}

@@ -2,16 +2,16 @@
 use Rattle.std.proofs.Common.{◌≡◌, ℕ, ◌+◌, ◌<◌, ◌≤◌, Bool, true, false, List, [], ◌∷◌, ◌++◌, length, get_or, set, refl, sym, ◌∙◌, ap, subst, ⊎_elim, arith}
 use Rattle.std.specs.Bool.{Decides}
 use Rattle.std.specs.List.{Contains}
-use Rattle.programs.specs.declared.ast.TxId.{TxId}
-use Rattle.programs.specs.declared.ast.Outcome.{Outcome}
-use Rattle.programs.specs.declared.ast.Outcome.TheVariants.{Returned, Thrown, Retries}
-use Rattle.programs.specs.declared.ast.Fault.TheVariants.{User, Overflow, DivideByZero, Broken}
-use Rattle.programs.specs.Limits.{limits_hold}
-use Rattle.programs.proofs.Lawful.{limits_parts}
-use Rattle.programs.proofs.Faults.{outcome_known}
-use Rattle.programs.specs.LawfulReport.{OutcomeKnown}
-use Rattle.programs.specs.Listing.{Listing, program_at}
-use Rattle.programs.specs.Meaning.{outcome}
+use Rattle.txn_programs.specs.declared.ast.TxId.{TxId}
+use Rattle.txn_programs.specs.declared.ast.Outcome.{Outcome}
+use Rattle.txn_programs.specs.declared.ast.Outcome.TheVariants.{Returned, Thrown, Retries}
+use Rattle.txn_programs.specs.declared.ast.Fault.TheVariants.{User, Overflow, DivideByZero, Broken}
+use Rattle.txn_programs.specs.Limits.{limits_hold}
+use Rattle.txn_programs.proofs.Lawful.{limits_parts}
+use Rattle.txn_programs.proofs.Faults.{outcome_known}
+use Rattle.txn_programs.specs.LawfulReport.{OutcomeKnown}
+use Rattle.txn_programs.specs.Listing.{Listing, program_at}
+use Rattle.txn_programs.specs.Meaning.{outcome}
 use Rattle.std.proofs.lemmas.Bool.{cases_lt, true≢false}
 use Rattle.explore_law.specs.declared.found.Kinds.{Kinds}
 use Rattle.explore_law.specs.Orders.{Place, HasTurn, turned, Reached}

@@ -1,6 +1,6 @@
 -- From which place, and by which turn, each place was found.
 use Rattle.std.specs.Prelude.{◌≡◌, ℕ, ◌+◌, ◌<◌, ◌≤◌, List, [], ◌∷◌, ◌++◌, length, slice_index_or}
-use Rattle.programs.specs.Listing.{Listing}
+use Rattle.txn_programs.specs.Listing.{Listing}
 use Rattle.explore_law.specs.Orders.{Place, first_place, HasTurn, turned}
 use Rattle.explore.specs.declared.search.Came.{Came}
 use Rattle.explore_places.specs.Indexed.{place_at}

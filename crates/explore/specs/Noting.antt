@@ -1,8 +1,8 @@
 -- Which outcomes were seen, with one more.
 use Rattle.std.specs.Prelude.{true, false, replicate, slice_set}
-use Rattle.programs.specs.declared.ast.Outcome.{Outcome}
-use Rattle.programs.specs.declared.ast.Outcome.TheVariants.{Returned, Thrown, Retries}
-use Rattle.programs.specs.declared.ast.Fault.TheVariants.{User, Overflow, DivideByZero, Broken}
+use Rattle.txn_programs.specs.declared.ast.Outcome.{Outcome}
+use Rattle.txn_programs.specs.declared.ast.Outcome.TheVariants.{Returned, Thrown, Retries}
+use Rattle.txn_programs.specs.declared.ast.Fault.TheVariants.{User, Overflow, DivideByZero, Broken}
 use Rattle.explore_law.specs.declared.found.Kinds.{Kinds}
 
 abbrev pub none_seen : Kinds

@@ -1,9 +1,9 @@
 -- What a search knows when it has come so far: to the place of number c, and there to the transaction of number k.
 use Rattle.std.specs.Prelude.{◌≡◌, ◌⊎◌, ◌↔◌, ℕ, ◌<◌, ◌≤◌, true, List, [], ◌∷◌, length, Some, slice_index_or}
 use Rattle.std.specs.List.{Contains}
-use Rattle.programs.specs.declared.ast.TxId.{TxId}
-use Rattle.programs.specs.Listing.{Listing, program_at}
-use Rattle.programs.specs.Meaning.{outcome}
+use Rattle.txn_programs.specs.declared.ast.TxId.{TxId}
+use Rattle.txn_programs.specs.Listing.{Listing, program_at}
+use Rattle.txn_programs.specs.Meaning.{outcome}
 use Rattle.explore_law.specs.declared.found.Kinds.{Kinds}
 use Rattle.explore_law.specs.Orders.{Place, first_place, HasTurn, turned, Reached, IsEnd}
 use Rattle.explore_law.specs.Explored.{Kind, kind_of, shows}

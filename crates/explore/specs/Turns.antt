@@ -1,9 +1,9 @@
 -- What trying a turn tells.
 use Rattle.std.specs.Prelude.{◌≡◌, Option, Some, None}
-use Rattle.programs.specs.declared.ast.TxId.{TxId}
-use Rattle.programs.specs.declared.ast.Outcome.{Outcome}
-use Rattle.programs.specs.Listing.{Listing, program_at}
-use Rattle.programs.specs.Meaning.{outcome}
+use Rattle.txn_programs.specs.declared.ast.TxId.{TxId}
+use Rattle.txn_programs.specs.declared.ast.Outcome.{Outcome}
+use Rattle.txn_programs.specs.Listing.{Listing, program_at}
+use Rattle.txn_programs.specs.Meaning.{outcome}
 use Rattle.explore_law.specs.Orders.{Place, HasTurn, turned}
 
 -- there is one, which ends so and leads from p to q

@@ -1,7 +1,7 @@
 //! How many tasks run each transaction.
 
 ghost use Rattle.std.specs.Prelude.{◌≡◌, length, IfOk};
-ghost use Rattle.programs.specs.Listing.{tasks};
+ghost use Rattle.txn_programs.specs.Listing.{tasks};
 ghost use Rattle.explore_law.specs.Orders.{counted};
 
 use std::alloc::{AllocError, Global};

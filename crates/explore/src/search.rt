@@ -2,12 +2,12 @@
 
 ghost use Rattle.std.specs.Prelude.{◌≡◌, ◌≢◌, ◌+◌, ◌<◌, ◌≤◌, [], ◌∷◌, ◌++◌, length, IfOk, IfErr, OnOk};
 ghost use Rattle.std.specs.Bool.{Decides};
-ghost use Rattle.programs.specs.Listing.{Listing};
+ghost use Rattle.txn_programs.specs.Listing.{Listing};
 ghost use Rattle.explore_law.specs.Orders.{HasTurn};
 ghost use Rattle.explore_law.specs.Explored.{ReachesMore};
 ghost use Rattle.explore_law.specs.declared.found.Kinds.{Kinds};
 ghost use Rattle.explore_places.specs.Indexed.{place_at};
-ghost use Rattle.programs.specs.LawfulReport.{OutcomeKnown};
+ghost use Rattle.txn_programs.specs.LawfulReport.{OutcomeKnown};
 ghost use Rattle.explore.specs.Charted.{Charts, IsCharted};
 ghost use Rattle.explore.specs.Noting.{noted};
 ghost use Rattle.explore.specs.Searching.{IsUnderWay, StaysAt, first_shelf};

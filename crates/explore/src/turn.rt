@@ -1,9 +1,9 @@
 //! One turn: a transaction goes from one place to the next.
 
 ghost use Rattle.std.specs.Prelude.{◌≡◌, ◌≤◌, ◌<◌, length, IfOk, OnOk};
-ghost use Rattle.programs.specs.Listing.{program_at};
-ghost use Rattle.programs.specs.Meaning.{outcome, after, value_at};
-ghost use Rattle.own_writes.specs.Order.{AllKnown};
+ghost use Rattle.txn_programs.specs.Listing.{program_at};
+ghost use Rattle.txn_programs.specs.Meaning.{outcome, after, value_at};
+ghost use Rattle.attempt_writes.specs.Order.{AllKnown};
 ghost use Rattle.attempt.specs.Frame.{store};
 ghost use Rattle.attempt.specs.View.{supplied};
 

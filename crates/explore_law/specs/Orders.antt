@@ -1,9 +1,9 @@
 -- Every order of a file's tasks: the places that they lead through, and the turns from one place to the next.
 use Rattle.std.specs.Prelude.{◌≡◌, ◌≢◌, ℕ, ◌+◌, ◌-◌, ◌<◌, List, [], ◌∷◌, length, replicate, slice_index_or, slice_set}
-use Rattle.programs.specs.declared.ast.TxId.{TxId}
-use Rattle.programs.specs.declared.ast.Outcome.TheVariants.{Retries}
-use Rattle.programs.specs.Listing.{Listing, tasks, program_at}
-use Rattle.programs.specs.Meaning.{State, outcome, after}
+use Rattle.txn_programs.specs.declared.ast.TxId.{TxId}
+use Rattle.txn_programs.specs.declared.ast.Outcome.TheVariants.{Retries}
+use Rattle.txn_programs.specs.Listing.{Listing, tasks, program_at}
+use Rattle.txn_programs.specs.Meaning.{State, outcome, after}
 
 -- the present values, and for each transaction how many of its tasks are left to do
 pub record Place : Type 0 where

@@ -1,6 +1,6 @@
 //! What is found of all orders.
 
-use programs::limits::MAX_CONDITIONS;
+use txn_programs::limits::MAX_CONDITIONS;
 
 /// A place without a turn: the values, and for each transaction how many of its tasks wait.
 #[derive(Debug, PartialEq, Eq, PartialOrd, Ord, Drop)]

@@ -2,13 +2,13 @@
 use Rattle.std.proofs.Common.{◌≡◌, ℕ, zero, suc, ◌≤◌, true, List, [], ◌∷◌, ◌++◌, length, take, refl, sym, ◌∙◌, ap, subst, arith, append_assoc}
 use Rattle.std.proofs.lemmas.List.{map-append, append-nil}
 use Rattle.std.specs.Prelude.{Result, Ok, Err, IfOk}
-use Rattle.programs.specs.declared.ast.TxId.{TxId}
-use Rattle.programs.specs.declared.ast.TaskId.{TaskId}
-use Rattle.programs.specs.declared.report.Entry.{Entry}
-use Rattle.programs.specs.Names.{names_hold}
-use Rattle.programs.specs.Listing.{Listing}
-use Rattle.programs.specs.Told.{Told}
-use Rattle.programs.specs.LawfulReport.{LawfulReport}
+use Rattle.txn_programs.specs.declared.ast.TxId.{TxId}
+use Rattle.txn_programs.specs.declared.ast.TaskId.{TaskId}
+use Rattle.txn_programs.specs.declared.report.Entry.{Entry}
+use Rattle.txn_programs.specs.Names.{names_hold}
+use Rattle.txn_programs.specs.Listing.{Listing}
+use Rattle.txn_programs.specs.Told.{Told}
+use Rattle.txn_programs.specs.LawfulReport.{LawfulReport}
 use Rattle.book.specs.declared.task.Serial.{Serial}
 use Rattle.book.specs.declared.task.Serial.TheVariants as serial
 use Rattle.book.specs.View.{BookView, committed, entry_of}

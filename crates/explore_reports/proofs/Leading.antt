@@ -3,17 +3,17 @@ use Rattle.std.proofs.Common.{◌≡◌, ◌≢◌, ℕ, ◌-◌, ◌<◌, true,
 use Rattle.std.specs.List.{slice_get, All}
 use Rattle.std.proofs.lemmas.List.Elements.{All-head, All-tail}
 use Rattle.std.proofs.lemmas.Option.{get_or_from_slice_get}
-use Rattle.programs.specs.declared.ast.TxId.{TxId}
-use Rattle.programs.specs.declared.ast.TaskId.{TaskId}
-use Rattle.programs.specs.declared.ast.Outcome.{Outcome}
-use Rattle.programs.specs.declared.ast.Outcome.TheVariants.{Returned, Thrown, Retries}
-use Rattle.programs.specs.declared.report.Entry.{Entry}
-use Rattle.programs.specs.Meaning.{State, outcome, after}
-use Rattle.programs.specs.Names.{names_hold}
-use Rattle.programs.specs.Listing.{Listing, tasks, task_tx, program_at}
-use Rattle.programs.specs.Replay.{Snapshot, Applies, Replays, applied, entered}
-use Rattle.programs.specs.LawfulReport.{HasOwn}
-use Rattle.programs.proofs.Lawful.{known_task}
+use Rattle.txn_programs.specs.declared.ast.TxId.{TxId}
+use Rattle.txn_programs.specs.declared.ast.TaskId.{TaskId}
+use Rattle.txn_programs.specs.declared.ast.Outcome.{Outcome}
+use Rattle.txn_programs.specs.declared.ast.Outcome.TheVariants.{Returned, Thrown, Retries}
+use Rattle.txn_programs.specs.declared.report.Entry.{Entry}
+use Rattle.txn_programs.specs.Meaning.{State, outcome, after}
+use Rattle.txn_programs.specs.Names.{names_hold}
+use Rattle.txn_programs.specs.Listing.{Listing, tasks, task_tx, program_at}
+use Rattle.txn_programs.specs.Replay.{Snapshot, Applies, Replays, applied, entered}
+use Rattle.txn_programs.specs.LawfulReport.{HasOwn}
+use Rattle.txn_programs.proofs.Lawful.{known_task}
 use Rattle.explore_law.specs.Orders.{Place, HasTurn, turned, Leads, IsEnd, counted, count_at}
 use Rattle.explore_reports.proofs.Counts.{counted_first, counted_less}
 

@@ -5,20 +5,20 @@ use Rattle.std.proofs.lemmas.List.{length-map, map-append, append-nil, length-re
 use Rattle.std.proofs.lemmas.List.Elements.{All-nil, All-cons, All-head, All-tail}
 use Rattle.std.proofs.lemmas.List.FromFn.{length-range_with_len}
 use Rattle.std.proofs.lemmas.Option.{same_Some, slice_get_within, slice_get-get_or}
-use Rattle.programs.specs.declared.ast.TxId.{TxId}
-use Rattle.programs.specs.declared.ast.TaskId.{TaskId}
-use Rattle.programs.specs.declared.ast.Outcome.TheVariants.{Retries}
-use Rattle.programs.specs.declared.report.Entry.{Entry}
-use Rattle.programs.specs.Meaning.{State, outcome, after}
-use Rattle.programs.specs.Names.{names_hold}
-use Rattle.programs.specs.Standing.{Upholds}
-use Rattle.programs.specs.Listing.{Listing, tasks, program_at}
-use Rattle.programs.specs.Replay.{Snapshot, Applies, Replays, applied, opening, entered, Stands, Once}
-use Rattle.programs.specs.Told.{Told, snapshot_at, base_of, now_of}
-use Rattle.programs.specs.LawfulReport.{LawfulReport, FitsCatalogue, OutcomeKnown, Ascends, HasOwn}
-use Rattle.programs.specs.Limits.{most_tasks, limits_hold}
-use Rattle.programs.proofs.Lawful.{known_task, few_tasks}
-use Rattle.programs.proofs.Faults.{outcome_known}
+use Rattle.txn_programs.specs.declared.ast.TxId.{TxId}
+use Rattle.txn_programs.specs.declared.ast.TaskId.{TaskId}
+use Rattle.txn_programs.specs.declared.ast.Outcome.TheVariants.{Retries}
+use Rattle.txn_programs.specs.declared.report.Entry.{Entry}
+use Rattle.txn_programs.specs.Meaning.{State, outcome, after}
+use Rattle.txn_programs.specs.Names.{names_hold}
+use Rattle.txn_programs.specs.Standing.{Upholds}
+use Rattle.txn_programs.specs.Listing.{Listing, tasks, program_at}
+use Rattle.txn_programs.specs.Replay.{Snapshot, Applies, Replays, applied, opening, entered, Stands, Once}
+use Rattle.txn_programs.specs.Told.{Told, snapshot_at, base_of, now_of}
+use Rattle.txn_programs.specs.LawfulReport.{LawfulReport, FitsCatalogue, OutcomeKnown, Ascends, HasOwn}
+use Rattle.txn_programs.specs.Limits.{most_tasks, limits_hold}
+use Rattle.txn_programs.proofs.Lawful.{known_task, few_tasks}
+use Rattle.txn_programs.proofs.Faults.{outcome_known}
 use Rattle.explore_law.specs.Orders.{Place, first_place, turned, Leads, Reached, IsEnd, counted, count_at}
 use Rattle.explore_law.specs.declared.found.Found.{Found}
 use Rattle.explore_law.specs.Explored.{Explored, end_places}

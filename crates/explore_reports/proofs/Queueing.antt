@@ -8,9 +8,9 @@ use Rattle.std.specs.Option.{option_to_list}
 use Rattle.std.proofs.lemmas.List.{length-map, map-set, get_or-map, get_or-set_same, get_or-set_other}
 use Rattle.std.proofs.lemmas.Option.{same_Some}
 use Rattle.std.proofs.lemmas.Bool.{cases_eq}
-use Rattle.programs.specs.declared.ast.TxId.{TxId}
-use Rattle.programs.specs.Listing.{Listing, tasks}
-use Rattle.programs.specs.Replay.{Stands, Once}
+use Rattle.txn_programs.specs.declared.ast.TxId.{TxId}
+use Rattle.txn_programs.specs.Listing.{Listing, tasks}
+use Rattle.txn_programs.specs.Replay.{Stands, Once}
 use Rattle.explore_law.specs.Orders.{counted}
 use Rattle.explore_reports.specs.Giving.{queues, queue_at, Leaves, AreOwn}
 use Rattle.explore_reports.proofs.Counts.{length-counted}

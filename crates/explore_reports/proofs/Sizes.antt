@@ -5,11 +5,11 @@ use Rattle.std.proofs.lemmas.List.Elements.{All-nil, All-cons, All-head, All-tai
 use Rattle.std.proofs.lemmas.Bool.{cond_both}
 use Rattle.std.specs.List.{All}
 use Rattle.std.specs.Ordering.{int_eq}
-use Rattle.programs.specs.declared.ast.Fault.{Fault}
-use Rattle.programs.specs.declared.ast.Fault.TheVariants.{User}
-use Rattle.programs.specs.Tree.{Statement, Skip, Set, Seq, If, Repeat, Retry, OrElse, Throw, Statements, End, More, Program}
-use Rattle.programs.specs.Meaning.{State, value, truth, Ending, Done, Threw, Retried, then_do, unless_retried, with_number, choose, repeated, run, run_all, with_value, kept_by, state_after, final, after}
-use Rattle.programs.specs.Replay.{versions_after}
+use Rattle.txn_programs.specs.declared.ast.Fault.{Fault}
+use Rattle.txn_programs.specs.declared.ast.Fault.TheVariants.{User}
+use Rattle.txn_programs.specs.Tree.{Statement, Skip, Set, Seq, If, Repeat, Retry, OrElse, Throw, Statements, End, More, Program}
+use Rattle.txn_programs.specs.Meaning.{State, value, truth, Ending, Done, Threw, Retried, then_do, unless_retried, with_number, choose, repeated, run, run_all, with_value, kept_by, state_after, final, after}
+use Rattle.txn_programs.specs.Replay.{versions_after}
 
 abbrev Sized : ℕ → Ending State Fault → Type 0
 Sized n (Done m) = length m ≡ n

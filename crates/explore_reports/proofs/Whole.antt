@@ -5,16 +5,16 @@ use Rattle.std.proofs.lemmas.List.{length-map, map-append, append-nil}
 use Rattle.std.proofs.lemmas.List.Elements.{All-head, All-tail}
 use Rattle.std.proofs.lemmas.Option.{same_Some}
 use Rattle.std.proofs.lemmas.List.FromFn.{length-range_with_len}
-use Rattle.programs.specs.declared.ast.TxId.{TxId}
-use Rattle.programs.specs.declared.ast.TaskId.{TaskId}
-use Rattle.programs.specs.declared.ast.Outcome.TheVariants.{Retries}
-use Rattle.programs.specs.declared.report.Entry.{Entry}
-use Rattle.programs.specs.Meaning.{outcome}
-use Rattle.programs.specs.Names.{names_hold}
-use Rattle.programs.specs.Listing.{Listing, tasks, program_at}
-use Rattle.programs.specs.Replay.{Snapshot, Replays, applied, opening, entered, Stands, Once}
-use Rattle.programs.specs.Told.{Told, base_of, now_of}
-use Rattle.programs.specs.LawfulReport.{LawfulReport, BaseReached, on_lines}
+use Rattle.txn_programs.specs.declared.ast.TxId.{TxId}
+use Rattle.txn_programs.specs.declared.ast.TaskId.{TaskId}
+use Rattle.txn_programs.specs.declared.ast.Outcome.TheVariants.{Retries}
+use Rattle.txn_programs.specs.declared.report.Entry.{Entry}
+use Rattle.txn_programs.specs.Meaning.{outcome}
+use Rattle.txn_programs.specs.Names.{names_hold}
+use Rattle.txn_programs.specs.Listing.{Listing, tasks, program_at}
+use Rattle.txn_programs.specs.Replay.{Snapshot, Replays, applied, opening, entered, Stands, Once}
+use Rattle.txn_programs.specs.Told.{Told, base_of, now_of}
+use Rattle.txn_programs.specs.LawfulReport.{LawfulReport, BaseReached, on_lines}
 use Rattle.explore_law.specs.Orders.{first_place, Leads, Reached, IsEnd, counted, count_at}
 use Rattle.explore_law.specs.declared.found.Found.{Found}
 use Rattle.explore_law.specs.Explored.{Explored, end_place, end_places}

@@ -1,10 +1,10 @@
 -- Where reports end, among all orders.
 use Rattle.std.specs.Prelude.{◌≡◌, ◌⊎◌, List, [], map, length}
-use Rattle.programs.specs.declared.ast.TaskId.{TaskId}
-use Rattle.programs.specs.declared.ast.TxId.{TxId}
-use Rattle.programs.specs.Listing.{Listing}
-use Rattle.programs.specs.Told.{Told, now_of}
-use Rattle.programs.specs.LawfulReport.{LawfulReport, BaseReached}
+use Rattle.txn_programs.specs.declared.ast.TaskId.{TaskId}
+use Rattle.txn_programs.specs.declared.ast.TxId.{TxId}
+use Rattle.txn_programs.specs.Listing.{Listing}
+use Rattle.txn_programs.specs.Told.{Told, now_of}
+use Rattle.txn_programs.specs.LawfulReport.{LawfulReport, BaseReached}
 use Rattle.explore_law.specs.Orders.{Place, first_place, Leads, IsEnd, counted, count_at}
 
 -- its present values, and for each transaction how many of the parked tasks run it

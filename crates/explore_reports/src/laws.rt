@@ -2,8 +2,8 @@
 
 ghost use Rattle.std.specs.Prelude.{◌≡◌, ℕ, List, [], All};
 ghost use Rattle.std.specs.List.{Contains};
-ghost use Rattle.programs.specs.Told.{Told};
-ghost use Rattle.programs.specs.declared.ast.TxId.{TxId as TxIdOf};
+ghost use Rattle.txn_programs.specs.Told.{Told};
+ghost use Rattle.txn_programs.specs.declared.ast.TxId.{TxId as TxIdOf};
 ghost use Rattle.explore_law.specs.declared.found.Found.{Found as FoundOf};
 ghost use Rattle.explore_law.specs.Orders.{Place, Reached, IsEnd};
 ghost use Rattle.explore_law.specs.Explored.{Explored, end_places};

@@ -1,7 +1,7 @@
 //! The tasks of each transaction that are left to give a turn.
 
 ghost use Rattle.std.specs.Prelude.{◌≡◌, ◌<◌, [], ◌∷◌, ◌++◌, length, map, replicate, slice_set, IfOk, OnOk};
-ghost use Rattle.programs.specs.Listing.{tasks};
+ghost use Rattle.txn_programs.specs.Listing.{tasks};
 ghost use Rattle.explore_law.specs.Orders.{counted};
 ghost use Rattle.explore_reports.specs.Giving.{queues, queue_at, Leaves, AreOwn};
 

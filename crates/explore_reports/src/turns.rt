@@ -1,11 +1,11 @@
 //! The report of a run that takes given turns to an end.
 
 ghost use Rattle.std.specs.Prelude.{◌≡◌, ◌<◌, List, [], ◌∷◌, ◌++◌, length, IfOk, OnOk};
-ghost use Rattle.programs.specs.Listing.{tasks};
-ghost use Rattle.programs.specs.Replay.{opening};
-ghost use Rattle.programs.specs.Told.{told};
-ghost use Rattle.programs.specs.LawfulReport.{LawfulReport};
-ghost use Rattle.programs.specs.declared.report.Entry.{Entry as EntryOf};
+ghost use Rattle.txn_programs.specs.Listing.{tasks};
+ghost use Rattle.txn_programs.specs.Replay.{opening};
+ghost use Rattle.txn_programs.specs.Told.{told};
+ghost use Rattle.txn_programs.specs.LawfulReport.{LawfulReport};
+ghost use Rattle.txn_programs.specs.declared.report.Entry.{Entry as EntryOf};
 ghost use Rattle.book.specs.View.{opened};
 ghost use Rattle.explore_law.specs.Orders.{Place, HasTurn, turned, first_place, Leads};
 ghost use Rattle.explore_reports.specs.Ends.{EndsAt, LeadsToEnd};

@@ -1,7 +1,7 @@
 -- What exploring the bytes of a file leaves.
 use Rattle.std.specs.Prelude.{◌≡◌, ℕ, List, take, Option, Some, Result, Ok, Err}
 use Rattle.std.specs.Io.KnownBytes.{Appends, Keeps}
-use Rattle.programs.specs.Listing.{Listing}
+use Rattle.txn_programs.specs.Listing.{Listing}
 use Rattle.txn_text.specs.Spelling.{Spells, first_fault}
 use Rattle.run_faults.specs.declared.fault.RunFault.{RunFault}
 use Rattle.run_faults.specs.declared.fault.RunFault.TheVariants.{Input, Memory, Output, Schedule}

@@ -1,10 +1,10 @@
 -- A report of a run that comes to an end.
 use Rattle.std.specs.Prelude.{◌≡◌, ℕ, ◌≤◌, List, [], length, take, Option, Some, Result, Ok, Err}
 use Rattle.std.specs.Io.KnownBytes.{Appends, Keeps}
-use Rattle.programs.specs.declared.ast.TxId.{TxId}
-use Rattle.programs.specs.Listing.{Listing}
-use Rattle.programs.specs.Told.{Told}
-use Rattle.report_printer.specs.ReportText.{report_text}
+use Rattle.txn_programs.specs.declared.ast.TxId.{TxId}
+use Rattle.txn_programs.specs.Listing.{Listing}
+use Rattle.txn_programs.specs.Told.{Told}
+use Rattle.text_report_printer.specs.ReportText.{report_text}
 use Rattle.txn_text.specs.Spelling.{Spells, first_fault}
 use Rattle.run_faults.specs.declared.fault.RunFault.{RunFault}
 use Rattle.run_faults.specs.declared.fault.RunFault.TheVariants.{Input, Memory, Output, Schedule}

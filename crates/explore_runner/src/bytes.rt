@@ -11,7 +11,7 @@ use crate::sight::Sight;
 use explore::{MAX_STATES, Unexplored, explore};
 use explore_options::Limit;
 use run_faults::RunFault;
-use sink::{Sink, put_all};
+use run_sink::{Sink, put_all};
 use std::alloc::Global;
 use txn::Catalogue;
 use txn_text::{ReadFault, read_file};

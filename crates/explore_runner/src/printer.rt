@@ -2,7 +2,7 @@
 
 ghost use Rattle.std.specs.Prelude.{◌≡◌, ◌+◌, ◌<◌, ◌^◌, ◌++◌, IfOk, OnOk, codes, length, slice_get, slice_index_or, Some, string_bytes};
 ghost use Rattle.std.specs.Fmt.{decimal};
-ghost use Rattle.programs.specs.Listing.{tasks};
+ghost use Rattle.txn_programs.specs.Listing.{tasks};
 ghost use Rattle.explore_law.specs.Orders.{counted};
 ghost use Rattle.explore_runner.specs.FoundText.{broke_word, each_below, end_line, flag_words, found_text, more_text, parked_words, tx_line, tx_part, value_words, waiting_words};
 
@@ -11,9 +11,9 @@ use crate::words::{
 };
 use explore::task_counts;
 use explore_law::{End, Found, Kinds};
-use report_printer::put_number;
 use std::alloc::{AllocError, Global};
 use std::fmt::Write;
+use text_report_printer::put_number;
 use txn::{AlwaysId, Catalogue};
 
 /// The text of what is found of a catalogue: how many places are reached, a line for each

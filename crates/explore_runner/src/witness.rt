@@ -16,10 +16,10 @@ use explore::{MAX_STATES, Unexplored, way_to_end};
 use explore_options::Limit;
 use explore_reports::laws::ways_lead_to_ends;
 use explore_reports::witness;
-use report_printer::print_report;
 use run_faults::RunFault;
-use sink::{Sink, put_all};
+use run_sink::{Sink, put_all};
 use std::alloc::Global;
+use text_report_printer::print_report;
 use txn::{Catalogue, Memory, TxId};
 
 /// Writes to the sink a report of a run of the file that the bytes spell: one that comes to the end

@@ -1,7 +1,7 @@
 //! The report of a run that comes to a given end, and what a caller has by the laws.
 
 ghost use Rattle.std.specs.Prelude.{All, IsTrue};
-ghost use Rattle.programs.specs.Told.{told};
+ghost use Rattle.txn_programs.specs.Told.{told};
 ghost use Rattle.explore_law.specs.Explored.{Explored, end_places};
 ghost use Rattle.explore_reports.specs.Ends.{IsWhole, NobodyWaits};
 

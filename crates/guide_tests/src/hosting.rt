@@ -3,8 +3,8 @@
 ghost use Rattle.std.specs.Prelude.{◌≡◌};
 
 use book::{Finish, Serial};
-use embedded::{Brought, Program, Store, Tried, Worker};
-use observer::Observed;
+use run_observer::Observed;
+use stm_store::{Brought, Program, Store, Tried, Worker};
 use txn::{Outcome, TxId};
 use txn_text::ReadFault;
 

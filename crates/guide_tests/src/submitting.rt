@@ -4,9 +4,9 @@ ghost use Rattle.std.specs.Prelude.{◌≡◌};
 
 use book::{Counts, Finish};
 use checker::{Verdict, check};
-use embedded::{Brought, Job, Program, ReportFault, Store, Tried, Worker};
 use std::alloc::Global;
 use std::process::Abort;
+use stm_store::{Brought, Job, Program, ReportFault, Store, Tried, Worker};
 use txn::{TaskId, TxId};
 
 const FILE: &str =

@@ -4,7 +4,7 @@ ghost use Rattle.std.specs.Prelude.{◌≡◌, ◌<◌, length};
 
 use crate::texts::{text_of, times};
 use cells::{Cells, Pass};
-use observer::{Observed, observe};
+use run_observer::{Observed, observe};
 use std::alloc::Global;
 use std::process::Abort;
 use txn::{Catalogue, Outcome, TxId};

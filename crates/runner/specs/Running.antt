@@ -1,9 +1,9 @@
 -- What a run of the bytes of a file leaves.
 use Rattle.std.specs.Prelude.{◌≡◌, ℕ, List, take, Option, Some, Result, Ok, Err}
 use Rattle.std.specs.Io.KnownBytes.{Appends, Keeps}
-use Rattle.programs.specs.Listing.{Listing}
-use Rattle.programs.specs.Told.{Told}
-use Rattle.programs.specs.LawfulReport.{LawfulReport, BaseReached}
+use Rattle.txn_programs.specs.Listing.{Listing}
+use Rattle.txn_programs.specs.Told.{Told}
+use Rattle.txn_programs.specs.LawfulReport.{LawfulReport, BaseReached}
 use Rattle.txn_text.specs.Spelling.{Spells, first_fault}
 use Rattle.txn_text.specs.ReportText.{report_text}
 use Rattle.txn_text.specs.ReportFits.{ReportFits}

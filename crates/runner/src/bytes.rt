@@ -5,15 +5,15 @@ ghost use Rattle.txn_text.specs.Spelling.{Spells};
 ghost use Rattle.run_faults.specs.Failures.{output_failures};
 ghost use Rattle.runner.specs.Running.{IsReportOf, IsRefused, Ran};
 
-use options::Options;
 use run_faults::RunFault;
-use sink::{Sink, put_all};
+use run_options::Options;
+use run_sink::{Sink, put_all};
+use run_workers::{Gate, run_tasks};
 use std::alloc::Global;
 use std::sync::Wait;
 use std::thread::Threads;
 use txn::Catalogue;
 use txn_text::{ReadFault, print_report, read_file};
-use workers::{Gate, run_tasks};
 
 /// Runs the file that the bytes spell, and writes its report to the sink.
 ///

@@ -1,15 +1,15 @@
 //! The run of all tasks of a file: from bytes to bytes.
 //!
 //! `run_bytes` reads a file, has its tasks run, and writes the report to a sink. `run_tasks`, from
-//! a catalogue to a report, and what it takes are of the crate `workers`, and are handed out here, as
+//! a catalogue to a report, and what it takes are of the crate `run_workers`, and are handed out here, as
 //! are the faults of a run, which are of `run_faults`.
 #![tactic(auto)]
 
 mod bytes;
 
 pub use bytes::run_bytes;
-pub use observer::{Observed, observe};
-pub use options::Options;
 pub use run_faults::RunFault;
-pub use sink::{Out, Sink, SinkFault};
-pub use workers::{Gate, OpenGate, Point, run_tasks};
+pub use run_observer::{Observed, observe};
+pub use run_options::Options;
+pub use run_sink::{Out, Sink, SinkFault};
+pub use run_workers::{Gate, OpenGate, Point, run_tasks};

@@ -6,8 +6,8 @@ use Rattle.std_alloc.proofs.BoxSteps.Form.{Bx}
 use Rattle.std_heap.specs.contracts.Global as Heap
 use Rattle.std_heap.specs.contracts.GlobalAllocator.TheImpl.{ghosts, dict}
 use Rattle.std_heap.proofs.Global.TheLaws as heap
-use Rattle.embedded.specs.contracts.program.Program as Home
-use Rattle.embedded.proofs.program.Program.TheLaws as home
+use Rattle.stm_store.specs.contracts.program.Program as Home
+use Rattle.stm_store.proofs.program.Program.TheLaws as home
 use Rattle.stm_c.specs.contracts.parts.Parts as Parts
 use Rattle.stm_c.specs.contracts.program_handle.ProgramHandle as Sealed
 

@@ -1,10 +1,10 @@
 -- What a host is told of a store in numbers.
 use Rattle.std.specs.Prelude.{◌≡◌, ℕ, ℤ, pos, negsuc, ◌<◌, ◌≤◌, List, length, Option, Some, None}
-use Rattle.programs.specs.declared.ast.TaskId.{TaskId}
+use Rattle.txn_programs.specs.declared.ast.TaskId.{TaskId}
 use Rattle.book.specs.View.{BookView}
 use Rattle.book.specs.Submitted.{Submits}
 use Rattle.book.specs.declared.counting.Counts.{Counts}
-use Rattle.embedded.specs.Working.{IsValueOf}
+use Rattle.stm_store.specs.Working.{IsValueOf}
 use Rattle.stm_c.specs.declared.codes.Standing.{Standing}
 
 -- a task's number; where none was submitted, that there is no room (-14)

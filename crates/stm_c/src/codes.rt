@@ -5,8 +5,8 @@ ghost use Rattle.stm_c.specs.Looking.{number_of_task};
 
 use book::{Finish, Serial};
 use checker::Part;
-use embedded::{Brought, Job, Tried};
-use observer::Observed;
+use run_observer::Observed;
+use stm_store::{Brought, Job, Tried};
 use txn::{Fault, Outcome, TaskId};
 use txn_text::ReadFault;
 

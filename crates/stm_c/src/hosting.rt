@@ -1,7 +1,7 @@
 //! A store, as a handle: its calls stand under the host's lock.
 
 ghost use Rattle.std.specs.Prelude.{◌≡◌, ◌<◌, length};
-ghost use Rattle.programs.specs.Listing.{tasks};
+ghost use Rattle.txn_programs.specs.Listing.{tasks};
 
 use crate::codes::{
     MEMORY, NO_ROOM, NO_WORKER, Taken, Told, UNKNOWN, brought, job_of, served, unknown,
@@ -13,8 +13,8 @@ use crate::store_handle::{StoreHandle, give as give_store};
 use crate::worker_handle::{WorkerHandle, give as give_worker};
 use crate::writing::copy;
 use core::mem::replace_with;
-use embedded::{Program, Store};
 use std::alloc::Global;
+use stm_store::{Program, Store};
 use txn::TaskId;
 
 /// Opens a store of the program, for so many workers. 0, and `out` holds it; -6, -10: want of

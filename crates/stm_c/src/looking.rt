@@ -2,7 +2,7 @@
 
 ghost use Rattle.std.specs.Prelude.{◌≡◌, pos, IfOk, string_bytes};
 ghost use Rattle.book.specs.Counting.{AreCounts};
-ghost use Rattle.embedded.specs.Working.{IsFileOf, IsTextOf, IsValueOf};
+ghost use Rattle.stm_store.specs.Working.{IsFileOf, IsTextOf, IsValueOf};
 ghost use Rattle.stm_c.specs.Rooms.{Holds};
 ghost use Rattle.stm_c.specs.Looking.{counts_in, ValueIs};
 
@@ -11,7 +11,7 @@ use crate::parts::Parts;
 use crate::store_handle::StoreHandle;
 use crate::writing::copy;
 use core::mem::replace_with;
-use embedded::{FileFault, ReportFault};
+use stm_store::{FileFault, ReportFault};
 
 /// How many tasks stand how.
 #[unsafe(no_mangle)]

@@ -3,7 +3,7 @@
 use crate::codes::{MEMORY, file_fault, schedule_fault};
 use crate::writing::copy;
 use run_faults::RunFault;
-use sink::Out;
+use run_sink::Out;
 use std::alloc::Global;
 use world_runner::world_bytes;
 

@@ -1,12 +1,12 @@
 //! A box as C holds it: its pointer, as one to bytes.
 ghost use Rattle.std.specs.Prelude.{◌≡◌};
-ghost use Rattle.embedded.specs.declared.program.Program.{Program};
+ghost use Rattle.stm_store.specs.declared.program.Program.{Program};
 ghost use Rattle.stm_c.specs.ProgramHandle.{value_coded, handle_owns};
 
 use crate::parts::Parts;
-use embedded::Program;
 use std::alloc::Global;
 use std::marker::Model;
+use stm_store::Program;
 
 /// A `Program` that the host holds.
 #[repr(C)]

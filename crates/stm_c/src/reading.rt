@@ -4,8 +4,8 @@ use crate::codes::{MEMORY, UNKNOWN, file_fault};
 use crate::parts::Parts;
 use crate::program_handle::{ProgramHandle, give};
 use core::mem::replace_with;
-use embedded::Program;
 use std::alloc::Global;
+use stm_store::Program;
 
 /// Reads the program that the bytes spell. 0, and `out` holds it; -1 to -7: the file is refused, or
 /// want of memory, and `out` is as it was.

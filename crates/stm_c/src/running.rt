@@ -1,9 +1,9 @@
 //! All tasks of a file, one after another on the calling thread, and the report.
 
 ghost use Rattle.std.specs.Prelude.{◌≡◌, pos, IfOk, IfErr, ◌⊎◌, Some, string_bytes};
-ghost use Rattle.programs.specs.Told.{told};
-ghost use Rattle.programs.specs.LawfulReport.{LawfulReport, BaseReached};
-ghost use Rattle.file_grammar.specs.Spelling.{Spells, first_fault};
+ghost use Rattle.txn_programs.specs.Told.{told};
+ghost use Rattle.txn_programs.specs.LawfulReport.{LawfulReport, BaseReached};
+ghost use Rattle.text_grammar.specs.Spelling.{Spells, first_fault};
 ghost use Rattle.text_words.specs.declared.fault.ReadFault.TheVariants as ReadFault;
 ghost use Rattle.book.specs.Turns.{IsIdle};
 ghost use Rattle.runner.specs.Running.{IsReportOf};

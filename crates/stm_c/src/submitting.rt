@@ -7,7 +7,7 @@ use crate::codes::{UNKNOWN, submitted};
 use crate::parts::Parts;
 use crate::store_handle::StoreHandle;
 use core::mem::replace_with;
-use embedded::Store;
+use stm_store::Store;
 use txn::TxId;
 
 /// A ready task of the transaction more: its number. -9, -14: there is no such transaction, no room

@@ -4,7 +4,7 @@ use crate::codes::{Told, UNKNOWN, observed, tried, unknown};
 use crate::parts::Parts;
 use crate::worker_handle::WorkerHandle;
 use core::mem::replace_with;
-use embedded::{Job, Worker};
+use stm_store::{Job, Worker};
 use txn::{TaskId, TxId};
 
 /// Evaluates the transaction on one state, for this task of a store: 0 it has ended, 2 a read was

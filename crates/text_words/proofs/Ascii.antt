@@ -8,7 +8,7 @@ use Rattle.std.proofs.lemmas.Str.{IsUtf8-from_ascii}
 use Rattle.std.proofs.lemmas.Bool.{eqb-true, leb-true}
 use Rattle.std.proofs.lemmas.Bool.Decides.{eqb_tells}
 use Rattle.std.proofs.lemmas.Grind.{common_steps}
-use Rattle.programs.specs.Names.{is_name, is_name_byte}
+use Rattle.txn_programs.specs.Names.{is_name, is_name_byte}
 use Rattle.text_words.specs.Bytes.{is_int, is_positive}
 
 pub utf8_ok : {E : Type 0} (bytes : List ℕ) (r : Result (Bor (List ℕ)) E) (X : E → Type 0) → IsAscii bytes → MatchResult r (λ s. (s.now ≡ bytes) × IsUtf8 bytes) (λ e. (IsUtf8 bytes → ⊥) × X e) → IsOk r

@@ -19,7 +19,7 @@ use mir.Val.{to_z, of_z}
 use mir.ValLaws.{to_z-of_z}
 use Rattle.std.specs.Option.{ok_or}
 use Rattle.std.proofs.lemmas.Bool.{lt-ltb, ltb-true}
-use Rattle.programs.specs.Arithmetic.{fits}
+use Rattle.txn_programs.specs.Arithmetic.{fits}
 use Rattle.text_words.specs.Bytes.{int_value}
 use Rattle.text_words.specs.Answers.{Gives, Fails}
 use Rattle.text_words.specs.Numbers.{number_of, count_of}

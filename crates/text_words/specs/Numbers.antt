@@ -1,6 +1,6 @@
 -- Integers as numbers of the machine.
 use Rattle.std.specs.Prelude.{ℕ, ℤ, pos, negsuc, nat_lt, if◌then◌else◌, Result, Ok, Err, ◌^◌}
-use Rattle.programs.specs.Arithmetic.{fits}
+use Rattle.txn_programs.specs.Arithmetic.{fits}
 use Rattle.text_words.specs.declared.fault.ReadFault.{ReadFault}
 use Rattle.text_words.specs.declared.fault.ReadFault.TheVariants.{Limit}
 

@@ -1,7 +1,7 @@
 -- The tokens of bytes.
 use Rattle.std.specs.Prelude.{ℕ, zero, suc, ℤ, Bool, List, [], ◌∷◌, length, drop, ◌==◌, if◌then◌else◌}
 use Rattle.std.specs.List.{prefix_len, take_while}
-use Rattle.programs.specs.Names.{is_name}
+use Rattle.txn_programs.specs.Names.{is_name}
 use Rattle.text_words.specs.Bytes.{is_atom_byte, is_in_line, is_int, int_value}
 
 -- a parenthesis, a name, or an integer by its value, however large

@@ -6,7 +6,7 @@ ghost use Rattle.text_words.specs.TokenView.{view, front};
 
 use crate::bytes::{as_text, atom_len, is_atom_byte, is_int, line_len};
 use crate::numeral::Numeral;
-use programs::names::is_name;
+use txn_programs::names::is_name;
 
 /// A parenthesis, or an atom.
 #[derive(Clone, Copy, Debug)]

@@ -7,25 +7,25 @@ use Rattle.std.proofs.lemmas.Bool.{and_left, and_right, and_from, and_parts}
 use Rattle.std.proofs.lemmas.List.Folds.{list_all-map}
 use Rattle.indexmap.specs.IndexSet.{insert_key}
 use Rattle.std.proofs.lemmas.Simd.{map-map}
-use Rattle.programs.specs.declared.ast.Tx.{Tx}
-use Rattle.programs.specs.declared.ast.TxId.{TxId}
-use Rattle.programs.specs.declared.ast.Cond.{Cond}
-use Rattle.programs.specs.Tree.{Condition, condition_of, Transaction, transaction_of, statement_of, expression_of, under}
-use Rattle.programs.specs.Meaning.{State, truth}
-use Rattle.programs.specs.Listing.{Listing, listing_of, conditions}
-use Rattle.programs.specs.Fused.{own_code}
-use Rattle.programs.specs.Cost.{conditions_cost}
-use Rattle.programs.specs.Depth.{condition_depth, statement_depth, expression_depth}
-use Rattle.programs.specs.Scope.{ConditionsKnown}
-use Rattle.programs.specs.Standing.{is_true, upholds}
-use Rattle.programs.proofs.Lawful.{limits_parts}
-use Rattle.programs.specs.Names.{is_name, are_new, are_distinct, knows_condition, knows_transaction, is_well_formed, names_hold}
-use Rattle.programs.specs.Limits.{deepest, most_tasks, most_variables, most_conditions, most_transactions, longest_name, limits_hold, conditions_fit, program_fits}
-use Rattle.catalogue_rules.specs.Beside.{fits_beside}
-use Rattle.catalogue_rules.proofs.Beside.{all_fit_beside}
-use Rattle.evaluator.specs.Always.{conditions_of}
-use Rattle.program_copies.specs.Conditions.{standing_of}
-use Rattle.evaluator.proofs.Always as declared
+use Rattle.txn_programs.specs.declared.ast.Tx.{Tx}
+use Rattle.txn_programs.specs.declared.ast.TxId.{TxId}
+use Rattle.txn_programs.specs.declared.ast.Cond.{Cond}
+use Rattle.txn_programs.specs.Tree.{Condition, condition_of, Transaction, transaction_of, statement_of, expression_of, under}
+use Rattle.txn_programs.specs.Meaning.{State, truth}
+use Rattle.txn_programs.specs.Listing.{Listing, listing_of, conditions}
+use Rattle.txn_programs.specs.Fused.{own_code}
+use Rattle.txn_programs.specs.Cost.{conditions_cost}
+use Rattle.txn_programs.specs.Depth.{condition_depth, statement_depth, expression_depth}
+use Rattle.txn_programs.specs.Scope.{ConditionsKnown}
+use Rattle.txn_programs.specs.Standing.{is_true, upholds}
+use Rattle.txn_programs.proofs.Lawful.{limits_parts}
+use Rattle.txn_programs.specs.Names.{is_name, are_new, are_distinct, knows_condition, knows_transaction, is_well_formed, names_hold}
+use Rattle.txn_programs.specs.Limits.{deepest, most_tasks, most_variables, most_conditions, most_transactions, longest_name, limits_hold, conditions_fit, program_fits}
+use Rattle.txn_rules.specs.Beside.{fits_beside}
+use Rattle.txn_rules.proofs.Beside.{all_fit_beside}
+use Rattle.txn_evaluator.specs.Always.{conditions_of}
+use Rattle.txn_copies.specs.Conditions.{standing_of}
+use Rattle.txn_evaluator.proofs.Always as declared
 
 list_any-map : {X Y : Type 0} (p : Y → Bool) (f : X → Y) (xs : List X) → list_any p (map f xs) ≡ list_any (λ x. p (f x)) xs
 list_any-map p f [] = refl

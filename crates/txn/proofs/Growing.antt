@@ -6,14 +6,14 @@ use Rattle.std.proofs.lemmas.List.Elements.{All-head, All-tail}
 use Rattle.std.proofs.lemmas.List.Folds.{list_all-append}
 use Rattle.std.proofs.lemmas.Bool.{and_from, lt-ltb, le-leb}
 use Rattle.std.proofs.lemmas.Grind.{flat_map-append}
-use Rattle.programs.specs.declared.ast.TxId.{TxId}
-use Rattle.programs.specs.Meaning.{State, truth}
-use Rattle.programs.specs.Tree.{Condition, Transaction, under}
-use Rattle.programs.specs.Listing.{Listing, tasks, tasks_of, conditions, always_names}
-use Rattle.programs.specs.Names.{is_name, are_distinct, knows_condition, knows_transaction, is_well_formed, names_hold}
-use Rattle.programs.specs.Limits.{limits_hold, most_tasks, most_variables, most_conditions, most_transactions, longest_name, conditions_fit, program_fits}
-use Rattle.programs.specs.Standing.{AllTrue, Upholds, is_true, upholds}
-use Rattle.programs.proofs.Lawful.{names_parts, limits_parts, length-tasks_of}
+use Rattle.txn_programs.specs.declared.ast.TxId.{TxId}
+use Rattle.txn_programs.specs.Meaning.{State, truth}
+use Rattle.txn_programs.specs.Tree.{Condition, Transaction, under}
+use Rattle.txn_programs.specs.Listing.{Listing, tasks, tasks_of, conditions, always_names}
+use Rattle.txn_programs.specs.Names.{is_name, are_distinct, knows_condition, knows_transaction, is_well_formed, names_hold}
+use Rattle.txn_programs.specs.Limits.{limits_hold, most_tasks, most_variables, most_conditions, most_transactions, longest_name, conditions_fit, program_fits}
+use Rattle.txn_programs.specs.Standing.{AllTrue, Upholds, is_true, upholds}
+use Rattle.txn_programs.proofs.Lawful.{names_parts, limits_parts, length-tasks_of}
 use Rattle.txn.specs.Grown.{grown}
 
 one_each : (txs : List TxId) → tasks_of (map (λ (tx : TxId). (tx, 1)) txs) ≡ txs

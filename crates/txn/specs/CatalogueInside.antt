@@ -1,13 +1,13 @@
 -- What the fields of a catalogue mean, and what they keep.
 use Rattle.std.specs.Prelude.{◌≡◌, map, length, string_bytes, true}
 use Rattle.txn.specs.declared.catalogue.Catalogue.TheInside.{Inside}
-use Rattle.programs.specs.Tree.{transaction_of}
-use Rattle.programs.specs.Fused.{own_code, common_code}
-use Rattle.programs.specs.Listing.{Listing, conditions, always_names, tasks_of}
-use Rattle.programs.specs.Names.{names_hold}
-use Rattle.programs.specs.Limits.{limits_hold}
-use Rattle.programs.specs.Standing.{Upholds}
-use Rattle.program_copies.specs.Conditions.{standing_of}
+use Rattle.txn_programs.specs.Tree.{transaction_of}
+use Rattle.txn_programs.specs.Fused.{own_code, common_code}
+use Rattle.txn_programs.specs.Listing.{Listing, conditions, always_names, tasks_of}
+use Rattle.txn_programs.specs.Names.{names_hold}
+use Rattle.txn_programs.specs.Limits.{limits_hold}
+use Rattle.txn_programs.specs.Standing.{Upholds}
+use Rattle.txn_copies.specs.Conditions.{standing_of}
 
 abbrev pub listed : Inside → Listing
 listed c =

@@ -1,7 +1,7 @@
 -- Listings with runs more, and listings that differ in their runs at most.
 use Rattle.std.specs.Prelude.{◌≡◌, ◌++◌, List, map}
-use Rattle.programs.specs.declared.ast.TxId.{TxId}
-use Rattle.programs.specs.Listing.{Listing}
+use Rattle.txn_programs.specs.declared.ast.TxId.{TxId}
+use Rattle.txn_programs.specs.Listing.{Listing}
 
 -- the listing with a run of one task more for each of these transactions, after its other runs
 abbrev pub grown : Listing → List TxId → Listing

@@ -2,32 +2,32 @@
 
 ghost use Rattle.std.specs.Prelude.{◌≡◌, ◌++◌, ◌≤◌, ◌&&◌, true, false, IfOk, IfErr, OnOk, ◌≢◌, map, length, nat_le, string_bytes, replicate};
 ghost use Rattle.std.specs.List.{list_all};
-ghost use Rattle.programs.specs.Meaning.{truth};
-ghost use Rattle.programs.specs.Fused.{own_code, common_code};
-ghost use Rattle.programs.specs.Depth.{condition_depth, statement_depth, expression_depth};
-ghost use Rattle.programs.specs.Tree.{condition_of, expression_of, statement_of};
-ghost use Rattle.programs.specs.Listing.{listing_of, tasks_of};
-ghost use Rattle.programs.specs.Names.{are_distinct, is_well_formed, names_hold};
-ghost use Rattle.programs.specs.Limits.{deepest, most_conditions, limits_hold};
-ghost use Rattle.programs.specs.Scope.{ConditionsKnown};
-ghost use Rattle.programs.specs.Standing.{is_true, upholds};
-ghost use Rattle.evaluator.specs.Always.{conditions_of};
+ghost use Rattle.txn_programs.specs.Meaning.{truth};
+ghost use Rattle.txn_programs.specs.Fused.{own_code, common_code};
+ghost use Rattle.txn_programs.specs.Depth.{condition_depth, statement_depth, expression_depth};
+ghost use Rattle.txn_programs.specs.Tree.{condition_of, expression_of, statement_of};
+ghost use Rattle.txn_programs.specs.Listing.{listing_of, tasks_of};
+ghost use Rattle.txn_programs.specs.Names.{are_distinct, is_well_formed, names_hold};
+ghost use Rattle.txn_programs.specs.Limits.{deepest, most_conditions, limits_hold};
+ghost use Rattle.txn_programs.specs.Scope.{ConditionsKnown};
+ghost use Rattle.txn_programs.specs.Standing.{is_true, upholds};
+ghost use Rattle.txn_evaluator.specs.Always.{conditions_of};
 ghost use Rattle.txn.specs.declared.build.BuildFault.TheVariants.{Memory};
 
-use catalogue_rules::limits::{
+use indexmap::IndexSet;
+use std::alloc::{AllocError, AllocFailed, Global};
+use thiserror::Error;
+use txn_compiler::compile::{compile, ending};
+use txn_evaluator::evaluate::truth;
+use txn_programs::limits::{MAX_CONDITIONS, MAX_TRANSACTIONS, MAX_VARIABLES};
+use txn_programs::{Cond, Op, Tx, TxId};
+use txn_rules::limits::{
     always_cost, always_names_fit, counts_fit, names_fit, sum_fits, transactions_fit, tx_names_fit,
 };
-use catalogue_rules::names::{
+use txn_rules::names::{
     always_known, always_names_have_form, names_have_form, runs_known, transactions_known,
     tx_names_have_form,
 };
-use compiler::compile::{compile, ending};
-use evaluator::evaluate::truth;
-use indexmap::IndexSet;
-use programs::limits::{MAX_CONDITIONS, MAX_TRANSACTIONS, MAX_VARIABLES};
-use programs::{Cond, Op, Tx, TxId};
-use std::alloc::{AllocError, AllocFailed, Global};
-use thiserror::Error;
 
 /// Why a catalogue is refused: the first that applies, `Memory` aside.
 #[derive(Clone, Copy, Debug, PartialEq, Eq, Error)]

@@ -1,24 +1,24 @@
 //! The catalogue: what a file declares.
 
 ghost use Rattle.std.specs.Prelude.{◌≡◌, ◌<◌, ◌≤◌, ◌+◌, ◌^◌, ℕ, All, List, length, map, slice_get, string_bytes, bytes_eq, position, Some, IfErr, true, false, IfOk, OnOk, IsTrue, ◌↔◌};
-ghost use Rattle.programs.specs.Fused.{own_code, common_code};
-ghost use Rattle.programs.specs.Names.{names_hold};
-ghost use Rattle.programs.specs.Limits.{limits_hold, most_variables};
-ghost use Rattle.programs.specs.Tree.{transaction_of, under};
-ghost use Rattle.programs.specs.Listing.{listing_of, conditions, tasks, task_tx, transaction_at, variable_named, transaction_named, condition_named, always_name};
-ghost use Rattle.programs.specs.Scope.{ConditionsKnown, ProgramKnown};
-ghost use Rattle.programs.specs.Standing.{Upholds, upholds};
-ghost use Rattle.evaluator.specs.Always.{conditions_of};
-ghost use Rattle.program_copies.specs.Conditions.{standing_of};
+ghost use Rattle.txn_programs.specs.Fused.{own_code, common_code};
+ghost use Rattle.txn_programs.specs.Names.{names_hold};
+ghost use Rattle.txn_programs.specs.Limits.{limits_hold, most_variables};
+ghost use Rattle.txn_programs.specs.Tree.{transaction_of, under};
+ghost use Rattle.txn_programs.specs.Listing.{listing_of, conditions, tasks, task_tx, transaction_at, variable_named, transaction_named, condition_named, always_name};
+ghost use Rattle.txn_programs.specs.Scope.{ConditionsKnown, ProgramKnown};
+ghost use Rattle.txn_programs.specs.Standing.{Upholds, upholds};
+ghost use Rattle.txn_evaluator.specs.Always.{conditions_of};
+ghost use Rattle.txn_copies.specs.Conditions.{standing_of};
 ghost use Rattle.txn.specs.Grown.{grown, SameButRuns};
 
 use crate::build::{BuildFault, Copies, judged, work_out};
 use indexmap::IndexSet;
-use program_copies::copy::{always_of, runs_with, transactions_of, variables_of};
-use program_copies::same::{same_always, same_names, same_runs, same_transactions, same_values};
-use programs::{AlwaysId, Cond, Memory, Op, TaskId, Tx, TxId, VarId};
 use std::alloc::{AllocError, Global};
 use std::marker::Model;
+use txn_copies::copy::{always_of, runs_with, transactions_of, variables_of};
+use txn_copies::same::{same_always, same_names, same_runs, same_transactions, same_values};
+use txn_programs::{AlwaysId, Cond, Memory, Op, TaskId, Tx, TxId, VarId};
 
 /// Variables, standing conditions, transactions and runs, in declared order. A clause sees what they
 /// say, as a `Listing`. In every catalogue names and ids hold, and all limits, and each condition is
@@ -39,7 +39,7 @@ pub struct Catalogue {
 }
 
 impl Model for Catalogue {
-    ghost use Rattle.programs.specs.Listing.{Listing};
+    ghost use Rattle.txn_programs.specs.Listing.{Listing};
     ghost use Rattle.txn.specs.Codes.{coded_listing};
 
     ghost Value = { Listing };
@@ -297,7 +297,7 @@ impl Catalogue {
 }
 
 /// The place of a name among names of which there are few.
-#[tactic(auto, using(programs::proofs::Lawful::place_at))]
+#[tactic(auto, using(txn_programs::proofs::Lawful::place_at))]
 fn place_of(names: &IndexSet<String>, name: &str) -> Option<u32>
     requires { length names.now.keys ≤ most_variables }
     ensures { result ≡ position (bytes_eq name.now) (map string_bytes names.now.keys) }

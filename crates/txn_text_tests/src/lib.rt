@@ -1,4 +1,4 @@
-//! Tests of what `txn_text`, `report_reader` and `schedule_reader` promise their callers.
+//! Tests of what `txn_text`, `text_report_reader` and `text_schedule_reader` promise their callers.
 #![tactic(auto)]
 
 #[cfg(test)]

@@ -1,9 +1,9 @@
 //! Catalogues and texts of the tests, and why texts are refused.
 
-use report_reader::read_report;
-use schedule_reader::read_schedule;
 use std::alloc::{AllocError, Global};
 use std::process::Abort;
+use text_report_reader::read_report;
+use text_schedule_reader::read_schedule;
 use txn::{Catalogue, Move};
 use txn_text::{ReadFault, read_file};
 

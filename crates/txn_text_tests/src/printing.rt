@@ -1,9 +1,9 @@
 //! The texts of small files and reports.
 
 ghost use Rattle.std.specs.Prelude.{◌≡◌, ◌+◌, IfOk, length};
-ghost use Rattle.programs.specs.Listing.{Listing, tasks};
-ghost use Rattle.programs.specs.LawfulReport.{FitsCatalogue};
-ghost use Rattle.programs.specs.Told.{told};
+ghost use Rattle.txn_programs.specs.Listing.{Listing, tasks};
+ghost use Rattle.txn_programs.specs.LawfulReport.{FitsCatalogue};
+ghost use Rattle.txn_programs.specs.Told.{told};
 
 use crate::parts::is_file;
 use std::alloc::{AllocError, Global};

@@ -1,9 +1,9 @@
 //! Reports that are read, and printed again as the same bytes.
 
 use crate::parts::{INCREMENTS, is_file, on_file};
-use report_reader::read_report;
 use std::alloc::Global;
 use std::process::Abort;
+use text_report_reader::read_report;
 use txn::{Catalogue, Outcome, Report, TaskId, TxId};
 use txn_text::print_report;
 

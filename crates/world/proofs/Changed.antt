@@ -1,7 +1,7 @@
 -- The last change among the first states of a history, and the values and the versions of one variable more.
 use Rattle.std.proofs.Common.{◌≡◌, ◌≢◌, ◌∙◌, ℕ, ℤ, zero, suc, ◌+◌, ◌-◌, ◌<◌, ◌≤◌, List, [], ◌∷◌, ◌++◌, length, map, inl, inr, sym, ap, subst, arith, get_or, Vec, Global}
 use Rattle.std.proofs.lemmas.List.{length_push}
-use Rattle.shared_words.specs.Words.{IsLastChange, last_state, state_of, value_of}
+use Rattle.txn_words.specs.Words.{IsLastChange, last_state, state_of, value_of}
 use Rattle.world_events.specs.Inside.{state_items}
 use Rattle.world_law.proofs.Places.{get_push}
 use Rattle.world.specs.WorldText.{ArePresent}

@@ -1,7 +1,7 @@
 -- The line of an attempt from what the world tells of it.
 use Rattle.std.proofs.Common.{◌≡◌, ◌∙◌, ℕ, sym, ap}
-use Rattle.programs.specs.Listing.{Listing}
-use Rattle.programs.specs.declared.ast.TaskId.{TaskId}
+use Rattle.txn_programs.specs.Listing.{Listing}
+use Rattle.txn_programs.specs.declared.ast.TaskId.{TaskId}
 use Rattle.attempt.specs.Asking.{Known}
 use Rattle.world_law.specs.World.{Started}
 use Rattle.world_law.specs.declared.events.Fate.{Fate}

@@ -4,10 +4,10 @@ use Rattle.std.specs.Int.{w64, cast_signed}
 use Rattle.std.specs.Ordering.{int_eq}
 use Rattle.std.proofs.lemmas.Bool.{false≢true}
 use Rattle.std.proofs.lemmas.Option.{slice_get_within}
-use Rattle.programs.specs.Listing.{Listing}
-use Rattle.programs.specs.declared.ast.TaskId.{TaskId}
-use Rattle.programs.specs.declared.ast.VarId.{VarId}
-use Rattle.shared_words.specs.Stores.{new_of}
+use Rattle.txn_programs.specs.Listing.{Listing}
+use Rattle.txn_programs.specs.declared.ast.TaskId.{TaskId}
+use Rattle.txn_programs.specs.declared.ast.VarId.{VarId}
+use Rattle.txn_words.specs.Stores.{new_of}
 use Rattle.attempt.specs.Asking.{Known, Answer, Needs, Ends}
 use Rattle.world_law.specs.declared.events.Fate.TheVariants as fate
 use Rattle.world_law.specs.declared.events.Event.TheVariants.{First, Value, Second, Again}

@@ -1,6 +1,6 @@
 -- Events lead on, and what holds of each world that they lead to.
 use Rattle.std.proofs.Common.{◌≡◌, ℕ, ◌+◌, List, [], ◌∷◌, ◌++◌, take, Some, slice_get, refl, sym, ap, subst}
-use Rattle.programs.specs.Listing.{Listing}
+use Rattle.txn_programs.specs.Listing.{Listing}
 use Rattle.world_law.specs.declared.events.Event.{Event}
 use Rattle.world_law.specs.declared.events.Seen.{Seen}
 use Rattle.world_law.specs.World.{World, IsOpening}

@@ -1,8 +1,8 @@
 -- The stores of a commit, one after another.
 use Rattle.std.proofs.Common.{◌≡◌, ◌∙◌, ℕ, zero, suc, ◌-◌, Option, Some, None, length, refl, sym, ap, subst}
 use Rattle.std.proofs.lemmas.Option.{same_Some}
-use Rattle.programs.specs.Listing.{Listing}
-use Rattle.programs.specs.declared.ast.TaskId.{TaskId}
+use Rattle.txn_programs.specs.Listing.{Listing}
+use Rattle.txn_programs.specs.declared.ast.TaskId.{TaskId}
 use Rattle.world_law.specs.declared.events.Event.TheVariants.{Ask, Word}
 use Rattle.world_law.specs.declared.events.Seen.TheVariants as seen
 use Rattle.world_law.specs.World.{World, Committer, stores}

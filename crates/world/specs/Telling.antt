@@ -1,7 +1,7 @@
 -- What a world tells of an attempt.
 use Rattle.std.specs.Prelude.{◌≡◌, ℕ, Some}
 use Rattle.std.specs.List.{slice_get}
-use Rattle.programs.specs.declared.ast.TaskId.{TaskId}
+use Rattle.txn_programs.specs.declared.ast.TaskId.{TaskId}
 use Rattle.attempt.specs.Asking.{Known}
 use Rattle.world_law.specs.World.{Started, World}
 use Rattle.world_law.specs.declared.events.Fate.{Fate}

@@ -1,5 +1,5 @@
 -- What a contract sees of a world.
-use Rattle.programs.specs.Listing.{Listing}
+use Rattle.txn_programs.specs.Listing.{Listing}
 use Rattle.world_law.specs.World.{World}
 
 pub record WorldView : Type 0 where

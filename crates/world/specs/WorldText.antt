@@ -2,13 +2,13 @@
 use Rattle.std.specs.Prelude.{◌≡◌, ℕ, ℤ, ◌-◌, List, [], ◌∷◌, ◌++◌, length, codes, slice_get, Some}
 use Rattle.std.specs.Fmt.{decimal, signed_decimal}
 use Rattle.std.specs.List.{flat_map}
-use Rattle.programs.specs.declared.ast.TaskId.{TaskId}
-use Rattle.programs.specs.declared.ast.VarId.{VarId}
-use Rattle.programs.specs.Listing.{Listing}
-use Rattle.shared_words.specs.Words.{IsLastChange, last_state, value_of}
+use Rattle.txn_programs.specs.declared.ast.TaskId.{TaskId}
+use Rattle.txn_programs.specs.declared.ast.VarId.{VarId}
+use Rattle.txn_programs.specs.Listing.{Listing}
+use Rattle.txn_words.specs.Words.{IsLastChange, last_state, value_of}
 use Rattle.text_words.specs.Words.{line}
-use Rattle.report_printer.specs.ReportText.{variable_lines}
-use Rattle.seen_printer.specs.SeenText.{variable_name}
+use Rattle.text_report_printer.specs.ReportText.{variable_lines}
+use Rattle.world_seen_printer.specs.SeenText.{variable_name}
 use Rattle.attempt.specs.Asking.{Known}
 use Rattle.world_law.specs.declared.events.Fate.{Fate}
 use Rattle.world_law.specs.declared.events.Fate.TheVariants.{Running, Committed, Parked, Stale, Dropped, Spent}

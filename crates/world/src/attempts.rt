@@ -6,12 +6,12 @@ ghost use Rattle.world_events.specs.Inside.{listing, world_of};
 ghost use Rattle.world.specs.WorldText.{fate_text, pair_text, told_line, attempt_line};
 
 use crate::telling::{Begun, begun_at};
-use seen_printer::name_of;
 use std::alloc::AllocError;
 use std::fmt::Write;
 use txn::{Catalogue, VarId};
 use world_events::scene::Scene;
 use world_law::Fate;
+use world_seen_printer::name_of;
 
 fn put_fate(out: &mut String, fate: Fate) -> Result<(), AllocError>
     ensures { OnOk result (string_bytes out.new ≡ string_bytes out.old ++ fate_text fate) }

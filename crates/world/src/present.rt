@@ -1,7 +1,7 @@
 //! The values and the versions of the last state.
 
 ghost use Rattle.std.specs.Prelude.{◌≡◌, ◌<◌, ◌≤◌, IfOk, length, map};
-ghost use Rattle.shared_words.specs.Words.{IsLastChange, last_state, value_of};
+ghost use Rattle.txn_words.specs.Words.{IsLastChange, last_state, value_of};
 ghost use Rattle.world_events.specs.Inside.{state_items};
 ghost use Rattle.world.specs.WorldText.{ArePresent};
 

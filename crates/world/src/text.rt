@@ -7,8 +7,8 @@ ghost use Rattle.world.specs.WorldText.{PutsWorld};
 use crate::attempts::put_attempts;
 use crate::present::present;
 use crate::telling::states;
-use report_printer::{put_number, put_variables};
 use std::alloc::AllocError;
+use text_report_printer::{put_number, put_variables};
 use world_events::scene::Scene;
 
 /// Puts the last lines of the world behind the text: the line `now` with the number of the last

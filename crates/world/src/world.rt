@@ -1,7 +1,7 @@
 //! The running world.
 
 ghost use Rattle.std.specs.Prelude.{◌≡◌, ◌<◌, take, length, map, All, IfOk, IfErr, OnOk, OnErr, IsOk, string_bytes};
-ghost use Rattle.programs.specs.Standing.{Upholds};
+ghost use Rattle.txn_programs.specs.Standing.{Upholds};
 ghost use Rattle.world_events.specs.Inside.{state_items};
 ghost use Rattle.world.specs.Telling.{Tells};
 ghost use Rattle.world_law.specs.World.{IsOpening};

@@ -3,12 +3,12 @@ use Rattle.std.proofs.Common.{◌≡◌, ◌≢◌, ℕ, zero, suc, ◌+◌, ◌
 use Rattle.std.specs.declared.alloc.Global.{Global}
 use Rattle.std.specs.declared.vec.Vec.{Vec}
 use Rattle.std.specs.Ordering.{int_eq}
-use Rattle.programs.specs.Meaning.{State}
-use Rattle.shared_words.specs.Words.{last_state}
-use Rattle.shared_words.specs.Stores.{Change, id_of, with_changes}
-use Rattle.programs.specs.declared.ast.VarId.{VarId}
-use Rattle.programs.specs.declared.ast.Outcome.{Outcome}
-use Rattle.programs.specs.declared.ast.Outcome.TheVariants.{Returned, Thrown, Retries}
+use Rattle.txn_programs.specs.Meaning.{State}
+use Rattle.txn_words.specs.Words.{last_state}
+use Rattle.txn_words.specs.Stores.{Change, id_of, with_changes}
+use Rattle.txn_programs.specs.declared.ast.VarId.{VarId}
+use Rattle.txn_programs.specs.declared.ast.Outcome.{Outcome}
+use Rattle.txn_programs.specs.declared.ast.Outcome.TheVariants.{Returned, Thrown, Retries}
 use Rattle.attempt.specs.Asking.{Known}
 use Rattle.attempt.specs.Frame.{store}
 use Rattle.attempt.specs.View.{next_of}

@@ -1,7 +1,7 @@
 -- A task's live attempt is its latest.
 use Rattle.std.proofs.Common.{◌≡◌, ◌≢◌, ℕ, ◌≤◌, length, Some, None, true, slice_get, sym, ap, ◌∙◌, arith}
 use Rattle.std.proofs.lemmas.Option.{slice_get_within}
-use Rattle.programs.specs.declared.ast.TaskId.{TaskId}
+use Rattle.txn_programs.specs.declared.ast.TaskId.{TaskId}
 use Rattle.world_law.specs.World.{is_live}
 use Rattle.world_law.specs.declared.events.Fate.TheVariants as fate
 use Rattle.world_events.specs.declared.trial.Trial.{Trial}

@@ -1,9 +1,9 @@
 -- An attempt that ends its read, and one that begins, go on as the world says.
 use Rattle.std.proofs.Common.{◌≡◌, ◌≢◌, ℕ, ◌<◌, Bool, List, [], ◌∷◌, length, Option, Some, None, option_map, sym, refl, ap, ◌∙◌, subst}
-use Rattle.programs.specs.Listing.{Listing, task_program}
-use Rattle.programs.specs.Tree.{Program}
-use Rattle.programs.specs.declared.ast.TaskId.{TaskId}
-use Rattle.programs.specs.declared.ast.VarId.{VarId}
+use Rattle.txn_programs.specs.Listing.{Listing, task_program}
+use Rattle.txn_programs.specs.Tree.{Program}
+use Rattle.txn_programs.specs.declared.ast.TaskId.{TaskId}
+use Rattle.txn_programs.specs.declared.ast.VarId.{VarId}
 use Rattle.attempt.specs.Asking.{Known, ask}
 use Rattle.attempt.specs.View.{Answers, AttemptView}
 use Rattle.attempt.specs.declared.next.Next.{Next}

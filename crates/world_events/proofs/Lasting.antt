@@ -3,7 +3,7 @@ use Rattle.std.proofs.Common.{◌≡◌, ℕ, zero, suc, ◌-◌, ◌<◌, ◌�
 use Rattle.std.specs.declared.alloc.Global.{Global}
 use Rattle.std.specs.declared.vec.Vec.{Vec}
 use Rattle.std.proofs.lemmas.Option.{get_or_from_slice_get}
-use Rattle.shared_words.specs.Words.{last_state, state_of}
+use Rattle.txn_words.specs.Words.{last_state, state_of}
 use Rattle.world_events.specs.declared.scene.Scene.{Scene}
 use Rattle.world_events.specs.Inside.{all_states, state_items, Kept}
 

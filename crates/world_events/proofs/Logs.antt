@@ -1,7 +1,7 @@
 -- Logs and the states that they agree with.
 use Rattle.std.proofs.Common.{◌≡◌, ℕ, ℤ, zero, suc, ◌<◌, ◌≤◌, length, [], ◌∷◌, Some, None, refl, sym, ◌∙◌, ap, arith, slice_get}
-use Rattle.programs.specs.declared.ast.VarId.{VarId}
-use Rattle.programs.specs.Meaning.{State, value_at}
+use Rattle.txn_programs.specs.declared.ast.VarId.{VarId}
+use Rattle.txn_programs.specs.Meaning.{State, value_at}
 use Rattle.attempt.specs.Asking.{Known}
 use Rattle.attempt.specs.Frame.{Agrees}
 use Rattle.attempt.specs.Order.{AllKnown}

@@ -51,19 +51,19 @@ kept_put c i t t' k r = record {
       (λ h. let old = r.live (ap (λ (u : Trial). is_live u.fate) h.1 ∙ l) in
       let task : y.task ≡ t.task = ap (λ (u : Trial). u.task) (sym h.1) ∙ r.task in
       let place : j ≡ i = h.0 in
-      ap (λ (a : ℕ). slice_get c.latest.items a) (ap (λ (v : Rattle.programs.specs.declared.ast.TaskId.TaskId). v.0) task) ∙ (old ∙ ap (λ (n : ℕ). Some (Some n)) (sym place)))
+      ap (λ (a : ℕ). slice_get c.latest.items a) (ap (λ (v : Rattle.txn_programs.specs.declared.ast.TaskId.TaskId). v.0) task) ∙ (old ∙ ap (λ (n : ℕ). Some (Some n)) (sym place)))
       (get_set c.trials.items i j t' t y r.was e);
   latest = λ a j e. let o = k.latest a j e in dite (ℕ_discrete j i)
       (λ same. (
         t',
         ap (slice_get (set c.trials.items i t')) same ∙ get_set_same c.trials.items i t' t r.was,
-        ap (λ (v : Rattle.programs.specs.declared.ast.TaskId.TaskId). v.0) r.task ∙ (ap (λ (u : Trial). u.task.0) (same_at j same o.0 o.1) ∙ o.2),
+        ap (λ (v : Rattle.txn_programs.specs.declared.ast.TaskId.TaskId). v.0) r.task ∙ (ap (λ (u : Trial). u.task.0) (same_at j same o.0 o.1) ∙ o.2),
       ))
       (λ other. (o.0, get_set_other c.trials.items i j t' other ∙ o.1, o.2));
   last = λ j y e. ⊎_elim (λ h. k.last j y h.1)
       (λ h. let o = k.last i t r.was in
       let task : t.task ≡ y.task = sym r.task ∙ ap (λ (u : Trial). u.task) h.1 in
-      (o.0, ap (λ (v : Rattle.programs.specs.declared.ast.TaskId.TaskId). slice_get c.latest.items v.0) (sym task) ∙ o.1, (let at = h.0 in omega (arith, o.2))))
+      (o.0, ap (λ (v : Rattle.txn_programs.specs.declared.ast.TaskId.TaskId). slice_get c.latest.items v.0) (sym task) ∙ o.1, (let at = h.0 in omega (arith, o.2))))
       (get_set c.trials.items i j t' t y r.was e);
   committer = committer_put c i t t' c.committer r refl k.committer;
 }

@@ -1,9 +1,9 @@
 -- Where a running attempt stands.
 use Rattle.std.proofs.Common.{◌≡◌, ◌≢◌, ℕ, Bool, List, [], ◌∷◌, sym, refl, ap, ◌∙◌, subst, Option, Some, None, option_map}
-use Rattle.programs.specs.Listing.{Listing}
-use Rattle.programs.specs.Tree.{Program}
-use Rattle.programs.specs.declared.ast.TaskId.{TaskId}
-use Rattle.programs.specs.declared.ast.VarId.{VarId}
+use Rattle.txn_programs.specs.Listing.{Listing}
+use Rattle.txn_programs.specs.Tree.{Program}
+use Rattle.txn_programs.specs.declared.ast.TaskId.{TaskId}
+use Rattle.txn_programs.specs.declared.ast.VarId.{VarId}
 use Rattle.attempt.specs.Asking.{Known, Answer, Needs, ask}
 use Rattle.attempt.specs.View.{Answers, AttemptView}
 use Rattle.attempt.specs.declared.next.Next.{Next}

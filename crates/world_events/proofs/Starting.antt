@@ -7,9 +7,9 @@ use Rattle.std.specs.declared.vec.Vec.{Vec}
 use Rattle.std.specs.Vec.{with_item}
 use Rattle.std.proofs.lemmas.Option.{slice_get_within, slice_get-get_or}
 use Rattle.std.proofs.lemmas.List.{length-set}
-use Rattle.programs.specs.Listing.{tasks, task_program}
-use Rattle.programs.specs.Tree.{Program}
-use Rattle.programs.specs.declared.ast.TaskId.{TaskId}
+use Rattle.txn_programs.specs.Listing.{tasks, task_program}
+use Rattle.txn_programs.specs.Tree.{Program}
+use Rattle.txn_programs.specs.declared.ast.TaskId.{TaskId}
 use Rattle.attempt.specs.Asking.{ask}
 use Rattle.attempt.specs.View.{Answers}
 use Rattle.attempt.specs.declared.next.Next.{Next}

@@ -3,8 +3,8 @@ use Rattle.std.proofs.Common.{◌≡◌, ◌≢◌, ◌⊎◌, ℕ, zero, suc, �
 use Rattle.std.specs.declared.alloc.Global.{Global}
 use Rattle.std.specs.declared.vec.Vec.{Vec}
 use Rattle.std.proofs.lemmas.List.{length-set}
-use Rattle.shared_words.specs.Words.{Commit, last_state, version_word, value_word}
-use Rattle.shared_words.specs.Stores.{Change, id_of, with_changes}
+use Rattle.txn_words.specs.Words.{Commit, last_state, version_word, value_word}
+use Rattle.txn_words.specs.Stores.{Change, id_of, with_changes}
 use Rattle.world_law.specs.declared.events.Fate.TheVariants as fate
 use Rattle.world_law.specs.declared.events.Event.TheVariants.{Word}
 use Rattle.world_law.specs.declared.events.Seen.TheVariants as seen

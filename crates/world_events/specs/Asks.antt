@@ -1,10 +1,10 @@
 -- An attempt that has ended, and becomes the committer.
 use Rattle.std.specs.Prelude.{◌≡◌, ℕ, Bool, Decides, take, Option, Some, None}
 use Rattle.std.specs.List.{slice_get}
-use Rattle.shared_words.specs.Words.{last_state}
-use Rattle.programs.specs.declared.ast.TaskId.{TaskId}
-use Rattle.programs.specs.declared.ast.Outcome.{Outcome}
-use Rattle.programs.specs.declared.ast.Outcome.TheVariants.{Retries}
+use Rattle.txn_words.specs.Words.{last_state}
+use Rattle.txn_programs.specs.declared.ast.TaskId.{TaskId}
+use Rattle.txn_programs.specs.declared.ast.Outcome.{Outcome}
+use Rattle.txn_programs.specs.declared.ast.Outcome.TheVariants.{Retries}
 use Rattle.attempt.specs.Frame.{Agrees}
 use Rattle.attempt.specs.View.{next_of}
 use Rattle.world_law.specs.declared.events.Fate.TheVariants as fate

@@ -5,11 +5,11 @@ use Rattle.std.specs.declared.alloc.Global.{Global}
 use Rattle.std.specs.declared.vec.Vec.{Vec}
 use Rattle.std.specs.Option.{option_map}
 use Rattle.std.specs.Vec.{with_item}
-use Rattle.programs.specs.Listing.{Listing, tasks}
-use Rattle.shared_words.specs.Words.{last_state}
-use Rattle.shared_words.specs.Stores.{with_changes, id_of}
-use Rattle.programs.specs.declared.ast.TaskId.{TaskId}
-use Rattle.programs.specs.declared.ast.VarId.{VarId}
+use Rattle.txn_programs.specs.Listing.{Listing, tasks}
+use Rattle.txn_words.specs.Words.{last_state}
+use Rattle.txn_words.specs.Stores.{with_changes, id_of}
+use Rattle.txn_programs.specs.declared.ast.TaskId.{TaskId}
+use Rattle.txn_programs.specs.declared.ast.VarId.{VarId}
 use Rattle.attempt.specs.declared.next.Next.TheVariants as next
 use Rattle.world_law.specs.declared.events.Fate.TheVariants as fate
 use Rattle.world_law.specs.declared.events.Event.{Event}

@@ -1,6 +1,6 @@
 -- The committer's stores.
 use Rattle.std.specs.Prelude.{ℕ, ◌+◌, ◌*◌, ◌<◌, ◌^◌, List, length, slice_index, Some}
-use Rattle.shared_words.specs.Words.{version_word, value_word}
+use Rattle.txn_words.specs.Words.{version_word, value_word}
 use Rattle.world_law.specs.World.{Store, Lock, Put, Tick, Free}
 use Rattle.world_events.specs.declared.scene.Publishing.{Publishing}
 use Rattle.world_events.specs.declared.scene.Scene.{Scene}

@@ -1,15 +1,15 @@
 -- An attempt that began, as the world keeps it, and what its loads do to it.
 use Rattle.std.specs.Prelude.{◌≡◌, ◌≢◌, ◌⊎◌, ℕ, ◌*◌, ◌+◌, ◌%◌, ◌<◌, ◌≤◌, true, false, List, [], ◌∷◌, length, ℤ, Option, Some, None}
-use Rattle.programs.specs.Listing.{Listing, task_program}
+use Rattle.txn_programs.specs.Listing.{Listing, task_program}
 use Rattle.std.specs.List.{slice_get}
 use Rattle.std.specs.Option.{option_map}
 use Rattle.std.specs.Int.{w64, cast_signed}
-use Rattle.shared_words.specs.Stores.{new_of}
+use Rattle.txn_words.specs.Stores.{new_of}
 use Rattle.attempt.specs.Asking.{Known}
 use Rattle.attempt.specs.declared.next.Stand.TheVariants as stand
-use Rattle.programs.specs.declared.ast.VarId.{VarId}
-use Rattle.programs.specs.declared.ast.TaskId.{TaskId}
-use Rattle.programs.specs.declared.ast.Outcome.TheVariants.{Returned, Thrown, Retries}
+use Rattle.txn_programs.specs.declared.ast.VarId.{VarId}
+use Rattle.txn_programs.specs.declared.ast.TaskId.{TaskId}
+use Rattle.txn_programs.specs.declared.ast.Outcome.TheVariants.{Returned, Thrown, Retries}
 use Rattle.attempt.specs.View.{Answers, supplied}
 use Rattle.attempt.specs.declared.next.Next.{Next}
 use Rattle.attempt.specs.declared.next.Next.TheVariants as next

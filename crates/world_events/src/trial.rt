@@ -1,12 +1,12 @@
 //! An attempt that began, and its loads.
 
 ghost use Rattle.std.specs.Prelude.{◌≡◌, ◌≢◌, ◌<◌, length, true, None, Some, IfOk, OnErr, IsOk, Decides};
-ghost use Rattle.programs.specs.Listing.{tasks};
+ghost use Rattle.txn_programs.specs.Listing.{tasks};
 ghost use Rattle.attempt.specs.declared.next.Stand.TheVariants as Stand;
 ghost use Rattle.world_law.specs.declared.events.Seen.TheVariants as seen;
 ghost use Rattle.world_law.specs.declared.events.Fate.TheVariants as fate;
 ghost use Rattle.attempt.specs.declared.next.Next.TheVariants as next;
-ghost use Rattle.programs.specs.declared.ast.VarId.{VarId};
+ghost use Rattle.txn_programs.specs.declared.ast.VarId.{VarId};
 ghost use Rattle.world_law.specs.World.{bound, is_live};
 ghost use Rattle.world_events.specs.declared.trial.Checking.{Checking};
 ghost use Rattle.world_events.specs.Trials.{started_of, wants, CanEndRead, MayGoAgain, ChecksOn, Compares, LoadsFirst, LoadsValue, LoadsSecond, ReadsOn, GoesOn, GoesAgain, Begins, told_value, answer_seen, answer_fate};

@@ -3,7 +3,7 @@ use Rattle.std.proofs.Common.{◌≡◌, ◌≢◌, ℕ, zero, suc, ◌+◌, ◌
 use mathlib.Core.Logic.{dite}
 use native.Mathlib.Decide.{ℕ_discrete}
 use Rattle.std.proofs.lemmas.List.Sums.{fold_more}
-use Rattle.shared_words.specs.Stores.{Change, no_change, id_of}
+use Rattle.txn_words.specs.Stores.{Change, no_change, id_of}
 
 module _ {A : Type 0} (v : Change → A) where
   abbrev pub sets : List A → List Change → List A

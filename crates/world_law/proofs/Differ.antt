@@ -2,8 +2,8 @@
 use Rattle.std.proofs.Common.{◌≡◌, ◌≢◌, ◌⊎◌, ℕ, zero, suc, ◌+◌, ◌-◌, ◌<◌, ◌≤◌, Bool, true, false, if◌then◌else◌, List, [], ◌∷◌, ◌++◌, ℤ, pos, length, get_or, set, sym, refl, ap, ◌∙◌, subst, ⊎_elim, inl, inr, arith, length-append, append_assoc}
 use Rattle.std.specs.Ordering.{int_eq}
 use Rattle.std.proofs.lemmas.Bool.Decides.{Decides-int_eq, not_from_Decides}
-use Rattle.programs.specs.Meaning.{State}
-use Rattle.shared_words.specs.Stores.{Change, id_of, new_of, with_changes, AreChanges}
+use Rattle.txn_programs.specs.Meaning.{State}
+use Rattle.txn_words.specs.Stores.{Change, id_of, new_of, with_changes, AreChanges}
 use Rattle.world_law.specs.World.{differences}
 
 equal : (a b : ℤ) → ((int_eq a b ≡ true) × (a ≡ b)) ⊎ ((int_eq a b ≡ false) × (a ≢ b))

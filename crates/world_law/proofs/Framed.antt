@@ -1,15 +1,15 @@
 -- The frame theorem at the tasks of a catalogue.
 use Rattle.std.proofs.Common.{◌≡◌, ℕ, zero, suc, true, List, [], ◌∷◌, length, Some, pos, sym, refl, ◌∙◌, subst, slice_get, slice_index_or}
 use Rattle.std.proofs.Math.ListN.{length-set}
-use Rattle.programs.specs.Listing.{Listing, conditions, task_program, task_tx}
-use Rattle.programs.specs.Meaning.{State, outcome, after}
-use Rattle.programs.specs.Names.{names_hold}
-use Rattle.programs.specs.Scope.{ConditionsKnown, ProgramKnown}
-use Rattle.programs.specs.Tree.{Skip, Int, under}
-use Rattle.programs.specs.declared.ast.Outcome.{Outcome}
-use Rattle.programs.specs.declared.ast.TaskId.{TaskId}
-use Rattle.programs.proofs.Lawful.{known_at}
-use Rattle.evaluator.proofs.Always.{conditions_known}
+use Rattle.txn_programs.specs.Listing.{Listing, conditions, task_program, task_tx}
+use Rattle.txn_programs.specs.Meaning.{State, outcome, after}
+use Rattle.txn_programs.specs.Names.{names_hold}
+use Rattle.txn_programs.specs.Scope.{ConditionsKnown, ProgramKnown}
+use Rattle.txn_programs.specs.Tree.{Skip, Int, under}
+use Rattle.txn_programs.specs.declared.ast.Outcome.{Outcome}
+use Rattle.txn_programs.specs.declared.ast.TaskId.{TaskId}
+use Rattle.txn_programs.proofs.Lawful.{known_at}
+use Rattle.txn_evaluator.proofs.Always.{conditions_known}
 use Rattle.attempt.specs.Asking.{Known, Answer, Ends, ask}
 use Rattle.attempt.specs.Frame.{Agrees, store, AnswersBy}
 use Rattle.attempt_machine.proofs.FrameProof.{frame_holds}

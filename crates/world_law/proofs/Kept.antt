@@ -2,16 +2,16 @@
 use Rattle.std.proofs.Common.{◌≡◌, ◌≢◌, ℕ, ◌+◌, ◌-◌, ◌*◌, ◌%◌, ◌<◌, ◌≤◌, true, false, List, [], ◌∷◌, ◌++◌, length, take, get_or, set, sym, refl, ap, ◌∙◌, subst, ⊎_elim, inl, arith, Option, Some, None, slice_get}
 use Rattle.std.proofs.lemmas.Bool.{false≢true}
 use Rattle.std.proofs.lemmas.Option.{slice_get_within}
-use Rattle.programs.specs.Listing.{Listing, task_program}
-use Rattle.programs.specs.Meaning.{State, outcome, after}
-use Rattle.programs.specs.Tree.{Program}
-use Rattle.shared_words.specs.Words.{Commit, WordsMean, value_of, state_of, last_state}
-use Rattle.shared_words.specs.Stores.{Change, with_changes, AreChanges}
-use Rattle.shared_words.specs.Loads.{SamplingHolds}
-use Rattle.programs.specs.declared.ast.TaskId.{TaskId}
-use Rattle.programs.specs.declared.ast.VarId.{VarId}
-use Rattle.programs.specs.declared.ast.Outcome.{Outcome}
-use Rattle.programs.specs.declared.ast.Outcome.TheVariants.{Retries}
+use Rattle.txn_programs.specs.Listing.{Listing, task_program}
+use Rattle.txn_programs.specs.Meaning.{State, outcome, after}
+use Rattle.txn_programs.specs.Tree.{Program}
+use Rattle.txn_words.specs.Words.{Commit, WordsMean, value_of, state_of, last_state}
+use Rattle.txn_words.specs.Stores.{Change, with_changes, AreChanges}
+use Rattle.txn_words.specs.Loads.{SamplingHolds}
+use Rattle.txn_programs.specs.declared.ast.TaskId.{TaskId}
+use Rattle.txn_programs.specs.declared.ast.VarId.{VarId}
+use Rattle.txn_programs.specs.declared.ast.Outcome.{Outcome}
+use Rattle.txn_programs.specs.declared.ast.Outcome.TheVariants.{Retries}
 use Rattle.attempt.specs.Asking.{Known, Needs, Ends}
 use Rattle.attempt.specs.Frame.{Agrees, store}
 use Rattle.world_law.specs.declared.events.Fate.{Fate}

@@ -3,8 +3,8 @@ use Rattle.std.proofs.Common.{◌≡◌, ℕ, zero, suc, ◌+◌, ◌-◌, ◌*�
 use mathlib.Core.Logic.{dite}
 use native.Mathlib.Decide.{dec_lt}
 use lib.ListN.{length-map}
-use Rattle.shared_words.specs.Words.{Commit}
-use Rattle.shared_words.specs.Stores.{Change, no_change, id_of, new_of}
+use Rattle.txn_words.specs.Words.{Commit}
+use Rattle.txn_words.specs.Stores.{Change, no_change, id_of, new_of}
 use Rattle.world_law.specs.World.{Store, Lock, Put, Tick, Free, locks, puts, frees, stores}
 use Rattle.world_law.specs.Commits.{after_store, after_stores}
 

@@ -2,8 +2,8 @@
 use Rattle.std.proofs.Common.{◌≡◌, ◌≢◌, ◌⊎◌, ℕ, zero, suc, ◌+◌, take, List, [], ◌∷◌, ◌++◌, length, set, ℤ, sym, refl, ap, ◌∙◌, subst, arith, ⊎_elim, inl, inr, Some, None, slice_get}
 use mathlib.Core.Logic.{dite}
 use native.Mathlib.Decide.{ℕ_discrete}
-use Rattle.programs.specs.Meaning.{State, value_at}
-use Rattle.programs.specs.declared.ast.VarId.{VarId}
+use Rattle.txn_programs.specs.Meaning.{State, value_at}
+use Rattle.txn_programs.specs.declared.ast.VarId.{VarId}
 use Rattle.attempt.specs.Asking.{Known}
 use Rattle.attempt.specs.Frame.{Agrees}
 

@@ -5,15 +5,15 @@ use native.Mathlib.Decide.{dec_lt}
 use Rattle.std.specs.Int.{w64, cast_signed}
 use Rattle.std.specs.Ordering.{int_eq}
 use Rattle.std.proofs.lemmas.Bool.Decides.{Decides-int_eq}
-use Rattle.programs.specs.Listing.{Listing, task_program}
-use Rattle.programs.specs.Meaning.{State}
-use Rattle.shared_words.specs.Words.{WordsMean, value_of, state_of, value_word}
-use Rattle.shared_words.specs.Stores.{no_change, new_of, opened}
-use Rattle.shared_words.specs.Loads.{LoadedIs}
-use Rattle.programs.specs.declared.ast.TaskId.{TaskId}
-use Rattle.programs.specs.declared.ast.VarId.{VarId}
-use Rattle.programs.specs.declared.ast.Outcome.{Outcome}
-use Rattle.shared_words.proofs.Words.{fresh, opens, all_free, all_zero, opened_sized}
+use Rattle.txn_programs.specs.Listing.{Listing, task_program}
+use Rattle.txn_programs.specs.Meaning.{State}
+use Rattle.txn_words.specs.Words.{WordsMean, value_of, state_of, value_word}
+use Rattle.txn_words.specs.Stores.{no_change, new_of, opened}
+use Rattle.txn_words.specs.Loads.{LoadedIs}
+use Rattle.txn_programs.specs.declared.ast.TaskId.{TaskId}
+use Rattle.txn_programs.specs.declared.ast.VarId.{VarId}
+use Rattle.txn_programs.specs.declared.ast.Outcome.{Outcome}
+use Rattle.txn_words.proofs.Words.{fresh, opens, all_free, all_zero, opened_sized}
 use Rattle.attempt.specs.Asking.{Known, Answer, Needs, Ends, ask}
 use Rattle.attempt.specs.Frame.{Agrees}
 use Rattle.world_law.specs.declared.events.Fate.{Fate}

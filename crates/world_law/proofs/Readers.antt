@@ -1,7 +1,7 @@
 -- What a reader knows of its loads stays true while the words of the variable only grow.
 use Rattle.std.proofs.Common.{◌≡◌, ◌⊎◌, ℕ, ◌%◌, ◌<◌, List, [], ◌∷◌, ℤ, subst, ⊎_elim, inl, inr, arith}
 use Rattle.std.specs.Int.{w64, cast_signed}
-use Rattle.shared_words.specs.Loads.{LoadedIs, SamplingHolds}
+use Rattle.txn_words.specs.Loads.{LoadedIs, SamplingHolds}
 
 pub sampling_stays : (a b a' b' rv : ℕ) (z : ℤ) → (a < a') ⊎ ((a ≡ a') × ((a % 2 ≡ 1) ⊎ (b ≡ b'))) → (ls : List ℕ) → SamplingHolds a b rv z ls → SamplingHolds a' b' rv z ls
 sampling_stays a b a' b' rv z g [] h = tt

@@ -3,9 +3,9 @@ use Rattle.std.proofs.Common.{◌≡◌, ◌≢◌, ◌⊎◌, ℕ, zero, suc, �
 use mathlib.Core.Logic.{dite}
 use native.Mathlib.Decide.{ℕ_discrete}
 use lib.Seq.{take-length}
-use Rattle.shared_words.specs.Words.{Commit, value_of, state_of, last_state}
-use Rattle.shared_words.specs.Stores.{Change, no_change, id_of, new_of, with_changes, AreChanges}
-use Rattle.shared_words.proofs.Words.{last_pushed, state_before}
+use Rattle.txn_words.specs.Words.{Commit, value_of, state_of, last_state}
+use Rattle.txn_words.specs.Stores.{Change, no_change, id_of, new_of, with_changes, AreChanges}
+use Rattle.txn_words.proofs.Words.{last_pushed, state_before}
 use Rattle.world_law.specs.Commits.{IsResting}
 use Rattle.world_law.proofs.Changes.{sets, sets_length, sets_else, sets_here}
 

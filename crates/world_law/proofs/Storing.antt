@@ -2,9 +2,9 @@
 use Rattle.std.proofs.Common.{◌≡◌, ◌≢◌, ℕ, ◌+◌, ◌-◌, ◌*◌, ◌<◌, ◌≤◌, Bool, true, false, if◌then◌else◌, List, [], ◌∷◌, ◌++◌, ℤ, length, take, get_or, set, sym, refl, ap, ◌∙◌, subst, arith}
 use lib.Seq.{take-length}
 use Rattle.std.specs.Int.{w64, cast_signed}
-use Rattle.shared_words.specs.Words.{Commit, WordsMean, value_of, state_of, last_state, version_word, value_word}
-use Rattle.shared_words.specs.Stores.{Change, id_of, new_of, with_changes, AreChanges, after_lock, after_value, after_clock, after_release}
-use Rattle.shared_words.proofs.Stores.{Keeps, lock_keeps, value_keeps, clock_keeps, release_keeps}
+use Rattle.txn_words.specs.Words.{Commit, WordsMean, value_of, state_of, last_state, version_word, value_word}
+use Rattle.txn_words.specs.Stores.{Change, id_of, new_of, with_changes, AreChanges, after_lock, after_value, after_clock, after_release}
+use Rattle.txn_words.proofs.Stores.{Keeps, lock_keeps, value_keeps, clock_keeps, release_keeps}
 use Rattle.world_law.specs.World.{Store, Lock, Put, Tick, Free, Writes}
 use Rattle.world_law.specs.Commits.{IsResting, after_store}
 use Rattle.world_law.proofs.Changes.{sets_more, sets_length, sets_else, not_yet}

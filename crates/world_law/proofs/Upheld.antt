@@ -2,11 +2,11 @@
 use Rattle.std.proofs.Common.{◌≡◌, ℕ, zero, suc, ◌-◌, ◌<◌, [], length, ap, subst, sym, ◌∙◌, arith}
 use Rattle.std.specs.List.{All}
 use Rattle.std.proofs.lemmas.Option.{same_Some, slice_get-get_or}
-use Rattle.programs.specs.Listing.{Listing, task_program}
-use Rattle.programs.specs.Meaning.{after}
-use Rattle.programs.specs.Standing.{Upholds}
-use Rattle.programs.proofs.Standing.{after_upholds}
-use Rattle.shared_words.specs.Words.{state_of}
+use Rattle.txn_programs.specs.Listing.{Listing, task_program}
+use Rattle.txn_programs.specs.Meaning.{after}
+use Rattle.txn_programs.specs.Standing.{Upholds}
+use Rattle.txn_programs.proofs.Standing.{after_upholds}
+use Rattle.txn_words.specs.Words.{state_of}
 use Rattle.world_law.specs.World.{World}
 use Rattle.world_law.specs.Next.{Reachable}
 use Rattle.world_law.proofs.Framed.{IsSound}

@@ -1,8 +1,8 @@
 -- The runs that were worked out by hand, step by step.
 use Rattle.std.proofs.Common.{◌≡◌, ◌≤◌, ℕ, zero, suc, true, false, ◌==◌, List, [], ◌∷◌, ℤ, pos, sym, refl, ap, ◌∙◌, inl, inr, arith, Option, Some, None, slice_get, lit<, eq-eqb}
 use Rattle.std.proofs.lemmas.Bool.{false≢true}
-use Rattle.programs.specs.declared.ast.TaskId.{TaskId}
-use Rattle.programs.specs.declared.ast.Outcome.TheVariants.{Returned, Retries}
+use Rattle.txn_programs.specs.declared.ast.TaskId.{TaskId}
+use Rattle.txn_programs.specs.declared.ast.Outcome.TheVariants.{Returned, Retries}
 use Rattle.world_law.specs.declared.events.Fate.TheVariants as fate
 use Rattle.world_law.specs.World.{Started, World, Committer, Lock, Put, Tick, Free, is_live, with_loads, with_fate, stale_at_load, IsOpening}
 use Rattle.world_law.specs.Next.{Run}

@@ -2,12 +2,12 @@
 use Rattle.std.proofs.Common.{◌≡◌, ◌≢◌, ◌⊎◌, ℕ, ◌+◌, ◌-◌, ◌*◌, ◌<◌, List, [], ◌∷◌, ◌++◌, length, sym, refl, ap, ◌∙◌, subst, ⊎_elim, inl, inr, arith, Option, Some, slice_get}
 use mathlib.Core.Logic.{dite}
 use native.Mathlib.Decide.{ℕ_discrete, dec_lt}
-use Rattle.programs.specs.Listing.{Listing}
-use Rattle.programs.specs.Meaning.{State}
-use Rattle.shared_words.specs.Words.{Commit, value_of, state_of, last_state}
-use Rattle.shared_words.specs.Stores.{Change, with_changes}
-use Rattle.shared_words.specs.Loads.{SamplingHolds}
-use Rattle.shared_words.proofs.Words.{longer, state_before, state_new}
+use Rattle.txn_programs.specs.Listing.{Listing}
+use Rattle.txn_programs.specs.Meaning.{State}
+use Rattle.txn_words.specs.Words.{Commit, value_of, state_of, last_state}
+use Rattle.txn_words.specs.Stores.{Change, with_changes}
+use Rattle.txn_words.specs.Loads.{SamplingHolds}
+use Rattle.txn_words.proofs.Words.{longer, state_before, state_new}
 use Rattle.attempt.specs.Frame.{Agrees}
 use Rattle.world_law.specs.declared.events.Fate.TheVariants as fate
 use Rattle.world_law.specs.World.{Started, World, Committer, bound, version_now, value_now, with_fate, Store, Tick, stores, history_after, stored, finished}

@@ -1,7 +1,7 @@
 -- How far the committer is, store by store.
 use Rattle.std.specs.Prelude.{◌≡◌, ℕ, ◌+◌, ◌≤◌, false, List, fold, take, length, slice_index, slice_index_or, Option, Some, None}
-use Rattle.shared_words.specs.Words.{Commit, last_state}
-use Rattle.shared_words.specs.Stores.{AreChanges, after_lock, after_value, after_clock, after_release}
+use Rattle.txn_words.specs.Words.{Commit, last_state}
+use Rattle.txn_words.specs.Stores.{AreChanges, after_lock, after_value, after_clock, after_release}
 use Rattle.world_law.specs.World.{Committer, Store, Lock, Put, Tick, Free, stores}
 
 -- what was stored, after one store more

@@ -1,6 +1,6 @@
 -- That the world before an event determines what is seen of it and the world after it, want of memory aside.
 use Rattle.std.specs.Prelude.{◌≡◌, ◌≢◌}
-use Rattle.programs.specs.Listing.{Listing}
+use Rattle.txn_programs.specs.Listing.{Listing}
 use Rattle.world_law.specs.declared.events.Event.{Event}
 use Rattle.world_law.specs.declared.events.Seen.{Seen}
 use Rattle.world_law.specs.declared.events.Seen.TheVariants.{Spent}

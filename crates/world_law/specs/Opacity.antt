@@ -1,13 +1,13 @@
 -- What holds of each world that events lead to.
 use Rattle.std.specs.Prelude.{◌≡◌, ◌≢◌, ◌⊎◌, ℕ, ◌-◌, ◌*◌, ◌<◌, length, take, Option, Some, None}
 use Rattle.std.specs.List.{slice_get}
-use Rattle.programs.specs.Listing.{Listing, task_program}
-use Rattle.programs.specs.Meaning.{State, outcome, after}
-use Rattle.shared_words.specs.Words.{Commit, WordsMean, state_of, value_of}
-use Rattle.shared_words.specs.Loads.{SamplingHolds}
-use Rattle.programs.specs.declared.ast.VarId.{VarId}
-use Rattle.programs.specs.declared.ast.Outcome.{Outcome}
-use Rattle.programs.specs.declared.ast.Outcome.TheVariants.{Retries}
+use Rattle.txn_programs.specs.Listing.{Listing, task_program}
+use Rattle.txn_programs.specs.Meaning.{State, outcome, after}
+use Rattle.txn_words.specs.Words.{Commit, WordsMean, state_of, value_of}
+use Rattle.txn_words.specs.Loads.{SamplingHolds}
+use Rattle.txn_programs.specs.declared.ast.VarId.{VarId}
+use Rattle.txn_programs.specs.declared.ast.Outcome.{Outcome}
+use Rattle.txn_programs.specs.declared.ast.Outcome.TheVariants.{Retries}
 use Rattle.attempt.specs.Asking.{Known, Ends}
 use Rattle.attempt.specs.Frame.{Agrees}
 use Rattle.world_law.specs.declared.events.Fate.TheVariants as fate

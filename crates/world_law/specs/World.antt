@@ -4,12 +4,12 @@ use Rattle.std.specs.List.{slice_get}
 use Rattle.std.specs.Ordering.{int_eq}
 use Rattle.std.specs.Option.{option_map}
 use Rattle.std.specs.Int.{w64, cast_signed}
-use Rattle.programs.specs.Listing.{Listing, tasks, task_program}
-use Rattle.programs.specs.Meaning.{State}
-use Rattle.shared_words.specs.Words.{last_state, version_word, value_word}
-use Rattle.shared_words.specs.Stores.{Change, with_changes}
-use Rattle.programs.specs.declared.ast.TaskId.{TaskId}
-use Rattle.programs.specs.declared.ast.VarId.{VarId}
+use Rattle.txn_programs.specs.Listing.{Listing, tasks, task_program}
+use Rattle.txn_programs.specs.Meaning.{State}
+use Rattle.txn_words.specs.Words.{last_state, version_word, value_word}
+use Rattle.txn_words.specs.Stores.{Change, with_changes}
+use Rattle.txn_programs.specs.declared.ast.TaskId.{TaskId}
+use Rattle.txn_programs.specs.declared.ast.VarId.{VarId}
 use Rattle.attempt.specs.Asking.{Known, Answer, Needs, Ends, ask}
 use Rattle.attempt.specs.Frame.{store}
 use Rattle.world_law.specs.declared.events.Fate.{Fate}

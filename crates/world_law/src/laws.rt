@@ -1,7 +1,7 @@
 //! What holds whatever happens in the world.
 
 ghost use Rattle.std.specs.Prelude.{All};
-ghost use Rattle.programs.specs.Standing.{Upholds};
+ghost use Rattle.txn_programs.specs.Standing.{Upholds};
 ghost use Rattle.world_law.specs.World.{World, IsOpening};
 ghost use Rattle.world_law.specs.Next.{Reachable, Run};
 ghost use Rattle.world_law.specs.Opacity.{Opaque, WordsHold};

@@ -1,9 +1,9 @@
 -- One move more.
 use Rattle.std.proofs.Common.{◌≡◌, ◌∙◌, ℕ, suc, ◌+◌, ◌<◌, ◌≤◌, List, [], ◌∷◌, ◌++◌, length, take, get_or, refl, sym, ap, subst, append_assoc, arith}
 use Rattle.std.proofs.lemmas.List.{append-nil, length_push, take_all, take_more}
-use Rattle.programs.specs.Listing.{Listing}
-use Rattle.programs.specs.declared.moves.Move.{Move}
-use Rattle.seen_printer.specs.SeenText.{seen_line, seen_lines}
+use Rattle.txn_programs.specs.Listing.{Listing}
+use Rattle.txn_programs.specs.declared.moves.Move.{Move}
+use Rattle.world_seen_printer.specs.SeenText.{seen_line, seen_lines}
 use Rattle.world_law.specs.World.{World}
 use Rattle.world_law.specs.declared.events.Seen.{Seen}
 use Rattle.world.specs.Lines.{Plays}

@@ -1,8 +1,8 @@
 -- A schedule's moves played one after another, and the text of what is seen.
 use Rattle.std.specs.Prelude.{◌≡◌, ℕ, List, [], ◌∷◌, ◌++◌}
-use Rattle.programs.specs.Listing.{Listing}
-use Rattle.programs.specs.declared.moves.Move.{Move}
-use Rattle.seen_printer.specs.SeenText.{seen_lines}
+use Rattle.txn_programs.specs.Listing.{Listing}
+use Rattle.txn_programs.specs.declared.moves.Move.{Move}
+use Rattle.world_seen_printer.specs.SeenText.{seen_lines}
 use Rattle.world_law.specs.World.{World, IsOpening}
 use Rattle.world_law.specs.declared.events.Seen.{Seen}
 use Rattle.world.specs.Lines.{Plays}

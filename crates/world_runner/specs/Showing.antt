@@ -1,11 +1,11 @@
 -- What playing the bytes of a schedule leaves.
 use Rattle.std.specs.Prelude.{◌≡◌, ℕ, List, take, Option, Some, Result, Ok, Err}
 use Rattle.std.specs.Io.KnownBytes.{Appends, Keeps}
-use Rattle.programs.specs.Listing.{Listing}
-use Rattle.programs.specs.declared.moves.Move.{Move}
+use Rattle.txn_programs.specs.Listing.{Listing}
+use Rattle.txn_programs.specs.declared.moves.Move.{Move}
 use Rattle.txn_text.specs.Spelling.{Spells, first_fault}
 use Rattle.text_words.specs.declared.fault.ReadFault.{ReadFault}
-use Rattle.schedule_reader.specs.Schedules.{IsSchedule, IsFirst}
+use Rattle.text_schedule_reader.specs.Schedules.{IsSchedule, IsFirst}
 use Rattle.run_faults.specs.declared.fault.RunFault.{RunFault}
 use Rattle.run_faults.specs.declared.fault.RunFault.TheVariants.{Input, Memory, Output, Schedule}
 use Rattle.world_runner.specs.Playing.{IsTextOf}

@@ -7,9 +7,9 @@ ghost use Rattle.world_runner.specs.Showing.{IsShowing, IsRefused, Showed};
 
 use crate::lines::played;
 use run_faults::RunFault;
-use schedule_reader::read_schedule;
-use sink::{Sink, put_all};
+use run_sink::{Sink, put_all};
 use std::alloc::Global;
+use text_schedule_reader::read_schedule;
 use txn::Catalogue;
 use txn_text::{ReadFault, read_file};
 

@@ -3,10 +3,10 @@
 ghost use Rattle.std.specs.Prelude.{◌≡◌, IfOk, OnOk, string_bytes};
 ghost use Rattle.world_runner.specs.Playing.{IsTextOf, PutsLines};
 
-use seen_printer::put_seen;
 use std::alloc::Global;
 use txn::{Catalogue, Memory, Move};
 use world::World;
+use world_seen_printer::put_seen;
 
 /// About as many bytes as a line has.
 const LINE: usize = 24;

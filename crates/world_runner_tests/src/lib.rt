@@ -1,6 +1,6 @@
 //! Tests of the public calls of `world_runner`: what is printed of schedules, refusals,
-//! and writers that fail; of those of `sink`, by writers of its own; and of those of
-//! `file_rewriter`.
+//! and writers that fail; of those of `run_sink`, by writers of its own; and of those of
+//! `print_files`.
 #![tactic(auto)]
 
 #[cfg(test)]

@@ -1,7 +1,7 @@
 //! Files printed anew: as they are, and going on from a report.
 
 use checker::{Part, Verdict};
-use file_rewriter::{print_bytes, print_on_bytes};
+use print_files::{print_bytes, print_on_bytes};
 use runner::{Out, RunFault};
 use std::alloc::Global;
 use std::process::Abort;

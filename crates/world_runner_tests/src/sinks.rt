@@ -1,7 +1,7 @@
-//! Writers that fail once, are interrupted, or take little, and what a `sink` makes of them: nothing
+//! Writers that fail once, are interrupted, or take little, and what a `run_sink` makes of them: nothing
 //! is tried again after a failure.
 
-use sink::{Out, Sink, SinkFault, put_all};
+use run_sink::{Out, Sink, SinkFault, put_all};
 use std::alloc::Global;
 use std::io;
 use std::io::{ErrorKind, Write};

@@ -1,11 +1,11 @@
 -- What a caller concludes of a world that is opaque.
 use Rattle.std.specs.Prelude.{◌≡◌, ◌≢◌, ℕ, ◌-◌, ◌<◌, [], ◌∷◌, length, ℤ, Some}
 use Rattle.std.specs.List.{slice_get}
-use Rattle.programs.specs.Listing.{Listing, task_program}
-use Rattle.programs.specs.Meaning.{value_at, outcome, after}
-use Rattle.programs.specs.declared.ast.VarId.{VarId}
-use Rattle.programs.specs.declared.ast.Outcome.TheVariants.{Retries}
-use Rattle.shared_words.specs.Words.{state_of}
+use Rattle.txn_programs.specs.Listing.{Listing, task_program}
+use Rattle.txn_programs.specs.Meaning.{value_at, outcome, after}
+use Rattle.txn_programs.specs.declared.ast.VarId.{VarId}
+use Rattle.txn_programs.specs.declared.ast.Outcome.TheVariants.{Retries}
+use Rattle.txn_words.specs.Words.{state_of}
 use Rattle.world_law.specs.declared.events.Fate.TheVariants as fate
 use Rattle.world_law.specs.World.{Started, World}
 

@@ -1,10 +1,10 @@
-//! The line of each thing that can be seen, as `seen_printer` puts it.
+//! The line of each thing that can be seen, as `world_seen_printer` puts it.
 
 use crate::parts::{X, Y, catalogue};
-use seen_printer::{name_of, put_seen};
 use std::alloc::Global;
 use txn::{Catalogue, Fault, Outcome, VarId};
 use world_law::Seen;
+use world_seen_printer::{name_of, put_seen};
 
 /// Two variables.
 const TWO: &str = "(var x 1)(var last 2)";

@@ -1,8 +1,8 @@
 use Rattle.std.proofs.Common.{◌≡◌, ◌≢◌, ◌+◌, ◌≤◌, length, vec_capacity, arith, subst, sym, ap, ◌∙◌, w64}
 use mir.Val.{of_z}
 use Rattle.std.proofs.lemmas.Int.{to_z-of_z}
-use Rattle.shared_words.specs.Words.{value_of}
-use Rattle.shared_words.specs.Stores.{AreChanges, with_changes, id_of, new_of}
+use Rattle.txn_words.specs.Words.{value_of}
+use Rattle.txn_words.specs.Stores.{AreChanges, with_changes, id_of, new_of}
 use Rattle.book.proofs.Writes.{SoFar, known_each, so_far_new, so_far_same, so_far_all, so_far_room, differing_are_changes, differing_enough}
 use Rattle.book.proofs.changing.note_changes.Goals.{then-values-write, else-values-write}
 use Rattle.book.proofs.changing.note_changes.Goals as goal

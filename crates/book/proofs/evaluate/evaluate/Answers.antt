@@ -2,12 +2,12 @@ use Rattle.std.proofs.Common.{◌≡◌, ◌<◌, inl, inr, ◌∙◌, length, a
 use mir.Val.{to_z, of_z}
 use Rattle.std.proofs.lemmas.Int.{to_z-of_z}
 use Rattle.std.proofs.lemmas.List.{length_push}
-use Rattle.programs.specs.declared.ast.TxId.{TxId}
-use Rattle.programs.specs.declared.ast.Outcome.{Outcome}
-use Rattle.programs.specs.declared.ast.Outcome.TheVariants.{Returned, Thrown, Retries}
-use Rattle.programs.specs.Tree.{Program}
-use Rattle.programs.specs.Listing.{Listing}
-use Rattle.programs.specs.Meaning.{State, value_at, outcome}
+use Rattle.txn_programs.specs.declared.ast.TxId.{TxId}
+use Rattle.txn_programs.specs.declared.ast.Outcome.{Outcome}
+use Rattle.txn_programs.specs.declared.ast.Outcome.TheVariants.{Returned, Thrown, Retries}
+use Rattle.txn_programs.specs.Tree.{Program}
+use Rattle.txn_programs.specs.Listing.{Listing}
+use Rattle.txn_programs.specs.Meaning.{State, value_at, outcome}
 use Rattle.attempt.specs.View.{AttemptView, Answers, HoldsAt}
 use Rattle.attempt.specs.declared.next.Stand.TheVariants.{Over}
 use Rattle.attempt.specs.declared.next.Next.{Next}

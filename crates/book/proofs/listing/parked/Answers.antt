@@ -1,6 +1,6 @@
 use Rattle.std.proofs.Common.{◌∙◌, ap, length, Vec, Global}
-use Rattle.programs.specs.declared.ast.TaskId.{TaskId}
-use Rattle.programs.specs.declared.ast.TxId.{TxId}
+use Rattle.txn_programs.specs.declared.ast.TaskId.{TaskId}
+use Rattle.txn_programs.specs.declared.ast.TxId.{TxId}
 use Rattle.txn.specs.Grown.{grown}
 use Rattle.book.specs.Turns.{is_parked}
 use Rattle.book.proofs.Listed.{one_listed, none_listed}

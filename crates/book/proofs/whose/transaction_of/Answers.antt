@@ -1,7 +1,7 @@
 use Rattle.std.proofs.Common.{◌<◌, ◌-◌, length, sym, subst, arith}
 use Rattle.std.proofs.lemmas.Option.{get_or_from_slice_get}
-use Rattle.programs.specs.declared.ast.TxId.{TxId}
-use Rattle.programs.specs.Listing.{tasks}
+use Rattle.txn_programs.specs.declared.ast.TxId.{TxId}
+use Rattle.txn_programs.specs.Listing.{tasks}
 use Rattle.txn.specs.Grown.{grown}
 use Rattle.book.proofs.Submitting.{grown_own, new_within, new_own}
 use Rattle.book.proofs.whose.transaction_of.Goals as goal

@@ -1,7 +1,7 @@
 use Rattle.std.proofs.Common.{◌≡◌, ◌+◌, arith, rules, List, ℕ, ◌∷◌, ◌++◌, [], sym, subst}
 use Rattle.std.specs.Int.{w64, cast_signed}
 use Rattle.std.proofs.lemmas.Int.{to_z-of_z}
-use Rattle.shared_words.specs.Words.{value_of}
+use Rattle.txn_words.specs.Words.{value_of}
 use Rattle.cells.specs.Private.{AreFirstWords}
 use Rattle.cells.proofs.Starts.{first_more}
 use Rattle.cells.proofs.opening.first_words.Goals as goal

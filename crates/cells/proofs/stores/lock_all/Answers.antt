@@ -1,6 +1,6 @@
 use Rattle.std.proofs.Common.{◌≡◌, ℕ, true, false, List, take, get_or, sym, refl, ap, ◌∙◌, subst, arith}
-use Rattle.shared_words.specs.Words.{Commit}
-use Rattle.shared_words.specs.Stores.{Change, id_of, after_lock, MayLock}
+use Rattle.txn_words.specs.Words.{Commit}
+use Rattle.txn_words.specs.Stores.{Change, id_of, after_lock, MayLock}
 use Rattle.cells.specs.Sight.{Sight, publishing, commit_of}
 use Rattle.cells.specs.Private.{locked_by, all_locked}
 use Rattle.cells.proofs.Changes.{sets_more, sets_else, not_yet, one_more, none_yet}

@@ -1,6 +1,6 @@
 use Rattle.std.proofs.Common.{◌≡◌, ◌≢◌, ℕ, ◌+◌, ◌-◌, true, false, List, take, length, set, get_or, sym, refl, ap, ◌∙◌, subst, arith}
-use Rattle.shared_words.specs.Words.{Commit, value_of, state_of, last_state}
-use Rattle.shared_words.specs.Stores.{Change, id_of, after_release, MayRelease}
+use Rattle.txn_words.specs.Words.{Commit, value_of, state_of, last_state}
+use Rattle.txn_words.specs.Stores.{Change, id_of, after_release, MayRelease}
 use Rattle.cells.specs.Sight.{Sight, publishing, commit_of}
 use Rattle.cells.specs.Private.{locked_by, numbered_by, all_released}
 use Rattle.cells.proofs.Changes.{sets_more, sets_else, sets_length, not_yet, one_more, none_yet}

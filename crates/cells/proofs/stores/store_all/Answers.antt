@@ -1,8 +1,8 @@
 use Rattle.std.proofs.Common.{◌≡◌, ℕ, ℤ, true, take, length, sym, refl, ap, ◌∙◌, subst, arith}
 use Rattle.std.specs.Int.{w64, cast_signed, cast_unsigned}
 use Rattle.std.proofs.lemmas.Int.{to_z-of_z}
-use Rattle.shared_words.specs.Words.{Commit}
-use Rattle.shared_words.specs.Stores.{Change, id_of, new_of, with_changes, after_value, MayStore}
+use Rattle.txn_words.specs.Words.{Commit}
+use Rattle.txn_words.specs.Stores.{Change, id_of, new_of, with_changes, after_value, MayStore}
 use Rattle.cells.specs.Sight.{Sight, publishing, commit_of}
 use Rattle.cells.proofs.Changes.{sets_more, sets_length, one_more, none_yet}
 use Rattle.cells.proofs.Commits.{still_publisher}

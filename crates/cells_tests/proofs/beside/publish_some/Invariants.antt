@@ -1,5 +1,5 @@
 use Rattle.std.proofs.Common.{◌≡◌, ◌+◌, [], ◌∷◌, pos, length}
-use Rattle.shared_words.specs.Words.{last_state}
+use Rattle.txn_words.specs.Words.{last_state}
 use Rattle.cells_tests.proofs.beside.publish_some.Given as goal
 
 abbrev pub invariant-loop-n : goal.invariant-loop-n

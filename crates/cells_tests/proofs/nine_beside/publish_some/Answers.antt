@@ -1,5 +1,5 @@
 use Rattle.std.proofs.Common.{rules, ◌≢◌, ℤ, pos, ◌+ℤ◌, List, sym, subst, w64, to_z, of_z}
-use Rattle.shared_words.specs.Stores.{AreChanges}
+use Rattle.txn_words.specs.Stores.{AreChanges}
 use Rattle.cells_tests.proofs.Nine.{all_nine, are_nine}
 use Rattle.cells_tests.proofs.nine_beside.publish_some.Goals as goal
 

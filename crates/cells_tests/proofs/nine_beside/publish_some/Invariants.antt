@@ -1,5 +1,5 @@
 use Rattle.std.proofs.Common.{◌≡◌, ◌+◌, pos, length}
-use Rattle.shared_words.specs.Words.{last_state}
+use Rattle.txn_words.specs.Words.{last_state}
 use Rattle.cells_tests.specs.Nine.{nine}
 use Rattle.cells_tests.proofs.nine_beside.publish_some.Given as goal
 

@@ -1,9 +1,9 @@
 use Rattle.std.proofs.Common.{rules, IsSome, IfSome, ◌↔◌, ◌≡◌, ◌∙◌, ap, sym, subst, refl}
 use Rattle.std.specs.List.{All}
-use Rattle.programs.specs.declared.ast.Outcome.TheVariants.{Retries}
-use Rattle.programs.specs.Listing.{program_at}
-use Rattle.programs.specs.Meaning.{outcome}
-use Rattle.programs.specs.Told.{told, snapshot_at, base_of, now_of}
+use Rattle.txn_programs.specs.declared.ast.Outcome.TheVariants.{Retries}
+use Rattle.txn_programs.specs.Listing.{program_at}
+use Rattle.txn_programs.specs.Meaning.{outcome}
+use Rattle.txn_programs.specs.Told.{told, snapshot_at, base_of, now_of}
 use Rattle.checker.specs.View.{view}
 use Rattle.checker.specs.Parts.{BaseHolds, EntriesHold, PresentHolds, TasksHold, ParkedHold, AllGoOn, led_to}
 use Rattle.checker.proofs.Whole.{lawful}

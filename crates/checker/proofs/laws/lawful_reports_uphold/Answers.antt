@@ -1,5 +1,5 @@
-use Rattle.programs.specs.Told.{base_of, now_of}
-use Rattle.programs.proofs.Standing.{replays_uphold}
+use Rattle.txn_programs.specs.Told.{base_of, now_of}
+use Rattle.txn_programs.proofs.Standing.{replays_uphold}
 use Rattle.checker.proofs.laws.lawful_reports_uphold.Goals as goal
 
 pub returns : goal.returns

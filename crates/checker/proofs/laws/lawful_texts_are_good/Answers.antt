@@ -1,7 +1,7 @@
 use Rattle.std.proofs.Common.{◌≡◌, ◌≤◌, ◌+◌, refl, sym, length, arith}
-use Rattle.programs.specs.Listing.{tasks}
-use Rattle.programs.proofs.Lawful.{few_tasks}
-use Rattle.report_printer.proofs.Lengths.{report_short}
+use Rattle.txn_programs.specs.Listing.{tasks}
+use Rattle.txn_programs.proofs.Lawful.{few_tasks}
+use Rattle.text_report_printer.proofs.Lengths.{report_short}
 use Rattle.checker.proofs.laws.lawful_texts_are_good.Goals as goal
 
 pub returns : goal.returns

@@ -1,7 +1,7 @@
 use Rattle.std.proofs.Common.{◌≡◌, ◌↔◌, length, drop}
-use Rattle.programs.specs.Scope.{ConditionsKnown}
-use Rattle.programs.specs.Standing.{AllTrue}
-use Rattle.evaluator.specs.Always.{conditions_of}
+use Rattle.txn_programs.specs.Scope.{ConditionsKnown}
+use Rattle.txn_programs.specs.Standing.{AllTrue}
+use Rattle.txn_evaluator.specs.Always.{conditions_of}
 use Rattle.checker.proofs.opening.are_true.Given as goal
 
 abbrev pub invariant-conditions : goal.invariant-conditions

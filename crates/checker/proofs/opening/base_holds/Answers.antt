@@ -1,7 +1,7 @@
 use Rattle.std.proofs.Common.{rules, arith, ◌≤◌, ◌∙◌, ap, sym, subst, IsTrue}
 use Rattle.std.specs.List.{All}
-use Rattle.programs.specs.Standing.{Upholds}
-use Rattle.programs.specs.Told.{told, snapshot_at, base_of}
+use Rattle.txn_programs.specs.Standing.{Upholds}
+use Rattle.txn_programs.specs.Told.{told, snapshot_at, base_of}
 use Rattle.checker.specs.Parts.{BaseHolds}
 use Rattle.checker.proofs.Opens.{opens}
 use Rattle.checker.proofs.opening.base_holds.Goals as goal

@@ -1,6 +1,6 @@
 use Rattle.std.proofs.Common.{◌∙◌, ap, sym, subst, length}
-use Rattle.programs.specs.Scope.{ConditionsKnown}
-use Rattle.evaluator.specs.Always.{conditions_of}
+use Rattle.txn_programs.specs.Scope.{ConditionsKnown}
+use Rattle.txn_evaluator.specs.Always.{conditions_of}
 use Rattle.checker.proofs.opening.conditions_hold.Goals as goal
 
 pub are_true-requires : goal.are_true-requires

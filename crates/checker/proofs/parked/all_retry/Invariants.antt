@@ -1,8 +1,8 @@
 use Rattle.std.proofs.Common.{◌≡◌, take}
 use Rattle.std.specs.List.{All}
-use Rattle.programs.specs.declared.ast.Outcome.TheVariants.{Retries}
-use Rattle.programs.specs.Listing.{program_at}
-use Rattle.programs.specs.Meaning.{outcome}
+use Rattle.txn_programs.specs.declared.ast.Outcome.TheVariants.{Retries}
+use Rattle.txn_programs.specs.Listing.{program_at}
+use Rattle.txn_programs.specs.Meaning.{outcome}
 use Rattle.checker.proofs.parked.all_retry.Given as goal
 
 abbrev pub invariant-parked : goal.invariant-parked

@@ -1,9 +1,9 @@
 use Rattle.std.proofs.Common.{◌≡◌, ◌∙◌, List, ap, sym, length, rules, arith}
 use Rattle.std.proofs.lemmas.List.Elements.{same_from_all_zip}
-use Rattle.programs.specs.Meaning.{after}
-use Rattle.programs.specs.Listing.{conditions, program_at}
-use Rattle.programs.specs.Tree.{Condition, Transaction, transaction_of, under}
-use Rattle.programs.specs.Replay.{Snapshot, versions_after, applied}
+use Rattle.txn_programs.specs.Meaning.{after}
+use Rattle.txn_programs.specs.Listing.{conditions, program_at}
+use Rattle.txn_programs.specs.Tree.{Condition, Transaction, transaction_of, under}
+use Rattle.txn_programs.specs.Replay.{Snapshot, versions_after, applied}
 use Rattle.checker.specs.View.{view}
 use Rattle.checker.proofs.Raising.{versions_length}
 use Rattle.checker.proofs.replay.step.Goals as goal

@@ -1,6 +1,6 @@
 use Rattle.std.proofs.Common.{take}
 use Rattle.std.specs.List.{All}
-use Rattle.programs.specs.LawfulReport.{HasOwn}
+use Rattle.txn_programs.specs.LawfulReport.{HasOwn}
 use Rattle.checker.proofs.tasks.are_own.Given as goal
 
 abbrev pub invariant-lines : goal.invariant-lines

@@ -1,12 +1,12 @@
 use Rattle.std.proofs.Common.{arith, refl, ◌≡◌, ◌∙◌, ◌↔◌, ◌+◌, ◌<◌, IsTrue, length, ap, sym, subst, List}
 use Rattle.std.specs.List.{All}
 use Rattle.std.proofs.lemmas.Result.{IfOk-weaker}
-use Rattle.programs.specs.declared.ast.TaskId.{TaskId}
-use Rattle.programs.specs.declared.ast.TxId.{TxId}
-use Rattle.programs.specs.Listing.{tasks}
-use Rattle.programs.specs.Replay.{Once}
-use Rattle.programs.specs.Told.{told}
-use Rattle.programs.specs.LawfulReport.{Ascends, HasOwn}
+use Rattle.txn_programs.specs.declared.ast.TaskId.{TaskId}
+use Rattle.txn_programs.specs.declared.ast.TxId.{TxId}
+use Rattle.txn_programs.specs.Listing.{tasks}
+use Rattle.txn_programs.specs.Replay.{Once}
+use Rattle.txn_programs.specs.Told.{told}
+use Rattle.txn_programs.specs.LawfulReport.{Ascends, HasOwn}
 use Rattle.checker.specs.Parts.{named, TasksHold}
 use Rattle.checker.proofs.Lists.{numbers}
 use Rattle.checker.proofs.Named.{known_tasks, only_once_left}

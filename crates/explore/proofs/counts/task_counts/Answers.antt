@@ -1,7 +1,7 @@
 use Rattle.std.proofs.Common.{◌≡◌, ℕ, ◌-◌, ◌<◌, List, length, get_or, drop, ap, arith}
 use Rattle.std.proofs.lemmas.List.{length-drop}
 use Rattle.explore_law.specs.Orders.{counted}
-use Rattle.programs.specs.Listing.{tasks}
+use Rattle.txn_programs.specs.Listing.{tasks}
 use Rattle.explore_places.proofs.Indexing.{any_default}
 use Rattle.explore.proofs.Counting.{length-counted, counted_most}
 use Rattle.explore.proofs.counts.task_counts.Goals as goal

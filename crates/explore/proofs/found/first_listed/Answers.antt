@@ -1,5 +1,5 @@
 use Rattle.std.proofs.Common.{length, ap, arith}
-use Rattle.programs.specs.Listing.{tasks}
+use Rattle.txn_programs.specs.Listing.{tasks}
 use Rattle.explore_places.specs.Shelf.{Shelf}
 use Rattle.explore.proofs.Counting.{length-counted}
 use Rattle.explore.proofs.found.first_listed.Goals as goal

@@ -1,6 +1,6 @@
 use Rattle.std.proofs.Common.{◌≡◌, ℕ, ◌+◌, List, length, sym, ◌∙◌, subst, arith}
 use Rattle.std.proofs.lemmas.Bool.{true≢false}
-use Rattle.programs.proofs.Lawful.{limits_parts}
+use Rattle.txn_programs.proofs.Lawful.{limits_parts}
 use Rattle.explore_law.specs.Orders.{Place}
 use Rattle.explore_places.specs.Indexed.{place_at}
 use Rattle.explore.specs.Searching.{IsUnderWay, HasMoved}

@@ -1,8 +1,8 @@
 use Rattle.std.proofs.Common.{◌≡◌, ℕ, ◌+◌, ◌<◌, ℤ, List, length, get_or, set, Option, Some, None, refl, sym, ◌∙◌, ap, subst, arith}
-use Rattle.programs.specs.declared.ast.TxId.{TxId}
-use Rattle.programs.specs.declared.ast.Outcome.{Outcome}
-use Rattle.programs.specs.LawfulReport.{OutcomeKnown}
-use Rattle.programs.specs.Listing.{Listing}
+use Rattle.txn_programs.specs.declared.ast.TxId.{TxId}
+use Rattle.txn_programs.specs.declared.ast.Outcome.{Outcome}
+use Rattle.txn_programs.specs.LawfulReport.{OutcomeKnown}
+use Rattle.txn_programs.specs.Listing.{Listing}
 use Rattle.explore_law.specs.Orders.{Place, HasTurn, turned}
 use Rattle.explore_law.specs.declared.found.Kinds.{Kinds}
 use Rattle.explore_places.specs.Shelf.{Adds, place}

@@ -1,5 +1,5 @@
 use Rattle.std.proofs.Common.{◌≡◌, ℕ, List, reverse, sym, subst, arith}
-use Rattle.programs.specs.declared.ast.TxId.{TxId}
+use Rattle.txn_programs.specs.declared.ast.TxId.{TxId}
 use Rattle.explore_law.specs.Orders.{Place, first_place, Leads}
 use Rattle.explore_places.specs.Indexed.{place_at}
 use Rattle.explore.proofs.Fewest.{any_way}

@@ -1,5 +1,5 @@
 use Rattle.std.proofs.Common.{◌≡◌, ℕ, ◌+◌, ◌-◌, List, [], length, replicate, sym, subst, arith}
-use Rattle.programs.specs.Listing.{tasks}
+use Rattle.txn_programs.specs.Listing.{tasks}
 use Rattle.explore_reports.specs.Giving.{queues}
 use Rattle.explore_reports.proofs.Queueing.{Filled, filled_size, filled_none, filled_more, queues_size}
 use Rattle.explore_reports.proofs.queues.tasks_by_transaction.Goals as goal

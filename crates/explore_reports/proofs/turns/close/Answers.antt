@@ -1,8 +1,8 @@
 use Rattle.std.proofs.Common.{◌∙◌, ap, subst}
-use Rattle.programs.specs.Listing.{Listing}
-use Rattle.programs.specs.Replay.{Snapshot}
-use Rattle.programs.specs.Told.{told}
-use Rattle.programs.specs.LawfulReport.{LawfulReport}
+use Rattle.txn_programs.specs.Listing.{Listing}
+use Rattle.txn_programs.specs.Replay.{Snapshot}
+use Rattle.txn_programs.specs.Told.{told}
+use Rattle.txn_programs.specs.LawfulReport.{LawfulReport}
 use Rattle.book.specs.Turns.{readied}
 use Rattle.book.proofs.Accounts.{report_lawful}
 use Rattle.explore_reports.proofs.Closing.{drains_on, readied_on}

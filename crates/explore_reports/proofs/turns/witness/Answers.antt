@@ -1,12 +1,12 @@
 use Rattle.std.proofs.Common.{◌≡◌, ℕ, ◌+◌, ◌<◌, List, [], ◌∷◌, ◌++◌, length, get_or, drop, sym, ◌∙◌, ap, subst, arith}
 use Rattle.std.proofs.lemmas.List.{take_more}
 use Rattle.std.proofs.lemmas.Option.{slice_get-get_or}
-use Rattle.programs.specs.declared.ast.TxId.{TxId}
-use Rattle.programs.specs.declared.report.Entry.{Entry}
-use Rattle.programs.specs.declared.report.Report.{Report}
-use Rattle.programs.specs.Listing.{Listing, tasks}
-use Rattle.programs.specs.Told.{told}
-use Rattle.programs.specs.LawfulReport.{LawfulReport}
+use Rattle.txn_programs.specs.declared.ast.TxId.{TxId}
+use Rattle.txn_programs.specs.declared.report.Entry.{Entry}
+use Rattle.txn_programs.specs.declared.report.Report.{Report}
+use Rattle.txn_programs.specs.Listing.{Listing, tasks}
+use Rattle.txn_programs.specs.Told.{told}
+use Rattle.txn_programs.specs.LawfulReport.{LawfulReport}
 use Rattle.book.specs.View.{BookView}
 use Rattle.explore_law.specs.Orders.{Place, first_place, HasTurn, turned, Leads}
 use Rattle.explore_reports.specs.Ends.{EndsAt}

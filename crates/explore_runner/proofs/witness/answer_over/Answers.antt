@@ -1,7 +1,7 @@
 use Rattle.std.proofs.Common.{rules, ◌≡◌, List, Option, Some, None, string_bytes, sym, subst}
 use Rattle.std.specs.declared.vec.Vec.{Vec}
 use Rattle.std.specs.declared.alloc.Global.{Global}
-use Rattle.programs.specs.declared.ast.TxId.{TxId}
+use Rattle.txn_programs.specs.declared.ast.TxId.{TxId}
 use Rattle.explore_law.specs.Orders.{Place, Leads, first_place}
 use Rattle.explore_law.specs.Explored.{end_place}
 use Rattle.explore_law.specs.Ways.{WayOfEnd}

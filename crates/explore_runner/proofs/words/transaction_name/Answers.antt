@@ -1,5 +1,5 @@
 use Rattle.std.proofs.Common.{arith}
-use Rattle.programs.proofs.Lawful.{limits_parts}
+use Rattle.txn_programs.proofs.Lawful.{limits_parts}
 use Rattle.explore_runner.proofs.words.transaction_name.Goals as goal
 
 pub overflow_cast-number : goal.overflow_cast-number

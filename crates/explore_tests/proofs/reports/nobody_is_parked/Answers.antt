@@ -1,5 +1,5 @@
 use Rattle.std.proofs.Common.{◌≡◌, ℕ, [], length, ◌==◌, ◌∙◌, ap, arith}
-use Rattle.programs.specs.Told.{told}
+use Rattle.txn_programs.specs.Told.{told}
 use Rattle.explore_tests.proofs.reports.nobody_is_parked.Goals as goal
 
 pub returns : goal.returns

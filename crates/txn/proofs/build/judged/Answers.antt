@@ -1,8 +1,8 @@
 use Rattle.std.proofs.Common.{◌≡◌, ◌∙◌, true, false, refl, sym}
 use Rattle.std.proofs.lemmas.Result.{err_from_is_err_and}
-use Rattle.programs.specs.Listing.{listing_of}
-use Rattle.programs.specs.Names.{is_well_formed}
-use Rattle.programs.specs.Limits.{limits_hold}
+use Rattle.txn_programs.specs.Listing.{listing_of}
+use Rattle.txn_programs.specs.Names.{is_well_formed}
+use Rattle.txn_programs.specs.Limits.{limits_hold}
 use Rattle.txn.proofs.Building.{not_well_formed, given_twice, given_once, conditions_known, upholds_is}
 use Rattle.txn.proofs.build.judged.Goals as goal
 

@@ -1,7 +1,7 @@
 use Rattle.std.proofs.Common.{◌≡◌, ◌∙◌, ◌++◌, ◌∷◌, [], sym, ap, map, true, false, string_bytes}
 use Rattle.std.specs.List.{list_any}
 use Rattle.std.specs.String.{string_eq}
-use Rattle.programs.specs.Names.{are_new}
+use Rattle.txn_programs.specs.Names.{are_new}
 use Rattle.txn.proofs.Building.{inserted_new, new_step, old_step, next_in_order, true_is_not, false_is_not}
 use Rattle.txn.proofs.build.name_set.Goals as goal
 

@@ -1,5 +1,5 @@
 use Rattle.std.proofs.Common.{◌≡◌, ◌++◌, map, string_bytes}
-use Rattle.programs.specs.Names.{are_new, are_distinct}
+use Rattle.txn_programs.specs.Names.{are_new, are_distinct}
 use Rattle.txn.proofs.build.name_set.Given as goal
 
 abbrev pub invariant-loop-name : goal.invariant-loop-name

@@ -4,7 +4,7 @@ use Rattle.std.proofs.lemmas.List.{length-map}
 use Rattle.std.specs.Int.{w64}
 use Rattle.std.proofs.Math.Facts.{of_z-to_z}
 use mir.Val.{SFits, to_z, of_z}
-use Rattle.shared_words.specs.Words.{state_of, value_of}
+use Rattle.txn_words.specs.Words.{state_of, value_of}
 use Rattle.world_events.specs.Inside.{state_items}
 use Rattle.world.proofs.Changed.{ChangedBy, changed_more, same_more, state_at, changed_last}
 use Rattle.world.proofs.present.last_change.Goals as goal

@@ -1,5 +1,5 @@
 use Rattle.std.specs.Prelude.{◌≡◌, ◌-◌, map}
-use Rattle.shared_words.specs.Words.{state_of, value_of}
+use Rattle.txn_words.specs.Words.{state_of, value_of}
 use Rattle.world_events.specs.Inside.{state_items}
 use Rattle.world.proofs.Changed.{ChangedBy}
 use Rattle.world.proofs.present.last_change.Given as goal

@@ -3,7 +3,7 @@ use Rattle.std.proofs.lemmas.List.{length-map}
 use Rattle.std.specs.Int.{w64}
 use Rattle.std.proofs.lemmas.Int.{to_z-of_z}
 use mir.Val.{SFits}
-use Rattle.shared_words.specs.Words.{last_state, state_of, value_of}
+use Rattle.txn_words.specs.Words.{last_state, state_of, value_of}
 use Rattle.world_events.specs.Inside.{state_items}
 use Rattle.world.specs.WorldText.{ArePresent}
 use Rattle.world.proofs.Changed.{present_more, state_at}

@@ -1,6 +1,6 @@
 use Rattle.std.proofs.Common.{◌≡◌, ◌<◌, ℕ, ℤ, Some, slice_get}
-use Rattle.programs.specs.declared.ast.VarId.{VarId}
-use Rattle.programs.specs.Meaning.{value_at}
+use Rattle.txn_programs.specs.declared.ast.VarId.{VarId}
+use Rattle.txn_programs.specs.Meaning.{value_at}
 use Rattle.world_events.proofs.asking.agrees.Given as goal
 
 abbrev pub invariant-loop-pair : goal.invariant-loop-pair

@@ -1,7 +1,7 @@
 use Rattle.std.proofs.Common.{◌≡◌, ◌≢◌, ℤ, refl, sym, ap, ◌∙◌, true≢false}
-use Rattle.programs.specs.declared.ast.Fault.{Fault}
-use Rattle.programs.specs.declared.ast.Outcome.{Outcome}
-use Rattle.programs.specs.declared.ast.Outcome.TheVariants.{Returned, Thrown, Retries}
+use Rattle.txn_programs.specs.declared.ast.Fault.{Fault}
+use Rattle.txn_programs.specs.declared.ast.Outcome.{Outcome}
+use Rattle.txn_programs.specs.declared.ast.Outcome.TheVariants.{Returned, Thrown, Retries}
 use Rattle.attempt.specs.View.{next_of}
 use Rattle.attempt.specs.declared.next.Next.{Next}
 use Rattle.attempt.specs.declared.next.Next.TheVariants as next

@@ -1,6 +1,6 @@
 use Rattle.std.proofs.Common.{◌≡◌, ℕ, ℤ, ◌-◌, length, pos, get_or, drop, ◌∙◌, ap, arith}
 use Rattle.std.proofs.lemmas.Option.{slice_get-get_or}
-use Rattle.programs.specs.declared.ast.VarId.{VarId}
+use Rattle.txn_programs.specs.declared.ast.VarId.{VarId}
 use Rattle.world_law.proofs.Framed.{length-store}
 use Rattle.world_events.proofs.Logs.{known_pair}
 use Rattle.world_events.proofs.asking.written.Goals as goal

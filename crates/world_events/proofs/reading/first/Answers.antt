@@ -1,6 +1,6 @@
 use Rattle.std.proofs.Common.{◌≡◌, ℕ, ◌+◌, ◌*◌, Some, ap, ◌∙◌, subst, refl, arith}
 use Rattle.std.proofs.lemmas.Option.{slice_get_within}
-use Rattle.programs.specs.declared.ast.VarId.{VarId}
+use Rattle.txn_programs.specs.declared.ast.VarId.{VarId}
 use Rattle.world_law.specs.declared.events.Event.TheVariants.{First}
 use Rattle.world_law.specs.World.{version_now}
 use Rattle.world_events.specs.declared.trial.Trial.{Trial}

@@ -1,6 +1,6 @@
 use Rattle.std.proofs.Common.{◌≡◌, ℕ, Option, Some, None, slice_get, sym, ap, ◌∙◌, arith}
 use Rattle.std.proofs.lemmas.Option.{slice_get_read, slice_get_within}
-use Rattle.programs.specs.declared.ast.TaskId.{TaskId}
+use Rattle.txn_programs.specs.declared.ast.TaskId.{TaskId}
 use Rattle.world_events.specs.declared.trial.Trial.{Trial}
 use Rattle.world_events.proofs.Seeing.{read_is}
 use Rattle.world_events.proofs.Finding.{only_latest, none_latest, beyond, dead_latest}

@@ -1,7 +1,7 @@
 use Rattle.std.proofs.Common.{◌≡◌, ℕ, ◌+◌, ◌-◌, ◌*◌, ◌<◌, Some, get_or, length, sym, ◌∙◌, ap, arith}
 use Rattle.std.specs.List.{slice_get}
 use Rattle.std.proofs.lemmas.Option.{slice_get-get_or}
-use Rattle.shared_words.specs.Stores.{Change, no_change}
+use Rattle.txn_words.specs.Stores.{Change, no_change}
 use Rattle.world_law.specs.World.{stores, Free}
 use Rattle.world_law.proofs.Order.{is_free}
 use Rattle.world_events.proofs.Seeing.{read_is}

@@ -1,5 +1,5 @@
 use Rattle.std.proofs.Common.{◌≡◌, ℕ, ◌<◌, length, refl, sym, ap, ◌∙◌, subst}
-use Rattle.programs.specs.Listing.{program_at}
+use Rattle.txn_programs.specs.Listing.{program_at}
 use Rattle.attempt.specs.View.{AttemptView}
 use Rattle.attempt.specs.declared.next.Next.{Next}
 use Rattle.world_law.specs.declared.events.Fate.TheVariants as fate

@@ -1,6 +1,6 @@
 use Rattle.std.proofs.Common.{◌∙◌, string_bytes}
-use Rattle.programs.specs.declared.moves.Move.{Move}
-use Rattle.programs.specs.declared.moves.Move.TheVariants.{Begin}
+use Rattle.txn_programs.specs.declared.moves.Move.{Move}
+use Rattle.txn_programs.specs.declared.moves.Move.TheVariants.{Begin}
 use Rattle.world_runner.proofs.Turns.{puts_more}
 use Rattle.world_runner.proofs.lines.put_lines.Goals as goal
 

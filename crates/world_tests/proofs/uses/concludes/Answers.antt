@@ -1,8 +1,8 @@
 use Rattle.std.proofs.Common.{◌≡◌, ◌≢◌, ◌∙◌, ◌-◌, ap, sym, subst, inl, Some, slice_get}
-use Rattle.programs.specs.Listing.{Listing, task_program}
-use Rattle.programs.specs.Meaning.{outcome, after}
-use Rattle.programs.specs.declared.ast.Outcome.TheVariants.{Retries}
-use Rattle.shared_words.specs.Words.{state_of}
+use Rattle.txn_programs.specs.Listing.{Listing, task_program}
+use Rattle.txn_programs.specs.Meaning.{outcome, after}
+use Rattle.txn_programs.specs.declared.ast.Outcome.TheVariants.{Retries}
+use Rattle.txn_words.specs.Words.{state_of}
 use Rattle.attempt.specs.Asking.{Known}
 use Rattle.attempt.specs.Frame.{Agrees}
 use Rattle.world_law.specs.World.{Started, World}

@@ -1,7 +1,7 @@
 use Rattle.std.proofs.Common.{◌≡◌, ◌∙◌, ap, subst, sym, ◌∷◌, ◌++◌, [], to_z-of_z, arith, refl}
 use Rattle.attempt.specs.declared.next.Stand.TheVariants as stand
 use Rattle.attempt.specs.AttemptInside.{viewed, remaining, IsLawful, StandsAt, IsGoing, GoesOn}
-use Rattle.programs.proofs.Lawful.{limits_parts}
+use Rattle.txn_programs.proofs.Lawful.{limits_parts}
 use Rattle.attempt_machine.specs.Asking.{Known}
 use Rattle.attempt.specs.View.{AttemptView}
 use Rattle.attempt.proofs.Lawful.{told_more, supplied_goes}

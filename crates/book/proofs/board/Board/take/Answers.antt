@@ -3,8 +3,8 @@ use Rattle.std.specs.List.{slice_get}
 use Rattle.std.proofs.lemmas.List.{length-set}
 use Rattle.book.specs.declared.board.Board.TheInside.{Inside}
 use Rattle.std.proofs.lemmas.Option.{slice_get_within}
-use Rattle.programs.specs.declared.ast.TaskId.{TaskId}
-use Rattle.task_set.specs.Members.{HasNone}
+use Rattle.txn_programs.specs.declared.ast.TaskId.{TaskId}
+use Rattle.book_task_set.specs.Members.{HasNone}
 use Rattle.book.specs.declared.task.Task.TheVariants.{Ready, Running}
 use Rattle.book.specs.Board.{BoardView, IsTaken, placed, with_tasks}
 use Rattle.book.specs.BoardInside.{places, IsSorted, board_of}

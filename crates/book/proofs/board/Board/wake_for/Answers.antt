@@ -1,6 +1,6 @@
 use Rattle.std.proofs.Common.{◌≡◌, ◌<◌, Bool, true, List, Some, map, sym, ◌∙◌, ap, subst, arith}
 use Rattle.std.specs.List.{slice_get}
-use Rattle.task_set.specs.Members.{HasNone}
+use Rattle.book_task_set.specs.Members.{HasNone}
 use Rattle.book.specs.Board.{BoardView, waits_for, woken_for}
 use Rattle.book.proofs.Draining.{weigh}
 use Rattle.book.proofs.Sets.{asleep_now, board_is, waits_at, at_waits}

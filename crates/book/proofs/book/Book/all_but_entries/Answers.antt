@@ -1,7 +1,7 @@
 use Rattle.std.proofs.Common.{rules, ◌≡◌, ◌∙◌, ap, refl, subst, ◌<◌, List, length}
 use Rattle.std.specs.List.{All}
-use Rattle.programs.specs.declared.ast.TaskId.{TaskId}
-use Rattle.programs.specs.declared.ast.TxId.{TxId}
+use Rattle.txn_programs.specs.declared.ast.TaskId.{TaskId}
+use Rattle.txn_programs.specs.declared.ast.TxId.{TxId}
 use Rattle.book.specs.declared.task.Task.{Task}
 use Rattle.book.specs.View.{BookView}
 use Rattle.book.specs.Turns.{listed, is_parked, is_given_up}

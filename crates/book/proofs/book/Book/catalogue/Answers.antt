@@ -1,5 +1,5 @@
 use Rattle.std.proofs.Common.{length, ap, arith, length-append}
-use Rattle.programs.specs.Listing.{tasks}
+use Rattle.txn_programs.specs.Listing.{tasks}
 use Rattle.txn.proofs.Growing.{tasks_grown}
 use Rattle.book.proofs.book.Book.catalogue.Goals as goal
 

@@ -1,7 +1,7 @@
 use Rattle.std.proofs.Common.{◌≡◌, ◌<◌, ℕ, ◌+◌, ◌++◌, ◌∷◌, [], length, map, set, sym, subst, ap, ◌∙◌, arith}
-use Rattle.programs.specs.Meaning.{State, outcome, after}
-use Rattle.programs.specs.Listing.{task_program}
-use Rattle.shared_words.specs.Stores.{AreChanges, with_changes, id_of}
+use Rattle.txn_programs.specs.Meaning.{State, outcome, after}
+use Rattle.txn_programs.specs.Listing.{task_program}
+use Rattle.txn_words.specs.Stores.{AreChanges, with_changes, id_of}
 use Rattle.attempt.specs.Asking.{Known}
 use Rattle.book.specs.declared.task.Task.TheVariants.{Running, Done}
 use Rattle.book.specs.View.{BookView, IsRunning, committed, woken}

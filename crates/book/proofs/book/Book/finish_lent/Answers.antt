@@ -2,9 +2,9 @@ use Rattle.std.proofs.Common.{◌≡◌, Some, true, false, length, inl, inr, w6
 use Rattle.std.specs.List.{slice_get}
 use mir.Val.{to_z, of_z}
 use Rattle.std.proofs.lemmas.Int.{to_z-of_z}
-use Rattle.programs.specs.declared.ast.Outcome.TheVariants.{Returned}
-use Rattle.programs.specs.declared.ast.TaskId.{TaskId}
-use Rattle.programs.specs.Meaning.{State}
+use Rattle.txn_programs.specs.declared.ast.Outcome.TheVariants.{Returned}
+use Rattle.txn_programs.specs.declared.ast.TaskId.{TaskId}
+use Rattle.txn_programs.specs.Meaning.{State}
 use Rattle.attempt.specs.Asking.{Known}
 use Rattle.attempt.specs.Frame.{Agrees}
 use Rattle.attempt.specs.Order.{AllKnown, Ascending}
@@ -13,8 +13,8 @@ use Rattle.attempt.specs.declared.next.Next.{Next}
 use Rattle.book.specs.declared.task.Task.TheVariants.{Running, Parked}
 use Rattle.book.specs.declared.book.Book.TheInside.{Inside}
 use Rattle.book.specs.View.{BookView, IsRunning, stands}
-use Rattle.programs.specs.declared.ast.Outcome.{Outcome}
-use Rattle.shared_words.specs.Stores.{with_changes}
+use Rattle.txn_programs.specs.declared.ast.Outcome.{Outcome}
+use Rattle.txn_words.specs.Stores.{with_changes}
 use Rattle.attempt.specs.declared.next.Stand.TheVariants.{Over}
 use Rattle.book.specs.Turns.{IsEndOf}
 use Rattle.book.specs.LawfulBook.{Waits}

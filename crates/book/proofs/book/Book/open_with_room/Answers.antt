@@ -1,8 +1,8 @@
 use Rattle.std.proofs.Common.{◌≡◌, ◌∙◌, arith, ap, true, List, ℤ, length, replicate}
 use Rattle.std.proofs.lemmas.Option.{slice_get-get_or}
-use Rattle.programs.specs.Listing.{Listing, tasks, task_tx}
-use Rattle.programs.specs.Names.{names_hold}
-use Rattle.programs.proofs.Lawful.{known_task}
+use Rattle.txn_programs.specs.Listing.{Listing, tasks, task_tx}
+use Rattle.txn_programs.specs.Names.{names_hold}
+use Rattle.txn_programs.proofs.Lawful.{known_task}
 use Rattle.attempt_machine.proofs.Declared.{program_known}
 use Rattle.book.specs.declared.task.Task.TheVariants.{Ready}
 use Rattle.book.specs.BookInside.{snapshot_of}

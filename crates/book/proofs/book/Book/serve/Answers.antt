@@ -1,10 +1,10 @@
 use Rattle.std.proofs.Common.{List, ◌≡◌, sym, ◌∙◌, ap}
-use Rattle.programs.specs.declared.ast.TaskId.{TaskId}
-use Rattle.programs.specs.declared.ast.TxId.{TxId}
-use Rattle.programs.specs.declared.ast.Outcome.{Outcome}
-use Rattle.programs.specs.declared.ast.Outcome.TheVariants.{Retries}
-use Rattle.programs.specs.Meaning.{State, outcome}
-use Rattle.programs.specs.Listing.{Listing, task_tx, task_program, program_at}
+use Rattle.txn_programs.specs.declared.ast.TaskId.{TaskId}
+use Rattle.txn_programs.specs.declared.ast.TxId.{TxId}
+use Rattle.txn_programs.specs.declared.ast.Outcome.{Outcome}
+use Rattle.txn_programs.specs.declared.ast.Outcome.TheVariants.{Retries}
+use Rattle.txn_programs.specs.Meaning.{State, outcome}
+use Rattle.txn_programs.specs.Listing.{Listing, task_tx, task_program, program_at}
 use Rattle.attempt.specs.View.{AttemptView}
 use Rattle.attempt.specs.declared.next.Stand.TheVariants.{Over}
 use Rattle.book.specs.declared.book.Book.TheInside.{Inside}

@@ -1,7 +1,7 @@
 use Rattle.std.proofs.Common.{◌<◌, length, subst, ap, arith}
-use Rattle.programs.specs.Scope.{ProgramKnown}
-use Rattle.programs.specs.Tree.{Transaction, under}
-use Rattle.programs.specs.Listing.{conditions}
+use Rattle.txn_programs.specs.Scope.{ProgramKnown}
+use Rattle.txn_programs.specs.Tree.{Transaction, under}
+use Rattle.txn_programs.specs.Listing.{conditions}
 use Rattle.book.specs.View.{BookView}
 use Rattle.book.proofs.Kept.{kept_submitted}
 use Rattle.book.proofs.book.Book.submit.Goals as goal

@@ -1,5 +1,5 @@
 use Rattle.std.proofs.Common.{ℕ, sym, ap, ◌∙◌, arith}
-use Rattle.shared_words.specs.Loads.{PassRecord, sampled}
+use Rattle.txn_words.specs.Loads.{PassRecord, sampled}
 use Rattle.cells.specs.Sight.{reading, record_of}
 use Rattle.cells.specs.Cells.{CellsId}
 use Rattle.cells.proofs.Commits.{half_version}

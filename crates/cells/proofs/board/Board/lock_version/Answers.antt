@@ -1,6 +1,6 @@
 use Rattle.std.proofs.Common.{ℕ, ◌+◌, ◌*◌, sym, ap, ◌∙◌, arith}
-use Rattle.shared_words.specs.Words.{Commit}
-use Rattle.shared_words.specs.Stores.{after_lock}
+use Rattle.txn_words.specs.Words.{Commit}
+use Rattle.txn_words.specs.Stores.{after_lock}
 use Rattle.cells.specs.Sight.{publishing, commit_of}
 use Rattle.cells.specs.Cells.{CellsId}
 use Rattle.cells.proofs.Commits.{locks_kept, half_version}

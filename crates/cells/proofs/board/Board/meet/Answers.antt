@@ -1,6 +1,6 @@
 use Rattle.std.proofs.Common.{◌≡◌, None, sym, ap, ◌∙◌, arith}
-use Rattle.shared_words.specs.Words.{Commit}
-use Rattle.shared_words.specs.Loads.{PassRecord, met}
+use Rattle.txn_words.specs.Words.{Commit}
+use Rattle.txn_words.specs.Loads.{PassRecord, met}
 use Rattle.cells.specs.Sight.{Sight, publishing, reading, meeting, commit_of, record_of}
 use Rattle.cells.specs.Cells.{CellsId}
 use Rattle.cells.proofs.Meeting.{leaves, takes_in, meets_kept, parts}

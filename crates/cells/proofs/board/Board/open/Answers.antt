@@ -1,6 +1,6 @@
 use Rattle.std.proofs.Common.{rules, ◌≡◌, List, [], ℤ, sym, subst}
 use Rattle.atomic_table.specs.Table.{opening}
-use Rattle.shared_words.specs.Stores.{opened}
+use Rattle.txn_words.specs.Stores.{opened}
 use Rattle.cells.specs.Sight.{publishing}
 use Rattle.cells.specs.Rule.{WordsHold}
 use Rattle.cells.proofs.Starts.{starts}

@@ -1,6 +1,6 @@
 use Rattle.std.proofs.Common.{ℕ, ◌*◌, sym, ap, ◌∙◌, arith}
-use Rattle.shared_words.specs.Words.{Commit}
-use Rattle.shared_words.specs.Stores.{after_release}
+use Rattle.txn_words.specs.Words.{Commit}
+use Rattle.txn_words.specs.Stores.{after_release}
 use Rattle.cells.specs.Sight.{publishing, commit_of}
 use Rattle.cells.specs.Cells.{CellsId}
 use Rattle.cells.proofs.Commits.{releases_kept, half_version}

@@ -1,8 +1,8 @@
 use Rattle.std.proofs.Common.{◌≡◌, ℕ, ℤ, sym, ap, ◌∙◌, arith}
 use Rattle.std.specs.Int.{w64, cast_signed}
 use Rattle.std.proofs.lemmas.Int.{to_z-of_z}
-use Rattle.shared_words.specs.Words.{Commit}
-use Rattle.shared_words.specs.Stores.{after_value}
+use Rattle.txn_words.specs.Words.{Commit}
+use Rattle.txn_words.specs.Stores.{after_value}
 use Rattle.cells.specs.Sight.{publishing, commit_of}
 use Rattle.cells.specs.Cells.{CellsId}
 use Rattle.cells.proofs.Commits.{values_kept, half_value}

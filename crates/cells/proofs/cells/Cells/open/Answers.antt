@@ -1,5 +1,5 @@
 use Rattle.std.proofs.Common.{rules, ◌≡◌, ℕ, List, ℤ, length, replicate, sym, refl, ap, ◌∙◌, subst}
-use Rattle.shared_words.specs.Stores.{opened}
+use Rattle.txn_words.specs.Stores.{opened}
 use Rattle.cells.specs.Sight.{Sight, publishing, commit_of}
 use Rattle.cells.specs.Publishing.{IsResting}
 use Rattle.cells.specs.Private.{AreFirstWords}

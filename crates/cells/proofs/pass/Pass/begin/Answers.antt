@@ -1,5 +1,5 @@
 use Rattle.std.proofs.Common.{sym, ap, ◌∙◌, arith}
-use Rattle.shared_words.specs.Loads.{PassRecord}
+use Rattle.txn_words.specs.Loads.{PassRecord}
 use Rattle.cells.specs.Sight.{record_of}
 use Rattle.cells.specs.Cells.{CellsId}
 use Rattle.cells.proofs.Readers.{still_reading, begins_by}

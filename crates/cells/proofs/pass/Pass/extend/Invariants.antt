@@ -1,5 +1,5 @@
 use Rattle.std.proofs.Common.{◌≡◌, ◌+◌, ◌*◌, ◌≤◌, true, length}
-use Rattle.shared_words.specs.Words.{StartsWith}
+use Rattle.txn_words.specs.Words.{StartsWith}
 use Rattle.cells.specs.Passing.{at}
 use Rattle.cells.specs.Answers.{AgreesUpTo}
 use Rattle.cells.proofs.pass.Pass.extend.Given as goal

@@ -1,8 +1,8 @@
 use Rattle.std.proofs.Common.{◌≡◌, ℕ, ◌+◌, ◌*◌, ◌%◌, ◌≤◌, [], ◌∷◌, length, sym, refl, ap, ◌∙◌, subst, inl, inr, arith}
 use Rattle.std.specs.Int.{w64, cast_signed, cast_unsigned}
 use Rattle.std.proofs.lemmas.Int.{of_z-to_z}
-use Rattle.shared_words.specs.Words.{value_of}
-use Rattle.shared_words.specs.Loads.{PassRecord, sampled, loaded, value_at, ShowsStale}
+use Rattle.txn_words.specs.Words.{value_of}
+use Rattle.txn_words.specs.Loads.{PassRecord, sampled, loaded, value_at, ShowsStale}
 use Rattle.cells.specs.Sight.{Sight, reading, record_of}
 use Rattle.cells.specs.Cells.{CellsId}
 use Rattle.cells.specs.Passing.{Passing, at}

@@ -1,7 +1,7 @@
 use Rattle.std.proofs.Common.{◌≡◌, ◌<◌, false, List, length, ℤ, sym, ap, ◌∙◌, subst, arith}
-use Rattle.shared_words.specs.Words.{Commit}
-use Rattle.shared_words.specs.Loads.{PassRecord, met}
-use Rattle.shared_words.proofs.Words.{seen_shorter}
+use Rattle.txn_words.specs.Words.{Commit}
+use Rattle.txn_words.specs.Loads.{PassRecord, met}
+use Rattle.txn_words.proofs.Words.{seen_shorter}
 use Rattle.cells.specs.Sight.{Sight, publishing, commit_of, record_of}
 use Rattle.cells.specs.Cells.{CellsId}
 use Rattle.cells.specs.Publishing.{published, IsResting}

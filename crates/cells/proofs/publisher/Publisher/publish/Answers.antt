@@ -1,6 +1,6 @@
 use Rattle.std.proofs.Common.{rules, ◌≡◌, ◌≢◌, ℕ, ◌+◌, ◌-◌, ◌<◌, [], ◌∷◌, ◌++◌, Bool, true, false, List, ℤ, length, get_or, sym, ap, ◌∙◌, subst, arith}
-use Rattle.shared_words.specs.Words.{Commit, value_of, state_of, last_state}
-use Rattle.shared_words.specs.Stores.{Change, AreChanges, with_changes, id_of, after_clock}
+use Rattle.txn_words.specs.Words.{Commit, value_of, state_of, last_state}
+use Rattle.txn_words.specs.Stores.{Change, AreChanges, with_changes, id_of, after_clock}
 use Rattle.cells.specs.Sight.{publishing, commit_of}
 use Rattle.cells.specs.Cells.{CellsId}
 use Rattle.cells.specs.Publishing.{IsResting}

@@ -1,14 +1,14 @@
 use Rattle.std.proofs.Common.{◌≡◌, ◌∙◌, length, ap, sym, subst, arith, List, ℕ, string_bytes}
 use Rattle.std.proofs.lemmas.List.{length-map}
 use Rattle.std.proofs.lemmas.Simd.{map-map}
-use Rattle.programs.proofs.Lawful.{limits_parts}
-use Rattle.programs.specs.Tree.{Condition}
-use Rattle.programs.specs.Listing.{Listing, conditions}
-use Rattle.programs.specs.Scope.{ConditionsKnown}
+use Rattle.txn_programs.proofs.Lawful.{limits_parts}
+use Rattle.txn_programs.specs.Tree.{Condition}
+use Rattle.txn_programs.specs.Listing.{Listing, conditions}
+use Rattle.txn_programs.specs.Scope.{ConditionsKnown}
 use Rattle.txn.specs.CatalogueInside.{listed}
-use Rattle.program_copies.specs.Conditions.{standing_of}
-use Rattle.evaluator.specs.Always.{conditions_of}
-use Rattle.evaluator.proofs.Always.{conditions_known}
+use Rattle.txn_copies.specs.Conditions.{standing_of}
+use Rattle.txn_evaluator.specs.Always.{conditions_of}
+use Rattle.txn_evaluator.proofs.Always.{conditions_known}
 use Rattle.txn.proofs.catalogue.Catalogue.always.Goals as goal
 
 pub returns-clause-conditions : goal.returns-clause-conditions

@@ -1,16 +1,16 @@
 use Rattle.std.proofs.Common.{◌≡◌, ◌∙◌, ℕ, List, length, map, sym, ap, subst, string_bytes}
 use Rattle.std.proofs.lemmas.List.{length-map}
-use Rattle.programs.specs.Meaning.{State}
-use Rattle.programs.specs.Tree.{Condition, Transaction, transaction_of}
-use Rattle.programs.specs.Fused.{own_code, common_code}
-use Rattle.programs.specs.Listing.{Listing, listing_of, tasks_of}
-use Rattle.programs.specs.Standing.{Upholds}
-use Rattle.programs.proofs.Standing.{upholds_true}
-use Rattle.evaluator.specs.Always.{conditions_of}
+use Rattle.txn_programs.specs.Meaning.{State}
+use Rattle.txn_programs.specs.Tree.{Condition, Transaction, transaction_of}
+use Rattle.txn_programs.specs.Fused.{own_code, common_code}
+use Rattle.txn_programs.specs.Listing.{Listing, listing_of, tasks_of}
+use Rattle.txn_programs.specs.Standing.{Upholds}
+use Rattle.txn_programs.proofs.Standing.{upholds_true}
+use Rattle.txn_evaluator.specs.Always.{conditions_of}
 use Rattle.txn.specs.CatalogueInside.{listed}
-use Rattle.program_copies.specs.Conditions.{standing_of}
-use Rattle.programs.specs.Names.{names_hold}
-use Rattle.programs.specs.Limits.{limits_hold}
+use Rattle.txn_copies.specs.Conditions.{standing_of}
+use Rattle.txn_programs.specs.Names.{names_hold}
+use Rattle.txn_programs.specs.Limits.{limits_hold}
 use Rattle.txn.proofs.Building.{tx_names_are, codes_are, conditions_are, always_names_are, shallow_bodies, shallow_results, shallow_conditions, few_conditions, listing_by}
 use Rattle.txn.proofs.catalogue.Catalogue.build.Goals as goal
 

@@ -1,9 +1,9 @@
 use Rattle.std.proofs.Common.{◌≡◌, ◌∙◌, sym, subst, length, string_bytes, true}
 use Rattle.std.proofs.lemmas.List.{length-map}
-use Rattle.programs.specs.Limits.{limits_hold}
-use Rattle.programs.specs.Listing.{Listing}
-use Rattle.programs.specs.Names.{names_hold}
-use Rattle.programs.specs.Standing.{Upholds}
+use Rattle.txn_programs.specs.Limits.{limits_hold}
+use Rattle.txn_programs.specs.Listing.{Listing}
+use Rattle.txn_programs.specs.Names.{names_hold}
+use Rattle.txn_programs.specs.Standing.{Upholds}
 use Rattle.txn.proofs.catalogue.Catalogue.rules.Goals as goal
 
 pub returns-clause-named : goal.returns-clause-named

@@ -3,11 +3,11 @@ use Rattle.std.specs.List.{slice_get}
 use Rattle.std.specs.Option.{option_map}
 use Rattle.std.proofs.lemmas.List.{length-map}
 use Rattle.std.proofs.lemmas.Option.{slice_get-map, slice_get-get_or}
-use Rattle.programs.proofs.Lawful.{known_at}
+use Rattle.txn_programs.proofs.Lawful.{known_at}
 use Rattle.txn.specs.CatalogueInside.{listed}
-use Rattle.programs.specs.Listing.{Listing, conditions}
-use Rattle.programs.specs.Scope.{ProgramKnown}
-use Rattle.programs.specs.Tree.{transaction_of, under}
+use Rattle.txn_programs.specs.Listing.{Listing, conditions}
+use Rattle.txn_programs.specs.Scope.{ProgramKnown}
+use Rattle.txn_programs.specs.Tree.{transaction_of, under}
 use Rattle.txn.proofs.catalogue.Catalogue.tx.Goals as goal
 
 pub returns-clause-known : goal.returns-clause-known

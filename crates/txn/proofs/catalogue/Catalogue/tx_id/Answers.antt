@@ -1,10 +1,10 @@
 use Rattle.std.proofs.Common.{◌∙◌, ap, List, ℕ, length, arith, string_bytes, bytes_eq}
 use Rattle.std.specs.List.{position}
 use Rattle.std.proofs.lemmas.List.{length-map}
-use Rattle.programs.proofs.Lawful.{limits_parts}
+use Rattle.txn_programs.proofs.Lawful.{limits_parts}
 use Rattle.txn.specs.CatalogueInside.{listed}
-use Rattle.programs.specs.Listing.{Listing, as_transaction, transaction_named}
-use Rattle.programs.specs.Tree.{Transaction}
+use Rattle.txn_programs.specs.Listing.{Listing, as_transaction, transaction_named}
+use Rattle.txn_programs.specs.Tree.{Transaction}
 use Rattle.txn.proofs.catalogue.Catalogue.tx_id.Goals as goal
 
 pub place_of-requires : goal.place_of-requires

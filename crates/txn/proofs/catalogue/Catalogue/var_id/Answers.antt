@@ -1,6 +1,6 @@
 use Rattle.std.proofs.Common.{arith, string_bytes}
 use Rattle.std.proofs.lemmas.List.{length-map}
-use Rattle.programs.proofs.Lawful.{limits_parts}
+use Rattle.txn_programs.proofs.Lawful.{limits_parts}
 use Rattle.txn.specs.CatalogueInside.{listed}
 use Rattle.txn.proofs.catalogue.Catalogue.var_id.Goals as goal
 

@@ -1,6 +1,6 @@
 use Rattle.std.proofs.Common.{subst}
 use Rattle.std.specs.List.{All}
-use Rattle.programs.specs.Standing.{Upholds}
+use Rattle.txn_programs.specs.Standing.{Upholds}
 use Rattle.world_law.specs.Opacity.{Opaque, WordsHold}
 use Rattle.world_law.proofs.Framed.{sound_by}
 use Rattle.world_law.proofs.Reached.{reached_opaque, reached_words}

@@ -1,5 +1,5 @@
 use Rattle.std.proofs.Common.{sym, subst}
-use Rattle.programs.specs.Listing.{Listing}
+use Rattle.txn_programs.specs.Listing.{Listing}
 use Rattle.world_law.specs.World.{IsOpening}
 use Rattle.world_events.specs.Inside.{listing, world_of}
 use Rattle.world.proofs.Reaching.{reached_opening}

@@ -1,6 +1,6 @@
 use Rattle.std.proofs.Common.{◌≡◌, ◌<◌, ℤ, pos, get_or, List, Option, Some, None, option_map, slice_get, sym, ap, ◌∙◌, subst, arith}
 use Rattle.std.proofs.lemmas.Option.{slice_get-get_or}
-use Rattle.programs.specs.declared.ast.VarId.{VarId}
+use Rattle.txn_programs.specs.declared.ast.VarId.{VarId}
 use Rattle.attempt.specs.declared.next.Next.{Next}
 use Rattle.attempt.specs.declared.next.Next.TheVariants as next
 use Rattle.world_events.specs.Trials.{wanted_at}

@@ -1,0 +1,34 @@
+use Rattle.std.proofs.Common.{◌+◌, length, reverse, subst, sym, ◌∙◌}
+use Rattle.attempt_writes.specs.Own.{Own, AreInside, AreNested, GoesBack, listed, marks_of}
+use Rattle.attempt_writes.proofs.OwnNotes.{goes_back, noted_inside, popped_inner}
+use Rattle.attempt_writes.proofs.written.Writes.back.Goals as goal
+
+pub undo-requires-clause-inside : goal.undo-requires-clause-inside
+undo-requires-clause-inside c =
+    let i = c.self.inside in
+    subst (λ n. AreInside n i.notes.items) (sym c.self.invariant.wide) (noted_inside 256 i.pairs.items i.notes.items c.self.invariant.known c.self.invariant.noted)
+
+pub invariant_of-self-2 : goal.invariant_of-self-2
+invariant_of-self-2 c =
+    let i = c.self.inside in
+    let k = c.self.invariant in
+    let inner = popped_inner (length i.notes.items) i.branches.items c.pop.new.self.items c.in_ok-branch.branch c.in_ok-branch.ensures.items k.nested in
+    record {
+      wide = c.undo.ensures.wide ∙ k.wide;
+      hints = c.undo.ensures.hints ∙ k.hints;
+      ascending = k.ascending;
+      known = k.known;
+      listed = c.undo.ensures.listed i.pairs.items k.noted k.listed;
+      noted = c.undo.ensures.noted i.pairs.items k.noted;
+      nested = subst (λ n. AreNested n (reverse c.pop.new.self.items)) (sym c.undo.ensures.height) inner.1;
+    }
+
+pub returns-clause-some : goal.returns-clause-some
+returns-clause-some c =
+    let i = c.self.inside in
+    let b = c.in_ok-branch.branch in
+    let init = c.pop.new.self.items in
+    let ms = c.undo.new.notes.items in
+    let u = c.undo.new.table in
+    let went = goes_back i.branches.items init b i.notes.items ms i.table u c.in_ok-branch.ensures.items c.self.invariant.nested c.undo.ensures.height c.undo.ensures.undone in
+    subst (λ (o : Own). GoesBack o.marks (b.begin + b.passed) (reverse b.loops.items) (listed 0 u) (marks_of (reverse init) ms u)) c.self.view_is went

@@ -1,0 +1,53 @@
+use Rattle.std.proofs.Common.{◌≡◌, ◌<◌, ◌∙◌, ℤ, List, Some, length, reverse, ap, subst, arith, to_z-of_z}
+use Rattle.std.proofs.Math.ListN.{set, length-set}
+use mir.Syntax.{w64}
+use mir.Val.{to_z, of_z}
+use Rattle.attempt_writes.specs.declared.written.Branch.{Branch}
+use Rattle.attempt_writes.specs.Known.{write}
+use Rattle.attempt_writes.specs.Own.{Own, AreNested, marks_of}
+use Rattle.attempt_writes.proofs.OwnTable.{listed_write, put_listed, value_or}
+use Rattle.attempt_writes.proofs.OwnNotes.{no_marks, noted_still}
+use Rattle.attempt_writes.proofs.written.Writes.put.Goals as goal
+
+pub returns-in_err-take_note-clause-short : goal.returns-in_err-take_note-clause-short
+returns-in_err-take_note-clause-short c = λ e.
+    let i = c.self.inside in
+    let none = no_marks i.branches.items i.notes.items i.table (ap (λ (o : Own). o.marks) c.self.view_is ∙ e) in
+    absurd (cc (c.in_err-take_note.ensures.short (c.as_slice.ensures.value ∙ none)))
+
+pub list-requires-clause-there : goal.list-requires-clause-there
+list-requires-clause-there c = λ u e. c.self.invariant.listed c.args.x u (value_or c.self.inside.table c.args.x.0 ∙ e)
+
+pub invariant_of-self-2 : goal.invariant_of-self-2
+invariant_of-self-2 c =
+    let i = c.self.inside in
+    let k = c.self.invariant in
+    let v = to_z w64 (of_z w64 c.args.v) in
+    let now = c.list.new.pairs.items in
+    let ready = c.in_ok-take_note.ensures.ok in
+    record {
+      wide = length-set i.table c.args.x.0 (Some v) ∙ k.wide;
+      hints = c.take_note.ensures.hints ∙ k.hints;
+      ascending = c.list.ensures.ascending;
+      known = c.list.ensures.known;
+      listed = put_listed i.pairs.items i.table c.args.x (Some v) now k.listed c.list.ensures.here c.list.ensures.still;
+      noted = ready.noted now c.list.ensures.here (noted_still i.pairs.items now i.notes.items c.list.ensures.still k.noted);
+      nested = subst (λ (bs : List Branch). AreNested (length c.take_note.new.notes.items) (reverse bs)) c.as_slice.ensures.value ready.nested;
+    }
+
+pub returns-clause-value : goal.returns-clause-value
+returns-clause-value c =
+    let i = c.self.inside in
+    let lt : c.args.x.0 < length i.table = omega (arith, c.requires, c.self.invariant.wide) in
+    listed_write i.table c.args.x (to_z w64 (of_z w64 c.args.v)) lt
+    ∙ ap (λ (o : Own). write o.writes c.args.x (to_z w64 (of_z w64 c.args.v))) c.self.view_is
+    ∙ ap (λ (v : ℤ). write c.args.self.now.writes c.args.x v) (to_z-of_z c.ranges.v)
+
+pub returns-clause-marks : goal.returns-clause-marks
+returns-clause-marks c =
+    let i = c.self.inside in
+    let v = to_z w64 (of_z w64 c.args.v) in
+    let lt : c.args.x.0 < length i.table = omega (arith, c.requires, c.self.invariant.wide) in
+    let same = c.in_ok-take_note.ensures.ok.marks i.table v lt (value_or i.table c.args.x.0) in
+    subst (λ (bs : List Branch). marks_of (reverse bs) c.take_note.new.notes.items (set i.table c.args.x.0 (Some v)) ≡ marks_of (reverse bs) i.notes.items i.table) c.as_slice.ensures.value same
+    ∙ ap (λ (o : Own). o.marks) c.self.view_is

@@ -1,0 +1,19 @@
+use Rattle.std.proofs.Common.{◌≡◌, ◌≤◌, ℕ, drop, length}
+use Rattle.attempt_writes.specs.Known.{Known}
+use Rattle.attempt_writes.specs.Own.{undone, AreInside, AreListed, AreNotedListed}
+use Rattle.attempt_writes.proofs.written.undo.Given as goal
+
+abbrev pub invariant-loop-notes : goal.invariant-loop-notes
+invariant-loop-notes l = record {
+  wide : length l.table ≡ length l.fn.table;
+  hints : length l.noted ≡ length l.fn.noted;
+  same : length l.fn.noted ≡ length l.fn.table;
+  above : l.height ≤ length l.notes.items;
+  inside : AreInside (length l.table) l.notes.items;
+  to : (h : ℕ) → h ≤ l.height → undone (drop h l.notes.items) l.table ≡ undone (drop h l.fn.notes.items) l.fn.table;
+  noted : (pairs : Known) → AreNotedListed pairs l.fn.notes.items → AreNotedListed pairs l.notes.items;
+  all : (pairs : Known) → AreNotedListed pairs l.fn.notes.items → AreListed pairs l.fn.table → AreListed pairs l.table;
+}
+
+abbrev pub decreases-loop-notes : goal.decreases-loop-notes
+decreases-loop-notes l = length l.notes.items

@@ -1,0 +1,10 @@
+-- What the fields of a board keep.
+use Rattle.std.specs.Prelude.{◌≡◌, ◌≤◌, length}
+use Rattle.attempt_writes.specs.declared.board.Board.TheInside.{Inside}
+use Rattle.attempt_writes.specs.Places.{ArePlaced}
+
+pub record IsKept (b : Inside) : Type 0 where
+  pub placed : ArePlaced 0 b.pairs.items b.places
+  pub wide : length b.places ≡ 256
+  -- the first eight pairs have their place
+  pub room : 8 ≤ b.pairs.capacity

@@ -1,0 +1,114 @@
+//! What an attempt was told, found in constant time.
+
+ghost use Rattle.std.specs.Prelude.{◌≡◌, ◌<◌, ◌≤◌, ◌++◌, ◌∷◌, [], None, length, slice_get, IsOk, OnOk, OnErr};
+ghost use Rattle.attempt_writes.specs.Known.{known_at};
+ghost use Rattle.attempt_writes.specs.Places.{value_at};
+
+use crate::layer::Layer;
+use smallvec::SmallVec;
+use std::alloc::Global;
+use std::marker::Model;
+use std::mem;
+use txn_programs::limits::MAX_VARIABLES;
+use txn_programs::{Memory, VarId};
+
+/// Variables with a value each, in the order of supply. A clause sees the pairs.
+#[derive(Drop)]
+pub struct Board {
+    pairs: Layer,
+    /// At each variable's number the place of its pair, where it has one; else any number.
+    places: [u8; MAX_VARIABLES],
+}
+
+impl Model for Board {
+    ghost use Rattle.attempt_writes.specs.Known.{Known};
+
+    ghost Value = { Known };
+
+    ghost view = { λ b. b.pairs.items };
+
+    ghost use Rattle.attempt_writes.specs.BoardInside.{IsKept};
+
+    ghost invariant = { IsKept };
+}
+
+/// The value of the pair at the variable's place, if it is the variable's.
+fn look(pairs: &[(VarId, i64)], places: &[u8], x: VarId) -> Option<i64>
+    ensures { result ≡ value_at (slice_get places.now x.0) pairs.now x }
+{
+    let place = *places.get(x.0 as usize)?;
+    let (y, v) = *pairs.get(usize::from(place))?;
+    if y.0 == x.0 { Some(v) } else { None }
+}
+
+impl Board {
+    /// An empty board. It takes no memory.
+    pub fn new(alloc: Global) -> Board
+        ensures { result ≡ [] }
+    {
+        Board {
+            pairs: SmallVec::new(alloc),
+            places: [0; MAX_VARIABLES],
+        }
+    }
+
+    /// The pairs, in the order of supply.
+    pub fn as_slice(&self) -> &[(VarId, i64)]
+        ensures { result.now ≡ self.now }
+    {
+        self.pairs.as_slice()
+    }
+
+    /// How many pairs there are.
+    pub fn len(&self) -> usize
+        ensures value { result ≡ length self.now }
+        ensures few { result ≤ MAX_VARIABLES }
+    {
+        self.pairs.len()
+    }
+
+    /// The pairs alone.
+    pub fn into_pairs(self) -> Layer
+        ensures { result.items ≡ self }
+    {
+        self.pairs
+    }
+
+    /// The pairs alone; the board is empty then. It takes no memory.
+    pub fn take_pairs(&mut self) -> Layer
+        ensures pairs { result.items ≡ self.old }
+        ensures emptied { self.new ≡ [] }
+    {
+        let alloc = *self.pairs.allocator();
+        mem::replace(&mut self.pairs, SmallVec::new(alloc))
+    }
+
+    /// Drops all, and keeps the room.
+    pub fn clear(&mut self)
+        ensures { self.new ≡ [] }
+    {
+        self.pairs.clear();
+    }
+
+    /// The value of a variable, if it is there.
+    #[tactic(auto, using(crate::proofs::Placed::known_by_place))]
+    pub fn find(&self, x: VarId) -> Option<i64>
+        ensures { result ≡ known_at self.now x }
+    {
+        look(self.pairs.as_slice(), &self.places, x)
+    }
+
+    /// One pair more, of a variable that is not there.
+    pub fn push(&mut self, x: VarId, v: i64) -> Result<(), Memory>
+        requires known { x.0 < MAX_VARIABLES }
+        requires new { known_at self.old x ≡ None }
+        ensures ok { OnOk result (self.new ≡ self.old ++ (x, v) ∷ []) }
+        ensures refused { OnErr result (self.new ≡ self.old) }
+        ensures short { length self.old < 8 → IsOk result }
+    {
+        let place = self.pairs.len();
+        self.pairs.push((x, v))?;
+        self.places[x.0 as usize] = place as u8;
+        Ok(())
+    }
+}

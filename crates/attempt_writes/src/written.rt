@@ -1,0 +1,426 @@
+//! The writes of a transaction, by variable, and the live first branches of `orelse`s.
+//!
+//! A table has at each variable's number the value of its own write. In a live first branch each
+//! variable is noted at its first write, with what it was before; a retry goes back by the notes.
+
+ghost use Rattle.std.specs.Prelude.{◌≡◌, ◌<◌, ◌≤◌, ◌+◌, ◌∷◌, [], None, true, ℕ, ℤ, List, Option, drop, length, reverse, Some, take, insert, slice_get, slice_set, IsOk, IfOk, IfErr, IfSome, OnOk, OnErr};
+ghost use Rattle.attempt_writes.specs.Known.{Known, known_at, write};
+ghost use Rattle.attempt_writes.specs.Own.{Marked, marks_of, value_in, valued, undone, AreInside, AreListed, AreNested, AreNotedListed, GoesBack, HasNote, IsListed, IsNoted, LeavesInner};
+ghost use Rattle.attempt_writes.specs.Order.{AllBefore, AllKnown, Ascending};
+
+use arrayvec::ArrayVec;
+use std::alloc::{AllocError, Global};
+use std::marker::Model;
+use txn_programs::VarId;
+use txn_programs::limits::MAX_VARIABLES;
+
+/// How many pairs at the front are of earlier variables: by halves, and it finds them all.
+fn front(pairs: &[(VarId, i64)], x: VarId) -> usize
+    requires { Ascending pairs.now }
+    ensures within { result ≤ length pairs.now }
+    ensures before { AllBefore x (take result pairs.now) }
+{
+    let mut low = 0;
+    let mut high = pairs.len();
+    while low < high {
+        let middle = low + (high - low) / 2;
+        if pairs[middle].0.0 < x.0 {
+            low = middle + 1;
+        } else {
+            high = middle;
+        }
+    }
+    low
+}
+
+/// Where a variable is, or where it would come: most often that is at the end.
+fn place(pairs: &[(VarId, i64)], x: VarId) -> Result<usize, usize>
+    requires { Ascending pairs.now }
+    ensures taken { IfOk result (λ i. (i < length pairs.now) × ((v : ℤ) → slice_set pairs.now i (x, v) ≡ write pairs.now x v)) }
+    ensures free { IfErr result (λ i. (i ≤ length pairs.now) × ((v : ℤ) → insert pairs.now i (x, v) ≡ write pairs.now x v)) }
+    ensures known { IfOk result (λ i. (p : VarId × ℤ) → slice_get pairs.now i ≡ Some p → known_at pairs.now x ≡ Some p.1) }
+    ensures unknown { OnErr result (known_at pairs.now x ≡ None) }
+{
+    let len = pairs.len();
+    if len > 0 {
+        let last = pairs[len - 1].0;
+        if last.0 == x.0 {
+            return Ok(len - 1);
+        }
+        if last.0 < x.0 {
+            return Err(len);
+        }
+    }
+    let mut i = front(pairs, x);
+    while i < pairs.len() {
+        let y = pairs[i].0;
+        if y.0 == x.0 {
+            return Ok(i);
+        }
+        if x.0 < y.0 {
+            return Err(i);
+        }
+        i += 1;
+    }
+    Err(i)
+}
+
+/// Variables that were written, ascending, with a value each.
+type Pairs = ArrayVec<(VarId, i64), MAX_VARIABLES>;
+
+/// What a table has at a variable's number.
+fn look(table: &[Option<i64>], x: VarId) -> Option<i64>
+    ensures { result ≡ value_in table.now x }
+{
+    *table.get(x.0 as usize)?
+}
+
+/// Lists a variable, unless it is listed: it is where it had a value before.
+fn list(pairs: &mut Pairs, old: Option<i64>, x: VarId, v: i64)
+    requires ascending { Ascending pairs.old.items }
+    requires known { AllKnown MAX_VARIABLES pairs.old.items }
+    requires small { x.0 < MAX_VARIABLES }
+    requires there { (u : ℤ) → old ≡ Some u → IsListed pairs.old.items x }
+    ensures ascending { Ascending pairs.new.items }
+    ensures known { AllKnown MAX_VARIABLES pairs.new.items }
+    ensures here { IsListed pairs.new.items x }
+    ensures still { (y : VarId) → IsListed pairs.old.items y → IsListed pairs.new.items y }
+{
+    if old.is_some() {
+        return;
+    }
+    match place(pairs.as_slice(), x) {
+        Ok(_) => {}
+        Err(i) => pairs.insert(i, (x, v)),
+    }
+}
+
+/// Gives each pair the value of the table, and moves those that have one to the front: how many.
+fn gather(pairs: &mut [(VarId, i64)], table: &[Option<i64>]) -> usize
+    ensures within { result ≤ length pairs.old }
+    ensures same { length pairs.new ≡ length pairs.old }
+    ensures front { take result pairs.new ≡ valued pairs.old table.now }
+{
+    let mut kept = 0;
+    let mut i = 0;
+    while i < pairs.len() {
+        let x = pairs[i].0;
+        if let Some(v) = look(table, x) {
+            pairs[kept] = (x, v);
+            kept += 1;
+        }
+        i += 1;
+    }
+    kept
+}
+
+/// Takes the value of each listed variable out of a table.
+fn forget(table: &mut [Option<i64>], pairs: &[(VarId, i64)])
+    requires known { AllKnown (length table.old) pairs.now }
+    requires listed { AreListed pairs.now table.old }
+    ensures wide { length table.new ≡ length table.old }
+    ensures nothing { AreListed [] table.new }
+{
+    for pair in pairs {
+        table[pair.0.0 as usize] = None;
+    }
+}
+
+/// How many loops there is room for.
+pub const ROOM: usize = 32;
+
+/// The turns that are left of each loop.
+pub type Loops = ArrayVec<u32, ROOM>;
+
+/// A variable that a live first branch wrote, its own write before, and the hint before.
+#[derive(Clone, Copy)]
+pub struct Note {
+    pub x: VarId,
+    pub earlier: u16,
+    pub old: Option<i64>,
+}
+
+/// A live first branch: where it begins, how many instructions further the second one does, the
+/// loops to go back to, and how many notes there were.
+#[derive(Drop)]
+pub struct Branch {
+    pub begin: usize,
+    pub passed: usize,
+    pub loops: Loops,
+    pub height: usize,
+}
+
+/// Where the second branch is, and the loops to go on with.
+#[derive(Drop)]
+pub struct Second {
+    pub begin: usize,
+    pub passed: usize,
+    pub loops: Loops,
+}
+
+/// Whether the note at a place is the variable's, and the place from `low` on and below `high`.
+fn has_note(notes: &[Note], low: usize, high: usize, place: u16, x: VarId) -> bool
+    ensures { result ≡ true → HasNote low high notes.now x }
+{
+    let place = usize::from(place);
+    match notes.get(place) {
+        Some(note) => low <= place && place < high && note.x.0 == x.0,
+        None => false,
+    }
+}
+
+/// A place in the notes as it is kept: any number where it is too large.
+fn short(place: usize) -> u16 {
+    u16::try_from(place).unwrap_or(0)
+}
+
+/// Notes what a variable was, unless no branch is live or it is noted in the innermost.
+fn take_note(
+    branches: &[Branch],
+    notes: &mut Vec<Note>,
+    noted: &mut [u16],
+    x: VarId,
+    old: Option<i64>,
+) -> Result<(), AllocError>
+    requires small { x.0 < length noted.old }
+    requires nested { AreNested (length notes.old.items) (reverse branches.now) }
+    ensures hints { length noted.new ≡ length noted.old }
+    ensures ok { OnOk result (IsNoted branches.now x old notes.old.items notes.new.items) }
+    ensures err { OnErr result (notes.new.items ≡ notes.old.items) }
+    ensures short { branches.now ≡ [] → IsOk result }
+{
+    let height = match branches.last() {
+        Some(branch) => branch.height,
+        None => return Ok(()),
+    };
+    let place = notes.len();
+    let earlier = noted[x.0 as usize];
+    if has_note(notes.as_slice(), height, place, earlier, x) {
+        return Ok(());
+    }
+    notes.push(Note { x, earlier, old })?;
+    noted[x.0 as usize] = short(place);
+    Ok(())
+}
+
+/// Goes back in a table by the notes from `height` on, the last first, and drops them.
+fn undo(table: &mut [Option<i64>], notes: &mut Vec<Note>, noted: &mut [u16], height: usize)
+    requires within { height ≤ length notes.old.items }
+    requires inside { AreInside (length table.old) notes.old.items }
+    requires hints { length noted.old ≡ length table.old }
+    ensures wide { length table.new ≡ length table.old }
+    ensures hints { length noted.new ≡ length noted.old }
+    ensures height { length notes.new.items ≡ height }
+    ensures undone { (h : ℕ) → h ≤ height → undone (drop h notes.new.items) table.new ≡ undone (drop h notes.old.items) table.old }
+    ensures noted { (pairs : Known) → AreNotedListed pairs notes.old.items → AreNotedListed pairs notes.new.items }
+    ensures listed { (pairs : Known) → AreNotedListed pairs notes.old.items → AreListed pairs table.old → AreListed pairs table.new }
+{
+    while notes.len() > height {
+        match notes.pop() {
+            Some(note) => {
+                let Note { x, earlier, old } = note;
+                table[x.0 as usize] = old;
+                noted[x.0 as usize] = earlier;
+            }
+            None => unreachable!(),
+        }
+    }
+}
+
+/// Leaves each variable its first note of those from `low` on: how many notes there are then.
+fn join(notes: &mut [Note], noted: &mut [u16], low: usize, height: usize) -> usize
+    requires within { height ≤ length notes.old }
+    requires inside { AreInside (length noted.old) notes.old }
+    ensures hints { length noted.new ≡ length noted.old }
+    ensures same { length notes.new ≡ length notes.old }
+    ensures within { result ≤ length notes.new }
+    ensures above { height ≤ result }
+    ensures undone { (h : ℕ) → h ≤ low → (table : List (Option ℤ)) → undone (drop h (take result notes.new)) table ≡ undone (drop h notes.old) table }
+    ensures noted { (pairs : Known) → AreNotedListed pairs notes.old → AreNotedListed pairs (take result notes.new) }
+{
+    let mut kept = height;
+    let mut i = height;
+    while i < notes.len() {
+        let note = notes[i];
+        i += 1;
+        if has_note(notes, low, kept, note.earlier, note.x) {
+            noted[note.x.0 as usize] = note.earlier;
+        } else {
+            notes[kept] = note;
+            noted[note.x.0 as usize] = short(kept);
+            kept += 1;
+        }
+    }
+    kept
+}
+
+/// Leaves the notes of a branch that is done, from `height` on, to the branch around it.
+fn merge(branches: &[Branch], notes: &mut Vec<Note>, noted: &mut [u16], height: usize)
+    requires within { height ≤ length notes.old.items }
+    requires nested { AreNested height (reverse branches.now) }
+    requires inside { AreInside (length noted.old) notes.old.items }
+    ensures hints { length noted.new ≡ length noted.old }
+    ensures marks { (table : List (Option ℤ)) → marks_of (reverse branches.now) notes.new.items table ≡ marks_of (reverse branches.now) notes.old.items table }
+    ensures nested { AreNested (length notes.new.items) (reverse branches.now) }
+    ensures noted { (pairs : Known) → AreNotedListed pairs notes.old.items → AreNotedListed pairs notes.new.items }
+{
+    match branches.last() {
+        Some(outer) => {
+            let kept = join(notes.as_mut_slice(), noted, outer.height, height);
+            notes.truncate(kept);
+        }
+        None => notes.clear(),
+    }
+}
+
+/// Own writes. A clause sees `Own`.
+#[derive(Drop)]
+pub struct Writes {
+    /// At each variable's number the value of its own write.
+    table: [Option<i64>; MAX_VARIABLES],
+    /// At each variable's number the place of its last note, where it has one; else any number.
+    noted: [u16; MAX_VARIABLES],
+    /// Each variable that was written, ascending, also where a retry went back behind it; its value
+    /// as of `settle`.
+    pairs: Pairs,
+    notes: Vec<Note>,
+    branches: Vec<Branch>,
+}
+
+impl Model for Writes {
+    ghost use Rattle.attempt_writes.specs.Own.{Own, owned, IsKept};
+
+    ghost Value = { Own };
+
+    ghost view = { owned };
+
+    ghost invariant = { IsKept };
+}
+
+impl Writes {
+    /// No writes, and no live branch. It takes no memory.
+    pub fn new(alloc: Global) -> Writes
+        ensures writes { result.writes ≡ [] }
+        ensures marks { result.marks ≡ [] }
+        ensures pairs { result.pairs ≡ [] }
+    {
+        Writes {
+            table: [None; MAX_VARIABLES],
+            noted: [0; MAX_VARIABLES],
+            pairs: ArrayVec::new(),
+            notes: Vec::new(alloc),
+            branches: Vec::new(alloc),
+        }
+    }
+
+    /// The pairs as of the last `settle` or `clear`.
+    pub fn as_slice(&self) -> &[(VarId, i64)]
+        ensures { result.now ≡ self.now.pairs }
+    {
+        self.pairs.as_slice()
+    }
+
+    /// The value of a variable's own write, if there is one.
+    pub fn find(&self, x: VarId) -> Option<i64>
+        ensures { result ≡ known_at self.now.writes x }
+    {
+        if self.pairs.is_empty() {
+            return None;
+        }
+        look(&self.table, x)
+    }
+
+    /// Writes a variable. It takes memory in a live first branch alone.
+    pub fn put(&mut self, x: VarId, v: i64) -> Result<(), AllocError>
+        requires { x.0 < MAX_VARIABLES }
+        ensures value { OnOk result (self.new.writes ≡ write self.old.writes x v) }
+        ensures marks { OnOk result (self.new.marks ≡ self.old.marks) }
+        ensures short { self.old.marks ≡ [] → IsOk result }
+    {
+        let old = self.table[x.0 as usize];
+        take_note(
+            self.branches.as_slice(),
+            &mut self.notes,
+            &mut self.noted,
+            x,
+            old,
+        )?;
+        list(&mut self.pairs, old, x, v);
+        self.table[x.0 as usize] = Some(v);
+        Ok(())
+    }
+
+    /// A first branch begins.
+    pub fn enter(&mut self, begin: usize, passed: usize, loops: Loops) -> Result<(), AllocError>
+        ensures marks { OnOk result (self.new.marks ≡ Marked (begin + passed) (reverse loops.items) self.old.writes ∷ self.old.marks) }
+        ensures writes { OnOk result (self.new.writes ≡ self.old.writes) }
+    {
+        let height = self.notes.len();
+        self.branches.push(Branch {
+            begin,
+            passed,
+            loops,
+            height,
+        })?;
+        Ok(())
+    }
+
+    /// The innermost first branch is done: its loops to go on with. None where no branch is live.
+    pub fn keep(&mut self) -> Option<Loops>
+        ensures some { IfSome result (λ loops. LeavesInner self.old.marks (reverse loops.items) self.new.marks) }
+        ensures none { result ≡ None → self.old.marks ≡ [] }
+        ensures writes { self.new.writes ≡ self.old.writes }
+    {
+        let branch = self.branches.pop()?;
+        merge(
+            self.branches.as_slice(),
+            &mut self.notes,
+            &mut self.noted,
+            branch.height,
+        );
+        Some(branch.loops)
+    }
+
+    /// The innermost first branch retried: all that it wrote is as it was before. None where no branch is live.
+    pub fn back(&mut self) -> Option<Second>
+        ensures some { IfSome result (λ s. GoesBack self.old.marks (s.begin + s.passed) (reverse s.loops.items) self.new.writes self.new.marks) }
+        ensures none { result ≡ None → (self.old.marks ≡ []) × (self.new ≡ self.old) }
+    {
+        let branch = self.branches.pop()?;
+        undo(
+            &mut self.table,
+            &mut self.notes,
+            &mut self.noted,
+            branch.height,
+        );
+        Some(Second {
+            begin: branch.begin,
+            passed: branch.passed,
+            loops: branch.loops,
+        })
+    }
+
+    /// Makes the pairs those of the own writes, and ends all live branches.
+    pub fn settle(&mut self)
+        ensures writes { self.new.writes ≡ self.old.writes }
+        ensures marks { self.new.marks ≡ [] }
+        ensures pairs { self.new.pairs ≡ self.old.writes }
+    {
+        let kept = gather(self.pairs.as_mut_slice(), &self.table);
+        self.pairs.truncate(kept);
+        self.notes.clear();
+        self.branches.clear();
+    }
+
+    /// Drops all.
+    pub fn clear(&mut self)
+        ensures writes { self.new.writes ≡ [] }
+        ensures marks { self.new.marks ≡ [] }
+        ensures pairs { self.new.pairs ≡ [] }
+    {
+        forget(&mut self.table, self.pairs.as_slice());
+        self.pairs.clear();
+        self.notes.clear();
+        self.branches.clear();
+    }
+}

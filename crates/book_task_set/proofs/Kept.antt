@@ -1,0 +1,148 @@
+-- The three levels, as a number comes and goes.
+use Rattle.std.proofs.Common.{◌≡◌, ◌≢◌, inl, inr, ℕ, ◌*◌, ◌/◌, ◌<◌, ◌≤◌, Bool, false, List, [], ◌∷◌, length, get_or, replicate, refl, sym, ◌∙◌, ap, arith}
+use Rattle.std.proofs.lemmas.Bool.{cases_eq, cases_lt, true≢false}
+use Rattle.std.specs.Int.{div_ceil}
+use Rattle.std.proofs.lemmas.List.{get_or_past, get_or-replicate, length-replicate}
+use Rattle.book_task_set.specs.Levels.{has, with_bit, without_bit, Covers, IsFirstWord}
+use Rattle.book_task_set.specs.SetInside.{flags, AreLevels}
+use Rattle.book_task_set.specs.Members.{HasNone}
+use Rattle.book_task_set.proofs.Rows.{has_zero, has_with_other, has_without, has_without_other, length_with_bit, length_without_bit}
+use Rattle.book_task_set.proofs.Above.{covers_with, covers_still, covers_without, none_below}
+use Rattle.book_task_set.proofs.Flags.{length_flags, flags_none, has_none}
+
+-- a number of the set has its place in each level
+pub places : (room : ℕ) (numbers words top : List ℕ) (k : ℕ) → AreLevels room numbers words top → k < room → (k / 64 < length numbers) × (k / 64 / 64 < length words) × (k / 64 / 64 / 64 < length top)
+places room numbers words top k a h =
+    let first : k / 64 < length numbers = omega (arith, h, a.numbers_fit) in
+    let second : k / 64 / 64 < length words = omega (arith, first, a.words_fit) in
+    (first, second, omega (arith, second, a.top_fits))
+
+pub room_of : (room k : ℕ) (numbers : List ℕ) (set : List Bool) → flags room numbers ≡ set → k < length set → k < room
+room_of room k numbers set e h = omega (arith, h, ap length (sym e), length_flags room numbers)
+
+pub levels_with : (room : ℕ) (numbers words top : List ℕ) (k : ℕ) → AreLevels room numbers words top → k < room → AreLevels room (with_bit numbers k) (with_bit words (k / 64)) (with_bit top (k / 64 / 64))
+levels_with room numbers words top k a h =
+    let at = places room numbers words top k a h in
+    record {
+      numbers_fit = omega (arith, a.numbers_fit, length_with_bit numbers k);
+      words_fit = omega (arith, a.words_fit, length_with_bit numbers k, length_with_bit words (k / 64));
+      top_fits = omega (arith, a.top_fits, length_with_bit words (k / 64), length_with_bit top (k / 64 / 64));
+      one = length_with_bit top (k / 64 / 64) ∙ a.one;
+      spare = λ j past. has_with_other numbers k j at.0 (λ (e : j ≡ k). omega (arith, e, past, h)) ∙ a.spare j past;
+      over_numbers = covers_with words numbers k at.0 at.1 a.over_numbers;
+      over_words = covers_with top words (k / 64) at.1 at.2 a.over_words;
+    }
+
+spare_without : (room : ℕ) (numbers : List ℕ) (k : ℕ) → k / 64 < length numbers → ((j : ℕ) → room ≤ j → has numbers j ≡ false) → (j : ℕ) → room ≤ j → has (without_bit numbers k) j ≡ false
+spare_without room numbers k low spare j past =
+    elim (cases_eq j k) [
+      | inl same ↦ ap (has (without_bit numbers k)) same ∙ has_without numbers k low
+      | inr other ↦ has_without_other numbers k j low other ∙ spare j past
+    ]
+
+-- a number goes, and its word is not 0
+pub levels_one : (room : ℕ) (numbers words top : List ℕ) (k : ℕ) → AreLevels room numbers words top → k < room → get_or (without_bit numbers k) (k / 64) 0 ≢ 0 → AreLevels room (without_bit numbers k) words top
+levels_one room numbers words top k a h left =
+    let at = places room numbers words top k a h in
+    record {
+      numbers_fit = omega (arith, a.numbers_fit, length_without_bit numbers k);
+      words_fit = omega (arith, a.words_fit, length_without_bit numbers k);
+      top_fits = a.top_fits;
+      one = a.one;
+      spare = spare_without room numbers k at.0 a.spare;
+      over_numbers = covers_still words numbers k at.0 left a.over_numbers;
+      over_words = a.over_words;
+    }
+
+-- its word is 0, and the word over it is not
+pub levels_two : (room : ℕ) (numbers words top : List ℕ) (k : ℕ) → AreLevels room numbers words top → k < room → get_or (without_bit numbers k) (k / 64) 0 ≡ 0 → get_or (without_bit words (k / 64)) (k / 64 / 64) 0 ≢ 0 → AreLevels room (without_bit numbers k) (without_bit words (k / 64)) top
+levels_two room numbers words top k a h gone left =
+    let at = places room numbers words top k a h in
+    record {
+      numbers_fit = omega (arith, a.numbers_fit, length_without_bit numbers k);
+      words_fit = omega (arith, a.words_fit, length_without_bit numbers k, length_without_bit words (k / 64));
+      top_fits = omega (arith, a.top_fits, length_without_bit words (k / 64));
+      one = a.one;
+      spare = spare_without room numbers k at.0 a.spare;
+      over_numbers = covers_without words numbers k at.1 gone a.over_numbers;
+      over_words = covers_still top words (k / 64) at.1 left a.over_words;
+    }
+
+-- both are 0
+pub levels_three : (room : ℕ) (numbers words top : List ℕ) (k : ℕ) → AreLevels room numbers words top → k < room → get_or (without_bit numbers k) (k / 64) 0 ≡ 0 → get_or (without_bit words (k / 64)) (k / 64 / 64) 0 ≡ 0 → AreLevels room (without_bit numbers k) (without_bit words (k / 64)) (without_bit top (k / 64 / 64))
+levels_three room numbers words top k a h gone both =
+    let at = places room numbers words top k a h in
+    record {
+      numbers_fit = omega (arith, a.numbers_fit, length_without_bit numbers k);
+      words_fit = omega (arith, a.words_fit, length_without_bit numbers k, length_without_bit words (k / 64));
+      top_fits = omega (arith, a.top_fits, length_without_bit words (k / 64), length_without_bit top (k / 64 / 64));
+      one = length_without_bit top (k / 64 / 64) ∙ a.one;
+      spare = spare_without room numbers k at.0 a.spare;
+      over_numbers = covers_without words numbers k at.1 gone a.over_numbers;
+      over_words = covers_without top words (k / 64) at.2 both a.over_words;
+    }
+
+-- rows of 0 alone
+abbrev pub IsZero : List ℕ → Type 0
+IsZero words = (w : ℕ) → get_or words w 0 ≡ 0
+
+pub has_zeros : (words : List ℕ) → IsZero words → (k : ℕ) → has words k ≡ false
+has_zeros words z k = has_zero words k (z (k / 64))
+
+covers_zeros : (above below : List ℕ) → IsZero above → IsZero below → Covers above below
+covers_zeros above below z y =
+    record { set = λ w e. absurd (true≢false (sym e ∙ has_zeros above z w)); clear = λ w e. y w }
+
+pub levels_none : (room : ℕ) (numbers words top : List ℕ) → IsZero numbers → IsZero words → IsZero top → room ≤ length numbers * 64 → length numbers ≤ length words * 64 → length words ≤ length top * 64 → length top ≡ 1 → AreLevels room numbers words top
+levels_none room numbers words top x y z a b c d =
+    record {
+      numbers_fit = a;
+      words_fit = b;
+      top_fits = c;
+      one = d;
+      spare = λ k past. has_zeros numbers x k;
+      over_numbers = covers_zeros words numbers y x;
+      over_words = covers_zeros top words z y;
+    }
+
+-- a row of one word that is 0
+pub one_zero : (top : List ℕ) → length top ≡ 1 → get_or top 0 0 ≡ 0 → IsZero top
+one_zero top one e w =
+    elim (cases_eq w 0) [
+      | inl same ↦ ap (λ (x : ℕ). get_or top x 0) same ∙ e
+      | inr other ↦ get_or_past top w 0 (omega (arith, one, other))
+    ]
+
+-- the one word on top is 0 where the set is empty
+pub none_on_top : (room : ℕ) (numbers words top : List ℕ) → AreLevels room numbers words top → get_or top 0 0 ≡ 0 → HasNone (flags room numbers)
+none_on_top room numbers words top a e =
+    has_none room numbers
+    (none_below words numbers a.over_numbers
+    (none_below top words a.over_words (has_zeros top (one_zero top a.one e))))
+
+-- the first word of the top
+pub first_on_top : (top : List ℕ) → get_or top 0 0 ≢ 0 → IsFirstWord top 0
+first_on_top top h = record { here = h; before = λ k less. absurd (omega (arith, less)) }
+
+pub zeros : (n : ℕ) → IsZero (replicate n 0)
+zeros n w =
+    elim (cases_lt w n) [
+      | inl low ↦ get_or-replicate n w 0 0 low
+      | inr high ↦ get_or_past (replicate n 0) w 0 (omega (arith, high, length-replicate {A = ℕ} n 0))
+    ]
+
+-- the empty set
+pub levels_empty : (room : ℕ) → room ≤ 262144 → AreLevels room (replicate (div_ceil room 64) 0) (replicate (div_ceil (div_ceil room 64) 64) 0) (0 ∷ [])
+levels_empty room few =
+    let n = div_ceil room 64 in
+    let m = div_ceil n 64 in
+    let numbers = length-replicate {A = ℕ} n 0 in
+    let words = length-replicate {A = ℕ} m 0 in
+    levels_none room (replicate n 0) (replicate m 0) (0 ∷ []) (zeros n) (zeros m) (one_zero (0 ∷ []) refl refl)
+    (omega (arith, numbers))
+    (omega (arith, numbers, words))
+    (omega (arith, words, few))
+    refl
+
+pub flags_empty : (room n : ℕ) → flags room (replicate n 0) ≡ replicate room false
+flags_empty room n = flags_none room (replicate n 0) (has_zeros (replicate n 0) (zeros n))

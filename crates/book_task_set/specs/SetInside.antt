@@ -1,0 +1,26 @@
+-- What the fields of a set mean, and what they keep.
+use Rattle.std.specs.Prelude.{◌≡◌, ℕ, ◌*◌, ◌≤◌, Bool, false, List, map, length}
+use Rattle.std.specs.List.{range_with_len}
+use Rattle.book_task_set.specs.declared.set.TaskSet.TheInside.{Inside}
+use Rattle.book_task_set.specs.Levels.{has, Covers}
+
+-- which of the numbers below `room` are set
+abbrev pub flags : ℕ → List ℕ → List Bool
+flags room words = map (has words) (range_with_len 0 room)
+
+abbrev pub flags_of : Inside → List Bool
+flags_of s = flags s.room s.numbers.items
+
+pub record AreLevels (room : ℕ) (numbers words top : List ℕ) : Type 0 where
+  -- each number and each word has its bit, and one word is over all
+  pub numbers_fit : room ≤ length numbers * 64
+  pub words_fit : length numbers ≤ length words * 64
+  pub top_fits : length words ≤ length top * 64
+  pub one : length top ≡ 1
+  -- no number past the room is set
+  pub spare : (k : ℕ) → room ≤ k → has numbers k ≡ false
+  pub over_numbers : Covers words numbers
+  pub over_words : Covers top words
+
+abbrev pub IsKept : Inside → Type 0
+IsKept s = AreLevels s.room s.numbers.items s.words.items s.top

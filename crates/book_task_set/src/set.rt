@@ -1,0 +1,103 @@
+//! A set of numbers below a bound.
+
+ghost use Rattle.std.specs.Prelude.{◌≡◌, ◌<◌, ◌≤◌, Some, true, false, length, replicate, IfOk, IsTrue, ◌↔◌, MatchOption, slice_get, slice_set};
+ghost use Rattle.book_task_set.specs.Members.{IsLowest, HasNone};
+
+use crate::level::{clear, empty, first, has, set};
+use std::alloc::{AllocError, Global};
+use std::marker::Model;
+
+/// The most room that a set can have: three levels of 64.
+pub const MAX_ROOM: usize = 262_144;
+
+/// A set of numbers below its room. A clause sees a flag for each of these numbers.
+#[derive(Drop)]
+pub struct TaskSet {
+    room: usize,
+    /// A bit for each number.
+    numbers: Vec<u64>,
+    /// A bit for each word of `numbers` that is not 0.
+    words: Vec<u64>,
+    /// A bit for each word of `words` that is not 0.
+    top: [u64; 1],
+}
+
+impl Model for TaskSet {
+    ghost use Rattle.std.specs.Prelude.{List, Bool};
+    ghost use Rattle.book_task_set.specs.SetInside.{flags_of, IsKept};
+
+    ghost Value = { List Bool };
+
+    ghost view = { flags_of };
+
+    ghost invariant = { IsKept };
+}
+
+impl TaskSet {
+    /// The empty set, with room for the numbers below `room`. It is the one call that takes
+    /// memory: a bit for each number, a bit for each of these words, each in whole words.
+    pub fn with_room(alloc: Global, room: usize) -> Result<TaskSet, AllocError>
+        requires { room ≤ MAX_ROOM }
+        ensures { IfOk result (λ s. s ≡ replicate room false) }
+    {
+        let numbers = empty(alloc, room)?;
+        let words = empty(alloc, numbers.len())?;
+        Ok(TaskSet {
+            room,
+            numbers,
+            words,
+            top: [0],
+        })
+    }
+
+    /// The number is in the set.
+    pub fn insert(&mut self, number: usize)
+        requires { number < length self.old }
+        ensures { self.new ≡ slice_set self.old number true }
+    {
+        set(&mut self.numbers, number);
+        set(&mut self.words, number / 64);
+        set(&mut self.top, number / 64 / 64);
+    }
+
+    /// The number is not in the set.
+    pub fn remove(&mut self, number: usize)
+        requires { number < length self.old }
+        ensures { self.new ≡ slice_set self.old number false }
+    {
+        if !clear(&mut self.numbers, number) {
+            return;
+        }
+        if !clear(&mut self.words, number / 64) {
+            return;
+        }
+        clear(&mut self.top, number / 64 / 64);
+    }
+
+    /// Whether the number is in the set.
+    pub fn contains(&self, number: usize) -> bool
+        requires { number < length self.now }
+        ensures { slice_get self.now number ≡ Some result }
+    {
+        has(&self.numbers, number)
+    }
+
+    /// The lowest number of the set, `None` exactly if it is empty.
+    pub fn lowest(&self) -> Option<usize>
+        ensures { MatchOption result (HasNone self.now) (IsLowest self.now) }
+    {
+        if self.top[0] == 0 {
+            return None;
+        }
+        let group = first(&self.top, 0);
+        let word = first(&self.words, group);
+        Some(first(&self.numbers, word))
+    }
+
+    /// Whether no number is in the set.
+    pub fn is_empty(&self) -> bool
+        ensures { IsTrue result ↔ HasNone self.now }
+    {
+        self.lowest().is_none()
+    }
+}

@@ -1,0 +1,220 @@
+-- Files that are read to the end, and how what is wanted can be ended.
+use Rattle.std.proofs.Common.{◌≡◌, ℕ, zero, suc, ◌≤◌, true, false, cond, List, [], ◌∷◌, ◌++◌, Option, Some, None, Result, Ok, Err, refl, sym, ap, subst, ◌∙◌, append_assoc, arith}
+use Rattle.std.specs.Prelude.{ℤ, pos, codes}
+use Rattle.text_words.specs.Tokens.{Lexeme, Opens, Closes}
+use Rattle.text_words.specs.Tokens as token
+use Rattle.text_words.specs.Answers.{◌>>=◌}
+use Rattle.text_words.specs.TokenReading.{Read, close_at, name_at, int_at, is_open, open_at, word_at, form_at, begins, all_of}
+use Rattle.text_words.specs.declared.fault.ReadFault.{ReadFault}
+use Rattle.text_words.proofs.Steps.{bind_ok}
+use Rattle.text_words.proofs.Many.{all-stop}
+use Rattle.text_grammar.specs.Tree.{File, Pair, Always, Declaration}
+use Rattle.text_grammar.specs.Tree as tree
+use Rattle.text_grammar.specs.Reading.{binary_with, expr_at, cond_at, stmt_at, pair_at, always_at, conditions_at, tx_at, end_at, form_numbered, heading_at, file_of}
+use Rattle.text_grammar.specs.declared.words.Operator.TheVariants as operator
+use Rattle.text_grammar.specs.declared.words.Comparison.TheVariants as comparison
+use Rattle.text_grammar.specs.declared.file.FileForm.{FileForm}
+use Rattle.text_grammar.specs.declared.file.FileForm.TheVariants.{One, Two}
+use Rattle.text_grammar.proofs.Exprs.{expr_again}
+use Rattle.text_grammar.proofs.Conds.{cond_again}
+use Rattle.text_grammar.proofs.Stmts.{stmt_again}
+use Rattle.text_grammar.proofs.Files.{file_takes, file_again}
+use Rattle.explain_files.specs.declared.wanted.Section.{Section}
+use Rattle.explain_files.specs.declared.wanted.Section.TheVariants as section
+use Rattle.explain_files.specs.declared.wanted.Kind.TheVariants as kind
+use Rattle.explain_files.specs.declared.wanted.Wanted.{Wanted}
+use Rattle.explain_files.specs.declared.wanted.Wanted.TheVariants as want
+use Rattle.explain_files.specs.Forms.{part_behind}
+use Rattle.explain_files.specs.Walking.{IsFileOf}
+use Rattle.explain_files.specs.Wanting.{Left, Whole, left_of, kept, none_left, ◌▷◌, from_runs, from_txs, from_conditions, behind_variables, from_variables, from_start, from_part, read_test, read_keyword, read_number, read_one, read_all}
+use Rattle.explain_files.proofs.Forms.{parts_end}
+use Rattle.explain_files.proofs.Declared.{at, found, kind_found}
+
+-- ---- a file is read to the end exactly where the tokens are those of one
+
+abbrev ended : File → Whole
+ended f = Ok tt
+
+abbrev made : File → Result File ReadFault
+made f = Ok f
+
+bind_to : {A B C : Type 0} (r : Result A ReadFault) (f : A → Result B ReadFault) (g : B → Result C ReadFault) (h : A → Result C ReadFault) → ((x : A) → (f x >>= g) ≡ h x) → ((r >>= f) >>= g) ≡ (r >>= h)
+bind_to (Ok x) f g h e = e x
+bind_to (Err d) f g h e = refl
+
+last : (r : Whole) (f : File) → ((r >>= λ u. made f) >>= ended) ≡ r
+last (Ok u) f = refl
+last (Err d) f = refl
+
+abbrev of_runs : FileForm → List Pair → List Always → List Declaration → List Lexeme → Result File ReadFault
+of_runs form vars always txs ts =
+    all_of (begins (codes "run")) (pair_at (codes "run")) ts >>= λ runs. end_at runs.1 >>= λ u. made (record { form = form; vars = vars; always = always; txs = txs; runs = runs.0 })
+
+abbrev of_txs : FileForm → List Pair → List Always → List Lexeme → Result File ReadFault
+of_txs form vars always ts = all_of (begins (codes "tx")) tx_at ts >>= λ txs. of_runs form vars always txs.0 txs.1
+
+abbrev of_conditions : FileForm → List Pair → List Lexeme → Result File ReadFault
+of_conditions form vars ts = conditions_at form ts >>= λ always. of_txs form vars always.0 always.1
+
+abbrev of_variables : FileForm → List Lexeme → Result File ReadFault
+of_variables form ts = all_of (begins (codes "var")) (pair_at (codes "var")) ts >>= λ vars. of_conditions form vars.0 vars.1
+
+runs_whole : (form : FileForm) (vars : List Pair) (always : List Always) (txs : List Declaration) (ts : List Lexeme) → (of_runs form vars always txs ts >>= ended) ≡ from_runs ts
+unfolding from_runs
+runs_whole form vars always txs ts = bind_to (all_of (begins (codes "run")) (pair_at (codes "run")) ts) _ ended _ (λ runs. last (end_at runs.1) _)
+
+txs_whole : (form : FileForm) (vars : List Pair) (always : List Always) (ts : List Lexeme) → (of_txs form vars always ts >>= ended) ≡ from_txs ts
+unfolding from_txs
+txs_whole form vars always ts = bind_to (all_of (begins (codes "tx")) tx_at ts) _ ended _ (λ txs. runs_whole form vars always txs.0 txs.1)
+
+conditions_whole : (form : FileForm) (vars : List Pair) (ts : List Lexeme) → (of_conditions form vars ts >>= ended) ≡ behind_variables form ts
+unfolding conditions_at from_conditions
+conditions_whole One vars ts = txs_whole One vars [] ts
+conditions_whole Two vars ts = bind_to (all_of (begins (codes "always")) always_at ts) _ ended _ (λ always. txs_whole Two vars always.0 always.1)
+
+variables_whole : (form : FileForm) (ts : List Lexeme) → (of_variables form ts >>= ended) ≡ from_variables form ts
+unfolding from_variables
+variables_whole form ts = bind_to (all_of (begins (codes "var")) (pair_at (codes "var")) ts) _ ended _ (λ vars. conditions_whole form vars.0 vars.1)
+
+pub file_whole : (ts : List Lexeme) → (file_of ts >>= ended) ≡ from_start ts
+unfolding file_of from_start
+file_whole ts = bind_to (heading_at ts) _ ended _ (λ heading. variables_whole heading.0 heading.1)
+
+whole_file : (r : Result File ReadFault) → none_left (r >>= ended) ≡ Some [] → (f : File) × (r ≡ made f)
+whole_file (Ok f) e = (f, refl)
+whole_file (Err d) e = absurd cc
+
+-- tokens that are read to the end are those of a file
+pub is_file : (ts : List Lexeme) → none_left (from_start ts) ≡ Some [] → IsFileOf ts
+is_file ts e =
+    let found = whole_file (file_of ts) (ap none_left (file_whole ts) ∙ e) in
+    let takes = file_takes ts found.0 found.1 in
+    record { file = found.0; spelled = takes.spelled; formed = takes.formed; shallow = takes.shallow }
+
+-- and those of a file are read to the end
+pub file_is : (ts : List Lexeme) → IsFileOf ts → none_left (from_start ts) ≡ Some []
+file_is ts h =
+    ap none_left (sym (file_whole ts)) ∙ ap (λ (us : List Lexeme). none_left (file_of us >>= ended)) h.spelled ∙ ap (λ (r : Result File ReadFault). none_left (r >>= ended)) (file_again h.file h.formed h.shallow)
+
+-- ---- the shortest end of what is wanted
+
+abbrev zero_is : tree.Expr
+zero_is = tree.Int (pos 0)
+
+abbrev sum_is : tree.Expr
+sum_is = tree.Binary operator.Add zero_is zero_is
+
+abbrev equal_is : tree.Cond
+equal_is = tree.Compare comparison.Eq zero_is zero_is
+
+abbrev pub finish : Wanted → List Lexeme
+finish (want.Declarations part) = []
+finish (want.Word part) = token.Name (codes "run") ∷ token.Name (codes "a") ∷ token.Int (pos 0) ∷ Closes ∷ []
+finish want.FormNumber = token.Int (pos 2) ∷ []
+finish want.Close = Closes ∷ []
+finish (want.Name used) = token.Name (codes "a") ∷ []
+finish (want.Number used) = token.Int (pos 0) ∷ []
+finish (want.Expr depth) = token.Int (pos 0) ∷ []
+finish (want.Operator depth) = token.Name (codes "add") ∷ token.Int (pos 0) ∷ token.Int (pos 0) ∷ Closes ∷ []
+finish (want.Cond depth) = Opens ∷ token.Name (codes "eq") ∷ token.Int (pos 0) ∷ token.Int (pos 0) ∷ Closes ∷ []
+finish (want.Test depth) = token.Name (codes "eq") ∷ token.Int (pos 0) ∷ token.Int (pos 0) ∷ Closes ∷ []
+finish (want.Stmt depth) = Opens ∷ token.Name (codes "skip") ∷ Closes ∷ []
+finish (want.Keyword depth) = token.Name (codes "skip") ∷ Closes ∷ []
+finish (want.Parts depth) = Closes ∷ []
+
+pub expr_ends : (depth : ℕ) (ts : List Lexeme) → read_one (want.Expr depth) (finish (want.Expr depth) ++ ts) ≡ Some ts
+expr_ends depth ts = ap left_of (expr_again depth zero_is ts (omega arith))
+
+pub cond_ends : (depth : ℕ) (ts : List Lexeme) → read_one (want.Cond depth) (finish (want.Cond depth) ++ ts) ≡ Some ts
+cond_ends depth ts = ap left_of (cond_again (suc depth) equal_is ts (omega arith))
+
+pub stmt_ends : (depth : ℕ) (ts : List Lexeme) → read_one (want.Stmt depth) (finish (want.Stmt depth) ++ ts) ≡ Some ts
+stmt_ends depth ts = ap left_of (stmt_again (suc depth) tree.Skip ts (omega arith))
+
+operator_inside : (d : ℕ) (us : List Lexeme) → binary_with (expr_at d) us ≡ expr_at (suc d) (Opens ∷ us)
+unfolding expr_at
+operator_inside d us = refl
+
+pub operator_ends : (depth : ℕ) (ts : List Lexeme) → read_one (want.Operator depth) (finish (want.Operator depth) ++ ts) ≡ Some ts
+operator_ends depth ts = ap left_of (operator_inside depth (finish (want.Operator depth) ++ ts)) ∙ ap left_of (expr_again (suc depth) sum_is ts (omega arith))
+
+test_inside : (d : ℕ) (us : List Lexeme) → read_test d us ≡ cond_at (suc d) (Opens ∷ us)
+unfolding cond_at word_at open_at read_test
+test_inside d us = refl
+
+pub test_ends : (depth : ℕ) (ts : List Lexeme) → read_one (want.Test depth) (finish (want.Test depth) ++ ts) ≡ Some ts
+test_ends depth ts = ap left_of (test_inside depth (finish (want.Test depth) ++ ts)) ∙ ap left_of (cond_again (suc depth) equal_is ts (omega arith))
+
+keyword_inside : (d : ℕ) (us : List Lexeme) → read_keyword d us ≡ stmt_at (suc d) (Opens ∷ us)
+unfolding stmt_at word_at open_at read_keyword
+keyword_inside d us = refl
+
+pub keyword_ends : (depth : ℕ) (ts : List Lexeme) → read_one (want.Keyword depth) (finish (want.Keyword depth) ++ ts) ≡ Some ts
+keyword_ends depth ts = ap left_of (keyword_inside depth (finish (want.Keyword depth) ++ ts)) ∙ ap left_of (stmt_again (suc depth) tree.Skip ts (omega arith))
+
+pub some_left : (l : Left) → (l ▷ λ us. Some us) ≡ l
+some_left (Some us) = refl
+some_left None = refl
+
+pub parts_ends : (depth : ℕ) (ts : List Lexeme) → read_one (want.Parts depth) (finish (want.Parts depth) ++ ts) ≡ Some ts
+unfolding is_open open_at close_at
+parts_ends depth ts = sym (some_left (read_one (want.Parts depth) (Closes ∷ ts))) ∙ parts_end (stmt_at depth) (Closes ∷ ts) (λ us. Some us) refl
+
+pub simple_ends : (ts : List Lexeme) → (kept (close_at (Closes ∷ ts)) ≡ Some ts) × (left_of (name_at (token.Name (codes "a") ∷ ts)) ≡ Some ts) × (left_of (int_at (token.Int (pos 0) ∷ ts)) ≡ Some ts)
+unfolding close_at name_at int_at
+simple_ends ts = (refl, refl, refl)
+
+pub number_ends : (ts : List Lexeme) → left_of (read_number (token.Int (pos 2) ∷ ts)) ≡ Some ts
+unfolding read_number int_at
+number_ends ts = refl
+
+-- ---- the parts of a file, where nothing more stands
+
+runs_end : none_left (from_runs []) ≡ Some []
+unfolding from_runs begins form_at word_at open_at end_at
+runs_end = rw (all-stop (begins (codes "run")) (pair_at (codes "run")) [] refl) refl
+
+txs_end : none_left (from_txs []) ≡ Some []
+unfolding from_txs begins form_at word_at open_at
+txs_end = rw (all-stop (begins (codes "tx")) tx_at [] refl) runs_end
+
+conditions_end : none_left (from_conditions []) ≡ Some []
+unfolding from_conditions begins form_at word_at open_at
+conditions_end = rw (all-stop (begins (codes "always")) always_at [] refl) txs_end
+
+variables_end : (form : FileForm) → none_left (behind_variables form []) ≡ Some [] → none_left (from_variables form []) ≡ Some []
+unfolding from_variables begins form_at word_at open_at
+variables_end form h = rw (all-stop (begins (codes "var")) (pair_at (codes "var")) [] refl) h
+
+start_end : none_left (from_start []) ≡ Some []
+unfolding from_start heading_at begins form_at word_at open_at
+start_end = variables_end One txs_end
+
+pub part_end : (part : Section) → none_left (from_part part []) ≡ Some []
+part_end section.Start = start_end
+part_end section.Variables = variables_end One txs_end
+part_end section.VariablesOfTwo = variables_end Two conditions_end
+part_end section.Conditions = conditions_end
+part_end section.Transactions = txs_end
+part_end section.Runs = runs_end
+
+abbrev one_run : List Lexeme
+one_run = token.Name (codes "a") ∷ token.Int (pos 0) ∷ Closes ∷ []
+
+abbrev some_part : Section → Option Section
+some_part part = Some part
+
+run_stands : (part : Section) → part_behind part kind.Run ≡ some_part section.Runs
+run_stands section.Start = refl
+run_stands section.Variables = refl
+run_stands section.VariablesOfTwo = refl
+run_stands section.Conditions = refl
+run_stands section.Transactions = refl
+run_stands section.Runs = refl
+
+run_ends : found kind.Run one_run (some_part section.Runs) ≡ Some []
+unfolding name_at int_at close_at
+run_ends = runs_end
+
+pub word_ends : (part : Section) → none_left (from_part part (Opens ∷ finish (want.Word part))) ≡ Some []
+word_ends part = kind_found part kind.Run one_run ∙ ap (found kind.Run one_run) (run_stands part) ∙ run_ends

@@ -1,0 +1,129 @@
+-- What is read behind a token is what is wanted there.
+use Rattle.std.proofs.Common.{◌≡◌, ℕ, zero, suc, ◌-◌, Bool, true, false, cond, List, [], ◌∷◌, Option, Some, None, Result, Ok, Err, refl, sym, ap, ◌∙◌}
+use Rattle.std.specs.Prelude.{ℤ, pos}
+use Rattle.std.specs.Ordering.{int_eq}
+use Rattle.std.specs.Result.{result_ok}
+use Rattle.text_words.specs.Tokens.{Lexeme, Opens, Closes}
+use Rattle.text_words.specs.Tokens as token
+use Rattle.text_words.specs.Answers.{◌>>=◌}
+use Rattle.text_words.specs.TokenReading.{Read, close_at, name_at, int_at, is_open, open_at, word_at, with_first, all_of}
+use Rattle.text_words.specs.declared.fault.ReadFault.{ReadFault}
+use Rattle.text_words.specs.declared.fault.ReadFault.TheVariants.{Shape}
+use Rattle.text_words.proofs.Many.{all-stop, all-more}
+use Rattle.text_grammar.specs.Tree.{Stmt, Seq}
+use Rattle.text_grammar.specs.Reading.{operator_of, test_of, keyword_of, expr_at, cond_at, stmt_at, row, set_with, seq_with, if_with, repeat_with, orelse_with, throw_with, form_numbered}
+use Rattle.text_grammar.specs.declared.words.Operator.{Operator}
+use Rattle.text_grammar.specs.declared.words.Test.{Test}
+use Rattle.text_grammar.specs.declared.words.Test.TheVariants as test
+use Rattle.text_grammar.specs.declared.words.Keyword.{Keyword}
+use Rattle.text_grammar.specs.declared.words.Keyword.TheVariants as keyword
+use Rattle.text_grammar.specs.declared.file.FileForm.TheVariants.{Two}
+use Rattle.text_grammar.proofs.Stmts.{stmt_shortens, seq_ends}
+use Rattle.explain_files.specs.declared.wanted.NameUse.TheVariants as name
+use Rattle.explain_files.specs.declared.wanted.NumberUse.TheVariants as number
+use Rattle.explain_files.specs.declared.wanted.Wanted.{Wanted}
+use Rattle.explain_files.specs.declared.wanted.Wanted.TheVariants as want
+use Rattle.explain_files.specs.Forms.{Wants, deeper, behind_operator, behind_test, behind_keyword}
+use Rattle.explain_files.specs.Wanting.{Left, left_of, kept, ◌▷◌, read_test, read_keyword, read_one, read_all, onto}
+use Rattle.explain_files.proofs.Chains.{left_to, close_to, none_to, deeper_suc}
+
+-- what is read, where this is wanted now on top of what was wanted before
+abbrev pub after : Wants → List Wanted → List Lexeme → Left
+after None below ts = None
+after (Some more) below ts = read_all (onto more below) ts
+
+-- one parenthesis deeper
+pub deep : (depth : ℕ) (more : ℕ → List Wanted) (below : List Wanted) (ts : List Lexeme) → read_all (onto (more depth) below) ts ≡ after (deeper (suc depth) (more (suc depth - 1))) below ts
+deep depth more below ts = sym (ap (λ (wants : Wants). after wants below ts) (deeper_suc depth more))
+
+-- ---- expressions
+
+pub operator_reads : (depth : ℕ) (word : List ℕ) (ts : List Lexeme) (below : List Wanted) (r : Result Operator ReadFault) → operator_of word ≡ r
+    → read_all (want.Operator depth ∷ below) (token.Name word ∷ ts) ≡ after (behind_operator depth (result_ok r)) below ts
+unfolding name_at
+operator_reads depth word ts below (Ok op) e =
+    rw e (left_to (expr_at depth ts) _ _ _ (λ l. left_to (expr_at depth l.1) _ _ _ (λ r. close_to (close_at r.1) _ _)))
+operator_reads depth word ts below (Err d) e = rw e refl
+
+-- ---- conditions
+
+not_zero : (word : List ℕ) (ts : List Lexeme) (below : List Wanted) → test_of word ≡ Ok test.Negates → read_all (want.Test zero ∷ below) (token.Name word ∷ ts) ≡ None
+unfolding name_at read_test cond_at
+not_zero word ts below e = rw e refl
+
+connect_zero : (op : _) (word : List ℕ) (ts : List Lexeme) (below : List Wanted) → test_of word ≡ Ok (test.Connects op) → read_all (want.Test zero ∷ below) (token.Name word ∷ ts) ≡ None
+unfolding name_at read_test cond_at
+connect_zero op word ts below e = rw e refl
+
+pub test_reads : (depth : ℕ) (word : List ℕ) (ts : List Lexeme) (below : List Wanted) (r : Result Test ReadFault) → test_of word ≡ r
+    → read_all (want.Test depth ∷ below) (token.Name word ∷ ts) ≡ after (behind_test depth (result_ok r)) below ts
+unfolding name_at read_test
+test_reads depth word ts below (Ok (test.Compares op)) e =
+    rw e (left_to (expr_at depth ts) _ _ _ (λ l. left_to (expr_at depth l.1) _ _ _ (λ r. close_to (close_at r.1) _ _)))
+test_reads zero word ts below (Ok test.Negates) e = not_zero word ts below e
+test_reads (suc depth) word ts below (Ok test.Negates) e =
+    rw e (left_to (cond_at (suc depth) ts) _ _ _ (λ c. close_to (close_at c.1) _ _))
+    ∙ deep depth (λ n. want.Close ∷ want.Cond n ∷ []) below ts
+test_reads zero word ts below (Ok (test.Connects op)) e = connect_zero op word ts below e
+test_reads (suc depth) word ts below (Ok (test.Connects op)) e =
+    rw e (left_to (cond_at (suc depth) ts) _ _ _ (λ l. left_to (cond_at (suc depth) l.1) _ _ _ (λ r. close_to (close_at r.1) _ _)))
+    ∙ deep depth (λ n. want.Close ∷ want.Cond n ∷ want.Cond n ∷ []) below ts
+test_reads depth word ts below (Err d) e = rw e refl
+
+-- ---- statements
+
+if_zero : (word : List ℕ) (ts : List Lexeme) (below : List Wanted) → keyword_of word ≡ Ok keyword.If → read_all (want.Keyword zero ∷ below) (token.Name word ∷ ts) ≡ None
+unfolding name_at read_keyword if_with cond_at
+if_zero word ts below e = rw e refl
+
+orelse_zero : (word : List ℕ) (ts : List Lexeme) (below : List Wanted) → keyword_of word ≡ Ok keyword.OrElse → read_all (want.Keyword zero ∷ below) (token.Name word ∷ ts) ≡ None
+unfolding name_at read_keyword orelse_with stmt_at
+orelse_zero word ts below e = rw e refl
+
+repeat_zero : (word : List ℕ) (ts : List Lexeme) (below : List Wanted) → keyword_of word ≡ Ok keyword.Repeat → read_all (want.Keyword zero ∷ below) (token.Name word ∷ ts) ≡ None
+unfolding name_at read_keyword repeat_with stmt_at
+repeat_zero word ts below e = rw e (none_to (int_at ts) _ _ (λ n. refl))
+
+pub keyword_reads : (depth : ℕ) (word : List ℕ) (ts : List Lexeme) (below : List Wanted) (r : Result Keyword ReadFault) → keyword_of word ≡ r
+    → read_all (want.Keyword depth ∷ below) (token.Name word ∷ ts) ≡ after (behind_keyword depth (result_ok r)) below ts
+unfolding name_at read_keyword set_with if_with repeat_with orelse_with throw_with
+keyword_reads depth word ts below (Ok keyword.Skip) e = rw e (close_to (close_at ts) _ _)
+keyword_reads depth word ts below (Ok keyword.Set) e =
+    rw e (left_to (name_at ts) _ _ _ (λ n. left_to (expr_at depth n.1) _ _ _ (λ v. close_to (close_at v.1) _ _)))
+keyword_reads depth word ts below (Ok keyword.Seq) e = rw e refl
+keyword_reads zero word ts below (Ok keyword.If) e = if_zero word ts below e
+keyword_reads (suc depth) word ts below (Ok keyword.If) e =
+    rw e (left_to (cond_at (suc depth) ts) _ _ _ (λ c. left_to (stmt_at (suc depth) c.1) _ _ _ (λ p. left_to (stmt_at (suc depth) p.1) _ _ _ (λ q. close_to (close_at q.1) _ _))))
+    ∙ deep depth (λ n. want.Close ∷ want.Stmt n ∷ want.Stmt n ∷ want.Cond n ∷ []) below ts
+keyword_reads zero word ts below (Ok keyword.Repeat) e = repeat_zero word ts below e
+keyword_reads (suc depth) word ts below (Ok keyword.Repeat) e =
+    rw e (left_to (int_at ts) _ _ _ (λ c. left_to (stmt_at (suc depth) c.1) _ _ _ (λ p. close_to (close_at p.1) _ _)))
+    ∙ deep depth (λ n. want.Close ∷ want.Stmt n ∷ want.Number number.Turns ∷ []) below ts
+keyword_reads depth word ts below (Ok keyword.Retry) e = rw e (close_to (close_at ts) _ _)
+keyword_reads zero word ts below (Ok keyword.OrElse) e = orelse_zero word ts below e
+keyword_reads (suc depth) word ts below (Ok keyword.OrElse) e =
+    rw e (left_to (stmt_at (suc depth) ts) _ _ _ (λ p. left_to (stmt_at (suc depth) p.1) _ _ _ (λ q. close_to (close_at q.1) _ _)))
+    ∙ deep depth (λ n. want.Close ∷ want.Stmt n ∷ want.Stmt n ∷ []) below ts
+keyword_reads depth word ts below (Ok keyword.Throw) e = rw e (left_to (expr_at depth ts) _ _ _ (λ v. close_to (close_at v.1) _ _))
+keyword_reads depth word ts below (Err d) e = rw e refl
+
+-- ---- the statements of a sequence
+
+first_part : (s : Stmt) (r : Read (List Stmt)) (k : List Lexeme → Left)
+    → (left_of (with_first s r >>= λ parts. close_at parts.1 >>= λ rest. Ok (Seq (row parts.0), rest)) ▷ k) ≡ (left_of (r >>= λ parts. close_at parts.1 >>= λ rest. Ok (Seq (row parts.0), rest)) ▷ k)
+first_part s (Ok others) k = close_to (close_at others.1) _ k ∙ sym (close_to (close_at others.1) _ k)
+first_part s (Err d) k = refl
+
+all_parts : (r : Read Stmt) (others : List Lexeme → Read (List Stmt)) (k : List Lexeme → Left)
+    → (left_of ((r >>= λ first. with_first first.0 (others first.1)) >>= λ parts. close_at parts.1 >>= λ rest. Ok (Seq (row parts.0), rest)) ▷ k)
+    ≡ (left_of r ▷ λ us. left_of (others us >>= λ parts. close_at parts.1 >>= λ rest. Ok (Seq (row parts.0), rest)) ▷ k)
+all_parts (Ok first) others k = first_part first.0 (others first.1) k
+all_parts (Err d) others k = refl
+
+pub parts_go_on : (depth : ℕ) (ts : List Lexeme) (k : List Lexeme → Left) → is_open ts ≡ true → (left_of (seq_with (stmt_at depth) ts) ▷ k) ≡ (left_of (stmt_at depth ts) ▷ λ us. left_of (seq_with (stmt_at depth) us) ▷ k)
+unfolding seq_with
+parts_go_on depth ts k h =
+    rw (all-more is_open (stmt_at depth) (stmt_shortens depth) ts h) (all_parts (stmt_at depth ts) (all_of is_open (stmt_at depth)) k)
+
+pub parts_end : (part : List Lexeme → Read Stmt) (ts : List Lexeme) (k : List Lexeme → Left) → is_open ts ≡ false → (left_of (seq_with part ts) ▷ k) ≡ (kept (close_at ts) ▷ k)
+parts_end part ts k h = ap (λ (r : Read Stmt). left_of r ▷ k) (seq_ends part ts ts [] (all-stop is_open part ts h)) ∙ close_to (close_at ts) _ k

@@ -1,0 +1,193 @@
+-- What is wanted on a stack: it can always be ended, and declarations stand at the bottom alone.
+use Rattle.std.proofs.Common.{◌≡◌, ℕ, zero, suc, ◌-◌, Bool, true, false, cond, eqb, List, [], ◌∷◌, ◌++◌, Option, Some, None, refl, sym, ap, subst, ◌∙◌, append_assoc, ◌⊎◌, inl, inr}
+use Rattle.std.specs.Prelude.{ℤ, pos}
+use Rattle.std.proofs.lemmas.List.{append-nil}
+use Rattle.text_words.specs.Tokens.{Lexeme, Opens, Closes}
+use Rattle.text_words.specs.Tokens as token
+use Rattle.text_words.specs.TokenReading.{close_at, name_at, int_at}
+use Rattle.text_grammar.specs.Tree as tree
+use Rattle.text_grammar.specs.Reading.{operator_of, test_of, keyword_of}
+use Rattle.text_grammar.specs.declared.words.Operator.{Operator}
+use Rattle.text_grammar.specs.declared.words.Test.{Test}
+use Rattle.text_grammar.specs.declared.words.Test.TheVariants as test
+use Rattle.text_grammar.specs.declared.words.Keyword.{Keyword}
+use Rattle.text_grammar.specs.declared.words.Keyword.TheVariants as keyword
+use Rattle.explain_files.specs.declared.wanted.Kind.{Kind}
+use Rattle.explain_files.specs.declared.wanted.Kind.TheVariants as kind
+use Rattle.explain_files.specs.declared.wanted.Section.{Section}
+use Rattle.explain_files.specs.declared.wanted.Wanted.{Wanted}
+use Rattle.explain_files.specs.declared.wanted.Wanted.TheVariants as want
+use Rattle.explain_files.specs.Forms.{Wants, deeper, within, behind_operator, behind_test, behind_keyword, behind_kind, behind_part, part_behind, kind_of, behind_open, behind_close, behind_word, behind_int, is_two, behind}
+use Rattle.explain_files.specs.Wanting.{Left, ◌▷◌, none_left, from_part, read_one, read_all, onto}
+use Rattle.explain_files.proofs.Endings.{finish, part_end, word_ends, number_ends, simple_ends, expr_ends, operator_ends, cond_ends, test_ends, stmt_ends, keyword_ends, parts_ends}
+
+-- declarations are wanted at the bottom, and nowhere else
+abbrev pub IsBottomed : List Wanted → Type 0
+IsBottomed [] = ⊥
+IsBottomed (want.Declarations part ∷ below) = below ≡ []
+IsBottomed (want.Word part ∷ below) = below ≡ []
+IsBottomed (want.FormNumber ∷ below) = IsBottomed below
+IsBottomed (want.Close ∷ below) = IsBottomed below
+IsBottomed (want.Name used ∷ below) = IsBottomed below
+IsBottomed (want.Number used ∷ below) = IsBottomed below
+IsBottomed (want.Expr depth ∷ below) = IsBottomed below
+IsBottomed (want.Operator depth ∷ below) = IsBottomed below
+IsBottomed (want.Cond depth ∷ below) = IsBottomed below
+IsBottomed (want.Test depth ∷ below) = IsBottomed below
+IsBottomed (want.Stmt depth ∷ below) = IsBottomed below
+IsBottomed (want.Keyword depth ∷ below) = IsBottomed below
+IsBottomed (want.Parts depth ∷ below) = IsBottomed below
+
+-- what is put on a stack keeps that
+abbrev KeepsBottom : List Wanted → Wants → Type 0
+KeepsBottom below None = Unit {0}
+KeepsBottom below (Some more) = IsBottomed (onto more below)
+
+deeper_keeps : (depth : ℕ) (below more : List Wanted) → IsBottomed (onto more below) → KeepsBottom below (deeper depth more)
+deeper_keeps depth below more h = chosen (eqb depth 0)
+  where
+    chosen : (b : Bool) → KeepsBottom below (cond b None (Some more))
+    chosen true = tt
+    chosen false = h
+
+operator_keeps : (depth : ℕ) (below : List Wanted) (o : Option Operator) → IsBottomed below → KeepsBottom below (behind_operator depth o)
+operator_keeps depth below None h = tt
+operator_keeps depth below (Some op) h = h
+
+test_keeps : (depth : ℕ) (below : List Wanted) (o : Option Test) → IsBottomed below → KeepsBottom below (behind_test depth o)
+test_keeps depth below None h = tt
+test_keeps depth below (Some (test.Compares op)) h = h
+test_keeps depth below (Some test.Negates) h = deeper_keeps depth below (want.Close ∷ want.Cond (depth - 1) ∷ []) h
+test_keeps depth below (Some (test.Connects op)) h = deeper_keeps depth below (want.Close ∷ want.Cond (depth - 1) ∷ want.Cond (depth - 1) ∷ []) h
+
+keyword_keeps : (depth : ℕ) (below : List Wanted) (o : Option Keyword) → IsBottomed below → KeepsBottom below (behind_keyword depth o)
+keyword_keeps depth below None h = tt
+keyword_keeps depth below (Some keyword.Skip) h = h
+keyword_keeps depth below (Some keyword.Set) h = h
+keyword_keeps depth below (Some keyword.Seq) h = h
+keyword_keeps depth below (Some keyword.If) h = deeper_keeps depth below (want.Close ∷ want.Stmt (depth - 1) ∷ want.Stmt (depth - 1) ∷ want.Cond (depth - 1) ∷ []) h
+keyword_keeps depth below (Some keyword.Repeat) h = deeper_keeps depth below _ h
+keyword_keeps depth below (Some keyword.Retry) h = h
+keyword_keeps depth below (Some keyword.OrElse) h = deeper_keeps depth below _ h
+keyword_keeps depth below (Some keyword.Throw) h = h
+
+part_keeps : (k : Kind) (o : Option Section) → KeepsBottom [] (behind_part k o)
+part_keeps k None = tt
+part_keeps kind.Form (Some part) = refl
+part_keeps kind.Variable (Some part) = refl
+part_keeps kind.Condition (Some part) = refl
+part_keeps kind.Transaction (Some part) = refl
+part_keeps kind.Run (Some part) = refl
+
+kind_keeps : (part : Section) (o : Option Kind) → KeepsBottom [] (behind_kind part o)
+kind_keeps part None = tt
+kind_keeps part (Some k) = part_keeps k (part_behind part k)
+
+number_keeps : (below : List Wanted) (b : Bool) → IsBottomed below → KeepsBottom below (cond b (Some []) None)
+number_keeps below true h = h
+number_keeps below false h = tt
+
+open_keeps : (wanted : Wanted) (below : List Wanted) → IsBottomed (wanted ∷ below) → KeepsBottom below (behind_open wanted)
+open_keeps (want.Declarations part) below h = h
+open_keeps (want.Word part) below h = tt
+open_keeps want.FormNumber below h = tt
+open_keeps want.Close below h = tt
+open_keeps (want.Name used) below h = tt
+open_keeps (want.Number used) below h = tt
+open_keeps (want.Expr depth) below h = deeper_keeps depth below (want.Operator (depth - 1) ∷ []) h
+open_keeps (want.Operator depth) below h = tt
+open_keeps (want.Cond depth) below h = h
+open_keeps (want.Test depth) below h = tt
+open_keeps (want.Stmt depth) below h = h
+open_keeps (want.Keyword depth) below h = tt
+open_keeps (want.Parts depth) below h = deeper_keeps depth below (want.Parts depth ∷ want.Keyword (depth - 1) ∷ []) h
+
+close_keeps : (wanted : Wanted) (below : List Wanted) → IsBottomed (wanted ∷ below) → KeepsBottom below (behind_close wanted)
+close_keeps (want.Declarations part) below h = tt
+close_keeps (want.Word part) below h = tt
+close_keeps want.FormNumber below h = tt
+close_keeps want.Close below h = h
+close_keeps (want.Name used) below h = tt
+close_keeps (want.Number used) below h = tt
+close_keeps (want.Expr depth) below h = tt
+close_keeps (want.Operator depth) below h = tt
+close_keeps (want.Cond depth) below h = tt
+close_keeps (want.Test depth) below h = tt
+close_keeps (want.Stmt depth) below h = tt
+close_keeps (want.Keyword depth) below h = tt
+close_keeps (want.Parts depth) below h = h
+
+int_keeps : (wanted : Wanted) (below : List Wanted) (value : ℤ) → IsBottomed (wanted ∷ below) → KeepsBottom below (behind_int wanted value)
+int_keeps (want.Declarations part) below value h = tt
+int_keeps (want.Word part) below value h = tt
+int_keeps want.FormNumber below value h = number_keeps below (is_two value) h
+int_keeps want.Close below value h = tt
+int_keeps (want.Name used) below value h = tt
+int_keeps (want.Number used) below value h = h
+int_keeps (want.Expr depth) below value h = h
+int_keeps (want.Operator depth) below value h = tt
+int_keeps (want.Cond depth) below value h = tt
+int_keeps (want.Test depth) below value h = tt
+int_keeps (want.Stmt depth) below value h = tt
+int_keeps (want.Keyword depth) below value h = tt
+int_keeps (want.Parts depth) below value h = tt
+
+word_keeps : (wanted : Wanted) (below : List Wanted) (word : List ℕ) → IsBottomed (wanted ∷ below) → KeepsBottom below (behind_word wanted word)
+word_keeps (want.Declarations part) below word h = tt
+word_keeps (want.Word part) below word h = subst (λ (b : List Wanted). KeepsBottom b (behind_kind part (kind_of word))) (sym h) (kind_keeps part (kind_of word))
+word_keeps want.FormNumber below word h = tt
+word_keeps want.Close below word h = tt
+word_keeps (want.Name used) below word h = h
+word_keeps (want.Number used) below word h = tt
+word_keeps (want.Expr depth) below word h = h
+word_keeps (want.Operator depth) below word h = operator_keeps depth below _ h
+word_keeps (want.Cond depth) below word h = tt
+word_keeps (want.Test depth) below word h = test_keeps depth below _ h
+word_keeps (want.Stmt depth) below word h = tt
+word_keeps (want.Keyword depth) below word h = keyword_keeps depth below _ h
+word_keeps (want.Parts depth) below word h = tt
+
+token_keeps : (wanted : Wanted) (below : List Wanted) (t : Lexeme) → IsBottomed (wanted ∷ below) → KeepsBottom below (behind wanted t)
+unfolding behind
+token_keeps wanted below Opens h = open_keeps wanted below h
+token_keeps wanted below Closes h = close_keeps wanted below h
+token_keeps wanted below (token.Name word) h = word_keeps wanted below word h
+token_keeps wanted below (token.Int value) h = int_keeps wanted below value h
+token_keeps wanted below token.Other h = tt
+
+pub bottomed_on : (wanted : Wanted) (below more : List Wanted) (t : Lexeme) → behind wanted t ≡ Some more → IsBottomed (wanted ∷ below) → IsBottomed (onto more below)
+bottomed_on wanted below more t e h = subst (KeepsBottom below) e (token_keeps wanted below t h)
+
+-- ---- what is wanted can be ended
+
+abbrev pub finish_all : List Wanted → List Lexeme
+finish_all [] = []
+finish_all (wanted ∷ below) = finish wanted ++ finish_all below
+
+goes_on : (wanted : Wanted) (below : List Wanted) → read_one wanted (finish wanted ++ finish_all below) ≡ Some (finish_all below) → read_all below (finish_all below) ≡ Some [] → read_all (wanted ∷ below) (finish_all (wanted ∷ below)) ≡ Some []
+goes_on wanted below e h = ap (λ (l : Left). l ▷ read_all below) e ∙ h
+
+at_bottom : (l : Left) (below : List Wanted) → below ≡ [] → l ≡ Some [] → (l ▷ read_all below) ≡ Some []
+at_bottom l below e h = rw (e, h) refl
+
+pub all_ends : (stack : List Wanted) → IsBottomed stack → read_all stack (finish_all stack) ≡ Some []
+all_ends [] h = absurd h
+all_ends (want.Declarations part ∷ below) h = rw h (at_bottom (none_left (from_part part [])) [] refl (part_end part))
+all_ends (want.Word part ∷ below) h = rw h (at_bottom (none_left (from_part part (Opens ∷ finish (want.Word part)))) [] refl (word_ends part))
+all_ends (want.FormNumber ∷ below) h = goes_on want.FormNumber below (number_ends (finish_all below)) (all_ends below h)
+all_ends (want.Close ∷ below) h = goes_on want.Close below (simple_ends (finish_all below)).0 (all_ends below h)
+all_ends (want.Name used ∷ below) h = goes_on (want.Name used) below (simple_ends (finish_all below)).1 (all_ends below h)
+all_ends (want.Number used ∷ below) h = goes_on (want.Number used) below (simple_ends (finish_all below)).2 (all_ends below h)
+all_ends (want.Expr depth ∷ below) h = goes_on (want.Expr depth) below (expr_ends depth (finish_all below)) (all_ends below h)
+all_ends (want.Operator depth ∷ below) h = goes_on (want.Operator depth) below (operator_ends depth (finish_all below)) (all_ends below h)
+all_ends (want.Cond depth ∷ below) h = goes_on (want.Cond depth) below (cond_ends depth (finish_all below)) (all_ends below h)
+all_ends (want.Test depth ∷ below) h = goes_on (want.Test depth) below (test_ends depth (finish_all below)) (all_ends below h)
+all_ends (want.Stmt depth ∷ below) h = goes_on (want.Stmt depth) below (stmt_ends depth (finish_all below)) (all_ends below h)
+all_ends (want.Keyword depth ∷ below) h = goes_on (want.Keyword depth) below (keyword_ends depth (finish_all below)) (all_ends below h)
+all_ends (want.Parts depth ∷ below) h = goes_on (want.Parts depth) below (parts_ends depth (finish_all below)) (all_ends below h)
+
+-- ---- stacks whose top is the last
+
+pub onto-append : (a b below : List Wanted) → onto (a ++ b) below ≡ onto b (onto a below)
+onto-append [] b below = refl
+onto-append (x ∷ a) b below = onto-append a b (x ∷ below)

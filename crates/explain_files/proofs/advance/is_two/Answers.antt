@@ -1,0 +1,30 @@
+use Rattle.std.proofs.Common.{◌≡◌, ℕ, List, true, false, cond, Err, None, refl, sym, subst, inl, inr}
+use Rattle.std.specs.Prelude.{ℤ, pos}
+use Rattle.std.specs.Int.{w64}
+use Rattle.std.specs.Ordering.{int_eq}
+use Rattle.std.specs.Str.Parse.{ParsesSigned}
+use Rattle.std.proofs.lemmas.Bool.Decides.{Decides-int_eq}
+use Rattle.text_words.specs.Bytes.{is_int, int_value}
+use Rattle.text_words.specs.Numbers.{number_of}
+use Rattle.text_words.specs.declared.fault.ReadFault.TheVariants.{Limit}
+use Rattle.text_words.proofs.Numerals.{number_given}
+use Rattle.text_words.proofs.Steps.{chosen}
+use Rattle.explain_files.specs.Forms.{is_two}
+use Rattle.explain_files.proofs.advance.is_two.Goals as goal
+
+two_fits : number_of (pos 2) ≡ Err Limit → ⊥
+unfolding number_of
+two_fits h = absurd cc
+
+-- an integer that 64 signed bits have no room for is not 2
+too_large : {E : Type 0} (text : List ℕ) (e : E) → is_int text ≡ true → ParsesSigned w64 10 text (Err e) → is_two (int_value text) ≡ false
+too_large text e h parsed =
+    let z = int_value text in
+    let none : number_of z ≡ Err Limit = number_given text (Err e) None (Err Limit) h parsed refl refl in
+    elim (chosen (int_eq z (pos 2)) true false (cond (int_eq z (pos 2)) true false) refl) [
+      | inl p ↦ absurd (two_fits (subst (λ (y : ℤ). number_of y ≡ Err Limit) ((Decides-int_eq z (pos 2)).0 p.0) none))
+      | inr p ↦ p.0
+    ]
+
+pub returns-in_default-2 : goal.returns-in_default-2
+returns-in_default-2 c = sym (too_large c.args.number.text.now c.in_default.field-0 c.args.number.written (rw c.in_default.is at c.parse.ensures.value.0))

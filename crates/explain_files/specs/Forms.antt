@@ -1,0 +1,185 @@
+-- What is wanted behind a token, where the token may stand there: what is put on the stack, the next of it last.
+use Rattle.std.specs.Prelude.{ℕ, ℤ, pos, ◌-◌, ◌==◌, Bool, true, false, if◌then◌else◌, ◌≡◌, ◌++◌, Option, Some, None, List, [], ◌∷◌, codes}
+use Rattle.std.specs.Ordering.{int_eq}
+use Rattle.std.specs.Result.{result_ok}
+use Rattle.std.specs.Str.{bytes_eq}
+use Rattle.text_words.specs.Tokens.{Lexeme, Opens, Closes}
+use Rattle.text_words.specs.Tokens as token
+use Rattle.text_grammar.specs.Reading.{operator_of, test_of, keyword_of}
+use Rattle.text_grammar.specs.declared.words.Operator.{Operator}
+use Rattle.text_grammar.specs.declared.words.Test.{Test}
+use Rattle.text_grammar.specs.declared.words.Test.TheVariants as test
+use Rattle.text_grammar.specs.declared.words.Keyword.{Keyword}
+use Rattle.text_grammar.specs.declared.words.Keyword.TheVariants as keyword
+use Rattle.explain_files.specs.declared.wanted.NameUse.TheVariants as name
+use Rattle.explain_files.specs.declared.wanted.NumberUse.TheVariants as number
+use Rattle.explain_files.specs.declared.wanted.Kind.{Kind}
+use Rattle.explain_files.specs.declared.wanted.Kind.TheVariants as kind
+use Rattle.explain_files.specs.declared.wanted.Section.{Section}
+use Rattle.explain_files.specs.declared.wanted.Section.TheVariants as section
+use Rattle.explain_files.specs.declared.wanted.Wanted.{Wanted}
+use Rattle.explain_files.specs.declared.wanted.Wanted.TheVariants as want
+
+abbrev pub Wants : Type 0
+Wants = Option (List Wanted)
+
+-- ---- expressions, conditions and statements, with this many more parentheses inside
+
+abbrev pub behind_operator : ℕ → Option Operator → Wants
+behind_operator depth (Some op) = Some (want.Close ∷ want.Expr depth ∷ want.Expr depth ∷ [])
+behind_operator depth None = None
+
+-- where one more parenthesis may be open inside
+abbrev pub deeper : ℕ → List Wanted → Wants
+deeper depth more = if depth == 0 then None else Some more
+
+abbrev pub behind_test : ℕ → Option Test → Wants
+behind_test depth (Some (test.Compares op)) = Some (want.Close ∷ want.Expr depth ∷ want.Expr depth ∷ [])
+behind_test depth (Some test.Negates) = deeper depth (want.Close ∷ want.Cond (depth - 1) ∷ [])
+behind_test depth (Some (test.Connects op)) = deeper depth (want.Close ∷ want.Cond (depth - 1) ∷ want.Cond (depth - 1) ∷ [])
+behind_test depth None = None
+
+abbrev pub behind_keyword : ℕ → Option Keyword → Wants
+behind_keyword depth (Some keyword.Skip) = Some (want.Close ∷ [])
+behind_keyword depth (Some keyword.Set) = Some (want.Close ∷ want.Expr depth ∷ want.Name name.Target ∷ [])
+behind_keyword depth (Some keyword.Seq) = Some (want.Parts depth ∷ [])
+behind_keyword depth (Some keyword.If) = deeper depth (want.Close ∷ want.Stmt (depth - 1) ∷ want.Stmt (depth - 1) ∷ want.Cond (depth - 1) ∷ [])
+behind_keyword depth (Some keyword.Repeat) = deeper depth (want.Close ∷ want.Stmt (depth - 1) ∷ want.Number number.Turns ∷ [])
+behind_keyword depth (Some keyword.Retry) = Some (want.Close ∷ [])
+behind_keyword depth (Some keyword.OrElse) = deeper depth (want.Close ∷ want.Stmt (depth - 1) ∷ want.Stmt (depth - 1) ∷ [])
+behind_keyword depth (Some keyword.Throw) = Some (want.Close ∷ want.Expr depth ∷ [])
+behind_keyword depth None = None
+
+-- ---- declarations
+
+abbrev pub kind_of : List ℕ → Option Kind
+kind_of word =
+    if bytes_eq word (codes "stm") then Some kind.Form
+    else (if bytes_eq word (codes "var") then Some kind.Variable
+    else (if bytes_eq word (codes "always") then Some kind.Condition
+    else (if bytes_eq word (codes "tx") then Some kind.Transaction
+    else (if bytes_eq word (codes "run") then Some kind.Run
+    else None))))
+
+-- where one of this kind may stand, the part of the file behind it
+abbrev pub part_behind : Section → Kind → Option Section
+part_behind section.Start kind.Form = Some section.VariablesOfTwo
+part_behind section.Start kind.Variable = Some section.Variables
+part_behind section.Start kind.Condition = None
+part_behind section.Variables kind.Form = None
+part_behind section.Variables kind.Variable = Some section.Variables
+part_behind section.Variables kind.Condition = None
+part_behind section.VariablesOfTwo kind.Form = None
+part_behind section.VariablesOfTwo kind.Variable = Some section.VariablesOfTwo
+part_behind section.VariablesOfTwo kind.Condition = Some section.Conditions
+part_behind section.Conditions kind.Form = None
+part_behind section.Conditions kind.Variable = None
+part_behind section.Conditions kind.Condition = Some section.Conditions
+part_behind section.Transactions kind.Form = None
+part_behind section.Transactions kind.Variable = None
+part_behind section.Transactions kind.Condition = None
+part_behind section.Runs kind.Form = None
+part_behind section.Runs kind.Variable = None
+part_behind section.Runs kind.Condition = None
+part_behind section.Runs kind.Transaction = None
+part_behind part kind.Transaction = Some section.Transactions
+part_behind part kind.Run = Some section.Runs
+
+abbrev pub within : Section → Kind → List Wanted
+within part kind.Form = want.Declarations part ∷ want.Close ∷ want.FormNumber ∷ []
+within part kind.Variable = want.Declarations part ∷ want.Close ∷ want.Number number.Initial ∷ want.Name name.Variable ∷ []
+within part kind.Condition = want.Declarations part ∷ want.Close ∷ want.Cond 30 ∷ want.Name name.Condition ∷ []
+within part kind.Transaction = want.Declarations part ∷ want.Close ∷ want.Expr 31 ∷ want.Stmt 30 ∷ want.Name name.Transaction ∷ []
+within part kind.Run = want.Declarations part ∷ want.Close ∷ want.Number number.Tasks ∷ want.Name name.Called ∷ []
+
+abbrev pub behind_part : Kind → Option Section → Wants
+behind_part k None = None
+behind_part k (Some part) = Some (within part k)
+
+abbrev pub behind_kind : Section → Option Kind → Wants
+behind_kind part None = None
+behind_kind part (Some k) = behind_part k (part_behind part k)
+
+-- ---- tokens
+
+-- what is wanted in place of this, behind a word
+abbrev pub behind_word : Wanted → List ℕ → Wants
+behind_word (want.Word part) word = behind_kind part (kind_of word)
+behind_word (want.Name used) word = Some []
+behind_word (want.Expr depth) word = Some []
+behind_word (want.Operator depth) word = behind_operator depth (result_ok (operator_of word))
+behind_word (want.Test depth) word = behind_test depth (result_ok (test_of word))
+behind_word (want.Keyword depth) word = behind_keyword depth (result_ok (keyword_of word))
+behind_word (want.Declarations part) word = None
+behind_word want.FormNumber word = None
+behind_word want.Close word = None
+behind_word (want.Number used) word = None
+behind_word (want.Cond depth) word = None
+behind_word (want.Stmt depth) word = None
+behind_word (want.Parts depth) word = None
+
+-- the number of the form that is announced
+abbrev pub is_two : ℤ → Bool
+is_two value = int_eq value (pos 2)
+
+-- behind an integer
+abbrev pub behind_int : Wanted → ℤ → Wants
+behind_int want.FormNumber value = if is_two value then Some [] else None
+behind_int (want.Number used) value = Some []
+behind_int (want.Expr depth) value = Some []
+behind_int (want.Word part) value = None
+behind_int (want.Name used) value = None
+behind_int (want.Operator depth) value = None
+behind_int (want.Test depth) value = None
+behind_int (want.Keyword depth) value = None
+behind_int (want.Declarations part) value = None
+behind_int want.Close value = None
+behind_int (want.Cond depth) value = None
+behind_int (want.Stmt depth) value = None
+behind_int (want.Parts depth) value = None
+
+-- behind an opening parenthesis
+abbrev pub behind_open : Wanted → Wants
+behind_open (want.Declarations part) = Some (want.Word part ∷ [])
+behind_open (want.Expr depth) = deeper depth (want.Operator (depth - 1) ∷ [])
+behind_open (want.Cond depth) = Some (want.Test depth ∷ [])
+behind_open (want.Stmt depth) = Some (want.Keyword depth ∷ [])
+behind_open (want.Parts depth) = deeper depth (want.Parts depth ∷ want.Keyword (depth - 1) ∷ [])
+behind_open want.FormNumber = None
+behind_open (want.Number used) = None
+behind_open (want.Word part) = None
+behind_open (want.Name used) = None
+behind_open (want.Operator depth) = None
+behind_open (want.Test depth) = None
+behind_open (want.Keyword depth) = None
+behind_open want.Close = None
+
+-- behind a closing one
+abbrev pub behind_close : Wanted → Wants
+behind_close want.Close = Some []
+behind_close (want.Parts depth) = Some []
+behind_close (want.Declarations part) = None
+behind_close (want.Expr depth) = None
+behind_close (want.Cond depth) = None
+behind_close (want.Stmt depth) = None
+behind_close want.FormNumber = None
+behind_close (want.Number used) = None
+behind_close (want.Word part) = None
+behind_close (want.Name used) = None
+behind_close (want.Operator depth) = None
+behind_close (want.Test depth) = None
+behind_close (want.Keyword depth) = None
+
+unfoldable pub behind : Wanted → Lexeme → Wants
+behind wanted Opens = behind_open wanted
+behind wanted Closes = behind_close wanted
+behind wanted (token.Name word) = behind_word wanted word
+behind wanted (token.Int value) = behind_int wanted value
+behind wanted token.Other = None
+
+-- the token stood there, and this is wanted now; or it did not
+abbrev pub Puts : Bool → List Wanted → List Wanted → Wants → Type 0
+Puts true old new (Some more) = new ≡ old ++ more
+Puts true old new None = ⊥
+Puts false old new (Some more) = ⊥
+Puts false old new None = Unit {0}

@@ -1,0 +1,114 @@
+-- What is read of a file from a token on, by what is wanted there.
+use Rattle.std.specs.Prelude.{ℕ, suc, Option, None, Some, Result, Ok, Err, List, [], ◌∷◌, codes}
+use Rattle.text_words.specs.Answers.{◌>>=◌}
+use Rattle.text_words.specs.Tokens.{Lexeme, Opens}
+use Rattle.text_words.specs.TokenReading.{Read, close_at, name_at, int_at, begins, all_of}
+use Rattle.text_words.specs.declared.fault.ReadFault.{ReadFault}
+use Rattle.text_grammar.specs.Tree.{Stmt, Cond}
+use Rattle.text_grammar.specs.Reading.{test_of, keyword_of, binary_with, expr_at, cond_with, cond_at, stmt_with, stmt_at, seq_with, pair_at, always_at, conditions_at, tx_at, end_at, form_numbered, heading_at}
+use Rattle.text_grammar.specs.declared.file.FileForm.{FileForm}
+use Rattle.text_grammar.specs.declared.file.FileForm.TheVariants.{One, Two}
+use Rattle.explain_files.specs.declared.wanted.Section.{Section}
+use Rattle.explain_files.specs.declared.wanted.Section.TheVariants as section
+use Rattle.explain_files.specs.declared.wanted.Wanted.{Wanted}
+use Rattle.explain_files.specs.declared.wanted.Wanted.TheVariants as want
+
+-- the tokens left behind what is read, if it is
+abbrev pub Left : Type 0
+Left = Option (List Lexeme)
+
+abbrev pub left_of : {A : Type 0} → Read A → Left
+left_of (Ok x) = Some x.1
+left_of (Err e) = None
+
+abbrev pub kept : Result (List Lexeme) ReadFault → Left
+kept (Ok ts) = Some ts
+kept (Err e) = None
+
+infixl 10 ◌▷◌
+abbrev pub ◌▷◌ : Left → (List Lexeme → Left) → Left
+None ▷ next = None
+(Some ts) ▷ next = next ts
+
+-- what is read to the end leaves nothing
+abbrev pub Whole : Type 0
+Whole = Result (Unit {0}) ReadFault
+
+abbrev pub none_left : Whole → Left
+none_left (Ok ended) = Some []
+none_left (Err e) = None
+
+-- ---- declarations, from one part of the file on to the end
+
+unfoldable pub from_runs : List Lexeme → Whole
+from_runs ts = all_of (begins (codes "run")) (pair_at (codes "run")) ts >>= λ runs. end_at runs.1
+
+unfoldable pub from_txs : List Lexeme → Whole
+from_txs ts = all_of (begins (codes "tx")) tx_at ts >>= λ txs. from_runs txs.1
+
+unfoldable pub from_conditions : List Lexeme → Whole
+from_conditions ts = all_of (begins (codes "always")) always_at ts >>= λ always. from_txs always.1
+
+-- form 1 has no conditions
+abbrev pub behind_variables : FileForm → List Lexeme → Whole
+behind_variables One ts = from_txs ts
+behind_variables Two ts = from_conditions ts
+
+unfoldable pub from_variables : FileForm → List Lexeme → Whole
+from_variables form ts = all_of (begins (codes "var")) (pair_at (codes "var")) ts >>= λ vars. behind_variables form vars.1
+
+unfoldable pub from_start : List Lexeme → Whole
+from_start ts = heading_at ts >>= λ heading. from_variables heading.0 heading.1
+
+abbrev pub from_part : Section → List Lexeme → Whole
+from_part section.Start ts = from_start ts
+from_part section.Variables ts = from_variables One ts
+from_part section.VariablesOfTwo ts = from_variables Two ts
+from_part section.Conditions ts = from_conditions ts
+from_part section.Transactions ts = from_txs ts
+from_part section.Runs ts = from_runs ts
+
+-- ---- what is wanted
+
+unfoldable pub read_test : ℕ → List Lexeme → Read Cond
+read_test depth ts = do
+  word ← name_at ts
+  kind ← test_of word.0
+  cond_with (expr_at depth) (cond_at depth) kind word.1
+
+unfoldable pub read_keyword : ℕ → List Lexeme → Read Stmt
+read_keyword depth ts = do
+  word ← name_at ts
+  kind ← keyword_of word.0
+  stmt_with (expr_at depth) (cond_at depth) (stmt_at depth) kind word.1
+
+unfoldable pub read_number : List Lexeme → Read FileForm
+read_number ts = do
+  number ← int_at ts
+  form ← form_numbered number.0
+  Ok (form, number.1)
+
+abbrev pub read_one : Wanted → List Lexeme → Left
+read_one (want.Declarations part) ts = none_left (from_part part ts)
+read_one (want.Word part) ts = none_left (from_part part (Opens ∷ ts))
+read_one want.FormNumber ts = left_of (read_number ts)
+read_one want.Close ts = kept (close_at ts)
+read_one (want.Name used) ts = left_of (name_at ts)
+read_one (want.Number used) ts = left_of (int_at ts)
+read_one (want.Expr depth) ts = left_of (expr_at depth ts)
+read_one (want.Operator depth) ts = left_of (binary_with (expr_at depth) ts)
+read_one (want.Cond depth) ts = left_of (cond_at (suc depth) ts)
+read_one (want.Test depth) ts = left_of (read_test depth ts)
+read_one (want.Stmt depth) ts = left_of (stmt_at (suc depth) ts)
+read_one (want.Keyword depth) ts = left_of (read_keyword depth ts)
+read_one (want.Parts depth) ts = left_of (seq_with (stmt_at depth) ts)
+
+-- what is wanted in turn, the next of it first
+abbrev pub read_all : List Wanted → List Lexeme → Left
+read_all [] ts = Some ts
+read_all (wanted ∷ more) ts = read_one wanted ts ▷ read_all more
+
+-- what was wanted before, and on top of it what is wanted now, the next of it last
+abbrev pub onto : List Wanted → List Wanted → List Wanted
+onto [] below = below
+onto (wanted ∷ more) below = onto more (wanted ∷ below)

@@ -1,0 +1,40 @@
+//! A stage of the replay.
+
+ghost use Rattle.std.specs.Prelude.{◌≡◌, IfOk, map};
+ghost use Rattle.txn_programs.specs.Told.{snapshot_at};
+ghost use Rattle.explain_reports.specs.View.{view};
+
+use std::alloc::{AllocError, Global};
+
+/// A number, with the values and versions that stand at it.
+#[derive(Debug, Drop)]
+pub(crate) struct Stage {
+    pub(crate) number: u64,
+    pub(crate) values: Vec<i64>,
+    pub(crate) versions: Vec<u64>,
+}
+
+fn values_of(alloc: Global, vars: &[(i64, u64)]) -> Result<Vec<i64>, AllocError>
+    ensures { IfOk result (λ v. v.items ≡ map (λ x. x.0) vars.now) }
+{
+    vars.iter().map(|v| v.0).collect(alloc)
+}
+
+fn versions_of(alloc: Global, vars: &[(i64, u64)]) -> Result<Vec<u64>, AllocError>
+    ensures { IfOk result (λ v. v.items ≡ map (λ x. x.1) vars.now) }
+{
+    vars.iter().map(|v| v.1).collect(alloc)
+}
+
+/// The stage of this number that a report's lines tell.
+pub(crate) fn stage_at(alloc: Global, number: u64, vars: &[(i64, u64)]) -> Result<Stage, AllocError>
+    ensures { IfOk result (λ s. view s ≡ snapshot_at number vars.now) }
+{
+    let values = values_of(alloc, vars)?;
+    let versions = versions_of(alloc, vars)?;
+    Ok(Stage {
+        number,
+        values,
+        versions,
+    })
+}

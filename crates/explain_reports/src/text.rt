@@ -1,0 +1,179 @@
+//! What is said of a report, as text.
+
+ghost use Rattle.std.specs.Prelude.{◌≡◌, ◌++◌, OnOk, string_bytes};
+ghost use Rattle.txn_programs.specs.Listing.{always_name};
+ghost use Rattle.text_report_printer.specs.ReportText.{entry_line, variable_line};
+ghost use Rattle.explain_reports.specs.Texts.{back_text, explanation_text, flaw_text, front_text, kind_text, tx_name, variable_name, what_text};
+
+use crate::explaining::Explanation;
+use crate::flaw::Flaw;
+use std::alloc::AllocError;
+use std::fmt::Write;
+use text_report_printer::{put_number, put_outcome};
+use text_words::ReadFault;
+use txn::{AlwaysId, Catalogue, Entry, TxId, VarId};
+
+/// A variable's name, or nothing where there is no such variable.
+fn variable_name(catalogue: &Catalogue, i: usize) -> &str
+    ensures { result.now ≡ variable_name catalogue.now i }
+{
+    catalogue.rules();
+    if i < catalogue.initial().len() {
+        catalogue.var_name(VarId(i as u32))
+    } else {
+        ""
+    }
+}
+
+/// A transaction's name, or nothing where there is no such transaction.
+fn tx_name(catalogue: &Catalogue, tx: TxId) -> &str
+    ensures { result.now ≡ tx_name catalogue.now tx }
+{
+    if (tx.0 as usize) < catalogue.tx_count() {
+        catalogue.tx_name(tx)
+    } else {
+        ""
+    }
+}
+
+/// A standing condition's name, or nothing where there is no such condition.
+fn always_name(catalogue: &Catalogue, id: AlwaysId) -> &str
+    ensures { result.now ≡ always_name catalogue.now id }
+{
+    if (id.0 as usize) < catalogue.always().len() {
+        catalogue.always_name(id)
+    } else {
+        ""
+    }
+}
+
+/// Why bytes are the text of no report.
+fn kind_text(kind: ReadFault) -> &'static str
+    ensures { result.now ≡ kind_text kind }
+{
+    match kind {
+        ReadFault::TooLong => "it has more than 8388608 bytes\n",
+        ReadFault::BadByte => "it has a byte that is neither a newline nor printable ASCII\n",
+        ReadFault::Shape => "a line has not the form of the one that stands in its place\n",
+        ReadFault::Name => "a name is not the one that the file has\n",
+        ReadFault::Limit => "a number is larger than may stand in its place\n",
+        ReadFault::Broken => "\n",
+        ReadFault::Memory => "\n",
+    }
+}
+
+fn put_variable(
+    out: &mut String,
+    catalogue: &Catalogue,
+    i: usize,
+    value: i64,
+    version: u64,
+) -> Result<(), AllocError>
+    ensures { OnOk result (string_bytes out.new ≡ string_bytes out.old ++ variable_line (variable_name catalogue.now i) (value, version)) }
+{
+    out.push_str(variable_name(catalogue, i))?;
+    writeln!(out, " {value} {version}")?;
+    Ok(())
+}
+
+fn put_entry(out: &mut String, catalogue: &Catalogue, entry: &Entry) -> Result<(), AllocError>
+    ensures { OnOk result (string_bytes out.new ≡ string_bytes out.old ++ entry_line catalogue.now entry.now) }
+{
+    let number = entry.number;
+    let task = entry.task.0;
+    write!(out, "entry {number} {task} ")?;
+    out.push_str(tx_name(catalogue, entry.tx))?;
+    out.push_str(" ")?;
+    put_outcome(out, catalogue, entry.outcome)?;
+    out.push_str("\n")
+}
+
+/// The words before what is so in place of what a line says.
+#[tactic(auto, unfolding(crate::specs::Texts::front_text))]
+fn front_text(flaw: Flaw) -> &'static str
+    ensures { result.now ≡ front_text flaw }
+{
+    match flaw {
+        Flaw::Untrue(_) => "the standing condition ",
+        Flaw::Opening(..) => "the file has ",
+        Flaw::Late(_) => "no version is above the number of the base\n",
+        Flaw::Entry(..) => "replay has ",
+        Flaw::Number(_) => "replay has ",
+        Flaw::Present(..) => "replay has ",
+        Flaw::NotOwn(..) => "the task runs ",
+        Flaw::Again(_) => "the task stands on a line before\n",
+        Flaw::Falls(_) => "the task is not larger than that of the line before\n",
+        Flaw::Count => "the base and the lines do not add up to the tasks of the file\n",
+        Flaw::Ends(..) => "the task does not wait: ",
+    }
+}
+
+/// The words behind it.
+#[tactic(auto, unfolding(crate::specs::Texts::back_text))]
+fn back_text(flaw: Flaw) -> &'static str
+    ensures { result.now ≡ back_text flaw }
+{
+    match flaw {
+        Flaw::Untrue(_) => " is not true of these values\n",
+        Flaw::NotOwn(..) => "\n",
+        Flaw::Ends(..) => "\n",
+        Flaw::Opening(..) => "",
+        Flaw::Late(_) => "",
+        Flaw::Entry(..) => "",
+        Flaw::Number(_) => "",
+        Flaw::Present(..) => "",
+        Flaw::Again(_) => "",
+        Flaw::Falls(_) => "",
+        Flaw::Count => "",
+    }
+}
+
+fn put_what(out: &mut String, catalogue: &Catalogue, flaw: Flaw) -> Result<(), AllocError>
+    ensures { OnOk result (string_bytes out.new ≡ string_bytes out.old ++ what_text catalogue.now flaw) }
+{
+    match flaw {
+        Flaw::Untrue(id) => out.push_str(always_name(catalogue, id)),
+        Flaw::Opening(i, value) => put_variable(out, catalogue, i, value, 0),
+        Flaw::Entry(_, due) => put_entry(out, catalogue, &due),
+        Flaw::Number(number) => put_number(out, "now", number),
+        Flaw::Present(i, value, version) => put_variable(out, catalogue, i, value, version),
+        Flaw::NotOwn(_, tx) => out.push_str(tx_name(catalogue, tx)),
+        Flaw::Ends(_, ending) => put_outcome(out, catalogue, ending),
+        Flaw::Late(_) => Ok(()),
+        Flaw::Again(_) => Ok(()),
+        Flaw::Falls(_) => Ok(()),
+        Flaw::Count => Ok(()),
+    }
+}
+
+/// Puts what is so in place of what a line says behind the text.
+fn put_flaw(out: &mut String, catalogue: &Catalogue, flaw: Flaw) -> Result<(), AllocError>
+    ensures { OnOk result (string_bytes out.new ≡ string_bytes out.old ++ flaw_text catalogue.now flaw) }
+{
+    out.push_str(front_text(flaw))?;
+    put_what(out, catalogue, flaw)?;
+    out.push_str(back_text(flaw))
+}
+
+/// Puts what is said of a report behind the text: the verdict's line, and where it is not `good`,
+/// why the bytes are no report, or the line, with its number and text, and what is so in its place.
+pub fn put_explanation(
+    out: &mut String,
+    catalogue: &Catalogue,
+    explanation: Explanation<'_>,
+) -> Result<(), AllocError>
+    ensures { OnOk result (string_bytes out.new ≡ string_bytes out.old ++ explanation_text catalogue.now explanation.entry) }
+{
+    out.push_str(explanation.verdict().line())?;
+    match explanation {
+        Explanation::Good => Ok(()),
+        Explanation::Unread(kind) => out.push_str(kind_text(kind)),
+        Explanation::Bad(line, flaw) => {
+            let number = line.number;
+            write!(out, "line {number}: ")?;
+            out.push_str(line.text)?;
+            out.push_str("\n")?;
+            put_flaw(out, catalogue, flaw)
+        }
+    }
+}

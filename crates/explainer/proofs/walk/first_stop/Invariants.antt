@@ -1,9 +1,0 @@
-use Rattle.std.proofs.Common.{◌≤◌, ◌-◌, length}
-use Rattle.explainer.proofs.Walked.{Reached}
-use Rattle.explainer.proofs.walk.first_stop.Given as goal
-
-abbrev pub invariant-tokens : goal.invariant-tokens
-invariant-tokens l = record { bound : l.at ≤ length l.bytes; reached : Reached l.bytes l.at l.stack.items }
-
-abbrev pub decreases-tokens : goal.decreases-tokens
-decreases-tokens l = length l.bytes - l.at

@@ -1,9 +1,0 @@
-use Rattle.std.proofs.Common.{◌≡◌, drop}
-use Rattle.file_grammar.specs.Resolving.{each, run_in}
-use Rattle.file_resolver.specs.Texts.{texts}
-use Rattle.file_grammar.specs.View.{view_pairs}
-use Rattle.file_resolver.proofs.Each.{joined}
-use Rattle.file_resolver.proofs.resolve.runs.Given as goal
-
-abbrev pub invariant-pairs : goal.invariant-pairs
-invariant-pairs l = joined l.made.items (each (run_in (texts l.names.keys)) (view_pairs (drop l.pair-index l.pairs))) ≡ each (run_in (texts l.names.keys)) (view_pairs l.pairs)

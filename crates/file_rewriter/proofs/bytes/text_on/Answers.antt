@@ -1,7 +1,0 @@
-use Rattle.std.proofs.Common.{◌≡◌, IfOk, subst, string_bytes}
-use Rattle.programs.specs.Listing.{Listing}
-use Rattle.file_rewriter.specs.Printing.{IsTextOf}
-use Rattle.file_rewriter.proofs.bytes.text_on.Goals as goal
-
-pub returns : goal.returns
-returns c = subst (λ (l : Listing). IfOk c.text_of.result (λ text. IsTextOf l (string_bytes text))) c.in_ok-next.ensures c.text_of.ensures

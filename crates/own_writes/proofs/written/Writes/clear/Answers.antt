@@ -1,5 +1,0 @@
-use Rattle.own_writes.proofs.OwnTable.{listed_nothing}
-use Rattle.own_writes.proofs.written.Writes.clear.Goals as goal
-
-pub returns-clause-writes : goal.returns-clause-writes
-returns-clause-writes c = listed_nothing c.forget.new.table c.forget.ensures.nothing

@@ -1,0 +1,158 @@
+//! From the bytes of a file to the bytes of its canonical text.
+
+ghost use Rattle.std.specs.Prelude.{◌≡◌, ◌+◌, ◌<◌, ◌^◌, true, IfOk, OnOk, IfErr, string_bytes};
+ghost use Rattle.txn_programs.specs.Told.{told};
+ghost use Rattle.txn_programs.specs.LawfulReport.{LawfulReport};
+ghost use Rattle.txn_text.specs.Spelling.{Spells};
+ghost use Rattle.print_files.specs.GoingOn.{going_on};
+ghost use Rattle.run_faults.specs.Failures.{output_failures};
+ghost use Rattle.run_faults.specs.declared.fault.RunFault.TheVariants as RunFault;
+ghost use Rattle.checker.specs.declared.verdict.Verdict.{Verdict as VerdictOf};
+ghost use Rattle.print_files.specs.Printing.{IsAnswer, IsPrinted, IsTextOf, IsRefused, Printed, PrintedOn};
+
+use crate::judge::{Judgement, judged};
+use crate::next::going_on;
+use checker::Verdict;
+use run_faults::RunFault;
+use run_sink::{Sink, put_all};
+use std::alloc::Global;
+use txn::{Catalogue, Memory, Report};
+use txn_text::{ReadFault, print_file, read_file};
+
+/// Writes the canonical text of the file that the bytes spell to the sink. Comments are no part of
+/// it.
+///
+/// `Ok`: exactly that text was written, and then flushed. `Input`: the bytes spell no file, and this
+/// is the first kind of fault that they have; nothing was written. `Memory`: a growth was refused;
+/// nothing was written. `Output`: a call of the sink failed, the only one, and a beginning of that
+/// text was written.
+pub fn print_bytes<S: Sink>(alloc: Global, bytes: &[u8], sink: &mut S) -> Result<(), RunFault>
+    requires { S.failed sink.old < 2 ^ 63 }
+    ensures printed { Printed bytes.now (S.bytes sink.old) (S.bytes sink.new) result }
+    ensures flushed { OnOk result (S.flushed sink.new ≡ true) }
+    ensures failures { S.failed sink.new ≡ S.failed sink.old + output_failures result }
+{
+    match printed(alloc, bytes) {
+        Ok(text) => match put_all(sink, text.as_bytes()) {
+            Ok(()) => Ok(()),
+            Err(_) => Err(RunFault::Output),
+        },
+        Err(fault) => Err(fault),
+    }
+}
+
+/// Writes the canonical text of the file that goes on where a report ended to the sink: each
+/// variable begins at the value that it has at the report's present, and all else is as the first
+/// bytes spell it. A report that is not lawful for the file is answered by its verdict, and the
+/// verdict's line is written.
+///
+/// `Ok(Good)`: exactly that text was written, and then flushed. `Ok(Bad(part))`: this part of the
+/// report fails first; `bad` and its number were written, and then flushed. `Err` as of
+/// `print_bytes`.
+pub fn print_on_bytes<S: Sink>(
+    alloc: Global,
+    bytes: &[u8],
+    report: &[u8],
+    sink: &mut S,
+) -> Result<Verdict, RunFault>
+    requires { S.failed sink.old < 2 ^ 63 }
+    ensures printed { PrintedOn bytes.now report.now (S.bytes sink.old) (S.bytes sink.new) result }
+    ensures flushed { OnOk result (S.flushed sink.new ≡ true) }
+    ensures failures { S.failed sink.new ≡ S.failed sink.old + output_failures result }
+{
+    match answered(alloc, bytes, report) {
+        Ok((verdict, text)) => match put_all(sink, text.as_bytes()) {
+            Ok(()) => Ok(verdict),
+            Err(_) => Err(RunFault::Output),
+        },
+        Err(fault) => Err(fault),
+    }
+}
+
+/// The catalogue that the bytes spell.
+fn catalogue_of(alloc: Global, bytes: &[u8]) -> Result<Catalogue, RunFault>
+    ensures spelled { IfOk result (λ c. Spells bytes.now c) }
+    ensures refused { IfErr result (IsRefused bytes.now) }
+{
+    match read_file(alloc, bytes) {
+        Ok(catalogue) => Ok(catalogue),
+        Err(ReadFault::Memory) => Err(RunFault::Memory),
+        Err(kind) => Err(RunFault::Input(kind)),
+    }
+}
+
+/// The canonical text of a catalogue.
+fn text_of(alloc: Global, catalogue: &Catalogue) -> Result<String, Memory>
+    ensures { IfOk result (λ text. IsTextOf catalogue.now (string_bytes text)) }
+{
+    print_file(alloc, catalogue)
+}
+
+/// The canonical text of the catalogue, or that there was no memory for it.
+fn text_or_fault(alloc: Global, catalogue: &Catalogue) -> Result<String, RunFault>
+    ensures text { IfOk result (λ text. IsTextOf catalogue.now (string_bytes text)) }
+    ensures refused { IfErr result (λ fault. fault ≡ RunFault.Memory) }
+{
+    match text_of(alloc, catalogue) {
+        Ok(text) => Ok(text),
+        Err(_) => Err(RunFault::Memory),
+    }
+}
+
+/// The canonical text of the file that the bytes spell.
+fn printed(alloc: Global, bytes: &[u8]) -> Result<String, RunFault>
+    ensures printed { IfOk result (λ text. IsPrinted bytes.now (string_bytes text)) }
+    ensures refused { IfErr result (IsRefused bytes.now) }
+{
+    match catalogue_of(alloc, bytes) {
+        Ok(catalogue) => text_or_fault(alloc, &catalogue),
+        Err(fault) => Err(fault),
+    }
+}
+
+/// The canonical text of the file that goes on where the report ended.
+fn text_on(alloc: Global, catalogue: &Catalogue, report: &Report) -> Result<String, Memory>
+    requires { LawfulReport catalogue.now (told report.now) }
+    ensures { IfOk result (λ text. IsTextOf (going_on catalogue.now (told report.entry.now)) (string_bytes text)) }
+{
+    let next = going_on(alloc, catalogue, report)?;
+    text_of(alloc, &next)
+}
+
+/// The verdict on the report, and what is written of it.
+fn answered(alloc: Global, bytes: &[u8], report: &[u8]) -> Result<(Verdict, String), RunFault>
+    ensures answered { IfOk result (λ x. IsAnswer bytes.now report.now x.0 (string_bytes x.1)) }
+    ensures refused { IfErr result (IsRefused bytes.now) }
+{
+    match catalogue_of(alloc, bytes) {
+        Ok(catalogue) => answered_of(alloc, bytes, &catalogue, report),
+        Err(fault) => Err(fault),
+    }
+}
+
+/// The verdict on the report of the catalogue that the bytes spell, and what is written of it.
+fn answered_of(
+    alloc: Global,
+    bytes: &[u8],
+    catalogue: &Catalogue,
+    report: &[u8],
+) -> Result<(Verdict, String), RunFault>
+    requires { Spells bytes.now catalogue.now }
+    ensures answered { IfOk result (λ x. IsAnswer bytes.now report.now x.0 (string_bytes x.1)) }
+    ensures refused { IfErr result (λ fault. fault ≡ RunFault.Memory) }
+{
+    match judged(alloc, bytes, catalogue, report) {
+        Ok(Judgement::Lawful(report)) => match text_on(alloc, catalogue, &report) {
+            Ok(text) => Ok((Verdict::Good, text)),
+            Err(_) => Err(RunFault::Memory),
+        },
+        Ok(Judgement::Bad(part)) => {
+            let verdict = Verdict::Bad(part);
+            match String::from_str(alloc, verdict.line()) {
+                Ok(line) => Ok((verdict, line)),
+                Err(_) => Err(RunFault::Memory),
+            }
+        }
+        Err(_) => Err(RunFault::Memory),
+    }
+}

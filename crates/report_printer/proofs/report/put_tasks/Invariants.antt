@@ -1,7 +1,0 @@
-use Rattle.std.proofs.Common.{◌≡◌, ◌++◌, take, string_bytes}
-use Rattle.std.specs.List.{flat_map}
-use Rattle.report_printer.specs.ReportText.{task_line}
-use Rattle.report_printer.proofs.report.put_tasks.Given as goal
-
-abbrev pub invariant-tasks : goal.invariant-tasks
-invariant-tasks l = string_bytes l.out ≡ string_bytes l.fn.out ++ flat_map (task_line l.catalogue l.kind) (take l.task-index l.tasks)

@@ -1,8 +1,0 @@
-use Rattle.std.proofs.Common.{◌≡◌, drop}
-use Rattle.report_reader.specs.Resolving.{each, entry_told}
-use Rattle.report_reader.specs.View.{view_entries}
-use Rattle.report_reader.proofs.Each.{joined}
-use Rattle.report_reader.proofs.resolve.entries_told.Given as goal
-
-abbrev pub invariant-entries : goal.invariant-entries
-invariant-entries l = joined l.made.items (each (entry_told l.catalogue) (view_entries (drop l.e-index l.entries))) ≡ each (entry_told l.catalogue) (view_entries l.entries)

@@ -1,8 +1,0 @@
-use Rattle.std.proofs.Common.{◌≡◌, drop}
-use Rattle.report_reader.specs.Resolving.{each, task_told}
-use Rattle.report_reader.specs.View.{view_tasks}
-use Rattle.report_reader.proofs.Each.{joined}
-use Rattle.report_reader.proofs.resolve.tasks_told.Given as goal
-
-abbrev pub invariant-tasks : goal.invariant-tasks
-invariant-tasks l = joined l.made.items (each (task_told l.catalogue) (view_tasks (drop l.t-index l.tasks))) ≡ each (task_told l.catalogue) (view_tasks l.tasks)

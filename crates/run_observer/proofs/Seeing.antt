@@ -1,0 +1,123 @@
+-- The pass while a transaction is observed, and the end of the attempt.
+use Rattle.std.proofs.Common.{◌≡◌, ◌≢◌, ◌∙◌, ℕ, zero, suc, ◌+◌, ◌<◌, ◌≤◌, ℤ, List, [], ◌∷◌, length, None, ap, subst, sym, refl, inl, inr, arith}
+use Rattle.txn_programs.specs.declared.ast.Outcome.{Outcome}
+use Rattle.txn_programs.specs.declared.ast.TxId.{TxId}
+use Rattle.txn_programs.specs.declared.ast.VarId.{VarId}
+use Rattle.txn_programs.specs.Listing.{Listing, program_at}
+use Rattle.txn_programs.specs.Meaning.{State, value_at, outcome}
+use Rattle.txn_programs.specs.Tree.{Program}
+use Rattle.txn_words.specs.Words.{value_of, state_of, StartsWith}
+use Rattle.txn_words.specs.Stores.{id_of, new_of}
+use Rattle.txn_words.proofs.Words.{starts_on, seen_state, seen_shorter}
+use Rattle.attempt.specs.Asking.{Known, known_at}
+use Rattle.attempt.specs.Frame.{Agrees}
+use Rattle.attempt.specs.Order.{AllKnown, Apart}
+use Rattle.attempt.specs.View.{AttemptView, supplied}
+use Rattle.cells.specs.Passing.{Passing, at, BeginsBy, ReadsBy}
+use Rattle.cells.specs.Answers.{AgreesUpTo}
+use Rattle.book.proofs.Logs.{Going, agrees_more, known_more, apart_more, few_more, few_apart}
+use Rattle.run_observer.specs.Observing.{ObservesBy, ShowsChange, IsStaleFrom, TellsBy, MovesOn, ShowsOther, IsCutFrom}
+
+-- a read leaves the state of the last begin or extension
+pub at_stays : (p q : Passing) (x : ℕ) → ReadsBy p q x → at q ≡ at p
+at_stays p q x h = ap (λ (s : List (List ℤ)). state_of s q.rv) h.seen ∙ ap (state_of p.seen) h.rv
+
+-- the outcome of an attempt's program is that of the transaction
+pub ends : (l : Listing) (tx : TxId) (t : Program) (m : State) (o : Outcome) → t ≡ program_at l tx → outcome t m ≡ o → outcome (program_at l tx) m ≡ o
+ends l tx t m o own h = ap (λ (u : Program). outcome u m) (sym own) ∙ h
+
+-- a log's variables, by their places
+pub known_each : (n : ℕ) (log : Known) → AllKnown n log → (i : ℕ) → i < length log → id_of log i < n
+known_each n [] k i low = absurd (omega (arith, low))
+known_each n (p ∷ rest) k zero low = k.0
+known_each n (p ∷ rest) k (suc i) low = known_each n rest k.1 i (omega (arith, low))
+
+-- a log that agrees with a state, by its places, and back
+pub agrees_each : (log : Known) (m : State) → Agrees log m → (i : ℕ) → i < length log → value_of m (id_of log i) ≡ new_of log i
+agrees_each [] m h i low = absurd (omega (arith, low))
+agrees_each (p ∷ rest) m h zero low = h.0
+agrees_each (p ∷ rest) m h (suc i) low = agrees_each rest m h.1 i (omega (arith, low))
+
+pub agrees_all : (log : Known) (m : State) → AgreesUpTo log m (length log) → Agrees log m
+agrees_all [] m h = tt
+agrees_all (p ∷ rest) m h = (h zero (omega arith), agrees_all rest m (λ i low. h (suc i) (omega (arith, low))))
+
+-- the pass p began, and moved at most n times since
+pub record Moving (p q : Passing) (n : ℕ) : Type 0 where
+  pub cells : q.cells ≡ p.cells
+  pub seen : StartsWith q.seen p.seen
+  pub begins : p.clock_loads < q.clock_loads
+  pub moves : q.clock_loads ≤ p.clock_loads + 1 + n
+  pub rv : length q.seen ≡ q.rv + 1
+
+pub moving_first : (p q : Passing) → BeginsBy p q → Moving p q 0
+moving_first p q h =
+    record { cells = h.cells; seen = h.seen; begins = omega (arith, h.clock_loads); moves = omega (arith, h.clock_loads); rv = h.rv }
+
+pub moving_more : (p q r : Passing) (n k : ℕ) (log : Known) → Moving p q n → TellsBy q r log → k ≡ n + 1 → Moving p r k
+moving_more p q r n k log h t e = elim t.moment [
+  | inl stays ↦ record {
+    cells = t.cells ∙ h.cells;
+    seen = starts_on r.seen q.seen p.seen t.seen h.seen;
+    begins = omega (arith, h.begins, stays.0);
+    moves = omega (arith, h.moves, stays.0, e);
+    rv = ap length stays.1 ∙ (h.rv ∙ ap (λ (k : ℕ). k + 1) (sym stays.2));
+  }
+  | inr moves ↦ record {
+    cells = t.cells ∙ h.cells;
+    seen = starts_on r.seen q.seen p.seen t.seen h.seen;
+    begins = omega (arith, h.begins, moves.0);
+    moves = omega (arith, h.moves, moves.0, e);
+    rv = moves.1;
+  }
+]
+
+pub moving_few : (p q : Passing) (n : ℕ) → Moving p q n → n ≤ q.cells.variables → ObservesBy p q
+moving_few p q n h few = record { cells = h.cells; seen = h.seen; begins = h.begins; moves = omega (arith, h.moves, few); rv = h.rv }
+
+-- what a log has of a state differs from the last state, so that state is an earlier one
+other_changed : (p q r : Passing) (n : ℕ) (log : Known) → Moving p q n → Agrees log (at q) → TellsBy q r log → MovesOn q r → ShowsOther r log → ShowsChange p r
+other_changed p q r n log h g t moves (i, low, is, other) =
+    let was : state_of r.seen q.rv ≡ at q = seen_state r.seen q.seen q.rv t.seen (omega (arith, h.rv)) in
+    let before : value_of (state_of r.seen q.rv) (id_of log i) ≡ new_of log i = ap (λ m. value_of m (id_of log i)) was ∙ agrees_each log (at q) g i low in
+    let apart : r.rv ≢ q.rv = λ e. other (ap (λ k. value_of (state_of r.seen k) (id_of log i)) e ∙ before) in (
+      q.rv,
+      omega (arith, seen_shorter q.seen p.seen h.seen, h.rv),
+      omega (arith, seen_shorter r.seen q.seen t.seen, h.rv, moves.1, apart),
+      λ e. other (ap (value_of (at r)) (sym is) ∙ (e ∙ (ap (value_of (state_of r.seen q.rv)) is ∙ before))),
+    )
+
+pub cut_stale : (p q r : Passing) (n : ℕ) (log : Known) → Moving p q n → Agrees log (at q) → TellsBy q r log → IsCutFrom q r log → IsStaleFrom p r
+cut_stale p q r n log h g t (moves, closed, why) = (
+  closed,
+  omega (arith, h.begins, moves.0),
+  elim why [
+    | inl loads ↦ inl loads
+    | inr other ↦ inr (other_changed p q r n log h g t moves other)
+  ],
+)
+
+-- an attempt that was told one more variable goes on in the state to which the pass moved
+pub going_told : (l : Listing) (tx : TxId) (m m' : State) (b b' : AttemptView) (x : VarId) (v : ℤ) → x.0 < length l.initial → known_at b.log x ≡ None → b' ≡ supplied b x v → (Agrees b.log m → Agrees b'.log m') → Going l tx m b → Going l tx m' b'
+going_told l tx m m' b b' x v low new is agrees h =
+    record {
+      program = ap (λ (s : AttemptView). s.program) is ∙ h.program;
+      variables = ap (λ (s : AttemptView). s.variables) is ∙ h.variables;
+      agrees = agrees h.agrees;
+      apart = subst (λ (s : AttemptView). Apart s.log) (sym is) (apart_more b.log x v h.apart new);
+      known = subst (λ (s : AttemptView). AllKnown (length l.initial) s.log) (sym is) (known_more (length l.initial) b.log x v h.known low);
+    }
+
+-- an attempt that was told the value of a state agrees with it on
+pub agrees_told : (b b' : AttemptView) (m : State) (x : VarId) → b' ≡ supplied b x (value_at m x) → Agrees b.log m → Agrees b'.log m
+agrees_told b b' m x is h = subst (λ (s : AttemptView). Agrees s.log m) (sym is) (agrees_more b.log m x (value_at m x) h refl)
+
+-- what an attempt needs is not in its log, so the log has room for it
+pub room_for : (l : Listing) (tx : TxId) (m : State) (b : AttemptView) (x : VarId) → Going l tx m b → x.0 < b.variables → known_at b.log x ≡ None → (x.0 < length l.initial) × (length b.log < length l.initial)
+room_for l tx m b x h low new =
+    let known : x.0 < length l.initial = omega (arith, low, h.variables) in
+    (known, few_more (length l.initial) b.log x (value_at m x) h.apart h.known new known)
+
+-- so a pass that moved at most once for each variable of the log did so for each variable at most
+pub observes : (l : Listing) (tx : TxId) (m : State) (a : AttemptView) (p q : Passing) → Going l tx m a → Moving p q (length a.log) → q.cells.variables ≡ length l.initial → ObservesBy p q
+observes l tx m a p q g h wide = moving_few p q (length a.log) h (omega (arith, few_apart (length l.initial) a.log g.apart g.known, wide))

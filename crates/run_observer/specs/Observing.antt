@@ -1,0 +1,62 @@
+-- What observing a transaction says, and what telling an attempt what it needs does.
+use Rattle.std.specs.Prelude.{◌≡◌, ◌≢◌, ◌⊎◌, ℕ, ◌+◌, ◌*◌, ◌<◌, ◌≤◌, true, false, length}
+use Rattle.txn_programs.specs.declared.ast.TxId.{TxId}
+use Rattle.txn_programs.specs.Listing.{Listing, program_at}
+use Rattle.txn_programs.specs.Meaning.{outcome}
+use Rattle.txn_words.specs.Words.{value_of, state_of, StartsWith}
+use Rattle.txn_words.specs.Stores.{id_of, new_of}
+use Rattle.txn_words.specs.Loads.{ShowsStale}
+use Rattle.attempt.specs.Asking.{Known}
+use Rattle.cells.specs.Passing.{Passing, at}
+use Rattle.run_observer.specs.declared.observation.Observed.{Observed}
+use Rattle.run_observer.specs.declared.observation.Observed.TheVariants.{Outcome, Stale, Memory}
+
+-- From the pass p to q, one clock load began it anew, and it moved at most once for each variable. It sees a history
+-- that begins with what it saw, and is at that history's last state, whose number the last clock load gave.
+pub record ObservesBy (p q : Passing) : Type 0 where
+  pub cells : q.cells ≡ p.cells
+  pub seen : StartsWith q.seen p.seen
+  pub begins : p.clock_loads < q.clock_loads
+  pub moves : q.clock_loads ≤ p.clock_loads + 1 + q.cells.variables
+  pub rv : length q.seen ≡ q.rv + 1
+
+-- The variable that was read last has another value in the present state than in an earlier one, which is no older than
+-- the last that the pass p had seen.
+abbrev pub ShowsChange : Passing → Passing → Type 0
+ShowsChange p q = (n : ℕ) × (length p.seen ≤ n + 1) × (n < q.rv)
+    × (value_of (at q) q.variable ≢ value_of (state_of q.seen n) q.variable)
+
+-- A stale answer closed the pass, after it began and tried to move: the loads of its last read show why, or the value
+-- that they gave does.
+abbrev pub IsStaleFrom : Passing → Passing → Type 0
+IsStaleFrom p q = (q.open_now ≡ false) × (p.clock_loads + 2 ≤ q.clock_loads) × (ShowsStale q.rv q.loads ⊎ ShowsChange p q)
+
+-- An outcome is that of the transaction on the state at which the pass is in the end.
+abbrev pub IsObserved : Listing → TxId → Passing → Passing → Observed → Type 0
+IsObserved l tx p q (Outcome o) = (outcome (program_at l tx) (at q) ≡ o) × (q.open_now ≡ true)
+IsObserved l tx p q Stale = IsStaleFrom p q
+IsObserved l tx p q Memory = q.open_now ≡ true
+
+-- the pass is where it was
+abbrev pub StaysAt : Passing → Passing → Type 0
+StaysAt p q = (q.clock_loads ≡ p.clock_loads) × (q.seen ≡ p.seen) × (q.rv ≡ p.rv)
+
+-- by one clock load the pass is at the last state that it has seen
+abbrev pub MovesOn : Passing → Passing → Type 0
+MovesOn p q = (q.clock_loads ≡ p.clock_loads + 1) × (length q.seen ≡ q.rv + 1)
+
+-- From the pass p to q, a variable was read, and where that was stale, the pass was extended by the log, and the
+-- variable read once more.
+pub record TellsBy (p q : Passing) (log : Known) : Type 0 where
+  pub cells : q.cells ≡ p.cells
+  pub seen : StartsWith q.seen p.seen
+  pub word_loads : q.word_loads ≤ p.word_loads + 3 * (length log + 2)
+  pub moment : StaysAt p q ⊎ MovesOn p q
+
+-- the variable that was read last has another value than the log has
+abbrev pub ShowsOther : Passing → Known → Type 0
+ShowsOther q log = (i : ℕ) × (i < length log) × (q.variable ≡ id_of log i) × (value_of (at q) (id_of log i) ≢ new_of log i)
+
+-- The pass q is closed, after it was to move: the loads of its last read show why, or the value that they gave does.
+abbrev pub IsCutFrom : Passing → Passing → Known → Type 0
+IsCutFrom p q log = MovesOn p q × (q.open_now ≡ false) × (ShowsStale q.rv q.loads ⊎ ShowsOther q log)

@@ -1,0 +1,11 @@
+use Rattle.std.proofs.Common.{◌∙◌}
+use Rattle.run_workers.proofs.Journals.{finish_short}
+use Rattle.run_workers.proofs.shared.end.Goals as goal
+
+pub invariant_of-named-in-Committed : goal.invariant_of-named-in-Committed
+invariant_of-named-in-Committed g c =
+    let named = c.args.named.now in
+    record {
+      of_catalogue = c.keep_short.ensures.catalogue ∙ (c.in-Committed.ensures.catalogue ∙ named.of_catalogue);
+      short = finish_short c.args.every g.N.Naming.every c.requires.every named.book c.law.ensures.lawful named.short _ _ c.args.task c.in-Committed.number c.in-Committed.ensures.finished.4 c.keep_short.ensures.kept_short;
+    }

@@ -1,0 +1,5 @@
+use Rattle.run_workers.proofs.tasks.run_tasks.Given as goal
+
+-- the run is of this catalogue, and has these checkpoints
+abbrev pub ghosts-run_named : goal.ghosts-run_named
+ghosts-run_named g a = record { catalogue = a.catalogue.now; every = a.options.checkpoint }

@@ -1,0 +1,207 @@
+//! The book behind its lock: one function for each time under the lock.
+//!
+//! What a lock holds is known by its type alone. So the type says of which catalogue the book is, and
+//! how short its journal is kept: a run picks a name, and the name has the run's catalogue and after
+//! how many entries a checkpoint is made.
+
+ghost use Rattle.std.specs.Prelude.{◌≡◌, ◌≢◌, ◌<◌, ℕ, [], ◌∷◌, length, IfOk, IfSome, Option, Some};
+ghost use Rattle.std.specs.Coded.{codes};
+ghost use Rattle.txn.specs.Codes.{coded_listing};
+ghost use Rattle.txn_programs.specs.Listing.{Listing, tasks};
+ghost use Rattle.txn_programs.specs.Told.{told};
+ghost use Rattle.txn_programs.specs.LawfulReport.{LawfulReport, BaseReached};
+ghost use Rattle.book.specs.Turns.{IsEndOf, IsIdle, ReportIs};
+ghost use Rattle.run_workers.specs.Journals.{IsShort, KeepsShort};
+ghost use Rattle.run_workers.specs.declared.shared.Tried.TheVariants.{Passed};
+
+use crate::waiting::lock;
+use attempt::Attempt;
+use book::{Book, Finish, Serial};
+use cells::{Cells, Publisher};
+use std::alloc::Global;
+use std::marker::{Brand, PhantomData};
+use std::sync::{Mutex, Wait};
+use txn::{Catalogue, Memory, Report, TaskId};
+
+/// Which catalogue a run is of, and after how many entries a checkpoint is made, 0 for never. Each
+/// run picks both.
+pub(crate) trait Naming: Send {
+    ghost catalogue: { Listing };
+
+    ghost every: { ℕ };
+}
+
+impl Naming for Brand {
+    ghost catalogue = { record { names = []; initial = []; always = []; transactions = []; runs = [] } };
+
+    ghost every = { 0 };
+}
+
+/// A book of the run's catalogue, with a journal as short as the run keeps it.
+#[derive(Drop)]
+pub(crate) struct Named<'a, N: Naming> {
+    book: Book<'a>,
+    of: PhantomData<N>,
+    ghost of_catalogue: { book.catalogue ≡ N.catalogue } by { Prim.hlevel (codes, coded_listing) },
+    ghost short: { IsShort N.every book.base.number (length book.journal) },
+}
+
+/// How a try ended.
+#[derive(Clone, Copy, Debug, PartialEq, Eq)]
+pub(crate) enum Tried {
+    /// The task is committed, parked or given up.
+    Over,
+    /// The task is committed or parked, and at the same time under the lock the next one was taken,
+    /// if one was ready.
+    Passed(Option<TaskId>),
+    /// The task was not running.
+    NotRunning,
+    /// What was read is no longer so. The task is still running.
+    Stale,
+    /// A growth was refused. The task is still running.
+    Memory,
+}
+
+/// The book of the run's catalogue, with its name.
+pub(crate) fn open<'a, N: Naming>(
+    alloc: Global,
+    catalogue: &'a Catalogue,
+    cells: &'a Cells,
+    publisher: Publisher,
+) -> Result<Named<'a, N>, Memory>
+    requires named { catalogue.now ≡ N.catalogue }
+    requires own { publisher.cells ≡ cells.now }
+    requires unused { publisher.history ≡ catalogue.now.initial ∷ [] }
+{
+    let book = Book::open(alloc, catalogue, cells, publisher)?;
+    Ok(Named {
+        book,
+        of: PhantomData,
+    })
+}
+
+/// Takes a task of the run's catalogue, the lowest ready one. `None` if none is ready.
+pub(crate) fn take<R: Wait, N: Naming>(rt: &R, shared: &Mutex<Named<'_, N>>) -> Option<TaskId>
+    ensures { IfSome result (λ t. t.0 < length (tasks N.catalogue)) }
+{
+    let mut named = lock(rt, shared);
+    next(&mut named)
+}
+
+/// The lowest ready task, which is then running.
+fn next<N: Naming>(named: &mut Named<'_, N>) -> Option<TaskId>
+    ensures { IfSome result (λ t. t.0 < length (tasks N.catalogue)) }
+{
+    let book = &mut named.book;
+    book.law();
+    book.take()
+}
+
+/// Gives a task up.
+pub(crate) fn give_up<R: Wait, N: Naming>(rt: &R, shared: &Mutex<Named<'_, N>>, task: TaskId)
+    requires { task.0 < length (tasks N.catalogue) }
+{
+    let mut named = lock(rt, shared);
+    let book = &mut named.book;
+    book.law();
+    book.give_up(task);
+}
+
+/// Brings the end of an attempt to the book; the worker keeps the attempt. Where it goes `on` and
+/// the task is over, it takes the next one before the lock is let go.
+pub(crate) fn finish<R: Wait, N: Naming>(
+    rt: &R,
+    shared: &Mutex<Named<'_, N>>,
+    every: u32,
+    task: TaskId,
+    attempt: &mut Attempt<'_>,
+    on: bool,
+) -> Tried
+    requires every { every ≡ N.every }
+    requires exists { task.0 < length (tasks N.catalogue) }
+    requires ended { IsEndOf N.catalogue task attempt.old }
+    ensures next { (t : TaskId) → result ≡ Passed (Some t) → t.0 < length (tasks N.catalogue) }
+{
+    let mut named = lock(rt, shared);
+    let tried = end(&mut named, every, task, attempt);
+    if on && tried == Tried::Over {
+        return Tried::Passed(next(&mut named));
+    }
+    tried
+}
+
+/// Brings the end of an attempt to the book. A commit that makes the journal long enough is
+/// followed by a checkpoint.
+fn end<N: Naming>(
+    named: &mut Named<'_, N>,
+    every: u32,
+    task: TaskId,
+    attempt: &mut Attempt<'_>,
+) -> Tried
+    requires every { every ≡ N.every }
+    requires exists { task.0 < length (tasks N.catalogue) }
+    requires ended { IsEndOf N.catalogue task attempt.old }
+    ensures { (next : Option TaskId) → result ≢ Passed next }
+{
+    let book = &mut named.book;
+    book.law();
+    match book.finish_lent(task, attempt) {
+        Finish::NotRunning => Tried::NotRunning,
+        Finish::Stale => Tried::Stale,
+        Finish::Parked => Tried::Over,
+        Finish::Committed(number) => {
+            book.keep_short(every, Serial::Committed(number));
+            Tried::Over
+        }
+    }
+}
+
+/// A turn of a task on the present values, under the lock.
+pub(crate) fn serial<R: Wait, N: Naming>(
+    rt: &R,
+    alloc: Global,
+    shared: &Mutex<Named<'_, N>>,
+    every: u32,
+    task: TaskId,
+) -> Tried
+    requires every { every ≡ N.every }
+    requires exists { task.0 < length (tasks N.catalogue) }
+{
+    let mut named = lock(rt, shared);
+    let book = &mut named.book;
+    book.law();
+    let how = book.serial(alloc, task);
+    book.keep_short(every, how);
+    match how {
+        Serial::NotRunning => Tried::NotRunning,
+        Serial::Parked | Serial::Committed(_) | Serial::Abandoned => Tried::Over,
+    }
+}
+
+/// Gives what is left a turn, and tells the book.
+pub(crate) fn settle<N: Naming>(
+    alloc: Global,
+    every: u32,
+    named: Named<'_, N>,
+) -> Result<Report, Memory>
+    requires every { every ≡ N.every }
+    ensures lawful { IfOk result (λ r. LawfulReport N.catalogue (told r)) }
+    ensures reached { IfOk result (λ r. BaseReached N.catalogue (told r)) }
+    ensures short { IfOk result (λ r. KeepsShort N.every (told r)) }
+{
+    let Named { mut book, of: _ } = named;
+    book.law();
+    book.drain(alloc, every);
+    report(alloc, book)
+}
+
+/// The report of a book with no task ready or running, which takes its journal over.
+fn report(alloc: Global, book: Book<'_>) -> Result<Report, Memory>
+    requires { IsIdle book }
+    ensures lawful { IfOk result (λ r. LawfulReport book.entry.catalogue (told r)) }
+    ensures reached { IfOk result (λ r. BaseReached book.entry.catalogue (told r)) }
+    ensures is { IfOk result (λ r. ReportIs book.entry (told r)) }
+{
+    book.law();
+    book.into_report(alloc)
+}

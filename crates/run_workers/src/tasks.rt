@@ -1,0 +1,102 @@
+//! Runs all tasks of a catalogue.
+
+ghost use Rattle.std.specs.Prelude.{◌≡◌, ◌∷◌, [], length, All, IfOk};
+ghost use Rattle.txn_programs.specs.Told.{told, base_of, now_of};
+ghost use Rattle.txn_programs.specs.LawfulReport.{LawfulReport, BaseReached};
+ghost use Rattle.txn_programs.specs.Standing.{Upholds};
+ghost use Rattle.run_workers.specs.Journals.{KeepsShort};
+
+use crate::gate::Gate;
+use crate::shared::{Naming, open, settle};
+use crate::threads::start;
+use crate::worker::{Crew, work};
+use cells::{Cells, Pass, Publisher};
+use run_options::Options;
+use std::alloc::Global;
+use std::marker::Brand;
+use std::sync::{Mutex, Wait};
+use std::thread::Threads;
+use txn::{Catalogue, Memory, Report};
+
+/// Runs the tasks by as many workers as the options say, and reports. `Memory` comes only where a
+/// growth was refused.
+///
+/// The workers read the cells by a pass each, and share the book behind a lock, which publishes to
+/// the cells. When they have ended, the book gives a turn to what is left, and no task is ready or
+/// running when it reports. One worker whose gate is open would do just what these turns do, so
+/// all is left to them. Each standing condition is true of the values that it reports. With a
+/// checkpoint after each N entries the journal has fewer than N, and the base is a multiple of N;
+/// with none the base is 0.
+pub fn run_tasks<R: Threads + Wait + Sync, G: Gate>(
+    rt: &R,
+    alloc: Global,
+    catalogue: &Catalogue,
+    options: Options,
+    gate: &G,
+) -> Result<Report, Memory>
+    ensures lawful { IfOk result (λ r. LawfulReport catalogue.now (told r)) }
+    ensures reached { IfOk result (λ r. BaseReached catalogue.now (told r)) }
+    ensures upheld { IfOk result (λ r. Upholds catalogue.now (base_of (told r)).state × Upholds catalogue.now (now_of (told r)).state) }
+    ensures short { IfOk result (λ r. KeepsShort options.checkpoint (told r)) }
+{
+    let (cells, publisher, passes) = Cells::open(
+        alloc,
+        catalogue.initial(),
+        options.workers() as usize,
+    )?;
+    run_named::<R, G, Brand>(
+        rt, alloc, catalogue, &cells, publisher, passes, options, gate,
+    )
+}
+
+/// Runs the tasks of the catalogue of this name.
+fn run_named<R: Threads + Wait + Sync, G: Gate, N: Naming>(
+    rt: &R,
+    alloc: Global,
+    catalogue: &Catalogue,
+    cells: &Cells,
+    publisher: Publisher,
+    passes: Vec<Pass>,
+    options: Options,
+    gate: &G,
+) -> Result<Report, Memory>
+    requires named { catalogue.now ≡ N.catalogue }
+    requires own { publisher.cells ≡ cells.now }
+    requires unused { publisher.history ≡ catalogue.now.initial ∷ [] }
+    requires passes { All (λ p. p.cells ≡ cells.now) passes.items }
+    requires variables { cells.now.variables ≡ length catalogue.now.initial }
+    requires every { options.checkpoint ≡ N.every }
+    ensures lawful { IfOk result (λ r. LawfulReport catalogue.now (told r)) }
+    ensures reached { IfOk result (λ r. BaseReached catalogue.now (told r)) }
+    ensures short { IfOk result (λ r. KeepsShort options.checkpoint (told r)) }
+{
+    let every = options.checkpoint();
+    let shared = Mutex::new(open::<N>(alloc, catalogue, cells, publisher)?);
+    let crew = Crew {
+        alloc,
+        catalogue,
+        cells,
+        shared: &shared,
+        gate,
+        tries: options.tries(),
+        every,
+    };
+    if options.workers() > 1 || !G::IS_OPEN {
+        run_crew(rt, &crew, passes);
+    }
+    settle(alloc, every, shared.into_inner())
+}
+
+/// Runs a worker for each pass, and waits for them.
+fn run_crew<R: Threads + Wait + Sync, G: Gate, N: Naming>(
+    rt: &R,
+    crew: &Crew<'_, '_, G, N>,
+    passes: Vec<Pass>,
+)
+    requires own { All (λ p. p.cells ≡ crew.now.cells.now) passes.items }
+{
+    let life = |pass: Pass|
+        requires { pass.cells ≡ crew.now.cells.now }
+    { work(rt, crew, pass) };
+    start(rt, &life, passes);
+}

@@ -1,0 +1,53 @@
+//! An attempt of a transaction on what a pass reads.
+
+ghost use Rattle.std.specs.Prelude.{◌≡◌, ◌<◌, length, true, IfErr, OnOk};
+ghost use Rattle.cells.specs.Passing.{at};
+ghost use Rattle.run_observer.specs.Observing.{ObservesBy, IsStaleFrom};
+ghost use Rattle.run_workers.specs.Working.{EndsOver};
+
+use crate::gate::{Gate, Point, stop_at};
+use attempt::{Attempt, Next};
+use cells::{Cells, Pass};
+use run_observer::{Cut, tell};
+use txn::{Catalogue, TaskId, TxId};
+
+/// Restarts the attempt as one of the task's transaction, and brings it to its end on one state of
+/// the cells: that of the begin of the pass, or the last to which the pass moved. The gate is told
+/// of each need before it is read, and of the end.
+///
+/// `Stale` where a read was and the pass could not move, which closed the pass. `Memory` only where
+/// a growth was refused: the pass is open. The pass has to be one of these cells, and the cells
+/// have to have a variable for each of the catalogue's.
+pub(crate) fn attempt_on<'c, G: Gate>(
+    attempt: &mut Attempt<'c>,
+    catalogue: &'c Catalogue,
+    tx: TxId,
+    cells: &Cells,
+    pass: &mut Pass,
+    gate: &G,
+    task: TaskId,
+) -> Result<(), Cut>
+    requires known { tx.0 < length catalogue.now.transactions }
+    requires own { pass.old.cells ≡ cells.now }
+    requires variables { cells.now.variables ≡ length catalogue.now.initial }
+    ensures observes { ObservesBy pass.old pass.new }
+    ensures ended { OnOk result (EndsOver catalogue.now tx (at pass.new) attempt.new) }
+    ensures stale { IfErr result (λ why. why ≡ Cut.Stale → IsStaleFrom pass.old pass.new) }
+    ensures memory { IfErr result (λ why. why ≡ Cut.Memory → pass.new.open_now ≡ true) }
+{
+    pass.begin(cells);
+    attempt.restart(catalogue, tx);
+    loop {
+        match attempt.advance() {
+            Next::Need(x) => {
+                stop_at(gate, Point::Needs, task);
+                tell(attempt, x, cells, pass)?;
+            }
+            Next::Memory => return Err(Cut::Memory),
+            Next::Returned(_) | Next::Thrown(_) | Next::Retry => {
+                stop_at(gate, Point::Ended, task);
+                return Ok(());
+            }
+        }
+    }
+}

@@ -1,0 +1,151 @@
+//! The worker: it takes a task, tries it on what its pass reads, and brings the end to the book.
+//!
+//! It evaluates outside the lock. A try whose pass could not move after a stale read, and an end
+//! that is stale, are each one stale try; after so many of them the task has its turn under the
+//! lock. A try that moved is none.
+
+ghost use Rattle.std.specs.Prelude.{◌≡◌, ◌<◌, length, IfSome, Some};
+ghost use Rattle.std.specs.Coded.{codes};
+ghost use Rattle.txn.specs.Codes.{coded_listing};
+ghost use Rattle.txn_programs.specs.Listing.{tasks};
+ghost use Rattle.run_workers.specs.declared.shared.Tried.TheVariants.{Passed};
+
+use crate::gate::{Gate, Point, stop_at};
+use crate::shared::{Named, Naming, Tried, finish, give_up, serial, take};
+use crate::trying::attempt_on;
+use crate::waiting::rest_after;
+use attempt::Attempt;
+use cells::{Cells, Pass};
+use run_observer::Cut;
+use std::alloc::Global;
+use std::sync::{Mutex, Wait};
+use txn::{Catalogue, TaskId};
+
+/// What the workers of a run share.
+#[derive(Drop)]
+pub(crate) struct Crew<'a, 'b, G: Gate, N: Naming> {
+    pub(crate) alloc: Global,
+    pub(crate) catalogue: &'a Catalogue,
+    pub(crate) cells: &'a Cells,
+    /// The book, behind its lock.
+    pub(crate) shared: &'a Mutex<Named<'b, N>>,
+    pub(crate) gate: &'a G,
+    /// After how many stale tries a task is run under the lock.
+    pub(crate) tries: u32,
+    /// After how many journal entries a checkpoint is made, 0 for never.
+    pub(crate) every: u32,
+    ghost named: { catalogue.now ≡ N.catalogue } by { Prim.hlevel (codes, coded_listing) },
+    ghost kept: { every ≡ N.every },
+    ghost variables: { cells.now.variables ≡ length catalogue.now.initial },
+}
+
+/// The life of a worker: it gives the lowest ready task its tries until none is ready. It has one
+/// attempt for life, which is restarted for each try.
+pub(crate) fn work<R: Wait, G: Gate, N: Naming>(rt: &R, crew: &Crew<'_, '_, G, N>, mut pass: Pass)
+    requires own { pass.cells ≡ crew.now.cells.now }
+{
+    let Some(first) = take(rt, crew.shared) else {
+        return;
+    };
+    let mut attempt = first_attempt(crew, first);
+    serve(rt, crew, &mut pass, &mut attempt, first);
+}
+
+/// Gives the task its tries, and then each next one, until none is ready.
+fn serve<'a, R: Wait, G: Gate, N: Naming>(
+    rt: &R,
+    crew: &Crew<'a, '_, G, N>,
+    pass: &mut Pass,
+    attempt: &mut Attempt<'a>,
+    first: TaskId,
+)
+    requires exists { first.0 < length (tasks N.catalogue) }
+    requires own { pass.old.cells ≡ crew.now.cells.now }
+{
+    let mut task = first;
+    for _ in rt.forever() {
+        stop_at(crew.gate, Point::Taken, task);
+        let Some(next) = run_task(rt, crew, pass, attempt, task) else {
+            return;
+        };
+        task = next;
+    }
+}
+
+/// An attempt of the task's transaction.
+fn first_attempt<'a, G: Gate, N: Naming>(crew: &Crew<'a, '_, G, N>, task: TaskId) -> Attempt<'a>
+    requires { task.0 < length (tasks N.catalogue) }
+{
+    let catalogue = crew.catalogue;
+    Attempt::new(crew.alloc, catalogue, catalogue.task_tx(task))
+}
+
+/// All tries of a task that was taken, and then a turn under the lock. The next task, `None` if
+/// none is ready.
+fn run_task<'a, R: Wait, G: Gate, N: Naming>(
+    rt: &R,
+    crew: &Crew<'a, '_, G, N>,
+    pass: &mut Pass,
+    attempt: &mut Attempt<'a>,
+    task: TaskId,
+) -> Option<TaskId>
+    requires exists { task.0 < length (tasks N.catalogue) }
+    requires own { pass.old.cells ≡ crew.now.cells.now }
+    ensures own { pass.new.cells ≡ pass.old.cells }
+    ensures next { IfSome result (λ t. t.0 < length (tasks N.catalogue)) }
+{
+    for stale in 0..crew.tries {
+        match try_task(rt, crew, pass, attempt, task) {
+            Tried::Passed(next) => return next,
+            Tried::Over => return go_on(rt, crew, task),
+            Tried::NotRunning => return take(rt, crew.shared),
+            Tried::Stale => {
+                if stale + 1 < crew.tries {
+                    rest_after(stale);
+                }
+            }
+            Tried::Memory => {
+                give_up(rt, crew.shared, task);
+                return go_on(rt, crew, task);
+            }
+        }
+    }
+    if serial(rt, crew.alloc, crew.shared, crew.every, task) == Tried::Over {
+        return go_on(rt, crew, task);
+    }
+    take(rt, crew.shared)
+}
+
+/// Tells that the task is over, and then takes the next one.
+fn go_on<R: Wait, G: Gate, N: Naming>(
+    rt: &R,
+    crew: &Crew<'_, '_, G, N>,
+    task: TaskId,
+) -> Option<TaskId>
+    ensures { IfSome result (λ t. t.0 < length (tasks N.catalogue)) }
+{
+    stop_at(crew.gate, Point::Finished, task);
+    take(rt, crew.shared)
+}
+
+/// One try: the attempt outside the lock, and its end.
+fn try_task<'a, R: Wait, G: Gate, N: Naming>(
+    rt: &R,
+    crew: &Crew<'a, '_, G, N>,
+    pass: &mut Pass,
+    attempt: &mut Attempt<'a>,
+    task: TaskId,
+) -> Tried
+    requires exists { task.0 < length (tasks N.catalogue) }
+    requires own { pass.old.cells ≡ crew.now.cells.now }
+    ensures own { pass.new.cells ≡ pass.old.cells }
+    ensures next { (t : TaskId) → result ≡ Passed (Some t) → t.0 < length (tasks N.catalogue) }
+{
+    let catalogue = crew.catalogue;
+    let tx = catalogue.task_tx(task);
+    match attempt_on(attempt, catalogue, tx, crew.cells, pass, crew.gate, task) {
+        Ok(()) => finish(rt, crew.shared, crew.every, task, attempt, G::IS_OPEN),
+        Err(Cut::Stale) => Tried::Stale,
+        Err(Cut::Memory) => Tried::Memory,
+    }
+}

@@ -1,0 +1,227 @@
+-- The canonical text of each form is read as the form's tokens.
+use Rattle.std.proofs.Common.{◌≡◌, ℕ, ◌<◌, true, List, [], ◌∷◌, ◌++◌, length, get_or, refl, subst, lit<, arith}
+use Rattle.std.specs.Prelude.{ℤ, pos, codes, FitsSigned}
+use Rattle.std.specs.Int.{w64}
+use Rattle.std.specs.Fmt.{signed_decimal}
+use Rattle.std.specs.List.{list_all}
+use Rattle.std.proofs.lemmas.Fmt.{decimal_digit}
+use Rattle.std.proofs.lemmas.Option.{slice_get-get_or}
+use Rattle.txn_programs.specs.Tree.{Expression, Condition, Statement, Statements, Transaction}
+use Rattle.txn_programs.specs.Tree as t
+use Rattle.txn_programs.specs.Scope.{ExpressionKnown, ConditionKnown, StatementKnown, StatementsKnown}
+use Rattle.txn_programs.specs.Names.{is_name}
+use Rattle.txn_programs.proofs.Lawful.{passes_at}
+use Rattle.text_grammar.specs.declared.words.Operator.{Operator}
+use Rattle.text_grammar.specs.declared.words.Operator.TheVariants as operator
+use Rattle.text_grammar.specs.declared.words.Comparison.{Comparison}
+use Rattle.text_grammar.specs.declared.words.Comparison.TheVariants as comparison
+use Rattle.text_grammar.specs.declared.words.Connective.{Connective}
+use Rattle.text_grammar.specs.declared.words.Connective.TheVariants as connective
+use Rattle.text_grammar.specs.declared.words.Keyword.{Keyword}
+use Rattle.text_grammar.specs.declared.words.Keyword.TheVariants as keyword
+use Rattle.text_grammar.specs.declared.file.FileForm.{FileForm}
+use Rattle.text_grammar.specs.declared.file.FileForm.TheVariants.{One, Two}
+use Rattle.text_words.specs.Tokens.{Lexeme}
+use Rattle.text_words.specs.Tokens as token
+use Rattle.text_grammar.specs.Tree.{Expr, Cond, Stmt, Stmts, Pair, Always, Declaration, form, operator_word, comparison_word, connective_word, keyword_word, expr_tokens, cond_tokens, stmt_tokens, stmts_tokens, pair_tokens, always_tokens, tx_tokens, heading_tokens}
+use Rattle.text_grammar.specs.Tree as f
+use Rattle.text_grammar.specs.Written.{name_at, written_expression, written_condition, written_statement, written_statements, written_always, written_transaction}
+use Rattle.text_file_printer.specs.Canonical.{form_text, spaced, expr_text, cond_text, stmt_text, stmts_text, heading_text, pair_line, always_line, tx_line}
+use Rattle.text_file_printer.specs.Fits.{ExprFits, CondFits, StmtFits, StmtsFit, PairFits, AlwaysFits, DeclarationFits}
+use Rattle.text_file_printer.proofs.Spelled.{IsWord, Reads, Follows, Lines, word_reads, spaced_follows, none_follows, both_follow, form_reads, line_of, none_lines}
+use Rattle.text_file_printer.proofs.WordForms.{name_word, int_word}
+
+-- ---- words
+
+operator_is_word : (op : Operator) → IsWord (operator_word op) (token.Name (operator_word op))
+unfolding is_name
+operator_is_word operator.Add = name_word (codes "add") refl
+operator_is_word operator.Sub = name_word (codes "sub") refl
+operator_is_word operator.Mul = name_word (codes "mul") refl
+operator_is_word operator.Div = name_word (codes "div") refl
+operator_is_word operator.Rem = name_word (codes "rem") refl
+
+comparison_is_word : (op : Comparison) → IsWord (comparison_word op) (token.Name (comparison_word op))
+unfolding is_name
+comparison_is_word comparison.Eq = name_word (codes "eq") refl
+comparison_is_word comparison.Lt = name_word (codes "lt") refl
+comparison_is_word comparison.Le = name_word (codes "le") refl
+
+connective_is_word : (op : Connective) → IsWord (connective_word op) (token.Name (connective_word op))
+unfolding is_name
+connective_is_word connective.And = name_word (codes "and") refl
+connective_is_word connective.Or = name_word (codes "or") refl
+
+not_is_word : IsWord (codes "not") (token.Name (codes "not"))
+unfolding is_name
+not_is_word = name_word (codes "not") refl
+
+keyword_is_word : (k : Keyword) → IsWord (keyword_word k) (token.Name (keyword_word k))
+unfolding is_name
+keyword_is_word keyword.Skip = name_word (codes "skip") refl
+keyword_is_word keyword.Set = name_word (codes "set") refl
+keyword_is_word keyword.Seq = name_word (codes "seq") refl
+keyword_is_word keyword.If = name_word (codes "if") refl
+keyword_is_word keyword.Repeat = name_word (codes "repeat") refl
+keyword_is_word keyword.Retry = name_word (codes "retry") refl
+keyword_is_word keyword.OrElse = name_word (codes "orelse") refl
+keyword_is_word keyword.Throw = name_word (codes "throw") refl
+
+pub var_is_word : IsWord (codes "var") (token.Name (codes "var"))
+unfolding is_name
+var_is_word = name_word (codes "var") refl
+
+pub run_is_word : IsWord (codes "run") (token.Name (codes "run"))
+unfolding is_name
+run_is_word = name_word (codes "run") refl
+
+stm_is_word : IsWord (codes "stm") (token.Name (codes "stm"))
+unfolding is_name
+stm_is_word = name_word (codes "stm") refl
+
+always_is_word : IsWord (codes "always") (token.Name (codes "always"))
+unfolding is_name
+always_is_word = name_word (codes "always") refl
+
+tx_is_word : IsWord (codes "tx") (token.Name (codes "tx"))
+unfolding is_name
+tx_is_word = name_word (codes "tx") refl
+
+-- the name at a place of a list of names
+pub name_at_is : (ns : List (List ℕ)) (i : ℕ) → list_all is_name ns ≡ true → i < length ns → is_name (name_at ns i) ≡ true
+name_at_is ns i forms lt = passes_at is_name ns i (get_or ns i []) forms (slice_get-get_or ns i [] lt)
+
+named : (ns : List (List ℕ)) (i : ℕ) → list_all is_name ns ≡ true → i < length ns → Reads (name_at ns i) (token.Name (name_at ns i) ∷ [])
+named ns i forms lt = word_reads (name_at ns i) (token.Name (name_at ns i)) (name_word (name_at ns i) (name_at_is ns i forms lt))
+
+number : (z : ℤ) → FitsSigned w64 z → Reads (signed_decimal z) (token.Int z ∷ [])
+number z h = word_reads (signed_decimal z) (token.Int z) (int_word z h)
+
+-- ---- parts
+
+two : (a b : List ℕ) (ts us : List Lexeme) → Reads a ts → Reads b us → Follows (spaced a ++ spaced b) (ts ++ us)
+two a b ts us p q = both_follow (spaced a) (spaced b) ts us (spaced_follows a ts p) (spaced_follows b us q)
+
+three : (a b c : List ℕ) (ts us vs : List Lexeme) → Reads a ts → Reads b us → Reads c vs → Follows (spaced a ++ (spaced b ++ spaced c)) (ts ++ (us ++ vs))
+three a b c ts us vs p q r = both_follow (spaced a) (spaced b ++ spaced c) ts (us ++ vs) (spaced_follows a ts p) (two b c us vs q r)
+
+-- ---- expressions
+
+binary : (op : Operator) (l r : Expr) → Reads (expr_text l) (expr_tokens l) → Reads (expr_text r) (expr_tokens r) → Reads (expr_text (f.Binary op l r)) (expr_tokens (f.Binary op l r))
+binary op l r p q =
+    form_reads (operator_word op) (spaced (expr_text l) ++ spaced (expr_text r)) (expr_tokens l ++ expr_tokens r) (operator_is_word op)
+    (two (expr_text l) (expr_text r) (expr_tokens l) (expr_tokens r) p q)
+
+pub expr_reads : (ns : List (List ℕ)) → list_all is_name ns ≡ true → (e : Expression) → ExpressionKnown (length ns) e → ExprFits (written_expression ns e) → Reads (expr_text (written_expression ns e)) (expr_tokens (written_expression ns e))
+expr_reads ns forms (t.Int n) k h = number n h
+expr_reads ns forms (t.Var x) k h = named ns x.0 forms k
+expr_reads ns forms (t.Add a b) k h = binary operator.Add (written_expression ns a) (written_expression ns b) (expr_reads ns forms a k.0 h.0) (expr_reads ns forms b k.1 h.1)
+expr_reads ns forms (t.Sub a b) k h = binary operator.Sub (written_expression ns a) (written_expression ns b) (expr_reads ns forms a k.0 h.0) (expr_reads ns forms b k.1 h.1)
+expr_reads ns forms (t.Mul a b) k h = binary operator.Mul (written_expression ns a) (written_expression ns b) (expr_reads ns forms a k.0 h.0) (expr_reads ns forms b k.1 h.1)
+expr_reads ns forms (t.Div a b) k h = binary operator.Div (written_expression ns a) (written_expression ns b) (expr_reads ns forms a k.0 h.0) (expr_reads ns forms b k.1 h.1)
+expr_reads ns forms (t.Rem a b) k h = binary operator.Rem (written_expression ns a) (written_expression ns b) (expr_reads ns forms a k.0 h.0) (expr_reads ns forms b k.1 h.1)
+
+-- ---- conditions
+
+compare : (op : Comparison) (l r : Expr) → Reads (expr_text l) (expr_tokens l) → Reads (expr_text r) (expr_tokens r) → Reads (cond_text (f.Compare op l r)) (cond_tokens (f.Compare op l r))
+compare op l r p q =
+    form_reads (comparison_word op) (spaced (expr_text l) ++ spaced (expr_text r)) (expr_tokens l ++ expr_tokens r) (comparison_is_word op)
+    (two (expr_text l) (expr_text r) (expr_tokens l) (expr_tokens r) p q)
+
+connect : (op : Connective) (l r : Cond) → Reads (cond_text l) (cond_tokens l) → Reads (cond_text r) (cond_tokens r) → Reads (cond_text (f.Connect op l r)) (cond_tokens (f.Connect op l r))
+connect op l r p q =
+    form_reads (connective_word op) (spaced (cond_text l) ++ spaced (cond_text r)) (cond_tokens l ++ cond_tokens r) (connective_is_word op)
+    (two (cond_text l) (cond_text r) (cond_tokens l) (cond_tokens r) p q)
+
+pub cond_reads : (ns : List (List ℕ)) → list_all is_name ns ≡ true → (c : Condition) → ConditionKnown (length ns) c → CondFits (written_condition ns c) → Reads (cond_text (written_condition ns c)) (cond_tokens (written_condition ns c))
+cond_reads ns forms (t.Eq a b) k h = compare comparison.Eq (written_expression ns a) (written_expression ns b) (expr_reads ns forms a k.0 h.0) (expr_reads ns forms b k.1 h.1)
+cond_reads ns forms (t.Lt a b) k h = compare comparison.Lt (written_expression ns a) (written_expression ns b) (expr_reads ns forms a k.0 h.0) (expr_reads ns forms b k.1 h.1)
+cond_reads ns forms (t.Le a b) k h = compare comparison.Le (written_expression ns a) (written_expression ns b) (expr_reads ns forms a k.0 h.0) (expr_reads ns forms b k.1 h.1)
+cond_reads ns forms (t.Not c) k h =
+    form_reads (codes "not") (spaced (cond_text (written_condition ns c))) (cond_tokens (written_condition ns c)) not_is_word
+    (spaced_follows (cond_text (written_condition ns c)) (cond_tokens (written_condition ns c)) (cond_reads ns forms c k h))
+cond_reads ns forms (t.And c d) k h = connect connective.And (written_condition ns c) (written_condition ns d) (cond_reads ns forms c k.0 h.0) (cond_reads ns forms d k.1 h.1)
+cond_reads ns forms (t.Or c d) k h = connect connective.Or (written_condition ns c) (written_condition ns d) (cond_reads ns forms c k.0 h.0) (cond_reads ns forms d k.1 h.1)
+
+-- ---- statements
+
+set_reads : (name : List ℕ) (e : Expr) → Reads name (token.Name name ∷ []) → Reads (expr_text e) (expr_tokens e) → Reads (stmt_text (f.Set name e)) (stmt_tokens (f.Set name e))
+set_reads name e p q =
+    form_reads (codes "set") (spaced name ++ spaced (expr_text e)) (token.Name name ∷ expr_tokens e) (keyword_is_word keyword.Set)
+    (two name (expr_text e) (token.Name name ∷ []) (expr_tokens e) p q)
+
+if_reads : (c : Cond) (a b : Stmt) → Reads (cond_text c) (cond_tokens c) → Reads (stmt_text a) (stmt_tokens a) → Reads (stmt_text b) (stmt_tokens b) → Reads (stmt_text (f.If c a b)) (stmt_tokens (f.If c a b))
+if_reads c a b p q r =
+    form_reads (codes "if") (spaced (cond_text c) ++ (spaced (stmt_text a) ++ spaced (stmt_text b))) (cond_tokens c ++ (stmt_tokens a ++ stmt_tokens b)) (keyword_is_word keyword.If)
+    (three (cond_text c) (stmt_text a) (stmt_text b) (cond_tokens c) (stmt_tokens a) (stmt_tokens b) p q r)
+
+repeat_reads : (n : ℤ) (s : Stmt) → Reads (signed_decimal n) (token.Int n ∷ []) → Reads (stmt_text s) (stmt_tokens s) → Reads (stmt_text (f.Repeat n s)) (stmt_tokens (f.Repeat n s))
+repeat_reads n s p q =
+    form_reads (codes "repeat") (spaced (signed_decimal n) ++ spaced (stmt_text s)) (token.Int n ∷ stmt_tokens s) (keyword_is_word keyword.Repeat)
+    (two (signed_decimal n) (stmt_text s) (token.Int n ∷ []) (stmt_tokens s) p q)
+
+orelse_reads : (a b : Stmt) → Reads (stmt_text a) (stmt_tokens a) → Reads (stmt_text b) (stmt_tokens b) → Reads (stmt_text (f.OrElse a b)) (stmt_tokens (f.OrElse a b))
+orelse_reads a b p q =
+    form_reads (codes "orelse") (spaced (stmt_text a) ++ spaced (stmt_text b)) (stmt_tokens a ++ stmt_tokens b) (keyword_is_word keyword.OrElse)
+    (two (stmt_text a) (stmt_text b) (stmt_tokens a) (stmt_tokens b) p q)
+
+throw_reads : (e : Expr) → Reads (expr_text e) (expr_tokens e) → Reads (stmt_text (f.Throw e)) (stmt_tokens (f.Throw e))
+throw_reads e p = form_reads (codes "throw") (spaced (expr_text e)) (expr_tokens e) (keyword_is_word keyword.Throw) (spaced_follows (expr_text e) (expr_tokens e) p)
+
+mutual
+  pub stmt_reads : (ns : List (List ℕ)) → list_all is_name ns ≡ true → (s : Statement) → StatementKnown (length ns) s → StmtFits (written_statement ns s) → Reads (stmt_text (written_statement ns s)) (stmt_tokens (written_statement ns s))
+  stmt_reads ns forms t.Skip k h = form_reads (codes "skip") [] [] (keyword_is_word keyword.Skip) none_follows
+  stmt_reads ns forms (t.Set x e) k h = set_reads (name_at ns x.0) (written_expression ns e) (named ns x.0 forms k.0) (expr_reads ns forms e k.1 h)
+  stmt_reads ns forms (t.Seq parts) k h =
+      form_reads (codes "seq") (stmts_text (written_statements ns parts)) (stmts_tokens (written_statements ns parts)) (keyword_is_word keyword.Seq) (stmts_follow ns forms parts k h)
+  stmt_reads ns forms (t.If c a b) k h =
+      if_reads (written_condition ns c) (written_statement ns a) (written_statement ns b) (cond_reads ns forms c k.0 h.0) (stmt_reads ns forms a k.1 h.1) (stmt_reads ns forms b k.2 h.2)
+  stmt_reads ns forms (t.Repeat n s) k h = repeat_reads (pos n) (written_statement ns s) (number (pos n) h.0) (stmt_reads ns forms s k h.1)
+  stmt_reads ns forms t.Retry k h = form_reads (codes "retry") [] [] (keyword_is_word keyword.Retry) none_follows
+  stmt_reads ns forms (t.OrElse a b) k h = orelse_reads (written_statement ns a) (written_statement ns b) (stmt_reads ns forms a k.0 h.0) (stmt_reads ns forms b k.1 h.1)
+  stmt_reads ns forms (t.Throw e) k h = throw_reads (written_expression ns e) (expr_reads ns forms e k h)
+
+  pub stmts_follow : (ns : List (List ℕ)) → list_all is_name ns ≡ true → (s : Statements) → StatementsKnown (length ns) s → StmtsFit (written_statements ns s) → Follows (stmts_text (written_statements ns s)) (stmts_tokens (written_statements ns s))
+  stmts_follow ns forms t.End k h = none_follows
+  stmts_follow ns forms (t.More s rest) k h =
+      both_follow (spaced (stmt_text (written_statement ns s))) (stmts_text (written_statements ns rest)) (stmt_tokens (written_statement ns s)) (stmts_tokens (written_statements ns rest))
+      (spaced_follows (stmt_text (written_statement ns s)) (stmt_tokens (written_statement ns s)) (stmt_reads ns forms s k.0 h.0))
+      (stmts_follow ns forms rest k.1 h.1)
+
+-- ---- lines
+
+pub pair_lines : (word : List ℕ) (p : Pair) → IsWord word (token.Name word) → is_name p.name ≡ true → PairFits p → Lines (pair_line word p) (pair_tokens word p)
+pair_lines word p w name h =
+    line_of (form_text word (spaced p.name ++ spaced (signed_decimal p.value))) (pair_tokens word p)
+    (form_reads word (spaced p.name ++ spaced (signed_decimal p.value)) (token.Name p.name ∷ token.Int p.value ∷ []) w
+    (two p.name (signed_decimal p.value) (token.Name p.name ∷ []) (token.Int p.value ∷ []) (word_reads p.name (token.Name p.name) (name_word p.name name)) (number p.value h)))
+
+-- the line of the form: its text is that of a form with one integer
+two_printed : signed_decimal (pos 2) ≡ codes "2"
+two_printed = decimal_digit 2 (lit< tt)
+
+pub heading_lines : (form : FileForm) → Lines (heading_text form) (heading_tokens form)
+heading_lines One = none_lines
+heading_lines Two =
+    subst (λ (digits : List ℕ). Lines (form_text (codes "stm") (spaced digits) ++ codes "\n") (f.form (codes "stm") (token.Int (pos 2) ∷ []))) two_printed
+    (line_of (form_text (codes "stm") (spaced (signed_decimal (pos 2)))) (f.form (codes "stm") (token.Int (pos 2) ∷ []))
+    (form_reads (codes "stm") (spaced (signed_decimal (pos 2))) (token.Int (pos 2) ∷ []) stm_is_word
+    (spaced_follows (signed_decimal (pos 2)) (token.Int (pos 2) ∷ []) (number (pos 2) (omega arith)))))
+
+pub always_lines : (ns : List (List ℕ)) → list_all is_name ns ≡ true → (a : List ℕ × Condition) → is_name a.0 ≡ true → ConditionKnown (length ns) a.1 → AlwaysFits (written_always ns a) → Lines (always_line (written_always ns a)) (always_tokens (written_always ns a))
+always_lines ns forms a name k h =
+    let c = written_condition ns a.1 in
+    line_of (form_text (codes "always") (spaced a.0 ++ spaced (cond_text c))) (always_tokens (written_always ns a))
+    (form_reads (codes "always") (spaced a.0 ++ spaced (cond_text c)) (token.Name a.0 ∷ cond_tokens c) always_is_word
+    (two a.0 (cond_text c) (token.Name a.0 ∷ []) (cond_tokens c) (word_reads a.0 (token.Name a.0) (name_word a.0 name)) (cond_reads ns forms a.1 k h)))
+
+pub tx_lines : (ns : List (List ℕ)) → list_all is_name ns ≡ true → (t : Transaction) → is_name t.name ≡ true → StatementKnown (length ns) t.body → ExpressionKnown (length ns) t.result
+    → DeclarationFits (written_transaction ns t) → Lines (tx_line (written_transaction ns t)) (tx_tokens (written_transaction ns t))
+tx_lines ns forms p name known valued h =
+    let body = written_statement ns p.body in
+    let value = written_expression ns p.result in
+    line_of (form_text (codes "tx") (spaced p.name ++ (spaced (stmt_text body) ++ spaced (expr_text value)))) (tx_tokens (written_transaction ns p))
+    (form_reads (codes "tx") (spaced p.name ++ (spaced (stmt_text body) ++ spaced (expr_text value))) (token.Name p.name ∷ (stmt_tokens body ++ expr_tokens value)) tx_is_word
+    (three p.name (stmt_text body) (expr_text value) (token.Name p.name ∷ []) (stmt_tokens body) (expr_tokens value)
+    (word_reads p.name (token.Name p.name) (name_word p.name name))
+    (stmt_reads ns forms p.body known h.0) (expr_reads ns forms p.result valued h.1)))

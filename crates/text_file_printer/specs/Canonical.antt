@@ -1,0 +1,70 @@
+-- The canonical text: one form a line, one space between two tokens, but none after ( and none before ).
+use Rattle.std.specs.Prelude.{ℕ, List, [], ◌++◌, codes}
+use Rattle.std.specs.Fmt.{signed_decimal}
+use Rattle.std.specs.List.{flat_map}
+use Rattle.txn_programs.specs.Listing.{Listing}
+use Rattle.text_grammar.specs.Tree.{Expr, Int, Name, Binary, Cond, Compare, Not, Connect, Stmt, Skip, Set, Seq, If, Repeat, Retry, OrElse, Throw, Stmts, NoStmts, MoreStmts, Pair, Always, Declaration, File, operator_word, comparison_word, connective_word, keyword_word}
+use Rattle.text_grammar.specs.declared.words.Keyword.TheVariants as keyword
+use Rattle.text_grammar.specs.declared.file.FileForm.{FileForm}
+use Rattle.text_grammar.specs.declared.file.FileForm.TheVariants.{One, Two}
+use Rattle.text_grammar.specs.Written.{written}
+
+-- a word in parentheses, with its parts behind it
+abbrev pub form_text : List ℕ → List ℕ → List ℕ
+form_text word parts = codes "(" ++ (word ++ (parts ++ codes ")"))
+
+-- a part, behind a space
+abbrev pub spaced : List ℕ → List ℕ
+spaced part = codes " " ++ part
+
+abbrev pub expr_text : Expr → List ℕ
+expr_text (Int value) = signed_decimal value
+expr_text (Name name) = name
+expr_text (Binary op left right) = form_text (operator_word op) (spaced (expr_text left) ++ spaced (expr_text right))
+
+abbrev pub cond_text : Cond → List ℕ
+cond_text (Compare op left right) = form_text (comparison_word op) (spaced (expr_text left) ++ spaced (expr_text right))
+cond_text (Not inner) = form_text (codes "not") (spaced (cond_text inner))
+cond_text (Connect op left right) = form_text (connective_word op) (spaced (cond_text left) ++ spaced (cond_text right))
+
+abbrev mutual
+  pub stmt_text : Stmt → List ℕ
+  stmt_text Skip = form_text (keyword_word keyword.Skip) []
+  stmt_text (Set name value) = form_text (keyword_word keyword.Set) (spaced name ++ spaced (expr_text value))
+  stmt_text (Seq parts) = form_text (keyword_word keyword.Seq) (stmts_text parts)
+  stmt_text (If test first second) = form_text (keyword_word keyword.If) (spaced (cond_text test) ++ (spaced (stmt_text first) ++ spaced (stmt_text second)))
+  stmt_text (Repeat count body) = form_text (keyword_word keyword.Repeat) (spaced (signed_decimal count) ++ spaced (stmt_text body))
+  stmt_text Retry = form_text (keyword_word keyword.Retry) []
+  stmt_text (OrElse first second) = form_text (keyword_word keyword.OrElse) (spaced (stmt_text first) ++ spaced (stmt_text second))
+  stmt_text (Throw value) = form_text (keyword_word keyword.Throw) (spaced (expr_text value))
+
+  -- each statement behind a space
+  pub stmts_text : Stmts → List ℕ
+  stmts_text NoStmts = []
+  stmts_text (MoreStmts first others) = spaced (stmt_text first) ++ stmts_text others
+
+-- a variable, or a run, on a line
+abbrev pub pair_line : List ℕ → Pair → List ℕ
+pair_line word p = form_text word (spaced p.name ++ spaced (signed_decimal p.value)) ++ codes "\n"
+
+-- a condition that has to stand, on a line
+abbrev pub always_line : Always → List ℕ
+always_line a = form_text (codes "always") (spaced a.name ++ spaced (cond_text a.condition)) ++ codes "\n"
+
+-- a transaction, on a line
+abbrev pub tx_line : Declaration → List ℕ
+tx_line t = form_text (codes "tx") (spaced t.name ++ (spaced (stmt_text t.body) ++ spaced (expr_text t.value))) ++ codes "\n"
+
+-- form 2 says so on a line, form 1 says nothing
+abbrev pub heading_text : FileForm → List ℕ
+heading_text One = []
+heading_text Two = codes "(stm 2)\n"
+
+-- the form, then the variables, then the conditions, then the transactions, then the runs
+abbrev pub text_of : File → List ℕ
+text_of f =
+    heading_text f.form ++ (flat_map (pair_line (codes "var")) f.vars ++ (flat_map always_line f.always
+    ++ (flat_map tx_line f.txs ++ flat_map (pair_line (codes "run")) f.runs)))
+
+abbrev pub file_text : Listing → List ℕ
+file_text l = text_of (written l)

@@ -1,0 +1,57 @@
+//! Files read as catalogues.
+
+ghost use Rattle.std.specs.Prelude.{◌≡◌, Some, IfOk, IfErr, ◌⊎◌};
+ghost use Rattle.txn_programs.specs.Listing.{Listing};
+ghost use Rattle.text_words.specs.Answers.{Gives};
+ghost use Rattle.text_grammar.specs.Spelling.{Spells, listing_at, lawful, first_fault};
+ghost use Rattle.text_laws.specs.Faults.{IsFirst};
+ghost use Rattle.text_resolver.specs.Parts.{view_parts};
+ghost use Rattle.text_words.specs.declared.fault.ReadFault.TheVariants.{Memory};
+
+use std::alloc::Global;
+use text_parser::file::tree_of;
+use text_resolver::resolve::{Parts, resolve};
+use text_words::ReadFault;
+use txn::{BuildFault, Catalogue};
+
+/// The catalogue of the parts, or which of names, limits and conditions does not hold.
+fn built(alloc: Global, parts: Parts) -> Result<Catalogue, ReadFault>
+    ensures { Gives (λ c. c) result (lawful (view_parts parts)) }
+{
+    match Catalogue::build(alloc, parts.vars, parts.always, parts.txs, parts.runs) {
+        Ok(catalogue) => Ok(catalogue),
+        Err(BuildFault::Name) => Err(ReadFault::Name),
+        Err(BuildFault::Limit) => Err(ReadFault::Limit),
+        Err(BuildFault::Broken) => Err(ReadFault::Broken),
+        Err(BuildFault::Memory) => Err(ReadFault::Memory),
+    }
+}
+
+#[tactic(auto, unfolding(text_grammar::specs::Spelling::listing_at))]
+fn read(alloc: Global, bytes: &[u8]) -> Result<Catalogue, ReadFault>
+    ensures { Gives (λ c. c) result (listing_at bytes.now) }
+{
+    let file = tree_of(alloc, bytes)?;
+    let parts = resolve(alloc, file)?;
+    built(alloc, parts)
+}
+
+/// Reads a file. It is `Ok` exactly where the bytes spell a catalogue by the rules of the
+/// language: at most 1,048,576 bytes, a reading by the grammar with at most 32 parentheses open at
+/// a time, names declared once and before nothing else is asked of them, all limits kept, and each
+/// standing condition true of the initial values. Otherwise the fault is the first of `TooLong`,
+/// `BadByte`, `Shape`, `Name`, `Limit` and `Broken` that applies, each judged over all the bytes
+/// before the next is. `Memory` may come in place of any answer, where a growth was refused. It
+/// takes time and memory linear in the input.
+pub fn read_file(alloc: Global, bytes: &[u8]) -> Result<Catalogue, ReadFault>
+    // What is read is spelled so.
+    ensures found { IfOk result (λ c. Spells bytes.now c) }
+    // What is spelled so is read, unless memory runs out.
+    ensures only { (l : Listing) → Spells bytes.now l → Gives (λ c. c) result (Ok l) }
+    // Which fault it is: the first that applies, by what each kind says of the bytes.
+    ensures fault { IfErr result (λ e. (e ≡ Memory) ⊎ IsFirst bytes.now e) }
+    // It is the one that reading from left to right comes to.
+    ensures as_read { IfErr result (λ e. (e ≡ Memory) ⊎ (first_fault bytes.now ≡ Some e)) }
+{
+    read(alloc, bytes)
+}

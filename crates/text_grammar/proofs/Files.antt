@@ -1,0 +1,288 @@
+-- A file that is read is spelled so, and what is spelled so is read.
+use Rattle.std.proofs.Common.{◌≡◌, ℕ, true, false, cond, ltb, inl, inr, List, [], ◌∷◌, ◌++◌, length, Result, Ok, Err, refl, sym, ap, subst, ◌∙◌, append_assoc, arith, length-append}
+use Rattle.std.specs.Prelude.{ℤ, pos, codes, IfOk}
+use Rattle.std.specs.Ordering.{int_eq}
+use Rattle.std.proofs.lemmas.Bool.Decides.{Decides-int_eq}
+use Rattle.std.proofs.lemmas.Bool.{ltb-false, le-ltb}
+use Rattle.std.specs.Str.{bytes_eq}
+use Rattle.std.specs.List.{flat_map, AllByRecursion, list_all}
+use Rattle.std.proofs.lemmas.List.Concat.{flat_map-cons}
+use Rattle.std.proofs.lemmas.List.{append-nil}
+use Rattle.text_words.specs.Tokens.{Lexeme, Opens, Closes, tokens}
+use Rattle.text_words.specs.Bytes.{is_allowed}
+use Rattle.text_words.specs.Tokens as token
+use Rattle.text_grammar.specs.Tree.{expr_tokens, cond_tokens, stmt_tokens, Pair, Always, Declaration, File, pair_tokens, always_tokens, tx_tokens, heading_tokens, file_tokens, IsInForm, IsShallowAlways, IsShallow, AreShallow, SpellsTree, max_len}
+use Rattle.text_words.specs.declared.fault.ReadFault.{ReadFault}
+use Rattle.text_words.specs.declared.fault.ReadFault.TheVariants.{TooLong, BadByte, Shape}
+use Rattle.text_grammar.specs.declared.file.FileForm.{FileForm}
+use Rattle.text_grammar.specs.declared.file.FileForm.TheVariants.{One, Two}
+use Rattle.text_grammar.specs.declared.file.RawFile.{RawFile}
+use Rattle.text_grammar.specs.View.{view_file}
+use Rattle.text_words.specs.TokenReading.{name_at, int_at, close_at, open_at, word_at, form_at, begins, all_of}
+use Rattle.text_grammar.specs.Reading.{expr_at, cond_at, stmt_at, pair_at, always_at, conditions_at, tx_at, end_at, form_numbered, announced_at, heading_at, file_of, tree_of}
+use Rattle.text_words.specs.Answers.{Gives}
+use Rattle.text_words.proofs.Steps.{bind_ok, ok_is, done, chosen, name_takes, name_again, int_takes, int_again, close_takes, close_again, form_takes, form_again, form_other}
+use Rattle.text_grammar.proofs.Exprs.{expr_takes, expr_again}
+use Rattle.text_grammar.proofs.Conds.{cond_takes, cond_again}
+use Rattle.text_grammar.proofs.Stmts.{stmt_takes, stmt_again}
+use Rattle.text_words.proofs.Many.{Shortens, Takes, TakesAll, Taking, all_takes, all_again}
+
+abbrev pub Any : Pair → Type 0
+Any p = Unit {0}
+
+pub pair_takes : (word : List ℕ) → Taking (pair_tokens word) Any (pair_at word)
+unfolding pair_at
+pair_takes word ts x e =
+    let o = bind_ok (form_at word ts) _ x e in
+    let n = bind_ok (name_at o.0) _ x o.2 in
+    let d = bind_ok (int_at n.0.1) _ x n.2 in
+    let c = bind_ok (close_at d.0.1) _ x d.2 in
+    let made : Pair × List Lexeme = (record { name = n.0.0; value = d.0.0 }, c.0) in
+    let tail : o.0 ≡ token.Name n.0.0 ∷ token.Int d.0.0 ∷ Closes ∷ c.0 = name_takes o.0 n.0 n.1 ∙ ap (λ (us : List Lexeme). token.Name n.0.0 ∷ us) (int_takes n.0.1 d.0 d.1 ∙ ap (λ (us : List Lexeme). token.Int d.0.0 ∷ us) (close_takes d.0.1 c.0 c.1)) in
+    subst (Takes (pair_tokens word) Any ts) (ok_is made x c.2) (record { parts = form_takes word ts o.0 o.1 ∙ ap (λ (us : List Lexeme). Opens ∷ token.Name word ∷ us) tail; fits = tt })
+
+pub pair_again : (word : List ℕ) (p : Pair) (rest : List Lexeme) → pair_at word (pair_tokens word p ++ rest) ≡ Ok (p, rest)
+unfolding pair_at
+pair_again word p rest =
+    rw (form_again word (token.Name p.name ∷ token.Int p.value ∷ Closes ∷ rest), name_again p.name (token.Int p.value ∷ Closes ∷ rest), int_again p.value (Closes ∷ rest), close_again rest) refl
+
+pub pair_shortens : (word : List ℕ) → Shortens (pair_at word)
+pair_shortens word = record { by = λ ts x e. let parts = (pair_takes word ts x e).parts in rw parts (omega arith) }
+
+pub always_takes : Taking always_tokens IsShallowAlways always_at
+unfolding always_at
+always_takes ts x e =
+    let o = bind_ok (form_at (codes "always") ts) _ x e in
+    let n = bind_ok (name_at o.0) _ x o.2 in
+    let d = bind_ok (cond_at 31 n.0.1) _ x n.2 in
+    let c = bind_ok (close_at d.0.1) _ x d.2 in
+    let made : Always × List Lexeme = (record { name = n.0.0; condition = d.0.0 }, c.0) in
+    let condition = cond_takes 31 n.0.1 d.0 d.1 in
+    let tail : o.0 ≡ token.Name n.0.0 ∷ (cond_tokens d.0.0 ++ (Closes ∷ c.0)) = name_takes o.0 n.0 n.1 ∙ ap (λ (us : List Lexeme). token.Name n.0.0 ∷ us) (condition.parts ∙ ap (λ (us : List Lexeme). cond_tokens d.0.0 ++ us) (close_takes d.0.1 c.0 c.1)) in
+    subst (Takes always_tokens IsShallowAlways ts) (ok_is made x c.2) (record { parts = form_takes (codes "always") ts o.0 o.1 ∙ ap (λ (us : List Lexeme). Opens ∷ token.Name (codes "always") ∷ us) (tail ∙ sym (simp append_assoc)); fits = condition.fits })
+
+always_again : (a : Always) (rest : List Lexeme) → IsShallowAlways a → always_at (always_tokens a ++ rest) ≡ Ok (a, rest)
+unfolding always_at
+always_again a rest fits =
+    let regrouped : (cond_tokens a.condition ++ (Closes ∷ [])) ++ rest ≡ cond_tokens a.condition ++ (Closes ∷ rest) = simp append_assoc in
+    rw (
+      regrouped,
+      form_again (codes "always") (token.Name a.name ∷ (cond_tokens a.condition ++ (Closes ∷ rest))),
+      name_again a.name (cond_tokens a.condition ++ (Closes ∷ rest)),
+      cond_again 31 a.condition (Closes ∷ rest) fits,
+      close_again rest,
+    ) refl
+
+pub always_shortens : Shortens always_at
+always_shortens = record { by = λ ts x e. let parts = (always_takes ts x e).parts in rw parts (omega (arith, length-append (cond_tokens x.0.condition ++ (Closes ∷ [])) x.1)) }
+
+pub tx_takes : Taking tx_tokens IsShallow tx_at
+unfolding tx_at
+tx_takes ts x e =
+    let o = bind_ok (form_at (codes "tx") ts) _ x e in
+    let n = bind_ok (name_at o.0) _ x o.2 in
+    let b = bind_ok (stmt_at 31 n.0.1) _ x n.2 in
+    let v = bind_ok (expr_at 31 b.0.1) _ x b.2 in
+    let c = bind_ok (close_at v.0.1) _ x v.2 in
+    let made : Declaration × List Lexeme = (record { name = n.0.0; body = b.0.0; value = v.0.0 }, c.0) in
+    let body = stmt_takes 31 n.0.1 b.0 b.1 in
+    let value = expr_takes 31 b.0.1 v.0 v.1 in
+    let tail : o.0 ≡ token.Name n.0.0 ∷ (stmt_tokens b.0.0 ++ (expr_tokens v.0.0 ++ (Closes ∷ c.0))) = name_takes o.0 n.0 n.1 ∙ ap (λ (us : List Lexeme). token.Name n.0.0 ∷ us) (body.parts ∙ ap (λ (us : List Lexeme). stmt_tokens b.0.0 ++ us) (value.parts ∙ ap (λ (us : List Lexeme). expr_tokens v.0.0 ++ us) (close_takes v.0.1 c.0 c.1))) in
+    subst (Takes tx_tokens IsShallow ts) (ok_is made x c.2) (record { parts = form_takes (codes "tx") ts o.0 o.1 ∙ ap (λ (us : List Lexeme). Opens ∷ token.Name (codes "tx") ∷ us) (tail ∙ sym (simp append_assoc)); fits = (body.fits, value.fits) })
+
+pub tx_again : (t : Declaration) (rest : List Lexeme) → IsShallow t → tx_at (tx_tokens t ++ rest) ≡ Ok (t, rest)
+unfolding tx_at
+tx_again t rest fits =
+    let regrouped : ((stmt_tokens t.body ++ expr_tokens t.value) ++ (Closes ∷ [])) ++ rest ≡ stmt_tokens t.body ++ (expr_tokens t.value ++ (Closes ∷ rest)) = simp append_assoc in
+    rw (
+      regrouped,
+      form_again (codes "tx") (token.Name t.name ∷ (stmt_tokens t.body ++ (expr_tokens t.value ++ (Closes ∷ rest)))),
+      name_again t.name (stmt_tokens t.body ++ (expr_tokens t.value ++ (Closes ∷ rest))),
+      stmt_again 31 t.body (expr_tokens t.value ++ (Closes ∷ rest)) fits.0,
+      expr_again 31 t.value (Closes ∷ rest) fits.1,
+      close_again rest,
+    ) refl
+
+pub tx_shortens : Shortens tx_at
+tx_shortens = record { by = λ ts x e. let parts = (tx_takes ts x e).parts in rw parts (omega (arith, length-append ((stmt_tokens x.0.body ++ expr_tokens x.0.value) ++ (Closes ∷ [])) x.1)) }
+
+-- ---- files
+
+end_takes : (ts : List Lexeme) (u : Unit {0}) → end_at ts ≡ Ok u → ts ≡ []
+unfolding end_at
+end_takes [] u e = refl
+end_takes (t ∷ ts) u e = absurd cc
+
+form_is : (number : ℤ) (form : FileForm) → form_numbered number ≡ Ok form → (number ≡ pos 2) × (form ≡ Two)
+form_is number form e =
+    elim (chosen (int_eq number (pos 2)) (done Two) (Err Shape) (Ok form) e) [
+      | inl p ↦ ((Decides-int_eq number (pos 2)).0 p.0, sym (ok_is Two form p.1))
+      | inr p ↦ absurd (let h = p.1 in cc)
+    ]
+
+abbrev Heads : List Lexeme → FileForm × List Lexeme → Type 0
+Heads ts x = ts ≡ heading_tokens x.0 ++ x.1
+
+announced_takes : (ts : List Lexeme) (x : FileForm × List Lexeme) → announced_at ts ≡ Ok x → Heads ts x
+unfolding announced_at
+announced_takes ts x e =
+    let o = bind_ok (form_at (codes "stm") ts) _ x e in
+    let n = bind_ok (int_at o.0) _ x o.2 in
+    let f = bind_ok (form_numbered n.0.0) _ x n.2 in
+    let c = bind_ok (close_at n.0.1) _ x f.2 in
+    let made : FileForm × List Lexeme = (f.0, c.0) in
+    let two = form_is n.0.0 f.0 f.1 in
+    let inside : o.0 ≡ token.Int (pos 2) ∷ Closes ∷ c.0 = int_takes o.0 n.0 n.1 ∙ ap (λ (z : ℤ). token.Int z ∷ n.0.1) two.0 ∙ ap (λ (us : List Lexeme). token.Int (pos 2) ∷ us) (close_takes n.0.1 c.0 c.1) in
+    let whole : ts ≡ heading_tokens Two ++ c.0 = form_takes (codes "stm") ts o.0 o.1 ∙ ap (λ (us : List Lexeme). Opens ∷ token.Name (codes "stm") ∷ us) inside in
+    subst (Heads ts) (ok_is made x c.2) (whole ∙ ap (λ (form : FileForm). heading_tokens form ++ c.0) (sym two.1))
+
+heading_takes : (ts : List Lexeme) (x : FileForm × List Lexeme) → heading_at ts ≡ Ok x → Heads ts x
+unfolding heading_at
+heading_takes ts x e =
+    elim (chosen (begins (codes "stm") ts) (announced_at ts) (done (One, ts)) (Ok x) e) [
+      | inl p ↦ announced_takes ts x p.1
+      | inr p ↦ subst (Heads ts) (ok_is (One, ts) x p.1) refl
+    ]
+
+-- the conditions, of which form 1 has none
+record TakesConditions (form : FileForm) (ts : List Lexeme) (x : List Always × List Lexeme) : Type 0 where
+  all : TakesAll always_tokens IsShallowAlways ts x
+  formed : IsInForm form x.0
+
+conditions_takes : (form : FileForm) (ts : List Lexeme) (x : List Always × List Lexeme) → conditions_at form ts ≡ Ok x → TakesConditions form ts x
+unfolding conditions_at
+conditions_takes One ts x e = subst (TakesConditions One ts) (ok_is ([], ts) x e) (record { all = record { parts = refl; fits = tt }; formed = refl })
+conditions_takes Two ts x e = record { all = all_takes always_tokens IsShallowAlways (begins (codes "always")) always_at always_takes ts x e; formed = tt }
+
+-- the tokens are those of the file, which is formed as it should
+pub record TakesFile (ts : List Lexeme) (f : File) : Type 0 where
+  pub spelled : ts ≡ file_tokens f
+  pub formed : IsInForm f.form f.always
+  pub shallow : AreShallow f
+
+pub file_takes : (ts : List Lexeme) (f : File) → file_of ts ≡ Ok f → TakesFile ts f
+unfolding file_of
+file_takes ts f e =
+    let h = bind_ok (heading_at ts) _ f e in
+    let v = bind_ok (all_of (begins (codes "var")) (pair_at (codes "var")) h.0.1) _ f h.2 in
+    let a = bind_ok (conditions_at h.0.0 v.0.1) _ f v.2 in
+    let t = bind_ok (all_of (begins (codes "tx")) tx_at a.0.1) _ f a.2 in
+    let r = bind_ok (all_of (begins (codes "run")) (pair_at (codes "run")) t.0.1) _ f t.2 in
+    let n = bind_ok (end_at r.0.1) _ f r.2 in
+    let heading = heading_takes ts h.0 h.1 in
+    let vars = all_takes (pair_tokens (codes "var")) Any (begins (codes "var")) (pair_at (codes "var")) (pair_takes (codes "var")) h.0.1 v.0 v.1 in
+    let conditions = conditions_takes h.0.0 v.0.1 a.0 a.1 in
+    let txs = all_takes tx_tokens IsShallow (begins (codes "tx")) tx_at tx_takes a.0.1 t.0 t.1 in
+    let runs = all_takes (pair_tokens (codes "run")) Any (begins (codes "run")) (pair_at (codes "run")) (pair_takes (codes "run")) t.0.1 r.0 r.1 in
+    let made : File = record { form = h.0.0; vars = v.0.0; always = a.0.0; txs = t.0.0; runs = r.0.0 } in
+    let nothing : r.0.1 ≡ [] = end_takes r.0.1 n.0 n.1 in
+    let last : t.0.1 ≡ flat_map (pair_tokens (codes "run")) r.0.0 = runs.parts ∙ ap (λ (us : List Lexeme). flat_map (pair_tokens (codes "run")) r.0.0 ++ us) nothing ∙ append-nil (flat_map (pair_tokens (codes "run")) r.0.0) in
+    let from_txs : a.0.1 ≡ flat_map tx_tokens t.0.0 ++ flat_map (pair_tokens (codes "run")) r.0.0 = txs.parts ∙ ap (λ (us : List Lexeme). flat_map tx_tokens t.0.0 ++ us) last in
+    let from_vars = vars.parts ∙ ap (λ (us : List Lexeme). flat_map (pair_tokens (codes "var")) v.0.0 ++ us) (conditions.all.parts ∙ ap (λ (us : List Lexeme). flat_map always_tokens a.0.0 ++ us) from_txs) in
+    let whole : ts ≡ file_tokens made = heading ∙ ap (λ (us : List Lexeme). heading_tokens h.0.0 ++ us) from_vars in
+    subst (TakesFile ts) (ok_is made f n.2) (record { spelled = whole; formed = conditions.formed; shallow = (conditions.all.fits, txs.fits) })
+
+begins_itself : (word : List ℕ) (rest : List Lexeme) → begins word (Opens ∷ token.Name word ∷ rest) ≡ true
+unfolding begins
+begins_itself word rest = rw (form_again word rest) refl
+
+begins_other : (word other : List ℕ) (rest : List Lexeme) → bytes_eq other word ≡ false → begins word (Opens ∷ token.Name other ∷ rest) ≡ false
+unfolding begins
+begins_other word other rest h = rw (form_other word other rest h) refl
+
+begins_nothing : (word : List ℕ) → begins word [] ≡ false
+unfolding begins form_at word_at open_at
+begins_nothing word = refl
+
+any : (ps : List Pair) → AllByRecursion Any ps
+any [] = tt
+any (p ∷ ps) = (tt, any ps)
+
+-- no form of a word stands next, where none of the items begins with it and none stands behind them
+none_begins : {A : Type 0} (word : List ℕ) (spell : A → List Lexeme) → ((x : A) (more : List Lexeme) → begins word (spell x ++ more) ≡ false) → (xs : List A) (rest : List Lexeme) → begins word rest ≡ false
+    → begins word (flat_map spell xs ++ rest) ≡ false
+none_begins word spell other [] rest stop = stop
+none_begins word spell other (x ∷ xs) rest stop =
+    let first : flat_map spell (x ∷ xs) ++ rest ≡ spell x ++ (flat_map spell xs ++ rest) = ap (λ (us : List Lexeme). us ++ rest) (flat_map-cons spell x xs) ∙ append_assoc (spell x) (flat_map spell xs) rest in
+    ap (begins word) first ∙ other x (flat_map spell xs ++ rest)
+
+-- ---- the parts of a file, each with those behind it
+
+abbrev run_part : List Pair → List Lexeme
+run_part runs = flat_map (pair_tokens (codes "run")) runs ++ []
+
+abbrev tx_part : List Declaration → List Pair → List Lexeme
+tx_part txs runs = flat_map tx_tokens txs ++ run_part runs
+
+abbrev always_part : List Always → List Declaration → List Pair → List Lexeme
+always_part always txs runs = flat_map always_tokens always ++ tx_part txs runs
+
+abbrev var_part : List Pair → List Always → List Declaration → List Pair → List Lexeme
+var_part vars always txs runs = flat_map (pair_tokens (codes "var")) vars ++ always_part always txs runs
+
+run_part_begins : (word : List ℕ) (runs : List Pair) → bytes_eq (codes "run") word ≡ false → begins word (run_part runs) ≡ false
+run_part_begins word runs h = none_begins word (pair_tokens (codes "run")) (λ p more. begins_other word (codes "run") _ h) runs [] (begins_nothing word)
+
+tx_part_begins : (word : List ℕ) (txs : List Declaration) (runs : List Pair) → bytes_eq (codes "run") word ≡ false → bytes_eq (codes "tx") word ≡ false → begins word (tx_part txs runs) ≡ false
+tx_part_begins word txs runs h k = none_begins word tx_tokens (λ t more. begins_other word (codes "tx") _ k) txs (run_part runs) (run_part_begins word runs h)
+
+always_part_begins : (word : List ℕ) (always : List Always) (txs : List Declaration) (runs : List Pair) → bytes_eq (codes "run") word ≡ false → bytes_eq (codes "tx") word ≡ false → bytes_eq (codes "always") word ≡ false
+    → begins word (always_part always txs runs) ≡ false
+always_part_begins word always txs runs h k g = none_begins word always_tokens (λ a more. begins_other word (codes "always") _ g) always (tx_part txs runs) (tx_part_begins word txs runs h k)
+
+var_part_begins : (word : List ℕ) (vars : List Pair) (always : List Always) (txs : List Declaration) (runs : List Pair)
+    → bytes_eq (codes "run") word ≡ false → bytes_eq (codes "tx") word ≡ false → bytes_eq (codes "always") word ≡ false → bytes_eq (codes "var") word ≡ false → begins word (var_part vars always txs runs) ≡ false
+var_part_begins word vars always txs runs h k g v = none_begins word (pair_tokens (codes "var")) (λ p more. begins_other word (codes "var") _ v) vars (always_part always txs runs) (always_part_begins word always txs runs h k g)
+
+heading_again : (form : FileForm) (rest : List Lexeme) → begins (codes "stm") rest ≡ false → heading_at (heading_tokens form ++ rest) ≡ Ok (form, rest)
+unfolding heading_at announced_at
+heading_again One rest stop = rw stop refl
+heading_again Two rest stop =
+    rw (
+      begins_itself (codes "stm") (token.Int (pos 2) ∷ Closes ∷ rest),
+      form_again (codes "stm") (token.Int (pos 2) ∷ Closes ∷ rest),
+      int_again (pos 2) (Closes ∷ rest),
+      close_again rest,
+    ) refl
+
+conditions_again : (form : FileForm) (always : List Always) (rest : List Lexeme) → IsInForm form always → AllByRecursion IsShallowAlways always → begins (codes "always") rest ≡ false
+    → conditions_at form (flat_map always_tokens always ++ rest) ≡ Ok (always, rest)
+unfolding conditions_at
+conditions_again One always rest formed fits stop = rw formed refl
+conditions_again Two always rest formed fits stop =
+    all_again always_tokens IsShallowAlways (begins (codes "always")) always_at always_shortens always_again (λ a more. begins_itself (codes "always") _) always rest fits stop
+
+last : end_at [] ≡ Ok tt
+unfolding end_at
+last = refl
+
+pub file_again : (f : File) → IsInForm f.form f.always → AreShallow f → file_of (file_tokens f) ≡ Ok f
+unfolding file_of
+file_again f formed fits =
+    let padded : file_tokens f ≡ heading_tokens f.form ++ var_part f.vars f.always f.txs f.runs =
+    ap (λ (us : List Lexeme). heading_tokens f.form ++ (flat_map (pair_tokens (codes "var")) f.vars ++ (flat_map always_tokens f.always ++ (flat_map tx_tokens f.txs ++ us)))) (sym (append-nil (flat_map (pair_tokens (codes "run")) f.runs))) in
+    let heading = heading_again f.form (var_part f.vars f.always f.txs f.runs) (var_part_begins (codes "stm") f.vars f.always f.txs f.runs refl refl refl refl) in
+    let vars = all_again (pair_tokens (codes "var")) Any (begins (codes "var")) (pair_at (codes "var")) (pair_shortens (codes "var")) (λ p rest h. pair_again (codes "var") p rest) (λ p rest. begins_itself (codes "var") _) f.vars (always_part f.always f.txs f.runs) (any f.vars) (always_part_begins (codes "var") f.always f.txs f.runs refl refl refl) in
+    let conditions = conditions_again f.form f.always (tx_part f.txs f.runs) formed fits.0 (tx_part_begins (codes "always") f.txs f.runs refl refl) in
+    let txs = all_again tx_tokens IsShallow (begins (codes "tx")) tx_at tx_shortens tx_again (λ t rest. begins_itself (codes "tx") _) f.txs (run_part f.runs) fits.1 (run_part_begins (codes "tx") f.runs refl) in
+    let runs = all_again (pair_tokens (codes "run")) Any (begins (codes "run")) (pair_at (codes "run")) (pair_shortens (codes "run")) (λ p rest h. pair_again (codes "run") p rest) (λ p rest. begins_itself (codes "run") _) f.runs [] (any f.runs) (begins_nothing (codes "run")) in
+    ap file_of padded ∙ rw (heading, vars, conditions, txs, runs, last) refl
+
+pub tree_takes : (bytes : List ℕ) (f : File) → tree_of bytes ≡ Ok f → SpellsTree bytes f
+unfolding tree_of
+tree_takes bytes f e =
+    elim (chosen (ltb max_len (length bytes)) (Err TooLong) (cond (list_all is_allowed bytes) (file_of (tokens bytes)) (Err BadByte)) (Ok f) e) [
+      | inl p ↦ absurd (let h = p.1 in cc)
+      | inr p ↦ elim (chosen (list_all is_allowed bytes) (file_of (tokens bytes)) (Err BadByte) (Ok f) p.1) [
+        | inl q ↦ let t = file_takes (tokens bytes) f q.1 in record { short = ltb-false _ _ p.0; allowed = q.0; spelled = t.spelled; formed = t.formed; shallow = t.shallow }
+        | inr q ↦ absurd (let h = q.1 in cc)
+      ]
+    ]
+
+pub tree_again : (bytes : List ℕ) (f : File) → SpellsTree bytes f → tree_of bytes ≡ Ok f
+unfolding tree_of
+tree_again bytes f s = rw (le-ltb _ _ s.short, s.allowed, s.spelled) (file_again f s.formed s.shallow)
+
+pub is_found : (bytes : List ℕ) (r : Result RawFile ReadFault) → Gives view_file r (tree_of bytes) → IfOk r (λ f. SpellsTree bytes (view_file f))
+is_found bytes (Ok v) given = tree_takes bytes (view_file v) given
+is_found bytes (Err e) given = tt

@@ -1,0 +1,251 @@
+-- Reading tokens from left to right by the grammar, each step with what it reads and the tokens left.
+use Rattle.std.specs.Prelude.{ℕ, zero, suc, ℤ, pos, Result, Ok, Err, List, [], ◌∷◌, length, codes, nat_lt, if◌then◌else◌}
+use Rattle.std.specs.Ordering.{int_eq}
+use Rattle.std.specs.Str.{bytes_eq}
+use Rattle.std.specs.List.{list_all}
+use Rattle.text_words.specs.Answers.{◌>>=◌}
+use Rattle.text_words.specs.TokenReading.{Read, close_at, name_at, int_at, is_open, word_at, form_at, begins, next_at, all_of}
+use Rattle.text_words.specs.Bytes.{is_allowed}
+use Rattle.text_words.specs.Tokens.{Lexeme, Opens, Closes, tokens}
+use Rattle.text_words.specs.Tokens as token
+use Rattle.text_grammar.specs.Tree.{Expr, Cond, Stmt, Stmts, NoStmts, MoreStmts, Pair, Always, Declaration, File}
+use Rattle.text_grammar.specs.Tree as tree
+use Rattle.text_grammar.specs.declared.words.Operator.{Operator}
+use Rattle.text_grammar.specs.declared.words.Operator.TheVariants as operator
+use Rattle.text_grammar.specs.declared.words.Comparison.TheVariants as comparison
+use Rattle.text_grammar.specs.declared.words.Connective.TheVariants as connective
+use Rattle.text_grammar.specs.declared.words.Test.{Test}
+use Rattle.text_grammar.specs.declared.words.Test.TheVariants as test
+use Rattle.text_grammar.specs.declared.words.Keyword.{Keyword}
+use Rattle.text_grammar.specs.declared.words.Keyword.TheVariants as keyword
+use Rattle.text_grammar.specs.declared.file.FileForm.{FileForm}
+use Rattle.text_grammar.specs.declared.file.FileForm.TheVariants.{One, Two}
+use Rattle.text_words.specs.declared.fault.ReadFault.{ReadFault}
+use Rattle.text_words.specs.declared.fault.ReadFault.TheVariants.{TooLong, BadByte, Shape}
+
+-- ---- words
+
+abbrev pub operator_of : List ℕ → Result Operator ReadFault
+operator_of word =
+    if bytes_eq word (codes "add") then Ok operator.Add
+    else (if bytes_eq word (codes "sub") then Ok operator.Sub
+    else (if bytes_eq word (codes "mul") then Ok operator.Mul
+    else (if bytes_eq word (codes "div") then Ok operator.Div
+    else (if bytes_eq word (codes "rem") then Ok operator.Rem
+    else Err Shape))))
+
+abbrev pub test_of : List ℕ → Result Test ReadFault
+test_of word =
+    if bytes_eq word (codes "eq") then Ok (test.Compares comparison.Eq)
+    else (if bytes_eq word (codes "lt") then Ok (test.Compares comparison.Lt)
+    else (if bytes_eq word (codes "le") then Ok (test.Compares comparison.Le)
+    else (if bytes_eq word (codes "not") then Ok test.Negates
+    else (if bytes_eq word (codes "and") then Ok (test.Connects connective.And)
+    else (if bytes_eq word (codes "or") then Ok (test.Connects connective.Or)
+    else Err Shape)))))
+
+abbrev pub keyword_of : List ℕ → Result Keyword ReadFault
+keyword_of word =
+    if bytes_eq word (codes "skip") then Ok keyword.Skip
+    else (if bytes_eq word (codes "set") then Ok keyword.Set
+    else (if bytes_eq word (codes "seq") then Ok keyword.Seq
+    else (if bytes_eq word (codes "if") then Ok keyword.If
+    else (if bytes_eq word (codes "repeat") then Ok keyword.Repeat
+    else (if bytes_eq word (codes "retry") then Ok keyword.Retry
+    else (if bytes_eq word (codes "orelse") then Ok keyword.OrElse
+    else (if bytes_eq word (codes "throw") then Ok keyword.Throw
+    else Err Shape)))))))
+
+-- ---- expressions, with no more than this many parentheses open at a time
+
+-- an operation behind its parenthesis
+abbrev pub binary_with : (List Lexeme → Read Expr) → List Lexeme → Read Expr
+binary_with operand ts = do
+  word ← name_at ts
+  op ← operator_of word.0
+  left ← operand word.1
+  right ← operand left.1
+  rest ← close_at right.1
+  Ok (tree.Binary op left.0 right.0, rest)
+
+-- an expression after its first token, behind a parenthesis by `inside`
+abbrev pub expr_from : (List Lexeme → Read Expr) → Lexeme → List Lexeme → Read Expr
+expr_from inside Opens ts = inside ts
+expr_from inside Closes ts = Err Shape
+expr_from inside (token.Name text) ts = Ok (tree.Name text, ts)
+expr_from inside (token.Int value) ts = Ok (tree.Int value, ts)
+expr_from inside token.Other ts = Err Shape
+
+unfoldable pub expr_at : ℕ → List Lexeme → Read Expr
+expr_at zero ts = do
+  t ← next_at ts
+  expr_from (λ _. Err Shape) t.0 t.1
+expr_at (suc depth) ts = do
+  t ← next_at ts
+  expr_from (binary_with (expr_at depth)) t.0 t.1
+
+-- ---- conditions
+
+-- a condition behind its word
+abbrev pub cond_with : (List Lexeme → Read Expr) → (List Lexeme → Read Cond) → Test → List Lexeme → Read Cond
+cond_with expr part (test.Compares op) ts = do
+  left ← expr ts
+  right ← expr left.1
+  rest ← close_at right.1
+  Ok (tree.Compare op left.0 right.0, rest)
+cond_with expr part test.Negates ts = do
+  inner ← part ts
+  rest ← close_at inner.1
+  Ok (tree.Not inner.0, rest)
+cond_with expr part (test.Connects op) ts = do
+  left ← part ts
+  right ← part left.1
+  rest ← close_at right.1
+  Ok (tree.Connect op left.0 right.0, rest)
+
+unfoldable pub cond_at : ℕ → List Lexeme → Read Cond
+cond_at zero ts = Err Shape
+cond_at (suc depth) ts = do
+  word ← word_at ts
+  kind ← test_of word.0
+  cond_with (expr_at depth) (cond_at depth) kind word.1
+
+-- ---- statements
+
+-- the statements of a list, one behind the other
+abbrev pub row : List Stmt → Stmts
+row [] = NoStmts
+row (s ∷ ss) = MoreStmts s (row ss)
+
+-- ---- the forms of statements, each behind its keyword
+
+unfoldable pub set_with : (List Lexeme → Read Expr) → List Lexeme → Read Stmt
+set_with expr ts = do
+  name ← name_at ts
+  value ← expr name.1
+  rest ← close_at value.1
+  Ok (tree.Set name.0 value.0, rest)
+
+unfoldable pub seq_with : (List Lexeme → Read Stmt) → List Lexeme → Read Stmt
+seq_with part ts = do
+  parts ← all_of is_open part ts
+  rest ← close_at parts.1
+  Ok (tree.Seq (row parts.0), rest)
+
+unfoldable pub if_with : (List Lexeme → Read Cond) → (List Lexeme → Read Stmt) → List Lexeme → Read Stmt
+if_with cond part ts = do
+  tested ← cond ts
+  first ← part tested.1
+  second ← part first.1
+  rest ← close_at second.1
+  Ok (tree.If tested.0 first.0 second.0, rest)
+
+unfoldable pub repeat_with : (List Lexeme → Read Stmt) → List Lexeme → Read Stmt
+repeat_with part ts = do
+  count ← int_at ts
+  body ← part count.1
+  rest ← close_at body.1
+  Ok (tree.Repeat count.0 body.0, rest)
+
+unfoldable pub orelse_with : (List Lexeme → Read Stmt) → List Lexeme → Read Stmt
+orelse_with part ts = do
+  first ← part ts
+  second ← part first.1
+  rest ← close_at second.1
+  Ok (tree.OrElse first.0 second.0, rest)
+
+unfoldable pub throw_with : (List Lexeme → Read Expr) → List Lexeme → Read Stmt
+throw_with expr ts = do
+  value ← expr ts
+  rest ← close_at value.1
+  Ok (tree.Throw value.0, rest)
+
+-- a statement behind its keyword
+abbrev pub stmt_with : (List Lexeme → Read Expr) → (List Lexeme → Read Cond) → (List Lexeme → Read Stmt) → Keyword → List Lexeme → Read Stmt
+stmt_with expr cond part keyword.Skip ts = close_at ts >>= λ rest. Ok (tree.Skip, rest)
+stmt_with expr cond part keyword.Set ts = set_with expr ts
+stmt_with expr cond part keyword.Seq ts = seq_with part ts
+stmt_with expr cond part keyword.If ts = if_with cond part ts
+stmt_with expr cond part keyword.Repeat ts = repeat_with part ts
+stmt_with expr cond part keyword.Retry ts = close_at ts >>= λ rest. Ok (tree.Retry, rest)
+stmt_with expr cond part keyword.OrElse ts = orelse_with part ts
+stmt_with expr cond part keyword.Throw ts = throw_with expr ts
+
+unfoldable pub stmt_at : ℕ → List Lexeme → Read Stmt
+stmt_at zero ts = Err Shape
+stmt_at (suc depth) ts = do
+  word ← word_at ts
+  kind ← keyword_of word.0
+  stmt_with (expr_at depth) (cond_at depth) (stmt_at depth) kind word.1
+
+-- ---- files
+
+-- ( WORD NAME INT )
+unfoldable pub pair_at : List ℕ → List Lexeme → Read Pair
+pair_at word ts = do
+  inside ← form_at word ts
+  name ← name_at inside
+  value ← int_at name.1
+  rest ← close_at value.1
+  Ok (record { name = name.0; value = value.0 }, rest)
+
+-- ( always NAME COND )
+unfoldable pub always_at : List Lexeme → Read Always
+always_at ts = do
+  inside ← form_at (codes "always") ts
+  name ← name_at inside
+  condition ← cond_at 31 name.1
+  rest ← close_at condition.1
+  Ok (record { name = name.0; condition = condition.0 }, rest)
+
+-- conditions, of which form 1 has none
+unfoldable pub conditions_at : FileForm → List Lexeme → Read (List Always)
+conditions_at One ts = Ok ([], ts)
+conditions_at Two ts = all_of (begins (codes "always")) always_at ts
+
+unfoldable pub tx_at : List Lexeme → Read Declaration
+tx_at ts = do
+  inside ← form_at (codes "tx") ts
+  name ← name_at inside
+  body ← stmt_at 31 name.1
+  value ← expr_at 31 body.1
+  rest ← close_at value.1
+  Ok (record { name = name.0; body = body.0; value = value.0 }, rest)
+
+unfoldable pub end_at : List Lexeme → Result Unit ReadFault
+end_at [] = Ok tt
+end_at (t ∷ ts) = Err Shape
+
+-- the only form that is announced
+abbrev pub form_numbered : ℤ → Result FileForm ReadFault
+form_numbered number = if int_eq number (pos 2) then Ok Two else Err Shape
+
+-- ( stm 2 )
+unfoldable pub announced_at : List Lexeme → Read FileForm
+announced_at ts = do
+  inside ← form_at (codes "stm") ts
+  number ← int_at inside
+  form ← form_numbered number.0
+  rest ← close_at number.1
+  Ok (form, rest)
+
+-- form 1, unless another is announced
+unfoldable pub heading_at : List Lexeme → Read FileForm
+heading_at ts = if begins (codes "stm") ts then announced_at ts else Ok (One, ts)
+
+-- the tree of all the tokens
+unfoldable pub file_of : List Lexeme → Result File ReadFault
+file_of ts = do
+  heading ← heading_at ts
+  vars ← all_of (begins (codes "var")) (pair_at (codes "var")) heading.1
+  always ← conditions_at heading.0 vars.1
+  txs ← all_of (begins (codes "tx")) tx_at always.1
+  runs ← all_of (begins (codes "run")) (pair_at (codes "run")) txs.1
+  ended ← end_at runs.1
+  Ok (record { form = heading.0; vars = vars.0; always = always.0; txs = txs.0; runs = runs.0 })
+
+-- the tree of the bytes, or the first fault
+unfoldable pub tree_of : List ℕ → Result File ReadFault
+tree_of bytes =
+    if nat_lt tree.max_len (length bytes) then Err TooLong
+    else (if list_all is_allowed bytes then file_of (tokens bytes) else Err BadByte)

@@ -1,0 +1,11 @@
+use Rattle.std.proofs.Common.{◌+◌, ◌*◌}
+use Rattle.text_parser.proofs.expr.+exprs.Given as goal
+
+abbrev pub decreases-expr_of : goal.decreases-expr_of
+decreases-expr_of l = 3 * l.depth
+
+abbrev pub decreases-binary_of : goal.decreases-binary_of
+decreases-binary_of l = 3 * l.depth + 2
+
+abbrev pub decreases-boxed : goal.decreases-boxed
+decreases-boxed l = 3 * l.depth + 1

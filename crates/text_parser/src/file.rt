@@ -1,0 +1,230 @@
+//! Files as trees of texts.
+
+ghost use Rattle.std.specs.Prelude.{◌≡◌, ◌<◌, List, Ok, IfOk, length, codes};
+ghost use Rattle.text_words.specs.Bytes.{int_value};
+ghost use Rattle.text_words.specs.Tokens.{Lexeme, tokens};
+ghost use Rattle.text_words.specs.Answers.{Gives, ◌>>=◌ as ◌>>=ᴿ◌};
+ghost use Rattle.text_grammar.specs.Tree.{Declaration};
+ghost use Rattle.text_grammar.specs.Reading.{pair_at, always_at, conditions_at, tx_at, end_at, form_numbered, announced_at, heading_at, file_of, tree_of};
+ghost use Rattle.text_words.specs.TokenReading.{begins, all_of, close_at};
+ghost use Rattle.text_grammar.specs.View.{view_expr, view_stmt, view_pair, view_pairs, view_always, view_conditions, view_tx, view_txs, view_file};
+
+use crate::cond::cond_of;
+use crate::expr::expr_of;
+use crate::stmt::stmt_of;
+use std::alloc::Global;
+use text_grammar::expr::RawExpr;
+use text_grammar::file::{FileForm, RawAlways, RawFile, RawPair, RawTx};
+use text_grammar::stmt::RawStmt;
+use text_words::ReadFault;
+use text_words::bytes::are_allowed;
+use text_words::lexer::next_token;
+use text_words::numeral::Numeral;
+use text_words::tokens::{begins, close, form, int_of, name_of};
+
+#[tactic(auto, unfolding(text_grammar::specs::Reading::pair_at))]
+fn pair_of<'a>(bytes: &'a [u8], word: &str) -> Result<(RawPair<'a>, &'a [u8]), ReadFault>
+    ensures value { Gives (λ x. (view_pair x.0, tokens x.1.now)) result (pair_at word.now (tokens bytes.now)) }
+    ensures shorter { IfOk result (λ x. length x.1.now < length bytes.now) }
+{
+    let rest = form(bytes, word)?;
+    let (name, rest) = name_of(rest)?;
+    let (value, rest) = int_of(rest)?;
+    let rest = close(rest)?;
+    Ok((RawPair { name, value }, rest))
+}
+
+/// The most parentheses that may be open inside the one of a condition or of a transaction.
+const INNER_DEPTH: u32 = 31;
+
+#[tactic(auto, unfolding(text_grammar::specs::Reading::always_at))]
+fn always_of(alloc: Global, bytes: &[u8]) -> Result<(RawAlways<'_>, &[u8]), ReadFault>
+    ensures value { Gives (λ x. (view_always x.0, tokens x.1.now)) result (always_at (tokens bytes.now)) }
+    ensures shorter { IfOk result (λ x. length x.1.now < length bytes.now) }
+{
+    let rest = form(bytes, "always")?;
+    let (name, rest) = name_of(rest)?;
+    let (condition, rest) = cond_of(alloc, INNER_DEPTH, rest)?;
+    match close(rest) {
+        Ok(rest) => Ok((RawAlways { name, condition }, rest)),
+        Err(fault) => {
+            drop(condition);
+            Err(fault)
+        }
+    }
+}
+
+#[tactic(auto, unfolding(text_grammar::specs::Reading::tx_at))]
+fn tx_of(alloc: Global, bytes: &[u8]) -> Result<(RawTx<'_>, &[u8]), ReadFault>
+    ensures value { Gives (λ x. (view_tx x.0, tokens x.1.now)) result (tx_at (tokens bytes.now)) }
+    ensures shorter { IfOk result (λ x. length x.1.now < length bytes.now) }
+{
+    let rest = form(bytes, "tx")?;
+    let (name, rest) = name_of(rest)?;
+    let (body, rest) = stmt_of(alloc, INNER_DEPTH, rest)?;
+    match expr_of(alloc, INNER_DEPTH, rest) {
+        Ok((value, rest)) => closed_tx(name, body, value, rest),
+        Err(fault) => {
+            drop(body);
+            Err(fault)
+        }
+    }
+}
+
+/// A transaction behind its value.
+fn closed_tx<'a>(
+    name: &'a str,
+    body: RawStmt<'a>,
+    value: RawExpr<'a>,
+    bytes: &'a [u8],
+) -> Result<(RawTx<'a>, &'a [u8]), ReadFault>
+    ensures value { Gives {Y = Declaration × List Lexeme} (λ x. (view_tx x.0, tokens x.1.now)) result (close_at (tokens bytes.now) >>=ᴿ λ rest. Ok (record { name = name.now; body = view_stmt body.entry; value = view_expr value.entry }, rest)) }
+    ensures shorter { IfOk result (λ x. length x.1.now < length bytes.now) }
+{
+    match close(bytes) {
+        Ok(rest) => Ok((RawTx { name, body, value }, rest)),
+        Err(fault) => {
+            drop(body);
+            drop(value);
+            Err(fault)
+        }
+    }
+}
+
+fn pairs_of<'a>(
+    alloc: Global,
+    bytes: &'a [u8],
+    word: &str,
+) -> Result<(Vec<RawPair<'a>>, &'a [u8]), ReadFault>
+    ensures { Gives (λ x. (view_pairs x.0.items, tokens x.1.now)) result (all_of (begins word.now) (pair_at word.now) (tokens bytes.now)) }
+{
+    let mut pairs = Vec::new(alloc);
+    let mut rest = bytes;
+    'pairs: while begins(rest, word) {
+        let (pair, after) = pair_of(rest, word)?;
+        pairs.push(pair)?;
+        rest = after;
+    }
+    Ok((pairs, rest))
+}
+
+fn standing_of(alloc: Global, bytes: &[u8]) -> Result<(Vec<RawAlways<'_>>, &[u8]), ReadFault>
+    ensures { Gives (λ x. (view_conditions x.0.items, tokens x.1.now)) result (all_of (begins (codes "always")) always_at (tokens bytes.now)) }
+{
+    let mut standing = Vec::new(alloc);
+    let mut rest = bytes;
+    'standing: while begins(rest, "always") {
+        let (always, after) = always_of(alloc, rest)?;
+        standing.push(always)?;
+        rest = after;
+    }
+    Ok((standing, rest))
+}
+
+/// Conditions, of which form 1 has none.
+#[tactic(auto, unfolding(text_grammar::specs::Reading::conditions_at))]
+fn conditions_of(
+    alloc: Global,
+    file_form: FileForm,
+    bytes: &[u8],
+) -> Result<(Vec<RawAlways<'_>>, &[u8]), ReadFault>
+    ensures { Gives (λ x. (view_conditions x.0.items, tokens x.1.now)) result (conditions_at file_form (tokens bytes.now)) }
+{
+    match file_form {
+        FileForm::One => Ok((Vec::new(alloc), bytes)),
+        FileForm::Two => standing_of(alloc, bytes),
+    }
+}
+
+fn txs_of(alloc: Global, bytes: &[u8]) -> Result<(Vec<RawTx<'_>>, &[u8]), ReadFault>
+    ensures { Gives (λ x. (view_txs x.0.items, tokens x.1.now)) result (all_of (begins (codes "tx")) tx_at (tokens bytes.now)) }
+{
+    let mut txs = Vec::new(alloc);
+    let mut rest = bytes;
+    'txs: while begins(rest, "tx") {
+        let (tx, after) = tx_of(alloc, rest)?;
+        txs.push(tx)?;
+        rest = after;
+    }
+    Ok((txs, rest))
+}
+
+#[tactic(auto, unfolding(text_grammar::specs::Reading::end_at))]
+fn end(bytes: &[u8]) -> Result<(), ReadFault>
+    ensures { Gives (λ x. x) result (end_at (tokens bytes.now)) }
+{
+    match next_token(bytes) {
+        Some(_) => Err(ReadFault::Shape),
+        None => Ok(()),
+    }
+}
+
+/// The form of this number, where it is one that is announced.
+fn form_numbered(number: Numeral<'_>) -> Result<FileForm, ReadFault>
+    ensures { Gives (λ x. x) result (form_numbered (int_value number.entry.text.now)) }
+{
+    match number.text.parse::<i64>() {
+        Ok(2) => Ok(FileForm::Two),
+        _ => Err(ReadFault::Shape),
+    }
+}
+
+#[tactic(auto, unfolding(text_grammar::specs::Reading::announced_at))]
+fn announced_of(bytes: &[u8]) -> Result<(FileForm, &[u8]), ReadFault>
+    ensures { Gives (λ x. (x.0, tokens x.1.now)) result (announced_at (tokens bytes.now)) }
+{
+    let rest = form(bytes, "stm")?;
+    let (number, rest) = int_of(rest)?;
+    let file_form = form_numbered(number)?;
+    let rest = close(rest)?;
+    Ok((file_form, rest))
+}
+
+/// Form 1, unless another is announced.
+#[tactic(auto, unfolding(text_grammar::specs::Reading::heading_at))]
+fn heading_of(bytes: &[u8]) -> Result<(FileForm, &[u8]), ReadFault>
+    ensures { Gives (λ x. (x.0, tokens x.1.now)) result (heading_at (tokens bytes.now)) }
+{
+    if begins(bytes, "stm") {
+        announced_of(bytes)
+    } else {
+        Ok((FileForm::One, bytes))
+    }
+}
+
+/// The tree of all the tokens.
+#[tactic(auto, unfolding(text_grammar::specs::Reading::file_of))]
+fn file_of(alloc: Global, bytes: &[u8]) -> Result<RawFile<'_>, ReadFault>
+    ensures { Gives view_file result (file_of (tokens bytes.now)) }
+{
+    let (form, rest) = heading_of(bytes)?;
+    let (vars, rest) = pairs_of(alloc, rest, "var")?;
+    let (always, rest) = conditions_of(alloc, form, rest)?;
+    let (txs, rest) = txs_of(alloc, rest)?;
+    let (runs, rest) = pairs_of(alloc, rest, "run")?;
+    end(rest)?;
+    Ok(RawFile {
+        form,
+        vars,
+        always,
+        txs,
+        runs,
+    })
+}
+
+/// The longest file, in bytes.
+pub const MAX_FILE: usize = 1_048_576;
+
+/// The tree of the bytes, or the first fault of length, bytes and shape, judged over all of them.
+#[tactic(auto, unfolding(text_grammar::specs::Reading::tree_of))]
+pub fn tree_of(alloc: Global, bytes: &[u8]) -> Result<RawFile<'_>, ReadFault>
+    ensures { Gives view_file result (tree_of bytes.now) }
+{
+    if bytes.len() > MAX_FILE {
+        return Err(ReadFault::TooLong);
+    }
+    if !are_allowed(bytes) {
+        return Err(ReadFault::BadByte);
+    }
+    file_of(alloc, bytes)
+}

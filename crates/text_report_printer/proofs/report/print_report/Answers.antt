@@ -1,0 +1,13 @@
+use Rattle.std.proofs.Common.{◌≡◌, ◌∙◌, ◌≤◌, ℕ, List, ◌++◌, length, ap, sym, subst, string_bytes}
+use Rattle.txn_programs.specs.Told.{told}
+use Rattle.text_report_printer.specs.ReportText.{report_text}
+use Rattle.text_report_printer.proofs.Lengths.{report_short}
+use Rattle.text_report_printer.proofs.report.print_report.Goals as goal
+
+pub returns-clause-short : goal.returns-clause-short
+returns-clause-short c =
+    let l = c.args.catalogue.now in
+    let r = told c.args.report.now in
+    let e : string_bytes c.put_report.new.out ≡ report_text l r = c.in_ok-put_report.ensures.text ∙ ap (λ (bs : List ℕ). bs ++ report_text l r) c.in_ok-out.ensures.bytes in
+    λ counts. subst (λ (bs : List ℕ). length bs ≤ 8388608) (sym e)
+    (report_short l r c.rules.ensures.limits c.rules.ensures.named c.requires c.in_ok-put_report.ensures.fits counts)

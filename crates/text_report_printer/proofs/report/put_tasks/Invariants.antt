@@ -1,0 +1,7 @@
+use Rattle.std.proofs.Common.{◌≡◌, ◌++◌, take, string_bytes}
+use Rattle.std.specs.List.{flat_map}
+use Rattle.text_report_printer.specs.ReportText.{task_line}
+use Rattle.text_report_printer.proofs.report.put_tasks.Given as goal
+
+abbrev pub invariant-tasks : goal.invariant-tasks
+invariant-tasks l = string_bytes l.out ≡ string_bytes l.fn.out ++ flat_map (task_line l.catalogue l.kind) (take l.task-index l.tasks)

@@ -1,0 +1,104 @@
+-- A report that is written has allowed bytes alone.
+use Rattle.std.proofs.Common.{◌≡◌, ◌∙◌, ℕ, ◌≤◌, Bool, true, List, [], ◌∷◌, ◌++◌, refl, sym, subst, arith}
+use Rattle.std.specs.Prelude.{codes}
+use Rattle.std.specs.List.{list_all, flat_map, AllByRecursion}
+use Rattle.std.proofs.lemmas.Bool.{and_parts, and_from}
+use Rattle.std.proofs.lemmas.Bool.Decides.{nat_tests}
+use Rattle.std.proofs.lemmas.Grind.{common_steps}
+use Rattle.std.proofs.lemmas.List.Folds.{list_all-append}
+use Rattle.txn_programs.specs.Names.{is_name, is_name_byte}
+use Rattle.text_words.specs.Bytes.{is_allowed, is_int}
+use Rattle.text_words.specs.Words.{line}
+use Rattle.text_report_reader.specs.Raw.{Variable, Ending, Returned, Threw, Overflow, DivideByZero, Broke, Entry, Task, Raw, is_number, variable_words, ending_words, entry_words, task_words, number_words, raw_text, IsVariable, IsEnding, IsEntry, IsTask, IsRaw}
+use Rattle.text_report_reader.specs.Reports.{IsWritten}
+use Rattle.text_report_reader.proofs.Numbers.{is_int_byte, name_bytes, int_bytes, number_is_int}
+
+abbrev pub allowed : List ℕ → Bool
+allowed bytes = list_all is_allowed bytes
+
+between : (b : ℕ) → 32 ≤ b → b ≤ 126 → is_allowed b ≡ true
+between b low high = grind (arith, nat_tests)
+
+name_low : (b : ℕ) → is_name_byte b ≡ true → 32 ≤ b
+name_low b h = grind (arith, common_steps)
+
+name_high : (b : ℕ) → is_name_byte b ≡ true → b ≤ 126
+name_high b h = grind (arith, common_steps)
+
+int_low : (b : ℕ) → is_int_byte b ≡ true → 32 ≤ b
+int_low b h = grind (arith, common_steps)
+
+int_high : (b : ℕ) → is_int_byte b ≡ true → b ≤ 126
+int_high b h = grind (arith, common_steps)
+
+all_by : (p : ℕ → Bool) → ((b : ℕ) → p b ≡ true → is_allowed b ≡ true) → (bs : List ℕ) → list_all p bs ≡ true → allowed bs ≡ true
+all_by p one [] h = refl
+all_by p one (b ∷ bs) h =
+    let q = and_parts (p b) (list_all p bs) h in
+    and_from _ _ (one b q.0) (all_by p one bs q.1)
+
+pub name_allowed : (text : List ℕ) → is_name text ≡ true → allowed text ≡ true
+name_allowed text h = all_by is_name_byte (λ b q. between b (name_low b q) (name_high b q)) text (name_bytes text h)
+
+int_allowed : (text : List ℕ) → is_int text ≡ true → allowed text ≡ true
+int_allowed text h = all_by is_int_byte (λ b q. between b (int_low b q) (int_high b q)) text (int_bytes text h)
+
+pub number_allowed : (text : List ℕ) → is_number text ≡ true → allowed text ≡ true
+number_allowed text h = int_allowed text (number_is_int text h)
+
+two : (a b : List ℕ) → allowed a ≡ true → allowed b ≡ true → allowed (a ++ b) ≡ true
+two a b p q = list_all-append is_allowed a b ∙ and_from _ _ p q
+
+abbrev pub words_allowed : List (List ℕ) → Bool
+words_allowed words = list_all allowed words
+
+line_allowed : (words : List (List ℕ)) → words_allowed words ≡ true → allowed (line words) ≡ true
+line_allowed [] h = refl
+line_allowed (word ∷ []) h = two word (codes "\n") (and_parts (allowed word) true h).0 refl
+line_allowed (word ∷ next ∷ words) h =
+    let p = and_parts (allowed word) (words_allowed (next ∷ words)) h in
+    two word (codes " " ++ line (next ∷ words)) p.0 (line_allowed (next ∷ words) p.1)
+
+pub lines_allowed : {A : Type 0} (words : A → List (List ℕ)) (Is : A → Type 0) → ((x : A) → Is x → words_allowed (words x) ≡ true) → (xs : List A) → AllByRecursion Is xs → allowed (flat_map (λ x. line (words x)) xs) ≡ true
+lines_allowed words Is one [] h = refl
+lines_allowed words Is one (x ∷ xs) h = two (line (words x)) (flat_map (λ y. line (words y)) xs) (line_allowed (words x) (one x h.0)) (lines_allowed words Is one xs h.1)
+
+variable_allowed : (v : Variable) → IsVariable v → words_allowed (variable_words v) ≡ true
+variable_allowed v h = and_from _ _ (name_allowed v.name h.name) (and_from _ _ (int_allowed v.value h.value) (and_from _ _ (number_allowed v.version h.version) refl))
+
+ending_allowed : (x : Ending) → IsEnding x → words_allowed (ending_words x) ≡ true
+ending_allowed (Returned value) h = and_from _ _ refl (and_from _ _ (int_allowed value h) refl)
+ending_allowed (Threw value) h = and_from _ _ refl (and_from _ _ (int_allowed value h) refl)
+ending_allowed Overflow h = refl
+ending_allowed DivideByZero h = refl
+ending_allowed (Broke name) h = and_from _ _ refl (and_from _ _ (name_allowed name h) refl)
+
+entry_allowed : (e : Entry) → IsEntry e → words_allowed (entry_words e) ≡ true
+entry_allowed e h =
+    and_from _ _ refl (and_from _ _ (number_allowed e.number h.number) (and_from _ _ (number_allowed e.task h.task) (and_from _ _ (name_allowed e.name h.name) (ending_allowed e.ending h.ending))))
+
+task_allowed : (word : List ℕ) → allowed word ≡ true → (t : Task) → IsTask t → words_allowed (task_words word t) ≡ true
+task_allowed word w t h = and_from _ _ w (and_from _ _ (number_allowed t.task h.task) (and_from _ _ (name_allowed t.name h.name) refl))
+
+numbered_allowed : (word number : List ℕ) → allowed word ≡ true → is_number number ≡ true → allowed (line (number_words word number)) ≡ true
+numbered_allowed word number w h = line_allowed (word ∷ number ∷ []) (and_from _ _ w (and_from _ _ (number_allowed number h) refl))
+
+-- bytes that are allowed
+record IsAllowed (bytes : List ℕ) : Type 0 where
+  by : allowed bytes ≡ true
+
+join : {a b : List ℕ} → IsAllowed a → IsAllowed b → IsAllowed (a ++ b)
+join {a} {b} p q = record { by = two a b p.by q.by }
+
+text_allowed : (n : ℕ) (r : Raw) → IsRaw n r → IsAllowed (raw_text r)
+text_allowed n r is =
+    let number = λ (word digits : List ℕ) (w : allowed word ≡ true) (h : is_number digits ≡ true). let a : IsAllowed (line (number_words word digits)) = record { by = numbered_allowed word digits w h } in a in
+    let variables = λ (vs : List Variable) (h : AllByRecursion IsVariable vs). let a : IsAllowed (flat_map (λ v. line (variable_words v)) vs) = record { by = lines_allowed variable_words IsVariable variable_allowed vs h } in a in
+    let entries : IsAllowed (flat_map (λ e. line (entry_words e)) r.entries) = record { by = lines_allowed entry_words IsEntry entry_allowed r.entries is.entries } in
+    let tasks = λ (word : List ℕ) (w : allowed word ≡ true) (ts : List Task) (h : AllByRecursion IsTask ts). let a : IsAllowed (flat_map (λ t. line (task_words word t)) ts) = record { by = lines_allowed (task_words word) IsTask (task_allowed word w) ts h } in a in
+    let last : IsAllowed (line (codes "end" ∷ [])) = record { by = line_allowed (codes "end" ∷ []) refl } in
+    join (number (codes "base") r.base refl is.base) (join (variables r.base_vars is.base_vars) (join entries (join (number (codes "now") r.current refl is.current) (join (variables r.current_vars is.current_vars)
+    (join (tasks (codes "parked") refl r.parked is.parked) (join (tasks (codes "memory") refl r.memory is.memory) last))))))
+
+pub raw_allowed : (n : ℕ) (bytes : List ℕ) (r : Raw) → IsWritten n bytes r → list_all is_allowed bytes ≡ true
+raw_allowed n bytes r w = subst (λ (bs : List ℕ). allowed bs ≡ true) (sym w.text) (text_allowed n r w.words).by

@@ -1,0 +1,121 @@
+-- Names that are declared once, and their places.
+use Rattle.std.proofs.Common.{◌≡◌, ◌∙◌, ℕ, zero, suc, ◌<◌, Bool, true, false, ◌||◌, not, List, [], ◌∷◌, ◌++◌, length, map, get_or, Option, Some, None, Ok, refl, sym, ap, subst, arith}
+use Rattle.std.specs.Prelude.{position, bytes_eq, pos}
+use Rattle.std.specs.List.{list_any, position_or_len}
+use Rattle.std.proofs.lemmas.Slice.Eq.{bytes_eq-Decides}
+use Rattle.std.proofs.lemmas.List.{get_or-map, length-map}
+use Rattle.std.proofs.lemmas.List.Quantifiers.{position-Some}
+use Rattle.std.proofs.lemmas.Bool.{and_parts, lt-ltb}
+use Rattle.txn_programs.specs.declared.ast.AlwaysId.{AlwaysId}
+use Rattle.txn_programs.specs.declared.ast.TxId.{TxId}
+use Rattle.txn_programs.specs.Listing.{Listing, program_at, transaction_named, as_transaction, always_name, always_names, condition_named, as_condition}
+use Rattle.txn_programs.specs.Names.{are_new, are_distinct, names_hold}
+use Rattle.txn_programs.specs.Tree.{Condition, Transaction, Skip, Int}
+use Rattle.txn_programs.proofs.Lawful.{names_parts}
+use Rattle.text_report_reader.specs.Resolving.{found, tx_id, always_id}
+
+neither : (a b : Bool) → (a || b) ≡ false → (a ≡ false) × (b ≡ false)
+neither false b h = (refl, h)
+neither true b h = absurd cc
+
+not_true : (b : Bool) → not b ≡ true → b ≡ false
+not_true true h = absurd cc
+not_true false h = refl
+
+-- none of the front and not the last
+any_end : (p : List ℕ → Bool) (xs : List (List ℕ)) (x : List ℕ) → list_any p (xs ++ x ∷ []) ≡ false → (list_any p xs ≡ false) × (p x ≡ false)
+any_end p [] x h = (refl, (neither (p x) false h).0)
+any_end p (y ∷ ys) x h =
+    let a = neither (p y) (list_any p (ys ++ x ∷ [])) h in
+    let b = any_end p ys x a.1 in
+    (rw a.0 b.0, b.1)
+
+-- a name that comes later is none of the earlier ones
+later_new : (earlier names : List (List ℕ)) (i : ℕ) → are_new earlier names ≡ true → i < length names → list_any (bytes_eq (get_or names i [])) earlier ≡ false
+later_new earlier [] i h lt = absurd (omega arith)
+later_new earlier (name ∷ rest) zero h lt = not_true _ (and_parts _ _ h).0
+later_new earlier (name ∷ rest) (suc i) h lt = (any_end (bytes_eq (get_or rest i [])) earlier name (later_new (earlier ++ name ∷ []) rest i (and_parts _ _ h).1 (omega arith))).0
+
+first_place : (earlier names : List (List ℕ)) (i : ℕ) → are_new earlier names ≡ true → i < length names → position_or_len (bytes_eq (get_or names i [])) names ≡ i
+first_place earlier [] i h lt = absurd (omega arith)
+first_place earlier (name ∷ rest) zero h lt = rw ((bytes_eq-Decides name name).1 refl) refl
+first_place earlier (name ∷ rest) (suc i) h lt =
+    let more = (and_parts _ _ h).1 in
+    let other : bytes_eq (get_or rest i []) name ≡ false = (any_end (bytes_eq (get_or rest i [])) earlier name (later_new (earlier ++ name ∷ []) rest i more (omega arith))).1 in
+    let ih : position_or_len (bytes_eq (get_or rest i [])) rest ≡ i = first_place (earlier ++ name ∷ []) rest i more (omega arith) in
+    rw (other, ih) (omega arith)
+
+-- a name stands at its place
+pub place_again : (names : List (List ℕ)) (i : ℕ) → are_distinct names ≡ true → i < length names → position (bytes_eq (get_or names i [])) names ≡ Some i
+place_again names i h lt = rw (first_place [] names i h lt, lt-ltb i (length names) lt) refl
+
+abbrev nothing : Transaction
+nothing = record { name = []; body = Skip; result = Int (pos 0) }
+
+abbrev name_of : Transaction → List ℕ
+name_of t = t.name
+
+named : (l : Listing) (tx : TxId) → tx.0 < length l.transactions → get_or (map name_of l.transactions) tx.0 [] ≡ (program_at l tx).name
+named l tx lt = get_or-map name_of l.transactions tx.0 nothing [] lt
+
+pub tx_named : (l : Listing) (tx : TxId) → names_hold l ≡ true → tx.0 < length l.transactions → transaction_named l (program_at l tx).name ≡ Some tx
+tx_named l tx h lt =
+    let names = map name_of l.transactions in
+    let inside : tx.0 < length names = rw length-map lt in
+    ap (λ (name : List ℕ). as_transaction (position (bytes_eq name) names)) (sym (named l tx lt)) ∙ ap as_transaction (place_again names tx.0 (names_parts l h).tx_distinct inside)
+
+pub tx_again : (l : Listing) (tx : TxId) → names_hold l ≡ true → tx.0 < length l.transactions → tx_id l (program_at l tx).name ≡ Ok tx
+unfolding tx_id
+tx_again l tx h lt = rw (tx_named l tx h lt) refl
+
+-- the transaction of a name has that name
+pub record HasName (l : Listing) (name : List ℕ) (tx : TxId) : Type 0 where
+  pub name_is : (program_at l tx).name ≡ name
+  pub known : tx.0 < length l.transactions
+
+placed : (l : Listing) (name : List ℕ) (o : Option ℕ) (tx : TxId) → position (bytes_eq name) (map name_of l.transactions) ≡ o → found (as_transaction o) ≡ Ok tx → HasName l name tx
+placed l name None tx e is = absurd cc
+placed l name (Some i) tx e is =
+    let names = map name_of l.transactions in
+    let p = position-Some (bytes_eq name) names i [] e in
+    let lt : i < length l.transactions = let inside = p.0 in let n = length-map l.transactions name_of in omega arith in
+    let made : TxId = record { 0 = i } in
+    let same : made ≡ tx = cc in
+    subst (HasName l name) same (record {
+      name_is = sym (named l made lt) ∙ sym ((bytes_eq-Decides name (get_or names i [])).0 p.1);
+      known = lt;
+    })
+
+pub tx_back : (l : Listing) (name : List ℕ) (tx : TxId) → tx_id l name ≡ Ok tx → HasName l name tx
+unfolding tx_id
+tx_back l name tx e = placed l name (position (bytes_eq name) (map name_of l.transactions)) tx refl e
+
+-- a standing condition is the one of its name
+pub condition_is : (l : Listing) (id : AlwaysId) → names_hold l ≡ true → id.0 < length l.always → condition_named l (always_name l id) ≡ Some id
+condition_is l id h lt =
+    let names = always_names l in
+    let inside : id.0 < length names = rw length-map lt in
+    ap as_condition (place_again names id.0 (names_parts l h).always_distinct inside)
+
+pub always_again : (l : Listing) (id : AlwaysId) → names_hold l ≡ true → id.0 < length l.always → always_id l (always_name l id) ≡ Ok id
+unfolding always_id
+always_again l id h lt = rw (condition_is l id h lt) refl
+
+-- the standing condition of a name has that name
+pub record NamesCondition (l : Listing) (name : List ℕ) (id : AlwaysId) : Type 0 where
+  pub name_is : always_name l id ≡ name
+  pub known : id.0 < length l.always
+
+condition_placed : (l : Listing) (name : List ℕ) (o : Option ℕ) (id : AlwaysId) → position (bytes_eq name) (always_names l) ≡ o → found (as_condition o) ≡ Ok id → NamesCondition l name id
+condition_placed l name None id e is = absurd cc
+condition_placed l name (Some i) id e is =
+    let names = always_names l in
+    let p = position-Some (bytes_eq name) names i [] e in
+    let lt : i < length l.always = let inside = p.0 in let n = length-map l.always (λ (a : List ℕ × Condition). a.0) in omega arith in
+    let made : AlwaysId = record { 0 = i } in
+    let same : made ≡ id = cc in
+    subst (NamesCondition l name) same (record { name_is = sym ((bytes_eq-Decides name (get_or names i [])).0 p.1); known = lt })
+
+pub always_back : (l : Listing) (name : List ℕ) (id : AlwaysId) → always_id l name ≡ Ok id → NamesCondition l name id
+unfolding always_id
+always_back l name id e = condition_placed l name (position (bytes_eq name) (always_names l)) id refl e

@@ -1,0 +1,13 @@
+use Rattle.std.proofs.Common.{◌≡◌, length}
+use Rattle.std.specs.Prelude.{codes}
+use Rattle.text_report_reader.specs.Lines.{lines}
+use Rattle.text_report_reader.specs.Reading.{all_at, entry_in}
+use Rattle.text_report_reader.specs.View.{view_entries}
+use Rattle.text_report_reader.proofs.Rows.{with_front}
+use Rattle.text_report_reader.proofs.shape.entries_at.Given as goal
+
+abbrev pub invariant-entries : goal.invariant-entries
+invariant-entries l = with_front (view_entries l.entries.items) (all_at (codes "entry") entry_in (lines l.rest)) ≡ all_at (codes "entry") entry_in (lines l.fn.bytes)
+
+abbrev pub decreases-entries : goal.decreases-entries
+decreases-entries l = length l.rest

@@ -1,0 +1,67 @@
+-- What the code's parts of bytes and raw reports say, and not where they lie in memory.
+use Rattle.std.specs.Prelude.{ℕ, Option, Some, None, List, map}
+use Rattle.std.proofs.Common.{Bor}
+use Rattle.text_report_reader.specs.Lines.{Line, lines}
+use Rattle.text_report_reader.specs.Raw.{Variable, Ending, Entry, Task, Raw}
+use Rattle.text_report_reader.specs.Raw as raw
+use Rattle.text_report_reader.specs.declared.raw.RawVariable.{RawVariable}
+use Rattle.text_report_reader.specs.declared.raw.RawEnding.{RawEnding}
+use Rattle.text_report_reader.specs.declared.raw.RawEnding.TheVariants as code
+use Rattle.text_report_reader.specs.declared.raw.RawEntry.{RawEntry}
+use Rattle.text_report_reader.specs.declared.raw.RawTask.{RawTask}
+use Rattle.text_report_reader.specs.declared.raw.RawReport.{RawReport}
+
+abbrev pub view_parts : Option (Bor (List ℕ) × Bor (List ℕ)) → Option (List ℕ × List ℕ)
+view_parts None = None
+view_parts (Some x) = Some (x.0.now, x.1.now)
+
+abbrev pub view_text : Option (Bor (List ℕ)) → Option (List ℕ)
+view_text None = None
+view_text (Some x) = Some x.now
+
+-- a line, and the lines of the bytes behind it
+abbrev pub view_line : Option (Bor (List ℕ) × Bor (List ℕ)) → Option (List ℕ × List Line)
+view_line None = None
+view_line (Some x) = Some (x.0.now, lines x.1.now)
+
+abbrev pub view_variable : RawVariable → Variable
+view_variable v = record { name = v.name.now; value = v.value.text.now; version = v.version.text.now }
+
+abbrev pub view_ending : RawEnding → Ending
+view_ending (code.Returned value) = raw.Returned value.text.now
+view_ending (code.Threw value) = raw.Threw value.text.now
+view_ending code.Overflow = raw.Overflow
+view_ending code.DivideByZero = raw.DivideByZero
+view_ending (code.Broke name) = raw.Broke name.now
+
+abbrev pub view_entry : RawEntry → Entry
+view_entry e = record { number = e.number.text.now; task = e.task.text.now; name = e.name.now; ending = view_ending e.ending }
+
+abbrev pub view_task : RawTask → Task
+view_task t = record { task = t.task.text.now; name = t.name.now }
+
+abbrev pub view_variables : List RawVariable → List Variable
+view_variables vs = map view_variable vs
+
+abbrev pub view_entries : List RawEntry → List Entry
+view_entries es = map view_entry es
+
+abbrev pub view_tasks : List RawTask → List Task
+view_tasks ts = map view_task ts
+
+-- the next line as it is read, if there is one
+abbrev pub view_next : {A B : Type 0} → (A → B) → Option (A × Bor (List ℕ)) → Option (B × List Line)
+view_next view None = None
+view_next view (Some x) = Some (view x.0, lines x.1.now)
+
+abbrev pub view_raw : RawReport → Raw
+view_raw r =
+    record {
+      base = r.base.text.now;
+      base_vars = view_variables r.base_vars.items;
+      entries = view_entries r.entries.items;
+      current = r.now.text.now;
+      current_vars = view_variables r.now_vars.items;
+      parked = view_tasks r.parked.items;
+      memory = view_tasks r.memory.items;
+    }

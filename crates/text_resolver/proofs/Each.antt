@@ -1,0 +1,48 @@
+-- The loop over items, each of which may fail.
+use Rattle.std.proofs.Common.{◌≡◌, ℕ, suc, ◌+◌, ◌<◌, List, [], ◌∷◌, ◌++◌, length, get_or, drop, map, Result, Ok, Err, refl, sym, ap, ◌∙◌, append_assoc, add-one, arith}
+use Rattle.std.proofs.Math.Seq.{drop-cons}
+use Rattle.std.proofs.lemmas.List.{append-nil}
+use Rattle.text_words.specs.declared.fault.ReadFault.{ReadFault}
+use Rattle.text_words.specs.Answers.{◌>>=◌, Fails}
+use Rattle.text_grammar.specs.Resolving.{each}
+use Rattle.text_words.proofs.Steps.{done}
+use Rattle.text_words.proofs.Many.{failed}
+
+-- the front, and what is made of the rest
+abbrev pub joined : {B : Type 0} → List B → Result (List B) ReadFault → Result (List B) ReadFault
+joined front rest = rest >>= λ ys. Ok (front ++ ys)
+
+regroup : {B : Type 0} (front : List B) (y : B) (rest : Result (List B) ReadFault) → joined front (rest >>= λ ys. done (y ∷ ys)) ≡ joined (front ++ y ∷ []) rest
+regroup front y (Ok ys) = ap done (sym (append_assoc front (y ∷ []) ys))
+regroup front y (Err e) = refl
+
+pub each_more : {A B : Type 0} (one : A → Result B ReadFault) (front : List B) (x : A) (xs : List A) (y : B) (total : Result (List B) ReadFault)
+    → one x ≡ Ok y → joined front (each one (x ∷ xs)) ≡ total → joined (front ++ y ∷ []) (each one xs) ≡ total
+each_more one front x xs y total is so_far =
+    let step : each one (x ∷ xs) ≡ (each one xs >>= λ ys. done (y ∷ ys)) = rw is refl in
+    sym (regroup front y (each one xs)) ∙ ap (joined front) (sym step) ∙ so_far
+
+twice : {A B : Type 0} (front : List B) (r : Result A ReadFault) (f : A → Result (List B) ReadFault) → joined front (r >>= f) ≡ (r >>= λ x. joined front (f x))
+twice front (Ok x) f = refl
+twice front (Err e) f = refl
+
+pub each_fails : {A B : Type 0} (e : ReadFault) (one : A → Result B ReadFault) (front : List B) (x : A) (xs : List A) (total : Result (List B) ReadFault)
+    → Fails e (one x) → joined front (each one (x ∷ xs)) ≡ total → Fails e total
+each_fails e one front x xs total fails so_far =
+    failed e (one x) (λ y. joined front (each one xs >>= λ ys. done (y ∷ ys))) total fails (sym (twice front (one x) (λ y. each one xs >>= λ ys. done (y ∷ ys))) ∙ so_far)
+
+pub each_done : {A B : Type 0} (one : A → Result B ReadFault) (front : List B) (total : Result (List B) ReadFault) → joined front (each one []) ≡ total → total ≡ Ok front
+each_done one front total so_far = sym so_far ∙ ap done (append-nil front)
+
+pub nothing_left : {X : Type 0} (xs : List X) → length xs ≡ 0 → xs ≡ []
+nothing_left [] h = refl
+nothing_left (x ∷ xs) h = absurd (omega arith)
+
+next_item : {X : Type 0} (xs : List X) (i : ℕ) (x : X) → i < length xs → x ≡ get_or xs i x → drop i xs ≡ x ∷ drop (i + 1) xs
+next_item xs i x lt is = drop-cons xs i x lt ∙ ap (λ y. y ∷ drop (suc i) xs) (sym is) ∙ ap (λ k. x ∷ drop k xs) (sym (add-one i))
+
+-- one turn of the loop, which keeps what is made so far behind the front
+pub loop_more : {X A B : Type 0} (one : A → Result B ReadFault) (v : X → A) (front : List B) (xs : List X) (i : ℕ) (x : X) (y : B) (total : Result (List B) ReadFault) → i < length xs → x ≡ get_or xs i x
+    → one (v x) ≡ Ok y → joined front (each one (map v (drop i xs))) ≡ total → joined (front ++ y ∷ []) (each one (map v (drop (i + 1) xs))) ≡ total
+loop_more one v front xs i x y total lt is given so_far =
+    each_more one front (v x) (map v (drop (i + 1) xs)) y total given (ap (λ zs. joined front (each one (map v zs))) (sym (next_item xs i x lt is)) ∙ so_far)

@@ -1,0 +1,63 @@
+-- What the parts of a file come to.
+use Rattle.std.proofs.Common.{◌≡◌, ℕ, ℤ, List, [], ◌∷◌, map, Result, Ok, Err, refl, ap, ◌∙◌, String, Global, string_bytes}
+use Rattle.txn_programs.specs.declared.ast.Cond.{Cond}
+use Rattle.txn_programs.specs.declared.ast.Tx.{Tx}
+use Rattle.txn_programs.specs.declared.ast.TxId.{TxId}
+use Rattle.txn_programs.specs.declared.ast.Stmt.{Stmt}
+use Rattle.txn_programs.specs.Tree.{Condition, Statement, Statements, End, More, Transaction, transaction_of, statement_of, statements_of_list}
+use Rattle.txn_programs.specs.Tree as t
+use Rattle.txn_programs.specs.Listing.{listing_of}
+use Rattle.text_words.specs.declared.fault.ReadFault.{ReadFault}
+use Rattle.text_grammar.specs.Tree.{Stmt as Tree, Seq, File}
+use Rattle.text_words.specs.Answers.{◌>>=◌}
+use Rattle.text_grammar.specs.Reading.{row}
+use Rattle.text_grammar.specs.Resolving.{each, statement_in, statements_in, listing, variable_of, always_in, transaction_in, run_in, converted}
+use Rattle.text_resolver.specs.Parts.{view_variable, view_condition}
+use Rattle.text_words.proofs.Steps.{done}
+
+names_are : (vars : List (String Global × ℤ)) → map (λ (v : List ℕ × ℤ). v.0) (map view_variable vars) ≡ map (λ (v : String Global × ℤ). string_bytes v.0) vars
+names_are [] = refl
+names_are (v ∷ vars) = ap (λ l. string_bytes v.0 ∷ l) (names_are vars)
+
+values_are : (vars : List (String Global × ℤ)) → map (λ (v : List ℕ × ℤ). v.1) (map view_variable vars) ≡ map (λ (v : String Global × ℤ). v.1) vars
+values_are [] = refl
+values_are (v ∷ vars) = ap (λ l. v.1 ∷ l) (values_are vars)
+
+pub parts_are : (vars : List (String Global × ℤ)) (always : List (String Global × Cond)) (txs : List Tx) (runs : List (TxId × ℕ))
+    → listing (map view_variable vars) (map view_condition always) (map transaction_of txs) runs ≡ listing_of vars always txs runs
+parts_are vars always txs runs = rw (names_are vars, values_are vars) refl
+
+-- ---- the parts of a sequence, as a list
+
+abbrev pub chain : List Statement → Statements
+chain [] = End
+chain (p ∷ ps) = More p (chain ps)
+
+pub chain_is : (ps : List Stmt) → statements_of_list ps ≡ chain (map statement_of ps)
+chain_is [] = refl
+chain_is (p ∷ ps) = ap (More (statement_of p)) (chain_is ps)
+
+links : (first : Result Statement ReadFault) (others : Result (List Statement) ReadFault)
+    → (first >>= λ p. (others >>= λ ps. done (chain ps)) >>= λ ps. done (More p ps)) ≡ ((first >>= λ p. others >>= λ ps. done (p ∷ ps)) >>= λ ps. done (chain ps))
+links (Ok p) (Ok ps) = refl
+links (Ok p) (Err e) = refl
+links (Err e) others = refl
+
+statements_are : (names : List (List ℕ)) (ss : List Tree) → statements_in names (row ss) ≡ (each (statement_in names) ss >>= λ ps. done (chain ps))
+statements_are names [] = refl
+statements_are names (s ∷ ss) = rw (statements_are names ss) (links (statement_in names s) (each (statement_in names) ss))
+
+ends : (r : Result (List Statement) ReadFault) → ((r >>= λ ps. done (chain ps)) >>= λ ps. done (t.Seq ps)) ≡ (r >>= λ ps. done (t.Seq (chain ps)))
+ends (Ok ps) = refl
+ends (Err e) = refl
+
+pub seq_is : (names : List (List ℕ)) (ss : List Tree) → statement_in names (Seq (row ss)) ≡ (each (statement_in names) ss >>= λ ps. done (t.Seq (chain ps)))
+seq_is names ss = ap (λ r. r >>= λ ps. done (t.Seq ps)) (statements_are names ss) ∙ ends (each (statement_in names) ss)
+
+-- ---- the whole file
+
+pub converted_is : (vars txs : List (List ℕ)) (file : File) (values : List (List ℕ × ℤ)) (always : List (List ℕ × Condition)) (transactions : List Transaction) (runs : List (TxId × ℕ))
+    → each variable_of file.vars ≡ Ok values → each (always_in vars) file.always ≡ Ok always → each (transaction_in vars) file.txs ≡ Ok transactions → each (run_in txs) file.runs ≡ Ok runs
+    → converted vars txs file ≡ Ok (listing values always transactions runs)
+unfolding converted
+converted_is vars txs file values always transactions runs a b c d = rw (a, b, c, d) refl

@@ -1,0 +1,14 @@
+use Rattle.std.proofs.Common.{◌≡◌, ◌++◌, ◌∷◌, [], map}
+use Rattle.std.proofs.lemmas.List.{map_push}
+use Rattle.text_grammar.specs.Resolving.{each, variable_of}
+use Rattle.text_grammar.specs.View.{view_pair, view_pairs}
+use Rattle.text_resolver.specs.Parts.{view_variable}
+use Rattle.text_resolver.proofs.Each.{loop_more}
+use Rattle.text_resolver.proofs.resolve.variables.Goals as goal
+
+pub pairs-preserved : goal.pairs-preserved
+pairs-preserved c =
+    let made = c.in_ok-variable.variable in
+    let xs = c.args.pairs.now in
+    let e : map view_variable c.push.new.self.items ≡ map view_variable c.pairs.made.items ++ view_variable made ∷ [] = rw c.in_ok-push.ensures.items (map_push view_variable c.pairs.made.items made) in
+    rw e (loop_more variable_of view_pair (map view_variable c.pairs.made.items) xs c.pairs.pair-index c.pair-item.result (view_variable made) (each variable_of (view_pairs xs)) c.pairs-test.true c.pair-item.is c.in_ok-variable.ensures c.pairs.invariant)

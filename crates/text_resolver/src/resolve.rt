@@ -1,0 +1,470 @@
+//! From the tree of a file to conditions and transactions: names as ids, and integers as numbers of
+//! the machine.
+
+ghost use Rattle.std.specs.Prelude.{◌≡◌, Ok, IfOk, IfErr, [], map};
+ghost use Rattle.txn_programs.specs.Tree.{expression_of, condition_of, statement_of, transaction_of};
+ghost use Rattle.text_words.specs.Answers.{Gives, Fails, ◌>>=◌ as ◌>>=ᴿ◌};
+ghost use Rattle.text_grammar.specs.Resolving.{declared_after, condition_name, tx_name, place_in, variable_in, binary, compare, connect, expression_in, condition_in, statement_in, variable_of, always_in, transaction_in, run_in, each, converted, resolved};
+ghost use Rattle.text_words.specs.Bytes.{int_value};
+ghost use Rattle.text_grammar.specs.Reading.{row};
+ghost use Rattle.text_grammar.specs.Tree.{Compare, Set, Seq, Repeat, Throw};
+ghost use Rattle.text_resolver.specs.Texts.{texts};
+ghost use Rattle.text_grammar.specs.View.{view_expr, view_cond, view_stmt, view_stmts, view_pair, view_pairs, view_always, view_conditions, view_tx, view_txs, view_file};
+ghost use Rattle.text_resolver.specs.Parts.{view_variable, view_condition, view_parts};
+
+use crate::names::{condition_names, place_of, tx_names, uses_known, var_names};
+use indexmap::IndexSet;
+use std::alloc::Global;
+use text_grammar::cond::RawCond;
+use text_grammar::expr::RawExpr;
+use text_grammar::file::{RawAlways, RawFile, RawPair, RawTx};
+use text_grammar::stmt::RawStmt;
+use text_grammar::words::{Comparison, Connective, Operator};
+use text_words::ReadFault;
+use text_words::numeral::Numeral;
+use txn_programs::{Cond, Expr, Stmt, Tx, TxId, VarId};
+
+/// The place of a declared name.
+#[tactic(auto, unfolding(text_grammar::specs::Resolving::place_in))]
+fn place_in(names: &IndexSet<&str>, name: &str) -> Result<u32, ReadFault>
+    ensures { Gives (λ x. x) result (place_in (texts names.now.keys) name.now) }
+{
+    let place = place_of(names, name).ok_or(ReadFault::Name)?;
+    u32::try_from(place).ok().ok_or(ReadFault::Limit)
+}
+
+#[tactic(auto, unfolding(text_grammar::specs::Resolving::variable_in))]
+fn variable(names: &IndexSet<&str>, name: &str) -> Result<VarId, ReadFault>
+    ensures { Gives (λ x. x) result (variable_in (texts names.now.keys) name.now) }
+{
+    let place = place_in(names, name)?;
+    Ok(VarId(place))
+}
+
+fn binary(op: Operator, left: Box<Expr>, right: Box<Expr>) -> Expr
+    ensures { expression_of result ≡ binary op (expression_of left.value) (expression_of right.value) }
+{
+    match op {
+        Operator::Add => Expr::Add(left, right),
+        Operator::Sub => Expr::Sub(left, right),
+        Operator::Mul => Expr::Mul(left, right),
+        Operator::Div => Expr::Div(left, right),
+        Operator::Rem => Expr::Rem(left, right),
+    }
+}
+
+#[cycle(expressions)]
+fn expression(alloc: Global, names: &IndexSet<&str>, e: &RawExpr<'_>) -> Result<Expr, ReadFault>
+    ensures { Gives expression_of result (expression_in (texts names.now.keys) (view_expr e.now)) }
+{
+    match e {
+        RawExpr::Int(numeral) => {
+            let number = numeral.number()?;
+            Ok(Expr::Int(number))
+        }
+        RawExpr::Name(name) => {
+            let id = variable(names, *name)?;
+            Ok(Expr::Var(id))
+        }
+        RawExpr::Binary(op, left, right) => {
+            let left = boxed_expression(alloc, names, left)?;
+            let right = boxed_expression(alloc, names, right)?;
+            Ok(binary(*op, left, right))
+        }
+    }
+}
+
+/// An expression that stands in another.
+#[cycle(expressions)]
+fn boxed_expression(
+    alloc: Global,
+    names: &IndexSet<&str>,
+    e: &RawExpr<'_>,
+) -> Result<Box<Expr>, ReadFault>
+    ensures { Gives (λ b. expression_of b.value) result (expression_in (texts names.now.keys) (view_expr e.now)) }
+{
+    let made = expression(alloc, names, e)?;
+    let held = Box::new(alloc, made)?;
+    Ok(held)
+}
+
+fn compare(op: Comparison, left: Expr, right: Expr) -> Cond
+    ensures { condition_of result ≡ compare op (expression_of left) (expression_of right) }
+{
+    match op {
+        Comparison::Eq => Cond::Eq(left, right),
+        Comparison::Lt => Cond::Lt(left, right),
+        Comparison::Le => Cond::Le(left, right),
+    }
+}
+
+fn comparison(
+    alloc: Global,
+    names: &IndexSet<&str>,
+    op: Comparison,
+    left: &RawExpr<'_>,
+    right: &RawExpr<'_>,
+) -> Result<Cond, ReadFault>
+    ensures { Gives condition_of result (condition_in (texts names.now.keys) (Compare op (view_expr left.now) (view_expr right.now))) }
+{
+    let left = expression(alloc, names, left)?;
+    let right = expression(alloc, names, right)?;
+    Ok(compare(op, left, right))
+}
+
+fn connect(op: Connective, left: Box<Cond>, right: Box<Cond>) -> Cond
+    ensures { condition_of result ≡ connect op (condition_of left.value) (condition_of right.value) }
+{
+    match op {
+        Connective::And => Cond::And(left, right),
+        Connective::Or => Cond::Or(left, right),
+    }
+}
+
+#[cycle(conditions)]
+fn condition(alloc: Global, names: &IndexSet<&str>, c: &RawCond<'_>) -> Result<Cond, ReadFault>
+    ensures { Gives condition_of result (condition_in (texts names.now.keys) (view_cond c.now)) }
+{
+    match c {
+        RawCond::Compare(op, left, right) => comparison(alloc, names, *op, left, right),
+        RawCond::Not(inner) => {
+            let inner = boxed_condition(alloc, names, inner)?;
+            Ok(Cond::Not(inner))
+        }
+        RawCond::Connect(op, left, right) => {
+            let left = boxed_condition(alloc, names, left)?;
+            let right = boxed_condition(alloc, names, right)?;
+            Ok(connect(*op, left, right))
+        }
+    }
+}
+
+#[cycle(conditions)]
+fn boxed_condition(
+    alloc: Global,
+    names: &IndexSet<&str>,
+    c: &RawCond<'_>,
+) -> Result<Box<Cond>, ReadFault>
+    ensures { Gives (λ b. condition_of b.value) result (condition_in (texts names.now.keys) (view_cond c.now)) }
+{
+    let made = condition(alloc, names, c)?;
+    let held = Box::new(alloc, made)?;
+    Ok(held)
+}
+
+fn setting(
+    alloc: Global,
+    names: &IndexSet<&str>,
+    name: &str,
+    value: &RawExpr<'_>,
+) -> Result<Stmt, ReadFault>
+    ensures { Gives statement_of result (statement_in (texts names.now.keys) (Set name.now (view_expr value.now))) }
+{
+    let id = variable(names, name)?;
+    let value = expression(alloc, names, value)?;
+    Ok(Stmt::Set(id, value))
+}
+
+fn throwing(alloc: Global, names: &IndexSet<&str>, value: &RawExpr<'_>) -> Result<Stmt, ReadFault>
+    ensures { Gives statement_of result (statement_in (texts names.now.keys) (Throw (view_expr value.now))) }
+{
+    let value = expression(alloc, names, value)?;
+    Ok(Stmt::Throw(value))
+}
+
+#[cycle(resolving)]
+fn statement(alloc: Global, names: &IndexSet<&str>, s: &RawStmt<'_>) -> Result<Stmt, ReadFault>
+    ensures { Gives statement_of result (statement_in (texts names.now.keys) (view_stmt s.now)) }
+{
+    match s {
+        RawStmt::Skip => Ok(Stmt::Skip),
+        RawStmt::Set(name, value) => setting(alloc, names, *name, value),
+        RawStmt::Seq(parts) => sequence(alloc, names, parts.as_slice()),
+        RawStmt::If(test, first, second) => {
+            let test = condition(alloc, names, test)?;
+            match boxed_statement(alloc, names, first) {
+                Ok(first) => match boxed_statement(alloc, names, second) {
+                    Ok(second) => Ok(Stmt::If(test, first, second)),
+                    Err(fault) => {
+                        drop(test);
+                        Err(fault)
+                    }
+                },
+                Err(fault) => {
+                    drop(test);
+                    Err(fault)
+                }
+            }
+        }
+        RawStmt::Repeat(count, body) => repetition(alloc, names, *count, body),
+        RawStmt::Retry => Ok(Stmt::Retry),
+        RawStmt::OrElse(first, second) => {
+            let first = boxed_statement(alloc, names, first)?;
+            let second = boxed_statement(alloc, names, second)?;
+            Ok(Stmt::OrElse(first, second))
+        }
+        RawStmt::Throw(value) => throwing(alloc, names, value),
+    }
+}
+
+/// The statements of a sequence as one.
+#[cycle(resolving)]
+fn sequence(alloc: Global, names: &IndexSet<&str>, parts: &[RawStmt<'_>]) -> Result<Stmt, ReadFault>
+    ensures { Gives statement_of result (statement_in (texts names.now.keys) (Seq (row (view_stmts parts.now)))) }
+{
+    let parts = statements(alloc, names, parts)?;
+    Ok(Stmt::Seq(parts))
+}
+
+/// A statement that is run a number of times.
+#[cycle(resolving)]
+fn repetition(
+    alloc: Global,
+    names: &IndexSet<&str>,
+    count: Numeral<'_>,
+    body: &RawStmt<'_>,
+) -> Result<Stmt, ReadFault>
+    ensures { Gives statement_of result (statement_in (texts names.now.keys) (Repeat (int_value count.entry.text.now) (view_stmt body.now))) }
+{
+    let count = count.count()?;
+    let body = boxed_statement(alloc, names, body)?;
+    Ok(Stmt::Repeat(count, body))
+}
+
+#[cycle(resolving)]
+fn boxed_statement(
+    alloc: Global,
+    names: &IndexSet<&str>,
+    s: &RawStmt<'_>,
+) -> Result<Box<Stmt>, ReadFault>
+    ensures { Gives (λ b. statement_of b.value) result (statement_in (texts names.now.keys) (view_stmt s.now)) }
+{
+    let made = statement(alloc, names, s)?;
+    let held = Box::new(alloc, made)?;
+    Ok(held)
+}
+
+#[cycle(resolving)]
+fn statements(
+    alloc: Global,
+    names: &IndexSet<&str>,
+    parts: &[RawStmt<'_>],
+) -> Result<Vec<Stmt>, ReadFault>
+    ensures { Gives (λ made. map statement_of made.items) result (each (statement_in (texts names.now.keys)) (view_stmts parts.now)) }
+{
+    let mut made = Vec::new(alloc);
+    'parts: for part in parts {
+        let statement = statement(alloc, names, part)?;
+        made.push(statement)?;
+    }
+    Ok(made)
+}
+
+/// A variable's name and first value.
+fn variable_of(alloc: Global, pair: &RawPair<'_>) -> Result<(String, i64), ReadFault>
+    ensures { Gives view_variable result (variable_of (view_pair pair.now)) }
+{
+    let value = pair.value.number()?;
+    let name = String::from_str(alloc, pair.name)?;
+    Ok((name, value))
+}
+
+fn variables(alloc: Global, pairs: &[RawPair<'_>]) -> Result<Vec<(String, i64)>, ReadFault>
+    ensures { Gives (λ made. map view_variable made.items) result (each variable_of (view_pairs pairs.now)) }
+{
+    let mut made = Vec::new(alloc);
+    'pairs: for pair in pairs {
+        let variable = variable_of(alloc, pair)?;
+        made.push(variable)?;
+    }
+    Ok(made)
+}
+
+/// A condition that has to stand, with its name.
+fn always(
+    alloc: Global,
+    names: &IndexSet<&str>,
+    raw: &RawAlways<'_>,
+) -> Result<(String, Cond), ReadFault>
+    ensures { Gives view_condition result (always_in (texts names.now.keys) (view_always raw.now)) }
+{
+    let name = String::from_str(alloc, raw.name)?;
+    let condition = condition(alloc, names, &raw.condition)?;
+    Ok((name, condition))
+}
+
+/// A condition that has to stand, whose tree is let go.
+fn always_from(
+    alloc: Global,
+    names: &IndexSet<&str>,
+    raw: RawAlways<'_>,
+) -> Result<(String, Cond), ReadFault>
+    ensures { Gives view_condition result (always_in (texts names.now.keys) (view_always raw.entry)) }
+{
+    let made = always(alloc, names, &raw);
+    drop(raw);
+    made
+}
+
+/// The conditions that have to stand. The tree of each is let go as soon as it is made.
+fn conditions(
+    alloc: Global,
+    names: &IndexSet<&str>,
+    conditions: Vec<RawAlways<'_>>,
+) -> Result<Vec<(String, Cond)>, ReadFault>
+    ensures { Gives (λ made. map view_condition made.items) result (each (always_in (texts names.now.keys)) (view_conditions conditions.entry.items)) }
+{
+    let mut made = Vec::new(alloc);
+    'conditions: for raw in conditions {
+        let condition = always_from(alloc, names, raw)?;
+        made.push(condition)?;
+    }
+    Ok(made)
+}
+
+fn transaction(alloc: Global, names: &IndexSet<&str>, tx: &RawTx<'_>) -> Result<Tx, ReadFault>
+    ensures { Gives transaction_of result (transaction_in (texts names.now.keys) (view_tx tx.now)) }
+{
+    let name = String::from_str(alloc, tx.name)?;
+    let body = statement(alloc, names, &tx.body)?;
+    match expression(alloc, names, &tx.value) {
+        Ok(result) => Ok(Tx { name, body, result }),
+        Err(fault) => {
+            drop(body);
+            Err(fault)
+        }
+    }
+}
+
+/// A transaction, whose tree is let go.
+fn transaction_from(alloc: Global, names: &IndexSet<&str>, tx: RawTx<'_>) -> Result<Tx, ReadFault>
+    ensures { Gives transaction_of result (transaction_in (texts names.now.keys) (view_tx tx.entry)) }
+{
+    let made = transaction(alloc, names, &tx);
+    drop(tx);
+    made
+}
+
+/// The transactions. The tree of each is let go as soon as it is made, so that no more than one of
+/// them stands twice.
+fn transactions(
+    alloc: Global,
+    names: &IndexSet<&str>,
+    txs: Vec<RawTx<'_>>,
+) -> Result<Vec<Tx>, ReadFault>
+    ensures { Gives (λ made. map transaction_of made.items) result (each (transaction_in (texts names.now.keys)) (view_txs txs.entry.items)) }
+{
+    let mut made = Vec::new(alloc);
+    'txs: for tx in txs {
+        let transaction = transaction_from(alloc, names, tx)?;
+        made.push(transaction)?;
+    }
+    Ok(made)
+}
+
+fn run(names: &IndexSet<&str>, pair: &RawPair<'_>) -> Result<(TxId, u32), ReadFault>
+    ensures { Gives (λ x. x) result (run_in (texts names.now.keys) (view_pair pair.now)) }
+{
+    let place = place_in(names, pair.name)?;
+    let count = pair.value.count()?;
+    Ok((TxId(place), count))
+}
+
+fn runs(
+    alloc: Global,
+    names: &IndexSet<&str>,
+    pairs: &[RawPair<'_>],
+) -> Result<Vec<(TxId, u32)>, ReadFault>
+    ensures { Gives (λ made. made.items) result (each (run_in (texts names.now.keys)) (view_pairs pairs.now)) }
+{
+    let mut made = Vec::new(alloc);
+    'pairs: for pair in pairs {
+        let entry = run(names, pair)?;
+        made.push(entry)?;
+    }
+    Ok(made)
+}
+
+/// What a catalogue is built of.
+#[derive(Drop)]
+pub struct Parts {
+    pub vars: Vec<(String, i64)>,
+    pub always: Vec<(String, Cond)>,
+    pub txs: Vec<Tx>,
+    pub runs: Vec<(TxId, u32)>,
+}
+
+#[tactic(auto, unfolding(text_grammar::specs::Resolving::converted))]
+fn convert(
+    alloc: Global,
+    vars: &IndexSet<&str>,
+    txs: &IndexSet<&str>,
+    file: RawFile<'_>,
+) -> Result<Parts, ReadFault>
+    ensures { Gives view_parts result (converted (texts vars.now.keys) (texts txs.now.keys) (view_file file.entry)) }
+{
+    let variables = variables(alloc, &file.vars)?;
+    let conditions = conditions(alloc, vars, file.always)?;
+    let transactions = transactions(alloc, vars, file.txs)?;
+    let runs = runs(alloc, txs, &file.runs)?;
+    Ok(Parts {
+        vars: variables,
+        always: conditions,
+        txs: transactions,
+        runs,
+    })
+}
+
+/// The names of variables and of transactions, where each name is declared once and only declared
+/// ones are used.
+#[tactic(auto, unfolding(text_grammar::specs::Resolving::resolved))]
+fn judged_names<'a>(
+    alloc: Global,
+    file: &RawFile<'a>,
+) -> Result<(IndexSet<&'a str>, IndexSet<&'a str>), ReadFault>
+    ensures known { IfOk result (λ names. resolved (view_file file.now) ≡ converted (texts names.0.keys) (texts names.1.keys) (view_file file.now)) }
+    ensures fault { IfErr result (λ fault. Fails fault (resolved (view_file file.now))) }
+{
+    let vars = var_names(alloc, &file.vars)?;
+    match later_names(alloc, file) {
+        Ok(txs) => {
+            if !uses_known(&vars, &txs, file) {
+                drop(vars);
+                drop(txs);
+                return Err(ReadFault::Name);
+            }
+            Ok((vars, txs))
+        }
+        Err(fault) => {
+            drop(vars);
+            Err(fault)
+        }
+    }
+}
+
+/// The names of transactions, where those of conditions are declared once too.
+fn later_names<'a>(alloc: Global, file: &RawFile<'a>) -> Result<IndexSet<&'a str>, ReadFault>
+    ensures { Gives (λ names. texts names.keys) result (declared_after [] (map condition_name (view_file file.now).always) >>=ᴿ λ _. declared_after [] (map tx_name (view_file file.now).txs)) }
+{
+    condition_names(alloc, &file.always)?;
+    tx_names(alloc, &file.txs)
+}
+
+/// What the file declares, or its first fault: names are judged over the whole file before any
+/// number is.
+pub fn resolve(alloc: Global, file: RawFile<'_>) -> Result<Parts, ReadFault>
+    ensures { Gives view_parts result (resolved (view_file file.entry)) }
+{
+    match judged_names(alloc, &file) {
+        Ok((vars, txs)) => {
+            let parts = convert(alloc, &vars, &txs, file);
+            drop(vars);
+            drop(txs);
+            parts
+        }
+        Err(fault) => {
+            drop(file);
+            Err(fault)
+        }
+    }
+}

@@ -1,0 +1,88 @@
+-- What a catalogue lists: variables, transactions and runs, in declared order.
+use Rattle.std.specs.Prelude.{ℕ, ℤ, List, [], map, flat_map, replicate, slice_index_or, string_bytes, bytes_eq, position, pos, Option, Some, None}
+use Rattle.std.specs.declared.alloc.Global.{Global}
+use Rattle.std.specs.declared.string.String.{String}
+use Rattle.txn_programs.specs.declared.ast.VarId.{VarId}
+use Rattle.txn_programs.specs.declared.ast.TxId.{TxId}
+use Rattle.txn_programs.specs.declared.ast.TaskId.{TaskId}
+use Rattle.txn_programs.specs.declared.ast.Tx.{Tx}
+use Rattle.txn_programs.specs.declared.ast.Cond.{Cond}
+use Rattle.txn_programs.specs.declared.ast.AlwaysId.{AlwaysId}
+use Rattle.txn_programs.specs.Tree.{Condition, condition_of, Transaction, transaction_of, Program, under, Skip, Int}
+
+pub record Listing : Type 0 where
+  -- the variables' names, and beside them their initial values
+  pub names : List (List ℕ)
+  pub initial : List ℤ
+  -- the standing conditions, each with its name
+  pub always : List (List ℕ × Condition)
+  pub transactions : List Transaction
+  -- a transaction, and how many tasks run it
+  pub runs : List (TxId × ℕ)
+
+-- the listing of what `build` is given
+abbrev pub listing_of : List (String Global × ℤ) → List (String Global × Cond) → List Tx → List (TxId × ℕ) → Listing
+listing_of vars always txs runs =
+    record {
+      names = map (λ v. string_bytes v.0) vars;
+      initial = map (λ v. v.1) vars;
+      always = map (λ a. (string_bytes a.0, condition_of a.1)) always;
+      transactions = map transaction_of txs;
+      runs = runs;
+    }
+
+-- the standing conditions, and beside them their names
+abbrev pub conditions : Listing → List Condition
+conditions l = map (λ a. a.1) l.always
+
+abbrev pub always_names : Listing → List (List ℕ)
+always_names l = map (λ a. a.0) l.always
+
+-- each task's transaction: a run of n is n tasks, in the order of the runs
+abbrev pub tasks_of : List (TxId × ℕ) → List TxId
+tasks_of runs = flat_map (λ run. replicate run.1 run.0) runs
+
+abbrev pub tasks : Listing → List TxId
+tasks l = tasks_of l.runs
+
+-- the transaction of a task
+abbrev pub task_tx : Listing → TaskId → TxId
+task_tx l task = slice_index_or (tasks l) task.0 (record { 0 = 0 })
+
+abbrev pub transaction_at : Listing → TxId → Transaction
+transaction_at l tx = slice_index_or l.transactions tx.0 (record { name = []; body = Skip; result = Int (pos 0) })
+
+-- the program of a transaction
+abbrev pub program_at : Listing → TxId → Program
+program_at l tx = under (conditions l) (transaction_at l tx)
+
+abbrev pub task_program : Listing → TaskId → Program
+task_program l task = program_at l (task_tx l task)
+
+abbrev pub as_variable : Option ℕ → Option VarId
+as_variable None = None
+as_variable (Some place) = Some (record { 0 = place })
+
+abbrev pub as_transaction : Option ℕ → Option TxId
+as_transaction None = None
+as_transaction (Some place) = Some (record { 0 = place })
+
+-- the variable of a name
+abbrev pub variable_named : Listing → List ℕ → Option VarId
+variable_named l name = as_variable (position (bytes_eq name) l.names)
+
+-- the transaction of a name
+abbrev pub transaction_named : Listing → List ℕ → Option TxId
+transaction_named l name = as_transaction (position (bytes_eq name) (map (λ t. t.name) l.transactions))
+
+abbrev pub as_condition : Option ℕ → Option AlwaysId
+as_condition None = None
+as_condition (Some place) = Some (record { 0 = place })
+
+-- the standing condition of a name
+abbrev pub condition_named : Listing → List ℕ → Option AlwaysId
+condition_named l name = as_condition (position (bytes_eq name) (always_names l))
+
+-- the name of a standing condition
+abbrev pub always_name : Listing → AlwaysId → List ℕ
+always_name l id = slice_index_or (always_names l) id.0 []

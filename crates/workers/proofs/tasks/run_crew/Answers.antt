@@ -1,6 +1,0 @@
-use denote.Param.Send.{sendable}
-use Rattle.workers.proofs.Crew.{crew_sync}
-use Rattle.workers.proofs.tasks.run_crew.Goals as goal
-
-pub start-requires-sync-F : goal.start-requires-sync-F
-start-requires-sync-F g c κs within = search (sendable, crew_sync) depth 12
