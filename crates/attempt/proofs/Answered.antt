@@ -11,8 +11,8 @@ use Rattle.txn_programs.specs.declared.ast.Fault.TheVariants.{User, Broken}
 use Rattle.txn_programs.specs.declared.ast.AlwaysId.{AlwaysId}
 use Rattle.txn_programs.specs.declared.ast.Outcome.{Outcome}
 use Rattle.txn_programs.specs.Tree.{Expression, Int, Var, Add, Sub, Mul, Div, Rem, Condition, Eq, Lt, Le, Not, And, Or, Statement, Skip, Set, Seq, If, Repeat, Retry, OrElse, Throw, Statements, End, More, Program}
-use Rattle.attempt_machine.specs.declared.evaluate.Halt.{Halt}
-use Rattle.attempt_machine.specs.declared.evaluate.Halt.TheVariants.{Need, Fails}
+use Rattle.attempt_machine.specs.declared.found.Halt.{Halt}
+use Rattle.attempt_machine.specs.declared.found.Halt.TheVariants.{Need, Fails}
 use Rattle.attempt.specs.declared.next.Stand.TheVariants as stand
 use Rattle.attempt_machine.specs.Asking.{Known, known_at, write, or_known, or_need, see, halting, see_value, see_truth, see_run, see_run_all, blame, see_upheld, see_upheld_result, see_final, Answer, Needs, Ends, ask, answer_of, answer_by}
 use Rattle.attempt_writes.specs.Order.{AllKnown, Ascending}

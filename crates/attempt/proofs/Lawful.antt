@@ -19,6 +19,7 @@ use Rattle.txn_programs.specs.Tree.{Program}
 use Rattle.attempt.specs.View.{AttemptView, OnlyOfReturned, supplied}
 use Rattle.attempt.proofs.Answered.{needs_missing, ends_well}
 use Rattle.attempt_writes.proofs.Pairs.{AllKnown-append, Apart-append}
+use Rattle.attempt_writes.specs.Order.{AllKnown, Apart}
 
 pub waiting : (a : AttemptView) (x : VarId) (n total : ℕ) → IsLawful a → ask a.program a.log ≡ Needs x → n ≤ cost a.program → total ≤ cost a.program + length a.log →
     IsLawful (record { program = a.program; variables = a.variables; log = a.log; writes = []; stand = stand.Needs x; steps = n; total = total })
@@ -87,14 +88,14 @@ spent a n total kept le few =
     }
 
 -- a machine that waits can go on with a longer log
-pub supplied_goes : (t : Program) (log : Known) (m : Machine) (count : Count) (total : ℕ) (x : VarId) (v : ℤ) → IsGoing t log m count total 1 → IsGoing t (log ++ (x, v) ∷ []) m count total 0
+pub supplied_goes : (t : Program) (log : Known) (m : Machine) (count : Count) (total : ℕ) (x : VarId) (v : ℤ) → IsGoing t log m count total 0 1 → IsGoing t (log ++ (x, v) ∷ []) m count total 1 1
 supplied_goes t log m count total x v going =
     let longer = length-append log ((x, v) ∷ []) in
     record {
       reached = reached_more (program_code t) log ((x, v) ∷ []) (place_of m) count.entered going.reached;
       ahead = going.ahead;
-      most = omega (arith, going.most, longer);
-      least = omega (arith, going.least, longer);
+      counted = omega (arith, going.counted, longer);
+      waited = going.waited;
     }
 
 -- where it is over the pairs are its writes, and where it waits the machine is as it was
@@ -104,25 +105,46 @@ Settles (stand.Needs x) m after = after ≡ m
 Settles (stand.Over o) m after = after.own.pairs ≡ m.own.writes
 Settles stand.Spent m after = Unit {0}
 
--- an attempt whose machine went on
-pub went_on : (i : Inside) (s : Stand) (m after : Machine) (count : Count) (len : ℕ) → IsKept i → i.stand ≡ stand.Fresh → len ≡ length i.log →
-    Stops (program_at i.catalogue.now i.id) i.log s (place_of m) count.entered count.ahead → count.entered + count.ahead ≤ cost (program_at i.catalogue.now i.id) → Settles s m after →
-    IsKept (record { catalogue = i.catalogue; id = i.id; machine = after; count = count; log = i.log; stand = s; steps = count.entered + count.ahead + len - i.total; total = count.entered + count.ahead + len })
-went_on i s m after count len kept fresh same stops few settles =
-    let going = subst (GoesOn (program_at i.catalogue.now i.id) i.log i.machine i.count i.total) fresh kept.going in
-    at s stops settles (omega (arith, few, same, going.least)) (omega (arith, few, same))
+-- a fresh attempt with a longer log
+pub longer : (a : AttemptView) (log : Known) → IsLawful a → a.stand ≡ stand.Fresh → AllKnown a.variables log → Apart log → length a.log ≤ length log →
+    IsLawful (record { program = a.program; variables = a.variables; log = log; writes = a.writes; stand = a.stand; steps = a.steps; total = a.total })
+longer a log kept fresh known apart le =
+    record {
+      small = kept.small;
+      known = kept.known;
+      logged = known;
+      apart = apart;
+      written = kept.written;
+      ascending = kept.ascending;
+      only = kept.only;
+      stands = subst (StandsAt (record { program = a.program; variables = a.variables; log = log; writes = a.writes; stand = a.stand; steps = a.steps; total = a.total })) (sym fresh) tt;
+      steps = kept.steps;
+      total = omega (arith, kept.total, le);
+    }
+
+-- an attempt whose machine went on, and read what the log has more
+pub went_on : (i : Inside) (s : Stand) (m after : Machine) (count : Count) (log : Known) (n read : ℕ) → IsKept i → i.stand ≡ stand.Fresh →
+    n ≡ count.entered + count.ahead - i.count.entered - i.count.ahead + i.again → length i.log + read ≡ length log → AllKnown (length i.catalogue.now.initial) log → Apart log →
+    Stops (program_at i.catalogue.now i.id) log s (place_of m) count.entered count.ahead → count.entered + count.ahead ≤ cost (program_at i.catalogue.now i.id) → i.count.entered + i.count.ahead ≤ count.entered + count.ahead → Settles s m after →
+    IsKept (record { catalogue = i.catalogue; id = i.id; machine = after; count = count; log = log; stand = s; steps = n; total = i.total + (n + read); again = 0 })
+went_on i s m after count log n read kept fresh same grown known apart stops few more settles =
+    let going = subst (GoesOn (program_at i.catalogue.now i.id) i.log i.machine i.count i.total i.again) fresh kept.going in
+    let lawful = longer (viewed i) log kept.lawful fresh known apart (omega (arith, grown)) in
+    at lawful s stops settles (omega (arith, few, more, same, going.waited)) (omega (arith, more, same, grown, going.counted)) (omega (arith, few, more, same, grown, going.counted))
   where
-    at : (s : Stand) → Stops (program_at i.catalogue.now i.id) i.log s (place_of m) count.entered count.ahead → Settles s m after →
-        count.entered + count.ahead + len - i.total ≤ cost (program_at i.catalogue.now i.id) → count.entered + count.ahead + len ≤ cost (program_at i.catalogue.now i.id) + length i.log →
-        IsKept (record { catalogue = i.catalogue; id = i.id; machine = after; count = count; log = i.log; stand = s; steps = count.entered + count.ahead + len - i.total; total = count.entered + count.ahead + len })
-    at stand.Fresh h same_machine le few = absurd h
-    at (stand.Needs x) h same_machine le few =
+    at : IsLawful (record { program = program_at i.catalogue.now i.id; variables = length i.catalogue.now.initial; log = log; writes = (viewed i).writes; stand = i.stand; steps = i.steps; total = i.total }) →
+        (s : Stand) → Stops (program_at i.catalogue.now i.id) log s (place_of m) count.entered count.ahead → Settles s m after →
+        n ≤ cost (program_at i.catalogue.now i.id) → i.total + (n + read) ≡ count.entered + count.ahead + length log → i.total + (n + read) ≤ cost (program_at i.catalogue.now i.id) + length log →
+        IsKept (record { catalogue = i.catalogue; id = i.id; machine = after; count = count; log = log; stand = s; steps = n; total = i.total + (n + read); again = 0 })
+    at lawful stand.Fresh h same_machine le counted few = absurd h
+    at lawful (stand.Needs x) h same_machine le counted few =
         record {
           declared = kept.declared;
-          lawful = waiting (viewed i) x _ _ kept.lawful h.0 le few;
-          going = subst (λ m. IsGoing (program_at i.catalogue.now i.id) i.log m count (count.entered + count.ahead + len) 1) (sym same_machine) (record { reached = h.1; ahead = omega (arith, h.2); most = omega (arith, same); least = omega (arith, same, h.3) });
+          lawful = waiting _ x _ _ lawful h.0 le few;
+          going = subst (λ m. IsGoing (program_at i.catalogue.now i.id) log m count (i.total + (n + read)) 0 1) (sym same_machine) (record { reached = h.1; ahead = omega (arith, h.2); counted = omega (arith, counted); waited = h.3 });
+          once = omega arith;
         }
-    at (stand.Over o) h pairs le few =
-        let ends = subst (λ w. ask (program_at i.catalogue.now i.id) i.log ≡ Ends o w) (sym pairs) h in
-        record { declared = kept.declared; lawful = over (viewed i) o after.own.pairs _ _ kept.lawful ends le few; going = tt }
-    at stand.Spent h settles le few = record { declared = kept.declared; lawful = spent (viewed i) _ _ kept.lawful le few; going = tt }
+    at lawful (stand.Over o) h pairs le counted few =
+        let ends = subst (λ w. ask (program_at i.catalogue.now i.id) log ≡ Ends o w) (sym pairs) h in
+        record { declared = kept.declared; lawful = over _ o after.own.pairs _ _ lawful ends le few; going = tt; once = omega arith }
+    at lawful stand.Spent h settles le counted few = record { declared = kept.declared; lawful = spent _ _ _ lawful le few; going = tt; once = omega arith }

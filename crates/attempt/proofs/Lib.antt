@@ -2,3 +2,5 @@ pub mod Told
 pub mod Answered
 pub mod Under
 pub mod Lawful
+pub mod Logs
+pub mod Reading

@@ -56,21 +56,23 @@ pub record IsLawful (a : AttemptView) : Type 0 where
   pub steps : a.steps ≤ cost a.program
   pub total : a.total ≤ cost a.program + length a.log
 
--- a machine that can go on: the total is the nodes entered up to the instruction that it is at, and those of the loads that were done again, at most one for each logged variable
-pub record IsGoing (t : Program) (log : Known) (m : Machine) (count : Count) (total waits : ℕ) : Type 0 where
+-- a machine that can go on: the nodes counted, and those that it enters again, are those up to the instruction that it is at, and one for each logged variable, whose load was done again
+pub record IsGoing (t : Program) (log : Known) (m : Machine) (count : Count) (total again waits : ℕ) : Type 0 where
   pub reached : IsReached (program_code t) log (place_of m) count.entered
   pub ahead : count.ahead ≤ entered_at (program_code t) (place_of m)
-  pub most : total ≤ count.entered + count.ahead + length log
-  pub least : length log + waits ≤ total
+  pub counted : total + again ≡ count.entered + count.ahead + length log
+  pub waited : waits ≤ count.ahead
 
 -- where it is fresh or waits its machine can go on
-abbrev pub GoesOn : Program → Known → Machine → Count → ℕ → Stand → Type 0
-GoesOn t log m count total stand.Fresh = IsGoing t log m count total 0
-GoesOn t log m count total (stand.Needs x) = IsGoing t log m count total 1
-GoesOn t log m count total (stand.Over o) = Unit {0}
-GoesOn t log m count total stand.Spent = Unit {0}
+abbrev pub GoesOn : Program → Known → Machine → Count → ℕ → ℕ → Stand → Type 0
+GoesOn t log m count total again stand.Fresh = IsGoing t log m count total again again
+GoesOn t log m count total again (stand.Needs x) = IsGoing t log m count total 0 1
+GoesOn t log m count total again (stand.Over o) = Unit {0}
+GoesOn t log m count total again stand.Spent = Unit {0}
 
 pub record IsKept (a : Inside) : Type 0 where
   pub declared : a.id.0 < length a.catalogue.now.transactions
   pub lawful : IsLawful (viewed a)
-  pub going : GoesOn (program_at a.catalogue.now a.id) a.log a.machine a.count a.total a.stand
+  pub going : GoesOn (program_at a.catalogue.now a.id) a.log a.machine a.count a.total a.again a.stand
+  -- the load that waited is one instruction
+  pub once : a.again ≤ 1

@@ -8,3 +8,4 @@ pub mod CodedProgram
 pub mod View
 pub mod AttemptInside
 pub mod Stops
+pub mod Reading

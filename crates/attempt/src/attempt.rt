@@ -1,20 +1,21 @@
 //! An attempt: a transaction, what it was told, and where it stands.
 
-ghost use Rattle.std.specs.Prelude.{◌≡◌, ◌≢◌, ◌<◌, ◌≤◌, ◌+◌, ◌++◌, ◌∷◌, [], None, length, IsOk, OnOk, OnErr};
+ghost use Rattle.std.specs.Prelude.{◌≡◌, ◌≢◌, ◌<◌, ◌≤◌, ◌+◌, ◌++◌, ◌∷◌, [], None, length, IsOk, IfOk, OnOk, OnErr};
 ghost use Rattle.txn_programs.specs.Cost.{cost};
-ghost use Rattle.txn_programs.specs.Meaning.{State};
+ghost use Rattle.txn_programs.specs.Meaning.{State, outcome, after};
 ghost use Rattle.txn_programs.specs.Scope.{ProgramKnown};
 ghost use Rattle.attempt_machine.specs.Asking.{known_at, ask, Ends};
-ghost use Rattle.attempt_machine.specs.Frame.{Agrees};
+ghost use Rattle.attempt_machine.specs.Frame.{Agrees, store};
 ghost use Rattle.attempt_writes.specs.Order.{AllKnown, Apart, Ascending};
 ghost use Rattle.attempt_machine.specs.Room.{NeedsNoMemory};
+ghost use Rattle.attempt.specs.Reading.{ReadsOn};
 ghost use Rattle.attempt.specs.View.{fresh_attempt, begun, supplied, idle, next_of, Answers, HoldsAt, OnlyOfReturned};
 
 use crate::log::Log;
-use crate::next::{Next, Stand, answer};
-use crate::running::go;
+use crate::next::{Next, Stand, answer, outcome_of};
+use crate::running::go_on;
 use attempt_machine::{Count, Machine};
-use attempt_writes::Board;
+use attempt_writes::LogTable;
 use std::alloc::Global;
 use std::marker::Model;
 use txn::{Catalogue, Memory, Outcome, TxId, VarId};
@@ -26,10 +27,13 @@ pub struct Attempt<'a> {
     id: TxId,
     machine: Machine,
     count: Count,
-    log: Board,
+    log: LogTable,
     stand: Stand,
     steps: u64,
     total: u64,
+    /// How many nodes the machine enters again when it goes on: that of the load that waited, once
+    /// its variable is supplied.
+    again: u64,
 }
 
 impl<'a> Model for Attempt<'a> {
@@ -60,10 +64,11 @@ impl<'a> Attempt<'a> {
             id,
             machine: Machine::new(alloc),
             count: Count::none(),
-            log: Board::new(alloc),
+            log: LogTable::new(alloc),
             stand: Stand::Fresh,
             steps: 0,
             total: 0,
+            again: 0,
         }
     }
 
@@ -82,6 +87,7 @@ impl<'a> Attempt<'a> {
         self.stand = Stand::Fresh;
         self.steps = 0;
         self.total = 0;
+        self.again = 0;
     }
 
     /// What the attempt was told, kept after it; the attempt begins anew. It takes no memory.
@@ -95,6 +101,7 @@ impl<'a> Attempt<'a> {
         self.stand = Stand::Fresh;
         self.steps = 0;
         self.total = 0;
+        self.again = 0;
         Log { pairs }
     }
 
@@ -161,6 +168,7 @@ impl<'a> Attempt<'a> {
         self.catalogue.rules();
         self.log.push(x, v)?;
         self.stand = Stand::Fresh;
+        self.again = 1;
         Ok(())
     }
 
@@ -186,6 +194,7 @@ impl<'a> Attempt<'a> {
         ensures repeats { (o : Outcome) → self.old.stand ≡ Stand.Over o → (result ≡ next_of o) × (self.new ≡ idle self.old) }
         ensures spent { self.old.stand ≡ Stand.Spent → (result ≡ Next.Memory) × (self.new ≡ idle self.old) }
         ensures steps { self.new.steps ≤ cost self.old.program }
+        ensures adds { self.new.total ≡ self.old.total + self.new.steps }
         ensures total { self.new.total ≤ cost self.old.program + length self.old.log }
         ensures short { NeedsNoMemory self.old.program → self.old.stand ≢ Stand.Spent → result ≢ Next.Memory }
         ensures needed { (x : VarId) → result ≡ Next.Need x → (x.0 < self.new.variables) × (known_at self.new.log x ≡ None) }
@@ -193,38 +202,75 @@ impl<'a> Attempt<'a> {
     {
         self.steps = 0;
         match self.stand {
-            Stand::Fresh => self.go_on(),
+            Stand::Fresh => self.go_on(&[]),
             Stand::Over(outcome) => answer(outcome),
             Stand::Needs(x) => Next::Need(x),
             Stand::Spent => Next::Memory,
         }
     }
 
-    /// Goes on with the machine where it stands. It is a call of its own, so that an answer that is
-    /// repeated costs little.
+    /// Brings a fresh attempt to its end on these values, one for each of the catalogue's variables:
+    /// what it needs it reads there, as if it were advanced, supplied with that value, and advanced
+    /// again. All that is logged before has to be as these values have it.
+    ///
+    /// The answer is the transaction's outcome on them, and the `writes` stored in them are the
+    /// values after it. The log has grown by what was read, in the order in which it was needed, and
+    /// `steps` are the nodes that were entered, each once.
+    ///
+    /// `Memory` where a growth was refused: of the log, then the attempt waits for the variable that
+    /// it needs; or as in `advance`, then it is spent.
+    pub fn evaluate_on(&mut self, values: &[i64]) -> Result<Outcome, Memory>
+        requires fresh { self.old.stand ≡ Stand.Fresh }
+        requires values { length values.now ≡ self.old.variables }
+        requires agrees { Agrees self.old.log values.now }
+        ensures program { self.new.program ≡ self.old.program }
+        ensures variables { self.new.variables ≡ self.old.variables }
+        ensures reads { ReadsOn self.old.program values.now self.old.log self.new.log }
+        ensures agrees { Agrees self.new.log values.now }
+        ensures ended { IfOk result (λ o. self.new.stand ≡ Stand.Over o) }
+        ensures outcome { IfOk result (λ o. outcome self.old.program values.now ≡ o) }
+        ensures after { OnOk result (after self.old.program values.now ≡ store self.new.writes values.now) }
+        ensures steps { self.new.steps ≤ cost self.old.program }
+    {
+        let next = self.go_on(values);
+        outcome_of(next)
+    }
+
+    /// Goes on with the machine where it stands, and reads what it needs and has one of these values.
+    /// It is a call of its own, so that an answer that is repeated costs little.
     #[inline(never)]
-    fn go_on(&mut self) -> Next
+    fn go_on(&mut self, values: &[i64]) -> Next
         requires fresh { self.old.stand ≡ Stand.Fresh }
         ensures answers { Answers result self.new }
         ensures program { self.new.program ≡ self.old.program }
         ensures variables { self.new.variables ≡ self.old.variables }
-        ensures log { self.new.log ≡ self.old.log }
+        ensures reads { ReadsOn self.old.program values.now self.old.log self.new.log }
+        ensures log { values.now ≡ [] → self.new.log ≡ self.old.log }
         ensures known { ProgramKnown self.new.variables self.new.program }
         ensures steps { self.new.steps ≤ cost self.old.program }
-        ensures total { self.new.total ≤ cost self.old.program + length self.old.log }
+        ensures adds { values.now ≡ [] → self.new.total ≡ self.old.total + self.new.steps }
+        ensures total { self.new.total ≤ cost self.old.program + length self.new.log }
         ensures short { NeedsNoMemory self.old.program → result ≢ Next.Memory }
     {
         self.catalogue.rules();
-        let stand = go(
+        let before = self.count;
+        let logged = self.log.len();
+        let stand = go_on(
             &mut self.machine,
             &mut self.count,
             self.catalogue,
             self.id,
-            &self.log,
+            &mut self.log,
+            values,
         );
-        let total = self.count.entered + self.count.ahead + self.log.len() as u64;
-        self.steps = total - self.total;
-        self.total = total;
+        let reached = self.count.entered + self.count.ahead;
+        let more = reached - before.entered - before.ahead;
+        let steps = more + self.again;
+        let in_all = self.log.len();
+        let read = in_all - logged;
+        self.steps = steps;
+        self.total += steps + read as u64;
+        self.again = 0;
         self.stand = stand;
         match stand {
             Stand::Needs(x) => Next::Need(x),

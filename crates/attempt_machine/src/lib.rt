@@ -8,13 +8,13 @@
 #![tactic(auto)]
 
 mod arithmetic;
-pub mod evaluate;
+pub mod found;
 pub mod laws;
 pub mod machine;
 pub mod running;
 pub mod spot;
 
-pub use evaluate::{Halt, Told};
+pub use found::{Found, Halt};
 pub use laws::{answers, frame, fuses, resumes};
 pub use machine::Machine;
 pub use running::{Count, run};

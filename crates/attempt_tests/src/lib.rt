@@ -19,3 +19,5 @@ mod play;
 mod standing;
 #[cfg(test)]
 mod steps;
+#[cfg(test)]
+mod values;

@@ -1,5 +1,5 @@
 pub mod Known
 pub mod Order
 pub mod Places
-pub mod BoardInside
+pub mod LogTableInside
 pub mod Own

@@ -1,15 +1,15 @@
-//! Variables with a value each, as an attempt keeps them: the board of what it was told, and the
-//! own writes of its transaction.
+//! Variables with a value each, as an attempt keeps them: the log of what it was told, and the own
+//! writes of its transaction.
 //!
-//! A `Board` finds a variable's value in constant time, and keeps the order of supply. `Writes` has
-//! at each variable's number the value of its own write, and goes back by notes where a first
+//! A `LogTable` finds a variable's value in constant time, and keeps the order of supply. `Writes`
+//! has at each variable's number the value of its own write, and goes back by notes where a first
 //! branch of an `orelse` retries.
 #![tactic(auto)]
 
-pub mod board;
 pub mod layer;
+pub mod log_table;
 pub mod written;
 
-pub use board::Board;
 pub use layer::Layer;
+pub use log_table::LogTable;
 pub use written::{Loops, Second, Writes};

@@ -10,8 +10,8 @@ use Rattle.txn_programs.specs.Tree.{Program}
 use Rattle.txn_programs.specs.Listing.{task_program}
 use Rattle.txn_words.specs.Stores.{with_changes}
 use Rattle.txn_programs.specs.Meaning.{Ending, Done, Threw, Retried}
-use Rattle.attempt_machine.specs.declared.evaluate.Halt.{Halt}
-use Rattle.attempt_machine.specs.declared.evaluate.Halt.TheVariants.{Need, Fails}
+use Rattle.attempt_machine.specs.declared.found.Halt.{Halt}
+use Rattle.attempt_machine.specs.declared.found.Halt.TheVariants.{Need, Fails}
 use Rattle.attempt.specs.Asking.{Known, ask, Ends, answer_by, answer_of, see_run, see_final}
 use Rattle.attempt.specs.Frame.{Agrees, store}
 use Rattle.attempt.specs.Order.{AllKnown, Ascending}

@@ -18,4 +18,3 @@ mod Listed
 pub mod Accounts
 mod Finishing
 mod Tallies
-pub mod Logs

@@ -1,9 +1,9 @@
 //! Evaluating a transaction on values that stay as they are.
 
-ghost use Rattle.std.specs.Prelude.{◌≡◌, ◌<◌, ℕ, length, OnOk};
+ghost use Rattle.std.specs.Prelude.{◌≡◌, ◌<◌, length, OnOk};
 ghost use Rattle.book.specs.Turns.{EndsOn};
 
-use attempt::{Attempt, Next};
+use attempt::Attempt;
 use txn::{Catalogue, Memory, TxId};
 
 /// Restarts the attempt as one of the transaction, and brings it to its end on these values.
@@ -18,11 +18,8 @@ pub fn evaluate<'c>(
     ensures { OnOk result (EndsOn catalogue.now tx values.now attempt.new) }
 {
     attempt.restart(catalogue, tx);
-    loop {
-        match attempt.advance() {
-            Next::Need(x) => attempt.supply(x, values[x.0 as usize])?,
-            Next::Memory => return Err(Memory),
-            Next::Returned(_) | Next::Thrown(_) | Next::Retry => return Ok(()),
-        }
+    match attempt.evaluate_on(values) {
+        Ok(_) => Ok(()),
+        Err(short) => Err(short),
     }
 }

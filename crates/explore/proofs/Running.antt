@@ -9,7 +9,7 @@ use Rattle.txn_programs.specs.Tree.{Program}
 use Rattle.attempt.specs.declared.next.Next.{Next}
 use Rattle.attempt.specs.Frame.{Agrees, store}
 use Rattle.attempt.specs.View.{AttemptView, HoldsAt, next_of}
-use Rattle.book.proofs.Logs.{Going, going_advanced}
+use Rattle.attempt.proofs.Logs.{Going, going_advanced}
 
 -- the transaction ends so on these values, and these writes lead to those after it
 abbrev pub Ended : Program → State → Outcome → AttemptView → Type 0

@@ -15,7 +15,7 @@ use Rattle.attempt.specs.Order.{AllKnown, Apart}
 use Rattle.attempt.specs.View.{AttemptView, supplied}
 use Rattle.cells.specs.Passing.{Passing, at, BeginsBy, ReadsBy}
 use Rattle.cells.specs.Answers.{AgreesUpTo}
-use Rattle.book.proofs.Logs.{Going, agrees_more, known_more, apart_more, few_more, few_apart}
+use Rattle.attempt.proofs.Logs.{Going, agrees_more, known_more, apart_more, few_more, few_apart}
 use Rattle.run_observer.specs.Observing.{ObservesBy, ShowsChange, IsStaleFrom, TellsBy, MovesOn, ShowsOther, IsCutFrom}
 
 -- a read leaves the state of the last begin or extension

@@ -5,6 +5,8 @@
 //! gives the processor away before it sleeps. A stale try is a sign that others commit to the same
 //! variables, so it is followed by a rest too.
 
+ghost use Rattle.std.specs.Prelude.{◌≤◌};
+
 use crate::shared::{Named, Naming};
 use std::sync::atomic::{AtomicU64, Ordering};
 use std::sync::{Mutex, MutexGuard, Wait};
@@ -22,8 +24,10 @@ const RESTS: u32 = 16;
 /// How often the lock is then tried with the processor given away after it.
 const YIELDS: u32 = 50;
 
-/// Does nothing for a while.
-fn rest(length: u32) {
+/// Does nothing for a while, which is so many loads.
+fn rest(length: u32)
+    requires { length ≤ LONG }
+{
     let word = AtomicU64::new(0);
     for _ in 0..length {
         let _seen = word.load(Ordering::SeqCst);
@@ -31,37 +35,50 @@ fn rest(length: u32) {
 }
 
 /// Twice the length, as far as rests go.
-fn longer(length: u32) -> u32 {
+fn longer(length: u32) -> u32
+    ensures { result ≤ LONG }
+{
     length.saturating_mul(2).min(LONG)
 }
 
 /// A rest after a stale try, longer after each further one of the same task.
 pub(crate) fn rest_after(tries: u32) {
     let mut length = SHORT;
-    for _ in 0..tries.min(16) {
+    'tries: for _ in 0..tries.min(16) {
         length = longer(length);
     }
     rest(length);
 }
 
-/// Gets the lock.
-pub(crate) fn lock<'b, 'a, R: Wait, N: Naming>(
-    rt: &R,
+/// Tries the lock some times, with a rest or the processor given away after each. It waits for
+/// nobody, and ends.
+fn try_some<'b, 'a, N: Naming>(
     shared: &'b Mutex<Named<'a, N>>,
-) -> MutexGuard<'b, Named<'a, N>> {
+) -> Option<MutexGuard<'b, Named<'a, N>>> {
     let mut length = SHORT;
-    for _ in 0..RESTS {
+    'rests: for _ in 0..RESTS {
         if let Some(guard) = shared.try_lock() {
-            return guard;
+            return Some(guard);
         }
         rest(length);
         length = longer(length);
     }
     for _ in 0..YIELDS {
         if let Some(guard) = shared.try_lock() {
-            return guard;
+            return Some(guard);
         }
         thread::yield_now();
     }
-    shared.lock(rt)
+    None
+}
+
+/// Gets the lock: by some tries, and then by waiting for it.
+pub(crate) fn lock<'b, 'a, R: Wait, N: Naming>(
+    rt: &R,
+    shared: &'b Mutex<Named<'a, N>>,
+) -> MutexGuard<'b, Named<'a, N>> {
+    match try_some(shared) {
+        Some(guard) => guard,
+        None => shared.lock(rt),
+    }
 }

@@ -1,7 +1,7 @@
 use Rattle.std.proofs.Common.{◌<◌, length, refl, sym, ap, subst, arith}
 use Rattle.std.proofs.lemmas.List.{length_push}
 use Rattle.txn_programs.specs.Meaning.{value_at}
-use Rattle.book.proofs.Logs.{Going, going_advanced, going_supplied, few_more}
+use Rattle.attempt.proofs.Logs.{Going, going_advanced, going_supplied, few_more}
 use Rattle.explore.proofs.turn.outcome_on.Goals as goal
 
 pub tell-requires-clause-known : goal.tell-requires-clause-known

@@ -1,5 +1,5 @@
 use Rattle.std.proofs.Common.{◌-◌, length}
-use Rattle.book.proofs.Logs.{Going}
+use Rattle.attempt.proofs.Logs.{Going}
 use Rattle.explore.proofs.turn.outcome_on.Given as goal
 
 abbrev pub invariant-needs : goal.invariant-needs

@@ -5,7 +5,7 @@ use Rattle.attempt.specs.Asking.{Known}
 use Rattle.attempt.specs.Frame.{Agrees}
 use Rattle.cells.specs.Cells.{CellsId}
 use Rattle.cells.specs.Passing.{at}
-use Rattle.book.proofs.Logs.{going_advanced}
+use Rattle.attempt.proofs.Logs.{going_advanced}
 use Rattle.run_observer.specs.Observing.{IsCutFrom}
 use Rattle.run_observer.proofs.Seeing.{moving_more, moving_few, cut_stale, going_told, room_for, observes}
 use Rattle.run_observer.proofs.observation.observe.Goals as goal

@@ -1,6 +1,6 @@
 use Rattle.std.proofs.Common.{◌≡◌, ◌-◌, true, length}
 use Rattle.cells.specs.Passing.{at}
-use Rattle.book.proofs.Logs.{Going}
+use Rattle.attempt.proofs.Logs.{Going}
 use Rattle.run_observer.proofs.Seeing.{Moving}
 use Rattle.run_observer.proofs.observation.observe.Given as goal
 

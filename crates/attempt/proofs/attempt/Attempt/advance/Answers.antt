@@ -1,6 +1,7 @@
-use Rattle.std.proofs.Common.{subst, sym}
+use Rattle.std.proofs.Common.{◌+◌, ◌∙◌, ap, arith, length, refl, subst, sym}
+use Rattle.txn_programs.specs.Cost.{cost}
 use Rattle.attempt.specs.AttemptInside.{viewed, StandsAt}
-use Rattle.attempt.specs.View.{HoldsAt, idle}
+use Rattle.attempt.specs.View.{AttemptView, HoldsAt, idle}
 use Rattle.attempt.proofs.Told.{over_holds, told_holds, told_missing}
 use Rattle.attempt.proofs.attempt.Attempt.advance.Goals as goal
 
@@ -15,3 +16,15 @@ returns-in-Fresh-clause-frame c = λ m len h. told_holds c.go_on.result c.go_on.
 
 pub returns-in-Fresh-clause-needed : goal.returns-in-Fresh-clause-needed
 returns-in-Fresh-clause-needed c = λ x e. told_missing c.go_on.result c.go_on.new.self x c.go_on.ensures.answers c.go_on.ensures.known e
+
+pub returns-in-Fresh-clause-log : goal.returns-in-Fresh-clause-log
+returns-in-Fresh-clause-log c = c.go_on.ensures.log refl ∙ ap (λ (a : AttemptView). a.log) c.self.view_is
+
+pub returns-in-Fresh-clause-adds : goal.returns-in-Fresh-clause-adds
+returns-in-Fresh-clause-adds c = c.go_on.ensures.adds refl ∙ ap (λ (a : AttemptView). a.total + c.go_on.new.self.steps) c.self.view_is
+
+pub returns-in-Fresh-clause-total : goal.returns-in-Fresh-clause-total
+returns-in-Fresh-clause-total c =
+    let same = ap length (c.go_on.ensures.log refl ∙ ap (λ (a : AttemptView). a.log) c.self.view_is) in
+    let own = ap (λ (a : AttemptView). cost a.program) c.self.view_is in
+    omega (arith, c.go_on.ensures.total, same, own)

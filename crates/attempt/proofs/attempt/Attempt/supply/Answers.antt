@@ -13,7 +13,7 @@ invariant_of-self-2 c =
     let a = viewed c.self.inside in
     let needs : a.stand ≡ stand.Needs c.args.x = ap (λ (b : AttemptView). b.stand) c.self.view_is ∙ c.requires.needed in
     let i = c.self.inside in
-    let going = subst (GoesOn a.program i.log i.machine i.count i.total) needs c.self.invariant.going in
+    let going = subst (GoesOn a.program i.log i.machine i.count i.total i.again) needs c.self.invariant.going in
     let told : c.push.new.self ≡ a.log ++ (c.args.x, c.args.v) ∷ [] = c.in_ok-push.ensures.ok ∙ ap (λ z. a.log ++ (c.args.x, z) ∷ []) (to_z-of_z c.ranges.v) in
     let none : a.writes ≡ [] = subst (λ (s : Stand). remaining s i.machine.own.pairs ≡ []) (sym needs) refl in
     record {
@@ -22,7 +22,8 @@ invariant_of-self-2 c =
           subst
           (λ (log : Known). IsLawful (record { program = a.program; variables = a.variables; log = log; writes = []; stand = stand.Fresh; steps = a.steps; total = a.total }))
           (sym told) (subst (λ (w : Known). IsLawful (record { program = a.program; variables = a.variables; log = a.log ++ (c.args.x, c.args.v) ∷ []; writes = w; stand = stand.Fresh; steps = a.steps; total = a.total })) none (told_more a c.args.x c.args.v c.self.invariant.lawful needs));
-      going = subst (λ (log : Known). IsGoing a.program log i.machine i.count i.total 0) (sym told) (supplied_goes a.program i.log i.machine i.count i.total c.args.x c.args.v going);
+      going = subst (λ (log : Known). IsGoing a.program log i.machine i.count i.total 1 1) (sym told) (supplied_goes a.program i.log i.machine i.count i.total c.args.x c.args.v going);
+      once = omega arith;
     }
 
 pub push-requires-clause-known : goal.push-requires-clause-known

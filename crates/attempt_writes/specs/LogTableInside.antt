@@ -1,6 +1,6 @@
--- What the fields of a board keep.
+-- What the fields of a log with its table of places keep.
 use Rattle.std.specs.Prelude.{◌≡◌, ◌≤◌, length}
-use Rattle.attempt_writes.specs.declared.board.Board.TheInside.{Inside}
+use Rattle.attempt_writes.specs.declared.log_table.LogTable.TheInside.{Inside}
 use Rattle.attempt_writes.specs.Places.{ArePlaced}
 
 pub record IsKept (b : Inside) : Type 0 where

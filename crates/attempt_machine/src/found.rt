@@ -12,7 +12,7 @@ pub enum Halt {
 
 /// What an evaluation found: the variable that it needs, or how the transaction ends.
 #[derive(Clone, Copy)]
-pub enum Told {
+pub enum Found {
     Need(VarId),
     End(Outcome),
 }

@@ -5,7 +5,7 @@ use mir.Val.{to_z, of_z}
 use Rattle.attempt_writes.specs.Known.{Known, known_at}
 use Rattle.attempt_writes.specs.Places.{ArePlaced}
 use Rattle.attempt_writes.proofs.Placed.{placed_more, placed_few}
-use Rattle.attempt_writes.proofs.board.Board.push.Goals as goal
+use Rattle.attempt_writes.proofs.log_table.LogTable.push.Goals as goal
 
 pub overflow_cast-self : goal.overflow_cast-self
 overflow_cast-self c =

@@ -7,10 +7,9 @@ use Rattle.txn_programs.specs.declared.ast.TxId.{TxId}
 use Rattle.txn_programs.specs.declared.ast.VarId.{VarId}
 use Rattle.txn_programs.specs.Listing.{Listing, program_at}
 use Rattle.txn_programs.specs.Meaning.{State, value_at}
-use Rattle.txn_words.specs.Stores.{Change}
-use Rattle.attempt.specs.Asking.{Known, known_at}
-use Rattle.attempt.specs.Frame.{Agrees}
-use Rattle.attempt.specs.Order.{AllKnown, Apart}
+use Rattle.attempt_machine.specs.Asking.{Known, known_at}
+use Rattle.attempt_machine.specs.Frame.{Agrees}
+use Rattle.attempt_writes.specs.Order.{AllKnown, Apart}
 use Rattle.attempt.specs.View.{AttemptView, supplied}
 
 -- a pair at the end of a log
@@ -27,13 +26,13 @@ known_case true v o h = absurd (cc)
 known_case false v o h = (refl, h)
 
 -- a variable that is in no pair of a log is not that of its first pair
-unknown_first : (p : Change) (rest : Known) (x : VarId) → known_at (p ∷ rest) x ≡ None → p.0.0 ≢ x.0
+unknown_first : (p : VarId × ℤ) (rest : Known) (x : VarId) → known_at (p ∷ rest) x ≡ None → p.0.0 ≢ x.0
 unknown_first p rest x h e = true≢false (sym (eq-eqb p.0.0 x.0 e) ∙ (known_case (nat_eq p.0.0 x.0) p.1 (known_at rest x) h).0)
 
-unknown_rest : (p : Change) (rest : Known) (x : VarId) → known_at (p ∷ rest) x ≡ None → known_at rest x ≡ None
+unknown_rest : (p : VarId × ℤ) (rest : Known) (x : VarId) → known_at (p ∷ rest) x ≡ None → known_at rest x ≡ None
 unknown_rest p rest x h = (known_case (nat_eq p.0.0 x.0) p.1 (known_at rest x) h).1
 
-unknown_both : (p : Change) (rest : Known) (x : VarId) → p.0.0 ≢ x.0 → known_at rest x ≡ None → known_at (p ∷ rest) x ≡ None
+unknown_both : (p : VarId × ℤ) (rest : Known) (x : VarId) → p.0.0 ≢ x.0 → known_at rest x ≡ None → known_at (p ∷ rest) x ≡ None
 unknown_both p rest x n h = cond-false _ (Some p.1) (known_at rest x) (false_from_ne_true (nat_eq p.0.0 x.0) (λ e. n (eqb-true p.0.0 x.0 e))) ∙ h
 
 unknown_more : (log : Known) (x y : VarId) (v : ℤ) → known_at log y ≡ None → x.0 ≢ y.0 → known_at (log ++ (x, v) ∷ []) y ≡ None
@@ -57,7 +56,7 @@ none_left n x (p ∷ rest) e h k =
     let other = unknown_first p rest x h in
     (omega (arith, other, e, k.0), none_left n x rest e (unknown_rest p rest x h) k.1)
 
-without_known_case : (n : ℕ) (p : Change) (rest : Known) (b : Bool) → nat_eq p.0.0 n ≡ b → known_at rest p.0 ≡ None → AllKnown (suc n) (p ∷ rest) → AllKnown n (without n rest) → AllKnown n (cond b rest (p ∷ without n rest))
+without_known_case : (n : ℕ) (p : VarId × ℤ) (rest : Known) (b : Bool) → nat_eq p.0.0 n ≡ b → known_at rest p.0 ≡ None → AllKnown (suc n) (p ∷ rest) → AllKnown n (without n rest) → AllKnown n (cond b rest (p ∷ without n rest))
 without_known_case n p rest true e h k i = none_left n p.0 rest (eqb-true p.0.0 n e) h k.1
 without_known_case n p rest false e h k i = (omega (arith, k.0, λ (s : p.0.0 ≡ n). true≢false (sym (eq-eqb p.0.0 n s) ∙ e)), i)
 
@@ -65,7 +64,7 @@ without_known : (n : ℕ) (w : Known) → Apart w → AllKnown (suc n) w → All
 without_known n [] a k = tt
 without_known n (p ∷ rest) a k = without_known_case n p rest (nat_eq p.0.0 n) refl a.0 k (without_known n rest a.1 k.1)
 
-without_unknown_case : (n : ℕ) (p : Change) (rest : Known) (x : VarId) (b : Bool) → known_at (p ∷ rest) x ≡ None → known_at (without n rest) x ≡ None → known_at (cond b rest (p ∷ without n rest)) x ≡ None
+without_unknown_case : (n : ℕ) (p : VarId × ℤ) (rest : Known) (x : VarId) (b : Bool) → known_at (p ∷ rest) x ≡ None → known_at (without n rest) x ≡ None → known_at (cond b rest (p ∷ without n rest)) x ≡ None
 without_unknown_case n p rest x true h i = unknown_rest p rest x h
 without_unknown_case n p rest x false h i = unknown_both p (without n rest) x (unknown_first p rest x h) i
 
@@ -73,7 +72,7 @@ without_unknown : (n : ℕ) (w : Known) (x : VarId) → known_at w x ≡ None �
 without_unknown n [] x h = refl
 without_unknown n (p ∷ rest) x h = without_unknown_case n p rest x (nat_eq p.0.0 n) h (without_unknown n rest x (unknown_rest p rest x h))
 
-without_apart_case : (n : ℕ) (p : Change) (rest : Known) (b : Bool) → Apart (p ∷ rest) → Apart (without n rest) → Apart (cond b rest (p ∷ without n rest))
+without_apart_case : (n : ℕ) (p : VarId × ℤ) (rest : Known) (b : Bool) → Apart (p ∷ rest) → Apart (without n rest) → Apart (cond b rest (p ∷ without n rest))
 without_apart_case n p rest true a i = a.1
 without_apart_case n p rest false a i = (without_unknown n rest p.0 a.0, i)
 
@@ -81,7 +80,7 @@ without_apart : (n : ℕ) (w : Known) → Apart w → Apart (without n w)
 without_apart n [] a = tt
 without_apart n (p ∷ rest) a = without_apart_case n p rest (nat_eq p.0.0 n) a (without_apart n rest a.1)
 
-without_one_case : (n : ℕ) (p : Change) (rest : Known) (b : Bool) → length rest ≤ suc (length (without n rest)) → length (p ∷ rest) ≤ suc (length (cond b rest (p ∷ without n rest)))
+without_one_case : (n : ℕ) (p : VarId × ℤ) (rest : Known) (b : Bool) → length rest ≤ suc (length (without n rest)) → length (p ∷ rest) ≤ suc (length (cond b rest (p ∷ without n rest)))
 without_one_case n p rest true h = omega (arith, h)
 without_one_case n p rest false h = omega (arith, h)
 

@@ -14,20 +14,20 @@ use txn_programs::{Memory, VarId};
 
 /// Variables with a value each, in the order of supply. A clause sees the pairs.
 #[derive(Drop)]
-pub struct Board {
+pub struct LogTable {
     pairs: Layer,
     /// At each variable's number the place of its pair, where it has one; else any number.
     places: [u8; MAX_VARIABLES],
 }
 
-impl Model for Board {
+impl Model for LogTable {
     ghost use Rattle.attempt_writes.specs.Known.{Known};
 
     ghost Value = { Known };
 
-    ghost view = { λ b. b.pairs.items };
+    ghost view = { λ l. l.pairs.items };
 
-    ghost use Rattle.attempt_writes.specs.BoardInside.{IsKept};
+    ghost use Rattle.attempt_writes.specs.LogTableInside.{IsKept};
 
     ghost invariant = { IsKept };
 }
@@ -41,12 +41,12 @@ fn look(pairs: &[(VarId, i64)], places: &[u8], x: VarId) -> Option<i64>
     if y.0 == x.0 { Some(v) } else { None }
 }
 
-impl Board {
-    /// An empty board. It takes no memory.
-    pub fn new(alloc: Global) -> Board
+impl LogTable {
+    /// An empty log. It takes no memory.
+    pub fn new(alloc: Global) -> LogTable
         ensures { result ≡ [] }
     {
-        Board {
+        LogTable {
             pairs: SmallVec::new(alloc),
             places: [0; MAX_VARIABLES],
         }
@@ -74,7 +74,7 @@ impl Board {
         self.pairs
     }
 
-    /// The pairs alone; the board is empty then. It takes no memory.
+    /// The pairs alone; the log is empty then. It takes no memory.
     pub fn take_pairs(&mut self) -> Layer
         ensures pairs { result.items ≡ self.old }
         ensures emptied { self.new ≡ [] }
@@ -99,6 +99,7 @@ impl Board {
     }
 
     /// One pair more, of a variable that is not there.
+    #[inline(always)]
     pub fn push(&mut self, x: VarId, v: i64) -> Result<(), Memory>
         requires known { x.0 < MAX_VARIABLES }
         requires new { known_at self.old x ≡ None }

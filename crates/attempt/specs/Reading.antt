@@ -1,0 +1,16 @@
+-- What an evaluation on the values of a state reads.
+use Rattle.std.specs.Prelude.{◌≡◌, [], ◌∷◌, ◌++◌}
+use Rattle.txn_programs.specs.Meaning.{State, value_at}
+use Rattle.txn_programs.specs.Tree.{Program}
+use Rattle.attempt_machine.specs.Asking.{Known, Needs, ask}
+
+-- each of these pairs, behind the log, is of the variable that the program needs over all before it, with its value in the state
+abbrev pub AreNeeded : Program → State → Known → Known → Type 0
+AreNeeded t m log [] = Unit {0}
+AreNeeded t m log (p ∷ more) = (ask t log ≡ Needs p.0) × (value_at m p.0 ≡ p.1) × AreNeeded t m (log ++ p ∷ []) more
+
+-- the later log is the earlier one, and behind it what was read, in the order in which it was needed
+pub record ReadsOn (t : Program) (m : State) (earlier later : Known) : Type 0 where
+  pub read : Known
+  pub grown : later ≡ earlier ++ read
+  pub needed : AreNeeded t m earlier read
