@@ -5,8 +5,6 @@
 //! gives the processor away before it sleeps. A stale try is a sign that others commit to the same
 //! variables, so it is followed by a rest too.
 
-ghost use Rattle.std.specs.Prelude.{◌≤◌};
-
 use crate::shared::{Named, Naming};
 use std::sync::atomic::{AtomicU64, Ordering};
 use std::sync::{Mutex, MutexGuard, Wait};
@@ -24,10 +22,8 @@ const RESTS: u32 = 16;
 /// How often the lock is then tried with the processor given away after it.
 const YIELDS: u32 = 50;
 
-/// Does nothing for a while, which is so many loads.
-fn rest(length: u32)
-    requires { length ≤ LONG }
-{
+/// Does nothing for a while.
+fn rest(length: u32) {
     let word = AtomicU64::new(0);
     for _ in 0..length {
         let _seen = word.load(Ordering::SeqCst);
@@ -35,50 +31,37 @@ fn rest(length: u32)
 }
 
 /// Twice the length, as far as rests go.
-fn longer(length: u32) -> u32
-    ensures { result ≤ LONG }
-{
+fn longer(length: u32) -> u32 {
     length.saturating_mul(2).min(LONG)
 }
 
 /// A rest after a stale try, longer after each further one of the same task.
 pub(crate) fn rest_after(tries: u32) {
     let mut length = SHORT;
-    'tries: for _ in 0..tries.min(16) {
+    for _ in 0..tries.min(16) {
         length = longer(length);
     }
     rest(length);
 }
 
-/// Tries the lock some times, with a rest or the processor given away after each. It waits for
-/// nobody, and ends.
-fn try_some<'b, 'a, N: Naming>(
+/// Gets the lock.
+pub(crate) fn lock<'b, 'a, R: Wait, N: Naming>(
+    rt: &R,
     shared: &'b Mutex<Named<'a, N>>,
-) -> Option<MutexGuard<'b, Named<'a, N>>> {
+) -> MutexGuard<'b, Named<'a, N>> {
     let mut length = SHORT;
-    'rests: for _ in 0..RESTS {
+    for _ in 0..RESTS {
         if let Some(guard) = shared.try_lock() {
-            return Some(guard);
+            return guard;
         }
         rest(length);
         length = longer(length);
     }
     for _ in 0..YIELDS {
         if let Some(guard) = shared.try_lock() {
-            return Some(guard);
+            return guard;
         }
         thread::yield_now();
     }
-    None
-}
-
-/// Gets the lock: by some tries, and then by waiting for it.
-pub(crate) fn lock<'b, 'a, R: Wait, N: Naming>(
-    rt: &R,
-    shared: &'b Mutex<Named<'a, N>>,
-) -> MutexGuard<'b, Named<'a, N>> {
-    match try_some(shared) {
-        Some(guard) => guard,
-        None => shared.lock(rt),
-    }
+    shared.lock(rt)
 }

@@ -1,6 +1,0 @@
-use Rattle.std.proofs.Common.{◌≤◌}
-use Rattle.run_workers.specs.declared.waiting.TheConstants.{LONG}
-use Rattle.run_workers.proofs.waiting.try_some.Given as goal
-
-abbrev pub invariant-rests : goal.invariant-rests
-invariant-rests g l = l.length ≤ LONG
