@@ -87,13 +87,13 @@ valued_woken old new Ready = refl
 valued_woken old new Running = refl
 valued_woken old new (Parked log) =
     elim (cases_Bool (names_changed old new log)) [
-      | inl yes ↦
-          ap (with_values new) (cond-true (names_changed old new log) Ready (Parked log) yes)
-          ∙ sym (cond-true (names_changed old new (told_of old log)) Ready (Parked (told_of old log)) (names_told old new old log ∙ yes))
-      | inr no ↦
-          ap (with_values new) (cond-false (names_changed old new log) Ready (Parked log) no)
-          ∙ (ap Parked (told_same old new log no)
-          ∙ sym (cond-false (names_changed old new (told_of old log)) Ready (Parked (told_of old log)) (names_told old new old log ∙ no)))
+      | inl named ↦
+          ap (with_values new) (cond-true (names_changed old new log) Ready (Parked log) named)
+          ∙ sym (cond-true (names_changed old new (told_of old log)) Ready (Parked (told_of old log)) (names_told old new old log ∙ named))
+      | inr other ↦
+          ap (with_values new) (cond-false (names_changed old new log) Ready (Parked log) other)
+          ∙ (ap Parked (told_same old new log other)
+          ∙ sym (cond-false (names_changed old new (told_of old log)) Ready (Parked (told_of old log)) (names_told old new old log ∙ other)))
     ]
 valued_woken old new (Done n) = refl
 valued_woken old new GivenUp = refl

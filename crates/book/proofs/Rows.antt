@@ -299,12 +299,12 @@ rows_awake w t names ss was is rows at awake =
       fits = λ u m parked. rows.fits u m (still u m parked);
       whole = λ u m parked. rows.whole u m (still u m parked);
     } where
-  still : (u m : ℕ) → slice_get (set ss t is) u ≡ Some (standing.Parked m) → slice_get ss u ≡ Some (standing.Parked m)
-  still u m parked =
-      elim (cases_eq u t) [
-        | inl same ↦ absurd (awake m (same_Some _ _ (sym (get_set_same ss t was is at) ∙ (ap (slice_get (set ss t is)) (sym same) ∙ parked))))
-        | inr other ↦ sym (get_set_other ss t u is other) ∙ parked
-      ]
+      still : (u m : ℕ) → slice_get (set ss t is) u ≡ Some (standing.Parked m) → slice_get ss u ≡ Some (standing.Parked m)
+      still u m parked =
+          elim (cases_eq u t) [
+            | inl same ↦ absurd (awake m (same_Some _ _ (sym (get_set_same ss t was is at) ∙ (ap (slice_get (set ss t is)) (sym same) ∙ parked))))
+            | inr other ↦ sym (get_set_other ss t u is other) ∙ parked
+          ]
 
 pub rows_running : (w n : ℕ) (names : List ℕ) → HaveRows w names (replicate n standing.Running)
 rows_running w n names =
@@ -319,15 +319,15 @@ rows_more w names ss rows =
       fits = λ t m e. rows.fits t m (before t m e);
       whole = λ t m e. rows.whole t m (before t m e);
     } where
-  before : (t m : ℕ) → slice_get (ss ++ standing.Ready ∷ []) t ≡ Some (standing.Parked m) → slice_get ss t ≡ Some (standing.Parked m)
-  before t m e =
-      elim (get_append_last ss standing.Ready t (standing.Parked m) e) [
-        | inl h ↦ h
-        | inr h ↦ let bad : standing.Ready ≡ standing.Parked m = h.1 in absurd (cc)
-      ]
+      before : (t m : ℕ) → slice_get (ss ++ standing.Ready ∷ []) t ≡ Some (standing.Parked m) → slice_get ss t ≡ Some (standing.Parked m)
+      before t m e =
+          elim (get_append_last ss standing.Ready t (standing.Parked m) e) [
+            | inl h ↦ h
+            | inr h ↦ let bad : standing.Ready ≡ standing.Parked m = h.1 in absurd (cc)
+          ]
 
 -- a standing that was read, without its log
-pub bare_here : (ss : List Standing) (i : ℕ) (s : Standing) → s ≡ get_or ss i s → bare s ≡ get_or (map bare ss) i (bare s)
-bare_here [] i s h = refl
-bare_here (u ∷ ss) zero s h = ap bare h
-bare_here (u ∷ ss) (suc i) s h = bare_here ss i s h
+pub bare_here : (ss : List Standing) (i : ℕ) (d : Standing) → i < length ss → bare (get_or ss i d) ≡ get_or (map bare ss) i (bare (get_or ss i d))
+bare_here [] i d low = absurd (omega (arith, low))
+bare_here (u ∷ ss) zero d low = refl
+bare_here (u ∷ ss) (suc i) d low = bare_here ss i d (omega (arith, low))

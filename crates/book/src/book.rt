@@ -431,8 +431,18 @@ impl<'a> Book<'a> {
             entries: Vec::new(alloc),
             now: self.present.number,
             now_vars: pairs(alloc, &self.present)?,
-            parked: parked(alloc, self.catalogue, &self.submitted, self.table.standings())?,
-            memory: given_up(alloc, self.catalogue, &self.submitted, self.table.standings())?,
+            parked: parked(
+                alloc,
+                self.catalogue,
+                &self.submitted,
+                self.table.standings(),
+            )?,
+            memory: given_up(
+                alloc,
+                self.catalogue,
+                &self.submitted,
+                self.table.standings(),
+            )?,
         })
     }
 

@@ -17,17 +17,15 @@ loop-i-preserved c =
     let ss = c.args.tasks.now in
     let ts = map bare ss in
     let i = c.loop-i.i in
-    let t = bare c.index-tasks-i.result in
     let less : c.loop-i.i < length ts = omega (arith, c.loop-i-test.true, length-map ss bare) in
-    let here = bare_here ss c.loop-i.i c.index-tasks-i.result c.index-tasks-i.is in
     let found = c.loop-i.found.items in
     let new = c.if-is_parked.found.items in
     elim c.if-is_parked.branch [
       | then-is_parked+in_ok-push w ↦
           let more = ap (λ (v : Vec (TaskId × TxId) Global). v.items) w.found-is ∙ w.in_ok-push.ensures.items in
           let tx = w.transaction_of.ensures in
-          one_listed is_parked l ts n i t less here found new w.transaction_of.result w.if-is_parked.ensures more tx.value tx.known c.loop-i.invariant
+          one_listed is_parked l ts n i _ less (bare_here ss i _ c.loop-i-test.true) found new w.transaction_of.result w.if-is_parked.ensures more tx.value tx.known c.loop-i.invariant
       | else-is_parked w ↦
           let same = ap (λ (v : Vec (TaskId × TxId) Global). v.items) w.found-is in
-          none_listed is_parked l ts n i t less here found new w.if-is_parked.ensures same c.loop-i.invariant
+          none_listed is_parked l ts n i _ less (bare_here ss i _ c.loop-i-test.true) found new w.if-is_parked.ensures same c.loop-i.invariant
     ]

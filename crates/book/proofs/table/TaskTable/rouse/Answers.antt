@@ -14,7 +14,6 @@ use Rattle.book.specs.TableInside.{table_of, tasks_of, places, IsSorted}
 use Rattle.book.proofs.Rows.{shown_set, stands_parked, rows_awake}
 use Rattle.book.proofs.Sets.{sets_rouse, placed_stand, at_place, roomy, ready_room, table_is}
 use Rattle.book.proofs.table.TaskTable.rouse.Goals as goal
-use Rattle.book.proofs.table.TaskTable.rouse.Goals.{After-stand}
 
 -- a parked task, and its row
 record Waiting (s : Inside) (t : ℕ) : Type 0 where
@@ -29,8 +28,8 @@ waiting s v t view parked =
     record { count = p.0; stands = p.1; shown = at ∙ ap (λ (l : Known). Some (Parked l)) p.2 }
 
 -- the count that is read is that of the task
-same_count : (s : Inside) (t : ℕ) (h : Waiting s t) (read : Standing) (n : ℕ) → slice_get s.standings.items t ≡ Some read → read ≡ standing.Parked n → n ≡ h.count
-same_count s t h read n at is =
+same_count : (s : Inside) (t : ℕ) (h : Waiting s t) (found : Standing) (n : ℕ) → slice_get s.standings.items t ≡ Some found → found ≡ standing.Parked n → n ≡ h.count
+same_count s t h found n at is =
     let e : standing.Parked n ≡ standing.Parked h.count = same_Some _ _ (ap Some (sym is) ∙ (sym at ∙ h.stands)) in
     cc
 
@@ -69,17 +68,6 @@ row_of-row-requires c =
     (subst (λ (k : ℕ). t * k + c.in-Parked.count ≤ length s.names.items) (sym wide)
     (omega (arith, count, c.self.invariant.rows.fits t h.count h.stands, c.self.invariant.rows.whole t h.count h.stands)))
 
-now_waiting : (c : After-stand) → Waiting c.self.inside c.args.task.0
-now_waiting c = waiting c.self.inside c.args.self.now c.args.task.0 c.self.view_is c.requires
-
-row_is : (c : After-stand) → c.row_of-row.result.now ≡ row c.self.inside.names.items (c.args.task.0 * length c.self.inside.sleepers.items) (now_waiting c).count
-row_is c =
-    let s = c.self.inside in
-    let t = c.args.task.0 in
-    let h = now_waiting c in
-    row_read s t h c.index.result.now c.in-Parked.count c.len-width.result c.row_of-row.result.now (read_at s t h c.index.result.now c.index.ensures) c.in-Parked.is
-    (omega (arith, c.len-width.ensures, s.sleepers.ok.0)) (c.row_of-row.ensures ∙ ap (λ (names : List ℕ). row names (t * c.len-width.result) c.in-Parked.count) c.deref.ensures.value)
-
 pub leave-requires-clause-known : goal.leave-requires-clause-known
 leave-requires-clause-known c =
     let s = c.self.inside in
@@ -106,8 +94,11 @@ invariant_of-self c =
     let s = c.self.inside in
     let w = length s.sleepers.items in
     let t = c.args.task.0 in
-    let h = now_waiting c in
+    let h = waiting s c.args.self.now t c.self.view_is c.requires in
     let log = naming (row s.names.items (t * w) h.count) in
+    let names =
+    row_read s t h c.index.result.now c.in-Parked.count c.len-width.result c.row_of-row.result.now (read_at s t h c.index.result.now c.index.ensures) c.in-Parked.is
+    (omega (arith, c.len-width.ensures, s.sleepers.ok.0)) (c.row_of-row.ensures ∙ ap (λ (ns : List ℕ). row ns (t * c.len-width.result) c.in-Parked.count) c.deref.ensures.value) in
     let width = c.leave.ensures.size in
     let size = ap length c.stand.ensures.items ∙ length-set s.standings.items t standing.Ready in
     let shown : shown_from (length c.leave.new.sleepers.items) s.names.items 0 c.stand.new.standings.items ≡ set (tasks_of s) t Ready =
@@ -115,7 +106,7 @@ invariant_of-self c =
     record {
       sets = placed_stand (tasks_of s) _ s.spare t (Parked log) Ready c.insert.new.self c.leave.new.sleepers.items h.shown shown
           (sets_rouse (places (tasks_of s) s.spare) s.ready c.insert.new.self s.sleepers.items c.leave.new.sleepers.items t log c.self.invariant.sets (at_place (tasks_of s) s.spare t (Parked log) h.shown) c.insert.ensures width
-          (λ x. c.leave.ensures.each x ∙ ap (λ (ns : List ℕ). flagged false (naming ns) t x (get_or s.sleepers.items x [])) (row_is c)));
+          (λ x. c.leave.ensures.each x ∙ ap (λ (ns : List ℕ). flagged false (naming ns) t x (get_or s.sleepers.items x [])) names));
       rows = subst (λ (ss : List Standing). HaveRows (length c.leave.new.sleepers.items) s.names.items ss) (sym c.stand.ensures.items)
           (subst (λ (k : ℕ). HaveRows k s.names.items (set s.standings.items t standing.Ready)) (sym width)
           (rows_awake w t s.names.items s.standings.items (standing.Parked h.count) standing.Ready c.self.invariant.rows h.stands (λ n e. cc)));
