@@ -11,15 +11,18 @@ use Rattle.txn_programs.specs.Scope.{ProgramKnown}
 use Rattle.txn_programs.specs.Listing.{Listing, tasks, task_program, program_at}
 use Rattle.txn_programs.specs.Standing.{Upholds}
 use Rattle.txn_programs.specs.Replay.{Snapshot, opening}
-use Rattle.book.specs.declared.task.Task.{Task}
-use Rattle.book.specs.declared.task.Task.TheVariants.{Ready, Running, Parked}
+use Rattle.book.specs.Tasks.{Task}
+use Rattle.book.specs.Tasks.{Ready, Running, Parked}
 use Rattle.book.specs.declared.book.Book.TheInside.{Inside}
 use Rattle.cells.specs.Cells.{CellsId}
+use Rattle.attempt.specs.Frame.{Agrees}
 use Rattle.book.specs.View.{BookView, stands, opened, checkpointed}
-use Rattle.book.specs.Turns.{readied_one}
-use Rattle.book.specs.Board.{BoardView, IsTaken, placed, with_tasks, with_one_more}
+use Rattle.book.specs.Turns.{readied_one, readied, Taken}
+use Rattle.book.specs.Table.{TableView, IsTaken, placed, with_tasks, with_one_more, unvalued}
 use Rattle.book.specs.LawfulBook.{LawfulBook, BookFits, Waits, open_one, open_count}
-use Rattle.book.specs.BookInside.{book_of, snapshot_of, IsKept}
+use Rattle.book.specs.BookInside.{book_of, tasks_of, snapshot_of, with_values, IsKept}
+use Rattle.book.proofs.Lists.{map_set, map_get}
+use Rattle.book.proofs.Filling.{told_again, ready_without, running_with, all_readied, all_ready, one_more_ready}
 use Rattle.attempt.specs.Asking.{Known}
 use Rattle.book.specs.declared.stored.Stored.{Stored}
 use Rattle.txn_programs.specs.declared.ast.TxId.{TxId}
@@ -108,29 +111,35 @@ pub record IsNew (b : Inside) : Type 0 where
   pub base : snapshot_of b.base ≡ opening b.catalogue.now
   pub present : snapshot_of b.present ≡ opening b.catalogue.now
   pub journal : b.journal.items ≡ []
-  pub tasks : b.board.tasks ≡ replicate (length (tasks b.catalogue.now)) Ready
+  pub tasks : b.table.tasks ≡ replicate (length (tasks b.catalogue.now)) Ready
   pub submitted : b.submitted.items ≡ []
 
-pub new_is : (b : Inside) → IsNew b → book_of b ≡ opened b.catalogue.now b.cells.now b.board.spare
+-- one task of the table stands otherwise, and so does that of the book
+pub view_placed : (b : Inside) (task : TaskId) (is : Task) → book_of (record b { table = placed b.table task is }) ≡ stands (book_of b) task (with_values b.present.values.items is)
+view_placed b task is =
+    let v = book_of b in
+    ap (λ (ts : List Task). let r : BookView = record v { tasks = ts } in r) (map_set (with_values b.present.values.items) b.table.tasks task.0 is)
+
+pub new_is : (b : Inside) → IsNew b → book_of b ≡ opened b.catalogue.now b.cells.now b.table.spare
 new_is b n =
     let l = b.catalogue.now in
-    let made : Listing → CellsId → List State → Snapshot → List Entry → Snapshot → List Task → BookView = λ m c h x j y t. record { catalogue = m; cells = b.cells.now; published_to = c; history = h; base = x; journal = j; present = y; tasks = t; spare = b.board.spare } in
-    ap (λ (m : Listing). made m b.publisher.cells b.publisher.history (snapshot_of b.base) b.journal.items (snapshot_of b.present) b.board.tasks) (ap (grown l) n.submitted ∙ grown_none l)
-    ∙ (ap (λ (c : CellsId). made l c b.publisher.history (snapshot_of b.base) b.journal.items (snapshot_of b.present) b.board.tasks) n.own
-    ∙ (ap (λ (h : List State). made l b.cells.now h (snapshot_of b.base) b.journal.items (snapshot_of b.present) b.board.tasks) n.unused
-    ∙ (ap (λ (x : Snapshot). made l b.cells.now (l.initial ∷ []) x b.journal.items (snapshot_of b.present) b.board.tasks) n.base
-    ∙ (ap (λ (j : List Entry). made l b.cells.now (l.initial ∷ []) (opening l) j (snapshot_of b.present) b.board.tasks) n.journal
-    ∙ (ap (λ (y : Snapshot). made l b.cells.now (l.initial ∷ []) (opening l) [] y b.board.tasks) n.present
-    ∙ ap (λ (t : List Task). made l b.cells.now (l.initial ∷ []) (opening l) [] (opening l) t) n.tasks)))))
+    let made : Listing → CellsId → List State → Snapshot → List Entry → Snapshot → List Task → BookView = λ m c h x j y t. record { catalogue = m; cells = b.cells.now; published_to = c; history = h; base = x; journal = j; present = y; tasks = t; spare = b.table.spare } in
+    ap (λ (m : Listing). made m b.publisher.cells b.publisher.history (snapshot_of b.base) b.journal.items (snapshot_of b.present) (tasks_of b)) (ap (grown l) n.submitted ∙ grown_none l)
+    ∙ (ap (λ (c : CellsId). made l c b.publisher.history (snapshot_of b.base) b.journal.items (snapshot_of b.present) (tasks_of b)) n.own
+    ∙ (ap (λ (h : List State). made l b.cells.now h (snapshot_of b.base) b.journal.items (snapshot_of b.present) (tasks_of b)) n.unused
+    ∙ (ap (λ (x : Snapshot). made l b.cells.now (l.initial ∷ []) x b.journal.items (snapshot_of b.present) (tasks_of b)) n.base
+    ∙ (ap (λ (j : List Entry). made l b.cells.now (l.initial ∷ []) (opening l) j (snapshot_of b.present) (tasks_of b)) n.journal
+    ∙ (ap (λ (y : Snapshot). made l b.cells.now (l.initial ∷ []) (opening l) [] y (tasks_of b)) n.present
+    ∙ ap (λ (t : List Task). made l b.cells.now (l.initial ∷ []) (opening l) [] (opening l) t) (ap (map (with_values b.present.values.items)) n.tasks ∙ all_ready b.present.values.items (length (tasks l))))))))
 
-pub kept_opened : (b : Inside) → IsNew b → length (tasks b.catalogue.now) + b.board.spare ≤ MAX_TASKS → length b.catalogue.now.initial ≤ MAX_VARIABLES → AllKnow b.catalogue.now → Upholds b.catalogue.now b.catalogue.now.initial → length (tasks b.catalogue.now) + b.board.spare ≤ vec_capacity b.journal → b.board.spare ≤ vec_capacity b.submitted → length b.catalogue.now.initial ≤ vec_capacity b.changes → b.board.variables ≡ length b.catalogue.now.initial → IsKept b
+pub kept_opened : (b : Inside) → IsNew b → length (tasks b.catalogue.now) + b.table.spare ≤ MAX_TASKS → length b.catalogue.now.initial ≤ MAX_VARIABLES → AllKnow b.catalogue.now → Upholds b.catalogue.now b.catalogue.now.initial → length (tasks b.catalogue.now) + b.table.spare ≤ vec_capacity b.journal → b.table.spare ≤ vec_capacity b.submitted → length b.catalogue.now.initial ≤ vec_capacity b.changes → b.table.variables ≡ length b.catalogue.now.initial → IsKept b
 kept_opened b n few few_variables known stands room submit_room changes_room variables =
     let l = b.catalogue.now in
     let is = new_is b n in
-    let size : length b.board.tasks ≡ length (tasks l) = ap length n.tasks ∙ length-replicate (length (tasks l)) Ready in
+    let size : length b.table.tasks ≡ length (tasks l) = ap length n.tasks ∙ length-replicate (length (tasks l)) Ready in
     record {
-      lawful = subst LawfulBook (sym is) (lawful_opened l b.cells.now b.board.spare stands);
-      fits = subst BookFits (sym is) (fits_opened l b.cells.now b.board.spare (omega (arith, few)) few_variables known);
+      lawful = subst LawfulBook (sym is) (lawful_opened l b.cells.now b.table.spare stands);
+      fits = subst BookFits (sym is) (fits_opened l b.cells.now b.table.spare (omega (arith, few)) few_variables known);
       room = omega (arith, room, size);
       submit_room = omega (arith, submit_room, ap length n.submitted);
       few = omega (arith, few, size);
@@ -140,53 +149,80 @@ kept_opened b n few few_variables known stands room submit_room changes_room var
     }
 
 -- one task stands otherwise; it was not done and is neither done nor parked
-pub kept_stand : (b : Inside) (board : BoardView) (task : TaskId) (was is : Task) → IsKept b → board ≡ placed b.board task is → slice_get b.board.tasks task.0 ≡ Some was → NotDone was → NotDone is → NotParked is → open_one was ≡ open_one is → IsKept (record b { board = board })
-kept_stand b board task was is k e at was_open is_open is_awake same =
+pub kept_stand : (b : Inside) (table : TableView) (task : TaskId) (was is : Task) → IsKept b → table ≡ placed b.table task is → slice_get b.table.tasks task.0 ≡ Some was → NotDone (with_values b.present.values.items was) → NotDone (with_values b.present.values.items is) → NotParked (with_values b.present.values.items is)
+    → open_one (with_values b.present.values.items was) ≡ open_one (with_values b.present.values.items is) → IsKept (record b { table = table })
+kept_stand b table task was is k e at was_open is_open is_awake same =
     let v = book_of b in
-    subst (λ (x : BoardView). IsKept (record b { board = x })) (sym e)
+    let m = b.present.values.items in
+    let there = map_get (with_values m) b.table.tasks task.0 was at in
+    let view = view_placed b task is in
+    subst (λ (x : TableView). IsKept (record b { table = x })) (sym e)
     (record {
-      lawful = stands_lawful v task was is k.lawful at was_open is_open is_awake;
-      fits = fits_stand v task was is k.fits at same;
-      room = omega (arith, k.room, length-set b.board.tasks task.0 is);
+      lawful = subst LawfulBook (sym view) (stands_lawful v task (with_values m was) (with_values m is) k.lawful there was_open is_open is_awake);
+      fits = subst BookFits (sym view) (fits_stand v task (with_values m was) (with_values m is) k.fits there same);
+      room = omega (arith, k.room, length-set b.table.tasks task.0 is);
       submit_room = k.submit_room;
-      few = omega (arith, k.few, length-set b.board.tasks task.0 is);
+      few = omega (arith, k.few, length-set b.table.tasks task.0 is);
       submitted = k.submitted;
       changes_room = k.changes_room;
       variables = k.variables;
     })
 
 -- the lowest ready task is taken, if there is one
-pub kept_taken : (b : Inside) (board : BoardView) (o : Option TaskId) → IsKept b → IsTaken b.board o board → IsKept (record b { board = board })
-kept_taken b board None k h = subst (λ (x : BoardView). IsKept (record b { board = x })) (sym h.1) k
-kept_taken b board (Some task) k h = kept_stand b board task Ready Running k h.2 h.0 (λ n e. cc) (λ n e. cc) (λ log e. cc) refl
+pub kept_taken : (b : Inside) (table : TableView) (o : Option TaskId) → IsKept b → IsTaken b.table o table → IsKept (record b { table = table })
+kept_taken b table None k h = subst (λ (x : TableView). IsKept (record b { table = x })) (sym h.1) k
+kept_taken b table (Some task) k h = kept_stand b table task Ready Running k h.2 h.0 (λ n e. cc) (λ n e. cc) (λ log e. cc) refl
+
+pub taken_view : (b : Inside) (table : TableView) (o : Option TaskId) → IsTaken b.table o table → Taken (book_of b) o (book_of (record b { table = table }))
+taken_view b table None h =
+    (λ n e. h.0 n (ready_without b.present.values.items b.table.tasks n e), ap (λ (x : TableView). book_of (record b { table = x })) h.1)
+taken_view b table (Some task) h = (
+  map_get (with_values b.present.values.items) b.table.tasks task.0 Ready h.0,
+  λ n less e. h.1 n less (ready_without b.present.values.items b.table.tasks n e),
+  ap (λ (x : TableView). book_of (record b { table = x })) h.2 ∙ view_placed b task Running,
+)
+
+-- a parked task's log is told by the present values
+pub view_parked : (b : Inside) (task : TaskId) (log : Known) → Agrees log b.present.values.items → book_of (record b { table = placed b.table task (Parked (unvalued log)) }) ≡ stands (book_of b) task (Parked log)
+view_parked b task log agrees =
+    view_placed b task (Parked (unvalued log)) ∙ ap (λ (l : Known). stands (book_of b) task (Parked l)) (told_again b.present.values.items log agrees)
 
 -- a running task waits
-pub kept_park : (b : Inside) (board : BoardView) (task : TaskId) (log : Known) → IsKept b → board ≡ placed b.board task (Parked log) → slice_get b.board.tasks task.0 ≡ Some Running → Waits (grown b.catalogue.now b.submitted.items) b.present.values.items task log → IsKept (record b { board = board })
-kept_park b board task log k e at waits =
+pub kept_park : (b : Inside) (table : TableView) (task : TaskId) (log : Known) → IsKept b → table ≡ placed b.table task (Parked (unvalued log)) → slice_get b.table.tasks task.0 ≡ Some Running → Waits (grown b.catalogue.now b.submitted.items) b.present.values.items task log → IsKept (record b { table = table })
+kept_park b table task log k e at waits =
     let v = book_of b in
-    subst (λ (x : BoardView). IsKept (record b { board = x })) (sym e)
+    let m = b.present.values.items in
+    let there = running_with m b.table.tasks task.0 at in
+    let view = view_parked b task log waits.agrees in
+    subst (λ (x : TableView). IsKept (record b { table = x })) (sym e)
     (record {
-      lawful = parks_lawful v task log k.lawful at waits;
-      fits = fits_stand v task Running (Parked log) k.fits at refl;
-      room = omega (arith, k.room, length-set b.board.tasks task.0 (Parked log));
+      lawful = subst LawfulBook (sym view) (parks_lawful v task log k.lawful there waits);
+      fits = subst BookFits (sym view) (fits_stand v task Running (Parked log) k.fits there refl);
+      room = omega (arith, k.room, length-set b.table.tasks task.0 (Parked (unvalued log)));
       submit_room = k.submit_room;
-      few = omega (arith, k.few, length-set b.board.tasks task.0 (Parked log));
+      few = omega (arith, k.few, length-set b.table.tasks task.0 (Parked (unvalued log)));
       submitted = k.submitted;
       changes_room = k.changes_room;
       variables = k.variables;
     })
 
--- each running task is ready
-pub kept_readied : (b : Inside) (board : BoardView) → IsKept b → board ≡ with_tasks b.board (map readied_one b.board.tasks) → IsKept (record b { board = board })
-kept_readied b board k e =
+pub view_readied : (b : Inside) → book_of (record b { table = with_tasks b.table (map readied_one b.table.tasks) }) ≡ readied (book_of b)
+view_readied b =
     let v = book_of b in
-    subst (λ (x : BoardView). IsKept (record b { board = x })) (sym e)
+    ap (λ (ts : List Task). let r : BookView = record v { tasks = ts } in r) (all_readied b.present.values.items b.table.tasks)
+
+-- each running task is ready
+pub kept_readied : (b : Inside) (table : TableView) → IsKept b → table ≡ with_tasks b.table (map readied_one b.table.tasks) → IsKept (record b { table = table })
+kept_readied b table k e =
+    let v = book_of b in
+    let view = view_readied b in
+    subst (λ (x : TableView). IsKept (record b { table = x })) (sym e)
     (record {
-      lawful = readied_lawful v k.lawful;
-      fits = readied_fits v k.fits;
-      room = omega (arith, k.room, length-map b.board.tasks readied_one);
+      lawful = subst LawfulBook (sym view) (readied_lawful v k.lawful);
+      fits = subst BookFits (sym view) (readied_fits v k.fits);
+      room = omega (arith, k.room, length-map b.table.tasks readied_one);
       submit_room = k.submit_room;
-      few = omega (arith, k.few, length-map b.board.tasks readied_one);
+      few = omega (arith, k.few, length-map b.table.tasks readied_one);
       submitted = k.submitted;
       changes_room = k.changes_room;
       variables = k.variables;
@@ -215,26 +251,28 @@ same_snapshot n values state versions vs e f =
     ∙ ap (λ (x : List ℕ). let r : Snapshot = record { number = n; state = state; versions = x } in r) f
 
 -- one task more
-pub view_submitted : (b : Inside) (board : BoardView) (txs : Vec TxId Global) (tx : TxId) → board ≡ with_one_more b.board → txs.items ≡ b.submitted.items ++ tx ∷ [] → book_of (record b { submitted = txs; board = board }) ≡ submitted (book_of b) tx
-view_submitted b board txs tx e more =
+pub view_submitted : (b : Inside) (table : TableView) (txs : Vec TxId Global) (tx : TxId) → table ≡ with_one_more b.table → txs.items ≡ b.submitted.items ++ tx ∷ [] → book_of (record b { submitted = txs; table = table }) ≡ submitted (book_of b) tx
+view_submitted b table txs tx e more =
     let v = book_of b in
-    let made : Listing → BoardView → BookView = λ l x. record v { catalogue = l; tasks = x.tasks; spare = x.spare } in
-    ap (made (grown b.catalogue.now txs.items)) e
-    ∙ ap (λ (l : Listing). made l (with_one_more b.board)) (ap (grown b.catalogue.now) more ∙ sym (grown_more b.catalogue.now b.submitted.items (tx ∷ [])))
+    let m = b.present.values.items in
+    let made : Listing → List Task → ℕ → BookView = λ l ts n. record v { catalogue = l; tasks = ts; spare = n } in
+    ap (λ (x : TableView). made (grown b.catalogue.now txs.items) (map (with_values m) x.tasks) x.spare) e
+    ∙ (ap (λ (l : Listing). made l (map (with_values m) (b.table.tasks ++ Ready ∷ [])) (b.table.spare - 1)) (ap (grown b.catalogue.now) more ∙ sym (grown_more b.catalogue.now b.submitted.items (tx ∷ [])))
+    ∙ ap (λ (ts : List Task). made (grown (grown b.catalogue.now b.submitted.items) (tx ∷ [])) ts (b.table.spare - 1)) (one_more_ready m b.table.tasks))
 
-pub kept_submitted : (b : Inside) (board : BoardView) (txs : Vec TxId Global) (tx : TxId) → IsKept b → board ≡ with_one_more b.board → 0 < b.board.spare → txs.items ≡ b.submitted.items ++ tx ∷ [] → vec_capacity b.submitted ≤ vec_capacity txs → tx.0 < length b.catalogue.now.transactions → ProgramKnown (length b.catalogue.now.initial) (program_at b.catalogue.now tx) → IsKept (record b { submitted = txs; board = board })
-kept_submitted b board txs tx k e spare more capacity known program =
+pub kept_submitted : (b : Inside) (table : TableView) (txs : Vec TxId Global) (tx : TxId) → IsKept b → table ≡ with_one_more b.table → 0 < b.table.spare → txs.items ≡ b.submitted.items ++ tx ∷ [] → vec_capacity b.submitted ≤ vec_capacity txs → tx.0 < length b.catalogue.now.transactions → ProgramKnown (length b.catalogue.now.initial) (program_at b.catalogue.now tx) → IsKept (record b { submitted = txs; table = table })
+kept_submitted b table txs tx k e spare more capacity known program =
     let v = book_of b in
-    let view = view_submitted b board txs tx e more in
-    let size : length board.tasks ≡ length b.board.tasks + 1 = ap (λ (x : BoardView). length x.tasks) e ∙ length-append b.board.tasks (Ready ∷ []) in
-    let left : board.spare ≡ b.board.spare - 1 = ap (λ (x : BoardView). x.spare) e in
+    let view = view_submitted b table txs tx e more in
+    let size : length table.tasks ≡ length b.table.tasks + 1 = ap (λ (x : TableView). length x.tasks) e ∙ length-append b.table.tasks (Ready ∷ []) in
+    let left : table.spare ≡ b.table.spare - 1 = ap (λ (x : TableView). x.spare) e in
     record {
       lawful = subst LawfulBook (sym view) (lawful_submitted v tx k.lawful k.fits.tasks);
-      fits = subst BookFits (sym view) (fits_submitted v tx k.fits (omega (arith, k.few, spare)) program);
+      fits = subst BookFits (sym view) (fits_submitted v tx k.fits (omega (arith, k.few, spare, length-map b.table.tasks (with_values b.present.values.items))) program);
       room = omega (arith, k.room, size, left, spare);
       submit_room = omega (arith, k.submit_room, ap length more, length-append b.submitted.items (tx ∷ []), left, spare, capacity);
       few = omega (arith, k.few, size, left, spare);
       submitted = subst (λ (ts : List TxId). All (λ (x : TxId). x.0 < length b.catalogue.now.transactions) ts) (sym more) (All-push (λ (x : TxId). x.0 < length b.catalogue.now.transactions) b.submitted.items tx k.submitted known);
       changes_room = k.changes_room;
-      variables = ap (λ (x : BoardView). x.variables) e ∙ k.variables;
+      variables = ap (λ (x : TableView). x.variables) e ∙ k.variables;
     }

@@ -7,6 +7,8 @@ pub mod Draining
 mod Submitting
 mod Kept
 mod Sleeping
+mod Rows
+mod Filling
 mod Sets
 mod Waking
 mod Writes

@@ -1,5 +1,5 @@
--- The sets of a board, as one task comes to stand otherwise.
-use Rattle.std.proofs.Common.{◌≡◌, inl, inr, ℕ, zero, suc, ◌+◌, ◌<◌, ◌≤◌, Bool, true, false, List, [], ◌∷◌, ◌++◌, length, map, Some, get_or, set, replicate, refl, sym, ◌∙◌, ap, subst, arith}
+-- The sets of a table, as one task comes to stand otherwise.
+use Rattle.std.proofs.Common.{Vec, Global, ◌≡◌, inl, inr, ℕ, zero, suc, ◌+◌, ◌<◌, ◌≤◌, Bool, true, false, List, [], ◌∷◌, ◌++◌, length, map, Some, get_or, set, replicate, refl, sym, ◌∙◌, ap, subst, arith}
 use Rattle.std.specs.List.{slice_get}
 use Rattle.std.proofs.lemmas.Bool.{cases_eq, cond_both}
 use Rattle.std.proofs.lemmas.Option.{slice_get_within}
@@ -8,12 +8,15 @@ use Rattle.std.proofs.lemmas.Option.{same_Some}
 use Rattle.txn_programs.specs.declared.limits.TheConstants.{MAX_TASKS}
 use Rattle.attempt.specs.Asking.{Known}
 use Rattle.attempt.specs.Order.{AllKnown}
-use Rattle.book.specs.declared.task.Task.{Task}
-use Rattle.book.specs.declared.task.Task.TheVariants.{Ready, Running, Parked, Done, GivenUp}
-use Rattle.book.specs.Board.{BoardView, with_tasks, is_ready, waits_for, names, flagged}
+use Rattle.book.specs.Tasks.{Task}
+use Rattle.book.specs.Tasks.{Ready, Running, Parked, Done, GivenUp}
+use Rattle.book.specs.Table.{TableView, with_tasks, is_ready, waits_for, names, flagged}
 use Rattle.book.specs.Turns.{readied_one}
-use Rattle.book.specs.declared.board.Board.TheInside.{Inside}
-use Rattle.book.specs.BoardInside.{AreSets, IsSorted, board_of, places}
+use Rattle.book.specs.declared.table.TaskTable.TheInside.{Inside}
+use Rattle.book.specs.TableInside.{AreSets, IsSorted, table_of, tasks_of, places}
+use Rattle.book.specs.declared.task.Standing.{Standing}
+use Rattle.book.specs.Standings.{shown, shown_from}
+use Rattle.book.proofs.Rows.{shown_set}
 use Rattle.book.proofs.Sleeping.{set_read}
 use Rattle.book.proofs.Lists.{get_append_left, get_append, get_set_same, get_set_other, set_same, map_get, get_map, get_replicate}
 
@@ -120,11 +123,11 @@ ready_in ts ready sleepers k h e =
 pub in_ready : (ts : List Task) (ready : List Bool) (sleepers : List (List Bool)) (k : ℕ) → AreSets ts ready sleepers → slice_get ts k ≡ Some Ready → slice_get ready k ≡ Some true
 in_ready ts ready sleepers k h e = ap (λ (r : List Bool). slice_get r k) h.ready ∙ map_get is_ready ts k Ready e
 
-pub board_is : (b : BoardView) (ts us : List Task) (n m : ℕ) → ts ≡ us → n ≡ b.variables → m ≡ b.spare → (let r : BoardView = record { tasks = ts; variables = n; spare = m } in r) ≡ with_tasks b us
-board_is b ts us n m e f g =
-    ap (λ (xs : List Task). let r : BoardView = record { tasks = xs; variables = n; spare = m } in r) e
-    ∙ (ap (λ (k : ℕ). let r : BoardView = record { tasks = us; variables = k; spare = m } in r) f
-    ∙ ap (λ (k : ℕ). let r : BoardView = record { tasks = us; variables = b.variables; spare = k } in r) g)
+pub table_is : (b : TableView) (ts us : List Task) (n m : ℕ) → ts ≡ us → n ≡ b.variables → m ≡ b.spare → (let r : TableView = record { tasks = ts; variables = n; spare = m } in r) ≡ with_tasks b us
+table_is b ts us n m e f g =
+    ap (λ (xs : List Task). let r : TableView = record { tasks = xs; variables = n; spare = m } in r) e
+    ∙ (ap (λ (k : ℕ). let r : TableView = record { tasks = us; variables = k; spare = m } in r) f
+    ∙ ap (λ (k : ℕ). let r : TableView = record { tasks = us; variables = b.variables; spare = k } in r) g)
 
 -- a change of a task is one of its place
 pub places_set : (ts : List Task) (n t : ℕ) (is : Task) → t < length ts → set (places ts n) t is ≡ places (set ts t is) n
@@ -164,10 +167,10 @@ placed_stand ts now n t was is ready sleepers at e h =
     (subst (λ (us : List Task). AreSets us ready sleepers) (places_set ts n t is (slice_get_within ts t was at)) h)
 
 -- the set of a variable, seen from outside
-pub asleep_now : (b : Inside) (v : BoardView) (x : ℕ) (s : List Bool) → board_of b ≡ v → IsSorted b → x < v.variables → s ≡ get_or b.sleepers.items x s → s ≡ map (waits_for x) (places v.tasks v.spare)
+pub asleep_now : (b : Inside) (v : TableView) (x : ℕ) (s : List Bool) → table_of b ≡ v → IsSorted b → x < v.variables → s ≡ get_or b.sleepers.items x s → s ≡ map (waits_for x) (places v.tasks v.spare)
 asleep_now b v x s view k low e =
-    let within : x < length b.sleepers.items = omega (arith, low, ap (λ (w : BoardView). w.variables) view) in
-    set_read b.sleepers.items x s within e ∙ (k.sets.asleep x within ∙ ap (λ (w : BoardView). map (waits_for x) (places w.tasks w.spare)) view)
+    let within : x < length b.sleepers.items = omega (arith, low, ap (λ (w : TableView). w.variables) view) in
+    set_read b.sleepers.items x s within e ∙ (k.sets.asleep x within ∙ ap (λ (w : TableView). map (waits_for x) (places w.tasks w.spare)) view)
 
 pub readied_all : (n : ℕ) → map readied_one (replicate n Running) ≡ replicate n Ready
 readied_all zero = refl
@@ -188,3 +191,8 @@ placed_more ts now n m ready now_ready sleepers e f g h =
     subst (λ (us : List Task). AreSets (places us m) now_ready sleepers) (sym f)
     (subst (λ (us : List Task). AreSets us now_ready sleepers) (place_taken ts m)
     (sets_ready (places ts (suc m)) ready now_ready sleepers (length ts) Running Ready (subst (λ (k : ℕ). AreSets (places ts k) ready sleepers) e h) (next_place ts m) g (λ x. refl) (λ log bad. cc)))
+
+-- one task stands otherwise
+pub stand_is : (b : Inside) (now : Vec Standing Global) (t : ℕ) (is : Standing) → now.items ≡ set b.standings.items t is → shown_from (length b.sleepers.items) b.names.items 0 now.items ≡ set (tasks_of b) t (shown (length b.sleepers.items) b.names.items t is)
+stand_is b now t is e =
+    ap (shown_from (length b.sleepers.items) b.names.items 0) e ∙ shown_set (length b.sleepers.items) b.names.items b.standings.items t is

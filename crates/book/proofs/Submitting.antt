@@ -12,8 +12,8 @@ use Rattle.txn_programs.specs.Scope.{ProgramKnown}
 use Rattle.txn_programs.specs.Listing.{Listing, tasks, task_tx, task_program, program_at}
 use Rattle.txn_programs.specs.Replay.{Snapshot, Replays, applied, opening}
 use Rattle.attempt.specs.Asking.{Known, ask}
-use Rattle.book.specs.declared.task.Task.{Task}
-use Rattle.book.specs.declared.task.Task.TheVariants.{Ready, Parked, Done}
+use Rattle.book.specs.Tasks.{Task}
+use Rattle.book.specs.Tasks.{Ready, Parked, Done}
 use Rattle.book.specs.View.{BookView}
 use Rattle.book.specs.LawfulBook.{LawfulBook, BookFits, AreDone, AreParked, Waits, open_count}
 use Rattle.txn.specs.Grown.{grown}

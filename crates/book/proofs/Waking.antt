@@ -10,10 +10,10 @@ use Rattle.txn_programs.specs.Meaning.{State}
 use Rattle.txn_words.specs.Words.{value_of}
 use Rattle.txn_words.specs.Stores.{Change, id_of, no_change, AreChanges, with_changes}
 use Rattle.attempt.specs.Asking.{Known}
-use Rattle.book.specs.declared.task.Task.{Task}
-use Rattle.book.specs.declared.task.Task.TheVariants.{Ready, Running, Parked, Done, GivenUp}
+use Rattle.book.specs.Tasks.{Task}
+use Rattle.book.specs.Tasks.{Ready, Running, Parked, Done, GivenUp}
 use Rattle.book.specs.View.{woken, names_changed}
-use Rattle.book.specs.Board.{names, waits_for, woken_for, woken_by, IsParked}
+use Rattle.book.specs.Table.{names, waits_for, woken_for, woken_by, IsParked}
 use Rattle.book.proofs.Lists.{get_map, map_get, set_same, map_set}
 use Rattle.book.proofs.Draining.{weigh, weigh-set}
 
@@ -158,7 +158,7 @@ woken_other : (cs : List Change) (t : Task) → ((x : ℕ) → waits_for x t ≡
 woken_other [] t h = refl
 woken_other (c ∷ cs) t h = ap (λ (b : Bool). b || list_any (λ (d : Change). waits_for d.0.0 t) cs) (h c.0.0) ∙ woken_other cs t h
 
-woken_by_changes : (m : State) (cs : List Change) (t : Task) → AreChanges m cs → woken_by cs t ≡ woken m (with_changes m cs) t
+pub woken_by_changes : (m : State) (cs : List Change) (t : Task) → AreChanges m cs → woken_by cs t ≡ woken m (with_changes m cs) t
 woken_by_changes m cs Ready h = woken_ready cs
 woken_by_changes m cs Running h = cond-false _ _ _ (woken_other cs Running (λ x. refl))
 woken_by_changes m cs (Parked log) h = ap (λ (b : Bool). cond b Ready (Parked log)) (sym (changed_log m cs log h))

@@ -15,8 +15,8 @@ use Rattle.txn_programs.specs.Tree.{Program}
 use Rattle.txn_programs.specs.Listing.{Listing, task_program}
 use Rattle.attempt.specs.Asking.{Known, Answer, Ends, ask}
 use Rattle.attempt.specs.Frame.{Agrees, AnswersBy, FrameTheorem}
-use Rattle.book.specs.declared.task.Task.{Task}
-use Rattle.book.specs.declared.task.Task.TheVariants.{Ready, Running, Parked, Done, GivenUp}
+use Rattle.book.specs.Tasks.{Task}
+use Rattle.book.specs.Tasks.{Ready, Running, Parked, Done, GivenUp}
 use Rattle.book.specs.View.{names_changed, woken}
 use Rattle.book.specs.LawfulBook.{AreDone, AreParked, Waits, open_one, open_count}
 use Rattle.book.proofs.Lists.{get_map, map_get}
@@ -57,7 +57,7 @@ done_woken es ts old new h =
           h.of_task t n (g.1 ∙ ap Some (woken_done old new g.0 n g.2));
     }
 
-unchanged : (old new : State) (x : VarId) → not (int_eq (value_at old x) (value_at new x)) ≡ false → value_at old x ≡ value_at new x
+pub unchanged : (old new : State) (x : VarId) → not (int_eq (value_at old x) (value_at new x)) ≡ false → value_at old x ≡ value_at new x
 unchanged old new x e = (Decides-int_eq (value_at old x) (value_at new x)).0 (double (int_eq (value_at old x) (value_at new x)) e) where
   double : (b : Bool) → not b ≡ false → b ≡ true
   double true e = refl

@@ -14,8 +14,8 @@ use Rattle.txn_words.specs.Words.{last_state}
 use Rattle.attempt.specs.Asking.{Known, ask, Ends}
 use Rattle.attempt.specs.Frame.{Agrees}
 use Rattle.attempt.specs.Order.{AllKnown}
-use Rattle.book.specs.declared.task.Task.{Task}
-use Rattle.book.specs.declared.task.Task.TheVariants.{Ready, Running, Parked, Done, GivenUp}
+use Rattle.book.specs.Tasks.{Task}
+use Rattle.book.specs.Tasks.{Ready, Running, Parked, Done, GivenUp}
 use Rattle.book.specs.View.{BookView}
 
 -- entry k + 1 is of the task done with k + 1, and no other task is done

@@ -1,9 +1,11 @@
+pub mod Tasks
+pub mod Standings
 pub mod View
 pub mod LawfulBook
 pub mod BookInside
 pub mod Turns
 pub mod Submitted
-pub mod Board
-pub mod BoardInside
+pub mod Table
+pub mod TableInside
 pub mod Agreeing
 pub mod Counting

@@ -9,10 +9,10 @@ use Rattle.txn_programs.specs.Listing.{Listing, task_tx, task_program, program_a
 use Rattle.txn_programs.specs.Told.{Told, base_of, now_of}
 use Rattle.attempt.specs.Asking.{Known}
 use Rattle.attempt.specs.Frame.{Agrees}
-use Rattle.attempt.specs.View.{AttemptView, begun, idle}
+use Rattle.attempt.specs.View.{AttemptView, idle}
 use Rattle.attempt.specs.declared.next.Stand.TheVariants.{Over}
-use Rattle.book.specs.declared.task.Task.{Task}
-use Rattle.book.specs.declared.task.Task.TheVariants.{Ready, Running, Parked, Done, GivenUp}
+use Rattle.book.specs.Tasks.{Task}
+use Rattle.book.specs.Tasks.{Ready, Running, Parked, Done, GivenUp}
 use Rattle.book.specs.declared.task.Finish.{Finish}
 use Rattle.book.specs.declared.task.Finish.TheVariants as finish
 use Rattle.book.specs.declared.task.Serial.{Serial}
@@ -57,12 +57,11 @@ Finished old task a (finish.Committed n) new =
     × (n ≡ old.present.number + 1)
     × (new ≡ committed old task)
 
--- `finish_lent`: what is left of the attempt. A parked task has its log, and the attempt is as it began; of a commit it has
--- told the end once more
+-- `finish_lent`: what is left of the attempt. Of a task that is parked, and of a commit, it has told the end once more
 abbrev pub IsLeft : AttemptView → Finish → AttemptView → Type 0
 IsLeft old finish.NotRunning new = new ≡ old
 IsLeft old finish.Stale new = new ≡ old
-IsLeft old finish.Parked new = new ≡ begun old
+IsLeft old finish.Parked new = new ≡ idle old
 IsLeft old (finish.Committed n) new = new ≡ idle old
 
 -- `serial`: a turn of the task on the present values

@@ -10,8 +10,8 @@ use Rattle.txn_programs.specs.Listing.{Listing, tasks, task_tx, task_program}
 use Rattle.txn_programs.specs.Replay.{Snapshot, opening, applied}
 use Rattle.attempt.specs.Asking.{Known}
 use Rattle.cells.specs.Cells.{CellsId}
-use Rattle.book.specs.declared.task.Task.{Task}
-use Rattle.book.specs.declared.task.Task.TheVariants.{Ready, Running, Parked, Done, GivenUp}
+use Rattle.book.specs.Tasks.{Task}
+use Rattle.book.specs.Tasks.{Ready, Running, Parked, Done, GivenUp}
 
 pub record BookView : Type 0 where
   pub catalogue : Listing

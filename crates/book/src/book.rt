@@ -5,20 +5,20 @@ ghost use Rattle.txn_programs.specs.declared.limits.TheConstants.{MAX_TASKS};
 ghost use Rattle.txn_words.specs.Stores.{with_changes};
 ghost use Rattle.attempt.specs.Asking.{Known};
 ghost use Rattle.attempt.specs.Frame.{Agrees};
-ghost use Rattle.attempt.specs.Order.{Ascending, AllKnown};
+ghost use Rattle.attempt.specs.Order.{Ascending, AllKnown, Apart};
 ghost use Rattle.cells.specs.Passing.{MeetsBy};
 ghost use Rattle.book.specs.Turns.{is_committed};
 
-use crate::board::Board;
 use crate::changing::{note_changes, store_changes};
 use crate::counting::{Counts, counts_of};
-use crate::evaluate::evaluate;
+use crate::ending::bring_to_end;
 use crate::listing::{given_up, parked};
 use crate::stored::{Stored, opening, pairs};
+use crate::table::TaskTable;
 use crate::task::{Finish, Serial};
 use crate::validate::agrees;
 use crate::whose::transaction_of;
-use attempt::{Attempt, Log, Next, frame};
+use attempt::{Attempt, Next, frame};
 use cells::{Cells, Pass, Publisher};
 use std::alloc::Global;
 use std::marker::Model;
@@ -42,7 +42,7 @@ pub struct Book<'a> {
     /// What the last commit changed. Its room is for one change a variable.
     changes: Vec<(VarId, i64)>,
     /// How each task stands.
-    board: Board,
+    table: TaskTable,
 }
 
 impl<'a> Model for Book<'a> {
@@ -68,7 +68,7 @@ impl<'a> Book<'a> {
     ghost use Rattle.book.specs.Submitted.{Submits};
     ghost use Rattle.book.specs.Counting.{AreCounts, IsPresent};
     ghost use Rattle.txn_programs.specs.declared.ast.Outcome as Outcome;
-    ghost use Rattle.book.specs.declared.task.Task.TheVariants as Task;
+    ghost use Rattle.book.specs.Tasks as Task;
     ghost use Rattle.txn_programs.specs.Told.{told};
     ghost use Rattle.book.specs.View.{opened, IsRunning, stands, committed, checkpointed};
     ghost use Rattle.book.specs.Turns.{Taken, IsEndOf, Finished, IsLeft, Served, Turn, Drains, kept_short, readied, IsIdle, without_journal, ReportIs};
@@ -120,7 +120,7 @@ impl<'a> Book<'a> {
             journal: Vec::with_capacity(alloc, room)?,
             present: opening(alloc, catalogue.initial())?,
             changes: Vec::with_capacity(alloc, variables)?,
-            board: Board::open(alloc, count, spare, variables)?,
+            table: TaskTable::open(alloc, count, spare, variables)?,
         })
     }
 
@@ -135,14 +135,14 @@ impl<'a> Book<'a> {
         }
         self.catalogue.tx(tx);
         note(&mut self.submitted, tx);
-        Some(self.board.add())
+        Some(self.table.add())
     }
 
     /// How many tasks more can be submitted.
     pub fn spare(&self) -> usize
         ensures { result ≡ self.now.spare }
     {
-        self.board.spare()
+        self.table.spare()
     }
 
     /// The transaction that a task runs.
@@ -167,14 +167,14 @@ impl<'a> Book<'a> {
         ensures value { result ≡ length self.now.tasks }
         ensures listed { result ≡ length (tasks self.now.catalogue) }
     {
-        self.board.tasks().len()
+        self.table.len()
     }
 
     /// How many tasks stand how. Its time grows with the tasks.
     pub fn counts(&self) -> Counts
         ensures { AreCounts self.now.tasks result }
     {
-        counts_of(self.board.tasks())
+        counts_of(self.table.standings())
     }
 
     /// Whether no task is ready or running. Its time grows with the tasks.
@@ -211,7 +211,7 @@ impl<'a> Book<'a> {
         ensures taken { Taken self.old result self.new }
         ensures catalogue { self.new.catalogue ≡ self.old.catalogue }
     {
-        self.board.take()
+        self.table.take()
     }
 
     /// The end of an attempt of the task: it commits or is parked where all that it read is still
@@ -228,9 +228,9 @@ impl<'a> Book<'a> {
         self.finish_lent(task, &mut attempt)
     }
 
-    /// As `finish`, of an attempt that the caller keeps, so that it can be restarted. Where the
-    /// task is parked the attempt's log is taken out of it, and it is as it began; after a commit
-    /// it has answered once more; else it is as it was.
+    /// As `finish`, of an attempt that the caller keeps, so that it can be restarted in the room that
+    /// it has. Where the task is parked, and after a commit, it has answered once more; else it is as
+    /// it was.
     pub fn finish_lent(&mut self, task: TaskId, attempt: &mut Attempt<'_>) -> Finish
         requires exists { task.0 < length self.old.tasks }
         requires ended { IsEndOf self.old.catalogue task attempt.old }
@@ -238,7 +238,7 @@ impl<'a> Book<'a> {
         ensures left { IsLeft attempt.old result attempt.new }
         ensures catalogue { self.new.catalogue ≡ self.old.catalogue }
     {
-        if !self.board.is_running(task) {
+        if !self.table.is_running(task) {
             return Finish::NotRunning;
         }
         if !agrees(attempt.log(), &self.present.values) {
@@ -248,7 +248,7 @@ impl<'a> Book<'a> {
             Next::Returned(value) => Outcome::Returned(value),
             Next::Thrown(fault) => Outcome::Thrown(fault),
             Next::Retry => {
-                self.park(task, attempt.take_log());
+                self.park(task, attempt.log());
                 return Finish::Parked;
             }
             Next::Need(_) | Next::Memory => unreachable!(),
@@ -274,12 +274,12 @@ impl<'a> Book<'a> {
         ensures served { Served self.old task result self.new }
         ensures catalogue { self.new.catalogue ≡ self.old.catalogue }
     {
-        if !self.board.is_running(task) {
+        if !self.table.is_running(task) {
             return Serial::NotRunning;
         }
         let catalogue = self.catalogue;
         let tx = transaction_of(catalogue, &self.submitted, task);
-        let Ok(_) = evaluate(attempt, catalogue, tx, &self.present.values) else {
+        let Ok(_) = bring_to_end(attempt, catalogue, tx, &self.present.values) else {
             let _ = self.give_up(task);
             return Serial::Abandoned;
         };
@@ -297,10 +297,10 @@ impl<'a> Book<'a> {
         ensures given_up { MatchBool result (IsRunning self.old task × (self.new ≡ stands self.old task Task.GivenUp)) (¬ (IsRunning self.old task) × (self.new ≡ self.old)) }
         ensures catalogue { self.new.catalogue ≡ self.old.catalogue }
     {
-        if !self.board.is_running(task) {
+        if !self.table.is_running(task) {
             return false;
         }
-        self.board.give_up(task);
+        self.table.give_up(task);
         true
     }
 
@@ -362,7 +362,7 @@ impl<'a> Book<'a> {
     fn make_ready(&mut self)
         ensures { self.new ≡ readied self.old }
     {
-        self.board.ready_all();
+        self.table.ready_all();
     }
 
     /// The turn of a task that was taken, by an attempt that is restarted for it.
@@ -431,8 +431,18 @@ impl<'a> Book<'a> {
             entries: Vec::new(alloc),
             now: self.present.number,
             now_vars: pairs(alloc, &self.present)?,
-            parked: parked(alloc, self.catalogue, &self.submitted, self.board.tasks())?,
-            memory: given_up(alloc, self.catalogue, &self.submitted, self.board.tasks())?,
+            parked: parked(
+                alloc,
+                self.catalogue,
+                &self.submitted,
+                self.table.standings(),
+            )?,
+            memory: given_up(
+                alloc,
+                self.catalogue,
+                &self.submitted,
+                self.table.standings(),
+            )?,
         })
     }
 
@@ -443,16 +453,17 @@ impl<'a> Book<'a> {
         ensures fits { BookFits self.now }
         ensures upheld { KeepsConditions self.now }
     {
-        let _ = &self.board;
+        let _ = &self.table;
     }
 
     /// The task waits for a change of a logged variable.
-    fn park(&mut self, task: TaskId, log: Log)
+    fn park(&mut self, task: TaskId, log: &[(VarId, i64)])
         requires running { IsRunning self.old task }
-        requires waits { Waits self.old.catalogue self.old.present.state task log }
-        ensures { self.new ≡ stands self.old task (Task.Parked log) }
+        requires waits { Waits self.old.catalogue self.old.present.state task log.now }
+        requires apart { Apart log.now }
+        ensures { self.new ≡ stands self.old task (Task.Parked log.now) }
     {
-        self.board.park(task, log);
+        self.table.park(task, log);
     }
 
     /// The task commits with this outcome and these writes. The number of its entry.
@@ -481,8 +492,8 @@ impl<'a> Book<'a> {
             &self.changes,
         );
         self.present.number = number;
-        self.board.finish(task, number);
-        self.board.wake(&self.changes);
+        self.table.finish(task, number);
+        self.table.wake(&self.changes);
         enter(
             &mut self.journal,
             Entry {

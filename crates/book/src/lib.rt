@@ -4,14 +4,15 @@
 //! state breaks a standing condition.
 #![tactic(auto)]
 
-mod board;
 mod book;
 mod changing;
 mod counting;
-mod evaluate;
+mod ending;
 mod listing;
+mod names;
 mod sleepers;
 mod stored;
+mod table;
 mod task;
 mod validate;
 mod whose;

@@ -3,7 +3,8 @@
 ghost use Rattle.std.specs.Prelude.{◌≡◌, ◌<◌, ◌≤◌, ℕ, [], true, false, length, replicate, IfOk, slice_index_or};
 ghost use Rattle.attempt.specs.Order.{AllKnown};
 ghost use Rattle.book_task_set.specs.declared.set.TheConstants.{MAX_ROOM};
-ghost use Rattle.book.specs.Board.{flagged};
+ghost use Rattle.book.specs.Table.{flagged};
+ghost use Rattle.book.specs.Standings.{naming};
 
 use book_task_set::TaskSet;
 use std::alloc::{AllocError, Global};
@@ -37,14 +38,14 @@ pub fn enter(sleepers: &mut Vec<TaskSet>, log: &[(VarId, i64)], task: usize)
     }
 }
 
-/// The task is in the set of no logged variable.
-pub fn leave(sleepers: &mut Vec<TaskSet>, log: &[(VarId, i64)], task: usize)
-    requires known { AllKnown (length sleepers.old.items) log.now }
+/// The task is in the set of no variable of its row.
+pub fn leave(sleepers: &mut Vec<TaskSet>, names: &[u8], task: usize)
+    requires known { AllKnown (length sleepers.old.items) (naming names.now) }
     requires room { (x : ℕ) → x < length sleepers.old.items → task < length (slice_index_or sleepers.old.items x []) }
     ensures size { length sleepers.new.items ≡ length sleepers.old.items }
-    ensures each { (x : ℕ) → slice_index_or sleepers.new.items x [] ≡ flagged false log.now task x (slice_index_or sleepers.old.items x []) }
+    ensures each { (x : ℕ) → slice_index_or sleepers.new.items x [] ≡ flagged false (naming names.now) task x (slice_index_or sleepers.old.items x []) }
 {
-    for pair in log {
-        sleepers[pair.0.0 as usize].remove(task);
+    for name in names {
+        sleepers[*name as usize].remove(task);
     }
 }

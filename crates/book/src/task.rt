@@ -2,20 +2,19 @@
 
 ghost use Rattle.std.specs.Prelude.{◌≡◌, ◌<◌, length, slice_set, vec_capacity};
 
-use attempt::Log;
 use txn::TaskId;
 
-/// How a task stands.
+/// How a task stands, in eight bytes.
 #[derive(Drop)]
-pub enum Task {
+pub enum Standing {
     /// It can be taken.
     Ready,
     /// It was taken, and is neither done nor parked nor given up since.
     Running,
-    /// Its program retried on what this log tells, and waits for a change of a logged variable.
-    Parked(Log),
+    /// Its program retried on so many variables, and waits for a change of one of them.
+    Parked(u32),
     /// It committed, and its journal entry has this number.
-    Done(u64),
+    Done(u32),
     /// It met want of memory, and enters nothing.
     GivenUp,
 }
@@ -47,10 +46,10 @@ pub enum Serial {
 }
 
 /// The task stands so from now on.
-pub fn stand(tasks: &mut Vec<Task>, task: TaskId, how: Task)
-    requires { task.0 < length tasks.old.items }
-    ensures items { tasks.new.items ≡ slice_set tasks.old.items task.0 how }
-    ensures capacity { vec_capacity tasks.new ≡ vec_capacity tasks.old }
+pub fn stand(standings: &mut Vec<Standing>, task: TaskId, how: Standing)
+    requires { task.0 < length standings.old.items }
+    ensures items { standings.new.items ≡ slice_set standings.old.items task.0 how }
+    ensures capacity { vec_capacity standings.new ≡ vec_capacity standings.old }
 {
-    tasks[task.0 as usize] = how;
+    standings[task.0 as usize] = how;
 }

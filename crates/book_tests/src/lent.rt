@@ -9,8 +9,8 @@ use std::alloc::Global;
 use std::process::Abort;
 use txn::{Catalogue, TaskId};
 
-/// The task that waits is parked, and the attempt's log went with it. The attempt it was waiting
-/// for commits, and then the task that waited does.
+/// The task that waits is parked, and the attempt keeps its log to its next restart. The task that it
+/// was waiting for commits, and then the task that waited does.
 fn one_for_all<'c>(
     rt: &impl Abort,
     book: &mut Book<'_>,
@@ -19,7 +19,7 @@ fn one_for_all<'c>(
 ) {
     ends_anew(rt, attempt, catalogue, TaskId(0), &[5, 0]);
     ends_lent(rt, book, catalogue, TaskId(0), attempt, Finish::Parked);
-    assert!(rt; attempt.log().is_empty());
+    assert!(rt; !attempt.log().is_empty());
     ends_anew(rt, attempt, catalogue, TaskId(2), &[5, 0]);
     ends_lent(
         rt,

@@ -11,8 +11,7 @@ use Rattle.txn_programs.specs.declared.report.Entry.{Entry}
 use Rattle.txn_programs.specs.Meaning.{State, outcome, after}
 use Rattle.txn_programs.specs.Listing.{Listing, tasks, task_tx, task_program, program_at}
 use Rattle.txn_programs.specs.Replay.{Snapshot, applied, opening}
-use Rattle.book.specs.declared.task.Task.{Task}
-use Rattle.book.specs.declared.task.Task.TheVariants.{Ready, Running, Done}
+use Rattle.book.specs.Tasks.{Task, Ready, Running, Done}
 use Rattle.book.specs.declared.task.Serial.{Serial}
 use Rattle.book.specs.declared.task.Serial.TheVariants as serial
 use Rattle.book.specs.View.{BookView, committed, entry_of, woken, opened}

@@ -6,7 +6,7 @@ use Rattle.txn_programs.specs.declared.ast.TxId.{TxId}
 use Rattle.txn_programs.specs.declared.report.Entry.{Entry}
 use Rattle.txn_programs.specs.Listing.{Listing, tasks}
 use Rattle.txn_programs.specs.Replay.{opening, Once}
-use Rattle.book.specs.declared.task.Task.TheVariants.{Ready, Running}
+use Rattle.book.specs.Tasks.{Ready, Running}
 use Rattle.book.specs.View.{BookView}
 use Rattle.explore_law.specs.Orders.{Place}
 

@@ -22,8 +22,8 @@ use Rattle.txn.specs.contracts.catalogue.Catalogue as catalogue
 use Rattle.cells.proofs.cells.Cells.TheSendSync as cells
 use Rattle.cells.proofs.publisher.Publisher.TheSendSync as publisher
 use Rattle.book.proofs.stored.Stored.TheSendSync as stored
-use Rattle.book.proofs.task.Task.TheSendSync as task
-use Rattle.book.proofs.board.Board.TheSendSync as board
+use Rattle.book.proofs.task.Standing.TheSendSync as standing
+use Rattle.book.proofs.table.TaskTable.TheSendSync as table
 use Rattle.txn_programs.proofs.report.Entry.TheSendSync as entry
 use Rattle.txn_programs.proofs.code.Op.TheSendSync as op
 use Rattle.book.specs.contracts.book.Book as book
@@ -86,4 +86,4 @@ pub catalogue_sync : IsSync catalogue.the_row
 catalogue_sync = let t = tx_sync in let c = cond_sync in let o = op.the_sync in search (sendable, crosses) depth 80 fits 6000
 
 pub book_send : (ℓ : NamedLft) → IsSend (book.the_row ℓ)
-book_send ℓ = let a = catalogue_sync in let b = cells.the_sync in let c = publisher.the_send in let d = stored.the_send in let e = task.the_send in let f = entry.the_send in let h = board.the_send in search (sendable, crosses) depth 60
+book_send ℓ = let a = catalogue_sync in let b = cells.the_sync in let c = publisher.the_send in let d = stored.the_send in let e = standing.the_send in let f = entry.the_send in let h = table.the_send in search (sendable, crosses) depth 60

@@ -10,7 +10,7 @@ ghost use Rattle.book.specs.View.{opened, checkpointed, stands, IsRunning};
 ghost use Rattle.book.specs.Turns.{Drains, readied, kept_short, IsIdle};
 ghost use Rattle.book.specs.Submitted.{Submits};
 ghost use Rattle.book.specs.Counting.{AreCounts};
-ghost use Rattle.book.specs.declared.task.Task.TheVariants as Task;
+ghost use Rattle.book.specs.Tasks as Task;
 ghost use Rattle.book.specs.LawfulBook.{LawfulBook, BookFits, KeepsConditions};
 ghost use Rattle.stm_store.specs.declared.telling.FileFault.TheVariants as FileFault;
 ghost use Rattle.stm_store.specs.declared.telling.ReportFault.TheVariants as ReportFault;

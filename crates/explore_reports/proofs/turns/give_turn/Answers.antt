@@ -1,7 +1,7 @@
 use Rattle.std.proofs.Common.{ℕ, Option, subst}
 use Rattle.std.proofs.lemmas.Option.{slice_get_within}
 use Rattle.book.specs.declared.task.Serial.{Serial}
-use Rattle.book.specs.declared.task.Task.TheVariants.{Running}
+use Rattle.book.specs.Tasks.{Running}
 use Rattle.book.specs.Turns.{Served}
 use Rattle.explore_reports.specs.Giving.{Leaves, queues}
 use Rattle.explore_reports.proofs.Turning.{popped_runs, commits, turn_on, turn_turned, turn_entered, has_queue}

@@ -10,7 +10,7 @@ use Rattle.attempt.specs.Frame.{Agrees}
 use Rattle.attempt.specs.Order.{AllKnown, Ascending}
 use Rattle.attempt.specs.View.{AttemptView, Answers, HoldsAt, idle, next_of}
 use Rattle.attempt.specs.declared.next.Next.{Next}
-use Rattle.book.specs.declared.task.Task.TheVariants.{Running, Parked}
+use Rattle.book.specs.Tasks.{Running, Parked}
 use Rattle.book.specs.declared.book.Book.TheInside.{Inside}
 use Rattle.book.specs.View.{BookView, IsRunning, stands}
 use Rattle.txn_programs.specs.declared.ast.Outcome.{Outcome}
@@ -22,6 +22,7 @@ use Rattle.book.specs.Agreeing.{agree}
 use Rattle.book.specs.BookInside.{book_of, IsKept}
 use Rattle.book.proofs.Agreeing.{agree_from, agrees_from}
 use Rattle.book.proofs.Draining.{committed_catalogue}
+use Rattle.book.proofs.Filling.{running_with, running_without}
 use Rattle.book.proofs.Finishing.{Ended, needs_none, wants_none, waits, retried, not_retried, returned, thrown, leaves_of_returned, leaves_of_thrown, only_answered}
 use Rattle.book.proofs.book.Book.finish_lent.Goals as goal
 use Rattle.book.proofs.book.Book.finish_lent.Goals.{in-Returned, in-Thrown}
@@ -31,8 +32,8 @@ agreed : (b : Inside) (v : BookView) (log told : Known) (values : State) → boo
 agreed b v log told values view same values_is =
     ap (λ (l : Known). agree l values) same ∙ (ap (λ (m : State). agree log m) values_is ∙ ap (λ (x : BookView). agree log x.present.state) view)
 
-is_running_now : (b : Inside) (v : BookView) (task : TaskId) → book_of b ≡ v → slice_get b.board.tasks task.0 ≡ Some Running → IsRunning v task
-is_running_now b v task view e = ap (λ (x : BookView). slice_get x.tasks task.0) (sym view) ∙ e
+is_running_now : (b : Inside) (v : BookView) (task : TaskId) → book_of b ≡ v → slice_get b.table.tasks task.0 ≡ Some Running → IsRunning v task
+is_running_now b v task view e = ap (λ (x : BookView). slice_get x.tasks task.0) (sym view) ∙ running_with b.present.values.items b.table.tasks task.0 e
 
 ended : (b : Inside) (v : BookView) (task : TaskId) (a new : AttemptView) (r : Next) (told : Known) (values : State) → book_of b ≡ v → IsKept b → IsEndOf v.catalogue task a → told ≡ a.log → AllKnown a.variables told → values ≡ b.present.values.items → true ≡ agree told values → Answers r new → ((o : Outcome) → a.stand ≡ Over o → (r ≡ next_of o) × (new ≡ idle a)) → ((m : State) → length m ≡ new.variables → Agrees new.log m → HoldsAt r new m) → Ended v task a new r
 ended b v task a new r told values view k end log known values_is agree answers repeats frame =
@@ -46,6 +47,17 @@ ended b v task a new r told values view k end log known values_is agree answers 
       frame = frame;
     }
 
+pub returns-then-not-is_running-clause-finished : goal.returns-then-not-is_running-clause-finished
+returns-then-not-is_running-clause-finished c =
+    let s = c.self.inside in
+    (λ e. c.if-not-is_running.ensures (running_without s.present.values.items s.table.tasks c.args.task.0 (ap (λ (x : BookView). slice_get x.tasks c.args.task.0) c.self.view_is ∙ e)), refl)
+
+pub park-requires-clause-running : goal.park-requires-clause-running
+park-requires-clause-running c = is_running_now c.self.inside c.args.self.now c.args.task c.self.view_is c.if-not-is_running.ensures
+
+pub commit-requires-clause-running : goal.commit-requires-clause-running
+commit-requires-clause-running c = is_running_now c.self.inside c.args.self.now c.args.task c.self.view_is c.if-not-is_running.ensures
+
 pub returns-then-not-agrees-clause-finished : goal.returns-then-not-agrees-clause-finished
 returns-then-not-agrees-clause-finished c =
     let same = agreed c.self.inside c.args.self.now c.args.attempt.now.log c.log.result.now c.deref.result.now c.self.view_is c.log.ensures.value c.deref.ensures.value in (
@@ -57,8 +69,13 @@ returns-then-not-agrees-clause-finished c =
 pub park-requires-clause-waits : goal.park-requires-clause-waits
 park-requires-clause-waits c =
     let h = ended c.self.inside c.args.self.now c.args.task c.args.attempt.now c.advance.new.self c.advance.result c.log.result.now c.deref.result.now c.self.view_is c.self.invariant c.requires.ended c.log.ensures.value c.log.ensures.known c.deref.ensures.value c.if-not-agrees.ensures c.advance.ensures.answers c.advance.ensures.repeats c.advance.ensures.frame in
-    subst (λ (l : Known). Waits c.args.self.now.catalogue c.args.self.now.present.state c.args.task l) (sym (c.take_log.ensures.log ∙ c.advance.ensures.log))
+    subst (λ (l : Known). Waits c.args.self.now.catalogue c.args.self.now.present.state c.args.task l) (sym (c.log-in-Retry.ensures.value ∙ c.advance.ensures.log))
     (waits c.args.self.now c.args.task c.args.attempt.now c.advance.new.self c.advance.result h c.in-Retry.is)
+
+pub returns-in-Retry-clause-left : goal.returns-in-Retry-clause-left
+returns-in-Retry-clause-left c =
+    let h = ended c.self.inside c.args.self.now c.args.task c.args.attempt.now c.advance.new.self c.advance.result c.log.result.now c.deref.result.now c.self.view_is c.self.invariant c.requires.ended c.log.ensures.value c.log.ensures.known c.deref.ensures.value c.if-not-agrees.ensures c.advance.ensures.answers c.advance.ensures.repeats c.advance.ensures.frame in
+    only_answered c.args.self.now c.args.task c.args.attempt.now c.advance.new.self c.advance.result h
 
 pub returns-in-Retry-clause-finished : goal.returns-in-Retry-clause-finished
 returns-in-Retry-clause-finished c =
@@ -66,7 +83,7 @@ returns-in-Retry-clause-finished c =
       is_running_now c.self.inside c.args.self.now c.args.task c.self.view_is c.if-not-is_running.ensures,
       h.agrees,
       retried c.args.self.now c.args.task c.args.attempt.now c.advance.new.self c.advance.result h c.in-Retry.is,
-      c.park.ensures ∙ ap (λ (l : Known). stands c.args.self.now c.args.task (Parked l)) (c.take_log.ensures.log ∙ c.advance.ensures.log),
+      c.park.ensures ∙ ap (λ (l : Known). stands c.args.self.now c.args.task (Parked l)) (c.log-in-Retry.ensures.value ∙ c.advance.ensures.log),
     )
 
 pub unreachable-requires : goal.unreachable-requires

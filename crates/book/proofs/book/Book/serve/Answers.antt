@@ -31,12 +31,12 @@ pub returns-in-Parked-clause-served : goal.returns-in-Parked-clause-served
 returns-in-Parked-clause-served c =
     let f = c.in-Parked.ensures.finished in
     let h = c.in-Ok.ensures in
-    let out = outcome_now c.self.inside c.args.self.now c.args.task c.transaction_of-tx.result c.deref.result.now c.evaluate.new.attempt c.self.view_is c.deref.ensures.value c.transaction_of-tx.ensures.value h in
-    (f.0, sym out ∙ same_end h.ended.0 Retries (sym h.ended.1 ∙ f.2), (c.evaluate.new.attempt.log, f.1, f.3))
+    let out = outcome_now c.self.inside c.args.self.now c.args.task c.transaction_of-tx.result c.deref.result.now c.bring_to_end.new.attempt c.self.view_is c.deref.ensures.value c.transaction_of-tx.ensures.value h in
+    (f.0, sym out ∙ same_end h.ended.0 Retries (sym h.ended.1 ∙ f.2), (c.bring_to_end.new.attempt.log, f.1, f.3))
 
 pub returns-in-Committed-clause-served : goal.returns-in-Committed-clause-served
 returns-in-Committed-clause-served c =
     let f = c.in-Committed.ensures.finished in
     let h = c.in-Ok.ensures in
-    let out = outcome_now c.self.inside c.args.self.now c.args.task c.transaction_of-tx.result c.deref.result.now c.evaluate.new.attempt c.self.view_is c.deref.ensures.value c.transaction_of-tx.ensures.value h in
+    let out = outcome_now c.self.inside c.args.self.now c.args.task c.transaction_of-tx.result c.deref.result.now c.bring_to_end.new.attempt c.self.view_is c.deref.ensures.value c.transaction_of-tx.ensures.value h in
     (f.0, λ e. f.2 (h.ended.1 ∙ ap Over (out ∙ e)), f.3, f.4)

@@ -1,0 +1,333 @@
+-- Rows of bytes, and the tasks that they show.
+use Rattle.std.proofs.Common.{◌≡◌, ◌≢◌, inl, inr, ℕ, zero, suc, ◌+◌, ◌*◌, ◌<◌, ◌≤◌, ℤ, pos, Bool, ◌||◌, cond, List, [], ◌∷◌, ◌++◌, length, map, Option, Some, get_or, set, take, drop, replicate, refl, sym, ◌∙◌, ap, subst, arith}
+use Rattle.std.specs.List.{slice_get}
+use Rattle.std.proofs.lemmas.Bool.{cases_eq, cases_lt}
+use Rattle.std.proofs.lemmas.Nat.{row_fits}
+use Rattle.std.proofs.lemmas.List.{length-set, get_or-set_same, get_or-set_other, drop_more}
+use Rattle.std.proofs.lemmas.Option.{same_Some}
+use Rattle.txn_programs.specs.declared.ast.VarId.{VarId}
+use Rattle.txn_programs.specs.declared.limits.TheConstants.{MAX_VARIABLES}
+use Rattle.attempt.specs.Asking.{Known}
+use Rattle.attempt.specs.Order.{AllKnown}
+use Rattle.std.specs.Prelude.{nat_eq}
+use Rattle.book.specs.Tasks.{Task, Ready, Running, Parked, Done, GivenUp}
+use Rattle.book.specs.declared.task.Standing.{Standing}
+use Rattle.book.specs.declared.task.Standing.TheVariants as standing
+use Rattle.book.specs.Table.{unvalued, names, flagged}
+use Rattle.book.specs.Standings.{row, named_by, naming, shown, shown_from, HaveRows, bare, unlogged}
+use Rattle.book.proofs.Lists.{get_set_same, get_set_other, get_replicate, get_append_last}
+use Rattle.book.proofs.Sleeping.{no_pair}
+
+-- bytes that are the same make the same row
+pub row_same : (n a : ℕ) (now was : List ℕ) → ((k : ℕ) → a ≤ k → k < a + n → get_or now k 0 ≡ get_or was k 0) → row now a n ≡ row was a n
+row_same zero a now was h = refl
+row_same (suc n) a now was h =
+    ap (λ (x : ℕ). x ∷ row now (a + 1) n) (h a (omega arith) (omega arith))
+    ∙ ap (λ (xs : List ℕ). get_or was a 0 ∷ xs) (row_same n (a + 1) now was (λ k low high. h k (omega (arith, low)) (omega (arith, high))))
+
+-- a row that was written byte by byte
+pub row_is : (log : Known) (a : ℕ) (now : List ℕ) → ((j : ℕ) → j < length log → get_or now (a + j) 0 ≡ (get_or log j no_pair).0.0) → row now a (length log) ≡ named_by log
+row_is [] a now h = refl
+row_is (p ∷ rest) a now h =
+    let here : a ≡ a + 0 = omega arith in
+    ap (λ (x : ℕ). x ∷ row now (a + 1) (length rest)) (ap (λ (k : ℕ). get_or now k 0) here ∙ h 0 (omega arith))
+    ∙ ap (λ (xs : List ℕ). p.0.0 ∷ xs)
+    (row_is rest (a + 1) now (λ j low. let next : (a + 1) + j ≡ a + suc j = omega arith in ap (λ (k : ℕ). get_or now k 0) next ∙ h (suc j) (omega (arith, low))))
+
+pub naming_names : (log : Known) → naming (named_by log) ≡ unvalued log
+naming_names [] = refl
+naming_names (p ∷ rest) = ap (λ (l : Known). (p.0, pos 0) ∷ l) (naming_names rest)
+
+pub known_unvalued : (n : ℕ) (log : Known) → AllKnown n log → AllKnown n (unvalued log)
+known_unvalued n [] h = tt
+known_unvalued n (p ∷ rest) h = (h.0, known_unvalued n rest h.1)
+
+pub known_byte : (n : ℕ) (log : Known) → n ≤ MAX_VARIABLES → AllKnown n log → AllKnown MAX_VARIABLES log
+known_byte n [] few h = tt
+known_byte n (p ∷ rest) few h = (omega (arith, h.0, few), known_byte n rest few h.1)
+
+names_unvalued : (x : ℕ) (log : Known) → names x (unvalued log) ≡ names x log
+names_unvalued x [] = refl
+names_unvalued x (p ∷ rest) = ap (λ (b : Bool). nat_eq p.0.0 x || b) (names_unvalued x rest)
+
+pub flagged_unvalued : (flag : Bool) (log : Known) (t x : ℕ) (s : List Bool) → flagged flag log t x s ≡ flagged flag (unvalued log) t x s
+flagged_unvalued flag log t x s = ap (λ (b : Bool). cond b (set s t flag) s) (sym (names_unvalued x log))
+
+-- the variable of a name
+pub naming_at : (ns : List ℕ) (i : ℕ) → i < length ns → (get_or (naming ns) i no_pair).0.0 ≡ get_or ns i 0
+naming_at [] i low = absurd (omega (arith, low))
+naming_at (x ∷ ns) zero low = refl
+naming_at (x ∷ ns) (suc i) low = naming_at ns i (omega (arith, low))
+
+pub naming_length : (ns : List ℕ) → length (naming ns) ≡ length ns
+naming_length [] = refl
+naming_length (x ∷ ns) = ap suc (naming_length ns)
+
+-- a row is a part of the bytes
+pub row_part : (n a : ℕ) (names : List ℕ) → a + n ≤ length names → take n (drop a names) ≡ row names a n
+row_part zero a names h = refl
+row_part (suc n) a names h =
+    ap (take (suc n)) (drop_more names a 0 (omega (arith, h))) ∙ ap (λ (xs : List ℕ). get_or names a 0 ∷ xs) (row_part n (a + 1) names (omega (arith, h)))
+
+-- the variables of the first i pairs are put
+pub record PutSoFar (log : Known) (start i at : ℕ) (now was : List ℕ) : Type 0 where
+  pub here : at ≡ start + i
+  pub size : length now ≡ length was
+  pub written : (j : ℕ) → j < i → get_or now (start + j) 0 ≡ (get_or log j no_pair).0.0
+  pub before : (k : ℕ) → k < start → get_or now k 0 ≡ get_or was k 0
+  pub after : (k : ℕ) → start + length log ≤ k → get_or now k 0 ≡ get_or was k 0
+
+pub put_first : (log : Known) (start : ℕ) (was : List ℕ) → PutSoFar log start 0 start was was
+put_first log start was =
+    record { here = omega arith; size = refl; written = λ j low. absurd (omega (arith, low)); before = λ k low. refl; after = λ k low. refl }
+
+pub put_next : (log : Known) (start i at v : ℕ) (now was : List ℕ) → i < length log → start + length log ≤ length was → v ≡ (get_or log i no_pair).0.0 → PutSoFar log start i at now was → PutSoFar log start (i + 1) (at + 1) (set now at v) was
+put_next log start i at v now was low room e h =
+    record {
+      here = omega (arith, h.here);
+      size = length-set now at v ∙ h.size;
+      written = λ j less.
+          elim (cases_eq j i) [
+            | inl same ↦
+                let place : start + j ≡ at = omega (arith, same, h.here) in
+                ap (λ (k : ℕ). get_or (set now at v) k 0) place
+                ∙ (get_or-set_same now at v 0 (omega (arith, h.here, h.size, low, room)) ∙ (e ∙ ap (λ (k : ℕ). (get_or log k no_pair).0.0) (sym same)))
+            | inr other ↦ get_or-set_other now at (start + j) v 0 (λ (w : start + j ≡ at). other (omega (arith, w, h.here))) ∙ h.written j (omega (arith, less, other))
+          ];
+      before = λ k less. get_or-set_other now at k v 0 (λ (w : k ≡ at). omega (arith, w, less, h.here)) ∙ h.before k less;
+      after = λ k more. get_or-set_other now at k v 0 (λ (w : k ≡ at). omega (arith, w, more, h.here, low)) ∙ h.after k more;
+    }
+
+pub put_row : (log : Known) (start i at : ℕ) (now was : List ℕ) → length log ≤ i → PutSoFar log start i at now was → row now start (length log) ≡ named_by log
+put_row log start i at now was past h = row_is log start now (λ j low. h.written j (omega (arith, low, past)))
+
+length_from : (w : ℕ) (names : List ℕ) (k : ℕ) (ss : List Standing) → length (shown_from w names k ss) ≡ length ss
+length_from w names k [] = refl
+length_from w names k (s ∷ ss) = ap suc (length_from w names (k + 1) ss)
+
+pub length_shown : (w : ℕ) (names : List ℕ) (ss : List Standing) → length (shown_from w names 0 ss) ≡ length ss
+length_shown w names ss = length_from w names 0 ss
+
+-- a standing shows its task
+from_at : (w : ℕ) (names : List ℕ) (k : ℕ) (ss : List Standing) (t : ℕ) (s : Standing) → slice_get ss t ≡ Some s → slice_get (shown_from w names k ss) t ≡ Some (shown w names (k + t) s)
+from_at w names k [] t s h = absurd (cc)
+from_at w names k (u ∷ ss) zero s h =
+    let same : u ≡ s = same_Some u s h in
+    let here : k ≡ k + 0 = omega arith in
+    ap (λ (v : Standing). Some (shown w names k v)) same ∙ ap (λ (j : ℕ). Some (shown w names j s)) here
+from_at w names k (u ∷ ss) (suc t) s h =
+    let next : (k + 1) + t ≡ k + suc t = omega arith in
+    from_at w names (k + 1) ss t s h ∙ ap (λ (j : ℕ). Some (shown w names j s)) next
+
+plus_none : (t : ℕ) → 0 + t ≡ t
+plus_none t = omega arith
+
+pub shown_at : (w : ℕ) (names : List ℕ) (ss : List Standing) (t : ℕ) (s : Standing) → slice_get ss t ≡ Some s → slice_get (shown_from w names 0 ss) t ≡ Some (shown w names t s)
+shown_at w names ss t s h = from_at w names 0 ss t s h ∙ ap (λ (j : ℕ). Some (shown w names j s)) (plus_none t)
+
+at_from : (w : ℕ) (names : List ℕ) (k : ℕ) (ss : List Standing) (t : ℕ) (task : Task) → slice_get (shown_from w names k ss) t ≡ Some task → (s : Standing) × (slice_get ss t ≡ Some s) × (shown w names (k + t) s ≡ task)
+at_from w names k [] t task h = absurd (cc)
+at_from w names k (s ∷ ss) zero task h =
+    let here : k + 0 ≡ k = omega arith in
+    (s, refl, ap (λ (j : ℕ). shown w names j s) here ∙ same_Some (shown w names k s) task h)
+at_from w names k (s ∷ ss) (suc t) task h =
+    let g = at_from w names (k + 1) ss t task h in
+    let next : k + suc t ≡ (k + 1) + t = omega arith in
+    (g.0, g.1, ap (λ (j : ℕ). shown w names j g.0) next ∙ g.2)
+
+-- a task is shown by a standing
+pub at_shown : (w : ℕ) (names : List ℕ) (ss : List Standing) (t : ℕ) (task : Task) → slice_get (shown_from w names 0 ss) t ≡ Some task → (s : Standing) × (slice_get ss t ≡ Some s) × (shown w names t s ≡ task)
+at_shown w names ss t task h =
+    let g = at_from w names 0 ss t task h in
+    (g.0, g.1, ap (λ (j : ℕ). shown w names j g.0) (sym (plus_none t)) ∙ g.2)
+
+from_set : (w : ℕ) (names : List ℕ) (k : ℕ) (ss : List Standing) (t : ℕ) (s : Standing) → shown_from w names k (set ss t s) ≡ set (shown_from w names k ss) t (shown w names (k + t) s)
+from_set w names k [] t s = refl
+from_set w names k (u ∷ ss) zero s =
+    let here : k ≡ k + 0 = omega arith in
+    ap (λ (j : ℕ). shown w names j s ∷ shown_from w names (k + 1) ss) here
+from_set w names k (u ∷ ss) (suc t) s =
+    let next : (k + 1) + t ≡ k + suc t = omega arith in
+    ap (λ (ts : List Task). shown w names k u ∷ ts)
+    (from_set w names (k + 1) ss t s ∙ ap (λ (j : ℕ). set (shown_from w names (k + 1) ss) t (shown w names j s)) next)
+
+-- one task stands otherwise
+pub shown_set : (w : ℕ) (names : List ℕ) (ss : List Standing) (t : ℕ) (s : Standing) → shown_from w names 0 (set ss t s) ≡ set (shown_from w names 0 ss) t (shown w names t s)
+shown_set w names ss t s = from_set w names 0 ss t s ∙ ap (λ (j : ℕ). set (shown_from w names 0 ss) t (shown w names j s)) (plus_none t)
+
+one_same : (w : ℕ) (now was : List ℕ) (k : ℕ) (s : Standing) → ((n : ℕ) → s ≡ standing.Parked n → row now (k * w) n ≡ row was (k * w) n) → shown w now k s ≡ shown w was k s
+one_same w now was k standing.Ready h = refl
+one_same w now was k standing.Running h = refl
+one_same w now was k (standing.Parked n) h = ap (λ (r : List ℕ). Parked (naming r)) (h n refl)
+one_same w now was k (standing.Done n) h = refl
+one_same w now was k standing.GivenUp h = refl
+
+from_names : (w : ℕ) (now was : List ℕ) (k : ℕ) (ss : List Standing) → ((t n : ℕ) → slice_get ss t ≡ Some (standing.Parked n) → row now ((k + t) * w) n ≡ row was ((k + t) * w) n) → shown_from w now k ss ≡ shown_from w was k ss
+from_names w now was k [] h = refl
+from_names w now was k (s ∷ ss) h =
+    let here : k + 0 ≡ k = omega arith in
+    ap (λ (t : Task). t ∷ shown_from w now (k + 1) ss)
+    (one_same w now was k s (λ n e. subst (λ (j : ℕ). row now (j * w) n ≡ row was (j * w) n) here (h zero n (ap Some e))))
+    ∙ ap (λ (ts : List Task). shown w was k s ∷ ts)
+    (from_names w now was (k + 1) ss (λ t n at. let next : k + suc t ≡ (k + 1) + t = omega arith in subst (λ (j : ℕ). row now (j * w) n ≡ row was (j * w) n) next (h (suc t) n at)))
+
+-- where the rows of the parked tasks are the same, the same tasks are shown
+pub shown_names : (w : ℕ) (now was : List ℕ) (ss : List Standing) → ((t n : ℕ) → slice_get ss t ≡ Some (standing.Parked n) → row now (t * w) n ≡ row was (t * w) n) → shown_from w now 0 ss ≡ shown_from w was 0 ss
+shown_names w now was ss h =
+    from_names w now was 0 ss (λ t n at. subst (λ (j : ℕ). row now (j * w) n ≡ row was (j * w) n) (sym (plus_none t)) (h t n at))
+
+from_more : (w : ℕ) (names : List ℕ) (k : ℕ) (ss : List Standing) → shown_from w names k (ss ++ standing.Ready ∷ []) ≡ shown_from w names k ss ++ Ready ∷ []
+from_more w names k [] = refl
+from_more w names k (s ∷ ss) = ap (λ (ts : List Task). shown w names k s ∷ ts) (from_more w names (k + 1) ss)
+
+-- a ready task more
+pub shown_more : (w : ℕ) (names : List ℕ) (ss : List Standing) → shown_from w names 0 (ss ++ standing.Ready ∷ []) ≡ shown_from w names 0 ss ++ Ready ∷ []
+shown_more w names ss = from_more w names 0 ss
+
+from_running : (w : ℕ) (names : List ℕ) (k n : ℕ) → shown_from w names k (replicate n standing.Running) ≡ replicate n Running
+from_running w names k zero = refl
+from_running w names k (suc n) = ap (λ (ts : List Task). Running ∷ ts) (from_running w names (k + 1) n)
+
+pub shown_running : (w : ℕ) (names : List ℕ) (n : ℕ) → shown_from w names 0 (replicate n standing.Running) ≡ replicate n Running
+shown_running w names n = from_running w names 0 n
+
+-- a task that runs stands so, and so does one that waits
+running_standing : (w : ℕ) (names : List ℕ) (k : ℕ) (s : Standing) → shown w names k s ≡ Running → s ≡ standing.Running
+running_standing w names k standing.Ready e = absurd (cc)
+running_standing w names k standing.Running e = refl
+running_standing w names k (standing.Parked n) e = absurd (cc)
+running_standing w names k (standing.Done n) e = absurd (cc)
+running_standing w names k standing.GivenUp e = absurd (cc)
+
+pub stands_running : (w : ℕ) (names : List ℕ) (ss : List Standing) (t : ℕ) → slice_get (shown_from w names 0 ss) t ≡ Some Running → slice_get ss t ≡ Some standing.Running
+stands_running w names ss t e = let g = at_shown w names ss t Running e in g.1 ∙ ap Some (running_standing w names t g.0 g.2)
+
+ready_standing : (w : ℕ) (names : List ℕ) (k : ℕ) (s : Standing) → shown w names k s ≡ Ready → s ≡ standing.Ready
+ready_standing w names k standing.Ready e = refl
+ready_standing w names k standing.Running e = absurd (cc)
+ready_standing w names k (standing.Parked n) e = absurd (cc)
+ready_standing w names k (standing.Done n) e = absurd (cc)
+ready_standing w names k standing.GivenUp e = absurd (cc)
+
+pub stands_ready : (w : ℕ) (names : List ℕ) (ss : List Standing) (t : ℕ) → slice_get (shown_from w names 0 ss) t ≡ Some Ready → slice_get ss t ≡ Some standing.Ready
+stands_ready w names ss t e = let g = at_shown w names ss t Ready e in g.1 ∙ ap Some (ready_standing w names t g.0 g.2)
+
+parked_standing : (w : ℕ) (names : List ℕ) (k : ℕ) (s : Standing) (log : Known) → shown w names k s ≡ Parked log → (n : ℕ) × (s ≡ standing.Parked n) × (log ≡ naming (row names (k * w) n))
+parked_standing w names k standing.Ready log e = absurd (cc)
+parked_standing w names k standing.Running log e = absurd (cc)
+parked_standing w names k (standing.Parked n) log e =
+    let same : Parked (naming (row names (k * w) n)) ≡ Parked log = e in
+    let here : naming (row names (k * w) n) ≡ log = cc in
+    (n, refl, sym here)
+parked_standing w names k (standing.Done n) log e = absurd (cc)
+parked_standing w names k standing.GivenUp log e = absurd (cc)
+
+pub stands_parked : (w : ℕ) (names : List ℕ) (ss : List Standing) (t : ℕ) (log : Known) → slice_get (shown_from w names 0 ss) t ≡ Some (Parked log) → (n : ℕ) × (slice_get ss t ≡ Some (standing.Parked n)) × (log ≡ naming (row names (t * w) n))
+stands_parked w names ss t log e =
+    let g = at_shown w names ss t (Parked log) e in
+    let p = parked_standing w names t g.0 log g.2 in
+    (p.0, g.1 ∙ ap Some p.1, p.2)
+
+bare_shown : (w : ℕ) (names : List ℕ) (k : ℕ) (s : Standing) → bare s ≡ unlogged (shown w names k s)
+bare_shown w names k standing.Ready = refl
+bare_shown w names k standing.Running = refl
+bare_shown w names k (standing.Parked n) = refl
+bare_shown w names k (standing.Done n) = refl
+bare_shown w names k standing.GivenUp = refl
+
+bare_from : (w : ℕ) (names : List ℕ) (k : ℕ) (ss : List Standing) → map bare ss ≡ map unlogged (shown_from w names k ss)
+bare_from w names k [] = refl
+bare_from w names k (s ∷ ss) =
+    ap (λ (t : Task). t ∷ map bare ss) (bare_shown w names k s) ∙ ap (λ (ts : List Task). unlogged (shown w names k s) ∷ ts) (bare_from w names (k + 1) ss)
+
+pub all_bare : (w : ℕ) (names : List ℕ) (ss : List Standing) → map bare ss ≡ map unlogged (shown_from w names 0 ss)
+all_bare w names ss = bare_from w names 0 ss
+
+-- what is kept of the rows when one is written
+pub record RowWritten (w t : ℕ) (now was : List ℕ) : Type 0 where
+  pub whole : t * w + w ≤ length now
+  pub longer : length was ≤ length now
+  pub before : (k : ℕ) → k < length was → k < t * w → get_or now k 0 ≡ get_or was k 0
+  pub after : (k : ℕ) → k < length was → t * w + w ≤ k → get_or now k 0 ≡ get_or was k 0
+
+other_rows : (w t : ℕ) (now was : List ℕ) (u n : ℕ) → RowWritten w t now was → u ≢ t → n ≤ w → u * w + w ≤ length was → row now (u * w) n ≡ row was (u * w) n
+other_rows w t now was u n h other fits whole =
+    row_same n (u * w) now was (λ k low high.
+    elim (cases_lt u t) [
+      | inl less ↦ h.before k (omega (arith, high, fits, whole)) (omega (arith, high, fits, row_fits u w t w less (omega arith)))
+      | inr more ↦ h.after k (omega (arith, high, fits, whole)) (omega (arith, low, row_fits t w u w (omega (arith, more, other)) (omega arith)))
+    ])
+
+-- where no parked task was parked there before, all tasks are shown as they were
+pub written_same : (w t : ℕ) (now was : List ℕ) (ss : List Standing) → RowWritten w t now was → HaveRows w was ss → slice_get ss t ≡ Some standing.Running → shown_from w now 0 ss ≡ shown_from w was 0 ss
+written_same w t now was ss h rows at =
+    shown_names w now was ss (λ u n parked.
+    let other : u ≢ t = λ e. let bad : standing.Running ≡ standing.Parked n = same_Some _ _ (sym at ∙ (ap (slice_get ss) (sym e) ∙ parked)) in cc in
+    other_rows w t now was u n h other (rows.fits u n parked) (rows.whole u n parked))
+
+-- the task that is parked is shown with the variables of its log, and every other as it was
+pub shown_parked : (w t : ℕ) (now was : List ℕ) (ss : List Standing) (log : Known) → RowWritten w t now was → HaveRows w was ss → slice_get ss t ≡ Some standing.Running → row now (t * w) (length log) ≡ named_by log
+    → shown_from w now 0 (set ss t (standing.Parked (length log))) ≡ set (shown_from w was 0 ss) t (Parked (unvalued log))
+shown_parked w t now was ss log h rows at written =
+    shown_set w now ss t (standing.Parked (length log))
+    ∙ (ap (λ (ts : List Task). set ts t (Parked (naming (row now (t * w) (length log))))) (written_same w t now was ss h rows at)
+    ∙ ap (λ (l : Known). set (shown_from w was 0 ss) t (Parked l)) (ap naming written ∙ naming_names log))
+
+-- each parked task still has its row
+pub rows_parked : (w t n : ℕ) (now was : List ℕ) (ss : List Standing) → RowWritten w t now was → HaveRows w was ss → n ≤ w → slice_get ss t ≡ Some standing.Running → HaveRows w now (set ss t (standing.Parked n))
+rows_parked w t n now was ss h rows few at =
+    record {
+      fits = λ u m parked.
+          elim (cases_eq u t) [
+            | inl same ↦
+                let it : standing.Parked n ≡ standing.Parked m = same_Some _ _ (sym (get_set_same ss t standing.Running (standing.Parked n) at) ∙ (ap (slice_get (set ss t (standing.Parked n))) (sym same) ∙ parked)) in
+                let size : n ≡ m = cc in
+                omega (arith, few, size)
+            | inr other ↦ rows.fits u m (sym (get_set_other ss t u (standing.Parked n) other) ∙ parked)
+          ];
+      whole = λ u m parked.
+          elim (cases_eq u t) [
+            | inl same ↦ subst (λ (k : ℕ). k * w + w ≤ length now) (sym same) h.whole
+            | inr other ↦ omega (arith, rows.whole u m (sym (get_set_other ss t u (standing.Parked n) other) ∙ parked), h.longer)
+          ];
+    }
+
+-- a task that is not parked has no row
+pub rows_awake : (w t : ℕ) (names : List ℕ) (ss : List Standing) (was is : Standing) → HaveRows w names ss → slice_get ss t ≡ Some was → ((n : ℕ) → is ≢ standing.Parked n) → HaveRows w names (set ss t is)
+rows_awake w t names ss was is rows at awake =
+    record {
+      fits = λ u m parked. rows.fits u m (still u m parked);
+      whole = λ u m parked. rows.whole u m (still u m parked);
+    } where
+      still : (u m : ℕ) → slice_get (set ss t is) u ≡ Some (standing.Parked m) → slice_get ss u ≡ Some (standing.Parked m)
+      still u m parked =
+          elim (cases_eq u t) [
+            | inl same ↦ absurd (awake m (same_Some _ _ (sym (get_set_same ss t was is at) ∙ (ap (slice_get (set ss t is)) (sym same) ∙ parked))))
+            | inr other ↦ sym (get_set_other ss t u is other) ∙ parked
+          ]
+
+pub rows_running : (w n : ℕ) (names : List ℕ) → HaveRows w names (replicate n standing.Running)
+rows_running w n names =
+    record {
+      fits = λ t m e. let bad : standing.Running ≡ standing.Parked m = get_replicate n t standing.Running (standing.Parked m) e in absurd (cc);
+      whole = λ t m e. let bad : standing.Running ≡ standing.Parked m = get_replicate n t standing.Running (standing.Parked m) e in absurd (cc);
+    }
+
+pub rows_more : (w : ℕ) (names : List ℕ) (ss : List Standing) → HaveRows w names ss → HaveRows w names (ss ++ standing.Ready ∷ [])
+rows_more w names ss rows =
+    record {
+      fits = λ t m e. rows.fits t m (before t m e);
+      whole = λ t m e. rows.whole t m (before t m e);
+    } where
+      before : (t m : ℕ) → slice_get (ss ++ standing.Ready ∷ []) t ≡ Some (standing.Parked m) → slice_get ss t ≡ Some (standing.Parked m)
+      before t m e =
+          elim (get_append_last ss standing.Ready t (standing.Parked m) e) [
+            | inl h ↦ h
+            | inr h ↦ let bad : standing.Ready ≡ standing.Parked m = h.1 in absurd (cc)
+          ]
+
+-- a standing that was read, without its log
+pub bare_here : (ss : List Standing) (i : ℕ) (d : Standing) → i < length ss → bare (get_or ss i d) ≡ get_or (map bare ss) i (bare (get_or ss i d))
+bare_here [] i d low = absurd (omega (arith, low))
+bare_here (u ∷ ss) zero d low = refl
+bare_here (u ∷ ss) (suc i) d low = bare_here ss i d (omega (arith, low))
