@@ -1,6 +1,6 @@
 use Rattle.std.proofs.Common.{arith}
-use Rattle.text_report_reader.proofs.Numbers.{below_gives}
-use Rattle.text_report_reader.proofs.resolve.task_id.Goals as goal
+use Rattle.text_lines.proofs.Numbers.{below_gives}
+use Rattle.text_lines.proofs.tasks.task_id.Goals as goal
 
 pub overflow_cast-result : goal.overflow_cast-result
 overflow_cast-result c =

@@ -1,5 +1,5 @@
-use Rattle.text_report_reader.proofs.Parting.{some_parts, no_parts}
-use Rattle.text_report_reader.proofs.lines.part.Goals as goal
+use Rattle.text_lines.proofs.Parting.{some_parts, no_parts}
+use Rattle.text_lines.proofs.lines.part.Goals as goal
 
 pub returns-in-Some-clause-value : goal.returns-in-Some-clause-value
 returns-in-Some-clause-value c =

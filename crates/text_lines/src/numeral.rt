@@ -4,8 +4,8 @@ ghost use Rattle.std.specs.Prelude.{◌≡◌, true, IfErr};
 ghost use Rattle.std.specs.Str.Parse.{digits_value};
 ghost use Rattle.text_words.specs.Answers.{Gives};
 ghost use Rattle.text_words.specs.declared.fault.ReadFault.TheVariants.{Limit};
-ghost use Rattle.text_report_reader.specs.Raw.{is_number};
-ghost use Rattle.text_report_reader.specs.Resolving.{below};
+ghost use Rattle.text_lines.specs.Words.{is_number};
+ghost use Rattle.text_lines.specs.Counts.{below};
 
 use text_words::ReadFault;
 

@@ -3,9 +3,10 @@
 ghost use Rattle.std.specs.Prelude.{◌≡◌, ◌<◌, ◌==◌, IfSome, IfErr, length, position};
 ghost use Rattle.text_words.specs.Answers.{Gives};
 ghost use Rattle.text_words.specs.declared.fault.ReadFault.TheVariants.{Shape};
-ghost use Rattle.text_report_reader.specs.Lines.{parted, lines, first_line};
-ghost use Rattle.text_report_reader.specs.Reading.{word_at};
-ghost use Rattle.text_report_reader.specs.View.{view_parts, view_line};
+ghost use Rattle.text_lines.specs.Lines.{parted, lines, first_line};
+ghost use Rattle.text_lines.specs.Words.{first_word};
+ghost use Rattle.text_lines.specs.Rows.{end_at};
+ghost use Rattle.text_lines.specs.View.{view_parts, view_line};
 
 use text_words::ReadFault;
 
@@ -39,10 +40,23 @@ pub fn next_line(bytes: &[u8]) -> Option<(&[u8], &[u8])>
 }
 
 /// The first word of a line, and the words behind it.
-#[tactic(auto, unfolding(crate::specs::Reading::word_at))]
-pub fn word_of(text: &[u8]) -> Result<(&[u8], &[u8]), ReadFault>
-    ensures value { Gives (λ x. (x.0.now, x.1.now)) result (word_at text.now) }
+#[tactic(auto, unfolding(crate::specs::Words::first_word))]
+pub fn first_word(text: &[u8]) -> Result<(&[u8], &[u8]), ReadFault>
+    ensures value { Gives (λ x. (x.0.now, x.1.now)) result (first_word text.now) }
     ensures kind { IfErr result (λ e. e ≡ Shape) }
 {
     part(text, b' ').ok_or(ReadFault::Shape)
+}
+
+/// Refuses, by the shape, where a byte is left.
+#[tactic(auto, unfolding(crate::specs::Rows::end_at))]
+pub fn end(bytes: &[u8]) -> Result<(), ReadFault>
+    ensures value { Gives (λ x. x) result (end_at (lines bytes.now)) }
+    ensures kind { IfErr result (λ e. e ≡ Shape) }
+{
+    if bytes.is_empty() {
+        Ok(())
+    } else {
+        Err(ReadFault::Shape)
+    }
 }

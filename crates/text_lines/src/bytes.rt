@@ -1,12 +1,12 @@
 //! Which bytes make a number.
 
 ghost use Rattle.std.specs.Prelude.{◌≡◌};
-ghost use Rattle.text_report_reader.specs.Raw.{is_number};
+ghost use Rattle.text_lines.specs.Words.{is_number};
 
 use text_words::bytes::is_int;
 
 /// Whether the text is an integer without a sign.
-pub(crate) fn is_number(text: &[u8]) -> bool
+pub fn is_number(text: &[u8]) -> bool
     ensures { result ≡ is_number text.now }
 {
     match text {

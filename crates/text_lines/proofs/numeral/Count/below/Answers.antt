@@ -1,8 +1,8 @@
 use Rattle.std.proofs.Common.{◌∙◌, ap, arith}
 use Rattle.std.specs.Str.Parse.{digits_value}
-use Rattle.text_report_reader.specs.Resolving.{below}
-use Rattle.text_report_reader.proofs.Numbers.{parsed, unparsed, below_is, below_not}
-use Rattle.text_report_reader.proofs.numeral.Count.below.Goals as goal
+use Rattle.text_lines.specs.Counts.{below}
+use Rattle.text_lines.proofs.Numbers.{parsed, unparsed, below_is, below_not}
+use Rattle.text_lines.proofs.numeral.Count.below.Goals as goal
 
 pub returns-then-n-bound-clause-value : goal.returns-then-n-bound-clause-value
 returns-then-n-bound-clause-value c =

@@ -4,8 +4,8 @@ ghost use Rattle.std.specs.Prelude.{◌≡◌, IfErr};
 ghost use Rattle.std.specs.Str.{bytes_eq};
 ghost use Rattle.text_words.specs.Answers.{Gives};
 ghost use Rattle.text_words.specs.declared.fault.ReadFault.TheVariants.{Shape};
-ghost use Rattle.text_report_reader.specs.Reading.{name_in, int_in, number_in, expect, behind, begins};
-ghost use Rattle.text_report_reader.specs.View.{view_text};
+ghost use Rattle.text_lines.specs.Words.{name_in, int_in, number_in, expect, behind, begins};
+ghost use Rattle.text_lines.specs.View.{view_text};
 
 use crate::bytes::is_number;
 use crate::lines::part;
@@ -16,8 +16,8 @@ use text_words::numeral::Numeral;
 use txn::names::is_name;
 
 /// A name.
-#[tactic(auto, using(text_words::proofs::Ascii::name_is_ascii), unfolding(crate::specs::Reading::name_in))]
-pub fn name_of(text: &[u8]) -> Result<&str, ReadFault>
+#[tactic(auto, using(text_words::proofs::Ascii::name_is_ascii), unfolding(crate::specs::Words::name_in))]
+pub fn name_in(text: &[u8]) -> Result<&str, ReadFault>
     ensures value { Gives (λ x. x.now) result (name_in text.now) }
     ensures kind { IfErr result (λ e. e ≡ Shape) }
 {
@@ -29,9 +29,10 @@ pub fn name_of(text: &[u8]) -> Result<&str, ReadFault>
 }
 
 /// An integer.
-#[tactic(auto, using(text_words::proofs::Ascii::int_is_ascii), unfolding(crate::specs::Reading::int_in))]
-pub(crate) fn numeral_of(text: &[u8]) -> Result<Numeral<'_>, ReadFault>
-    ensures { Gives (λ x. x.text.now) result (int_in text.now) }
+#[tactic(auto, using(text_words::proofs::Ascii::int_is_ascii), unfolding(crate::specs::Words::int_in))]
+pub fn int_in(text: &[u8]) -> Result<Numeral<'_>, ReadFault>
+    ensures value { Gives (λ x. x.text.now) result (int_in text.now) }
+    ensures kind { IfErr result (λ e. e ≡ Shape) }
 {
     if is_int(text) {
         Ok(Numeral {
@@ -43,8 +44,8 @@ pub(crate) fn numeral_of(text: &[u8]) -> Result<Numeral<'_>, ReadFault>
 }
 
 /// An integer without a sign.
-#[tactic(auto, using(crate::proofs::Numbers::number_is_ascii), unfolding(crate::specs::Reading::number_in))]
-pub fn count_of(text: &[u8]) -> Result<Count<'_>, ReadFault>
+#[tactic(auto, using(crate::proofs::Numbers::number_is_ascii), unfolding(crate::specs::Words::number_in))]
+pub fn number_in(text: &[u8]) -> Result<Count<'_>, ReadFault>
     ensures value { Gives (λ x. x.text.now) result (number_in text.now) }
     ensures kind { IfErr result (λ e. e ≡ Shape) }
 {
@@ -65,9 +66,10 @@ pub fn is_word(text: &[u8], wanted: &str) -> bool
 }
 
 /// This word.
-#[tactic(auto, unfolding(crate::specs::Reading::expect))]
-pub(crate) fn expect(text: &[u8], wanted: &str) -> Result<(), ReadFault>
-    ensures { Gives (λ x. x) result (expect wanted.now text.now) }
+#[tactic(auto, unfolding(crate::specs::Words::expect))]
+pub fn expect(text: &[u8], wanted: &str) -> Result<(), ReadFault>
+    ensures value { Gives (λ x. x) result (expect wanted.now text.now) }
+    ensures kind { IfErr result (λ e. e ≡ Shape) }
 {
     if is_word(text, wanted) {
         Ok(())
@@ -77,8 +79,8 @@ pub(crate) fn expect(text: &[u8], wanted: &str) -> Result<(), ReadFault>
 }
 
 /// The words behind the first one, where that is this word.
-#[tactic(auto, unfolding(crate::specs::Reading::behind))]
-pub(crate) fn behind<'a>(text: &'a [u8], wanted: &str) -> Option<&'a [u8]>
+#[tactic(auto, unfolding(crate::specs::Words::behind))]
+pub fn behind<'a>(text: &'a [u8], wanted: &str) -> Option<&'a [u8]>
     ensures { view_text result ≡ behind wanted.now text.now }
 {
     match part(text, b' ') {
@@ -88,8 +90,8 @@ pub(crate) fn behind<'a>(text: &'a [u8], wanted: &str) -> Option<&'a [u8]>
 }
 
 /// Whether the line begins with this word.
-#[tactic(auto, unfolding(crate::specs::Reading::begins))]
-pub(crate) fn begins(text: &[u8], wanted: &str) -> bool
+#[tactic(auto, unfolding(crate::specs::Words::begins))]
+pub fn begins(text: &[u8], wanted: &str) -> bool
     ensures { result ≡ begins wanted.now text.now }
 {
     behind(text, wanted).is_some()
