@@ -50,6 +50,9 @@ def try_stacks(trials, program):
             good = small(["check", file, trials.write("deep-report", ended.out)])
             if (ended.status, ended.err) != (0, b"") or good[:3] != (0, b"good\n", b""):
                 faults.append(f"workers {workers}: {shown(ended)}; its check: {shown(good)}")
+            # There is memory enough: what waits is parked, and nothing is given up for want of it.
+            if any(line.startswith(b"memory ") for line in ended.out.splitlines()):
+                faults.append(f"workers {workers}: a task was given up for want of memory")
         seen = small(["world", file, trials.write("deep-schedule", "begin 0\ncommit 0\n")])
         if (seen.status, seen.err) != (0, b""):
             faults.append(f"world: {shown(seen)}")

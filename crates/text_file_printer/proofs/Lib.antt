@@ -7,3 +7,4 @@ pub mod Depths
 pub mod Printed
 pub mod Integers
 pub mod Parts
+pub mod LaidOut

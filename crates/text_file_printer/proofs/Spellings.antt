@@ -197,7 +197,7 @@ pair_lines word p w name h =
     (two p.name (signed_decimal p.value) (token.Name p.name ∷ []) (token.Int p.value ∷ []) (word_reads p.name (token.Name p.name) (name_word p.name name)) (number p.value h)))
 
 -- the line of the form: its text is that of a form with one integer
-two_printed : signed_decimal (pos 2) ≡ codes "2"
+pub two_printed : signed_decimal (pos 2) ≡ codes "2"
 two_printed = decimal_digit 2 (lit< tt)
 
 pub heading_lines : (form : FileForm) → Lines (heading_text form) (heading_tokens form)

@@ -9,7 +9,9 @@ ghost use Rattle.txn_programs.specs.Listing.{conditions};
 ghost use Rattle.txn_copies.specs.Conditions.{standing_of};
 ghost use Rattle.text_grammar.specs.Written.{form_for, written_vars, written_always, written_transaction, written_run, written_in, written};
 ghost use Rattle.text_grammar.specs.Spelling.{Spells};
+ghost use Rattle.text_grammar.specs.Tree.{file_tokens};
 ghost use Rattle.text_file_printer.specs.Canonical.{heading_text, pair_line, always_line, tx_line, file_text};
+ghost use Rattle.text_file_printer.specs.Layout.{laid_out};
 ghost use Rattle.text_file_printer.specs.Fits.{PairFits, AlwaysFits, DeclarationFits, FileFits};
 
 use crate::forms::{put_last_condition, put_last_expression, put_part};
@@ -23,6 +25,8 @@ use txn::{Catalogue, Cond, Memory, Tx, TxId, VarId};
 /// none after `(` and none before `)`. `Err` means that memory was refused.
 pub fn print_file(alloc: Global, catalogue: &Catalogue) -> Result<String, Memory>
     ensures text { IfOk result (λ s. string_bytes s ≡ file_text catalogue.now) }
+    // The same, said of the tokens alone.
+    ensures layout { IfOk result (λ s. string_bytes s ≡ laid_out (file_tokens (written catalogue.now))) }
     ensures again { IfOk result (λ s. length (string_bytes s) ≤ 1048576 → Spells (string_bytes s) catalogue.now) }
 {
     catalogue.rules();

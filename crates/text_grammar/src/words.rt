@@ -1,7 +1,8 @@
 //! The words behind a parenthesis.
 
-ghost use Rattle.std.specs.Prelude.{◌≡◌};
+ghost use Rattle.std.specs.Prelude.{◌≡◌, IfErr};
 ghost use Rattle.text_words.specs.Answers.{Gives};
+ghost use Rattle.text_words.specs.declared.fault.ReadFault.TheVariants.{Shape};
 ghost use Rattle.text_grammar.specs.Reading.{operator_of, test_of, keyword_of};
 
 use text_words::ReadFault;
@@ -54,7 +55,8 @@ pub enum Keyword {
 
 /// The operator of a word.
 pub fn operator_of(word: &str) -> Result<Operator, ReadFault>
-    ensures { Gives (λ x. x) result (operator_of word.now) }
+    ensures value { Gives (λ x. x) result (operator_of word.now) }
+    ensures kind { IfErr result (λ e. e ≡ Shape) }
 {
     match word {
         "add" => Ok(Operator::Add),
@@ -68,7 +70,8 @@ pub fn operator_of(word: &str) -> Result<Operator, ReadFault>
 
 /// The kind of condition that a word begins.
 pub fn test_of(word: &str) -> Result<Test, ReadFault>
-    ensures { Gives (λ x. x) result (test_of word.now) }
+    ensures value { Gives (λ x. x) result (test_of word.now) }
+    ensures kind { IfErr result (λ e. e ≡ Shape) }
 {
     match word {
         "eq" => Ok(Test::Compares(Comparison::Eq)),
@@ -83,7 +86,8 @@ pub fn test_of(word: &str) -> Result<Test, ReadFault>
 
 /// The kind of statement that a word begins.
 pub fn keyword_of(word: &str) -> Result<Keyword, ReadFault>
-    ensures { Gives (λ x. x) result (keyword_of word.now) }
+    ensures value { Gives (λ x. x) result (keyword_of word.now) }
+    ensures kind { IfErr result (λ e. e ≡ Shape) }
 {
     match word {
         "skip" => Ok(Keyword::Skip),

@@ -1,9 +1,10 @@
 //! Files as trees of texts.
 
-ghost use Rattle.std.specs.Prelude.{◌≡◌, ◌<◌, List, Ok, IfOk, length, codes};
+ghost use Rattle.std.specs.Prelude.{◌≡◌, ◌<◌, List, Ok, IfErr, IfOk, length, codes};
 ghost use Rattle.text_words.specs.Bytes.{int_value};
 ghost use Rattle.text_words.specs.Tokens.{Lexeme, tokens};
 ghost use Rattle.text_words.specs.Answers.{Gives, ◌>>=◌ as ◌>>=ᴿ◌};
+ghost use Rattle.text_words.specs.declared.fault.ReadFault.TheVariants.{Shape};
 ghost use Rattle.text_grammar.specs.Tree.{Declaration};
 ghost use Rattle.text_grammar.specs.Reading.{pair_at, always_at, conditions_at, tx_at, end_at, form_numbered, announced_at, heading_at, file_of, tree_of};
 ghost use Rattle.text_words.specs.TokenReading.{begins, all_of, close_at};
@@ -26,6 +27,7 @@ use text_words::tokens::{begins, close, form, int_of, name_of};
 fn pair_of<'a>(bytes: &'a [u8], word: &str) -> Result<(RawPair<'a>, &'a [u8]), ReadFault>
     ensures value { Gives (λ x. (view_pair x.0, tokens x.1.now)) result (pair_at word.now (tokens bytes.now)) }
     ensures shorter { IfOk result (λ x. length x.1.now < length bytes.now) }
+    ensures kind { IfErr result (λ e. e ≡ Shape) }
 {
     let rest = form(bytes, word)?;
     let (name, rest) = name_of(rest)?;
@@ -151,7 +153,8 @@ fn txs_of(alloc: Global, bytes: &[u8]) -> Result<(Vec<RawTx<'_>>, &[u8]), ReadFa
 
 #[tactic(auto, unfolding(text_grammar::specs::Reading::end_at))]
 fn end(bytes: &[u8]) -> Result<(), ReadFault>
-    ensures { Gives (λ x. x) result (end_at (tokens bytes.now)) }
+    ensures value { Gives (λ x. x) result (end_at (tokens bytes.now)) }
+    ensures kind { IfErr result (λ e. e ≡ Shape) }
 {
     match next_token(bytes) {
         Some(_) => Err(ReadFault::Shape),
@@ -161,7 +164,8 @@ fn end(bytes: &[u8]) -> Result<(), ReadFault>
 
 /// The form of this number, where it is one that is announced.
 fn form_numbered(number: Numeral<'_>) -> Result<FileForm, ReadFault>
-    ensures { Gives (λ x. x) result (form_numbered (int_value number.entry.text.now)) }
+    ensures value { Gives (λ x. x) result (form_numbered (int_value number.entry.text.now)) }
+    ensures kind { IfErr result (λ e. e ≡ Shape) }
 {
     match number.text.parse::<i64>() {
         Ok(2) => Ok(FileForm::Two),
@@ -171,7 +175,8 @@ fn form_numbered(number: Numeral<'_>) -> Result<FileForm, ReadFault>
 
 #[tactic(auto, unfolding(text_grammar::specs::Reading::announced_at))]
 fn announced_of(bytes: &[u8]) -> Result<(FileForm, &[u8]), ReadFault>
-    ensures { Gives (λ x. (x.0, tokens x.1.now)) result (announced_at (tokens bytes.now)) }
+    ensures value { Gives (λ x. (x.0, tokens x.1.now)) result (announced_at (tokens bytes.now)) }
+    ensures kind { IfErr result (λ e. e ≡ Shape) }
 {
     let rest = form(bytes, "stm")?;
     let (number, rest) = int_of(rest)?;
@@ -183,7 +188,8 @@ fn announced_of(bytes: &[u8]) -> Result<(FileForm, &[u8]), ReadFault>
 /// Form 1, unless another is announced.
 #[tactic(auto, unfolding(text_grammar::specs::Reading::heading_at))]
 fn heading_of(bytes: &[u8]) -> Result<(FileForm, &[u8]), ReadFault>
-    ensures { Gives (λ x. (x.0, tokens x.1.now)) result (heading_at (tokens bytes.now)) }
+    ensures value { Gives (λ x. (x.0, tokens x.1.now)) result (heading_at (tokens bytes.now)) }
+    ensures kind { IfErr result (λ e. e ≡ Shape) }
 {
     if begins(bytes, "stm") {
         announced_of(bytes)

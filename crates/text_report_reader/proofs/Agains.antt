@@ -1,5 +1,5 @@
 -- The words of a report that fits the catalogue tell that report.
-use Rattle.std.proofs.Common.{◌≡◌, ◌≢◌, ◌∙◌, ℕ, suc, ◌+◌, ◌<◌, ◌≤◌, ◌^◌, Bool, true, List, [], ◌∷◌, ◌++◌, length, map, get_or, Result, Ok, refl, sym, ap, arith}
+use Rattle.std.proofs.Common.{◌≡◌, ◌≢◌, ◌∙◌, ℕ, suc, ◌+◌, ◌<◌, ◌≤◌, ◌^◌, true, List, [], ◌∷◌, ◌++◌, length, map, get_or, Ok, refl, sym, ap, arith}
 use Rattle.std.specs.Prelude.{ℤ, pos, negsuc, FitsSigned, codes, is_some}
 use Rattle.std.specs.Int.{w64}
 use Rattle.std.specs.Fmt.{decimal, signed_decimal}
@@ -29,11 +29,13 @@ use Rattle.text_report_printer.specs.ReportFits.{OutcomeFits, ReportFits}
 use Rattle.text_report_printer.specs.ReportText.{variable_line, variable_lines, outcome_text, entry_line, task_line, report_text}
 use Rattle.text_words.specs.Numbers.{number_of}
 use Rattle.text_words.specs.Words.{line}
-use Rattle.text_words.specs.declared.fault.ReadFault.{ReadFault}
-use Rattle.text_report_reader.specs.Raw.{Variable, Ending, Returned, Threw, Overflow, DivideByZero, Broke, Entry, Task, Raw, is_number, variable_words, ending_words, entry_words, task_words, raw_text, IsVariable, IsEnding, IsEntry, IsTask, IsRaw}
-use Rattle.text_report_reader.specs.Resolving.{below, named_as, is_known, entries_known, tasks_known, variables_known, transactions_known, condition_known, conditions_known, names_known, count_in, task_id, variable_told, outcome_told, entry_told, task_told, each, told_of, resolved}
-use Rattle.text_report_reader.proofs.Numbers.{decimal_number, decimal_value, int_printed, printed_value, below_is}
+use Rattle.text_report_reader.specs.Raw.{Variable, Ending, Returned, Threw, Overflow, DivideByZero, Broke, Entry, Task, Raw, variable_words, ending_words, entry_words, task_words, raw_text, IsVariable, IsEnding, IsEntry, IsTask, IsRaw}
+use Rattle.text_lines.specs.Counts.{below}
+use Rattle.text_report_reader.specs.Resolving.{named_as, is_known, entries_known, tasks_known, variables_known, transactions_known, condition_known, conditions_known, names_known, count_in, variable_told, outcome_told, entry_told, task_told, told_of, resolved}
+use Rattle.text_lines.specs.Rows.{each}
+use Rattle.text_lines.proofs.Numbers.{decimal_value, int_printed, printed_value, below_is}
 use Rattle.text_report_reader.proofs.Places.{tx_named, tx_again, condition_is, always_again}
+use Rattle.text_lines.proofs.Agains.{task_id_again, small, each_again, all_again, tests_again, text_again}
 
 -- ---- words
 
@@ -47,13 +49,6 @@ value_again z h = rw (printed_value z h, fits_is z h) refl
 
 count_again : (n : ℕ) → n ≤ MAX_TASKS → count_in (decimal n) ≡ Ok n
 count_again n h = ap (below (MAX_TASKS + 1)) (decimal_value n (omega arith)) ∙ below_is (MAX_TASKS + 1) n (omega arith)
-
-pub task_id_again : (l : Listing) (task : TaskId) → length (tasks l) ≤ MAX_TASKS → task.0 < length (tasks l) → task_id l (decimal task.0) ≡ Ok task
-unfolding task_id
-task_id_again l task few lt = rw (decimal_value task.0 (omega arith), below_is (length (tasks l)) task.0 lt) refl
-
-pub small : (n : ℕ) → n ≤ MAX_TASKS → is_number (decimal n) ≡ true
-small n h = decimal_number n (omega arith)
 
 abbrev nothing : Transaction
 nothing = record { name = []; body = Skip; result = Int (pos 0) }
@@ -184,22 +179,6 @@ task_again l t names few f =
     }
 
 -- ---- all lines of a kind
-
-pub each_again : {A B : Type 0} (P : B → Type 0) (w : B → A) (one : A → Result B ReadFault) → ((y : B) → P y → one (w y) ≡ Ok y) → (ys : List B) → AllByRecursion P ys → each one (map w ys) ≡ Ok ys
-each_again P w one again [] h = refl
-each_again P w one again (y ∷ ys) h = rw (again y h.0, each_again P w one again ys h.1) refl
-
-pub all_again : {A B : Type 0} (P : B → Type 0) (Q : A → Type 0) (w : B → A) → ((y : B) → P y → Q (w y)) → (ys : List B) → AllByRecursion P ys → AllByRecursion Q (map w ys)
-all_again P Q w again [] h = tt
-all_again P Q w again (y ∷ ys) h = (again y h.0, all_again P Q w again ys h.1)
-
-pub tests_again : {A B : Type 0} (P : B → Type 0) (q : A → Bool) (w : B → A) → ((y : B) → P y → q (w y) ≡ true) → (ys : List B) → AllByRecursion P ys → list_all q (map w ys) ≡ true
-tests_again P q w again [] h = refl
-tests_again P q w again (y ∷ ys) h = and_from _ _ (again y h.0) (tests_again P q w again ys h.1)
-
-pub text_again : {A B : Type 0} (P : B → Type 0) (w : B → A) (f : B → List ℕ) (g : A → List ℕ) → ((y : B) → P y → f y ≡ g (w y)) → (ys : List B) → AllByRecursion P ys → flat_map f ys ≡ flat_map g (map w ys)
-text_again P w f g same [] h = refl
-text_again P w f g same (y ∷ ys) h = ap (λ (t : List ℕ). t ++ flat_map f ys) (same y h.0) ∙ ap (λ (t : List ℕ). g (w y) ++ t) (text_again P w f g same ys h.1)
 
 entries_fit : (l : Listing) (es : List told.Entry) → AllByRecursion (λ (e : told.Entry). e.number ≤ MAX_TASKS) es → AllByRecursion (λ (e : told.Entry). e.outcome ≢ outcome.Retries) es
     → AllByRecursion (λ (e : told.Entry). (e.task.0 < length (tasks l)) × (e.tx.0 < length l.transactions)) es → AllByRecursion (λ (e : told.Entry). OutcomeFits e.outcome) es → AllByRecursion (λ (e : told.Entry). OutcomeKnown (length l.always) e.outcome) es → AllByRecursion (EntryFits l) es

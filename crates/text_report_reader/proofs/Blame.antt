@@ -1,81 +1,25 @@
 -- Which faults each step may have.
-use Rattle.std.proofs.Common.{◌≡◌, ℕ, zero, suc, ◌+◌, Bool, true, false, ◌&&◌, cond, List, [], ◌∷◌, Option, Some, None, Result, Ok, Err, ap, length, refl}
-use Rattle.std.specs.Prelude.{codes, ℤ, nat_lt, is_some}
+use Rattle.std.proofs.Common.{◌≡◌, ℕ, ◌+◌, Bool, true, ◌&&◌, List, [], ◌∷◌, Option, Some, None, refl}
+use Rattle.std.specs.Prelude.{codes, ℤ, is_some}
 use Rattle.std.specs.List.{list_all}
 use Rattle.std.specs.Str.{bytes_eq}
 use Rattle.std.specs.Str.Parse.{digits_value}
 use Rattle.std.proofs.lemmas.Bool.{and_parts, and_from}
 use Rattle.txn_programs.specs.Arithmetic.{fits}
 use Rattle.txn_programs.specs.declared.limits.TheConstants.{MAX_TASKS}
-use Rattle.txn_programs.specs.Listing.{Listing, tasks, transaction_named, condition_named}
-use Rattle.txn_programs.specs.Names.{is_name}
-use Rattle.text_words.specs.Bytes.{is_int, int_value}
-use Rattle.text_words.specs.Answers.{◌>>=◌}
+use Rattle.txn_programs.specs.Listing.{Listing, transaction_named, condition_named}
+use Rattle.text_words.specs.Bytes.{int_value}
 use Rattle.text_words.specs.Numbers.{number_of}
-use Rattle.text_words.specs.declared.fault.ReadFault.{ReadFault}
 use Rattle.text_words.specs.declared.fault.ReadFault.TheVariants as faults
 use Rattle.text_words.proofs.Steps.{done}
-use Rattle.text_report_reader.specs.Lines.{Line, Whole, Cut, first_line, parted}
-use Rattle.text_report_reader.specs.Raw.{Variable, Ending, Returned, Threw, Overflow, DivideByZero, Broke, Entry, Task, Raw, is_number}
-use Rattle.text_report_reader.specs.Reading.{given, word_at, name_in, int_in, number_in, expect, behind, after_word, variable_in, valued_in, broke_in, worded_in, ending_in, entry_in, task_in, numbered_in, line_at, lines_at, begins, all_at, end_at, raw_at}
-use Rattle.text_report_reader.specs.Resolving.{is_known, condition_known, conditions_known, variables_known, transactions_known, names_known, below, count_in, task_id, found, tx_id, always_id, variable_told, outcome_told, entry_told, task_told, each, told_of}
-
--- a fault of the result is of this kind
-pub record Only {A : Type 0} (kind : ReadFault) (r : Result A ReadFault) : Type 0 where
-  pub by : (e : ReadFault) → r ≡ Err e → e ≡ kind
-
-abbrev pub bad : {A : Type 0} → ReadFault → Result A ReadFault
-bad e = Err e
-
-pub ok : {A : Type 0} (kind : ReadFault) (x : A) → Only kind (done x)
-ok kind x = record { by = λ e h. absurd cc }
-
-pub err : {A : Type 0} (kind : ReadFault) → Only {A = A} kind (bad kind)
-err kind = record { by = λ e h. cc }
-
-pub then : {A B : Type 0} (kind : ReadFault) (r : Result A ReadFault) (g : A → Result B ReadFault) → Only kind r → ((x : A) → Only kind (g x)) → Only kind (r >>= g)
-then kind (Ok x) g p q = q x
-then kind (Err d) g p q = record { by = λ e h. let s : d ≡ e = cc in p.by e (ap bad s) }
-
-pub either : {A : Type 0} (kind : ReadFault) (b : Bool) (x y : Result A ReadFault) → Only kind x → Only kind y → Only kind (cond b x y)
-either kind true x y p q = p
-either kind false x y p q = q
+use Rattle.text_lines.specs.Lines.{Line}
+use Rattle.text_report_reader.specs.Raw.{Variable, Ending, Returned, Threw, Overflow, DivideByZero, Broke, Entry, Task, Raw}
+use Rattle.text_lines.specs.Words.{expect}
+use Rattle.text_report_reader.specs.Reading.{variable_in, valued_in, broke_in, worded_in, ending_in, entry_in, task_in, numbered_in, raw_at}
+use Rattle.text_report_reader.specs.Resolving.{is_known, condition_known, conditions_known, variables_known, transactions_known, names_known, count_in, found, tx_id, always_id, variable_told, outcome_told, entry_told, task_told, told_of}
+use Rattle.text_lines.proofs.Blame.{bad, ok, err, then, either, IsShape, word_shape, name_shape, int_shape, number_shape, expect_shape, after_shape, line_shape, lines_shape, all_shape, end_shape, IsLimit, below_limit, task_id_limit, each_limit, any_limit}
 
 -- ---- lines fail by their shape alone
-
-abbrev IsShape : {A : Type 0} → Result A ReadFault → Type 0
-IsShape r = Only faults.Shape r
-
-given_shape : {A : Type 0} (o : Option A) → IsShape (given o)
-given_shape None = err faults.Shape
-given_shape (Some x) = ok faults.Shape x
-
-pub word_shape : (text : List ℕ) → IsShape (word_at text)
-unfolding word_at
-word_shape text = given_shape (parted 32 text)
-
-tested_shape : (b : Bool) (text : List ℕ) → IsShape (let r : Result (List ℕ) ReadFault = cond b (Ok text) (Err faults.Shape) in r)
-tested_shape b text = either faults.Shape b (done text) (bad faults.Shape) (ok faults.Shape text) (err faults.Shape)
-
-pub name_shape : (text : List ℕ) → IsShape (name_in text)
-unfolding name_in
-name_shape text = tested_shape (is_name text) text
-
-int_shape : (text : List ℕ) → IsShape (int_in text)
-unfolding int_in
-int_shape text = tested_shape (is_int text) text
-
-pub number_shape : (text : List ℕ) → IsShape (number_in text)
-unfolding number_in
-number_shape text = tested_shape (is_number text) text
-
-expect_shape : (wanted text : List ℕ) → IsShape (expect wanted text)
-unfolding expect
-expect_shape wanted text = either faults.Shape (bytes_eq text wanted) (done tt) (bad faults.Shape) (ok faults.Shape tt) (err faults.Shape)
-
-after_shape : (wanted text : List ℕ) → IsShape (after_word wanted text)
-unfolding after_word
-after_shape wanted text = given_shape (behind wanted text)
 
 variable_shape : (text : List ℕ) → IsShape (variable_in text)
 unfolding variable_in
@@ -121,25 +65,6 @@ numbered_shape : (wanted text : List ℕ) → IsShape (numbered_in wanted text)
 unfolding numbered_in
 numbered_shape wanted text = then faults.Shape _ _ (after_shape wanted text) (λ number. number_shape number)
 
-line_shape : {A : Type 0} (one : List ℕ → Result A ReadFault) → ((text : List ℕ) → IsShape (one text)) → (ls : List Line) → IsShape (line_at one ls)
-unfolding line_at
-line_shape one h ls = then faults.Shape _ _ (given_shape (first_line ls)) (λ first. then faults.Shape _ _ (h first.0) (λ x. ok faults.Shape _))
-
-lines_shape : {A : Type 0} (one : List ℕ → Result A ReadFault) → ((text : List ℕ) → IsShape (one text)) → (n : ℕ) (ls : List Line) → IsShape (lines_at one n ls)
-lines_shape one h zero ls = ok faults.Shape _
-lines_shape one h (suc n) ls = then faults.Shape _ _ (line_shape one h ls) (λ first. then faults.Shape _ _ (lines_shape one h n first.1) (λ others. ok faults.Shape _))
-
-all_shape : {A : Type 0} (wanted : List ℕ) (one : List ℕ → Result A ReadFault) → ((text : List ℕ) → IsShape (one text)) → (ls : List Line) → IsShape (all_at wanted one ls)
-all_shape wanted one h [] = ok faults.Shape _
-all_shape wanted one h (Cut text ∷ ls) = ok faults.Shape _
-all_shape wanted one h (Whole text ∷ ls) =
-    either faults.Shape (begins wanted text) _ _ (then faults.Shape _ _ (h text) (λ x. then faults.Shape _ _ (all_shape wanted one h ls) (λ others. ok faults.Shape _))) (ok faults.Shape _)
-
-end_shape : (ls : List Line) → IsShape (end_at ls)
-unfolding end_at
-end_shape [] = ok faults.Shape tt
-end_shape (l ∷ ls) = err faults.Shape
-
 pub raw_shape : (n : ℕ) (ls : List Line) → IsShape (raw_at n ls)
 unfolding raw_at
 raw_shape n ls =
@@ -155,23 +80,12 @@ raw_shape n ls =
 
 -- ---- words whose names are known fail by a limit alone
 
-abbrev IsLimit : {A : Type 0} → Result A ReadFault → Type 0
-IsLimit r = Only faults.Limit r
-
 number_limit : (z : ℤ) → IsLimit (number_of z)
 unfolding number_of
 number_limit z = either faults.Limit (fits z) (done z) (bad faults.Limit) (ok faults.Limit z) (err faults.Limit)
 
-below_limit : (bound n : ℕ) → IsLimit (below bound n)
-unfolding below
-below_limit bound n = either faults.Limit (nat_lt n bound) (done n) (bad faults.Limit) (ok faults.Limit n) (err faults.Limit)
-
 count_limit : (text : List ℕ) → IsLimit (count_in text)
 count_limit text = below_limit (MAX_TASKS + 1) (digits_value 10 text)
-
-pub task_id_limit : (l : Listing) (text : List ℕ) → IsLimit (task_id l text)
-unfolding task_id
-task_id_limit l text = then faults.Limit _ _ (below_limit (length (tasks l)) (digits_value 10 text)) (λ n. ok faults.Limit _)
 
 found_limit : {A : Type 0} (o : Option A) → is_some o ≡ true → IsLimit (found o)
 found_limit None h = absurd cc
@@ -207,16 +121,6 @@ entry_limit l e both =
 task_limit : (l : Listing) (t : Task) → is_known l t.name ≡ true → IsLimit (task_told l t)
 unfolding task_told
 task_limit l t h = then faults.Limit _ _ (task_id_limit l t.task) (λ task. then faults.Limit _ _ (tx_limit l t.name h) (λ tx. ok faults.Limit _))
-
-pub each_limit : {A B : Type 0} (p : A → Bool) (one : A → Result B ReadFault) → ((x : A) → p x ≡ true → IsLimit (one x)) → (xs : List A) → list_all p xs ≡ true → IsLimit (each one xs)
-each_limit p one h [] all = ok faults.Limit _
-each_limit p one h (x ∷ xs) all =
-    let a = and_parts (p x) (list_all p xs) all in
-    then faults.Limit _ _ (h x a.0) (λ y. then faults.Limit _ _ (each_limit p one h xs a.1) (λ ys. ok faults.Limit _))
-
-any_limit : {A B : Type 0} (one : A → Result B ReadFault) → ((x : A) → IsLimit (one x)) → (xs : List A) → IsLimit (each one xs)
-any_limit one h [] = ok faults.Limit _
-any_limit one h (x ∷ xs) = then faults.Limit _ _ (h x) (λ y. then faults.Limit _ _ (any_limit one h xs) (λ ys. ok faults.Limit _))
 
 -- what passes two tests passes both at once
 both_pass : {A : Type 0} (p q : A → Bool) (xs : List A) → list_all p xs ≡ true → list_all q xs ≡ true → list_all (λ x. p x && q x) xs ≡ true

@@ -1,7 +1,7 @@
 -- A report that is read has a line for each variable.
 use Rattle.std.proofs.Common.{◌≡◌, ◌∙◌, ℕ, List, length, Ok, sym}
 use Rattle.std.proofs.lemmas.List.{length-map}
-use Rattle.text_report_reader.specs.Lines.{Line}
+use Rattle.text_lines.specs.Lines.{Line}
 use Rattle.text_report_reader.specs.Reading.{raw_at}
 use Rattle.text_report_reader.specs.View.{view_variable, view_raw}
 use Rattle.text_report_reader.specs.declared.raw.RawReport.{RawReport}

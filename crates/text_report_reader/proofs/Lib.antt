@@ -1,9 +1,7 @@
-pub mod Parting
-pub mod Numbers
+pub use Rattle.text_lines.proofs.Parting
+pub use Rattle.text_lines.proofs.Numbers
 pub mod Steps
-pub mod Rows
 pub mod Known
-pub mod Each
 pub mod Shapes
 pub mod Counted
 pub mod Texts

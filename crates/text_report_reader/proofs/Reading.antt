@@ -1,12 +1,9 @@
 -- What is read is the report of the text, and which fault comes first where there is none.
-use Rattle.std.proofs.Common.{◌≡◌, ◌∙◌, ℕ, ◌≤◌, true, false, cond, List, length, Result, Ok, Err, refl, sym, ap, subst, arith, ◌⊎◌, inl, inr}
+use Rattle.std.proofs.Common.{◌≡◌, ◌∙◌, ℕ, ◌≤◌, true, false, cond, List, length, Result, Ok, Err, refl, sym, subst, ◌⊎◌, inl, inr}
 use Rattle.std.specs.Prelude.{nat_lt, IfOk, IfErr}
 use Rattle.std.specs.List.{list_all}
 use Rattle.std.proofs.lemmas.Bool.{ltb-true}
-use Rattle.std.proofs.lemmas.Bool.Decides.{nat_tests}
-use Rattle.txn_programs.specs.Limits.{limits_hold}
 use Rattle.txn_programs.specs.Listing.{Listing}
-use Rattle.txn_programs.specs.Names.{names_hold}
 use Rattle.txn_programs.specs.Told.{Told}
 use Rattle.txn_programs.proofs.Lawful.{few_tasks}
 use Rattle.text_words.specs.Bytes.{is_allowed}
@@ -14,7 +11,7 @@ use Rattle.text_words.specs.Answers.{◌>>=◌, Gives, Fails}
 use Rattle.text_words.specs.declared.fault.ReadFault.{ReadFault}
 use Rattle.text_words.specs.declared.fault.ReadFault.TheVariants as faults
 use Rattle.text_words.proofs.Steps.{bind_ok, chosen}
-use Rattle.text_report_reader.specs.Lines.{lines}
+use Rattle.text_lines.specs.Lines.{lines}
 use Rattle.text_report_reader.specs.Raw.{Raw}
 use Rattle.text_report_reader.specs.Reading.{raw_at}
 use Rattle.text_report_reader.specs.Resolving.{names_known, told_of, resolved}
@@ -24,18 +21,8 @@ use Rattle.text_report_reader.proofs.Agains.{report_again, written_report}
 use Rattle.text_report_reader.proofs.Backs.{told_back}
 use Rattle.text_report_reader.proofs.Blame.{raw_shape, told_limit}
 use Rattle.text_report_reader.proofs.Texts.{written_is_read, read_is_written}
-
--- what a catalogue keeps
-pub record Rules (l : Listing) : Type 0 where
-  pub named : length l.names ≡ length l.initial
-  pub names : names_hold l ≡ true
-  pub limits : limits_hold l ≡ true
-
-pub at_most : (n m : ℕ) → nat_lt m n ≡ false → n ≤ m
-at_most n m h = grind (arith, nat_tests)
-
-pub not_over : (n m : ℕ) → n ≤ m → nat_lt m n ≡ false
-not_over n m h = grind (arith, nat_tests)
+use Rattle.text_lines.proofs.Reading.{at_most, not_over, failed_in}
+pub use Rattle.text_lines.proofs.Reading.{Rules}
 
 -- a result that is Ok has passed both tests
 record Passed (bytes : List ℕ) : Type 0 where
@@ -92,11 +79,6 @@ in_names l r e h =
       | inl p ↦ inl (p.0, (told_limit l r p.0).by e p.1)
       | inr p ↦ inr (p.0, cc)
     ]
-
--- a step that failed, or the first of two
-pub failed_in : {A B : Type 0} (r : Result A ReadFault) (f : A → Result B ReadFault) (e : ReadFault) → (r >>= f) ≡ Err e → (r ≡ Err e) ⊎ ((x : A) × (r ≡ Ok x) × (f x ≡ Err e))
-failed_in (Ok x) f e h = inr (x, refl, h)
-failed_in (Err d) f e h = inl (let s : d ≡ e = cc in ap (λ (k : ReadFault). Err k) s)
 
 no_raw : (l : Listing) (bytes : List ℕ) (e : ReadFault) → raw_at (length l.names) (lines bytes) ≡ Err e → (r : Raw) → IsWritten (length l.names) bytes r → ⊥
 no_raw l bytes e h r w = let k = written_is_read (length l.names) bytes r w in absurd cc

@@ -3,12 +3,16 @@ use Rattle.std.proofs.Common.{◌≡◌, ◌∙◌, ℕ, true, List, [], ◌∷�
 use Rattle.std.specs.Prelude.{codes}
 use Rattle.std.specs.List.{AllByRecursion}
 use Rattle.text_words.proofs.Steps.{bind_ok, ok_is}
-use Rattle.text_report_reader.specs.Lines.{Line, parted}
-use Rattle.text_report_reader.specs.Raw.{Variable, Entry, Task, Raw, is_number, variable_words, entry_words, task_words, number_words, IsVariable, IsEntry, IsTask, IsRaw}
-use Rattle.text_report_reader.specs.Reading.{line_at, lines_at, all_at, end_at, expect, numbered_in, variable_in, entry_in, task_in, begins, raw_at}
-use Rattle.text_report_reader.proofs.Parting.{lacks}
-use Rattle.text_report_reader.proofs.Steps.{text_of, expect_takes, expect_again, variable_takes, variable_again, entry_takes, entry_again, entry_text, task_takes, task_again, numbered_takes, numbered_again, begins_again, begins_not, begins_alone}
-use Rattle.text_report_reader.proofs.Rows.{line_of, Reads, stops, line_takes, line_again, lines_take, lines_again, all_take, all_again}
+use Rattle.text_lines.specs.Lines.{Line, parted}
+use Rattle.text_report_reader.specs.Raw.{Variable, Entry, Task, Raw, variable_words, entry_words, task_words, number_words, IsVariable, IsEntry, IsTask, IsRaw}
+use Rattle.text_lines.specs.Words.{is_number, expect, begins}
+use Rattle.text_lines.specs.Rows.{line_at, lines_at, all_at, end_at}
+use Rattle.text_report_reader.specs.Reading.{numbered_in, variable_in, entry_in, task_in, raw_at}
+use Rattle.text_lines.proofs.Parting.{lacks}
+use Rattle.text_lines.proofs.Steps.{text_of, expect_takes, expect_again, begins_again, begins_not, begins_alone}
+use Rattle.text_report_reader.proofs.Steps.{variable_takes, variable_again, entry_takes, entry_again, entry_text, task_takes, task_again, numbered_takes, numbered_again}
+use Rattle.text_lines.proofs.Rows.{line_of, Reads, stops, line_takes, line_again, lines_take, lines_again, all_take, all_again}
+use Rattle.text_lines.proofs.Ends.{end_is, end_again}
 
 numbered_reads : (wanted : List ℕ) → lacks 32 wanted ≡ true → Reads (number_words wanted) (λ n. is_number n ≡ true) (numbered_in wanted)
 numbered_reads wanted w = record { takes = numbered_takes wanted; again = λ n h. numbered_again wanted n w h }
@@ -28,15 +32,6 @@ end_words u = codes "end" ∷ []
 
 end_reads : Reads end_words (λ u. Unit {0}) (expect (codes "end"))
 end_reads = record { takes = λ text u e. record { same = expect_takes (codes "end") text u e; is = tt }; again = λ u h. expect_again (codes "end") }
-
-pub end_is : (ls : List Line) (u : Unit {0}) → end_at ls ≡ Ok u → ls ≡ []
-unfolding end_at
-end_is [] u e = refl
-end_is (l ∷ ls) u e = absurd cc
-
-end_again : end_at [] ≡ Ok tt
-unfolding end_at
-end_again = refl
 
 -- the lines of a report
 abbrev pub raw_lines : Raw → List Line

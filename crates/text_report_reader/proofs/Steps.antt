@@ -1,5 +1,5 @@
 -- What single steps of reading take, and what they read again.
-use Rattle.std.proofs.Common.{◌≡◌, ◌∙◌, ℕ, Bool, true, false, cond, List, [], ◌∷◌, ◌++◌, Option, Some, None, Result, Ok, Err, refl, ap, subst, inl, inr}
+use Rattle.std.proofs.Common.{◌≡◌, ◌∙◌, ℕ, true, false, cond, List, ◌∷◌, ◌++◌, Result, Ok, Err, refl, ap, subst, inl, inr}
 use Rattle.std.specs.Prelude.{codes}
 use Rattle.std.specs.Str.{bytes_eq}
 use Rattle.std.proofs.lemmas.Slice.Eq.{bytes_eq-Decides}
@@ -8,132 +8,21 @@ use Rattle.text_words.specs.Bytes.{is_int}
 use Rattle.text_words.specs.declared.fault.ReadFault.{ReadFault}
 use Rattle.text_words.specs.declared.fault.ReadFault.TheVariants.{Shape}
 use Rattle.text_words.proofs.Steps.{bind_ok, done, ok_is, chosen}
-use Rattle.text_report_reader.specs.Lines.{parted}
-use Rattle.text_report_reader.specs.Raw.{is_number, Variable, Ending, Returned, Threw, Overflow, DivideByZero, Broke, Entry, Task, variable_words, ending_words, entry_words, task_words, number_words, IsVariable, IsEnding, IsEntry, IsTask}
-use Rattle.text_report_reader.specs.Reading.{given, word_at, name_in, int_in, number_in, expect, behind_word, behind, after_word, variable_in, valued_in, broke_in, worded_in, ending_in, entry_in, task_in, numbered_in, begins}
-use Rattle.text_report_reader.proofs.Parting.{lacks, parted_takes, parted_again}
-use Rattle.text_report_reader.proofs.Numbers.{name_lacks, int_lacks, number_lacks}
-
--- the words of a line, without its newline
-abbrev pub text_of : List (List ℕ) → List ℕ
-text_of [] = []
-text_of (word ∷ []) = word
-text_of (word ∷ next ∷ words) = word ++ 32 ∷ text_of (next ∷ words)
-
-pub given_ok : {A : Type 0} (o : Option A) (x : A) → given o ≡ Ok x → o ≡ Some x
-given_ok None x e = absurd cc
-given_ok (Some y) x e = ap (λ (z : _). Some z) (ok_is y x e)
-
-pub word_takes : (text : List ℕ) (x : List ℕ × List ℕ) → word_at text ≡ Ok x → text ≡ x.0 ++ 32 ∷ x.1
-unfolding word_at
-word_takes text x e = parted_takes 32 text x (given_ok (parted 32 text) x e)
-
-pub word_again : (word rest : List ℕ) → lacks 32 word ≡ true → word_at (word ++ 32 ∷ rest) ≡ Ok (word, rest)
-unfolding word_at
-word_again word rest h = rw (parted_again 32 word rest h) refl
-
--- a word that passes a test
-tested : (b : Bool) (text word : List ℕ) → (let r : Result (List ℕ) ReadFault = cond b (Ok text) (Err Shape) in r) ≡ Ok word → (b ≡ true) × (text ≡ word)
-tested true text word e = (refl, cc)
-tested false text word e = absurd cc
-
--- the word is the text, and passes
-pub record IsWord (p : List ℕ → Bool) (text word : List ℕ) : Type 0 where
-  pub same : text ≡ word
-  pub passes : p word ≡ true
-
-word_by : (p : List ℕ → Bool) (text word : List ℕ) → (let r : Result (List ℕ) ReadFault = cond (p text) (Ok text) (Err Shape) in r) ≡ Ok word → IsWord p text word
-word_by p text word e =
-    let t = tested (p text) text word e in
-    record { same = t.1; passes = subst (λ (w : List ℕ). p w ≡ true) t.1 t.0 }
-
-pub name_takes : (text word : List ℕ) → name_in text ≡ Ok word → IsWord is_name text word
-unfolding name_in
-name_takes text word e = word_by is_name text word e
-
-pub int_takes : (text word : List ℕ) → int_in text ≡ Ok word → IsWord is_int text word
-unfolding int_in
-int_takes text word e = word_by is_int text word e
-
-pub number_takes : (text word : List ℕ) → number_in text ≡ Ok word → IsWord is_number text word
-unfolding number_in
-number_takes text word e = word_by is_number text word e
-
-pub name_again : (word : List ℕ) → is_name word ≡ true → name_in word ≡ Ok word
-unfolding name_in
-name_again word h = rw h refl
-
-pub int_again : (word : List ℕ) → is_int word ≡ true → int_in word ≡ Ok word
-unfolding int_in
-int_again word h = rw h refl
-
-pub number_again : (word : List ℕ) → is_number word ≡ true → number_in word ≡ Ok word
-unfolding number_in
-number_again word h = rw h refl
-
-pub expect_takes : (wanted text : List ℕ) (u : Unit {0}) → expect wanted text ≡ Ok u → text ≡ wanted
-unfolding expect
-expect_takes wanted text u e =
-    elim (chosen (bytes_eq text wanted) (done tt) (Err Shape) (Ok u) e) [
-      | inl p ↦ (bytes_eq-Decides text wanted).0 p.0
-      | inr p ↦ absurd (let h = p.1 in cc)
-    ]
-
-pub expect_again : (wanted : List ℕ) → expect wanted wanted ≡ Ok tt
-unfolding expect
-expect_again wanted = rw ((bytes_eq-Decides wanted wanted).1 refl) refl
-
-here : (b : Bool) (back rest : List ℕ) → (let o : Option (List ℕ) = cond b (Some back) None in o) ≡ Some rest → (b ≡ true) × (back ≡ rest)
-here true back rest e = (refl, cc)
-here false back rest e = absurd cc
-
-behind_parted : (wanted text rest : List ℕ) (p : Option (List ℕ × List ℕ)) → ((x : List ℕ × List ℕ) → p ≡ Some x → text ≡ x.0 ++ 32 ∷ x.1) → behind_word wanted p ≡ Some rest → text ≡ wanted ++ 32 ∷ rest
-behind_parted wanted text rest None h e = absurd cc
-behind_parted wanted text rest (Some x) h e =
-    let c = here (bytes_eq x.0 wanted) x.1 rest e in
-    h x refl ∙ ap (λ (w : List ℕ). w ++ 32 ∷ x.1) ((bytes_eq-Decides x.0 wanted).0 c.0) ∙ ap (λ (r : List ℕ). wanted ++ 32 ∷ r) c.1
-
-behind_takes : (wanted text rest : List ℕ) → behind wanted text ≡ Some rest → text ≡ wanted ++ 32 ∷ rest
-unfolding behind
-behind_takes wanted text rest e = behind_parted wanted text rest (parted 32 text) (parted_takes 32 text) e
-
-behind_again : (wanted rest : List ℕ) → lacks 32 wanted ≡ true → behind wanted (wanted ++ 32 ∷ rest) ≡ Some rest
-unfolding behind
-behind_again wanted rest h = rw (parted_again 32 wanted rest h, (bytes_eq-Decides wanted wanted).1 refl) refl
-
-pub after_takes : (wanted text rest : List ℕ) → after_word wanted text ≡ Ok rest → text ≡ wanted ++ 32 ∷ rest
-unfolding after_word
-after_takes wanted text rest e = behind_takes wanted text rest (given_ok (behind wanted text) rest e)
-
-pub after_again : (wanted rest : List ℕ) → lacks 32 wanted ≡ true → after_word wanted (wanted ++ 32 ∷ rest) ≡ Ok rest
-unfolding after_word
-after_again wanted rest h = rw (behind_again wanted rest h) refl
-
-pub begins_again : (wanted rest : List ℕ) → lacks 32 wanted ≡ true → begins wanted (wanted ++ 32 ∷ rest) ≡ true
-unfolding begins
-begins_again wanted rest h = rw (behind_again wanted rest h) refl
-
--- a line that begins with another word
-pub begins_not : (wanted word rest : List ℕ) → lacks 32 word ≡ true → bytes_eq word wanted ≡ false → begins wanted (word ++ 32 ∷ rest) ≡ false
-unfolding begins behind
-begins_not wanted word rest h other = rw (parted_again 32 word rest h, other) refl
-
-pub begins_alone : (wanted word : List ℕ) → parted 32 word ≡ None → begins wanted word ≡ false
-unfolding begins behind
-begins_alone wanted word h = rw h refl
+use Rattle.text_lines.specs.Words.{is_number, first_word, name_in, int_in, number_in, after_word}
+use Rattle.text_report_reader.specs.Raw.{Variable, Ending, Returned, Threw, Overflow, DivideByZero, Broke, Entry, Task, variable_words, ending_words, entry_words, task_words, number_words, IsVariable, IsEnding, IsEntry, IsTask}
+use Rattle.text_report_reader.specs.Reading.{variable_in, valued_in, broke_in, worded_in, ending_in, entry_in, task_in, numbered_in}
+use Rattle.text_lines.proofs.Parting.{lacks}
+use Rattle.text_lines.proofs.Numbers.{name_lacks, int_lacks, number_lacks}
+use Rattle.text_lines.proofs.Steps.{word_takes, word_again, name_takes, int_takes, number_takes, name_again, int_again, number_again, after_takes, after_again, Takes}
+pub use Rattle.text_lines.proofs.Steps.{text_of}
 
 -- ---- lines
-
--- the text is that of what was read, whose words are of their kinds
-pub record Takes {A : Type 0} (words : A → List (List ℕ)) (Is : A → Type 0) (text : List ℕ) (x : A) : Type 0 where
-  pub same : text ≡ text_of (words x)
-  pub is : Is x
 
 pub variable_takes : (text : List ℕ) (v : Variable) → variable_in text ≡ Ok v → Takes variable_words IsVariable text v
 unfolding variable_in
 variable_takes text v e =
-    let a = bind_ok (word_at text) _ v e in
-    let b = bind_ok (word_at a.0.1) _ v a.2 in
+    let a = bind_ok (first_word text) _ v e in
+    let b = bind_ok (first_word a.0.1) _ v a.2 in
     let c = bind_ok (name_in a.0.0) _ v b.2 in
     let d = bind_ok (int_in b.0.0) _ v c.2 in
     let f = bind_ok (number_in b.0.1) _ v d.2 in
@@ -193,7 +82,7 @@ broke_takes text x e =
 worded_takes : (text : List ℕ) (x : Ending) → worded_in text ≡ Ok x → Takes ending_words IsEnding text x
 unfolding worded_in
 worded_takes text x e =
-    let a = bind_ok (word_at text) _ x e in
+    let a = bind_ok (first_word text) _ x e in
     let same = word_takes text a.0 a.1 in
     elim (chosen (bytes_eq a.0.0 (codes "broke")) (broke_in a.0.1) (valued_in a.0.0 a.0.1) (Ok x) a.2) [
       | inl p ↦
@@ -235,9 +124,9 @@ pub entry_takes : (text : List ℕ) (x : Entry) → entry_in text ≡ Ok x → T
 unfolding entry_in
 entry_takes text x e =
     let a = bind_ok (after_word (codes "entry") text) _ x e in
-    let b = bind_ok (word_at a.0) _ x a.2 in
-    let c = bind_ok (word_at b.0.1) _ x b.2 in
-    let d = bind_ok (word_at c.0.1) _ x c.2 in
+    let b = bind_ok (first_word a.0) _ x a.2 in
+    let c = bind_ok (first_word b.0.1) _ x b.2 in
+    let d = bind_ok (first_word c.0.1) _ x c.2 in
     let f = bind_ok (number_in b.0.0) _ x d.2 in
     let g = bind_ok (number_in c.0.0) _ x f.2 in
     let h = bind_ok (name_in d.0.0) _ x g.2 in
@@ -299,7 +188,7 @@ pub task_takes : (wanted text : List ℕ) (x : Task) → task_in wanted text ≡
 unfolding task_in
 task_takes wanted text x e =
     let a = bind_ok (after_word wanted text) _ x e in
-    let b = bind_ok (word_at a.0) _ x a.2 in
+    let b = bind_ok (first_word a.0) _ x a.2 in
     let c = bind_ok (number_in b.0.0) _ x b.2 in
     let d = bind_ok (name_in b.0.1) _ x c.2 in
     let task = number_takes b.0.0 c.0 c.1 in

@@ -1,4 +1,4 @@
-pub mod Lines
+pub use Rattle.text_lines.specs.Lines
 pub mod Raw
 pub mod Reading
 pub mod Resolving

@@ -1,10 +1,10 @@
 -- A report as it is written: its words, before any name or number is judged.
-use Rattle.std.specs.Prelude.{◌≡◌, ℕ, Bool, true, not, ◌&&◌, List, [], ◌∷◌, ◌++◌, length, codes}
+use Rattle.std.specs.Prelude.{◌≡◌, ℕ, true, List, [], ◌∷◌, ◌++◌, length, codes}
 use Rattle.std.specs.List.{flat_map, AllByRecursion}
-use Rattle.std.specs.Str.Parse.{starts_with_minus}
 use Rattle.txn_programs.specs.Names.{is_name}
 use Rattle.text_words.specs.Bytes.{is_int}
 use Rattle.text_words.specs.Words.{line}
+use Rattle.text_lines.specs.Words.{is_number}
 
 -- NAME VALUE VERSION
 pub record Variable : Type 0 where
@@ -75,10 +75,6 @@ raw_text r =
     ++ line (codes "end" ∷ [])))))))
 
 -- ---- names and integers
-
--- an integer without a sign
-abbrev pub is_number : List ℕ → Bool
-is_number text = not (starts_with_minus text) && is_int text
 
 pub record IsVariable (v : Variable) : Type 0 where
   pub name : is_name v.name ≡ true

@@ -10,7 +10,7 @@ use Rattle.text_report_printer.specs.ReportText.{report_text}
 use Rattle.text_report_printer.specs.ReportFits.{ReportFits}
 use Rattle.text_words.specs.declared.fault.ReadFault.{ReadFault}
 use Rattle.text_words.specs.declared.fault.ReadFault.TheVariants.{TooLong, BadByte, Shape, Name, Limit, Broken, Memory}
-use Rattle.text_report_reader.specs.Lines.{lines}
+use Rattle.text_lines.specs.Lines.{lines}
 use Rattle.text_report_reader.specs.Raw.{Raw, raw_text, IsRaw}
 use Rattle.text_report_reader.specs.Reading.{raw_at}
 use Rattle.text_report_reader.specs.Resolving.{names_known, resolved}

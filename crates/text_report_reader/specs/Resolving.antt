@@ -1,5 +1,5 @@
 -- From the words of a report to what it tells: names as ids, and integers as numbers of the machine.
-use Rattle.std.specs.Prelude.{ℕ, ◌+◌, ℤ, Bool, true, false, is_some, ◌&&◌, nat_lt, if◌then◌else◌, Option, Some, None, Result, Ok, Err, List, [], ◌∷◌, length}
+use Rattle.std.specs.Prelude.{ℕ, ◌+◌, ℤ, Bool, true, false, is_some, ◌&&◌, if◌then◌else◌, Option, Some, None, Result, Ok, Err, List, [], ◌∷◌}
 use Rattle.std.specs.List.{list_all}
 use Rattle.std.specs.Str.{bytes_eq}
 use Rattle.std.specs.Str.Parse.{digits_value}
@@ -17,8 +17,10 @@ use Rattle.text_words.specs.Bytes.{int_value}
 use Rattle.text_words.specs.Answers.{◌>>=◌}
 use Rattle.text_words.specs.Numbers.{number_of}
 use Rattle.text_words.specs.declared.fault.ReadFault.{ReadFault}
-use Rattle.text_words.specs.declared.fault.ReadFault.TheVariants.{Name, Limit}
+use Rattle.text_words.specs.declared.fault.ReadFault.TheVariants.{Name}
 use Rattle.text_report_reader.specs.Raw.{Variable, Ending, Returned, Threw, Overflow, DivideByZero, Broke, Entry, Task, Raw}
+use Rattle.text_lines.specs.Rows.{each}
+use Rattle.text_lines.specs.Counts.{below, task_id}
 
 -- ---- names
 
@@ -62,17 +64,9 @@ names_known l r = variables_known l r && (transactions_known l r && conditions_k
 
 -- ---- numbers and ids
 
--- a number below a bound
-unfoldable pub below : ℕ → ℕ → Result ℕ ReadFault
-below bound n = if nat_lt n bound then Ok n else Err Limit
-
 -- a number or a version, which is at most the largest number of tasks
 abbrev pub count_in : List ℕ → Result ℕ ReadFault
 count_in text = below (MAX_TASKS + 1) (digits_value 10 text)
-
--- one of the catalogue's tasks
-unfoldable pub task_id : Listing → List ℕ → Result TaskId ReadFault
-task_id l text = below (length (tasks l)) (digits_value 10 text) >>= λ n. Ok (record { 0 = n })
 
 abbrev pub found : {A : Type 0} → Option A → Result A ReadFault
 found None = Err Name
@@ -112,10 +106,6 @@ task_told l t = do
   task ← task_id l t.task
   tx ← tx_id l t.name
   Ok (task, tx)
-
-abbrev pub each : {A B : Type 0} → (A → Result B ReadFault) → List A → Result (List B) ReadFault
-each one [] = Ok []
-each one (x ∷ xs) = one x >>= λ y. each one xs >>= λ ys. Ok (y ∷ ys)
 
 -- what a report tells, whose names are known
 unfoldable pub told_of : Listing → Raw → Result Told ReadFault

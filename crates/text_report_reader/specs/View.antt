@@ -1,7 +1,5 @@
 -- What the code's parts of bytes and raw reports say, and not where they lie in memory.
-use Rattle.std.specs.Prelude.{ℕ, Option, Some, None, List, map}
-use Rattle.std.proofs.Common.{Bor}
-use Rattle.text_report_reader.specs.Lines.{Line, lines}
+use Rattle.std.specs.Prelude.{List, map}
 use Rattle.text_report_reader.specs.Raw.{Variable, Ending, Entry, Task, Raw}
 use Rattle.text_report_reader.specs.Raw as raw
 use Rattle.text_report_reader.specs.declared.raw.RawVariable.{RawVariable}
@@ -10,19 +8,7 @@ use Rattle.text_report_reader.specs.declared.raw.RawEnding.TheVariants as code
 use Rattle.text_report_reader.specs.declared.raw.RawEntry.{RawEntry}
 use Rattle.text_report_reader.specs.declared.raw.RawTask.{RawTask}
 use Rattle.text_report_reader.specs.declared.raw.RawReport.{RawReport}
-
-abbrev pub view_parts : Option (Bor (List ℕ) × Bor (List ℕ)) → Option (List ℕ × List ℕ)
-view_parts None = None
-view_parts (Some x) = Some (x.0.now, x.1.now)
-
-abbrev pub view_text : Option (Bor (List ℕ)) → Option (List ℕ)
-view_text None = None
-view_text (Some x) = Some x.now
-
--- a line, and the lines of the bytes behind it
-abbrev pub view_line : Option (Bor (List ℕ) × Bor (List ℕ)) → Option (List ℕ × List Line)
-view_line None = None
-view_line (Some x) = Some (x.0.now, lines x.1.now)
+pub use Rattle.text_lines.specs.View.{view_text}
 
 abbrev pub view_variable : RawVariable → Variable
 view_variable v = record { name = v.name.now; value = v.value.text.now; version = v.version.text.now }
@@ -48,11 +34,6 @@ view_entries es = map view_entry es
 
 abbrev pub view_tasks : List RawTask → List Task
 view_tasks ts = map view_task ts
-
--- the next line as it is read, if there is one
-abbrev pub view_next : {A B : Type 0} → (A → B) → Option (A × Bor (List ℕ)) → Option (B × List Line)
-view_next view None = None
-view_next view (Some x) = Some (view x.0, lines x.1.now)
 
 abbrev pub view_raw : RawReport → Raw
 view_raw r =

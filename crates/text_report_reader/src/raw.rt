@@ -1,6 +1,6 @@
 //! A report as it is written, before any name or number is judged.
 
-use crate::numeral::Count;
+use text_lines::Count;
 use text_words::numeral::Numeral;
 
 /// The line of a variable.

@@ -1,16 +1,17 @@
 //! From the words of a report to what it tells: names as ids, and integers as numbers.
 
-ghost use Rattle.std.specs.Prelude.{◌≡◌, IfErr, length};
+ghost use Rattle.std.specs.Prelude.{◌≡◌, ◌⊎◌, IfErr, length};
 ghost use Rattle.std.specs.List.{list_all};
 ghost use Rattle.txn_programs.specs.Told.{told};
 ghost use Rattle.text_words.specs.Answers.{Gives};
-ghost use Rattle.text_words.specs.declared.fault.ReadFault.TheVariants.{Limit};
-ghost use Rattle.text_report_reader.specs.Resolving.{named_as, is_known, condition_known, variables_known, transactions_known, names_known, count_in, task_id, tx_id, always_id, variable_told, outcome_told, entry_told, task_told, each, told_of, resolved};
+ghost use Rattle.text_words.specs.declared.fault.ReadFault.TheVariants.{Name, Limit};
+ghost use Rattle.text_report_reader.specs.Resolving.{named_as, is_known, condition_known, variables_known, transactions_known, names_known, count_in, tx_id, always_id, variable_told, outcome_told, entry_told, task_told, told_of, resolved};
+ghost use Rattle.text_lines.specs.Rows.{each};
 ghost use Rattle.text_report_reader.specs.View.{view_variable, view_variables, view_ending, view_entry, view_entries, view_task, view_tasks, view_raw};
 
-use crate::numeral::Count;
 use crate::raw::{RawEnding, RawEntry, RawReport, RawTask, RawVariable};
 use std::alloc::Global;
+use text_lines::{Count, task_id};
 use text_words::ReadFault;
 use txn::limits::MAX_TASKS;
 use txn::{AlwaysId, Catalogue, Entry, Fault, Outcome, Report, TaskId, TxId, VarId};
@@ -110,38 +111,32 @@ fn names_known(catalogue: &Catalogue, report: &RawReport<'_>) -> bool
 
 /// A number or a version.
 fn count_in(count: Count<'_>) -> Result<u64, ReadFault>
-    ensures { Gives (λ x. x) result (count_in count.entry.text.now) }
+    ensures value { Gives (λ x. x) result (count_in count.entry.text.now) }
+    ensures kind { IfErr result (λ e. e ≡ Limit) }
 {
     count.below(MAX_TASKS as u64 + 1)
 }
 
-/// The task of this number.
-#[tactic(auto, unfolding(crate::specs::Resolving::task_id))]
-pub fn task_id(catalogue: &Catalogue, task: Count<'_>) -> Result<TaskId, ReadFault>
-    ensures value { Gives (λ x. x) result (task_id catalogue.now task.entry.text.now) }
-    ensures kind { IfErr result (λ e. e ≡ Limit) }
-{
-    let place = task.below(catalogue.tasks() as u64)?;
-    Ok(TaskId(place as u32))
-}
-
 #[tactic(auto, unfolding(crate::specs::Resolving::tx_id))]
 fn tx_id(catalogue: &Catalogue, name: &str) -> Result<TxId, ReadFault>
-    ensures { Gives (λ x. x) result (tx_id catalogue.now name.now) }
+    ensures value { Gives (λ x. x) result (tx_id catalogue.now name.now) }
+    ensures kind { IfErr result (λ e. e ≡ Name) }
 {
     catalogue.tx_id(name).ok_or(ReadFault::Name)
 }
 
 #[tactic(auto, unfolding(crate::specs::Resolving::always_id))]
 fn always_id(catalogue: &Catalogue, name: &str) -> Result<AlwaysId, ReadFault>
-    ensures { Gives (λ x. x) result (always_id catalogue.now name.now) }
+    ensures value { Gives (λ x. x) result (always_id catalogue.now name.now) }
+    ensures kind { IfErr result (λ e. e ≡ Name) }
 {
     catalogue.always_id(name).ok_or(ReadFault::Name)
 }
 
 #[tactic(auto, unfolding(crate::specs::Resolving::variable_told))]
 fn variable_told(v: RawVariable<'_>) -> Result<(i64, u64), ReadFault>
-    ensures { Gives (λ x. x) result (variable_told (view_variable v.entry)) }
+    ensures value { Gives (λ x. x) result (variable_told (view_variable v.entry)) }
+    ensures kind { IfErr result (λ e. e ≡ Limit) }
 {
     let value = v.value.number()?;
     let version = count_in(v.version)?;
@@ -159,7 +154,8 @@ fn variables_told(alloc: Global, vars: &[RawVariable<'_>]) -> Result<Vec<(i64, u
 }
 
 fn outcome_told(catalogue: &Catalogue, ending: RawEnding<'_>) -> Result<Outcome, ReadFault>
-    ensures { Gives (λ x. x) result (outcome_told catalogue.now (view_ending ending.entry)) }
+    ensures value { Gives (λ x. x) result (outcome_told catalogue.now (view_ending ending.entry)) }
+    ensures kind { IfErr result (λ e. (e ≡ Name) ⊎ (e ≡ Limit)) }
 {
     match ending {
         RawEnding::Returned(value) => {
@@ -181,7 +177,8 @@ fn outcome_told(catalogue: &Catalogue, ending: RawEnding<'_>) -> Result<Outcome,
 
 #[tactic(auto, unfolding(crate::specs::Resolving::entry_told))]
 fn entry_told(catalogue: &Catalogue, e: RawEntry<'_>) -> Result<Entry, ReadFault>
-    ensures { Gives (λ x. x) result (entry_told catalogue.now (view_entry e.entry)) }
+    ensures value { Gives (λ x. x) result (entry_told catalogue.now (view_entry e.entry)) }
+    ensures kind { IfErr result (λ e. (e ≡ Name) ⊎ (e ≡ Limit)) }
 {
     let number = count_in(e.number)?;
     let task = task_id(catalogue, e.task)?;
@@ -211,7 +208,8 @@ fn entries_told(
 
 #[tactic(auto, unfolding(crate::specs::Resolving::task_told))]
 fn task_told(catalogue: &Catalogue, t: RawTask<'_>) -> Result<(TaskId, TxId), ReadFault>
-    ensures { Gives (λ x. x) result (task_told catalogue.now (view_task t.entry)) }
+    ensures value { Gives (λ x. x) result (task_told catalogue.now (view_task t.entry)) }
+    ensures kind { IfErr result (λ e. (e ≡ Name) ⊎ (e ≡ Limit)) }
 {
     let task = task_id(catalogue, t.task)?;
     let tx = tx_id(catalogue, t.name)?;

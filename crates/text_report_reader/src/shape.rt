@@ -1,21 +1,26 @@
 //! The lines of a report in their order.
 
-ghost use Rattle.std.specs.Prelude.{◌≡◌, ◌<◌, ◌≤◌, IfOk, IfSome, length, codes};
+ghost use Rattle.std.specs.Prelude.{◌≡◌, ◌<◌, ◌≤◌, IfErr, IfOk, IfSome, length, codes};
 ghost use Rattle.text_words.specs.Answers.{Gives};
-ghost use Rattle.text_report_reader.specs.Lines.{lines};
-ghost use Rattle.text_report_reader.specs.Reading.{variable_in, valued_in, broke_in, worded_in, ending_in, entry_in, task_in, numbered_in, expect, line_at, lines_at, next_at, all_at, end_at, raw_at};
-ghost use Rattle.text_report_reader.specs.View.{view_variable, view_variables, view_ending, view_entry, view_entries, view_task, view_tasks, view_next, view_raw};
+ghost use Rattle.text_words.specs.declared.fault.ReadFault.TheVariants.{Shape};
+ghost use Rattle.text_lines.specs.Lines.{lines};
+ghost use Rattle.text_lines.specs.Words.{expect};
+ghost use Rattle.text_lines.specs.Rows.{line_at, lines_at, next_at, all_at, end_at};
+ghost use Rattle.text_lines.specs.View.{view_next};
+ghost use Rattle.text_report_reader.specs.Reading.{variable_in, valued_in, broke_in, worded_in, ending_in, entry_in, task_in, numbered_in, raw_at};
+ghost use Rattle.text_report_reader.specs.View.{view_variable, view_variables, view_ending, view_entry, view_entries, view_task, view_tasks, view_raw};
 
-use crate::lines::{next_line, part};
-use crate::numeral::Count;
 use crate::raw::{RawEnding, RawEntry, RawReport, RawTask, RawVariable};
-use crate::words::{begins, behind, count_of, expect, is_word, name_of, numeral_of};
 use std::alloc::Global;
+use text_lines::{
+    Count, begins, behind, end, expect, int_in, is_word, name_in, next_line, number_in, part,
+};
 use text_words::ReadFault;
 
-#[tactic(auto, unfolding(crate::specs::Reading::variable_in, crate::specs::Reading::word_at))]
+#[tactic(auto, unfolding(crate::specs::Reading::variable_in, text_lines::specs::Words::first_word))]
 fn variable_in(text: &[u8]) -> Result<RawVariable<'_>, ReadFault>
-    ensures { Gives view_variable result (variable_in text.now) }
+    ensures value { Gives view_variable result (variable_in text.now) }
+    ensures kind { IfErr result (λ e. e ≡ Shape) }
 {
     let Some((first, rest)) = part(text, b' ') else {
         return Err(ReadFault::Shape);
@@ -23,9 +28,9 @@ fn variable_in(text: &[u8]) -> Result<RawVariable<'_>, ReadFault>
     let Some((second, third)) = part(rest, b' ') else {
         return Err(ReadFault::Shape);
     };
-    let name = name_of(first)?;
-    let value = numeral_of(second)?;
-    let version = count_of(third)?;
+    let name = name_in(first)?;
+    let value = int_in(second)?;
+    let version = number_in(third)?;
     Ok(RawVariable {
         name,
         value,
@@ -36,9 +41,10 @@ fn variable_in(text: &[u8]) -> Result<RawVariable<'_>, ReadFault>
 /// The ending of this word and a value.
 #[tactic(auto, unfolding(crate::specs::Reading::valued_in))]
 fn valued_in<'a>(word: &[u8], text: &'a [u8]) -> Result<RawEnding<'a>, ReadFault>
-    ensures { Gives view_ending result (valued_in word.now text.now) }
+    ensures value { Gives view_ending result (valued_in word.now text.now) }
+    ensures kind { IfErr result (λ e. e ≡ Shape) }
 {
-    let value = numeral_of(text)?;
+    let value = int_in(text)?;
     if is_word(word, "returned") {
         Ok(RawEnding::Returned(value))
     } else if is_word(word, "threw") {
@@ -51,16 +57,18 @@ fn valued_in<'a>(word: &[u8], text: &'a [u8]) -> Result<RawEnding<'a>, ReadFault
 /// The ending by a condition of this name.
 #[tactic(auto, unfolding(crate::specs::Reading::broke_in))]
 fn broke_in(text: &[u8]) -> Result<RawEnding<'_>, ReadFault>
-    ensures { Gives view_ending result (broke_in text.now) }
+    ensures value { Gives view_ending result (broke_in text.now) }
+    ensures kind { IfErr result (λ e. e ≡ Shape) }
 {
-    let name = name_of(text)?;
+    let name = name_in(text)?;
     Ok(RawEnding::Broke(name))
 }
 
 /// An ending of two words.
-#[tactic(auto, unfolding(crate::specs::Reading::worded_in, crate::specs::Reading::word_at))]
+#[tactic(auto, unfolding(crate::specs::Reading::worded_in, text_lines::specs::Words::first_word))]
 fn worded_in(text: &[u8]) -> Result<RawEnding<'_>, ReadFault>
-    ensures { Gives view_ending result (worded_in text.now) }
+    ensures value { Gives view_ending result (worded_in text.now) }
+    ensures kind { IfErr result (λ e. e ≡ Shape) }
 {
     let Some((word, rest)) = part(text, b' ') else {
         return Err(ReadFault::Shape);
@@ -74,7 +82,8 @@ fn worded_in(text: &[u8]) -> Result<RawEnding<'_>, ReadFault>
 
 #[tactic(auto, unfolding(crate::specs::Reading::ending_in))]
 fn ending_in(text: &[u8]) -> Result<RawEnding<'_>, ReadFault>
-    ensures { Gives view_ending result (ending_in text.now) }
+    ensures value { Gives view_ending result (ending_in text.now) }
+    ensures kind { IfErr result (λ e. e ≡ Shape) }
 {
     if is_word(text, "overflow") {
         Ok(RawEnding::Overflow)
@@ -85,9 +94,10 @@ fn ending_in(text: &[u8]) -> Result<RawEnding<'_>, ReadFault>
     }
 }
 
-#[tactic(auto, unfolding(crate::specs::Reading::entry_in, crate::specs::Reading::after_word, crate::specs::Reading::word_at))]
+#[tactic(auto, unfolding(crate::specs::Reading::entry_in, text_lines::specs::Words::after_word, text_lines::specs::Words::first_word))]
 fn entry_in(text: &[u8]) -> Result<RawEntry<'_>, ReadFault>
-    ensures { Gives view_entry result (entry_in text.now) }
+    ensures value { Gives view_entry result (entry_in text.now) }
+    ensures kind { IfErr result (λ e. e ≡ Shape) }
 {
     let Some(first) = behind(text, "entry") else {
         return Err(ReadFault::Shape);
@@ -101,9 +111,9 @@ fn entry_in(text: &[u8]) -> Result<RawEntry<'_>, ReadFault>
     let Some((fourth, rest)) = part(rest, b' ') else {
         return Err(ReadFault::Shape);
     };
-    let number = count_of(second)?;
-    let task = count_of(third)?;
-    let name = name_of(fourth)?;
+    let number = number_in(second)?;
+    let task = number_in(third)?;
+    let name = name_in(fourth)?;
     let ending = ending_in(rest)?;
     Ok(RawEntry {
         number,
@@ -113,9 +123,10 @@ fn entry_in(text: &[u8]) -> Result<RawEntry<'_>, ReadFault>
     })
 }
 
-#[tactic(auto, unfolding(crate::specs::Reading::task_in, crate::specs::Reading::after_word, crate::specs::Reading::word_at))]
+#[tactic(auto, unfolding(crate::specs::Reading::task_in, text_lines::specs::Words::after_word, text_lines::specs::Words::first_word))]
 fn task_in<'a>(text: &'a [u8], word: &str) -> Result<RawTask<'a>, ReadFault>
-    ensures { Gives view_task result (task_in word.now text.now) }
+    ensures value { Gives view_task result (task_in word.now text.now) }
+    ensures kind { IfErr result (λ e. e ≡ Shape) }
 {
     let Some(first) = behind(text, word) else {
         return Err(ReadFault::Shape);
@@ -123,15 +134,16 @@ fn task_in<'a>(text: &'a [u8], word: &str) -> Result<RawTask<'a>, ReadFault>
     let Some((second, third)) = part(first, b' ') else {
         return Err(ReadFault::Shape);
     };
-    let task = count_of(second)?;
-    let name = name_of(third)?;
+    let task = number_in(second)?;
+    let name = name_in(third)?;
     Ok(RawTask { task, name })
 }
 
 /// The next line, which is this word and a number.
-#[tactic(auto, unfolding(crate::specs::Reading::numbered_in, crate::specs::Reading::after_word, crate::specs::Reading::line_at))]
+#[tactic(auto, unfolding(crate::specs::Reading::numbered_in, text_lines::specs::Words::after_word, text_lines::specs::Rows::line_at))]
 fn number_at<'a>(bytes: &'a [u8], word: &str) -> Result<(Count<'a>, &'a [u8]), ReadFault>
-    ensures { Gives (λ x. (x.0.text.now, lines x.1.now)) result (line_at (numbered_in word.now) (lines bytes.now)) }
+    ensures value { Gives (λ x. (x.0.text.now, lines x.1.now)) result (line_at (numbered_in word.now) (lines bytes.now)) }
+    ensures kind { IfErr result (λ e. e ≡ Shape) }
 {
     let Some((line, rest)) = next_line(bytes) else {
         return Err(ReadFault::Shape);
@@ -139,14 +151,15 @@ fn number_at<'a>(bytes: &'a [u8], word: &str) -> Result<(Count<'a>, &'a [u8]), R
     let Some(number) = behind(line, word) else {
         return Err(ReadFault::Shape);
     };
-    let count = count_of(number)?;
+    let count = number_in(number)?;
     Ok((count, rest))
 }
 
 /// The next line, which is that of a variable.
-#[tactic(auto, unfolding(crate::specs::Reading::line_at))]
+#[tactic(auto, unfolding(text_lines::specs::Rows::line_at))]
 fn variable_at(bytes: &[u8]) -> Result<(RawVariable<'_>, &[u8]), ReadFault>
-    ensures { Gives (λ x. (view_variable x.0, lines x.1.now)) result (line_at variable_in (lines bytes.now)) }
+    ensures value { Gives (λ x. (view_variable x.0, lines x.1.now)) result (line_at variable_in (lines bytes.now)) }
+    ensures kind { IfErr result (λ e. e ≡ Shape) }
 {
     let Some((line, rest)) = next_line(bytes) else {
         return Err(ReadFault::Shape);
@@ -177,6 +190,7 @@ fn variables_at(
 fn entry_at(bytes: &[u8]) -> Result<Option<(RawEntry<'_>, &[u8])>, ReadFault>
     ensures value { Gives (view_next view_entry) result (next_at (codes "entry") entry_in (lines bytes.now)) }
     ensures shorter { IfOk result (λ r. IfSome r (λ x. length x.1.now < length bytes.now)) }
+    ensures kind { IfErr result (λ e. e ≡ Shape) }
 {
     match next_line(bytes) {
         Some((line, rest)) if begins(line, "entry") => {
@@ -204,6 +218,7 @@ fn entries_at(alloc: Global, bytes: &[u8]) -> Result<(Vec<RawEntry<'_>>, &[u8]),
 fn task_at<'a>(bytes: &'a [u8], word: &str) -> Result<Option<(RawTask<'a>, &'a [u8])>, ReadFault>
     ensures value { Gives (view_next view_task) result (next_at word.now (task_in word.now) (lines bytes.now)) }
     ensures shorter { IfOk result (λ r. IfSome r (λ x. length x.1.now < length bytes.now)) }
+    ensures kind { IfErr result (λ e. e ≡ Shape) }
 {
     match next_line(bytes) {
         Some((line, rest)) if begins(line, word) => {
@@ -232,27 +247,16 @@ fn tasks_at<'a>(
 }
 
 /// The last line.
-#[tactic(auto, unfolding(crate::specs::Reading::line_at))]
+#[tactic(auto, unfolding(text_lines::specs::Rows::line_at))]
 fn last_at(bytes: &[u8]) -> Result<&[u8], ReadFault>
-    ensures { Gives (λ x. (tt, lines x.now)) result (line_at (expect (codes "end")) (lines bytes.now)) }
+    ensures value { Gives (λ x. (tt, lines x.now)) result (line_at (expect (codes "end")) (lines bytes.now)) }
+    ensures kind { IfErr result (λ e. e ≡ Shape) }
 {
     let Some((line, rest)) = next_line(bytes) else {
         return Err(ReadFault::Shape);
     };
     expect(line, "end")?;
     Ok(rest)
-}
-
-/// Refuses, by the shape, where a byte is left.
-#[tactic(auto, unfolding(crate::specs::Reading::end_at))]
-pub fn end(bytes: &[u8]) -> Result<(), ReadFault>
-    ensures { Gives (λ x. x) result (end_at (lines bytes.now)) }
-{
-    if bytes.is_empty() {
-        Ok(())
-    } else {
-        Err(ReadFault::Shape)
-    }
 }
 
 /// All lines of a report of so many variables.

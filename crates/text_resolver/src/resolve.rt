@@ -1,9 +1,10 @@
 //! From the tree of a file to conditions and transactions: names as ids, and integers as numbers of
 //! the machine.
 
-ghost use Rattle.std.specs.Prelude.{◌≡◌, Ok, IfOk, IfErr, [], map};
+ghost use Rattle.std.specs.Prelude.{◌≡◌, ◌⊎◌, Ok, IfOk, IfErr, [], map};
 ghost use Rattle.txn_programs.specs.Tree.{expression_of, condition_of, statement_of, transaction_of};
 ghost use Rattle.text_words.specs.Answers.{Gives, Fails, ◌>>=◌ as ◌>>=ᴿ◌};
+ghost use Rattle.text_words.specs.declared.fault.ReadFault.TheVariants.{Name, Limit};
 ghost use Rattle.text_grammar.specs.Resolving.{declared_after, condition_name, tx_name, place_in, variable_in, binary, compare, connect, expression_in, condition_in, statement_in, variable_of, always_in, transaction_in, run_in, each, converted, resolved};
 ghost use Rattle.text_words.specs.Bytes.{int_value};
 ghost use Rattle.text_grammar.specs.Reading.{row};
@@ -27,7 +28,8 @@ use txn_programs::{Cond, Expr, Stmt, Tx, TxId, VarId};
 /// The place of a declared name.
 #[tactic(auto, unfolding(text_grammar::specs::Resolving::place_in))]
 fn place_in(names: &IndexSet<&str>, name: &str) -> Result<u32, ReadFault>
-    ensures { Gives (λ x. x) result (place_in (texts names.now.keys) name.now) }
+    ensures value { Gives (λ x. x) result (place_in (texts names.now.keys) name.now) }
+    ensures kind { IfErr result (λ e. (e ≡ Name) ⊎ (e ≡ Limit)) }
 {
     let place = place_of(names, name).ok_or(ReadFault::Name)?;
     u32::try_from(place).ok().ok_or(ReadFault::Limit)
@@ -35,7 +37,8 @@ fn place_in(names: &IndexSet<&str>, name: &str) -> Result<u32, ReadFault>
 
 #[tactic(auto, unfolding(text_grammar::specs::Resolving::variable_in))]
 fn variable(names: &IndexSet<&str>, name: &str) -> Result<VarId, ReadFault>
-    ensures { Gives (λ x. x) result (variable_in (texts names.now.keys) name.now) }
+    ensures value { Gives (λ x. x) result (variable_in (texts names.now.keys) name.now) }
+    ensures kind { IfErr result (λ e. (e ≡ Name) ⊎ (e ≡ Limit)) }
 {
     let place = place_in(names, name)?;
     Ok(VarId(place))
@@ -363,7 +366,8 @@ fn transactions(
 }
 
 fn run(names: &IndexSet<&str>, pair: &RawPair<'_>) -> Result<(TxId, u32), ReadFault>
-    ensures { Gives (λ x. x) result (run_in (texts names.now.keys) (view_pair pair.now)) }
+    ensures value { Gives (λ x. x) result (run_in (texts names.now.keys) (view_pair pair.now)) }
+    ensures kind { IfErr result (λ e. (e ≡ Name) ⊎ (e ≡ Limit)) }
 {
     let place = place_in(names, pair.name)?;
     let count = pair.value.count()?;

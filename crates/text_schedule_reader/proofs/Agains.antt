@@ -12,7 +12,7 @@ use Rattle.txn_programs.specs.declared.moves.Move.TheVariants as move
 use Rattle.txn_programs.specs.Listing.{Listing, tasks}
 use Rattle.txn_programs.specs.Names.{names_hold}
 use Rattle.text_words.specs.Words.{line}
-use Rattle.text_report_reader.proofs.Agains.{task_id_again, small, each_again, all_again, tests_again, text_again}
+use Rattle.text_lines.proofs.Agains.{task_id_again, small, each_again, all_again, tests_again, text_again}
 use Rattle.text_schedule_reader.specs.declared.raw.TaskVerb.{TaskVerb}
 use Rattle.text_schedule_reader.specs.declared.raw.TaskVerb.TheVariants as of_task
 use Rattle.text_schedule_reader.specs.declared.raw.VariableVerb.{VariableVerb}

@@ -12,8 +12,8 @@ use Rattle.txn_programs.specs.declared.moves.Move.TheVariants as move
 use Rattle.txn_programs.specs.Listing.{Listing, tasks}
 use Rattle.text_words.specs.Words.{line}
 use Rattle.text_words.proofs.Steps.{bind_ok, done, ok_is}
-use Rattle.text_report_reader.specs.Resolving.{task_id}
-use Rattle.text_report_reader.proofs.Backs.{TaskBack, task_id_back, Pairs, each_back, pairs_text, pairs_all}
+use Rattle.text_lines.specs.Counts.{task_id}
+use Rattle.text_lines.proofs.Backs.{TaskBack, task_id_back, Pairs, each_back, pairs_text, pairs_all}
 use Rattle.text_schedule_reader.specs.declared.raw.TaskVerb.{TaskVerb}
 use Rattle.text_schedule_reader.specs.declared.raw.TaskVerb.TheVariants as of_task
 use Rattle.text_schedule_reader.specs.declared.raw.VariableVerb.{VariableVerb}

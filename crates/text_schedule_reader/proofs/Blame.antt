@@ -8,9 +8,9 @@ use Rattle.txn_programs.specs.Listing.{Listing, variable_named}
 use Rattle.text_words.specs.declared.fault.ReadFault.{ReadFault}
 use Rattle.text_words.specs.declared.fault.ReadFault.TheVariants as faults
 use Rattle.text_words.proofs.Steps.{done}
-use Rattle.text_report_reader.specs.Lines.{Line, Whole, Cut, parted}
-use Rattle.text_report_reader.specs.Resolving.{each}
-use Rattle.text_report_reader.proofs.Blame.{Only, bad, ok, err, then, either, number_shape, name_shape, word_shape, task_id_limit, each_limit}
+use Rattle.text_lines.specs.Lines.{Line, Whole, Cut, parted}
+use Rattle.text_lines.specs.Rows.{each}
+use Rattle.text_lines.proofs.Blame.{Only, bad, ok, err, then, either, number_shape, name_shape, word_shape, task_id_limit, each_limit}
 use Rattle.text_schedule_reader.specs.declared.raw.TaskVerb.{TaskVerb}
 use Rattle.text_schedule_reader.specs.declared.raw.VariableVerb.{VariableVerb}
 use Rattle.text_schedule_reader.specs.Raw.{Raw, OfTask, OfVariable, Word}

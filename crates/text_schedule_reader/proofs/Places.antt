@@ -8,7 +8,7 @@ use Rattle.txn_programs.specs.declared.ast.VarId.{VarId}
 use Rattle.txn_programs.specs.Listing.{Listing, as_variable, variable_named}
 use Rattle.txn_programs.specs.Names.{is_name, names_hold}
 use Rattle.txn_programs.proofs.Lawful.{names_parts, passes_at}
-use Rattle.text_report_reader.proofs.Places.{place_again}
+use Rattle.text_lines.proofs.Places.{place_again}
 use Rattle.text_schedule_reader.specs.Resolving.{found, variable_id}
 use Rattle.text_schedule_reader.specs.Spelling.{variable_name}
 

@@ -11,8 +11,8 @@ use Rattle.text_words.specs.Answers.{◌>>=◌, Gives, Fails}
 use Rattle.text_words.specs.declared.fault.ReadFault.{ReadFault}
 use Rattle.text_words.specs.declared.fault.ReadFault.TheVariants as faults
 use Rattle.text_words.proofs.Steps.{bind_ok, done, ok_is, chosen}
-use Rattle.text_report_reader.specs.Lines.{lines}
-use Rattle.text_report_reader.proofs.Reading.{Rules, at_most, not_over, failed_in}
+use Rattle.text_lines.specs.Lines.{lines}
+use Rattle.text_lines.proofs.Reading.{Rules, at_most, not_over, failed_in}
 use Rattle.text_schedule_reader.specs.Raw.{Raw}
 use Rattle.text_schedule_reader.specs.Reading.{raws_at}
 use Rattle.text_schedule_reader.specs.Resolving.{names_known, moves_told, resolved}

@@ -6,12 +6,11 @@ use Rattle.text_words.specs.Answers.{◌>>=◌, Fails}
 use Rattle.text_words.specs.declared.fault.ReadFault.{ReadFault}
 use Rattle.text_words.proofs.Steps.{bind_ok, done, ok_is}
 use Rattle.text_words.proofs.Many.{failed}
-use Rattle.text_report_reader.specs.Lines.{Line, Whole, Cut, first_line}
-use Rattle.text_report_reader.specs.Reading.{end_at}
-use Rattle.text_report_reader.specs.Resolving.{each}
-use Rattle.text_report_reader.proofs.Each.{joined, each_more, each_fails}
-use Rattle.text_report_reader.proofs.Rows.{line_of, first_is}
-use Rattle.text_report_reader.proofs.Shapes.{end_is}
+use Rattle.text_lines.specs.Lines.{Line, Whole, Cut, first_line}
+use Rattle.text_lines.specs.Rows.{end_at, each}
+use Rattle.text_lines.proofs.Each.{joined, each_more, each_fails}
+use Rattle.text_lines.proofs.Rows.{line_of, first_is}
+use Rattle.text_lines.proofs.Ends.{end_is}
 use Rattle.text_schedule_reader.specs.Raw.{Raw, raw_words, IsRaw}
 use Rattle.text_schedule_reader.specs.Reading.{move_in, raw_in, raws_at}
 use Rattle.text_schedule_reader.proofs.Steps.{move_takes, move_again}

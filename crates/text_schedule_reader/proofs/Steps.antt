@@ -8,12 +8,11 @@ use Rattle.txn_programs.specs.Names.{is_name}
 use Rattle.text_words.specs.declared.fault.ReadFault.{ReadFault}
 use Rattle.text_words.specs.declared.fault.ReadFault.TheVariants.{Shape}
 use Rattle.text_words.proofs.Steps.{bind_ok, done, ok_is, chosen}
-use Rattle.text_report_reader.specs.Lines.{parted}
-use Rattle.text_report_reader.specs.Raw.{is_number}
-use Rattle.text_report_reader.specs.Reading.{word_at, number_in, name_in}
-use Rattle.text_report_reader.proofs.Parting.{lacks, parted_takes, parted_again}
-use Rattle.text_report_reader.proofs.Numbers.{number_lacks}
-use Rattle.text_report_reader.proofs.Steps.{Takes, text_of, word_takes, word_again, number_takes, number_again, name_takes, name_again}
+use Rattle.text_lines.specs.Lines.{parted}
+use Rattle.text_lines.specs.Words.{is_number, first_word, number_in, name_in}
+use Rattle.text_lines.proofs.Parting.{lacks, parted_takes, parted_again}
+use Rattle.text_lines.proofs.Numbers.{number_lacks}
+use Rattle.text_lines.proofs.Steps.{Takes, text_of, word_takes, word_again, number_takes, number_again, name_takes, name_again}
 use Rattle.text_schedule_reader.specs.declared.raw.TaskVerb.{TaskVerb}
 use Rattle.text_schedule_reader.specs.declared.raw.TaskVerb.TheVariants as task
 use Rattle.text_schedule_reader.specs.declared.raw.VariableVerb.{VariableVerb}
@@ -107,7 +106,7 @@ of_task_takes v word rest r is e =
 of_variable_takes : (v : VariableVerb) (word rest : List ℕ) (r : Raw) → word ≡ variable_word v → of_variable v rest ≡ Ok r → Takes raw_words IsRaw (word ++ 32 ∷ rest) r
 unfolding of_variable
 of_variable_takes v word rest r is e =
-    let a = bind_ok (word_at rest) _ r e in
+    let a = bind_ok (first_word rest) _ r e in
     let b = bind_ok (number_in a.0.0) _ r a.2 in
     let c = bind_ok (name_in a.0.1) _ r b.2 in
     let number = number_takes a.0.0 b.0 b.1 in

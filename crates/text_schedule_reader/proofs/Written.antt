@@ -6,12 +6,12 @@ use Rattle.std.proofs.lemmas.Bool.{and_from}
 use Rattle.std.proofs.lemmas.List.{append-nil}
 use Rattle.text_words.specs.Bytes.{is_allowed}
 use Rattle.text_words.specs.Words.{line}
-use Rattle.text_report_reader.specs.Lines.{Line, lines}
-use Rattle.text_report_reader.proofs.Parting.{bytes_of, bytes_lines, lines_nil}
-use Rattle.text_report_reader.proofs.Numbers.{name_lacks, number_lacks}
-use Rattle.text_report_reader.proofs.Rows.{line_of}
-use Rattle.text_report_reader.proofs.Texts.{Makes, one_line, each_line, three}
-use Rattle.text_report_reader.proofs.Allowed.{words_allowed, allowed, lines_allowed, name_allowed, number_allowed}
+use Rattle.text_lines.specs.Lines.{Line, lines}
+use Rattle.text_lines.proofs.Parting.{bytes_of, bytes_lines, lines_nil}
+use Rattle.text_lines.proofs.Numbers.{name_lacks, number_lacks}
+use Rattle.text_lines.proofs.Rows.{line_of}
+use Rattle.text_lines.proofs.Texts.{Makes, one_line, each_line, three}
+use Rattle.text_lines.proofs.Allowed.{words_allowed, allowed, lines_allowed, name_allowed, number_allowed}
 use Rattle.text_schedule_reader.specs.declared.raw.TaskVerb.{TaskVerb}
 use Rattle.text_schedule_reader.specs.declared.raw.TaskVerb.TheVariants as task
 use Rattle.text_schedule_reader.specs.declared.raw.VariableVerb.{VariableVerb}

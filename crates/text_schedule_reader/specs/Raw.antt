@@ -3,7 +3,7 @@ use Rattle.std.specs.Prelude.{◌≡◌, ℕ, true, List, [], ◌∷◌, codes}
 use Rattle.std.specs.List.{flat_map}
 use Rattle.txn_programs.specs.Names.{is_name}
 use Rattle.text_words.specs.Words.{line}
-use Rattle.text_report_reader.specs.Raw.{is_number}
+use Rattle.text_lines.specs.Words.{is_number}
 use Rattle.text_schedule_reader.specs.declared.raw.TaskVerb.{TaskVerb}
 use Rattle.text_schedule_reader.specs.declared.raw.TaskVerb.TheVariants as of_task
 use Rattle.text_schedule_reader.specs.declared.raw.VariableVerb.{VariableVerb}

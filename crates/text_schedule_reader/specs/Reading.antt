@@ -4,9 +4,9 @@ use Rattle.std.specs.Str.{bytes_eq}
 use Rattle.text_words.specs.Answers.{◌>>=◌}
 use Rattle.text_words.specs.declared.fault.ReadFault.{ReadFault}
 use Rattle.text_words.specs.declared.fault.ReadFault.TheVariants.{Shape}
-use Rattle.text_report_reader.specs.Lines.{Line, Whole, Cut, parted}
-use Rattle.text_report_reader.specs.Reading.{word_at, number_in, name_in}
-use Rattle.text_report_reader.specs.Resolving.{each}
+use Rattle.text_lines.specs.Lines.{Line, Whole, Cut, parted}
+use Rattle.text_lines.specs.Words.{first_word, number_in, name_in}
+use Rattle.text_lines.specs.Rows.{each}
 use Rattle.text_schedule_reader.specs.declared.raw.TaskVerb.{TaskVerb}
 use Rattle.text_schedule_reader.specs.declared.raw.TaskVerb.TheVariants as task
 use Rattle.text_schedule_reader.specs.declared.raw.VariableVerb.{VariableVerb}
@@ -40,7 +40,7 @@ of_task verb rest = number_in rest >>= λ number. Ok (OfTask verb number)
 
 unfoldable pub of_variable : VariableVerb → List ℕ → Result Raw ReadFault
 of_variable verb rest = do
-  first ← word_at rest
+  first ← first_word rest
   number ← number_in first.0
   name ← name_in first.1
   Ok (OfVariable verb number name)

@@ -9,7 +9,8 @@ use Rattle.txn_programs.specs.Listing.{Listing, variable_named}
 use Rattle.text_words.specs.Answers.{◌>>=◌}
 use Rattle.text_words.specs.declared.fault.ReadFault.{ReadFault}
 use Rattle.text_words.specs.declared.fault.ReadFault.TheVariants.{Name}
-use Rattle.text_report_reader.specs.Resolving.{task_id, each}
+use Rattle.text_lines.specs.Counts.{task_id}
+use Rattle.text_lines.specs.Rows.{each}
 use Rattle.text_schedule_reader.specs.declared.raw.TaskVerb.{TaskVerb}
 use Rattle.text_schedule_reader.specs.declared.raw.TaskVerb.TheVariants as of_task
 use Rattle.text_schedule_reader.specs.declared.raw.VariableVerb.{VariableVerb}

@@ -7,7 +7,7 @@ use Rattle.text_words.specs.Bytes.{is_allowed}
 use Rattle.text_words.specs.Answers.{◌>>=◌}
 use Rattle.text_words.specs.declared.fault.ReadFault.{ReadFault}
 use Rattle.text_words.specs.declared.fault.ReadFault.TheVariants.{TooLong, BadByte, Shape, Name, Limit, Broken, Memory}
-use Rattle.text_report_reader.specs.Lines.{lines}
+use Rattle.text_lines.specs.Lines.{lines}
 use Rattle.text_schedule_reader.specs.Spelling.{schedule_text, MoveFits}
 use Rattle.text_schedule_reader.specs.Raw.{Raw, raw_text, IsRaw}
 use Rattle.text_schedule_reader.specs.Reading.{raws_at}

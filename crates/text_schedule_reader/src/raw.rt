@@ -1,6 +1,6 @@
 //! A line of a schedule as it is written, before any name or number is judged.
 
-use text_report_reader::Count;
+use text_lines::Count;
 
 /// The first word of a line that names a task alone.
 #[derive(Clone, Copy, Debug)]

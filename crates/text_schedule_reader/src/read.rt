@@ -9,8 +9,8 @@ ghost use Rattle.text_schedule_reader.specs.Schedules.{IsSchedule, IsFirst, sche
 use crate::resolve::resolved;
 use crate::shape::raws_of;
 use std::alloc::Global;
-use text_report_reader::are_allowed;
 use text_words::ReadFault;
+use text_words::bytes::are_allowed;
 use txn::{Catalogue, Move};
 
 /// The longest schedule, in bytes.

@@ -1,14 +1,15 @@
 //! From the words of a schedule to its moves: names as ids, and integers as numbers.
 
-ghost use Rattle.std.specs.Prelude.{◌≡◌};
+ghost use Rattle.std.specs.Prelude.{◌≡◌, ◌⊎◌, IfErr};
 ghost use Rattle.std.specs.List.{list_all};
 ghost use Rattle.text_words.specs.Answers.{Gives};
+ghost use Rattle.text_words.specs.declared.fault.ReadFault.TheVariants.{Name, Limit};
 ghost use Rattle.text_schedule_reader.specs.Resolving.{is_known, task_move, variable_move, variable_id, move_told, moves_told, resolved};
 ghost use Rattle.text_schedule_reader.specs.View.{view_move, view_moves};
 
 use crate::raw::{RawMove, TaskVerb, VariableVerb};
 use std::alloc::Global;
-use text_report_reader::task_id;
+use text_lines::task_id;
 use text_words::ReadFault;
 use txn::{Catalogue, Move, TaskId, VarId};
 
@@ -55,14 +56,16 @@ fn variable_move(verb: VariableVerb, task: TaskId, variable: VarId) -> Move
 
 #[tactic(auto, unfolding(crate::specs::Resolving::variable_id))]
 fn variable_id(catalogue: &Catalogue, name: &str) -> Result<VarId, ReadFault>
-    ensures { Gives (λ x. x) result (variable_id catalogue.now name.now) }
+    ensures value { Gives (λ x. x) result (variable_id catalogue.now name.now) }
+    ensures kind { IfErr result (λ e. e ≡ Name) }
 {
     catalogue.var_id(name).ok_or(ReadFault::Name)
 }
 
 /// The move of a line.
 fn move_told(catalogue: &Catalogue, line: RawMove<'_>) -> Result<Move, ReadFault>
-    ensures { Gives (λ x. x) result (move_told catalogue.now (view_move line.entry)) }
+    ensures value { Gives (λ x. x) result (move_told catalogue.now (view_move line.entry)) }
+    ensures kind { IfErr result (λ e. (e ≡ Name) ⊎ (e ≡ Limit)) }
 {
     match line {
         RawMove::OfTask(verb, number) => {

@@ -1,14 +1,15 @@
 //! The lines of a schedule in their order.
 
-ghost use Rattle.std.specs.Prelude.{◌≡◌};
+ghost use Rattle.std.specs.Prelude.{◌≡◌, IfErr};
 ghost use Rattle.text_words.specs.Answers.{Gives};
-ghost use Rattle.text_report_reader.specs.Lines.{lines};
+ghost use Rattle.text_words.specs.declared.fault.ReadFault.TheVariants.{Shape};
+ghost use Rattle.text_lines.specs.Lines.{lines};
 ghost use Rattle.text_schedule_reader.specs.Reading.{task_verb, variable_verb, alone, of_task, of_variable, of_verb, move_in, raws_at};
 ghost use Rattle.text_schedule_reader.specs.View.{view_move, view_moves};
 
 use crate::raw::{RawMove, TaskVerb, VariableVerb};
 use std::alloc::Global;
-use text_report_reader::{count_of, end, is_word, name_of, next_line, part, word_of};
+use text_lines::{end, first_word, is_word, name_in, next_line, number_in, part};
 use text_words::ReadFault;
 
 #[tactic(auto, unfolding(crate::specs::Reading::task_verb))]
@@ -52,7 +53,8 @@ fn variable_verb(word: &[u8]) -> Option<VariableVerb>
 /// The line that is one word.
 #[tactic(auto, unfolding(crate::specs::Reading::alone))]
 fn alone(text: &[u8]) -> Result<RawMove<'_>, ReadFault>
-    ensures { Gives view_move result (alone text.now) }
+    ensures value { Gives view_move result (alone text.now) }
+    ensures kind { IfErr result (λ e. e ≡ Shape) }
 {
     if is_word(text, "word") {
         Ok(RawMove::Word)
@@ -64,27 +66,30 @@ fn alone(text: &[u8]) -> Result<RawMove<'_>, ReadFault>
 /// The task behind a verb.
 #[tactic(auto, unfolding(crate::specs::Reading::of_task))]
 fn of_task(verb: TaskVerb, rest: &[u8]) -> Result<RawMove<'_>, ReadFault>
-    ensures { Gives view_move result (of_task verb rest.now) }
+    ensures value { Gives view_move result (of_task verb rest.now) }
+    ensures kind { IfErr result (λ e. e ≡ Shape) }
 {
-    let task = count_of(rest)?;
+    let task = number_in(rest)?;
     Ok(RawMove::OfTask(verb, task))
 }
 
 /// The task and the variable behind a verb.
 #[tactic(auto, unfolding(crate::specs::Reading::of_variable))]
 fn of_variable(verb: VariableVerb, rest: &[u8]) -> Result<RawMove<'_>, ReadFault>
-    ensures { Gives view_move result (of_variable verb rest.now) }
+    ensures value { Gives view_move result (of_variable verb rest.now) }
+    ensures kind { IfErr result (λ e. e ≡ Shape) }
 {
-    let (first, second) = word_of(rest)?;
-    let task = count_of(first)?;
-    let name = name_of(second)?;
+    let (first, second) = first_word(rest)?;
+    let task = number_in(first)?;
+    let name = name_in(second)?;
     Ok(RawMove::OfVariable(verb, task, name))
 }
 
 /// What stands behind a verb.
 #[tactic(auto, unfolding(crate::specs::Reading::of_verb))]
 fn of_verb<'a>(word: &[u8], rest: &'a [u8]) -> Result<RawMove<'a>, ReadFault>
-    ensures { Gives view_move result (of_verb (task_verb word.now) (variable_verb word.now) rest.now) }
+    ensures value { Gives view_move result (of_verb (task_verb word.now) (variable_verb word.now) rest.now) }
+    ensures kind { IfErr result (λ e. e ≡ Shape) }
 {
     match task_verb(word) {
         Some(verb) => of_task(verb, rest),
@@ -98,7 +103,8 @@ fn of_verb<'a>(word: &[u8], rest: &'a [u8]) -> Result<RawMove<'a>, ReadFault>
 /// One line.
 #[tactic(auto, unfolding(crate::specs::Reading::move_in))]
 fn move_in(text: &[u8]) -> Result<RawMove<'_>, ReadFault>
-    ensures { Gives view_move result (move_in text.now) }
+    ensures value { Gives view_move result (move_in text.now) }
+    ensures kind { IfErr result (λ e. e ≡ Shape) }
 {
     match part(text, b' ') {
         Some((word, rest)) => of_verb(word, rest),

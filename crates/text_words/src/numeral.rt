@@ -1,9 +1,10 @@
 //! Integers as the file writes them.
 
-ghost use Rattle.std.specs.Prelude.{◌≡◌, true};
+ghost use Rattle.std.specs.Prelude.{◌≡◌, true, IfErr};
 ghost use Rattle.text_words.specs.Bytes.{is_int, int_value};
 ghost use Rattle.text_words.specs.Answers.{Gives};
 ghost use Rattle.text_words.specs.Numbers.{number_of, count_of};
+ghost use Rattle.text_words.specs.declared.fault.ReadFault.TheVariants.{Limit};
 
 use crate::fault::ReadFault;
 
@@ -17,14 +18,16 @@ pub struct Numeral<'a> {
 impl Numeral<'_> {
     /// Its value, where 64 signed bits have room for it.
     pub fn number(self) -> Result<i64, ReadFault>
-        ensures { Gives (λ x. x) result (number_of (int_value self.entry.text.now)) }
+        ensures value { Gives (λ x. x) result (number_of (int_value self.entry.text.now)) }
+        ensures kind { IfErr result (λ e. e ≡ Limit) }
     {
         self.text.parse::<i64>().ok().ok_or(ReadFault::Limit)
     }
 
     /// Its value as a count, where 32 bits have room for it.
     pub fn count(self) -> Result<u32, ReadFault>
-        ensures { Gives (λ x. x) result (count_of (int_value self.entry.text.now)) }
+        ensures value { Gives (λ x. x) result (count_of (int_value self.entry.text.now)) }
+        ensures kind { IfErr result (λ e. e ≡ Limit) }
     {
         let number = self.number()?;
         u32::try_from(number).ok().ok_or(ReadFault::Limit)

@@ -12,6 +12,7 @@ pub use Rattle.text_grammar.specs.Spelling
 pub use Rattle.text_laws.specs.Faults
 pub use Rattle.text_laws.specs.Gaps
 pub use Rattle.text_file_printer.specs.Canonical
+pub use Rattle.text_file_printer.specs.Layout
 pub use Rattle.text_file_printer.specs.Fits
 pub use Rattle.text_report_reader.specs.Reports
 pub use Rattle.text_schedule_reader.specs.Schedules

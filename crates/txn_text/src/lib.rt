@@ -7,7 +7,7 @@
 //! `text_schedule_reader`, and the printers `text_file_printer` and `text_report_printer`.
 #![tactic(auto)]
 
-pub use text_file_printer::print_file;
+pub use text_file_printer::{print_file, text_is_laid_out};
 pub use text_file_reader::read_file;
 pub use text_laws::laws;
 pub use text_parser::file::MAX_FILE;

@@ -5,11 +5,12 @@ use Rattle.txn_programs.specs.Meaning.{State, truth}
 use Rattle.txn_programs.specs.Tree.{Condition}
 use Rattle.txn_programs.specs.Listing.{conditions}
 use Rattle.txn_programs.specs.Standing.{AllTrue, is_true}
-use Rattle.text_grammar.specs.Written.{form_for}
+use Rattle.text_grammar.specs.Written.{form_for, written}
 use Rattle.text_file_printer.specs.Canonical.{file_text}
 use Rattle.text_grammar.specs.Spelling.{Spells}
 use Rattle.text_grammar.specs.Tree.{max_len}
 use Rattle.text_file_printer.proofs.Integers.{integers_of}
+use Rattle.text_file_printer.proofs.LaidOut.{text_is_laid_out}
 use Rattle.text_file_printer.proofs.Printed.{printed_spells}
 use Rattle.text_file_printer.proofs.file.print_file.Goals as goal
 
@@ -17,6 +18,11 @@ use Rattle.text_file_printer.proofs.file.print_file.Goals as goal
 true_upholds : (cs : List Condition) (m : State) → AllTrue cs m → list_all (λ c. is_true (truth c m)) cs ≡ true
 true_upholds [] m h = refl
 true_upholds (c ∷ cs) m h = and_from _ _ (ap is_true h.0) (true_upholds cs m h.1)
+
+pub returns-clause-layout : goal.returns-clause-layout
+returns-clause-layout c =
+    let l = c.args.catalogue.now in
+    c.in_ok-put_file.ensures.text ∙ ap (λ (bs : List ℕ). bs ++ file_text l) c.new-out.ensures.bytes ∙ text_is_laid_out (written l)
 
 pub returns-clause-again : goal.returns-clause-again
 returns-clause-again c =

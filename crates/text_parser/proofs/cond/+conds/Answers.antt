@@ -32,8 +32,8 @@ behind depth bytes word kind result lt is_word is_kind given = subst (Gives show
 
 pub cond_of-returns-in-Negates-clause-value : goal.cond_of-returns-in-Negates-clause-value
 cond_of-returns-in-Negates-clause-value t c =
-    behind c.args.depth c.args.bytes.now (c.in_ok-word.word.now, tokens c.in_ok-word.rest.now) tests.Negates c.negation_of.result (omega arith) c.in_ok-word.ensures.value (c.in_ok-test.ensures ∙ ap found c.in-Negates.is) c.negation_of.ensures.value
+    behind c.args.depth c.args.bytes.now (c.in_ok-word.word.now, tokens c.in_ok-word.rest.now) tests.Negates c.negation_of.result (omega arith) c.in_ok-word.ensures.value (c.in_ok-test.ensures.value ∙ ap found c.in-Negates.is) c.negation_of.ensures.value
 
 pub cond_of-returns-in-Connects-clause-value : goal.cond_of-returns-in-Connects-clause-value
 cond_of-returns-in-Connects-clause-value t c =
-    behind c.args.depth c.args.bytes.now (c.in_ok-word.word.now, tokens c.in_ok-word.rest.now) (tests.Connects c.in-Connects.connective) c.connection_of.result (omega arith) c.in_ok-word.ensures.value (c.in_ok-test.ensures ∙ ap found c.in-Connects.is) c.connection_of.ensures.value
+    behind c.args.depth c.args.bytes.now (c.in_ok-word.word.now, tokens c.in_ok-word.rest.now) (tests.Connects c.in-Connects.connective) c.connection_of.result (omega arith) c.in_ok-word.ensures.value (c.in_ok-test.ensures.value ∙ ap found c.in-Connects.is) c.connection_of.ensures.value

@@ -27,5 +27,5 @@ too_large text e h parsed =
       | inr p ↦ sym p.1
     ]
 
-pub returns-in_default-2 : goal.returns-in_default-2
-returns-in_default-2 c = too_large c.args.number.text.now c.in_default.field-0 c.args.number.written (rw c.in_default.is at c.parse.ensures.value.0)
+pub returns-in_default-2-clause-value : goal.returns-in_default-2-clause-value
+returns-in_default-2-clause-value c = too_large c.args.number.text.now c.in_default.field-0 c.args.number.written (rw c.in_default.is at c.parse.ensures.value.0)

@@ -30,19 +30,19 @@ behind depth bytes word kind result lt is_word is_kind given = subst (Gives show
 
 pub stmt_of-returns-in-Seq-clause-value : goal.stmt_of-returns-in-Seq-clause-value
 stmt_of-returns-in-Seq-clause-value t c =
-    behind c.args.depth c.args.bytes.now (c.in_ok-word.word.now, tokens c.in_ok-word.rest.now) keywords.Seq c.seq_of.result (omega arith) c.in_ok-word.ensures.value (c.in_ok-keyword_of.ensures ∙ ap found c.in-Seq.is) c.seq_of.ensures.value
+    behind c.args.depth c.args.bytes.now (c.in_ok-word.word.now, tokens c.in_ok-word.rest.now) keywords.Seq c.seq_of.result (omega arith) c.in_ok-word.ensures.value (c.in_ok-keyword_of.ensures.value ∙ ap found c.in-Seq.is) c.seq_of.ensures.value
 
 pub stmt_of-returns-in-If-clause-value : goal.stmt_of-returns-in-If-clause-value
 stmt_of-returns-in-If-clause-value t c =
-    behind c.args.depth c.args.bytes.now (c.in_ok-word.word.now, tokens c.in_ok-word.rest.now) keywords.If c.if_of.result (omega arith) c.in_ok-word.ensures.value (c.in_ok-keyword_of.ensures ∙ ap found c.in-If.is) c.if_of.ensures.value
+    behind c.args.depth c.args.bytes.now (c.in_ok-word.word.now, tokens c.in_ok-word.rest.now) keywords.If c.if_of.result (omega arith) c.in_ok-word.ensures.value (c.in_ok-keyword_of.ensures.value ∙ ap found c.in-If.is) c.if_of.ensures.value
 
 pub stmt_of-returns-in-Repeat-clause-value : goal.stmt_of-returns-in-Repeat-clause-value
 stmt_of-returns-in-Repeat-clause-value t c =
-    behind c.args.depth c.args.bytes.now (c.in_ok-word.word.now, tokens c.in_ok-word.rest.now) keywords.Repeat c.repeat_of.result (omega arith) c.in_ok-word.ensures.value (c.in_ok-keyword_of.ensures ∙ ap found c.in-Repeat.is) c.repeat_of.ensures.value
+    behind c.args.depth c.args.bytes.now (c.in_ok-word.word.now, tokens c.in_ok-word.rest.now) keywords.Repeat c.repeat_of.result (omega arith) c.in_ok-word.ensures.value (c.in_ok-keyword_of.ensures.value ∙ ap found c.in-Repeat.is) c.repeat_of.ensures.value
 
 pub stmt_of-returns-in-OrElse-clause-value : goal.stmt_of-returns-in-OrElse-clause-value
 stmt_of-returns-in-OrElse-clause-value t c =
-    behind c.args.depth c.args.bytes.now (c.in_ok-word.word.now, tokens c.in_ok-word.rest.now) keywords.OrElse c.orelse_of.result (omega arith) c.in_ok-word.ensures.value (c.in_ok-keyword_of.ensures ∙ ap found c.in-OrElse.is) c.orelse_of.ensures.value
+    behind c.args.depth c.args.bytes.now (c.in_ok-word.word.now, tokens c.in_ok-word.rest.now) keywords.OrElse c.orelse_of.result (omega arith) c.in_ok-word.ensures.value (c.in_ok-keyword_of.ensures.value ∙ ap found c.in-OrElse.is) c.orelse_of.ensures.value
 
 pub seq_of-returns-in_err-part-clause-value : goal.seq_of-returns-in_err-part-clause-value
 seq_of-returns-in_err-part-clause-value t c =

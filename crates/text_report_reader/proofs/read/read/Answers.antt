@@ -1,5 +1,5 @@
 use Rattle.std.proofs.Common.{◌∙◌, length, ap, sym}
-use Rattle.text_report_reader.specs.Lines.{lines}
+use Rattle.text_lines.specs.Lines.{lines}
 use Rattle.text_report_reader.proofs.Counted.{counted}
 use Rattle.text_report_reader.proofs.read.read.Goals as goal
 

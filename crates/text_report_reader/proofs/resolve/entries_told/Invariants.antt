@@ -1,7 +1,8 @@
 use Rattle.std.proofs.Common.{◌≡◌, drop}
-use Rattle.text_report_reader.specs.Resolving.{each, entry_told}
+use Rattle.text_lines.specs.Rows.{each}
+use Rattle.text_report_reader.specs.Resolving.{entry_told}
 use Rattle.text_report_reader.specs.View.{view_entries}
-use Rattle.text_report_reader.proofs.Each.{joined}
+use Rattle.text_lines.proofs.Each.{joined}
 use Rattle.text_report_reader.proofs.resolve.entries_told.Given as goal
 
 abbrev pub invariant-entries : goal.invariant-entries

@@ -2,11 +2,13 @@ use Rattle.std.proofs.Common.{◌≡◌, ◌∙◌, ◌++◌, ◌∷◌, ℕ, Li
 use Rattle.std.specs.Prelude.{codes}
 use Rattle.std.proofs.lemmas.List.{map_push}
 use Rattle.text_words.proofs.Steps.{done}
-use Rattle.text_report_reader.specs.Lines.{lines}
-use Rattle.text_report_reader.specs.Reading.{next_at, entry_in}
-use Rattle.text_report_reader.specs.View.{view_entry, view_entries, view_next}
+use Rattle.text_lines.specs.Lines.{lines}
+use Rattle.text_lines.specs.Rows.{next_at}
+use Rattle.text_report_reader.specs.Reading.{entry_in}
+use Rattle.text_report_reader.specs.View.{view_entry, view_entries}
+use Rattle.text_lines.specs.View.{view_next}
 use Rattle.text_report_reader.specs.declared.raw.RawEntry.{RawEntry}
-use Rattle.text_report_reader.proofs.Rows.{all_more}
+use Rattle.text_lines.proofs.Rows.{all_more}
 use Rattle.text_report_reader.proofs.shape.entries_at.Goals as goal
 
 pub entries-preserved : goal.entries-preserved

@@ -1,9 +1,10 @@
 use Rattle.std.proofs.Common.{◌≡◌, length}
 use Rattle.std.specs.Prelude.{codes}
-use Rattle.text_report_reader.specs.Lines.{lines}
-use Rattle.text_report_reader.specs.Reading.{all_at, entry_in}
+use Rattle.text_lines.specs.Lines.{lines}
+use Rattle.text_lines.specs.Rows.{all_at}
+use Rattle.text_report_reader.specs.Reading.{entry_in}
 use Rattle.text_report_reader.specs.View.{view_entries}
-use Rattle.text_report_reader.proofs.Rows.{with_front}
+use Rattle.text_lines.proofs.Rows.{with_front}
 use Rattle.text_report_reader.proofs.shape.entries_at.Given as goal
 
 abbrev pub invariant-entries : goal.invariant-entries

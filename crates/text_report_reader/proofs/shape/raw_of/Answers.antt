@@ -6,13 +6,13 @@ pub returns : goal.returns
 unfolding raw_at
 returns c =
     rw (
-      c.in_ok-base.ensures,
+      c.in_ok-base.ensures.value,
       c.in_ok-base_vars.ensures,
       c.in_ok-entries.ensures,
-      c.in_ok-now.ensures,
+      c.in_ok-now.ensures.value,
       c.in_ok-now_vars.ensures,
       c.in_ok-parked.ensures,
       c.in_ok-memory.ensures,
-      c.in_ok-rest.ensures,
-      c.in_ok-end.ensures,
+      c.in_ok-rest.ensures.value,
+      c.in_ok-end.ensures.value,
     ) refl

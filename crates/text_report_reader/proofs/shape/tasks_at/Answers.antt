@@ -1,11 +1,13 @@
 use Rattle.std.proofs.Common.{◌≡◌, ◌∙◌, ◌++◌, ◌∷◌, ℕ, List, [], Bor, Option, Some, Ok, ap}
 use Rattle.std.proofs.lemmas.List.{map_push}
 use Rattle.text_words.proofs.Steps.{done}
-use Rattle.text_report_reader.specs.Lines.{lines}
-use Rattle.text_report_reader.specs.Reading.{next_at, task_in}
-use Rattle.text_report_reader.specs.View.{view_task, view_tasks, view_next}
+use Rattle.text_lines.specs.Lines.{lines}
+use Rattle.text_lines.specs.Rows.{next_at}
+use Rattle.text_report_reader.specs.Reading.{task_in}
+use Rattle.text_report_reader.specs.View.{view_task, view_tasks}
+use Rattle.text_lines.specs.View.{view_next}
 use Rattle.text_report_reader.specs.declared.raw.RawTask.{RawTask}
-use Rattle.text_report_reader.proofs.Rows.{all_more}
+use Rattle.text_lines.proofs.Rows.{all_more}
 use Rattle.text_report_reader.proofs.shape.tasks_at.Goals as goal
 
 pub tasks-preserved : goal.tasks-preserved

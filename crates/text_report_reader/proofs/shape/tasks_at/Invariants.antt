@@ -1,8 +1,9 @@
 use Rattle.std.proofs.Common.{◌≡◌, length}
-use Rattle.text_report_reader.specs.Lines.{lines}
-use Rattle.text_report_reader.specs.Reading.{all_at, task_in}
+use Rattle.text_lines.specs.Lines.{lines}
+use Rattle.text_lines.specs.Rows.{all_at}
+use Rattle.text_report_reader.specs.Reading.{task_in}
 use Rattle.text_report_reader.specs.View.{view_tasks}
-use Rattle.text_report_reader.proofs.Rows.{with_front}
+use Rattle.text_lines.proofs.Rows.{with_front}
 use Rattle.text_report_reader.proofs.shape.tasks_at.Given as goal
 
 abbrev pub invariant-tasks : goal.invariant-tasks

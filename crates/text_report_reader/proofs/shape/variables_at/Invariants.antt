@@ -1,8 +1,9 @@
 use Rattle.std.proofs.Common.{◌≡◌, ◌-◌}
-use Rattle.text_report_reader.specs.Lines.{lines}
-use Rattle.text_report_reader.specs.Reading.{lines_at, variable_in}
+use Rattle.text_lines.specs.Lines.{lines}
+use Rattle.text_lines.specs.Rows.{lines_at}
+use Rattle.text_report_reader.specs.Reading.{variable_in}
 use Rattle.text_report_reader.specs.View.{view_variables}
-use Rattle.text_report_reader.proofs.Rows.{with_front}
+use Rattle.text_lines.proofs.Rows.{with_front}
 use Rattle.text_report_reader.proofs.shape.variables_at.Given as goal
 
 abbrev pub invariant-variables : goal.invariant-variables

@@ -1,5 +1,5 @@
 use Rattle.std.proofs.Common.{◌≡◌, drop}
-use Rattle.text_report_reader.proofs.Each.{joined}
+use Rattle.text_lines.proofs.Each.{joined}
 use Rattle.text_schedule_reader.specs.Resolving.{moves_told}
 use Rattle.text_schedule_reader.specs.View.{view_moves}
 use Rattle.text_schedule_reader.proofs.resolve.moves_told.Given as goal

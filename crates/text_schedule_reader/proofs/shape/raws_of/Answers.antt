@@ -1,5 +1,5 @@
 use Rattle.std.proofs.lemmas.Result.{err_from_is_err_and}
-use Rattle.text_report_reader.specs.Lines.{lines}
+use Rattle.text_lines.specs.Lines.{lines}
 use Rattle.text_schedule_reader.specs.View.{view_moves}
 use Rattle.text_schedule_reader.proofs.Rows.{raws_stop, raws_done}
 use Rattle.text_schedule_reader.proofs.shape.raws_of.Goals as goal
@@ -7,7 +7,7 @@ use Rattle.text_schedule_reader.proofs.shape.raws_of.Goals as goal
 pub returns-in_err-end : goal.returns-in_err-end
 returns-in_err-end c =
     let p = err_from_is_err_and c.from_residual-in_err-end.result c.from_residual-in_err-end.ensures.1 in
-    rw (p.1, p.2) (raws_stop c.in_err-end.field-0.0 (view_moves c.moves.moves.items) (lines c.moves.rest.now) _ c.in_default.ensures.value c.in_err-end.ensures c.moves.invariant)
+    rw (p.1, p.2) (raws_stop c.in_err-end.field-0.0 (view_moves c.moves.moves.items) (lines c.moves.rest.now) _ c.in_default.ensures.value c.in_err-end.ensures.value c.moves.invariant)
 
 pub returns : goal.returns
-returns c = raws_done (view_moves c.moves.moves.items) (lines c.moves.rest.now) c.in_ok-end.field-0 _ c.in_ok-end.ensures c.moves.invariant
+returns c = raws_done (view_moves c.moves.moves.items) (lines c.moves.rest.now) c.in_ok-end.field-0 _ c.in_ok-end.ensures.value c.moves.invariant

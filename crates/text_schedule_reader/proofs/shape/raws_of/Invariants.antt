@@ -1,6 +1,6 @@
 use Rattle.std.proofs.Common.{◌≡◌, length}
-use Rattle.text_report_reader.specs.Lines.{lines}
-use Rattle.text_report_reader.proofs.Each.{joined}
+use Rattle.text_lines.specs.Lines.{lines}
+use Rattle.text_lines.proofs.Each.{joined}
 use Rattle.text_schedule_reader.specs.Reading.{raws_at}
 use Rattle.text_schedule_reader.specs.View.{view_moves}
 use Rattle.text_schedule_reader.proofs.shape.raws_of.Given as goal

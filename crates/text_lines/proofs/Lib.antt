@@ -1,0 +1,13 @@
+pub mod Parting
+pub mod Numbers
+pub mod Steps
+pub mod Rows
+pub mod Each
+pub mod Ends
+pub mod Texts
+pub mod Places
+pub mod Allowed
+pub mod Blame
+pub mod Backs
+pub mod Agains
+pub mod Reading

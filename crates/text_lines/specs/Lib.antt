@@ -1,0 +1,5 @@
+pub mod Lines
+pub mod Words
+pub mod Rows
+pub mod Counts
+pub mod View
