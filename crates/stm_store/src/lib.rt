@@ -5,6 +5,7 @@
 
 mod job;
 pub mod laws;
+mod next;
 mod program;
 mod store;
 mod telling;
@@ -12,6 +13,7 @@ mod trying;
 mod worker;
 
 pub use job::Job;
+pub use next::NextFault;
 pub use program::Program;
 pub use store::{Brought, Store};
 pub use telling::{FileFault, ReportFault};

@@ -1,6 +1,6 @@
 //! What a host's lock guards: the book, which publishes to the cells.
 
-ghost use Rattle.std.specs.Prelude.{◌≡◌, ◌⊎◌, ◌∷◌, [], ◌<◌, ◌≤◌, ◌+◌, length, All, None, IfOk, IfErr, OnOk, IfSome, MatchBool, string_bytes};
+ghost use Rattle.std.specs.Prelude.{◌≡◌, ◌≢◌, ◌⊎◌, ◌∷◌, [], ◌<◌, ◌≤◌, ◌+◌, length, All, None, false, IfOk, IfErr, OnOk, IfSome, MatchBool, string_bytes};
 ghost use Rattle.std.specs.Coded.{codes};
 ghost use Rattle.txn.specs.Codes.{coded_listing};
 ghost use Rattle.txn_programs.specs.declared.limits.TheConstants.{MAX_TASKS};
@@ -12,11 +12,15 @@ ghost use Rattle.book.specs.Submitted.{Submits};
 ghost use Rattle.book.specs.Counting.{AreCounts};
 ghost use Rattle.book.specs.Tasks as Task;
 ghost use Rattle.book.specs.LawfulBook.{LawfulBook, BookFits, KeepsConditions};
+ghost use Rattle.txn_programs.specs.Standing.{upholds};
+ghost use Rattle.txn_values.specs.Values.{with_values};
+ghost use Rattle.stm_store.specs.declared.next.NextFault.TheVariants as NextFault;
 ghost use Rattle.stm_store.specs.declared.telling.FileFault.TheVariants as FileFault;
 ghost use Rattle.stm_store.specs.declared.telling.ReportFault.TheVariants as ReportFault;
 ghost use Rattle.stm_store.specs.Working.{TakesJob, Brings, ServedBy, IsTextOf, IsFileOf, IsValueOf, as_turn, without_runs};
 
 use crate::job::Job;
+use crate::next::{NextFault, next_as, next_of, present_values};
 use crate::program::Program;
 use crate::telling::{FileFault, ReportFault, file_of, printed};
 use crate::worker::Worker;
@@ -288,6 +292,47 @@ impl Store {
         ensures long { IfErr result (λ e. e ≡ FileFault.TooLong → 1048576 < length (file_text self.now.book.catalogue)) }
     {
         file_of(self.alloc, &self.book)
+    }
+
+    /// The present values of all variables, in declared order. `Memory` only where a growth was
+    /// refused.
+    pub fn values(&self) -> Result<Vec<i64>, Memory>
+        ensures { IfOk result (λ v. v.items ≡ self.now.book.present.state) }
+    {
+        self.book.law();
+        Ok(present_values(self.alloc, &self.book, self.catalogue.initial().len())?)
+    }
+
+    /// The program of the store's next one: each variable begins at its present value, and all else
+    /// is as the store's program has it; tasks that were submitted are no part of it. It is never
+    /// refused. `Memory` only where a growth was refused.
+    pub fn going_on(&self) -> Result<Program, Memory>
+        ensures { IfOk result (λ p. p.catalogue.now ≡ with_values self.now.catalogue.now self.now.book.present.state) }
+    {
+        self.book.law();
+        let values = self.values()?;
+        let program = Program {
+            catalogue: self.catalogue,
+        };
+        next_of(self.alloc, program, &values)
+    }
+
+    /// As `going_on`, but all else is as another program has it, which declares the same variables.
+    ///
+    /// `Variables` exactly where it declares others, or in another order; `Broken` only where one of
+    /// its standing conditions is not true of the present values; `Memory` only where a growth was
+    /// refused.
+    pub fn going_on_as(&self, other: Program) -> Result<Program, NextFault>
+        ensures next { IfOk result (λ p. p.catalogue.now ≡ with_values other.catalogue.now self.now.book.present.state) }
+        ensures same { OnOk result (other.catalogue.now.names ≡ self.now.catalogue.now.names) }
+        ensures variables { IfErr result (λ e. e ≡ NextFault.Variables → other.catalogue.now.names ≢ self.now.catalogue.now.names) }
+        ensures broken { IfErr result (λ e. e ≡ NextFault.Broken → (other.catalogue.now.names ≡ self.now.catalogue.now.names) × (upholds other.catalogue.now self.now.book.present.state ≡ false)) }
+    {
+        self.book.law();
+        let Ok(values) = self.values() else {
+            return Err(NextFault::Memory);
+        };
+        next_as(self.alloc, self.catalogue, other, &values)
     }
 
     /// What every store keeps: its journal explains the present, no task is entered twice, what waits

@@ -12,7 +12,7 @@ use Rattle.book.specs.Tasks.{Task, Running, Parked}
 use Rattle.book.specs.Standings.{shown_from, row, HaveRows}
 use Rattle.book.specs.Table.{TableView, placed, with_tasks, unvalued, flagged}
 use Rattle.book.specs.TableInside.{table_of, tasks_of, places}
-use Rattle.book.proofs.Logs.{few_apart}
+use Rattle.attempt.proofs.Logs.{few_apart}
 use Rattle.book.proofs.Rows.{RowWritten, shown_parked, rows_parked, stands_running, flagged_unvalued, known_unvalued, known_byte}
 use Rattle.book.proofs.Sets.{sets_park, placed_stand, at_place, roomy, table_is}
 use Rattle.book.proofs.table.TaskTable.park.Goals as goal

@@ -1,0 +1,19 @@
+-- programs, what they mean, and reports
+pub use Rattle.txn_programs.specs.Tree
+pub use Rattle.txn_programs.specs.Listing
+pub use Rattle.txn_programs.specs.Meaning
+pub use Rattle.txn_programs.specs.Standing
+pub use Rattle.txn_programs.specs.Replay
+pub use Rattle.txn_programs.specs.Told
+pub use Rattle.txn_programs.specs.LawfulReport
+-- text
+pub use Rattle.text_grammar.specs.Spelling
+pub use Rattle.text_file_printer.specs.Canonical
+pub use Rattle.text_report_printer.specs.ReportText
+-- verdicts
+pub use Rattle.checker.specs.Verdicts
+-- books and stores
+pub use Rattle.book.specs.View
+pub use Rattle.book.specs.LawfulBook
+pub use Rattle.book.specs.Turns
+pub use Rattle.stm_store.specs.Working

@@ -1,0 +1,110 @@
+//! The catalogue that begins at other values.
+
+ghost use Rattle.std.specs.Prelude.{◌≡◌, ◌≢◌, IfErr, IfOk, OnOk, length, map, false, true};
+ghost use Rattle.txn_programs.specs.Listing.{listing_of};
+ghost use Rattle.txn_programs.specs.Names.{names_hold};
+ghost use Rattle.txn_programs.specs.Limits.{limits_hold};
+ghost use Rattle.txn_programs.specs.Standing.{Upholds, upholds};
+ghost use Rattle.txn_values.specs.Values.{with_values};
+
+use crate::parts::{Parts, parts_with};
+use std::alloc::Global;
+use txn::{BuildFault, Catalogue, Memory};
+
+/// Why a catalogue cannot begin at these values.
+#[derive(Clone, Copy, Debug, PartialEq, Eq)]
+pub enum ValuesFault {
+    /// There is not one for each variable.
+    Count,
+    /// A standing condition is not true of them.
+    Broken,
+    /// A growth was refused.
+    Memory,
+}
+
+/// The catalogue of parts whose names and limits hold.
+fn built(alloc: Global, parts: Parts) -> Result<Catalogue, ValuesFault>
+    requires names { names_hold (listing_of parts.vars.items parts.always.items parts.txs.items parts.runs.items) ≡ true }
+    requires limits { limits_hold (listing_of parts.vars.items parts.always.items parts.txs.items parts.runs.items) ≡ true }
+    ensures built { IfOk result (λ c. c ≡ listing_of parts.vars.items parts.always.items parts.txs.items parts.runs.items) }
+    ensures broken { IfErr result (λ e. e ≡ ValuesFault.Broken → upholds (listing_of parts.vars.items parts.always.items parts.txs.items parts.runs.items) (map (λ v. v.1) parts.vars.items) ≡ false) }
+    ensures count { IfErr result (λ e. e ≢ ValuesFault.Count) }
+{
+    let Parts {
+        vars,
+        always,
+        txs,
+        runs,
+    } = parts;
+    match Catalogue::build(alloc, vars, always, txs, runs) {
+        Ok(next) => Ok(next),
+        Err(BuildFault::Broken) => Err(ValuesFault::Broken),
+        Err(BuildFault::Memory) => Err(ValuesFault::Memory),
+        Err(BuildFault::Name) => unreachable!(),
+        Err(BuildFault::Limit) => unreachable!(),
+    }
+}
+
+/// The catalogue that begins at these values, one for each variable in declared order. Names,
+/// standing conditions, transactions and runs are as they were.
+///
+/// `Count` exactly where there are more or fewer values than variables, else `Broken` only where a
+/// standing condition is not true of them. `Memory` only where a growth was refused.
+pub fn with_values(
+    alloc: Global,
+    catalogue: &Catalogue,
+    values: &[i64],
+) -> Result<Catalogue, ValuesFault>
+    ensures with { IfOk result (λ c. c ≡ with_values catalogue.now values.now) }
+    ensures upheld { OnOk result (Upholds catalogue.now values.now) }
+    ensures count { IfErr result (λ e. e ≡ ValuesFault.Count → length values.now ≢ length catalogue.now.initial) }
+    ensures each { OnOk result (length values.now ≡ length catalogue.now.initial) }
+    ensures broken { IfErr result (λ e. e ≡ ValuesFault.Broken → upholds catalogue.now values.now ≡ false) }
+{
+    catalogue.rules();
+    if values.len() != catalogue.initial().len() {
+        return Err(ValuesFault::Count);
+    }
+    match parts_with(alloc, catalogue, values) {
+        Ok(parts) => made(alloc, catalogue, values, parts),
+        Err(_) => Err(ValuesFault::Memory),
+    }
+}
+
+/// The catalogue that begins at these values, of its parts.
+fn made(
+    alloc: Global,
+    catalogue: &Catalogue,
+    values: &[i64],
+    parts: Parts,
+) -> Result<Catalogue, ValuesFault>
+    requires { listing_of parts.vars.items parts.always.items parts.txs.items parts.runs.items ≡ with_values catalogue.now values.now }
+    ensures with { IfOk result (λ c. c ≡ with_values catalogue.now values.now) }
+    ensures upheld { OnOk result (Upholds catalogue.now values.now) }
+    ensures count { IfErr result (λ e. e ≢ ValuesFault.Count) }
+    ensures broken { IfErr result (λ e. e ≡ ValuesFault.Broken → upholds catalogue.now values.now ≡ false) }
+{
+    catalogue.rules();
+    let next = built(alloc, parts)?;
+    next.rules();
+    Ok(next)
+}
+
+/// The catalogue that begins at these values, of which each standing condition is true: it is never
+/// refused. `Memory` only where a growth was refused.
+pub fn with_upheld_values(
+    alloc: Global,
+    catalogue: &Catalogue,
+    values: &[i64],
+) -> Result<Catalogue, Memory>
+    requires each { length values.now ≡ length catalogue.now.initial }
+    requires upheld { Upholds catalogue.now values.now }
+    ensures { IfOk result (λ c. c ≡ with_values catalogue.now values.now) }
+{
+    match with_values(alloc, catalogue, values) {
+        Ok(next) => Ok(next),
+        Err(ValuesFault::Memory) => Err(Memory),
+        Err(ValuesFault::Count) => unreachable!(),
+        Err(ValuesFault::Broken) => unreachable!(),
+    }
+}
