@@ -19,8 +19,8 @@ fn allowed_len(bytes: &[u8]) -> usize
     bytes.iter().take_while(|b| is_allowed(**b)).count()
 }
 
-/// The place of the first byte that no file may have.
-pub(crate) fn bad_byte_place(bytes: &[u8]) -> usize
+/// The place of the first byte that no file may have, nor a schedule: how many bytes stand before it.
+pub fn bad_byte_place(bytes: &[u8]) -> usize
     requires { list_all is_allowed bytes.now ≡ false }
     ensures { IsBadByte bytes.now result }
 {

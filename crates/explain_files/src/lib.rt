@@ -16,6 +16,7 @@ mod tokens;
 mod walk;
 pub mod wanted;
 
+pub use allowed::bad_byte_place;
 pub use explaining::{Explanation, Finding, Refusal, explain};
 pub use limits::LimitFault;
 pub use names::NameFault;

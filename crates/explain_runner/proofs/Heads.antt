@@ -2,8 +2,8 @@
 use Rattle.std.proofs.Common.{◌≡◌, ℕ, List, [], ◌∷◌, ◌++◌, sym, ap, ◌∙◌, append_assoc}
 use Rattle.std.specs.Prelude.{codes}
 use Rattle.explain_files.specs.Places.{line_at, column_at}
-use Rattle.explain_files.specs.declared.explaining.Refusal.{Refusal}
-use Rattle.explain_runner.specs.Telling.{Begins, head, head_of, told_line, kind_name}
+use Rattle.text_words.specs.declared.fault.ReadFault.{ReadFault}
+use Rattle.explain_runner.specs.Telling.{Begins, head, told_line, kind_name}
 
 rest_of : List ℕ → List ℕ → List ℕ
 rest_of words found = words ++ (found ++ codes "\n")
@@ -12,12 +12,12 @@ apart : (line column : ℕ) (kind words found : List ℕ) → told_line line col
 unfolding rest_of
 apart line column kind words found = sym (simp append_assoc)
 
-pub begins_head : (bytes : List ℕ) (refusal : Refusal) (line column : ℕ) (kind words found text : List ℕ)
-    → line ≡ line_at bytes refusal.place → column ≡ column_at bytes refusal.place → kind ≡ kind_name refusal.kind → text ≡ told_line line column kind words found → Begins (head_of bytes refusal) text
-begins_head bytes refusal line column kind words found text is_line is_column is_kind e = (
+pub begins_at : (bytes : List ℕ) (place : ℕ) (fault : ReadFault) (line column : ℕ) (kind words found text : List ℕ)
+    → line ≡ line_at bytes place → column ≡ column_at bytes place → kind ≡ kind_name fault → text ≡ told_line line column kind words found → Begins (head (line_at bytes place) (column_at bytes place) (kind_name fault)) text
+begins_at bytes place fault line column kind words found text is_line is_column is_kind e = (
   rest_of words found,
   e ∙ apart line column kind words found
       ∙ ap (λ (n : ℕ). head n column kind ++ rest_of words found) is_line
-      ∙ ap (λ (n : ℕ). head (line_at bytes refusal.place) n kind ++ rest_of words found) is_column
-      ∙ ap (λ (k : List ℕ). head (line_at bytes refusal.place) (column_at bytes refusal.place) k ++ rest_of words found) is_kind,
+      ∙ ap (λ (n : ℕ). head (line_at bytes place) n kind ++ rest_of words found) is_column
+      ∙ ap (λ (k : List ℕ). head (line_at bytes place) (column_at bytes place) k ++ rest_of words found) is_kind,
 )

@@ -6,3 +6,4 @@ mod text;
 mod words;
 
 pub use bytes::{Told, explain_bytes};
+pub use text::{kind_name, line_of};

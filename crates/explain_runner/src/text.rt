@@ -9,8 +9,8 @@ use std::alloc::{AllocError, Global};
 use std::str;
 use text_words::ReadFault;
 
-/// The name of a kind of fault.
-fn kind_name(kind: ReadFault) -> &'static str
+/// The name of a kind of fault, as the standard error has it: `F4 Name`.
+pub fn kind_name(kind: ReadFault) -> &'static str
     ensures { result.now ≡ kind_name kind }
 {
     match kind {
@@ -24,8 +24,9 @@ fn kind_name(kind: ReadFault) -> &'static str
     }
 }
 
-/// The line of its parts.
-fn line_of(
+/// The line that tells a place, the kind of fault, what is wrong and what was found, with its newline. `Err`
+/// means that memory was refused.
+pub fn line_of(
     alloc: Global,
     line: usize,
     column: usize,

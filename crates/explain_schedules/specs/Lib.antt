@@ -1,0 +1,6 @@
+pub mod Words
+pub mod Lines
+pub mod Places
+pub mod Walking
+pub mod Explaining
+pub mod Telling

@@ -1,0 +1,57 @@
+-- Where a schedule stops being one, and which word of it is meant.
+use Rattle.std.specs.Prelude.{◌≡◌, ◌<◌, ◌⊎◌, ℕ, ◌+◌, Bool, true, false, nat_lt, List, [], ◌∷◌, ◌++◌, length, codes}
+use Rattle.std.specs.List.{list_all, AllByRecursion}
+use Rattle.std.specs.Str.Parse.{digits_value}
+use Rattle.txn_programs.specs.Listing.{Listing, tasks}
+use Rattle.text_schedule_reader.specs.Raw.{Raw, OfTask, OfVariable, Word, raw_text, IsRaw}
+use Rattle.text_schedule_reader.specs.Schedules.{IsWritten}
+use Rattle.explain_schedules.specs.Words.{behind, behind_len, is_word_byte, EndsWord, ending}
+
+-- some schedule, however long it is and whatever it names, begins with the bytes
+pub record Begins (bytes : List ℕ) : Type 0 where
+  pub raws : List Raw
+  pub words : AllByRecursion IsRaw raws
+  pub rest : List ℕ
+  pub text : raw_text raws ≡ bytes ++ rest
+
+-- the word at the place is none of a schedule's there: some schedule begins with the bytes before it,
+-- and none with these, the word, and the space or the newline that ends it
+pub record IsWrongWord (bytes : List ℕ) (place : ℕ) : Type 0 where
+  -- the lines before it, the words before it in its line, the word, and what stands behind it
+  pub lines : List Raw
+  pub before : List (List ℕ)
+  pub word : List ℕ
+  pub rest : List ℕ
+  pub text : bytes ≡ raw_text lines ++ behind before (word ++ rest)
+  pub at : place ≡ length (raw_text lines) + behind_len before
+  pub whole : list_all is_word_byte word ≡ true
+  pub ends : EndsWord rest
+  pub opens : Begins (raw_text lines ++ behind before [])
+  pub closed : Begins (raw_text lines ++ behind before (word ++ ending rest)) → ⊥
+
+-- nothing is missing but the newline behind the last line, and the place is the end
+pub record IsUnended (bytes : List ℕ) (place : ℕ) : Type 0 where
+  pub lines : List Raw
+  pub words : AllByRecursion IsRaw lines
+  pub text : raw_text lines ≡ bytes ++ codes "\n"
+  pub at : place ≡ length bytes
+
+-- where bytes that are written as no schedule stop being the beginning of one
+abbrev pub IsStop : List ℕ → ℕ → Type 0
+IsStop bytes place = IsWrongWord bytes place ⊎ IsUnended bytes place
+
+-- the first line, of bytes that are written as a schedule, of which this is not so, and the place of a word in it
+pub record IsFirstLine (right : Raw → Bool) (word_place : Raw → ℕ) (bytes : List ℕ) (place : ℕ) : Type 0 where
+  pub lines : List Raw
+  pub raw : Raw
+  pub after : List Raw
+  pub written : IsWritten bytes (lines ++ raw ∷ after)
+  pub so_before : list_all right lines ≡ true
+  pub not_here : right raw ≡ false
+  pub at : place ≡ length (raw_text lines) + word_place raw
+
+-- the line names one of the catalogue's tasks, if it names any
+abbrev pub names_a_task : Listing → Raw → Bool
+names_a_task l (OfTask verb task) = nat_lt (digits_value 10 task) (length (tasks l))
+names_a_task l (OfVariable verb task name) = nat_lt (digits_value 10 task) (length (tasks l))
+names_a_task l Word = true

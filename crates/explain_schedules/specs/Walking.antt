@@ -1,0 +1,48 @@
+-- How far the lines of a schedule were walked.
+use Rattle.std.specs.Prelude.{◌≡◌, ℕ, Bool, true, false, if◌then◌else◌, Option, Some, None, List, ◌++◌, Ok}
+use Rattle.std.specs.List.{list_all, AllByRecursion}
+use Rattle.txn_programs.specs.Listing.{Listing}
+use Rattle.text_report_reader.specs.Lines.{lines}
+use Rattle.text_schedule_reader.specs.Raw.{Raw, raw_text, IsRaw}
+use Rattle.text_schedule_reader.specs.Reading.{raws_at}
+use Rattle.text_schedule_reader.specs.Resolving.{is_known}
+use Rattle.text_schedule_reader.specs.Schedules.{IsWritten}
+use Rattle.explain_schedules.specs.Words.{name_place, task_place}
+use Rattle.explain_schedules.specs.Places.{names_a_task}
+use Rattle.explain_schedules.specs.declared.judging.Judged.{Judged}
+use Rattle.explain_schedules.specs.declared.judging.Judged.TheVariants.{Variables, Tasks}
+
+-- lines of a schedule stand before the rest
+pub record IsWalked (bytes rest : List ℕ) : Type 0 where
+  pub before : List Raw
+  pub words : AllByRecursion IsRaw before
+  pub text : bytes ≡ raw_text before ++ rest
+
+-- the bytes are written as a schedule, and this is so of all lines before the rest, and not of all behind it
+pub record IsGoing (right : Raw → Bool) (bytes rest : List ℕ) : Type 0 where
+  pub before : List Raw
+  pub later : List Raw
+  pub written : IsWritten bytes (before ++ later)
+  pub text : bytes ≡ raw_text before ++ rest
+  pub read : raws_at (lines rest) ≡ Ok later
+  pub so_before : list_all right before ≡ true
+  pub not_later : list_all right later ≡ false
+
+-- the bytes are written as a schedule, and of one line this is not so
+pub record IsUneven (right : Raw → Bool) (bytes : List ℕ) : Type 0 where
+  pub raws : List Raw
+  pub written : IsWritten bytes raws
+  pub not_all : list_all right raws ≡ false
+
+-- what is judged, and where it stands in its line
+abbrev pub right_of : Listing → Judged → Raw → Bool
+right_of l Variables raw = is_known l raw
+right_of l Tasks raw = names_a_task l raw
+
+abbrev pub place_of : Judged → Raw → ℕ
+place_of Variables raw = name_place raw
+place_of Tasks raw = task_place raw
+
+-- where a line is wrong, if it is
+abbrev pub wrong_at : Bool → ℕ → Option ℕ
+wrong_at right place = if right then None else Some place

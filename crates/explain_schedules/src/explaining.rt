@@ -1,0 +1,99 @@
+//! Whether a schedule is read, and where and why it is not.
+
+ghost use Rattle.std.specs.Prelude.{◌≡◌, ◌≤◌, IfOk, length};
+ghost use Rattle.text_schedule_reader.specs.Schedules.{IsFirst};
+ghost use Rattle.explain_schedules.specs.Explaining.{IsPlaceOf, IsExplained};
+
+use crate::form::first_stop;
+use crate::judging::{Judged, first_wrong};
+use crate::line::Wanted;
+use explain_files::bad_byte_place;
+use std::alloc::Global;
+use text_schedule_reader::{MAX_SCHEDULE, read_schedule};
+use text_words::ReadFault;
+use txn::{Catalogue, Memory};
+
+/// What is wrong at the place.
+#[derive(Clone, Copy, Debug, PartialEq, Eq)]
+pub enum Finding {
+    /// The schedule has this byte, which is one too many.
+    TooLong,
+    /// No schedule may have this byte.
+    BadByte,
+    /// What stands here is not what is wanted.
+    Unwanted(Wanted),
+    /// No variable has this name.
+    NoVariable,
+    /// There is no task of this number.
+    NoTask,
+}
+
+/// Why a schedule is refused.
+#[derive(Clone, Copy, Debug, PartialEq, Eq)]
+pub struct Refusal {
+    /// The kind of its first fault.
+    pub kind: ReadFault,
+    /// How many bytes stand before the place of it.
+    pub place: usize,
+    pub finding: Finding,
+}
+
+/// Whether a schedule is read, or why it is refused.
+#[derive(Clone, Copy, Debug, PartialEq, Eq)]
+pub enum Explanation {
+    Good,
+    Refused(Refusal),
+}
+
+/// The place of the first fault of a schedule, whose kind this is.
+fn place_of(catalogue: &Catalogue, bytes: &[u8], kind: ReadFault) -> (usize, Finding)
+    requires { IsFirst catalogue.now bytes.now kind }
+    ensures place { IsPlaceOf catalogue.now kind bytes.now result.0 }
+    ensures bound { result.0 ≤ length bytes.now }
+{
+    catalogue.rules();
+    match kind {
+        ReadFault::TooLong => (MAX_SCHEDULE, Finding::TooLong),
+        ReadFault::BadByte => (bad_byte_place(bytes), Finding::BadByte),
+        ReadFault::Shape => {
+            let stop = first_stop(bytes);
+            (stop.place, Finding::Unwanted(stop.wanted))
+        }
+        ReadFault::Name => {
+            let place = first_wrong(catalogue, Judged::Variables, bytes);
+            (place, Finding::NoVariable)
+        }
+        ReadFault::Limit => {
+            let place = first_wrong(catalogue, Judged::Tasks, bytes);
+            (place, Finding::NoTask)
+        }
+        ReadFault::Broken => unreachable!(),
+        ReadFault::Memory => unreachable!(),
+    }
+}
+
+/// Whether the bytes are read as a schedule of the catalogue, or the kind of the first fault of them,
+/// with its place and what is wrong there. It takes time and memory linear in the input. `Err` means
+/// that memory was refused.
+///
+/// The kind is what `read_schedule` says. Of a schedule that is too long the place is that of the first
+/// byte that no schedule has room for, of a bad byte that of the first one. Of a shape it is that of a word: some
+/// schedule begins with the bytes before it, and none with the word and the space or the newline that ends
+/// it; or it is the end of the text, where a newline is missing and nothing else. Of an unknown
+/// variable it is that of its name, and of a task that there is not that of its number, in the first
+/// line that names one.
+pub fn explain(alloc: Global, catalogue: &Catalogue, bytes: &[u8]) -> Result<Explanation, Memory>
+    ensures { IfOk result (IsExplained catalogue.now bytes.now) }
+{
+    let kind = match read_schedule(alloc, bytes, catalogue) {
+        Ok(_) => return Ok(Explanation::Good),
+        Err(ReadFault::Memory) => return Err(Memory),
+        Err(kind) => kind,
+    };
+    let (place, finding) = place_of(catalogue, bytes, kind);
+    Ok(Explanation::Refused(Refusal {
+        kind,
+        place,
+        finding,
+    }))
+}

@@ -1,0 +1,207 @@
+//! One line of a schedule: what it says, or where it stops being a line.
+
+ghost use Rattle.std.specs.Prelude.{◌≡◌, ◌≤◌, ◌+◌, IfOk, IfErr, IfSome, is_some, true, false, length, ◌++◌, ◌∷◌};
+ghost use Rattle.text_schedule_reader.specs.Reading.{task_verb, variable_verb};
+ghost use Rattle.explain_schedules.specs.Words.{lacks, IsParted};
+ghost use Rattle.explain_schedules.specs.Lines.{IsLine, StopsAt};
+
+use text_report_reader::{Count, count_of, is_word, name_of, part};
+
+/// What is wanted where a line stops being one.
+#[derive(Clone, Copy, Debug, PartialEq, Eq)]
+pub enum Wanted {
+    /// A line: a verb with what belongs to it.
+    Line,
+    /// The number of a task, and then the end of the line.
+    Task,
+    /// The number of a task, and then the name of a variable.
+    TaskAndVariable,
+    /// The name of a variable, and then the end of the line.
+    Variable,
+    /// A newline, behind the last line.
+    Newline,
+}
+
+/// A line.
+#[derive(Clone, Copy, Debug)]
+pub(crate) enum Line<'a> {
+    /// The place of its task in it, and the task.
+    OfTask(usize, Count<'a>),
+    /// The place of its task and the task, the place of its variable and the name.
+    OfVariable(usize, Count<'a>, usize, &'a str),
+    Word,
+}
+
+/// The first word of a line that is none of a line's there.
+#[derive(Clone, Copy, Debug)]
+pub(crate) struct WrongWord {
+    /// How many bytes of the line stand before it.
+    pub at: usize,
+    /// What is wanted there.
+    pub wanted: Wanted,
+}
+
+/// Whether the word is one that a task alone stands behind.
+#[tactic(auto, unfolding(text_schedule_reader::specs::Reading::task_verb))]
+fn is_task_verb(word: &[u8]) -> bool
+    ensures { result ≡ is_some (task_verb word.now) }
+{
+    if is_word(word, "begin") {
+        true
+    } else if is_word(word, "commit") {
+        true
+    } else if is_word(word, "drop") {
+        true
+    } else if is_word(word, "value") {
+        true
+    } else if is_word(word, "second") {
+        true
+    } else if is_word(word, "ask") {
+        true
+    } else if is_word(word, "again") {
+        true
+    } else {
+        is_word(word, "move")
+    }
+}
+
+/// Whether the word is one that a task and a variable stand behind.
+#[tactic(auto, unfolding(text_schedule_reader::specs::Reading::variable_verb))]
+fn is_variable_verb(word: &[u8]) -> bool
+    ensures { result ≡ is_some (variable_verb word.now) }
+{
+    if is_word(word, "read") {
+        true
+    } else {
+        is_word(word, "first")
+    }
+}
+
+/// What stands before the first such byte, and what behind it.
+pub(crate) fn split_once(bytes: &[u8], sep: u8) -> Option<(&[u8], &[u8])>
+    ensures some { IfSome result (λ x. IsParted sep bytes.now x.0.now x.1.now) }
+    ensures none { result ≡ None → lacks sep bytes.now ≡ true }
+    ensures len { IfSome result (λ x. length x.0.now + (1 + length x.1.now) ≡ length bytes.now) }
+{
+    part(bytes, sep)
+}
+
+/// The line without a space.
+fn alone(text: &[u8]) -> Result<Line<'_>, WrongWord>
+    requires { lacks 32 text.now ≡ true }
+    ensures line { IfOk result (λ said. IsLine text.now said) }
+    ensures stop { IfErr result (λ wrong. StopsAt text.now wrong.at) }
+    ensures bound { IfErr result (λ wrong. wrong.at ≤ length text.now) }
+{
+    if is_word(text, "word") {
+        Ok(Line::Word)
+    } else {
+        Err(WrongWord {
+            at: 0,
+            wanted: Wanted::Line,
+        })
+    }
+}
+
+/// The line of a verb and a task.
+fn of_task<'a>(verb: &[u8], rest: &'a [u8]) -> Result<Line<'a>, WrongWord>
+    requires spaceless { lacks 32 verb.now ≡ true }
+    requires verb { is_some (task_verb verb.now) ≡ true }
+    ensures line { IfOk result (λ said. IsLine (verb.now ++ (32 ∷ rest.now)) said) }
+    ensures stop { IfErr result (λ wrong. StopsAt (verb.now ++ (32 ∷ rest.now)) wrong.at) }
+    ensures bound { IfErr result (λ wrong. wrong.at ≤ length verb.now + 1) }
+{
+    let at = verb.len() + 1;
+    match count_of(rest) {
+        Ok(task) => Ok(Line::OfTask(at, task)),
+        Err(_) => Err(WrongWord {
+            at,
+            wanted: Wanted::Task,
+        }),
+    }
+}
+
+/// The line of a verb, a task and a variable.
+fn of_variable<'a>(verb: &[u8], rest: &'a [u8]) -> Result<Line<'a>, WrongWord>
+    requires spaceless { lacks 32 verb.now ≡ true }
+    requires verb { is_some (variable_verb verb.now) ≡ true }
+    requires other { is_some (task_verb verb.now) ≡ false }
+    requires room { length verb.now + (1 + length rest.now) ≤ usize.MAX }
+    ensures line { IfOk result (λ said. IsLine (verb.now ++ (32 ∷ rest.now)) said) }
+    ensures stop { IfErr result (λ wrong. StopsAt (verb.now ++ (32 ∷ rest.now)) wrong.at) }
+    ensures bound { IfErr result (λ wrong. wrong.at ≤ length verb.now + (1 + length rest.now)) }
+{
+    let at = verb.len() + 1;
+    match split_once(rest, b' ') {
+        Some((first, second)) => named(verb, at, first, second),
+        None => Err(WrongWord {
+            at,
+            wanted: Wanted::TaskAndVariable,
+        }),
+    }
+}
+
+/// The line of a verb, at whose end this place is, and of what stands round the space behind it.
+fn named<'a>(
+    verb: &[u8],
+    at: usize,
+    first: &'a [u8],
+    second: &'a [u8],
+) -> Result<Line<'a>, WrongWord>
+    requires spaceless { lacks 32 verb.now ≡ true }
+    requires verb { is_some (variable_verb verb.now) ≡ true }
+    requires other { is_some (task_verb verb.now) ≡ false }
+    requires at { at ≡ length verb.now + 1 }
+    requires first { lacks 32 first.now ≡ true }
+    requires room { at + (length first.now + (1 + length second.now)) ≤ usize.MAX }
+    ensures line { IfOk result (λ said. IsLine (verb.now ++ (32 ∷ (first.now ++ (32 ∷ second.now)))) said) }
+    ensures stop { IfErr result (λ wrong. StopsAt (verb.now ++ (32 ∷ (first.now ++ (32 ∷ second.now)))) wrong.at) }
+    ensures bound { IfErr result (λ wrong. wrong.at ≤ at + (length first.now + 1)) }
+{
+    let Ok(task) = count_of(first) else {
+        return Err(WrongWord {
+            at,
+            wanted: Wanted::TaskAndVariable,
+        });
+    };
+    let name_at = at + (first.len() + 1);
+    match name_of(second) {
+        Ok(name) => Ok(Line::OfVariable(at, task, name_at, name)),
+        Err(_) => Err(WrongWord {
+            at: name_at,
+            wanted: Wanted::Variable,
+        }),
+    }
+}
+
+/// The line of what stands round its first space.
+fn of_verb<'a>(verb: &[u8], rest: &'a [u8]) -> Result<Line<'a>, WrongWord>
+    requires spaceless { lacks 32 verb.now ≡ true }
+    requires room { length verb.now + (1 + length rest.now) ≤ usize.MAX }
+    ensures line { IfOk result (λ said. IsLine (verb.now ++ (32 ∷ rest.now)) said) }
+    ensures stop { IfErr result (λ wrong. StopsAt (verb.now ++ (32 ∷ rest.now)) wrong.at) }
+    ensures bound { IfErr result (λ wrong. wrong.at ≤ length verb.now + (1 + length rest.now)) }
+{
+    if is_task_verb(verb) {
+        of_task(verb, rest)
+    } else if is_variable_verb(verb) {
+        of_variable(verb, rest)
+    } else {
+        Err(WrongWord {
+            at: 0,
+            wanted: Wanted::Line,
+        })
+    }
+}
+
+/// What a line says, without its newline, or its first word that is none of a line's there.
+pub(crate) fn line_of(text: &[u8]) -> Result<Line<'_>, WrongWord>
+    ensures line { IfOk result (λ said. IsLine text.now said) }
+    ensures stop { IfErr result (λ wrong. StopsAt text.now wrong.at) }
+    ensures bound { IfErr result (λ wrong. wrong.at ≤ length text.now) }
+{
+    match split_once(text, b' ') {
+        Some((verb, rest)) => of_verb(verb, rest),
+        None => alone(text),
+    }
+}

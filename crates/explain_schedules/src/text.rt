@@ -1,0 +1,65 @@
+//! The line that tells where and why a schedule is refused.
+
+ghost use Rattle.std.specs.Prelude.{◌≡◌, ◌≤◌, length, IfOk, string_bytes};
+ghost use Rattle.explain_runner.specs.Telling.{Begins};
+ghost use Rattle.explain_schedules.specs.Telling.{head_of};
+
+use crate::explaining::{Finding, Refusal};
+use crate::words::words;
+use explain_files::position_of;
+use explain_runner::{kind_name, line_of};
+use std::alloc::{AllocError, Global};
+use std::str;
+use txn::Catalogue;
+
+/// What stands first in these bytes, up to the end of the line, as far as it is short.
+fn standing(bytes: &[u8]) -> &str {
+    let len = bytes.iter().take_while(|b| **b != b'\n').count();
+    let shown = len.min(40).min(bytes.len());
+    str::from_utf8(&bytes[..shown]).unwrap_or("")
+}
+
+/// What is said of what stands at a place.
+fn found(
+    alloc: Global,
+    catalogue: &Catalogue,
+    finding: Finding,
+    bytes: &[u8],
+) -> Result<String, AllocError> {
+    let [first, ..] = bytes else {
+        return String::from_str(alloc, "; here the schedule ends");
+    };
+    match finding {
+        Finding::TooLong => String::from_str(alloc, ""),
+        Finding::BadByte => format!(in alloc; "; this byte is {first}"),
+        Finding::NoTask => {
+            let standing = standing(bytes);
+            let tasks = catalogue.tasks();
+            format!(in alloc;
+                "; here stands {standing}, and the file has {tasks} tasks, counted from 0"
+            )
+        }
+        Finding::Unwanted(_) | Finding::NoVariable => {
+            let standing = standing(bytes);
+            format!(in alloc; "; here stands {standing}")
+        }
+    }
+}
+
+/// The line that tells where and why a schedule is refused.
+pub(crate) fn told(
+    alloc: Global,
+    catalogue: &Catalogue,
+    bytes: &[u8],
+    refusal: &Refusal,
+) -> Result<String, AllocError>
+    requires { refusal.now.place ≤ length bytes.now }
+    ensures { IfOk result (λ text. Begins (head_of bytes.now refusal.entry.now) (string_bytes text)) }
+{
+    let at = position_of(bytes, refusal.place);
+    let found = found(alloc, catalogue, refusal.finding, &bytes[refusal.place..])?;
+    let kind = kind_name(refusal.kind);
+    let words = words(refusal.finding);
+    let text = line_of(alloc, at.line, at.column, kind, words, found.as_str())?;
+    Ok(text)
+}

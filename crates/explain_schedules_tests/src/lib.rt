@@ -1,0 +1,7 @@
+//! Tests of schedules explained.
+#![tactic(auto)]
+
+#[cfg(test)]
+mod kinds;
+#[cfg(test)]
+mod long;

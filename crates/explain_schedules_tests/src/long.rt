@@ -1,0 +1,76 @@
+//! Schedules of the greatest length, and longer ones.
+
+use explain_files::position_of;
+use explain_schedules::{Explanation, explain};
+use std::alloc::{AllocError, Global};
+use std::test::Fail;
+use txn_text::{ReadFault, read_file};
+
+/// So many times the line `word`, and then the text.
+fn behind_words(alloc: Global, count: usize, text: &str) -> Result<Vec<u8>, AllocError> {
+    let mut bytes = Vec::with_capacity(alloc, count * 5)?;
+    for _ in 0..count {
+        bytes.extend_from_slice(b"word\n")?;
+    }
+    bytes.extend_from_slice(text.as_bytes())?;
+    Ok(bytes)
+}
+
+/// The kind of the first fault, with the line and the column of it.
+fn place_of(alloc: Global, bytes: &[u8]) -> Option<(ReadFault, usize, usize)> {
+    let Ok(catalogue) = read_file(alloc, b"(var x 5)(tx t (skip) x)(run t 1)") else {
+        return None;
+    };
+    match explain(alloc, &catalogue, bytes) {
+        Ok(Explanation::Refused(refusal)) => {
+            if refusal.place > bytes.len() {
+                return None;
+            }
+            let at = position_of(bytes, refusal.place);
+            Some((refusal.kind, at.line, at.column))
+        }
+        _ => None,
+    }
+}
+
+/// Behind so many lines, of 5 bytes each, this text is refused at this place of the line behind them.
+fn refused_at(
+    alloc: Global,
+    lines: usize,
+    text: &str,
+    kind: ReadFault,
+    column: usize,
+) -> Result<bool, AllocError> {
+    let bytes = behind_words(alloc, lines, text)?;
+    Ok(place_of(alloc, bytes.as_slice()) == Some((kind, lines + 1, column)))
+}
+
+#[test]
+fn last_byte(rt: HostRuntime) -> Result<(), Fail> {
+    assert!(rt; refused_at(rt.alloc(), 209_715, "w", ReadFault::Shape, 1)?);
+    Ok(())
+}
+
+#[test]
+fn last_byte_that_no_schedule_has(rt: HostRuntime) -> Result<(), Fail> {
+    assert!(rt; refused_at(rt.alloc(), 209_715, "\t", ReadFault::BadByte, 1)?);
+    Ok(())
+}
+
+#[test]
+fn one_byte_more(rt: HostRuntime) -> Result<(), Fail> {
+    assert!(rt; refused_at(rt.alloc(), 209_715, "w\n", ReadFault::TooLong, 2)?);
+    Ok(())
+}
+
+#[test]
+fn last_line(rt: HostRuntime) -> Result<(), Fail> {
+    assert!(rt; refused_at(rt.alloc(), 209_713, "read 0 y\n", ReadFault::Name, 8)?);
+    Ok(())
+}
+
+#[test]
+fn last_task(rt: HostRuntime) -> Result<(), Fail> {
+    assert!(rt; refused_at(rt.alloc(), 209_713, "begin 1\n", ReadFault::Limit, 7)?);
+    Ok(())
+}
