@@ -42,6 +42,10 @@ enum stm_code {
     STM_OVERFLOW = 6,
     STM_DIVIDE_BY_ZERO = 7,
     STM_BROKEN = 8,
+    /* `stm_explore`, `stm_explore_to`: more places are reached than were asked for, and the text says so. */
+    STM_MORE = 9,
+    /* `stm_explore_to`: there is no end of that number, and no text. */
+    STM_NO_END = 10,
     /* The file is refused: too long; a byte that is not allowed; not of the grammar; a name; a limit. */
     STM_FILE_TOO_LONG = -1,
     STM_FILE_BAD_BYTE = -2,
@@ -67,6 +71,8 @@ enum stm_code {
     STM_NO_ROOM = -14,
     /* A task is ready or running, and the report could not account for it. */
     STM_WORK_LEFT = -15,
+    /* The number of places to look at is not from 1 to 16777216. */
+    STM_STATES = -16,
     /* The schedule is refused, for the reasons of a file. */
     STM_SCHEDULE_TOO_LONG = -21,
     STM_SCHEDULE_BAD_BYTE = -22,
@@ -107,6 +113,17 @@ int32_t stm_check(const uint8_t *file, size_t file_length, const uint8_t *report
 /* Plays the schedule on the stepped world of the file, and copies what is seen into the room. */
 int32_t stm_world(const uint8_t *file, size_t file_length, const uint8_t *schedule, size_t schedule_length,
                   uint8_t *room, size_t room_length, size_t *wanted);
+
+/* Sees every order of the file's tasks, and copies what is found into the room: STM_DONE. At most `states`
+ * places are looked at: STM_MORE where more are reached. What is found may be long, so call first with no
+ * room where there is no good guess. */
+int32_t stm_explore(const uint8_t *file, size_t file_length, uint32_t states, uint8_t *room, size_t room_length,
+                    size_t *wanted);
+
+/* Copies the report of a run that comes to the end of this number, counted from 1 as `stm_explore` lists
+ * them, by as few turns as any order has to it: STM_DONE, STM_MORE, STM_NO_END. */
+int32_t stm_explore_to(const uint8_t *file, size_t file_length, uint32_t states, size_t end, uint8_t *room,
+                       size_t room_length, size_t *wanted);
 
 /* Handles. Each is one pointer that only the library reads; `{0}` is an empty one. */
 typedef struct stm_program { void *at; } stm_program;
@@ -297,6 +314,8 @@ static inline const char *stm_word(int32_t code) {
     case STM_OVERFLOW: return "overflow";
     case STM_DIVIDE_BY_ZERO: return "divide by zero";
     case STM_BROKEN: return "broken condition";
+    case STM_MORE: return "more places are reached";
+    case STM_NO_END: return "no such end";
     case STM_FILE_TOO_LONG: return "file: too long";
     case STM_FILE_BAD_BYTE: return "file: bad byte";
     case STM_FILE_SHAPE: return "file: shape";
@@ -312,6 +331,7 @@ static inline const char *stm_word(int32_t code) {
     case STM_FULL: return "full handle";
     case STM_NO_ROOM: return "no room for another task";
     case STM_WORK_LEFT: return "work left";
+    case STM_STATES: return "number of places out of range";
     case STM_SCHEDULE_TOO_LONG: return "schedule: too long";
     case STM_SCHEDULE_BAD_BYTE: return "schedule: bad byte";
     case STM_SCHEDULE_SHAPE: return "schedule: shape";

@@ -28,6 +28,12 @@ pub enum Error {
     NoRoom,
     /// A task is ready or running, and the report could not account for it.
     WorkLeft,
+    /// The number of places to look at is not from 1 to 16,777,216.
+    States,
+    /// More places are reached than were asked for.
+    MoreStates,
+    /// There is no end of that number.
+    NoEnd,
     /// The schedule is refused. The fault is what a file would have been refused for.
     Schedule(ScheduleFault),
     /// A worker was brought to the store of another program.
@@ -58,6 +64,9 @@ impl fmt::Display for Error {
             Error::NoWorker => "the store has no worker left",
             Error::NoRoom => "there is no room for another task",
             Error::WorkLeft => "a task is ready or running",
+            Error::States => "the number of places is out of range",
+            Error::MoreStates => "more places are reached",
+            Error::NoEnd => "there is no such end",
             Error::Schedule(ScheduleFault::TooLong) => "the schedule is too long",
             Error::Schedule(ScheduleFault::BadByte) => "the schedule has a byte that is not allowed",
             Error::Schedule(ScheduleFault::Shape) => "the schedule is not of the grammar",

@@ -54,6 +54,24 @@ pub fn world(file: &str, schedule: &str) -> Result<String, Error> {
     raw::world(file.as_bytes(), schedule.as_bytes())
 }
 
+/// What is found when every order of a file's tasks is seen, of at most so many places:
+/// `MoreStates` where more are reached.
+///
+/// ```
+/// let found = stm::explore("(var x 1) (tx two (set x (add x x)) x) (run two 2)", 100)?;
+/// assert_eq!(found, "states 3\ntx two returned\nends 1\n1 x 4\nend\n");
+/// # Ok::<(), stm::Error>(())
+/// ```
+pub fn explore(file: &str, states: u32) -> Result<String, Error> {
+    raw::explore(file.as_bytes(), states)
+}
+
+/// The report of a run that comes to the end of this number, counted from 1 as `explore` lists
+/// them, by as few turns as any order has to it.
+pub fn explore_to(file: &str, states: u32, end: usize) -> Result<String, Error> {
+    raw::explore_to(file.as_bytes(), states, end)
+}
+
 /// The value of a variable in the last lines of a report, which are the present ones.
 pub fn present(report: &str, name: &str) -> Option<i64> {
     report.lines().rev().find_map(|line| {

@@ -63,6 +63,23 @@ extern "C" {
         room_length: usize,
         wanted: *mut usize,
     ) -> i32;
+    fn stm_explore(
+        file: *const u8,
+        file_length: usize,
+        states: u32,
+        room: *mut u8,
+        room_length: usize,
+        wanted: *mut usize,
+    ) -> i32;
+    fn stm_explore_to(
+        file: *const u8,
+        file_length: usize,
+        states: u32,
+        end: usize,
+        room: *mut u8,
+        room_length: usize,
+        wanted: *mut usize,
+    ) -> i32;
     fn stm_program_read(file: *const u8, file_length: usize, out: *mut Handle) -> i32;
     fn stm_program_drop(program: Handle);
     fn stm_program_tasks(program: *mut Handle) -> usize;
@@ -169,6 +186,9 @@ fn error_of(code: i32) -> Error {
         -10 => Error::NoWorker,
         -14 => Error::NoRoom,
         -15 => Error::WorkLeft,
+        -16 => Error::States,
+        9 => Error::MoreStates,
+        10 => Error::NoEnd,
         -21 => Error::Schedule(ScheduleFault::TooLong),
         -22 => Error::Schedule(ScheduleFault::BadByte),
         -23 => Error::Schedule(ScheduleFault::Shape),
@@ -223,6 +243,22 @@ pub fn world(file: &[u8], schedule: &[u8]) -> Result<String, Error> {
                 room.len(),
                 wanted,
             )
+        }
+    })
+}
+
+pub fn explore(file: &[u8], states: u32) -> Result<String, Error> {
+    text(|room, wanted| {
+        // SAFETY: as `run_one`.
+        unsafe { stm_explore(file.as_ptr(), file.len(), states, room.as_mut_ptr(), room.len(), wanted) }
+    })
+}
+
+pub fn explore_to(file: &[u8], states: u32, end: usize) -> Result<String, Error> {
+    text(|room, wanted| {
+        // SAFETY: as `run_one`.
+        unsafe {
+            stm_explore_to(file.as_ptr(), file.len(), states, end, room.as_mut_ptr(), room.len(), wanted)
         }
     })
 }

@@ -18,6 +18,20 @@ fn whole_files() {
 }
 
 #[test]
+fn every_order() {
+    let found = stm::explore(FILE, 1000).unwrap();
+    assert_eq!(found, "states 3\ntx inc returned\ntx wait parks\nends 1\n1 x 7 parked wait 1\nend\n");
+    let report = stm::explore_to(FILE, 1000, 1).unwrap();
+    assert_eq!(stm::check(FILE, &report), Ok(Verdict::Good));
+    assert_eq!(report, stm::run_one(FILE, 0).unwrap());
+    assert_eq!(stm::explore(FILE, 2), Err(Error::MoreStates));
+    assert_eq!(stm::explore_to(FILE, 2, 1), Err(Error::MoreStates));
+    assert_eq!((stm::explore_to(FILE, 3, 0), stm::explore_to(FILE, 3, 2)), (Err(Error::NoEnd), Err(Error::NoEnd)));
+    assert_eq!((stm::explore(FILE, 0), stm::explore(FILE, 16_777_217)), (Err(Error::States), Err(Error::States)));
+    assert_eq!(stm::explore("(", 10), Err(Error::Shape));
+}
+
+#[test]
 fn a_store_turn_by_turn() {
     let program = Program::read(FILE).unwrap();
     assert_eq!((program.tasks(), program.variable("x"), program.variable("y")), (3, Some(0), None));

@@ -1,3 +1,4 @@
 pub mod ProgramHandle
 pub mod StoreHandle
 pub mod WorkerHandle
+pub mod Written

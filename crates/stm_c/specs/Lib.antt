@@ -1,4 +1,8 @@
+pub mod Calls
+pub mod Files
 pub mod Looking
+pub mod Named
+pub mod Numbers
 pub mod ProgramHandle
 pub mod Rooms
 pub mod StoreHandle

@@ -3,6 +3,7 @@
 ghost use Rattle.std.specs.Prelude.{◌≡◌, pos};
 ghost use Rattle.checker.specs.Verdicts.{Judges};
 ghost use Rattle.checker.specs.declared.verdict.Verdict.TheVariants as Verdict;
+ghost use Rattle.stm_c.specs.Files.{Judged};
 
 use crate::codes::{bad_part, file_fault};
 use checker::{Verdict, check};
@@ -13,6 +14,7 @@ use std::alloc::Global;
 #[unsafe(no_mangle)]
 pub extern "C" fn stm_check(alloc: Global, file: &[u8], report: &[u8]) -> i32
     ensures good { result ≡ pos 0 → Judges file.now report.now Verdict.Good }
+    ensures answer { Judged file.now report.now result }
 {
     match check(alloc, file, report) {
         Ok(Verdict::Good) => 0,

@@ -1,7 +1,8 @@
 //! What the calls answer in numbers: 0 or more where they did what they are for, else why not.
 
-ghost use Rattle.std.specs.Prelude.{◌≡◌, ◌≢◌, pos};
+ghost use Rattle.std.specs.Prelude.{◌≡◌, ◌≢◌, pos, negsuc};
 ghost use Rattle.stm_c.specs.Looking.{number_of_task};
+ghost use Rattle.stm_c.specs.Numbers.{IsBelow, entered, kind, no_such, number_of_fault, number_of_part, number_of_try, taken_as, told_brought, told_observed, told_served, told_thrown};
 
 use book::{Finish, Serial};
 use checker::Part;
@@ -20,11 +21,16 @@ pub(crate) const UNKNOWN: i32 = -9;
 pub(crate) const NO_WORKER: i32 = -10;
 /// The worker has no ended attempt to bring.
 pub(crate) const NOT_ENDED: i32 = -11;
-
 /// There is no room for another task; or there would be more tasks than there may be.
 pub(crate) const NO_ROOM: i32 = -14;
 /// A task is ready or running, and the report could not account for it.
 pub(crate) const WORK_LEFT: i32 = -15;
+/// The number of places to look at is not from 1 to 16,777,216.
+pub(crate) const STATES: i32 = -16;
+/// More places are reached than were asked for.
+pub(crate) const MORE: i32 = 9;
+/// There is no end of that number.
+pub(crate) const NO_END: i32 = 10;
 
 /// A kind, and a number.
 #[repr(C)]
@@ -53,18 +59,27 @@ pub struct Standing {
     pub given_up: usize,
 }
 
-fn kind(kind: i32) -> Told {
-    Told { kind, value: 0 }
+fn bare(number: i32) -> Told
+    ensures { result ≡ kind number }
+{
+    Told {
+        kind: number,
+        value: 0,
+    }
 }
 
 /// No such task or transaction.
-pub(crate) fn unknown() -> Told {
-    kind(UNKNOWN)
+pub(crate) fn unknown() -> Told
+    ensures { result ≡ no_such }
+{
+    bare(UNKNOWN)
 }
 
 /// Why a file is refused. Never 0.
 pub(crate) fn file_fault(fault: ReadFault) -> i32
-    ensures { result ≢ pos 0 }
+    ensures never { result ≢ pos 0 }
+    ensures below { IsBelow result }
+    ensures number { result ≡ number_of_fault fault }
 {
     match fault {
         ReadFault::TooLong => -1,
@@ -79,7 +94,8 @@ pub(crate) fn file_fault(fault: ReadFault) -> i32
 
 /// Why a schedule is refused. Never 0.
 pub(crate) fn schedule_fault(fault: ReadFault) -> i32
-    ensures { result ≢ pos 0 }
+    ensures never { result ≢ pos 0 }
+    ensures below { IsBelow result }
 {
     match fault {
         ReadFault::TooLong => -21,
@@ -94,7 +110,8 @@ pub(crate) fn schedule_fault(fault: ReadFault) -> i32
 
 /// The part of a report that does not hold. Never 0.
 pub(crate) fn bad_part(part: Part) -> i32
-    ensures { result ≢ pos 0 }
+    ensures never { result ≢ pos 0 }
+    ensures number { result ≡ number_of_part part }
 {
     match part {
         Part::Text => 1,
@@ -117,7 +134,9 @@ pub(crate) fn submitted(task: Option<TaskId>) -> i64
 }
 
 /// A job, or the task -1 where there is none.
-pub(crate) fn job_of(job: Option<Job>) -> Taken {
+pub(crate) fn job_of(job: Option<Job>) -> Taken
+    ensures { result ≡ taken_as job }
+{
     match job {
         Some(job) => Taken {
             task: i64::from(job.task.0),
@@ -127,37 +146,46 @@ pub(crate) fn job_of(job: Option<Job>) -> Taken {
     }
 }
 
-fn committed(number: u64) -> Told {
+fn committed(number: u64) -> Told
+    ensures { result ≡ entered number }
+{
+    let most = i64::MAX as u64;
     Told {
         kind: 0,
-        value: i64::try_from(number).unwrap_or(i64::MAX),
+        value: number.min(most) as i64,
     }
 }
 
 /// 0 committed, with the number of its entry; 1 parked; 2 stale; 3 the task was not running.
-pub(crate) fn brought(how: Brought) -> Told {
+pub(crate) fn brought(how: Brought) -> Told
+    ensures { result ≡ told_brought how }
+{
     match how {
-        Brought::NotEnded => kind(NOT_ENDED),
-        Brought::OtherTask => kind(UNKNOWN),
+        Brought::NotEnded => bare(NOT_ENDED),
+        Brought::OtherTask => bare(UNKNOWN),
         Brought::Finished(Finish::Committed(number)) => committed(number),
-        Brought::Finished(Finish::Parked) => kind(1),
-        Brought::Finished(Finish::Stale) => kind(2),
-        Brought::Finished(Finish::NotRunning) => kind(3),
+        Brought::Finished(Finish::Parked) => bare(1),
+        Brought::Finished(Finish::Stale) => bare(2),
+        Brought::Finished(Finish::NotRunning) => bare(3),
     }
 }
 
 /// As `brought`; 4 given up for want of memory.
-pub(crate) fn served(how: Serial) -> Told {
+pub(crate) fn served(how: Serial) -> Told
+    ensures { result ≡ told_served how }
+{
     match how {
         Serial::Committed(number) => committed(number),
-        Serial::Parked => kind(1),
-        Serial::NotRunning => kind(3),
-        Serial::Abandoned => kind(4),
+        Serial::Parked => bare(1),
+        Serial::NotRunning => bare(3),
+        Serial::Abandoned => bare(4),
     }
 }
 
 /// 0 ended, 2 stale.
-pub(crate) fn tried(how: Tried) -> i32 {
+pub(crate) fn tried(how: Tried) -> i32
+    ensures { result ≡ number_of_try how }
+{
     match how {
         Tried::Ended => 0,
         Tried::Stale => 2,
@@ -167,21 +195,25 @@ pub(crate) fn tried(how: Tried) -> i32 {
 
 /// 0 returned, with the value; 1 retries; 2 stale; 5 thrown by the program, with the value;
 /// 6 overflow; 7 division by zero; 8 a standing condition broken, with its number.
-pub(crate) fn observed(how: Observed) -> Told {
+pub(crate) fn observed(how: Observed) -> Told
+    ensures { result ≡ told_observed how }
+{
     match how {
         Observed::Outcome(Outcome::Returned(value)) => Told { kind: 0, value },
-        Observed::Outcome(Outcome::Retries) => kind(1),
+        Observed::Outcome(Outcome::Retries) => bare(1),
         Observed::Outcome(Outcome::Thrown(fault)) => thrown(fault),
-        Observed::Stale => kind(2),
-        Observed::Memory => kind(MEMORY),
+        Observed::Stale => bare(2),
+        Observed::Memory => bare(MEMORY),
     }
 }
 
-fn thrown(fault: Fault) -> Told {
+fn thrown(fault: Fault) -> Told
+    ensures { result ≡ told_thrown fault }
+{
     match fault {
         Fault::User(value) => Told { kind: 5, value },
-        Fault::Overflow => kind(6),
-        Fault::DivideByZero => kind(7),
+        Fault::Overflow => bare(6),
+        Fault::DivideByZero => bare(7),
         Fault::Broken(condition) => Told {
             kind: 8,
             value: i64::from(condition.0),

@@ -1,7 +1,10 @@
 //! A store, as a handle: its calls stand under the host's lock.
 
-ghost use Rattle.std.specs.Prelude.{◌≡◌, ◌<◌, length};
-ghost use Rattle.txn_programs.specs.Listing.{tasks};
+ghost use Rattle.std.specs.Prelude.{◌≡◌, ◌≢◌, pos, IfOk, string_bytes};
+ghost use Rattle.stm_store.specs.Working.{IsTextOf};
+ghost use Rattle.stm_c.specs.Calls.{StaysOf, Takes, Finishes, ServesAny, GivesUp, Reports, LeavesChecked};
+ghost use Rattle.stm_c.specs.Rooms.{Holds};
+ghost use Rattle.stm_c.specs.declared.codes.Taken.{Taken};
 
 use crate::codes::{
     MEMORY, NO_ROOM, NO_WORKER, Taken, Told, UNKNOWN, brought, job_of, served, unknown,
@@ -14,8 +17,8 @@ use crate::worker_handle::{WorkerHandle, give as give_worker};
 use crate::writing::copy;
 use core::mem::replace_with;
 use std::alloc::Global;
-use stm_store::{Program, Store};
-use txn::TaskId;
+use stm_store::{Program, Store, Worker};
+use txn::{Memory, TaskId};
 
 /// Opens a store of the program, for so many workers. 0, and `out` holds it; -6, -10: want of
 /// memory, more than 32 workers; `out` is as it was.
@@ -26,7 +29,10 @@ pub extern "C" fn stm_store_open(
     workers: usize,
     checkpoint: u32,
     out: &mut *mut u8,
-) -> i32 {
+) -> i32
+    ensures program { program.new.value ≡ program.old.value }
+    ensures kept { result ≢ pos 0 → out.new ≡ out.old }
+{
     open(alloc, program_of(program), workers, checkpoint, 0, out)
 }
 
@@ -40,7 +46,10 @@ pub extern "C" fn stm_store_open_with_room(
     checkpoint: u32,
     spare: usize,
     out: &mut *mut u8,
-) -> i32 {
+) -> i32
+    ensures program { program.new.value ≡ program.old.value }
+    ensures kept { result ≢ pos 0 → out.new ≡ out.old }
+{
     open(alloc, program_of(program), workers, checkpoint, spare, out)
 }
 
@@ -51,7 +60,9 @@ fn open(
     checkpoint: u32,
     spare: usize,
     out: &mut *mut u8,
-) -> i32 {
+) -> i32
+    ensures kept { result ≢ pos 0 → out.new ≡ out.old }
+{
     if workers > 32 {
         return NO_WORKER;
     }
@@ -76,16 +87,22 @@ pub extern "C" fn stm_store_drop(store: StoreHandle) {
 
 /// A worker of the store. 0, and `out` holds it; -6, -10: want of memory, no worker left.
 #[unsafe(no_mangle)]
-pub extern "C" fn stm_store_worker(
-    alloc: Global,
-    store: &mut StoreHandle,
-    out: &mut *mut u8,
-) -> i32 {
-    let found = replace_with(store, (), |store, _| {
-        let mut held = store.into_parts().into_box();
-        let found = held.worker();
-        (StoreHandle::of_parts(Parts::of(held)), found)
-    });
+pub extern "C" fn stm_store_worker(alloc: Global, store: &mut StoreHandle, out: &mut *mut u8) -> i32
+    ensures book { store.new.value.book ≡ store.old.value.book }
+    ensures stays { StaysOf store.old.value store.new.value }
+    ensures kept { result ≢ pos 0 → out.new ≡ out.old }
+{
+    let found = replace_with(
+        store,
+        (),
+        |store, _|
+            ensures { (result.0.value.book ≡ store.value.book) × StaysOf store.value result.0.value }
+        {
+            let mut held = store.into_parts().into_box();
+            let found = held.worker();
+            (StoreHandle::of_parts(Parts::of(held)), found)
+        },
+    );
     let Some(worker) = found else {
         return NO_WORKER;
     };
@@ -99,21 +116,39 @@ pub extern "C" fn stm_store_worker(
 /// The lowest ready task, which is then running, with its transaction; the task -1 where none is
 /// ready.
 #[unsafe(no_mangle)]
-pub extern "C" fn stm_store_take_job(store: &mut StoreHandle) -> Taken {
+pub extern "C" fn stm_store_take_job(store: &mut StoreHandle) -> Taken
+    ensures { Takes store.old.value result store.new.value }
+{
     take(store)
 }
 
-fn take(store: &mut StoreHandle) -> Taken {
-    replace_with(store, (), |store, _| {
-        let mut held = store.into_parts().into_box();
-        let taken = job_of(held.take());
-        (StoreHandle::of_parts(Parts::of(held)), taken)
-    })
+fn take(store: &mut StoreHandle) -> Taken
+    ensures { Takes store.old.value result store.new.value }
+{
+    replace_with(
+        store,
+        (),
+        |store, _|
+            ensures { Takes store.value result.1 result.0.value }
+        {
+            let mut held = store.into_parts().into_box();
+            let taken = taken_from(&mut held);
+            (StoreHandle::of_parts(Parts::of(held)), taken)
+        },
+    )
+}
+
+fn taken_from(store: &mut Store) -> Taken
+    ensures { Takes store.old result store.new }
+{
+    job_of(store.take())
 }
 
 /// The lowest ready task, which is then running, or -1 where none is ready.
 #[unsafe(no_mangle)]
-pub extern "C" fn stm_store_take(store: &mut StoreHandle) -> i64 {
+pub extern "C" fn stm_store_take(store: &mut StoreHandle) -> i64
+    ensures { (answer : Taken) × Takes store.old.value answer store.new.value × (result ≡ answer.task) }
+{
     take(store).task
 }
 
@@ -147,23 +182,41 @@ fn finished(store: &mut Store, worker: &mut WorkerHandle) -> Told
             requires { worker.value.catalogue.now ≡ store.now.catalogue.now }
         {
             let mut held = worker.into_parts().into_box();
-            let how = store.finish(&mut held);
-            (WorkerHandle::of_parts(Parts::of(held)), brought(how))
+            let how = ended(store, &mut held);
+            (WorkerHandle::of_parts(Parts::of(held)), how)
         },
     )
 }
 
-/// A turn of a running task on the present values.
-#[unsafe(no_mangle)]
-pub extern "C" fn stm_store_serial(store: &mut StoreHandle, task: u32) -> Told {
-    replace_with(store, task, |store, task| {
-        let mut held = store.into_parts().into_box();
-        let how = turn(&mut held, task);
-        (StoreHandle::of_parts(Parts::of(held)), how)
-    })
+/// The worker's end is brought to the store.
+fn ended(store: &mut Store, worker: &mut Worker) -> Told
+    requires { worker.old.catalogue.now ≡ store.old.catalogue.now }
+    ensures { Finishes store.old worker.old result store.new worker.new }
+{
+    brought(store.finish(worker))
 }
 
-fn turn(store: &mut Store, task: u32) -> Told {
+/// A turn of a running task on the present values. -9: there is no such task.
+#[unsafe(no_mangle)]
+pub extern "C" fn stm_store_serial(store: &mut StoreHandle, task: u32) -> Told
+    ensures { ServesAny store.old.value task result store.new.value }
+{
+    replace_with(
+        store,
+        task,
+        |store, task|
+            ensures { ServesAny store.value task result.1 result.0.value }
+        {
+            let mut held = store.into_parts().into_box();
+            let how = turn(&mut held, task);
+            (StoreHandle::of_parts(Parts::of(held)), how)
+        },
+    )
+}
+
+fn turn(store: &mut Store, task: u32) -> Told
+    ensures { ServesAny store.old task result store.new }
+{
     if task as usize >= store.tasks() {
         return unknown();
     }
@@ -172,15 +225,25 @@ fn turn(store: &mut Store, task: u32) -> Told {
 
 /// Gives a running task up: 0; 3 where it was not running; -9 where there is no such task.
 #[unsafe(no_mangle)]
-pub extern "C" fn stm_store_give_up(store: &mut StoreHandle, task: u32) -> i32 {
-    replace_with(store, task, |store, task| {
-        let mut held = store.into_parts().into_box();
-        let how = given_up(&mut held, task);
-        (StoreHandle::of_parts(Parts::of(held)), how)
-    })
+pub extern "C" fn stm_store_give_up(store: &mut StoreHandle, task: u32) -> i32
+    ensures { GivesUp store.old.value task result store.new.value }
+{
+    replace_with(
+        store,
+        task,
+        |store, task|
+            ensures { GivesUp store.value task result.1 result.0.value }
+        {
+            let mut held = store.into_parts().into_box();
+            let how = given_up(&mut held, task);
+            (StoreHandle::of_parts(Parts::of(held)), how)
+        },
+    )
 }
 
-fn given_up(store: &mut Store, task: u32) -> i32 {
+fn given_up(store: &mut Store, task: u32) -> i32
+    ensures { GivesUp store.old task result store.new }
+{
     if task as usize >= store.tasks() {
         return UNKNOWN;
     }
@@ -189,12 +252,20 @@ fn given_up(store: &mut Store, task: u32) -> i32 {
 
 /// The base becomes the present, and the journal is empty.
 #[unsafe(no_mangle)]
-pub extern "C" fn stm_store_checkpoint(store: &mut StoreHandle) {
-    replace_with(store, (), |store, _| {
-        let mut held = store.into_parts().into_box();
-        held.checkpoint();
-        (StoreHandle::of_parts(Parts::of(held)), ())
-    });
+pub extern "C" fn stm_store_checkpoint(store: &mut StoreHandle)
+    ensures { LeavesChecked store.old.value store.new.value }
+{
+    replace_with(
+        store,
+        (),
+        |store, _|
+            ensures { LeavesChecked store.value result.0.value }
+        {
+            let mut held = store.into_parts().into_box();
+            held.checkpoint();
+            (StoreHandle::of_parts(Parts::of(held)), ())
+        },
+    );
 }
 
 /// Gives what is left a turn, and copies the report's text into the room: 0, and `wanted` is how
@@ -204,15 +275,31 @@ pub extern "C" fn stm_store_report(
     store: &mut StoreHandle,
     room: &mut [u8],
     wanted: &mut usize,
-) -> i32 {
+) -> i32
+    ensures turns { Reports store.old.value store.new.value }
+    ensures done { result ≡ pos 0 → Holds (IsTextOf store.new.value.book) room.old room.new wanted.new }
+{
     *wanted = 0;
-    let told = replace_with(store, (), |store, _| {
-        let mut held = store.into_parts().into_box();
-        let told = held.report();
-        (StoreHandle::of_parts(Parts::of(held)), told)
-    });
+    let told = replace_with(
+        store,
+        (),
+        |store, _|
+            ensures { Reports store.value result.0.value × IfOk result.1 (λ text. IsTextOf result.0.value.book (string_bytes text)) }
+        {
+            let mut held = store.into_parts().into_box();
+            let told = reported(&mut held);
+            (StoreHandle::of_parts(Parts::of(held)), told)
+        },
+    );
     match told {
         Ok(text) => copy(text.as_bytes(), room, wanted),
         Err(_) => MEMORY,
     }
+}
+
+fn reported(store: &mut Store) -> Result<String, Memory>
+    ensures turns { Reports store.old store.new }
+    ensures text { IfOk result (λ text. IsTextOf store.new.book (string_bytes text)) }
+{
+    store.report()
 }

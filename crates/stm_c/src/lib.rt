@@ -1,11 +1,13 @@
 //! The library as C and Rust hosts link it: whole files in, whole texts out (`checking`, `running`,
-//! `playing`); and a program, stores of it and their workers, for a host that has threads and a
-//! lock of its own (`reading`, `hosting`, `submitting`, `looking`, `trying`). No call starts a thread or takes a lock. What
-//! each answers in numbers stands in `codes`, and in the header for C.
+//! `playing`, `exploring`); and a program, stores of it and their workers, for a host that has
+//! threads and a lock of its own (`reading`, `hosting`, `submitting`, `looking`, `trying`). No call
+//! starts a thread or takes a lock. What each answers in numbers stands in `codes`, and in the
+//! header for C.
 #![tactic(auto)]
 
 mod checking;
 mod codes;
+mod exploring;
 mod hosting;
 mod looking;
 mod parts;

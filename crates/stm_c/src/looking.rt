@@ -1,10 +1,11 @@
 //! What is seen of a store: under the host's lock. Nothing changes.
 
-ghost use Rattle.std.specs.Prelude.{◌≡◌, pos, IfOk, string_bytes};
+ghost use Rattle.std.specs.Prelude.{◌≡◌, ◌≢◌, pos, IfOk, string_bytes};
 ghost use Rattle.book.specs.Counting.{AreCounts};
+ghost use Rattle.book.specs.Turns.{IsIdle};
 ghost use Rattle.stm_store.specs.Working.{IsFileOf, IsTextOf, IsValueOf};
 ghost use Rattle.stm_c.specs.Rooms.{Holds};
-ghost use Rattle.stm_c.specs.Looking.{counts_in, ValueIs};
+ghost use Rattle.stm_c.specs.Looking.{counts_in, NoValue, Tells, ValueIs};
 
 use crate::codes::{MEMORY, Standing, UNKNOWN, WORK_LEFT};
 use crate::parts::Parts;
@@ -16,13 +17,14 @@ use stm_store::{FileFault, ReportFault};
 /// How many tasks stand how.
 #[unsafe(no_mangle)]
 pub extern "C" fn stm_store_counts(store: &mut StoreHandle, out: &mut Standing)
-    ensures { AreCounts store.old.value.book.tasks (counts_in out.new) }
+    ensures counts { AreCounts store.old.value.book.tasks (counts_in out.new) }
+    ensures stays { store.new.value ≡ store.old.value }
 {
     let counts = replace_with(
         store,
         (),
         |store, _|
-            ensures { AreCounts store.value.book.tasks result.1 }
+            ensures { AreCounts store.value.book.tasks result.1 × (result.0.value ≡ store.value) }
         {
             let held = store.into_parts().into_box();
             let counts = held.counts();
@@ -48,6 +50,8 @@ pub extern "C" fn stm_store_value(
     version: &mut u64,
 ) -> i32
     ensures done { result ≡ pos 0 → ValueIs store.old.value.book name.now value.new version.new }
+    ensures unknown { result ≢ pos 0 → (result ≡ UNKNOWN) × NoValue store.old.value.book name.now × (value.new ≡ value.old) × (version.new ≡ version.old) }
+    ensures stays { store.new.value ≡ store.old.value }
 {
     let Ok(name) = str::from_utf8(name) else {
         return UNKNOWN;
@@ -56,7 +60,7 @@ pub extern "C" fn stm_store_value(
         store,
         name,
         |store, name|
-            ensures { IsValueOf store.value.book name.now result.1 }
+            ensures { IsValueOf store.value.book name.now result.1 × (result.0.value ≡ store.value) }
         {
             let held = store.into_parts().into_box();
             let found = held.value(name);
@@ -81,13 +85,14 @@ pub extern "C" fn stm_store_file(
     wanted: &mut usize,
 ) -> i32
     ensures done { result ≡ pos 0 → Holds (IsFileOf store.old.value.book) room.old room.new wanted.new }
+    ensures stays { store.new.value ≡ store.old.value }
 {
     *wanted = 0;
     let told = replace_with(
         store,
         (),
         |store, _|
-            ensures { IfOk result.1 (λ text. IsFileOf store.value.book (string_bytes text)) }
+            ensures { IfOk result.1 (λ text. IsFileOf store.value.book (string_bytes text)) × (result.0.value ≡ store.value) }
         {
             let held = store.into_parts().into_box();
             let told = held.file();
@@ -109,13 +114,15 @@ pub extern "C" fn stm_store_report_now(
     wanted: &mut usize,
 ) -> i32
     ensures done { result ≡ pos 0 → Holds (IsTextOf store.old.value.book) room.old room.new wanted.new }
+    ensures left { result ≡ WORK_LEFT → ¬ (IsIdle store.old.value.book) }
+    ensures stays { store.new.value ≡ store.old.value }
 {
     *wanted = 0;
     let told = replace_with(
         store,
         (),
         |store, _|
-            ensures { IfOk result.1 (λ text. IsTextOf store.value.book (string_bytes text)) }
+            ensures { Tells store.value.book result.1 × (result.0.value ≡ store.value) }
         {
             let held = store.into_parts().into_box();
             let told = held.report_now();

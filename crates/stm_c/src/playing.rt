@@ -1,5 +1,10 @@
 //! A schedule played on the stepped world of a file.
 
+ghost use Rattle.std.specs.Prelude.{◌≡◌, IfErr, IfOk, pos};
+ghost use Rattle.world_runner.specs.Showing.{IsShowing};
+ghost use Rattle.stm_c.specs.Numbers.{IsBelow};
+ghost use Rattle.stm_c.specs.Rooms.{Holds};
+
 use crate::codes::{MEMORY, file_fault, schedule_fault};
 use crate::writing::copy;
 use run_faults::RunFault;
@@ -17,13 +22,27 @@ pub extern "C" fn stm_world(
     schedule: &[u8],
     room: &mut [u8],
     wanted: &mut usize,
-) -> i32 {
+) -> i32
+    ensures done { result ≡ pos 0 → Holds (IsShowing file.now schedule.now) room.old room.new wanted.new }
+{
     *wanted = 0;
+    match seen(alloc, file, schedule) {
+        Ok(text) => copy(text.as_slice(), room, wanted),
+        Err(code) => code,
+    }
+}
+
+/// The bytes of what is seen; else why there are none, which is below 0.
+#[tactic(auto, using(crate::proofs::Written::showing_in))]
+fn seen(alloc: Global, file: &[u8], schedule: &[u8]) -> Result<Vec<u8>, i32>
+    ensures seen { IfOk result (λ text. IsShowing file.now schedule.now text.items) }
+    ensures none { IfErr result IsBelow }
+{
     let mut out = Out::new(Vec::new(alloc));
     match world_bytes(alloc, file, schedule, &mut out) {
-        Ok(()) => copy(out.into_inner().as_slice(), room, wanted),
-        Err(RunFault::Input(fault)) => file_fault(fault),
-        Err(RunFault::Schedule(fault)) => schedule_fault(fault),
-        Err(RunFault::Memory) | Err(RunFault::Output) => MEMORY,
+        Ok(()) => Ok(out.into_inner()),
+        Err(RunFault::Input(fault)) => Err(file_fault(fault)),
+        Err(RunFault::Schedule(fault)) => Err(schedule_fault(fault)),
+        Err(RunFault::Memory) | Err(RunFault::Output) => Err(MEMORY),
     }
 }

@@ -1,6 +1,7 @@
 //! Tasks that come in while a store is worked on: under the host's lock.
 
-ghost use Rattle.std.specs.Prelude.{◌≡◌};
+ghost use Rattle.std.specs.Prelude.{◌≡◌, length};
+ghost use Rattle.txn_programs.specs.Listing.{tasks};
 ghost use Rattle.stm_c.specs.Looking.{SubmitsBy};
 
 use crate::codes::{UNKNOWN, submitted};
@@ -41,20 +42,38 @@ fn submit(store: &mut Store, tx: u32) -> i64
 
 /// How many tasks more can be submitted.
 #[unsafe(no_mangle)]
-pub extern "C" fn stm_store_spare(store: &mut StoreHandle) -> usize {
-    replace_with(store, (), |store, _| {
-        let held = store.into_parts().into_box();
-        let spare = held.spare();
-        (StoreHandle::of_parts(Parts::of(held)), spare)
-    })
+pub extern "C" fn stm_store_spare(store: &mut StoreHandle) -> usize
+    ensures value { result ≡ store.old.value.book.spare }
+    ensures stays { store.new.value ≡ store.old.value }
+{
+    replace_with(
+        store,
+        (),
+        |store, _|
+            ensures { (result.1 ≡ store.value.book.spare) × (result.0.value ≡ store.value) }
+        {
+            let held = store.into_parts().into_box();
+            let spare = held.spare();
+            (StoreHandle::of_parts(Parts::of(held)), spare)
+        },
+    )
 }
 
 /// How many tasks there are: those of the program, and those that were submitted.
 #[unsafe(no_mangle)]
-pub extern "C" fn stm_store_tasks(store: &mut StoreHandle) -> usize {
-    replace_with(store, (), |store, _| {
-        let held = store.into_parts().into_box();
-        let tasks = held.tasks();
-        (StoreHandle::of_parts(Parts::of(held)), tasks)
-    })
+pub extern "C" fn stm_store_tasks(store: &mut StoreHandle) -> usize
+    ensures value { result ≡ length (tasks store.old.value.book.catalogue) }
+    ensures stays { store.new.value ≡ store.old.value }
+{
+    replace_with(
+        store,
+        (),
+        |store, _|
+            ensures { (result.1 ≡ length (tasks store.value.book.catalogue)) × (result.0.value ≡ store.value) }
+        {
+            let held = store.into_parts().into_box();
+            let tasks = held.tasks();
+            (StoreHandle::of_parts(Parts::of(held)), tasks)
+        },
+    )
 }

@@ -19,3 +19,15 @@ pub(crate) fn copy(text: &[u8], room: &mut [u8], wanted: &mut usize) -> i32
     room[..text.len()].copy_from_slice(text);
     0
 }
+
+/// As `copy`, but for the answer where the text was copied, which is this one.
+pub(crate) fn copied_as(done: i32, text: &[u8], room: &mut [u8], wanted: &mut usize) -> i32
+    ensures wanted { wanted.new ≡ length text.now }
+    ensures fits { length text.now ≤ length room.old → (result ≡ done) × (room.new ≡ text.now ++ drop (length text.now) room.old) }
+    ensures short { length room.old < length text.now → (result ≡ SHORT) × (room.new ≡ room.old) }
+{
+    match copy(text, room, wanted) {
+        0 => done,
+        short => short,
+    }
+}

@@ -1,0 +1,19 @@
+-- What the calls on whole files answer in numbers.
+use Rattle.std.specs.Prelude.{◌≡◌, ℕ, ℤ, List, Result, Ok, Err, ◌⊎◌}
+use Rattle.txn_text.specs.Faults.{IsFirst}
+use Rattle.text_words.specs.declared.fault.ReadFault.{ReadFault}
+use Rattle.text_words.specs.declared.fault.ReadFault.TheVariants as refused
+use Rattle.checker.specs.Verdicts.{Judges}
+use Rattle.checker.specs.declared.verdict.Verdict.{Verdict}
+use Rattle.stm_c.specs.Numbers.{number_of_verdict}
+
+-- the verdict on the report; or want of memory, or the first fault of the file
+abbrev pub IsJudged : List ℕ → List ℕ → Result Verdict ReadFault → Type 0
+IsJudged file report (Ok v) = Judges file report v
+IsJudged file report (Err e) = (e ≡ refused.Memory) ⊎ IsFirst file e
+
+-- `stm_check`: the number of such an answer
+pub record Judged (file report : List ℕ) (n : ℤ) : Type 0 where
+  pub answer : Result Verdict ReadFault
+  pub is : IsJudged file report answer
+  pub answered : n ≡ number_of_verdict answer

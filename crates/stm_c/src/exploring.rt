@@ -1,0 +1,99 @@
+//! Every order of a file's tasks.
+
+ghost use Rattle.std.specs.Prelude.{◌≡◌, ◌-◌, IfErr, IfOk, pos};
+ghost use Rattle.explore_runner.specs.Showing.{IsFoundText, IsMoreText, IsShown};
+ghost use Rattle.explore_runner.specs.Witness.{IsAnswer, IsWitness};
+ghost use Rattle.stm_c.specs.Numbers.{IsBelow};
+ghost use Rattle.stm_c.specs.Rooms.{Holds};
+
+use crate::codes::{MEMORY, MORE, NO_END, STATES, file_fault};
+use crate::writing::{copied_as, copy};
+use explore_options::Limit;
+use explore_runner::{Sight, Witnessed, explore_bytes, witness_bytes};
+use run_faults::RunFault;
+use run_sink::Out;
+use std::alloc::Global;
+
+/// Sees every order of the file's tasks, of at most so many places, and copies what is found into
+/// the room: 0, and `wanted` is how long it is. 9: more places are reached, and the text says so. -1
+/// to -7: the file is refused, or want of memory. -8: the room is too short, and `wanted` is how
+/// much is needed. -16: the number of places is not from 1 to 16777216.
+#[unsafe(no_mangle)]
+pub extern "C" fn stm_explore(
+    alloc: Global,
+    file: &[u8],
+    states: u32,
+    room: &mut [u8],
+    wanted: &mut usize,
+) -> i32
+    ensures whole { result ≡ pos 0 → Holds (IsFoundText file.now) room.old room.new wanted.new }
+    ensures more { result ≡ pos 9 → Holds (IsMoreText file.now states) room.old room.new wanted.new }
+{
+    *wanted = 0;
+    let Some(limit) = Limit::new(states) else {
+        return STATES;
+    };
+    match found(alloc, file, limit) {
+        Ok((Sight::Whole, text)) => copy(text.as_slice(), room, wanted),
+        Ok((Sight::More, text)) => copied_as(MORE, text.as_slice(), room, wanted),
+        Err(code) => code,
+    }
+}
+
+/// The bytes of what is found; else why there are none, which is below 0.
+#[tactic(auto, using(crate::proofs::Written::shown_in))]
+fn found(alloc: Global, file: &[u8], limit: Limit) -> Result<(Sight, Vec<u8>), i32>
+    ensures found { IfOk result (λ s. IsShown file.now limit s.0 s.1.items) }
+    ensures none { IfErr result IsBelow }
+{
+    let mut out = Out::new(Vec::new(alloc));
+    match explore_bytes(alloc, file, limit, &mut out) {
+        Ok(sight) => Ok((sight, out.into_inner())),
+        Err(RunFault::Input(fault)) => Err(file_fault(fault)),
+        Err(_) => Err(MEMORY),
+    }
+}
+
+/// Copies the report of a run that comes to the end of this number, counted from 1 as
+/// `stm_explore` lists them, by as few turns as any order has to it. As `stm_explore`; 10: there is
+/// no end of that number, and `wanted` is 0.
+#[unsafe(no_mangle)]
+pub extern "C" fn stm_explore_to(
+    alloc: Global,
+    file: &[u8],
+    states: u32,
+    end: usize,
+    room: &mut [u8],
+    wanted: &mut usize,
+) -> i32
+    ensures report { result ≡ pos 0 → Holds (IsWitness file.now (end - 1)) room.old room.new wanted.new }
+    ensures more { result ≡ pos 9 → Holds (IsMoreText file.now states) room.old room.new wanted.new }
+{
+    *wanted = 0;
+    let Some(limit) = Limit::new(states) else {
+        return STATES;
+    };
+    if end == 0 {
+        return NO_END;
+    }
+    match way(alloc, file, limit, end - 1) {
+        Ok((Witnessed::Report, text)) => copy(text.as_slice(), room, wanted),
+        Ok((Witnessed::Beyond, text)) => copied_as(MORE, text.as_slice(), room, wanted),
+        Ok((Witnessed::NoEnd, _)) => NO_END,
+        Err(code) => code,
+    }
+}
+
+/// The bytes of the report to the end of this number, counted from 0; else why there are none.
+#[tactic(auto, using(crate::proofs::Written::answer_in))]
+fn way(alloc: Global, file: &[u8], limit: Limit, end: usize) -> Result<(Witnessed, Vec<u8>), i32>
+    ensures found { IfOk result (λ s. IsAnswer file.now limit end s.0 s.1.items) }
+    ensures none { IfErr result IsBelow }
+{
+    let mut out = Out::new(Vec::new(alloc));
+    match witness_bytes(alloc, file, limit, end, &mut out) {
+        Ok(answer) => Ok((answer, out.into_inner())),
+        Err(RunFault::Input(fault)) => Err(file_fault(fault)),
+        Err(_) => Err(MEMORY),
+    }
+}
