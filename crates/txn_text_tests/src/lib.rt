@@ -16,6 +16,8 @@ mod report_faults;
 #[cfg(test)]
 mod report_reading;
 #[cfg(test)]
+mod round_trips;
+#[cfg(test)]
 mod schedule_faults;
 #[cfg(test)]
 mod schedule_reading;

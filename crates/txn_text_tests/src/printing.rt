@@ -47,6 +47,16 @@ const FILES: &[(&str, &str)] = &[
         "(tx t ( seq ) 0) ; a comment\n(run t 1)",
         "(tx t (seq) 0)\n(run t 1)\n",
     ),
+    // Every word there is.
+    (
+        "(stm 2)(var y 1)(var x -2)(always c(and(eq 1 1)(or(not(lt y 0))(le 0 x))))\
+            (tx all(seq(skip)(set x(add(sub y 2)(mul(div x 3)(rem y 4))))\
+            (if(eq x 1)(retry)(throw 5))(repeat 6(orelse(retry)(skip))))(add x y))(run all 0)",
+        "(stm 2)\n(var y 1)\n(var x -2)\n(always c (and (eq 1 1) (or (not (lt y 0)) (le 0 x))))\n\
+            (tx all (seq (skip) (set x (add (sub y 2) (mul (div x 3) (rem y 4)))) \
+            (if (eq x 1) (retry) (throw 5)) (repeat 6 (orelse (retry) (skip)))) (add x y))\n\
+            (run all 0)\n",
+    ),
 ];
 
 #[test]

@@ -2,8 +2,9 @@
 
 use crate::parts::{INCREMENTS, Kind, expect_beginnings, expect_faults, fault, is_file};
 use std::alloc::Global;
+use std::process::Abort;
 use txn::{Catalogue, TxId, VarId};
-use txn_text::{ReadFault, laws};
+use txn_text::{ReadFault, laws, text_is_laid_out};
 
 fn are_increments(file: &Catalogue) -> bool {
     file.initial() == [5].as_slice()
@@ -65,11 +66,28 @@ fn reads_past_comments(rt: HostRuntime) {
     expect_faults(&rt, rt.alloc(), Kind::File, COMMENTS, None);
 }
 
+/// Each of these bytes, alone and in a comment.
+fn expect_byte_faults(
+    rt: &(impl Abort + Eprint),
+    alloc: Global,
+    bytes: &[u8],
+    alone: Option<ReadFault>,
+    commented: Option<ReadFault>,
+) {
+    for b in bytes {
+        assert_eq!(rt; fault(alloc, Kind::File, &[*b]), alone, "of {b}");
+        assert_eq!(rt; fault(alloc, Kind::File, &[b';', *b]), commented, "of {b}");
+    }
+}
+
 #[test]
 fn tells_bytes(rt: HostRuntime) {
     let bad = Some(ReadFault::BadByte);
     assert!(rt; fault(rt.alloc(), Kind::File, b"(var x \xc8") == bad);
-    expect_faults(&rt, rt.alloc(), Kind::File, &["\t"], bad);
+    expect_byte_faults(&rt, rt.alloc(), &[0, 9, 11, 31, 127, 128, 255], bad, bad);
+    expect_byte_faults(&rt, rt.alloc(), &[10, 32, 59], None, None);
+    let shape = Some(ReadFault::Shape);
+    expect_byte_faults(&rt, rt.alloc(), &[33, 126], shape, None);
 }
 
 const NAMES: &[&str] = &[
@@ -144,4 +162,5 @@ fn laws_can_be_called(_rt: HostRuntime) {
     laws::tokens_are_all();
     laws::gaps_are_nothing();
     laws::comments_end_with_lines();
+    text_is_laid_out();
 }

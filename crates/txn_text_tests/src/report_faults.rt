@@ -64,7 +64,22 @@ fn limits_are_judged_last(rt: HostRuntime) {
 fn bytes_and_length_come_first(rt: HostRuntime) {
     let alloc = rt.alloc();
     let kind = Kind::Report;
-    assert_eq!(rt; fault(alloc, kind, &[200]), Some(ReadFault::BadByte));
+    for bad in [9, 31, 127, 200] {
+        let text = [b'e', b'n', b'd', bad];
+        assert_eq!(rt;
+            fault(alloc, kind, &text),
+            Some(ReadFault::BadByte),
+            "of {bad}"
+        );
+    }
+    for other in [32, 126] {
+        let text = [b'e', b'n', b'd', other];
+        assert_eq!(rt;
+            fault(alloc, kind, &text),
+            Some(ReadFault::Shape),
+            "of {other}"
+        );
+    }
     assert_eq!(rt;
         long_fault(alloc, kind, MAX_REPORT, &[]),
         Some(ReadFault::Shape)

@@ -79,7 +79,22 @@ fn a_task_of_thousands_of_digits(rt: HostRuntime) {
 fn bytes_and_length_come_first(rt: HostRuntime) {
     let alloc = rt.alloc();
     let kind = Kind::Schedule;
-    assert_eq!(rt; fault(alloc, kind, &[200]), Some(ReadFault::BadByte));
+    for bad in [9, 31, 127, 200] {
+        let text = [b'w', b'o', b'r', b'd', bad];
+        assert_eq!(rt;
+            fault(alloc, kind, &text),
+            Some(ReadFault::BadByte),
+            "of {bad}"
+        );
+    }
+    for other in [32, 126] {
+        let text = [b'w', b'o', b'r', b'd', other];
+        assert_eq!(rt;
+            fault(alloc, kind, &text),
+            Some(ReadFault::Shape),
+            "of {other}"
+        );
+    }
     assert_eq!(rt;
         long_fault(alloc, kind, MAX_SCHEDULE, &[]),
         Some(ReadFault::Shape)
