@@ -120,6 +120,16 @@ def is_explained(program, folder, file, ended):
     return (told.status, told.err) == (2, ended.err) and re.fullmatch(line, told.out) is not None
 
 
+def is_schedule_explained(program, folder, file, schedule, ended):
+    """Whether `explain --schedule` says of a schedule what `world` ended with: `good`, or a place and the same kind."""
+    told = run([program, "explain", file, "--schedule", schedule], folder)
+    if ended.status == 0:
+        return told[:3] == (0, b"good\n", b"")
+    kind = re.escape(ended.err[len(b"stm: schedule: ") : -1])
+    line = rb"line [1-9][0-9]*, column [1-9][0-9]*: " + kind + rb": [ -~]+\n"
+    return (told.status, told.err) == (2, ended.err) and re.fullmatch(line, told.out) is not None
+
+
 def is_judged(program, folder, file, report, ended):
     """Whether `explain` says of a report what `check` said: its verdict, and of one that is not good more than that."""
     told = run([program, "explain", file, report], folder)
@@ -206,6 +216,8 @@ def try_tampered(trials, program, count):
         if kind == "report" and ended.status in (0, 1):
             told = is_judged(program, trials.folder, words[1], text, ended)
             return ended, told and ended.err == b"" and (ended.out == b"good\n" if ended.status == 0 else ended.out[:4] == b"bad ")
+        if kind == "schedule" and not is_schedule_explained(program, trials.folder, words[1], text, ended):
+            return ended, False
         if kind == "schedule" and ended.status == 0:
             return ended, ended.err == b"" and ended.out.endswith(b"end\n")
         what = b"schedule" if kind == "schedule" else b"file"

@@ -85,6 +85,7 @@ COMMAND_LINES = [
     ["explore", "--help"],
     ["explain", "--help"],
     ["explain", "two-increments", "no-such-file"],
+    ["explain", "two-increments", "--schedule", "no-such-file"],
     ["--version"],
     [],
     ["bogus"],
@@ -206,6 +207,8 @@ def try_refusals(trials, program):
     texts = [["print", file], ["print", "conditions-that-are-broken"], ["print", wrong], ["print", file, "--from", "report-0"], ["print", file, "--from", "report-1"]]
     texts += [["explain", file], ["explain", wrong], ["explain", trials.write("shapeless", "(var x 5)(tx t (seq (skip) 1) x)")]]
     texts += [["explain", file, f"report-{i}"] for i in range(len(REPORTS))] + [["explain", wrong, "report-0"]]
+    for schedule in ("begin 0\nread 0 x\n", "begin 0\nread 0 y\n", "begin 0\nread 0\n"):
+        texts.append(["explain", file, "--schedule", trials.write(f"schedule-{len(texts)}", schedule)])
     for words in texts:
         refusals.try_all(" ".join([by, *words]), [program, *words], same)
     for name in FILES:

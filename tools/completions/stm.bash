@@ -7,6 +7,7 @@ _stm() {
     run) options="--workers --tries --checkpoint --help" ;;
     print) options="--from --help" ;;
     explore) options="--states --to --help" ;;
+    explain) options="--schedule --help" ;;
     esac
     if [ "$COMP_CWORD" -eq 1 ]; then
         COMPREPLY=($(compgen -W "$commands --help --version" -- "$word"))

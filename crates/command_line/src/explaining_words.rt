@@ -4,35 +4,60 @@ use crate::words::{Request, described, required, with_two};
 use clap::{Arg, ArgMatches, Command};
 use std::alloc::{AllocError, Global};
 
-/// A file to explain, or a report of it.
+/// What is to be explained.
 #[derive(Drop)]
 pub struct Explain<'a> {
     /// The path of the file.
     pub file: &'a str,
-    /// The path of the report, if it is a report that is explained.
-    pub report: Option<&'a str>,
+    /// The file itself, or what is of it.
+    pub what: Explained<'a>,
+}
+
+/// A file, or what is of a file.
+#[derive(Clone, Copy, Debug, PartialEq, Eq)]
+pub enum Explained<'a> {
+    /// The file itself.
+    File,
+    /// A report of it, at this path.
+    Report(&'a str),
+    /// A schedule of it, at this path.
+    Schedule(&'a str),
 }
 
 const EXPLAIN: &str =
-    "Tells where and why a file is refused, or which line of a report is not as replay has it.";
+    "Tells where and why a file or a schedule is refused, or which line of a report is not as replay has it.";
 
 const EXPLAINED: &str =
-    "Prints `good`, or of a file that is refused a line:\n\n    line 3, column 12: F3 Shape: an expression is wanted: INT, NAME, ..; here stands )\n\n    F1 TooLong  the place of the first byte that no file has room for\n    F2 BadByte  the first byte that no file has\n    F3 Shape    the first token with which the file is no longer the beginning of one\n    F4 Name     the first name that is declared twice or not at all\n    F5 Limit    a name, a number or a declaration that goes over a limit\n    F7 Broken   the first standing condition that is not true of the initial values\n\nOf a report that is not good it prints the verdict of stm check, the first line on which\nthat shows, and what replay has in its place:\n\n    bad 3\n    line 4: entry 2 1 inc returned 8\n    replay has entry 2 1 inc returned 7\n\nLines and columns are counted from 1, columns in bytes.\n\nStatus: 0 good, 1 the report is not good, 2 the file is refused, 3 the command line is\nrefused, 4 a file cannot be read or the output cannot be written, 5 out of memory.\n\nExample: stm explain a.stm; stm explain a.stm a.report";
+    "Prints `good`, or of a file that is refused a line:\n\n    line 3, column 12: F3 Shape: an expression is wanted: INT, NAME, ..; here stands )\n\n    F1 TooLong  the place of the first byte that no file has room for\n    F2 BadByte  the first byte that no file has\n    F3 Shape    the first token with which the file is no longer the beginning of one\n    F4 Name     the first name that is declared twice or not at all\n    F5 Limit    a name, a number or a declaration that goes over a limit\n    F7 Broken   the first standing condition that is not true of the initial values\n\nWith --schedule it says the same of a schedule of the file, which has to be read:\n\n    line 2, column 8: F4 Name: no variable of this name is declared; here stands y\n\n    F3 Shape    the first word that is none of a schedule's there, or a missing newline\n    F4 Name     the first name of a variable that is not declared\n    F5 Limit    the first number of a task that the file does not have\n\nOf a report that is not good it prints the verdict of stm check, the first line on which\nthat shows, and what replay has in its place:\n\n    bad 3\n    line 4: entry 2 1 inc returned 8\n    replay has entry 2 1 inc returned 7\n\nLines and columns are counted from 1, columns in bytes.\n\nStatus: 0 good, 1 the report is not good, 2 the file or the schedule is refused,\n3 the command line is refused, 4 a file cannot be read or the output cannot be written,\n5 out of memory.\n\nExample: stm explain a.stm; stm explain a.stm a.report;\n    stm explain a.stm --schedule a.schedule";
 
 /// The command `stm explain`.
 pub(crate) fn explain_command<'a>(alloc: Global) -> Result<Command<'a>, AllocError> {
-    with_two(
+    let explain = with_two(
         described(alloc, "explain", EXPLAIN, EXPLAINED),
         required(alloc, "FILE", "The path of the file to explain"),
         Arg::new(alloc, "REPORT").help(
             "The path of a report of it, which is explained in its place",
         ),
-    )
+    )?;
+    explain.arg(schedule(alloc)?)
+}
+
+/// The option `--schedule SCHEDULE`, which no report goes with.
+fn schedule<'a>(alloc: Global) -> Result<Arg<'a>, AllocError> {
+    Arg::new(alloc, "schedule")
+        .long("schedule")
+        .value_name("SCHEDULE")
+        .help("The path of a schedule of it, which is explained in its place")
+        .conflicts_with("REPORT")
 }
 
 /// What the words ask for.
 pub(crate) fn wanted_explanation<'a>(matches: &ArgMatches<'a>) -> Option<Request<'a>> {
     let file = matches.get_str("FILE")?;
-    let report = matches.get_str("REPORT");
-    Some(Request::Explain(Explain { file, report }))
+    let what = match (matches.get_str("schedule"), matches.get_str("REPORT")) {
+        (Some(schedule), _) => Explained::Schedule(schedule),
+        (None, Some(report)) => Explained::Report(report),
+        (None, None) => Explained::File,
+    };
+    Some(Request::Explain(Explain { file, what }))
 }

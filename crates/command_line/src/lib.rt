@@ -8,7 +8,7 @@ mod exploring_words;
 mod process;
 mod words;
 
-pub use explaining_words::Explain;
+pub use explaining_words::{Explain, Explained};
 pub use exploring_words::Orders;
 pub use process::{asked, words_given};
 pub use words::{Check, Played, Print, Request, Run, parse};

@@ -20,7 +20,7 @@ pub enum Request<'a> {
     Print(Print<'a>),
     /// To see all orders of a file's tasks.
     Explore(Orders<'a>),
-    /// To explain a file, or a report.
+    /// To explain a file, a report or a schedule.
     Explain(Explain<'a>),
 }
 
@@ -63,7 +63,7 @@ pub struct Print<'a> {
 const VERSION: &str = "0.1.0";
 
 const ABOUT: &str =
-    "Software transactional memory with retry and orElse: runs the transactions of a file, reports what they did, checks such reports, plays schedules on the stepped world, sees every order of a file's tasks, prints files in their one form, and tells what is wrong with a file or a report.";
+    "Software transactional memory with retry and orElse: runs the transactions of a file, reports what they did, checks such reports, plays schedules on the stepped world, sees every order of a file's tasks, prints files in their one form, and tells what is wrong with a file, a report or a schedule.";
 
 const STATUSES: &str =
     "Status: 0 done, the report is good; 1 the report is not good, or more places are reached\nthan may be looked at; 2 the file or the schedule is refused; 3 the command line is\nrefused; 4 a file cannot be read or the output cannot be written; 5 out of memory.\n\nA file or a schedule is refused by the first kind of fault that applies to it, and the\nstandard error names it, as in `stm: file: F3 Shape`:\n\n    F1 TooLong    more than 1048576 bytes\n    F2 BadByte    a byte that is neither a newline nor printable ASCII\n    F3 Shape      not of the form of a file, or a line that is none of a schedule's\n    F4 Name       a name that is declared twice, or not declared\n    F5 Limit      a number, a count, a name or a cost past its limit\n    F7 Broken     a standing condition that is not true of the initial values";

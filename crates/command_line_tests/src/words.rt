@@ -1,7 +1,7 @@
 //! The command line: what is asked for, help, and refusals.
 
 use clap::error::ErrorKind;
-use command_line::{Request, parse};
+use command_line::{Explained, Request, parse};
 use explore_options::Limit;
 use std::alloc::{AllocError, Global};
 use std::process::Abort;
@@ -278,13 +278,13 @@ fn a_print_is_asked_for(rt: HostRuntime) {
     expect_print(&rt, alloc, "stm print a.stm --from b", Some("b"));
 }
 
-/// A command line asks to explain `a.stm`, or this report of it.
-fn expect_explain(rt: &impl Abort, alloc: Global, line: &str, report: Option<&str>) {
+/// A command line asks to explain this of `a.stm`.
+fn expect_explain(rt: &impl Abort, alloc: Global, line: &str, what: Explained<'_>) {
     let words = words(rt, alloc, line);
     match parse(alloc, words.as_slice()) {
         Ok(Request::Explain(request)) => {
             assert!(rt; request.file == "a.stm");
-            assert!(rt; request.report == report);
+            assert!(rt; request.what == what);
         }
         _ => panic!(rt; "nothing to explain is asked for"),
     }
@@ -293,8 +293,20 @@ fn expect_explain(rt: &impl Abort, alloc: Global, line: &str, report: Option<&st
 #[test]
 fn an_explanation_is_asked_for(rt: HostRuntime) {
     let alloc = rt.alloc();
-    expect_explain(&rt, alloc, "stm explain a.stm", None);
-    expect_explain(&rt, alloc, "stm explain a.stm b", Some("b"));
+    expect_explain(&rt, alloc, "stm explain a.stm", Explained::File);
+    expect_explain(&rt, alloc, "stm explain a.stm b", Explained::Report("b"));
+    let schedule = Explained::Schedule("c");
+    expect_explain(&rt, alloc, "stm explain a.stm --schedule c", schedule);
+    expect_explain(&rt, alloc, "stm explain --schedule=c a.stm", schedule);
+}
+
+#[test]
+fn no_report_goes_with_a_schedule(rt: HostRuntime) {
+    let words = words(&rt, rt.alloc(), "stm explain a.stm b --schedule c");
+    match parse(rt.alloc(), words.as_slice()) {
+        Ok(_) => panic!(rt; "both are taken"),
+        Err(error) => assert!(rt; error.kind() == ErrorKind::ArgumentConflict),
+    }
 }
 
 #[test]

@@ -1,4 +1,4 @@
--- What of a report is read, and what a check of a file and a report leaves.
+-- What a check of a file and a report leaves.
 use Rattle.std.specs.Prelude.{◌≡◌, ℕ, List, take, Option}
 use Rattle.std.specs.Io.KnownBytes.{Appends, Keeps}
 use Rattle.txn_text.specs.Faults.{IsFirst}
@@ -9,10 +9,6 @@ use Rattle.checker.specs.Lines.{line_of}
 use Rattle.checker.specs.Verdicts.{Judges}
 use Rattle.command_answers.specs.declared.answer.Answer.{Answer}
 use Rattle.command_answers.specs.declared.answer.Answer.TheVariants.{Done, Unlawful, Refused, Unreadable, Failed}
-
--- a report has at most 8,388,608 bytes: with one byte more it is known to be too long
-abbrev pub report_of : List ℕ → List ℕ
-report_of all = take 8388609 all
 
 -- what comes of a verdict that was told
 abbrev pub verdict_answer : Verdict → Answer

@@ -1,5 +1,5 @@
 -- What of a file is read, and what a run of a file leaves.
-use Rattle.std.specs.Prelude.{ℕ, List, take, Option, Result, Ok, Err}
+use Rattle.std.specs.Prelude.{ℕ, ◌+◌, List, take, Option, Result, Ok, Err}
 use Rattle.std.specs.Io.KnownBytes.{Keeps}
 use Rattle.run_faults.specs.Failures.{output_failures}
 use Rattle.runner.specs.Running.{Ran}
@@ -7,9 +7,9 @@ use Rattle.run_faults.specs.declared.fault.RunFault.{RunFault}
 use Rattle.command_answers.specs.declared.answer.Answer.{Answer}
 use Rattle.command_answers.specs.declared.answer.Answer.TheVariants.{Done, Unlawful, Refused, Unreadable, Failed}
 
--- a file has at most 1,048,576 bytes: with one byte more it is known to be too long
-abbrev pub read_of : List ℕ → List ℕ
-read_of all = take 1048577 all
+-- with one byte more than the limit it is known to be too long
+abbrev pub read_of : ℕ → List ℕ → List ℕ
+read_of limit all = take (limit + 1) all
 
 -- the answers of a run of bytes
 abbrev pub done : Result (Unit {0}) RunFault

@@ -1,14 +1,10 @@
--- What of a schedule is read, and what playing the schedule of a file leaves.
-use Rattle.std.specs.Prelude.{ℕ, List, take, Option}
+-- What playing the schedule of a file leaves.
+use Rattle.std.specs.Prelude.{ℕ, List, Option}
 use Rattle.std.specs.Io.KnownBytes.{Keeps}
 use Rattle.world_runner.specs.Showing.{Showed}
 use Rattle.commands.specs.Files.{done, ended}
 use Rattle.command_answers.specs.declared.answer.Answer.{Answer}
 use Rattle.command_answers.specs.declared.answer.Answer.TheVariants.{Done, Unlawful, Refused, Unreadable, Failed}
-
--- a schedule has at most 1,048,576 bytes: with one byte more it is known to be too long
-abbrev pub schedule_of : List ℕ → List ℕ
-schedule_of all = take 1048577 all
 
 -- by the answer: what playing some schedule of some file leaves that ends so, or nothing was written
 abbrev pub PlayedFiles : Option (List ℕ) → Option (List ℕ) → Answer → Type 0

@@ -1,20 +1,18 @@
 //! `stm check`: the bytes of a file and of a report in, the line of a verdict and a status out.
 
-ghost use Rattle.std.specs.Prelude.{◌≡◌, ◌<◌, ◌+◌, ◌^◌, true, IfOk, IfSome};
+ghost use Rattle.std.specs.Prelude.{◌≡◌, ◌<◌, ◌+◌, ◌^◌, true};
 ghost use Rattle.commands.specs.Files.{failed_calls};
-ghost use Rattle.commands.specs.Checking.{Told, Checked, CheckedFiles, verdict_answer, report_of};
+ghost use Rattle.commands.specs.Checking.{Told, Checked, CheckedFiles, verdict_answer};
 
-use crate::program::contents;
+use crate::reading::contents;
 use checker::{Verdict, check};
 use command_answers::{Answer, unread};
 use run_faults::RunFault;
 use run_sink::{Sink, put_all};
 use std::alloc::Global;
-use std::io::Read;
 use std::rt::Files;
-use std::{fs, io};
 use text_report_reader::MAX_REPORT;
-use txn_text::ReadFault;
+use txn_text::{MAX_FILE, ReadFault};
 
 /// Checks a report of a file, and writes the verdict's line to the sink. Both are read before
 /// either is judged.
@@ -30,11 +28,11 @@ pub fn check_files<R: Files + AllocGlobal, S: Sink>(
     ensures bad { result ≡ Answer.Unlawful → S.flushed sink.new ≡ true }
     ensures failures { S.failed sink.new ≡ S.failed sink.old + failed_calls result }
 {
-    let file = match contents(rt, file) {
+    let file = match contents(rt, file, MAX_FILE) {
         Ok(bytes) => bytes,
         Err(error) => return unread(&error),
     };
-    let report = match report_contents(rt, report) {
+    let report = match contents(rt, report, MAX_REPORT) {
         Ok(bytes) => bytes,
         Err(error) => return unread(&error),
     };
@@ -78,18 +76,4 @@ pub(crate) fn answer_of(verdict: Verdict) -> Answer
         Verdict::Good => Answer::Done,
         Verdict::Bad(_) => Answer::Unlawful,
     }
-}
-
-/// The bytes of a report, of which at most one past the limit is read.
-pub fn report_contents<R: Files + AllocGlobal>(rt: &R, path: &str) -> io::Result<Vec<u8>> {
-    up_to_report_limit(rt.alloc(), fs::open(rt, path)?)
-}
-
-/// What the reader has left, of which at most one byte past a report's limit is read.
-fn up_to_report_limit<I: Read + Drop>(alloc: Global, input: I) -> io::Result<Vec<u8>>
-    ensures { IfOk result (λ bytes. IfSome (I.remaining input) (λ all. bytes.items ≡ report_of all)) }
-{
-    let mut bytes = Vec::new(alloc);
-    input.take(MAX_REPORT as u64 + 1).read_to_end(&mut bytes)?;
-    Ok(bytes)
 }

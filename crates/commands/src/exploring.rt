@@ -4,12 +4,13 @@ ghost use Rattle.std.specs.Prelude.{◌≡◌, ◌<◌, ◌+◌, ◌^◌, true};
 ghost use Rattle.commands.specs.Files.{failed_calls};
 ghost use Rattle.commands.specs.Exploring.{ExploredFile, WitnessedFile};
 
-use crate::program::contents;
+use crate::reading::contents;
 use command_answers::{Answer, unread};
 use explore_options::Limit;
 use explore_runner::{Sight, Witnessed, explore_bytes, witness_bytes};
 use run_sink::Sink;
 use std::rt::Files;
+use txn_text::MAX_FILE;
 
 /// Sees every order of a file's tasks, and writes what is found to the sink.
 pub fn explore_file<R: Files + AllocGlobal, S: Sink>(
@@ -24,7 +25,7 @@ pub fn explore_file<R: Files + AllocGlobal, S: Sink>(
     ensures more { result ≡ Answer.Unlawful → S.flushed sink.new ≡ true }
     ensures failures { S.failed sink.new ≡ S.failed sink.old + failed_calls result }
 {
-    let bytes = match contents(rt, path) {
+    let bytes = match contents(rt, path, MAX_FILE) {
         Ok(bytes) => bytes,
         Err(error) => return unread(&error),
     };
@@ -50,7 +51,7 @@ pub fn witness_file<R: Files + Eprint + AllocGlobal, S: Sink>(
     ensures more { result ≡ Answer.Unlawful → S.flushed sink.new ≡ true }
     ensures failures { S.failed sink.new ≡ S.failed sink.old + failed_calls result }
 {
-    let bytes = match contents(rt, path) {
+    let bytes = match contents(rt, path, MAX_FILE) {
         Ok(bytes) => bytes,
         Err(error) => return unread(&error),
     };

@@ -1,11 +1,12 @@
 //! The commands of the program `stm`, from the words of the command line to the status to end with.
 //!
-//! `program`, `checking`, `playing`, `exploring`, `explaining` and `printing` have the files. The words are those of the library
+//! `program`, `checking`, `playing`, `exploring`, `explaining` and `printing` have the files, which `reading` reads. The words are those of the library
 //! `command_line`, and the statuses those of `command_answers`. What the commands do is in libraries, too: `runner` goes
 //! from the bytes of a file to the bytes of its report, `checker` from the bytes of both to a verdict, `world_runner` from the bytes of
 //! a file and of a schedule to the bytes of what is seen, `explore_runner` from the bytes of a file to
 //! the bytes of what is found of all orders, `print_files` writes files anew, and
-//! `explain_runner` and `explain_reports` go to the bytes of what is wrong with a file or a report.
+//! `explain_runner`, `explain_reports` and `explain_schedules` go to the bytes of what is wrong with a
+//! file, a report or a schedule.
 #![tactic(auto)]
 
 pub mod checking;
@@ -14,5 +15,6 @@ pub mod exploring;
 pub mod playing;
 pub mod printing;
 pub mod program;
+pub mod reading;
 
 pub use program::run;

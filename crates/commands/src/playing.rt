@@ -1,17 +1,15 @@
 //! `stm world`: the bytes of a file and of a schedule in, the text of its world and a status out.
 
-ghost use Rattle.std.specs.Prelude.{◌≡◌, ◌<◌, ◌+◌, ◌^◌, true, IfOk, IfSome};
+ghost use Rattle.std.specs.Prelude.{◌≡◌, ◌<◌, ◌+◌, ◌^◌, true};
 ghost use Rattle.commands.specs.Files.{failed_calls};
-ghost use Rattle.commands.specs.Playing.{PlayedFiles, schedule_of};
+ghost use Rattle.commands.specs.Playing.{PlayedFiles};
 
-use crate::program::contents;
+use crate::reading::contents;
 use command_answers::{Answer, unread};
 use run_sink::Sink;
-use std::alloc::Global;
-use std::io::Read;
 use std::rt::Files;
-use std::{fs, io};
 use text_schedule_reader::MAX_SCHEDULE;
+use txn_text::MAX_FILE;
 use world_runner::world_bytes;
 
 /// Plays a schedule of a file, and writes the text of the world that it leads to to the sink. Both
@@ -27,11 +25,11 @@ pub fn play_files<R: Files + AllocGlobal, S: Sink>(
     ensures flushed { result ≡ Answer.Done → S.flushed sink.new ≡ true }
     ensures failures { S.failed sink.new ≡ S.failed sink.old + failed_calls result }
 {
-    let file = match contents(rt, file) {
+    let file = match contents(rt, file, MAX_FILE) {
         Ok(bytes) => bytes,
         Err(error) => return unread(&error),
     };
-    let schedule = match schedule_contents(rt, schedule) {
+    let schedule = match contents(rt, schedule, MAX_SCHEDULE) {
         Ok(bytes) => bytes,
         Err(error) => return unread(&error),
     };
@@ -39,18 +37,4 @@ pub fn play_files<R: Files + AllocGlobal, S: Sink>(
         Ok(()) => Answer::Done,
         Err(fault) => Answer::Failed(fault),
     }
-}
-
-/// The bytes of a schedule, of which at most one past the limit is read.
-pub fn schedule_contents<R: Files + AllocGlobal>(rt: &R, path: &str) -> io::Result<Vec<u8>> {
-    up_to_schedule_limit(rt.alloc(), fs::open(rt, path)?)
-}
-
-/// What the reader has left, of which at most one byte past a schedule's limit is read.
-fn up_to_schedule_limit<I: Read + Drop>(alloc: Global, input: I) -> io::Result<Vec<u8>>
-    ensures { IfOk result (λ bytes. IfSome (I.remaining input) (λ all. bytes.items ≡ schedule_of all)) }
-{
-    let mut bytes = Vec::new(alloc);
-    input.take(MAX_SCHEDULE as u64 + 1).read_to_end(&mut bytes)?;
-    Ok(bytes)
 }

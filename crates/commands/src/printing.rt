@@ -5,13 +5,15 @@ ghost use Rattle.std.specs.Prelude.{◌≡◌, ◌<◌, ◌+◌, ◌^◌, true};
 ghost use Rattle.commands.specs.Files.{failed_calls};
 ghost use Rattle.commands.specs.Printing.{PrintedAs, PrintedFile, PrintedOnFiles};
 
-use crate::checking::{answer_of, report_contents};
-use crate::program::contents;
+use crate::checking::answer_of;
+use crate::reading::contents;
 use command_answers::{Answer, unread};
 use command_line::Print;
 use print_files::{print_bytes, print_on_bytes};
 use run_sink::Sink;
 use std::rt::Files;
+use text_report_reader::MAX_REPORT;
+use txn_text::MAX_FILE;
 
 /// Prints what the command line asks for.
 pub fn print_files<R: Files + AllocGlobal, S: Sink>(
@@ -37,7 +39,7 @@ pub fn print_file_at<R: Files + AllocGlobal, S: Sink>(rt: &R, path: &str, sink: 
     ensures flushed { result ≡ Answer.Done → S.flushed sink.new ≡ true }
     ensures failures { S.failed sink.new ≡ S.failed sink.old + failed_calls result }
 {
-    let bytes = match contents(rt, path) {
+    let bytes = match contents(rt, path, MAX_FILE) {
         Ok(bytes) => bytes,
         Err(error) => return unread(&error),
     };
@@ -61,11 +63,11 @@ pub fn print_on_files<R: Files + AllocGlobal, S: Sink>(
     ensures bad { result ≡ Answer.Unlawful → S.flushed sink.new ≡ true }
     ensures failures { S.failed sink.new ≡ S.failed sink.old + failed_calls result }
 {
-    let file = match contents(rt, file) {
+    let file = match contents(rt, file, MAX_FILE) {
         Ok(bytes) => bytes,
         Err(error) => return unread(&error),
     };
-    let report = match report_contents(rt, report) {
+    let report = match contents(rt, report, MAX_REPORT) {
         Ok(bytes) => bytes,
         Err(error) => return unread(&error),
     };

@@ -1,24 +1,23 @@
 //! The program: words and files in, a report and a status out.
 
-ghost use Rattle.std.specs.Prelude.{◌≡◌, ◌<◌, ◌+◌, ◌^◌, true, IfOk, IfSome};
-ghost use Rattle.commands.specs.Files.{RanFile, read_of, failed_calls};
+ghost use Rattle.std.specs.Prelude.{◌≡◌, ◌<◌, ◌+◌, ◌^◌, true};
+ghost use Rattle.commands.specs.Files.{RanFile, failed_calls};
 
 use crate::checking::check_files;
 use crate::explaining::explain_files;
 use crate::exploring::{explore_file, witness_file};
 use crate::playing::play_files;
 use crate::printing::print_files;
+use crate::reading::contents;
 use command_answers::{Answer, told, unread};
 use command_line::{Request, asked, words_given};
 use run_options::Options;
 use run_sink::{Out, Sink};
 use runner::{OpenGate, run_bytes};
-use std::alloc::Global;
-use std::io::Read;
+use std::io;
 use std::rt::{Env, Files};
 use std::sync::Wait;
 use std::thread::Threads;
-use std::{fs, io};
 use txn_text::MAX_FILE;
 
 /// Does what the command line asks for, and tells the status to end with. Threads come from the
@@ -85,7 +84,7 @@ fn run_file<T: Threads + Wait + Sync, R: Files + AllocGlobal, S: Sink>(
     ensures flushed { result ≡ Answer.Done → S.flushed sink.new ≡ true }
     ensures failures { S.failed sink.new ≡ S.failed sink.old + failed_calls result }
 {
-    let bytes = match contents(rt, path) {
+    let bytes = match contents(rt, path, MAX_FILE) {
         Ok(bytes) => bytes,
         Err(error) => return unread(&error),
     };
@@ -100,18 +99,4 @@ fn run_file<T: Threads + Wait + Sync, R: Files + AllocGlobal, S: Sink>(
         Ok(()) => Answer::Done,
         Err(fault) => Answer::Failed(fault),
     }
-}
-
-/// The bytes of a file, of which at most one past the limit is read.
-pub fn contents<R: Files + AllocGlobal>(rt: &R, path: &str) -> io::Result<Vec<u8>> {
-    up_to_limit(rt.alloc(), fs::open(rt, path)?)
-}
-
-/// What the reader has left, of which at most one byte past the limit is read.
-fn up_to_limit<I: Read + Drop>(alloc: Global, input: I) -> io::Result<Vec<u8>>
-    ensures { IfOk result (λ bytes. IfSome (I.remaining input) (λ all. bytes.items ≡ read_of all)) }
-{
-    let mut bytes = Vec::new(alloc);
-    input.take(MAX_FILE as u64 + 1).read_to_end(&mut bytes)?;
-    Ok(bytes)
 }

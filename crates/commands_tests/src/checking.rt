@@ -2,9 +2,7 @@
 
 use crate::host::{Host, Prints, Reads};
 use crate::program::ends;
-use commands::checking::report_contents;
 use std::alloc::Global;
-use std::process::Abort;
 
 const CHECK: &[&[u8]] = &[b"stm", b"check", b"a.stm", b"a.report"];
 
@@ -74,24 +72,4 @@ fn want_of_memory_for_a_report_is_5(rt: HostRuntime) {
     let mut host = checking(rt.alloc(), INCREMENT, REPORT);
     host.reads = Reads::WantsMemory;
     ends(&rt, &host, 5, 0, Some("stm: out of memory\n"));
-}
-
-/// So many bytes of the host's file `a.report` are read.
-fn reads(rt: &impl Abort, host: &Host<'_>, count: usize) {
-    match report_contents(host, "a.report") {
-        Ok(bytes) => assert_eq!(rt; bytes.len(), count),
-        Err(_) => panic!(rt; "not read"),
-    }
-}
-
-/// One byte past the limit is read, and no more.
-#[test]
-fn a_report_has_8388608_bytes_at_most(rt: HostRuntime) {
-    for (size, read) in [(8388608, 8388608), (8388609, 8388609), (8388612, 8388609)] {
-        let Ok(blanks) = Vec::from_elem(rt.alloc(), b' ', size) else {
-            panic!(rt; "no blanks")
-        };
-        let host = checking(rt.alloc(), INCREMENT, blanks.as_slice());
-        reads(&rt, &host, read);
-    }
 }

@@ -2,6 +2,7 @@
 
 use crate::host::Host;
 use crate::program::ends;
+use std::alloc::Global;
 
 const FILE: &[&[u8]] = &[b"stm", b"explain", b"a.stm"];
 
@@ -44,4 +45,34 @@ fn a_bad_report_is_1_and_explained(rt: HostRuntime) {
     ends(&rt, &host, 1, 1, Some(""));
     let told = "bad 3\nline 4: entry 2 1 inc returned 8\nreplay has entry 2 1 inc returned 7\n";
     assert!(rt; host.taken.get() == told.len());
+}
+
+const SCHEDULE: &[&[u8]] = &[b"stm", b"explain", b"a.stm", b"--schedule", b"a.schedule"];
+
+/// A process that is to explain a schedule of a file.
+fn of_schedule<'a>(alloc: Global, file: &'a [u8], schedule: &'a [u8]) -> Host<'a> {
+    let mut host = Host::new(alloc, SCHEDULE, file);
+    host.schedule = schedule;
+    host
+}
+
+#[test]
+fn a_good_schedule_is_0(rt: HostRuntime) {
+    let host = of_schedule(rt.alloc(), INCREMENT, b"begin 0\nread 0 x\n");
+    ends(&rt, &host, 0, 1, Some(""));
+    assert!(rt; host.taken.get() == b"good\n".len());
+}
+
+#[test]
+fn a_refused_schedule_is_2_and_explained(rt: HostRuntime) {
+    let host = of_schedule(rt.alloc(), INCREMENT, b"begin 0\nread 0 y\n");
+    ends(&rt, &host, 2, 1, Some("stm: schedule: F4 Name\n"));
+    let told = "line 2, column 8: F4 Name: no variable of this name is declared; here stands y\n";
+    assert!(rt; host.taken.get() == told.len());
+}
+
+#[test]
+fn a_schedule_of_a_refused_file_is_2(rt: HostRuntime) {
+    let host = of_schedule(rt.alloc(), b"(var x", b"begin 0\nread 0 y\n");
+    ends(&rt, &host, 2, 0, Some("stm: file: F3 Shape\n"));
 }

@@ -15,3 +15,5 @@ mod playing;
 mod printing;
 #[cfg(test)]
 mod program;
+#[cfg(test)]
+mod reading;

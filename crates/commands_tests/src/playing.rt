@@ -2,9 +2,7 @@
 
 use crate::host::{Host, Prints, Reads};
 use crate::program::ends;
-use commands::playing::schedule_contents;
 use std::alloc::Global;
-use std::process::Abort;
 
 const WORLD: &[&[u8]] = &[b"stm", b"world", b"a.stm", b"a.schedule"];
 
@@ -73,24 +71,4 @@ fn want_of_memory_for_a_schedule_is_5(rt: HostRuntime) {
     let mut host = playing(rt.alloc(), INCREMENT, SCHEDULE);
     host.reads = Reads::WantsMemory;
     ends(&rt, &host, 5, 0, Some("stm: out of memory\n"));
-}
-
-/// So many bytes of the host's file `a.schedule` are read.
-fn reads(rt: &impl Abort, host: &Host<'_>, count: usize) {
-    match schedule_contents(host, "a.schedule") {
-        Ok(bytes) => assert_eq!(rt; bytes.len(), count),
-        Err(_) => panic!(rt; "not read"),
-    }
-}
-
-/// One byte past the limit is read, and no more.
-#[test]
-fn a_schedule_has_1048576_bytes_at_most(rt: HostRuntime) {
-    for (size, read) in [(1048576, 1048576), (1048577, 1048577), (1048580, 1048577)] {
-        let Ok(blanks) = Vec::from_elem(rt.alloc(), b' ', size) else {
-            panic!(rt; "no blanks")
-        };
-        let host = playing(rt.alloc(), INCREMENT, blanks.as_slice());
-        reads(&rt, &host, read);
-    }
 }

@@ -1,8 +1,7 @@
 //! Each status of the program, and what it reads and writes on the way.
 
 use crate::host::{Host, Prints, Reads};
-use commands::program::{contents, run};
-use std::io;
+use commands::run;
 use std::process::Abort;
 use std::sync::Wait;
 use std::thread::Threads;
@@ -117,36 +116,14 @@ fn want_of_memory_is_5(rt: HostRuntime) {
     ends(&rt, &host, 5, 0, Some("stm: out of memory\n"));
 }
 
-/// So many bytes of the host's file `a.stm` are read.
-fn reads(rt: &impl Abort, host: &Host<'_>, count: usize) {
-    match contents(host, "a.stm") {
-        Ok(bytes) => assert_eq!(rt; bytes.len(), count),
-        Err(_) => panic!(rt; "not read"),
-    }
-}
-
 /// A file of the limit is run, and with one byte more it is refused.
 #[test]
 fn a_file_has_1048576_bytes_at_most(rt: HostRuntime) {
-    for (size, read, status) in [
-        (1048576, 1048576, 0),
-        (1048577, 1048577, 2),
-        (1048580, 1048577, 2),
-    ] {
+    for (size, status) in [(1048576, 0), (1048577, 2), (1048580, 2)] {
         let Ok(blanks) = Vec::from_elem(rt.alloc(), b' ', size) else {
             panic!(rt; "no blanks")
         };
         let host = Host::new(rt.alloc(), RUN, blanks.as_slice());
-        reads(&rt, &host, read);
         ends_with(&rt, &host, status);
     }
-}
-
-#[test]
-fn what_is_not_there_cannot_be_read(rt: HostRuntime) {
-    match contents(&rt, "no/such/file.stm") {
-        Ok(_) => assert!(rt; false),
-        Err(error) => assert_eq!(rt; error.kind(), io::ErrorKind::NotFound),
-    }
-    assert!(rt; contents(&rt, "/").is_err());
 }
