@@ -9,7 +9,7 @@ use crate::telling::{Begun, begun_at};
 use std::alloc::AllocError;
 use std::fmt::Write;
 use txn::{Catalogue, VarId};
-use world_events::scene::Scene;
+use world_events::Scene;
 use world_law::Fate;
 use world_seen_printer::name_of;
 

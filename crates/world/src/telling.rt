@@ -5,7 +5,7 @@ ghost use Rattle.world_events.specs.Inside.{Kept, state_items, world_of};
 ghost use Rattle.world.specs.Telling.{Tells};
 
 use txn::{TaskId, VarId};
-use world_events::scene::Scene;
+use world_events::Scene;
 use world_law::Fate;
 
 /// An attempt that began: its task, the number of the state that it reads, what it has read, in

@@ -9,7 +9,7 @@ use crate::present::present;
 use crate::telling::states;
 use std::alloc::AllocError;
 use text_report_printer::{put_number, put_variables};
-use world_events::scene::Scene;
+use world_events::Scene;
 
 /// Puts the last lines of the world behind the text: the line `now` with the number of the last
 /// state, the variables with their values and versions in it, the attempts in the order in which

@@ -1,12 +1,13 @@
 //! The running world.
 
-ghost use Rattle.std.specs.Prelude.{◌≡◌, ◌<◌, take, length, map, All, IfOk, IfErr, OnOk, OnErr, IsOk, string_bytes};
+ghost use Rattle.std.specs.Prelude.{◌≡◌, ◌≢◌, ◌<◌, take, length, map, All, IfOk, IfErr, OnOk, OnErr, IsOk, string_bytes};
 ghost use Rattle.txn_programs.specs.Standing.{Upholds};
 ghost use Rattle.world_events.specs.Inside.{state_items};
 ghost use Rattle.world.specs.Telling.{Tells};
 ghost use Rattle.world_law.specs.World.{IsOpening};
 ghost use Rattle.world_law.specs.Next.{Next};
-ghost use Rattle.world_events.specs.Runs.{LeadTo, MayBeRefused, TakesNone, EndsCheck};
+ghost use Rattle.world_law.specs.declared.events.Seen.TheVariants as seen;
+ghost use Rattle.world_events.specs.Runs.{LeadTo, MayBeRefused, TakesNone, EndsCheck, EvaluatesFree};
 ghost use Rattle.world.specs.Lines.{Plays, PlaysPart, PlaysFree};
 ghost use Rattle.world.specs.WorldText.{IsWorldText, PutsWorld};
 ghost use Rattle.world_law.specs.Opacity.{Opaque, WordsHold};
@@ -17,9 +18,7 @@ use crate::text::put_world;
 use std::alloc::Global;
 use std::marker::Model;
 use txn::{Catalogue, Memory, Move};
-use world_events::happening::happen;
-use world_events::opening::opening;
-use world_events::scene::Scene;
+use world_events::{Scene, first_scene, happen};
 use world_law::{Event, Seen};
 
 /// The stepped world of a catalogue. A clause sees the catalogue's listing and the plain world,
@@ -52,7 +51,7 @@ impl<'a> World<'a> {
         ensures listing { IfOk result (λ w. w.listing ≡ catalogue.now) }
         ensures opening { IfOk result (λ w. IsOpening catalogue.now w.world) }
     {
-        let scene = opening(alloc, catalogue)?;
+        let scene = first_scene(alloc, catalogue)?;
         Ok(World { scene })
     }
 
@@ -60,13 +59,15 @@ impl<'a> World<'a> {
     ///
     /// `Memory` where an attempt has no room to begin, a log can't grow, or the state that a commit
     /// would make has no room; then nothing changed. `First`, `Value`, `Word`, `Drop` and `Again` take
-    /// no memory, nor does `Second` of an attempt that checks.
+    /// no memory, nor does `Second` of an attempt that checks. `Spent` is seen only at `Begin` or
+    /// `Second` of a task whose program may need memory, as an `orelse` does.
     pub fn step(&mut self, event: Event) -> Result<Seen, Memory>
         ensures listing { self.new.listing ≡ self.old.listing }
         ensures ok { IfOk result (λ s. Next self.old.listing self.old.world event s self.new.world) }
         ensures refused { OnErr result (self.new.world ≡ self.old.world) }
         ensures sure { TakesNone event → IsOk result }
         ensures checks { EndsCheck self.old.world event → IsOk result }
+        ensures short { EvaluatesFree self.old.listing event → IfOk result (λ s. s ≢ seen.Spent) }
     {
         let seen = happen(&mut self.scene, event)?;
         Ok(seen)

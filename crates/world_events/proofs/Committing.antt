@@ -69,6 +69,7 @@ states_stay c v k e = record {
     live = k.live;
     latest = k.latest;
     last = k.last;
+    whole = k.whole;
     committer = owned c.committer k.committer;
   };
   world = ap (λ (l : List (Vec ℤ Global)). record (world_of c) { history = take c.count (map state_items l) }) e;
@@ -149,6 +150,7 @@ module _ (c : Scene) (i : ℕ) (v : Vec (Vec ℤ Global) Global) (following : Ve
     live = k.live;
     latest = k.latest;
     last = k.last;
+    whole = k.whole;
     committer = publishing;
   }
 

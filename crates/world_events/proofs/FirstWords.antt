@@ -51,5 +51,6 @@ module _ (c : Scene) (rest : List ℕ) (m : Vec ℤ Global) (words : c.words.ite
     live = λ i y e l. absurd (none_there i y e);
     latest = λ a i e. absurd (nothing (length (tasks (listing c))) a i None refl (ap (λ (l : List (Option ℕ)). slice_get l a) (sym latest) ∙ e));
     last = λ i y e. absurd (none_there i y e);
+    whole = λ a i y l e. absurd (none_there i y e);
     committer = subst (CommitterKept c) (sym committer) (one ∙ sym size);
   }

@@ -54,7 +54,7 @@ module _ (l : Listing) (y : Trial) (s : Seen) (y' : Trial) (p : y.attempt.progra
     variables = g.variables ∙ v;
     answers = g.answers;
     needs = λ x e. subst (λ (n : ℕ). x.0 < n) (g.variables ∙ v) (g.needs x e);
-    spent = λ m. g.fate ∙ ap (λ (n : Next). answer_fate n y.fate) m;
+    over = λ m run. let both : fate.Spent ≡ fate.Running = sym (g.fate ∙ ap (λ (n : Next). answer_fate n y.fate) m) ∙ run in cc;
   }
 
 -- an attempt that ended its read of x, without a check
@@ -103,4 +103,5 @@ module _ (c : Scene) (a : TaskId) (x : VarId) (i : ℕ) (t t' : Trial) (s : Seen
     live = λ e. k.live i t r.0 (ap is_live r.2);
     kept = gone_kept (listing c) (told_value t x bits) s t' (k.trials i t r.0).program (k.trials i t r.0).variables g;
     own = λ p is place. needs_apart c i t x k r.0 at (owner_of c.committer p i is place);
+    whole = λ there can m. let both : fate.Spent ≡ fate.Stale = sym (g.fate ∙ ap (λ (n : Next). answer_fate n t.fate) m) ∙ can.0 in cc;
   }) (subst (λ (q : Seen). Steps (listing c) w (Second a) q w') (sym g.seen) (by_answer t'.at refl))

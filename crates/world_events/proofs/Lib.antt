@@ -6,10 +6,12 @@ pub mod Finding
 pub mod Owning
 pub mod Starting
 pub mod Going
-pub mod Checking
+pub mod Checks
 pub mod Logs
 pub mod Working
 pub mod Lasting
 pub mod Committing
 pub mod Ending
 pub mod FirstWords
+pub mod Finished
+pub mod Unspent

@@ -56,25 +56,31 @@ value_next c a x i t t' s k r only at h = absurd h
 
 -- what a load leaves in the attempt's place
 module _ (c : Scene) (a : TaskId) (i : ℕ) (t t' : Trial) (k : Kept c) (r : IsTheRunning c a i t) (own : IsOwner c.committer i → ⊥) where
-  pub replaces : (z : Trial) → t' ≡ z → z.task ≡ t.task → TrialKept (listing c) z → Replaces c i t t'
-  replaces z e task good = subst (λ (u : Trial). Replaces c i t u) (sym e)
-      (record { was = r.0; task = task; live = λ l. k.live i t r.0 (ap is_live r.2); kept = good; own = λ p is place. own (owner_of c.committer p i is place) })
+  pub replaces : (z : Trial) → t' ≡ z → z.task ≡ t.task → z.at ≡ t.at → TrialKept (listing c) z → Replaces c i t t'
+  replaces z e task stays good = subst (λ (u : Trial). Replaces c i t u) (sym e) (record {
+    was = r.0;
+    task = task;
+    live = λ l. k.live i t r.0 (ap is_live r.2);
+    kept = good;
+    own = λ p is place. own (owner_of c.committer p i is place);
+    whole = λ there can m. runs_on (listing c) t (k.trials i t r.0) r.2 (sym stays ∙ m);
+  })
 
   pub good : (n : ℕ) (o : Loads) (f : Fate) (b : Bool) (q : Option Checking) → TrialKept (listing c) (record t { rv = n; loads = o; fate = f; movable = b; check = q })
   good n o f b q = other_kept (listing c) t n o f b q (k.trials i t r.0) (runs_on (listing c) t (k.trials i t r.0) r.2)
 
   pub stale_replaces : t' ≡ record t { fate = fate.Stale; movable = true } → Replaces c i t t'
-  stale_replaces e = replaces (record t { fate = fate.Stale; movable = true }) e refl (good t.rv t.loads fate.Stale true t.check)
+  stale_replaces e = replaces (record t { fate = fate.Stale; movable = true }) e refl refl (good t.rv t.loads fate.Stale true t.check)
 
   pub first_replaces : (version : ℕ) (s : Seen) → LoadsFirst t version s t' → Replaces c i t t'
-  first_replaces version seen.Idle h = replaces t h.1 refl (k.trials i t r.0)
+  first_replaces version seen.Idle h = replaces t h.1 refl refl (k.trials i t r.0)
   first_replaces version seen.Stale h = stale_replaces h.2
-  first_replaces version seen.Loaded h = replaces (record t { loads = loads.Version version }) h.3 refl (good t.rv (loads.Version version) t.fate t.movable t.check)
+  first_replaces version seen.Loaded h = replaces (record t { loads = loads.Version version }) h.3 refl refl (good t.rv (loads.Version version) t.fate t.movable t.check)
   first_replaces version s h = absurd h
 
   pub value_replaces : (bits : ℕ) (s : Seen) → LoadsValue t bits s t' → Replaces c i t t'
-  value_replaces bits seen.Idle h = replaces t h.1 refl (k.trials i t r.0)
-  value_replaces bits seen.Loaded h = replaces (record t { loads = loads.Value h.0 bits }) h.2 refl (good t.rv (loads.Value h.0 bits) t.fate t.movable t.check)
+  value_replaces bits seen.Idle h = replaces t h.1 refl refl (k.trials i t r.0)
+  value_replaces bits seen.Loaded h = replaces (record t { loads = loads.Value h.0 bits }) h.2 refl refl (good t.rv (loads.Value h.0 bits) t.fate t.movable t.check)
   value_replaces bits s h = absurd h
 
 pub first_leads : (c : Scene) (a : TaskId) (x : VarId) (i : ℕ) (t t' : Trial) (s : Seen) → Kept c → IsTheRunning c a i t → IsOnly c a i → wants t ≡ Some x

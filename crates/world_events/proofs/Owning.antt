@@ -38,6 +38,7 @@ stops c i t t' k at own f run dead e = Rattle.std.proofs.Common.subst (λ (u : T
   live = λ l. absurd (Rattle.std.proofs.Common.true≢false (sym l ∙ dead));
   kept = other_kept (listing c) t t.rv t.loads f t.movable t.check (k.trials i t at) (runs_on (listing c) t (k.trials i t at) run);
   own = λ p is place. own (owner_of c.committer p i is place);
+  whole = λ there can. runs_on (listing c) t (k.trials i t at) run;
 })
 
 pub drop_leads : (c : Scene) (a : TaskId) (i : ℕ) (t : Trial) → Kept c → IsTheRunning c a i t → (IsOwner c.committer i → ⊥) → Leads c (Drop a) seen.Dropped (with_trial c i (record t { fate = fate.Dropped }))

@@ -1,5 +1,5 @@
 -- Another attempt at a place.
-use Rattle.std.proofs.Common.{◌≡◌, ℕ, List, map, set, ⊎_elim, sym, refl, ap, ◌∙◌, subst, true, arith, Option, Some, None, slice_get}
+use Rattle.std.proofs.Common.{◌≡◌, ◌≢◌, ℕ, List, map, set, ⊎_elim, sym, refl, ap, ◌∙◌, subst, true, arith, Option, Some, None, slice_get}
 use Rattle.std.specs.declared.alloc.Global.{Global}
 use Rattle.std.specs.declared.vec.Vec.{Vec}
 use Rattle.std.specs.Vec.{with_item}
@@ -14,7 +14,8 @@ use Rattle.world_law.proofs.Places.{get_set, get_set_same, get_set_other}
 use Rattle.world_events.specs.declared.trial.Trial.{Trial}
 use Rattle.world_events.specs.declared.scene.Publishing.{Publishing}
 use Rattle.world_events.specs.declared.scene.Scene.{Scene}
-use Rattle.world_events.specs.Trials.{started_of, TrialKept}
+use Rattle.attempt.specs.declared.next.Next.TheVariants as next
+use Rattle.world_events.specs.Trials.{started_of, CanMove, TrialKept}
 use Rattle.world_events.specs.Inside.{listing, world_of, with_trial, CommitterKept, Kept, Leads, Stays}
 use Rattle.world_events.proofs.Seeing.{seen_set, set_same}
 
@@ -25,6 +26,7 @@ pub record Replaces (c : Scene) (i : ℕ) (t t' : Trial) : Type 0 where
   pub live : is_live t'.fate ≡ true → slice_get c.latest.items t.task.0 ≡ Some (Some i)
   pub kept : TrialKept (listing c) t'
   pub own : (p : Publishing) → c.committer ≡ Some p → p.place ≡ i → ⊥
+  pub whole : slice_get c.latest.items t.task.0 ≡ Some (Some i) → CanMove t' → t'.at ≢ next.Memory
 
 committer_put : (c : Scene) (i : ℕ) (t t' : Trial) (o : Option Publishing) → Replaces c i t t' → c.committer ≡ o → CommitterKept c o → CommitterKept (with_trial c i t') o
 committer_put c i t t' None r is k = k
@@ -65,6 +67,12 @@ kept_put c i t t' k r = record {
       let task : t.task ≡ y.task = sym r.task ∙ ap (λ (u : Trial). u.task) h.1 in
       (o.0, ap (λ (v : Rattle.txn_programs.specs.declared.ast.TaskId.TaskId). slice_get c.latest.items v.0) (sym task) ∙ o.1, (let at = h.0 in omega (arith, o.2))))
       (get_set c.trials.items i j t' t y r.was e);
+  whole = λ a j y l e can. ⊎_elim (λ h. k.whole a j y l h.1 can)
+      (λ h. let o = k.latest a j l in
+      let place : j ≡ i = h.0 in
+      let there = ap (λ (n : ℕ). slice_get c.latest.items n) (ap (λ (u : Trial). u.task.0) (same_at j place o.0 o.1) ∙ o.2) ∙ (l ∙ ap (λ (n : ℕ). Some (Some n)) place) in
+      subst (λ (u : Trial). CanMove u → u.at ≢ next.Memory) h.1 (r.whole there) can)
+      (get_set c.trials.items i j t' t y r.was e);
   committer = committer_put c i t t' c.committer r refl k.committer;
 }
   where
@@ -82,6 +90,7 @@ kept_items c v k e = record {
   live = λ i y at. k.live i y (ap (λ (l : List Trial). slice_get l i) (sym e) ∙ at);
   latest = λ a i at. let o = k.latest a i at in (o.0, ap (λ (l : List Trial). slice_get l i) e ∙ o.1, o.2);
   last = λ i y at. k.last i y (ap (λ (l : List Trial). slice_get l i) (sym e) ∙ at);
+  whole = λ a i y l at. k.whole a i y l (ap (λ (l : List Trial). slice_get l i) (sym e) ∙ at);
   committer = owned c.committer k.committer;
 }
   where

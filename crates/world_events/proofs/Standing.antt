@@ -34,15 +34,12 @@ at_needs l t x (next.Thrown f) is m a e = absurd (let s = sym a.0 ∙ e in cc)
 at_needs l t x next.Retry is m a e = absurd (let s = sym a.0 ∙ e in cc)
 at_needs l t x next.Memory is m a e = absurd (m refl)
 
--- an attempt that is not spent met no want of memory
-pub no_want : (l : Listing) (t : Trial) → TrialKept l t → t.fate ≢ fate.Spent → t.at ≢ next.Memory
-no_want l t k n e = n (k.spent e)
-
+-- an attempt that runs met no want of memory
 pub runs_on : (l : Listing) (t : Trial) → TrialKept l t → t.fate ≡ fate.Running → t.at ≢ next.Memory
-runs_on l t k run e = let bad : fate.Running ≡ fate.Spent = sym run ∙ k.spent e in cc
+runs_on l t k run e = k.over e run
 
-pub needs_at : (l : Listing) (t : Trial) (x : VarId) → TrialKept l t → t.fate ≢ fate.Spent → stand l (started_of t) ≡ Needs x → t.at ≡ next.Need x
-needs_at l t x k n e = at_needs l t x t.at refl (no_want l t k n) k.answers (sym (asks l t k) ∙ e)
+pub needs_at : (l : Listing) (t : Trial) (x : VarId) → TrialKept l t → t.at ≢ next.Memory → stand l (started_of t) ≡ Needs x → t.at ≡ next.Need x
+needs_at l t x k n e = at_needs l t x t.at refl n k.answers (sym (asks l t k) ∙ e)
 
 -- the variable that it reads
 on_need : (x : VarId) (log : Known) (o : Option Checking) → wanted_by (Needs x) log (option_map check_of o) ≡ wanted_at (next.Need x) log o
@@ -104,4 +101,4 @@ loads_value (loads.Value d f) a b e = let s : d ≡ a = cc in let q : f ≡ b = 
 
 -- one that met no want of memory may be otherwise in all but its program and its answer
 pub other_kept : (l : Listing) (t : Trial) (n : ℕ) (o : Loads) (f : Fate) (b : Bool) (q : Option Checking) → TrialKept l t → t.at ≢ next.Memory → TrialKept l (record t { rv = n; loads = o; fate = f; movable = b; check = q })
-other_kept l t n o f b q k m = record { program = k.program; variables = k.variables; answers = k.answers; needs = k.needs; spent = λ e. absurd (m e) }
+other_kept l t n o f b q k m = record { program = k.program; variables = k.variables; answers = k.answers; needs = k.needs; over = λ e. absurd (m e) }

@@ -7,7 +7,7 @@ use Rattle.std.specs.declared.vec.Vec.{Vec}
 use Rattle.std.specs.Vec.{with_item}
 use Rattle.std.proofs.lemmas.Option.{slice_get_within, slice_get-get_or}
 use Rattle.std.proofs.lemmas.List.{length-set}
-use Rattle.txn_programs.specs.Listing.{tasks, task_program}
+use Rattle.txn_programs.specs.Listing.{Listing, tasks, task_program}
 use Rattle.txn_programs.specs.Tree.{Program}
 use Rattle.txn_programs.specs.declared.ast.TaskId.{TaskId}
 use Rattle.attempt.specs.Asking.{ask}
@@ -30,6 +30,10 @@ use Rattle.world_events.specs.Inside.{listing, world_of, CommitterKept, Kept, Le
 use Rattle.world_events.proofs.Seeing.{seen_at, seen_from, seen_push, same_place, get_push_new}
 use Rattle.world_events.proofs.Going.{same_started, tells, fates}
 use Rattle.world_events.proofs.Finding.{live_latest}
+
+-- with the same clock
+pub begins_at : (l : Listing) (a : TaskId) (n m : ℕ) (y : Trial) (s : Seen) → n ≡ m → Begins l a n y s → Begins l a m y s
+begins_at l a n m y s e b = subst (λ (k : ℕ). Begins l a k y s) e b
 
 live_or : (b : Bool) → (b ≡ true → ⊥) → b ≡ false
 live_or true n = absurd (n refl)
@@ -111,6 +115,13 @@ module _ (c : Scene) (v : Vec Trial Global) (a : TaskId) (t : Trial) (s : Seen) 
         (λ h. let task : y.task ≡ a = ap (λ (u : Trial). u.task) (sym h.1) ∙ b.task in
         (n, ap (λ (u : TaskId). slice_get (set c.latest.items a.0 (Some n)) u.0) task ∙ there, (let at = h.0 in omega (arith, place))))
         (get_v j y e);
+    whole = λ p i y l e can. ⊎_elim
+        (λ h. dite (ℕ_discrete p a.0)
+        (λ same. let f : Some (Some n) ≡ Some (Some i) = sym there ∙ (ap (slice_get (set c.latest.items a.0 (Some n))) (sym same) ∙ l) in
+        let at : n ≡ i = cc in let low = slice_get_within c.trials.items i y h in absurd (omega (arith, place, at, low)))
+        (λ other. k.whole p i y (sym (get_set_other c.latest.items a.0 p (Some n) other) ∙ l) h can))
+        (λ h. let moves : t.movable ≡ true = ap (λ (u : Trial). u.movable) h.1 ∙ can.1 in absurd (true≢false (sym moves ∙ b.movable)))
+        (get_v i y e);
     committer = owned c.committer k.committer;
   }
 

@@ -141,6 +141,7 @@ module _ (c : Scene) (p : Publishing) (s : Store) (k : Kept (with_committer c p)
       live = k.live;
       latest = k.latest;
       last = k.last;
+      whole = k.whole;
       committer = h;
     }
 
@@ -186,6 +187,7 @@ module _ (c : Scene) (p : Publishing) (s : Store) (k : Kept (with_committer c p)
           live = λ e. k.live p.place y here (ap is_live runs);
           kept = other_kept (listing c) y y.rv y.loads (fate.Committed p.number) y.movable y.check (k.trials p.place y here) (runs_on (listing c) y (k.trials p.place y here) runs);
           own = λ q is place. let bad : Some q ≡ None = sym is ∙ empty in cc;
+          whole = λ there can. runs_on (listing c) y (k.trials p.place y here) runs;
         });
         next = (committer_of p, s, v.items, started_of y, (refl, at, w), omega (arith, many_stores cs, last), refl, seen_at c.trials.items p.place y here, ended last);
       }

@@ -19,7 +19,7 @@ use Rattle.world_law.specs.Next.{Next}
 use Rattle.world_events.specs.declared.trial.Trial.{Trial}
 use Rattle.world_events.specs.declared.scene.Publishing.{Publishing}
 use Rattle.world_events.specs.declared.scene.Scene.{Scene}
-use Rattle.world_events.specs.Trials.{started_of, wants, MayGoAgain, TrialKept}
+use Rattle.world_events.specs.Trials.{started_of, wants, CanMove, MayGoAgain, TrialKept}
 
 abbrev pub listing : Scene → Listing
 listing c = c.catalogue.now
@@ -73,7 +73,14 @@ pub record Kept (c : Scene) : Type 0 where
   pub latest : (a i : ℕ) → slice_get c.latest.items a ≡ Some (Some i) → (y : Trial) × (slice_get c.trials.items i ≡ Some y) × (y.task.0 ≡ a)
   -- and it is the last that began
   pub last : (i : ℕ) (y : Trial) → slice_get c.trials.items i ≡ Some y → (j : ℕ) × (slice_get c.latest.items y.task.0 ≡ Some (Some j)) × (i ≤ j)
+  -- where it became stale at a load it can go on
+  pub whole : (a i : ℕ) (y : Trial) → slice_get c.latest.items a ≡ Some (Some i) → slice_get c.trials.items i ≡ Some y → CanMove y → y.at ≢ next.Memory
   pub committer : CommitterKept c c.committer
+
+-- the attempt at the place i does not run, and can't run again: it became stale at no load, or its task has begun anew
+abbrev pub IsFinished : Scene → ℕ → Type 0
+IsFinished c i = (y : Trial) × (slice_get c.trials.items i ≡ Some y) × (y.fate ≢ fate.Running)
+    × (CanMove y → slice_get c.latest.items y.task.0 ≢ Some (Some i))
 
 -- with another attempt at the place i
 abbrev pub with_trial : Scene → ℕ → Trial → Scene

@@ -1,3 +1,5 @@
+pub mod KeptAttempts
+pub mod KeptAttemptInside
 pub mod Trials
 pub mod Inside
 pub mod Steps

@@ -1,7 +1,8 @@
 -- Events one after another, and which of them take no memory.
 use Rattle.std.specs.Prelude.{◌≡◌, ◌≢◌, ℕ, List, Some, None}
 use Rattle.std.specs.List.{slice_get}
-use Rattle.txn_programs.specs.Listing.{Listing}
+use Rattle.txn_programs.specs.Listing.{Listing, task_program}
+use Rattle.attempt.specs.Room.{NeedsNoMemory}
 use Rattle.txn_programs.specs.declared.ast.TaskId.{TaskId}
 use Rattle.world_law.specs.declared.events.Event.{Event}
 use Rattle.world_law.specs.declared.events.Event.TheVariants.{Begin, First, Value, Second, Ask, Word, Drop, Again}
@@ -32,6 +33,12 @@ IsChecking w a = (i : ℕ) (y : Started) → IsRunning w a i y → y.check ≢ N
 abbrev pub EndsCheck : World → Event → Type 0
 EndsCheck w (Second a) = IsChecking w a
 EndsCheck w e = ⊥
+
+-- what evaluates at the event, if anything does, needs no memory for it
+abbrev pub EvaluatesFree : Listing → Event → Type 0
+EvaluatesFree l (Begin a) = NeedsNoMemory (task_program l a)
+EvaluatesFree l (Second a) = NeedsNoMemory (task_program l a)
+EvaluatesFree l e = Unit {0}
 
 -- the event at the place k takes memory, and so may be refused
 abbrev pub MayBeRefused : List Event → ℕ → Type 0

@@ -6,6 +6,7 @@ use Rattle.std.specs.Option.{option_map}
 use Rattle.std.specs.Int.{w64, cast_signed}
 use Rattle.txn_words.specs.Stores.{new_of}
 use Rattle.attempt.specs.Asking.{Known}
+use Rattle.attempt.specs.Room.{NeedsNoMemory}
 use Rattle.attempt.specs.declared.next.Stand.TheVariants as stand
 use Rattle.txn_programs.specs.declared.ast.VarId.{VarId}
 use Rattle.txn_programs.specs.declared.ast.TaskId.{TaskId}
@@ -22,6 +23,7 @@ use Rattle.world_events.specs.declared.trial.Loads.{Loads}
 use Rattle.world_events.specs.declared.trial.Loads.TheVariants as loads
 use Rattle.world_events.specs.declared.trial.Checking.{Checking}
 use Rattle.world_events.specs.declared.trial.Trial.{Trial}
+use Rattle.world_events.specs.KeptAttempts.{shortened}
 
 abbrev pub loads_of : Loads → List ℕ
 loads_of loads.Nothing = []
@@ -52,13 +54,13 @@ wanted_at n log o = None
 abbrev pub wants : Trial → Option VarId
 wants y = wanted_at y.at y.attempt.log y.check
 
--- it evaluates its task's program, stands at its last answer, and is spent where that is want of memory
+-- it evaluates its task's program, stands at its answer, and does not run where it can't go on
 pub record TrialKept (l : Listing) (y : Trial) : Type 0 where
   pub program : y.attempt.program ≡ task_program l y.task
   pub variables : y.attempt.variables ≡ length l.initial
   pub answers : Answers y.at y.attempt
   pub needs : (x : VarId) → y.at ≡ next.Need x → x.0 < length l.initial
-  pub spent : y.at ≡ next.Memory → y.fate ≡ fate.Spent
+  pub over : y.at ≡ next.Memory → y.fate ≢ fate.Running
 
 -- the load of a version word
 abbrev pub LoadsFirst : Trial → ℕ → Seen → Trial → Type 0
@@ -104,6 +106,11 @@ pub record GoesOn (y : Trial) (s : Seen) (y' : Trial) : Type 0 where
   pub needs : (x : VarId) → y'.at ≡ next.Need x → x.0 < y'.attempt.variables
   pub fate : y'.fate ≡ answer_fate y'.at y.fate
   pub seen : s ≡ answer_seen y'.at
+  pub short : NeedsNoMemory y.attempt.program → y.attempt.stand ≢ stand.Spent → y'.at ≢ next.Memory
+
+-- y with its log alone
+abbrev pub shortened_trial : Trial → Trial
+shortened_trial y = record y { attempt = shortened y.attempt; at = next.Memory }
 
 -- y is told the value of x, whose value word was `bits`
 abbrev pub told_value : Trial → VarId → ℕ → Trial
@@ -142,7 +149,11 @@ LoadsSecond y x version s y' =
     × (((version ≢ first) × (s ≡ seen.Stale) × (y' ≡ record y { fate = fate.Stale; movable = true }))
     ⊎ ((version ≡ first) × ReadsOn y x bits y.check s y')))
 
--- it became stale at a load, when it needed a variable
+-- it became stale at a load
+abbrev pub CanMove : Trial → Type 0
+CanMove y = (y.fate ≡ fate.Stale) × (y.movable ≡ true)
+
+-- .. when it needed a variable
 abbrev pub MayGoAgain : Trial → Type 0
 MayGoAgain y = (y.fate ≡ fate.Stale) × (y.movable ≡ true) × ((x : VarId) × (y.at ≡ next.Need x))
 
@@ -161,3 +172,4 @@ pub record Begins (l : Listing) (a : TaskId) (rv : ℕ) (y : Trial) (s : Seen) :
   pub kept : TrialKept l y
   pub fate : y.fate ≡ answer_fate y.at fate.Running
   pub seen : s ≡ answer_seen y.at
+  pub short : NeedsNoMemory (task_program l a) → y.at ≢ next.Memory

@@ -1,8 +1,11 @@
 //! An attempt begins.
 
-ghost use Rattle.std.specs.Prelude.{◌≡◌, IfOk, OnErr, Decides};
+ghost use Rattle.std.specs.Prelude.{◌≡◌, ◌≢◌, IfOk, OnErr, Decides};
+ghost use Rattle.attempt.specs.Room.{NeedsNoMemory};
+ghost use Rattle.txn_programs.specs.Listing.{task_program};
 ghost use Rattle.world_law.specs.World.{CanBegin};
 ghost use Rattle.world_law.specs.declared.events.Event.TheVariants.{Begin};
+ghost use Rattle.world_law.specs.declared.events.Seen.TheVariants as seen;
 ghost use Rattle.world_events.specs.Inside.{Kept, Leads, Stays, listing, world_of};
 
 use crate::scene::Scene;
@@ -10,18 +13,20 @@ use crate::trial::{begun, lives};
 use txn::{Memory, TaskId};
 use world_law::Seen;
 
-/// An attempt of a task begins. `Memory` where it has no room; then nothing changed.
+/// An attempt of a task begins. `Memory` where it has no room; then nothing changed. It is not
+/// spent where its program needs no memory.
 pub fn begin(scene: &mut Scene, task: TaskId) -> Result<Seen, Memory>
     requires { Kept scene.old }
     ensures ok { IfOk result (λ s. Leads scene.old (Begin task) s scene.new) }
     ensures refused { OnErr result (Stays scene.old scene.new) }
+    ensures short { NeedsNoMemory (task_program (listing scene.old) task) → IfOk result (λ s. s ≢ seen.Spent) }
 {
     if !can_begin(scene, task) {
         return Ok(Seen::Idle);
     }
     let place = scene.trials.len();
     let alloc = *scene.words.allocator();
-    let (trial, seen) = begun(alloc, scene.catalogue, task, scene.words[0]);
+    let (trial, seen) = begun(alloc, scene.catalogue, task, scene.words[0])?;
     scene.trials.push(trial)?;
     scene.latest[task.0 as usize] = Some(place);
     Ok(seen)

@@ -1,13 +1,15 @@
 //! One event happens.
 
-ghost use Rattle.std.specs.Prelude.{◌≡◌, IfOk, OnErr, IsOk};
+ghost use Rattle.std.specs.Prelude.{◌≡◌, ◌≢◌, IfOk, OnErr, IsOk};
 ghost use Rattle.world_law.specs.Next.{Reachable};
-ghost use Rattle.world_events.specs.Runs.{TakesNone, EndsCheck};
+ghost use Rattle.world_law.specs.declared.events.Seen.TheVariants as seen;
+ghost use Rattle.world_events.specs.Runs.{TakesNone, EndsCheck, EvaluatesFree};
 ghost use Rattle.world_events.specs.Inside.{Kept, Leads, Stays, listing, world_of};
 
 use crate::asking::ask;
 use crate::beginning::begin;
 use crate::dropping::drop_attempt;
+use crate::finishing::{concerned, settle};
 use crate::moving::again;
 use crate::reading::{first, second, value};
 use crate::scene::Scene;
@@ -15,7 +17,7 @@ use crate::storing::word;
 use txn::Memory;
 use world_law::{Event, Seen};
 
-/// One event happens. At `Memory` nothing changed.
+/// One event happens, and what is finished then keeps its log alone. At `Memory` nothing changed.
 pub fn happen(scene: &mut Scene, event: Event) -> Result<Seen, Memory>
     requires kept { Kept scene.old }
     requires reached { Reachable (listing scene.old) (world_of scene.old) }
@@ -23,6 +25,25 @@ pub fn happen(scene: &mut Scene, event: Event) -> Result<Seen, Memory>
     ensures refused { OnErr result (Stays scene.old scene.new) }
     ensures sure { TakesNone event → IsOk result }
     ensures checks { EndsCheck (world_of scene.old) event → IsOk result }
+    ensures short { EvaluatesFree (listing scene.old) event → IfOk result (λ s. s ≢ seen.Spent) }
+{
+    let before = concerned(scene, event);
+    let seen = play(scene, event)?;
+    settle(scene, before);
+    let after = concerned(scene, event);
+    settle(scene, after);
+    Ok(seen)
+}
+
+/// Each event is a function of its own.
+fn play(scene: &mut Scene, event: Event) -> Result<Seen, Memory>
+    requires kept { Kept scene.old }
+    requires reached { Reachable (listing scene.old) (world_of scene.old) }
+    ensures ok { IfOk result (λ s. Leads scene.old event s scene.new) }
+    ensures refused { OnErr result (Stays scene.old scene.new) }
+    ensures sure { TakesNone event → IsOk result }
+    ensures checks { EndsCheck (world_of scene.old) event → IsOk result }
+    ensures short { EvaluatesFree (listing scene.old) event → IfOk result (λ s. s ≢ seen.Spent) }
 {
     match event {
         Event::Begin(task) => begin(scene, task),

@@ -10,13 +10,13 @@ use std::alloc::{AllocError, Global};
 use txn::{Catalogue, Memory};
 
 /// The scene of a catalogue in which nothing has happened.
-pub fn opening<'a>(alloc: Global, catalogue: &'a Catalogue) -> Result<Scene<'a>, Memory>
+pub fn first_scene<'a>(alloc: Global, catalogue: &'a Catalogue) -> Result<Scene<'a>, Memory>
     ensures catalogue { IfOk result (λ s. s.catalogue.now ≡ catalogue.now) }
     ensures kept { IfOk result (λ s. Kept s) }
     ensures opening { IfOk result (λ s. IsOpening catalogue.now (world_of s)) }
 {
     let initial = catalogue.initial();
-    let words = first_words(alloc, initial)?;
+    let words = opening_words(alloc, initial)?;
     let mut state = Vec::with_capacity(alloc, initial.len())?;
     state.extend_from_slice(initial)?;
     let states = vec![in alloc; state]?;
@@ -33,7 +33,7 @@ pub fn opening<'a>(alloc: Global, catalogue: &'a Catalogue) -> Result<Scene<'a>,
 }
 
 /// The words of these values: the clock and each version are 0.
-fn first_words(alloc: Global, values: &[i64]) -> Result<Vec<u64>, AllocError>
+fn opening_words(alloc: Global, values: &[i64]) -> Result<Vec<u64>, AllocError>
     requires { length values.now ≤ 256 }
     ensures { IfOk result (λ v. AreFirstWords values.now v.items) }
 {

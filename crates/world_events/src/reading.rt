@@ -1,9 +1,12 @@
 //! The three loads of a read.
 
-ghost use Rattle.std.specs.Prelude.{◌≡◌, IfOk, OnErr, IsOk};
-ghost use Rattle.world_events.specs.Inside.{Kept, Leads, Stays, world_of};
+ghost use Rattle.std.specs.Prelude.{◌≡◌, ◌≢◌, IfOk, OnErr, IsOk};
+ghost use Rattle.attempt.specs.Room.{NeedsNoMemory};
+ghost use Rattle.txn_programs.specs.Listing.{task_program};
+ghost use Rattle.world_events.specs.Inside.{Kept, Leads, Stays, listing, world_of};
 ghost use Rattle.world_events.specs.Runs.{IsChecking};
 ghost use Rattle.world_law.specs.declared.events.Event.TheVariants.{First, Value, Second};
+ghost use Rattle.world_law.specs.declared.events.Seen.TheVariants as seen;
 
 use crate::scene::{Scene, reading};
 use txn::{Memory, TaskId, VarId};
@@ -41,12 +44,13 @@ pub fn value(scene: &mut Scene, task: TaskId) -> Seen
 }
 
 /// The attempt of a task ends its read. `Memory` where its log can't grow; then nothing changed.
-/// While it checks that does not come.
+/// While it checks that does not come. It is not spent where its program needs no memory.
 pub fn second(scene: &mut Scene, task: TaskId) -> Result<Seen, Memory>
     requires { Kept scene.old }
     ensures ok { IfOk result (λ s. Leads scene.old (Second task) s scene.new) }
     ensures refused { OnErr result (Stays scene.old scene.new) }
     ensures checks { IsChecking (world_of scene.old) task → IsOk result }
+    ensures short { NeedsNoMemory (task_program (listing scene.old) task) → IfOk result (λ s. s ≢ seen.Spent) }
 {
     match reading(scene, task) {
         Some((place, x)) => {

@@ -9,10 +9,11 @@ ghost use Rattle.attempt.specs.declared.next.Next.TheVariants as next;
 ghost use Rattle.txn_programs.specs.declared.ast.VarId.{VarId};
 ghost use Rattle.world_law.specs.World.{bound, is_live};
 ghost use Rattle.world_events.specs.declared.trial.Checking.{Checking};
-ghost use Rattle.world_events.specs.Trials.{started_of, wants, CanEndRead, MayGoAgain, ChecksOn, Compares, LoadsFirst, LoadsValue, LoadsSecond, ReadsOn, GoesOn, GoesAgain, Begins, told_value, answer_seen, answer_fate};
+ghost use Rattle.world_events.specs.Trials.{started_of, wants, CanEndRead, MayGoAgain, ChecksOn, Compares, LoadsFirst, LoadsValue, LoadsSecond, ReadsOn, GoesOn, GoesAgain, Begins, told_value, shortened_trial, answer_seen, answer_fate};
 
-use attempt::{Attempt, Next};
-use std::alloc::Global;
+use crate::kept_attempt::KeptAttempt;
+use attempt::Next;
+use std::alloc::{AllocError, Global};
 use txn::{Catalogue, Memory, Outcome, TaskId, VarId};
 use world_law::{Fate, Seen};
 
@@ -34,13 +35,13 @@ pub struct Checking {
     pub checked: usize,
 }
 
-/// An attempt that began. `at` is what it answered last; `movable` says that it became stale at a
-/// load, and so may run again.
+/// An attempt that began. `at` is what it answers; `movable` says that it became stale at a load,
+/// and so may run again.
 #[derive(Drop)]
 pub struct Trial<'a> {
     pub task: TaskId,
     pub rv: u64,
-    pub attempt: Attempt<'a>,
+    pub attempt: KeptAttempt<'a>,
     pub at: Next,
     pub loads: Loads,
     pub fate: Fate,
@@ -218,6 +219,14 @@ impl<'a> Trial<'a> {
         self.check_on(clock, 0)
     }
 
+    /// It is finished: it keeps its log alone, and answers no more than that it can't go on.
+    pub fn shorten(&mut self)
+        ensures { self.new ≡ shortened_trial self.old }
+    {
+        self.attempt.shorten();
+        self.at = Next::Memory;
+    }
+
     /// It evaluates as far as it can.
     fn go_on(&mut self) -> Seen
         ensures { GoesOn self.old result self.new }
@@ -234,11 +243,11 @@ pub fn begun<'a>(
     catalogue: &'a Catalogue,
     task: TaskId,
     rv: u64,
-) -> (Trial<'a>, Seen)
+) -> Result<(Trial<'a>, Seen), AllocError>
     requires { task.0 < length (tasks catalogue.now) }
-    ensures { Begins catalogue.now task rv result.0 result.1 }
+    ensures { IfOk result (λ r. Begins catalogue.now task rv r.0 r.1) }
 {
-    let mut attempt = Attempt::new(alloc, catalogue, catalogue.task_tx(task));
+    let mut attempt = KeptAttempt::new(alloc, catalogue, catalogue.task_tx(task))?;
     let at = attempt.advance();
     let trial = Trial {
         task,
@@ -250,7 +259,7 @@ pub fn begun<'a>(
         movable: false,
         check: None,
     };
-    (trial, seen_of(at))
+    Ok((trial, seen_of(at)))
 }
 
 /// What is seen of an attempt that answers so.

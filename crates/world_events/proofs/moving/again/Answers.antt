@@ -4,7 +4,7 @@ use Rattle.world_events.specs.Trials.{GoesAgain}
 use Rattle.world_law.specs.declared.events.Event.TheVariants.{Again}
 use Rattle.world_events.proofs.Seeing.{read_is, word_read}
 use Rattle.world_events.proofs.Putting.{idle_leads}
-use Rattle.world_events.proofs.Checking.{again_leads, again_idle}
+use Rattle.world_events.proofs.Checks.{again_leads, again_idle}
 use Rattle.world_events.proofs.moving.again.Goals as goal
 
 pub returns-in-Some : goal.returns-in-Some

@@ -9,7 +9,7 @@ use Rattle.world_events.specs.Inside.{world_of, with_trial, Stays}
 use Rattle.world_events.proofs.Seeing.{read_is, word_read, on_err}
 use Rattle.world_events.proofs.Standing.{reading_from}
 use Rattle.world_events.proofs.Putting.{idle_leads, put_stays}
-use Rattle.world_events.proofs.Checking.{second_leads, can_end, checks_now}
+use Rattle.world_events.proofs.Checks.{second_leads, can_end, checks_now}
 use Rattle.world_events.proofs.reading.second.Goals as goal
 
 pub load_second-requires : goal.load_second-requires

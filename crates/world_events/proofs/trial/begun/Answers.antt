@@ -1,6 +1,8 @@
 use Rattle.std.proofs.Common.{◌≡◌, ℕ, ◌<◌, length, refl, sym, ap, ◌∙◌, subst}
 use Rattle.txn_programs.specs.Listing.{program_at}
+use Rattle.attempt.specs.Room.{NeedsNoMemory}
 use Rattle.attempt.specs.View.{AttemptView}
+use Rattle.attempt.specs.declared.next.Stand.TheVariants as stand
 use Rattle.attempt.specs.declared.next.Next.{Next}
 use Rattle.world_law.specs.declared.events.Fate.TheVariants as fate
 use Rattle.world_events.specs.Trials.{answer_fate}
@@ -9,7 +11,7 @@ use Rattle.world_events.proofs.trial.begun.Goals as goal
 pub returns : goal.returns
 returns c =
     let l = c.args.catalogue.now in
-    let fresh = c.new-attempt.ensures in
+    let fresh = c.in_ok-attempt.ensures in
     let vars : c.advance-at.new.self.variables ≡ length l.initial = c.advance-at.ensures.variables ∙ ap (λ (a : AttemptView). a.variables) fresh in
     record {
       task = refl;
@@ -23,8 +25,10 @@ returns c =
         variables = vars;
         answers = c.advance-at.ensures.answers;
         needs = λ x e. subst (λ (n : ℕ). x.0 < n) vars (c.advance-at.ensures.needed x e).0;
-        spent = λ m. c.fate_after.ensures ∙ ap (λ (n : Next). answer_fate n fate.Running) m;
+        over = λ m run. let both : fate.Spent ≡ fate.Running = sym (c.fate_after.ensures ∙ ap (λ (n : Next). answer_fate n fate.Running) m) ∙ run in cc;
       };
       fate = c.fate_after.ensures;
       seen = c.seen_of.ensures;
+      short = λ needs. c.advance-at.ensures.short (subst NeedsNoMemory (sym (ap (λ (a : AttemptView). a.program) fresh ∙ ap (program_at l) c.task_tx.ensures.value)) needs)
+          (λ e. let both : stand.Fresh ≡ stand.Spent = sym (ap (λ (a : AttemptView). a.stand) fresh) ∙ e in cc);
     }

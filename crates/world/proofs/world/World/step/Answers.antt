@@ -1,5 +1,5 @@
 use Rattle.std.proofs.Common.{rules, sym, subst}
-use Rattle.world_events.specs.Runs.{EndsCheck}
+use Rattle.world_events.specs.Runs.{EndsCheck, EvaluatesFree}
 use Rattle.world.specs.View.{WorldView}
 use Rattle.world.proofs.Reaching.{reached_led}
 use Rattle.world.proofs.world.World.step.Goals as goal
@@ -14,3 +14,8 @@ pub returns-in_err-seen-clause-checks : goal.returns-in_err-seen-clause-checks
 returns-in_err-seen-clause-checks c h =
     let sure = c.happen.ensures.checks (subst (λ (v : WorldView). EndsCheck v.world c.args.event) (sym c.self.view_is) h) in
     search (rules, sure)
+
+pub returns-clause-short : goal.returns-clause-short
+returns-clause-short c h =
+    let free = c.happen.ensures.short (subst (λ (v : WorldView). EvaluatesFree v.listing c.args.event) (sym c.self.view_is) h) in
+    search (rules, free)

@@ -15,4 +15,5 @@ returns c = record {
   needs = λ x e. (c.advance-self.ensures.needed x e).0;
   fate = c.fate_after-self.ensures;
   seen = c.seen_of.ensures;
+  short = c.advance-self.ensures.short;
 }

@@ -5,7 +5,7 @@ use Rattle.std.proofs.lemmas.Option.{slice_get-get_or}
 use Rattle.world_law.specs.World.{HoldValues}
 use Rattle.world_events.proofs.FirstWords.{first_more}
 use Rattle.world_events.proofs.Working.{take_more}
-use Rattle.world_events.proofs.opening.first_words.Goals as goal
+use Rattle.world_events.proofs.opening.opening_words.Goals as goal
 
 pub loop-value-preserved : goal.loop-value-preserved
 loop-value-preserved c =

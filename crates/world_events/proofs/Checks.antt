@@ -30,7 +30,7 @@ use Rattle.world_events.specs.Inside.{listing, world_of, with_trial, CommitterKe
 use Rattle.world_events.proofs.Seeing.{same_place, seen_at, seen_from}
 use Rattle.world_events.proofs.Putting.{Replaces, world_put, put_leads}
 use Rattle.world_events.proofs.Owning.{owner_of, needs_apart}
-use Rattle.world_events.proofs.Standing.{running_to, reading_to, reading_from, the_one, loads_value, stands_at, needs_at, no_want, runs_on, other_kept, wants_needs}
+use Rattle.world_events.proofs.Standing.{running_to, reading_to, reading_from, the_one, loads_value, stands_at, needs_at, runs_on, other_kept, wants_needs}
 use Rattle.world_events.proofs.Loading.{became, becomes, replaces, good, stale_replaces}
 use Rattle.world_events.proofs.Going.{second_goes}
 use Rattle.world_events.proofs.Starting.{can_some, cannot_some}
@@ -54,6 +54,11 @@ told_on t z n checked None s t' at h = inr (h.0 ∙ ap answer_seen at)
 pub on_task : (t : Trial) (n checked : ℕ) (o : Option (VarId × ℤ)) (s : Seen) (t' : Trial) → ChecksOnWith t n checked o s t' → t'.task ≡ t.task
 on_task t n checked (Some p) s t' h = ap (λ (u : Trial). u.task) h.1
 on_task t n checked None s t' h = ap (λ (u : Trial). u.task) h.1
+
+-- it stands where it stood
+on_at : (t : Trial) (n checked : ℕ) (o : Option (VarId × ℤ)) (s : Seen) (t' : Trial) → ChecksOnWith t n checked o s t' → t'.at ≡ t.at
+on_at t n checked (Some p) s t' h = ap (λ (u : Trial). u.at) h.1
+on_at t n checked None s t' h = ap (λ (u : Trial). u.at) h.1
 
 pub on_kept : (c : Scene) (t : Trial) (n checked : ℕ) (o : Option (VarId × ℤ)) (s : Seen) (t' : Trial) → TrialKept (listing c) t → t.at ≢ next.Memory → ChecksOnWith t n checked o s t' → TrialKept (listing c) t'
 on_kept c t n checked (Some p) s t' k m h = subst (TrialKept (listing c)) (sym h.1) (other_kept (listing c) t t.rv loads.Nothing t.fate t.movable (Some record { candidate = n; checked = checked }) k m)
@@ -126,6 +131,7 @@ module _ (c : Scene) (a : TaskId) (x : VarId) (i : ℕ) (t t' : Trial) (s : Seen
         live = λ e. k.live i t r.0 (ap is_live r.2);
         kept = on_kept c t d.candidate (d.checked + 1) o s t' g m h.1;
         own = λ p is place. mine (owner_of c.committer p i is place);
+        whole = λ there can e. m (sym (on_at t d.candidate (d.checked + 1) o s t' h.1) ∙ e);
       })
       (by_check s refl (inr (told_on t needs.0 d.candidate (d.checked + 1) o s t' needs.1 h.1))
       (seen_on c t needs.0 d.candidate (d.checked + 1) o s t' g needs.1 h.1 ∙ ap (λ (q : Seen × Started). q.0) equal)
@@ -133,7 +139,7 @@ module _ (c : Scene) (a : TaskId) (x : VarId) (i : ℕ) (t t' : Trial) (s : Seen
   compared d is (inr h) =
       let differ = turn d false is (unequal (cast_signed w64 bits) (new_of t.attempt.log d.checked) h.0) in
       put_leads c i t t' (Second a) s k
-      (replaces c a i t t' k r mine (record t { fate = fate.Stale }) h.2 refl (good c a i t t' k r mine t.rv t.loads fate.Stale t.movable t.check))
+      (replaces c a i t t' k r mine (record t { fate = fate.Stale }) h.2 refl refl (good c a i t t' k r mine t.rv t.loads fate.Stale t.movable t.check))
       (by_check s refl (inl h.1) (h.1 ∙ ap (λ (q : Seen × Started). q.0) differ) (ap started_of h.2 ∙ ap (λ (q : Seen × Started). q.1) differ))
     where
       unequal : (p q : ℤ) → p ≢ q → int_eq p q ≡ false
@@ -151,7 +157,7 @@ pub second_leads : (c : Scene) (a : TaskId) (x : VarId) (i : ℕ) (t t' : Trial)
     → LoadsSecond t x (version_now (world_of c) x) s t' → Leads c (Second a) s (with_trial c i t')
 second_leads c a x i t t' s k r only at (inl h) =
     subst (λ (q : Seen). Leads c (Second a) q (with_trial c i t')) (sym h.1)
-    (put_leads c i t t' (Second a) seen.Idle k (replaces c a i t t' k r (needs_apart c i t x k r.0 at) t h.2 refl (k.trials i t r.0)) (
+    (put_leads c i t t' (Second a) seen.Idle k (replaces c a i t t' k r (needs_apart c i t x k r.0 at) t h.2 refl refl (k.trials i t r.0)) (
       λ j first bits y z q. let u = reading_from c a j y z (first ∷ bits ∷ []) k q in
           h.0 first bits (ap (λ (v : Trial). v.loads) (the_one c a i j t u.0 r only u.1) ∙ loads_value u.0.loads first bits u.3),
       became c i t t' h.2 r.0,
@@ -216,6 +222,7 @@ module _ (c : Scene) (a : TaskId) (k : Kept c) where
         live = λ e. ap (λ (b : TaskId). slice_get c.latest.items b.0) task ∙ is.1;
         kept = on_kept c z clock 0 o s t' kept m h;
         own = λ p e place. stale_apart c i t k is.0 may.0 (owner_of c.committer p i e place);
+        whole = λ there can e. m (sym (on_at z clock 0 o s t' h) ∙ e);
       })
       (by_again i t t' s (told_on z x.0 clock 0 o s t' x.1 h) x.0 can (seen_on c z x.0 clock 0 o s t' kept x.1 h)
       (world_put c i t' ∙ ap (changed (world_of c) i) (then_on c z clock 0 o s t' h)))
@@ -231,7 +238,8 @@ module _ (c : Scene) (a : TaskId) (k : Kept c) where
     λ i y x can. let u = latest_from c a i y k can.1 in
         let g = k.trials i u.0 u.1.0 in
         let stale : u.0.fate ≡ fate.Stale = ap (λ (v : Started). v.fate) u.2 ∙ can.2 in
-        let needs = needs_at (listing c) u.0 x g (λ e. let both : fate.Stale ≡ fate.Spent = sym stale ∙ e in cc) (ap (stand_of (listing c)) u.2 ∙ can.4) in
-        none i u.0 u.1 (stale, ap (λ (v : Started). v.movable) u.2 ∙ can.3, (x, needs)),
+        let movable : u.0.movable ≡ true = ap (λ (v : Started). v.movable) u.2 ∙ can.3 in
+        let needs = needs_at (listing c) u.0 x g (k.whole a.0 i u.0 u.1.1 u.1.0 (stale, movable)) (ap (stand_of (listing c)) u.2 ∙ can.4) in
+        none i u.0 u.1 (stale, movable, (x, needs)),
     refl,
   )

@@ -1,7 +1,7 @@
 use Rattle.std.proofs.Common.{◌≡◌, ℕ, ℤ, List, ◌++◌, None, replicate, refl, ap, ◌∙◌, subst}
 use Rattle.world_law.specs.World.{HoldValues}
 use Rattle.world_events.proofs.FirstWords.{opening_kept}
-use Rattle.world_events.proofs.opening.opening.Goals as goal
+use Rattle.world_events.proofs.opening.first_scene.Goals as goal
 
 pub returns-clause-kept : goal.returns-clause-kept
 returns-clause-kept c =
