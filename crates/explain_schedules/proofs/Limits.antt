@@ -14,7 +14,7 @@ use Rattle.txn_programs.specs.Limits.{limits_hold}
 use Rattle.txn_programs.proofs.Lawful.{few_tasks}
 use Rattle.text_words.specs.declared.fault.ReadFault.{ReadFault}
 use Rattle.text_words.specs.declared.fault.ReadFault.TheVariants.{Name, Limit}
-use Rattle.text_report_reader.specs.Resolving.{task_id, below}
+use Rattle.text_lines.specs.Counts.{task_id, below}
 use Rattle.text_schedule_reader.specs.Raw.{Raw, OfTask, OfVariable, Word}
 use Rattle.text_schedule_reader.specs.Resolving.{is_known, names_known, variable_id, found, task_move, variable_move, move_told, moves_told}
 use Rattle.text_schedule_reader.specs.Schedules.{IsSchedule, IsWritten, IsFirst}

@@ -10,12 +10,12 @@ use Rattle.text_words.specs.Words.{line}
 use Rattle.text_words.specs.declared.fault.ReadFault.{ReadFault}
 use Rattle.text_words.specs.declared.fault.ReadFault.TheVariants.{Shape}
 use Rattle.text_words.specs.Answers.{◌>>=◌, Fails}
-use Rattle.text_report_reader.specs.Lines.{parted}
-use Rattle.text_report_reader.specs.Raw.{is_number}
-use Rattle.text_report_reader.specs.Reading.{word_at, number_in, name_in, given}
-use Rattle.text_report_reader.proofs.Parting.{parted_takes, parted_again}
-use Rattle.text_report_reader.proofs.Numbers.{number_lacks, name_lacks}
-use Rattle.text_report_reader.proofs.Steps.{Takes, text_of, number_takes}
+use Rattle.text_lines.specs.Lines.{parted}
+use Rattle.text_lines.specs.Words.{is_number}
+use Rattle.text_lines.specs.Words.{first_word, number_in, name_in, given}
+use Rattle.text_lines.proofs.Parting.{parted_takes, parted_again}
+use Rattle.text_lines.proofs.Numbers.{number_lacks, name_lacks}
+use Rattle.text_lines.proofs.Steps.{Takes, text_of, number_takes}
 use Rattle.text_schedule_reader.specs.Raw.{Raw, OfTask, OfVariable, Word, task_word, variable_word, raw_words, IsRaw}
 use Rattle.text_schedule_reader.specs.Reading.{task_verb, variable_verb, alone, of_task, of_variable, of_verb, of_parts, move_in}
 use Rattle.text_schedule_reader.proofs.Steps.{task_word_is, variable_word_is, move_takes}
@@ -148,15 +148,15 @@ task_stops verb rest h k e =
 -- ---- of a task and a variable
 
 variable_read : (v : VariableVerb) (first second task name : List ℕ) → lacks 32 first ≡ true → number_in first ≡ Ok task → name_in second ≡ Ok name → of_variable v (first ++ 32 ∷ second) ≡ Ok (OfVariable v task name)
-unfolding of_variable word_at
+unfolding of_variable first_word
 variable_read v first second task name h n m = rw (parted_again 32 first second h, n, m) refl
 
 number_fails : (v : VariableVerb) (first second : List ℕ) → lacks 32 first ≡ true → number_in first ≡ Err Shape → of_variable v (first ++ 32 ∷ second) ≡ Err Shape
-unfolding of_variable word_at
+unfolding of_variable first_word
 number_fails v first second h n = rw (parted_again 32 first second h, n) refl
 
 name_fails : (v : VariableVerb) (first second task : List ℕ) → lacks 32 first ≡ true → number_in first ≡ Ok task → name_in second ≡ Err Shape → of_variable v (first ++ 32 ∷ second) ≡ Err Shape
-unfolding of_variable word_at
+unfolding of_variable first_word
 name_fails v first second task h n m = rw (parted_again 32 first second h, n, m) refl
 
 unparted : (text : List ℕ) (o : Option (List ℕ × List ℕ)) → parted 32 text ≡ o → ((x : List ℕ × List ℕ) → o ≡ Some x → lacks 32 text ≡ false) → lacks 32 text ≡ true → parted 32 text ≡ None
@@ -167,7 +167,7 @@ pub none_parted : (text : List ℕ) → lacks 32 text ≡ true → parted 32 tex
 none_parted text k = unparted text (parted 32 text) refl (λ x e. ap (lacks 32) (parted_takes 32 text x e) ∙ has_it 32 x.0 x.1) k
 
 word_fails : (v : VariableVerb) (rest : List ℕ) → lacks 32 rest ≡ true → of_variable v rest ≡ Err Shape
-unfolding of_variable word_at
+unfolding of_variable first_word
 word_fails v rest h = rw (none_parted rest h) refl
 
 variable_verb_is : (v : VariableVerb) (verb : List ℕ) → lacks 32 verb ≡ true → task_verb verb ≡ None → variable_verb verb ≡ Some v → verb ≡ variable_word v

@@ -8,9 +8,9 @@ use Rattle.std.proofs.lemmas.List.{append-nil}
 use Rattle.std.proofs.lemmas.List.Folds.{list_all-append}
 use Rattle.std.proofs.lemmas.Option.{same_Some}
 use Rattle.text_words.specs.Bytes.{is_blank}
-use Rattle.text_report_reader.specs.Lines.{parted, behind_byte}
-use Rattle.text_report_reader.specs.View.{view_parts}
-use Rattle.text_report_reader.proofs.Parting.{parted_takes, parted_again}
+use Rattle.text_lines.specs.Lines.{parted, behind_byte}
+use Rattle.text_lines.specs.View.{view_parts}
+use Rattle.text_lines.proofs.Parting.{parted_takes, parted_again}
 use Rattle.explain_schedules.specs.Words.{behind, behind_len, lacks, IsParted, is_word_byte}
 
 -- ---- round the first such byte

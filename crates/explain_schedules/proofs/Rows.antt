@@ -7,12 +7,12 @@ use Rattle.std.proofs.lemmas.List.{append-nil}
 use Rattle.std.proofs.lemmas.Grind.{flat_map-append}
 use Rattle.text_words.specs.Words.{line}
 use Rattle.text_words.proofs.Steps.{bind_ok}
-use Rattle.text_report_reader.specs.Lines.{Line, Whole, Cut, lines, parted}
-use Rattle.text_report_reader.proofs.Parting.{lines_nil, lines_text, parted_takes}
-use Rattle.text_report_reader.proofs.Numbers.{name_lacks, number_lacks}
-use Rattle.text_report_reader.proofs.Rows.{line_of}
-use Rattle.text_report_reader.proofs.Steps.{text_of}
-use Rattle.text_report_reader.proofs.Texts.{Makes, one_line, each_line, three}
+use Rattle.text_lines.specs.Lines.{Line, Whole, Cut, lines, parted}
+use Rattle.text_lines.proofs.Parting.{lines_nil, lines_text, parted_takes}
+use Rattle.text_lines.proofs.Numbers.{name_lacks, number_lacks}
+use Rattle.text_lines.proofs.Rows.{line_of}
+use Rattle.text_lines.proofs.Steps.{text_of}
+use Rattle.text_lines.proofs.Texts.{Makes, one_line, each_line, three}
 use Rattle.text_schedule_reader.specs.Raw.{Raw, OfTask, OfVariable, Word, task_word, variable_word, raw_words, raw_text, IsRaw}
 use Rattle.text_schedule_reader.specs.Reading.{move_in, raw_in, raws_at}
 use Rattle.text_schedule_reader.proofs.Rows.{raws_again}

@@ -6,7 +6,7 @@ use Rattle.std.proofs.lemmas.List.{append-nil}
 use Rattle.text_words.specs.Bytes.{is_blank}
 use Rattle.text_words.specs.Words.{line}
 use Rattle.text_words.specs.declared.fault.ReadFault.TheVariants.{Shape}
-use Rattle.text_report_reader.specs.Lines.{lines}
+use Rattle.text_lines.specs.Lines.{lines}
 use Rattle.text_schedule_reader.specs.Raw.{Raw, raw_words, raw_text, IsRaw}
 use Rattle.text_schedule_reader.specs.Reading.{move_in, raws_at}
 use Rattle.text_schedule_reader.proofs.Steps.{move_takes}

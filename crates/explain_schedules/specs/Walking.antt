@@ -2,7 +2,7 @@
 use Rattle.std.specs.Prelude.{◌≡◌, ℕ, Bool, true, false, if◌then◌else◌, Option, Some, None, List, ◌++◌, Ok}
 use Rattle.std.specs.List.{list_all, AllByRecursion}
 use Rattle.txn_programs.specs.Listing.{Listing}
-use Rattle.text_report_reader.specs.Lines.{lines}
+use Rattle.text_lines.specs.Lines.{lines}
 use Rattle.text_schedule_reader.specs.Raw.{Raw, raw_text, IsRaw}
 use Rattle.text_schedule_reader.specs.Reading.{raws_at}
 use Rattle.text_schedule_reader.specs.Resolving.{is_known}

@@ -10,7 +10,7 @@ ghost use Rattle.explain_schedules.specs.Walking.{IsUneven, right_of, place_of, 
 
 use crate::form::gone;
 use crate::line::{Line, line_of, split_once};
-use text_report_reader::{Count, task_id};
+use text_lines::{Count, task_id};
 use txn::Catalogue;
 
 /// Which words are judged.
@@ -23,7 +23,7 @@ pub(crate) enum Judged {
 }
 
 /// Whether there is a task of this number.
-#[tactic(auto, unfolding(text_report_reader::specs::Resolving::task_id, text_report_reader::specs::Resolving::below))]
+#[tactic(auto, unfolding(text_lines::specs::Counts::task_id, text_lines::specs::Counts::below))]
 fn has_task(catalogue: &Catalogue, task: Count<'_>) -> bool
     ensures { result ≡ nat_lt (digits_value 10 task.entry.text.now) (length (tasks catalogue.now)) }
 {

@@ -5,7 +5,7 @@ ghost use Rattle.text_schedule_reader.specs.Reading.{task_verb, variable_verb};
 ghost use Rattle.explain_schedules.specs.Words.{lacks, IsParted};
 ghost use Rattle.explain_schedules.specs.Lines.{IsLine, StopsAt};
 
-use text_report_reader::{Count, count_of, is_word, name_of, part};
+use text_lines::{Count, is_word, name_in, number_in, part};
 
 /// What is wanted where a line stops being one.
 #[derive(Clone, Copy, Debug, PartialEq, Eq)]
@@ -112,7 +112,7 @@ fn of_task<'a>(verb: &[u8], rest: &'a [u8]) -> Result<Line<'a>, WrongWord>
     ensures bound { IfErr result (λ wrong. wrong.at ≤ length verb.now + 1) }
 {
     let at = verb.len() + 1;
-    match count_of(rest) {
+    match number_in(rest) {
         Ok(task) => Ok(Line::OfTask(at, task)),
         Err(_) => Err(WrongWord {
             at,
@@ -158,14 +158,14 @@ fn named<'a>(
     ensures stop { IfErr result (λ wrong. StopsAt (verb.now ++ (32 ∷ (first.now ++ (32 ∷ second.now)))) wrong.at) }
     ensures bound { IfErr result (λ wrong. wrong.at ≤ at + (length first.now + 1)) }
 {
-    let Ok(task) = count_of(first) else {
+    let Ok(task) = number_in(first) else {
         return Err(WrongWord {
             at,
             wanted: Wanted::TaskAndVariable,
         });
     };
     let name_at = at + (first.len() + 1);
-    match name_of(second) {
+    match name_in(second) {
         Ok(name) => Ok(Line::OfVariable(at, task, name_at, name)),
         Err(_) => Err(WrongWord {
             at: name_at,

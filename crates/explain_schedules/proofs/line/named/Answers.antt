@@ -9,11 +9,11 @@ returns-in_default-clause-stop c =
     subst (λ (n : ℕ). StopsAt (c.args.verb.now ++ 32 ∷ (c.args.first.now ++ 32 ∷ c.args.second.now)) n) (sym c.requires.at)
     (number_stops c.args.verb.now c.args.first.now c.args.second.now c.requires.spaceless c.requires.verb c.requires.other c.requires.first (fails_shape c.in_default.field-0 _ c.in_default.ensures.value c.in_default.ensures.kind))
 
-pub returns-in-Ok-name_of-clause-line : goal.returns-in-Ok-name_of-clause-line
-returns-in-Ok-name_of-clause-line c =
-    let t = variable_line c.args.verb.now c.args.first.now c.args.second.now c.in-Ok.task.text.now c.in-Ok-name_of.name.now c.requires.spaceless c.requires.verb c.requires.other c.requires.first c.in-Ok.ensures.value c.in-Ok-name_of.ensures.value in
+pub returns-in-Ok-name_in-clause-line : goal.returns-in-Ok-name_in-clause-line
+returns-in-Ok-name_in-clause-line c =
+    let t = variable_line c.args.verb.now c.args.first.now c.args.second.now c.in-Ok.task.text.now c.in-Ok-name_in.name.now c.requires.spaceless c.requires.verb c.requires.other c.requires.first c.in-Ok.ensures.value c.in-Ok-name_in.ensures.value in
     record {
-      raw = OfVariable t.kind c.in-Ok.task.text.now c.in-Ok-name_of.name.now;
+      raw = OfVariable t.kind c.in-Ok.task.text.now c.in-Ok-name_in.name.now;
       read = t.read;
       says = (c.requires.at ∙ t.at, refl, ap (λ (n : ℕ). n + (length c.args.first.now + 1)) c.requires.at ∙ t.name_at, refl);
     }
