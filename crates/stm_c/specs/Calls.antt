@@ -6,7 +6,7 @@ use Rattle.run_observer.specs.Observing.{ObservesBy, IsObserved}
 use Rattle.book.specs.View.{stands, IsRunning, checkpointed}
 use Rattle.book.specs.Turns.{Drains, readied, IsIdle}
 use Rattle.book.specs.declared.task.Serial.{Serial}
-use Rattle.book.specs.declared.task.Task.TheVariants as Task
+use Rattle.book.specs.Tasks as Task
 use Rattle.stm_store.specs.declared.job.Job.{Job}
 use Rattle.stm_store.specs.declared.store.Store.{Store}
 use Rattle.stm_store.specs.declared.store.Brought.{Brought}
