@@ -24,13 +24,13 @@ impl Read for Spaces<'_> {
 }
 
 /// Of so many bytes this many are read, and no more are taken from the reader.
-fn expect_read(rt: &impl Abort, alloc: Global, size: usize, limit: usize, count: usize) {
+fn expect_read(rt: &impl Abort, alloc: Global, size: usize, limit: u32, count: usize) {
     let handed = Cell::new(0);
     let input = Spaces {
         left: size,
         handed: &handed,
     };
-    match read_up_to(alloc, input, limit) {
+    match read_up_to(alloc, input, limit as usize) {
         Ok(bytes) => assert_eq!(rt; bytes.len(), count),
         Err(_) => panic!(rt; "not read"),
     }
@@ -40,9 +40,10 @@ fn expect_read(rt: &impl Abort, alloc: Global, size: usize, limit: usize, count:
 /// One byte past the limit is read, and no more, of a file, a schedule or a report.
 #[test]
 fn one_byte_past_the_limit_is_read(rt: HostRuntime) {
-    for limit in [0, 1, 1048576, 8388608] {
-        expect_read(&rt, rt.alloc(), limit, limit, limit);
-        expect_read(&rt, rt.alloc(), limit + 1, limit, limit + 1);
-        expect_read(&rt, rt.alloc(), limit + 5, limit, limit + 1);
+    for limit in [0u32, 1, 1048576, 8388608] {
+        let size = limit as usize;
+        expect_read(&rt, rt.alloc(), size, limit, size);
+        expect_read(&rt, rt.alloc(), size + 1, limit, size + 1);
+        expect_read(&rt, rt.alloc(), size + 5, limit, size + 1);
     }
 }

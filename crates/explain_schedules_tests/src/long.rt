@@ -7,8 +7,8 @@ use std::test::Fail;
 use txn_text::{ReadFault, read_file};
 
 /// So many times the line `word`, and then the text.
-fn behind_words(alloc: Global, count: usize, text: &str) -> Result<Vec<u8>, AllocError> {
-    let mut bytes = Vec::with_capacity(alloc, count * 5)?;
+fn behind_words(alloc: Global, count: u32, text: &str) -> Result<Vec<u8>, AllocError> {
+    let mut bytes = Vec::with_capacity(alloc, count as usize * 5)?;
     for _ in 0..count {
         bytes.extend_from_slice(b"word\n")?;
     }
@@ -36,13 +36,13 @@ fn place_of(alloc: Global, bytes: &[u8]) -> Option<(ReadFault, usize, usize)> {
 /// Behind so many lines, of 5 bytes each, this text is refused at this place of the line behind them.
 fn refused_at(
     alloc: Global,
-    lines: usize,
+    lines: u32,
     text: &str,
     kind: ReadFault,
     column: usize,
 ) -> Result<bool, AllocError> {
     let bytes = behind_words(alloc, lines, text)?;
-    Ok(place_of(alloc, bytes.as_slice()) == Some((kind, lines + 1, column)))
+    Ok(place_of(alloc, bytes.as_slice()) == Some((kind, lines as usize + 1, column)))
 }
 
 #[test]
