@@ -27,6 +27,7 @@ pub(crate) fn start<R: Threads + Wait + Sync, P: Send + Drop, F: Fn(P) + Sync>(
                 return;
             };
             while let Some(pass) = next_pass(&mut passes, life) {
+                // The scope waits for what was started; what was not is one call fewer.
                 let _started = scope.spawn(
                     move ||
                         requires { F.pre life.now pass }
@@ -45,6 +46,7 @@ fn next_pass<P: Drop, F: Fn(P)>(passes: &mut Vec<P>, life: &F) -> Option<P>
     ensures rest { All (λ p. F.pre life.now p) passes.new.items }
     ensures fewer { IfSome result (λ p. vec_len passes.new < vec_len passes.old) }
 {
+    // The clauses alone speak of it.
     let _life = life;
     passes.pop()
 }

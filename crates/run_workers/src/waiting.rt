@@ -3,7 +3,10 @@
 //! What is done under the lock is short, and costs more where the book's words have to come from
 //! another processor. So whoever finds the lock held stays away for a while, longer each time, and
 //! gives the processor away before it sleeps. A stale try is a sign that others commit to the same
-//! variables, so it is followed by a rest too.
+//! variables, so a rest lies between it and the next one. No rest is longer than 64,000 loads, which is
+//! well below a thousandth of a second.
+
+ghost use Rattle.std.specs.Prelude.{◌≤◌, ◌<◌, ◌+◌};
 
 use crate::shared::{Named, Naming};
 use std::sync::atomic::{AtomicU64, Ordering};
@@ -22,46 +25,68 @@ const RESTS: u32 = 16;
 /// How often the lock is then tried with the processor given away after it.
 const YIELDS: u32 = 50;
 
-/// Does nothing for a while.
-fn rest(length: u32) {
+/// Does nothing for a while, which is so many loads.
+fn rest(length: u32)
+    requires { length ≤ 64000 }
+{
     let word = AtomicU64::new(0);
     for _ in 0..length {
+        // The load is all that is wanted, and not what it gives.
         let _seen = word.load(Ordering::SeqCst);
     }
 }
 
 /// Twice the length, as far as rests go.
-fn longer(length: u32) -> u32 {
+fn longer(length: u32) -> u32
+    ensures { result ≤ 64000 }
+{
     length.saturating_mul(2).min(LONG)
 }
 
-/// A rest after a stale try, longer after each further one of the same task.
-pub(crate) fn rest_after(tries: u32) {
+/// A rest between a stale try, before which there were so many of the same task, and the next one:
+/// longer after each further one. There is none after the last of the tries, behind which the task has
+/// its turn at once.
+pub(crate) fn rest_after(stale: u32, tries: u32)
+    requires { stale + 1 < tries }
+{
+    // The clause alone speaks of them.
+    let _tries = tries;
     let mut length = SHORT;
-    for _ in 0..tries.min(16) {
+    'longer: for _ in 0..stale.min(16) {
         length = longer(length);
     }
     rest(length);
 }
 
-/// Gets the lock.
-pub(crate) fn lock<'b, 'a, R: Wait, N: Naming>(
-    rt: &R,
+/// Tries the lock some times, with a rest or the processor given away after each. It waits for
+/// nobody, and ends.
+fn try_some<'b, 'a, N: Naming>(
     shared: &'b Mutex<Named<'a, N>>,
-) -> MutexGuard<'b, Named<'a, N>> {
+) -> Option<MutexGuard<'b, Named<'a, N>>> {
     let mut length = SHORT;
-    for _ in 0..RESTS {
+    'rests: for _ in 0..RESTS {
         if let Some(guard) = shared.try_lock() {
-            return guard;
+            return Some(guard);
         }
         rest(length);
         length = longer(length);
     }
     for _ in 0..YIELDS {
         if let Some(guard) = shared.try_lock() {
-            return guard;
+            return Some(guard);
         }
         thread::yield_now();
     }
-    shared.lock(rt)
+    None
+}
+
+/// Gets the lock: by some tries, and then by waiting for it.
+pub(crate) fn lock<'b, 'a, R: Wait, N: Naming>(
+    rt: &R,
+    shared: &'b Mutex<Named<'a, N>>,
+) -> MutexGuard<'b, Named<'a, N>> {
+    match try_some(shared) {
+        Some(guard) => guard,
+        None => shared.lock(rt),
+    }
 }

@@ -101,7 +101,7 @@ fn run_task<'a, R: Wait, G: Gate, N: Naming>(
             Tried::NotRunning => return take(rt, crew.shared),
             Tried::Stale => {
                 if stale + 1 < crew.tries {
-                    rest_after(stale);
+                    rest_after(stale, crew.tries);
                 }
             }
             Tried::Memory => {
