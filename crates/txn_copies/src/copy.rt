@@ -11,15 +11,48 @@ use txn_programs::{Cond, Expr, Stmt, Tx, TxId};
 fn expression(alloc: Global, e: &Expr) -> Result<Expr, AllocError>
     ensures { IfOk result (λ c. expression_of c ≡ expression_of e.now) }
 {
-    Ok(match e {
-        Expr::Int(n) => Expr::Int(*n),
-        Expr::Var(x) => Expr::Var(*x),
-        Expr::Add(a, b) => Expr::Add(boxed_expression(alloc, a)?, boxed_expression(alloc, b)?),
-        Expr::Sub(a, b) => Expr::Sub(boxed_expression(alloc, a)?, boxed_expression(alloc, b)?),
-        Expr::Mul(a, b) => Expr::Mul(boxed_expression(alloc, a)?, boxed_expression(alloc, b)?),
-        Expr::Div(a, b) => Expr::Div(boxed_expression(alloc, a)?, boxed_expression(alloc, b)?),
-        Expr::Rem(a, b) => Expr::Rem(boxed_expression(alloc, a)?, boxed_expression(alloc, b)?),
-    })
+    match e {
+        Expr::Int(n) => Ok(Expr::Int(*n)),
+        Expr::Var(x) => Ok(Expr::Var(*x)),
+        Expr::Add(a, b) => {
+            let first = boxed_expression(alloc, a)?;
+            let (first, second) = beside_expression(alloc, b, first)?;
+            Ok(Expr::Add(first, second))
+        }
+        Expr::Sub(a, b) => {
+            let first = boxed_expression(alloc, a)?;
+            let (first, second) = beside_expression(alloc, b, first)?;
+            Ok(Expr::Sub(first, second))
+        }
+        Expr::Mul(a, b) => {
+            let first = boxed_expression(alloc, a)?;
+            let (first, second) = beside_expression(alloc, b, first)?;
+            Ok(Expr::Mul(first, second))
+        }
+        Expr::Div(a, b) => {
+            let first = boxed_expression(alloc, a)?;
+            let (first, second) = beside_expression(alloc, b, first)?;
+            Ok(Expr::Div(first, second))
+        }
+        Expr::Rem(a, b) => {
+            let first = boxed_expression(alloc, a)?;
+            let (first, second) = beside_expression(alloc, b, first)?;
+            Ok(Expr::Rem(first, second))
+        }
+    }
+}
+
+/// The box, and beside it a copy of an expression.
+#[cycle(expressions)]
+fn beside_expression(
+    alloc: Global,
+    e: &Expr,
+    first: Box<Expr>,
+) -> Result<(Box<Expr>, Box<Expr>), AllocError>
+    ensures { IfOk result (λ p. (expression_of p.0.value ≡ expression_of first.value) × (expression_of p.1.value ≡ expression_of e.now)) }
+{
+    let second = boxed_expression(alloc, e)?;
+    Ok((first, second))
 }
 
 #[cycle(expressions)]
@@ -30,18 +63,62 @@ fn boxed_expression(alloc: Global, e: &Expr) -> Result<Box<Expr>, AllocError>
     Ok(Box::new(alloc, copy)?)
 }
 
+/// Copies of both sides of a comparison.
+fn expressions(alloc: Global, a: &Expr, b: &Expr) -> Result<(Expr, Expr), AllocError>
+    ensures { IfOk result (λ p. (expression_of p.0 ≡ expression_of a.now) × (expression_of p.1 ≡ expression_of b.now)) }
+{
+    let first = expression(alloc, a)?;
+    match expression(alloc, b) {
+        Ok(second) => Ok((first, second)),
+        Err(short) => {
+            drop(first);
+            Err(short)
+        }
+    }
+}
+
 #[cycle(conditions)]
 fn condition(alloc: Global, c: &Cond) -> Result<Cond, AllocError>
     ensures { IfOk result (λ d. condition_of d ≡ condition_of c.now) }
 {
-    Ok(match c {
-        Cond::Eq(a, b) => Cond::Eq(expression(alloc, a)?, expression(alloc, b)?),
-        Cond::Lt(a, b) => Cond::Lt(expression(alloc, a)?, expression(alloc, b)?),
-        Cond::Le(a, b) => Cond::Le(expression(alloc, a)?, expression(alloc, b)?),
-        Cond::Not(a) => Cond::Not(boxed_condition(alloc, a)?),
-        Cond::And(a, b) => Cond::And(boxed_condition(alloc, a)?, boxed_condition(alloc, b)?),
-        Cond::Or(a, b) => Cond::Or(boxed_condition(alloc, a)?, boxed_condition(alloc, b)?),
-    })
+    match c {
+        Cond::Eq(a, b) => {
+            let (a, b) = expressions(alloc, a, b)?;
+            Ok(Cond::Eq(a, b))
+        }
+        Cond::Lt(a, b) => {
+            let (a, b) = expressions(alloc, a, b)?;
+            Ok(Cond::Lt(a, b))
+        }
+        Cond::Le(a, b) => {
+            let (a, b) = expressions(alloc, a, b)?;
+            Ok(Cond::Le(a, b))
+        }
+        Cond::Not(a) => Ok(Cond::Not(boxed_condition(alloc, a)?)),
+        Cond::And(a, b) => {
+            let first = boxed_condition(alloc, a)?;
+            let (first, second) = beside_condition(alloc, b, first)?;
+            Ok(Cond::And(first, second))
+        }
+        Cond::Or(a, b) => {
+            let first = boxed_condition(alloc, a)?;
+            let (first, second) = beside_condition(alloc, b, first)?;
+            Ok(Cond::Or(first, second))
+        }
+    }
+}
+
+/// The box, and beside it a copy of a condition.
+#[cycle(conditions)]
+fn beside_condition(
+    alloc: Global,
+    c: &Cond,
+    first: Box<Cond>,
+) -> Result<(Box<Cond>, Box<Cond>), AllocError>
+    ensures { IfOk result (λ p. (condition_of p.0.value ≡ condition_of first.value) × (condition_of p.1.value ≡ condition_of c.now)) }
+{
+    let second = boxed_condition(alloc, c)?;
+    Ok((first, second))
 }
 
 #[cycle(conditions)]
