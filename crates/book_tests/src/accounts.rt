@@ -6,7 +6,8 @@ ghost use Rattle.txn_programs.specs.Listing.{conditions, listing_of};
 ghost use Rattle.txn_programs.specs.Tree.{condition_of};
 ghost use Rattle.book_tests.specs.Balance.{sum_stays, sum_of_accounts};
 
-use crate::steps::report_of;
+use crate::looks::Said;
+use crate::rows::{Step, follows};
 use book::Book;
 use cells::Cells;
 use std::alloc::{AllocError, Global};
@@ -31,9 +32,12 @@ fn sum_is_100(alloc: Global) -> Result<Cond, AllocError>
 
 /// A transaction of this name that sets both accounts, and returns the first.
 fn setting(alloc: Global, name: &str, a: i64, b: i64) -> Result<Tx, AllocError> {
-    let parts = vec![in alloc; Stmt::Set(A, Expr::Int(a)), Stmt::Set(B, Expr::Int(b))]?;
+    let name = String::from_str(alloc, name)?;
+    let mut parts = Vec::new(alloc);
+    parts.push(Stmt::Set(A, Expr::Int(a)))?;
+    parts.push(Stmt::Set(B, Expr::Int(b)))?;
     Ok(Tx {
-        name: String::from_str(alloc, name)?,
+        name,
         body: Stmt::Seq(parts),
         result: Expr::Var(A),
     })
@@ -41,9 +45,10 @@ fn setting(alloc: Global, name: &str, a: i64, b: i64) -> Result<Tx, AllocError> 
 
 /// The accounts have 100 and 0.
 fn variables(alloc: Global) -> Result<Vec<(String, i64)>, AllocError> {
-    let a = (String::from_str(alloc, "a")?, 100);
-    let b = (String::from_str(alloc, "b")?, 0);
-    Ok(vec![in alloc; a, b]?)
+    let mut all = Vec::new(alloc);
+    all.push((String::from_str(alloc, "a")?, 100))?;
+    all.push((String::from_str(alloc, "b")?, 0))?;
+    Ok(all)
 }
 
 /// Their sum has to stay 100.
@@ -57,23 +62,21 @@ fn standing(alloc: Global) -> Result<Vec<(String, Cond)>, AllocError>
 }
 
 /// One task moves 60, and one takes what there is.
-fn tasks(alloc: Global) -> Result<(Vec<Tx>, Vec<(TxId, u32)>), AllocError> {
-    let moves = setting(alloc, "move", 40, 60)?;
-    let leaks = setting(alloc, "leak", 0, 0)?;
-    let runs = vec![in alloc; (TxId(0), 1), (TxId(1), 1)]?;
-    Ok((vec![in alloc; moves, leaks]?, runs))
+fn transactions(alloc: Global) -> Result<Vec<Tx>, AllocError> {
+    let mut all = Vec::new(alloc);
+    all.push(setting(alloc, "move", 40, 60)?)?;
+    all.push(setting(alloc, "leak", 0, 0)?)?;
+    Ok(all)
 }
 
 /// The catalogue of all that.
 fn accounts(alloc: Global) -> Result<Catalogue, BuildFault>
     ensures { IfOk result (λ c. conditions c ≡ sum_stays ∷ []) }
 {
+    let runs = [(TxId(0), 1), (TxId(1), 1)].to_vec(alloc)?;
+    let variables = variables(alloc)?;
     let always = standing(alloc)?;
-    let (txs, runs) = tasks(alloc)?;
-    match Catalogue::build(alloc, variables(alloc)?, always, txs, runs) {
-        Ok(catalogue) => Ok(catalogue),
-        Err(fault) => Err(fault),
-    }
+    Catalogue::build(alloc, variables, always, transactions(alloc)?, runs)
 }
 
 /// Whatever was done with the book, the sum is 100: of the base, of the present, and of all that was
@@ -88,30 +91,42 @@ fn sum_is_kept(book: &Book<'_>)
 }
 
 /// The move commits. The leak is entered as one that broke the condition, and changes nothing.
-fn runs_both(rt: &impl Abort, alloc: Global, book: &mut Book<'_>)
+const BOTH_RAN: &[Step] = &[
+    Step::Says(Said::Entries(&[
+        Entry {
+            number: 1,
+            task: TaskId(0),
+            tx: TxId(0),
+            outcome: Outcome::Returned(40),
+        },
+        Entry {
+            number: 2,
+            task: TaskId(1),
+            tx: TxId(1),
+            outcome: Outcome::Thrown(Fault::Broken(AlwaysId(0))),
+        },
+    ])),
+    Step::Says(Said::X((0, 100, 0), 2, (2, 40, 1))),
+    Step::Says(Said::Last(2, (60, 1))),
+];
+
+/// Both run, the law holds, and so it is told.
+fn runs_both(rt: &(impl Abort + Eprint), alloc: Global, book: &mut Book<'_>, catalogue: &Catalogue)
     requires { conditions book.old.catalogue ≡ sum_stays ∷ [] }
 {
     book.drain(alloc, 0);
     sum_is_kept(book);
-    let report = report_of(rt, alloc, book);
-    let leak = Entry {
-        number: 2,
-        task: TaskId(1),
-        tx: TxId(1),
-        outcome: Outcome::Thrown(Fault::Broken(AlwaysId(0))),
-    };
-    assert_eq!(rt; report.entries.last(), Some(&leak));
-    assert_eq!(rt; report.now_vars.as_slice(), [(40, 1), (60, 1)].as_slice());
+    follows(rt, alloc, book, catalogue, BOTH_RAN);
 }
 
-fn over(rt: &impl Abort, alloc: Global, catalogue: &Catalogue)
+fn over(rt: &(impl Abort + Eprint), alloc: Global, catalogue: &Catalogue)
     requires { conditions catalogue.now ≡ sum_stays ∷ [] }
 {
     let Ok((cells, publisher, _)) = Cells::open(alloc, catalogue.initial(), 0) else {
         panic!(rt; "no cells")
     };
     match Book::open(alloc, catalogue, &cells, publisher) {
-        Ok(mut book) => runs_both(rt, alloc, &mut book),
+        Ok(mut book) => runs_both(rt, alloc, &mut book, catalogue),
         Err(_) => panic!(rt; "no book"),
     }
 }

@@ -1,67 +1,102 @@
 //! One attempt, which is lent to a book for one task after another.
 
-use crate::parts::{X, waiting};
-use crate::steps::{ended, ends_anew, ends_lent, takes};
+use crate::attempts::{ends_anew, has};
+use crate::rows::{What, expect};
+use crate::texts::WAITING;
 use attempt::Attempt;
 use book::{Book, Finish};
-use cells::Cells;
 use std::alloc::Global;
 use std::process::Abort;
-use txn::{Catalogue, TaskId};
+use txn::{Catalogue, TaskId, TxId, VarId};
+
+/// A task that an attempt is lent for.
+pub(crate) struct Lent {
+    /// The tasks that are taken before.
+    taken: &'static [TaskId],
+    task: TaskId,
+    values: &'static [i64],
+    how: Finish,
+    /// What it has logged and written, which it keeps.
+    log: &'static [(VarId, i64)],
+    writes: &'static [(VarId, i64)],
+}
 
 /// The task that waits is parked, and the attempt keeps its log to its next restart. The task that it
 /// was waiting for commits, and then the task that waited does.
-fn one_for_all<'c>(
-    rt: &impl Abort,
+const ROWS: &[Lent] = &[
+    Lent {
+        taken: &[TaskId(0), TaskId(1), TaskId(2)],
+        task: TaskId(0),
+        values: &[5, 0],
+        how: Finish::Parked,
+        log: &[(VarId(0), 5)],
+        writes: &[],
+    },
+    Lent {
+        taken: &[],
+        task: TaskId(2),
+        values: &[5, 0],
+        how: Finish::Committed(1),
+        log: &[],
+        writes: &[(VarId(0), 6)],
+    },
+    Lent {
+        taken: &[TaskId(0)],
+        task: TaskId(0),
+        values: &[6, 0],
+        how: Finish::Committed(2),
+        log: &[(VarId(0), 6)],
+        writes: &[],
+    },
+];
+
+/// Whether these are the next tasks.
+fn takes(book: &mut Book<'_>, tasks: &[TaskId]) -> bool {
+    for task in tasks {
+        if book.take() != Some(*task) {
+            return false;
+        }
+    }
+    true
+}
+
+/// Whether the attempt is lent for the task, and keeps what it has.
+fn is_lent<'c>(
     book: &mut Book<'_>,
     catalogue: &'c Catalogue,
     attempt: &mut Attempt<'c>,
+    row: &Lent,
+) -> bool {
+    if !takes(book, row.taken) || !has(book, catalogue, row.task) {
+        return false;
+    }
+    if !ends_anew(book, attempt, catalogue, row.task, row.values) {
+        return false;
+    }
+    book.finish_lent(row.task, attempt) == row.how
+        && attempt.log() == row.log
+        && attempt.writes() == row.writes
+}
+
+/// There is one attempt for all rows.
+pub(crate) fn lends(
+    rt: &(impl Abort + Eprint),
+    alloc: Global,
+    book: &mut Book<'_>,
+    catalogue: &Catalogue,
+    rows: &[Lent],
 ) {
-    ends_anew(rt, attempt, catalogue, TaskId(0), &[5, 0]);
-    ends_lent(rt, book, catalogue, TaskId(0), attempt, Finish::Parked);
-    assert!(rt; !attempt.log().is_empty());
-    ends_anew(rt, attempt, catalogue, TaskId(2), &[5, 0]);
-    ends_lent(
-        rt,
-        book,
-        catalogue,
-        TaskId(2),
-        attempt,
-        Finish::Committed(1),
-    );
-    assert_eq!(rt; attempt.writes(), [(X, 6)].as_slice());
-    takes(rt, book, TaskId(0));
-    ends_anew(rt, attempt, catalogue, TaskId(0), &[6, 0]);
-    ends_lent(
-        rt,
-        book,
-        catalogue,
-        TaskId(0),
-        attempt,
-        Finish::Committed(2),
-    );
-}
-
-/// The first three tasks are taken, and then there is one attempt for all.
-fn lends(rt: &impl Abort, alloc: Global, book: &mut Book<'_>, catalogue: &Catalogue) {
-    takes(rt, book, TaskId(0));
-    takes(rt, book, TaskId(1));
-    takes(rt, book, TaskId(2));
-    let mut attempt = ended(rt, alloc, catalogue, TaskId(1), &[5, 0]);
-    one_for_all(rt, book, catalogue, &mut attempt);
-}
-
-fn lent_to_a_book(rt: &impl Abort, alloc: Global, catalogue: &Catalogue) {
-    let Ok((cells, publisher, _)) = Cells::open(alloc, catalogue.initial(), 0) else {
-        panic!(rt; "no cells")
-    };
-    match Book::open(alloc, catalogue, &cells, publisher) {
-        Ok(mut book) => lends(rt, alloc, &mut book, catalogue),
-        Err(_) => panic!(rt; "no book"),
+    assert!(rt; catalogue.tx_count() > 0);
+    let mut attempt = Attempt::new(alloc, catalogue, TxId(0));
+    for place in 0..rows.len() {
+        assert!(rt;
+            is_lent(book, catalogue, &mut attempt, &rows[place]),
+            "row {place}"
+        );
     }
 }
 
 #[test]
 fn an_attempt_is_lent_again_and_again(rt: HostRuntime) {
-    lent_to_a_book(&rt, rt.alloc(), &waiting(&rt, rt.alloc()));
+    expect(&rt, rt.alloc(), WAITING, None, &What::Lends(ROWS));
 }

@@ -6,18 +6,18 @@ mod accounts;
 #[cfg(test)]
 mod ample;
 #[cfg(test)]
+mod attempts;
+#[cfg(test)]
 mod beside;
 #[cfg(test)]
 mod lent;
 #[cfg(test)]
-mod looking;
+mod looks;
 #[cfg(test)]
-mod opening;
-#[cfg(test)]
-mod parts;
+mod rows;
 #[cfg(test)]
 mod scripts;
 #[cfg(test)]
-mod steps;
-#[cfg(test)]
 mod submitting;
+#[cfg(test)]
+mod texts;

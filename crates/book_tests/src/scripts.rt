@@ -1,246 +1,173 @@
-//! Turns of the tasks of a book that was just opened, worked out by hand, and what is left where
-//! memory is refused.
+//! Turns of the tasks of a book, worked out by hand.
 
-use crate::ample::{commits_all, runs_all};
-use crate::parts::{increments, on_all, standing, waiting};
-use crate::steps::{ended, ends, exists, gives_up, report_of, takes, tells_x, turns};
-use book::{Book, Finish, Serial};
-use cells::Cells;
-use std::alloc::Global;
-use std::process::Abort;
-use txn::{Catalogue, Entry, Outcome, TaskId, TxId};
-
-/// What is done with a book that was just opened.
-#[derive(Clone, Copy)]
-pub(crate) enum Script {
-    Drains,
-    TellsEntry,
-    Wakes,
-    ComesBack,
-    StaysParked,
-    GivesUp,
-    IsFor,
-    MeetsWantOfMemory,
-    ReportsTwice,
-    CommitsAll,
-    RunsAll,
-}
-
-/// The catalogue that a book is of.
-pub(crate) enum Of {
-    /// So many increments of x.
-    Increments(u32),
-    /// One task that waits, and those that it may wait for.
-    Waiting,
-    /// The same, where one of those would break a condition.
-    Standing,
-    /// So many variables, and so many tasks that add 1 to each.
-    OnAll(u32, u32),
-}
-
-/// Opens a book of that catalogue, and follows the script.
-pub(crate) fn expect(rt: &impl Abort, alloc: Global, of: Of, script: Script) {
-    let catalogue = match of {
-        Of::Increments(runs) => increments(rt, alloc, runs),
-        Of::Waiting => waiting(rt, alloc),
-        Of::Standing => standing(rt, alloc),
-        Of::OnAll(variables, runs) => on_all(rt, alloc, variables, runs),
-    };
-    over(rt, alloc, &catalogue, script);
-}
-
-/// Opens a book of the catalogue, and follows the script.
-fn over(rt: &impl Abort, alloc: Global, catalogue: &Catalogue, script: Script) {
-    let Ok((cells, publisher, _)) = Cells::open(alloc, catalogue.initial(), 0) else {
-        panic!(rt; "no cells")
-    };
-    match Book::open(alloc, catalogue, &cells, publisher) {
-        Ok(mut book) => follow(rt, alloc, &mut book, catalogue, script),
-        Err(_) => panic!(rt; "no book"),
-    }
-}
-
-fn follow(
-    rt: &impl Abort,
-    alloc: Global,
-    book: &mut Book<'_>,
-    catalogue: &Catalogue,
-    script: Script,
-) {
-    match script {
-        Script::Drains => drains(rt, alloc, book),
-        Script::TellsEntry => tells_entry(rt, alloc, book),
-        Script::Wakes => wakes(rt, alloc, book, catalogue),
-        Script::ComesBack => comes_back(rt, alloc, book, catalogue),
-        Script::StaysParked => stays_parked(rt, alloc, book, catalogue),
-        Script::GivesUp => gives_up_once(rt, alloc, book, catalogue),
-        Script::IsFor => is_for(rt, alloc, book),
-        Script::MeetsWantOfMemory => meets_want_of_memory(rt, alloc, book, catalogue),
-        Script::ReportsTwice => reports_twice(rt, alloc, book),
-        Script::CommitsAll => commits_all(rt, alloc, book, catalogue),
-        Script::RunsAll => runs_all(rt, alloc, book),
-    }
-}
+use crate::looks::{Look, Said};
+use crate::rows::{Step, What, expect};
+use crate::texts::{ONE, STANDING, THREE, TWO, WAITING, WAITING_TWICE};
+use book::{Finish, Serial};
+use txn::{Entry, Outcome, TaskId, TxId, VarId};
 
 /// Three increments, of which one is under way.
-fn drains(rt: &impl Abort, alloc: Global, book: &mut Book<'_>) {
-    takes(rt, book, TaskId(0));
-    book.drain(alloc, 2);
-    assert_eq!(rt; book.journal_len(), 1);
-    tells_x(rt, alloc, book, (2, 7, 2), 1, (3, 8, 3));
-    book.checkpoint();
-    tells_x(rt, alloc, book, (3, 8, 3), 0, (3, 8, 3));
+const DRAINS: &[Step] = &[
+    Step::Takes(Some(TaskId(0))),
+    Step::Drains(2),
+    Step::Shows(Look::Journal(1)),
+    Step::Says(Said::X((2, 7, 2), 1, (3, 8, 3))),
+    Step::Checkpoints,
+    Step::Says(Said::X((3, 8, 3), 0, (3, 8, 3))),
+];
+
+#[test]
+fn a_drain_keeps_the_journal_short(rt: HostRuntime) {
+    expect(&rt, rt.alloc(), THREE, None, &What::Steps(DRAINS));
 }
 
-fn tells_entry(rt: &impl Abort, alloc: Global, book: &mut Book<'_>) {
-    book.drain(alloc, 0);
-    let report = report_of(rt, alloc, book);
-    let entry = Entry {
+const TELLS_ENTRY: &[Step] = &[
+    Step::Drains(0),
+    Step::Says(Said::Entries(&[Entry {
         number: 1,
         task: TaskId(0),
         tx: TxId(0),
         outcome: Outcome::Returned(6),
-    };
-    assert_eq!(rt; report.entries.as_slice(), [entry].as_slice());
-}
-
-fn wakes(rt: &impl Abort, alloc: Global, book: &mut Book<'_>, catalogue: &Catalogue) {
-    takes(rt, book, TaskId(0));
-    turns(rt, alloc, book, catalogue, TaskId(0), Serial::Parked);
-    takes(rt, book, TaskId(1));
-    turns(rt, alloc, book, catalogue, TaskId(1), Serial::Committed(1));
-    takes(rt, book, TaskId(2));
-    turns(rt, alloc, book, catalogue, TaskId(2), Serial::Committed(2));
-    takes(rt, book, TaskId(0));
-    turns(rt, alloc, book, catalogue, TaskId(0), Serial::Committed(3));
-    turns(rt, alloc, book, catalogue, TaskId(0), Serial::NotRunning);
-}
-
-/// x is 5, then 6, then 5.
-fn comes_back(rt: &impl Abort, alloc: Global, book: &mut Book<'_>, catalogue: &Catalogue) {
-    takes(rt, book, TaskId(0));
-    takes(rt, book, TaskId(1));
-    takes(rt, book, TaskId(2));
-    takes(rt, book, TaskId(3));
-    let early = ended(rt, alloc, catalogue, TaskId(0), &[5, 0]);
-    turns(rt, alloc, book, catalogue, TaskId(2), Serial::Committed(1));
-    turns(rt, alloc, book, catalogue, TaskId(3), Serial::Committed(2));
-    ends(rt, book, catalogue, TaskId(0), early, Finish::Parked);
-    tells_x(rt, alloc, book, (0, 5, 0), 2, (2, 5, 2));
-    let report = report_of(rt, alloc, book);
-    assert_eq!(rt; report.parked.as_slice(), [(TaskId(0), TxId(0))].as_slice());
-}
-
-/// What breaks a condition changes nothing, and so wakes nobody.
-fn stays_parked(rt: &impl Abort, alloc: Global, book: &mut Book<'_>, catalogue: &Catalogue) {
-    takes(rt, book, TaskId(0));
-    turns(rt, alloc, book, catalogue, TaskId(0), Serial::Parked);
-    takes(rt, book, TaskId(1));
-    turns(rt, alloc, book, catalogue, TaskId(1), Serial::Committed(1));
-    tells_x(rt, alloc, book, (0, 5, 0), 1, (1, 5, 0));
-    takes(rt, book, TaskId(2));
-    turns(rt, alloc, book, catalogue, TaskId(2), Serial::Committed(2));
-    takes(rt, book, TaskId(0));
-    turns(rt, alloc, book, catalogue, TaskId(0), Serial::Committed(3));
-    tells_x(rt, alloc, book, (0, 5, 0), 3, (3, 6, 2));
-}
-
-fn gives_up_once(rt: &impl Abort, alloc: Global, book: &mut Book<'_>, catalogue: &Catalogue) {
-    gives_up(rt, book, catalogue, TaskId(0), false);
-    takes(rt, book, TaskId(0));
-    gives_up(rt, book, catalogue, TaskId(0), true);
-    gives_up(rt, book, catalogue, TaskId(0), false);
-    book.drain(alloc, 0);
-    let report = report_of(rt, alloc, book);
-    assert_eq!(rt; report.now, 1);
-    assert_eq!(rt; report.memory.as_slice(), [(TaskId(0), TxId(0))].as_slice());
-}
-
-/// The book is of two increments. A catalogue with other runs declares the same.
-fn is_for(rt: &impl Abort, alloc: Global, book: &Book<'_>) {
-    let twin = increments(rt, alloc, 2);
-    assert!(rt; book.is_for(&twin));
-    assert!(rt; book.tasks() == twin.tasks());
-    let longer = increments(rt, alloc, 3);
-    assert!(rt; book.is_for(&longer));
-    assert!(rt; book.tasks() != longer.tasks());
-    let other = waiting(rt, alloc);
-    assert!(rt; !book.is_for(&other));
-}
-
-/// Whether a turn of task 0 commits. `false` only where memory is refused, and then it is given up.
-fn commits(rt: &impl Abort, alloc: Global, book: &mut Book<'_>, catalogue: &Catalogue) -> bool {
-    exists(rt, book, catalogue, TaskId(0));
-    let how = book.serial(alloc, TaskId(0));
-    assert!(rt; how == Serial::Committed(1) || how == Serial::Abandoned);
-    how == Serial::Committed(1)
-}
-
-/// Where memory is refused in its turn, the task is given up.
-fn meets_want_of_memory(
-    rt: &impl Abort,
-    alloc: Global,
-    book: &mut Book<'_>,
-    catalogue: &Catalogue,
-) {
-    takes(rt, book, TaskId(0));
-    let committed = commits(rt, alloc, book, catalogue);
-    gives_up(rt, book, catalogue, TaskId(0), false);
-    let report = report_of(rt, alloc, book);
-    assert_eq!(rt; report.entries.is_empty(), !committed);
-    assert_eq!(rt; report.memory.is_empty(), committed);
-}
-
-/// Of two reports one is refused at most, and the journal stays.
-fn reports_twice(rt: &impl Abort, alloc: Global, book: &mut Book<'_>) {
-    book.drain(alloc, 0);
-    let first = book.report(alloc).is_ok();
-    assert_eq!(rt; book.journal_len(), 4);
-    let second = book.report(alloc).is_ok();
-    assert!(rt; first || second);
-}
-
-#[test]
-fn a_drain_keeps_the_journal_short(rt: HostRuntime) {
-    expect(&rt, rt.alloc(), Of::Increments(3), Script::Drains);
-}
+    }])),
+];
 
 #[test]
 fn a_report_tells_the_entry(rt: HostRuntime) {
-    expect(&rt, rt.alloc(), Of::Increments(1), Script::TellsEntry);
+    expect(&rt, rt.alloc(), ONE, None, &What::Steps(TELLS_ENTRY));
 }
+
+const WAKES: &[Step] = &[
+    Step::Takes(Some(TaskId(0))),
+    Step::Turns(TaskId(0), Serial::Parked),
+    Step::Takes(Some(TaskId(1))),
+    Step::Turns(TaskId(1), Serial::Committed(1)),
+    Step::Takes(Some(TaskId(2))),
+    Step::Turns(TaskId(2), Serial::Committed(2)),
+    Step::Takes(Some(TaskId(0))),
+    Step::Turns(TaskId(0), Serial::Committed(3)),
+    Step::Turns(TaskId(0), Serial::NotRunning),
+];
 
 #[test]
 fn a_commit_wakes_by_what_it_changes(rt: HostRuntime) {
-    expect(&rt, rt.alloc(), Of::Waiting, Script::Wakes);
+    expect(&rt, rt.alloc(), WAITING, None, &What::Steps(WAKES));
 }
+
+/// x is 5, then 6, then 5. The attempt of task 0 is one on the first state.
+const COMES_BACK: &[Step] = &[
+    Step::Takes(Some(TaskId(0))),
+    Step::Takes(Some(TaskId(1))),
+    Step::Takes(Some(TaskId(2))),
+    Step::Takes(Some(TaskId(3))),
+    Step::Turns(TaskId(2), Serial::Committed(1)),
+    Step::Turns(TaskId(3), Serial::Committed(2)),
+    Step::Ends(TaskId(0), &[5, 0], (1, 0), Finish::Parked),
+    Step::Says(Said::X((0, 5, 0), 2, (2, 5, 2))),
+    Step::Says(Said::Parked(&[(TaskId(0), TxId(0))])),
+];
 
 #[test]
 fn a_value_that_comes_back_validates(rt: HostRuntime) {
-    expect(&rt, rt.alloc(), Of::Waiting, Script::ComesBack);
+    expect(&rt, rt.alloc(), WAITING, None, &What::Steps(COMES_BACK));
 }
+
+/// What breaks a condition changes nothing, and so wakes nobody.
+const STAYS_PARKED: &[Step] = &[
+    Step::Takes(Some(TaskId(0))),
+    Step::Turns(TaskId(0), Serial::Parked),
+    Step::Takes(Some(TaskId(1))),
+    Step::Turns(TaskId(1), Serial::Committed(1)),
+    Step::Says(Said::X((0, 5, 0), 1, (1, 5, 0))),
+    Step::Takes(Some(TaskId(2))),
+    Step::Turns(TaskId(2), Serial::Committed(2)),
+    Step::Takes(Some(TaskId(0))),
+    Step::Turns(TaskId(0), Serial::Committed(3)),
+    Step::Says(Said::X((0, 5, 0), 3, (3, 6, 2))),
+];
 
 #[test]
 fn a_broken_condition_wakes_nobody(rt: HostRuntime) {
-    expect(&rt, rt.alloc(), Of::Standing, Script::StaysParked);
+    expect(&rt, rt.alloc(), STANDING, None, &What::Steps(STAYS_PARKED));
 }
+
+const GIVES_UP: &[Step] = &[
+    Step::GivesUp(TaskId(0), false),
+    Step::Takes(Some(TaskId(0))),
+    Step::GivesUp(TaskId(0), true),
+    Step::GivesUp(TaskId(0), false),
+    Step::Drains(0),
+    Step::Says(Said::Now(1)),
+    Step::Says(Said::Memory(&[(TaskId(0), TxId(0))])),
+];
 
 #[test]
 fn a_task_is_given_up_once(rt: HostRuntime) {
-    expect(&rt, rt.alloc(), Of::Increments(2), Script::GivesUp);
+    expect(&rt, rt.alloc(), TWO, None, &What::Steps(GIVES_UP));
 }
+
+/// The book is of two increments. A catalogue with other runs declares the same.
+const IS_FOR: &[Step] = &[
+    Step::Shows(Look::IsFor(TWO, true, true)),
+    Step::Shows(Look::IsFor(THREE, true, false)),
+    Step::Shows(Look::IsFor(WAITING, false, false)),
+];
 
 #[test]
 fn a_book_is_for_an_equal_catalogue(rt: HostRuntime) {
-    expect(&rt, rt.alloc(), Of::Increments(2), Script::IsFor);
+    expect(&rt, rt.alloc(), TWO, None, &What::Steps(IS_FOR));
 }
 
-#[test]
-fn a_turn_without_memory_gives_the_task_up(rt: HostRuntime) {
-    expect(&rt, rt.alloc(), Of::OnAll(20, 1), Script::MeetsWantOfMemory);
-}
+/// A report copies the journal, which stays.
+const REPORTS_TWICE: &[Step] = &[
+    Step::Drains(0),
+    Step::Says(Said::Entered(&[TaskId(1), TaskId(2), TaskId(0), TaskId(3)])),
+    Step::Shows(Look::Journal(4)),
+    Step::Says(Said::Entered(&[TaskId(1), TaskId(2), TaskId(0), TaskId(3)])),
+    Step::Shows(Look::Journal(4)),
+];
 
 #[test]
-fn a_refused_report_changes_nothing(rt: HostRuntime) {
-    expect(&rt, rt.alloc(), Of::Waiting, Script::ReportsTwice);
+fn a_report_changes_nothing(rt: HostRuntime) {
+    expect(&rt, rt.alloc(), WAITING, None, &What::Steps(REPORTS_TWICE));
+}
+
+const TAKES: &[Step] = &[Step::Takes(Some(TaskId(0)))];
+
+/// A book can be opened after another.
+#[test]
+fn a_book_can_be_opened_after_another(rt: HostRuntime) {
+    expect(&rt, rt.alloc(), TWO, None, &What::Steps(TAKES));
+    expect(&rt, rt.alloc(), TWO, None, &What::Steps(TAKES));
+}
+
+/// One task is parked and one given up; a submitted one wakes the first.
+const LOOKED_AT: &[Step] = &[
+    Step::Shows(Look::Stand([2, 0, 0, 0, 0])),
+    Step::Shows(Look::Present(VarId(0), Some((5, 0)))),
+    Step::Takes(Some(TaskId(0))),
+    Step::Turns(TaskId(0), Serial::Parked),
+    Step::Takes(Some(TaskId(1))),
+    Step::Shows(Look::Stand([0, 1, 1, 0, 0])),
+    Step::Shows(Look::Tasks(2)),
+    Step::GivesUp(TaskId(1), true),
+    Step::Shows(Look::Stand([0, 0, 1, 0, 1])),
+    Step::Submits(TxId(1), Some(TaskId(2))),
+    Step::Shows(Look::Stand([1, 0, 1, 0, 1])),
+    Step::Takes(Some(TaskId(2))),
+    Step::Turns(TaskId(2), Serial::Committed(1)),
+    Step::Shows(Look::Stand([1, 0, 0, 1, 1])),
+    Step::Shows(Look::Present(VarId(0), Some((6, 1)))),
+    Step::Shows(Look::Present(VarId(1), None)),
+    Step::Shows(Look::Grown(3, (TxId(1), 1))),
+];
+
+#[test]
+fn a_book_is_looked_at(rt: HostRuntime) {
+    expect(
+        &rt,
+        rt.alloc(),
+        WAITING_TWICE,
+        Some(1),
+        &What::Steps(LOOKED_AT),
+    );
 }

@@ -1,8 +1,7 @@
 //! What the plain evaluation makes of a transaction: values worked out by hand.
 
-use crate::parts::catalogue_of;
+use crate::parts::catalogue;
 use std::alloc::{AllocError, Global};
-use std::process::Abort;
 use txn::evaluate::{execute, truth, value};
 use txn::{Catalogue, Cond, Expr, Fault, Outcome, TxId};
 
@@ -20,50 +19,65 @@ fn runs_so(alloc: Global, catalogue: &Catalogue, want: Outcome, left: &[i64]) ->
     }
 }
 
-/// Runs a transaction of this body, that returns x, from a state where `x`, the one variable, is 5.
-fn expect_run(rt: &impl Abort, alloc: Global, body: &str, want: Outcome, left: i64) {
-    match catalogue_of(alloc, &[(1, "(var x 5)(tx t "), (1, body), (1, " x)")]) {
-        Some(catalogue) => assert!(rt; runs_so(alloc, &catalogue, want, &[left])),
-        None => panic!(rt; "no catalogue"),
+/// Whether a run of the text's first transaction does.
+fn is_run(alloc: Global, text: &str, want: Outcome, left: &[i64]) -> bool {
+    match catalogue(alloc, text) {
+        Some(catalogue) => runs_so(alloc, &catalogue, want, left),
+        None => false,
     }
 }
 
+/// Transactions of x, which is 5. A throw is not caught, and the writes of a retried branch go.
+const RUNS: &[(&str, Outcome, i64)] = &[
+    (
+        "(var x 5)(tx t (set x (add x 1)) x)",
+        Outcome::Returned(6),
+        6,
+    ),
+    (
+        "(var x 5)(tx t (orelse (retry) (retry)) x)",
+        Outcome::Retries,
+        5,
+    ),
+    (
+        "(var x 5)(tx t (orelse (throw 7) (set x 1)) x)",
+        Outcome::Thrown(Fault::User(7)),
+        5,
+    ),
+    (
+        "(var x 5)(tx t (orelse (seq (set x 9) (retry)) (skip)) x)",
+        Outcome::Returned(5),
+        5,
+    ),
+];
+
 #[test]
-fn a_transaction_writes_and_returns(rt: HostRuntime) {
-    let increment = "(set x (add x 1))";
-    expect_run(&rt, rt.alloc(), increment, Outcome::Returned(6), 6);
+fn transactions_end_and_leave_a_state(rt: HostRuntime) {
+    for (text, want, left) in RUNS {
+        assert!(rt; is_run(rt.alloc(), text, *want, &[*left]), "of {text}");
+    }
+}
+
+/// What one over nothing is.
+fn quotient(alloc: Global) -> Result<Result<i64, Fault>, AllocError> {
+    let one = Box::new(alloc, Expr::Int(1))?;
+    let nothing = Box::new(alloc, Expr::Int(0))?;
+    let faulty = Expr::Div(one, nothing);
+    Ok(value(&faulty, &[]))
+}
+
+/// The truth of a condition that is false, and of one with a fault behind it.
+fn truth_of_both(alloc: Global) -> Result<Result<bool, Fault>, AllocError> {
+    let one = Box::new(alloc, Expr::Int(1))?;
+    let nothing = Box::new(alloc, Expr::Int(0))?;
+    let never = Cond::Eq(Expr::Div(one, nothing), Expr::Int(0));
+    let no = Box::new(alloc, Cond::Eq(Expr::Int(1), Expr::Int(2)))?;
+    let both = Cond::And(no, Box::new(alloc, never)?);
+    Ok(truth(&both, &[]))
 }
 
 #[test]
-fn a_transaction_waits_where_both_branches_retry(rt: HostRuntime) {
-    let waits = "(orelse (retry) (retry))";
-    expect_run(&rt, rt.alloc(), waits, Outcome::Retries, 5);
-}
-
-#[test]
-fn a_throw_is_not_caught(rt: HostRuntime) {
-    let throws = "(orelse (throw 7) (set x 1))";
-    expect_run(&rt, rt.alloc(), throws, Outcome::Thrown(Fault::User(7)), 5);
-}
-
-#[test]
-fn writes_of_a_retried_branch_go(rt: HostRuntime) {
-    let keeps = "(orelse (seq (set x 9) (retry)) (skip))";
-    expect_run(&rt, rt.alloc(), keeps, Outcome::Returned(5), 5);
-}
-
-#[test]
-fn conditions_look_right_only_where_needed(rt: HostRuntime) -> Result<(), AllocError> {
-    let alloc = rt.alloc();
-    let one = Expr::Int(1);
-    let faulty = Expr::Div(
-        Box::new(alloc, Expr::Int(1))?,
-        Box::new(alloc, Expr::Int(0))?,
-    );
-    assert!(rt; value(&faulty, &[]) == Err(Fault::DivideByZero));
-    let no = Cond::Eq(one, Expr::Int(2));
-    let never = Cond::Eq(faulty, Expr::Int(0));
-    let both = Cond::And(Box::new(alloc, no)?, Box::new(alloc, never)?);
-    assert!(rt; truth(&both, &[]) == Ok(false));
-    Ok(())
+fn conditions_look_right_only_where_needed(rt: HostRuntime) {
+    assert!(rt; quotient(rt.alloc()) == Ok(Err(Fault::DivideByZero)));
+    assert!(rt; truth_of_both(rt.alloc()) == Ok(Ok(false)));
 }

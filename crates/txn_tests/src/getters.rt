@@ -1,59 +1,187 @@
 //! What the getters of a catalogue tell.
 
-use crate::parts::catalogue;
+use crate::parts::{catalogue, repeated};
 use std::alloc::Global;
 use std::process::Abort;
 use txn::limits::limits_are;
-use txn::{Catalogue, TaskId, TxId, VarId};
+use txn::{AlwaysId, Catalogue, Op, TaskId, TxId, VarId};
+
+/// Something that a catalogue tells.
+pub(crate) enum Look {
+    Initial(&'static [i64]),
+    VarName(VarId, &'static str),
+    VarOf(&'static str, Option<VarId>),
+    /// How many transactions there are.
+    Count(usize),
+    TxName(TxId, &'static str),
+    TxOf(&'static str, Option<TxId>),
+    /// How many runs, and how many tasks.
+    Tasks(usize, usize),
+    TaskTx(TaskId, TxId),
+    /// How many standing conditions there are.
+    Always(usize),
+    AlwaysName(AlwaysId, &'static str),
+    AlwaysOf(&'static str, Option<AlwaysId>),
+    /// The code of the first transaction.
+    Code(&'static [Op]),
+    /// How many instructions the first transaction has, and the first of them.
+    Begins(usize, Op),
+    Ending(&'static [Op]),
+}
+
+/// Whether the variable is called so.
+fn is_var(catalogue: &Catalogue, variable: VarId, name: &str) -> bool {
+    catalogue.rules();
+    (variable.0 as usize) < catalogue.initial().len() && catalogue.var_name(variable) == name
+}
+
+/// Whether the transaction is called so.
+fn is_tx(catalogue: &Catalogue, tx: TxId, name: &str) -> bool {
+    (tx.0 as usize) < catalogue.tx_count()
+        && catalogue.tx_name(tx) == name
+        && catalogue.tx(tx).name.as_str() == name
+}
+
+/// Whether the condition is called so.
+fn is_condition(catalogue: &Catalogue, condition: AlwaysId, name: &str) -> bool {
+    (condition.0 as usize) < catalogue.always().len() && catalogue.always_name(condition) == name
+}
+
+/// Whether there are so many runs and tasks.
+fn has_tasks(catalogue: &Catalogue, runs: usize, tasks: usize) -> bool {
+    catalogue.runs().len() == runs && catalogue.tasks() == tasks
+}
+
+/// Whether the task runs this.
+fn is_task(catalogue: &Catalogue, task: TaskId, tx: TxId) -> bool {
+    (task.0 as usize) < catalogue.tasks() && catalogue.task_tx(task) == tx
+}
+
+/// Whether the first transaction has this code.
+fn has_code(catalogue: &Catalogue, want: &[Op]) -> bool {
+    catalogue.tx_count() > 0 && catalogue.code(TxId(0)) == want
+}
+
+/// Whether the first transaction has so many instructions, of which this is the first.
+fn begins(catalogue: &Catalogue, count: usize, first: Op) -> bool {
+    if catalogue.tx_count() == 0 {
+        return false;
+    }
+    let code = catalogue.code(TxId(0));
+    code.len() == count && code.first() == Some(&first)
+}
+
+/// Whether the catalogue tells this.
+fn tells(catalogue: &Catalogue, look: &Look) -> bool {
+    match look {
+        Look::Initial(values) => catalogue.initial() == *values,
+        Look::VarName(variable, name) => is_var(catalogue, *variable, name),
+        Look::VarOf(name, variable) => catalogue.var_id(name) == *variable,
+        Look::Count(count) => catalogue.tx_count() == *count,
+        Look::TxName(tx, name) => is_tx(catalogue, *tx, name),
+        Look::TxOf(name, tx) => catalogue.tx_id(name) == *tx,
+        Look::Tasks(runs, tasks) => has_tasks(catalogue, *runs, *tasks),
+        Look::TaskTx(task, tx) => is_task(catalogue, *task, *tx),
+        Look::Always(count) => catalogue.always().len() == *count,
+        Look::AlwaysName(condition, name) => is_condition(catalogue, *condition, name),
+        Look::AlwaysOf(name, condition) => catalogue.always_id(name) == *condition,
+        Look::Code(want) => has_code(catalogue, want),
+        Look::Begins(count, first) => begins(catalogue, *count, *first),
+        Look::Ending(want) => catalogue.ending() == *want,
+    }
+}
+
+/// All of this is told.
+fn tells_all(catalogue: &Catalogue, looks: &[Look]) -> bool {
+    limits_are();
+    for look in looks {
+        if !tells(catalogue, look) {
+            return false;
+        }
+    }
+    true
+}
+
+/// The catalogue of the text tells all of this.
+pub(crate) fn expect(rt: &(impl Abort + Eprint), alloc: Global, text: &str, looks: &[Look]) {
+    match catalogue(alloc, text) {
+        Some(catalogue) => assert!(rt; tells_all(&catalogue, looks), "of {text}"),
+        None => panic!(rt; "no catalogue"),
+    }
+}
+
+/// So does that of the text that has each part so many times.
+pub(crate) fn expect_repeated(
+    rt: &(impl Abort + Eprint),
+    alloc: Global,
+    parts: &[(u32, &str)],
+    looks: &[Look],
+) {
+    match repeated(alloc, parts) {
+        Ok(text) => expect(rt, alloc, text.as_str(), looks),
+        Err(_) => panic!(rt; "no text"),
+    }
+}
 
 /// Variables x and y, transactions skip and x, and three tasks.
 const TEXT: &str =
     "(var x 5)(var y -1)(tx skip (skip) 0)(tx x (skip) x)(run x 2)(run skip 0)(run skip 1)";
 
-/// The catalogue of that text.
-fn told(rt: &impl Abort, alloc: Global) -> Catalogue {
-    match catalogue(alloc, TEXT) {
-        Some(catalogue) => catalogue,
-        None => panic!(rt; "no catalogue"),
-    }
-}
+const VARIABLES: &[Look] = &[
+    Look::Initial(&[5, -1]),
+    Look::VarOf("y", Some(VarId(1))),
+    Look::VarOf("skip", None),
+    Look::VarName(VarId(1), "y"),
+];
 
-fn tells_variables(catalogue: &Catalogue) -> bool {
-    catalogue.initial() == [5, -1].as_slice()
-        && catalogue.var_id("y") == Some(VarId(1))
-        && catalogue.var_id("skip") == None
-        && catalogue.initial().len() == 2
-        && catalogue.var_name(VarId(1)) == "y"
-}
+const TRANSACTIONS: &[Look] = &[
+    Look::Count(2),
+    Look::TxName(TxId(1), "x"),
+    Look::TxOf("skip", Some(TxId(0))),
+    Look::TxOf("y", None),
+];
 
-#[test]
-fn variables_are_told(rt: HostRuntime) {
-    assert!(rt; tells_variables(&told(&rt, rt.alloc())));
-}
-
-fn tells_transactions(catalogue: &Catalogue) -> bool {
-    catalogue.tx_count() == 2
-        && catalogue.tx_name(TxId(1)) == "x"
-        && catalogue.tx(TxId(1)).name.as_str() == "x"
-        && catalogue.tx_id("skip") == Some(TxId(0))
-        && catalogue.tx_id("y") == None
-}
+const TASKS: &[Look] = &[
+    Look::Tasks(3, 3),
+    Look::TaskTx(TaskId(0), TxId(1)),
+    Look::TaskTx(TaskId(2), TxId(0)),
+];
 
 #[test]
-fn transactions_are_told(rt: HostRuntime) {
-    assert!(rt; tells_transactions(&told(&rt, rt.alloc())));
+fn variables_transactions_and_tasks_are_told(rt: HostRuntime) {
+    expect(&rt, rt.alloc(), TEXT, VARIABLES);
+    expect(&rt, rt.alloc(), TEXT, TRANSACTIONS);
+    expect(&rt, rt.alloc(), TEXT, TASKS);
 }
 
-fn tells_tasks(catalogue: &Catalogue) -> bool {
-    catalogue.rules();
-    limits_are();
-    catalogue.runs().len() == 3
-        && catalogue.tasks() == 3
-        && catalogue.task_tx(TaskId(0)) == TxId(1)
-        && catalogue.task_tx(TaskId(2)) == TxId(0)
-}
+/// x and two conditions: `small`, that x is at most 5, and `half`, that half of x is 2.
+const CONDITIONS: &str =
+    "(stm 2)(var x 5)(always small (le x 5))(always half (eq (div x 2) 2))(tx t (skip) 0)";
+
+/// The end names in each instruction that may fault which condition is to blame.
+const STANDING: &[Look] = &[
+    Look::Always(2),
+    Look::AlwaysName(AlwaysId(0), "small"),
+    Look::AlwaysName(AlwaysId(1), "half"),
+    Look::AlwaysOf("half", Some(AlwaysId(1))),
+    Look::AlwaysOf("x", None),
+    Look::AlwaysOf("t", None),
+    Look::Ending(&[
+        Op::Load(2, VarId(0)),
+        Op::AtMostInt(1, 5),
+        Op::AtMost,
+        Op::Demand(AlwaysId(0)),
+        Op::Load(3, VarId(0)),
+        Op::Push(1, 2),
+        Op::Quotient(Some(AlwaysId(1))),
+        Op::EqualInt(1, 2),
+        Op::Equal,
+        Op::Demand(AlwaysId(1)),
+        Op::Give,
+    ]),
+];
 
 #[test]
-fn tasks_are_told(rt: HostRuntime) {
-    assert!(rt; tells_tasks(&told(&rt, rt.alloc())));
+fn conditions_are_told(rt: HostRuntime) {
+    expect(&rt, rt.alloc(), CONDITIONS, STANDING);
 }

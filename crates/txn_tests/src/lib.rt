@@ -2,7 +2,7 @@
 #![tactic(auto)]
 
 #[cfg(test)]
-mod always;
+mod bodies;
 #[cfg(test)]
 mod build;
 #[cfg(test)]
@@ -11,6 +11,8 @@ mod code;
 mod evaluate;
 #[cfg(test)]
 mod getters;
+#[cfg(test)]
+mod limits;
 #[cfg(test)]
 mod parts;
 #[cfg(test)]

@@ -24,11 +24,3 @@ pub(crate) fn repeated(alloc: Global, parts: &[(u32, &str)]) -> Result<String, A
     }
     Ok(text)
 }
-
-/// The catalogue of a text that is made of such parts.
-pub(crate) fn catalogue_of(alloc: Global, parts: &[(u32, &str)]) -> Option<Catalogue> {
-    match repeated(alloc, parts) {
-        Ok(text) => catalogue(alloc, text.as_str()),
-        Err(_) => None,
-    }
-}

@@ -1,21 +1,33 @@
 //! The texts of the errors.
 
-use std::alloc::AllocError;
+use std::alloc::Global;
 use txn::{BuildFault, Memory};
 
+/// Whether the fault has this line.
+fn has_line(alloc: Global, fault: BuildFault, line: &str) -> bool {
+    match format!(in alloc; "{fault}") {
+        Ok(text) => text.as_str() == line,
+        Err(_) => false,
+    }
+}
+
+/// Whether want of memory has it.
+fn memory_has_line(alloc: Global, line: &str) -> bool {
+    match format!(in alloc; "{Memory}") {
+        Ok(text) => text.as_str() == line,
+        Err(_) => false,
+    }
+}
+
 #[test]
-fn want_of_memory_has_its_line(rt: HostRuntime) -> Result<(), AllocError> {
-    assert_eq!(rt;
-        format!(in rt.alloc(); "{Memory}")?.as_str(),
-        "out of memory"
+fn faults_have_their_lines(rt: HostRuntime) {
+    assert!(rt; memory_has_line(rt.alloc(), "out of memory"));
+    assert!(rt; has_line(rt.alloc(), BuildFault::Limit, "a limit is passed"));
+    assert!(rt;
+        has_line(
+            rt.alloc(),
+            BuildFault::Broken,
+            "a standing condition is not true of the initial values"
+        )
     );
-    assert_eq!(rt;
-        format!(in rt.alloc(); "{}", BuildFault::Limit)?.as_str(),
-        "a limit is passed"
-    );
-    assert_eq!(rt;
-        format!(in rt.alloc(); "{}", BuildFault::Broken)?.as_str(),
-        "a standing condition is not true of the initial values"
-    );
-    Ok(())
 }

@@ -1,5 +1,0 @@
-use Rattle.std.proofs.Common.{◌≡◌}
-use Rattle.book_tests.proofs.steps.tell.Given as goal
-
-abbrev pub invariant-loop-variable : goal.invariant-loop-variable
-invariant-loop-variable g l = (l.attempt.program ≡ l.initial.attempt.program) × (l.attempt.variables ≡ l.initial.attempt.variables)
