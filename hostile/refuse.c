@@ -1,6 +1,7 @@
 /* An allocator in front of the C library's, which refuses one request for memory: number REFUSE, counted from 1
  * (malloc, calloc, realloc and the aligned ones alike), and with REFUSE_ON each later one too. To the file number
- * REFUSE_FD it tells each refusal by an 'r', and at the end how many blocks were given and not taken back.
+ * REFUSE_FD it tells each refusal by an 'r', and at the end how many blocks were given and not taken back, or with
+ * REFUSE_COUNT how many requests there were.
  *
  * It is made by the kit's own compiler, with no header and nothing to link with. */
 
@@ -76,7 +77,7 @@ void free(void *block) {
 static __attribute__((destructor)) void end(void) {
     char text[24];
     size_t at = sizeof text;
-    long left = blocks < 0 ? -blocks : blocks;
+    long left = number("REFUSE_COUNT") ? (long)requests : blocks < 0 ? -blocks : blocks;
     do text[--at] = (char)('0' + left % 10);
     while (left /= 10);
     tell(text + at, sizeof text - at);

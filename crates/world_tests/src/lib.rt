@@ -4,6 +4,10 @@
 #[cfg(test)]
 mod commits;
 #[cfg(test)]
+mod counted;
+#[cfg(test)]
+mod limits;
+#[cfg(test)]
 mod lines;
 #[cfg(test)]
 mod moves;

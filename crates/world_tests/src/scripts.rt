@@ -10,7 +10,7 @@ use world::World;
 use world_law::{Event, Fate, Seen};
 
 pub(crate) enum Script<'a> {
-    /// These events are seen so.
+    /// These events are seen so, and in one run they leave the same.
     Events(&'a [(Event, Seen)]),
     /// These lines of a schedule are seen so.
     Lines(&'a [(Move, Seen)]),
@@ -31,7 +31,35 @@ pub(crate) enum Script<'a> {
 /// In a world of the text's catalogue all of the script is so.
 pub(crate) fn expect(rt: &(impl Abort + Eprint), alloc: Global, text: &str, script: Script<'_>) {
     let catalogue = catalogue(rt, alloc, text);
+    if let Script::Events(steps) = &script {
+        assert!(rt; runs_alike(alloc, &catalogue, steps));
+    }
     assert_eq!(rt; over(rt, alloc, &catalogue, script), None);
+}
+
+/// Whether the events in one run leave the text that they leave one by one.
+fn runs_alike(alloc: Global, catalogue: &Catalogue, steps: &[(Event, Seen)]) -> bool {
+    let (Ok(mut stepped), Ok(mut run)) = (
+        World::open(alloc, catalogue),
+        World::open(alloc, catalogue),
+    ) else {
+        return false;
+    };
+    let mut events = Vec::new(alloc);
+    for (event, _) in steps {
+        if stepped.step(*event).is_err() || events.push(*event).is_err() {
+            return false;
+        }
+    }
+    run.run(events.as_slice()) == Ok(()) && have_one_text(&stepped, &run)
+}
+
+/// Whether the last lines of both worlds are the same.
+fn have_one_text(first: &World<'_>, second: &World<'_>) -> bool {
+    match (first.text(), second.text()) {
+        (Ok(first), Ok(second)) => first.as_str() == second.as_str(),
+        _ => false,
+    }
 }
 
 /// Opens a world of the catalogue, and follows the script.

@@ -1,0 +1,63 @@
+//! Events that take no memory. Both tests do the same, but that such events happen in one of them:
+//! `hostile/gate` counts that they make as many requests for memory.
+
+use crate::parts::{X, catalogue};
+use std::alloc::Global;
+use std::process::Abort;
+use txn::TaskId;
+use world::World;
+use world_law::{Event, Seen};
+
+/// Twenty tasks that add two variables, and one that sets both.
+const FILE: &str =
+    "(var x 1)(var y 1)(tx sum (skip) (add x y))(tx both (seq (set x 2) (set y 2)) 0)\
+    (run sum 20)(run both 1)";
+
+const READERS: u32 = 20;
+
+const WRITER: TaskId = TaskId(20);
+
+/// Each task begins, and the one that sets both asks to commit.
+fn begin(rt: &impl Abort, world: &mut World<'_>) {
+    for task in 0..READERS {
+        assert!(rt; world.step(Event::Begin(TaskId(task))) == Ok(Seen::Needs(X)));
+    }
+    assert!(rt; world.step(Event::Begin(WRITER)).is_ok());
+    assert!(rt; world.step(Event::Ask(WRITER)) == Ok(Seen::Commits(1)));
+}
+
+/// The others load two words each, the commit makes its stores, and they are dropped.
+fn go_on(rt: &impl Abort, world: &mut World<'_>) {
+    for task in 0..READERS {
+        assert!(rt; world.step(Event::First(TaskId(task), X)) == Ok(Seen::Loaded));
+        assert!(rt; world.step(Event::Value(TaskId(task))) == Ok(Seen::Loaded));
+    }
+    for _ in 0..6u32 {
+        assert!(rt; world.step(Event::Word) == Ok(Seen::Stored));
+    }
+    assert!(rt; world.step(Event::Word) == Ok(Seen::Committed(1)));
+    for task in 0..READERS {
+        assert!(rt; world.step(Event::Drop(TaskId(task))) == Ok(Seen::Dropped));
+    }
+}
+
+fn play(rt: &impl Abort, alloc: Global, goes_on: bool) {
+    let catalogue = catalogue(rt, alloc, FILE);
+    let Ok(mut world) = World::open(alloc, &catalogue) else {
+        panic!(rt; "no world")
+    };
+    begin(rt, &mut world);
+    if goes_on {
+        go_on(rt, &mut world);
+    }
+}
+
+#[test]
+fn stays(rt: HostRuntime) {
+    play(&rt, rt.alloc(), false);
+}
+
+#[test]
+fn moves(rt: HostRuntime) {
+    play(&rt, rt.alloc(), true);
+}
