@@ -4,4 +4,5 @@ pub mod Placed
 pub mod InOrder
 pub mod OwnTable
 pub mod OwnNotes
+pub mod OwnHints
 pub mod OwnList

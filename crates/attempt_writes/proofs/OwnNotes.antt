@@ -13,7 +13,7 @@ use Rattle.attempt_writes.specs.Own.{Mark, Marked, flat, value_in, undone, liste
 use Rattle.attempt_writes.specs.Order.{AllKnown}
 use Rattle.attempt_writes.proofs.OwnTable.{known_small, same_or_other}
 
-set_other : {X : Type 0} (t : List X) (i j : ℕ) (a b : X) → i ≢ j → set (set t i a) j b ≡ set (set t j b) i a
+pub set_other : {X : Type 0} (t : List X) (i j : ℕ) (a b : X) → i ≢ j → set (set t i a) j b ≡ set (set t j b) i a
 set_other [] i j a b ne = refl
 set_other (y ∷ t) zero zero a b ne = absurd (ne refl)
 set_other (y ∷ t) zero (suc j) a b ne = refl
@@ -108,6 +108,13 @@ ends_in (c ∷ bs) b (suc k) le e =
     let r = ends_in bs b k (omega arith) e in
     (c ∷ r.0, ap (λ l. c ∷ l) r.1)
 
+-- the last branch is the innermost, and the others are around it
+pub innermost : (bs : List Branch) (b : Branch) → slice_get bs (length bs - 1) ≡ Some b → (outer : List Branch) × (reverse bs ≡ b ∷ outer)
+innermost bs b e =
+    let last : length bs ≤ length bs - 1 + 1 = omega arith in
+    let r = ends_in bs b (length bs - 1) last e in
+    (reverse r.0, ap reverse r.1 ∙ last_first r.0 b)
+
 -- the innermost branch is nested in what there is, and all in it
 pub inner_nested : (n : ℕ) (bs : List Branch) (b : Branch) → slice_get bs (length bs - 1) ≡ Some b → AreNested n (reverse bs) → (b.height ≤ n) × AreNested b.height (reverse bs)
 inner_nested n bs b e k =
@@ -177,7 +184,7 @@ undone_join : (ns ms : List Note) (t : List (Option ℤ)) → undone (ns ++ ms) 
 undone_join [] ms t = refl
 undone_join (n ∷ ns) ms t = ap (λ l. set l n.x.0 n.old) (undone_join ns ms t)
 
-take_get : (ns : List Note) (kept k : ℕ) → k < kept → slice_get (take kept ns) k ≡ slice_get ns k
+pub take_get : (ns : List Note) (kept k : ℕ) → k < kept → slice_get (take kept ns) k ≡ slice_get ns k
 take_get [] zero k lt = refl
 take_get [] (suc j) k lt = refl
 take_get (n ∷ ns) zero k lt = absurd (omega arith)

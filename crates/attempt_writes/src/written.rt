@@ -3,9 +3,9 @@
 //! A table has at each variable's number the value of its own write. In a live first branch each
 //! variable is noted at its first write, with what it was before; a retry goes back by the notes.
 
-ghost use Rattle.std.specs.Prelude.{◌≡◌, ◌<◌, ◌≤◌, ◌+◌, ◌∷◌, [], None, true, ℕ, ℤ, List, Option, drop, length, reverse, Some, take, insert, slice_get, slice_set, IsOk, IfOk, IfErr, IfSome, OnOk, OnErr};
+ghost use Rattle.std.specs.Prelude.{◌≡◌, ◌<◌, ◌≤◌, ◌+◌, ◌∷◌, [], None, true, false, ℕ, ℤ, List, Option, drop, length, reverse, Some, take, insert, slice_get, slice_set, IsOk, IfOk, IfErr, IfSome, OnOk, OnErr};
 ghost use Rattle.attempt_writes.specs.Known.{Known, known_at, write};
-ghost use Rattle.attempt_writes.specs.Own.{Marked, marks_of, value_in, valued, undone, AreInside, AreListed, AreNested, AreNotedListed, GoesBack, HasNote, IsListed, IsNoted, LeavesInner};
+ghost use Rattle.attempt_writes.specs.Own.{Marked, marks_of, value_in, valued, undone, AreApart, AreHinted, AreInside, AreListed, AreNested, AreNotedListed, AreOnce, GoesBack, HasNote, IsChangedInner, IsListed, IsNoted, IsNotedInner, IsOther, LeavesInner};
 ghost use Rattle.attempt_writes.specs.Order.{AllBefore, AllKnown, Ascending};
 
 use arrayvec::ArrayVec;
@@ -160,7 +160,8 @@ pub struct Second {
 
 /// Whether the note at a place is the variable's, and the place from `low` on and below `high`.
 fn has_note(notes: &[Note], low: usize, high: usize, place: u16, x: VarId) -> bool
-    ensures { result ≡ true → HasNote low high notes.now x }
+    ensures here { result ≡ true → HasNote low high notes.now x }
+    ensures other { result ≡ false → IsOther low high notes.now place x }
 {
     let place = usize::from(place);
     match notes.get(place) {
@@ -169,10 +170,9 @@ fn has_note(notes: &[Note], low: usize, high: usize, place: u16, x: VarId) -> bo
     }
 }
 
-/// A place in the notes as it is kept: any number where it is too large.
-fn short(place: usize) -> u16 {
-    u16::try_from(place).unwrap_or(0)
-}
+/// How many notes there is room for: a place is kept in 16 bits. Some 256 live branches make so many,
+/// which is more than a program has.
+const MAX_NOTES: usize = 65_536;
 
 /// Notes what a variable was, unless no branch is live or it is noted in the innermost.
 fn take_note(
@@ -184,10 +184,17 @@ fn take_note(
 ) -> Result<(), AllocError>
     requires small { x.0 < length noted.old }
     requires nested { AreNested (length notes.old.items) (reverse branches.now) }
+    requires few { length notes.old.items ≤ MAX_NOTES }
+    requires hinted { AreHinted 0 notes.old.items noted.old }
+    requires once { AreOnce notes.old.items (reverse branches.now) }
     ensures hints { length noted.new ≡ length noted.old }
     ensures ok { OnOk result (IsNoted branches.now x old notes.old.items notes.new.items) }
     ensures err { OnErr result (notes.new.items ≡ notes.old.items) }
+    ensures few { length notes.new.items ≤ MAX_NOTES }
+    ensures hinted { AreHinted 0 notes.new.items noted.new }
+    ensures once { AreOnce notes.new.items (reverse branches.now) }
     ensures short { branches.now ≡ [] → IsOk result }
+    ensures again { IsNotedInner (reverse branches.now) notes.old.items x → IsOk result × (notes.new.items ≡ notes.old.items) }
 {
     let height = match branches.last() {
         Some(branch) => branch.height,
@@ -198,8 +205,11 @@ fn take_note(
     if has_note(notes.as_slice(), height, place, earlier, x) {
         return Ok(());
     }
+    if place == MAX_NOTES {
+        return Err(AllocError);
+    }
     notes.push(Note { x, earlier, old })?;
-    noted[x.0 as usize] = short(place);
+    noted[x.0 as usize] = place as u16;
     Ok(())
 }
 
@@ -208,9 +218,12 @@ fn undo(table: &mut [Option<i64>], notes: &mut Vec<Note>, noted: &mut [u16], hei
     requires within { height ≤ length notes.old.items }
     requires inside { AreInside (length table.old) notes.old.items }
     requires hints { length noted.old ≡ length table.old }
+    requires hinted { AreHinted 0 notes.old.items noted.old }
     ensures wide { length table.new ≡ length table.old }
     ensures hints { length noted.new ≡ length noted.old }
     ensures height { length notes.new.items ≡ height }
+    ensures front { notes.new.items ≡ take height notes.old.items }
+    ensures hinted { AreHinted 0 notes.new.items noted.new }
     ensures undone { (h : ℕ) → h ≤ height → undone (drop h notes.new.items) table.new ≡ undone (drop h notes.old.items) table.old }
     ensures noted { (pairs : Known) → AreNotedListed pairs notes.old.items → AreNotedListed pairs notes.new.items }
     ensures listed { (pairs : Known) → AreNotedListed pairs notes.old.items → AreListed pairs table.old → AreListed pairs table.new }
@@ -230,11 +243,19 @@ fn undo(table: &mut [Option<i64>], notes: &mut Vec<Note>, noted: &mut [u16], hei
 /// Leaves each variable its first note of those from `low` on: how many notes there are then.
 fn join(notes: &mut [Note], noted: &mut [u16], low: usize, height: usize) -> usize
     requires within { height ≤ length notes.old }
+    requires below { low ≤ height }
     requires inside { AreInside (length noted.old) notes.old }
+    requires few { length notes.old ≤ MAX_NOTES }
+    requires hinted { AreHinted 0 notes.old noted.old }
+    requires inner { AreApart (drop height notes.old) }
+    requires outer { AreApart (drop low (take height notes.old)) }
     ensures hints { length noted.new ≡ length noted.old }
     ensures same { length notes.new ≡ length notes.old }
     ensures within { result ≤ length notes.new }
     ensures above { height ≤ result }
+    ensures front { take height notes.new ≡ take height notes.old }
+    ensures hinted { AreHinted 0 (take result notes.new) noted.new }
+    ensures apart { AreApart (drop low (take result notes.new)) }
     ensures undone { (h : ℕ) → h ≤ low → (table : List (Option ℤ)) → undone (drop h (take result notes.new)) table ≡ undone (drop h notes.old) table }
     ensures noted { (pairs : Known) → AreNotedListed pairs notes.old → AreNotedListed pairs (take result notes.new) }
 {
@@ -247,7 +268,7 @@ fn join(notes: &mut [Note], noted: &mut [u16], low: usize, height: usize) -> usi
             noted[note.x.0 as usize] = note.earlier;
         } else {
             notes[kept] = note;
-            noted[note.x.0 as usize] = short(kept);
+            noted[note.x.0 as usize] = kept as u16;
             kept += 1;
         }
     }
@@ -259,7 +280,14 @@ fn merge(branches: &[Branch], notes: &mut Vec<Note>, noted: &mut [u16], height: 
     requires within { height ≤ length notes.old.items }
     requires nested { AreNested height (reverse branches.now) }
     requires inside { AreInside (length noted.old) notes.old.items }
+    requires few { length notes.old.items ≤ MAX_NOTES }
+    requires hinted { AreHinted 0 notes.old.items noted.old }
+    requires inner { AreApart (drop height notes.old.items) }
+    requires outer { AreOnce (take height notes.old.items) (reverse branches.now) }
     ensures hints { length noted.new ≡ length noted.old }
+    ensures few { length notes.new.items ≤ MAX_NOTES }
+    ensures hinted { AreHinted 0 notes.new.items noted.new }
+    ensures once { AreOnce notes.new.items (reverse branches.now) }
     ensures marks { (table : List (Option ℤ)) → marks_of (reverse branches.now) notes.new.items table ≡ marks_of (reverse branches.now) notes.old.items table }
     ensures nested { AreNested (length notes.new.items) (reverse branches.now) }
     ensures noted { (pairs : Known) → AreNotedListed pairs notes.old.items → AreNotedListed pairs notes.new.items }
@@ -330,12 +358,14 @@ impl Writes {
         look(&self.table, x)
     }
 
-    /// Writes a variable. It takes memory in a live first branch alone.
+    /// Writes a variable. It takes memory in a live first branch alone, and none where the branch has
+    /// changed that variable already.
     pub fn put(&mut self, x: VarId, v: i64) -> Result<(), AllocError>
         requires { x.0 < MAX_VARIABLES }
         ensures value { OnOk result (self.new.writes ≡ write self.old.writes x v) }
         ensures marks { OnOk result (self.new.marks ≡ self.old.marks) }
         ensures short { self.old.marks ≡ [] → IsOk result }
+        ensures again { IsChangedInner self.old.marks self.old.writes x → IsOk result }
     {
         let old = self.table[x.0 as usize];
         take_note(

@@ -1,6 +1,7 @@
 mod Lists
 mod Laws
 mod Woken
+mod Waited
 mod Agreeing
 mod Readying
 pub mod Draining

@@ -2,6 +2,7 @@ pub mod Tasks
 pub mod Standings
 pub mod View
 pub mod LawfulBook
+pub mod Waiting
 pub mod BookInside
 pub mod Turns
 pub mod Submitted

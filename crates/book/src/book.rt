@@ -73,6 +73,7 @@ impl<'a> Book<'a> {
     ghost use Rattle.book.specs.View.{opened, IsRunning, stands, committed, checkpointed};
     ghost use Rattle.book.specs.Turns.{Taken, IsEndOf, Finished, IsLeft, Served, Turn, Drains, kept_short, readied, IsIdle, without_journal, ReportIs};
     ghost use Rattle.book.specs.LawfulBook.{LawfulBook, BookFits, KeepsConditions, Waits};
+    ghost use Rattle.book.specs.Waiting.{ParkedWait};
 
     /// All tasks ready, number 0, the initial values, an empty journal. `Memory` only where a
     /// growth was refused.
@@ -447,12 +448,17 @@ impl<'a> Book<'a> {
     }
 
     /// What every book keeps: among it, that no state it holds or published breaks a standing
-    /// condition. It does nothing: its contract is the law.
+    /// condition, that it published a state for each number up to the present one, and that no parked
+    /// task could end before a variable that it read changes. It does nothing: its contract is the law.
     pub fn law(&self)
         ensures lawful { LawfulBook self.now }
         ensures fits { BookFits self.now }
         ensures upheld { KeepsConditions self.now }
+        ensures numbered { length self.now.history ≡ self.now.present.number + 1 }
+        ensures waits { ParkedWait self.now }
     {
+        // Its law: a program that retries over a log does so on each state that agrees with the log.
+        frame();
         let _ = &self.table;
     }
 

@@ -1,7 +1,9 @@
-use Rattle.std.proofs.Common.{◌≡◌, ◌≤◌, ◌++◌, ◌∷◌, [], List, length, subst, sym, ap, ◌∙◌, drop, arith, length-append}
+use Rattle.std.proofs.Common.{◌≡◌, ◌≤◌, ◌++◌, ◌∷◌, [], List, length, subst, sym, ap, ◌∙◌, drop, take, arith, length-append}
+use Rattle.std.proofs.lemmas.List.{take-append-le}
 use Rattle.std.proofs.Math.ListN.{length-set}
 use Rattle.attempt_writes.specs.declared.written.Note.{Note}
-use Rattle.attempt_writes.specs.Own.{AreInside, AreNotedListed, undone}
+use Rattle.attempt_writes.specs.Own.{AreHinted, AreInside, AreNotedListed, undone}
+use Rattle.attempt_writes.proofs.OwnHints.{hinted_pop}
 use Rattle.attempt_writes.proofs.OwnNotes.{back_step, inside_front, noted_front}
 use Rattle.attempt_writes.proofs.OwnTable.{put_listed}
 use Rattle.attempt_writes.proofs.written.undo.Goals as goal
@@ -35,6 +37,8 @@ loop-notes-preserved c =
       same = k.same;
       above = above;
       inside = subst (λ m. AreInside m ns) (sym same) (inside_front (length t) ns n (subst (AreInside (length t)) split k.inside)).1;
+      front = sym (take-append-le c.args.height ns (n ∷ []) above) ∙ ap (λ (l : List Note). take c.args.height l) (sym split) ∙ k.front;
+      hinted = hinted_pop 0 ns n c.loop-notes.noted (subst (λ (l : List Note). AreHinted 0 l c.loop-notes.noted) split k.hinted);
       to = λ h le. back_step h ns n t (omega (arith, le, above)) ∙ ap (λ (l : List Note). undone (drop h l) t) (sym split) ∙ k.to h le;
       noted = λ pairs a. (noted_front pairs ns n (subst (AreNotedListed pairs) split (k.noted pairs a))).1;
       all = λ pairs a l. put_listed pairs t n.x n.old pairs (k.all pairs a l) (noted_front pairs ns n (subst (AreNotedListed pairs) split (k.noted pairs a))).0 (λ y h. h);

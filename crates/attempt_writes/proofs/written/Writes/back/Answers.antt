@@ -1,5 +1,7 @@
-use Rattle.std.proofs.Common.{◌+◌, length, reverse, subst, sym, ◌∙◌}
-use Rattle.attempt_writes.specs.Own.{Own, AreInside, AreNested, GoesBack, listed, marks_of}
+use Rattle.std.proofs.Common.{◌+◌, List, arith, length, reverse, subst, sym, ◌∙◌}
+use Rattle.attempt_writes.specs.declared.written.Note.{Note}
+use Rattle.attempt_writes.specs.Own.{Own, AreInside, AreNested, AreOnce, GoesBack, listed, marks_of}
+use Rattle.attempt_writes.proofs.OwnHints.{once_popped}
 use Rattle.attempt_writes.proofs.OwnNotes.{goes_back, noted_inside, popped_inner}
 use Rattle.attempt_writes.proofs.written.Writes.back.Goals as goal
 
@@ -21,6 +23,11 @@ invariant_of-self-2 c =
       listed = c.undo.ensures.listed i.pairs.items k.noted k.listed;
       noted = c.undo.ensures.noted i.pairs.items k.noted;
       nested = subst (λ n. AreNested n (reverse c.pop.new.self.items)) (sym c.undo.ensures.height) inner.1;
+      few = omega (arith, inner.0, k.few, c.undo.ensures.height);
+      hinted = c.undo.ensures.hinted;
+      once =
+          subst (λ (l : List Note). AreOnce l (reverse c.pop.new.self.items)) (sym c.undo.ensures.front)
+          (once_popped i.branches.items c.pop.new.self.items c.in_ok-branch.branch i.notes.items c.in_ok-branch.ensures.items k.once).1;
     }
 
 pub returns-clause-some : goal.returns-clause-some

@@ -1,6 +1,7 @@
-use Rattle.std.proofs.Common.{List, length, reverse, subst, sym, ◌∙◌}
+use Rattle.std.proofs.Common.{List, take, length, reverse, subst, sym, ◌∙◌}
 use Rattle.attempt_writes.specs.declared.written.Branch.{Branch}
-use Rattle.attempt_writes.specs.Own.{AreInside, AreNested}
+use Rattle.attempt_writes.specs.Own.{AreInside, AreNested, AreOnce}
+use Rattle.attempt_writes.proofs.OwnHints.{once_popped}
 use Rattle.attempt_writes.proofs.OwnNotes.{noted_inside}
 use Rattle.attempt_writes.proofs.written.Writes.keep.Goals as goal
 
@@ -22,4 +23,19 @@ invariant_of-self-2 c =
       listed = k.listed;
       noted = c.merge.ensures.noted i.pairs.items k.noted;
       nested = subst (λ (bs : List Branch). AreNested (length c.merge.new.notes.items) (reverse bs)) c.as_slice.ensures.value c.merge.ensures.nested;
+      few = c.merge.ensures.few;
+      hinted = c.merge.ensures.hinted;
+      once = subst (λ (bs : List Branch). AreOnce c.merge.new.notes.items (reverse bs)) c.as_slice.ensures.value c.merge.ensures.once;
     }
+
+pub merge-requires-clause-inner : goal.merge-requires-clause-inner
+merge-requires-clause-inner c =
+    let i = c.self.inside in
+    (once_popped i.branches.items c.pop.new.self.items c.in_ok-branch.branch i.notes.items c.in_ok-branch.ensures.items c.self.invariant.once).0
+
+pub merge-requires-clause-outer : goal.merge-requires-clause-outer
+merge-requires-clause-outer c =
+    let i = c.self.inside in
+    let b = c.in_ok-branch.branch in
+    let outer = (once_popped i.branches.items c.pop.new.self.items b i.notes.items c.in_ok-branch.ensures.items c.self.invariant.once).1 in
+    subst (λ (bs : List Branch). AreOnce (take b.height i.notes.items) (reverse bs)) (sym c.as_slice.ensures.value) outer

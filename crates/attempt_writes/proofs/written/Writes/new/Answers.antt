@@ -14,4 +14,7 @@ invariant_of-result c = record {
   listed = subst (λ (l : Known). AreListed l (replicate 256 None)) (sym c.new.ensures) (new_listed 256);
   noted = search rules;
   nested = search rules;
+  few = search rules;
+  hinted = search rules;
+  once = search rules;
 }

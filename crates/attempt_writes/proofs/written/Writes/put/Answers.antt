@@ -1,11 +1,12 @@
-use Rattle.std.proofs.Common.{◌≡◌, ◌<◌, ◌∙◌, ℤ, List, Some, length, reverse, ap, subst, arith, to_z-of_z}
+use Rattle.std.proofs.Common.{◌≡◌, ◌<◌, ◌∙◌, ℤ, List, Some, length, reverse, ap, subst, sym, arith, to_z-of_z}
 use Rattle.std.proofs.Math.ListN.{set, length-set}
 use mir.Syntax.{w64}
 use mir.Val.{to_z, of_z}
 use Rattle.attempt_writes.specs.declared.written.Branch.{Branch}
 use Rattle.attempt_writes.specs.Known.{write}
-use Rattle.attempt_writes.specs.Own.{Own, AreNested, marks_of}
+use Rattle.attempt_writes.specs.Own.{Own, AreNested, AreOnce, IsChangedInner, IsNotedInner, marks_of}
 use Rattle.attempt_writes.proofs.OwnTable.{listed_write, put_listed, value_or}
+use Rattle.attempt_writes.proofs.OwnHints.{changed_noted}
 use Rattle.attempt_writes.proofs.OwnNotes.{no_marks, noted_still}
 use Rattle.attempt_writes.proofs.written.Writes.put.Goals as goal
 
@@ -33,6 +34,9 @@ invariant_of-self-2 c =
       listed = put_listed i.pairs.items i.table c.args.x (Some v) now k.listed c.list.ensures.here c.list.ensures.still;
       noted = ready.noted now c.list.ensures.here (noted_still i.pairs.items now i.notes.items c.list.ensures.still k.noted);
       nested = subst (λ (bs : List Branch). AreNested (length c.take_note.new.notes.items) (reverse bs)) c.as_slice.ensures.value ready.nested;
+      few = c.take_note.ensures.few;
+      hinted = c.take_note.ensures.hinted;
+      once = subst (λ (bs : List Branch). AreOnce c.take_note.new.notes.items (reverse bs)) c.as_slice.ensures.value c.take_note.ensures.once;
     }
 
 pub returns-clause-value : goal.returns-clause-value
@@ -51,3 +55,11 @@ returns-clause-marks c =
     let same = c.in_ok-take_note.ensures.ok.marks i.table v lt (value_or i.table c.args.x.0) in
     subst (λ (bs : List Branch). marks_of (reverse bs) c.take_note.new.notes.items (set i.table c.args.x.0 (Some v)) ≡ marks_of (reverse bs) i.notes.items i.table) c.as_slice.ensures.value same
     ∙ ap (λ (o : Own). o.marks) c.self.view_is
+
+pub returns-in_err-take_note-clause-again : goal.returns-in_err-take_note-clause-again
+returns-in_err-take_note-clause-again c = λ changed.
+    let i = c.self.inside in
+    let inner = subst (λ (o : Own). IsChangedInner o.marks o.writes c.args.x) (sym c.self.view_is) changed in
+    let has = changed_noted (reverse i.branches.items) i.notes.items i.table c.args.x inner in
+    let again = c.in_err-take_note.ensures.again (subst (λ (bs : List Branch). IsNotedInner (reverse bs) i.notes.items c.args.x) (sym c.as_slice.ensures.value) has) in
+    absurd (cc again.0)

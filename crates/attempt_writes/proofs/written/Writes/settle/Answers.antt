@@ -1,10 +1,10 @@
-use Rattle.std.proofs.Common.{◌≡◌, ◌∙◌, List, length, reverse, take, ap, subst, sym}
+use Rattle.std.proofs.Common.{◌≡◌, ◌∙◌, List, length, reverse, take, ap, subst, sym, arith}
 use Rattle.arrayvec.proofs.ArrayVecLemmas.{items-with_items}
 use Rattle.attempt_writes.specs.declared.written.Branch.{Branch}
 use Rattle.attempt_writes.specs.declared.written.Note.{Note}
 use Rattle.attempt_writes.specs.Known.{Known}
 use Rattle.attempt_writes.specs.Order.{AllKnown, Ascending}
-use Rattle.attempt_writes.specs.Own.{Own, AreListed, AreNested, AreNotedListed, listed, valued}
+use Rattle.attempt_writes.specs.Own.{Own, AreHinted, AreListed, AreNested, AreNotedListed, AreOnce, listed, valued}
 use Rattle.attempt_writes.proofs.OwnTable.{known_valued, listed_all, listed_ascending, valued_listed}
 use Rattle.attempt_writes.proofs.written.Writes.settle.Goals as goal
 
@@ -27,6 +27,9 @@ invariant_of-self c =
       listed = subst (λ (l : Known). AreListed l i.table) settled (listed_all i.table);
       noted = subst (λ (l : List Note). AreNotedListed c.truncate.new.self.items l) (sym c.clear.ensures.items) tt;
       nested = subst (λ (l : List Branch). AreNested (length c.clear.new.self.items) (reverse l)) (sym c.clear-2.ensures.items) tt;
+      few = omega (arith, ap length c.clear.ensures.items);
+      hinted = subst (λ (l : List Note). AreHinted 0 l i.noted) (sym c.clear.ensures.items) tt;
+      once = subst (λ (l : List Branch). AreOnce c.clear.new.self.items (reverse l)) (sym c.clear-2.ensures.items) tt;
     }
 
 pub returns-clause-pairs : goal.returns-clause-pairs
