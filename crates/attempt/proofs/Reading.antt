@@ -1,5 +1,5 @@
 -- What is read in place: each pair is of the variable that was needed, and the log stays one that an attempt may have.
-use Rattle.std.proofs.Common.{◌≡◌, ℕ, [], ◌∷◌, ◌++◌, sym, subst}
+use Rattle.std.proofs.Common.{ℕ, [], ◌∷◌, ◌++◌, sym, subst}
 use Rattle.std.proofs.lemmas.List.{append-nil, append_assoc}
 use Rattle.txn_programs.specs.Meaning.{State}
 use Rattle.txn_programs.specs.Scope.{ProgramKnown}

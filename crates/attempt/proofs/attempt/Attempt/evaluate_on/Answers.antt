@@ -1,4 +1,4 @@
-use Rattle.std.proofs.Common.{◌≤◌, ◌∙◌, ap, arith, length, sym}
+use Rattle.std.proofs.Common.{◌∙◌, ap, arith, sym}
 use Rattle.txn_programs.proofs.Lawful.{limits_parts}
 use Rattle.attempt.specs.View.{AttemptView, HoldsAt}
 use Rattle.attempt.proofs.Reading.{reads_agree}
