@@ -3,9 +3,9 @@ pub use Rattle.attempt_machine.specs.Asking
 pub use Rattle.attempt_machine.specs.Correct
 pub use Rattle.attempt_machine.specs.Frame
 pub use Rattle.attempt_machine.specs.Fused
+pub use Rattle.attempt_machine.specs.Reading
 pub use Rattle.attempt_machine.specs.Room
 pub mod CodedProgram
 pub mod View
 pub mod AttemptInside
 pub mod Stops
-pub mod Reading

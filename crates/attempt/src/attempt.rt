@@ -8,7 +8,7 @@ ghost use Rattle.attempt_machine.specs.Asking.{known_at, ask, Ends};
 ghost use Rattle.attempt_machine.specs.Frame.{Agrees, store};
 ghost use Rattle.attempt_writes.specs.Order.{AllKnown, Apart, Ascending};
 ghost use Rattle.attempt_machine.specs.Room.{NeedsNoMemory};
-ghost use Rattle.attempt.specs.Reading.{ReadsOn};
+ghost use Rattle.attempt_machine.specs.Reading.{ReadsOn};
 ghost use Rattle.attempt.specs.View.{fresh_attempt, begun, supplied, idle, next_of, Answers, HoldsAt, OnlyOfReturned};
 
 use crate::log::Log;
@@ -19,6 +19,7 @@ use attempt_writes::LogTable;
 use std::alloc::Global;
 use std::marker::Model;
 use txn::{Catalogue, Memory, Outcome, TxId, VarId};
+use txn_programs::limits::MAX_VARIABLES;
 
 /// One evaluation of a transaction over what it was told, as far as it has come. A clause sees an `AttemptView`.
 #[derive(Drop)]
@@ -232,6 +233,7 @@ impl<'a> Attempt<'a> {
         ensures after { OnOk result (after self.old.program values.now ≡ store self.new.writes values.now) }
         ensures steps { self.new.steps ≤ cost self.old.program }
     {
+        self.catalogue.rules();
         let next = self.go_on(values);
         outcome_of(next)
     }
@@ -241,6 +243,7 @@ impl<'a> Attempt<'a> {
     #[inline(never)]
     fn go_on(&mut self, values: &[i64]) -> Next
         requires fresh { self.old.stand ≡ Stand.Fresh }
+        requires values { length values.now ≤ MAX_VARIABLES }
         ensures answers { Answers result self.new }
         ensures program { self.new.program ≡ self.old.program }
         ensures variables { self.new.variables ≡ self.old.variables }

@@ -4,5 +4,6 @@ pub mod Runs
 pub mod Resume
 pub mod Going
 pub mod Kept
+pub mod Reading
 pub mod Small
 pub mod Stores

@@ -5,4 +5,5 @@ pub mod Machine
 pub mod Correct
 pub mod Fused
 pub mod Place
+pub mod Reading
 pub mod Room

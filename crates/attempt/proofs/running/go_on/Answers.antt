@@ -1,86 +1,80 @@
-use Rattle.std.proofs.Common.{◌≡◌, ◌∷◌, ◌++◌, [], ap, arith, length, refl, subst, sym}
-use Rattle.std.proofs.lemmas.List.{length_push}
+use Rattle.std.proofs.Common.{◌≡◌, ◌<◌, ◌≤◌, ◌∙◌, List, ap, arith, length, map, String, Global, subst, sym, true}
 use Rattle.txn_programs.specs.Code.{program_code}
-use Rattle.txn_programs.specs.Listing.{program_at}
-use Rattle.txn_programs.specs.Meaning.{value_at}
+use Rattle.txn_programs.specs.Fused.{machine_code}
+use Rattle.txn_programs.specs.Limits.{program_fits, conditions_fit}
+use Rattle.txn_programs.specs.Listing.{Listing, conditions, program_at, transaction_at}
+use Rattle.txn_programs.specs.Meaning.{State}
+use Rattle.txn_programs.specs.Names.{names_hold}
+use Rattle.txn_programs.specs.Tree.{Program, condition_of, transaction_of}
+use Rattle.txn_programs.specs.declared.ast.Cond.{Cond}
+use Rattle.txn_programs.specs.declared.ast.Tx.{Tx}
+use Rattle.txn_programs.specs.declared.ast.TxId.{TxId}
 use Rattle.txn_programs.proofs.Lawful.{limits_parts}
-use Rattle.attempt_writes.specs.Order.{AllKnown, Apart}
+use Rattle.attempt_machine.specs.Room.{AreDeclared}
+use Rattle.attempt_machine.proofs.Declared.{program_fitting, conditions_fitting, program_known}
+use Rattle.attempt_machine.proofs.Stores.{program_declared}
 use Rattle.attempt_machine.specs.Asking.{Known}
-use Rattle.attempt_machine.specs.Correct.{IsReached}
-use Rattle.attempt_machine.specs.Place.{place_of}
-use Rattle.attempt_machine.proofs.Declared.{program_known}
-use Rattle.attempt_machine.proofs.Resume.{reached_more}
-use Rattle.attempt.specs.Reading.{ReadsOn}
-use Rattle.attempt.specs.Stops.{Stops}
-use Rattle.attempt.proofs.Answered.{IsMissing, needs_missing}
-use Rattle.attempt.proofs.Logs.{few_more, known_more, apart_more}
-use Rattle.attempt.proofs.Reading.{reads_nothing, reads_more}
+use Rattle.attempt_machine.specs.Place.{program_under}
+use Rattle.attempt_machine.specs.Reading.{ReadsOn}
+use Rattle.attempt_writes.specs.Order.{AllKnown, Apart}
+use Rattle.attempt.proofs.Reading.{reads_known}
+use Rattle.attempt.proofs.Under.{same_program, same_code}
 use Rattle.attempt.proofs.running.go_on.Goals as goal
 
-pub reading-init : goal.reading-init
-reading-init c =
-    record {
-      reached = c.requires.reached;
-      ahead = c.requires.ahead;
-      more = omega arith;
-      reads = reads_nothing (program_at c.args.catalogue.now c.args.id) c.args.values.now c.args.log.now;
-      nothing = λ e. refl;
-      known = c.requires.known;
-      apart = c.requires.apart;
-    }
-
-pub tell-requires-clause-known : goal.tell-requires-clause-known
-tell-requires-clause-known c =
+pub run-requires-clause-code : goal.run-requires-clause-code
+run-requires-clause-code c =
     let l = c.args.catalogue.now in
-    let log = c.reading.log in
+    let same = same_program l c.args.id c.always-always.result.now c.tx-tx.result.now c.always-always.ensures.conditions c.tx-tx.ensures.value in
+    same_code l c.args.id c.code-own.result.now c.ending-ending.result.now c.code-own.ensures.value c.ending-ending.ensures.value ∙ ap machine_code (sym same)
+
+pub run-requires-clause-declared : goal.run-requires-clause-declared
+run-requires-clause-declared c =
+    let l = c.args.catalogue.now in
     let few = (limits_parts l c.rules.ensures.limits).variables in
-    let stops = subst (λ s. Stops (program_at l c.args.id) log s (place_of c.go-stand.new.m) c.go-stand.new.count.entered c.go-stand.new.count.ahead) c.in-Needs.is c.go-stand.ensures.stops in
+    let most : length l.initial ≤ 256 = omega (arith, few, c.rules.ensures.named) in
     let known = program_known l c.args.id c.rules.ensures.names c.rules.ensures.named c.requires.declared in
-    let missing : IsMissing (length l.initial) log c.in-Needs.x = needs_missing (length l.initial) (program_at l c.args.id) log c.in-Needs.x known stops.0 in
-    omega (arith, missing.0, few, c.rules.ensures.named)
+    let same = same_program l c.args.id c.always-always.result.now c.tx-tx.result.now c.always-always.ensures.conditions c.tx-tx.ensures.value in
+    subst (λ (t : Program). AreDeclared (program_code t)) (sym same) (program_declared (length l.initial) most (program_at l c.args.id) known)
 
-pub tell-requires-clause-new : goal.tell-requires-clause-new
-tell-requires-clause-new c =
+pub run-requires-clause-fits : goal.run-requires-clause-fits
+run-requires-clause-fits c =
     let l = c.args.catalogue.now in
-    let log = c.reading.log in
-    let stops = subst (λ s. Stops (program_at l c.args.id) log s (place_of c.go-stand.new.m) c.go-stand.new.count.entered c.go-stand.new.count.ahead) c.in-Needs.is c.go-stand.ensures.stops in
-    let known = program_known l c.args.id c.rules.ensures.names c.rules.ensures.named c.requires.declared in
-    let missing : IsMissing (length l.initial) log c.in-Needs.x = needs_missing (length l.initial) (program_at l c.args.id) log c.in-Needs.x known stops.0 in
-    missing.1
+    let same = same_program l c.args.id c.always-always.result.now c.tx-tx.result.now c.always-always.ensures.conditions c.tx-tx.ensures.value in
+    subst (λ (t : Program). program_fits t ≡ true) (sym same) (program_fitting l c.args.id c.rules.ensures.limits c.requires.declared)
 
-pub reading-smaller : goal.reading-smaller
-reading-smaller c =
+pub run-requires-clause-conditions : goal.run-requires-clause-conditions
+run-requires-clause-conditions c =
     let l = c.args.catalogue.now in
-    let log = c.reading.log in
-    let x = c.in-Needs.x in
-    let v = value_at c.args.values.now x in
-    let stops = subst (λ s. Stops (program_at l c.args.id) log s (place_of c.go-stand.new.m) c.go-stand.new.count.entered c.go-stand.new.count.ahead) c.in-Needs.is c.go-stand.ensures.stops in
-    let known = program_known l c.args.id c.rules.ensures.names c.rules.ensures.named c.requires.declared in
-    let missing : IsMissing (length l.initial) log x = needs_missing (length l.initial) (program_at l c.args.id) log x known stops.0 in
-    let room = few_more (length l.initial) log x v c.reading.invariant.apart c.reading.invariant.known missing.1 missing.0 in
-    omega (arith, room, ap length c.in-Ok.ensures.told, length_push log (x, v))
+    let same = same_program l c.args.id c.always-always.result.now c.tx-tx.result.now c.always-always.ensures.conditions c.tx-tx.ensures.value in
+    subst (λ (t : Program). conditions_fit t.always ≡ true) (sym same) (conditions_fitting l c.args.id c.rules.ensures.limits)
 
-pub reading-preserved : goal.reading-preserved
-reading-preserved c =
-    let l = c.args.catalogue.now in
-    let t = program_at l c.args.id in
-    let m = c.args.values.now in
-    let log = c.reading.log in
-    let x = c.in-Needs.x in
-    let v = value_at m x in
-    let place = place_of c.go-stand.new.m in
-    let count = c.go-stand.new.count in
-    let stops = subst (λ s. Stops t log s place count.entered count.ahead) c.in-Needs.is c.go-stand.ensures.stops in
-    let known = program_known l c.args.id c.rules.ensures.names c.rules.ensures.named c.requires.declared in
-    let missing : IsMissing (length l.initial) log x = needs_missing (length l.initial) t log x known stops.0 in
-    let told : c.tell.new.log ≡ log ++ (x, v) ∷ [] = c.in-Ok.ensures.told in
-    let i = c.reading.invariant in
-    record {
-      reached = subst (λ (log : Known). IsReached (program_code t) log place count.entered) (sym told) (reached_more (program_code t) log ((x, v) ∷ []) place count.entered stops.1);
-      ahead = omega (arith, stops.2);
-      more = omega (arith, i.more, c.go-stand.ensures.more);
-      reads = subst (ReadsOn t m c.args.log.now) (sym told) (reads_more t m c.args.log.now log x v i.reads stops.0 refl);
-      nothing = λ e. absurd (omega (arith, ap length e));
-      known = subst (AllKnown (length l.initial)) (sym told) (known_more (length l.initial) log x v i.known missing.0);
-      apart = subst Apart (sym told) (apart_more log x v i.apart missing.1);
-    }
+-- the log after a run is still of variables that may be named, each once
+logged : (l : Listing) (id : TxId) (always : List (String Global × Cond)) (tx : Tx) (m : State) (earlier later : Known) → map (λ a. condition_of a.1) always ≡ conditions l → transaction_of tx ≡ transaction_at l id →
+    names_hold l ≡ true → length l.names ≡ length l.initial → id.0 < length l.transactions → ReadsOn (program_under always tx) m earlier later → AllKnown (length l.initial) earlier → Apart earlier → AllKnown (length l.initial) later × Apart later
+logged l id always tx m earlier later conditions is names named declared reads known apart =
+    let same = same_program l id always tx conditions is in
+    reads_known (length l.initial) (program_at l id) m earlier later (program_known l id names named declared) (subst (λ (t : Program). ReadsOn t m earlier later) same reads) known apart
+
+pub returns-in-Ok-Need-clause-known : goal.returns-in-Ok-Need-clause-known
+returns-in-Ok-Need-clause-known c =
+    (logged c.args.catalogue.now c.args.id c.always-always.result.now c.tx-tx.result.now c.args.values.now c.args.log.now c.run.new.log c.always-always.ensures.conditions c.tx-tx.ensures.value c.rules.ensures.names c.rules.ensures.named c.requires.declared c.run.ensures.reads c.requires.known c.requires.apart).0
+
+pub returns-in-Ok-Need-clause-apart : goal.returns-in-Ok-Need-clause-apart
+returns-in-Ok-Need-clause-apart c =
+    (logged c.args.catalogue.now c.args.id c.always-always.result.now c.tx-tx.result.now c.args.values.now c.args.log.now c.run.new.log c.always-always.ensures.conditions c.tx-tx.ensures.value c.rules.ensures.names c.rules.ensures.named c.requires.declared c.run.ensures.reads c.requires.known c.requires.apart).1
+
+pub returns-in-Ok-End-clause-known : goal.returns-in-Ok-End-clause-known
+returns-in-Ok-End-clause-known c =
+    (logged c.args.catalogue.now c.args.id c.always-always.result.now c.tx-tx.result.now c.args.values.now c.args.log.now c.run.new.log c.always-always.ensures.conditions c.tx-tx.ensures.value c.rules.ensures.names c.rules.ensures.named c.requires.declared c.run.ensures.reads c.requires.known c.requires.apart).0
+
+pub returns-in-Ok-End-clause-apart : goal.returns-in-Ok-End-clause-apart
+returns-in-Ok-End-clause-apart c =
+    (logged c.args.catalogue.now c.args.id c.always-always.result.now c.tx-tx.result.now c.args.values.now c.args.log.now c.run.new.log c.always-always.ensures.conditions c.tx-tx.ensures.value c.rules.ensures.names c.rules.ensures.named c.requires.declared c.run.ensures.reads c.requires.known c.requires.apart).1
+
+pub returns-in-Err-clause-known : goal.returns-in-Err-clause-known
+returns-in-Err-clause-known c =
+    (logged c.args.catalogue.now c.args.id c.always-always.result.now c.tx-tx.result.now c.args.values.now c.args.log.now c.run.new.log c.always-always.ensures.conditions c.tx-tx.ensures.value c.rules.ensures.names c.rules.ensures.named c.requires.declared c.run.ensures.reads c.requires.known c.requires.apart).0
+
+pub returns-in-Err-clause-apart : goal.returns-in-Err-clause-apart
+returns-in-Err-clause-apart c =
+    (logged c.args.catalogue.now c.args.id c.always-always.result.now c.tx-tx.result.now c.args.values.now c.args.log.now c.run.new.log c.always-always.ensures.conditions c.tx-tx.ensures.value c.rules.ensures.names c.rules.ensures.named c.requires.declared c.run.ensures.reads c.requires.known c.requires.apart).1

@@ -1,8 +1,16 @@
-use Rattle.std.proofs.Common.{◌∙◌, sym}
-use Rattle.attempt.specs.View.{HoldsAt}
+use Rattle.std.proofs.Common.{◌∙◌, ap, arith, sym}
+use Rattle.txn_programs.proofs.Lawful.{limits_parts}
+use Rattle.attempt.specs.View.{AttemptView, HoldsAt}
 use Rattle.attempt.proofs.Reading.{reads_agree}
 use Rattle.attempt.proofs.Told.{told_holds, tells_outcome, tells_after, tells_end}
 use Rattle.attempt.proofs.attempt.Attempt.evaluate_on.Goals as goal
+
+pub go_on-next-requires-clause-values : goal.go_on-next-requires-clause-values
+go_on-next-requires-clause-values c =
+    let l = c.self.inside.catalogue.now in
+    let few = (limits_parts l c.rules.ensures.limits).variables in
+    let variables = ap (λ (a : AttemptView). a.variables) c.self.view_is in
+    omega (arith, few, c.rules.ensures.named, c.requires.values, variables)
 
 pub returns-clause-agrees : goal.returns-clause-agrees
 returns-clause-agrees c = reads_agree _ c.args.values.now _ _ c.go_on-next.ensures.reads c.requires.agrees
