@@ -41,6 +41,7 @@ pub fn status(answer: Answer) -> u8
 pub fn told<R: Eprint>(rt: &R, answer: Answer) -> u8
     ensures { result ≡ exit_status answer }
 {
+    // The status says it too, where the standard error does not take the words.
     let _unheard = match answer {
         Answer::Done | Answer::Unlawful | Answer::Refused => Ok(()),
         Answer::Unreadable => rt.eprintln("stm: cannot read"),

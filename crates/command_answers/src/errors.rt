@@ -24,6 +24,7 @@ pub fn wordless<R: Eprint>(rt: &R, error: &io::Error) -> Answer
     if error.kind() == io::ErrorKind::OutOfMemory {
         return Answer::Failed(RunFault::Memory);
     }
+    // The status says it too, where the standard error does not take the words.
     let _unheard = rt.eprintln("stm: the command line is not UTF-8");
     Answer::Refused
 }

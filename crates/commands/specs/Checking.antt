@@ -16,22 +16,22 @@ verdict_answer Good = Done
 verdict_answer (Bad part) = Unlawful
 
 -- the verdict's line was written and nothing else, or a beginning of it where the output failed
-abbrev pub Told : Verdict → Option (List ℕ) → Option (List ℕ) → Answer → Type 0
-Told v old new Done = (v ≡ Good) × Appends old new (line_of v)
-Told v old new Unlawful = (verdict_answer v ≡ Unlawful) × Appends old new (line_of v)
-Told v old new Refused = ⊥
-Told v old new Unreadable = ⊥
-Told v old new (Failed (Input kind)) = ⊥
-Told v old new (Failed Memory) = ⊥
-Told v old new (Failed Output) = (n : ℕ) × Appends old new (take n (line_of v))
+abbrev pub Tells : Verdict → Option (List ℕ) → Option (List ℕ) → Answer → Type 0
+Tells v old new Done = (v ≡ Good) × Appends old new (line_of v)
+Tells v old new Unlawful = (verdict_answer v ≡ Unlawful) × Appends old new (line_of v)
+Tells v old new Refused = ⊥
+Tells v old new Unreadable = ⊥
+Tells v old new (Failed (Input kind)) = ⊥
+Tells v old new (Failed Memory) = ⊥
+Tells v old new (Failed Output) = (n : ℕ) × Appends old new (take n (line_of v))
 -- a check has no schedule
-Told v old new (Failed (Schedule kind)) = ⊥
+Tells v old new (Failed (Schedule kind)) = ⊥
 
 -- the verdict on the report, for the file, was told so
 pub record ToldVerdict (file report : List ℕ) (old new : Option (List ℕ)) (a : Answer) : Type 0 where
   pub verdict : Verdict
   pub judged : Judges file report verdict
-  pub told : Told verdict old new a
+  pub told : Tells verdict old new a
 
 -- by the answer: what a check of these bytes leaves
 abbrev pub Checked : List ℕ → List ℕ → Option (List ℕ) → Option (List ℕ) → Answer → Type 0

@@ -1,15 +1,36 @@
 -- What of a file is read, and what a run of a file leaves.
-use Rattle.std.specs.Prelude.{ℕ, ◌+◌, List, take, Option, Result, Ok, Err}
+use Rattle.std.specs.Prelude.{◌≡◌, ◌⊎◌, ℕ, ◌+◌, List, take, Option, Result, Ok, Err, IfSome}
 use Rattle.std.specs.Io.KnownBytes.{Keeps}
 use Rattle.run_faults.specs.Failures.{output_failures}
 use Rattle.runner.specs.Running.{Ran}
 use Rattle.run_faults.specs.declared.fault.RunFault.{RunFault}
+use Rattle.run_faults.specs.declared.fault.RunFault.TheVariants.{Memory}
 use Rattle.command_answers.specs.declared.answer.Answer.{Answer}
 use Rattle.command_answers.specs.declared.answer.Answer.TheVariants.{Done, Unlawful, Refused, Unreadable, Failed}
+
+-- how many bytes a file has at most
+abbrev pub file_limit : ℕ
+file_limit = 1048576
 
 -- with one byte more than the limit it is known to be too long
 abbrev pub read_of : ℕ → List ℕ → List ℕ
 read_of limit all = take (limit + 1) all
+
+-- the bytes are what is read of a reader, where it is known what it has
+abbrev pub IsRead : ℕ → Option (List ℕ) → List ℕ → Type 0
+IsRead limit known bytes = IfSome known (λ all. bytes ≡ read_of limit all)
+
+-- such bytes were read, and this is so of them
+abbrev pub OfRead : ℕ → Option (List ℕ) → (List ℕ → Type 0) → Type 0
+OfRead limit known Left = (bytes : List ℕ) × IsRead limit known bytes × Left bytes
+
+-- what is answered where a reader fails, or there is no memory for what it has
+abbrev pub IsUnread : Answer → Type 0
+IsUnread a = (a ≡ Unreadable) ⊎ (a ≡ Failed Memory)
+
+-- it could not be read, and nothing was written; or it was, and this is so of what was read
+abbrev pub AfterReading : ℕ → Option (List ℕ) → (List ℕ → Type 0) → Option (List ℕ) → Option (List ℕ) → Answer → Type 0
+AfterReading limit known Left old new a = (IsUnread a × Keeps old new) ⊎ OfRead limit known Left
 
 -- the answers of a run of bytes
 abbrev pub done : Result (Unit {0}) RunFault
@@ -18,13 +39,17 @@ done = Ok tt
 abbrev pub ended : RunFault → Result (Unit {0}) RunFault
 ended fault = Err fault
 
--- by the answer: what a run of some bytes leaves that ends so, or nothing was written
-abbrev pub RanFile : Option (List ℕ) → Option (List ℕ) → Answer → Type 0
-RanFile old new Done = (input : List ℕ) × Ran input old new done
-RanFile old new Unlawful = ⊥
-RanFile old new Refused = ⊥
-RanFile old new Unreadable = Keeps old new
-RanFile old new (Failed fault) = (input : List ℕ) × Ran input old new (ended fault)
+-- by the answer: what a run of these bytes leaves that ends so
+abbrev pub RanBytes : ℕ → List ℕ → Option (List ℕ) → Option (List ℕ) → Answer → Type 0
+RanBytes every input old new Done = Ran every input old new done
+RanBytes every input old new Unlawful = ⊥
+RanBytes every input old new Refused = ⊥
+RanBytes every input old new Unreadable = ⊥
+RanBytes every input old new (Failed fault) = Ran every input old new (ended fault)
+
+-- what a run of a file leaves, of which it is known that it has these bytes, if anything is
+abbrev pub RanFile : Option (List ℕ) → ℕ → Option (List ℕ) → Option (List ℕ) → Answer → Type 0
+RanFile known every old new a = AfterReading file_limit known (λ input. RanBytes every input old new a) old new a
 
 -- how many calls of the sink failed
 abbrev pub failed_calls : Answer → ℕ

@@ -2,7 +2,7 @@
 
 ghost use Rattle.std.specs.Prelude.{◌≡◌, ◌<◌, ◌+◌, ◌^◌, true};
 ghost use Rattle.commands.specs.Files.{failed_calls};
-ghost use Rattle.commands.specs.Checking.{Told, Checked, CheckedFiles, verdict_answer};
+ghost use Rattle.commands.specs.Checking.{Tells, Checked, CheckedFiles, verdict_answer};
 
 use crate::reading::contents;
 use checker::{Verdict, check};
@@ -57,7 +57,7 @@ fn check_bytes<S: Sink>(alloc: Global, file: &[u8], report: &[u8], sink: &mut S)
 /// Writes the verdict's line.
 fn tell<S: Sink>(verdict: Verdict, sink: &mut S) -> Answer
     requires { S.failed sink.old < 2 ^ 63 }
-    ensures told { Told verdict (S.bytes sink.old) (S.bytes sink.new) result }
+    ensures told { Tells verdict (S.bytes sink.old) (S.bytes sink.new) result }
     ensures good { result ≡ Answer.Done → S.flushed sink.new ≡ true }
     ensures bad { result ≡ Answer.Unlawful → S.flushed sink.new ≡ true }
     ensures failures { S.failed sink.new ≡ S.failed sink.old + failed_calls result }

@@ -67,6 +67,7 @@ pub fn witness_file<R: Files + Eprint + AllocGlobal, S: Sink>(
 fn no_such_end<R: Eprint>(rt: &R) -> Answer
     ensures { result ≡ Answer.Refused }
 {
+    // The status says it too, where the standard error does not take the words.
     let _unheard = rt.eprintln("stm: there is no such end");
     Answer::Refused
 }

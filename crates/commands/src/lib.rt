@@ -1,6 +1,7 @@
 //! The commands of the program `stm`, from the words of the command line to the status to end with.
 //!
-//! `program`, `checking`, `playing`, `exploring`, `explaining` and `printing` have the files, which `reading` reads. The words are those of the library
+//! `program` has the words of the command line; `running`, `checking`, `playing`, `exploring`, `explaining` and
+//! `printing` have the files, which `reading` reads. The words are those of the library
 //! `command_line`, and the statuses those of `command_answers`. What the commands do is in libraries, too: `runner` goes
 //! from the bytes of a file to the bytes of its report, `checker` from the bytes of both to a verdict, `world_runner` from the bytes of
 //! a file and of a schedule to the bytes of what is seen, `explore_runner` from the bytes of a file to
@@ -16,5 +17,6 @@ pub mod playing;
 pub mod printing;
 pub mod program;
 pub mod reading;
+pub mod running;
 
 pub use program::run;

@@ -1,24 +1,18 @@
 //! The program: words and files in, a report and a status out.
 
-ghost use Rattle.std.specs.Prelude.{◌≡◌, ◌<◌, ◌+◌, ◌^◌, true};
-ghost use Rattle.commands.specs.Files.{RanFile, failed_calls};
-
 use crate::checking::check_files;
 use crate::explaining::explain_files;
 use crate::exploring::{explore_file, witness_file};
 use crate::playing::play_files;
 use crate::printing::print_files;
-use crate::reading::contents;
-use command_answers::{Answer, told, unread};
+use crate::running::run_file;
+use command_answers::{Answer, told};
 use command_line::{Request, asked, words_given};
-use run_options::Options;
-use run_sink::{Out, Sink};
-use runner::{OpenGate, run_bytes};
+use run_sink::Out;
 use std::io;
 use std::rt::{Env, Files};
 use std::sync::Wait;
 use std::thread::Threads;
-use txn_text::MAX_FILE;
 
 /// Does what the command line asks for, and tells the status to end with. Threads come from the
 /// first runtime, and all else from the second.
@@ -68,35 +62,5 @@ fn answer<T: Threads + Wait + Sync, R: Files + Env + Print + Eprint + AllocGloba
             explain_files(rt, &request, &mut out)
         }
         Err(answer) => answer,
-    }
-}
-
-/// Runs a file, and writes its report to the sink.
-fn run_file<T: Threads + Wait + Sync, R: Files + AllocGlobal, S: Sink>(
-    threads: &T,
-    rt: &R,
-    path: &str,
-    options: Options,
-    sink: &mut S,
-) -> Answer
-    requires { S.failed sink.old < 2 ^ 63 }
-    ensures ran { RanFile (S.bytes sink.old) (S.bytes sink.new) result }
-    ensures flushed { result ≡ Answer.Done → S.flushed sink.new ≡ true }
-    ensures failures { S.failed sink.new ≡ S.failed sink.old + failed_calls result }
-{
-    let bytes = match contents(rt, path, MAX_FILE) {
-        Ok(bytes) => bytes,
-        Err(error) => return unread(&error),
-    };
-    match run_bytes(
-        threads,
-        rt.alloc(),
-        bytes.as_slice(),
-        options,
-        &OpenGate,
-        sink,
-    ) {
-        Ok(()) => Answer::Done,
-        Err(fault) => Answer::Failed(fault),
     }
 }

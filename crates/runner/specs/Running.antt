@@ -7,6 +7,7 @@ use Rattle.txn_programs.specs.LawfulReport.{LawfulReport, BaseReached}
 use Rattle.txn_text.specs.Spelling.{Spells, first_fault}
 use Rattle.txn_text.specs.ReportText.{report_text}
 use Rattle.txn_text.specs.ReportFits.{ReportFits}
+use Rattle.run_workers.specs.Journals.{KeepsShort}
 use Rattle.run_faults.specs.declared.fault.RunFault.{RunFault}
 use Rattle.run_faults.specs.declared.fault.RunFault.TheVariants.{Input, Memory, Output, Schedule}
 
@@ -20,27 +21,32 @@ pub record IsReportOf (input text : List ℕ) : Type 0 where
   pub values : ReportFits report
   pub printed : text ≡ report_text file report
 
+-- and the journal of the report is as short as a run keeps it whose base moves after each `every` entries, 0 for never
+pub record IsReportBy (every : ℕ) (input text : List ℕ) : Type 0 where
+  pub of : IsReportOf input text
+  pub short : KeepsShort every of.report
+
 -- such a text was written
-pub record WroteReport (input : List ℕ) (old new : Option (List ℕ)) : Type 0 where
+pub record WroteReport (every : ℕ) (input : List ℕ) (old new : Option (List ℕ)) : Type 0 where
   pub text : List ℕ
-  pub report : IsReportOf input text
+  pub report : IsReportBy every input text
   pub written : Appends old new text
 
 -- a beginning of such a text was written
-pub record WroteBeginning (input : List ℕ) (old new : Option (List ℕ)) : Type 0 where
+pub record WroteBeginning (every : ℕ) (input : List ℕ) (old new : Option (List ℕ)) : Type 0 where
   pub text : List ℕ
-  pub report : IsReportOf input text
+  pub report : IsReportBy every input text
   pub count : ℕ
   pub written : Appends old new (take count text)
 
 -- by the answer: a whole report, or nothing and the first kind of fault, or nothing, or a beginning
-abbrev pub Ran : {U : Type 0} → List ℕ → Option (List ℕ) → Option (List ℕ) → Result U RunFault → Type 0
-Ran input old new (Ok u) = WroteReport input old new
-Ran input old new (Err (Input kind)) = (first_fault input ≡ Some kind) × Keeps old new
-Ran input old new (Err Memory) = Keeps old new
-Ran input old new (Err Output) = WroteBeginning input old new
+abbrev pub Ran : {U : Type 0} → ℕ → List ℕ → Option (List ℕ) → Option (List ℕ) → Result U RunFault → Type 0
+Ran every input old new (Ok u) = WroteReport every input old new
+Ran every input old new (Err (Input kind)) = (first_fault input ≡ Some kind) × Keeps old new
+Ran every input old new (Err Memory) = Keeps old new
+Ran every input old new (Err Output) = WroteBeginning every input old new
 -- a run of all tasks has no schedule
-Ran input old new (Err (Schedule kind)) = ⊥
+Ran every input old new (Err (Schedule kind)) = ⊥
 
 -- why no report came of the input
 abbrev pub IsRefused : List ℕ → RunFault → Type 0

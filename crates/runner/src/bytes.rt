@@ -3,7 +3,7 @@
 ghost use Rattle.std.specs.Prelude.{◌≡◌, ◌+◌, ◌<◌, ◌^◌, ℕ, List, true, IfOk, OnOk, IfErr, string_bytes};
 ghost use Rattle.txn_text.specs.Spelling.{Spells};
 ghost use Rattle.run_faults.specs.Failures.{output_failures};
-ghost use Rattle.runner.specs.Running.{IsReportOf, IsRefused, Ran};
+ghost use Rattle.runner.specs.Running.{IsReportBy, IsRefused, Ran};
 
 use run_faults::RunFault;
 use run_options::Options;
@@ -17,7 +17,9 @@ use txn_text::{ReadFault, print_report, read_file};
 
 /// Runs the file that the bytes spell, and writes its report to the sink.
 ///
-/// `Ok`: exactly the text of one lawful report of exactly that file was written, and then flushed.
+/// `Ok`: exactly the text of one lawful report of exactly that file was written, and then flushed. With
+/// a checkpoint after each N entries its journal has fewer than N, and its base is a multiple of N; with
+/// none its base is 0.
 /// `Input`: the bytes spell no file, and this is the first kind of fault that they have; nothing
 /// was written. `Memory`: a growth was refused; nothing was written. `Output`: a call of the sink
 /// failed, the only one, and a beginning of one such text was written.
@@ -30,7 +32,7 @@ pub fn run_bytes<R: Threads + Wait + Sync, G: Gate, S: Sink>(
     sink: &mut S,
 ) -> Result<(), RunFault>
     requires { S.failed sink.old < 2 ^ 63 }
-    ensures ran { Ran bytes.now (S.bytes sink.old) (S.bytes sink.new) result }
+    ensures ran { Ran options.checkpoint bytes.now (S.bytes sink.old) (S.bytes sink.new) result }
     ensures flushed { OnOk result (S.flushed sink.new ≡ true) }
     ensures failures { S.failed sink.new ≡ S.failed sink.old + output_failures result }
 {
@@ -51,7 +53,7 @@ fn report_of<R: Threads + Wait + Sync, G: Gate>(
     options: Options,
     gate: &G,
 ) -> Result<String, RunFault>
-    ensures report { IfOk result (λ text. IsReportOf bytes.now (string_bytes text)) }
+    ensures report { IfOk result (λ text. IsReportBy options.checkpoint bytes.now (string_bytes text)) }
     ensures refused { IfErr result (IsRefused bytes.now) }
 {
     match read_file(alloc, bytes) {
@@ -69,7 +71,7 @@ fn report_on<R: Threads + Wait + Sync, G: Gate>(
     options: Options,
     gate: &G,
 ) -> Result<String, RunFault>
-    ensures report { IfOk result (λ text. (file : List ℕ) → Spells file catalogue.now → IsReportOf file (string_bytes text)) }
+    ensures report { IfOk result (λ text. (file : List ℕ) → Spells file catalogue.now → IsReportBy options.checkpoint file (string_bytes text)) }
     ensures refused { IfErr result (λ fault. (file : List ℕ) → IsRefused file fault) }
 {
     let Ok(report) = run_tasks(rt, alloc, catalogue, options, gate) else {

@@ -1,0 +1,19 @@
+-- What is left where a file is read first.
+use Rattle.std.proofs.Common.{◌≡◌, inl, inr, ℕ, List, Option, None, Some, refl, sym, ap, subst, ◌∙◌}
+use Rattle.std.specs.Io.KnownBytes.{Keeps}
+use Rattle.command_answers.specs.declared.answer.Answer.{Answer}
+use Rattle.commands.specs.Files.{IsRead, IsUnread, failed_calls}
+
+-- bytes that stay
+pub keeps_same : (bytes : Option (List ℕ)) → Keeps bytes bytes
+keeps_same None = tt
+keeps_same (Some xs) = refl
+
+-- the bytes of a slice of what was read
+pub read_as : (limit : ℕ) (known : Option (List ℕ)) (items bytes : List ℕ) → bytes ≡ items → IsRead limit known items → IsRead limit known bytes
+read_as limit known items bytes same is = subst (λ (b : List ℕ). IsRead limit known b) (sym same) is
+
+-- where nothing was read no call of a sink failed
+pub unread_calls : (a : Answer) → IsUnread a → failed_calls a ≡ 0
+unread_calls a (inl e) = ap failed_calls e
+unread_calls a (inr e) = ap failed_calls e

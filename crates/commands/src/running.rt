@@ -1,0 +1,73 @@
+//! `stm run`: the bytes of a file in, its report and a status out.
+
+ghost use Rattle.std.specs.Prelude.{◌≡◌, ◌<◌, ◌+◌, ◌^◌, true, None};
+ghost use Rattle.commands.specs.Files.{RanBytes, RanFile, failed_calls};
+
+use crate::reading::{bytes_of, opened};
+use command_answers::Answer;
+use run_options::Options;
+use run_sink::Sink;
+use runner::{OpenGate, run_bytes};
+use std::alloc::Global;
+use std::io::Read;
+use std::rt::Files;
+use std::sync::Wait;
+use std::thread::Threads;
+use txn_text::MAX_FILE;
+
+/// Runs the file at the path with these options, and writes its report to the sink.
+pub(crate) fn run_file<T: Threads + Wait + Sync, R: Files + AllocGlobal, S: Sink>(
+    threads: &T,
+    rt: &R,
+    path: &str,
+    options: Options,
+    sink: &mut S,
+) -> Answer
+    requires { S.failed sink.old < 2 ^ 63 }
+    ensures ran { RanFile None options.checkpoint (S.bytes sink.old) (S.bytes sink.new) result }
+    ensures flushed { result ≡ Answer.Done → S.flushed sink.new ≡ true }
+    ensures failures { S.failed sink.new ≡ S.failed sink.old + failed_calls result }
+{
+    match opened(rt, path) {
+        Ok(file) => run_input(threads, rt.alloc(), file, options, sink),
+        Err(answer) => answer,
+    }
+}
+
+/// Runs the file that a reader has with these options, and writes its report to the sink.
+pub fn run_input<T: Threads + Wait + Sync, I: Read + Drop, S: Sink>(
+    threads: &T,
+    alloc: Global,
+    input: I,
+    options: Options,
+    sink: &mut S,
+) -> Answer
+    requires { S.failed sink.old < 2 ^ 63 }
+    ensures ran { RanFile (I.remaining input) options.checkpoint (S.bytes sink.old) (S.bytes sink.new) result }
+    ensures flushed { result ≡ Answer.Done → S.flushed sink.new ≡ true }
+    ensures failures { S.failed sink.new ≡ S.failed sink.old + failed_calls result }
+{
+    match bytes_of(alloc, input, MAX_FILE) {
+        Ok(bytes) => answered(threads, alloc, bytes.as_slice(), options, sink),
+        Err(answer) => answer,
+    }
+}
+
+/// Runs the file of these bytes, and writes its report to the sink.
+fn answered<T: Threads + Wait + Sync, S: Sink>(
+    threads: &T,
+    alloc: Global,
+    bytes: &[u8],
+    options: Options,
+    sink: &mut S,
+) -> Answer
+    requires { S.failed sink.old < 2 ^ 63 }
+    ensures ran { RanBytes options.checkpoint bytes.now (S.bytes sink.old) (S.bytes sink.new) result }
+    ensures flushed { result ≡ Answer.Done → S.flushed sink.new ≡ true }
+    ensures failures { S.failed sink.new ≡ S.failed sink.old + failed_calls result }
+{
+    match run_bytes(threads, alloc, bytes, options, &OpenGate, sink) {
+        Ok(()) => Answer::Done,
+        Err(fault) => Answer::Failed(fault),
+    }
+}
