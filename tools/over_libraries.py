@@ -1,0 +1,54 @@
+"""The kit's compiler over the repository's libraries as they lie in their folders, also as `rt ci` left them: those have
+no stamp by which `rt` would take them."""
+
+import os
+import subprocess
+
+ROOT = os.path.dirname(os.path.dirname(os.path.realpath(__file__)))
+
+
+def read_crates():
+    """Each crate of crates.txt with the libraries that it names, the kit's too."""
+    crates = {}
+    with open(os.path.join(ROOT, "crates.txt"), encoding="utf-8") as lines:
+        for line in lines:
+            head, colon, names = line.split("#")[0].partition(":")
+            if colon:
+                crates[head.split()[0]] = names.split()
+    return crates
+
+
+def below(crates, crate):
+    """The repository's crates that this one stands on, lowest first."""
+    found = []
+
+    def visit(name):
+        for one in crates[name]:
+            if one in crates and one not in found:
+                visit(one)
+                found.append(one)
+
+    visit(crate)
+    return found
+
+
+def library_of(crate):
+    return os.path.join(ROOT, "crates", crate, "out", "rlib", f"{crate}.rlib")
+
+
+def kit():
+    told = subprocess.run(["rt", "doc"], capture_output=True, text=True, check=True)
+    return os.path.dirname(told.stdout.strip())
+
+
+def command(crates, crate, verb):
+    """`rattle VERB` of the crate's sources in the folder where it is called, over the libraries below it."""
+    place, main = kit(), os.path.join(ROOT, "crates", crate, "src", "main.rt")
+    words = [f"{place}/bin/rattle", verb, "--crate-name", crate, "src/main.rt" if os.path.exists(main) else "src/lib.rt"]
+    words += ["-L", f"dependency={place}/rlibs"]
+    for name in dict.fromkeys(["std", *crates[crate]]):
+        library = library_of(name) if name in crates else f"{place}/rlibs/{name}.rlib"
+        words += ["--extern", f"{name}={library}"]
+    for name in below(crates, crate):
+        words += ["-L", f"dependency={os.path.dirname(library_of(name))}"]
+    return [*words, "--antt-project", f"{place}/rattle/logic/antt-project.json", "--logic-built", f"{place}/logic_built"]
