@@ -18,6 +18,12 @@ def read_crates():
     return crates
 
 
+def is_static(crate):
+    """Whether crates.txt has it as a static library."""
+    with open(os.path.join(ROOT, "crates.txt"), encoding="utf-8") as lines:
+        return any(line.split(":")[0].split() == [crate, "staticlib"] for line in lines)
+
+
 def below(crates, crate):
     """The repository's crates that this one stands on, lowest first."""
     found = []
@@ -51,4 +57,5 @@ def command(crates, crate, verb):
         words += ["--extern", f"{name}={library}"]
     for name in below(crates, crate):
         words += ["-L", f"dependency={os.path.dirname(library_of(name))}"]
+    words += ["--crate-type", "staticlib"] if is_static(crate) else []
     return [*words, "--antt-project", f"{place}/rattle/logic/antt-project.json", "--logic-built", f"{place}/logic_built"]
