@@ -1,7 +1,7 @@
 -- One more put.
 use Rattle.std.proofs.Common.{◌≡◌, ℕ, ◌+◌, ◌-◌, List, ◌++◌, Option, length, take, drop, sym, ap, ◌∙◌, subst, arith, length-drop, take-add}
-use Rattle.std.specs.Io.KnownBytes.{Appends}
-use Rattle.std.proofs.KnownBytes.{Appends-trans}
+use Rattle.std.specs.Io.KnownBytes.{Appends, Keeps}
+use Rattle.std.proofs.KnownBytes.{Appends-kept, Appends-trans}
 use Rattle.std.proofs.lemmas.List.{drop-drop, take_all}
 use Rattle.run_sink.specs.Puts.{Taken}
 
@@ -19,3 +19,8 @@ put_step old mid new all rest n t more =
       left = cut n rest ∙ ap (drop n) t.left ∙ drop-drop n k all;
       appended = subst (Appends old new) joined both;
     }
+
+-- all was taken, and then nothing more
+pub beginning_kept : (old mid new : Option (List ℕ)) (all : List ℕ) → Appends old mid all → Keeps mid new → (n : ℕ) × Appends old new (take n all)
+beginning_kept old mid new all more kept =
+    (length all, subst (Appends old new) (sym (take_all (length all) all (omega arith))) (Appends-kept old mid new all more kept))

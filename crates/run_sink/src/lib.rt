@@ -3,4 +3,4 @@
 
 mod sink;
 
-pub use sink::{Out, Sink, SinkFault, put_all};
+pub use sink::{Out, Sink, SinkFault, put_all, put_bytes};

@@ -129,11 +129,11 @@ impl<W: Write> Sink for Out<W> {
     }
 }
 
-/// Puts all bytes and flushes. At an `Err` a beginning of them was taken, and one call failed.
-pub fn put_all<S: Sink>(sink: &mut S, bytes: &[u8]) -> Result<(), SinkFault>
+/// Puts all bytes, and sends nothing on yet. At an `Err` a beginning of them was taken, and one call
+/// failed.
+pub fn put_bytes<S: Sink>(sink: &mut S, bytes: &[u8]) -> Result<(), SinkFault>
     requires { S.failed sink.old < 2 ^ 63 }
     ensures all { OnOk result (Appends (S.bytes sink.old) (S.bytes sink.new) bytes.now) }
-    ensures flushed { OnOk result (S.flushed sink.new ≡ true) }
     ensures none_failed { OnOk result (S.failed sink.new ≡ S.failed sink.old) }
     ensures beginning { OnErr result ((n : ℕ) × Appends (S.bytes sink.old) (S.bytes sink.new) (take n bytes.now)) }
     ensures one_failed { OnErr result (S.failed sink.new ≡ S.failed sink.old + 1) }
@@ -146,5 +146,21 @@ pub fn put_all<S: Sink>(sink: &mut S, bytes: &[u8]) -> Result<(), SinkFault>
         }
         rest = &rest[count..];
     }
-    sink.flush()
+    Ok(())
+}
+
+/// Puts all bytes and flushes. At an `Err` a beginning of them was taken, and one call failed.
+pub fn put_all<S: Sink>(sink: &mut S, bytes: &[u8]) -> Result<(), SinkFault>
+    requires { S.failed sink.old < 2 ^ 63 }
+    ensures all { OnOk result (Appends (S.bytes sink.old) (S.bytes sink.new) bytes.now) }
+    ensures flushed { OnOk result (S.flushed sink.new ≡ true) }
+    ensures none_failed { OnOk result (S.failed sink.new ≡ S.failed sink.old) }
+    ensures beginning { OnErr result ((n : ℕ) × Appends (S.bytes sink.old) (S.bytes sink.new) (take n bytes.now)) }
+    ensures one_failed { OnErr result (S.failed sink.new ≡ S.failed sink.old + 1) }
+{
+    put_bytes(sink, bytes)?;
+    match sink.flush() {
+        Ok(()) => Ok(()),
+        Err(fault) => Err(fault),
+    }
 }

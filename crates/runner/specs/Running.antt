@@ -48,9 +48,10 @@ Ran every input old new (Err Output) = WroteBeginning every input old new
 -- a run of all tasks has no schedule
 Ran every input old new (Err (Schedule kind)) = ⊥
 
--- why no report came of the input
-abbrev pub IsRefused : List ℕ → RunFault → Type 0
-IsRefused input (Input kind) = first_fault input ≡ Some kind
-IsRefused input Memory = Unit {0}
-IsRefused input Output = ⊥
-IsRefused input (Schedule kind) = ⊥
+-- by the answer: this text was written, or nothing, or a beginning of it
+abbrev pub Wrote : {U : Type 0} → List ℕ → Option (List ℕ) → Option (List ℕ) → Result U RunFault → Type 0
+Wrote text old new (Ok u) = Appends old new text
+Wrote text old new (Err (Input kind)) = ⊥
+Wrote text old new (Err Memory) = Keeps old new
+Wrote text old new (Err Output) = (n : ℕ) × Appends old new (take n text)
+Wrote text old new (Err (Schedule kind)) = ⊥

@@ -6,6 +6,7 @@
 #![tactic(auto)]
 
 mod bytes;
+mod pieces;
 
 pub use bytes::run_bytes;
 pub use run_faults::RunFault;

@@ -1,6 +1,6 @@
 -- How long the text of a report is: each line has at most 100 bytes.
 use Rattle.std.proofs.Common.{◌≡◌, ℕ, ◌+◌, ◌*◌, ◌<◌, ◌≤◌, ℤ, true, nat_le, List, [], ◌∷◌, ◌++◌, length, get_or, arith, lit<, lit≤, length-append, pos}
-use Rattle.std.specs.Prelude.{codes, All, FitsSigned}
+use Rattle.std.specs.Prelude.{codes, All, FitsSigned, slice_get, Some}
 use Rattle.std.specs.Int.{w64}
 use Rattle.std.specs.Fmt.{decimal, signed_decimal}
 use Rattle.std.specs.List.{list_all, flat_map, AllByRecursion}
@@ -91,6 +91,9 @@ pub name_short : (l : Listing) → limits_hold l ≡ true → (tx : TxId) → tx
 name_short l h tx lt =
     let none : Transaction = record { name = []; body = Skip; result = Int (pos 0) } in
     leb-true _ _ (passes_at (λ (t : Transaction). nat_le (length t.name) MAX_NAME) l.transactions tx.0 (get_or l.transactions tx.0 none) (limits_parts l h).tx_names (slice_get-get_or l.transactions tx.0 none lt))
+
+pub variable_name_short : (l : Listing) → limits_hold l ≡ true → (i : ℕ) (name : List ℕ) → slice_get l.names i ≡ Some name → length name ≤ 32
+variable_name_short l h i name e = leb-true _ _ (passes_at (λ (name : List ℕ). nat_le (length name) MAX_NAME) l.names i name (limits_parts l h).names e)
 
 tasks_short : (l : Listing) → limits_hold l ≡ true → (word : List ℕ) → length word ≤ 6 → (ts : List (TaskId × TxId)) → All (λ p. (p.0.0 < length (tasks l)) × (p.1.0 < length l.transactions)) ts → length (flat_map (task_line l word) ts) ≤ 100 * length ts
 tasks_short l h word w ts fits =

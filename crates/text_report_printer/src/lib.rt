@@ -5,4 +5,7 @@ mod line;
 mod names;
 mod report;
 
-pub use report::{print_report, put_number, put_outcome, put_variables};
+pub use report::{
+    LONGEST, print_report, put_entries, put_number, put_outcome, put_tasks, put_variables,
+    values_fit,
+};

@@ -120,7 +120,8 @@ impl LineEnd {
     /// The text.
     #[inline]
     pub(crate) fn text(&self) -> &str
-        ensures { result.now ≡ self.now }
+        ensures value { result.now ≡ self.now }
+        ensures short { length result.now ≤ 128 }
     {
         let text = &self.bytes[self.start..];
         // What was put is text, so it is not judged again, byte by byte.

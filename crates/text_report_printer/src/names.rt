@@ -1,9 +1,19 @@
 //! Names, none of which is longer than a name may be.
 
-ghost use Rattle.std.specs.Prelude.{◌≡◌, ◌<◌, ◌≤◌, length};
+ghost use Rattle.std.specs.Prelude.{◌≡◌, ◌<◌, ◌≤◌, length, slice_get, Some};
 ghost use Rattle.txn_programs.specs.Listing.{always_name, program_at};
 
-use txn::{AlwaysId, Catalogue, TxId};
+use txn::{AlwaysId, Catalogue, TxId, VarId};
+
+/// A variable's name.
+pub(crate) fn var_name(catalogue: &Catalogue, id: VarId) -> &str
+    requires { id.0 < length catalogue.now.names }
+    ensures value { slice_get catalogue.now.names id.0 ≡ Some result.now }
+    ensures short { length result.now ≤ 32 }
+{
+    catalogue.rules();
+    catalogue.var_name(id)
+}
 
 /// A transaction's name.
 pub(crate) fn tx_name(catalogue: &Catalogue, tx: TxId) -> &str

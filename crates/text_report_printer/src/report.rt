@@ -1,6 +1,6 @@
 //! The text of a report.
 
-ghost use Rattle.std.specs.Prelude.{◌≡◌, ◌<◌, ◌≤◌, [], ◌∷◌, ◌++◌, All, FitsSigned, IfOk, OnOk, codes, length, string_bytes};
+ghost use Rattle.std.specs.Prelude.{◌≡◌, ◌<◌, ◌≤◌, ◌+◌, ◌*◌, [], ◌∷◌, ◌++◌, All, FitsSigned, IfOk, IsOk, OnOk, codes, length, string_bytes, string_capacity, string_len};
 ghost use Rattle.std.specs.Fmt.{decimal};
 ghost use Rattle.std.specs.Int.{w64};
 ghost use Rattle.std.specs.List.{flat_map};
@@ -10,14 +10,18 @@ ghost use Rattle.txn_programs.specs.Told.{told};
 ghost use Rattle.text_words.specs.Words.{line};
 ghost use Rattle.text_report_printer.specs.ReportText.{variable_line, variable_lines, outcome_text, entry_line, task_line, report_text, CountsTasks};
 ghost use Rattle.text_report_printer.specs.ReportFits.{OutcomeFits, OutcomesFit, ReportFits, ValuesFit};
+ghost use Rattle.text_report_printer.specs.declared.report.TheConstants.{LONGEST};
 
 use crate::line::LineEnd;
-use crate::names::tx_name;
+use crate::names::{tx_name, var_name};
 use std::alloc::{AllocError, Global};
-use txn::{Catalogue, Entry, Memory, Outcome, Report, TaskId, TxId, VarId};
+use txn::{Catalogue, Entry, Fault, Memory, Outcome, Report, TaskId, TxId, VarId};
 
 /// About as many bytes as a line has.
 const LINE: usize = 40;
+
+/// No line is longer: so many bytes of room are enough for each.
+pub const LONGEST: usize = 128;
 
 /// The text of a report of a catalogue, which fits it: the line `base`, a line for each variable
 /// in declared order, the entries, the line `now`, a line for each variable, the parked tasks,
@@ -66,7 +70,10 @@ fn room(report: &Report) -> usize {
 
 /// Puts the line of a word and a number behind the text.
 pub fn put_number(out: &mut String, word: &str, number: u64) -> Result<(), AllocError>
-    ensures { OnOk result (string_bytes out.new ≡ string_bytes out.old ++ line (word.now ∷ decimal number ∷ [])) }
+    ensures text { OnOk result (string_bytes out.new ≡ string_bytes out.old ++ line (word.now ∷ decimal number ∷ [])) }
+    ensures room { string_len out.old + (length word.now + 22) ≤ string_capacity out.old → IsOk result }
+    ensures len { OnOk result (string_len out.new ≤ string_len out.old + (length word.now + 22)) }
+    ensures capacity { string_capacity out.old ≤ string_capacity out.new }
 {
     let mut rest = LineEnd::new();
     rest.byte(b'\n');
@@ -77,22 +84,26 @@ pub fn put_number(out: &mut String, word: &str, number: u64) -> Result<(), Alloc
 }
 
 fn put_variable(out: &mut String, name: &str, variable: &(i64, u64)) -> Result<(), AllocError>
+    requires { length name.now ≤ 32 }
     ensures text { OnOk result (string_bytes out.new ≡ string_bytes out.old ++ variable_line name.now variable.now) }
     ensures fits { FitsSigned w64 variable.now.0 }
+    ensures room { string_len out.old + LONGEST ≤ string_capacity out.old → IsOk result }
+    ensures len { OnOk result (string_len out.new ≤ string_len out.old + LONGEST) }
+    ensures capacity { string_capacity out.old ≤ string_capacity out.new }
 {
     let (value, version) = *variable;
-    let mut end = LineEnd::new();
-    end.byte(b'\n');
-    end.number(version);
-    end.byte(b' ');
-    end.signed(value);
-    end.byte(b' ');
-    out.push_str(name)?;
-    out.push_str(end.text())
+    let mut line = LineEnd::new();
+    line.byte(b'\n');
+    line.number(version);
+    line.byte(b' ');
+    line.signed(value);
+    line.byte(b' ');
+    line.word(name);
+    out.push_str(line.text())
 }
 
 /// Puts a line for each variable behind the text, in declared order: its name, its value and its
-/// version.
+/// version. With room for so many lines it takes no memory.
 pub fn put_variables(
     out: &mut String,
     catalogue: &Catalogue,
@@ -102,9 +113,12 @@ pub fn put_variables(
     requires named { length vars.now ≡ length catalogue.now.names }
     ensures text { OnOk result (string_bytes out.new ≡ string_bytes out.old ++ variable_lines catalogue.now.names vars.now) }
     ensures fits { OnOk result (ValuesFit vars.now) }
+    ensures room { string_len out.old + LONGEST * length vars.now ≤ string_capacity out.old → IsOk result }
+    ensures len { OnOk result (string_len out.new ≤ string_len out.old + LONGEST * length vars.now) }
+    ensures capacity { string_capacity out.old ≤ string_capacity out.new }
 {
     'vars: for (i, variable) in vars.iter().enumerate() {
-        put_variable(out, catalogue.var_name(VarId(i as u32)), variable)?;
+        put_variable(out, var_name(catalogue, VarId(i as u32)), variable)?;
     }
     Ok(())
 }
@@ -128,6 +142,9 @@ fn put_entry(out: &mut String, catalogue: &Catalogue, entry: &Entry) -> Result<(
     requires { entry.now.tx.0 < length catalogue.now.transactions }
     ensures text { OnOk result (string_bytes out.new ≡ string_bytes out.old ++ entry_line catalogue.now entry.now) }
     ensures fits { OnOk result (OutcomeFits entry.now.outcome) }
+    ensures room { string_len out.old + LONGEST ≤ string_capacity out.old → IsOk result }
+    ensures len { OnOk result (string_len out.new ≤ string_len out.old + LONGEST) }
+    ensures capacity { string_capacity out.old ≤ string_capacity out.new }
 {
     let mut line = LineEnd::new();
     line.byte(b'\n');
@@ -142,10 +159,18 @@ fn put_entry(out: &mut String, catalogue: &Catalogue, entry: &Entry) -> Result<(
     out.push_str(line.text())
 }
 
-fn put_entries(out: &mut String, catalogue: &Catalogue, entries: &[Entry]) -> Result<(), AllocError>
+/// Puts a line for each entry behind the text. With room for so many lines it takes no memory.
+pub fn put_entries(
+    out: &mut String,
+    catalogue: &Catalogue,
+    entries: &[Entry],
+) -> Result<(), AllocError>
     requires { All (λ e. e.tx.0 < length catalogue.now.transactions) entries.now }
     ensures text { OnOk result (string_bytes out.new ≡ string_bytes out.old ++ flat_map (entry_line catalogue.now) entries.now) }
     ensures fits { OnOk result (OutcomesFit entries.now) }
+    ensures room { string_len out.old + LONGEST * length entries.now ≤ string_capacity out.old → IsOk result }
+    ensures len { OnOk result (string_len out.new ≤ string_len out.old + LONGEST * length entries.now) }
+    ensures capacity { string_capacity out.old ≤ string_capacity out.new }
 {
     'entries: for entry in entries {
         put_entry(out, catalogue, entry)?;
@@ -160,30 +185,82 @@ fn put_task(
     task: TaskId,
     tx: TxId,
 ) -> Result<(), AllocError>
-    requires { tx.0 < length catalogue.now.transactions }
-    ensures { OnOk result (string_bytes out.new ≡ string_bytes out.old ++ task_line catalogue.now kind.now (task, tx)) }
+    requires known { tx.0 < length catalogue.now.transactions }
+    requires short { length kind.now ≤ 32 }
+    ensures text { OnOk result (string_bytes out.new ≡ string_bytes out.old ++ task_line catalogue.now kind.now (task, tx)) }
+    ensures room { string_len out.old + LONGEST ≤ string_capacity out.old → IsOk result }
+    ensures len { OnOk result (string_len out.new ≤ string_len out.old + LONGEST) }
+    ensures capacity { string_capacity out.old ≤ string_capacity out.new }
 {
-    out.push_str(kind)?;
-    let mut end = LineEnd::new();
-    end.byte(b'\n');
-    end.word(tx_name(catalogue, tx));
-    end.byte(b' ');
-    end.number(u64::from(task.0));
-    end.byte(b' ');
-    out.push_str(end.text())
+    let mut line = LineEnd::new();
+    line.byte(b'\n');
+    line.word(tx_name(catalogue, tx));
+    line.byte(b' ');
+    line.number(u64::from(task.0));
+    line.byte(b' ');
+    line.word(kind);
+    out.push_str(line.text())
 }
 
-fn put_tasks(
+/// Puts a line for each of these tasks behind the text: what they are, a word of at most 32 bytes,
+/// the task and its transaction. With room for so many lines it takes no memory.
+pub fn put_tasks(
     out: &mut String,
     catalogue: &Catalogue,
     kind: &str,
     tasks: &[(TaskId, TxId)],
 ) -> Result<(), AllocError>
-    requires { All (λ p. p.1.0 < length catalogue.now.transactions) tasks.now }
-    ensures { OnOk result (string_bytes out.new ≡ string_bytes out.old ++ flat_map (task_line catalogue.now kind.now) tasks.now) }
+    requires known { All (λ p. p.1.0 < length catalogue.now.transactions) tasks.now }
+    requires short { length kind.now ≤ 32 }
+    ensures text { OnOk result (string_bytes out.new ≡ string_bytes out.old ++ flat_map (task_line catalogue.now kind.now) tasks.now) }
+    ensures room { string_len out.old + LONGEST * length tasks.now ≤ string_capacity out.old → IsOk result }
+    ensures len { OnOk result (string_len out.new ≤ string_len out.old + LONGEST * length tasks.now) }
+    ensures capacity { string_capacity out.old ≤ string_capacity out.new }
 {
     'tasks: for (task, tx) in tasks {
         put_task(out, catalogue, kind, *task, *tx)?;
     }
     Ok(())
+}
+
+fn see_variable(variable: &(i64, u64))
+    ensures { FitsSigned w64 variable.now.0 }
+{
+    let (_value, _version) = *variable;
+}
+
+fn see_variables(vars: &[(i64, u64)])
+    ensures { ValuesFit vars.now }
+{
+    'vars: for variable in vars {
+        see_variable(variable);
+    }
+}
+
+fn see_entry(entry: &Entry)
+    ensures { OutcomeFits entry.now.outcome }
+{
+    match entry.outcome {
+        Outcome::Returned(_value) => {}
+        Outcome::Thrown(Fault::User(_value)) => {}
+        Outcome::Thrown(_) => {}
+        Outcome::Retries => {}
+    }
+}
+
+fn see_entries(entries: &[Entry])
+    ensures { OutcomesFit entries.now }
+{
+    'entries: for entry in entries {
+        see_entry(entry);
+    }
+}
+
+/// Each value that a report tells is one of 64 signed bits. It does nothing: its contract is the law.
+pub fn values_fit(report: &Report)
+    ensures { ReportFits (told report.entry.now) }
+{
+    see_variables(&report.base_vars);
+    see_entries(&report.entries);
+    see_variables(&report.now_vars);
 }

@@ -1,8 +1,5 @@
-use Rattle.std.proofs.Common.{arith}
-use Rattle.std.proofs.lemmas.Grind.{common_steps}
-use Rattle.run_sink.proofs.Putting.{put_step}
+use Rattle.run_sink.proofs.Putting.{beginning_kept}
 use Rattle.run_sink.proofs.sink.put_all.Goals as goal
 
-pub loop-rest-preserved : goal.loop-rest-preserved
-loop-rest-preserved g c =
-    (put_step _ _ _ _ _ _ c.loop-rest.invariant.0 c.in_ok-count.ensures.bytes, grind (arith, common_steps, c.in_ok-count.ensures.failed, c.loop-rest.invariant.1, c.if-count-eq0.false))
+pub returns-in-Err-clause-beginning : goal.returns-in-Err-clause-beginning
+returns-in-Err-clause-beginning g c = beginning_kept _ _ _ c.args.bytes.now c.in_ok-put_bytes.ensures.all c.in-Err.ensures.bytes

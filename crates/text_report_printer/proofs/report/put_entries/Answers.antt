@@ -1,4 +1,4 @@
-use Rattle.std.proofs.Common.{get_or, pos, string_bytes}
+use Rattle.std.proofs.Common.{get_or, pos, string_bytes, arith}
 use Rattle.std.proofs.lemmas.List.Elements.{All-more}
 use Rattle.std.proofs.lemmas.Option.{slice_get-get_or}
 use Rattle.txn_programs.specs.declared.ast.Outcome.TheVariants.{Returned}
@@ -19,4 +19,6 @@ entries-preserved c =
     record {
       text = piece_more (entry_line c.args.catalogue.now) entries i x (string_bytes c.args.out.now) (string_bytes c.entries.out) (string_bytes c.put_entry.new.out) (slice_get-get_or entries i none c.entries-test.true) c.entries.invariant.text c.in_ok-put_entry.ensures.text;
       fits = All-more (λ (e : Entry). OutcomeFits e.outcome) entries i none c.entries-test.true c.entries.invariant.fits c.in_ok-put_entry.ensures.fits;
+      len = omega (arith, c.entries.invariant.len, c.in_ok-put_entry.ensures.len);
+      capacity = omega (arith, c.entries.invariant.capacity, c.put_entry.ensures.capacity);
     }

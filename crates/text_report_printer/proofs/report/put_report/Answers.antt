@@ -38,13 +38,13 @@ returns-clause-text c =
     eight_pieces (line (codes "base" ∷ decimal r.base ∷ [])) (variable_lines l.names r.base_vars.items) (flat_map (entry_line l) r.entries.items) (line (codes "now" ∷ decimal r.now ∷ []))
     (variable_lines l.names r.now_vars.items) (parked r.parked.items) (memory r.memory.items) (line (codes "end" ∷ []))
     (string_bytes c.args.out.now) o1 o2 o3 o4 o5 o6 o7 (string_bytes c.push_str.new.self)
-    c.in_ok-put_number.ensures
+    c.in_ok-put_number.ensures.text
     (c.in_ok-put_variables.ensures.text ∙ ap (λ (vs : List (ℤ × ℕ)). o1 ++ variable_lines l.names vs) c.deref.ensures.value)
     (c.in_ok-put_entries.ensures.text ∙ ap (λ (es : List Entry). o2 ++ flat_map (entry_line l) es) c.deref-2.ensures.value)
-    c.in_ok-put_number-2.ensures
+    c.in_ok-put_number-2.ensures.text
     (c.in_ok-put_variables-2.ensures.text ∙ ap (λ (vs : List (ℤ × ℕ)). o4 ++ variable_lines l.names vs) c.deref-3.ensures.value)
-    (c.in_ok-put_tasks.ensures ∙ ap (λ (ts : List (TaskId × TxId)). o5 ++ parked ts) c.deref-4.ensures.value)
-    (c.in_ok-put_tasks-2.ensures ∙ ap (λ (ts : List (TaskId × TxId)). o6 ++ memory ts) c.deref-5.ensures.value)
+    (c.in_ok-put_tasks.ensures.text ∙ ap (λ (ts : List (TaskId × TxId)). o5 ++ parked ts) c.deref-4.ensures.value)
+    (c.in_ok-put_tasks-2.ensures.text ∙ ap (λ (ts : List (TaskId × TxId)). o6 ++ memory ts) c.deref-5.ensures.value)
     c.in_ok-push_str.ensures.bytes
 
 pub returns-clause-fits : goal.returns-clause-fits

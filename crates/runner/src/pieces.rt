@@ -1,0 +1,210 @@
+//! A report on its way to a sink, a piece at a time.
+//!
+//! Its lines gather in a text whose room is taken before the first byte goes out, and which goes out
+//! whenever less than half of that room is left. So want of memory writes nothing, and a long report
+//! takes no more memory on its way than a short one.
+
+ghost use Rattle.std.specs.Prelude.{◌≡◌, ◌≤◌, ◌<◌, ◌+◌, ◌^◌, [], ◌∷◌, ◌++◌, All, codes, length, string_bytes, string_capacity, string_len, true, IfErr, OnOk, OnErr};
+ghost use Rattle.std.specs.Fmt.{decimal};
+ghost use Rattle.std.specs.Io.KnownBytes.{Appends, Keeps};
+ghost use Rattle.std.specs.List.{flat_map};
+ghost use Rattle.txn_programs.specs.declared.limits.TheConstants.{MAX_VARIABLES};
+ghost use Rattle.txn_programs.specs.LawfulReport.{FitsCatalogue};
+ghost use Rattle.txn_programs.specs.Told.{told};
+ghost use Rattle.text_words.specs.Words.{line};
+ghost use Rattle.text_report_printer.specs.ReportText.{variable_lines, entry_line, task_line, report_text};
+ghost use Rattle.run_faults.specs.Failures.{output_failures};
+ghost use Rattle.runner.specs.Pieces.{Gathers, Breaks};
+ghost use Rattle.runner.specs.Running.{Wrote};
+
+use run_faults::RunFault;
+use run_sink::{Sink, SinkFault, put_all, put_bytes};
+use std::alloc::Global;
+use text_report_printer::{LONGEST, put_entries, put_number, put_tasks, put_variables};
+use txn::{Catalogue, Entry, Report, TaskId, TxId};
+
+/// How many lines are put at once, at most: there are no more variables.
+const AT_ONCE: usize = 256;
+
+/// The room that so many lines want.
+const HALF: usize = AT_ONCE * LONGEST;
+
+/// The room of the text: a line, and twice what is put at once.
+const ROOM: usize = LONGEST + 2 * HALF;
+
+/// Lets the text go out where not half of its room is left.
+fn make_room<S: Sink>(sink: &mut S, text: &mut String) -> Result<(), SinkFault>
+    requires failed { S.failed sink.old < 2 ^ 63 }
+    ensures gathers { OnOk result (Gathers (S.bytes sink.old) (string_bytes text.old) (S.bytes sink.new) (string_bytes text.new) []) }
+    ensures none_failed { OnOk result (S.failed sink.new ≡ S.failed sink.old) }
+    ensures breaks { OnErr result (Breaks (S.bytes sink.old) (string_bytes text.old) (S.bytes sink.new) []) }
+    ensures one_failed { OnErr result (S.failed sink.new ≡ S.failed sink.old + 1) }
+    ensures room { OnOk result (string_len text.new ≤ 32768) }
+    ensures capacity { string_capacity text.old ≤ string_capacity text.new }
+{
+    if text.len() > HALF {
+        put_bytes(sink, text.as_bytes())?;
+        text.clear();
+    }
+    Ok(())
+}
+
+/// Puts the line of a word and a number, and a line for each variable.
+fn put_values<S: Sink>(
+    sink: &mut S,
+    text: &mut String,
+    catalogue: &Catalogue,
+    word: &str,
+    number: u64,
+    vars: &[(i64, u64)],
+) -> Result<(), SinkFault>
+    requires failed { S.failed sink.old < 2 ^ 63 }
+    requires room { 65664 ≤ string_capacity text.old }
+    requires short { length word.now ≤ 32 }
+    requires few { length vars.now ≤ MAX_VARIABLES }
+    requires named { length vars.now ≡ length catalogue.now.names }
+    ensures gathers { OnOk result (Gathers (S.bytes sink.old) (string_bytes text.old) (S.bytes sink.new) (string_bytes text.new) (line (word.now ∷ decimal number ∷ []) ++ variable_lines catalogue.now.names vars.now)) }
+    ensures none_failed { OnOk result (S.failed sink.new ≡ S.failed sink.old) }
+    ensures breaks { OnErr result (Breaks (S.bytes sink.old) (string_bytes text.old) (S.bytes sink.new) (line (word.now ∷ decimal number ∷ []) ++ variable_lines catalogue.now.names vars.now)) }
+    ensures one_failed { OnErr result (S.failed sink.new ≡ S.failed sink.old + 1) }
+    ensures capacity { string_capacity text.old ≤ string_capacity text.new }
+{
+    make_room(sink, text)?;
+    let Ok(()) = put_number(text, word, number) else {
+        unreachable!()
+    };
+    let Ok(()) = put_variables(text, catalogue, vars) else {
+        unreachable!()
+    };
+    Ok(())
+}
+
+/// Puts a line for each entry.
+fn put_journal<S: Sink>(
+    sink: &mut S,
+    text: &mut String,
+    catalogue: &Catalogue,
+    entries: &[Entry],
+) -> Result<(), SinkFault>
+    requires failed { S.failed sink.old < 2 ^ 63 }
+    requires room { 65664 ≤ string_capacity text.old }
+    requires known { All (λ e. e.tx.0 < length catalogue.now.transactions) entries.now }
+    ensures gathers { OnOk result (Gathers (S.bytes sink.old) (string_bytes text.old) (S.bytes sink.new) (string_bytes text.new) (flat_map (entry_line catalogue.now) entries.now)) }
+    ensures none_failed { OnOk result (S.failed sink.new ≡ S.failed sink.old) }
+    ensures breaks { OnErr result (Breaks (S.bytes sink.old) (string_bytes text.old) (S.bytes sink.new) (flat_map (entry_line catalogue.now) entries.now)) }
+    ensures one_failed { OnErr result (S.failed sink.new ≡ S.failed sink.old + 1) }
+    ensures capacity { string_capacity text.old ≤ string_capacity text.new }
+{
+    let mut rest = entries;
+    while !rest.is_empty() {
+        make_room(sink, text)?;
+        let count = rest.len().min(AT_ONCE);
+        let Ok(()) = put_entries(text, catalogue, &rest[..count]) else {
+            unreachable!()
+        };
+        rest = &rest[count..];
+    }
+    Ok(())
+}
+
+/// Puts a line for each of these tasks.
+fn put_all_tasks<S: Sink>(
+    sink: &mut S,
+    text: &mut String,
+    catalogue: &Catalogue,
+    kind: &str,
+    tasks: &[(TaskId, TxId)],
+) -> Result<(), SinkFault>
+    requires failed { S.failed sink.old < 2 ^ 63 }
+    requires room { 65664 ≤ string_capacity text.old }
+    requires short { length kind.now ≤ 32 }
+    requires known { All (λ p. p.1.0 < length catalogue.now.transactions) tasks.now }
+    ensures gathers { OnOk result (Gathers (S.bytes sink.old) (string_bytes text.old) (S.bytes sink.new) (string_bytes text.new) (flat_map (task_line catalogue.now kind.now) tasks.now)) }
+    ensures none_failed { OnOk result (S.failed sink.new ≡ S.failed sink.old) }
+    ensures breaks { OnErr result (Breaks (S.bytes sink.old) (string_bytes text.old) (S.bytes sink.new) (flat_map (task_line catalogue.now kind.now) tasks.now)) }
+    ensures one_failed { OnErr result (S.failed sink.new ≡ S.failed sink.old + 1) }
+    ensures capacity { string_capacity text.old ≤ string_capacity text.new }
+{
+    let mut rest = tasks;
+    while !rest.is_empty() {
+        make_room(sink, text)?;
+        let count = rest.len().min(AT_ONCE);
+        let Ok(()) = put_tasks(text, catalogue, kind, &rest[..count]) else {
+            unreachable!()
+        };
+        rest = &rest[count..];
+    }
+    Ok(())
+}
+
+/// Puts the last line, and sends it all on.
+fn put_end<S: Sink>(sink: &mut S, text: &mut String) -> Result<(), SinkFault>
+    requires failed { S.failed sink.old < 2 ^ 63 }
+    requires room { 65664 ≤ string_capacity text.old }
+    ensures gathers { OnOk result (Gathers (S.bytes sink.old) (string_bytes text.old) (S.bytes sink.new) [] (line (codes "end" ∷ []))) }
+    ensures flushed { OnOk result (S.flushed sink.new ≡ true) }
+    ensures none_failed { OnOk result (S.failed sink.new ≡ S.failed sink.old) }
+    ensures breaks { OnErr result (Breaks (S.bytes sink.old) (string_bytes text.old) (S.bytes sink.new) (line (codes "end" ∷ []))) }
+    ensures one_failed { OnErr result (S.failed sink.new ≡ S.failed sink.old + 1) }
+{
+    make_room(sink, text)?;
+    let Ok(()) = text.push_str("end\n") else {
+        unreachable!()
+    };
+    put_all(sink, text.as_bytes())
+}
+
+/// Puts all lines of a report.
+fn put_report<S: Sink>(
+    sink: &mut S,
+    text: &mut String,
+    catalogue: &Catalogue,
+    report: &Report,
+) -> Result<(), SinkFault>
+    requires failed { S.failed sink.old < 2 ^ 63 }
+    requires room { 65664 ≤ string_capacity text.old }
+    requires fits { FitsCatalogue catalogue.now (told report.now) }
+    ensures gathers { OnOk result (Gathers (S.bytes sink.old) (string_bytes text.old) (S.bytes sink.new) [] (report_text catalogue.now (told report.entry.now))) }
+    ensures flushed { OnOk result (S.flushed sink.new ≡ true) }
+    ensures none_failed { OnOk result (S.failed sink.new ≡ S.failed sink.old) }
+    ensures breaks { OnErr result (Breaks (S.bytes sink.old) (string_bytes text.old) (S.bytes sink.new) (report_text catalogue.now (told report.entry.now))) }
+    ensures one_failed { OnErr result (S.failed sink.new ≡ S.failed sink.old + 1) }
+{
+    catalogue.rules();
+    put_values(
+        sink,
+        text,
+        catalogue,
+        "base",
+        report.base,
+        &report.base_vars,
+    )?;
+    put_journal(sink, text, catalogue, &report.entries)?;
+    put_values(sink, text, catalogue, "now", report.now, &report.now_vars)?;
+    put_all_tasks(sink, text, catalogue, "parked", &report.parked)?;
+    put_all_tasks(sink, text, catalogue, "memory", &report.memory)?;
+    put_end(sink, text)
+}
+
+/// Writes the text of a report, and sends it on. `Memory`: a growth was refused, and nothing was
+/// written. `Output`: a call of the sink failed, the only one, and a beginning was written.
+pub(crate) fn write_report<S: Sink>(
+    alloc: Global,
+    catalogue: &Catalogue,
+    report: &Report,
+    sink: &mut S,
+) -> Result<(), RunFault>
+    requires failed { S.failed sink.old < 2 ^ 63 }
+    requires fits { FitsCatalogue catalogue.now (told report.now) }
+    ensures wrote { Wrote (report_text catalogue.now (told report.entry.now)) (S.bytes sink.old) (S.bytes sink.new) result }
+    ensures flushed { OnOk result (S.flushed sink.new ≡ true) }
+    ensures failures { S.failed sink.new ≡ S.failed sink.old + output_failures result }
+{
+    let Ok(mut text) = String::with_capacity(alloc, ROOM) else {
+        return Err(RunFault::Memory);
+    };
+    match put_report(sink, &mut text, catalogue, report) {
+        Ok(()) => Ok(()),
+        Err(_) => return Err(RunFault::Output),
+    }
+}
