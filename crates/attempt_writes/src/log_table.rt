@@ -1,12 +1,13 @@
 //! What an attempt was told, found in constant time.
 
 ghost use Rattle.std.specs.Prelude.{◌≡◌, ◌<◌, ◌≤◌, ◌++◌, ◌∷◌, [], None, length, slice_get, IsOk, OnOk, OnErr};
+ghost use Rattle.smallvec.specs.SmallVec.{HasRoomFor};
 ghost use Rattle.attempt_writes.specs.Known.{known_at};
 ghost use Rattle.attempt_writes.specs.Places.{value_at};
 
 use crate::layer::Layer;
 use smallvec::SmallVec;
-use std::alloc::Global;
+use std::alloc::{AllocError, Global};
 use std::marker::Model;
 use std::mem;
 use txn_programs::limits::MAX_VARIABLES;
@@ -33,12 +34,41 @@ impl Model for LogTable {
 }
 
 /// The value of the pair at the variable's place, if it is the variable's.
+#[inline(always)]
 fn look(pairs: &[(VarId, i64)], places: &[u8], x: VarId) -> Option<i64>
     ensures { result ≡ value_at (slice_get places.now x.0) pairs.now x }
 {
     let place = *places.get(x.0 as usize)?;
     let (y, v) = *pairs.get(usize::from(place))?;
     if y.0 == x.0 { Some(v) } else { None }
+}
+
+/// Room for one pair more, where there is none.
+#[cold]
+#[inline(never)]
+fn make_room(pairs: &mut Layer) -> Result<(), AllocError>
+    ensures items { pairs.new.items ≡ pairs.old.items }
+    ensures ok { OnOk result (HasRoomFor pairs.new 1) }
+    ensures capacity { pairs.old.capacity ≤ pairs.new.capacity }
+    ensures refused { OnErr result (pairs.new ≡ pairs.old) }
+{
+    pairs.reserve(1)
+}
+
+/// One pair more, at the end. What is done where there is no room is a call of its own, so that this
+/// one is short enough to be inlined where a value is read.
+#[inline(always)]
+fn append(pairs: &mut Layer, x: VarId, v: i64) -> Result<(), AllocError>
+    ensures ok { OnOk result (pairs.new.items ≡ pairs.old.items ++ (x, v) ∷ []) }
+    ensures succeeds { HasRoomFor pairs.old 1 → IsOk result }
+    ensures refused { OnErr result (pairs.new ≡ pairs.old) }
+    ensures capacity { pairs.old.capacity ≤ pairs.new.capacity }
+{
+    if pairs.len() == pairs.capacity() {
+        make_room(pairs)?;
+    }
+    pairs.push_reserved((x, v));
+    Ok(())
 }
 
 impl LogTable {
@@ -91,6 +121,7 @@ impl LogTable {
     }
 
     /// The value of a variable, if it is there.
+    #[inline(always)]
     #[tactic(auto, using(crate::proofs::Placed::known_by_place))]
     pub fn find(&self, x: VarId) -> Option<i64>
         ensures { result ≡ known_at self.now x }
@@ -108,7 +139,7 @@ impl LogTable {
         ensures short { length self.old < 8 → IsOk result }
     {
         let place = self.pairs.len();
-        self.pairs.push((x, v))?;
+        append(&mut self.pairs, x, v)?;
         self.places[x.0 as usize] = place as u8;
         Ok(())
     }

@@ -33,7 +33,7 @@ invariant_of-self-2 c =
     let at : c.len-place.result ≡ 0 + length w = omega (arith, c.len-place.ensures.value) in
     let more = placed_more 0 w places x v c.len-place.result at lt none c.self.invariant.placed in
     record {
-      placed = subst (λ (l : Known). ArePlaced 0 l (slice_set places x.0 c.len-place.result)) (sym c.in_ok-push.ensures.ok) more;
+      placed = subst (λ (l : Known). ArePlaced 0 l (slice_set places x.0 c.len-place.result)) (sym c.in_ok-append.ensures.ok) more;
       wide = length-set places x.0 c.len-place.result ∙ c.self.invariant.wide;
-      room = omega (arith, c.self.invariant.room, c.push.ensures.capacity);
+      room = omega (arith, c.self.invariant.room, c.append.ensures.capacity);
     }
