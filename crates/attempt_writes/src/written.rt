@@ -429,6 +429,7 @@ impl Writes {
 
     /// Writes a variable. It takes memory in a live first branch alone, and none where the branch has
     /// changed that variable already.
+    #[inline(always)]
     pub fn put(&mut self, x: VarId, v: i64) -> Result<(), AllocError>
         requires { x.0 < MAX_VARIABLES }
         ensures value { OnOk result (self.new.writes ≡ write self.old.writes x v) }
