@@ -2,9 +2,9 @@
 use Rattle.std.proofs.Common.{◌≡◌, ◌≢◌, ℕ, zero, suc, ◌+◌, ◌-◌, ◌<◌, ◌≤◌, List, [], ◌∷◌, ◌++◌, length, Option, Some, ℤ, refl, sym, ap, ◌∙◌, subst, arith, drop, take, reverse, slice_get, append_assoc, length-append}
 use Rattle.std.proofs.lemmas.List.{set-set, drop-append-le, drop-set-lt, take-append-le, take_more_set, reverse-append, reverse-reverse}
 use Rattle.std.proofs.lemmas.Option.{slice_get_within}
-use Rattle.std.proofs.Math.ListN.{set}
-use Rattle.std.proofs.Math.Seq.{drop-length, take-length}
-use Rattle.std.specs.List.{refill}
+use Rattle.std.proofs.Math.ListN.{get_or-append, set}
+use Rattle.std.proofs.Math.Seq.{drop-length, get_or-append_seam, take-length}
+use Rattle.std.specs.List.{All, refill}
 use Rattle.txn_programs.specs.declared.ast.VarId.{VarId}
 use Rattle.attempt_writes.specs.declared.written.Note.{Note}
 use Rattle.attempt_writes.specs.declared.written.Branch.{Branch}
@@ -165,6 +165,14 @@ back_step h ns n t le = sym (ap (λ (l : List Note). undone l t) (drop-append-le
 pub noted_inside : (k : ℕ) (w : Known) (ns : List Note) → AllKnown k w → AreNotedListed w ns → AreInside k ns
 noted_inside k w [] a h = tt
 noted_inside k w (n ∷ ns) a h = (known_small k w n.x a h.0, noted_inside k w ns a h.1)
+
+-- what holds of each holds of the last, and of those before it
+pub each_popped : (P : Branch → Type 0) (bs init : List Branch) (b : Branch) → bs ≡ init ++ b ∷ [] → All P bs → P b × All P init
+each_popped P bs init b e h =
+    let all = subst (All P) e h in
+    let long = length-append init (b ∷ []) in
+    let last : length init < length (init ++ b ∷ []) = omega (arith, long) in
+    (subst P (get_or-append_seam init b [] b) (all (length init) b last), λ k d lt. subst P (get_or-append init (b ∷ []) d k lt) (all k d (omega (arith, lt, long))))
 
 -- what a retry leaves
 pub goes_back : (bs init : List Branch) (b : Branch) (ns ms : List Note) (t u : List (Option ℤ)) → bs ≡ init ++ b ∷ [] → AreNested (length ns) (reverse bs) → length ms ≡ b.height

@@ -46,3 +46,7 @@ none_before (p ∷ rest) x b =
 
 pub end_none : (w : Known) (x : VarId) (d : VarId × ℤ) → Ascending w → 0 < length w → (get_or w (length w - 1) d).0.0 < x.0 → known_at w x ≡ None
 end_none w x d a some lt = none_before w x (before_all w x d a some lt)
+
+-- behind all that are there
+pub behind_put : (w : Known) (x : VarId) (v : ℤ) (d : VarId × ℤ) → Ascending w → 0 < length w → (get_or w (length w - 1) d).0.0 < x.0 → w ++ (x, v) ∷ [] ≡ write w x v
+behind_put w x v d a some lt = joined w x v (before_all w x d a some lt)

@@ -6,5 +6,7 @@ use Rattle.attempt_writes.specs.Places.{ArePlaced}
 pub record IsKept (b : Inside) : Type 0 where
   pub placed : ArePlaced 0 b.pairs.items b.places
   pub wide : length b.places ≡ 256
+  pub count : b.count ≡ length b.pairs.items
   -- the first eight pairs have their place
-  pub room : 8 ≤ b.pairs.capacity
+  pub short : 8 ≤ b.room
+  pub room : b.room ≤ b.pairs.capacity

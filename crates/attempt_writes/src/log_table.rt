@@ -1,12 +1,12 @@
 //! What an attempt was told, found in constant time.
 
-ghost use Rattle.std.specs.Prelude.{◌≡◌, ◌<◌, ◌≤◌, ◌++◌, ◌∷◌, [], None, length, slice_get, IsOk, OnOk, OnErr};
+ghost use Rattle.std.specs.Prelude.{◌≡◌, ◌<◌, ◌≤◌, ◌++◌, ◌∷◌, [], None, length, slice_get, IsOk, IfOk, OnOk, OnErr};
 ghost use Rattle.attempt_writes.specs.Known.{known_at};
 ghost use Rattle.attempt_writes.specs.Places.{value_at};
 
 use crate::layer::Layer;
 use smallvec::SmallVec;
-use std::alloc::Global;
+use std::alloc::{AllocError, Global};
 use std::marker::Model;
 use std::mem;
 use txn_programs::limits::MAX_VARIABLES;
@@ -16,6 +16,10 @@ use txn_programs::{Memory, VarId};
 #[derive(Drop)]
 pub struct LogTable {
     pairs: Layer,
+    /// How many pairs there are. Where they lie is not looked at for it, nor for the room.
+    count: usize,
+    /// For how many there is room.
+    room: usize,
     /// At each variable's number the place of its pair, where it has one; else any number.
     places: [u8; MAX_VARIABLES],
 }
@@ -32,13 +36,58 @@ impl Model for LogTable {
     ghost invariant = { IsKept };
 }
 
-/// The value of the pair at the variable's place, if it is the variable's.
-fn look(pairs: &[(VarId, i64)], places: &[u8], x: VarId) -> Option<i64>
-    ensures { result ≡ value_at (slice_get places.now x.0) pairs.now x }
+/// The value of the pair at the variable's place, if it is the variable's. Most often the place is
+/// behind all pairs, and they are not looked at.
+#[inline(always)]
+fn look(pairs: &Layer, count: usize, places: &[u8], x: VarId) -> Option<i64>
+    requires { count ≡ length pairs.now.items }
+    ensures { result ≡ value_at (slice_get places.now x.0) pairs.now.items x }
 {
-    let place = *places.get(x.0 as usize)?;
-    let (y, v) = *pairs.get(usize::from(place))?;
+    let place = usize::from(*places.get(x.0 as usize)?);
+    if place >= count {
+        return None;
+    }
+    let (y, v) = *pairs.as_slice().get(place)?;
     if y.0 == x.0 { Some(v) } else { None }
+}
+
+/// Room for one pair more, where there is none: for how many there is room then.
+#[cold]
+#[inline(never)]
+fn make_room(pairs: &mut Layer) -> Result<usize, AllocError>
+    ensures items { pairs.new.items ≡ pairs.old.items }
+    ensures more { IfOk result (λ room. length pairs.new.items < room) }
+    ensures room { IfOk result (λ room. room ≤ pairs.new.capacity) }
+    ensures capacity { IfOk result (λ room. pairs.old.capacity ≤ room) }
+    ensures refused { OnErr result (pairs.new ≡ pairs.old) }
+{
+    pairs.reserve(1)?;
+    Ok(pairs.capacity())
+}
+
+/// One pair more, at the end. What is done where there is no room is a call of its own, so that this
+/// one is short enough to be inlined where a value is read.
+#[inline(always)]
+fn append(
+    pairs: &mut Layer,
+    count: usize,
+    room: &mut usize,
+    x: VarId,
+    v: i64,
+) -> Result<(), AllocError>
+    requires count { count ≡ length pairs.old.items }
+    requires room { room.old ≤ pairs.old.capacity }
+    ensures ok { OnOk result (pairs.new.items ≡ pairs.old.items ++ (x, v) ∷ []) }
+    ensures succeeds { count < room.old → IsOk result }
+    ensures refused { OnErr result (pairs.new ≡ pairs.old) }
+    ensures room { room.new ≤ pairs.new.capacity }
+    ensures more { room.old ≤ room.new }
+{
+    if count >= *room {
+        *room = make_room(pairs)?;
+    }
+    pairs.push_reserved((x, v));
+    Ok(())
 }
 
 impl LogTable {
@@ -48,6 +97,8 @@ impl LogTable {
     {
         LogTable {
             pairs: SmallVec::new(alloc),
+            count: 0,
+            room: 8,
             places: [0; MAX_VARIABLES],
         }
     }
@@ -64,7 +115,7 @@ impl LogTable {
         ensures value { result ≡ length self.now }
         ensures few { result ≤ MAX_VARIABLES }
     {
-        self.pairs.len()
+        self.count
     }
 
     /// The pairs alone.
@@ -80,6 +131,8 @@ impl LogTable {
         ensures emptied { self.new ≡ [] }
     {
         let alloc = *self.pairs.allocator();
+        self.count = 0;
+        self.room = 8;
         mem::replace(&mut self.pairs, SmallVec::new(alloc))
     }
 
@@ -88,14 +141,16 @@ impl LogTable {
         ensures { self.new ≡ [] }
     {
         self.pairs.clear();
+        self.count = 0;
     }
 
     /// The value of a variable, if it is there.
+    #[inline(always)]
     #[tactic(auto, using(crate::proofs::Placed::known_by_place))]
     pub fn find(&self, x: VarId) -> Option<i64>
         ensures { result ≡ known_at self.now x }
     {
-        look(self.pairs.as_slice(), &self.places, x)
+        look(&self.pairs, self.count, &self.places, x)
     }
 
     /// One pair more, of a variable that is not there.
@@ -107,8 +162,9 @@ impl LogTable {
         ensures refused { OnErr result (self.new ≡ self.old) }
         ensures short { length self.old < 8 → IsOk result }
     {
-        let place = self.pairs.len();
-        self.pairs.push((x, v))?;
+        let place = self.count;
+        append(&mut self.pairs, place, &mut self.room, x, v)?;
+        self.count = place + 1;
         self.places[x.0 as usize] = place as u8;
         Ok(())
     }

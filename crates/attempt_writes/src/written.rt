@@ -3,12 +3,13 @@
 //! A table has at each variable's number the value of its own write. In a live first branch each
 //! variable is noted at its first write, with what it was before; a retry goes back by the notes.
 
-ghost use Rattle.std.specs.Prelude.{◌≡◌, ◌<◌, ◌≤◌, ◌+◌, ◌∷◌, [], None, true, false, ℕ, ℤ, List, Option, drop, length, reverse, Some, take, insert, slice_get, slice_set, IsOk, IfOk, IfErr, IfSome, OnOk, OnErr};
+ghost use Rattle.std.specs.Prelude.{◌≡◌, ◌<◌, ◌≤◌, ◌+◌, ◌++◌, ◌∷◌, [], None, true, false, ℕ, ℤ, List, Option, drop, length, reverse, Some, take, insert, slice_get, slice_set, IsOk, IfOk, IfErr, IfSome, OnOk, OnErr};
 ghost use Rattle.attempt_writes.specs.Known.{Known, known_at, write};
 ghost use Rattle.attempt_writes.specs.Own.{Marked, marks_of, value_in, valued, undone, AreApart, AreHinted, AreInside, AreListed, AreNested, AreNotedListed, AreOnce, GoesBack, HasNote, IsChangedInner, IsListed, IsNoted, IsNotedInner, IsOther, LeavesInner};
 ghost use Rattle.attempt_writes.specs.Order.{AllBefore, AllKnown, Ascending};
 
 use arrayvec::ArrayVec;
+use smallvec::SmallVec;
 use std::alloc::{AllocError, Global};
 use std::marker::Model;
 use txn_programs::VarId;
@@ -69,13 +70,44 @@ fn place(pairs: &[(VarId, i64)], x: VarId) -> Result<usize, usize>
 type Pairs = ArrayVec<(VarId, i64), MAX_VARIABLES>;
 
 /// What a table has at a variable's number.
+#[inline(always)]
 fn look(table: &[Option<i64>], x: VarId) -> Option<i64>
     ensures { result ≡ value_in table.now x }
 {
     *table.get(x.0 as usize)?
 }
 
+/// Whether a variable comes behind all that are there, as it does most often.
+fn is_behind(pairs: &[(VarId, i64)], x: VarId) -> bool
+    requires { Ascending pairs.now }
+    ensures { result ≡ true → (v : ℤ) → pairs.now ++ (x, v) ∷ [] ≡ write pairs.now x v }
+{
+    let len = pairs.len();
+    if len == 0 {
+        return true;
+    }
+    pairs[len - 1].0.0 < x.0
+}
+
+/// Lists a variable at its place, unless it is listed.
+#[inline(never)]
+fn list_at_place(pairs: &mut Pairs, x: VarId, v: i64)
+    requires ascending { Ascending pairs.old.items }
+    requires known { AllKnown MAX_VARIABLES pairs.old.items }
+    requires small { x.0 < MAX_VARIABLES }
+    ensures ascending { Ascending pairs.new.items }
+    ensures known { AllKnown MAX_VARIABLES pairs.new.items }
+    ensures here { IsListed pairs.new.items x }
+    ensures still { (y : VarId) → IsListed pairs.old.items y → IsListed pairs.new.items y }
+{
+    match place(pairs.as_slice(), x) {
+        Ok(_) => {}
+        Err(i) => pairs.insert(i, (x, v)),
+    }
+}
+
 /// Lists a variable, unless it is listed: it is where it had a value before.
+#[inline(always)]
 fn list(pairs: &mut Pairs, old: Option<i64>, x: VarId, v: i64)
     requires ascending { Ascending pairs.old.items }
     requires known { AllKnown MAX_VARIABLES pairs.old.items }
@@ -89,9 +121,10 @@ fn list(pairs: &mut Pairs, old: Option<i64>, x: VarId, v: i64)
     if old.is_some() {
         return;
     }
-    match place(pairs.as_slice(), x) {
-        Ok(_) => {}
-        Err(i) => pairs.insert(i, (x, v)),
+    if is_behind(pairs.as_slice(), x) {
+        pairs.push((x, v));
+    } else {
+        list_at_place(pairs, x, v);
     }
 }
 
@@ -132,6 +165,9 @@ pub const ROOM: usize = 32;
 /// The turns that are left of each loop.
 pub type Loops = ArrayVec<u32, ROOM>;
 
+/// The loops to go back to: seldom any. Up to four lie in the value itself.
+pub type Kept = SmallVec<u32, 4>;
+
 /// A variable that a live first branch wrote, its own write before, and the hint before.
 #[derive(Clone, Copy)]
 pub struct Note {
@@ -146,7 +182,7 @@ pub struct Note {
 pub struct Branch {
     pub begin: usize,
     pub passed: usize,
-    pub loops: Loops,
+    pub loops: Kept,
     pub height: usize,
 }
 
@@ -155,7 +191,7 @@ pub struct Branch {
 pub struct Second {
     pub begin: usize,
     pub passed: usize,
-    pub loops: Loops,
+    pub loops: Kept,
 }
 
 /// Whether the note at a place is the variable's, and the place from `low` on and below `high`.
@@ -175,7 +211,8 @@ fn has_note(notes: &[Note], low: usize, high: usize, place: u16, x: VarId) -> bo
 const MAX_NOTES: usize = 65_536;
 
 /// Notes what a variable was, unless no branch is live or it is noted in the innermost.
-fn take_note(
+#[inline(never)]
+fn note_in_branch(
     branches: &[Branch],
     notes: &mut Vec<Note>,
     noted: &mut [u16],
@@ -211,6 +248,35 @@ fn take_note(
     notes.push(Note { x, earlier, old })?;
     noted[x.0 as usize] = place as u16;
     Ok(())
+}
+
+/// Notes what a variable was as `note_in_branch` does. Most often no branch is live, and then it is no call.
+#[inline(always)]
+fn take_note(
+    branches: &[Branch],
+    notes: &mut Vec<Note>,
+    noted: &mut [u16],
+    x: VarId,
+    old: Option<i64>,
+) -> Result<(), AllocError>
+    requires small { x.0 < length noted.old }
+    requires nested { AreNested (length notes.old.items) (reverse branches.now) }
+    requires few { length notes.old.items ≤ MAX_NOTES }
+    requires hinted { AreHinted 0 notes.old.items noted.old }
+    requires once { AreOnce notes.old.items (reverse branches.now) }
+    ensures hints { length noted.new ≡ length noted.old }
+    ensures ok { OnOk result (IsNoted branches.now x old notes.old.items notes.new.items) }
+    ensures err { OnErr result (notes.new.items ≡ notes.old.items) }
+    ensures few { length notes.new.items ≤ MAX_NOTES }
+    ensures hinted { AreHinted 0 notes.new.items noted.new }
+    ensures once { AreOnce notes.new.items (reverse branches.now) }
+    ensures short { branches.now ≡ [] → IsOk result }
+    ensures again { IsNotedInner (reverse branches.now) notes.old.items x → IsOk result × (notes.new.items ≡ notes.old.items) }
+{
+    if branches.is_empty() {
+        return Ok(());
+    }
+    note_in_branch(branches, notes, noted, x, old)
 }
 
 /// Goes back in a table by the notes from `height` on, the last first, and drops them.
@@ -313,6 +379,7 @@ pub struct Writes {
     pairs: Pairs,
     notes: Vec<Note>,
     branches: Vec<Branch>,
+    alloc: Global,
 }
 
 impl Model for Writes {
@@ -338,6 +405,7 @@ impl Writes {
             pairs: ArrayVec::new(),
             notes: Vec::new(alloc),
             branches: Vec::new(alloc),
+            alloc,
         }
     }
 
@@ -349,6 +417,7 @@ impl Writes {
     }
 
     /// The value of a variable's own write, if there is one.
+    #[inline(always)]
     pub fn find(&self, x: VarId) -> Option<i64>
         ensures { result ≡ known_at self.now.writes x }
     {
@@ -360,6 +429,7 @@ impl Writes {
 
     /// Writes a variable. It takes memory in a live first branch alone, and none where the branch has
     /// changed that variable already.
+    #[inline(always)]
     pub fn put(&mut self, x: VarId, v: i64) -> Result<(), AllocError>
         requires { x.0 < MAX_VARIABLES }
         ensures value { OnOk result (self.new.writes ≡ write self.old.writes x v) }
@@ -380,12 +450,13 @@ impl Writes {
         Ok(())
     }
 
-    /// A first branch begins.
-    pub fn enter(&mut self, begin: usize, passed: usize, loops: Loops) -> Result<(), AllocError>
-        ensures marks { OnOk result (self.new.marks ≡ Marked (begin + passed) (reverse loops.items) self.old.writes ∷ self.old.marks) }
+    /// A first branch begins: these are the loops to go back to.
+    pub fn enter(&mut self, begin: usize, passed: usize, loops: &Loops) -> Result<(), AllocError>
+        ensures marks { OnOk result (self.new.marks ≡ Marked (begin + passed) (reverse loops.now.items) self.old.writes ∷ self.old.marks) }
         ensures writes { OnOk result (self.new.writes ≡ self.old.writes) }
     {
         let height = self.notes.len();
+        let loops = SmallVec::from_slice(self.alloc, loops.as_slice())?;
         self.branches.push(Branch {
             begin,
             passed,
@@ -396,8 +467,9 @@ impl Writes {
     }
 
     /// The innermost first branch is done: its loops to go on with. None where no branch is live.
-    pub fn keep(&mut self) -> Option<Loops>
+    pub fn keep(&mut self) -> Option<Kept>
         ensures some { IfSome result (λ loops. LeavesInner self.old.marks (reverse loops.items) self.new.marks) }
+        ensures few { IfSome result (λ loops. length loops.items ≤ ROOM) }
         ensures none { result ≡ None → self.old.marks ≡ [] }
         ensures writes { self.new.writes ≡ self.old.writes }
     {
@@ -414,6 +486,7 @@ impl Writes {
     /// The innermost first branch retried: all that it wrote is as it was before. None where no branch is live.
     pub fn back(&mut self) -> Option<Second>
         ensures some { IfSome result (λ s. GoesBack self.old.marks (s.begin + s.passed) (reverse s.loops.items) self.new.writes self.new.marks) }
+        ensures few { IfSome result (λ s. length s.loops.items ≤ ROOM) }
         ensures none { result ≡ None → (self.old.marks ≡ []) × (self.new ≡ self.old) }
     {
         let branch = self.branches.pop()?;

@@ -37,6 +37,7 @@ invariant_of-self-2 c =
       few = c.take_note.ensures.few;
       hinted = c.take_note.ensures.hinted;
       once = subst (λ (bs : List Branch). AreOnce c.take_note.new.notes.items (reverse bs)) c.as_slice.ensures.value c.take_note.ensures.once;
+      short = k.short;
     }
 
 pub returns-clause-value : goal.returns-clause-value

@@ -5,7 +5,7 @@ use Rattle.attempt_writes.specs.declared.written.Note.{Note}
 use Rattle.attempt_writes.specs.Own.{AreHinted, AreOnce, HasNote, IsNoted, IsOther}
 use Rattle.attempt_writes.proofs.OwnHints.{get_known, hinted_push, inner_others, once_push, others_above}
 use Rattle.attempt_writes.proofs.OwnNotes.{inner_nested, noted_keeps, noted_fresh}
-use Rattle.attempt_writes.proofs.written.take_note.Goals as goal
+use Rattle.attempt_writes.proofs.written.note_in_branch.Goals as goal
 
 -- what the call said of the slice and its length holds of the notes
 other_there : (low len e : ℕ) (ns l : List Note) (x : VarId) → len ≡ length ns → l ≡ ns → IsOther low len l e x → IsOther low (length ns) ns e x
