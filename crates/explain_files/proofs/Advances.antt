@@ -1,24 +1,20 @@
 -- What is read from any token on is what is wanted there.
-use Rattle.std.proofs.Common.{◌≡◌, ℕ, zero, suc, ◌-◌, Bool, true, false, cond, List, [], ◌∷◌, Option, Some, None, Result, Ok, Err, refl, sym, ap, ◌∙◌}
+use Rattle.std.proofs.Common.{◌≡◌, ℕ, zero, suc, Bool, true, false, cond, List, [], ◌∷◌, Some, None, Result, Ok, Err, refl, ap, ◌∙◌}
 use Rattle.std.specs.Prelude.{ℤ, pos}
 use Rattle.std.specs.Ordering.{int_eq}
 use Rattle.text_words.specs.Tokens.{Lexeme, Opens, Closes}
 use Rattle.text_words.specs.Tokens as token
 use Rattle.text_words.specs.Answers.{◌>>=◌}
-use Rattle.text_words.specs.TokenReading.{Read, close_at, name_at, int_at, is_open, open_at, word_at, all_of}
+use Rattle.text_words.specs.TokenReading.{Read, close_at, name_at, int_at, is_open, open_at, word_at}
 use Rattle.text_words.specs.declared.fault.ReadFault.{ReadFault}
 use Rattle.text_words.specs.declared.fault.ReadFault.TheVariants.{Shape}
-use Rattle.text_words.proofs.Many.{all-more}
-use Rattle.text_grammar.specs.Tree.{Seq}
-use Rattle.text_grammar.specs.Reading.{operator_of, test_of, keyword_of, expr_at, cond_at, stmt_at, row, seq_with}
+use Rattle.text_grammar.specs.Reading.{operator_of, test_of, keyword_of, expr_at, cond_at, stmt_at, seq_with}
 use Rattle.text_grammar.specs.declared.file.FileForm.{FileForm}
 use Rattle.text_grammar.specs.declared.file.FileForm.TheVariants.{Two}
-use Rattle.text_grammar.proofs.Stmts.{stmt_shortens}
 use Rattle.explain_files.specs.declared.wanted.Wanted.{Wanted}
 use Rattle.explain_files.specs.declared.wanted.Wanted.TheVariants as want
-use Rattle.explain_files.specs.Forms.{Wants, deeper, kind_of, behind_open, behind_close, behind_word, behind_int, behind}
-use Rattle.explain_files.specs.Wanting.{Left, left_of, kept, none_left, ◌▷◌, from_part, read_test, read_keyword, read_number, read_one, read_all, onto}
-use Rattle.explain_files.proofs.Chains.{deeper_suc}
+use Rattle.explain_files.specs.Forms.{kind_of, behind_open, behind_close, behind_word, behind_int, behind}
+use Rattle.explain_files.specs.Wanting.{Left, left_of, ◌▷◌, read_test, read_keyword, read_number, read_all}
 use Rattle.explain_files.proofs.Forms.{after, deep, operator_reads, test_reads, keyword_reads, parts_go_on, parts_end}
 use Rattle.explain_files.proofs.Declared.{part_refuses, word_reads, foreign_closes, foreign_name, foreign_int, foreign_other, foreign_inside_open, foreign_inside_close, foreign_inside_int, foreign_inside_other}
 

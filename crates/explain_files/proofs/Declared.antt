@@ -1,5 +1,5 @@
 -- What is read of declarations is what is wanted there.
-use Rattle.std.proofs.Common.{◌≡◌, ℕ, Bool, true, false, cond, List, [], ◌∷◌, Option, Some, None, Result, Ok, Err, refl, sym, ap, subst, ◌∙◌, ◌⊎◌, inl, inr}
+use Rattle.std.proofs.Common.{◌≡◌, ℕ, Bool, true, false, cond, List, ◌∷◌, Option, Some, None, Result, Ok, Err, refl, ap, ◌∙◌, ◌⊎◌, inl, inr}
 use Rattle.std.specs.Prelude.{ℤ, pos, codes}
 use Rattle.std.specs.Ordering.{int_eq}
 use Rattle.std.specs.Str.{bytes_eq}
@@ -12,7 +12,7 @@ use Rattle.text_words.specs.declared.fault.ReadFault.{ReadFault}
 use Rattle.text_words.specs.declared.fault.ReadFault.TheVariants.{Shape}
 use Rattle.text_words.proofs.Steps.{form_again}
 use Rattle.text_words.proofs.Many.{all-stop, all-more}
-use Rattle.text_grammar.specs.Reading.{expr_at, cond_at, stmt_at, pair_at, always_at, conditions_at, tx_at, end_at, form_numbered, announced_at, heading_at}
+use Rattle.text_grammar.specs.Reading.{expr_at, cond_at, stmt_at, pair_at, always_at, tx_at, end_at, form_numbered, announced_at, heading_at}
 use Rattle.text_grammar.specs.declared.file.FileForm.{FileForm}
 use Rattle.text_grammar.specs.declared.file.FileForm.TheVariants.{One, Two}
 use Rattle.text_grammar.proofs.Files.{pair_shortens, always_shortens, tx_shortens}
@@ -23,7 +23,7 @@ use Rattle.explain_files.specs.declared.wanted.Section.TheVariants as section
 use Rattle.explain_files.specs.declared.wanted.Wanted.{Wanted}
 use Rattle.explain_files.specs.declared.wanted.Wanted.TheVariants as want
 use Rattle.explain_files.specs.Forms.{kind_of, part_behind, within, behind_part, behind_kind}
-use Rattle.explain_files.specs.Wanting.{Left, Whole, left_of, kept, none_left, ◌▷◌, from_runs, from_txs, from_conditions, behind_variables, from_variables, from_start, from_part, read_number, read_all, onto}
+use Rattle.explain_files.specs.Wanting.{Left, left_of, kept, none_left, ◌▷◌, from_runs, from_txs, from_conditions, behind_variables, from_variables, from_start, from_part, read_number, read_all, onto}
 use Rattle.explain_files.proofs.Chains.{left_to, close_to, first_to, then_then, then_to}
 use Rattle.explain_files.proofs.Forms.{after}
 

@@ -1,16 +1,15 @@
 -- Files that are read to the end, and how what is wanted can be ended.
-use Rattle.std.proofs.Common.{◌≡◌, ℕ, zero, suc, ◌≤◌, true, false, cond, List, [], ◌∷◌, ◌++◌, Option, Some, None, Result, Ok, Err, refl, sym, ap, subst, ◌∙◌, append_assoc, arith}
-use Rattle.std.specs.Prelude.{ℤ, pos, codes}
+use Rattle.std.proofs.Common.{◌≡◌, ℕ, suc, List, [], ◌∷◌, ◌++◌, Option, Some, None, Result, Ok, Err, refl, sym, ap, ◌∙◌, arith}
+use Rattle.std.specs.Prelude.{pos, codes}
 use Rattle.text_words.specs.Tokens.{Lexeme, Opens, Closes}
 use Rattle.text_words.specs.Tokens as token
 use Rattle.text_words.specs.Answers.{◌>>=◌}
-use Rattle.text_words.specs.TokenReading.{Read, close_at, name_at, int_at, is_open, open_at, word_at, form_at, begins, all_of}
+use Rattle.text_words.specs.TokenReading.{close_at, name_at, int_at, is_open, open_at, word_at, form_at, begins, all_of}
 use Rattle.text_words.specs.declared.fault.ReadFault.{ReadFault}
-use Rattle.text_words.proofs.Steps.{bind_ok}
 use Rattle.text_words.proofs.Many.{all-stop}
 use Rattle.text_grammar.specs.Tree.{File, Pair, Always, Declaration}
 use Rattle.text_grammar.specs.Tree as tree
-use Rattle.text_grammar.specs.Reading.{binary_with, expr_at, cond_at, stmt_at, pair_at, always_at, conditions_at, tx_at, end_at, form_numbered, heading_at, file_of}
+use Rattle.text_grammar.specs.Reading.{binary_with, expr_at, cond_at, stmt_at, pair_at, always_at, conditions_at, tx_at, end_at, heading_at, file_of}
 use Rattle.text_grammar.specs.declared.words.Operator.TheVariants as operator
 use Rattle.text_grammar.specs.declared.words.Comparison.TheVariants as comparison
 use Rattle.text_grammar.specs.declared.file.FileForm.{FileForm}
@@ -26,9 +25,9 @@ use Rattle.explain_files.specs.declared.wanted.Wanted.{Wanted}
 use Rattle.explain_files.specs.declared.wanted.Wanted.TheVariants as want
 use Rattle.explain_files.specs.Forms.{part_behind}
 use Rattle.explain_files.specs.Walking.{IsFileOf}
-use Rattle.explain_files.specs.Wanting.{Left, Whole, left_of, kept, none_left, ◌▷◌, from_runs, from_txs, from_conditions, behind_variables, from_variables, from_start, from_part, read_test, read_keyword, read_number, read_one, read_all}
+use Rattle.explain_files.specs.Wanting.{Left, Whole, left_of, kept, none_left, ◌▷◌, from_runs, from_txs, from_conditions, behind_variables, from_variables, from_start, from_part, read_test, read_keyword, read_number, read_one}
 use Rattle.explain_files.proofs.Forms.{parts_end}
-use Rattle.explain_files.proofs.Declared.{at, found, kind_found}
+use Rattle.explain_files.proofs.Declared.{found, kind_found}
 
 -- ---- a file is read to the end exactly where the tokens are those of one
 

@@ -1,30 +1,25 @@
 -- What is read behind a token is what is wanted there.
-use Rattle.std.proofs.Common.{◌≡◌, ℕ, zero, suc, ◌-◌, Bool, true, false, cond, List, [], ◌∷◌, Option, Some, None, Result, Ok, Err, refl, sym, ap, ◌∙◌}
-use Rattle.std.specs.Prelude.{ℤ, pos}
-use Rattle.std.specs.Ordering.{int_eq}
+use Rattle.std.proofs.Common.{◌≡◌, ℕ, zero, suc, ◌-◌, true, false, List, [], ◌∷◌, Some, None, Result, Ok, Err, refl, sym, ap, ◌∙◌}
 use Rattle.std.specs.Result.{result_ok}
 use Rattle.text_words.specs.Tokens.{Lexeme, Opens, Closes}
 use Rattle.text_words.specs.Tokens as token
 use Rattle.text_words.specs.Answers.{◌>>=◌}
-use Rattle.text_words.specs.TokenReading.{Read, close_at, name_at, int_at, is_open, open_at, word_at, with_first, all_of}
+use Rattle.text_words.specs.TokenReading.{Read, close_at, name_at, int_at, is_open, with_first, all_of}
 use Rattle.text_words.specs.declared.fault.ReadFault.{ReadFault}
-use Rattle.text_words.specs.declared.fault.ReadFault.TheVariants.{Shape}
 use Rattle.text_words.proofs.Many.{all-stop, all-more}
 use Rattle.text_grammar.specs.Tree.{Stmt, Seq}
-use Rattle.text_grammar.specs.Reading.{operator_of, test_of, keyword_of, expr_at, cond_at, stmt_at, row, set_with, seq_with, if_with, repeat_with, orelse_with, throw_with, form_numbered}
+use Rattle.text_grammar.specs.Reading.{operator_of, test_of, keyword_of, expr_at, cond_at, stmt_at, row, set_with, seq_with, if_with, repeat_with, orelse_with, throw_with}
 use Rattle.text_grammar.specs.declared.words.Operator.{Operator}
 use Rattle.text_grammar.specs.declared.words.Test.{Test}
 use Rattle.text_grammar.specs.declared.words.Test.TheVariants as test
 use Rattle.text_grammar.specs.declared.words.Keyword.{Keyword}
 use Rattle.text_grammar.specs.declared.words.Keyword.TheVariants as keyword
-use Rattle.text_grammar.specs.declared.file.FileForm.TheVariants.{Two}
 use Rattle.text_grammar.proofs.Stmts.{stmt_shortens, seq_ends}
-use Rattle.explain_files.specs.declared.wanted.NameUse.TheVariants as name
 use Rattle.explain_files.specs.declared.wanted.NumberUse.TheVariants as number
 use Rattle.explain_files.specs.declared.wanted.Wanted.{Wanted}
 use Rattle.explain_files.specs.declared.wanted.Wanted.TheVariants as want
 use Rattle.explain_files.specs.Forms.{Wants, deeper, behind_operator, behind_test, behind_keyword}
-use Rattle.explain_files.specs.Wanting.{Left, left_of, kept, ◌▷◌, read_test, read_keyword, read_one, read_all, onto}
+use Rattle.explain_files.specs.Wanting.{Left, left_of, kept, ◌▷◌, read_test, read_keyword, read_all, onto}
 use Rattle.explain_files.proofs.Chains.{left_to, close_to, none_to, deeper_suc}
 
 -- what is read, where this is wanted now on top of what was wanted before

@@ -8,3 +8,11 @@ pub mod Endings
 pub mod Stacks
 pub mod Walked
 pub mod Known
+pub mod Keys
+pub mod Judged
+pub mod Counted
+pub mod Costly
+pub mod Passed
+pub mod Named
+pub mod Fitting
+pub mod Placing

@@ -1,12 +1,8 @@
 -- What is wanted on a stack: it can always be ended, and declarations stand at the bottom alone.
-use Rattle.std.proofs.Common.{◌≡◌, ℕ, zero, suc, ◌-◌, Bool, true, false, cond, eqb, List, [], ◌∷◌, ◌++◌, Option, Some, None, refl, sym, ap, subst, ◌∙◌, append_assoc, ◌⊎◌, inl, inr}
-use Rattle.std.specs.Prelude.{ℤ, pos}
-use Rattle.std.proofs.lemmas.List.{append-nil}
+use Rattle.std.proofs.Common.{◌≡◌, ℕ, ◌-◌, Bool, true, false, cond, eqb, List, [], ◌∷◌, ◌++◌, Option, Some, None, refl, sym, ap, subst, ◌∙◌}
+use Rattle.std.specs.Prelude.{ℤ}
 use Rattle.text_words.specs.Tokens.{Lexeme, Opens, Closes}
 use Rattle.text_words.specs.Tokens as token
-use Rattle.text_words.specs.TokenReading.{close_at, name_at, int_at}
-use Rattle.text_grammar.specs.Tree as tree
-use Rattle.text_grammar.specs.Reading.{operator_of, test_of, keyword_of}
 use Rattle.text_grammar.specs.declared.words.Operator.{Operator}
 use Rattle.text_grammar.specs.declared.words.Test.{Test}
 use Rattle.text_grammar.specs.declared.words.Test.TheVariants as test
@@ -17,7 +13,7 @@ use Rattle.explain_files.specs.declared.wanted.Kind.TheVariants as kind
 use Rattle.explain_files.specs.declared.wanted.Section.{Section}
 use Rattle.explain_files.specs.declared.wanted.Wanted.{Wanted}
 use Rattle.explain_files.specs.declared.wanted.Wanted.TheVariants as want
-use Rattle.explain_files.specs.Forms.{Wants, deeper, within, behind_operator, behind_test, behind_keyword, behind_kind, behind_part, part_behind, kind_of, behind_open, behind_close, behind_word, behind_int, is_two, behind}
+use Rattle.explain_files.specs.Forms.{Wants, deeper, behind_operator, behind_test, behind_keyword, behind_kind, behind_part, part_behind, kind_of, behind_open, behind_close, behind_word, behind_int, is_two, behind}
 use Rattle.explain_files.specs.Wanting.{Left, ◌▷◌, none_left, from_part, read_one, read_all, onto}
 use Rattle.explain_files.proofs.Endings.{finish, part_end, word_ends, number_ends, simple_ends, expr_ends, operator_ends, cond_ends, test_ends, stmt_ends, keyword_ends, parts_ends}
 

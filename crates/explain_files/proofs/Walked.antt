@@ -1,5 +1,5 @@
 -- A walk token by token: what is wanted on its stack is what a file that begins so goes on with.
-use Rattle.std.proofs.Common.{◌≡◌, ℕ, suc, ◌<◌, Bool, true, false, List, [], ◌∷◌, ◌++◌, length, drop, Option, Some, None, refl, sym, ap, subst, ◌∙◌, append_assoc, arith}
+use Rattle.std.proofs.Common.{◌≡◌, ℕ, ◌<◌, Bool, true, false, List, [], ◌∷◌, ◌++◌, length, drop, Some, None, refl, sym, ap, subst, ◌∙◌, append_assoc, arith}
 use Rattle.std.proofs.lemmas.List.{append-nil}
 use Rattle.text_words.specs.Tokens.{Lexeme, tokens}
 use Rattle.text_words.specs.declared.fault.ReadFault.TheVariants.{Shape}
@@ -8,7 +8,7 @@ use Rattle.explain_files.specs.declared.wanted.Section.TheVariants as section
 use Rattle.explain_files.specs.declared.wanted.Wanted.{Wanted}
 use Rattle.explain_files.specs.declared.wanted.Wanted.TheVariants as want
 use Rattle.explain_files.specs.Forms.{Wants, Puts, behind}
-use Rattle.explain_files.specs.Wanting.{Left, none_left, ◌▷◌, from_start, read_all, onto}
+use Rattle.explain_files.specs.Wanting.{Left, none_left, from_start, read_all, onto}
 use Rattle.explain_files.specs.Walking.{IsFileOf, IsTokenPlace, IsStop, NoneGoesOn, Moved, Moves, StepMoves}
 use Rattle.explain_files.proofs.Forms.{after}
 use Rattle.explain_files.proofs.Advances.{token_reads}

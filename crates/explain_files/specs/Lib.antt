@@ -3,4 +3,10 @@ pub mod Tokens
 pub mod Forms
 pub mod Wanting
 pub mod Walking
+pub mod Roles
+pub mod Judging
+pub mod Declaring
+pub mod Limiting
+pub mod Counting
+pub mod Declarations
 pub mod Explaining

@@ -1,7 +1,7 @@
 -- Places in a text, as lines and columns.
-use Rattle.std.specs.Prelude.{◌≡◌, ◌<◌, ℕ, ◌+◌, ◌==◌, true, false, List, length, take, slice_index, reverse, count_by}
-use Rattle.std.specs.List.{prefix_len, list_all}
-use Rattle.text_words.specs.Bytes.{is_allowed, is_in_line}
+use Rattle.std.specs.Prelude.{ℕ, ◌+◌, ◌==◌, List, take, reverse, count_by}
+use Rattle.std.specs.List.{prefix_len}
+use Rattle.text_words.specs.Bytes.{is_in_line}
 
 -- one more than the newlines before the place
 abbrev pub line_at : List ℕ → ℕ → ℕ

@@ -5,7 +5,7 @@ use Rattle.text_words.specs.Tokens.{Lexeme, Opens}
 use Rattle.text_words.specs.TokenReading.{Read, close_at, name_at, int_at, begins, all_of}
 use Rattle.text_words.specs.declared.fault.ReadFault.{ReadFault}
 use Rattle.text_grammar.specs.Tree.{Stmt, Cond}
-use Rattle.text_grammar.specs.Reading.{test_of, keyword_of, binary_with, expr_at, cond_with, cond_at, stmt_with, stmt_at, seq_with, pair_at, always_at, conditions_at, tx_at, end_at, form_numbered, heading_at}
+use Rattle.text_grammar.specs.Reading.{test_of, keyword_of, binary_with, expr_at, cond_with, cond_at, stmt_with, stmt_at, seq_with, pair_at, always_at, tx_at, end_at, form_numbered, heading_at}
 use Rattle.text_grammar.specs.declared.file.FileForm.{FileForm}
 use Rattle.text_grammar.specs.declared.file.FileForm.TheVariants.{One, Two}
 use Rattle.explain_files.specs.declared.wanted.Section.{Section}

@@ -1,14 +1,14 @@
 //! Whether a file is read, and where and why it is not.
 
-ghost use Rattle.std.specs.Prelude.{◌≡◌, ◌≤◌, IfOk, length};
+ghost use Rattle.std.specs.Prelude.{◌≡◌, Some, IfOk};
+ghost use Rattle.text_grammar.specs.Spelling.{first_fault};
 ghost use Rattle.text_laws.specs.Faults.{IsFirst};
-ghost use Rattle.explain_files.specs.Explaining.{IsPlaceOf, IsExplained};
-ghost use Rattle.explain_files.specs.Walking.{IsTokenPlace, IsStop};
-ghost use Rattle.text_words.specs.declared.fault.ReadFault.TheVariants.{Shape};
+ghost use Rattle.explain_files.specs.Explaining.{IsPlaced, IsExplained};
+ghost use Rattle.text_words.specs.declared.fault.ReadFault.TheVariants.{Shape, Name, Limit, Broken};
 
 use crate::allowed::bad_byte_place;
-use crate::declarations::{Numbered, costly, untrue};
-use crate::limits::{LimitFault, declaration_place, first_excess};
+use crate::declarations::{costly_place, untrue_place};
+use crate::limits::{LimitFault, first_excess};
 use crate::names::{NameFault, wrong_name};
 use crate::walk::first_stop;
 use crate::wanted::Wanted;
@@ -30,10 +30,11 @@ pub enum Finding {
     Name(NameFault),
     /// This goes over a limit.
     Limit(LimitFault),
+    /// This declaration costs more than 1,000,000: a transaction with the standing conditions, or one of
+    /// these with those before it.
+    Cost,
     /// This standing condition is not true of the initial values.
     Untrue,
-    /// It is not known what is wrong here: the place is the end of the text.
-    Unplaced,
 }
 
 /// Why a file is refused.
@@ -56,17 +57,10 @@ pub enum Explanation {
 /// The longest file, in bytes.
 const MAX_FILE: usize = 1_048_576;
 
-/// What stands for a place that is not known.
-fn unplaced(bytes: &[u8]) -> (usize, Finding)
-    ensures { IsTokenPlace bytes.now result.0 }
-{
-    (bytes.len(), Finding::Unplaced)
-}
-
 /// Where a file that has no reading by the grammar stops being the beginning of one.
 fn shape_place(alloc: Global, bytes: &[u8]) -> Result<(usize, Finding), Memory>
     requires { IsFirst bytes.now Shape }
-    ensures { IfOk result (λ x. IsStop bytes.now x.0) }
+    ensures { IfOk result (λ x. IsPlaced Shape bytes.now x.0 x.1) }
 {
     let stop = first_stop(alloc, bytes)?;
     Ok((stop.place, Finding::Unwanted(stop.wanted)))
@@ -74,58 +68,43 @@ fn shape_place(alloc: Global, bytes: &[u8]) -> Result<(usize, Finding), Memory>
 
 /// The name that is declared twice or not at all.
 fn name_place(alloc: Global, bytes: &[u8]) -> Result<(usize, Finding), Memory>
-    ensures { IfOk result (λ x. IsTokenPlace bytes.now x.0) }
+    requires { IsFirst bytes.now Name }
+    ensures { IfOk result (λ x. IsPlaced Name bytes.now x.0 x.1) }
 {
     match wrong_name(alloc, bytes)? {
         Some(wrong) => Ok((wrong.place, Finding::Name(wrong.fault))),
-        None => Ok(unplaced(bytes)),
+        None => unreachable!(),
     }
 }
 
-/// The place of the name of a declaration, with what is wrong with it.
-fn name_of(
-    alloc: Global,
-    bytes: &[u8],
-    found: Option<Numbered>,
-    finding: Finding,
-) -> Result<(usize, Finding), Memory>
-    ensures { IfOk result (λ x. IsTokenPlace bytes.now x.0) }
-{
-    let Some(numbered) = found else {
-        return Ok(unplaced(bytes));
-    };
-    match declaration_place(alloc, bytes, numbered.declares, numbered.number)? {
-        Some(place) => Ok((place, finding)),
-        None => Ok(unplaced(bytes)),
-    }
-}
-
-/// The standing condition that is not true.
-fn untrue_place(alloc: Global, bytes: &[u8]) -> Result<(usize, Finding), Memory>
-    ensures { IfOk result (λ x. IsTokenPlace bytes.now x.0) }
-{
-    let found = untrue(alloc, bytes)?;
-    name_of(alloc, bytes, found, Finding::Untrue)
-}
-
-/// What goes over a limit.
+/// What goes over a limit: a name or a number, and where there is none, a declaration by its cost.
 fn limit_place(alloc: Global, bytes: &[u8]) -> Result<(usize, Finding), Memory>
-    ensures { IfOk result (λ x. IsTokenPlace bytes.now x.0) }
+    requires { first_fault bytes.now ≡ Some Limit }
+    ensures { IfOk result (λ x. IsPlaced Limit bytes.now x.0 x.1) }
 {
-    match first_excess(alloc, bytes)? {
+    match first_excess(bytes) {
         Some(found) => Ok((found.place, Finding::Limit(found.fault))),
         None => {
-            let found = costly(alloc, bytes)?;
-            name_of(alloc, bytes, found, Finding::Limit(LimitFault::Cost))
+            let place = costly_place(alloc, bytes)?;
+            Ok((place, Finding::Cost))
         }
     }
 }
 
+/// The standing condition that is not true.
+fn broken_place(alloc: Global, bytes: &[u8]) -> Result<(usize, Finding), Memory>
+    requires { IsFirst bytes.now Broken }
+    ensures { IfOk result (λ x. IsPlaced Broken bytes.now x.0 x.1) }
+{
+    let place = untrue_place(alloc, bytes)?;
+    Ok((place, Finding::Untrue))
+}
+
 /// The place of the first fault of a file, whose kind this is.
 fn place_of(alloc: Global, bytes: &[u8], kind: ReadFault) -> Result<(usize, Finding), Memory>
-    requires { IsFirst bytes.now kind }
-    ensures place { IfOk result (λ x. IsPlaceOf kind bytes.now x.0) }
-    ensures bound { IfOk result (λ x. x.0 ≤ length bytes.now) }
+    requires first { IsFirst bytes.now kind }
+    requires fault { first_fault bytes.now ≡ Some kind }
+    ensures { IfOk result (λ x. IsPlaced kind bytes.now x.0 x.1) }
 {
     match kind {
         ReadFault::TooLong => Ok((MAX_FILE, Finding::TooLong)),
@@ -133,7 +112,7 @@ fn place_of(alloc: Global, bytes: &[u8], kind: ReadFault) -> Result<(usize, Find
         ReadFault::Shape => shape_place(alloc, bytes),
         ReadFault::Name => name_place(alloc, bytes),
         ReadFault::Limit => limit_place(alloc, bytes),
-        ReadFault::Broken => untrue_place(alloc, bytes),
+        ReadFault::Broken => broken_place(alloc, bytes),
         ReadFault::Memory => unreachable!(),
     }
 }
@@ -144,7 +123,9 @@ fn place_of(alloc: Global, bytes: &[u8], kind: ReadFault) -> Result<(usize, Find
 /// The kind is what `read_file` says. The place is in the text. Of a file that is too long it is that
 /// of the first byte that no file has, of a bad byte that of the first one. Of a shape it is where the
 /// bytes stop being the beginning of a file: some file begins with the tokens before it, and none with
-/// one more. Of all others it is one where a token begins, or the end of the text.
+/// one more. Of a name or a limit it is the first name or number that is wrong, in the way that is told;
+/// where only the cost of a declaration is, and of a condition that is not true, it is the name of the
+/// first such declaration.
 pub fn explain(alloc: Global, bytes: &[u8]) -> Result<Explanation, Memory>
     ensures { IfOk result (IsExplained bytes.now) }
 {

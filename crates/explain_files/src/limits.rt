@@ -1,11 +1,17 @@
 //! Numbers, names and declarations that go over a limit.
 
-ghost use Rattle.std.specs.Prelude.{◌≡◌, ◌≤◌, IfOk, IfSome, length};
-ghost use Rattle.explain_files.specs.Walking.{IsTokenPlace};
+ghost use Rattle.std.specs.Prelude.{◌≡◌, ◌+◌, None, IfSome, IfNone};
+ghost use Rattle.text_words.specs.TokenView.{view};
+ghost use Rattle.text_words.specs.Tokens.{Name, Int};
+ghost use Rattle.text_words.specs.Bytes.{int_value};
+ghost use Rattle.text_words.specs.Numbers.{number_of, count_of};
+ghost use Rattle.explain_files.specs.Judging.{AllTokens, IsRight, IsFirstSaid};
+ghost use Rattle.explain_files.specs.Limiting.{too_long, value_fault, turns_fault, tasks_fault, tasks_of, many_with, limit_fault, limit_fault_at};
+ghost use Rattle.explain_files.specs.Counting.{view_counts};
 
-use crate::walk::{beginning, next_step};
-use crate::wanted::{NameUse, NumberUse, Wanted};
-use std::alloc::{AllocError, Global};
+use crate::found::token_from;
+use crate::roles::role_behind;
+use crate::wanted::{NameUse, NumberUse, Role};
 use text_words::lexer::Token;
 use text_words::numeral::Numeral;
 
@@ -28,8 +34,6 @@ pub enum LimitFault {
     Conditions,
     /// This is the 257th transaction.
     Transactions,
-    /// The transaction costs more than 1,000,000, the standing conditions included, or these alone do.
-    Cost,
 }
 
 /// How many of each kind there were so far.
@@ -41,73 +45,106 @@ struct Counts {
     tasks: u32,
 }
 
-/// What is wrong with a number that is used so.
-fn number_fault(counts: &mut Counts, used: NumberUse, number: Numeral<'_>) -> Option<LimitFault> {
-    match used {
-        NumberUse::Initial => value_fault(number),
-        NumberUse::Turns => match number.count() {
-            Ok(turns) if turns <= 1000 => None,
-            _ => Some(LimitFault::Turns),
-        },
-        NumberUse::Tasks => match number.count() {
-            Ok(tasks) if tasks <= 65536 => {
-                counts.tasks = counts.tasks.saturating_add(tasks);
-                if counts.tasks > 65536 {
-                    return Some(LimitFault::AllTasks);
-                }
-                None
-            }
-            _ => Some(LimitFault::Tasks),
-        },
-    }
-}
-
 /// What is wrong with a number that is a value.
-fn value_fault(number: Numeral<'_>) -> Option<LimitFault> {
+fn value_fault(number: Numeral<'_>) -> Option<LimitFault>
+    ensures { result ≡ value_fault (number_of (int_value number.entry.text.now)) }
+{
     match number.number() {
         Ok(_) => None,
         Err(_) => Some(LimitFault::Number),
     }
 }
 
-/// One more, and whether there are too many.
-fn counted(count: &mut usize, most: usize) -> bool {
-    *count = count.saturating_add(1);
-    *count > most
+/// What is wrong with a number of turns.
+fn turns_fault(number: Numeral<'_>) -> Option<LimitFault>
+    ensures { result ≡ turns_fault (count_of (int_value number.entry.text.now)) }
+{
+    match number.count() {
+        Ok(turns) if turns <= 1000 => None,
+        _ => Some(LimitFault::Turns),
+    }
 }
 
-/// What is wrong with a name that is used so.
-fn name_fault(counts: &mut Counts, used: NameUse, name: &str) -> Option<LimitFault> {
-    let (many, fault) = match used {
-        NameUse::Variable => (counted(&mut counts.variables, 256), LimitFault::Variables),
-        NameUse::Condition => (counted(&mut counts.conditions, 64), LimitFault::Conditions),
-        NameUse::Transaction => (
-            counted(&mut counts.transactions, 256),
-            LimitFault::Transactions,
-        ),
-        NameUse::Target | NameUse::Called => return None,
+/// What is wrong with a number of tasks, which are counted where nothing is.
+fn tasks_fault(all: &mut u32, number: Numeral<'_>) -> Option<LimitFault>
+    ensures fault { result ≡ tasks_fault all.old (count_of (int_value number.entry.text.now)) }
+    ensures all { result ≡ None → all.new ≡ all.old + tasks_of (count_of (int_value number.entry.text.now)) }
+{
+    let Ok(tasks) = number.count() else {
+        return Some(LimitFault::Tasks);
     };
-    if many {
-        return Some(fault);
+    if tasks > 65536 {
+        return Some(LimitFault::Tasks);
     }
+    match all.checked_add(tasks) {
+        Some(sum) if sum <= 65536 => {
+            *all = sum;
+            None
+        }
+        _ => Some(LimitFault::AllTasks),
+    }
+}
+
+/// What is wrong with a name that declares something.
+fn name_fault(name: &str) -> Option<LimitFault>
+    ensures { result ≡ too_long name.now }
+{
     if name.len() > 32 {
         return Some(LimitFault::Name);
     }
     None
 }
 
-/// What is wrong with what stands there.
-fn fault_at(
-    counts: &mut Counts,
-    wanted: Option<Wanted>,
-    token: Option<Token<'_>>,
-) -> Option<LimitFault> {
-    match (wanted, token) {
-        (Some(Wanted::Name(used)), Some(Token::Name(name))) => name_fault(counts, used, name),
-        (Some(Wanted::Number(used)), Some(Token::Int(number))) => {
-            number_fault(counts, used, number)
+/// What is wrong with a name that is used so, which is counted where it declares something.
+fn declared_fault(counts: &mut Counts, used: NameUse, name: &str) -> Option<LimitFault>
+    ensures fault { result ≡ limit_fault (view_counts counts.old) (Role.Name used) (Name name.now) }
+    ensures counts { result ≡ None → view_counts counts.new ≡ many_with (view_counts counts.old) (Role.Name used) (Name name.now) }
+{
+    match used {
+        NameUse::Variable => {
+            if counts.variables >= 256 {
+                return Some(LimitFault::Variables);
+            }
+            counts.variables += 1;
         }
-        (Some(Wanted::Expr(_)), Some(Token::Int(number))) => value_fault(number),
+        NameUse::Condition => {
+            if counts.conditions >= 64 {
+                return Some(LimitFault::Conditions);
+            }
+            counts.conditions += 1;
+        }
+        NameUse::Transaction => {
+            if counts.transactions >= 256 {
+                return Some(LimitFault::Transactions);
+            }
+            counts.transactions += 1;
+        }
+        NameUse::Target | NameUse::Called => return None,
+    }
+    name_fault(name)
+}
+
+/// What is wrong with a number that is used so, of which the tasks are counted.
+fn number_fault(counts: &mut Counts, used: NumberUse, number: Numeral<'_>) -> Option<LimitFault>
+    ensures fault { result ≡ limit_fault (view_counts counts.old) (Role.Number used) (Int (int_value number.entry.text.now)) }
+    ensures counts { result ≡ None → view_counts counts.new ≡ many_with (view_counts counts.old) (Role.Number used) (Int (int_value number.entry.text.now)) }
+{
+    match used {
+        NumberUse::Initial => value_fault(number),
+        NumberUse::Turns => turns_fault(number),
+        NumberUse::Tasks => tasks_fault(&mut counts.tasks, number),
+    }
+}
+
+/// What is wrong with a token that is for this.
+fn judged(counts: &mut Counts, role: Role, token: Token<'_>) -> Option<LimitFault>
+    ensures fault { result ≡ limit_fault (view_counts counts.old) role (view token.entry) }
+    ensures counts { result ≡ None → view_counts counts.new ≡ many_with (view_counts counts.old) role (view token.entry) }
+{
+    match (role, token) {
+        (Role::Name(used), Token::Name(name)) => declared_fault(counts, used, name),
+        (Role::Number(used), Token::Int(number)) => number_fault(counts, used, number),
+        (Role::Value, Token::Int(number)) => value_fault(number),
         _ => None,
     }
 }
@@ -120,56 +157,27 @@ pub(crate) struct Excess {
 }
 
 /// The first name or number from the left that goes over a limit.
-pub(crate) fn first_excess(alloc: Global, bytes: &[u8]) -> Result<Option<Excess>, AllocError>
-    ensures { IfOk result (λ found. IfSome found (λ w. IsTokenPlace bytes.now w.place)) }
+pub(crate) fn first_excess(bytes: &[u8]) -> Option<Excess>
+    ensures some { IfSome result (λ w. IsFirstSaid limit_fault_at bytes.now w.place w.fault) }
+    ensures none { IfNone result (AllTokens (IsRight limit_fault_at) bytes.now) }
 {
-    let mut stack = beginning(alloc)?;
     let mut counts = Counts {
         variables: 0,
         conditions: 0,
         transactions: 0,
         tasks: 0,
     };
+    let mut role = Role::Value;
     let mut at = 0;
-    'tokens: loop {
-        let step = next_step(bytes, at, &mut stack)?;
-        if let Some(fault) = fault_at(&mut counts, step.wanted, step.token) {
-            return Ok(Some(Excess {
-                place: step.place,
+    'tokens: while let Some(found) = token_from(bytes, at) {
+        if let Some(fault) = judged(&mut counts, role, found.token) {
+            return Some(Excess {
+                place: found.place,
                 fault,
-            }));
+            });
         }
-        if !step.went {
-            return Ok(None);
-        }
-        at = step.next;
+        role = role_behind(role, found.token);
+        at = found.next;
     }
-}
-
-/// The place of the name of the declaration of this number, counted from 0, of those whose names are
-/// used so.
-pub(crate) fn declaration_place(
-    alloc: Global,
-    bytes: &[u8],
-    wanted: NameUse,
-    number: usize,
-) -> Result<Option<usize>, AllocError>
-    ensures { IfOk result (λ found. IfSome found (IsTokenPlace bytes.now)) }
-{
-    let mut stack = beginning(alloc)?;
-    let mut left = number;
-    let mut at = 0;
-    'tokens: loop {
-        let step = next_step(bytes, at, &mut stack)?;
-        if step.wanted == Some(Wanted::Name(wanted)) {
-            if left == 0 {
-                return Ok(Some(step.place));
-            }
-            left -= 1;
-        }
-        if !step.went {
-            return Ok(None);
-        }
-        at = step.next;
-    }
+    None
 }

@@ -83,3 +83,16 @@ pub enum Wanted {
     /// The statements of a sequence, and its closing parenthesis.
     Parts(u32),
 }
+
+/// What a token is for, as those before it say.
+#[derive(Clone, Copy, Debug, PartialEq, Eq)]
+pub enum Role {
+    /// It stands behind an opening parenthesis: the word of what is in it.
+    Word,
+    /// A name that declares something, that is set, or that is run.
+    Name(NameUse),
+    /// A number that is an initial value, or a count.
+    Number(NumberUse),
+    /// A part of an expression, or a parenthesis.
+    Value,
+}

@@ -27,6 +27,11 @@ const NAMES: &[Case] = &[
     ("; runs\n(run t 1)", 2, 6),
     ("(stm 2)(always a (eq 0 0))(always a (eq 0 0))", 1, 35),
     ("(stm 2)(always a (eq 0 b))", 1, 24),
+    (
+        "\n\n; (var y 1)\n  ; y\n(var x 1)\n\n(tx t ; y\n (set y 1) x)",
+        8,
+        7,
+    ),
 ];
 
 const LIMITS: &[Case] = &[
@@ -41,17 +46,29 @@ const LIMITS: &[Case] = &[
     ("(tx t (skip) 0)(run t 65537)", 1, 23),
     ("(tx t (skip) 0)(run t 65536)(run t 0)(run t 1)", 1, 45),
     (
+        "; 9223372036854775808\n\n(var x\n; 1\n  9223372036854775808)",
+        5,
+        3,
+    ),
+    (
         "(var a2345678901234567890123456789012 1)(var a23456789012345678901234567890123 1)",
         1,
         46,
     ),
 ];
 
-const COSTS: &[Case] = &[(
-    "(tx s (skip) 0)\n(tx t (repeat 1000 (repeat 1000 (skip))) 0)\n(tx u (repeat 1000 (repeat 1000 (skip))) 0)",
-    2,
-    5,
-)];
+const COSTS: &[Case] = &[
+    (
+        "(tx s (skip) 0)\n(tx t (repeat 1000 (repeat 1000 (skip))) 0)\n(tx u (repeat 1000 (repeat 1000 (skip))) 0)",
+        2,
+        5,
+    ),
+    (
+        "; t\n\n(tx ; dear\n t (repeat 1000 (repeat 1000 (skip))) 0)(run t 1)",
+        4,
+        2,
+    ),
+];
 
 const UNTRUE_CONDITIONS: &[Case] = &[
     (
@@ -60,6 +77,7 @@ const UNTRUE_CONDITIONS: &[Case] = &[
         9,
     ),
     ("(stm 2)(var x 0)(always a (eq 1 (div 1 x)))", 1, 25),
+    ("; a\n(stm 2)\n\n(always ; a\n  a (eq 0 1))", 5, 3),
 ];
 
 #[test]

@@ -59,3 +59,37 @@ fn end_of_the_longest_file(rt: HostRuntime) -> Result<(), Fail> {
     );
     Ok(())
 }
+
+/// A text, the kind of its first fault, and how many bytes of it stand before the place.
+type Case = (&'static str, ReadFault, usize);
+
+const AT_THE_END: &[Case] = &[
+    ("(tx t (skip) y)", ReadFault::Name, 13),
+    ("(var x 9223372036854775808)", ReadFault::Limit, 7),
+    (
+        "(tx t (repeat 1000 (repeat 1000 (skip))) 0)",
+        ReadFault::Limit,
+        4,
+    ),
+    ("(stm 2)(always a (eq 0 1))", ReadFault::Broken, 15),
+];
+
+/// Whether it is told in the longest file that ends with the text.
+fn is_told_at_the_end(alloc: Global, case: Case) -> Result<bool, AllocError> {
+    let (text, kind, before) = case;
+    let spaces = 1_048_576usize.saturating_sub(text.len());
+    let bytes = behind_spaces(alloc, spaces, text)?;
+    Ok(match place_of(alloc, bytes.as_slice()) {
+        Some((found, place, _)) => found == kind && place.checked_sub(before) == Some(spaces),
+        None => false,
+    })
+}
+
+#[test]
+fn other_kinds_at_the_end(rt: HostRuntime) -> Result<(), Fail> {
+    for &case in AT_THE_END {
+        let is_told = is_told_at_the_end(rt.alloc(), case)?;
+        assert!(rt; is_told);
+    }
+    Ok(())
+}

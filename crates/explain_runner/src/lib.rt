@@ -2,6 +2,7 @@
 #![tactic(auto)]
 
 mod bytes;
+mod near;
 mod text;
 mod words;
 

@@ -3,6 +3,7 @@
 ghost use Rattle.std.specs.Prelude.{◌≡◌, ◌≤◌, ℕ, length, IfOk, string_bytes};
 ghost use Rattle.explain_runner.specs.Telling.{told_line, Begins, head_of, kind_name};
 
+use crate::near::meant;
 use crate::words::words;
 use explain_files::{Refusal, position_of};
 use std::alloc::{AllocError, Global};
@@ -40,7 +41,7 @@ pub fn line_of(
 }
 
 /// What stands first in these bytes, as far as it is short: a parenthesis or an atom.
-fn standing(bytes: &[u8]) -> &str {
+pub(crate) fn standing(bytes: &[u8]) -> &str {
     let len = match bytes {
         [b'(' | b')', ..] => 1,
         _ => bytes
@@ -52,8 +53,13 @@ fn standing(bytes: &[u8]) -> &str {
     str::from_utf8(&bytes[..shown]).unwrap_or("")
 }
 
-/// What is said of what stands at a place.
-fn found(alloc: Global, kind: ReadFault, bytes: &[u8]) -> Result<String, AllocError> {
+/// What is said of what stands at a place, with what may be meant.
+fn found(
+    alloc: Global,
+    kind: ReadFault,
+    bytes: &[u8],
+    meant: Option<&str>,
+) -> Result<String, AllocError> {
     if matches!(kind, ReadFault::TooLong | ReadFault::BadByte) {
         return String::from_str(alloc, "");
     }
@@ -61,7 +67,10 @@ fn found(alloc: Global, kind: ReadFault, bytes: &[u8]) -> Result<String, AllocEr
         return String::from_str(alloc, "; here the file ends");
     }
     let standing = standing(bytes);
-    format!(in alloc; "; here stands {standing}")
+    match meant {
+        Some(meant) => format!(in alloc; "; here stands {standing}; did you mean {meant}?"),
+        None => format!(in alloc; "; here stands {standing}"),
+    }
 }
 
 /// The line that tells where and why a file is refused.
@@ -70,7 +79,8 @@ pub(crate) fn told(alloc: Global, bytes: &[u8], refusal: &Refusal) -> Result<Str
     ensures { IfOk result (λ text. Begins (head_of bytes.now refusal.entry.now) (string_bytes text)) }
 {
     let at = position_of(bytes, refusal.place);
-    let found = found(alloc, refusal.kind, &bytes[refusal.place..])?;
+    let meant = meant(bytes, refusal.place, refusal.finding);
+    let found = found(alloc, refusal.kind, &bytes[refusal.place..], meant)?;
     let kind = kind_name(refusal.kind);
     let words = words(refusal.finding);
     let text = line_of(alloc, at.line, at.column, kind, words, found.as_str())?;

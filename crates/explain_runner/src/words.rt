@@ -12,8 +12,9 @@ pub(crate) fn words(finding: Finding) -> &'static str {
         Finding::Unwanted(Some(wanted)) => wanted_words(wanted),
         Finding::Name(fault) => name_words(fault),
         Finding::Limit(fault) => limit_words(fault),
+        Finding::Cost =>
+            "the cost of this is more than 1000000, with that of the standing conditions",
         Finding::Untrue => "this standing condition is not true of the initial values",
-        Finding::Unplaced => "something in the file",
     }
 }
 
@@ -120,7 +121,5 @@ fn limit_words(fault: LimitFault) -> &'static str {
         LimitFault::Variables => "there are at most 256 variables",
         LimitFault::Conditions => "there are at most 64 standing conditions",
         LimitFault::Transactions => "there are at most 256 transactions",
-        LimitFault::Cost =>
-            "the cost of this is more than 1000000, with that of the standing conditions",
     }
 }

@@ -1,0 +1,359 @@
+-- Where no name and no number of a file goes over a limit, and its names are known, it declares something that is within them, but for costs.
+use Rattle.std.proofs.Common.{◌≡◌, ℕ, ◌+◌, ◌^◌, ◌<◌, ◌≤◌, Bool, true, ◌&&◌, List, [], ◌∷◌, ◌++◌, length, map, Option, Some, None, Result, Ok, Err, refl, sym, ap, ◌∙◌, arith, inl, inr}
+use Rattle.std.specs.Prelude.{ℤ, codes, nat_lt, nat_le, is_some, position, bytes_eq}
+use Rattle.std.specs.List.{flat_map, list_all, sum_by}
+use Rattle.std.proofs.lemmas.Bool.{lt-ltb, le-leb, leb-true, leb-false}
+use Rattle.std.proofs.lemmas.List.{length-map}
+use Rattle.std.proofs.lemmas.List.Folds.{list_all-map}
+use Rattle.std.proofs.lemmas.List.Sums.{sum_by-cons}
+use Rattle.std.proofs.lemmas.List.Quantifiers.{position-Some}
+use Rattle.txn_programs.specs.declared.ast.TxId.{TxId}
+use Rattle.txn_programs.specs.Tree.{Expression, Condition, Statement, Statements, Transaction}
+use Rattle.txn_programs.specs.Tree as t
+use Rattle.txn_programs.specs.Listing.{Listing, conditions, always_names}
+use Rattle.txn_programs.specs.Names.{are_distinct}
+use Rattle.txn_programs.specs.Limits.{most_variables, most_conditions, most_transactions, most_tasks, longest_name, limits_hold}
+use Rattle.text_words.specs.Tokens.{Lexeme, Closes}
+use Rattle.text_words.specs.Answers.{◌>>=◌}
+use Rattle.text_words.specs.Numbers.{number_of, count_of}
+use Rattle.text_words.specs.declared.fault.ReadFault.{ReadFault}
+use Rattle.text_grammar.specs.Tree.{Expr, Cond, Stmt, Stmts, NoStmts, MoreStmts, Pair, Always, Declaration, File, operator_word, comparison_word, connective_word, expr_tokens, cond_tokens, stmt_tokens, stmts_tokens, pair_tokens, always_tokens, tx_tokens}
+use Rattle.text_grammar.specs.Tree as f
+use Rattle.text_grammar.specs.Written.{written_in}
+use Rattle.text_grammar.specs.Resolving.{is_known, expr_known, cond_known, stmt_known, stmts_known, always_known, tx_known, run_known, uses_known, placed, place_in, variable_in, binary, compare, connect, expression_in, condition_in, statement_in, statements_in, each, variable_of, always_in, transaction_in, run_in, listing, converted, resolved, pair_name, condition_name, tx_name}
+use Rattle.text_laws.specs.Faults.{names_known}
+use Rattle.text_laws.proofs.Declared.{both, declared_again}
+use Rattle.text_laws.proofs.Back.{both_true, resolved_back, names_of_conditions, names_of_txs}
+use Rattle.text_laws.proofs.Again.{var_names}
+use Rattle.text_words.proofs.Steps.{chosen}
+use Rattle.explain_files.specs.declared.limits.LimitFault.{LimitFault}
+use Rattle.explain_files.specs.declared.limits.LimitFault.TheVariants as over
+use Rattle.explain_files.specs.declared.wanted.Role.TheVariants as role
+use Rattle.explain_files.specs.Limiting.{too_long, too_many, value_fault, turns_fault, tasks_fault, tasks_of, limit_fault}
+use Rattle.explain_files.specs.Declarations.{CostsHold}
+use Rattle.explain_files.proofs.Passed.{Seen, seen_in, Fact, Along, within, within_two, within_three, operator_role, comparison_role, connective_role, pass_expr, pass_cond, pass_stmt, in_set, in_repeat, in_more, with_variable, with_condition, with_transaction, onward, in_var, in_always, in_tx, with_tasks, in_run, behind_always, behind_tx, InFile, at_always, at_txs, at_runs}
+use Rattle.explain_files.proofs.Named.{said_unless, kept_by_variables, kept_by_conditions, kept_by_transactions}
+
+-- nothing goes over a limit
+abbrev pub LimitRight : Fact
+LimitRight s used t = limit_fault s.many used t ≡ None
+
+-- a step that does not fail
+abbrev Good : {A : Type 0} → Result A ReadFault → Type 0
+Good r = (x : _) × (r ≡ Ok x)
+
+good_bind : {A B : Type 0} (r : Result A ReadFault) (g : A → Result B ReadFault) → Good r → ((x : A) → Good (g x)) → Good (r >>= g)
+good_bind (Ok x) g p q = q x
+good_bind (Err e) g p q = absurd (let h = p.1 in cc)
+
+value_good : (r : Result ℤ ReadFault) → value_fault r ≡ None → Good r
+value_good (Ok n) h = (n, refl)
+value_good (Err e) h = absurd cc
+
+turns_good : (r : Result ℕ ReadFault) → turns_fault r ≡ None → Good r
+turns_good (Ok n) h = (n, refl)
+turns_good (Err e) h = absurd cc
+
+-- a run that is within the limits, behind so many tasks
+record RunFits (many : ℕ) (r : Result ℕ ReadFault) : Type 0 where
+  tasks : ℕ
+  is : r ≡ Ok tasks
+  one : nat_le tasks most_tasks ≡ true
+  all : many + tasks ≤ most_tasks
+
+run_fits : (many : ℕ) (r : Result ℕ ReadFault) → tasks_fault many r ≡ None → RunFits many r
+run_fits many (Err e) h = absurd cc
+run_fits many (Ok n) h =
+    elim (chosen (nat_le n most_tasks) _ (Some over.Tasks) None h) [
+      | inl p ↦ record { tasks = n; is = refl; one = p.0; all = leb-true (many + n) most_tasks (said_unless (nat_le (many + n) most_tasks) over.AllTasks p.1) }
+      | inr p ↦ absurd (let q = p.1 in cc)
+    ]
+
+-- a name that may be declared
+record NameFits (many most : ℕ) (text : List ℕ) : Type 0 where
+  few : many < most
+  short : nat_le (length text) longest_name ≡ true
+
+name_fits : (many most : ℕ) (fault : LimitFault) (text : List ℕ) → too_many many most fault text ≡ None → NameFits many most text
+name_fits many most fault text h =
+    elim (chosen (nat_le most many) (Some fault) (too_long text) None h) [
+      | inl p ↦ absurd (let q = p.1 in cc)
+      | inr p ↦ record { few = leb-false most many p.0; short = said_unless (nat_le (length text) longest_name) over.Name p.1 }
+    ]
+
+placed_good : (o : Option ℕ) → is_some o ≡ true → ((i : ℕ) → o ≡ Some i → i < 2 ^ 32) → Good (placed o)
+placed_good None h k = absurd cc
+placed_good (Some i) h k = let small : nat_lt i (2 ^ 32) ≡ true = lt-ltb i (2 ^ 32) (k i refl) in (i, rw small refl)
+
+place_good : (names : List (List ℕ)) (text : List ℕ) → length names ≤ 256 → is_known names text ≡ true → Good (place_in names text)
+unfolding place_in
+place_good names text few h =
+    placed_good (position (bytes_eq text) names) h (λ i e. let below : i < length names = (position-Some (bytes_eq text) names i [] e).0 in omega arith)
+
+variable_good : (names : List (List ℕ)) (text : List ℕ) → length names ≤ 256 → is_known names text ≡ true → Good (variable_in names text)
+unfolding variable_in
+variable_good names text few h = good_bind (place_in names text) _ (place_good names text few h) (λ place. (record { 0 = place }, refl))
+
+-- ---- expressions, conditions and statements
+
+expr_good : (names : List (List ℕ)) → length names ≤ 256 → (s : Seen) (e : Expr) (ts : List Lexeme) → expr_known names e ≡ true → Along LimitRight s role.Value (expr_tokens e ++ ts) → Good (expression_in names e)
+expr_good names few s (f.Int value) ts k h = good_bind (number_of value) _ (value_good (number_of value) h.0) (λ n. (t.Int n, refl))
+expr_good names few s (f.Name text) ts k h = good_bind (variable_in names text) _ (variable_good names text few k) (λ x. (t.Var x, refl))
+expr_good names few s (f.Binary op left right) ts k h =
+    let w = within_two LimitRight s (operator_word op) (expr_tokens left) (expr_tokens right) ts (operator_role op) h in
+    let b = both (expr_known names left) (expr_known names right) k in
+    good_bind (expression_in names left) _ (expr_good names few s left (expr_tokens right ++ (Closes ∷ ts)) b.0 w)
+    (λ x. good_bind (expression_in names right) _ (expr_good names few s right (Closes ∷ ts) b.1 (pass_expr LimitRight s left (expr_tokens right ++ (Closes ∷ ts)) w)) (λ y. (binary op x y, refl)))
+
+cond_good : (names : List (List ℕ)) → length names ≤ 256 → (s : Seen) (e : Cond) (ts : List Lexeme) → cond_known names e ≡ true → Along LimitRight s role.Value (cond_tokens e ++ ts) → Good (condition_in names e)
+cond_good names few s (f.Compare op left right) ts k h =
+    let w = within_two LimitRight s (comparison_word op) (expr_tokens left) (expr_tokens right) ts (comparison_role op) h in
+    let b = both (expr_known names left) (expr_known names right) k in
+    good_bind (expression_in names left) _ (expr_good names few s left (expr_tokens right ++ (Closes ∷ ts)) b.0 w)
+    (λ x. good_bind (expression_in names right) _ (expr_good names few s right (Closes ∷ ts) b.1 (pass_expr LimitRight s left (expr_tokens right ++ (Closes ∷ ts)) w)) (λ y. (compare op x y, refl)))
+cond_good names few s (f.Not inner) ts k h =
+    good_bind (condition_in names inner) _ (cond_good names few s inner (Closes ∷ ts) k (within LimitRight s (codes "not") role.Value (cond_tokens inner) ts refl h)) (λ c. (t.Not c, refl))
+cond_good names few s (f.Connect op left right) ts k h =
+    let w = within_two LimitRight s (connective_word op) (cond_tokens left) (cond_tokens right) ts (connective_role op) h in
+    let b = both (cond_known names left) (cond_known names right) k in
+    good_bind (condition_in names left) _ (cond_good names few s left (cond_tokens right ++ (Closes ∷ ts)) b.0 w)
+    (λ x. good_bind (condition_in names right) _ (cond_good names few s right (Closes ∷ ts) b.1 (pass_cond LimitRight s left (cond_tokens right ++ (Closes ∷ ts)) w)) (λ y. (connect op x y, refl)))
+
+mutual
+  stmt_good : (names : List (List ℕ)) → length names ≤ 256 → (s : Seen) (e : Stmt) (ts : List Lexeme) → stmt_known names e ≡ true → Along LimitRight s role.Value (stmt_tokens e ++ ts) → Good (statement_in names e)
+  stmt_good names few s f.Skip ts k h = (t.Skip, refl)
+  stmt_good names few s (f.Set text value) ts k h =
+      let w = in_set LimitRight s text value ts h in
+      let b = both (is_known names text) (expr_known names value) k in
+      good_bind (variable_in names text) _ (variable_good names text few b.0) (λ x. good_bind (expression_in names value) _ (expr_good names few s value (Closes ∷ ts) b.1 w.1) (λ y. (t.Set x y, refl)))
+  stmt_good names few s (f.Seq parts) ts k h =
+      good_bind (statements_in names parts) _ (stmts_good names few s parts (Closes ∷ ts) k (within LimitRight s (codes "seq") role.Value (stmts_tokens parts) ts refl h)) (λ ps. (t.Seq ps, refl))
+  stmt_good names few s (f.If test first second) ts k h =
+      let w = within_three LimitRight s (codes "if") (cond_tokens test) (stmt_tokens first) (stmt_tokens second) ts refl h in
+      let a = pass_cond LimitRight s test (stmt_tokens first ++ (stmt_tokens second ++ (Closes ∷ ts))) w in
+      let d = pass_stmt LimitRight s first (stmt_tokens second ++ (Closes ∷ ts)) a in
+      let b = both (cond_known names test) _ k in
+      let b1 = both (stmt_known names first) (stmt_known names second) b.1 in
+      good_bind (condition_in names test) _ (cond_good names few s test (stmt_tokens first ++ (stmt_tokens second ++ (Closes ∷ ts))) b.0 w)
+      (λ c. good_bind (statement_in names first) _ (stmt_good names few s first (stmt_tokens second ++ (Closes ∷ ts)) b1.0 a)
+      (λ x. good_bind (statement_in names second) _ (stmt_good names few s second (Closes ∷ ts) b1.1 d) (λ y. (t.If c x y, refl))))
+  stmt_good names few s (f.Repeat count body) ts k h =
+      let w = in_repeat LimitRight s body ts count h in
+      good_bind (count_of count) _ (turns_good (count_of count) w.0) (λ n. good_bind (statement_in names body) _ (stmt_good names few s body (Closes ∷ ts) k w.1) (λ x. (t.Repeat n x, refl)))
+  stmt_good names few s f.Retry ts k h = (t.Retry, refl)
+  stmt_good names few s (f.OrElse first second) ts k h =
+      let w = within_two LimitRight s (codes "orelse") (stmt_tokens first) (stmt_tokens second) ts refl h in
+      let b = both (stmt_known names first) (stmt_known names second) k in
+      good_bind (statement_in names first) _ (stmt_good names few s first (stmt_tokens second ++ (Closes ∷ ts)) b.0 w)
+      (λ x. good_bind (statement_in names second) _ (stmt_good names few s second (Closes ∷ ts) b.1 (pass_stmt LimitRight s first (stmt_tokens second ++ (Closes ∷ ts)) w)) (λ y. (t.OrElse x y, refl)))
+  stmt_good names few s (f.Throw value) ts k h =
+      good_bind (expression_in names value) _ (expr_good names few s value (Closes ∷ ts) k (within LimitRight s (codes "throw") role.Value (expr_tokens value) ts refl h)) (λ x. (t.Throw x, refl))
+
+  stmts_good : (names : List (List ℕ)) → length names ≤ 256 → (s : Seen) (e : Stmts) (ts : List Lexeme) → stmts_known names e ≡ true → Along LimitRight s role.Value (stmts_tokens e ++ ts) → Good (statements_in names e)
+  stmts_good names few s NoStmts ts k h = (t.End, refl)
+  stmts_good names few s (MoreStmts first others) ts k h =
+      let w = in_more LimitRight s first others ts h in
+      let b = both (stmt_known names first) (stmts_known names others) k in
+      good_bind (statement_in names first) _ (stmt_good names few s first (stmts_tokens others ++ ts) b.0 w)
+      (λ x. good_bind (statements_in names others) _ (stmts_good names few s others ts b.1 (pass_stmt LimitRight s first (stmts_tokens others ++ ts) w)) (λ y. (t.More x y, refl)))
+
+-- ---- rows of declarations
+
+each_good : {A B : Type 0} (one : A → Result B ReadFault) (x : A) (xs : List A) → Good (one x) → Good (each one xs) → Good (each one (x ∷ xs))
+each_good one x xs p q = good_bind (one x) _ p (λ y. good_bind (each one xs) _ q (λ ys. (y ∷ ys, refl)))
+
+abbrev is_short : List ℕ → Bool
+is_short text = nat_le (length text) longest_name
+
+record VarsFit (many : ℕ) (ps : List Pair) : Type 0 where
+  few : many + length ps ≤ most_variables
+  short : list_all is_short (map pair_name ps) ≡ true
+  good : Good (each variable_of ps)
+
+vars_fit : (ps : List Pair) (s : Seen) (ts : List Lexeme) → s.many.variables ≤ most_variables → Along LimitRight s role.Value (flat_map (pair_tokens (codes "var")) ps ++ ts) → VarsFit s.many.variables ps
+vars_fit [] s ts m h = record { few = omega arith; short = refl; good = ([], refl) }
+vars_fit (p ∷ ps) s ts m h =
+    let w = in_var LimitRight s p (flat_map (pair_tokens (codes "var")) ps ++ ts) (onward LimitRight s (pair_tokens (codes "var")) p ps ts h) in
+    let one = name_fits s.many.variables most_variables over.Variables p.name w.0 in
+    let more = vars_fit ps (with_variable s p.name) ts (let few : s.many.variables < most_variables = one.few in omega arith) w.2 in
+    record {
+      few = let few : s.many.variables + 1 + length ps ≤ most_variables = more.few in omega arith;
+      short = both_true _ _ one.short more.short;
+      good = each_good variable_of p ps (good_bind (number_of p.value) _ (value_good (number_of p.value) w.1) (λ n. ((p.name, n), refl))) more.good;
+    }
+
+record AlwaysFit (names : List (List ℕ)) (many : ℕ) (all : List Always) : Type 0 where
+  few : many + length all ≤ most_conditions
+  short : list_all is_short (map condition_name all) ≡ true
+  good : Good (each (always_in names) all)
+
+always_fit : (names : List (List ℕ)) → length names ≤ 256 → (all : List Always) (s : Seen) (ts : List Lexeme) → s.many.conditions ≤ most_conditions → list_all (always_known names) all ≡ true
+    → Along LimitRight s role.Value (flat_map always_tokens all ++ ts) → AlwaysFit names s.many.conditions all
+always_fit names few [] s ts m k h = record { few = omega arith; short = refl; good = ([], refl) }
+always_fit names few (a ∷ all) s ts m k h =
+    let rest = flat_map always_tokens all ++ ts in
+    let o = onward LimitRight s always_tokens a all ts h in
+    let w = in_always LimitRight s a rest o in
+    let b = both (always_known names a) (list_all (always_known names) all) k in
+    let one = name_fits s.many.conditions most_conditions over.Conditions a.name w.0 in
+    let more = always_fit names few all (with_condition s a.name) ts (let lt : s.many.conditions < most_conditions = one.few in omega arith) b.1 (behind_always LimitRight s a rest o) in
+    record {
+      few = let le : s.many.conditions + 1 + length all ≤ most_conditions = more.few in omega arith;
+      short = both_true _ _ one.short more.short;
+      good = each_good (always_in names) a all (good_bind (condition_in names a.condition) _ (cond_good names few (with_condition s a.name) a.condition (Closes ∷ rest) b.0 w.1) (λ c. ((a.name, c), refl))) more.good;
+    }
+
+record TxsFit (names : List (List ℕ)) (many : ℕ) (all : List Declaration) : Type 0 where
+  few : many + length all ≤ most_transactions
+  short : list_all is_short (map tx_name all) ≡ true
+  good : Good (each (transaction_in names) all)
+
+txs_fit : (names : List (List ℕ)) → length names ≤ 256 → (all : List Declaration) (s : Seen) (ts : List Lexeme) → s.many.transactions ≤ most_transactions → list_all (tx_known names) all ≡ true
+    → Along LimitRight s role.Value (flat_map tx_tokens all ++ ts) → TxsFit names s.many.transactions all
+txs_fit names few [] s ts m k h = record { few = omega arith; short = refl; good = ([], refl) }
+txs_fit names few (d ∷ all) s ts m k h =
+    let rest = flat_map tx_tokens all ++ ts in
+    let o = onward LimitRight s tx_tokens d all ts h in
+    let w = in_tx LimitRight s d rest o in
+    let u = with_transaction s d.name in
+    let b = both (tx_known names d) (list_all (tx_known names) all) k in
+    let b0 = both (stmt_known names d.body) (expr_known names d.value) b.0 in
+    let one = name_fits s.many.transactions most_transactions over.Transactions d.name w.0 in
+    let more = txs_fit names few all u ts (let lt : s.many.transactions < most_transactions = one.few in omega arith) b.1 (behind_tx LimitRight s d rest o) in
+    let body = stmt_good names few u d.body (expr_tokens d.value ++ (Closes ∷ rest)) b0.0 w.1 in
+    let value = expr_good names few u d.value (Closes ∷ rest) b0.1 (pass_stmt LimitRight u d.body (expr_tokens d.value ++ (Closes ∷ rest)) w.1) in
+    record {
+      few = let le : s.many.transactions + 1 + length all ≤ most_transactions = more.few in omega arith;
+      short = both_true _ _ one.short more.short;
+      good = each_good (transaction_in names) d all (good_bind (statement_in names d.body) _ body (λ x. good_bind (expression_in names d.value) _ value (λ y. (record { name = d.name; body = x; result = y }, refl)))) more.good;
+    }
+
+abbrev tasks_in_all : List (TxId × ℕ) → ℕ
+tasks_in_all runs = sum_by (λ run. run.1) runs
+
+record RunsFit (names : List (List ℕ)) (many : ℕ) (ps : List Pair) : Type 0 where
+  runs : List (TxId × ℕ)
+  are : each (run_in names) ps ≡ Ok runs
+  one : list_all (λ run. nat_le run.1 most_tasks) runs ≡ true
+  all : many + tasks_in_all runs ≤ most_tasks
+
+run_is : (names : List (List ℕ)) (p : Pair) (place n : ℕ) → place_in names p.name ≡ Ok place → count_of p.value ≡ Ok n → run_in names p ≡ Ok (record { 0 = place }, n)
+run_is names p place n a b = rw (a, b) refl
+
+each_is : {A B : Type 0} (one : A → Result B ReadFault) (x : A) (xs : List A) (y : B) (ys : List B) → one x ≡ Ok y → each one xs ≡ Ok ys → each one (x ∷ xs) ≡ Ok (y ∷ ys)
+each_is one x xs y ys a b = rw (a, b) refl
+
+runs_fit : (names : List (List ℕ)) → length names ≤ 256 → (ps : List Pair) (s : Seen) (ts : List Lexeme) → s.many.tasks ≤ most_tasks → list_all (run_known names) ps ≡ true
+    → Along LimitRight s role.Value (flat_map (pair_tokens (codes "run")) ps ++ ts) → RunsFit names s.many.tasks ps
+runs_fit names few [] s ts m k h = record { runs = []; are = refl; one = refl; all = omega arith }
+runs_fit names few (p ∷ ps) s ts m k h =
+    let w = in_run LimitRight s p (flat_map (pair_tokens (codes "run")) ps ++ ts) (onward LimitRight s (pair_tokens (codes "run")) p ps ts h) in
+    let b = both (run_known names p) (list_all (run_known names) ps) k in
+    let fits = run_fits s.many.tasks (count_of p.value) w.1 in
+    let counted : tasks_of (count_of p.value) ≡ fits.tasks = ap tasks_of fits.is in
+    let place = place_good names p.name few b.0 in
+    let le : s.many.tasks + fits.tasks ≤ most_tasks = fits.all in
+    let more = runs_fit names few ps (with_tasks s p) ts (omega arith) b.1 w.2 in
+    let all : s.many.tasks + tasks_of (count_of p.value) + tasks_in_all more.runs ≤ most_tasks = more.all in
+    let run : TxId × ℕ = (record { 0 = place.0 }, fits.tasks) in
+    let total : tasks_in_all (run ∷ more.runs) ≡ fits.tasks + tasks_in_all more.runs = sum_by-cons (λ (r : TxId × ℕ). r.1) run more.runs in
+    record {
+      runs = run ∷ more.runs;
+      are = each_is (run_in names) p ps run more.runs (run_is names p place.0 fits.tasks place.1 fits.is) more.are;
+      one = both_true _ _ fits.one more.one;
+      all = omega arith;
+    }
+
+-- ---- the file
+
+-- a listing has the names of its file
+pub record NamesOf (file : File) (l : Listing) : Type 0 where
+  pub variables : l.names ≡ map pair_name file.vars
+  pub conditions : always_names l ≡ map condition_name file.always
+  pub transactions : map (λ (x : Transaction). x.name) l.transactions ≡ map tx_name file.txs
+
+pub names_of : (file : File) (l : Listing) → resolved file ≡ Ok l → NamesOf file l
+unfolding written_in
+names_of file l is =
+    let w = resolved_back file l is in
+    record {
+      variables = sym (var_names l.names l.initial w.valued) ∙ ap (λ (g : File). map pair_name g.vars) w.same;
+      conditions = sym (names_of_conditions l.names l.always) ∙ ap (λ (g : File). map condition_name g.always) w.same;
+      transactions = sym (names_of_txs l.names l.transactions) ∙ ap (λ (g : File). map tx_name g.txs) w.same;
+    }
+
+-- a listing of a file, within the limits but for its costs
+pub record Fits (file : File) : Type 0 where
+  pub listing : Listing
+  pub is : resolved file ≡ Ok listing
+  pub holds : CostsHold listing → limits_hold listing ≡ true
+
+resolved_is : (file : File) (vars : List (List ℕ × ℤ)) (always : List (List ℕ × Condition)) (txs : List Transaction) (runs : List (TxId × ℕ)) → names_known file ≡ true
+    → each variable_of file.vars ≡ Ok vars → each (always_in (map pair_name file.vars)) file.always ≡ Ok always → each (transaction_in (map pair_name file.vars)) file.txs ≡ Ok txs
+    → each (run_in (map tx_name file.txs)) file.runs ≡ Ok runs → resolved file ≡ Ok (listing vars always txs runs)
+unfolding resolved converted
+resolved_is file vars always txs runs k a b c d =
+    let k0 = both _ _ k in
+    let k1 = both _ _ k0.1 in
+    let k2 = both _ _ k1.1 in
+    rw (declared_again [] (map pair_name file.vars) k0.0, declared_again [] (map condition_name file.always) k1.0, declared_again [] (map tx_name file.txs) k2.0, k2.1, a, b, c, d) refl
+
+limits_are : (l : Listing) → length l.names ≤ most_variables → list_all is_short l.names ≡ true → length l.always ≤ most_conditions → list_all is_short (always_names l) ≡ true
+    → length l.transactions ≤ most_transactions → list_all is_short (map (λ (x : Transaction). x.name) l.transactions) ≡ true → list_all (λ run. nat_le run.1 most_tasks) l.runs ≡ true → tasks_in_all l.runs ≤ most_tasks
+    → CostsHold l → limits_hold l ≡ true
+unfolding limits_hold
+limits_are l variables names conditions always transactions txs one all costs =
+    let p1 = le-leb (length l.names) most_variables variables in
+    let p2 = le-leb (length l.always) most_conditions conditions in
+    let p3 = le-leb (length l.transactions) most_transactions transactions in
+    let p4 = le-leb (tasks_in_all l.runs) most_tasks all in
+    let short : list_all (λ (x : Transaction). is_short x.name) l.transactions ≡ true = sym (list_all-map is_short (λ (x : Transaction). x.name) l.transactions) ∙ txs in
+    both_true _ _ p1 (both_true _ _ names (both_true _ _ p2 (both_true _ _ always (both_true _ _ costs.0 (both_true _ _ p3 (both_true _ _ short (both_true _ _ costs.1 (both_true _ _ one p4))))))))
+
+uses_parts : (vars txs : List (List ℕ)) (file : File) → uses_known vars txs file ≡ true
+    → (list_all (always_known vars) file.always ≡ true) × (list_all (tx_known vars) file.txs ≡ true) × (list_all (run_known txs) file.runs ≡ true)
+unfolding uses_known
+uses_parts vars txs file h =
+    let a = both (list_all (always_known vars) file.always) (list_all (tx_known vars) file.txs && list_all (run_known txs) file.runs) h in
+    let b = both (list_all (tx_known vars) file.txs) (list_all (run_known txs) file.runs) a.1 in
+    (a.0, b.0, b.1)
+
+pub file_fits : (file : File) → names_known file ≡ true → InFile LimitRight file (at_always file) (at_txs file) (at_runs file) → Fits file
+file_fits file k h =
+    let s1 = at_always file in
+    let s2 = at_txs file in
+    let s3 = at_runs file in
+    let names = map pair_name file.vars in
+    let txs = map tx_name file.txs in
+    let conditions_named = map condition_name file.always in
+    let k0 = both (are_distinct names) (are_distinct conditions_named && (are_distinct txs && uses_known names txs file)) k in
+    let k1 = both (are_distinct conditions_named) (are_distinct txs && uses_known names txs file) k0.1 in
+    let k2 = both (are_distinct txs) (uses_known names txs file) k1.1 in
+    let used = uses_parts names txs file k2.1 in
+    let none1 : s1.many.conditions ≡ 0 = kept_by_variables (λ (s : Seen). s.many.conditions) (λ s text. refl) file.vars (seen_in []) in
+    let none2 : s2.many.transactions ≡ 0 =
+    kept_by_conditions (λ (s : Seen). s.many.transactions) (λ s text. refl) file.always s1 ∙ kept_by_variables (λ (s : Seen). s.many.transactions) (λ s text. refl) file.vars (seen_in []) in
+    let none3 : s3.many.tasks ≡ 0 =
+    kept_by_transactions (λ (s : Seen). s.many.tasks) (λ s text. refl) file.txs s2 ∙ kept_by_conditions (λ (s : Seen). s.many.tasks) (λ s text. refl) file.always s1
+    ∙ kept_by_variables (λ (s : Seen). s.many.tasks) (λ s text. refl) file.vars (seen_in []) in
+    let vars_are = vars_fit file.vars (seen_in []) _ (omega arith) h.vars in
+    let few_vars : length file.vars ≤ 256 = let le : 0 + length file.vars ≤ most_variables = vars_are.few in omega arith in
+    let few : length names ≤ 256 = let e : length names ≡ length file.vars = length-map file.vars pair_name in omega arith in
+    let always_are = always_fit names few file.always s1 _ (omega arith) used.0 h.always in
+    let txs_are = txs_fit names few file.txs s2 _ (omega arith) used.1 h.txs in
+    let few_txs : length txs ≤ 256 = let e : length txs ≡ length file.txs = length-map file.txs tx_name in let le : s2.many.transactions + length file.txs ≤ most_transactions = txs_are.few in omega arith in
+    let runs_are = runs_fit txs few_txs file.runs s3 [] (omega arith) used.2 h.runs in
+    let l : Listing = listing vars_are.good.0 always_are.good.0 txs_are.good.0 runs_are.runs in
+    let is : resolved file ≡ Ok l = resolved_is file vars_are.good.0 always_are.good.0 txs_are.good.0 runs_are.runs k vars_are.good.1 always_are.good.1 txs_are.good.1 runs_are.are in
+    let of = names_of file l is in
+    let many1 : length l.names ≡ length names = ap length of.variables in
+    let many2 : length l.always ≡ length file.always = sym (length-map l.always (λ (a : List ℕ × Condition). a.0)) ∙ ap length of.conditions ∙ length-map file.always condition_name in
+    let many3 : length l.transactions ≡ length txs = sym (length-map l.transactions (λ (x : Transaction). x.name)) ∙ ap length of.transactions in
+    let le2 : s1.many.conditions + length file.always ≤ most_conditions = always_are.few in
+    let le4 : s3.many.tasks + tasks_in_all runs_are.runs ≤ most_tasks = runs_are.all in
+    record {
+      listing = l;
+      is = is;
+      holds = limits_are l (omega arith) (ap (list_all is_short) of.variables ∙ vars_are.short) (omega arith) (ap (list_all is_short) of.conditions ∙ always_are.short)
+          (omega arith) (ap (list_all is_short) of.transactions ∙ txs_are.short) runs_are.one (omega arith);
+    }

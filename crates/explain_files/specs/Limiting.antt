@@ -1,0 +1,72 @@
+-- Which names and numbers of a file go over a limit.
+use Rattle.std.specs.Prelude.{ℕ, ℤ, ◌+◌, if◌then◌else◌, nat_le, Option, Some, None, Result, Ok, Err, List, [], ◌∷◌, length}
+use Rattle.txn_programs.specs.Limits.{most_variables, most_conditions, most_transactions, most_tasks, most_turns, longest_name}
+use Rattle.text_words.specs.Tokens.{Lexeme, Opens, Closes}
+use Rattle.text_words.specs.Tokens as token
+use Rattle.text_words.specs.Numbers.{number_of, count_of}
+use Rattle.text_words.specs.declared.fault.ReadFault.{ReadFault}
+use Rattle.explain_files.specs.declared.wanted.NameUse.TheVariants as name
+use Rattle.explain_files.specs.declared.wanted.NumberUse.TheVariants as number
+use Rattle.explain_files.specs.declared.wanted.Role.{Role}
+use Rattle.explain_files.specs.declared.wanted.Role.TheVariants as role
+use Rattle.explain_files.specs.declared.limits.LimitFault.{LimitFault}
+use Rattle.explain_files.specs.declared.limits.LimitFault.TheVariants as over
+use Rattle.explain_files.specs.Roles.{role_at}
+
+-- how many names are declared of each kind, and how many tasks are run
+pub record Many : Type 0 where
+  pub variables : ℕ
+  pub conditions : ℕ
+  pub transactions : ℕ
+  pub tasks : ℕ
+
+-- the tasks of a run, where they can be counted
+abbrev pub tasks_of : Result ℕ ReadFault → ℕ
+tasks_of (Ok n) = n
+tasks_of (Err e) = 0
+
+-- and one token more, which is for this
+abbrev pub many_with : Many → Role → Lexeme → Many
+many_with many (role.Name name.Variable) (token.Name text) = record { variables = many.variables + 1; conditions = many.conditions; transactions = many.transactions; tasks = many.tasks }
+many_with many (role.Name name.Condition) (token.Name text) = record { variables = many.variables; conditions = many.conditions + 1; transactions = many.transactions; tasks = many.tasks }
+many_with many (role.Name name.Transaction) (token.Name text) = record { variables = many.variables; conditions = many.conditions; transactions = many.transactions + 1; tasks = many.tasks }
+many_with many (role.Number number.Tasks) (token.Int value) = record { variables = many.variables; conditions = many.conditions; transactions = many.transactions; tasks = many.tasks + tasks_of (count_of value) }
+many_with many used t = many
+
+abbrev pub many_in : List Lexeme → Many
+many_in [] = record { variables = 0; conditions = 0; transactions = 0; tasks = 0 }
+many_in (t ∷ before) = many_with (many_in before) (role_at before) t
+
+abbrev pub too_long : List ℕ → Option LimitFault
+too_long text = if nat_le (length text) longest_name then None else Some over.Name
+
+-- one name more, where there are so many, and so many at most
+abbrev pub too_many : ℕ → ℕ → LimitFault → List ℕ → Option LimitFault
+too_many many most fault text = if nat_le most many then Some fault else too_long text
+
+abbrev pub value_fault : Result ℤ ReadFault → Option LimitFault
+value_fault (Ok n) = None
+value_fault (Err e) = Some over.Number
+
+abbrev pub turns_fault : Result ℕ ReadFault → Option LimitFault
+turns_fault (Ok n) = if nat_le n most_turns then None else Some over.Turns
+turns_fault (Err e) = Some over.Turns
+
+-- of a run, where those before it have so many
+abbrev pub tasks_fault : ℕ → Result ℕ ReadFault → Option LimitFault
+tasks_fault many (Ok n) = if nat_le n most_tasks then (if nat_le (many + n) most_tasks then None else Some over.AllTasks) else Some over.Tasks
+tasks_fault many (Err e) = Some over.Tasks
+
+-- by what the name or the number is for, where there are so many before it
+abbrev pub limit_fault : Many → Role → Lexeme → Option LimitFault
+limit_fault many (role.Name name.Variable) (token.Name text) = too_many many.variables most_variables over.Variables text
+limit_fault many (role.Name name.Condition) (token.Name text) = too_many many.conditions most_conditions over.Conditions text
+limit_fault many (role.Name name.Transaction) (token.Name text) = too_many many.transactions most_transactions over.Transactions text
+limit_fault many (role.Number number.Initial) (token.Int value) = value_fault (number_of value)
+limit_fault many (role.Number number.Turns) (token.Int value) = turns_fault (count_of value)
+limit_fault many (role.Number number.Tasks) (token.Int value) = tasks_fault many.tasks (count_of value)
+limit_fault many role.Value (token.Int value) = value_fault (number_of value)
+limit_fault many used t = None
+
+abbrev pub limit_fault_at : List Lexeme → Lexeme → Option LimitFault
+limit_fault_at before t = limit_fault (many_in before) (role_at before) t
