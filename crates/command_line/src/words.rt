@@ -219,7 +219,7 @@ fn from<'a>(alloc: Global) -> Arg<'a> {
 
 /// What the words ask for. An `Err` has the text to show: help or the version, where it was asked for,
 /// or what is wrong with the words.
-pub fn parse<'a>(alloc: Global, words: &'a [String]) -> Result<Request<'a>, Error> {
+pub(crate) fn parse<'a>(alloc: Global, words: &'a [String]) -> Result<Request<'a>, Error> {
     let mut command = command(alloc)?;
     request_by(&mut command, words)
 }

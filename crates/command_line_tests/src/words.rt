@@ -1,7 +1,8 @@
 //! The command line: what is asked for, help, and refusals.
 
-use clap::error::ErrorKind;
-use command_line::{Explained, Request, parse};
+use crate::shown::Shown;
+use command_answers::Answer;
+use command_line::{Explained, Request, asked};
 use explore_options::Limit;
 use std::alloc::{AllocError, Global};
 use std::process::Abort;
@@ -22,19 +23,19 @@ fn words(rt: &impl Abort, alloc: Global, line: &str) -> Vec<String> {
     }
 }
 
-/// The kind of the refusal of a command line, if it is refused.
-fn refusal(rt: &impl Abort, alloc: Global, line: &str) -> Option<ErrorKind> {
-    let words = words(rt, alloc, line);
-    match parse(alloc, words.as_slice()) {
+/// What is answered to a command line that asks for no command, if it asks for none.
+fn refusal(rt: &impl Abort, shown: &Shown, line: &str) -> Option<Answer> {
+    let words = words(rt, shown.alloc(), line);
+    match asked(shown, words.as_slice()) {
         Ok(_) => None,
-        Err(error) => Some(error.kind()),
+        Err(answer) => Some(answer),
     }
 }
 
 /// A command line asks to run `a.stm` with these workers, tries and checkpoint.
 fn expect_run(rt: &impl Abort, alloc: Global, line: &str, wanted: (u32, u32, u32)) {
     let words = words(rt, alloc, line);
-    match parse(alloc, words.as_slice()) {
+    match asked(&Shown::new(alloc), words.as_slice()) {
         Ok(Request::Run(request)) => {
             assert!(rt; request.file == "a.stm");
             assert!(rt; request.options.workers() == wanted.0);
@@ -78,7 +79,7 @@ fn a_checkpoint_is_asked_for(rt: HostRuntime) {
 /// A command line asks for a check of `a.report`, or to play `a.schedule`, of `a.stm`.
 fn asks_for(rt: &impl Abort, alloc: Global, line: &str, other: &str) -> bool {
     let words = words(rt, alloc, line);
-    match parse(alloc, words.as_slice()) {
+    match asked(&Shown::new(alloc), words.as_slice()) {
         Ok(Request::Check(request)) => {
             other == "a.report" && request.file == "a.stm" && request.report == other
         }
@@ -101,11 +102,8 @@ fn a_schedule_is_asked_for(rt: HostRuntime) {
 
 /// A command line is refused as a mistake.
 fn expect_mistake(rt: &(impl Abort + Eprint), alloc: Global, line: &str) {
-    let is_mistake = match refusal(rt, alloc, line) {
-        Some(kind) => kind != ErrorKind::DisplayHelp && kind != ErrorKind::OutOfMemory,
-        None => false,
-    };
-    assert!(rt; is_mistake, "of {line}");
+    let answer = refusal(rt, &Shown::new(alloc), line);
+    assert!(rt; answer == Some(Answer::Refused), "of {line}");
 }
 
 #[test]
@@ -149,14 +147,10 @@ fn mistakes_are_refused(rt: HostRuntime) {
 
 /// What is told of a refused command line begins so.
 fn expect_told(rt: &impl Abort, alloc: Global, line: &str, told: &str) {
-    let words = words(rt, alloc, line);
-    let Err(error) = parse(alloc, words.as_slice()) else {
-        panic!(rt; "it is not refused")
-    };
-    match format!(in alloc; "{error}") {
-        Ok(text) => assert!(rt; text.as_str().starts_with(told)),
-        Err(_) => panic!(rt; "no text"),
-    }
+    let shown = Shown::new(alloc);
+    assert!(rt; refusal(rt, &shown, line) == Some(Answer::Refused));
+    assert!(rt; shown.says(told));
+    assert!(rt; shown.has_printed(""));
 }
 
 /// A number out of its range is told with the range.
@@ -185,8 +179,10 @@ fn ranges_are_told(rt: HostRuntime) {
 
 /// A command line asks for help.
 fn expect_help(rt: &(impl Abort + Eprint), alloc: Global, line: &str) {
+    let shown = Shown::new(alloc);
+    let answer = refusal(rt, &shown, line);
     assert!(rt;
-        refusal(rt, alloc, line) == Some(ErrorKind::DisplayHelp),
+        answer == Some(Answer::Done) && !shown.has_printed(""),
         "of {line}"
     );
 }
@@ -212,15 +208,9 @@ fn help_is_shown(rt: HostRuntime) {
 
 /// A command line asks for this version.
 fn expect_version(rt: &impl Abort, alloc: Global, line: &str, version: &str) {
-    let words = words(rt, alloc, line);
-    let Err(error) = parse(alloc, words.as_slice()) else {
-        panic!(rt; "no version is asked for")
-    };
-    assert!(rt; error.kind() == ErrorKind::DisplayVersion);
-    match format!(in alloc; "{error}") {
-        Ok(text) => assert!(rt; text.as_str() == version),
-        Err(_) => panic!(rt; "no text"),
-    }
+    let shown = Shown::new(alloc);
+    assert!(rt; refusal(rt, &shown, line) == Some(Answer::Done));
+    assert!(rt; shown.has_printed(version));
 }
 
 #[test]
@@ -231,7 +221,7 @@ fn the_version_is_shown(rt: HostRuntime) {
 /// A command line asks to see the orders of `a.stm`, of so many places, or for a report to this end.
 fn expect_orders(rt: &impl Abort, alloc: Global, line: &str, wanted: (u32, Option<usize>)) {
     let words = words(rt, alloc, line);
-    match parse(alloc, words.as_slice()) {
+    match asked(&Shown::new(alloc), words.as_slice()) {
         Ok(Request::Explore(request)) => {
             assert!(rt; request.file == "a.stm");
             assert!(rt; request.limit.states() == wanted.0);
@@ -262,7 +252,7 @@ fn orders_are_asked_for(rt: HostRuntime) {
 /// A command line asks to print `a.stm`, from this report.
 fn expect_print(rt: &impl Abort, alloc: Global, line: &str, report: Option<&str>) {
     let words = words(rt, alloc, line);
-    match parse(alloc, words.as_slice()) {
+    match asked(&Shown::new(alloc), words.as_slice()) {
         Ok(Request::Print(request)) => {
             assert!(rt; request.file == "a.stm");
             assert!(rt; request.report == report);
@@ -281,7 +271,7 @@ fn a_print_is_asked_for(rt: HostRuntime) {
 /// A command line asks to explain this of `a.stm`.
 fn expect_explain(rt: &impl Abort, alloc: Global, line: &str, what: Explained<'_>) {
     let words = words(rt, alloc, line);
-    match parse(alloc, words.as_slice()) {
+    match asked(&Shown::new(alloc), words.as_slice()) {
         Ok(Request::Explain(request)) => {
             assert!(rt; request.file == "a.stm");
             assert!(rt; request.what == what);
@@ -302,11 +292,12 @@ fn an_explanation_is_asked_for(rt: HostRuntime) {
 
 #[test]
 fn no_report_goes_with_a_schedule(rt: HostRuntime) {
-    let words = words(&rt, rt.alloc(), "stm explain a.stm b --schedule c");
-    match parse(rt.alloc(), words.as_slice()) {
-        Ok(_) => panic!(rt; "both are taken"),
-        Err(error) => assert!(rt; error.kind() == ErrorKind::ArgumentConflict),
-    }
+    expect_told(
+        &rt,
+        rt.alloc(),
+        "stm explain a.stm b --schedule c",
+        "error: the argument '[REPORT]' cannot be used with '--schedule <SCHEDULE>'\n",
+    );
 }
 
 #[test]

@@ -2,6 +2,7 @@
 use Rattle.std.specs.Prelude.{◌≡◌, ℕ, List, take, Option}
 use Rattle.std.specs.Io.KnownBytes.{Appends, Keeps}
 use Rattle.txn_text.specs.Faults.{IsFirst}
+use Rattle.commands.specs.Files.{AfterReadingBoth, report_limit}
 use Rattle.run_faults.specs.declared.fault.RunFault.TheVariants.{Input, Memory, Output, Schedule}
 use Rattle.checker.specs.declared.verdict.Verdict.{Verdict}
 use Rattle.checker.specs.declared.verdict.Verdict.TheVariants.{Good, Bad}
@@ -45,10 +46,6 @@ Checked file report old new (Failed Memory) = Keeps old new
 Checked file report old new (Failed Output) = ToldVerdict file report old new (Failed Output)
 Checked file report old new (Failed (Schedule kind)) = ⊥
 
--- a check of some bytes leaves this, or nothing was written
-abbrev pub CheckedFiles : Option (List ℕ) → Option (List ℕ) → Answer → Type 0
-CheckedFiles old new Unreadable = Keeps old new
-CheckedFiles old new Refused = ⊥
-CheckedFiles old new Done = (file report : List ℕ) × Checked file report old new Done
-CheckedFiles old new Unlawful = (file report : List ℕ) × Checked file report old new Unlawful
-CheckedFiles old new (Failed fault) = (file report : List ℕ) × Checked file report old new (Failed fault)
+-- what a check of a report of a file leaves, of which it is known that they have these bytes, if anything is
+abbrev pub CheckedFiles : Option (List ℕ) → Option (List ℕ) → Option (List ℕ) → Option (List ℕ) → Answer → Type 0
+CheckedFiles file report old new a = AfterReadingBoth report_limit file report (λ f r. Checked f r old new a) old new a

@@ -1,6 +1,6 @@
 -- What explaining a file leaves, or a report or a schedule of it.
-use Rattle.std.specs.Prelude.{ℕ, List, Option, Result, Ok, Err}
-use Rattle.std.specs.Io.KnownBytes.{Keeps}
+use Rattle.std.specs.Prelude.{ℕ, List, Option, None, Result, Ok, Err}
+use Rattle.commands.specs.Files.{AfterReading, AfterReadingBoth, file_limit, report_limit, schedule_limit}
 use Rattle.checker.specs.declared.verdict.Verdict.TheVariants.{Good, Bad}
 use Rattle.checker.specs.declared.verdict.Part.{Part}
 use Rattle.run_faults.specs.declared.fault.RunFault.{RunFault}
@@ -22,41 +22,51 @@ told what = Ok what
 abbrev pub untold : RunFault → Result Told RunFault
 untold fault = Err fault
 
--- by the answer: what explaining some file leaves that ends so, or nothing was written
-abbrev pub ExplainedFile : Option (List ℕ) → Option (List ℕ) → Answer → Type 0
-ExplainedFile old new Done = (input : List ℕ) × Telling input old new (told file.Good)
-ExplainedFile old new Unlawful = ⊥
-ExplainedFile old new Refused = ⊥
-ExplainedFile old new Unreadable = Keeps old new
+-- by the answer: what explaining these bytes leaves that ends so
+abbrev pub ExplainedBytes : List ℕ → Option (List ℕ) → Option (List ℕ) → Answer → Type 0
+ExplainedBytes input old new Done = Telling input old new (told file.Good)
+ExplainedBytes input old new Unlawful = ⊥
+ExplainedBytes input old new Refused = ⊥
+ExplainedBytes input old new Unreadable = ⊥
 -- where and why it is refused was written
-ExplainedFile old new (Failed (Input kind)) = (input : List ℕ) × Telling input old new (told (file.Refused kind))
-ExplainedFile old new (Failed Memory) = (input : List ℕ) × Telling input old new (untold Memory)
-ExplainedFile old new (Failed Output) = (input : List ℕ) × Telling input old new (untold Output)
-ExplainedFile old new (Failed (Schedule kind)) = ⊥
+ExplainedBytes input old new (Failed (Input kind)) = Telling input old new (told (file.Refused kind))
+ExplainedBytes input old new (Failed Memory) = Telling input old new (untold Memory)
+ExplainedBytes input old new (Failed Output) = Telling input old new (untold Output)
+ExplainedBytes input old new (Failed (Schedule kind)) = ⊥
 
--- the same of a report of some file
-abbrev pub ExplainedOnFiles : Option (List ℕ) → Option (List ℕ) → Answer → Type 0
-ExplainedOnFiles old new Done = (input report : List ℕ) × Written input report old new (Ok Good)
-ExplainedOnFiles old new Unlawful = (input report : List ℕ) × (part : Part) × Written input report old new (Ok (Bad part))
-ExplainedOnFiles old new Refused = ⊥
-ExplainedOnFiles old new Unreadable = Keeps old new
-ExplainedOnFiles old new (Failed fault) = (input report : List ℕ) × Written input report old new (Err fault)
+-- the same of a report of these bytes
+abbrev pub ExplainedOnBytes : List ℕ → List ℕ → Option (List ℕ) → Option (List ℕ) → Answer → Type 0
+ExplainedOnBytes input report old new Done = Written input report old new (Ok Good)
+ExplainedOnBytes input report old new Unlawful = (part : Part) × Written input report old new (Ok (Bad part))
+ExplainedOnBytes input report old new Refused = ⊥
+ExplainedOnBytes input report old new Unreadable = ⊥
+ExplainedOnBytes input report old new (Failed fault) = Written input report old new (Err fault)
 
--- the same of a schedule of some file
-abbrev pub ExplainedSchedule : Option (List ℕ) → Option (List ℕ) → Answer → Type 0
-ExplainedSchedule old new Done = (input schedule : List ℕ) × schedules.Telling input schedule old new (told file.Good)
-ExplainedSchedule old new Unlawful = ⊥
-ExplainedSchedule old new Refused = ⊥
-ExplainedSchedule old new Unreadable = Keeps old new
+-- the same of a schedule of these bytes
+abbrev pub ExplainedMoves : List ℕ → List ℕ → Option (List ℕ) → Option (List ℕ) → Answer → Type 0
+ExplainedMoves input schedule old new Done = schedules.Telling input schedule old new (told file.Good)
+ExplainedMoves input schedule old new Unlawful = ⊥
+ExplainedMoves input schedule old new Refused = ⊥
+ExplainedMoves input schedule old new Unreadable = ⊥
 -- the file is refused, and nothing was written
-ExplainedSchedule old new (Failed (Input kind)) = (input schedule : List ℕ) × schedules.Telling input schedule old new (untold (Input kind))
-ExplainedSchedule old new (Failed Memory) = (input schedule : List ℕ) × schedules.Telling input schedule old new (untold Memory)
-ExplainedSchedule old new (Failed Output) = (input schedule : List ℕ) × schedules.Telling input schedule old new (untold Output)
+ExplainedMoves input schedule old new (Failed (Input kind)) = schedules.Telling input schedule old new (untold (Input kind))
+ExplainedMoves input schedule old new (Failed Memory) = schedules.Telling input schedule old new (untold Memory)
+ExplainedMoves input schedule old new (Failed Output) = schedules.Telling input schedule old new (untold Output)
 -- where and why the schedule is refused was written
-ExplainedSchedule old new (Failed (Schedule kind)) = (input schedule : List ℕ) × schedules.Telling input schedule old new (told (file.Refused kind))
+ExplainedMoves input schedule old new (Failed (Schedule kind)) = schedules.Telling input schedule old new (told (file.Refused kind))
+
+-- of files of which it is known that they have these bytes, if anything is
+abbrev pub ExplainedFile : Option (List ℕ) → Option (List ℕ) → Option (List ℕ) → Answer → Type 0
+ExplainedFile known old new a = AfterReading file_limit known (λ input. ExplainedBytes input old new a) old new a
+
+abbrev pub ExplainedOnFiles : Option (List ℕ) → Option (List ℕ) → Option (List ℕ) → Option (List ℕ) → Answer → Type 0
+ExplainedOnFiles input report old new a = AfterReadingBoth report_limit input report (λ f r. ExplainedOnBytes f r old new a) old new a
+
+abbrev pub ExplainedSchedule : Option (List ℕ) → Option (List ℕ) → Option (List ℕ) → Option (List ℕ) → Answer → Type 0
+ExplainedSchedule input schedule old new a = AfterReadingBoth schedule_limit input schedule (λ f s. ExplainedMoves f s old new a) old new a
 
 -- by what is explained
 abbrev pub ExplainedAs : Explained → Option (List ℕ) → Option (List ℕ) → Answer → Type 0
-ExplainedAs what.File old new a = ExplainedFile old new a
-ExplainedAs (what.Report path) old new a = ExplainedOnFiles old new a
-ExplainedAs (what.Schedule path) old new a = ExplainedSchedule old new a
+ExplainedAs what.File old new a = ExplainedFile None old new a
+ExplainedAs (what.Report path) old new a = ExplainedOnFiles None None old new a
+ExplainedAs (what.Schedule path) old new a = ExplainedSchedule None None old new a

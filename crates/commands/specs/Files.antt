@@ -8,9 +8,15 @@ use Rattle.run_faults.specs.declared.fault.RunFault.TheVariants.{Memory}
 use Rattle.command_answers.specs.declared.answer.Answer.{Answer}
 use Rattle.command_answers.specs.declared.answer.Answer.TheVariants.{Done, Unlawful, Refused, Unreadable, Failed}
 
--- how many bytes a file has at most
+-- how many bytes a file, a report and a schedule have at most
 abbrev pub file_limit : ℕ
 file_limit = 1048576
+
+abbrev pub report_limit : ℕ
+report_limit = 8388608
+
+abbrev pub schedule_limit : ℕ
+schedule_limit = 1048576
 
 -- with one byte more than the limit it is known to be too long
 abbrev pub read_of : ℕ → List ℕ → List ℕ
@@ -31,6 +37,11 @@ IsUnread a = (a ≡ Unreadable) ⊎ (a ≡ Failed Memory)
 -- it could not be read, and nothing was written; or it was, and this is so of what was read
 abbrev pub AfterReading : ℕ → Option (List ℕ) → (List ℕ → Type 0) → Option (List ℕ) → Option (List ℕ) → Answer → Type 0
 AfterReading limit known Left old new a = (IsUnread a × Keeps old new) ⊎ OfRead limit known Left
+
+-- the same of a file, and of a report or a schedule of it
+abbrev pub AfterReadingBoth : ℕ → Option (List ℕ) → Option (List ℕ) → (List ℕ → List ℕ → Type 0) → Option (List ℕ) → Option (List ℕ) → Answer → Type 0
+AfterReadingBoth limit file other Left old new a =
+    (IsUnread a × Keeps old new) ⊎ OfRead file_limit file (λ bytes. OfRead limit other (Left bytes))
 
 -- the answers of a run of bytes
 abbrev pub done : Result (Unit {0}) RunFault

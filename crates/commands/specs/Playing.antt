@@ -1,15 +1,18 @@
 -- What playing the schedule of a file leaves.
 use Rattle.std.specs.Prelude.{ℕ, List, Option}
-use Rattle.std.specs.Io.KnownBytes.{Keeps}
 use Rattle.world_runner.specs.Showing.{Showed}
-use Rattle.commands.specs.Files.{done, ended}
+use Rattle.commands.specs.Files.{AfterReadingBoth, schedule_limit, done, ended}
 use Rattle.command_answers.specs.declared.answer.Answer.{Answer}
 use Rattle.command_answers.specs.declared.answer.Answer.TheVariants.{Done, Unlawful, Refused, Unreadable, Failed}
 
--- by the answer: what playing some schedule of some file leaves that ends so, or nothing was written
-abbrev pub PlayedFiles : Option (List ℕ) → Option (List ℕ) → Answer → Type 0
-PlayedFiles old new Done = (file schedule : List ℕ) × Showed file schedule old new done
-PlayedFiles old new Unlawful = ⊥
-PlayedFiles old new Refused = ⊥
-PlayedFiles old new Unreadable = Keeps old new
-PlayedFiles old new (Failed fault) = (file schedule : List ℕ) × Showed file schedule old new (ended fault)
+-- by the answer: what playing this schedule of this file leaves that ends so
+abbrev pub Played : List ℕ → List ℕ → Option (List ℕ) → Option (List ℕ) → Answer → Type 0
+Played file schedule old new Done = Showed file schedule old new done
+Played file schedule old new Unlawful = ⊥
+Played file schedule old new Refused = ⊥
+Played file schedule old new Unreadable = ⊥
+Played file schedule old new (Failed fault) = Showed file schedule old new (ended fault)
+
+-- of which it is known that they have these bytes, if anything is
+abbrev pub PlayedFiles : Option (List ℕ) → Option (List ℕ) → Option (List ℕ) → Option (List ℕ) → Answer → Type 0
+PlayedFiles file schedule old new a = AfterReadingBoth schedule_limit file schedule (λ f s. Played f s old new a) old new a

@@ -1,21 +1,22 @@
 //! `stm check`: the bytes of a file and of a report in, the line of a verdict and a status out.
 
-ghost use Rattle.std.specs.Prelude.{◌≡◌, ◌<◌, ◌+◌, ◌^◌, true};
+ghost use Rattle.std.specs.Prelude.{◌≡◌, ◌<◌, ◌+◌, ◌^◌, true, None};
 ghost use Rattle.commands.specs.Files.{failed_calls};
 ghost use Rattle.commands.specs.Checking.{Tells, Checked, CheckedFiles, verdict_answer};
 
-use crate::reading::contents;
+use crate::reading::{both_of, both_opened};
 use checker::{Verdict, check};
-use command_answers::{Answer, unread};
+use command_answers::Answer;
 use run_faults::RunFault;
 use run_sink::{Sink, put_all};
 use std::alloc::Global;
+use std::io::Read;
 use std::rt::Files;
 use text_report_reader::MAX_REPORT;
-use txn_text::{MAX_FILE, ReadFault};
+use txn_text::ReadFault;
 
-/// Checks a report of a file, and writes the verdict's line to the sink. Both are read before
-/// either is judged.
+/// Checks the report of the file at these paths, and writes the verdict's line to the sink. Both are
+/// read before either is judged.
 pub fn check_files<R: Files + AllocGlobal, S: Sink>(
     rt: &R,
     file: &str,
@@ -23,20 +24,34 @@ pub fn check_files<R: Files + AllocGlobal, S: Sink>(
     sink: &mut S,
 ) -> Answer
     requires { S.failed sink.old < 2 ^ 63 }
-    ensures checked { CheckedFiles (S.bytes sink.old) (S.bytes sink.new) result }
+    ensures checked { CheckedFiles None None (S.bytes sink.old) (S.bytes sink.new) result }
     ensures good { result ≡ Answer.Done → S.flushed sink.new ≡ true }
     ensures bad { result ≡ Answer.Unlawful → S.flushed sink.new ≡ true }
     ensures failures { S.failed sink.new ≡ S.failed sink.old + failed_calls result }
 {
-    let file = match contents(rt, file, MAX_FILE) {
-        Ok(bytes) => bytes,
-        Err(error) => return unread(&error),
-    };
-    let report = match contents(rt, report, MAX_REPORT) {
-        Ok(bytes) => bytes,
-        Err(error) => return unread(&error),
-    };
-    check_bytes(rt.alloc(), file.as_slice(), report.as_slice(), sink)
+    match both_opened(rt, file, report) {
+        Ok((file, report)) => check_inputs(rt.alloc(), file, report, sink),
+        Err(answer) => answer,
+    }
+}
+
+/// Checks the report that a reader has of the file that another one has.
+pub fn check_inputs<I: Read + Drop, J: Read + Drop, S: Sink>(
+    alloc: Global,
+    file: I,
+    report: J,
+    sink: &mut S,
+) -> Answer
+    requires { S.failed sink.old < 2 ^ 63 }
+    ensures checked { CheckedFiles (I.remaining file) (J.remaining report) (S.bytes sink.old) (S.bytes sink.new) result }
+    ensures good { result ≡ Answer.Done → S.flushed sink.new ≡ true }
+    ensures bad { result ≡ Answer.Unlawful → S.flushed sink.new ≡ true }
+    ensures failures { S.failed sink.new ≡ S.failed sink.old + failed_calls result }
+{
+    match both_of(alloc, file, report, MAX_REPORT) {
+        Ok((file, report)) => check_bytes(alloc, file.as_slice(), report.as_slice(), sink),
+        Err(answer) => answer,
+    }
 }
 
 /// Checks the bytes of a report of a file, and writes the verdict's line to the sink.

@@ -1,17 +1,19 @@
 //! `stm explain`: the bytes of a file in, or of a file and of a report or a schedule, and out where and
 //! why the file or the schedule is refused, or what of the report does not hold, with a status.
 
-ghost use Rattle.std.specs.Prelude.{◌≡◌, ◌<◌, ◌+◌, ◌^◌, true};
+ghost use Rattle.std.specs.Prelude.{◌≡◌, ◌<◌, ◌+◌, ◌^◌, true, None};
 ghost use Rattle.commands.specs.Files.{failed_calls};
-ghost use Rattle.commands.specs.Explaining.{ExplainedAs, ExplainedFile, ExplainedOnFiles, ExplainedSchedule};
+ghost use Rattle.commands.specs.Explaining.{ExplainedAs, ExplainedBytes, ExplainedFile, ExplainedMoves, ExplainedOnBytes, ExplainedOnFiles, ExplainedSchedule};
 
 use crate::checking::answer_of;
-use crate::reading::contents;
-use command_answers::{Answer, unread};
+use crate::reading::{both_of, both_opened, bytes_of, opened};
+use command_answers::Answer;
 use command_line::{Explain, Explained};
 use explain_runner::{Told, explain_bytes};
 use run_faults::RunFault;
 use run_sink::Sink;
+use std::alloc::Global;
+use std::io::Read;
 use std::rt::Files;
 use text_report_reader::MAX_REPORT;
 use text_schedule_reader::MAX_SCHEDULE;
@@ -35,19 +37,41 @@ pub fn explain_files<R: Files + AllocGlobal, S: Sink>(
     }
 }
 
-/// Writes to the sink that the file is read, or where and why it is refused. A file that is refused
-/// is answered as it is where it is run, with what was written beside.
+/// Writes to the sink that the file at the path is read, or where and why it is refused. A file that is
+/// refused is answered as it is where it is run, with what was written beside.
 fn explain_file_at<R: Files + AllocGlobal, S: Sink>(rt: &R, path: &str, sink: &mut S) -> Answer
     requires { S.failed sink.old < 2 ^ 63 }
-    ensures explained { ExplainedFile (S.bytes sink.old) (S.bytes sink.new) result }
+    ensures explained { ExplainedFile None (S.bytes sink.old) (S.bytes sink.new) result }
     ensures flushed { result ≡ Answer.Done → S.flushed sink.new ≡ true }
     ensures failures { S.failed sink.new ≡ S.failed sink.old + failed_calls result }
 {
-    let bytes = match contents(rt, path, MAX_FILE) {
-        Ok(bytes) => bytes,
-        Err(error) => return unread(&error),
-    };
-    match explain_bytes(rt.alloc(), bytes.as_slice(), sink) {
+    match opened(rt, path) {
+        Ok(file) => explain_input(rt.alloc(), file, sink),
+        Err(answer) => answer,
+    }
+}
+
+/// The same of the file that a reader has.
+pub fn explain_input<I: Read + Drop, S: Sink>(alloc: Global, input: I, sink: &mut S) -> Answer
+    requires { S.failed sink.old < 2 ^ 63 }
+    ensures explained { ExplainedFile (I.remaining input) (S.bytes sink.old) (S.bytes sink.new) result }
+    ensures flushed { result ≡ Answer.Done → S.flushed sink.new ≡ true }
+    ensures failures { S.failed sink.new ≡ S.failed sink.old + failed_calls result }
+{
+    match bytes_of(alloc, input, MAX_FILE) {
+        Ok(bytes) => explained(alloc, bytes.as_slice(), sink),
+        Err(answer) => answer,
+    }
+}
+
+/// The same of the file of these bytes.
+fn explained<S: Sink>(alloc: Global, bytes: &[u8], sink: &mut S) -> Answer
+    requires { S.failed sink.old < 2 ^ 63 }
+    ensures explained { ExplainedBytes bytes.now (S.bytes sink.old) (S.bytes sink.new) result }
+    ensures flushed { result ≡ Answer.Done → S.flushed sink.new ≡ true }
+    ensures failures { S.failed sink.new ≡ S.failed sink.old + failed_calls result }
+{
+    match explain_bytes(alloc, bytes, sink) {
         Ok(Told::Good) => Answer::Done,
         Ok(Told::Refused(kind)) => Answer::Failed(RunFault::Input(kind)),
         Err(fault) => Answer::Failed(fault),
@@ -63,20 +87,45 @@ fn explain_report_at<R: Files + AllocGlobal, S: Sink>(
     sink: &mut S,
 ) -> Answer
     requires { S.failed sink.old < 2 ^ 63 }
-    ensures explained { ExplainedOnFiles (S.bytes sink.old) (S.bytes sink.new) result }
+    ensures explained { ExplainedOnFiles None None (S.bytes sink.old) (S.bytes sink.new) result }
     ensures done { result ≡ Answer.Done → S.flushed sink.new ≡ true }
     ensures bad { result ≡ Answer.Unlawful → S.flushed sink.new ≡ true }
     ensures failures { S.failed sink.new ≡ S.failed sink.old + failed_calls result }
 {
-    let file = match contents(rt, file, MAX_FILE) {
-        Ok(bytes) => bytes,
-        Err(error) => return unread(&error),
-    };
-    let report = match contents(rt, report, MAX_REPORT) {
-        Ok(bytes) => bytes,
-        Err(error) => return unread(&error),
-    };
-    match explain_reports::explain_bytes(rt.alloc(), file.as_slice(), report.as_slice(), sink) {
+    match both_opened(rt, file, report) {
+        Ok((file, report)) => explain_on_inputs(rt.alloc(), file, report, sink),
+        Err(answer) => answer,
+    }
+}
+
+/// The same of the file that a reader has, and of the report that another one has.
+pub fn explain_on_inputs<I: Read + Drop, J: Read + Drop, S: Sink>(
+    alloc: Global,
+    file: I,
+    report: J,
+    sink: &mut S,
+) -> Answer
+    requires { S.failed sink.old < 2 ^ 63 }
+    ensures explained { ExplainedOnFiles (I.remaining file) (J.remaining report) (S.bytes sink.old) (S.bytes sink.new) result }
+    ensures done { result ≡ Answer.Done → S.flushed sink.new ≡ true }
+    ensures bad { result ≡ Answer.Unlawful → S.flushed sink.new ≡ true }
+    ensures failures { S.failed sink.new ≡ S.failed sink.old + failed_calls result }
+{
+    match both_of(alloc, file, report, MAX_REPORT) {
+        Ok((file, report)) => explained_on(alloc, file.as_slice(), report.as_slice(), sink),
+        Err(answer) => answer,
+    }
+}
+
+/// The same of the bytes of both.
+fn explained_on<S: Sink>(alloc: Global, file: &[u8], report: &[u8], sink: &mut S) -> Answer
+    requires { S.failed sink.old < 2 ^ 63 }
+    ensures explained { ExplainedOnBytes file.now report.now (S.bytes sink.old) (S.bytes sink.new) result }
+    ensures done { result ≡ Answer.Done → S.flushed sink.new ≡ true }
+    ensures bad { result ≡ Answer.Unlawful → S.flushed sink.new ≡ true }
+    ensures failures { S.failed sink.new ≡ S.failed sink.old + failed_calls result }
+{
+    match explain_reports::explain_bytes(alloc, file, report, sink) {
         Ok(verdict) => answer_of(verdict),
         Err(fault) => Answer::Failed(fault),
     }
@@ -92,19 +141,42 @@ fn explain_schedule_at<R: Files + AllocGlobal, S: Sink>(
     sink: &mut S,
 ) -> Answer
     requires { S.failed sink.old < 2 ^ 63 }
-    ensures explained { ExplainedSchedule (S.bytes sink.old) (S.bytes sink.new) result }
+    ensures explained { ExplainedSchedule None None (S.bytes sink.old) (S.bytes sink.new) result }
     ensures flushed { result ≡ Answer.Done → S.flushed sink.new ≡ true }
     ensures failures { S.failed sink.new ≡ S.failed sink.old + failed_calls result }
 {
-    let file = match contents(rt, file, MAX_FILE) {
-        Ok(bytes) => bytes,
-        Err(error) => return unread(&error),
-    };
-    let schedule = match contents(rt, schedule, MAX_SCHEDULE) {
-        Ok(bytes) => bytes,
-        Err(error) => return unread(&error),
-    };
-    match explain_schedules::explain_bytes(rt.alloc(), file.as_slice(), schedule.as_slice(), sink) {
+    match both_opened(rt, file, schedule) {
+        Ok((file, schedule)) => explain_schedule_inputs(rt.alloc(), file, schedule, sink),
+        Err(answer) => answer,
+    }
+}
+
+/// The same of the file that a reader has, and of the schedule that another one has.
+pub fn explain_schedule_inputs<I: Read + Drop, J: Read + Drop, S: Sink>(
+    alloc: Global,
+    file: I,
+    schedule: J,
+    sink: &mut S,
+) -> Answer
+    requires { S.failed sink.old < 2 ^ 63 }
+    ensures explained { ExplainedSchedule (I.remaining file) (J.remaining schedule) (S.bytes sink.old) (S.bytes sink.new) result }
+    ensures flushed { result ≡ Answer.Done → S.flushed sink.new ≡ true }
+    ensures failures { S.failed sink.new ≡ S.failed sink.old + failed_calls result }
+{
+    match both_of(alloc, file, schedule, MAX_SCHEDULE) {
+        Ok((file, schedule)) => explained_moves(alloc, file.as_slice(), schedule.as_slice(), sink),
+        Err(answer) => answer,
+    }
+}
+
+/// The same of the bytes of both.
+fn explained_moves<S: Sink>(alloc: Global, file: &[u8], schedule: &[u8], sink: &mut S) -> Answer
+    requires { S.failed sink.old < 2 ^ 63 }
+    ensures explained { ExplainedMoves file.now schedule.now (S.bytes sink.old) (S.bytes sink.new) result }
+    ensures flushed { result ≡ Answer.Done → S.flushed sink.new ≡ true }
+    ensures failures { S.failed sink.new ≡ S.failed sink.old + failed_calls result }
+{
+    match explain_schedules::explain_bytes(alloc, file, schedule, sink) {
         Ok(Told::Good) => Answer::Done,
         Ok(Told::Refused(kind)) => Answer::Failed(RunFault::Schedule(kind)),
         Err(fault) => Answer::Failed(fault),

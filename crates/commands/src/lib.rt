@@ -1,7 +1,8 @@
 //! The commands of the program `stm`, from the words of the command line to the status to end with.
 //!
 //! `program` has the words of the command line; `running`, `checking`, `playing`, `exploring`, `explaining` and
-//! `printing` have the files, which `reading` reads. The words are those of the library
+//! `printing` have the files, which `reading` reads. Each command is said three times: of files at paths, of what
+//! readers have, whose clause names the bytes that are read, and of bytes. The words are those of the library
 //! `command_line`, and the statuses those of `command_answers`. What the commands do is in libraries, too: `runner` goes
 //! from the bytes of a file to the bytes of its report, `checker` from the bytes of both to a verdict, `world_runner` from the bytes of
 //! a file and of a schedule to the bytes of what is seen, `explore_runner` from the bytes of a file to

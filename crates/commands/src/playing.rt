@@ -1,19 +1,20 @@
 //! `stm world`: the bytes of a file and of a schedule in, the text of its world and a status out.
 
-ghost use Rattle.std.specs.Prelude.{◌≡◌, ◌<◌, ◌+◌, ◌^◌, true};
+ghost use Rattle.std.specs.Prelude.{◌≡◌, ◌<◌, ◌+◌, ◌^◌, true, None};
 ghost use Rattle.commands.specs.Files.{failed_calls};
-ghost use Rattle.commands.specs.Playing.{PlayedFiles};
+ghost use Rattle.commands.specs.Playing.{Played, PlayedFiles};
 
-use crate::reading::contents;
-use command_answers::{Answer, unread};
+use crate::reading::{both_of, both_opened};
+use command_answers::Answer;
 use run_sink::Sink;
+use std::alloc::Global;
+use std::io::Read;
 use std::rt::Files;
 use text_schedule_reader::MAX_SCHEDULE;
-use txn_text::MAX_FILE;
 use world_runner::world_bytes;
 
-/// Plays a schedule of a file, and writes the text of the world that it leads to to the sink. Both
-/// are read before either is judged.
+/// Plays the schedule of the file at these paths, and writes the text of the world that it leads to
+/// to the sink. Both are read before either is judged.
 pub fn play_files<R: Files + AllocGlobal, S: Sink>(
     rt: &R,
     file: &str,
@@ -21,19 +22,42 @@ pub fn play_files<R: Files + AllocGlobal, S: Sink>(
     sink: &mut S,
 ) -> Answer
     requires { S.failed sink.old < 2 ^ 63 }
-    ensures played { PlayedFiles (S.bytes sink.old) (S.bytes sink.new) result }
+    ensures played { PlayedFiles None None (S.bytes sink.old) (S.bytes sink.new) result }
     ensures flushed { result ≡ Answer.Done → S.flushed sink.new ≡ true }
     ensures failures { S.failed sink.new ≡ S.failed sink.old + failed_calls result }
 {
-    let file = match contents(rt, file, MAX_FILE) {
-        Ok(bytes) => bytes,
-        Err(error) => return unread(&error),
-    };
-    let schedule = match contents(rt, schedule, MAX_SCHEDULE) {
-        Ok(bytes) => bytes,
-        Err(error) => return unread(&error),
-    };
-    match world_bytes(rt.alloc(), file.as_slice(), schedule.as_slice(), sink) {
+    match both_opened(rt, file, schedule) {
+        Ok((file, schedule)) => play_inputs(rt.alloc(), file, schedule, sink),
+        Err(answer) => answer,
+    }
+}
+
+/// Plays the schedule that a reader has of the file that another one has.
+pub fn play_inputs<I: Read + Drop, J: Read + Drop, S: Sink>(
+    alloc: Global,
+    file: I,
+    schedule: J,
+    sink: &mut S,
+) -> Answer
+    requires { S.failed sink.old < 2 ^ 63 }
+    ensures played { PlayedFiles (I.remaining file) (J.remaining schedule) (S.bytes sink.old) (S.bytes sink.new) result }
+    ensures flushed { result ≡ Answer.Done → S.flushed sink.new ≡ true }
+    ensures failures { S.failed sink.new ≡ S.failed sink.old + failed_calls result }
+{
+    match both_of(alloc, file, schedule, MAX_SCHEDULE) {
+        Ok((file, schedule)) => answered(alloc, file.as_slice(), schedule.as_slice(), sink),
+        Err(answer) => answer,
+    }
+}
+
+/// Plays the schedule of these bytes of the file of these.
+fn answered<S: Sink>(alloc: Global, file: &[u8], schedule: &[u8], sink: &mut S) -> Answer
+    requires { S.failed sink.old < 2 ^ 63 }
+    ensures played { Played file.now schedule.now (S.bytes sink.old) (S.bytes sink.new) result }
+    ensures flushed { result ≡ Answer.Done → S.flushed sink.new ≡ true }
+    ensures failures { S.failed sink.new ≡ S.failed sink.old + failed_calls result }
+{
+    match world_bytes(alloc, file, schedule, sink) {
         Ok(()) => Answer::Done,
         Err(fault) => Answer::Failed(fault),
     }

@@ -1,16 +1,18 @@
 //! `stm print`: the bytes of a file in, or of a file and of a report, the canonical text of a file
 //! and a status out.
 
-ghost use Rattle.std.specs.Prelude.{◌≡◌, ◌<◌, ◌+◌, ◌^◌, true};
+ghost use Rattle.std.specs.Prelude.{◌≡◌, ◌<◌, ◌+◌, ◌^◌, true, None};
 ghost use Rattle.commands.specs.Files.{failed_calls};
-ghost use Rattle.commands.specs.Printing.{PrintedAs, PrintedFile, PrintedOnFiles};
+ghost use Rattle.commands.specs.Printing.{PrintedAs, PrintedBytes, PrintedFile, PrintedOnBytes, PrintedOnFiles};
 
 use crate::checking::answer_of;
-use crate::reading::contents;
-use command_answers::{Answer, unread};
+use crate::reading::{both_of, both_opened, bytes_of, opened};
+use command_answers::Answer;
 use command_line::Print;
 use print_files::{print_bytes, print_on_bytes};
 use run_sink::Sink;
+use std::alloc::Global;
+use std::io::Read;
 use std::rt::Files;
 use text_report_reader::MAX_REPORT;
 use txn_text::MAX_FILE;
@@ -32,18 +34,40 @@ pub fn print_files<R: Files + AllocGlobal, S: Sink>(
     }
 }
 
-/// Writes the canonical text of a file to the sink.
+/// Writes the canonical text of the file at the path to the sink.
 pub fn print_file_at<R: Files + AllocGlobal, S: Sink>(rt: &R, path: &str, sink: &mut S) -> Answer
     requires { S.failed sink.old < 2 ^ 63 }
-    ensures printed { PrintedFile (S.bytes sink.old) (S.bytes sink.new) result }
+    ensures printed { PrintedFile None (S.bytes sink.old) (S.bytes sink.new) result }
     ensures flushed { result ≡ Answer.Done → S.flushed sink.new ≡ true }
     ensures failures { S.failed sink.new ≡ S.failed sink.old + failed_calls result }
 {
-    let bytes = match contents(rt, path, MAX_FILE) {
-        Ok(bytes) => bytes,
-        Err(error) => return unread(&error),
-    };
-    match print_bytes(rt.alloc(), bytes.as_slice(), sink) {
+    match opened(rt, path) {
+        Ok(file) => print_input(rt.alloc(), file, sink),
+        Err(answer) => answer,
+    }
+}
+
+/// Writes the canonical text of the file that a reader has to the sink.
+pub fn print_input<I: Read + Drop, S: Sink>(alloc: Global, input: I, sink: &mut S) -> Answer
+    requires { S.failed sink.old < 2 ^ 63 }
+    ensures printed { PrintedFile (I.remaining input) (S.bytes sink.old) (S.bytes sink.new) result }
+    ensures flushed { result ≡ Answer.Done → S.flushed sink.new ≡ true }
+    ensures failures { S.failed sink.new ≡ S.failed sink.old + failed_calls result }
+{
+    match bytes_of(alloc, input, MAX_FILE) {
+        Ok(bytes) => printed(alloc, bytes.as_slice(), sink),
+        Err(answer) => answer,
+    }
+}
+
+/// Writes the canonical text of the file of these bytes to the sink.
+fn printed<S: Sink>(alloc: Global, bytes: &[u8], sink: &mut S) -> Answer
+    requires { S.failed sink.old < 2 ^ 63 }
+    ensures printed { PrintedBytes bytes.now (S.bytes sink.old) (S.bytes sink.new) result }
+    ensures flushed { result ≡ Answer.Done → S.flushed sink.new ≡ true }
+    ensures failures { S.failed sink.new ≡ S.failed sink.old + failed_calls result }
+{
+    match print_bytes(alloc, bytes, sink) {
         Ok(()) => Answer::Done,
         Err(fault) => Answer::Failed(fault),
     }
@@ -58,20 +82,45 @@ pub fn print_on_files<R: Files + AllocGlobal, S: Sink>(
     sink: &mut S,
 ) -> Answer
     requires { S.failed sink.old < 2 ^ 63 }
-    ensures printed { PrintedOnFiles (S.bytes sink.old) (S.bytes sink.new) result }
+    ensures printed { PrintedOnFiles None None (S.bytes sink.old) (S.bytes sink.new) result }
     ensures done { result ≡ Answer.Done → S.flushed sink.new ≡ true }
     ensures bad { result ≡ Answer.Unlawful → S.flushed sink.new ≡ true }
     ensures failures { S.failed sink.new ≡ S.failed sink.old + failed_calls result }
 {
-    let file = match contents(rt, file, MAX_FILE) {
-        Ok(bytes) => bytes,
-        Err(error) => return unread(&error),
-    };
-    let report = match contents(rt, report, MAX_REPORT) {
-        Ok(bytes) => bytes,
-        Err(error) => return unread(&error),
-    };
-    match print_on_bytes(rt.alloc(), file.as_slice(), report.as_slice(), sink) {
+    match both_opened(rt, file, report) {
+        Ok((file, report)) => print_on_inputs(rt.alloc(), file, report, sink),
+        Err(answer) => answer,
+    }
+}
+
+/// The same of the file that a reader has, and of the report that another one has.
+pub fn print_on_inputs<I: Read + Drop, J: Read + Drop, S: Sink>(
+    alloc: Global,
+    file: I,
+    report: J,
+    sink: &mut S,
+) -> Answer
+    requires { S.failed sink.old < 2 ^ 63 }
+    ensures printed { PrintedOnFiles (I.remaining file) (J.remaining report) (S.bytes sink.old) (S.bytes sink.new) result }
+    ensures done { result ≡ Answer.Done → S.flushed sink.new ≡ true }
+    ensures bad { result ≡ Answer.Unlawful → S.flushed sink.new ≡ true }
+    ensures failures { S.failed sink.new ≡ S.failed sink.old + failed_calls result }
+{
+    match both_of(alloc, file, report, MAX_REPORT) {
+        Ok((file, report)) => printed_on(alloc, file.as_slice(), report.as_slice(), sink),
+        Err(answer) => answer,
+    }
+}
+
+/// The same of the bytes of both.
+fn printed_on<S: Sink>(alloc: Global, file: &[u8], report: &[u8], sink: &mut S) -> Answer
+    requires { S.failed sink.old < 2 ^ 63 }
+    ensures printed { PrintedOnBytes file.now report.now (S.bytes sink.old) (S.bytes sink.new) result }
+    ensures done { result ≡ Answer.Done → S.flushed sink.new ≡ true }
+    ensures bad { result ≡ Answer.Unlawful → S.flushed sink.new ≡ true }
+    ensures failures { S.failed sink.new ≡ S.failed sink.old + failed_calls result }
+{
+    match print_on_bytes(alloc, file, report, sink) {
         Ok(verdict) => answer_of(verdict),
         Err(fault) => Answer::Failed(fault),
     }

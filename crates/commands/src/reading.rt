@@ -1,13 +1,14 @@
 //! What is read of a file, a report or a schedule.
 
 ghost use Rattle.std.specs.Prelude.{◌<◌, ◌^◌, IfOk, IfErr};
-ghost use Rattle.commands.specs.Files.{IsRead, IsUnread};
+ghost use Rattle.commands.specs.Files.{IsRead, IsUnread, file_limit};
 
 use command_answers::{Answer, unread};
 use std::alloc::Global;
 use std::io::Read;
 use std::rt::Files;
 use std::{fs, io};
+use txn_text::MAX_FILE;
 
 /// What the reader has left, of which at most one byte past the limit is read: with it, what has more
 /// bytes than the limit is known to be too long. `Err` is the reader's, or want of memory.
@@ -36,6 +37,23 @@ pub(crate) fn bytes_of<I: Read + Drop>(
     }
 }
 
+/// What a file has, and a report or a schedule of it, which has its own limit.
+pub(crate) fn both_of<I: Read + Drop, J: Read + Drop>(
+    alloc: Global,
+    file: I,
+    other: J,
+    limit: usize,
+) -> Result<(Vec<u8>, Vec<u8>), Answer>
+    requires { limit < 2 ^ 32 }
+    ensures first { IfOk result (λ both. IsRead file_limit (I.remaining file) both.0.items) }
+    ensures second { IfOk result (λ both. IsRead limit (J.remaining other) both.1.items) }
+    ensures unread { IfErr result IsUnread }
+{
+    let file = bytes_of(alloc, file, MAX_FILE)?;
+    let other = bytes_of(alloc, other, limit)?;
+    Ok((file, other))
+}
+
 /// The file at the path, to be read, or what is answered where it cannot be.
 pub(crate) fn opened<R: Files>(rt: &R, path: &str) -> Result<R::File, Answer>
     ensures { IfErr result IsUnread }
@@ -46,13 +64,15 @@ pub(crate) fn opened<R: Files>(rt: &R, path: &str) -> Result<R::File, Answer>
     }
 }
 
-/// The bytes of the file at the path, of which at most one past the limit is read.
-pub(crate) fn contents<R: Files + AllocGlobal>(
+/// The files at both paths.
+pub(crate) fn both_opened<R: Files>(
     rt: &R,
-    path: &str,
-    limit: usize,
-) -> io::Result<Vec<u8>>
-    requires { limit < 2 ^ 32 }
+    file: &str,
+    other: &str,
+) -> Result<(R::File, R::File), Answer>
+    ensures { IfErr result IsUnread }
 {
-    read_up_to(rt.alloc(), fs::open(rt, path)?, limit)
+    let file = opened(rt, file)?;
+    let other = opened(rt, other)?;
+    Ok((file, other))
 }

@@ -20,14 +20,14 @@ const UNLAWFUL: &[u8] =
 fn a_good_file_is_0(rt: HostRuntime) {
     let host = Host::new(rt.alloc(), FILE, INCREMENT);
     ends(&rt, &host, 0, 1, Some(""));
-    assert!(rt; host.taken.get() == b"good\n".len());
+    assert!(rt; host.has_printed(b"good\n"));
 }
 
 #[test]
 fn a_refused_file_is_2_and_explained(rt: HostRuntime) {
     let host = Host::new(rt.alloc(), FILE, b"(var x");
     ends(&rt, &host, 2, 1, Some("stm: file: F3 Shape\n"));
-    assert!(rt; host.taken.get() > b"line 1, column 7: F3 Shape: \n".len());
+    assert!(rt; host.has_printed_from(b"line 1, column 7: F3 Shape: ", b"\n"));
 }
 
 #[test]
@@ -35,7 +35,7 @@ fn a_good_report_is_0(rt: HostRuntime) {
     let mut host = Host::new(rt.alloc(), REPORT, INCREMENT);
     host.report = LAWFUL;
     ends(&rt, &host, 0, 1, Some(""));
-    assert!(rt; host.taken.get() == b"good\n".len());
+    assert!(rt; host.has_printed(b"good\n"));
 }
 
 #[test]
@@ -43,8 +43,8 @@ fn a_bad_report_is_1_and_explained(rt: HostRuntime) {
     let mut host = Host::new(rt.alloc(), REPORT, INCREMENT);
     host.report = UNLAWFUL;
     ends(&rt, &host, 1, 1, Some(""));
-    let told = "bad 3\nline 4: entry 2 1 inc returned 8\nreplay has entry 2 1 inc returned 7\n";
-    assert!(rt; host.taken.get() == told.len());
+    let told = b"bad 3\nline 4: entry 2 1 inc returned 8\nreplay has entry 2 1 inc returned 7\n";
+    assert!(rt; host.has_printed(told));
 }
 
 const SCHEDULE: &[&[u8]] = &[b"stm", b"explain", b"a.stm", b"--schedule", b"a.schedule"];
@@ -60,15 +60,15 @@ fn of_schedule<'a>(alloc: Global, file: &'a [u8], schedule: &'a [u8]) -> Host<'a
 fn a_good_schedule_is_0(rt: HostRuntime) {
     let host = of_schedule(rt.alloc(), INCREMENT, b"begin 0\nread 0 x\n");
     ends(&rt, &host, 0, 1, Some(""));
-    assert!(rt; host.taken.get() == b"good\n".len());
+    assert!(rt; host.has_printed(b"good\n"));
 }
 
 #[test]
 fn a_refused_schedule_is_2_and_explained(rt: HostRuntime) {
     let host = of_schedule(rt.alloc(), INCREMENT, b"begin 0\nread 0 y\n");
     ends(&rt, &host, 2, 1, Some("stm: schedule: F4 Name\n"));
-    let told = "line 2, column 8: F4 Name: no variable of this name is declared; here stands y\n";
-    assert!(rt; host.taken.get() == told.len());
+    let told = b"line 2, column 8: F4 Name: no variable of this name is declared; here stands y\n";
+    assert!(rt; host.has_printed(told));
 }
 
 #[test]

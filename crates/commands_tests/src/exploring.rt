@@ -22,17 +22,17 @@ const TWO_STATES: &[&[u8]] = &[b"stm", b"explore", b"a.stm", b"--states", b"2"];
 fn orders_that_were_seen_are_0(rt: HostRuntime) {
     let host = Host::new(rt.alloc(), EXPLORE, INCREMENT);
     ends(&rt, &host, 0, 1, Some(""));
-    assert!(rt; host.taken.get() == FOUND.len());
+    assert!(rt; host.has_printed(FOUND));
     let host = Host::new(rt.alloc(), TO_1, INCREMENT);
     ends(&rt, &host, 0, 1, Some(""));
-    assert!(rt; host.taken.get() == REPORT.len());
+    assert!(rt; host.has_printed(REPORT));
 }
 
 #[test]
 fn more_places_are_1(rt: HostRuntime) {
     let host = Host::new(rt.alloc(), TWO_STATES, INCREMENT);
     ends(&rt, &host, 1, 1, Some(""));
-    assert!(rt; host.taken.get() == b"more than 2 states\n".len());
+    assert!(rt; host.has_printed(b"more than 2 states\n"));
 }
 
 #[test]

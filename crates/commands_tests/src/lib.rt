@@ -10,6 +10,8 @@ mod exploring;
 #[cfg(test)]
 mod host;
 #[cfg(test)]
+mod inputs;
+#[cfg(test)]
 mod playing;
 #[cfg(test)]
 mod printing;

@@ -24,7 +24,7 @@ fn playing<'a>(alloc: Global, file: &'a [u8], schedule: &'a [u8]) -> Host<'a> {
 fn a_schedule_that_was_played_is_0(rt: HostRuntime) {
     let host = playing(rt.alloc(), INCREMENT, SCHEDULE);
     ends(&rt, &host, 0, 1, Some(""));
-    assert!(rt; host.taken.get() == SEEN.len());
+    assert!(rt; host.has_printed(SEEN));
 }
 
 #[test]

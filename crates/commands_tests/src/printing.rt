@@ -16,7 +16,7 @@ const REPORT: &[u8] =
 fn a_file_is_printed(rt: HostRuntime) {
     let host = Host::new(rt.alloc(), PRINT, INCREMENT);
     ends(&rt, &host, 0, 1, Some(""));
-    assert!(rt; host.taken.get() == INCREMENT.len() + 3);
+    assert!(rt; host.has_printed(b"(var x 5)\n(tx inc (set x (add x 1)) x)\n(run inc 2)\n"));
 }
 
 #[test]
@@ -24,7 +24,7 @@ fn a_file_is_printed_from_a_report(rt: HostRuntime) {
     let mut host = Host::new(rt.alloc(), FROM, INCREMENT);
     host.report = REPORT;
     ends(&rt, &host, 0, 1, Some(""));
-    assert!(rt; host.taken.get() == INCREMENT.len() + 3);
+    assert!(rt; host.has_printed(b"(var x 7)\n(tx inc (set x (add x 1)) x)\n(run inc 2)\n"));
 }
 
 #[test]
@@ -32,7 +32,7 @@ fn an_unlawful_report_is_1(rt: HostRuntime) {
     let mut host = Host::new(rt.alloc(), FROM, INCREMENT);
     host.report = &REPORT[1..];
     ends(&rt, &host, 1, 1, Some(""));
-    assert!(rt; host.taken.get() == b"bad 1\n".len());
+    assert!(rt; host.has_printed(b"bad 1\n"));
 }
 
 #[test]

@@ -39,7 +39,32 @@ pub(crate) fn ends(
 fn a_report_is_0(rt: HostRuntime) {
     let host = Host::new(rt.alloc(), RUN, INCREMENT);
     ends(&rt, &host, 0, 1, Some(""));
-    assert!(rt; host.taken.get() == REPORT.len());
+    assert!(rt; host.has_printed(REPORT));
+}
+
+/// Two more words of `stm run`, and where the report of three increments then begins.
+const OPTIONS: [(&[u8], &[u8], &[u8]); 9] = [
+    (b"--workers", b"1", b"base 0\nx 5 0\nentry 1 "),
+    (b"--workers", b"2", b"base 0\nx 5 0\nentry 1 "),
+    (b"--workers", b"16", b"base 0\nx 5 0\nentry 1 "),
+    (b"--tries", b"1", b"base 0\nx 5 0\nentry 1 "),
+    (b"--tries", b"64", b"base 0\nx 5 0\nentry 1 "),
+    (b"--checkpoint", b"0", b"base 0\nx 5 0\nentry 1 "),
+    (b"--checkpoint", b"2", b"base 2\nx 7 2\nentry 3 "),
+    (b"--checkpoint", b"3", b"base 3\nx 8 3\nnow 3\n"),
+    (b"--checkpoint", b"65536", b"base 0\nx 5 0\nentry 1 "),
+];
+
+/// Each option comes through to the run: the base is that of the checkpoint, and the end is the same.
+#[test]
+fn each_option_of_a_run_is_taken(rt: HostRuntime) {
+    for (option, number, base) in OPTIONS {
+        let words = [b"stm".as_slice(), b"run", b"a.stm", option, number];
+        let file = b"(var x 5)(tx inc (set x (add x 1)) x)(run inc 3)";
+        let host = Host::new(rt.alloc(), &words, file);
+        ends(&rt, &host, 0, 1, Some(""));
+        assert!(rt; host.has_printed_from(base, b"\nnow 3\nx 8 3\nend\n"));
+    }
 }
 
 #[test]
@@ -97,7 +122,7 @@ fn a_failing_output_is_4_and_is_not_tried_again(rt: HostRuntime) {
         let mut host = Host::new(rt.alloc(), RUN, INCREMENT);
         host.prints = prints;
         ends(&rt, &host, 4, 1, Some("stm: cannot write\n"));
-        assert!(rt; host.taken.get() == 0);
+        assert!(rt; host.has_printed(b""));
     }
 }
 
