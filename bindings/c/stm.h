@@ -7,11 +7,12 @@
  *   2. A worker's handle is given to one call at a time. Its calls need no lock, while other threads
  *      use the store and other workers.
  *   3. A worker is brought to its own store, or to another store of a program that says the same.
- *   4. A handle is copied only to move it: only one copy is used on. What it holds is never written.
+ *   4. A new handle is `{0}`. One is copied only to move it: only one copy is used on. What it holds is
+ *      never written.
  *   5. A pointer that goes with a length is to that many bytes, and is not null even where that is 0.
  *   6. No call is made from a signal handler, nor from the forked child of a process with threads.
  *
- * What stays in memory until the process ends: what a program says, once for each `stm_program_read`,
+ * What stays in memory until the process ends: what a program says, once for each `stm_read`,
  * and the cells of each store (two words a variable). All else goes with its handle.
  */
 #ifndef STM_H
@@ -125,181 +126,105 @@ int32_t stm_explore(const uint8_t *file, size_t file_length, uint32_t states, ui
 int32_t stm_explore_to(const uint8_t *file, size_t file_length, uint32_t states, size_t end, uint8_t *room,
                        size_t room_length, size_t *wanted);
 
-/* Handles. Each is one pointer that only the library reads; `{0}` is an empty one. */
+/* Handles. Each is one pointer that only the library reads; `{0}` is an empty one. Each call answers
+ * STM_EMPTY for an empty one, and what it is given to fill has to be empty: STM_FULL. */
 typedef struct stm_program { void *at; } stm_program;
 typedef struct stm_store { void *at; } stm_store;
 typedef struct stm_worker { void *at; } stm_worker;
 
-/* The exports. Each takes handles that are not empty; the calls that follow test it first. */
-int32_t stm_program_read(const uint8_t *file, size_t file_length, stm_program *out);
-void stm_program_drop(stm_program program);
+/* Reads a program. */
+int32_t stm_read(const uint8_t *file, size_t file_length, stm_program *out);
+
+/* How many tasks, variables and transactions a program has. 0 of an empty handle. */
 size_t stm_program_tasks(stm_program *program);
 size_t stm_program_variables(stm_program *program);
 size_t stm_program_transactions(stm_program *program);
+
+/* The number of the variable or the transaction of this name, or STM_UNKNOWN. */
 int64_t stm_program_variable(stm_program *program, const uint8_t *name, size_t name_length);
 int64_t stm_program_transaction(stm_program *program, const uint8_t *name, size_t name_length);
-int32_t stm_store_open(stm_program *program, size_t workers, uint32_t checkpoint, stm_store *out);
-int32_t stm_store_open_with_room(stm_program *program, size_t workers, uint32_t checkpoint, size_t spare,
-                                 stm_store *out);
-void stm_store_drop(stm_store store);
-int32_t stm_store_worker(stm_store *store, stm_worker *out);
-int64_t stm_store_take(stm_store *store);
-stm_job stm_store_take_job(stm_store *store);
-int64_t stm_store_submit(stm_store *store, uint32_t transaction);
+
+/* Opens a store of the program for at most 32 workers. `checkpoint` is as for `stm_run_one`. */
+int32_t stm_open(stm_program *program, size_t workers, uint32_t checkpoint, stm_store *out);
+
+/* As `stm_open`, with room for so many tasks more, which can be submitted. STM_NO_ROOM. */
+int32_t stm_open_with_room(stm_program *program, size_t workers, uint32_t checkpoint, size_t spare, stm_store *out);
+
+/* A ready task of the transaction more: its number, STM_NO_ROOM or STM_UNKNOWN. It takes no memory.
+ * Under the lock. */
+int64_t stm_submit(stm_store *store, uint32_t transaction);
+
+/* How many tasks more can be submitted, and how many there are. 0 of an empty handle. Under the lock. */
 size_t stm_store_spare(stm_store *store);
 size_t stm_store_tasks(stm_store *store);
-void stm_store_counts(stm_store *store, stm_counts *out);
-int32_t stm_store_value(stm_store *store, const uint8_t *name, size_t name_length, int64_t *value,
-                        uint64_t *version);
-stm_told stm_store_finish(stm_store *store, stm_worker *worker);
-stm_told stm_store_serial(stm_store *store, uint32_t task);
-int32_t stm_store_give_up(stm_store *store, uint32_t task);
-void stm_store_checkpoint(stm_store *store);
-int32_t stm_store_report(stm_store *store, uint8_t *room, size_t room_length, size_t *wanted);
-int32_t stm_store_report_now(stm_store *store, uint8_t *room, size_t room_length, size_t *wanted);
-int32_t stm_store_file(stm_store *store, uint8_t *room, size_t room_length, size_t *wanted);
-int32_t stm_worker_try(stm_worker *worker, uint32_t task);
+
+/* How many tasks stand how. Under the lock. */
+int32_t stm_counted(stm_store *store, stm_counts *out);
+
+/* The present value of the variable of this name, and the number of the last entry that changed it:
+ * STM_DONE, and both were written; STM_UNKNOWN. Under the lock. */
+int32_t stm_value(stm_store *store, const uint8_t *name, size_t name_length, int64_t *value, uint64_t *version);
+
+/* A worker of the store, for one thread. Under the lock. */
+int32_t stm_hire(stm_store *store, stm_worker *out);
+
+/* The lowest ready task, which is then running; -1 where none is ready. Under the lock. */
+int64_t stm_take(stm_store *store);
+
+/* As `stm_take`, with the transaction that the task runs, which a worker has to be told of a task that
+ * was submitted. Under the lock. */
+stm_job stm_take_job(stm_store *store);
+
+/* Evaluates a task of the program on one state, with no lock: STM_DONE, STM_STALE, STM_MEMORY,
+ * STM_UNKNOWN. */
+int32_t stm_try(stm_worker *worker, uint32_t task);
+
+/* As `stm_try`, of a task of the store and the transaction that it runs. */
 int32_t stm_worker_try_job(stm_worker *worker, uint32_t task, uint32_t transaction);
-stm_told stm_worker_observe(stm_worker *worker, uint32_t transaction);
-void stm_worker_drop(stm_worker worker);
+
+/* Brings the worker's ended attempt to the store, under the lock: STM_DONE with the number of the
+ * entry, STM_RETRIES (the task is parked), STM_STALE, STM_NOT_RUNNING, STM_NOT_ENDED. */
+stm_told stm_finish(stm_store *store, stm_worker *worker);
+
+/* A turn of a running task on the present values, under the lock: as `stm_finish`, never stale;
+ * STM_GIVEN_UP; STM_UNKNOWN. */
+stm_told stm_serial(stm_store *store, uint32_t task);
+
+/* A running task is given up, under the lock: STM_DONE, STM_NOT_RUNNING, STM_UNKNOWN. */
+int32_t stm_give_up(stm_store *store, uint32_t task);
+
+/* The base becomes the present, and the journal is empty. Under the lock. */
+int32_t stm_checkpoint(stm_store *store);
+
+/* Gives each task that is ready or running a turn, and copies the report into the room. Under the
+ * lock. Where the answer is STM_SHORT, call again with room for `wanted` bytes. */
+int32_t stm_report(stm_store *store, uint8_t *room, size_t room_length, size_t *wanted);
+
+/* As `stm_report`, with no turn given: STM_WORK_LEFT where a task is ready or running. Under the lock. */
+int32_t stm_report_now(stm_store *store, uint8_t *room, size_t room_length, size_t *wanted);
+
+/* Copies the file as it has become, with a run for each task that was submitted, into the room: with the
+ * report of the same moment a pair that `stm_check` finds good. STM_FILE_TOO_LONG. Under the lock. */
+int32_t stm_file(stm_store *store, uint8_t *room, size_t room_length, size_t *wanted);
+
+/* How the transaction would end on one state, with no lock: STM_DONE with the value that it returns,
+ * STM_RETRIES, STM_STALE, STM_THROWN .. STM_BROKEN, STM_MEMORY, STM_UNKNOWN. */
+stm_told stm_observe(stm_worker *worker, uint32_t transaction);
+
+/* Let go, and leave the handle empty. An empty one stays so. */
+void stm_program_free(stm_program *program);
+void stm_store_free(stm_store *store);
+void stm_worker_free(stm_worker *worker);
 
 #ifdef __cplusplus
 }
 #endif
-
-/* What a host calls: the exports, behind a test for empty handles. */
-
-static inline stm_told stm_told_of(int32_t code) {
-    stm_told told = {code, 0};
-    return told;
-}
-
-/* Reads a program. STM_FULL where `out` is not empty. */
-static inline int32_t stm_read(const uint8_t *file, size_t file_length, stm_program *out) {
-    return out->at ? (int32_t)STM_FULL : stm_program_read(file, file_length, out);
-}
-
-/* Opens a store of the program for at most 32 workers. `checkpoint` is as for `stm_run_one`. */
-static inline int32_t stm_open(stm_program *program, size_t workers, uint32_t checkpoint, stm_store *out) {
-    if (!program->at) return STM_EMPTY;
-    return out->at ? (int32_t)STM_FULL : stm_store_open(program, workers, checkpoint, out);
-}
-
-/* As `stm_open`, with room for so many tasks more, which can be submitted. STM_NO_ROOM. */
-static inline int32_t stm_open_with_room(stm_program *program, size_t workers, uint32_t checkpoint, size_t spare,
-                                         stm_store *out) {
-    if (!program->at) return STM_EMPTY;
-    return out->at ? (int32_t)STM_FULL : stm_store_open_with_room(program, workers, checkpoint, spare, out);
-}
-
-/* A ready task of the transaction more: its number, STM_NO_ROOM or STM_UNKNOWN. It takes no memory.
- * Under the lock. */
-static inline int64_t stm_submit(stm_store *store, uint32_t transaction) {
-    return store->at ? stm_store_submit(store, transaction) : (int64_t)STM_EMPTY;
-}
-
-/* How many tasks stand how. Under the lock. */
-static inline int32_t stm_counted(stm_store *store, stm_counts *out) {
-    if (!store->at) return STM_EMPTY;
-    stm_store_counts(store, out);
-    return STM_DONE;
-}
-
-/* The present value of the variable of this name, and the number of the last entry that changed it:
- * STM_DONE, and both were written; STM_UNKNOWN. Under the lock. */
-static inline int32_t stm_value(stm_store *store, const uint8_t *name, size_t name_length, int64_t *value,
-                                uint64_t *version) {
-    return store->at ? stm_store_value(store, name, name_length, value, version) : (int32_t)STM_EMPTY;
-}
-
-/* A worker of the store, for one thread. Under the lock. */
-static inline int32_t stm_hire(stm_store *store, stm_worker *out) {
-    if (!store->at) return STM_EMPTY;
-    return out->at ? (int32_t)STM_FULL : stm_store_worker(store, out);
-}
-
-/* The lowest ready task, which is then running; -1 where none is ready. Under the lock. */
-static inline int64_t stm_take(stm_store *store) { return store->at ? stm_store_take(store) : (int64_t)STM_EMPTY; }
-
-/* As `stm_take`, with the transaction that the task runs, which a worker has to be told of a task that
- * was submitted. Under the lock. */
-static inline stm_job stm_take_job(stm_store *store) {
-    stm_job none = {STM_EMPTY, 0};
-    return store->at ? stm_store_take_job(store) : none;
-}
 
 /* Evaluates a job that was taken on one state, with no lock: as `stm_try`. */
 static inline int32_t stm_try_job(stm_worker *worker, stm_job job) {
     if (!worker->at) return STM_EMPTY;
     if (job.task < 0 || job.task > 65535) return STM_UNKNOWN;
     return stm_worker_try_job(worker, (uint32_t)job.task, job.transaction);
-}
-
-/* Evaluates a task of the program on one state, with no lock: STM_DONE, STM_STALE, STM_MEMORY,
- * STM_UNKNOWN. */
-static inline int32_t stm_try(stm_worker *worker, uint32_t task) {
-    return worker->at ? stm_worker_try(worker, task) : (int32_t)STM_EMPTY;
-}
-
-/* Brings the worker's ended attempt to the store, under the lock: STM_DONE with the number of the
- * entry, STM_RETRIES (the task is parked), STM_STALE, STM_NOT_RUNNING, STM_NOT_ENDED. */
-static inline stm_told stm_finish(stm_store *store, stm_worker *worker) {
-    return store->at && worker->at ? stm_store_finish(store, worker) : stm_told_of(STM_EMPTY);
-}
-
-/* A turn of a running task on the present values, under the lock: as `stm_finish`, never stale;
- * STM_GIVEN_UP; STM_UNKNOWN. */
-static inline stm_told stm_serial(stm_store *store, uint32_t task) {
-    return store->at ? stm_store_serial(store, task) : stm_told_of(STM_EMPTY);
-}
-
-/* A running task is given up, under the lock: STM_DONE, STM_NOT_RUNNING, STM_UNKNOWN. */
-static inline int32_t stm_give_up(stm_store *store, uint32_t task) {
-    return store->at ? stm_store_give_up(store, task) : (int32_t)STM_EMPTY;
-}
-
-/* The base becomes the present, and the journal is empty. Under the lock. */
-static inline int32_t stm_checkpoint(stm_store *store) {
-    if (!store->at) return STM_EMPTY;
-    stm_store_checkpoint(store);
-    return STM_DONE;
-}
-
-/* Gives each task that is ready or running a turn, and copies the report into the room. Under the
- * lock. Where the answer is STM_SHORT, call again with room for `wanted` bytes. */
-static inline int32_t stm_report(stm_store *store, uint8_t *room, size_t room_length, size_t *wanted) {
-    return store->at ? stm_store_report(store, room, room_length, wanted) : (int32_t)STM_EMPTY;
-}
-
-/* As `stm_report`, with no turn given: STM_WORK_LEFT where a task is ready or running. Under the lock. */
-static inline int32_t stm_report_now(stm_store *store, uint8_t *room, size_t room_length, size_t *wanted) {
-    return store->at ? stm_store_report_now(store, room, room_length, wanted) : (int32_t)STM_EMPTY;
-}
-
-/* Copies the file as it has become, with a run for each task that was submitted, into the room: with the
- * report of the same moment a pair that `stm_check` finds good. STM_FILE_TOO_LONG. Under the lock. */
-static inline int32_t stm_file(stm_store *store, uint8_t *room, size_t room_length, size_t *wanted) {
-    return store->at ? stm_store_file(store, room, room_length, wanted) : (int32_t)STM_EMPTY;
-}
-
-/* How the transaction would end on one state, with no lock: STM_DONE with the value that it returns,
- * STM_RETRIES, STM_STALE, STM_THROWN .. STM_BROKEN, STM_MEMORY, STM_UNKNOWN. */
-static inline stm_told stm_observe(stm_worker *worker, uint32_t transaction) {
-    return worker->at ? stm_worker_observe(worker, transaction) : stm_told_of(STM_EMPTY);
-}
-
-/* Let go, and leave the handle empty. An empty one stays so. */
-static inline void stm_program_free(stm_program *program) {
-    if (program->at) stm_program_drop(*program);
-    program->at = NULL;
-}
-static inline void stm_store_free(stm_store *store) {
-    if (store->at) stm_store_drop(*store);
-    store->at = NULL;
-}
-static inline void stm_worker_free(stm_worker *worker) {
-    if (worker->at) stm_worker_drop(*worker);
-    worker->at = NULL;
 }
 
 /* A code's word. */

@@ -71,6 +71,28 @@ static void empty_handles(void) {
     wants(stm_value(&store, bytes("full"), 4, &value, &version) == STM_EMPTY);
     wants(stm_file(&store, &none, 0, &unused) == STM_EMPTY && stm_report_now(&store, &none, 0, &unused) == STM_EMPTY);
     wants(stm_try_job(&worker, (stm_job){0, 0}) == STM_EMPTY);
+    wants(stm_worker_try_job(&worker, 0, 0) == STM_EMPTY && stm_try(&worker, 0) == STM_EMPTY);
+    wants(stm_observe(&worker, 0).code == STM_EMPTY && stm_finish(&store, &worker).code == STM_EMPTY);
+    wants(stm_open(&program, 1, 0, &store) == STM_EMPTY && stm_hire(&store, &worker) == STM_EMPTY);
+    wants(stm_take(&store) == STM_EMPTY && stm_serial(&store, 0).code == STM_EMPTY);
+    wants(stm_give_up(&store, 0) == STM_EMPTY && stm_checkpoint(&store) == STM_EMPTY);
+    wants(stm_report(&store, &none, 0, &unused) == STM_EMPTY);
+    wants(stm_program_variable(&program, bytes("x"), 1) == STM_EMPTY && stm_program_transaction(&program, bytes("x"), 1) == STM_EMPTY);
+    wants(stm_program_tasks(&program) + stm_program_variables(&program) + stm_program_transactions(&program) == 0);
+    wants(stm_store_spare(&store) + stm_store_tasks(&store) == 0);
+    stm_worker_free(&worker);
+    stm_store_free(&store);
+    stm_program_free(&program);
+    wants(!worker.at && !store.at && !program.at);
+}
+
+/* What is full is not filled again, and what is let go is empty. */
+static void full_handles(stm_program *program) {
+    wants(stm_read(bytes(WAITING), strlen(WAITING), program) == STM_FULL);
+    wants(stm_open(program, 1, 0, &store) == STM_FULL && stm_hire(&store, &worker) == STM_FULL);
+    stm_worker none_hired = {0};
+    wants(stm_hire(&store, &none_hired) == STM_NO_WORKER && stm_finish(&store, &none_hired).code == STM_EMPTY);
+    wants(stm_finish(&store, &worker).code == STM_NOT_ENDED && stm_program_tasks(program) == 2);
 }
 
 int main(void) {
@@ -81,6 +103,7 @@ int main(void) {
     wants(stm_open_with_room(&program, 1, 0, 3, &store) == STM_DONE);
     wants(stm_open_with_room(&program, 1, 0, 3, &store) == STM_FULL);
     wants(stm_hire(&store, &worker) == STM_DONE);
+    full_handles(&program);
     wants(stm_try_job(&worker, (stm_job){-1, 0}) == STM_UNKNOWN && stm_try_job(&worker, (stm_job){0, 2}) == STM_UNKNOWN);
 
     /* Both wait, and nothing is ready. */
@@ -118,6 +141,7 @@ int main(void) {
     stm_worker_free(&worker);
     stm_store_free(&store);
     stm_program_free(&program);
+    wants(!worker.at && !store.at && !program.at);
     printf("good\n");
     return 0;
 }

@@ -100,10 +100,10 @@ int main(int count, char **words) {
     int64_t value = 0;
     uint64_t version = 0;
     if (stm_value(&store, (const uint8_t *)"?", 1, &value, &version) != STM_UNKNOWN) return 3;
-    for (int i = 0; i < threads; i++) {
+    for (int i = 0; i < threads; i++)
         if (stm_hire(&store, &workers[i]) != STM_DONE) return 3;
+    for (int i = 0; i < threads; i++)
         if (pthread_create(&pool[i], NULL, work, &workers[i])) return 4;
-    }
     int submitted = submit_all((uint32_t)transaction, room, tasks);
     for (int i = 0; i < threads; i++) pthread_join(pool[i], NULL);
     int good = submitted && told(tasks + room);

@@ -80,43 +80,43 @@ extern "C" {
         room_length: usize,
         wanted: *mut usize,
     ) -> i32;
-    fn stm_program_read(file: *const u8, file_length: usize, out: *mut Handle) -> i32;
-    fn stm_program_drop(program: Handle);
+    fn stm_read(file: *const u8, file_length: usize, out: *mut Handle) -> i32;
+    fn stm_program_free(program: *mut Handle);
     fn stm_program_tasks(program: *mut Handle) -> usize;
     fn stm_program_variable(program: *mut Handle, name: *const u8, name_length: usize) -> i64;
     fn stm_program_transaction(program: *mut Handle, name: *const u8, name_length: usize) -> i64;
-    fn stm_store_open_with_room(
+    fn stm_open_with_room(
         program: *mut Handle,
         workers: usize,
         checkpoint: u32,
         spare: usize,
         out: *mut Handle,
     ) -> i32;
-    fn stm_store_drop(store: Handle);
-    fn stm_store_worker(store: *mut Handle, out: *mut Handle) -> i32;
-    fn stm_store_take_job(store: *mut Handle) -> Taken;
-    fn stm_store_submit(store: *mut Handle, transaction: u32) -> i64;
+    fn stm_store_free(store: *mut Handle);
+    fn stm_hire(store: *mut Handle, out: *mut Handle) -> i32;
+    fn stm_take_job(store: *mut Handle) -> Taken;
+    fn stm_submit(store: *mut Handle, transaction: u32) -> i64;
     fn stm_store_spare(store: *mut Handle) -> usize;
     fn stm_store_tasks(store: *mut Handle) -> usize;
-    fn stm_store_counts(store: *mut Handle, out: *mut Counts);
-    fn stm_store_value(
+    fn stm_counted(store: *mut Handle, out: *mut Counts) -> i32;
+    fn stm_value(
         store: *mut Handle,
         name: *const u8,
         name_length: usize,
         value: *mut i64,
         version: *mut u64,
     ) -> i32;
-    fn stm_store_finish(store: *mut Handle, worker: *mut Handle) -> Told;
-    fn stm_store_serial(store: *mut Handle, task: u32) -> Told;
-    fn stm_store_give_up(store: *mut Handle, task: u32) -> i32;
-    fn stm_store_checkpoint(store: *mut Handle);
-    fn stm_store_report(store: *mut Handle, room: *mut u8, room_length: usize, wanted: *mut usize) -> i32;
-    fn stm_store_report_now(store: *mut Handle, room: *mut u8, room_length: usize, wanted: *mut usize) -> i32;
-    fn stm_store_file(store: *mut Handle, room: *mut u8, room_length: usize, wanted: *mut usize) -> i32;
-    fn stm_worker_try(worker: *mut Handle, task: u32) -> i32;
+    fn stm_finish(store: *mut Handle, worker: *mut Handle) -> Told;
+    fn stm_serial(store: *mut Handle, task: u32) -> Told;
+    fn stm_give_up(store: *mut Handle, task: u32) -> i32;
+    fn stm_checkpoint(store: *mut Handle) -> i32;
+    fn stm_report(store: *mut Handle, room: *mut u8, room_length: usize, wanted: *mut usize) -> i32;
+    fn stm_report_now(store: *mut Handle, room: *mut u8, room_length: usize, wanted: *mut usize) -> i32;
+    fn stm_file(store: *mut Handle, room: *mut u8, room_length: usize, wanted: *mut usize) -> i32;
+    fn stm_try(worker: *mut Handle, task: u32) -> i32;
     fn stm_worker_try_job(worker: *mut Handle, task: u32, transaction: u32) -> i32;
-    fn stm_worker_observe(worker: *mut Handle, transaction: u32) -> Told;
-    fn stm_worker_drop(worker: Handle);
+    fn stm_observe(worker: *mut Handle, transaction: u32) -> Told;
+    fn stm_worker_free(worker: *mut Handle);
 }
 
 /// Whether a report is lawful.
@@ -297,8 +297,8 @@ fn empty() -> Handle {
 impl RawProgram {
     pub fn read(file: &[u8]) -> Result<RawProgram, Error> {
         let mut out = empty();
-        // SAFETY: a slice as above; `out` is only written, and holds a program where the answer is 0.
-        match unsafe { stm_program_read(file.as_ptr(), file.len(), &mut out) } {
+        // SAFETY: a slice as above; `out` is an empty handle, and holds a program where the answer is 0.
+        match unsafe { stm_read(file.as_ptr(), file.len(), &mut out) } {
             0 => Ok(RawProgram(out)),
             code => Err(error_of(code)),
         }
@@ -321,8 +321,8 @@ impl RawProgram {
 
     pub fn open(&mut self, workers: usize, checkpoint: u32, spare: usize) -> Result<RawStore, Error> {
         let mut out = empty();
-        // SAFETY: as `tasks`; `out` is only written, and holds a store where the answer is 0.
-        match unsafe { stm_store_open_with_room(&mut self.0, workers, checkpoint, spare, &mut out) } {
+        // SAFETY: as `tasks`; `out` is an empty handle, and holds a store where the answer is 0.
+        match unsafe { stm_open_with_room(&mut self.0, workers, checkpoint, spare, &mut out) } {
             0 => Ok(RawStore(out)),
             code => Err(error_of(code)),
         }
@@ -332,8 +332,8 @@ impl RawProgram {
 impl RawStore {
     pub fn worker(&mut self) -> Result<RawWorker, Error> {
         let mut out = empty();
-        // SAFETY: `&mut self`; `out` is only written, and holds a worker where the answer is 0.
-        match unsafe { stm_store_worker(&mut self.0, &mut out) } {
+        // SAFETY: `&mut self`; `out` is an empty handle, and holds a worker where the answer is 0.
+        match unsafe { stm_hire(&mut self.0, &mut out) } {
             0 => Ok(RawWorker(out)),
             code => Err(error_of(code)),
         }
@@ -341,13 +341,13 @@ impl RawStore {
 
     pub fn take(&mut self) -> Option<Job> {
         // SAFETY: `&mut self`.
-        let taken = unsafe { stm_store_take_job(&mut self.0) };
+        let taken = unsafe { stm_take_job(&mut self.0) };
         Some(Job { task: u32::try_from(taken.task).ok()?, transaction: taken.transaction })
     }
 
     pub fn submit(&mut self, transaction: u32) -> Result<u32, Error> {
         // SAFETY: `&mut self`. The library tests the number.
-        let task = unsafe { stm_store_submit(&mut self.0, transaction) };
+        let task = unsafe { stm_submit(&mut self.0, transaction) };
         u32::try_from(task).map_err(|_| error_of(task as i32))
     }
 
@@ -364,14 +364,14 @@ impl RawStore {
     pub fn counts(&mut self) -> Counts {
         let mut out = Counts::default();
         // SAFETY: `&mut self`; `out` is only written.
-        unsafe { stm_store_counts(&mut self.0, &mut out) };
+        unsafe { stm_counted(&mut self.0, &mut out) };
         out
     }
 
     pub fn value(&mut self, name: &str) -> Option<(i64, u64)> {
         let (mut value, mut version) = (0, 0);
         // SAFETY: `&mut self`; a slice that is borrowed for the call; both numbers are only written.
-        match unsafe { stm_store_value(&mut self.0, name.as_ptr(), name.len(), &mut value, &mut version) } {
+        match unsafe { stm_value(&mut self.0, name.as_ptr(), name.len(), &mut value, &mut version) } {
             0 => Some((value, version)),
             _ => None,
         }
@@ -380,26 +380,26 @@ impl RawStore {
     pub fn report_now(&mut self) -> Result<String, Error> {
         text(|room, wanted| {
             // SAFETY: `&mut self`; room and length are borrowed for the call.
-            unsafe { stm_store_report_now(&mut self.0, room.as_mut_ptr(), room.len(), wanted) }
+            unsafe { stm_report_now(&mut self.0, room.as_mut_ptr(), room.len(), wanted) }
         })
     }
 
     pub fn file(&mut self) -> Result<String, Error> {
         text(|room, wanted| {
             // SAFETY: as `report_now`.
-            unsafe { stm_store_file(&mut self.0, room.as_mut_ptr(), room.len(), wanted) }
+            unsafe { stm_file(&mut self.0, room.as_mut_ptr(), room.len(), wanted) }
         })
     }
 
     /// The worker has to be of a store of the same program: the caller keeps that.
     pub fn finish(&mut self, worker: &mut RawWorker) -> Brought {
         // SAFETY: two `&mut`; one program, as said above: `Store::finish` compares the numbers of the programs.
-        brought(unsafe { stm_store_finish(&mut self.0, &mut worker.0) })
+        brought(unsafe { stm_finish(&mut self.0, &mut worker.0) })
     }
 
     pub fn serial(&mut self, task: u32) -> Result<Brought, Error> {
         // SAFETY: `&mut self`. The library tests the task.
-        let told = unsafe { stm_store_serial(&mut self.0, task) };
+        let told = unsafe { stm_serial(&mut self.0, task) };
         if told.code == -9 {
             return Err(Error::Unknown);
         }
@@ -408,7 +408,7 @@ impl RawStore {
 
     pub fn give_up(&mut self, task: u32) -> Result<bool, Error> {
         // SAFETY: `&mut self`. The library tests the task.
-        match unsafe { stm_store_give_up(&mut self.0, task) } {
+        match unsafe { stm_give_up(&mut self.0, task) } {
             0 => Ok(true),
             3 => Ok(false),
             code => Err(error_of(code)),
@@ -417,13 +417,13 @@ impl RawStore {
 
     pub fn checkpoint(&mut self) {
         // SAFETY: `&mut self`.
-        unsafe { stm_store_checkpoint(&mut self.0) }
+        unsafe { stm_checkpoint(&mut self.0) };
     }
 
     pub fn report(&mut self) -> Result<String, Error> {
         text(|room, wanted| {
             // SAFETY: `&mut self`; room and length are borrowed for the call.
-            unsafe { stm_store_report(&mut self.0, room.as_mut_ptr(), room.len(), wanted) }
+            unsafe { stm_report(&mut self.0, room.as_mut_ptr(), room.len(), wanted) }
         })
     }
 }
@@ -440,7 +440,7 @@ fn tried(code: i32) -> Result<Tried, Error> {
 impl RawWorker {
     pub fn try_task(&mut self, task: u32) -> Result<Tried, Error> {
         // SAFETY: `&mut self`. The library tests the task.
-        tried(unsafe { stm_worker_try(&mut self.0, task) })
+        tried(unsafe { stm_try(&mut self.0, task) })
     }
 
     pub fn try_job(&mut self, job: Job) -> Result<Tried, Error> {
@@ -450,7 +450,7 @@ impl RawWorker {
 
     pub fn observe(&mut self, transaction: u32) -> Result<Observed, Error> {
         // SAFETY: `&mut self`. The library tests the number.
-        let told = unsafe { stm_worker_observe(&mut self.0, transaction) };
+        let told = unsafe { stm_observe(&mut self.0, transaction) };
         Ok(match told.code {
             0 => Observed::Returned(told.value),
             1 => Observed::Retries,
@@ -467,21 +467,21 @@ impl RawWorker {
 
 impl Drop for RawProgram {
     fn drop(&mut self) {
-        // SAFETY: the handle is given up, once; its stores hold nothing of it.
-        unsafe { stm_program_drop(Handle { at: self.0.at }) }
+        // SAFETY: the handle is emptied, and used no more; its stores hold nothing of it.
+        unsafe { stm_program_free(&mut self.0) }
     }
 }
 
 impl Drop for RawStore {
     fn drop(&mut self) {
-        // SAFETY: the handle is given up, once; its workers hold nothing of it.
-        unsafe { stm_store_drop(Handle { at: self.0.at }) }
+        // SAFETY: the handle is emptied, and used no more; its workers hold nothing of it.
+        unsafe { stm_store_free(&mut self.0) }
     }
 }
 
 impl Drop for RawWorker {
     fn drop(&mut self) {
-        // SAFETY: the handle is given up, once.
-        unsafe { stm_worker_drop(Handle { at: self.0.at }) }
+        // SAFETY: the handle is emptied, and used no more.
+        unsafe { stm_worker_free(&mut self.0) }
     }
 }

@@ -1,4 +1,4 @@
--- The seal and its parts own what a box at the same types owns.
+-- A handle that holds a value, and its parts, own what a box at the same types owns.
 use mir.Syntax.{impl, tnil, dnil}
 use mathlib.Core.List.{[]}
 use denote.Signature.{Slot, plain}
@@ -19,3 +19,6 @@ FromParts = plain (λ _. Parts.the_row Home.the_row Heap.the_row ghosts)
 
 abbrev pub FromSeal : Slot 0
 FromSeal = plain (λ _. Sealed.the_row)
+
+abbrev pub FromHeap : Slot 0
+FromHeap = plain (λ _. Heap.the_row)

@@ -25,7 +25,7 @@ StaysOf old new = (new.catalogue.now ≡ old.catalogue.now) × (new.every ≡ ol
 abbrev pub StaysWith : Worker → Worker → Type 0
 StaysWith old new = (new.catalogue.now ≡ old.catalogue.now) × (new.cells.now ≡ old.cells.now)
 
--- `stm_store_take_job`: the answer is the job that was taken
+-- `stm_take_job`: the answer is the job that was taken
 pub record Takes (old : Store) (answer : Taken) (new : Store) : Type 0 where
   pub job : Option Job
   pub taken : TakesJob old.book job new.book
@@ -47,13 +47,13 @@ pub record Serves (old : Store) (task : ℕ) (answer : Told) (new : Store) : Typ
   pub served : ServedBy old.every old.book (record { 0 = task }) how new.book
   pub answered : answer ≡ told_served how
 
--- `stm_store_serial`: -9 and no change where there is no such task
+-- `stm_serial`: -9 and no change where there is no such task
 pub record ServesAny (old : Store) (task : ℕ) (answer : Told) (new : Store) : Type 0 where
   pub unknown : length (tasks old.book.catalogue) ≤ task → (answer ≡ no_such) × (new ≡ old)
   pub served : task < length (tasks old.book.catalogue) → Serves old task answer new
   pub stays : StaysOf old new
 
--- `stm_store_give_up`: 0 where the task was running, which is given up; 3 where it was not, and -9 where there is none, and then the book is as it was
+-- `stm_give_up`: 0 where the task was running, which is given up; 3 where it was not, and -9 where there is none, and then the book is as it was
 pub record GivesUp (old : Store) (task : ℕ) (answer : ℤ) (new : Store) : Type 0 where
   pub unknown : length (tasks old.book.catalogue) ≤ task → (answer ≡ negsuc 8) × (new.book ≡ old.book)
   pub known : task < length (tasks old.book.catalogue)
@@ -61,12 +61,12 @@ pub record GivesUp (old : Store) (task : ℕ) (answer : ℤ) (new : Store) : Typ
       ⊎ ((answer ≡ pos 3) × (IsRunning old.book (record { 0 = task }) → ⊥) × (new.book ≡ old.book))
   pub stays : StaysOf old new
 
--- `stm_store_checkpoint`
+-- `stm_checkpoint`
 pub record LeavesChecked (old new : Store) : Type 0 where
   pub book : new.book ≡ checkpointed old.book
   pub stays : StaysOf old new
 
--- `stm_store_report`: what is left has its turns, and no task is ready or running
+-- `stm_report`: what is left has its turns, and no task is ready or running
 pub record Reports (old new : Store) : Type 0 where
   pub turns : Drains old.every (readied old.book) new.book
   pub idle : IsIdle new.book
@@ -85,7 +85,7 @@ pub record TriesAny (old : Worker) (job : Job) (answer : ℤ) (new : Worker) : T
   pub tried : job.tx.0 < length old.catalogue.now.transactions → Tries old job answer new
   pub stays : StaysWith old new
 
--- `stm_worker_try`: -9 and no change where the program has no such task
+-- `stm_try`: -9 and no change where the program has no such task
 pub record TriesTask (old : Worker) (task : ℕ) (answer : ℤ) (new : Worker) : Type 0 where
   pub unknown : length (tasks old.catalogue.now) ≤ task → (answer ≡ negsuc 8) × (new ≡ old)
   pub tried : task < length (tasks old.catalogue.now) → Tries old (record { task = record { 0 = task }; tx = task_tx old.catalogue.now (record { 0 = task }) }) answer new
@@ -99,7 +99,7 @@ pub record Observes (old : Worker) (tx : ℕ) (answer : Told) (new : Worker) : T
   pub answered : answer ≡ told_observed how
   pub ended : new.ended ≡ None
 
--- `stm_worker_observe`: -9 and no change where there is no such transaction
+-- `stm_observe`: -9 and no change where there is no such transaction
 pub record ObservesAny (old : Worker) (tx : ℕ) (answer : Told) (new : Worker) : Type 0 where
   pub unknown : length old.catalogue.now.transactions ≤ tx → (answer ≡ no_such) × (new ≡ old)
   pub observed : tx < length old.catalogue.now.transactions → Observes old tx answer new

@@ -1,6 +1,8 @@
 pub mod Calls
 pub mod Files
+pub mod Held
 pub mod Looking
+pub mod Made
 pub mod Named
 pub mod Numbers
 pub mod ProgramHandle

@@ -17,7 +17,7 @@ abbrev pub number_of_task : Option TaskId → ℤ
 number_of_task None = negsuc 13
 number_of_task (Some task) = pos task.0
 
--- `stm_store_submit`: -9 and nothing changed where there is no such transaction
+-- `stm_submit`: -9 and nothing changed where there is no such transaction
 abbrev pub SubmitsBy : BookView → ℕ → ℤ → BookView → Type 0
 SubmitsBy old tx n new =
     (length old.catalogue.transactions ≤ tx → (n ≡ negsuc 8) × (new ≡ old))
@@ -27,7 +27,7 @@ SubmitsBy old tx n new =
 abbrev pub counts_in : Standing → Counts
 counts_in s = record { ready = s.ready; running = s.running; parked = s.parked; done = s.done; given_up = s.given_up }
 
--- `stm_store_value`: the present value and version of the variable of this name
+-- `stm_value`: the present value and version of the variable of this name
 abbrev pub ValueIs : BookView → List ℕ → ℤ → ℕ → Type 0
 ValueIs b name value version = IsValueOf b name (Some (value, version))
 

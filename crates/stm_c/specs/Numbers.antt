@@ -65,6 +65,13 @@ kind n = record { kind = n; value = pos 0 }
 abbrev pub no_such : Told
 no_such = kind (negsuc 8)
 
+-- the handle is empty
+abbrev pub nothing_held : Told
+nothing_held = kind (negsuc 11)
+
+abbrev pub nothing_taken : Taken
+nothing_taken = record { task = negsuc 11; tx = 0 }
+
 -- committed, with the number of the entry
 abbrev pub entered : ℕ → Told
 entered n = record { kind = pos 0; value = pos (min n (2 ^ 63 - 1)) }

@@ -2,7 +2,7 @@
 
 ghost use Rattle.std.specs.Prelude.{◌≡◌, ◌≢◌, pos, negsuc};
 ghost use Rattle.stm_c.specs.Looking.{number_of_task};
-ghost use Rattle.stm_c.specs.Numbers.{IsBelow, entered, kind, no_such, number_of_fault, number_of_part, number_of_try, taken_as, told_brought, told_observed, told_served, told_thrown};
+ghost use Rattle.stm_c.specs.Numbers.{IsBelow, entered, kind, no_such, nothing_held, nothing_taken, number_of_fault, number_of_part, number_of_try, taken_as, told_brought, told_observed, told_served, told_thrown};
 
 use book::{Finish, Serial};
 use checker::Part;
@@ -21,6 +21,10 @@ pub(crate) const UNKNOWN: i32 = -9;
 pub(crate) const NO_WORKER: i32 = -10;
 /// The worker has no ended attempt to bring.
 pub(crate) const NOT_ENDED: i32 = -11;
+/// The handle is empty.
+pub(crate) const EMPTY: i32 = -12;
+/// The handle that is to hold what is made holds something.
+pub(crate) const FULL: i32 = -13;
 /// There is no room for another task; or there would be more tasks than there may be.
 pub(crate) const NO_ROOM: i32 = -14;
 /// A task is ready or running, and the report could not account for it.
@@ -73,6 +77,23 @@ pub(crate) fn unknown() -> Told
     ensures { result ≡ no_such }
 {
     bare(UNKNOWN)
+}
+
+/// The handle is empty.
+pub(crate) fn empty() -> Told
+    ensures { result ≡ nothing_held }
+{
+    bare(EMPTY)
+}
+
+/// No job, since the handle is empty.
+pub(crate) fn no_job() -> Taken
+    ensures { result ≡ nothing_taken }
+{
+    Taken {
+        task: i64::from(EMPTY),
+        tx: 0,
+    }
 }
 
 /// Why a file is refused. Never 0.

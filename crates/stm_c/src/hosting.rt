@@ -1,56 +1,71 @@
 //! A store, as a handle: its calls stand under the host's lock.
 
-ghost use Rattle.std.specs.Prelude.{◌≡◌, ◌≢◌, pos, IfOk, string_bytes};
+ghost use Rattle.std.specs.Prelude.{◌≡◌, ◌≢◌, None, pos};
 ghost use Rattle.stm_store.specs.Working.{IsTextOf};
 ghost use Rattle.stm_c.specs.Calls.{StaysOf, Takes, Finishes, ServesAny, GivesUp, Reports, LeavesChecked};
+ghost use Rattle.stm_c.specs.Held.{FinishesOn, HoldsSome, IsOf, On};
+ghost use Rattle.stm_c.specs.Made.{IsHiredBy, IsOpened, IsOpenedOf, IsWorkerOf};
+ghost use Rattle.stm_c.specs.Numbers.{nothing_held, nothing_taken};
 ghost use Rattle.stm_c.specs.Rooms.{Holds};
 ghost use Rattle.stm_c.specs.declared.codes.Taken.{Taken};
 
 use crate::codes::{
-    MEMORY, NO_ROOM, NO_WORKER, Taken, Told, UNKNOWN, brought, job_of, served, unknown,
+    EMPTY, FULL, MEMORY, NO_ROOM, NO_WORKER, Taken, Told, UNKNOWN, brought, empty, job_of, no_job,
+    served, unknown,
 };
-use crate::parts::Parts;
 use crate::program_handle::ProgramHandle;
 use crate::reading::program_of;
-use crate::store_handle::{StoreHandle, give as give_store};
-use crate::worker_handle::{WorkerHandle, give as give_worker};
+use crate::store_handle::StoreHandle;
+use crate::worker_handle::WorkerHandle;
 use crate::writing::copy;
-use core::mem::replace_with;
 use std::alloc::Global;
 use stm_store::{Program, Store, Worker};
-use txn::{Memory, TaskId};
+use txn::TaskId;
 
 /// Opens a store of the program, for so many workers. 0, and `out` holds it; -6, -10: want of
-/// memory, more than 32 workers; `out` is as it was.
+/// memory, more than 32 workers; -12, -13: the program's handle is empty, or `out` is not. Else than
+/// with 0, `out` is as it was.
 #[unsafe(no_mangle)]
-pub extern "C" fn stm_store_open(
+pub extern "C" fn stm_open(
     alloc: Global,
     program: &mut ProgramHandle,
     workers: usize,
     checkpoint: u32,
-    out: &mut *mut u8,
+    out: &mut StoreHandle,
 ) -> i32
     ensures program { program.new.value ≡ program.old.value }
-    ensures kept { result ≢ pos 0 → out.new ≡ out.old }
+    ensures done { result ≡ pos 0 → HoldsSome (IsOpenedOf program.old.value workers checkpoint 0) out.new.value }
+    ensures kept { result ≢ pos 0 → out.new.value ≡ out.old.value }
+    ensures empty { program.old.value ≡ None → result ≡ EMPTY }
+    ensures full { program.old.value ≢ None → out.old.value ≢ None → result ≡ FULL }
 {
-    open(alloc, program_of(program), workers, checkpoint, 0, out)
+    match program_of(alloc, program) {
+        Some(program) => open(alloc, program, workers, checkpoint, 0, out),
+        None => EMPTY,
+    }
 }
 
-/// As `stm_store_open`, with room for so many tasks more. -14: there would be more tasks than there
-/// may be.
+/// As `stm_open`, with room for so many tasks more. -14: there would be more tasks than there may
+/// be.
 #[unsafe(no_mangle)]
-pub extern "C" fn stm_store_open_with_room(
+pub extern "C" fn stm_open_with_room(
     alloc: Global,
     program: &mut ProgramHandle,
     workers: usize,
     checkpoint: u32,
     spare: usize,
-    out: &mut *mut u8,
+    out: &mut StoreHandle,
 ) -> i32
     ensures program { program.new.value ≡ program.old.value }
-    ensures kept { result ≢ pos 0 → out.new ≡ out.old }
+    ensures done { result ≡ pos 0 → HoldsSome (IsOpenedOf program.old.value workers checkpoint spare) out.new.value }
+    ensures kept { result ≢ pos 0 → out.new.value ≡ out.old.value }
+    ensures empty { program.old.value ≡ None → result ≡ EMPTY }
+    ensures full { program.old.value ≢ None → out.old.value ≢ None → result ≡ FULL }
 {
-    open(alloc, program_of(program), workers, checkpoint, spare, out)
+    match program_of(alloc, program) {
+        Some(program) => open(alloc, program, workers, checkpoint, spare, out),
+        None => EMPTY,
+    }
 }
 
 fn open(
@@ -59,10 +74,15 @@ fn open(
     workers: usize,
     checkpoint: u32,
     spare: usize,
-    out: &mut *mut u8,
+    out: &mut StoreHandle,
 ) -> i32
-    ensures kept { result ≢ pos 0 → out.new ≡ out.old }
+    ensures done { result ≡ pos 0 → HoldsSome (IsOpened program workers checkpoint spare) out.new.value }
+    ensures kept { result ≢ pos 0 → out.new.value ≡ out.old.value }
+    ensures full { out.old.value ≢ None → result ≡ FULL }
 {
+    if out.is_full(alloc) {
+        return FULL;
+    }
     if workers > 32 {
         return NO_WORKER;
     }
@@ -75,67 +95,74 @@ fn open(
     let Ok(made) = Box::new(alloc, store) else {
         return MEMORY;
     };
-    *out = give_store(Parts::of(made));
+    *out = StoreHandle::of(made);
     0
 }
 
-/// Lets a store go. Its workers may be used and let go afterwards.
+/// Lets a store go; its handle is empty afterwards. Its workers may be used and let go afterwards.
+/// An empty one stays so.
 #[unsafe(no_mangle)]
-pub extern "C" fn stm_store_drop(store: StoreHandle) {
-    drop(store.into_parts().into_box());
+pub extern "C" fn stm_store_free(alloc: Global, store: &mut StoreHandle)
+    ensures { store.new.value ≡ None }
+{
+    drop(store.take(alloc));
 }
 
-/// A worker of the store. 0, and `out` holds it; -6, -10: want of memory, no worker left.
+/// A worker of the store. 0, and `out` holds it; -6, -10: want of memory, no worker left; -12, -13:
+/// the store's handle is empty, or `out` is not. Else than with 0, `out` is as it was.
 #[unsafe(no_mangle)]
-pub extern "C" fn stm_store_worker(alloc: Global, store: &mut StoreHandle, out: &mut *mut u8) -> i32
-    ensures book { store.new.value.book ≡ store.old.value.book }
-    ensures stays { StaysOf store.old.value store.new.value }
-    ensures kept { result ≢ pos 0 → out.new ≡ out.old }
+pub extern "C" fn stm_hire(alloc: Global, store: &mut StoreHandle, out: &mut WorkerHandle) -> i32
+    ensures store { On store.old.value store.new.value EMPTY result (λ old answer new. (new.book ≡ old.book) × StaysOf old new) }
+    ensures done { result ≡ pos 0 → HoldsSome (IsHiredBy store.old.value) out.new.value }
+    ensures kept { result ≢ pos 0 → out.new.value ≡ out.old.value }
+    ensures full { store.old.value ≢ None → out.old.value ≢ None → result ≡ FULL }
 {
-    let found = replace_with(
-        store,
-        (),
-        |store, _|
-            ensures { (result.0.value.book ≡ store.value.book) × StaysOf store.value result.0.value }
-        {
-            let mut held = store.into_parts().into_box();
-            let found = held.worker();
-            (StoreHandle::of_parts(Parts::of(held)), found)
-        },
-    );
-    let Some(worker) = found else {
+    let Some(mut held) = store.take(alloc) else {
+        return EMPTY;
+    };
+    let answer = hire(alloc, &mut held, out);
+    *store = StoreHandle::of(held);
+    answer
+}
+
+fn hire(alloc: Global, store: &mut Store, out: &mut WorkerHandle) -> i32
+    ensures book { store.new.book ≡ store.old.book }
+    ensures stays { StaysOf store.old store.new }
+    ensures done { result ≡ pos 0 → HoldsSome (IsWorkerOf store.old) out.new.value }
+    ensures kept { result ≢ pos 0 → out.new.value ≡ out.old.value }
+    ensures full { out.old.value ≢ None → result ≡ FULL }
+{
+    if out.is_full(alloc) {
+        return FULL;
+    }
+    let Some(worker) = store.worker() else {
         return NO_WORKER;
     };
     let Ok(made) = Box::new(alloc, worker) else {
         return MEMORY;
     };
-    *out = give_worker(Parts::of(made));
+    *out = WorkerHandle::of(made);
     0
 }
 
 /// The lowest ready task, which is then running, with its transaction; the task -1 where none is
-/// ready.
+/// ready, and -12 where the handle is empty.
 #[unsafe(no_mangle)]
-pub extern "C" fn stm_store_take_job(store: &mut StoreHandle) -> Taken
-    ensures { Takes store.old.value result store.new.value }
+pub extern "C" fn stm_take_job(alloc: Global, store: &mut StoreHandle) -> Taken
+    ensures { On store.old.value store.new.value nothing_taken result (λ old taken new. Takes old taken new) }
 {
-    take(store)
+    take(alloc, store)
 }
 
-fn take(store: &mut StoreHandle) -> Taken
-    ensures { Takes store.old.value result store.new.value }
+fn take(alloc: Global, store: &mut StoreHandle) -> Taken
+    ensures { On store.old.value store.new.value nothing_taken result (λ old taken new. Takes old taken new) }
 {
-    replace_with(
-        store,
-        (),
-        |store, _|
-            ensures { Takes store.value result.1 result.0.value }
-        {
-            let mut held = store.into_parts().into_box();
-            let taken = taken_from(&mut held);
-            (StoreHandle::of_parts(Parts::of(held)), taken)
-        },
-    )
+    let Some(mut held) = store.take(alloc) else {
+        return no_job();
+    };
+    let taken = taken_from(&mut held);
+    *store = StoreHandle::of(held);
+    taken
 }
 
 fn taken_from(store: &mut Store) -> Taken
@@ -144,48 +171,38 @@ fn taken_from(store: &mut Store) -> Taken
     job_of(store.take())
 }
 
-/// The lowest ready task, which is then running, or -1 where none is ready.
+/// The lowest ready task, which is then running, or -1 where none is ready, or -12 where the handle
+/// is empty.
 #[unsafe(no_mangle)]
-pub extern "C" fn stm_store_take(store: &mut StoreHandle) -> i64
-    ensures { (answer : Taken) × Takes store.old.value answer store.new.value × (result ≡ answer.task) }
+pub extern "C" fn stm_take(alloc: Global, store: &mut StoreHandle) -> i64
+    ensures { (taken : Taken) × On store.old.value store.new.value nothing_taken taken (λ old taken new. Takes old taken new) × (result ≡ taken.task) }
 {
-    take(store).task
+    take(alloc, store).task
 }
 
-/// Brings a worker's ended attempt to the store.
+/// Brings a worker's ended attempt to the store. The kind -12 where one of the handles is empty.
 ///
 /// The worker has to be of this store, or of another one of a program that says the same.
 #[unsafe(no_mangle)]
-pub extern "C" fn stm_store_finish(store: &mut StoreHandle, worker: &mut WorkerHandle) -> Told
-    requires { worker.old.value.catalogue.now ≡ store.old.value.catalogue.now }
+pub extern "C" fn stm_finish(
+    alloc: Global,
+    store: &mut StoreHandle,
+    worker: &mut WorkerHandle,
+) -> Told
+    requires { IsOf worker.old.value store.old.value }
+    ensures { FinishesOn store.old.value worker.old.value result store.new.value worker.new.value }
 {
-    replace_with(
-        store,
-        worker,
-        |store, worker|
-            requires { worker.now.value.catalogue.now ≡ store.value.catalogue.now }
-        {
-            let mut held = store.into_parts().into_box();
-            let how = finished(&mut held, worker);
-            (StoreHandle::of_parts(Parts::of(held)), how)
-        },
-    )
-}
-
-fn finished(store: &mut Store, worker: &mut WorkerHandle) -> Told
-    requires { worker.old.value.catalogue.now ≡ store.old.catalogue.now }
-{
-    replace_with(
-        worker,
-        store,
-        |worker, store|
-            requires { worker.value.catalogue.now ≡ store.now.catalogue.now }
-        {
-            let mut held = worker.into_parts().into_box();
-            let how = ended(store, &mut held);
-            (WorkerHandle::of_parts(Parts::of(held)), how)
-        },
-    )
+    let Some(mut held) = store.take(alloc) else {
+        return empty();
+    };
+    let Some(mut hired) = worker.take(alloc) else {
+        *store = StoreHandle::of(held);
+        return empty();
+    };
+    let how = ended(&mut held, &mut hired);
+    *store = StoreHandle::of(held);
+    *worker = WorkerHandle::of(hired);
+    how
 }
 
 /// The worker's end is brought to the store.
@@ -196,22 +213,18 @@ fn ended(store: &mut Store, worker: &mut Worker) -> Told
     brought(store.finish(worker))
 }
 
-/// A turn of a running task on the present values. -9: there is no such task.
+/// A turn of a running task on the present values. -9: there is no such task. -12: the handle is
+/// empty.
 #[unsafe(no_mangle)]
-pub extern "C" fn stm_store_serial(store: &mut StoreHandle, task: u32) -> Told
-    ensures { ServesAny store.old.value task result store.new.value }
+pub extern "C" fn stm_serial(alloc: Global, store: &mut StoreHandle, task: u32) -> Told
+    ensures { On store.old.value store.new.value nothing_held result (λ old how new. ServesAny old task how new) }
 {
-    replace_with(
-        store,
-        task,
-        |store, task|
-            ensures { ServesAny store.value task result.1 result.0.value }
-        {
-            let mut held = store.into_parts().into_box();
-            let how = turn(&mut held, task);
-            (StoreHandle::of_parts(Parts::of(held)), how)
-        },
-    )
+    let Some(mut held) = store.take(alloc) else {
+        return empty();
+    };
+    let how = turn(&mut held, task);
+    *store = StoreHandle::of(held);
+    how
 }
 
 fn turn(store: &mut Store, task: u32) -> Told
@@ -223,22 +236,18 @@ fn turn(store: &mut Store, task: u32) -> Told
     served(store.serial(TaskId(task)))
 }
 
-/// Gives a running task up: 0; 3 where it was not running; -9 where there is no such task.
+/// Gives a running task up: 0; 3 where it was not running; -9 where there is no such task; -12 where
+/// the handle is empty.
 #[unsafe(no_mangle)]
-pub extern "C" fn stm_store_give_up(store: &mut StoreHandle, task: u32) -> i32
-    ensures { GivesUp store.old.value task result store.new.value }
+pub extern "C" fn stm_give_up(alloc: Global, store: &mut StoreHandle, task: u32) -> i32
+    ensures { On store.old.value store.new.value EMPTY result (λ old answer new. GivesUp old task answer new) }
 {
-    replace_with(
-        store,
-        task,
-        |store, task|
-            ensures { GivesUp store.value task result.1 result.0.value }
-        {
-            let mut held = store.into_parts().into_box();
-            let how = given_up(&mut held, task);
-            (StoreHandle::of_parts(Parts::of(held)), how)
-        },
-    )
+    let Some(mut held) = store.take(alloc) else {
+        return EMPTY;
+    };
+    let answer = given_up(&mut held, task);
+    *store = StoreHandle::of(held);
+    answer
 }
 
 fn given_up(store: &mut Store, task: u32) -> i32
@@ -250,56 +259,46 @@ fn given_up(store: &mut Store, task: u32) -> i32
     if store.give_up(TaskId(task)) { 0 } else { 3 }
 }
 
-/// The base becomes the present, and the journal is empty.
+/// The base becomes the present, and the journal is empty: 0. -12: the handle is empty.
 #[unsafe(no_mangle)]
-pub extern "C" fn stm_store_checkpoint(store: &mut StoreHandle)
-    ensures { LeavesChecked store.old.value store.new.value }
+pub extern "C" fn stm_checkpoint(alloc: Global, store: &mut StoreHandle) -> i32
+    ensures { On store.old.value store.new.value EMPTY result (λ old answer new. (answer ≡ pos 0) × LeavesChecked old new) }
 {
-    replace_with(
-        store,
-        (),
-        |store, _|
-            ensures { LeavesChecked store.value result.0.value }
-        {
-            let mut held = store.into_parts().into_box();
-            held.checkpoint();
-            (StoreHandle::of_parts(Parts::of(held)), ())
-        },
-    );
+    let Some(mut held) = store.take(alloc) else {
+        return EMPTY;
+    };
+    held.checkpoint();
+    *store = StoreHandle::of(held);
+    0
 }
 
 /// Gives what is left a turn, and copies the report's text into the room: 0, and `wanted` is how
 /// long it is. -6: want of memory. -8: the room is too short, and `wanted` is how much is needed.
+/// -12: the handle is empty.
 #[unsafe(no_mangle)]
-pub extern "C" fn stm_store_report(
+pub extern "C" fn stm_report(
+    alloc: Global,
     store: &mut StoreHandle,
     room: &mut [u8],
     wanted: &mut usize,
 ) -> i32
-    ensures turns { Reports store.old.value store.new.value }
-    ensures done { result ≡ pos 0 → Holds (IsTextOf store.new.value.book) room.old room.new wanted.new }
+    ensures { On store.old.value store.new.value EMPTY result (λ old answer new. Reports old new × (answer ≡ pos 0 → Holds (IsTextOf new.book) room.old room.new wanted.new)) }
 {
     *wanted = 0;
-    let told = replace_with(
-        store,
-        (),
-        |store, _|
-            ensures { Reports store.value result.0.value × IfOk result.1 (λ text. IsTextOf result.0.value.book (string_bytes text)) }
-        {
-            let mut held = store.into_parts().into_box();
-            let told = reported(&mut held);
-            (StoreHandle::of_parts(Parts::of(held)), told)
-        },
-    );
-    match told {
+    let Some(mut held) = store.take(alloc) else {
+        return EMPTY;
+    };
+    let answer = reported(&mut held, room, wanted);
+    *store = StoreHandle::of(held);
+    answer
+}
+
+fn reported(store: &mut Store, room: &mut [u8], wanted: &mut usize) -> i32
+    ensures turns { Reports store.old store.new }
+    ensures done { result ≡ pos 0 → Holds (IsTextOf store.new.book) room.old room.new wanted.new }
+{
+    match store.report() {
         Ok(text) => copy(text.as_bytes(), room, wanted),
         Err(_) => MEMORY,
     }
-}
-
-fn reported(store: &mut Store) -> Result<String, Memory>
-    ensures turns { Reports store.old store.new }
-    ensures text { IfOk result (λ text. IsTextOf store.new.book (string_bytes text)) }
-{
-    store.report()
 }

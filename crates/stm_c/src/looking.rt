@@ -1,73 +1,77 @@
 //! What is seen of a store: under the host's lock. Nothing changes.
 
-ghost use Rattle.std.specs.Prelude.{◌≡◌, ◌≢◌, pos, IfOk, string_bytes};
+ghost use Rattle.std.specs.Prelude.{◌≡◌, ◌≢◌, pos};
 ghost use Rattle.book.specs.Counting.{AreCounts};
 ghost use Rattle.book.specs.Turns.{IsIdle};
-ghost use Rattle.stm_store.specs.Working.{IsFileOf, IsTextOf, IsValueOf};
+ghost use Rattle.stm_store.specs.Working.{IsFileOf, IsTextOf};
+ghost use Rattle.stm_c.specs.Held.{Asked};
 ghost use Rattle.stm_c.specs.Rooms.{Holds};
 ghost use Rattle.stm_c.specs.Looking.{counts_in, NoValue, Tells, ValueIs};
 
-use crate::codes::{MEMORY, Standing, UNKNOWN, WORK_LEFT};
-use crate::parts::Parts;
+use crate::codes::{EMPTY, MEMORY, Standing, UNKNOWN, WORK_LEFT};
 use crate::store_handle::StoreHandle;
 use crate::writing::copy;
-use core::mem::replace_with;
-use stm_store::{FileFault, ReportFault};
+use book::Counts;
+use std::alloc::Global;
+use stm_store::{FileFault, ReportFault, Store};
 
-/// How many tasks stand how.
+/// How many tasks stand how: 0, and they were written. -12: the handle is empty.
 #[unsafe(no_mangle)]
-pub extern "C" fn stm_store_counts(store: &mut StoreHandle, out: &mut Standing)
-    ensures counts { AreCounts store.old.value.book.tasks (counts_in out.new) }
+pub extern "C" fn stm_counted(alloc: Global, store: &mut StoreHandle, out: &mut Standing) -> i32
+    ensures counts { Asked store.old.value EMPTY result (λ held answer. (answer ≡ pos 0) × AreCounts held.book.tasks (counts_in out.new)) }
+    ensures kept { result ≢ pos 0 → out.new ≡ out.old }
     ensures stays { store.new.value ≡ store.old.value }
 {
-    let counts = replace_with(
-        store,
-        (),
-        |store, _|
-            ensures { AreCounts store.value.book.tasks result.1 × (result.0.value ≡ store.value) }
-        {
-            let held = store.into_parts().into_box();
-            let counts = held.counts();
-            (StoreHandle::of_parts(Parts::of(held)), counts)
-        },
-    );
-    *out = Standing {
+    let Some(held) = store.take(alloc) else {
+        return EMPTY;
+    };
+    *out = standing(held.counts());
+    *store = StoreHandle::of(held);
+    0
+}
+
+fn standing(counts: Counts) -> Standing
+    ensures { counts_in result ≡ counts }
+{
+    Standing {
         ready: counts.ready,
         running: counts.running,
         parked: counts.parked,
         done: counts.done,
         given_up: counts.given_up,
-    };
+    }
 }
 
 /// The present value of the variable of this name, and its version: 0, and they were written. -9:
-/// there is no such variable.
+/// there is no such variable. -12: the handle is empty.
 #[unsafe(no_mangle)]
-pub extern "C" fn stm_store_value(
+pub extern "C" fn stm_value(
+    alloc: Global,
     store: &mut StoreHandle,
     name: &[u8],
     value: &mut i64,
     version: &mut u64,
 ) -> i32
-    ensures done { result ≡ pos 0 → ValueIs store.old.value.book name.now value.new version.new }
-    ensures unknown { result ≢ pos 0 → (result ≡ UNKNOWN) × NoValue store.old.value.book name.now × (value.new ≡ value.old) × (version.new ≡ version.old) }
+    ensures answer { Asked store.old.value EMPTY result (λ held answer. (answer ≡ pos 0 → ValueIs held.book name.now value.new version.new) × (answer ≢ pos 0 → (answer ≡ UNKNOWN) × NoValue held.book name.now)) }
+    ensures kept { result ≢ pos 0 → (value.new ≡ value.old) × (version.new ≡ version.old) }
     ensures stays { store.new.value ≡ store.old.value }
+{
+    let Some(held) = store.take(alloc) else {
+        return EMPTY;
+    };
+    let answer = value_of(&held, name, value, version);
+    *store = StoreHandle::of(held);
+    answer
+}
+
+fn value_of(store: &Store, name: &[u8], value: &mut i64, version: &mut u64) -> i32
+    ensures done { result ≡ pos 0 → ValueIs store.now.book name.now value.new version.new }
+    ensures unknown { result ≢ pos 0 → (result ≡ UNKNOWN) × NoValue store.now.book name.now × (value.new ≡ value.old) × (version.new ≡ version.old) }
 {
     let Ok(name) = str::from_utf8(name) else {
         return UNKNOWN;
     };
-    let found = replace_with(
-        store,
-        name,
-        |store, name|
-            ensures { IsValueOf store.value.book name.now result.1 × (result.0.value ≡ store.value) }
-        {
-            let held = store.into_parts().into_box();
-            let found = held.value(name);
-            (StoreHandle::of_parts(Parts::of(held)), found)
-        },
-    );
-    let Some((present, number)) = found else {
+    let Some((present, number)) = store.value(name) else {
         return UNKNOWN;
     };
     *value = present;
@@ -77,59 +81,62 @@ pub extern "C" fn stm_store_value(
 
 /// Copies the file of the program as it has become into the room: 0, and `wanted` is how long it
 /// is. -1: it would be longer than a file may be. -6: want of memory. -8: the room is too short, and
-/// `wanted` is how much is needed.
+/// `wanted` is how much is needed. -12: the handle is empty.
 #[unsafe(no_mangle)]
-pub extern "C" fn stm_store_file(
+pub extern "C" fn stm_file(
+    alloc: Global,
     store: &mut StoreHandle,
     room: &mut [u8],
     wanted: &mut usize,
 ) -> i32
-    ensures done { result ≡ pos 0 → Holds (IsFileOf store.old.value.book) room.old room.new wanted.new }
+    ensures done { Asked store.old.value EMPTY result (λ held answer. answer ≡ pos 0 → Holds (IsFileOf held.book) room.old room.new wanted.new) }
     ensures stays { store.new.value ≡ store.old.value }
 {
     *wanted = 0;
-    let told = replace_with(
-        store,
-        (),
-        |store, _|
-            ensures { IfOk result.1 (λ text. IsFileOf store.value.book (string_bytes text)) × (result.0.value ≡ store.value) }
-        {
-            let held = store.into_parts().into_box();
-            let told = held.file();
-            (StoreHandle::of_parts(Parts::of(held)), told)
-        },
-    );
-    match told {
+    let Some(held) = store.take(alloc) else {
+        return EMPTY;
+    };
+    let answer = file_of(&held, room, wanted);
+    *store = StoreHandle::of(held);
+    answer
+}
+
+fn file_of(store: &Store, room: &mut [u8], wanted: &mut usize) -> i32
+    ensures { result ≡ pos 0 → Holds (IsFileOf store.now.book) room.old room.new wanted.new }
+{
+    match store.file() {
         Ok(text) => copy(text.as_bytes(), room, wanted),
         Err(FileFault::TooLong) => -1,
         Err(FileFault::Memory) => MEMORY,
     }
 }
 
-/// As `stm_store_report`, with no turn given. -15: a task is ready or running.
+/// As `stm_report`, with no turn given. -15: a task is ready or running.
 #[unsafe(no_mangle)]
-pub extern "C" fn stm_store_report_now(
+pub extern "C" fn stm_report_now(
+    alloc: Global,
     store: &mut StoreHandle,
     room: &mut [u8],
     wanted: &mut usize,
 ) -> i32
-    ensures done { result ≡ pos 0 → Holds (IsTextOf store.old.value.book) room.old room.new wanted.new }
-    ensures left { result ≡ WORK_LEFT → ¬ (IsIdle store.old.value.book) }
+    ensures done { Asked store.old.value EMPTY result (λ held answer. answer ≡ pos 0 → Holds (IsTextOf held.book) room.old room.new wanted.new) }
+    ensures left { Asked store.old.value EMPTY result (λ held answer. answer ≡ WORK_LEFT → ¬ (IsIdle held.book)) }
     ensures stays { store.new.value ≡ store.old.value }
 {
     *wanted = 0;
-    let told = replace_with(
-        store,
-        (),
-        |store, _|
-            ensures { Tells store.value.book result.1 × (result.0.value ≡ store.value) }
-        {
-            let held = store.into_parts().into_box();
-            let told = held.report_now();
-            (StoreHandle::of_parts(Parts::of(held)), told)
-        },
-    );
-    match told {
+    let Some(held) = store.take(alloc) else {
+        return EMPTY;
+    };
+    let answer = report_of(&held, room, wanted);
+    *store = StoreHandle::of(held);
+    answer
+}
+
+fn report_of(store: &Store, room: &mut [u8], wanted: &mut usize) -> i32
+    ensures done { result ≡ pos 0 → Holds (IsTextOf store.now.book) room.old room.new wanted.new }
+    ensures left { result ≡ WORK_LEFT → ¬ (IsIdle store.now.book) }
+{
+    match store.report_now() {
         Ok(text) => copy(text.as_bytes(), room, wanted),
         Err(ReportFault::WorkLeft) => WORK_LEFT,
         Err(ReportFault::Memory) => MEMORY,

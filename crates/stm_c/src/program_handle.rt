@@ -1,19 +1,21 @@
-//! A box as C holds it: its pointer, as one to bytes.
-ghost use Rattle.std.specs.Prelude.{◌≡◌};
+//! A box as C holds it: its pointer, as one to bytes; or nothing, where that is null.
+ghost use Rattle.std.specs.Prelude.{◌≡◌, ◌≢◌, Option, None, Some, MatchBool, MatchOption};
 ghost use Rattle.stm_store.specs.declared.program.Program.{Program};
 ghost use Rattle.stm_c.specs.ProgramHandle.{value_coded, handle_owns};
 
 use crate::parts::Parts;
+use core::mem::replace;
 use std::alloc::Global;
 use std::marker::Model;
+use std::ptr::null_mut;
 use stm_store::Program;
 
-/// A `Program` that the host holds.
+/// A `Program` that the host holds, or none.
 #[repr(C)]
 pub struct ProgramHandle {
     ptr: *mut u8,
     alloc: Global,
-    pub ghost value: { Program } by { value_coded },
+    pub ghost value: { Option Program } by { value_coded },
 }
 
 impl Model for ProgramHandle {
@@ -21,8 +23,17 @@ impl Model for ProgramHandle {
 }
 
 impl ProgramHandle {
-    pub fn of_parts(parts: Parts<Program, Global>) -> ProgramHandle
-        ensures { result.value ≡ parts.value }
+    fn empty(alloc: Global) -> ProgramHandle
+        ensures { result.value ≡ None }
+    {
+        ProgramHandle {
+            ptr: null_mut(),
+            alloc,
+        }
+    }
+
+    fn of_parts(parts: Parts<Program, Global>) -> ProgramHandle
+        ensures { result.value ≡ Some parts.value }
     {
         let Parts { ptr, alloc } = parts;
         ProgramHandle {
@@ -31,21 +42,53 @@ impl ProgramHandle {
         }
     }
 
-    pub fn into_parts(self) -> Parts<Program, Global>
-        ensures { result.value ≡ self.value }
+    fn into_parts(self) -> Option<Parts<Program, Global>>
+        ensures { MatchOption result (self.value ≡ None) (λ p. self.value ≡ Some p.value) }
     {
         let ProgramHandle { ptr, alloc } = self;
-        Parts {
-            ptr: ptr as *mut Program,
-            alloc,
+        if ptr.is_null() {
+            None
+        } else {
+            Some(Parts {
+                ptr: ptr as *mut Program,
+                alloc,
+            })
         }
+    }
+
+    /// A handle that holds this.
+    pub fn of(held: Box<Program>) -> ProgramHandle
+        ensures { result.value ≡ Some held.value }
+    {
+        ProgramHandle::of_parts(Parts::of(held))
+    }
+
+    /// What it holds, if anything; it is empty afterwards.
+    pub fn take(&mut self, alloc: Global) -> Option<Box<Program>>
+        ensures left { self.new.value ≡ None }
+        ensures held { MatchOption result (self.old.value ≡ None) (λ b. self.old.value ≡ Some b.value) }
+    {
+        let parts = replace(self, ProgramHandle::empty(alloc)).into_parts()?;
+        Some(parts.into_box())
+    }
+
+    /// Whether it holds anything, which it keeps.
+    pub fn is_full(&mut self, alloc: Global) -> bool
+        ensures full { MatchBool result (self.old.value ≢ None) (self.old.value ≡ None) }
+        ensures stays { self.new.value ≡ self.old.value }
+    {
+        let Some(held) = self.take(alloc) else {
+            return false;
+        };
+        *self = ProgramHandle::of(held);
+        true
     }
 }
 
-/// The pointer alone: whose it is, no clause says.
-pub fn give(parts: Parts<Program, Global>) -> *mut u8
-    ensures { result ≡ parts.ptr }
-{
-    let Parts { ptr, alloc: _ } = parts;
-    ptr as *mut u8
+impl Drop for ProgramHandle {
+    fn drop(self) {
+        if let Some(parts) = self.into_parts() {
+            drop(parts.into_box());
+        }
+    }
 }

@@ -1,23 +1,28 @@
 //! Programs, as handles: read once, and kept until the process ends.
 
-ghost use Rattle.std.specs.Prelude.{◌≡◌, ◌≢◌, pos, length};
+ghost use Rattle.std.specs.Prelude.{◌≡◌, ◌≢◌, None, pos, length};
 ghost use Rattle.txn_programs.specs.Listing.{tasks};
+ghost use Rattle.stm_c.specs.Held.{Asked, HoldsSome};
+ghost use Rattle.stm_c.specs.Made.{IsRead};
 ghost use Rattle.stm_c.specs.Named.{IsVariable, IsTransaction};
 
-use crate::codes::{MEMORY, UNKNOWN, file_fault};
-use crate::parts::Parts;
-use crate::program_handle::{ProgramHandle, give};
-use core::mem::replace_with;
+use crate::codes::{EMPTY, FULL, MEMORY, UNKNOWN, file_fault};
+use crate::program_handle::ProgramHandle;
 use std::alloc::Global;
 use stm_store::Program;
 use txn::Catalogue;
 
 /// Reads the program that the bytes spell. 0, and `out` holds it; -1 to -7: the file is refused, or
-/// want of memory, and `out` is as it was.
+/// want of memory; -13: `out` is not empty. Else than with 0, `out` is as it was.
 #[unsafe(no_mangle)]
-pub extern "C" fn stm_program_read(alloc: Global, file: &[u8], out: &mut *mut u8) -> i32
-    ensures kept { result ≢ pos 0 → out.new ≡ out.old }
+pub extern "C" fn stm_read(alloc: Global, file: &[u8], out: &mut ProgramHandle) -> i32
+    ensures done { result ≡ pos 0 → HoldsSome (IsRead file.now) out.new.value }
+    ensures kept { result ≢ pos 0 → out.new.value ≡ out.old.value }
+    ensures full { out.old.value ≢ None → result ≡ FULL }
 {
+    if out.is_full(alloc) {
+        return FULL;
+    }
     let program = match Program::read(alloc, file) {
         Ok(program) => program,
         Err(fault) => return file_fault(fault),
@@ -25,69 +30,80 @@ pub extern "C" fn stm_program_read(alloc: Global, file: &[u8], out: &mut *mut u8
     let Ok(made) = Box::new(alloc, program) else {
         return MEMORY;
     };
-    *out = give(Parts::of(made));
+    *out = ProgramHandle::of(made);
     0
 }
 
-/// Lets a handle of a program go. What the program says stays, for its stores and workers.
+/// Lets a handle of a program go, which is empty afterwards. What the program says stays, for its
+/// stores and workers. An empty one stays so.
 #[unsafe(no_mangle)]
-pub extern "C" fn stm_program_drop(program: ProgramHandle) {
-    drop(program.into_parts().into_box());
+pub extern "C" fn stm_program_free(alloc: Global, program: &mut ProgramHandle)
+    ensures { program.new.value ≡ None }
+{
+    drop(program.take(alloc));
 }
 
 /// The program, which the handle keeps.
-pub(crate) fn program_of(handle: &mut ProgramHandle) -> Program
+pub(crate) fn program_of(alloc: Global, handle: &mut ProgramHandle) -> Option<Program>
     ensures program { result ≡ handle.old.value }
     ensures stays { handle.new.value ≡ handle.old.value }
 {
-    replace_with(
-        handle,
-        (),
-        |handle, _|
-            ensures { (result.0.value ≡ handle.value) × (result.1 ≡ handle.value) }
-        {
-            let held = handle.into_parts().into_box();
-            let program = *held;
-            (ProgramHandle::of_parts(Parts::of(held)), program)
-        },
-    )
+    let held = handle.take(alloc)?;
+    let program = *held;
+    *handle = ProgramHandle::of(held);
+    Some(program)
 }
 
-/// How many tasks the program has, numbered from 0 in the order of the runs.
+/// How many tasks the program has, numbered from 0 in the order of the runs. 0 of an empty handle.
 #[unsafe(no_mangle)]
-pub extern "C" fn stm_program_tasks(program: &mut ProgramHandle) -> usize
-    ensures value { result ≡ length (tasks program.old.value.catalogue.now) }
+pub extern "C" fn stm_program_tasks(alloc: Global, program: &mut ProgramHandle) -> usize
+    ensures value { Asked program.old.value 0 result (λ p n. n ≡ length (tasks p.catalogue.now)) }
     ensures stays { program.new.value ≡ program.old.value }
 {
-    program_of(program).catalogue().tasks()
+    match program_of(alloc, program) {
+        Some(program) => program.catalogue().tasks(),
+        None => 0,
+    }
 }
 
-/// How many variables it has, numbered from 0 as declared.
+/// How many variables it has, numbered from 0 as declared. 0 of an empty handle.
 #[unsafe(no_mangle)]
-pub extern "C" fn stm_program_variables(program: &mut ProgramHandle) -> usize
-    ensures value { result ≡ length program.old.value.catalogue.now.initial }
+pub extern "C" fn stm_program_variables(alloc: Global, program: &mut ProgramHandle) -> usize
+    ensures value { Asked program.old.value 0 result (λ p n. n ≡ length p.catalogue.now.initial) }
     ensures stays { program.new.value ≡ program.old.value }
 {
-    program_of(program).catalogue().initial().len()
+    match program_of(alloc, program) {
+        Some(program) => program.catalogue().initial().len(),
+        None => 0,
+    }
 }
 
-/// How many transactions it has, numbered from 0 as declared.
+/// How many transactions it has, numbered from 0 as declared. 0 of an empty handle.
 #[unsafe(no_mangle)]
-pub extern "C" fn stm_program_transactions(program: &mut ProgramHandle) -> usize
-    ensures value { result ≡ length program.old.value.catalogue.now.transactions }
+pub extern "C" fn stm_program_transactions(alloc: Global, program: &mut ProgramHandle) -> usize
+    ensures value { Asked program.old.value 0 result (λ p n. n ≡ length p.catalogue.now.transactions) }
     ensures stays { program.new.value ≡ program.old.value }
 {
-    program_of(program).catalogue().tx_count()
+    match program_of(alloc, program) {
+        Some(program) => program.catalogue().tx_count(),
+        None => 0,
+    }
 }
 
-/// The number of the variable of this name, or -9.
+/// The number of the variable of this name, or -9. -12: the handle is empty.
 #[unsafe(no_mangle)]
-pub extern "C" fn stm_program_variable(program: &mut ProgramHandle, name: &[u8]) -> i64
-    ensures found { IsVariable program.old.value.catalogue.now name.now result }
+pub extern "C" fn stm_program_variable(
+    alloc: Global,
+    program: &mut ProgramHandle,
+    name: &[u8],
+) -> i64
+    ensures found { Asked program.old.value EMPTY result (λ p n. IsVariable p.catalogue.now name.now n) }
     ensures stays { program.new.value ≡ program.old.value }
 {
-    let catalogue = program_of(program).catalogue();
-    variable(catalogue, name)
+    match program_of(alloc, program) {
+        Some(program) => variable(program.catalogue(), name),
+        None => i64::from(EMPTY),
+    }
 }
 
 fn variable(catalogue: &Catalogue, name: &[u8]) -> i64
@@ -102,14 +118,20 @@ fn variable(catalogue: &Catalogue, name: &[u8]) -> i64
     }
 }
 
-/// The number of the transaction of this name, or -9.
+/// The number of the transaction of this name, or -9. -12: the handle is empty.
 #[unsafe(no_mangle)]
-pub extern "C" fn stm_program_transaction(program: &mut ProgramHandle, name: &[u8]) -> i64
-    ensures found { IsTransaction program.old.value.catalogue.now name.now result }
+pub extern "C" fn stm_program_transaction(
+    alloc: Global,
+    program: &mut ProgramHandle,
+    name: &[u8],
+) -> i64
+    ensures found { Asked program.old.value EMPTY result (λ p n. IsTransaction p.catalogue.now name.now n) }
     ensures stays { program.new.value ≡ program.old.value }
 {
-    let catalogue = program_of(program).catalogue();
-    transaction(catalogue, name)
+    match program_of(alloc, program) {
+        Some(program) => transaction(program.catalogue(), name),
+        None => i64::from(EMPTY),
+    }
 }
 
 fn transaction(catalogue: &Catalogue, name: &[u8]) -> i64

@@ -5,8 +5,9 @@ ghost use Rattle.txn_programs.specs.Told.{told};
 ghost use Rattle.txn_programs.specs.LawfulReport.{LawfulReport, BaseReached};
 ghost use Rattle.text_grammar.specs.Spelling.{Spells, first_fault};
 ghost use Rattle.text_words.specs.declared.fault.ReadFault.TheVariants as ReadFault;
-ghost use Rattle.book.specs.Turns.{IsIdle};
-ghost use Rattle.runner.specs.Running.{IsReportOf};
+ghost use Rattle.book.specs.Turns.{IsIdle, ReportIs};
+ghost use Rattle.run_workers.specs.Journals.{KeepsShort};
+ghost use Rattle.runner.specs.Running.{IsReportBy};
 ghost use Rattle.stm_c.specs.Rooms.{Holds};
 
 use crate::codes::file_fault;
@@ -18,8 +19,9 @@ use txn::{Catalogue, Memory, Report};
 use txn_text::{ReadFault, print_report, read_file};
 
 /// Runs all tasks of the file, and copies the report's text into the room: 0, and `wanted` is how
-/// long it is. -1 to -7: the file is refused, or want of memory. -8: the room is too short, and
-/// `wanted` is how much is needed.
+/// long it is. With a checkpoint after each N entries its journal has fewer than N, and its base is a
+/// multiple of N; with 0, for none, its base is 0. -1 to -7: the file is refused, or want of memory.
+/// -8: the room is too short, and `wanted` is how much is needed.
 #[unsafe(no_mangle)]
 pub extern "C" fn stm_run_one(
     alloc: Global,
@@ -28,7 +30,7 @@ pub extern "C" fn stm_run_one(
     room: &mut [u8],
     wanted: &mut usize,
 ) -> i32
-    ensures done { result ≡ pos 0 → Holds (IsReportOf file.now) room.old room.new wanted.new }
+    ensures done { result ≡ pos 0 → Holds (IsReportBy checkpoint file.now) room.old room.new wanted.new }
 {
     *wanted = 0;
     match report_of(alloc, file, checkpoint) {
@@ -39,7 +41,7 @@ pub extern "C" fn stm_run_one(
 
 /// The text of a lawful report of the file that the bytes spell.
 fn report_of(alloc: Global, bytes: &[u8], checkpoint: u32) -> Result<String, ReadFault>
-    ensures report { IfOk result (λ text. IsReportOf bytes.now (string_bytes text)) }
+    ensures report { IfOk result (λ text. IsReportBy checkpoint bytes.now (string_bytes text)) }
     ensures fault { IfErr result (λ e. (e ≡ ReadFault.Memory) ⊎ (first_fault bytes.now ≡ Some e)) }
 {
     match read_file(alloc, bytes) {
@@ -56,7 +58,7 @@ fn report_text(
     checkpoint: u32,
 ) -> Result<String, ReadFault>
     requires { Spells bytes.now catalogue.now }
-    ensures report { IfOk result (λ text. IsReportOf bytes.now (string_bytes text)) }
+    ensures report { IfOk result (λ text. IsReportBy checkpoint bytes.now (string_bytes text)) }
     ensures fault { IfErr result (λ e. e ≡ ReadFault.Memory) }
 {
     let Ok(report) = run_alone(alloc, catalogue, checkpoint) else {
@@ -72,9 +74,11 @@ fn report_text(
 fn run_alone(alloc: Global, catalogue: &Catalogue, checkpoint: u32) -> Result<Report, Memory>
     ensures lawful { IfOk result (λ r. LawfulReport catalogue.now (told r)) }
     ensures reached { IfOk result (λ r. BaseReached catalogue.now (told r)) }
+    ensures short { IfOk result (λ r. KeepsShort checkpoint (told r)) }
 {
     let (cells, publisher, _passes) = Cells::open(alloc, catalogue.initial(), 0)?;
     let mut book = Book::open(alloc, catalogue, &cells, publisher)?;
+    book.law();
     book.drain(alloc, checkpoint);
     report(alloc, &book)
 }
@@ -82,6 +86,7 @@ fn run_alone(alloc: Global, catalogue: &Catalogue, checkpoint: u32) -> Result<Re
 /// The report of a book with no task ready or running.
 fn report(alloc: Global, book: &Book<'_>) -> Result<Report, Memory>
     requires { IsIdle book.now }
+    ensures is { IfOk result (λ r. ReportIs book.now (told r)) }
     ensures lawful { IfOk result (λ r. LawfulReport book.now.catalogue (told r)) }
     ensures reached { IfOk result (λ r. BaseReached book.now.catalogue (told r)) }
 {

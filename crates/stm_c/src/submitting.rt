@@ -2,36 +2,32 @@
 
 ghost use Rattle.std.specs.Prelude.{◌≡◌, length};
 ghost use Rattle.txn_programs.specs.Listing.{tasks};
+ghost use Rattle.stm_c.specs.Calls.{StaysOf};
+ghost use Rattle.stm_c.specs.Held.{Asked, On};
 ghost use Rattle.stm_c.specs.Looking.{SubmitsBy};
 
-use crate::codes::{UNKNOWN, submitted};
-use crate::parts::Parts;
+use crate::codes::{EMPTY, UNKNOWN, submitted};
 use crate::store_handle::StoreHandle;
-use core::mem::replace_with;
+use std::alloc::Global;
 use stm_store::Store;
 use txn::TxId;
 
-/// A ready task of the transaction more: its number. -9, -14: there is no such transaction, no room
-/// for another task; then nothing changed.
+/// A ready task of the transaction more: its number. -9, -12, -14: there is no such transaction, the
+/// handle is empty, no room for another task; then nothing changed.
 #[unsafe(no_mangle)]
-pub extern "C" fn stm_store_submit(store: &mut StoreHandle, tx: u32) -> i64
-    ensures { SubmitsBy store.old.value.book tx result store.new.value.book }
+pub extern "C" fn stm_submit(alloc: Global, store: &mut StoreHandle, tx: u32) -> i64
+    ensures { On store.old.value store.new.value EMPTY result (λ old task new. SubmitsBy old.book tx task new.book × StaysOf old new) }
 {
-    replace_with(
-        store,
-        tx,
-        |store, tx|
-            ensures { SubmitsBy store.value.book tx result.1 result.0.value.book }
-        {
-            let mut held = store.into_parts().into_box();
-            let task = submit(&mut held, tx);
-            (StoreHandle::of_parts(Parts::of(held)), task)
-        },
-    )
+    let Some(mut held) = store.take(alloc) else {
+        return i64::from(EMPTY);
+    };
+    let task = submit(&mut held, tx);
+    *store = StoreHandle::of(held);
+    task
 }
 
 fn submit(store: &mut Store, tx: u32) -> i64
-    ensures { SubmitsBy store.old.book tx result store.new.book }
+    ensures { SubmitsBy store.old.book tx result store.new.book × StaysOf store.old store.new }
 {
     store.law();
     if tx as usize >= store.catalogue().tx_count() {
@@ -40,40 +36,31 @@ fn submit(store: &mut Store, tx: u32) -> i64
     submitted(store.submit(TxId(tx)))
 }
 
-/// How many tasks more can be submitted.
+/// How many tasks more can be submitted. 0 of an empty handle.
 #[unsafe(no_mangle)]
-pub extern "C" fn stm_store_spare(store: &mut StoreHandle) -> usize
-    ensures value { result ≡ store.old.value.book.spare }
+pub extern "C" fn stm_store_spare(alloc: Global, store: &mut StoreHandle) -> usize
+    ensures value { Asked store.old.value 0 result (λ held n. n ≡ held.book.spare) }
     ensures stays { store.new.value ≡ store.old.value }
 {
-    replace_with(
-        store,
-        (),
-        |store, _|
-            ensures { (result.1 ≡ store.value.book.spare) × (result.0.value ≡ store.value) }
-        {
-            let held = store.into_parts().into_box();
-            let spare = held.spare();
-            (StoreHandle::of_parts(Parts::of(held)), spare)
-        },
-    )
+    let Some(held) = store.take(alloc) else {
+        return 0;
+    };
+    let spare = held.spare();
+    *store = StoreHandle::of(held);
+    spare
 }
 
-/// How many tasks there are: those of the program, and those that were submitted.
+/// How many tasks there are: those of the program, and those that were submitted. 0 of an empty
+/// handle.
 #[unsafe(no_mangle)]
-pub extern "C" fn stm_store_tasks(store: &mut StoreHandle) -> usize
-    ensures value { result ≡ length (tasks store.old.value.book.catalogue) }
+pub extern "C" fn stm_store_tasks(alloc: Global, store: &mut StoreHandle) -> usize
+    ensures value { Asked store.old.value 0 result (λ held n. n ≡ length (tasks held.book.catalogue)) }
     ensures stays { store.new.value ≡ store.old.value }
 {
-    replace_with(
-        store,
-        (),
-        |store, _|
-            ensures { (result.1 ≡ length (tasks store.value.book.catalogue)) × (result.0.value ≡ store.value) }
-        {
-            let held = store.into_parts().into_box();
-            let tasks = held.tasks();
-            (StoreHandle::of_parts(Parts::of(held)), tasks)
-        },
-    )
+    let Some(held) = store.take(alloc) else {
+        return 0;
+    };
+    let tasks = held.tasks();
+    *store = StoreHandle::of(held);
+    tasks
 }

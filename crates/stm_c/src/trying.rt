@@ -1,35 +1,37 @@
 //! A worker, as a handle: its calls take no lock, by one thread at a time.
 
+ghost use Rattle.std.specs.Prelude.{◌≡◌, None};
 ghost use Rattle.stm_c.specs.Calls.{TriesAny, TriesTask, ObservesAny};
+ghost use Rattle.stm_c.specs.Held.{On};
+ghost use Rattle.stm_c.specs.Numbers.{nothing_held};
 
-use crate::codes::{Told, UNKNOWN, observed, tried, unknown};
-use crate::parts::Parts;
+use crate::codes::{EMPTY, Told, UNKNOWN, empty, observed, tried, unknown};
 use crate::worker_handle::WorkerHandle;
-use core::mem::replace_with;
+use std::alloc::Global;
 use stm_store::{Job, Worker};
 use txn::{TaskId, TxId};
 
 /// Evaluates the transaction on one state, for this task of a store: 0 it has ended, 2 a read was
-/// stale, -6 want of memory, -9 there is no such transaction.
+/// stale, -6 want of memory, -9 there is no such transaction, -12 the handle is empty.
 #[unsafe(no_mangle)]
-pub extern "C" fn stm_worker_try_job(worker: &mut WorkerHandle, task: u32, tx: u32) -> i32
-    ensures { TriesAny worker.old.value (record { task = record { 0 = task }; tx = record { 0 = tx } }) result worker.new.value }
+pub extern "C" fn stm_worker_try_job(
+    alloc: Global,
+    worker: &mut WorkerHandle,
+    task: u32,
+    tx: u32,
+) -> i32
+    ensures { On worker.old.value worker.new.value EMPTY result (λ old how new. TriesAny old (record { task = record { 0 = task }; tx = record { 0 = tx } }) how new) }
 {
+    let Some(mut held) = worker.take(alloc) else {
+        return EMPTY;
+    };
     let job = Job {
         task: TaskId(task),
         tx: TxId(tx),
     };
-    replace_with(
-        worker,
-        job,
-        |worker, job|
-            ensures { TriesAny worker.value job result.1 result.0.value }
-        {
-            let mut held = worker.into_parts().into_box();
-            let how = try_job(&mut held, job);
-            (WorkerHandle::of_parts(Parts::of(held)), how)
-        },
-    )
+    let how = try_job(&mut held, job);
+    *worker = WorkerHandle::of(held);
+    how
 }
 
 fn try_job(worker: &mut Worker, job: Job) -> i32
@@ -42,22 +44,17 @@ fn try_job(worker: &mut Worker, job: Job) -> i32
 }
 
 /// Evaluates a task of the program on one state: 0 it has ended, 2 a read was stale, -6 want of
-/// memory, -9 the program has no such task.
+/// memory, -9 the program has no such task, -12 the handle is empty.
 #[unsafe(no_mangle)]
-pub extern "C" fn stm_worker_try(worker: &mut WorkerHandle, task: u32) -> i32
-    ensures { TriesTask worker.old.value task result worker.new.value }
+pub extern "C" fn stm_try(alloc: Global, worker: &mut WorkerHandle, task: u32) -> i32
+    ensures { On worker.old.value worker.new.value EMPTY result (λ old how new. TriesTask old task how new) }
 {
-    replace_with(
-        worker,
-        task,
-        |worker, task|
-            ensures { TriesTask worker.value task result.1 result.0.value }
-        {
-            let mut held = worker.into_parts().into_box();
-            let how = try_task(&mut held, task);
-            (WorkerHandle::of_parts(Parts::of(held)), how)
-        },
-    )
+    let Some(mut held) = worker.take(alloc) else {
+        return EMPTY;
+    };
+    let how = try_task(&mut held, task);
+    *worker = WorkerHandle::of(held);
+    how
 }
 
 fn try_task(worker: &mut Worker, task: u32) -> i32
@@ -73,20 +70,15 @@ fn try_task(worker: &mut Worker, task: u32) -> i32
 
 /// How the transaction would end on one state.
 #[unsafe(no_mangle)]
-pub extern "C" fn stm_worker_observe(worker: &mut WorkerHandle, tx: u32) -> Told
-    ensures { ObservesAny worker.old.value tx result worker.new.value }
+pub extern "C" fn stm_observe(alloc: Global, worker: &mut WorkerHandle, tx: u32) -> Told
+    ensures { On worker.old.value worker.new.value nothing_held result (λ old how new. ObservesAny old tx how new) }
 {
-    replace_with(
-        worker,
-        tx,
-        |worker, tx|
-            ensures { ObservesAny worker.value tx result.1 result.0.value }
-        {
-            let mut held = worker.into_parts().into_box();
-            let how = observe(&mut held, tx);
-            (WorkerHandle::of_parts(Parts::of(held)), how)
-        },
-    )
+    let Some(mut held) = worker.take(alloc) else {
+        return empty();
+    };
+    let how = observe(&mut held, tx);
+    *worker = WorkerHandle::of(held);
+    how
 }
 
 fn observe(worker: &mut Worker, tx: u32) -> Told
@@ -98,8 +90,10 @@ fn observe(worker: &mut Worker, tx: u32) -> Told
     observed(worker.observe(TxId(tx)))
 }
 
-/// Lets a worker go.
+/// Lets a worker go; its handle is empty afterwards. An empty one stays so.
 #[unsafe(no_mangle)]
-pub extern "C" fn stm_worker_drop(worker: WorkerHandle) {
-    drop(worker.into_parts().into_box());
+pub extern "C" fn stm_worker_free(alloc: Global, worker: &mut WorkerHandle)
+    ensures { worker.new.value ≡ None }
+{
+    drop(worker.take(alloc));
 }

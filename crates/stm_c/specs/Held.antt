@@ -1,0 +1,38 @@
+-- What a call does where a handle that it is given may be empty.
+use Rattle.std.specs.Prelude.{◌≡◌, ℤ, negsuc, Option, Some, None}
+use Rattle.stm_store.specs.declared.store.Store.{Store}
+use Rattle.stm_store.specs.declared.worker.Worker.{Worker}
+use Rattle.stm_c.specs.declared.codes.Told.{Told}
+use Rattle.stm_c.specs.Numbers.{nothing_held}
+use Rattle.stm_c.specs.Calls.{Finishes}
+
+-- where the handle is empty, it stays so and the answer says it; else the call is made on what it holds, and it holds what is left
+abbrev pub On : {X A : Type 0} → Option X → Option X → A → A → (X → A → X → Type 0) → Type 0
+On None None empty answer Call = answer ≡ empty
+On (Some old) (Some new) empty answer Call = Call old answer new
+On None (Some new) empty answer Call = ⊥
+On (Some old) None empty answer Call = ⊥
+
+-- the same of a call that changes nothing
+abbrev pub Asked : {X A : Type 0} → Option X → A → A → (X → A → Type 0) → Type 0
+Asked None empty answer Is = answer ≡ empty
+Asked (Some held) empty answer Is = Is held answer
+
+-- so it is of what the handle holds, and it holds something
+abbrev pub HoldsSome : {X : Type 0} → (X → Type 0) → Option X → Type 0
+HoldsSome Is None = ⊥
+HoldsSome Is (Some held) = Is held
+
+-- a worker's program is the store's, where both are there
+abbrev pub IsOf : Option Worker → Option Store → Type 0
+IsOf (Some worker) (Some store) = worker.catalogue.now ≡ store.catalogue.now
+IsOf (Some worker) None = Unit {0}
+IsOf None store = Unit {0}
+
+-- `stm_finish`: both handles are as they were where one is empty
+abbrev pub FinishesOn : Option Store → Option Worker → Told → Option Store → Option Worker → Type 0
+FinishesOn (Some old) (Some before) answer (Some new) (Some after) = Finishes old before answer new after
+FinishesOn (Some old) (Some before) answer (Some new) None = ⊥
+FinishesOn (Some old) (Some before) answer None worker = ⊥
+FinishesOn (Some old) None answer store worker = (answer ≡ nothing_held) × (store ≡ Some old) × (worker ≡ None)
+FinishesOn None before answer store worker = (answer ≡ nothing_held) × (store ≡ None) × (worker ≡ before)
