@@ -8,6 +8,7 @@
 #![tactic(auto)]
 
 mod arithmetic;
+mod branches;
 pub mod found;
 pub mod laws;
 pub mod machine;
