@@ -48,18 +48,24 @@ fn an_attempt_is_made_one_of_another_transaction(rt: HostRuntime) {
 }
 
 /// Its log is taken after a retry, and it goes the same way once more.
+const A_LOG_IS_TAKEN_AND_THE_ATTEMPT_BEGINS_ANEW: &[Step<'static>] = &[
+    Step::Told(X, 4, 5),
+    Step::Advance(Next::Retry, 4),
+    Step::Log(&[(X, 5)]),
+    Step::TakeLog(&[(X, 5)]),
+    Step::Log(&[]),
+    Step::Told(X, 4, 5),
+    Step::Advance(Next::Retry, 4),
+    Step::Log(&[(X, 5)]),
+];
+
 #[test]
 fn a_log_is_taken_and_the_attempt_begins_anew(rt: HostRuntime) {
     let text = "(var x 0)(var y 0)(tx t (orelse (if (eq x 5) (retry) (skip)) (retry)) 1)";
-    let steps = [
-        Step::Told(X, 4, 5),
-        Step::Advance(Next::Retry, 4),
-        Step::Log(&[(X, 5)]),
-        Step::TakeLog(&[(X, 5)]),
-        Step::Log(&[]),
-        Step::Told(X, 4, 5),
-        Step::Advance(Next::Retry, 4),
-        Step::Log(&[(X, 5)]),
-    ];
-    plays(&rt, rt.alloc(), text, &steps);
+    plays(
+        &rt,
+        rt.alloc(),
+        text,
+        A_LOG_IS_TAKEN_AND_THE_ATTEMPT_BEGINS_ANEW,
+    );
 }

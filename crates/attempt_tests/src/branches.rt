@@ -45,18 +45,24 @@ fn many_writes_of_a_variable_are_taken_back(rt: HostRuntime) {
 }
 
 /// The branch waits for y behind its write of x; after its retry x is read.
+const WHAT_ONLY_A_RETRIED_BRANCH_WROTE_IS_NOT_WRITTEN: &[Step<'static>] = &[
+    Step::Told(Y, 7, 0),
+    Step::Told(X, 5, 5),
+    Step::Advance(Next::Returned(5), 1),
+    Step::Log(&[(Y, 0), (X, 5)]),
+    Step::Writes(&[]),
+];
+
 #[test]
 fn what_only_a_retried_branch_wrote_is_not_written(rt: HostRuntime) {
     let text =
         "(var x 0)(var y 0)(tx t (orelse (seq (set x 1) (if (eq y 0) (retry) (skip))) (skip)) x)";
-    let steps = [
-        Step::Told(Y, 7, 0),
-        Step::Told(X, 5, 5),
-        Step::Advance(Next::Returned(5), 1),
-        Step::Log(&[(Y, 0), (X, 5)]),
-        Step::Writes(&[]),
-    ];
-    plays(&rt, rt.alloc(), text, &steps);
+    plays(
+        &rt,
+        rt.alloc(),
+        text,
+        WHAT_ONLY_A_RETRIED_BRANCH_WROTE_IS_NOT_WRITTEN,
+    );
 }
 
 /// This many variables, the last one written first, each with its number.
@@ -69,11 +75,15 @@ fn descending(alloc: Global, count: u32) -> Result<String, AllocError> {
     Ok(text)
 }
 
+const WRITES_COME_OUT_ASCENDING: &[Step<'static>] = &[
+    Step::Answer(Next::Returned(0)),
+    Step::Numbers(256),
+];
+
 #[test]
 fn writes_come_out_ascending(rt: HostRuntime) {
-    let steps = [Step::Answer(Next::Returned(0)), Step::Numbers(256)];
     match descending(rt.alloc(), 256) {
-        Ok(text) => plays(&rt, rt.alloc(), text.as_str(), &steps),
+        Ok(text) => plays(&rt, rt.alloc(), text.as_str(), WRITES_COME_OUT_ASCENDING),
         Err(_) => panic!(rt; "no text"),
     }
 }

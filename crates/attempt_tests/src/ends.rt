@@ -75,18 +75,21 @@ fn is_alike(alloc: Global, catalogue: &Catalogue, x: i64, y: i64) -> bool {
     }
 }
 
-/// The first of some states of x and y from which it is not so.
+/// Some states of x and y.
+const STATES: &[(i64, i64)] = &[
+    (0, 0),
+    (1, -1),
+    (5, 0),
+    (-7, 2),
+    (i64::MAX, 1),
+    (i64::MIN, -1),
+];
+
+/// The first of them from which it is not so.
 fn first_unlike(alloc: Global, catalogue: &Catalogue) -> Option<(i64, i64)> {
-    for (x, y) in [
-        (0, 0),
-        (1, -1),
-        (5, 0),
-        (-7, 2),
-        (i64::MAX, 1),
-        (i64::MIN, -1),
-    ] {
-        if !is_alike(alloc, catalogue, x, y) {
-            return Some((x, y));
+    for (x, y) in STATES {
+        if !is_alike(alloc, catalogue, *x, *y) {
+            return Some((*x, *y));
         }
     }
     None
@@ -113,83 +116,95 @@ fn expect_alike(rt: &(impl Abort + Eprint), alloc: Global, rest: &str) {
     }
 }
 
+const CONDITIONS_ARE_TESTED_AS_IN_THE_PLAIN_EVALUATION: &[&str] = &[
+    "(stm 2)(var x 0)(var y 0)(always a (le x 3))(tx t (set x (add x 1)) x)",
+    "(stm 2)(var x 1)(var y 0)(always a (eq 0 (rem y x)))(tx t (skip) 4)",
+    "(stm 2)(var x 0)(var y 0)(always a (le x 0))(always b (le 0 (add x y)))(tx t (set y 1) y)",
+];
+
 #[test]
 fn conditions_are_tested_as_in_the_plain_evaluation(rt: HostRuntime) {
-    for text in [
-        "(stm 2)(var x 0)(var y 0)(always a (le x 3))(tx t (set x (add x 1)) x)",
-        "(stm 2)(var x 1)(var y 0)(always a (eq 0 (rem y x)))(tx t (skip) 4)",
-        "(stm 2)(var x 0)(var y 0)(always a (le x 0))(always b (le 0 (add x y)))(tx t (set y 1) y)",
-    ] {
+    for text in CONDITIONS_ARE_TESTED_AS_IN_THE_PLAIN_EVALUATION {
         expect_alike_in(&rt, rt.alloc(), text);
     }
 }
 
+const ENDS_AS_THE_PLAIN_EVALUATION: &[&str] = &[
+    "(skip) 4",
+    "(set x (add x 1)) (add x y)",
+    "(throw x) 0",
+    "(if (eq x 0) (retry) (set y x)) y",
+];
+
 #[test]
 fn ends_as_the_plain_evaluation(rt: HostRuntime) {
-    for rest in [
-        "(skip) 4",
-        "(set x (add x 1)) (add x y)",
-        "(throw x) 0",
-        "(if (eq x 0) (retry) (set y x)) y",
-    ] {
+    for rest in ENDS_AS_THE_PLAIN_EVALUATION {
         expect_alike(&rt, rt.alloc(), rest);
     }
 }
+
+const BRANCHES_END_AS_IN_THE_PLAIN_EVALUATION: &[&str] = &[
+    "(orelse (seq (set x 1) (retry)) (skip)) x",
+    "(orelse (set x (add x 1)) (skip)) x",
+    "(orelse (throw y) (skip)) x",
+    "(repeat 3 (set x (add x 1))) x",
+];
 
 #[test]
 fn branches_end_as_in_the_plain_evaluation(rt: HostRuntime) {
-    for rest in [
-        "(orelse (seq (set x 1) (retry)) (skip)) x",
-        "(orelse (set x (add x 1)) (skip)) x",
-        "(orelse (throw y) (skip)) x",
-        "(repeat 3 (set x (add x 1))) x",
-    ] {
+    for rest in BRANCHES_END_AS_IN_THE_PLAIN_EVALUATION {
         expect_alike(&rt, rt.alloc(), rest);
     }
 }
 
+const QUOTIENTS_END_AS_IN_THE_PLAIN_EVALUATION: &[&str] = &[
+    "(skip) (div x y)",
+    "(skip) (rem x y)",
+    "(skip) (mul x y)",
+    "(skip) (sub x y)",
+];
+
 #[test]
 fn quotients_end_as_in_the_plain_evaluation(rt: HostRuntime) {
-    for rest in [
-        "(skip) (div x y)",
-        "(skip) (rem x y)",
-        "(skip) (mul x y)",
-        "(skip) (sub x y)",
-    ] {
+    for rest in QUOTIENTS_END_AS_IN_THE_PLAIN_EVALUATION {
         expect_alike(&rt, rt.alloc(), rest);
     }
 }
 
 /// What is fused, with results that fit and results that do not.
+const FUSED_INSTRUCTIONS_END_AS_IN_THE_PLAIN_EVALUATION: &[&str] = &[
+    "(set y (add x 3)) (sub y x)",
+    "(set y (sub x 3)) (add y x)",
+    "(set x (add x 9223372036854775807)) x",
+    "(set x (sub x -9223372036854775808)) x",
+    "(skip) (add (mul x 1) 1)",
+    "(skip) (sub (mul x 1) 1)",
+    "(skip) (add (mul x 1) y)",
+    "(skip) (sub (mul x 1) y)",
+    "(orelse (seq (set x (add y 1)) (retry)) (set y (sub x 1))) y",
+    "(if (eq x 1) (set y 7) (set y 8)) y",
+    "(if (lt x 1) (set y 7) (set y 8)) y",
+    "(if (le x 1) (set y 7) (set y 8)) y",
+];
+
 #[test]
 fn fused_instructions_end_as_in_the_plain_evaluation(rt: HostRuntime) {
-    for rest in [
-        "(set y (add x 3)) (sub y x)",
-        "(set y (sub x 3)) (add y x)",
-        "(set x (add x 9223372036854775807)) x",
-        "(set x (sub x -9223372036854775808)) x",
-        "(skip) (add (mul x 1) 1)",
-        "(skip) (sub (mul x 1) 1)",
-        "(skip) (add (mul x 1) y)",
-        "(skip) (sub (mul x 1) y)",
-        "(orelse (seq (set x (add y 1)) (retry)) (set y (sub x 1))) y",
-        "(if (eq x 1) (set y 7) (set y 8)) y",
-        "(if (lt x 1) (set y 7) (set y 8)) y",
-        "(if (le x 1) (set y 7) (set y 8)) y",
-    ] {
+    for rest in FUSED_INSTRUCTIONS_END_AS_IN_THE_PLAIN_EVALUATION {
         expect_alike(&rt, rt.alloc(), rest);
     }
 }
 
 /// A fault of a fused instruction in a condition is named as any other.
+const FUSED_INSTRUCTIONS_ARE_BLAMED_ON_THEIR_CONDITION: &[&str] = &[
+    "(stm 2)(var x 0)(var y 0)(always a (le 0 (add (mul x 1) 1)))(tx t (skip) 4)",
+    "(stm 2)(var x 0)(var y 0)(always a (le (sub (mul x 1) 1) 8))(tx t (skip) 4)",
+    "(stm 2)(var x 0)(var y 0)(always b (eq y y))(always a (le 0 (add (mul x 1) y)))(tx t (skip) 4)",
+    "(stm 2)(var x 0)(var y 0)(always b (eq y y))(always a (le 0 (sub (mul x 1) y)))(tx t (skip) 4)",
+];
+
 #[test]
 fn fused_instructions_are_blamed_on_their_condition(rt: HostRuntime) {
-    for text in [
-        "(stm 2)(var x 0)(var y 0)(always a (le 0 (add (mul x 1) 1)))(tx t (skip) 4)",
-        "(stm 2)(var x 0)(var y 0)(always a (le (sub (mul x 1) 1) 8))(tx t (skip) 4)",
-        "(stm 2)(var x 0)(var y 0)(always b (eq y y))(always a (le 0 (add (mul x 1) y)))(tx t (skip) 4)",
-        "(stm 2)(var x 0)(var y 0)(always b (eq y y))(always a (le 0 (sub (mul x 1) y)))(tx t (skip) 4)",
-    ] {
+    for text in FUSED_INSTRUCTIONS_ARE_BLAMED_ON_THEIR_CONDITION {
         expect_alike_in(&rt, rt.alloc(), text);
     }
 }

@@ -23,60 +23,80 @@ fn adding_to_all(alloc: Global, count: u32) -> Result<String, AllocError> {
 }
 
 /// Each of 256 variables is 6, and 7 is written to each.
+const MANY_VARIABLES_ARE_READ_AND_WRITTEN: &[Step<'static>] = &[
+    Step::Sixes(256),
+    Step::Advance(Next::Returned(7), 3),
+    Step::Ends(256, (VarId(255), 7)),
+    Step::Total(1282),
+];
+
 #[test]
 fn many_variables_are_read_and_written(rt: HostRuntime) {
-    let steps = [
-        Step::Sixes(256),
-        Step::Advance(Next::Returned(7), 3),
-        Step::Ends(256, (VarId(255), 7)),
-        Step::Total(1282),
-    ];
     match adding_to_all(rt.alloc(), 256) {
-        Ok(text) => plays(&rt, rt.alloc(), text.as_str(), &steps),
+        Ok(text) => plays(
+            &rt,
+            rt.alloc(),
+            text.as_str(),
+            MANY_VARIABLES_ARE_READ_AND_WRITTEN,
+        ),
         Err(_) => panic!(rt; "no text"),
     }
 }
 
 /// Each operand waits for the one on its right, and each loop for the one inside it, 31 deep; so
 /// the operands and the loops take all the room that a body and a result can.
+const THE_DEEPEST_PROGRAMS_HAVE_ROOM: &[Step<'static>] = &[
+    Step::Told(X, 94, 4),
+    Step::Advance(Next::Returned(35), 1),
+    Step::Total(95),
+];
+
+const THE_DEEPEST_PROGRAMS_HAVE_ROOM_TEXT: &[(u32, &str)] = &[
+    (1, "(var x 0)(tx t "),
+    (30, "(repeat 1 "),
+    (1, "(skip)"),
+    (30, ")"),
+    (1, " "),
+    (31, "(add 1 "),
+    (1, "x"),
+    (31, ")"),
+    (1, ")"),
+];
+
 #[test]
 fn the_deepest_programs_have_room(rt: HostRuntime) {
-    let parts = [
-        (1, "(var x 0)(tx t "),
-        (30, "(repeat 1 "),
-        (1, "(skip)"),
-        (30, ")"),
-        (1, " "),
-        (31, "(add 1 "),
-        (1, "x"),
-        (31, ")"),
-        (1, ")"),
-    ];
-    let steps = [
-        Step::Told(X, 94, 4),
-        Step::Advance(Next::Returned(35), 1),
-        Step::Total(95),
-    ];
-    plays_repeated(&rt, rt.alloc(), &parts, &steps);
+    plays_repeated(
+        &rt,
+        rt.alloc(),
+        THE_DEEPEST_PROGRAMS_HAVE_ROOM_TEXT,
+        THE_DEEPEST_PROGRAMS_HAVE_ROOM,
+    );
 }
 
 /// Branches that write and retry, one inside the other: the writes of each are gone, and the
 /// loops round them go on.
+const NESTED_BRANCHES_GO_BACK: &[Step<'static>] = &[
+    Step::Told(X, 5, 0),
+    Step::Advance(Next::Returned(27), 163),
+    Step::Writes(&[(X, 27)]),
+];
+
+const NESTED_BRANCHES_GO_BACK_TEXT: &[(u32, &str)] = &[
+    (1, "(var x 0)(tx t (repeat 3 (seq (set x (add x 2)) "),
+    (8, "(orelse (seq (set x (add x 1)) "),
+    (1, "(retry)"),
+    (8, ") (skip))"),
+    (1, ")) x)"),
+];
+
 #[test]
 fn nested_branches_go_back(rt: HostRuntime) {
-    let parts = [
-        (1, "(var x 0)(tx t (repeat 3 (seq (set x (add x 2)) "),
-        (8, "(orelse (seq (set x (add x 1)) "),
-        (1, "(retry)"),
-        (8, ") (skip))"),
-        (1, ")) x)"),
-    ];
-    let steps = [
-        Step::Told(X, 5, 0),
-        Step::Advance(Next::Returned(27), 163),
-        Step::Writes(&[(X, 27)]),
-    ];
-    plays_repeated(&rt, rt.alloc(), &parts, &steps);
+    plays_repeated(
+        &rt,
+        rt.alloc(),
+        NESTED_BRANCHES_GO_BACK_TEXT,
+        NESTED_BRANCHES_GO_BACK,
+    );
 }
 
 /// Drives an attempt to its end, where no growth is refused. Whether each refusal left what it has

@@ -71,6 +71,34 @@ fn a_moved_attempt_commits_at_its_first_try(rt: HostRuntime) {
     assert_eq!(rt; ends, 1);
 }
 
+/// A task that throws, one that waits and one that reads twice, each with another that sets what it
+/// reads, and the report where the other commits first.
+const SEEN_LATE: [(&str, &str); 3] = [
+    (
+        "(var x 5)(tx bad (throw x) 0)(tx inc (set x (add x 1)) x)(run bad 1)(run inc 1)",
+        "base 0\nx 5 0\nentry 1 1 inc returned 6\nentry 2 0 bad threw 6\nnow 2\nx 6 1\nend\n",
+    ),
+    (
+        "(var x 5)(tx wait (if (eq x 5) (retry) (skip)) x)(tx inc (set x (add x 1)) x)(run wait 1)(run inc 1)",
+        "base 0\nx 5 0\nentry 1 1 inc returned 6\nentry 2 0 wait returned 6\nnow 2\nx 6 1\nend\n",
+    ),
+    (
+        "(var x 1)(var y 1)(tx sum (skip) (add x y))(tx sety (set y 5) 0)(run sum 1)(run sety 1)",
+        MOVED,
+    ),
+];
+
+/// Whatever its end is, an attempt whose reads are no longer so when it comes to the book is tried again.
+#[test]
+fn no_kind_of_end_comes_from_values_that_are_gone(rt: HostRuntime) {
+    for (text, report) in SEEN_LATE {
+        let first = Hold::new(TAKEN[1], ENDED);
+        let second = Hold::new(ENDED, FINISHED[1]);
+        let ends = hold_run(&rt, rt.alloc(), text, 8, first, second, report);
+        assert_eq!(rt; ends, 2);
+    }
+}
+
 /// An open gate that would count its calls.
 #[derive(Drop)]
 struct Opened {

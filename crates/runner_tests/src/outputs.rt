@@ -48,6 +48,7 @@ fn failing_writers(rt: HostRuntime) {
     let ran = run_bytes(&rt, alloc, b"", options, &OpenGate, &mut out);
     assert!(rt; ran == Err(RunFault::Output));
     assert_eq!(rt; out.failures(), 1);
+    // What the writer had room for is let go, so that the room can be looked at.
     let _rest = out.into_inner();
     assert_eq!(rt; room, *b"base 0\n");
     assert_eq!(rt; RunFault::Output.status(), 4);

@@ -17,6 +17,9 @@ const KINDS: &str =
 /// `Finished`.
 const POINTS: u64 = 0o1_2234_1234_1234_1234_134;
 
+/// The points of each task, by whatever number of workers: none of them changes what another reads.
+const OF_EACH: [u64; 5] = [0o12234, 0o1234, 0o1234, 0o1234, 0o134];
+
 fn digit_of(point: Point) -> u64 {
     match point {
         Point::Taken => 1,
@@ -32,11 +35,16 @@ struct Points {
     digits: AtomicU64,
 }
 
+/// One more point, of whoever comes to these points alone.
+fn note(digits: &AtomicU64, point: Point) {
+    let before = digits.load(Ordering::SeqCst);
+    let longer = before.wrapping_mul(8).wrapping_add(digit_of(point));
+    digits.store(longer, Ordering::SeqCst);
+}
+
 impl Gate for Points {
     fn at(&self, point: Point, _task: TaskId) {
-        let digits = self.digits.load(Ordering::SeqCst);
-        let longer = digits.wrapping_mul(8).wrapping_add(digit_of(point));
-        self.digits.store(longer, Ordering::SeqCst);
+        note(&self.digits, point);
     }
 }
 
@@ -48,6 +56,39 @@ fn each_kind_of_end_comes_to_its_points(rt: HostRuntime) {
     let ran = run_under(&rt, rt.alloc(), KINDS, options(&rt, 1, 2, 0), &gate);
     assert!(rt; ran.is_some());
     assert_eq!(rt; gate.digits.load(Ordering::SeqCst), POINTS);
+}
+
+/// The points that each of five tasks came to.
+#[derive(Drop)]
+struct OfEach {
+    tasks: [AtomicU64; 5],
+}
+
+impl Gate for OfEach {
+    fn at(&self, point: Point, task: TaskId) {
+        if let Some(digits) = self.tasks.get(task.0 as usize) {
+            note(digits, point);
+        }
+    }
+}
+
+#[test]
+fn any_number_of_workers_brings_each_task_to_its_points(rt: HostRuntime) {
+    for workers in 1..17 {
+        let tasks = [
+            AtomicU64::new(0),
+            AtomicU64::new(0),
+            AtomicU64::new(0),
+            AtomicU64::new(0),
+            AtomicU64::new(0),
+        ];
+        let gate = OfEach { tasks };
+        let ran = run_under(&rt, rt.alloc(), KINDS, options(&rt, workers, 2, 0), &gate);
+        assert!(rt; ran.is_some());
+        for (digits, wanted) in gate.tasks.iter().zip(OF_EACH) {
+            assert!(rt; digits.load(Ordering::SeqCst) == wanted);
+        }
+    }
 }
 
 /// How often each point was come to.
