@@ -9,6 +9,7 @@ ghost use Rattle.std.specs.Io.KnownBytes.{WriteAppends, Keeps, Appends};
 ghost use Rattle.run_sink.specs.Counts.{put_failures, flush_failures};
 
 use std::io::Write;
+use std::marker::Model;
 
 /// A write or a flush failed.
 #[derive(Clone, Copy, Debug, PartialEq, Eq)]
@@ -47,6 +48,14 @@ pub struct Out<W> {
     writer: W,
     failures: u64,
     flushed: bool,
+}
+
+impl<W> Model for Out<W> {
+    ghost use Rattle.run_sink.specs.Outlet.{Outlet};
+
+    ghost Value = { Outlet W };
+
+    ghost view = { λ o. record { writer = o.writer; failures = o.failures; flushed = o.flushed } };
 }
 
 impl<W: Write> Out<W> {
