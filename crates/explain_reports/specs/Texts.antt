@@ -1,11 +1,11 @@
 -- What is written of what is said of a report.
-use Rattle.std.specs.Prelude.{ℕ, List, [], ◌∷◌, ◌++◌, slice_index_or, codes}
+use Rattle.std.specs.Prelude.{ℕ, List, [], ◌∷◌, ◌++◌, codes}
 use Rattle.std.specs.Fmt.{decimal}
-use Rattle.txn_programs.specs.declared.ast.TxId.{TxId}
-use Rattle.txn_programs.specs.Listing.{Listing, always_name, program_at}
+use Rattle.txn_programs.specs.Listing.{Listing, always_name}
 use Rattle.text_words.specs.Words.{line as line_of}
 use Rattle.text_words.specs.declared.fault.ReadFault.{ReadFault}
 use Rattle.text_words.specs.declared.fault.ReadFault.TheVariants.{TooLong, BadByte, Shape, Name, Limit, Broken, Memory}
+use Rattle.text_report_printer.specs.Names.{transaction_name, variable_name}
 use Rattle.text_report_printer.specs.ReportText.{variable_line, entry_line, outcome_text}
 use Rattle.checker.specs.declared.verdict.Part.TheVariants.{Text}
 use Rattle.checker.specs.Lines.{bad_line, line_of as verdict_line}
@@ -26,12 +26,6 @@ kind_text Limit = codes "a number is larger than may stand in its place\n"
 -- these are no faults of a report
 kind_text Broken = codes "\n"
 kind_text Memory = codes "\n"
-
-abbrev pub variable_name : Listing → ℕ → List ℕ
-variable_name l i = slice_index_or l.names i []
-
-abbrev pub tx_name : Listing → TxId → List ℕ
-tx_name l tx = (program_at l tx).name
 
 -- what is so in place of what the line says: these words, then this, then these
 unfoldable pub front_text : Flaw → List ℕ
@@ -54,7 +48,7 @@ what_text l (Late i) = []
 what_text l (Entry i due) = entry_line l due
 what_text l (Number n) = line_of (codes "now" ∷ decimal n ∷ [])
 what_text l (Present i value version) = variable_line (variable_name l i) (value, version)
-what_text l (NotOwn at tx) = tx_name l tx
+what_text l (NotOwn at tx) = transaction_name l tx.0
 what_text l (Again at) = []
 what_text l (Falls at) = []
 what_text l Count = []

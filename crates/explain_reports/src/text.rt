@@ -1,51 +1,17 @@
 //! What is said of a report, as text.
 
 ghost use Rattle.std.specs.Prelude.{◌≡◌, ◌++◌, OnOk, string_bytes};
-ghost use Rattle.txn_programs.specs.Listing.{always_name};
+ghost use Rattle.text_report_printer.specs.Names.{variable_name};
 ghost use Rattle.text_report_printer.specs.ReportText.{entry_line, variable_line};
-ghost use Rattle.explain_reports.specs.Texts.{back_text, explanation_text, flaw_text, front_text, kind_text, tx_name, variable_name, what_text};
+ghost use Rattle.explain_reports.specs.Texts.{back_text, explanation_text, flaw_text, front_text, kind_text, what_text};
 
 use crate::explaining::Explanation;
 use crate::flaw::Flaw;
 use std::alloc::AllocError;
 use std::fmt::Write;
-use text_report_printer::{put_number, put_outcome};
+use text_report_printer::{always_name, put_number, put_outcome, transaction_name, variable_name};
 use text_words::ReadFault;
-use txn::{AlwaysId, Catalogue, Entry, TxId, VarId};
-
-/// A variable's name, or nothing where there is no such variable.
-fn variable_name(catalogue: &Catalogue, i: usize) -> &str
-    ensures { result.now ≡ variable_name catalogue.now i }
-{
-    catalogue.rules();
-    if i < catalogue.initial().len() {
-        catalogue.var_name(VarId(i as u32))
-    } else {
-        ""
-    }
-}
-
-/// A transaction's name, or nothing where there is no such transaction.
-fn tx_name(catalogue: &Catalogue, tx: TxId) -> &str
-    ensures { result.now ≡ tx_name catalogue.now tx }
-{
-    if (tx.0 as usize) < catalogue.tx_count() {
-        catalogue.tx_name(tx)
-    } else {
-        ""
-    }
-}
-
-/// A standing condition's name, or nothing where there is no such condition.
-fn always_name(catalogue: &Catalogue, id: AlwaysId) -> &str
-    ensures { result.now ≡ always_name catalogue.now id }
-{
-    if (id.0 as usize) < catalogue.always().len() {
-        catalogue.always_name(id)
-    } else {
-        ""
-    }
-}
+use txn::{Catalogue, Entry};
 
 /// Why bytes are the text of no report.
 fn kind_text(kind: ReadFault) -> &'static str
@@ -82,7 +48,7 @@ fn put_entry(out: &mut String, catalogue: &Catalogue, entry: &Entry) -> Result<(
     let number = entry.number;
     let task = entry.task.0;
     write!(out, "entry {number} {task} ")?;
-    out.push_str(tx_name(catalogue, entry.tx))?;
+    out.push_str(transaction_name(catalogue, entry.tx.0 as usize))?;
     out.push_str(" ")?;
     put_outcome(out, catalogue, entry.outcome)?;
     out.push_str("\n")
@@ -137,7 +103,7 @@ fn put_what(out: &mut String, catalogue: &Catalogue, flaw: Flaw) -> Result<(), A
         Flaw::Entry(_, due) => put_entry(out, catalogue, &due),
         Flaw::Number(number) => put_number(out, "now", number),
         Flaw::Present(i, value, version) => put_variable(out, catalogue, i, value, version),
-        Flaw::NotOwn(_, tx) => out.push_str(tx_name(catalogue, tx)),
+        Flaw::NotOwn(_, tx) => out.push_str(transaction_name(catalogue, tx.0 as usize)),
         Flaw::Ends(_, ending) => put_outcome(out, catalogue, ending),
         Flaw::Late(_) => Ok(()),
         Flaw::Again(_) => Ok(()),

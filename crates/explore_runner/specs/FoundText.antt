@@ -2,11 +2,12 @@
 use Rattle.std.specs.Prelude.{ℕ, zero, suc, ◌+◌, ℤ, pos, Bool, true, false, nat_lt, List, [], ◌∷◌, ◌++◌, codes, length, Option, Some, None, slice_get, slice_index_or}
 use Rattle.std.specs.List.{list_any}
 use Rattle.std.specs.Fmt.{decimal, signed_decimal}
-use Rattle.txn_programs.specs.Listing.{Listing, tasks, always_name, transaction_at}
+use Rattle.txn_programs.specs.Listing.{Listing, tasks, always_name}
 use Rattle.explore_law.specs.declared.found.End.{End}
 use Rattle.explore_law.specs.declared.found.Kinds.{Kinds}
 use Rattle.explore_law.specs.declared.found.Found.{Found}
 use Rattle.explore_law.specs.Orders.{counted}
+use Rattle.text_report_printer.specs.Names.{transaction_name, variable_name}
 use Rattle.text_words.specs.Words.{line}
 
 -- the text where that is so
@@ -18,12 +19,6 @@ only false text = []
 abbrev pub each_below : (ℕ → List ℕ) → ℕ → List ℕ
 each_below text zero = []
 each_below text (suc n) = each_below text n ++ text n
-
-abbrev pub variable_name : Listing → ℕ → List ℕ
-variable_name l k = slice_index_or l.names k []
-
-abbrev pub tx_name : Listing → ℕ → List ℕ
-tx_name l k = (transaction_at l (record { 0 = k })).name
 
 -- some number of the list is not 0
 abbrev pub some_wait : List ℕ → Bool
@@ -44,7 +39,7 @@ flag_words ks = only ks.returned (codes " returned") ++ (only ks.threw (codes " 
 -- tx NAME, in which ways its turns end, and whether it waits at an end
 abbrev pub tx_line : Listing → ℕ → Bool → Option Kinds → List ℕ
 tx_line l k waits None = []
-tx_line l k waits (Some ks) = codes "tx " ++ (tx_name l k ++ (flag_words ks ++ (each_below (broke_word l ks) (length l.always) ++ (only waits (codes " parks") ++ codes "\n"))))
+tx_line l k waits (Some ks) = codes "tx " ++ (transaction_name l k ++ (flag_words ks ++ (each_below (broke_word l ks) (length l.always) ++ (only waits (codes " parks") ++ codes "\n"))))
 
 -- the line of the transaction of number k, where a task runs it
 abbrev pub tx_part : Listing → List ℕ → Found → ℕ → List ℕ
@@ -56,7 +51,7 @@ value_words l values k = codes " " ++ (variable_name l k ++ (codes " " ++ signed
 
 -- a transaction and how many of its tasks wait, where one does
 abbrev pub waiting_words : Listing → List ℕ → ℕ → List ℕ
-waiting_words l counts k = only (nat_lt 0 (slice_index_or counts k 0)) (codes " " ++ (tx_name l k ++ (codes " " ++ decimal (slice_index_or counts k 0))))
+waiting_words l counts k = only (nat_lt 0 (slice_index_or counts k 0)) (codes " " ++ (transaction_name l k ++ (codes " " ++ decimal (slice_index_or counts k 0))))
 
 -- parked, and those that wait
 abbrev pub parked_words : Listing → List ℕ → List ℕ

@@ -6,14 +6,12 @@ ghost use Rattle.txn_programs.specs.Listing.{tasks};
 ghost use Rattle.explore_law.specs.Orders.{counted};
 ghost use Rattle.explore_runner.specs.FoundText.{broke_word, each_below, end_line, flag_words, found_text, more_text, parked_words, tx_line, tx_part, value_words, waiting_words};
 
-use crate::words::{
-    count_at, is_parked, put_only, some_wait, transaction_name, value_at, variable_name,
-};
+use crate::words::{count_at, is_parked, put_only, some_wait, value_at};
 use explore::task_counts;
 use explore_law::{End, Found, Kinds};
 use std::alloc::{AllocError, Global};
 use std::fmt::Write;
-use text_report_printer::put_number;
+use text_report_printer::{put_number, transaction_name, variable_name};
 use txn::{AlwaysId, Catalogue};
 
 /// The text of what is found of a catalogue: how many places are reached, a line for each

@@ -2,11 +2,10 @@
 
 ghost use Rattle.std.specs.Prelude.{◌≡◌, ◌++◌, OnOk, nat_lt, pos, slice_index_or, string_bytes};
 ghost use Rattle.std.specs.List.{list_any};
-ghost use Rattle.explore_runner.specs.FoundText.{only, parks, some_wait, tx_name, variable_name};
+ghost use Rattle.explore_runner.specs.FoundText.{only, parks, some_wait};
 
 use explore_law::End;
 use std::alloc::AllocError;
-use txn::{Catalogue, TxId, VarId};
 
 /// Puts the text behind, where that is so.
 pub(crate) fn put_only(out: &mut String, so: bool, text: &str) -> Result<(), AllocError>
@@ -16,30 +15,6 @@ pub(crate) fn put_only(out: &mut String, so: bool, text: &str) -> Result<(), All
         out.push_str(text)?;
     }
     Ok(())
-}
-
-/// The name of the variable of this number, or nothing where there is none.
-pub(crate) fn variable_name(catalogue: &Catalogue, number: usize) -> &str
-    ensures { result.now ≡ variable_name catalogue.now number }
-{
-    catalogue.rules();
-    if number < catalogue.initial().len() {
-        catalogue.var_name(VarId(number as u32))
-    } else {
-        ""
-    }
-}
-
-/// The name of the transaction of this number, or nothing where there is none.
-pub(crate) fn transaction_name(catalogue: &Catalogue, number: usize) -> &str
-    ensures { result.now ≡ tx_name catalogue.now number }
-{
-    catalogue.rules();
-    if number < catalogue.tx_count() {
-        catalogue.tx_name(TxId(number as u32))
-    } else {
-        ""
-    }
 }
 
 /// The number at this place, or 0 past the end.

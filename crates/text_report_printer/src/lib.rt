@@ -5,6 +5,7 @@ mod line;
 mod names;
 mod report;
 
+pub use names::{always_name, transaction_name, variable_name};
 pub use report::{
     LONGEST, print_report, put_entries, put_number, put_outcome, put_tasks, put_variables,
     values_fit,

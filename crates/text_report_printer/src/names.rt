@@ -1,32 +1,39 @@
-//! Names, none of which is longer than a name may be.
+//! The names of what a catalogue declares, none of which is longer than a name may be.
 
-ghost use Rattle.std.specs.Prelude.{◌≡◌, ◌<◌, ◌≤◌, length, slice_get, Some};
-ghost use Rattle.txn_programs.specs.Listing.{always_name, program_at};
+ghost use Rattle.std.specs.Prelude.{◌≡◌, ◌≤◌, length};
+ghost use Rattle.txn_programs.specs.Listing.{always_name};
+ghost use Rattle.text_report_printer.specs.Names.{transaction_name, variable_name};
 
 use txn::{AlwaysId, Catalogue, TxId, VarId};
 
-/// A variable's name.
-pub(crate) fn var_name(catalogue: &Catalogue, id: VarId) -> &str
-    requires { id.0 < length catalogue.now.names }
-    ensures value { slice_get catalogue.now.names id.0 ≡ Some result.now }
+/// The name of the variable of this number, or nothing where there is none.
+pub fn variable_name(catalogue: &Catalogue, number: usize) -> &str
+    ensures value { result.now ≡ variable_name catalogue.now number }
     ensures short { length result.now ≤ 32 }
 {
     catalogue.rules();
-    catalogue.var_name(id)
+    if number < catalogue.initial().len() {
+        catalogue.var_name(VarId(number as u32))
+    } else {
+        ""
+    }
 }
 
-/// A transaction's name.
-pub(crate) fn tx_name(catalogue: &Catalogue, tx: TxId) -> &str
-    requires { tx.0 < length catalogue.now.transactions }
-    ensures value { result.now ≡ (program_at catalogue.now tx).name }
+/// The name of the transaction of this number, or nothing where there is none.
+pub fn transaction_name(catalogue: &Catalogue, number: usize) -> &str
+    ensures value { result.now ≡ transaction_name catalogue.now number }
     ensures short { length result.now ≤ 32 }
 {
     catalogue.rules();
-    catalogue.tx_name(tx)
+    if number < catalogue.tx_count() {
+        catalogue.tx_name(TxId(number as u32))
+    } else {
+        ""
+    }
 }
 
 /// A standing condition's name, or nothing where there is no such condition.
-pub(crate) fn always_name(catalogue: &Catalogue, id: AlwaysId) -> &str
+pub fn always_name(catalogue: &Catalogue, id: AlwaysId) -> &str
     ensures value { result.now ≡ always_name catalogue.now id }
     ensures short { length result.now ≤ 32 }
 {

@@ -13,9 +13,9 @@ ghost use Rattle.text_report_printer.specs.ReportFits.{OutcomeFits, OutcomesFit,
 ghost use Rattle.text_report_printer.specs.declared.report.TheConstants.{LONGEST};
 
 use crate::line::LineEnd;
-use crate::names::{tx_name, var_name};
+use crate::names::{transaction_name, variable_name};
 use std::alloc::{AllocError, Global};
-use txn::{Catalogue, Entry, Fault, Memory, Outcome, Report, TaskId, TxId, VarId};
+use txn::{Catalogue, Entry, Fault, Memory, Outcome, Report, TaskId, TxId};
 
 /// About as many bytes as a line has.
 const LINE: usize = 40;
@@ -118,7 +118,7 @@ pub fn put_variables(
     ensures capacity { string_capacity out.old ≤ string_capacity out.new }
 {
     'vars: for (i, variable) in vars.iter().enumerate() {
-        put_variable(out, var_name(catalogue, VarId(i as u32)), variable)?;
+        put_variable(out, variable_name(catalogue, i), variable)?;
     }
     Ok(())
 }
@@ -150,7 +150,7 @@ fn put_entry(out: &mut String, catalogue: &Catalogue, entry: &Entry) -> Result<(
     line.byte(b'\n');
     line.outcome(catalogue, entry.outcome);
     line.byte(b' ');
-    line.word(tx_name(catalogue, entry.tx));
+    line.word(transaction_name(catalogue, entry.tx.0 as usize));
     line.byte(b' ');
     line.number(u64::from(entry.task.0));
     line.byte(b' ');
@@ -194,7 +194,7 @@ fn put_task(
 {
     let mut line = LineEnd::new();
     line.byte(b'\n');
-    line.word(tx_name(catalogue, tx));
+    line.word(transaction_name(catalogue, tx.0 as usize));
     line.byte(b' ');
     line.number(u64::from(task.0));
     line.byte(b' ');

@@ -1,8 +1,10 @@
-//! Tests of what `txn_text`, `text_report_reader` and `text_schedule_reader` promise their callers.
+//! Tests of what `txn_text`, `text_report_printer`, `text_report_reader` and `text_schedule_reader` promise their callers.
 #![tactic(auto)]
 
 #[cfg(test)]
 mod conditions;
+#[cfg(test)]
+mod names;
 #[cfg(test)]
 mod parts;
 #[cfg(test)]

@@ -7,8 +7,8 @@ use Rattle.txn_programs.specs.declared.ast.VarId.{VarId}
 use Rattle.txn_programs.specs.Listing.{Listing}
 use Rattle.txn_words.specs.Words.{IsLastChange, last_state, value_of}
 use Rattle.text_words.specs.Words.{line}
+use Rattle.text_report_printer.specs.Names.{variable_name}
 use Rattle.text_report_printer.specs.ReportText.{variable_lines}
-use Rattle.world_seen_printer.specs.SeenText.{variable_name}
 use Rattle.attempt.specs.Asking.{Known}
 use Rattle.world_law.specs.declared.events.Fate.{Fate}
 use Rattle.world_law.specs.declared.events.Fate.TheVariants.{Running, Committed, Parked, Stale, Dropped, Spent}
@@ -29,7 +29,7 @@ fate_text Spent = codes "memory"
 
 -- a variable that was read, and its value
 abbrev pub pair_text : Listing → VarId × ℤ → List ℕ
-pair_text l p = codes " " ++ (variable_name l p.0 ++ (codes " " ++ signed_decimal p.1))
+pair_text l p = codes " " ++ (variable_name l p.0.0 ++ (codes " " ++ signed_decimal p.1))
 
 -- attempt TASK RV FATE, and what was read, in this order
 abbrev pub told_line : Listing → TaskId → ℕ → Known → Fate → List ℕ

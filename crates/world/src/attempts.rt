@@ -8,10 +8,10 @@ ghost use Rattle.world.specs.WorldText.{fate_text, pair_text, told_line, attempt
 use crate::telling::{Begun, begun_at};
 use std::alloc::AllocError;
 use std::fmt::Write;
+use text_report_printer::variable_name;
 use txn::{Catalogue, VarId};
 use world_events::Scene;
 use world_law::Fate;
-use world_seen_printer::name_of;
 
 fn put_fate(out: &mut String, fate: Fate) -> Result<(), AllocError>
     ensures { OnOk result (string_bytes out.new ≡ string_bytes out.old ++ fate_text fate) }
@@ -30,7 +30,7 @@ fn put_fate(out: &mut String, fate: Fate) -> Result<(), AllocError>
 fn put_pair(out: &mut String, catalogue: &Catalogue, x: VarId, value: i64) -> Result<(), AllocError>
     ensures { OnOk result (string_bytes out.new ≡ string_bytes out.old ++ pair_text catalogue.now (x, value)) }
 {
-    let name = name_of(catalogue, x);
+    let name = variable_name(catalogue, x.0 as usize);
     write!(out, " {name} {value}")
 }
 

@@ -1,20 +1,16 @@
 -- The lines of what is seen.
-use Rattle.std.specs.Prelude.{ℕ, ◌+◌, List, [], ◌∷◌, ◌++◌, codes, slice_index_or}
+use Rattle.std.specs.Prelude.{ℕ, ◌+◌, List, [], ◌∷◌, ◌++◌, codes}
 use Rattle.std.specs.Fmt.{decimal}
-use Rattle.txn_programs.specs.declared.ast.VarId.{VarId}
 use Rattle.txn_programs.specs.Listing.{Listing}
+use Rattle.text_report_printer.specs.Names.{variable_name}
 use Rattle.text_report_printer.specs.ReportText.{outcome_text}
 use Rattle.text_words.specs.Words.{line}
 use Rattle.world_law.specs.declared.events.Seen.{Seen}
 use Rattle.world_law.specs.declared.events.Seen.TheVariants.{Idle, Needs, Ended, Loaded, Stale, Parked, Commits, Stored, Committed, Dropped, Spent, Checks, Changed}
 
--- the name of a variable
-abbrev pub variable_name : Listing → VarId → List ℕ
-variable_name l x = slice_index_or l.names x.0 []
-
 abbrev pub seen_text : Listing → Seen → List ℕ
 seen_text l Idle = codes "idle"
-seen_text l (Needs x) = codes "needs " ++ variable_name l x
+seen_text l (Needs x) = codes "needs " ++ variable_name l x.0
 seen_text l (Ended o) = codes "ended " ++ outcome_text l o
 seen_text l Loaded = codes "loaded"
 seen_text l Stale = codes "stale"
@@ -24,7 +20,7 @@ seen_text l Stored = codes "stored"
 seen_text l (Committed n) = codes "committed " ++ decimal n
 seen_text l Dropped = codes "dropped"
 seen_text l Spent = codes "memory"
-seen_text l (Checks x) = codes "checks " ++ variable_name l x
+seen_text l (Checks x) = codes "checks " ++ variable_name l x.0
 seen_text l Changed = codes "changed"
 
 -- K SEEN

@@ -3,4 +3,4 @@
 
 mod seen;
 
-pub use seen::{name_of, put_seen};
+pub use seen::put_seen;

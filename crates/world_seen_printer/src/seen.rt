@@ -1,12 +1,12 @@
 //! What is seen of a line.
 
 ghost use Rattle.std.specs.Prelude.{◌≡◌, ◌++◌, OnOk, string_bytes};
-ghost use Rattle.world_seen_printer.specs.SeenText.{variable_name, seen_text, seen_line};
+ghost use Rattle.world_seen_printer.specs.SeenText.{seen_text, seen_line};
 
 use std::alloc::AllocError;
 use std::fmt::Write;
-use text_report_printer::put_outcome;
-use txn::{Catalogue, VarId};
+use text_report_printer::{put_outcome, variable_name};
+use txn::Catalogue;
 use world_law::Seen;
 
 /// Puts the line of what was seen on the schedule's line of this number behind the text: the
@@ -32,7 +32,7 @@ fn put_what(out: &mut String, catalogue: &Catalogue, seen: Seen) -> Result<(), A
         Seen::Idle => out.push_str("idle")?,
         Seen::Needs(x) => {
             out.push_str("needs ")?;
-            out.push_str(name_of(catalogue, x))?;
+            out.push_str(variable_name(catalogue, x.0 as usize))?;
         }
         Seen::Ended(outcome) => {
             out.push_str("ended ")?;
@@ -48,21 +48,9 @@ fn put_what(out: &mut String, catalogue: &Catalogue, seen: Seen) -> Result<(), A
         Seen::Spent => out.push_str("memory")?,
         Seen::Checks(x) => {
             out.push_str("checks ")?;
-            out.push_str(name_of(catalogue, x))?;
+            out.push_str(variable_name(catalogue, x.0 as usize))?;
         }
         Seen::Changed => out.push_str("changed")?,
     }
     Ok(())
-}
-
-/// A variable's name, or nothing where there is no such variable.
-pub fn name_of(catalogue: &Catalogue, x: VarId) -> &str
-    ensures { result.now ≡ variable_name catalogue.now x }
-{
-    catalogue.rules();
-    if (x.0 as usize) < catalogue.initial().len() {
-        catalogue.var_name(x)
-    } else {
-        ""
-    }
 }

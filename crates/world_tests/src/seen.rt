@@ -2,9 +2,9 @@
 
 use crate::parts::{X, Y, catalogue};
 use std::alloc::Global;
-use txn::{Catalogue, Fault, Outcome, VarId};
+use txn::{Catalogue, Fault, Outcome};
 use world_law::Seen;
-use world_seen_printer::{name_of, put_seen};
+use world_seen_printer::put_seen;
 
 /// Two variables.
 const TWO: &str = "(var x 1)(var last 2)";
@@ -76,16 +76,4 @@ fn lines_go_behind_one_another(rt: HostRuntime) {
     let none = catalogue(&rt, rt.alloc(), "");
     let lines = "1 memory\n18446744073709551615 idle\n";
     assert!(rt; are_lines(rt.alloc(), &none, lines));
-}
-
-/// Whether the variables have the names of the file, and one that there is not has none.
-fn are_named(catalogue: &Catalogue) -> bool {
-    name_of(catalogue, X) == "x"
-        && name_of(catalogue, Y) == "last"
-        && name_of(catalogue, VarId(2)) == ""
-}
-
-#[test]
-fn names_are_those_of_the_file(rt: HostRuntime) {
-    assert!(rt; are_named(&catalogue(&rt, rt.alloc(), TWO)));
 }
