@@ -1,16 +1,15 @@
 -- Rows of bytes, and the tasks that they show.
-use Rattle.std.proofs.Common.{◌≡◌, ◌≢◌, inl, inr, ℕ, zero, suc, ◌+◌, ◌*◌, ◌<◌, ◌≤◌, ℤ, pos, Bool, ◌||◌, cond, List, [], ◌∷◌, ◌++◌, length, map, Option, Some, get_or, set, take, drop, replicate, refl, sym, ◌∙◌, ap, subst, arith}
+use Rattle.std.proofs.Common.{◌≡◌, ◌≢◌, inl, inr, ℕ, zero, suc, ◌+◌, ◌*◌, ◌<◌, ◌≤◌, pos, Bool, ◌||◌, cond, List, [], ◌∷◌, ◌++◌, length, map, Some, get_or, set, take, drop, replicate, refl, sym, ◌∙◌, ap, subst, arith}
 use Rattle.std.specs.List.{slice_get}
 use Rattle.std.proofs.lemmas.Bool.{cases_eq, cases_lt}
 use Rattle.std.proofs.lemmas.Nat.{row_fits}
 use Rattle.std.proofs.lemmas.List.{length-set, get_or-set_same, get_or-set_other, drop_more}
 use Rattle.std.proofs.lemmas.Option.{same_Some}
-use Rattle.txn_programs.specs.declared.ast.VarId.{VarId}
 use Rattle.txn_programs.specs.declared.limits.TheConstants.{MAX_VARIABLES}
 use Rattle.attempt.specs.Asking.{Known}
 use Rattle.attempt.specs.Order.{AllKnown}
 use Rattle.std.specs.Prelude.{nat_eq}
-use Rattle.book.specs.Tasks.{Task, Ready, Running, Parked, Done, GivenUp}
+use Rattle.book.specs.Tasks.{Task, Ready, Running, Parked}
 use Rattle.book.specs.declared.task.Standing.{Standing}
 use Rattle.book.specs.declared.task.Standing.TheVariants as standing
 use Rattle.book.specs.Table.{unvalued, names, flagged}
@@ -184,12 +183,12 @@ from_more w names k (s ∷ ss) = ap (λ (ts : List Task). shown w names k s ∷ 
 pub shown_more : (w : ℕ) (names : List ℕ) (ss : List Standing) → shown_from w names 0 (ss ++ standing.Ready ∷ []) ≡ shown_from w names 0 ss ++ Ready ∷ []
 shown_more w names ss = from_more w names 0 ss
 
-from_running : (w : ℕ) (names : List ℕ) (k n : ℕ) → shown_from w names k (replicate n standing.Running) ≡ replicate n Running
-from_running w names k zero = refl
-from_running w names k (suc n) = ap (λ (ts : List Task). Running ∷ ts) (from_running w names (k + 1) n)
+from_ready : (w : ℕ) (names : List ℕ) (k n : ℕ) → shown_from w names k (replicate n standing.Ready) ≡ replicate n Ready
+from_ready w names k zero = refl
+from_ready w names k (suc n) = ap (λ (ts : List Task). Ready ∷ ts) (from_ready w names (k + 1) n)
 
-pub shown_running : (w : ℕ) (names : List ℕ) (n : ℕ) → shown_from w names 0 (replicate n standing.Running) ≡ replicate n Running
-shown_running w names n = from_running w names 0 n
+pub shown_ready : (w : ℕ) (names : List ℕ) (n : ℕ) → shown_from w names 0 (replicate n standing.Ready) ≡ replicate n Ready
+shown_ready w names n = from_ready w names 0 n
 
 -- a task that runs stands so, and so does one that waits
 running_standing : (w : ℕ) (names : List ℕ) (k : ℕ) (s : Standing) → shown w names k s ≡ Running → s ≡ standing.Running
@@ -306,11 +305,11 @@ rows_awake w t names ss was is rows at awake =
             | inr other ↦ sym (get_set_other ss t u is other) ∙ parked
           ]
 
-pub rows_running : (w n : ℕ) (names : List ℕ) → HaveRows w names (replicate n standing.Running)
-rows_running w n names =
+pub rows_ready : (w n : ℕ) (names : List ℕ) → HaveRows w names (replicate n standing.Ready)
+rows_ready w n names =
     record {
-      fits = λ t m e. let bad : standing.Running ≡ standing.Parked m = get_replicate n t standing.Running (standing.Parked m) e in absurd (cc);
-      whole = λ t m e. let bad : standing.Running ≡ standing.Parked m = get_replicate n t standing.Running (standing.Parked m) e in absurd (cc);
+      fits = λ t m e. let bad : standing.Ready ≡ standing.Parked m = get_replicate n t standing.Ready (standing.Parked m) e in absurd (cc);
+      whole = λ t m e. let bad : standing.Ready ≡ standing.Parked m = get_replicate n t standing.Ready (standing.Parked m) e in absurd (cc);
     }
 
 pub rows_more : (w : ℕ) (names : List ℕ) (ss : List Standing) → HaveRows w names ss → HaveRows w names (ss ++ standing.Ready ∷ [])

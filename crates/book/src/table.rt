@@ -67,16 +67,13 @@ impl TaskTable {
         ensures spare { IfOk result (λ b. b.spare ≡ spare) }
     {
         let room = count + spare;
-        let mut table = TaskTable {
-            standings: all_running(alloc, count, room)?,
+        Ok(TaskTable {
+            standings: all_ready(alloc, count, room)?,
             spare,
-            ready: TaskSet::with_room(alloc, room)?,
+            ready: TaskSet::of_first(alloc, count, room)?,
             sleepers: none_asleep(alloc, variables, room)?,
             names: Vec::with_capacity(alloc, room * variables)?,
-        };
-        // So far no task is in a set, as none is ready.
-        table.ready_all();
-        Ok(table)
+        })
     }
 
     /// How each task stands.
@@ -221,14 +218,14 @@ impl TaskTable {
     }
 }
 
-/// So many running tasks, and room for tasks up to this many.
-fn all_running(alloc: Global, count: usize, room: usize) -> Result<Vec<Standing>, AllocError>
-    ensures tasks { IfOk result (λ v. v.items ≡ replicate count Standing.Running) }
+/// So many ready tasks, and room for tasks up to this many.
+fn all_ready(alloc: Global, count: usize, room: usize) -> Result<Vec<Standing>, AllocError>
+    ensures tasks { IfOk result (λ v. v.items ≡ replicate count Standing.Ready) }
     ensures room { IfOk result (λ v. room ≤ vec_capacity v) }
 {
     let mut standings = Vec::with_capacity(alloc, room)?;
     for _ in 0..count {
-        standings.push(Standing::Running)?;
+        standings.push(Standing::Ready)?;
     }
     Ok(standings)
 }

@@ -1,8 +1,8 @@
 -- The flags that a row of bits shows.
-use Rattle.std.proofs.Common.{◌≡◌, ◌≢◌, inl, inr, ℕ, ◌/◌, ◌<◌, ◌≤◌, Bool, true, false, List, Some, length, get_or, set, replicate, sym, ◌∙◌, ap, arith}
+use Rattle.std.proofs.Common.{◌≡◌, ◌≢◌, inl, inr, ℕ, ◌/◌, ◌<◌, ◌≤◌, Bool, true, false, List, Some, length, get_or, set, sym, ◌∙◌, ap, arith}
 use Rattle.std.specs.List.{slice_get}
 use Rattle.std.proofs.lemmas.Bool.{cases_eq, cases_lt, true≢false}
-use Rattle.std.proofs.lemmas.List.{ext_get_or, get_or-set_same, get_or-set_other, length-set, length-replicate, get_or-replicate}
+use Rattle.std.proofs.lemmas.List.{ext_get_or, get_or-set_same, get_or-set_other, length-set}
 use Rattle.std.proofs.lemmas.List.FromFn.{length-map-range_with_len, get_or-map-range_with_len}
 use Rattle.std.proofs.lemmas.Option.{same_Some, slice_get-get_or, slice_get_within}
 use Rattle.book_task_set.specs.Levels.{has, with_bit, without_bit, IsFirstBit}
@@ -47,14 +47,6 @@ flags_with room words k h low =
 pub flags_without : (room : ℕ) (words : List ℕ) (k : ℕ) → k < room → k / 64 < length words → flags room (without_bit words k) ≡ set (flags room words) k false
 flags_without room words k h low =
     flags_set room words (without_bit words k) k false h (has_without words k low) (λ j other. has_without_other words k j low other)
-
-pub flags_none : (room : ℕ) (words : List ℕ) → ((k : ℕ) → has words k ≡ false) → flags room words ≡ replicate room false
-flags_none room words none =
-    ext_get_or false (flags room words) (replicate room false)
-    (length_flags room words ∙ sym (length-replicate room false))
-    (λ j low.
-    let inside : j < room = omega (arith, low, length_flags room words) in
-    flag_at room words j false inside ∙ (none j ∙ sym (get_or-replicate room j false false inside)))
 
 set_at : (room : ℕ) (words : List ℕ) (k : ℕ) → slice_get (flags room words) k ≡ Some true → has words k ≡ true
 set_at room words k e =

@@ -1,14 +1,13 @@
 -- The three levels, as a number comes and goes.
-use Rattle.std.proofs.Common.{◌≡◌, ◌≢◌, inl, inr, ℕ, ◌*◌, ◌/◌, ◌<◌, ◌≤◌, Bool, false, List, [], ◌∷◌, length, get_or, replicate, refl, sym, ◌∙◌, ap, arith}
-use Rattle.std.proofs.lemmas.Bool.{cases_eq, cases_lt, true≢false}
-use Rattle.std.specs.Int.{div_ceil}
-use Rattle.std.proofs.lemmas.List.{get_or_past, get_or-replicate, length-replicate}
-use Rattle.book_task_set.specs.Levels.{has, with_bit, without_bit, Covers, IsFirstWord}
+use Rattle.std.proofs.Common.{◌≡◌, ◌≢◌, inl, inr, ℕ, ◌/◌, ◌<◌, ◌≤◌, Bool, false, List, length, get_or, sym, ◌∙◌, ap, arith}
+use Rattle.std.proofs.lemmas.Bool.{cases_eq}
+use Rattle.std.proofs.lemmas.List.{get_or_past}
+use Rattle.book_task_set.specs.Levels.{has, with_bit, without_bit, IsFirstWord}
 use Rattle.book_task_set.specs.SetInside.{flags, AreLevels}
 use Rattle.book_task_set.specs.Members.{HasNone}
 use Rattle.book_task_set.proofs.Rows.{has_zero, has_with_other, has_without, has_without_other, length_with_bit, length_without_bit}
 use Rattle.book_task_set.proofs.Above.{covers_with, covers_still, covers_without, none_below}
-use Rattle.book_task_set.proofs.Flags.{length_flags, flags_none, has_none}
+use Rattle.book_task_set.proofs.Flags.{length_flags, has_none}
 
 -- a number of the set has its place in each level
 pub places : (room : ℕ) (numbers words top : List ℕ) (k : ℕ) → AreLevels room numbers words top → k < room → (k / 64 < length numbers) × (k / 64 / 64 < length words) × (k / 64 / 64 / 64 < length top)
@@ -89,22 +88,6 @@ IsZero words = (w : ℕ) → get_or words w 0 ≡ 0
 pub has_zeros : (words : List ℕ) → IsZero words → (k : ℕ) → has words k ≡ false
 has_zeros words z k = has_zero words k (z (k / 64))
 
-covers_zeros : (above below : List ℕ) → IsZero above → IsZero below → Covers above below
-covers_zeros above below z y =
-    record { set = λ w e. absurd (true≢false (sym e ∙ has_zeros above z w)); clear = λ w e. y w }
-
-pub levels_none : (room : ℕ) (numbers words top : List ℕ) → IsZero numbers → IsZero words → IsZero top → room ≤ length numbers * 64 → length numbers ≤ length words * 64 → length words ≤ length top * 64 → length top ≡ 1 → AreLevels room numbers words top
-levels_none room numbers words top x y z a b c d =
-    record {
-      numbers_fit = a;
-      words_fit = b;
-      top_fits = c;
-      one = d;
-      spare = λ k past. has_zeros numbers x k;
-      over_numbers = covers_zeros words numbers y x;
-      over_words = covers_zeros top words z y;
-    }
-
 -- a row of one word that is 0
 pub one_zero : (top : List ℕ) → length top ≡ 1 → get_or top 0 0 ≡ 0 → IsZero top
 one_zero top one e w =
@@ -123,26 +106,3 @@ none_on_top room numbers words top a e =
 -- the first word of the top
 pub first_on_top : (top : List ℕ) → get_or top 0 0 ≢ 0 → IsFirstWord top 0
 first_on_top top h = record { here = h; before = λ k less. absurd (omega (arith, less)) }
-
-pub zeros : (n : ℕ) → IsZero (replicate n 0)
-zeros n w =
-    elim (cases_lt w n) [
-      | inl low ↦ get_or-replicate n w 0 0 low
-      | inr high ↦ get_or_past (replicate n 0) w 0 (omega (arith, high, length-replicate {A = ℕ} n 0))
-    ]
-
--- the empty set
-pub levels_empty : (room : ℕ) → room ≤ 262144 → AreLevels room (replicate (div_ceil room 64) 0) (replicate (div_ceil (div_ceil room 64) 64) 0) (0 ∷ [])
-levels_empty room few =
-    let n = div_ceil room 64 in
-    let m = div_ceil n 64 in
-    let numbers = length-replicate {A = ℕ} n 0 in
-    let words = length-replicate {A = ℕ} m 0 in
-    levels_none room (replicate n 0) (replicate m 0) (0 ∷ []) (zeros n) (zeros m) (one_zero (0 ∷ []) refl refl)
-    (omega (arith, numbers))
-    (omega (arith, numbers, words))
-    (omega (arith, words, few))
-    refl
-
-pub flags_empty : (room n : ℕ) → flags room (replicate n 0) ≡ replicate room false
-flags_empty room n = flags_none room (replicate n 0) (has_zeros (replicate n 0) (zeros n))

@@ -2,3 +2,4 @@ pub mod Rows
 pub mod Above
 pub mod Flags
 pub mod Kept
+pub mod First

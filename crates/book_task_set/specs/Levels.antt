@@ -1,5 +1,5 @@
 -- A row of bits in words of 64, and the row above it.
-use Rattle.std.specs.Prelude.{◌≡◌, ◌≢◌, ℕ, ◌/◌, ◌%◌, ◌^◌, ◌<◌, Bool, true, false, nat_eq, List, slice_index, slice_set, bit_and, bit_or}
+use Rattle.std.specs.Prelude.{◌≡◌, ◌≢◌, ℕ, ◌-◌, ◌*◌, min, ◌/◌, ◌%◌, ◌^◌, ◌<◌, Bool, true, false, nat_eq, List, slice_index, slice_set, bit_and, bit_or}
 use Rattle.std.specs.Int.{bit_at, bit_not, w64}
 
 -- bit k of the row
@@ -24,3 +24,7 @@ pub record IsFirstWord (words : List ℕ) (w : ℕ) : Type 0 where
 pub record IsFirstBit (words : List ℕ) (b : ℕ) : Type 0 where
   pub here : has words b ≡ true
   pub before : (k : ℕ) → k < b → has words k ≡ false
+
+-- the first so many bits of the row are set, and no other
+abbrev pub AreFirst : ℕ → List ℕ → Type 0
+AreFirst count words = (w : ℕ) → slice_index words w ≡ 2 ^ min (count - w * 64) 64 - 1

@@ -1,16 +1,34 @@
 //! One level of a set: a row of bits in words of 64.
 
-ghost use Rattle.std.specs.Prelude.{◌≡◌, ◌≢◌, ◌<◌, ◌≤◌, ◌*◌, ◌/◌, length, replicate, nat_eq, slice_index, IfOk};
+ghost use Rattle.std.specs.Prelude.{◌≡◌, ◌≢◌, ◌<◌, ◌≤◌, ◌-◌, ◌*◌, ◌/◌, ◌^◌, length, nat_eq, slice_index, IfOk};
 ghost use Rattle.std.specs.Int.{div_ceil};
-ghost use Rattle.book_task_set.specs.Levels.{has, with_bit, without_bit, IsFirstWord, IsFirstBit};
+ghost use Rattle.book_task_set.specs.Levels.{has, with_bit, without_bit, AreFirst, IsFirstWord, IsFirstBit};
 
 use std::alloc::{AllocError, Global};
 
-/// A row with no bit set, with at least so many bits.
-pub fn empty(alloc: Global, bits: usize) -> Result<Vec<u64>, AllocError>
-    ensures { IfOk result (λ words. words.items ≡ replicate (div_ceil bits 64) 0) }
+/// A word of which the lowest so many bits are set.
+pub fn lowest_bits(count: usize) -> u64
+    requires { count ≤ 64 }
+    ensures { result ≡ 2 ^ count - 1 }
 {
-    vec![in alloc; 0; bits.div_ceil(64)]
+    if count == 64 {
+        u64::MAX
+    } else {
+        (1 << count) - 1
+    }
+}
+
+/// A row of which the first `count` bits are set, with room for so many bits at least.
+pub fn of_first(alloc: Global, count: usize, room: usize) -> Result<Vec<u64>, AllocError>
+    requires { count ≤ room }
+    ensures len { IfOk result (λ words. length words.items ≡ div_ceil room 64) }
+    ensures first { IfOk result (λ words. AreFirst count words.items) }
+{
+    let mut words = vec![in alloc; 0; room.div_ceil(64)]?;
+    for word in 0..count.div_ceil(64) {
+        words[word] = lowest_bits((count - word * 64).min(64));
+    }
+    Ok(words)
 }
 
 /// Whether the bit is set.

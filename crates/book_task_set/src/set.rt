@@ -1,9 +1,9 @@
 //! A set of numbers below a bound.
 
-ghost use Rattle.std.specs.Prelude.{◌≡◌, ◌<◌, ◌≤◌, Some, true, false, length, replicate, IfOk, IsTrue, ◌↔◌, MatchOption, slice_get, slice_set};
+ghost use Rattle.std.specs.Prelude.{◌≡◌, ◌<◌, ◌≤◌, Some, true, false, length, replicate, ◌++◌, ◌-◌, IfOk, IsTrue, ◌↔◌, MatchOption, slice_get, slice_set};
 ghost use Rattle.book_task_set.specs.Members.{IsLowest, HasNone};
 
-use crate::level::{clear, empty, first, has, set};
+use crate::level::{clear, first, has, lowest_bits, of_first, set};
 use std::alloc::{AllocError, Global};
 use std::marker::Model;
 
@@ -34,19 +34,29 @@ impl Model for TaskSet {
 }
 
 impl TaskSet {
-    /// The empty set, with room for the numbers below `room`. It is the one call that takes
-    /// memory: a bit for each number, a bit for each of these words, each in whole words.
+    /// The empty set, with room for the numbers below `room`.
     pub fn with_room(alloc: Global, room: usize) -> Result<TaskSet, AllocError>
         requires { room ≤ MAX_ROOM }
         ensures { IfOk result (λ s. s ≡ replicate room false) }
     {
-        let numbers = empty(alloc, room)?;
-        let words = empty(alloc, numbers.len())?;
+        TaskSet::of_first(alloc, 0, room)
+    }
+
+    /// The set of the numbers below `count`, with room for those below `room`. It takes memory: a bit
+    /// for each number that there is room for, a bit for each of these words, each in whole words.
+    pub fn of_first(alloc: Global, count: usize, room: usize) -> Result<TaskSet, AllocError>
+        requires count { count ≤ room }
+        requires room { room ≤ MAX_ROOM }
+        ensures { IfOk result (λ s. s ≡ replicate count true ++ replicate (room - count) false) }
+    {
+        let numbers = of_first(alloc, count, room)?;
+        let words = of_first(alloc, count.div_ceil(64), numbers.len())?;
+        let top = lowest_bits(count.div_ceil(64).div_ceil(64));
         Ok(TaskSet {
             room,
             numbers,
             words,
-            top: [0],
+            top: [top],
         })
     }
 

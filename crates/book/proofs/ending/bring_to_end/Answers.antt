@@ -1,8 +1,8 @@
-use Rattle.std.proofs.Common.{◌≡◌, ◌∙◌, length, Result, Ok, Err, IfOk, ap, sym, subst}
+use Rattle.std.proofs.Common.{◌≡◌, ◌∙◌, Result, Ok, Err, IfOk, ap, sym, subst}
 use Rattle.std.specs.Prelude.{OnOk}
 use Rattle.txn_programs.specs.declared.ast.TxId.{TxId}
 use Rattle.txn_programs.specs.declared.ast.Outcome.{Outcome}
-use Rattle.txn_programs.specs.Listing.{Listing, program_at}
+use Rattle.txn_programs.specs.Listing.{Listing}
 use Rattle.txn_programs.specs.Meaning.{State, outcome}
 use Rattle.attempt.specs.Frame.{Agrees}
 use Rattle.attempt.specs.View.{AttemptView, fresh_attempt}

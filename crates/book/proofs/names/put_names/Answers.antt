@@ -1,4 +1,4 @@
-use Rattle.std.proofs.Common.{◌+◌, arith, length, refl}
+use Rattle.std.proofs.Common.{refl}
 use Rattle.txn_programs.specs.declared.limits.TheConstants.{MAX_VARIABLES}
 use Rattle.book.proofs.Writes.{known_each}
 use Rattle.book.proofs.Rows.{put_first, put_next, put_row}
