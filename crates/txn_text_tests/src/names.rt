@@ -10,7 +10,10 @@ const DECLARED: &str = "(stm 2)(var x 1)(var last 2)(always low (lt x last))(alw
 /// Whether each is told by its name, and by nothing where there is none.
 fn are_named(catalogue: &Catalogue) -> bool {
     (variable_name(catalogue, 0), variable_name(catalogue, 1)) == ("x", "last")
-        && (transaction_name(catalogue, 0), transaction_name(catalogue, 1)) == ("first", "inc")
+        && (
+            transaction_name(catalogue, 0),
+            transaction_name(catalogue, 1),
+        ) == ("first", "inc")
         && always_name(catalogue, AlwaysId(0)) == "low"
         && always_name(catalogue, AlwaysId(1)) == "high"
 }
