@@ -4,6 +4,7 @@
 //! state breaks a standing condition.
 #![tactic(auto)]
 
+mod bits;
 mod book;
 mod changing;
 mod counting;

@@ -4,15 +4,16 @@
 //! read lies in a row of bytes: the numbers of the variables, in the order of reading. Their values are
 //! not kept: while it is parked they are the present ones, since a commit that changes one wakes it.
 
-ghost use Rattle.std.specs.Prelude.{◌≡◌, ◌≢◌, ◌<◌, ◌≤◌, ◌^◌, ℕ, length, map, replicate, IfOk, MatchBool, Some, slice_get, ◌+◌, ◌++◌, ◌∷◌, [], vec_len, vec_capacity};
+ghost use Rattle.std.specs.Prelude.{◌≡◌, ◌≢◌, ◌<◌, ◌≤◌, ◌^◌, ℕ, length, map, replicate, IfOk, IfSome, IfNone, MatchBool, Some, true, slice_get, ◌+◌, ◌++◌, ◌∷◌, [], vec_len, vec_capacity};
 ghost use Rattle.txn_programs.specs.declared.limits.TheConstants.{MAX_TASKS, MAX_VARIABLES};
 ghost use Rattle.txn_words.specs.Stores.{id_of};
 ghost use Rattle.attempt.specs.Order.{AllKnown, Apart};
 ghost use Rattle.book.specs.Tasks as Task;
 ghost use Rattle.book.specs.Standings.{bare, unlogged};
 ghost use Rattle.book.specs.Turns.{readied_one};
-ghost use Rattle.book.specs.Table.{IsParked, IsTaken, placed, with_tasks, with_one_more, woken_for, woken_by, unvalued};
+ghost use Rattle.book.specs.Table.{AreWaiting, IsParked, IsTaken, placed, with_tasks, with_one_more, waits_for, woken_for, woken_by, unvalued};
 
+use crate::bits::lowest_bit;
 use crate::names::{keep_names, row_of};
 use crate::sleepers::{enter, leave, none_asleep};
 use crate::task::{Standing, stand};
@@ -187,9 +188,31 @@ impl TaskTable {
         requires { variable < self.old.variables }
         ensures { self.new ≡ with_tasks self.old (map (woken_for variable) self.old.tasks) }
     {
-        while let Some(found) = self.sleepers[variable].lowest() {
-            self.rouse(TaskId(found as u32));
+        let mut first = 0;
+        let mut left = 0;
+        while let Some((at, members)) = self.next_waiting(variable, first, left) {
+            let (place, rest) = lowest_bit(members);
+            first = at;
+            left = rest;
+            self.rouse(TaskId((at + place) as u32));
         }
+    }
+
+    /// Of the tasks that wait for the variable 64 numbers: those of this word where one is left in it,
+    /// else the lowest. `None` where no task waits for it.
+    fn next_waiting(&self, variable: usize, first: usize, left: u64) -> Option<(usize, u64)>
+        requires known { variable < self.now.variables }
+        requires left { AreWaiting self.now.tasks variable first left }
+        ensures some { IfSome result (λ p. p.1 ≢ 0) }
+        ensures waiting { IfSome result (λ p. AreWaiting self.now.tasks variable p.0 p.1) }
+        ensures none { IfNone result ((k : ℕ) → slice_get (map (waits_for variable) self.now.tasks) k ≢ Some true) }
+        ensures few { length self.now.tasks ≤ MAX_TASKS }
+    {
+        let asleep = &self.sleepers[variable];
+        if left != 0 {
+            return Some((first, left));
+        }
+        asleep.lowest_word()
     }
 
     /// A parked task is ready, and waits for no variable.

@@ -48,7 +48,7 @@ pub flags_without : (room : ℕ) (words : List ℕ) (k : ℕ) → k < room → k
 flags_without room words k h low =
     flags_set room words (without_bit words k) k false h (has_without words k low) (λ j other. has_without_other words k j low other)
 
-set_at : (room : ℕ) (words : List ℕ) (k : ℕ) → slice_get (flags room words) k ≡ Some true → has words k ≡ true
+pub set_at : (room : ℕ) (words : List ℕ) (k : ℕ) → slice_get (flags room words) k ≡ Some true → has words k ≡ true
 set_at room words k e =
     let h : k < room = omega (arith, slice_get_within (flags room words) k true e, length_flags room words) in
     same_Some _ _ (sym (flag_get room words k h) ∙ e)

@@ -3,3 +3,4 @@ pub mod Above
 pub mod Flags
 pub mod Kept
 pub mod First
+pub mod Words

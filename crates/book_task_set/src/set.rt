@@ -1,7 +1,7 @@
 //! A set of numbers below a bound.
 
 ghost use Rattle.std.specs.Prelude.{◌≡◌, ◌<◌, ◌≤◌, Some, true, false, length, replicate, ◌++◌, ◌-◌, IfOk, IsTrue, ◌↔◌, MatchOption, slice_get, slice_set};
-ghost use Rattle.book_task_set.specs.Members.{IsLowest, HasNone};
+ghost use Rattle.book_task_set.specs.Members.{IsLowest, HasNone, IsLowestWord};
 
 use crate::level::{clear, first, has, lowest_bits, of_first, set};
 use std::alloc::{AllocError, Global};
@@ -102,6 +102,19 @@ impl TaskSet {
         let group = first(&self.top, 0);
         let word = first(&self.words, group);
         Some(first(&self.numbers, word))
+    }
+
+    /// The first of 64 numbers, the lowest that have one in the set, and a word with a bit for each of
+    /// them that is in the set. `None` exactly if the set is empty.
+    pub fn lowest_word(&self) -> Option<(usize, u64)>
+        ensures { MatchOption result (HasNone self.now) (λ p. IsLowestWord self.now p.0 p.1) }
+    {
+        if self.top[0] == 0 {
+            return None;
+        }
+        let row = first(&self.top, 0);
+        let word = first(&self.words, row);
+        Some((word * 64, self.numbers[word]))
     }
 
     /// Whether no number is in the set.

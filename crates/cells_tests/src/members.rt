@@ -1,6 +1,6 @@
 //! Which numbers are in a `book_task_set`, and which is the lowest, by values worked out by hand.
 
-ghost use Rattle.std.specs.Prelude.{◌≡◌, ◌≤◌, replicate, false};
+ghost use Rattle.std.specs.Prelude.{◌≡◌, ◌≤◌, ◌-◌, ◌++◌, replicate, true, false};
 
 use book_task_set::{MAX_ROOM, TaskSet};
 use std::alloc::Global;
@@ -12,6 +12,18 @@ fn with_room(rt: &impl Abort, alloc: Global, room: usize) -> TaskSet
     ensures { result ≡ replicate room false }
 {
     match TaskSet::with_room(alloc, room) {
+        Ok(set) => set,
+        Err(_) => panic!(rt; "no room"),
+    }
+}
+
+/// The set of the numbers below a count.
+fn of_first(rt: &impl Abort, alloc: Global, count: usize, room: usize) -> TaskSet
+    requires count { count ≤ room }
+    requires room { room ≤ MAX_ROOM }
+    ensures { result ≡ replicate count true ++ replicate (room - count) false }
+{
+    match TaskSet::of_first(alloc, count, room) {
         Ok(set) => set,
         Err(_) => panic!(rt; "no room"),
     }
@@ -72,4 +84,42 @@ fn forgets_no_neighbour(rt: HostRuntime) {
     set.remove(4_992);
     set.remove(1);
     assert!(rt; set.lowest() == Some(4_999));
+}
+
+/// 4,097 numbers are 64 words and one number more, so that each level has a word that is full.
+#[test]
+fn has_the_first_numbers(rt: HostRuntime) {
+    let mut set = of_first(&rt, rt.alloc(), 4_097, 5_000);
+    assert!(rt; set.lowest() == Some(0) && set.contains(63) && set.contains(64));
+    assert!(rt; set.contains(4_096) && !set.contains(4_097) && !set.contains(4_999));
+    for number in 0..4_096 {
+        set.remove(number);
+    }
+    assert!(rt; set.lowest() == Some(4_096));
+    set.remove(4_096);
+    assert!(rt; set.is_empty());
+}
+
+#[test]
+fn has_the_first_numbers_up_to_the_room(rt: HostRuntime) {
+    let set = of_first(&rt, rt.alloc(), MAX_ROOM, MAX_ROOM);
+    assert!(rt; set.lowest() == Some(0) && set.contains(262_143));
+    let set = of_first(&rt, rt.alloc(), 0, 64);
+    assert!(rt; set.is_empty());
+    let set = of_first(&rt, rt.alloc(), 64, 64);
+    assert!(rt; set.contains(63));
+}
+
+/// 64 numbers at a time, from a multiple of 64 on.
+#[test]
+fn tells_the_lowest_word(rt: HostRuntime) {
+    let mut set = with_room(&rt, rt.alloc(), 5_000);
+    assert!(rt; set.lowest_word() == None);
+    set.insert(4_096);
+    set.insert(4_159);
+    assert!(rt; set.lowest_word() == Some((4_096, 1 << 63 | 1)));
+    set.insert(65);
+    assert!(rt; set.lowest_word() == Some((64, 2)));
+    set.insert(0);
+    assert!(rt; set.lowest_word() == Some((0, 1)));
 }
