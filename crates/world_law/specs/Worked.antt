@@ -9,6 +9,8 @@ use Rattle.txn_programs.specs.declared.ast.Outcome.TheVariants.{Returned}
 use Rattle.attempt.specs.Asking.{Known}
 use Rattle.world_law.specs.declared.events.Fate.{Fate}
 use Rattle.world_law.specs.declared.events.Fate.TheVariants as fate
+use Rattle.world_law.specs.declared.events.Loads.{Loads}
+use Rattle.world_law.specs.declared.events.Loads.TheVariants as loads
 use Rattle.world_law.specs.declared.events.Event.{Event}
 use Rattle.world_law.specs.declared.events.Event.TheVariants.{Begin, First, Value, Second, Ask, Word, Again}
 use Rattle.world_law.specs.declared.events.Seen.{Seen}
@@ -62,8 +64,8 @@ torn_end = record {
   words = 1 ∷ 2 ∷ 2 ∷ 2 ∷ 2 ∷ [];
   history = (pos 1 ∷ pos 1 ∷ []) ∷ (pos 2 ∷ pos 2 ∷ []) ∷ [];
   attempts =
-      record { task = task 0; rv = 0; log = (x, pos 1) ∷ []; loads = []; fate = fate.Stale; movable = true; check = None }
-      ∷ record { task = task 1; rv = 0; log = []; loads = []; fate = fate.Committed 1; movable = false; check = None }
+      record { task = task 0; rv = 0; log = (x, pos 1) ∷ []; loads = loads.Nothing; fate = fate.Stale; movable = true; check = None }
+      ∷ record { task = task 1; rv = 0; log = []; loads = loads.Nothing; fate = fate.Committed 1; movable = false; check = None }
       ∷ [];
   committer = None;
 }
@@ -105,9 +107,9 @@ back_end = record {
   words = 3 ∷ 4 ∷ 1 ∷ [];
   history = (pos 1 ∷ []) ∷ (pos 2 ∷ []) ∷ (pos 1 ∷ []) ∷ (pos 1 ∷ []) ∷ [];
   attempts =
-      record { task = task 0; rv = 0; log = (x, pos 1) ∷ []; loads = []; fate = fate.Committed 3; movable = false; check = None }
-      ∷ record { task = task 1; rv = 0; log = []; loads = []; fate = fate.Committed 1; movable = false; check = None }
-      ∷ record { task = task 2; rv = 1; log = []; loads = []; fate = fate.Committed 2; movable = false; check = None }
+      record { task = task 0; rv = 0; log = (x, pos 1) ∷ []; loads = loads.Nothing; fate = fate.Committed 3; movable = false; check = None }
+      ∷ record { task = task 1; rv = 0; log = []; loads = loads.Nothing; fate = fate.Committed 1; movable = false; check = None }
+      ∷ record { task = task 2; rv = 1; log = []; loads = loads.Nothing; fate = fate.Committed 2; movable = false; check = None }
       ∷ [];
   committer = None;
 }
@@ -116,8 +118,8 @@ back_end = record {
 abbrev pub at : ℕ → ℕ → Check
 at n checked = record { candidate = n; checked = checked }
 
-abbrev pub attempt : ℕ → ℕ → Known → List ℕ → Fate → Bool → Option Check → Started
-attempt a rv log loads f movable check = record { task = task a; rv = rv; log = log; loads = loads; fate = f; movable = movable; check = check }
+abbrev pub attempt : ℕ → ℕ → Known → Loads → Fate → Bool → Option Check → Started
+attempt a rv log ls f movable check = record { task = task a; rv = rv; log = log; loads = ls; fate = f; movable = movable; check = check }
 
 -- One task adds x and y, which are both 1; the other sets y to 5.
 abbrev pub half : Listing
@@ -156,8 +158,8 @@ moved_end = record {
   words = 2 ∷ 0 ∷ 1 ∷ 2 ∷ 5 ∷ [];
   history = (pos 1 ∷ pos 1 ∷ []) ∷ (pos 1 ∷ pos 5 ∷ []) ∷ (pos 1 ∷ pos 5 ∷ []) ∷ [];
   attempts =
-      attempt 0 1 ((x, pos 1) ∷ (y, pos 5) ∷ []) [] (fate.Committed 2) false None
-      ∷ attempt 1 0 [] [] (fate.Committed 1) false None
+      attempt 0 1 ((x, pos 1) ∷ (y, pos 5) ∷ []) loads.Nothing (fate.Committed 2) false None
+      ∷ attempt 1 0 [] loads.Nothing (fate.Committed 1) false None
       ∷ [];
   committer = None;
 }
@@ -184,8 +186,8 @@ refused_end = record {
   words = 1 ∷ 2 ∷ 2 ∷ 2 ∷ 2 ∷ [];
   history = (pos 1 ∷ pos 1 ∷ []) ∷ (pos 2 ∷ pos 2 ∷ []) ∷ [];
   attempts =
-      attempt 0 0 ((x, pos 1) ∷ []) (2 ∷ 2 ∷ []) fate.Stale false (Some (at 1 0))
-      ∷ attempt 1 0 [] [] (fate.Committed 1) false None
+      attempt 0 0 ((x, pos 1) ∷ []) (loads.Value 2 2) fate.Stale false (Some (at 1 0))
+      ∷ attempt 1 0 [] loads.Nothing (fate.Committed 1) false None
       ∷ [];
   committer = None;
 }
@@ -212,8 +214,8 @@ fresh_end = record {
   words = 1 ∷ 2 ∷ 2 ∷ 2 ∷ 2 ∷ [];
   history = (pos 1 ∷ pos 1 ∷ []) ∷ (pos 2 ∷ pos 2 ∷ []) ∷ [];
   attempts =
-      attempt 0 1 ((x, pos 2) ∷ (y, pos 2) ∷ []) [] fate.Running false None
-      ∷ attempt 1 0 [] [] (fate.Committed 1) false None
+      attempt 0 1 ((x, pos 2) ∷ (y, pos 2) ∷ []) loads.Nothing fate.Running false None
+      ∷ attempt 1 0 [] loads.Nothing (fate.Committed 1) false None
       ∷ [];
   committer = None;
 }

@@ -4,7 +4,7 @@ ghost use Rattle.std.specs.Prelude.{All};
 ghost use Rattle.txn_programs.specs.Standing.{Upholds};
 ghost use Rattle.world_law.specs.World.{World, IsOpening};
 ghost use Rattle.world_law.specs.Next.{Reachable, Run};
-ghost use Rattle.world_law.specs.Opacity.{Opaque, WordsHold};
+ghost use Rattle.world_law.specs.Opacity.{Opaque, WordsFit};
 ghost use Rattle.world_law.specs.Determined.{HasOneAnswer, HasOneRefusal};
 ghost use Rattle.world_law.specs.Worked.{pair, pair_opening, torn_events, torn_answers, torn_end, back_and_forth, back_opening, back_events, back_answers, back_end, half, moved_events, moved_answers, moved_end, refused_events, refused_answers, refused_end, fresh_events, fresh_answers, fresh_end};
 
@@ -17,7 +17,7 @@ use txn::Catalogue;
 /// true of every state of the history. It does nothing: its contract is the law.
 pub fn opacity(catalogue: &Catalogue)
     ensures opaque { (w : World) → Reachable catalogue.now w → Opaque catalogue.now w }
-    ensures words { (w : World) → Reachable catalogue.now w → WordsHold catalogue.now w }
+    ensures words { (w : World) → Reachable catalogue.now w → WordsFit catalogue.now w }
     ensures upheld { (w : World) → Reachable catalogue.now w → All (λ m. Upholds catalogue.now m) w.history }
 {
     catalogue.rules();
