@@ -11,7 +11,7 @@ use Rattle.world_law.specs.Next.{Run}
 use Rattle.world_law.specs.Worked.{x, y, task, pair, pair_opening, torn_events, torn_answers, torn_end, back_and_forth, back_opening, back_events, back_answers, back_end, at, attempt, half, moved_events, moved_answers, moved_end, refused_events, refused_answers, refused_end, fresh_events, fresh_answers, fresh_end}
 
 -- no attempt of these is of the task a
-abbrev AllOf : (ys : List Started) (a : ℕ) → Type 0
+abbrev pub AllOf : (ys : List Started) (a : ℕ) → Type 0
 AllOf [] a = Unit {0}
 AllOf (z ∷ ys) a = ((z.task.0 == a) ≡ false) × AllOf ys a
 
@@ -20,13 +20,13 @@ others [] a h i z e same = absurd (cc)
 others (u ∷ ys) a h zero z e same = absurd (let f : u ≡ z = cc in false≢true (sym h.0 ∙ eq-eqb u.task.0 a.0 (ap (λ (v : Started). v.task.0) f ∙ ap (λ (b : TaskId). b.0) same)))
 others (u ∷ ys) a h (suc i) z e same = others ys a h.1 i z e same
 
-never : {A : Type 0} → Returned (pos 0) ≡ Retries → A
+pub never : {A : Type 0} → Returned (pos 0) ≡ Retries → A
 never e = absurd (cc)
 
 never_one : {A : Type 0} → Returned (pos 1) ≡ Retries → A
 never_one e = absurd (cc)
 
-abbrev world : List ℕ → List (List ℤ) → List Started → Option Committer → World
+abbrev pub world : List ℕ → List (List ℤ) → List Started → Option Committer → World
 world words history attempts committer = record { words = words; history = history; attempts = attempts; committer = committer }
 
 abbrev began : ℕ → ℕ → Started
@@ -182,7 +182,7 @@ dead_first : (u : Started) (ys : List Started) (a : TaskId) → is_live u.fate �
 dead_first u ys a dead h zero z e same = let f : u ≡ z = cc in ap (λ (v : Started). is_live v.fate) (sym f) ∙ dead
 dead_first u ys a dead h (suc i) z e same = none_of ys a h i z e same
 
-first_latest : (u : Started) (ys : List Started) (a : TaskId) → AllOf ys a.0 → (j : ℕ) (z : Started) → slice_get (u ∷ ys) j ≡ Some z → z.task ≡ a → j ≤ 0
+pub first_latest : (u : Started) (ys : List Started) (a : TaskId) → AllOf ys a.0 → (j : ℕ) (z : Started) → slice_get (u ∷ ys) j ≡ Some z → z.task ≡ a → j ≤ 0
 first_latest u ys a h zero z e same = omega arith
 first_latest u ys a h (suc j) z e same = none_of ys a h j z e same
 
