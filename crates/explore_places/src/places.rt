@@ -93,6 +93,7 @@ impl Places {
     pub fn law(&self)
         ensures { IsOnce self.now.places }
     {
+        // To look at a field is to be told what the type keeps.
         let _links = self.links.len();
     }
 

@@ -59,6 +59,7 @@ impl Rows {
         requires { i < length self.now.places }
         ensures { result.now ≡ (slice_index_or self.now.places i nowhere).state }
     {
+        // To look at a field is to be told what the type keeps.
         let _size = self.values.len();
         part(&self.values, i * self.variables, self.variables)
     }
@@ -68,6 +69,7 @@ impl Rows {
         requires { i < length self.now.places }
         ensures { result.now ≡ (slice_index_or self.now.places i nowhere).left }
     {
+        // To look at a field is to be told what the type keeps.
         let _size = self.lefts.len();
         part(&self.lefts, i * self.transactions, self.transactions)
     }
@@ -89,6 +91,7 @@ impl Rows {
         ensures refused { OnErr result (self.new ≡ self.old) }
     {
         let count = self.count;
+        // To look at a field is to be told what the type keeps.
         let _sizes = (self.values.len(), self.lefts.len());
         replace_end(&mut self.values, count * self.variables, values)?;
         replace_end(&mut self.lefts, count * self.transactions, left)?;

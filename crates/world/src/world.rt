@@ -10,7 +10,7 @@ ghost use Rattle.world_law.specs.declared.events.Seen.TheVariants as seen;
 ghost use Rattle.world_events.specs.Runs.{LeadTo, MayBeRefused, TakesNone, EndsCheck, EvaluatesFree};
 ghost use Rattle.world.specs.Lines.{Plays, PlaysPart, PlaysFree};
 ghost use Rattle.world.specs.WorldText.{IsWorldText, PutsWorld};
-ghost use Rattle.world_law.specs.Opacity.{Opaque, WordsHold};
+ghost use Rattle.world_law.specs.Opacity.{Opaque, WordsFit};
 
 use crate::playing::play;
 use crate::telling::{Begun, begun_at, states};
@@ -154,7 +154,7 @@ impl<'a> World<'a> {
     /// each standing condition is true of every state. It does nothing: its contract is the law.
     pub fn opaque(&self)
         ensures opaque { Opaque self.now.listing self.now.world }
-        ensures words { WordsHold self.now.listing self.now.world }
+        ensures words { WordsFit self.now.listing self.now.world }
         ensures upheld { All (λ m. Upholds self.now.listing m) self.now.world.history }
     {
         self.scene.catalogue.rules();

@@ -19,18 +19,18 @@ use Rattle.world_law.specs.declared.events.Seen.TheVariants as seen
 use Rattle.world_law.specs.declared.events.Event.TheVariants.{Second, Again}
 use Rattle.world_law.specs.World.{Check, Started, World, CanBegin, IsLatest, Reading, changed, stand as stand_of, is_live, version_now}
 use Rattle.world_law.specs.Next.{Next as Steps, told, checks_on, reads_on, goes_again, CanGoAgain}
-use Rattle.world_events.specs.declared.trial.Loads.{Loads}
-use Rattle.world_events.specs.declared.trial.Loads.TheVariants as loads
+use Rattle.world_law.specs.declared.events.Loads.{Loads}
+use Rattle.world_law.specs.declared.events.Loads.TheVariants as loads
 use Rattle.world_events.specs.declared.trial.Checking.{Checking}
 use Rattle.world_events.specs.declared.trial.Trial.{Trial}
 use Rattle.world_events.specs.declared.scene.Publishing.{Publishing}
 use Rattle.world_events.specs.declared.scene.Scene.{Scene}
-use Rattle.world_events.specs.Trials.{loads_of, check_of, started_of, wanted_at, wants, TrialKept, CanEndRead, ChecksOnWith, Compares, ReadsOn, LoadsSecond, MayGoAgain, GoesAgain, answer_seen}
+use Rattle.world_events.specs.Trials.{check_of, started_of, wanted_at, wants, TrialKept, CanEndRead, ChecksOnWith, Compares, ReadsOn, LoadsSecond, MayGoAgain, GoesAgain, answer_seen}
 use Rattle.world_events.specs.Inside.{listing, world_of, with_trial, CommitterKept, Kept, IsTheRunning, IsOnly, IsTheLatest, IsOwner, Leads}
 use Rattle.world_events.proofs.Seeing.{same_place, seen_at, seen_from}
 use Rattle.world_events.proofs.Putting.{Replaces, world_put, put_leads}
 use Rattle.world_events.proofs.Owning.{owner_of, needs_apart}
-use Rattle.world_events.proofs.Standing.{running_to, reading_to, reading_from, the_one, loads_value, stands_at, needs_at, runs_on, other_kept, wants_needs}
+use Rattle.world_events.proofs.Standing.{running_to, reading_to, reading_from, the_one, stands_at, needs_at, runs_on, other_kept, wants_needs}
 use Rattle.world_events.proofs.Loading.{became, becomes, replaces, good, stale_replaces}
 use Rattle.world_events.proofs.Going.{second_goes}
 use Rattle.world_events.proofs.Starting.{can_some, cannot_some}
@@ -89,8 +89,8 @@ checks_now c a i t r h e = h i (started_of t) (running_to c a i t r) (ap (λ (o 
 
 module _ (c : Scene) (a : TaskId) (x : VarId) (i : ℕ) (t t' : Trial) (s : Seen) (k : Kept c) (r : IsTheRunning c a i t) (at : wants t ≡ Some x)
     (first bits : ℕ) (ls : t.loads ≡ loads.Value first bits) (same : version_now (world_of c) x ≡ first) where
-  read : Reading (listing c) (world_of c) a i (started_of t) x (first ∷ bits ∷ [])
-  read = subst (λ (o : Loads). Reading (listing c) (world_of c) a i (started_of t) x (loads_of o)) ls (reading_to c a i t x k r at)
+  read : Reading (listing c) (world_of c) a i (started_of t) x (loads.Value first bits)
+  read = subst (λ (o : Loads). Reading (listing c) (world_of c) a i (started_of t) x o) ls (reading_to c a i t x k r at)
 
   abbrev on : Seen × Started
   on = reads_on (listing c) (started_of t) x bits (started_of t).check
@@ -158,14 +158,14 @@ pub second_leads : (c : Scene) (a : TaskId) (x : VarId) (i : ℕ) (t t' : Trial)
 second_leads c a x i t t' s k r only at (inl h) =
     subst (λ (q : Seen). Leads c (Second a) q (with_trial c i t')) (sym h.1)
     (put_leads c i t t' (Second a) seen.Idle k (replaces c a i t t' k r (needs_apart c i t x k r.0 at) t h.2 refl refl (k.trials i t r.0)) (
-      λ j first bits y z q. let u = reading_from c a j y z (first ∷ bits ∷ []) k q in
-          h.0 first bits (ap (λ (v : Trial). v.loads) (the_one c a i j t u.0 r only u.1) ∙ loads_value u.0.loads first bits u.3),
+      λ j first bits y z q. let u = reading_from c a j y z (loads.Value first bits) k q in
+          h.0 first bits (ap (λ (v : Trial). v.loads) (the_one c a i j t u.0 r only u.1) ∙ u.3),
       became c i t t' h.2 r.0,
     ))
 second_leads c a x i t t' s k r only at (inr (first, bits, ls, inl h)) =
     subst (λ (q : Seen). Leads c (Second a) q (with_trial c i t')) (sym h.1)
     (put_leads c i t t' (Second a) seen.Stale k (stale_replaces c a i t t' k r (needs_apart c i t x k r.0 at) h.2)
-    (i, first, bits, started_of t, x, subst (λ (o : Loads). Reading (listing c) (world_of c) a i (started_of t) x (loads_of o)) ls (reading_to c a i t x k r at), h.0, becomes c i t t' _ h.2))
+    (i, first, bits, started_of t, x, subst (λ (o : Loads). Reading (listing c) (world_of c) a i (started_of t) x o) ls (reading_to c a i t x k r at), h.0, becomes c i t t' _ h.2))
 second_leads c a x i t t' s k r only at (inr (first, bits, ls, inr h)) = read_leads c a x i t t' s k r at first bits ls h.0 t.check refl h.1
 
 -- ---- running again

@@ -20,7 +20,7 @@ use Rattle.world_events.specs.declared.scene.Publishing.{Publishing}
 use Rattle.world_events.specs.declared.scene.Scene.{Scene}
 use Rattle.world_events.specs.Trials.{started_of}
 use Rattle.world_events.specs.Inside.{listing, world_of, all_states, with_trial, committer_of, Kept, IsTheRunning, IsOwner, Leads}
-use Rattle.world_events.specs.Asks.{FindsEnded, Commits}
+use Rattle.world_events.specs.Asks.{FindsEnded, BecomesCommitter}
 use Rattle.world_events.proofs.Putting.{world_put, put_leads}
 use Rattle.world_events.proofs.Owning.{stops}
 use Rattle.world_events.proofs.Standing.{asks, running_from, running_to, runs_on}
@@ -72,7 +72,7 @@ module _ (c : Scene) (a : TaskId) (k : Kept c) where
         (stops c i y (record y { fate = fate.Parked }) k r.0 (not_owner c.committer i empty) fate.Parked r.2 refl refl)
         (i, started_of y, y.attempt.writes, subst (λ (q : Outcome). CanAsk (listing c) (world_of c) a i (started_of y) q y.attempt.writes) retries can_ask, agree, world_put c i (record y { fate = fate.Parked }))
 
-    pub commits_leads : Agrees y.attempt.log (last_state (take c.count (all_states c))) → (o ≢ Retries) → (s : Seen) (c' : Scene) → Commits c i s c' → Leads c (Ask a) s c'
+    pub commits_leads : Agrees y.attempt.log (last_state (take c.count (all_states c))) → (o ≢ Retries) → (s : Seen) (c' : Scene) → BecomesCommitter c i s c' → Leads c (Ask a) s c'
     commits_leads agree goes s c' h = record {
       catalogue = h.0;
       kept = h.1;

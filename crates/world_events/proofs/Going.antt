@@ -15,18 +15,18 @@ use Rattle.world_law.specs.declared.events.Seen.TheVariants as seen
 use Rattle.world_law.specs.declared.events.Event.TheVariants.{Second}
 use Rattle.world_law.specs.World.{Check, Started, World, Reading, changed, stand, is_live, version_now, with_read, with_fate}
 use Rattle.world_law.specs.Next.{Next as Steps, told, reads_on}
-use Rattle.world_events.specs.declared.trial.Loads.{Loads}
-use Rattle.world_events.specs.declared.trial.Loads.TheVariants as loads
+use Rattle.world_law.specs.declared.events.Loads.{Loads}
+use Rattle.world_law.specs.declared.events.Loads.TheVariants as loads
 use Rattle.world_events.specs.declared.trial.Checking.{Checking}
 use Rattle.world_events.specs.declared.trial.Trial.{Trial}
 use Rattle.world_events.specs.declared.scene.Scene.{Scene}
-use Rattle.world_events.specs.Trials.{loads_of, check_of, started_of, wants, TrialKept, GoesOn, told_value, answer_seen, answer_fate}
+use Rattle.world_events.specs.Trials.{check_of, started_of, wants, TrialKept, GoesOn, told_value, answer_seen, answer_fate}
 use Rattle.world_events.specs.Inside.{listing, world_of, with_trial, Kept, IsTheRunning, Leads}
 use Rattle.world_events.proofs.Putting.{world_put, put_leads}
 use Rattle.world_events.proofs.Owning.{owner_of, needs_apart}
 use Rattle.world_events.proofs.Standing.{reading_to}
 
-pub same_started : (a b : TaskId) (n m : ℕ) (g h : Known) (p q : List ℕ) (f e : Fate) (c d : Bool) (r s : Option Check) → a ≡ b → n ≡ m → g ≡ h → p ≡ q → f ≡ e → c ≡ d → r ≡ s
+pub same_started : (a b : TaskId) (n m : ℕ) (g h : Known) (p q : Loads) (f e : Fate) (c d : Bool) (r s : Option Check) → a ≡ b → n ≡ m → g ≡ h → p ≡ q → f ≡ e → c ≡ d → r ≡ s
     → (let y : Started = record { task = a; rv = n; log = g; loads = p; fate = f; movable = c; check = r } in y) ≡ record { task = b; rv = m; log = h; loads = q; fate = e; movable = d; check = s }
 same_started a b n m g h p q f e c d r s i j k l o u v = λ t. record { task = i t; rv = j t; log = k t; loads = l t; fate = o t; movable = u t; check = v t }
 
@@ -66,8 +66,8 @@ module _ (c : Scene) (a : TaskId) (x : VarId) (i : ℕ) (t t' : Trial) (s : Seen
   abbrev w' : World
   w' = world_of (with_trial c i t')
 
-  reads : Reading (listing c) w a i (started_of t) x (first ∷ bits ∷ [])
-  reads = subst (λ (o : Loads). Reading (listing c) w a i (started_of t) x (loads_of o)) ls (reading_to c a i t x k r at)
+  reads : Reading (listing c) w a i (started_of t) x (loads.Value first bits)
+  reads = subst (λ (o : Loads). Reading (listing c) w a i (started_of t) x o) ls (reading_to c a i t x k r at)
 
   no_check : (started_of t).check ≡ None
   no_check = ap (λ (o : Option Checking). option_map check_of o) plain
@@ -77,7 +77,7 @@ module _ (c : Scene) (a : TaskId) (x : VarId) (i : ℕ) (t t' : Trial) (s : Seen
 
   ended : (f : Fate) → t'.fate ≡ f → w' ≡ changed w i (with_fate (with_read (started_of t) x bits) f)
   ended f e = world_put c i t' ∙ ap (changed w i)
-      (same_started t'.task t.task t'.rv t.rv t'.attempt.log _ (loads_of t'.loads) [] t'.fate f t'.movable t.movable (option_map check_of t'.check) (option_map check_of t.check) g.task g.rv g.log (ap loads_of g.loads) e g.movable (ap (λ (o : Option Checking). option_map check_of o) g.check))
+      (same_started t'.task t.task t'.rv t.rv t'.attempt.log _ t'.loads loads.Nothing t'.fate f t'.movable t.movable (option_map check_of t'.check) (option_map check_of t.check) g.task g.rv g.log g.loads e g.movable (ap (λ (o : Option Checking). option_map check_of o) g.check))
 
   -- what it read without a check it knows
   known : reads_on (listing c) (started_of t) x bits None ≡ reads_on (listing c) (started_of t) x bits (started_of t).check

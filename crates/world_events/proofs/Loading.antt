@@ -12,15 +12,15 @@ use Rattle.world_law.specs.Next.{Next}
 use Rattle.world_law.proofs.Places.{same_some}
 use Rattle.world_law.specs.declared.events.Fate.{Fate}
 use Rattle.world_events.specs.declared.trial.Checking.{Checking}
-use Rattle.world_events.specs.declared.trial.Loads.{Loads}
-use Rattle.world_events.specs.declared.trial.Loads.TheVariants as loads
+use Rattle.world_law.specs.declared.events.Loads.{Loads}
+use Rattle.world_law.specs.declared.events.Loads.TheVariants as loads
 use Rattle.world_events.specs.declared.trial.Trial.{Trial}
 use Rattle.world_events.specs.declared.scene.Scene.{Scene}
-use Rattle.world_events.specs.Trials.{loads_of, started_of, wants, TrialKept, LoadsFirst, LoadsValue}
+use Rattle.world_events.specs.Trials.{started_of, wants, TrialKept, LoadsFirst, LoadsValue}
 use Rattle.world_events.specs.Inside.{listing, world_of, with_trial, Kept, IsTheRunning, IsOnly, IsOwner, Leads}
 use Rattle.world_events.proofs.Putting.{Replaces, world_put, world_same, put_leads}
 use Rattle.world_events.proofs.Owning.{owner_of, needs_apart}
-use Rattle.world_events.proofs.Standing.{reading_to, reading_from, the_one, loads_nothing, loads_version, runs_on, other_kept}
+use Rattle.world_events.proofs.Standing.{reading_to, reading_from, the_one, runs_on, other_kept}
 
 -- the world after the attempt became t'
 module _ (c : Scene) (i : ℕ) (t t' : Trial) where
@@ -33,25 +33,25 @@ module _ (c : Scene) (i : ℕ) (t t' : Trial) where
 pub first_next : (c : Scene) (a : TaskId) (x : VarId) (i : ℕ) (t t' : Trial) (s : Seen) → Kept c → IsTheRunning c a i t → IsOnly c a i → wants t ≡ Some x
     → LoadsFirst t (version_now (world_of c) x) s t' → Next (listing c) (world_of c) (First a x) s (world_of (with_trial c i t'))
 first_next c a x i t t' seen.Idle k r only at h = (
-  λ j y q. let u = reading_from c a j y x [] k q in
-      h.0 (ap (λ (z : Trial). z.loads) (the_one c a i j t u.0 r only u.1) ∙ loads_nothing u.0.loads u.3),
+  λ j y q. let u = reading_from c a j y x loads.Nothing k q in
+      h.0 (ap (λ (z : Trial). z.loads) (the_one c a i j t u.0 r only u.1) ∙ u.3),
   became c i t t' h.1 r.0,
 )
 first_next c a x i t t' seen.Stale k r only at h =
-    (i, started_of t, subst (λ (ls : Loads). Reading (listing c) (world_of c) a i (started_of t) x (loads_of ls)) h.0 (reading_to c a i t x k r at), h.1, becomes c i t t' _ h.2)
+    (i, started_of t, subst (λ (ls : Loads). Reading (listing c) (world_of c) a i (started_of t) x ls) h.0 (reading_to c a i t x k r at), h.1, becomes c i t t' _ h.2)
 first_next c a x i t t' seen.Loaded k r only at h =
-    (i, started_of t, subst (λ (ls : Loads). Reading (listing c) (world_of c) a i (started_of t) x (loads_of ls)) h.0 (reading_to c a i t x k r at), h.1, h.2, becomes c i t t' _ h.3)
+    (i, started_of t, subst (λ (ls : Loads). Reading (listing c) (world_of c) a i (started_of t) x ls) h.0 (reading_to c a i t x k r at), h.1, h.2, becomes c i t t' _ h.3)
 first_next c a x i t t' s k r only at h = absurd h
 
 pub value_next : (c : Scene) (a : TaskId) (x : VarId) (i : ℕ) (t t' : Trial) (s : Seen) → Kept c → IsTheRunning c a i t → IsOnly c a i → wants t ≡ Some x
     → LoadsValue t (value_now (world_of c) x) s t' → Next (listing c) (world_of c) (Value a) s (world_of (with_trial c i t'))
 value_next c a x i t t' seen.Idle k r only at h = (
-  λ j first y z q. let u = reading_from c a j y z (first ∷ []) k q in
-      h.0 first (ap (λ (z : Trial). z.loads) (the_one c a i j t u.0 r only u.1) ∙ loads_version u.0.loads first u.3),
+  λ j first y z q. let u = reading_from c a j y z (loads.Version first) k q in
+      h.0 first (ap (λ (z : Trial). z.loads) (the_one c a i j t u.0 r only u.1) ∙ u.3),
   became c i t t' h.1 r.0,
 )
 value_next c a x i t t' seen.Loaded k r only at h =
-    (i, h.0, started_of t, x, subst (λ (ls : Loads). Reading (listing c) (world_of c) a i (started_of t) x (loads_of ls)) h.1 (reading_to c a i t x k r at), becomes c i t t' _ h.2)
+    (i, h.0, started_of t, x, subst (λ (ls : Loads). Reading (listing c) (world_of c) a i (started_of t) x ls) h.1 (reading_to c a i t x k r at), becomes c i t t' _ h.2)
 value_next c a x i t t' s k r only at h = absurd h
 
 -- what a load leaves in the attempt's place
@@ -97,7 +97,7 @@ value_leads c a x i t t' s k r only at h = put_leads c i t t' (Value a) s k
 pub first_idle : (c : Scene) (a : TaskId) (x z : VarId) (i : ℕ) (t : Trial) → Kept c → IsTheRunning c a i t → IsOnly c a i → wants t ≡ Some z → z ≢ x
     → Next (listing c) (world_of c) (First a x) seen.Idle (world_of c)
 first_idle c a x z i t k r only at other = (
-  λ j y q. let u = reading_from c a j y x [] k q in
+  λ j y q. let u = reading_from c a j y x loads.Nothing k q in
       other (same_some z x (sym at ∙ (ap wants (the_one c a i j t u.0 r only u.1) ∙ u.2))),
   refl,
 )

@@ -11,12 +11,11 @@ use Rattle.attempt.specs.declared.next.Next.TheVariants as next
 use Rattle.world_law.specs.declared.events.Fate.{Fate}
 use Rattle.world_law.specs.declared.events.Fate.TheVariants as fate
 use Rattle.world_law.specs.World.{Started, stand, wanted_by, wanted, Reading, IsRunning}
-use Rattle.world_events.specs.declared.trial.Loads.{Loads}
-use Rattle.world_events.specs.declared.trial.Loads.TheVariants as loads
+use Rattle.world_law.specs.declared.events.Loads.{Loads}
 use Rattle.world_events.specs.declared.trial.Checking.{Checking}
 use Rattle.world_events.specs.declared.trial.Trial.{Trial}
 use Rattle.world_events.specs.declared.scene.Scene.{Scene}
-use Rattle.world_events.specs.Trials.{loads_of, check_of, started_of, wanted_at, wants, TrialKept}
+use Rattle.world_events.specs.Trials.{check_of, started_of, wanted_at, wants, TrialKept}
 use Rattle.world_events.specs.Inside.{listing, world_of, Kept, IsTheRunning, IsOnly}
 use Rattle.world_events.proofs.Seeing.{seen_at, seen_from, same_place}
 
@@ -76,28 +75,13 @@ running_to c a i t r = (seen_at c.trials.items i t r.0, r.1, r.2)
 pub the_one : (c : Scene) (a : TaskId) (i j : ℕ) (t u : Trial) → IsTheRunning c a i t → IsOnly c a i → IsTheRunning c a j u → t ≡ u
 the_one c a i j t u r only q = same_place c.trials.items i j t u r.0 q.0 (only j u q)
 
-pub reading_to : (c : Scene) (a : TaskId) (i : ℕ) (t : Trial) (x : VarId) → Kept c → IsTheRunning c a i t → wants t ≡ Some x → Reading (listing c) (world_of c) a i (started_of t) x (loads_of t.loads)
+pub reading_to : (c : Scene) (a : TaskId) (i : ℕ) (t : Trial) (x : VarId) → Kept c → IsTheRunning c a i t → wants t ≡ Some x → Reading (listing c) (world_of c) a i (started_of t) x t.loads
 reading_to c a i t x k r e = let g = k.trials i t r.0 in ((running_to c a i t r, wants_is (listing c) t g (runs_on (listing c) t g r.2) ∙ e), refl)
 
-pub reading_from : (c : Scene) (a : TaskId) (j : ℕ) (y : Started) (x : VarId) (ls : List ℕ) → Kept c → Reading (listing c) (world_of c) a j y x ls → (t : Trial) × IsTheRunning c a j t × (wants t ≡ Some x) × (loads_of t.loads ≡ ls)
+pub reading_from : (c : Scene) (a : TaskId) (j : ℕ) (y : Started) (x : VarId) (ls : Loads) → Kept c → Reading (listing c) (world_of c) a j y x ls → (t : Trial) × IsTheRunning c a j t × (wants t ≡ Some x) × (t.loads ≡ ls)
 reading_from c a j y x ls k r = let s = running_from c a j y r.0.0 in
     let g = k.trials j s.0 s.1.0 in
     (s.0, s.1, sym (wants_is (listing c) s.0 g (runs_on (listing c) s.0 g s.1.2)) ∙ (ap (wanted (listing c)) s.2 ∙ r.0.1), ap (λ (u : Started). u.loads) s.2 ∙ r.1)
-
-pub loads_nothing : (o : Loads) → loads_of o ≡ [] → o ≡ loads.Nothing
-loads_nothing loads.Nothing e = refl
-loads_nothing (loads.Version a) e = absurd (cc)
-loads_nothing (loads.Value a b) e = absurd (cc)
-
-pub loads_version : (o : Loads) (a : ℕ) → loads_of o ≡ a ∷ [] → o ≡ loads.Version a
-loads_version loads.Nothing a e = absurd (cc)
-loads_version (loads.Version b) a e = let s : b ≡ a = cc in ap (λ (n : ℕ). loads.Version n) s
-loads_version (loads.Value b d) a e = absurd (cc)
-
-pub loads_value : (o : Loads) (a b : ℕ) → loads_of o ≡ a ∷ b ∷ [] → o ≡ loads.Value a b
-loads_value loads.Nothing a b e = absurd (cc)
-loads_value (loads.Version d) a b e = absurd (cc)
-loads_value (loads.Value d f) a b e = let s : d ≡ a = cc in let q : f ≡ b = cc in cc
 
 -- one that met no want of memory may be otherwise in all but its program and its answer
 pub other_kept : (l : Listing) (t : Trial) (n : ℕ) (o : Loads) (f : Fate) (b : Bool) (q : Option Checking) → TrialKept l t → t.at ≢ next.Memory → TrialKept l (record t { rv = n; loads = o; fate = f; movable = b; check = q })

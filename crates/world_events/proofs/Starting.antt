@@ -18,14 +18,15 @@ use Rattle.world_law.specs.declared.events.Fate.{Fate}
 use Rattle.world_law.specs.declared.events.Fate.TheVariants as fate
 use Rattle.world_law.specs.declared.events.Seen.{Seen}
 use Rattle.world_law.specs.declared.events.Event.TheVariants.{Begin}
-use Rattle.world_law.specs.World.{Started, CanBegin, is_live, begun}
+use Rattle.world_law.specs.declared.events.Loads.TheVariants as loads
+use Rattle.world_law.specs.World.{Started, CanBegin, is_live, with_attempt}
 use Rattle.world_law.specs.Next.{Next as Steps, told}
 use Rattle.world_law.proofs.Places.{get_set_same, get_set_other, get_push, get_push_old}
 use Rattle.world_events.specs.declared.trial.Checking.{Checking}
 use Rattle.world_events.specs.declared.trial.Trial.{Trial}
 use Rattle.world_events.specs.declared.scene.Publishing.{Publishing}
 use Rattle.world_events.specs.declared.scene.Scene.{Scene}
-use Rattle.world_events.specs.Trials.{started_of, loads_of, check_of, TrialKept, Begins, answer_seen, answer_fate}
+use Rattle.world_events.specs.Trials.{started_of, check_of, TrialKept, Begins, answer_seen, answer_fate}
 use Rattle.world_events.specs.Inside.{listing, world_of, CommitterKept, Kept, Leads}
 use Rattle.world_events.proofs.Seeing.{seen_at, seen_from, seen_push, same_place, get_push_new}
 use Rattle.world_events.proofs.Going.{same_started, tells, fates}
@@ -91,8 +92,8 @@ module _ (c : Scene) (v : Vec Trial Global) (a : TaskId) (t : Trial) (s : Seen) 
   owned None h = h
   owned (Some p) h = record { runs = (h.runs.0, old_v p.place h.runs.0 h.runs.1, h.runs.2, h.runs.3); under = h.under; few = h.few; small = h.small; exist = h.exist; ready = h.ready; past = h.past }
 
-  begun_kept : Kept c'
-  begun_kept = record {
+  began_kept : Kept c'
+  began_kept = record {
     wide = k.wide;
     states = k.states;
     count = k.count;
@@ -125,15 +126,15 @@ module _ (c : Scene) (v : Vec Trial Global) (a : TaskId) (t : Trial) (s : Seen) 
     committer = owned c.committer k.committer;
   }
 
-  world_is : (f : Fate) → t.fate ≡ f → world_of c' ≡ begun (world_of c) a f
+  world_is : (f : Fate) → t.fate ≡ f → world_of c' ≡ with_attempt (world_of c) a f
   world_is f e = ap (λ (l : List Started). record (world_of c) { attempts = l }) (ap (map started_of) is ∙ (seen_push c.trials.items t ∙
-      ap (λ (y : Started). map started_of c.trials.items ++ y ∷ []) (same_started t.task a t.rv (slice_index c.words.items 0) t.attempt.log [] (loads_of t.loads) [] t.fate f t.movable false (option_map check_of t.check) None b.task b.number b.log (ap loads_of b.loads) e b.movable (ap (λ (o : Option Checking). option_map check_of o) b.check))))
+      ap (λ (y : Started). map started_of c.trials.items ++ y ∷ []) (same_started t.task a t.rv (slice_index c.words.items 0) t.attempt.log [] t.loads loads.Nothing t.fate f t.movable false (option_map check_of t.check) None b.task b.number b.log b.loads e b.movable (ap (λ (o : Option Checking). option_map check_of o) b.check))))
 
   tells_it : (m : Next) → t.at ≡ m → m ≢ next.Memory → answer_seen m ≡ told (ask (task_program (listing c) a) [])
   tells_it m e mem = tells m t.attempt mem (subst (λ (q : Next). Answers q t.attempt) e b.kept.answers)
       ∙ ap told (ap (λ (p : Program). ask p t.attempt.log) (b.kept.program ∙ ap (task_program (listing c)) b.task) ∙ ap (ask (task_program (listing c) a)) b.log)
 
-  runs : (m : Next) → t.at ≡ m → m ≢ next.Memory → world_of c' ≡ begun (world_of c) a fate.Running
+  runs : (m : Next) → t.at ≡ m → m ≢ next.Memory → world_of c' ≡ with_attempt (world_of c) a fate.Running
   runs m e mem = world_is fate.Running (b.fate ∙ (ap (λ (q : Next). answer_fate q fate.Running) e ∙ fates m fate.Running mem))
 
   by_answer : (m : Next) → t.at ≡ m → Steps (listing c) (world_of c) (Begin a) (answer_seen m) (world_of c')
@@ -144,4 +145,4 @@ module _ (c : Scene) (v : Vec Trial Global) (a : TaskId) (t : Trial) (s : Seen) 
   by_answer next.Memory e = (can, world_is fate.Spent (b.fate ∙ ap (λ (q : Next). answer_fate q fate.Running) e))
 
   pub begin_leads : Leads c (Begin a) s c'
-  begin_leads = record { catalogue = refl; kept = begun_kept; next = subst (λ (q : Seen). Steps (listing c) (world_of c) (Begin a) q (world_of c')) (sym b.seen) (by_answer t.at refl) }
+  begin_leads = record { catalogue = refl; kept = began_kept; next = subst (λ (q : Seen). Steps (listing c) (world_of c) (Begin a) q (world_of c')) (sym b.seen) (by_answer t.at refl) }

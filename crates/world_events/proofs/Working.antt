@@ -8,7 +8,9 @@ use Rattle.txn_words.specs.Stores.{Change, id_of, with_changes}
 use Rattle.world_law.specs.declared.events.Fate.TheVariants as fate
 use Rattle.world_law.specs.declared.events.Event.TheVariants.{Word}
 use Rattle.world_law.specs.declared.events.Seen.TheVariants as seen
-use Rattle.world_law.specs.World.{World, Started, Committer, Store, Lock, Put, Tick, Free, stores, Writes, history_after, stored, finished, is_live}
+use Rattle.world_law.specs.declared.events.Store.{Store}
+use Rattle.world_law.specs.declared.events.Store.TheVariants.{Lock, Put, Tick, Free}
+use Rattle.world_law.specs.World.{World, Started, Committer, stores, Writes, history_after, stored, finished, is_live}
 use Rattle.world_law.specs.Next.{Reachable}
 use Rattle.world_law.proofs.Framed.{IsSound}
 use Rattle.world_law.proofs.Order.{IsStore, Locks, Puts, Ticks, Frees, store_at, many_stores}
@@ -31,10 +33,10 @@ bit true = omega arith
 bit false = omega arith
 
 pub wide_still : (s : Store) (n : ℕ) (ws ws' : List ℕ) → Writes s n ws ws' → length ws' ≡ length ws
-wide_still (Lock x) n ws ws' h = ap length h ∙ length-set ws (version_word x) _
-wide_still (Put x v) n ws ws' h = ap length h.2 ∙ length-set ws (value_word x) h.0
+wide_still (Lock x) n ws ws' h = ap length h ∙ length-set ws (version_word x.0) _
+wide_still (Put x v) n ws ws' h = ap length h.2 ∙ length-set ws (value_word x.0) h.0
 wide_still Tick n ws ws' h = ap length h ∙ length-set ws 0 n
-wide_still (Free x) n ws ws' h = ap length h ∙ length-set ws (version_word x) _
+wide_still (Free x) n ws ws' h = ap length h ∙ length-set ws (version_word x.0) _
 
 module _ {X : Type 0} where
   take_suc : (l : List X) (n : ℕ) (x : X) → slice_get l n ≡ Some x → take (suc n) l ≡ take n l ++ x ∷ []

@@ -30,7 +30,7 @@ abbrev pub CanCommit : Scene → ℕ → Type 0
 CanCommit c i = (c.committer ≡ None) × ((y : Trial) × (o : Outcome) × (slice_get c.trials.items i ≡ Some y) × (y.fate ≡ fate.Running) × (y.at ≡ next_of o))
 
 -- it has become the committer
-abbrev pub Commits : Scene → ℕ → Seen → Scene → Type 0
-Commits c i s c' =
+abbrev pub BecomesCommitter : Scene → ℕ → Seen → Scene → Type 0
+BecomesCommitter c i s c' =
     (c'.catalogue ≡ c.catalogue) × Kept c' × (s ≡ seen.Commits c.count)
     × ((y : Trial) → slice_get c.trials.items i ≡ Some y → world_of c' ≡ record (world_of c) { committer = Some (committing (world_of c) i y.attempt.writes) })

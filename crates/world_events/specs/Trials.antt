@@ -18,17 +18,11 @@ use Rattle.world_law.specs.declared.events.Fate.{Fate}
 use Rattle.world_law.specs.declared.events.Fate.TheVariants as fate
 use Rattle.world_law.specs.declared.events.Seen.{Seen}
 use Rattle.world_law.specs.declared.events.Seen.TheVariants as seen
+use Rattle.world_law.specs.declared.events.Loads.TheVariants as loads
 use Rattle.world_law.specs.World.{Check, Started, bound}
-use Rattle.world_events.specs.declared.trial.Loads.{Loads}
-use Rattle.world_events.specs.declared.trial.Loads.TheVariants as loads
 use Rattle.world_events.specs.declared.trial.Checking.{Checking}
 use Rattle.world_events.specs.declared.trial.Trial.{Trial}
 use Rattle.world_events.specs.KeptAttempts.{shortened}
-
-abbrev pub loads_of : Loads → List ℕ
-loads_of loads.Nothing = []
-loads_of (loads.Version first) = first ∷ []
-loads_of (loads.Value first bits) = first ∷ bits ∷ []
 
 abbrev pub check_of : Checking → Check
 check_of c = record { candidate = c.candidate; checked = c.checked }
@@ -39,7 +33,7 @@ started_of y = record {
   task = y.task;
   rv = y.rv;
   log = y.attempt.log;
-  loads = loads_of y.loads;
+  loads = y.loads;
   fate = y.fate;
   movable = y.movable;
   check = option_map check_of y.check;

@@ -6,7 +6,7 @@ ghost use Rattle.attempt.specs.Frame.{Agrees, store};
 ghost use Rattle.world_law.specs.World.{differences};
 ghost use Rattle.world_law.specs.declared.events.Event.TheVariants.{Ask};
 ghost use Rattle.world_events.specs.Inside.{Kept, Leads, Stays};
-ghost use Rattle.world_events.specs.Asks.{FindsEnded, AgreesAt, CanCommit, Commits};
+ghost use Rattle.world_events.specs.Asks.{FindsEnded, AgreesAt, CanCommit, BecomesCommitter};
 
 use crate::scene::{Publishing, Scene, running};
 use attempt::Next;
@@ -71,7 +71,7 @@ fn agrees_at(scene: &Scene, place: usize) -> bool
 fn commit(scene: &mut Scene, place: usize) -> Result<Seen, Memory>
     requires kept { Kept scene.old }
     requires can { CanCommit scene.old place }
-    ensures ok { IfOk result (λ s. Commits scene.old place s scene.new) }
+    ensures ok { IfOk result (λ s. BecomesCommitter scene.old place s scene.new) }
     ensures refused { OnErr result (Stays scene.old scene.new) }
 {
     let _few = scene.catalogue.initial().len();

@@ -9,7 +9,7 @@ ghost use Rattle.world_law.specs.declared.events.Seen.TheVariants as seen;
 ghost use Rattle.world_events.specs.Inside.{Kept, Leads, Stays, listing, world_of};
 
 use crate::scene::Scene;
-use crate::trial::{begun, lives};
+use crate::trial::{first_asked, lives};
 use txn::{Memory, TaskId};
 use world_law::Seen;
 
@@ -26,7 +26,7 @@ pub fn begin(scene: &mut Scene, task: TaskId) -> Result<Seen, Memory>
     }
     let place = scene.trials.len();
     let alloc = *scene.words.allocator();
-    let (trial, seen) = begun(alloc, scene.catalogue, task, scene.words[0])?;
+    let (trial, seen) = first_asked(alloc, scene.catalogue, task, scene.words[0])?;
     scene.trials.push(trial)?;
     scene.latest[task.0 as usize] = Some(place);
     Ok(seen)

@@ -28,7 +28,7 @@ pub fn happen(scene: &mut Scene, event: Event) -> Result<Seen, Memory>
     ensures short { EvaluatesFree (listing scene.old) event → IfOk result (λ s. s ≢ seen.Spent) }
 {
     let before = concerned(scene, event);
-    let seen = play(scene, event)?;
+    let seen = dispatch(scene, event)?;
     settle(scene, before);
     let after = concerned(scene, event);
     settle(scene, after);
@@ -36,7 +36,7 @@ pub fn happen(scene: &mut Scene, event: Event) -> Result<Seen, Memory>
 }
 
 /// Each event is a function of its own.
-fn play(scene: &mut Scene, event: Event) -> Result<Seen, Memory>
+fn dispatch(scene: &mut Scene, event: Event) -> Result<Seen, Memory>
     requires kept { Kept scene.old }
     requires reached { Reachable (listing scene.old) (world_of scene.old) }
     ensures ok { IfOk result (λ s. Leads scene.old event s scene.new) }

@@ -22,4 +22,4 @@ pub use happening::happen;
 pub use kept_attempt::KeptAttempt;
 pub use opening::first_scene;
 pub use scene::{Publishing, Scene};
-pub use trial::{Checking, Loads, Trial};
+pub use trial::{Checking, Trial};

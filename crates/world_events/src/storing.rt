@@ -6,24 +6,10 @@ ghost use Rattle.world_law.specs.World.{stores, Writes};
 ghost use Rattle.world_law.specs.Next.{Reachable};
 ghost use Rattle.world_law.specs.declared.events.Event.TheVariants.{Word};
 ghost use Rattle.world_events.specs.Inside.{Kept, Leads, listing, world_of};
-ghost use Rattle.world_events.specs.Steps.{store_of, count_after, MayWrite, with_committer};
+ghost use Rattle.world_events.specs.Steps.{count_after, MayWrite, with_committer};
 
 use crate::scene::{Publishing, Scene};
-use txn::VarId;
-use world_law::{Fate, Seen};
-
-/// One store of a commit.
-#[derive(Clone, Copy, Debug, PartialEq, Eq)]
-pub enum Step {
-    /// A version word gets its lock bit.
-    Lock(VarId),
-    /// A value word gets a value.
-    Put(VarId, i64),
-    /// The clock gets the commit's number.
-    Tick,
-    /// A version word gets that number, and no lock bit.
-    Free(VarId),
-}
+use world_law::{Fate, Seen, Store};
 
 /// The attempt that commits makes its next store. It takes no memory.
 pub fn word(scene: &mut Scene) -> Seen
@@ -32,13 +18,13 @@ pub fn word(scene: &mut Scene) -> Seen
     ensures { Leads scene.old Word result scene.new }
 {
     match scene.committer.take() {
-        Some(publishing) => store_next(scene, publishing),
+        Some(publishing) => make_next(scene, publishing),
         None => Seen::Idle,
     }
 }
 
 /// The next store of a commit that was taken out of the scene.
-fn store_next(scene: &mut Scene, mut publishing: Publishing) -> Seen
+fn make_next(scene: &mut Scene, mut publishing: Publishing) -> Seen
     requires none { scene.old.committer ≡ None }
     requires kept { Kept (with_committer scene.old publishing) }
     requires reached { Reachable (listing scene.old) (world_of (with_committer scene.old publishing)) }
@@ -46,10 +32,10 @@ fn store_next(scene: &mut Scene, mut publishing: Publishing) -> Seen
 {
     scene.catalogue.rules();
     let _few = scene.catalogue.initial().len();
-    let step = next_step(&publishing);
+    let store = next_store(&publishing);
     let number = publishing.number;
-    write(&mut scene.words, step, number);
-    scene.count = counted(scene.count, step);
+    write(&mut scene.words, store, number);
+    scene.count = counted(scene.count, store);
     if publishing.stored == 3 * publishing.changes.len() {
         scene.trials[publishing.place].fate = Fate::Committed(number);
         return Seen::Committed(number);
@@ -60,46 +46,46 @@ fn store_next(scene: &mut Scene, mut publishing: Publishing) -> Seen
 }
 
 /// The next store of a commit.
-fn next_step(publishing: &Publishing) -> Step
+fn next_store(publishing: &Publishing) -> Store
     requires few { length publishing.now.changes.items ≤ 256 }
     requires under { publishing.now.stored < 3 * length publishing.now.changes.items + 1 }
-    ensures { slice_get (stores publishing.now.changes.items) publishing.now.stored ≡ Some (store_of result) }
+    ensures { slice_get (stores publishing.now.changes.items) publishing.now.stored ≡ Some result }
 {
     let count = publishing.changes.len();
     let stored = publishing.stored;
     if stored < count {
-        return Step::Lock(publishing.changes[stored].0);
+        return Store::Lock(publishing.changes[stored].0);
     }
     if stored < 2 * count {
         let change = publishing.changes[stored - count];
-        return Step::Put(change.0, change.1);
+        return Store::Put(change.0, change.1);
     }
     if stored == 2 * count {
-        return Step::Tick;
+        return Store::Tick;
     }
-    Step::Free(publishing.changes[stored - 2 * count - 1].0)
+    Store::Free(publishing.changes[stored - 2 * count - 1].0)
 }
 
 /// Makes a store of the commit of this number.
-fn write(words: &mut Vec<u64>, step: Step, number: u64)
-    requires { MayWrite (store_of step) number words.old.items }
-    ensures { Writes (store_of step) number words.old.items words.new.items }
+fn write(words: &mut Vec<u64>, store: Store, number: u64)
+    requires { MayWrite store number words.old.items }
+    ensures { Writes store number words.old.items words.new.items }
 {
-    match step {
-        Step::Lock(x) => words[2 * x.0 as usize + 1] += 1,
-        Step::Put(x, v) => words[2 * x.0 as usize + 2] = v.cast_unsigned(),
-        Step::Tick => words[0] = number,
-        Step::Free(x) => words[2 * x.0 as usize + 1] = 2 * number,
+    match store {
+        Store::Lock(x) => words[2 * x.0 as usize + 1] += 1,
+        Store::Put(x, v) => words[2 * x.0 as usize + 2] = v.cast_unsigned(),
+        Store::Tick => words[0] = number,
+        Store::Free(x) => words[2 * x.0 as usize + 1] = 2 * number,
     }
 }
 
 /// How many states there are after a store.
-fn counted(count: usize, step: Step) -> usize
+fn counted(count: usize, store: Store) -> usize
     requires { count + 1 < 2 ^ 64 }
-    ensures { result ≡ count_after (store_of step) count }
+    ensures { result ≡ count_after store count }
 {
-    match step {
-        Step::Tick => count + 1,
+    match store {
+        Store::Tick => count + 1,
         _ => count,
     }
 }

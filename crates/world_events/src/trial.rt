@@ -15,17 +15,7 @@ use crate::kept_attempt::KeptAttempt;
 use attempt::Next;
 use std::alloc::{AllocError, Global};
 use txn::{Catalogue, Memory, Outcome, TaskId, VarId};
-use world_law::{Fate, Seen};
-
-/// What the read that an attempt is in has loaded.
-#[derive(Clone, Copy, Debug, PartialEq, Eq)]
-pub enum Loads {
-    Nothing,
-    /// The version word.
-    Version(u64),
-    /// The version word, and then the value word.
-    Value(u64, u64),
-}
+use world_law::{Fate, Loads, Seen};
 
 /// The state that an attempt which runs again checks: its number, and how many of the pairs that it
 /// read it has found to be so there.
@@ -238,7 +228,7 @@ impl<'a> Trial<'a> {
 }
 
 /// An attempt of the task that has gone on as far as it can with nothing read, and what is seen.
-pub fn begun<'a>(
+pub fn first_asked<'a>(
     alloc: Global,
     catalogue: &'a Catalogue,
     task: TaskId,

@@ -16,9 +16,11 @@ use Rattle.attempt.specs.Asking.{Known, Needs, Ends}
 use Rattle.attempt.specs.Frame.{Agrees, store}
 use Rattle.world_law.specs.declared.events.Fate.{Fate}
 use Rattle.world_law.specs.declared.events.Fate.TheVariants as fate
-use Rattle.world_law.specs.World.{Check, Started, World, Committer, is_live, CanBegin, IsRunning, Stands, Apart, stand, wanted, bound_by, bound, begun, changed, version_now, value_now, committing, stores, differences}
-use Rattle.world_law.specs.Commits.{IsResting, IsAsFar, after_stores}
-use Rattle.world_law.specs.Opacity.{Explains, IsPast, Makes, Made, Opaque, WordsHold}
+use Rattle.world_law.specs.declared.events.Loads.{Loads}
+use Rattle.world_law.specs.declared.events.Loads.TheVariants as loads
+use Rattle.world_law.specs.World.{Check, Started, World, Committer, is_live, CanBegin, IsRunning, Stands, Apart, stand, wanted, bound_by, bound, with_attempt, changed, version_now, value_now, committing, stores, differences, words_loaded}
+use Rattle.world_law.specs.Commits.{RestsAt, IsAsFar, after_stores}
+use Rattle.world_law.specs.Opacity.{Explains, IsPast, Makes, Made, Opaque, WordsFit}
 use Rattle.world_law.proofs.Places.{get_set_other, get_set, get_push_old, get_push, same_some}
 use Rattle.world_law.proofs.Framed.{IsSound, ends_as, length-store}
 use Rattle.world_law.proofs.Differ.{changes_lead, are_changes}
@@ -29,7 +31,7 @@ pub record Pending (k : Listing) (attempts : List Started) (c : Committer) (comm
   pub base : Commit
   pub before : ℕ
   pub number : c.number ≡ before + 1
-  pub rest : IsResting base before
+  pub rest : RestsAt base before
   pub are : AreChanges (last_state base.history) c.changes
   pub phase : Phase base before c.changes c.stored commit
   pub done : commit ≡ after_stores (take c.stored (stores c.changes)) base
@@ -39,7 +41,7 @@ pub record Pending (k : Listing) (attempts : List Started) (c : Committer) (comm
   pub explained : Explains k (last_state base.history) (with_changes base.values c.changes) owner
 
 abbrev pub Under : Listing → List Started → Option Committer → Commit → Type 0
-Under k attempts None commit = (n : ℕ) × IsResting commit n
+Under k attempts None commit = (n : ℕ) × RestsAt commit n
 Under k attempts (Some c) commit = Pending k attempts c commit
 
 -- a read that goes on found an unlocked version no later than its state
@@ -48,9 +50,9 @@ WasFirst rv [] = Unit {0}
 WasFirst rv (first ∷ more) = (first % 2 ≡ 0) × (first ≤ 2 * rv)
 
 -- what an attempt has loaded of x
-abbrev pub LoadedOf : World → ℕ → VarId → List ℕ → Type 0
-LoadedOf w rv x loads =
-    SamplingHolds (version_now w x) (value_now w x) rv (value_of (state_of w.history rv) x.0) loads × WasFirst rv loads
+abbrev pub LoadedOf : World → ℕ → VarId → Loads → Type 0
+LoadedOf w rv x ls =
+    SamplingHolds (version_now w x) (value_now w x) rv (value_of (state_of w.history rv) x.0) (words_loaded ls) × WasFirst rv (words_loaded ls)
 
 abbrev pub LoadsHold : Listing → World → Started → Type 0
 LoadsHold k w y = (x : VarId) → wanted k y ≡ Some x → LoadedOf w (bound y) x y.loads
@@ -105,7 +107,7 @@ opaque_from k w sound h = record {
   once = λ i j m n y z at at' e e' same. h.alone i j y z at at' same (ap is_live e) (ap is_live e');
 }
 
-pub words_from : (k : Listing) (w : World) → Holds k w → WordsHold k w
+pub words_from : (k : Listing) (w : World) → Holds k w → WordsFit k w
 words_from k w h = record {
   commit = h.commit;
   history = h.history;
@@ -237,8 +239,8 @@ changed_kept k w i y y' h r never = record {
         m.1))
         (get_set w.attempts i j y' y z r.was m.0)
 
-pub begun_kept : (k : Listing) (w : World) (a : TaskId) (f : Fate) → Holds k w → CanBegin k w a → ((n : ℕ) → f ≢ fate.Committed n) → Holds k (begun w a f)
-begun_kept k w a f h can never = record {
+pub attempt_kept : (k : Listing) (w : World) (a : TaskId) (f : Fate) → Holds k w → CanBegin k w a → ((n : ℕ) → f ≢ fate.Committed n) → Holds k (with_attempt w a f)
+attempt_kept k w a f h can never = record {
   commit = h.commit;
   history = h.history;
   words = h.words;
@@ -269,9 +271,9 @@ begun_kept k w a f h can never = record {
 }
   where
     new : Started
-    new = record { task = a; rv = get_or w.words 0 0; log = []; loads = []; fate = f; movable = false; check = None }
+    new = record { task = a; rv = get_or w.words 0 0; log = []; loads = loads.Nothing; fate = f; movable = false; check = None }
 
-    old : (j n : ℕ) (z : Started) → Makes (begun w a f) n j z → Makes w n j z
+    old : (j n : ℕ) (z : Started) → Makes (with_attempt w a f) n j z → Makes w n j z
     old j n z m = ⊎_elim
         (λ (e : slice_get w.attempts j ≡ Some z). (e, m.1))
         (λ (e : (j ≡ length w.attempts) × (new ≡ z)). absurd (⊎_elim
@@ -322,7 +324,7 @@ asked_kept k w a i y o ws sound h stands none goes agrees = record {
     cs : List Change
     cs = differences 0 m (store ws m)
 
-    resting : (n : ℕ) × IsResting h.commit n
+    resting : (n : ℕ) × RestsAt h.commit n
     resting = subst (λ (q : Option Committer). Under k w.attempts q h.commit) none h.under
 
     before : ℕ

@@ -10,5 +10,6 @@ pub mod Kept
 pub mod Wrote
 pub mod Reached
 pub mod Working
+pub mod Waiting
 pub mod Upheld
 pub mod Single

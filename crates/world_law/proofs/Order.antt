@@ -4,8 +4,11 @@ use mathlib.Core.Logic.{dite}
 use native.Mathlib.Decide.{dec_lt}
 use lib.ListN.{length-map}
 use Rattle.txn_words.specs.Words.{Commit}
-use Rattle.txn_words.specs.Stores.{Change, no_change, id_of, new_of}
-use Rattle.world_law.specs.World.{Store, Lock, Put, Tick, Free, locks, puts, frees, stores}
+use Rattle.txn_programs.specs.declared.ast.VarId.{VarId}
+use Rattle.txn_words.specs.Stores.{Change, no_change, new_of}
+use Rattle.world_law.specs.declared.events.Store.{Store}
+use Rattle.world_law.specs.declared.events.Store.TheVariants.{Lock, Put, Tick, Free}
+use Rattle.world_law.specs.World.{locks, puts, frees, stores}
 use Rattle.world_law.specs.Commits.{after_store, after_stores}
 
 module _ {X : Type 0} where
@@ -33,19 +36,23 @@ get_map f [] i h = absurd (omega arith)
 get_map f (c ∷ cs) zero h = refl
 get_map f (c ∷ cs) (suc i) h = get_map f cs i (omega arith)
 
+-- the variable of the change of this number
+abbrev pub variable_at : List Change → ℕ → VarId
+variable_at cs i = (get_or cs i no_change).0
+
 module _ (cs : List Change) where
   many_locks : length (locks cs) ≡ length cs
-  many_locks = length-map cs (λ (c : Change). Lock c.0.0)
+  many_locks = length-map cs (λ (c : Change). Lock c.0)
 
   many_puts : length (puts cs) ≡ length cs
-  many_puts = length-map cs (λ (c : Change). Put c.0.0 c.1)
+  many_puts = length-map cs (λ (c : Change). Put c.0 c.1)
 
   pub many_stores : length (stores cs) ≡ 3 * length cs + 1
-  many_stores = let a = many_locks in let b = many_puts in let c = length-map cs (λ (c : Change). Free c.0.0) in
+  many_stores = let a = many_locks in let b = many_puts in let c = length-map cs (λ (c : Change). Free c.0) in
       omega (arith, length-append (locks cs) (puts cs ++ (Tick ∷ frees cs)), length-append (puts cs) (Tick ∷ frees cs))
 
-  pub is_lock : (p : ℕ) → p < length cs → slice_get (stores cs) p ≡ Some (Lock (id_of cs p))
-  is_lock p h = get_left (locks cs) (puts cs ++ (Tick ∷ frees cs)) p (omega (arith, many_locks)) ∙ get_map (λ (c : Change). Lock c.0.0) cs p h
+  pub is_lock : (p : ℕ) → p < length cs → slice_get (stores cs) p ≡ Some (Lock (variable_at cs p))
+  is_lock p h = get_left (locks cs) (puts cs ++ (Tick ∷ frees cs)) p (omega (arith, many_locks)) ∙ get_map (λ (c : Change). Lock c.0) cs p h
 
   past_locks : (i : ℕ) → slice_get (stores cs) (length cs + i) ≡ slice_get (puts cs ++ (Tick ∷ frees cs)) i
   past_locks i = ap (λ (n : ℕ). slice_get (stores cs) (n + i)) (sym many_locks) ∙ get_right (locks cs) (puts cs ++ (Tick ∷ frees cs)) i
@@ -54,21 +61,21 @@ module _ (cs : List Change) where
   past_puts i = ap (slice_get (stores cs)) (let e : 2 * length cs + i ≡ length cs + (length cs + i) = omega arith in e)
       ∙ (past_locks (length cs + i) ∙ (ap (λ (n : ℕ). slice_get (puts cs ++ (Tick ∷ frees cs)) (n + i)) (sym many_puts) ∙ get_right (puts cs) (Tick ∷ frees cs) i))
 
-  pub is_put : (i : ℕ) → i < length cs → slice_get (stores cs) (length cs + i) ≡ Some (Put (id_of cs i) (new_of cs i))
-  is_put i h = past_locks i ∙ (get_left (puts cs) (Tick ∷ frees cs) i (omega (arith, many_puts)) ∙ get_map (λ (c : Change). Put c.0.0 c.1) cs i h)
+  pub is_put : (i : ℕ) → i < length cs → slice_get (stores cs) (length cs + i) ≡ Some (Put (variable_at cs i) (new_of cs i))
+  is_put i h = past_locks i ∙ (get_left (puts cs) (Tick ∷ frees cs) i (omega (arith, many_puts)) ∙ get_map (λ (c : Change). Put c.0 c.1) cs i h)
 
   pub is_tick : slice_get (stores cs) (2 * length cs) ≡ Some Tick
   is_tick = ap (slice_get (stores cs)) (let e : 2 * length cs ≡ 2 * length cs + 0 = omega arith in e) ∙ past_puts 0
 
-  pub is_free : (i : ℕ) → i < length cs → slice_get (stores cs) (2 * length cs + 1 + i) ≡ Some (Free (id_of cs i))
-  is_free i h = ap (slice_get (stores cs)) (let e : 2 * length cs + 1 + i ≡ 2 * length cs + suc i = omega arith in e) ∙ (past_puts (suc i) ∙ get_map (λ (c : Change). Free c.0.0) cs i h)
+  pub is_free : (i : ℕ) → i < length cs → slice_get (stores cs) (2 * length cs + 1 + i) ≡ Some (Free (variable_at cs i))
+  is_free i h = ap (slice_get (stores cs)) (let e : 2 * length cs + 1 + i ≡ 2 * length cs + suc i = omega arith in e) ∙ (past_puts (suc i) ∙ get_map (λ (c : Change). Free c.0) cs i h)
 
   -- which store has the number p
   pub data IsStore (p : ℕ) (s : Store) : Type 0 where
-    Locks : p < length cs → s ≡ Lock (id_of cs p) → IsStore p s
-    Puts : (i : ℕ) → i < length cs → p ≡ length cs + i → s ≡ Put (id_of cs i) (new_of cs i) → IsStore p s
+    Locks : p < length cs → s ≡ Lock (variable_at cs p) → IsStore p s
+    Puts : (i : ℕ) → i < length cs → p ≡ length cs + i → s ≡ Put (variable_at cs i) (new_of cs i) → IsStore p s
     Ticks : p ≡ 2 * length cs → s ≡ Tick → IsStore p s
-    Frees : (i : ℕ) → i < length cs → p ≡ 2 * length cs + 1 + i → s ≡ Free (id_of cs i) → IsStore p s
+    Frees : (i : ℕ) → i < length cs → p ≡ 2 * length cs + 1 + i → s ≡ Free (variable_at cs i) → IsStore p s
 
   -- after the first p + 1 stores
   pub after_next : (p : ℕ) (s : Store) (c : Commit) → slice_get (stores cs) p ≡ Some s → after_stores (take (p + 1) (stores cs)) c ≡ after_store s (after_stores (take p (stores cs)) c)

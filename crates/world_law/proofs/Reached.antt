@@ -18,16 +18,18 @@ use Rattle.attempt.specs.Asking.{Known, Answer, Needs, Ends, ask}
 use Rattle.attempt.specs.Frame.{Agrees}
 use Rattle.world_law.specs.declared.events.Fate.{Fate}
 use Rattle.world_law.specs.declared.events.Fate.TheVariants as fate
+use Rattle.world_law.specs.declared.events.Loads.{Loads}
+use Rattle.world_law.specs.declared.events.Loads.TheVariants as loads
 use Rattle.world_law.specs.declared.events.Event.{Event}
 use Rattle.world_law.specs.declared.events.Event.TheVariants.{Begin, First, Value, Second, Ask, Word, Drop, Again}
 use Rattle.world_law.specs.declared.events.Seen.{Seen}
 use Rattle.world_law.specs.declared.events.Seen.TheVariants as seen
-use Rattle.world_law.specs.World.{Check, Started, World, Committer, HoldValues, IsOpening, CanBegin, IsRunning, Reading, Apart, stand, wanted_by, wanted, bound_by, bound, begun, changed, version_now, value_now, with_loads, with_read, with_fate, stale_at_load, running_again, stored}
+use Rattle.world_law.specs.World.{Check, Started, World, Committer, HoldValues, IsOpening, CanBegin, IsRunning, Reading, Apart, stand, wanted_by, wanted, bound_by, bound, with_attempt, changed, version_now, value_now, with_loads, with_read, with_fate, stale_at_load, running_again, stored}
 use Rattle.world_law.specs.Next.{Next, Run, Reachable, CanGoAgain, told, checks_on, reads_on, goes_again}
-use Rattle.world_law.specs.Opacity.{Opaque, WordsHold}
+use Rattle.world_law.specs.Opacity.{Opaque, WordsFit}
 use Rattle.world_law.proofs.Places.{agrees_more, agrees_next, agrees_all, agrees_none, same_some}
 use Rattle.world_law.proofs.Framed.{IsSound}
-use Rattle.world_law.proofs.Kept.{Holds, LoadedOf, CheckHolds, ReadsHold, AreAlone, bound_within, alone_changed, alone_again, opaque_from, words_from, changed_kept, begun_kept, asked_kept}
+use Rattle.world_law.proofs.Kept.{Holds, LoadedOf, CheckHolds, ReadsHold, AreAlone, bound_within, alone_changed, alone_again, opaque_from, words_from, changed_kept, attempt_kept, asked_kept}
 use Rattle.world_law.proofs.Wrote.{under_way, stored_kept, finished_kept}
 
 many : (m : State) (words : List ℕ) → HoldValues m words → length words ≡ 2 * length m
@@ -135,8 +137,8 @@ stale_apart k w i y h at stale c is here =
 none_apart : (o : Option Committer) (i : ℕ) → o ≡ None → Apart o i
 none_apart o i none c is = absurd (let e : None ≡ Some c = sym none ∙ is in cc)
 
-loads_of : (k : Listing) (w : World) (a : TaskId) (i : ℕ) (y : Started) (x : VarId) (loads : List ℕ) → Holds k w → Reading k w a i y x loads → LoadedOf w (bound y) x loads
-loads_of k w a i y x loads h r = subst (LoadedOf w (bound y) x) r.1 (h.loads i y r.0.0.0 x r.0.1)
+loads_of : (k : Listing) (w : World) (a : TaskId) (i : ℕ) (y : Started) (x : VarId) (ls : Loads) → Holds k w → Reading k w a i y x ls → LoadedOf w (bound y) x ls
+loads_of k w a i y x ls h r = subst (LoadedOf w (bound y) x) r.1 (h.loads i y r.0.0.0 x r.0.1)
 
 standing_of : (w : World) (a : TaskId) (i : ℕ) (y : Started) → IsRunning w a i y → (n : ℕ) → y.fate ≢ fate.Committed n
 standing_of w a i y run n e = let f : fate.Running ≡ fate.Committed n = sym run.2 ∙ e in absurd (cc)
@@ -144,36 +146,36 @@ standing_of w a i y run n e = let f : fate.Running ≡ fate.Committed n = sym ru
 -- a running attempt, which is not the committer, becomes z
 goes_to : (k : Listing) (w : World) (a : TaskId) (i : ℕ) (y z : Started) → Holds k w → IsRunning w a i y → Apart w.committer i → z.task ≡ y.task → ReadsHold w.history z → ((x : VarId) → wanted k z ≡ Some x → LoadedOf w (bound z) x z.loads) → ((n : ℕ) → z.fate ≢ fate.Committed n)
     → Holds k (changed w i z)
-goes_to k w a i y z h run apart task reads loads never =
-    changed_kept k w i y z h record { was = run.0; standing = standing_of w a i y run; alone = alone_changed k w i y z h run.0 run.2 task; reads = reads; loads = loads; apart = apart } never
+goes_to k w a i y z h run apart task reads held never =
+    changed_kept k w i y z h record { was = run.0; standing = standing_of w a i y run; alone = alone_changed k w i y z h run.0 run.2 task; reads = reads; loads = held; apart = apart } never
 
 fate_kept : (k : Listing) (w : World) (a : TaskId) (i : ℕ) (y : Started) (f : Fate) → Holds k w → IsRunning w a i y → Apart w.committer i → ((n : ℕ) → f ≢ fate.Committed n) → Holds k (changed w i (with_fate y f))
 fate_kept k w a i y f h run apart never = goes_to k w a i y (with_fate y f) h run apart refl (h.reads i y run.0) (h.loads i y run.0) never
 
 -- a load that finds the read stale
-stale_kept : (k : Listing) (w : World) (a : TaskId) (i : ℕ) (y : Started) (x : VarId) (loads : List ℕ) → Holds k w → Reading k w a i y x loads → Holds k (changed w i (stale_at_load y))
-stale_kept k w a i y x loads h r =
+stale_kept : (k : Listing) (w : World) (a : TaskId) (i : ℕ) (y : Started) (x : VarId) (ls : Loads) → Holds k w → Reading k w a i y x ls → Holds k (changed w i (stale_at_load y))
+stale_kept k w a i y x ls h r =
     goes_to k w a i y (stale_at_load y) h r.0.0 (reads_apart k w i y x h r.0.0.0 r.0.1) refl (h.reads i y r.0.0.0) (h.loads i y r.0.0.0) (λ n e. absurd (cc))
 
 -- the loads of a read that goes on
-loads_kept : (k : Listing) (w : World) (a : TaskId) (i : ℕ) (y : Started) (x : VarId) (old new : List ℕ) → Holds k w → Reading k w a i y x old → LoadedOf w (bound y) x new → Holds k (changed w i (with_loads y new))
+loads_kept : (k : Listing) (w : World) (a : TaskId) (i : ℕ) (y : Started) (x : VarId) (old new : Loads) → Holds k w → Reading k w a i y x old → LoadedOf w (bound y) x new → Holds k (changed w i (with_loads y new))
 loads_kept k w a i y x old new h r holds =
     goes_to k w a i y (with_loads y new) h r.0.0 (reads_apart k w i y x h r.0.0.0 r.0.1) refl (h.reads i y r.0.0.0)
     (λ z wants. subst (λ (v : VarId). LoadedOf w (bound y) v new) (same_wanted k y x z r.0.1 wants) holds) (standing_of w a i y r.0.0)
 
 -- what a read that ends well has found
-read_is : (w : World) (rv first bits : ℕ) (x : VarId) → LoadedOf w rv x (first ∷ bits ∷ []) → version_now w x ≡ first → value_of (state_of w.history rv) x.0 ≡ cast_signed w64 bits
+read_is : (w : World) (rv first bits : ℕ) (x : VarId) → LoadedOf w rv x (loads.Value first bits) → version_now w x ≡ first → value_of (state_of w.history rv) x.0 ≡ cast_signed w64 bits
 read_is w rv first bits x s same =
     let z : ℤ = value_of (state_of w.history rv) x.0 in
     ⊎_elim (λ (t : first < version_now w x). absurd (omega arith))
     (λ (t : (cast_signed w64 (value_now w x) ≡ z) × (cast_signed w64 bits ≡ z)). sym t.1) (s.0.2 s.1.0 s.1.1)
 
 -- a read that ends well, and is no check
-read_kept : (k : Listing) (w : World) (a : TaskId) (i first bits : ℕ) (y : Started) (x : VarId) (f : Fate) → Holds k w → Reading k w a i y x (first ∷ bits ∷ []) → version_now w x ≡ first → y.check ≡ None → ((n : ℕ) → f ≢ fate.Committed n)
+read_kept : (k : Listing) (w : World) (a : TaskId) (i first bits : ℕ) (y : Started) (x : VarId) (f : Fate) → Holds k w → Reading k w a i y x (loads.Value first bits) → version_now w x ≡ first → y.check ≡ None → ((n : ℕ) → f ≢ fate.Committed n)
     → Holds k (changed w i (with_fate (with_read y x bits) f))
 read_kept k w a i first bits y x f h r same plain never =
     let own : bound y ≡ y.rv = ap (λ (o : Option Check). bound_by y.rv o) plain in
-    let s = subst (λ (n : ℕ). LoadedOf w n x (first ∷ bits ∷ [])) own (loads_of k w a i y x (first ∷ bits ∷ []) h r) in
+    let s = subst (λ (n : ℕ). LoadedOf w n x (loads.Value first bits)) own (loads_of k w a i y x (loads.Value first bits) h r) in
     let reads = h.reads i y r.0.0.0 in
     let log : Known = y.log ++ (x, cast_signed w64 bits) ∷ [] in
     goes_to k w a i y (with_fate (with_read y x bits) f) h r.0.0 (reads_apart k w i y x h r.0.0.0 r.0.1) refl
@@ -208,7 +210,7 @@ wanted_pair (Needs z) log c x d e = pair_at log c.checked x d e
 wanted_pair (Ends o ws) log c x d e = absurd (cc)
 
 -- a read that ends well in a check
-compared_kept : (k : Listing) (w : World) (a : TaskId) (i first bits : ℕ) (y : Started) (x : VarId) (c : Check) (b : Bool) → int_eq (cast_signed w64 bits) (new_of y.log c.checked) ≡ b → Holds k w → Reading k w a i y x (first ∷ bits ∷ []) → version_now w x ≡ first → y.check ≡ Some c
+compared_kept : (k : Listing) (w : World) (a : TaskId) (i first bits : ℕ) (y : Started) (x : VarId) (c : Check) (b : Bool) → int_eq (cast_signed w64 bits) (new_of y.log c.checked) ≡ b → Holds k w → Reading k w a i y x (loads.Value first bits) → version_now w x ≡ first → y.check ≡ Some c
     → Holds k (changed w i (if b then checks_on k y c.candidate (c.checked + 1) (slice_get y.log (c.checked + 1)) else (seen.Changed, with_fate y fate.Stale)).1)
 compared_kept k w a i first bits y x c true e h r same is =
     let o : Option (VarId × ℤ) = slice_get y.log (c.checked + 1) in
@@ -216,7 +218,7 @@ compared_kept k w a i first bits y x c true e h r same is =
     let reads = h.reads i y r.0.0.0 in
     let so_far : CheckHolds w.history y.log (Some c) = subst (CheckHolds w.history y.log) is reads.2 in
     let own : bound y ≡ c.candidate = ap (λ (q : Option Check). bound_by y.rv q) is in
-    let s = subst (λ (n : ℕ). LoadedOf w n x (first ∷ bits ∷ [])) own (loads_of k w a i y x (first ∷ bits ∷ []) h r) in
+    let s = subst (λ (n : ℕ). LoadedOf w n x (loads.Value first bits)) own (loads_of k w a i y x (loads.Value first bits) h r) in
     let pair = wanted_pair (stand k y) y.log c x no_change (ap (wanted_by (stand k y) y.log) (sym is) ∙ r.0.1) in
     let value = read_is w c.candidate first bits x s same ∙ (Decides-int_eq (cast_signed w64 bits) (new_of y.log c.checked)).0 e in
     goes_to k w a i y (checks_on k y c.candidate (c.checked + 1) o).1 h r.0.0 apart (checked_task k y c.candidate (c.checked + 1) o)
@@ -224,12 +226,12 @@ compared_kept k w a i first bits y x c true e h r same is =
     (λ z wants. checked_loads k w y c.candidate (c.checked + 1) o z) (λ n f. standing_of w a i y r.0.0 n (sym (checked_fate k y c.candidate (c.checked + 1) o) ∙ f))
 compared_kept k w a i first bits y x c false e h r same is = fate_kept k w a i y fate.Stale h r.0.0 (reads_apart k w i y x h r.0.0.0 r.0.1) (λ n f. absurd (cc))
 
-second_kept : (k : Listing) (w : World) (a : TaskId) (i first bits : ℕ) (y : Started) (x : VarId) (o : Option Check) → Holds k w → Reading k w a i y x (first ∷ bits ∷ []) → version_now w x ≡ first → y.check ≡ o → Holds k (changed w i (reads_on k y x bits o).1)
+second_kept : (k : Listing) (w : World) (a : TaskId) (i first bits : ℕ) (y : Started) (x : VarId) (o : Option Check) → Holds k w → Reading k w a i y x (loads.Value first bits) → version_now w x ≡ first → y.check ≡ o → Holds k (changed w i (reads_on k y x bits o).1)
 second_kept k w a i first bits y x None h r same is = read_kept k w a i first bits y x y.fate h r same is (standing_of w a i y r.0.0)
 second_kept k w a i first bits y x (Some c) h r same is = compared_kept k w a i first bits y x c (int_eq (cast_signed w64 bits) (new_of y.log c.checked)) refl h r same is
 
 second_on : (k : Listing) (w w' : World) (a : TaskId) (s : Seen) → Holds k w
-    → (i first bits : ℕ) × (y : Started) × (x : VarId) × Reading k w a i y x (first ∷ bits ∷ []) × (version_now w x ≡ first) × (s ≡ (reads_on k y x bits y.check).0) × (w' ≡ changed w i (reads_on k y x bits y.check).1) → Holds k w'
+    → (i first bits : ℕ) × (y : Started) × (x : VarId) × Reading k w a i y x (loads.Value first bits) × (version_now w x ≡ first) × (s ≡ (reads_on k y x bits y.check).0) × (w' ≡ changed w i (reads_on k y x bits y.check).1) → Holds k w'
 second_on k w w' a s h n = subst (Holds k) (sym n.8) (second_kept k w a n.0 n.1 n.2 n.3 n.4 n.3.check h n.5 n.6 refl)
 
 -- an attempt that runs again
@@ -254,26 +256,26 @@ again_on k w w' a s h n =
       apart = stale_apart k w i y h at can.2;
     } (λ m e. let f : fate.Running ≡ fate.Committed m = sym (checked_fate k z clock 0 o) ∙ e in absurd (cc)))
 
-begins_on : (k : Listing) (w w' : World) (a : TaskId) (s : Seen) → Holds k w → CanBegin k w a × (s ≡ told (ask (task_program k a) [])) × (w' ≡ begun w a fate.Running) → Holds k w'
-begins_on k w w' a s h n = subst (Holds k) (sym n.2) (begun_kept k w a fate.Running h n.0 (λ j e. absurd (cc)))
+begins_on : (k : Listing) (w w' : World) (a : TaskId) (s : Seen) → Holds k w → CanBegin k w a × (s ≡ told (ask (task_program k a) [])) × (w' ≡ with_attempt w a fate.Running) → Holds k w'
+begins_on k w w' a s h n = subst (Holds k) (sym n.2) (attempt_kept k w a fate.Running h n.0 (λ j e. absurd (cc)))
 
 -- each event keeps what holds
 pub next_holds : (k : Listing) (w w' : World) (e : Event) (s : Seen) → IsSound k → Holds k w → Next k w e s w' → Holds k w'
 next_holds k w w' (Begin a) seen.Idle sound h n = subst (Holds k) (sym n.1) h
-next_holds k w w' (Begin a) seen.Spent sound h n = subst (Holds k) (sym n.1) (begun_kept k w a fate.Spent h n.0 (λ j e. absurd (cc)))
+next_holds k w w' (Begin a) seen.Spent sound h n = subst (Holds k) (sym n.1) (attempt_kept k w a fate.Spent h n.0 (λ j e. absurd (cc)))
 next_holds k w w' (Begin a) s sound h n = begins_on k w w' a s h n
 next_holds k w w' (First a x) seen.Idle sound h n = subst (Holds k) (sym n.1) h
-next_holds k w w' (First a x) seen.Stale sound h n = subst (Holds k) (sym n.4) (stale_kept k w a n.0 n.1 x [] h n.2)
-next_holds k w w' (First a x) seen.Loaded sound h n = subst (Holds k) (sym n.5) (loads_kept k w a n.0 n.1 x [] (version_now w x ∷ []) h n.2
+next_holds k w w' (First a x) seen.Stale sound h n = subst (Holds k) (sym n.4) (stale_kept k w a n.0 n.1 x loads.Nothing h n.2)
+next_holds k w w' (First a x) seen.Loaded sound h n = subst (Holds k) (sym n.5) (loads_kept k w a n.0 n.1 x loads.Nothing (loads.Version (version_now w x)) h n.2
     ((omega arith, omega arith, λ even low. inr (fresh_now k w h x (bound n.1) (let r = h.reads n.0 n.1 n.2.0.0.0 in bound_within w.history n.1.log n.1.rv n.1.check r.0 r.2) even low, tt)), (n.3, n.4)))
 next_holds k w w' (First a x) s sound h n = absurd n
 next_holds k w w' (Value a) seen.Idle sound h n = subst (Holds k) (sym n.1) h
-next_holds k w w' (Value a) seen.Loaded sound h n = subst (Holds k) (sym n.5) (let s = loads_of k w a n.0 n.2 n.3 (n.1 ∷ []) h n.4 in let z : ℤ = value_of (state_of w.history (bound n.2)) n.3.0 in
-    loads_kept k w a n.0 n.2 n.3 (n.1 ∷ []) (n.1 ∷ value_now w n.3 ∷ []) h n.4
+next_holds k w w' (Value a) seen.Loaded sound h n = subst (Holds k) (sym n.5) (let s = loads_of k w a n.0 n.2 n.3 (loads.Version n.1) h n.4 in let z : ℤ = value_of (state_of w.history (bound n.2)) n.3.0 in
+    loads_kept k w a n.0 n.2 n.3 (loads.Version n.1) (loads.Value n.1 (value_now w n.3)) h n.4
     ((s.0.0, omega arith, λ even low. ⊎_elim (λ (t : n.1 < version_now w n.3). inl t) (λ (t : (cast_signed w64 (value_now w n.3) ≡ z) × LoadedIs z []). inr (t.0, t.0)) (s.0.2 even low)), s.1))
 next_holds k w w' (Value a) s sound h n = absurd n
 next_holds k w w' (Second a) seen.Idle sound h n = subst (Holds k) (sym n.1) h
-next_holds k w w' (Second a) seen.Stale sound h n = subst (Holds k) (sym n.7) (stale_kept k w a n.0 n.3 n.4 (n.1 ∷ n.2 ∷ []) h n.5)
+next_holds k w w' (Second a) seen.Stale sound h n = subst (Holds k) (sym n.7) (stale_kept k w a n.0 n.3 n.4 (loads.Value n.1 n.2) h n.5)
 next_holds k w w' (Second a) seen.Spent sound h n = subst (Holds k) (sym n.8) (read_kept k w a n.0 n.1 n.2 n.3 n.4 fate.Spent h n.5 n.6 n.7 (λ j e. absurd (cc)))
 next_holds k w w' (Second a) s sound h n = second_on k w w' a s h n
 next_holds k w w' (Ask a) seen.Idle sound h n = subst (Holds k) (sym n.1) h
@@ -305,5 +307,5 @@ reached_holds k sound w r = run_on k sound r.2 r.3 r.0 w (opening_holds k r.0 r.
 pub reached_opaque : (k : Listing) → IsSound k → (w : World) → Reachable k w → Opaque k w
 reached_opaque k sound w r = opaque_from k w sound (reached_holds k sound w r)
 
-pub reached_words : (k : Listing) → IsSound k → (w : World) → Reachable k w → WordsHold k w
+pub reached_words : (k : Listing) → IsSound k → (w : World) → Reachable k w → WordsFit k w
 reached_words k sound w r = words_from k w (reached_holds k sound w r)

@@ -6,7 +6,7 @@ use lib.Seq.{take-length}
 use Rattle.txn_words.specs.Words.{Commit, value_of, state_of, last_state}
 use Rattle.txn_words.specs.Stores.{Change, no_change, id_of, new_of, with_changes, AreChanges}
 use Rattle.txn_words.proofs.Words.{last_pushed, state_before}
-use Rattle.world_law.specs.Commits.{IsResting}
+use Rattle.world_law.specs.Commits.{RestsAt}
 use Rattle.world_law.proofs.Changes.{sets, sets_length, sets_else, sets_here}
 
 set_all : {A : Type 0} (P : A → Type 0) (l : List A) (i : ℕ) (a d : A) → P a → ((y : ℕ) → P (get_or l y d)) → (y : ℕ) → P (get_or (set l i a) y d)
@@ -73,7 +73,7 @@ module _ (base : Commit) (n : ℕ) (cs : List Change) where
     Putting : (i : ℕ) → i ≤ length cs → p ≡ length cs + i → IsPutting base cs i c → Phase p c
     Freeing : (i : ℕ) → i ≤ length cs → p ≡ 2 * length cs + 1 + i → IsFreeing base n cs i c → Phase p c
 
-module _ (base : Commit) (n : ℕ) (cs : List Change) (r : IsResting base n) (a : AreChanges (last_state base.history) cs) where
+module _ (base : Commit) (n : ℕ) (cs : List Change) (r : RestsAt base n) (a : AreChanges (last_state base.history) cs) where
   pub inside : (i : ℕ) → i < length cs → id_of cs i < length base.values
   inside i l = subst (λ (m : List ℤ). id_of cs i < length m) (sym r.settled.1) (a.exist i l)
 
@@ -104,7 +104,7 @@ module _ (base : Commit) (n : ℕ) (cs : List Change) (r : IsResting base n) (a 
       (among cs x (length cs))
 
   -- after its last store a commit rests
-  pub rests_again : (c : Commit) → IsFreeing base n cs (length cs) c → IsResting c (n + 1)
+  pub rests_again : (c : Commit) → IsFreeing base n cs (length cs) c → RestsAt c (n + 1)
   rests_again c f =
       let versions : c.versions ≡ numbered_by (n + 1) base.versions cs = f.versions ∙ ap (λ (z : List Change). numbered_by (n + 1) base.versions z) (take-length cs) in
       let locked : c.locked ≡ locked_by false (locked_by true base.locked cs) cs = f.locked ∙ ap (λ (z : List Change). locked_by false (locked_by true base.locked cs) z) (take-length cs) in

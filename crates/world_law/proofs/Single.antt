@@ -14,7 +14,11 @@ use Rattle.world_law.specs.declared.events.Fate.TheVariants as fate
 use Rattle.world_law.specs.declared.events.Event.TheVariants.{Begin, First, Value, Second, Ask, Word, Drop, Again}
 use Rattle.world_law.specs.declared.events.Seen.{Seen}
 use Rattle.world_law.specs.declared.events.Seen.TheVariants as seen
-use Rattle.world_law.specs.World.{Check, Started, World, Committer, AreBits, is_live, CanBegin, IsRunning, IsLatest, Reading, stand, wanted, bound, begun, changed, version_now, value_now, with_loads, with_read, with_fate, stale_at_load, running_again, committing, Store, Lock, Put, Tick, Free, stores, Writes, stored, finished}
+use Rattle.world_law.specs.declared.events.Loads.{Loads}
+use Rattle.world_law.specs.declared.events.Loads.TheVariants as loads
+use Rattle.world_law.specs.declared.events.Store.{Store}
+use Rattle.world_law.specs.declared.events.Store.TheVariants.{Lock, Put, Tick, Free}
+use Rattle.world_law.specs.World.{Check, Started, World, Committer, AreBits, is_live, CanBegin, IsRunning, IsLatest, Reading, stand, wanted, bound, with_attempt, changed, version_now, value_now, with_loads, with_read, with_fate, stale_at_load, running_again, committing, stores, Writes, stored, finished}
 use Rattle.world_law.specs.Next.{Next, told, checks_on, reads_on, goes_again, CanGoAgain, CanAsk, CanDrop, IsNextStore}
 use Rattle.world_law.specs.Determined.{HasOneAnswer, HasOneRefusal}
 use Rattle.world_law.proofs.Places.{same_some}
@@ -55,11 +59,14 @@ same_outcome o o' ws ws' e = cc
 same_writes : (o o' : Outcome) (ws ws' : Known) → Ends o ws ≡ Ends o' ws' → ws ≡ ws'
 same_writes o o' ws ws' e = cc
 
-same_head : (a b : ℕ) (l m : List ℕ) → a ∷ l ≡ b ∷ m → a ≡ b
-same_head a b l m e = cc
+same_version : (a b : ℕ) → loads.Version a ≡ loads.Version b → a ≡ b
+same_version a b e = cc
 
-same_tail : (a b : ℕ) (l m : List ℕ) → a ∷ l ≡ b ∷ m → l ≡ m
-same_tail a b l m e = cc
+same_first : (a b c d : ℕ) → loads.Value a c ≡ loads.Value b d → a ≡ b
+same_first a b c d e = cc
+
+same_bits : (a b c d : ℕ) → loads.Value a c ≡ loads.Value b d → c ≡ d
+same_bits a b c d e = cc
 
 told_not : (r : Answer) → told r ≢ seen.Spent
 told_not (Needs x) e = absurd (cc)
@@ -68,12 +75,12 @@ told_not (Ends o ws) e = absurd (cc)
 -- First
 
 abbrev FirstAt : Listing → World → TaskId → VarId → Type 0
-FirstAt l w a x = (i : ℕ) × (y : Started) × Reading l w a i y x []
+FirstAt l w a x = (i : ℕ) × (y : Started) × Reading l w a i y x loads.Nothing
 
 abbrev FirstTo : (l : Listing) (w : World) (a : TaskId) (x : VarId) → FirstAt l w a x → Seen → World → Type 0
 FirstTo l w a x p s v =
     (((version_now w x % 2 ≡ 1) ⊎ (2 * bound p.1 < version_now w x)) × (s ≡ seen.Stale) × (v ≡ changed w p.0 (stale_at_load p.1)))
-    ⊎ ((version_now w x % 2 ≡ 0) × (version_now w x ≤ 2 * bound p.1) × (s ≡ seen.Loaded) × (v ≡ changed w p.0 (with_loads p.1 (version_now w x ∷ []))))
+    ⊎ ((version_now w x % 2 ≡ 0) × (version_now w x ≤ 2 * bound p.1) × (s ≡ seen.Loaded) × (v ≡ changed w p.0 (with_loads p.1 (loads.Version (version_now w x)))))
 
 first_comes : (l : Listing) (w : World) (a : TaskId) (x : VarId) (s : Seen) (v : World) → Next l w (First a x) s v → Comes (FirstAt l w a x) (FirstTo l w a x) w s v
 first_comes l w a x seen.Idle v n = inl (λ p. n.0 p.0 p.1 p.2, refl, n.1)
@@ -93,15 +100,15 @@ first_once l w a x s s' v v' h p q (inl n) (inr m) = let e = one_running l w a p
 first_once l w a x s s' v v' h p q (inr n) (inl m) = let e = one_running l w a q.0 p.0 q.1 p.1 h q.2.0.0 p.2.0.0 in
     first_apart (version_now w x) (bound q.1) (bound p.1) (ap bound e.1) m.0 n.0 n.1
 first_once l w a x s s' v v' h p q (inr n) (inr m) = let e = one_running l w a p.0 q.0 p.1 q.1 h p.2.0.0 q.2.0.0 in
-    (n.2 ∙ sym m.2, n.3 ∙ ((λ t. changed w (e.0 t) (with_loads (e.1 t) (version_now w x ∷ []))) ∙ sym m.3))
+    (n.2 ∙ sym m.2, n.3 ∙ ((λ t. changed w (e.0 t) (with_loads (e.1 t) (loads.Version (version_now w x)))) ∙ sym m.3))
 
 -- Value
 
 abbrev ValueAt : Listing → World → TaskId → Type 0
-ValueAt l w a = (i first : ℕ) × (y : Started) × (x : VarId) × Reading l w a i y x (first ∷ [])
+ValueAt l w a = (i first : ℕ) × (y : Started) × (x : VarId) × Reading l w a i y x (loads.Version first)
 
 abbrev ValueTo : (l : Listing) (w : World) (a : TaskId) → ValueAt l w a → Seen → World → Type 0
-ValueTo l w a p s v = (s ≡ seen.Loaded) × (v ≡ changed w p.0 (with_loads p.2 (p.1 ∷ value_now w p.3 ∷ [])))
+ValueTo l w a p s v = (s ≡ seen.Loaded) × (v ≡ changed w p.0 (with_loads p.2 (loads.Value p.1 (value_now w p.3))))
 
 value_comes : (l : Listing) (w : World) (a : TaskId) (s : Seen) (v : World) → Next l w (Value a) s v → Comes (ValueAt l w a) (ValueTo l w a) w s v
 value_comes l w a seen.Idle v n = inl (λ p. n.0 p.0 p.1 p.2 p.3 p.4, refl, n.1)
@@ -112,13 +119,13 @@ value_once : (l : Listing) (w : World) (a : TaskId) (s s' : Seen) (v v' : World)
 value_once l w a s s' v v' h p q n m =
     let e = one_running l w a p.0 q.0 p.2 q.2 h p.4.0.0 q.4.0.0 in
     let x = one_wanted l p.2 q.2 p.3 q.3 e.1 p.4.0.1 q.4.0.1 in
-    let f = same_head p.1 q.1 [] [] (sym p.4.1 ∙ (ap (λ (y : Started). y.loads) e.1 ∙ q.4.1)) in
-    (n.0 ∙ sym m.0, n.1 ∙ ((λ t. changed w (e.0 t) (with_loads (e.1 t) (f t ∷ value_now w (x t) ∷ []))) ∙ sym m.1))
+    let f = same_version p.1 q.1 (sym p.4.1 ∙ (ap (λ (y : Started). y.loads) e.1 ∙ q.4.1)) in
+    (n.0 ∙ sym m.0, n.1 ∙ ((λ t. changed w (e.0 t) (with_loads (e.1 t) (loads.Value (f t) (value_now w (x t))))) ∙ sym m.1))
 
 -- Second
 
 abbrev SecondAt : Listing → World → TaskId → Type 0
-SecondAt l w a = (i first bits : ℕ) × (y : Started) × (x : VarId) × Reading l w a i y x (first ∷ bits ∷ [])
+SecondAt l w a = (i first bits : ℕ) × (y : Started) × (x : VarId) × Reading l w a i y x (loads.Value first bits)
 
 abbrev SecondTo : (l : Listing) (w : World) (a : TaskId) → SecondAt l w a → Seen → World → Type 0
 SecondTo l w a p s v =
@@ -142,11 +149,11 @@ pub record OneRead (p0 p1 p2 q0 q1 q2 : ℕ) (y z : Started) (x u : VarId) : Typ
 one_read : (l : Listing) (w : World) (a : TaskId) → Holds l w → (p q : SecondAt l w a) → OneRead p.0 p.1 p.2 q.0 q.1 q.2 p.3 q.3 p.4 q.4
 one_read l w a h p q =
     let e = one_running l w a p.0 q.0 p.3 q.3 h p.5.0.0 q.5.0.0 in
-    let loads = sym p.5.1 ∙ (ap (λ (y : Started). y.loads) e.1 ∙ q.5.1) in
+    let same = sym p.5.1 ∙ (ap (λ (y : Started). y.loads) e.1 ∙ q.5.1) in
     record {
       place = e.0;
-      first = same_head p.1 q.1 (p.2 ∷ []) (q.2 ∷ []) loads;
-      bits = same_head p.2 q.2 [] [] (same_tail p.1 q.1 (p.2 ∷ []) (q.2 ∷ []) loads);
+      first = same_first p.1 q.1 p.2 q.2 same;
+      bits = same_bits p.1 q.1 p.2 q.2 same;
       attempt = e.1;
       variable = one_wanted l p.3 q.3 p.4 q.4 e.1 p.5.0.1 q.5.0.1;
     }
@@ -228,7 +235,7 @@ one_bits v bits bits' h h' = sym (of_z-to_z w64 bits h.0) ∙ (ap (cast_unsigned
 
 one_write : (st : Store) (n : ℕ) (words a b : List ℕ) → Writes st n words a → Writes st n words b → a ≡ b
 one_write (Lock x) n words a b h h' = h ∙ sym h'
-one_write (Put x v) n words a b h h' = h.2 ∙ (ap (λ (bits : ℕ). set words (value_word x) bits) (one_bits v h.0 h'.0 h.1 h'.1) ∙ sym h'.2)
+one_write (Put x v) n words a b h h' = h.2 ∙ (ap (λ (bits : ℕ). set words (value_word x.0) bits) (one_bits v h.0 h'.0 h.1 h'.1) ∙ sym h'.2)
 one_write Tick n words a b h h' = h ∙ sym h'
 one_write (Free x) n words a b h h' = h ∙ sym h'
 
@@ -300,7 +307,7 @@ checks_not l y n checked None e = told_not (stand l y) e
 -- Begin
 
 abbrev BeginTo : (l : Listing) (w : World) (a : TaskId) → CanBegin l w a → Seen → World → Type 0
-BeginTo l w a p s v = (s ≡ told (ask (task_program l a) [])) × (v ≡ begun w a fate.Running)
+BeginTo l w a p s v = (s ≡ told (ask (task_program l a) [])) × (v ≡ with_attempt w a fate.Running)
 
 begin_comes : (l : Listing) (w : World) (a : TaskId) (s : Seen) (v : World) → Next l w (Begin a) s v → s ≢ seen.Spent → Comes (CanBegin l w a) (BeginTo l w a) w s v
 begin_comes l w a seen.Idle v n room = inl (n.0, refl, n.1)
@@ -330,8 +337,8 @@ single_answer l w h (Again a) s s' v v' n m room room' =
 
 -- an attempt that begins, or goes on after a read, may have another answer than want of memory
 could_begin : (l : Listing) (w : World) (a : TaskId) (r : Answer) → CanBegin l w a → r ≡ ask (task_program l a) [] → (s : Seen) × (u : World) × (s ≢ seen.Spent) × Next l w (Begin a) s u
-could_begin l w a (Needs x) can e = (seen.Needs x, begun w a fate.Running, told_not (Needs x), (can, ap told e, refl))
-could_begin l w a (Ends o ws) can e = (seen.Ended o, begun w a fate.Running, told_not (Ends o ws), (can, ap told e, refl))
+could_begin l w a (Needs x) can e = (seen.Needs x, with_attempt w a fate.Running, told_not (Needs x), (can, ap told e, refl))
+could_begin l w a (Ends o ws) can e = (seen.Ended o, with_attempt w a fate.Running, told_not (Ends o ws), (can, ap told e, refl))
 
 could_go_on : (l : Listing) (w : World) (a : TaskId) (r : Answer) (p : SecondAt l w a) → version_now w p.4 ≡ p.1 → p.3.check ≡ None → r ≡ stand l (with_read p.3 p.4 p.2) → (s : Seen) × (u : World) × (s ≢ seen.Spent) × Next l w (Second a) s u
 could_go_on l w a (Needs x) p same plain e =

@@ -5,10 +5,12 @@ use Rattle.std.specs.Int.{w64, cast_signed}
 use Rattle.txn_words.specs.Words.{Commit, WordsMean, value_of, state_of, last_state, version_word, value_word}
 use Rattle.txn_words.specs.Stores.{Change, id_of, new_of, with_changes, AreChanges, after_lock, after_value, after_clock, after_release}
 use Rattle.txn_words.proofs.Stores.{Keeps, lock_keeps, value_keeps, clock_keeps, release_keeps}
-use Rattle.world_law.specs.World.{Store, Lock, Put, Tick, Free, Writes}
-use Rattle.world_law.specs.Commits.{IsResting, after_store}
+use Rattle.world_law.specs.declared.events.Store.{Store}
+use Rattle.world_law.specs.declared.events.Store.TheVariants.{Lock, Put, Tick, Free}
+use Rattle.world_law.specs.World.{Writes}
+use Rattle.world_law.specs.Commits.{RestsAt, after_store}
 use Rattle.world_law.proofs.Changes.{sets_more, sets_length, sets_else, not_yet}
-use Rattle.world_law.proofs.Order.{IsStore, Locks, Puts, Ticks, Frees}
+use Rattle.world_law.proofs.Order.{IsStore, Locks, Puts, Ticks, Frees, variable_at}
 use Rattle.world_law.proofs.Resting.{locked_by, IsLocking, IsPutting, IsFreeing, Phase, Locking, Putting, Freeing, inside, each_locked, each_differs, same_size, longer_by_one}
 
 module _ (base : Commit) (n : ℕ) (cs : List Change) where
@@ -44,7 +46,7 @@ module _ (base : Commit) (n : ℕ) (cs : List Change) where
   abbrev pub Went : List ℕ → List ℕ → ℕ → Commit → Type 0
   Went ws ws' p c' = Keeps ws ws' c' × Phase base n cs p c'
 
-module _ (base : Commit) (n : ℕ) (cs : List Change) (r : IsResting base n) (a : AreChanges (last_state base.history) cs) where
+module _ (base : Commit) (n : ℕ) (cs : List Change) (r : RestsAt base n) (a : AreChanges (last_state base.history) cs) where
   locks_on : (ws : List ℕ) (p : ℕ) (c : Commit) → WordsMean ws c → Phase base n cs p c → p < length cs
       → Went base n cs ws (set ws (version_word (id_of cs p)) (get_or ws (version_word (id_of cs p)) 0 + 1)) (p + 1) (after_lock (id_of cs p) c)
   locks_on ws p c holds phase l =
@@ -126,14 +128,14 @@ module _ (base : Commit) (n : ℕ) (cs : List Change) (r : IsResting base n) (a 
   pub goes_on : (ws ws' : List ℕ) (p number : ℕ) (c : Commit) (s : Store) → WordsMean ws c → Phase base n cs p c → number ≡ n + 1 → IsStore cs p s → Writes s number ws ws'
       → Went base n cs ws ws' (p + 1) (after_store s c)
   goes_on ws ws' p number c s holds phase is (Locks l e) w =
-      let w' : Writes (Lock (id_of cs p)) number ws ws' = subst (λ (t : Store). Writes t number ws ws') e w in
+      let w' : Writes (Lock (variable_at cs p)) number ws ws' = subst (λ (t : Store). Writes t number ws ws') e w in
       subst (λ (t : List ℕ × Store). Went base n cs ws t.0 (p + 1) (after_store t.1 c)) (λ j. (sym w' j, sym e j)) (locks_on ws p c holds phase l)
   goes_on ws ws' p number c s holds phase is (Puts i l q e) w =
-      let w' : Writes (Put (id_of cs i) (new_of cs i)) number ws ws' = subst (λ (t : Store). Writes t number ws ws') e w in
+      let w' : Writes (Put (variable_at cs i) (new_of cs i)) number ws ws' = subst (λ (t : Store). Writes t number ws ws') e w in
       subst (λ (t : List ℕ × Store). Went base n cs ws t.0 (p + 1) (after_store t.1 c)) (λ j. (sym w'.2 j, sym e j)) (puts_on ws p i w'.0 c holds phase l q w'.1.1)
   goes_on ws ws' p number c s holds phase is (Ticks q e) w =
       let w' : Writes Tick number ws ws' = subst (λ (t : Store). Writes t number ws ws') e w in
       subst (λ (t : List ℕ × Store). Went base n cs ws t.0 (p + 1) (after_store t.1 c)) (λ j. (sym w' j, sym e j)) (ticks_on ws p number c holds phase q is)
   goes_on ws ws' p number c s holds phase is (Frees i l q e) w =
-      let w' : Writes (Free (id_of cs i)) number ws ws' = subst (λ (t : Store). Writes t number ws ws') e w in
+      let w' : Writes (Free (variable_at cs i)) number ws ws' = subst (λ (t : Store). Writes t number ws ws') e w in
       subst (λ (t : List ℕ × Store). Went base n cs ws t.0 (p + 1) (after_store t.1 c)) (λ j. (sym w' j, sym e j)) (frees_on ws p i number c holds phase l q is)

@@ -10,7 +10,9 @@ use Rattle.txn_words.specs.Loads.{SamplingHolds}
 use Rattle.txn_words.proofs.Words.{longer, state_before, state_new}
 use Rattle.attempt.specs.Frame.{Agrees}
 use Rattle.world_law.specs.declared.events.Fate.TheVariants as fate
-use Rattle.world_law.specs.World.{Started, World, Committer, bound, version_now, value_now, with_fate, Store, Tick, stores, history_after, stored, finished}
+use Rattle.world_law.specs.World.{Started, World, Committer, bound, version_now, value_now, with_fate, stores, history_after, stored, finished, words_loaded}
+use Rattle.world_law.specs.declared.events.Store.{Store}
+use Rattle.world_law.specs.declared.events.Store.TheVariants.{Tick}
 use Rattle.world_law.specs.Next.{IsNextStore}
 use Rattle.world_law.specs.Commits.{after_store}
 use Rattle.world_law.specs.Opacity.{Explains, IsPast, Makes, Made}
@@ -72,7 +74,7 @@ module _ (k : Listing) (w : World) (c : Committer) (s : Store) (ws : List ℕ) (
     states = h.states;
     begins = h.begins;
     reads = h.reads;
-    loads = λ i y at x needs. (sampling_stays _ _ _ _ (bound y) _ (went.0.1 x.0) y.loads (h.loads i y at x needs).0, (h.loads i y at x needs).1);
+    loads = λ i y at x needs. (sampling_stays _ _ _ _ (bound y) _ (went.0.1 x.0) (words_loaded y.loads) (h.loads i y at x needs).0, (h.loads i y at x needs).1);
     alone = h.alone;
     numbered = λ i n y m. h.numbered i n y (old i n y m);
     made = λ n low high. let v = h.made n low high in (v.0, v.1, new v.0 n v.1 v.2, v.3, λ j z m. v.4 j z (old j n z m));
@@ -110,8 +112,8 @@ module _ (k : Listing) (w : World) (c : Committer) (s : Store) (ws : List ℕ) (
       check_grows w.history (w.history ++ new ∷ []) y.log y.check (λ n low. ((let l = low in omega (arith, more)), state_before w.history new n low)) r.2,
     );
     loads = λ i y at x needs. (
-      sampling_stays _ _ _ _ (bound y) _ (went.0.1 x.0) y.loads
-          (subst (λ (u : State). SamplingHolds (version_now w x) (value_now w x) (bound y) (value_of u x.0) y.loads)
+      sampling_stays _ _ _ _ (bound y) _ (went.0.1 x.0) (words_loaded y.loads)
+          (subst (λ (u : State). SamplingHolds (version_now w x) (value_now w x) (bound y) (value_of u x.0) (words_loaded y.loads))
           (sym (state_before w.history new (bound y) (let r = h.reads i y at in bound_within w.history y.log y.rv y.check r.0 r.2))) (h.loads i y at x needs).0),
       (h.loads i y at x needs).1,
     );

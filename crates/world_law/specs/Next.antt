@@ -17,7 +17,9 @@ use Rattle.world_law.specs.declared.events.Event.{Event}
 use Rattle.world_law.specs.declared.events.Event.TheVariants.{Begin, First, Value, Second, Ask, Word, Drop, Again}
 use Rattle.world_law.specs.declared.events.Seen.{Seen}
 use Rattle.world_law.specs.declared.events.Seen.TheVariants as seen
-use Rattle.world_law.specs.World.{Check, Started, Committer, World, IsOpening, CanBegin, IsRunning, IsLatest, Stands, Reading, Apart, stand, bound, version_now, value_now, begun, changed, with_loads, with_read, with_fate, stale_at_load, running_again, checking, moved, committing, Store, stores, Writes, stored, finished}
+use Rattle.world_law.specs.declared.events.Loads.TheVariants as loads
+use Rattle.world_law.specs.declared.events.Store.{Store}
+use Rattle.world_law.specs.World.{Check, Started, Committer, World, IsOpening, CanBegin, IsRunning, IsLatest, Stands, Reading, Apart, stand, bound, version_now, value_now, with_attempt, changed, with_loads, with_read, with_fate, stale_at_load, running_again, checking, moved, committing, stores, Writes, stored, finished}
 
 -- what is seen of an attempt that goes on by itself to this answer
 abbrev pub told : Answer → Seen
@@ -66,35 +68,35 @@ IsNextStore w c s words =
 -- check, `Spent` may come in place of the answer.
 abbrev pub Next : Listing → World → Event → Seen → World → Type 0
 Next l w (Begin a) seen.Idle w' = (CanBegin l w a → ⊥) × (w' ≡ w)
-Next l w (Begin a) seen.Spent w' = CanBegin l w a × (w' ≡ begun w a fate.Spent)
-Next l w (Begin a) s w' = CanBegin l w a × (s ≡ told (ask (task_program l a) [])) × (w' ≡ begun w a fate.Running)
-Next l w (First a x) seen.Idle w' = ((i : ℕ) (y : Started) → Reading l w a i y x [] → ⊥) × (w' ≡ w)
+Next l w (Begin a) seen.Spent w' = CanBegin l w a × (w' ≡ with_attempt w a fate.Spent)
+Next l w (Begin a) s w' = CanBegin l w a × (s ≡ told (ask (task_program l a) [])) × (w' ≡ with_attempt w a fate.Running)
+Next l w (First a x) seen.Idle w' = ((i : ℕ) (y : Started) → Reading l w a i y x loads.Nothing → ⊥) × (w' ≡ w)
 Next l w (First a x) seen.Stale w' =
-    (i : ℕ) × (y : Started) × Reading l w a i y x []
+    (i : ℕ) × (y : Started) × Reading l w a i y x loads.Nothing
     × ((version_now w x % 2 ≡ 1) ⊎ (2 * bound y < version_now w x))
     × (w' ≡ changed w i (stale_at_load y))
 Next l w (First a x) seen.Loaded w' =
-    (i : ℕ) × (y : Started) × Reading l w a i y x []
+    (i : ℕ) × (y : Started) × Reading l w a i y x loads.Nothing
     × (version_now w x % 2 ≡ 0) × (version_now w x ≤ 2 * bound y)
-    × (w' ≡ changed w i (with_loads y (version_now w x ∷ [])))
+    × (w' ≡ changed w i (with_loads y (loads.Version (version_now w x))))
 Next l w (First a x) s w' = ⊥
-Next l w (Value a) seen.Idle w' = ((i first : ℕ) (y : Started) (x : VarId) → Reading l w a i y x (first ∷ []) → ⊥) × (w' ≡ w)
+Next l w (Value a) seen.Idle w' = ((i first : ℕ) (y : Started) (x : VarId) → Reading l w a i y x (loads.Version first) → ⊥) × (w' ≡ w)
 Next l w (Value a) seen.Loaded w' =
-    (i first : ℕ) × (y : Started) × (x : VarId) × Reading l w a i y x (first ∷ [])
-    × (w' ≡ changed w i (with_loads y (first ∷ value_now w x ∷ [])))
+    (i first : ℕ) × (y : Started) × (x : VarId) × Reading l w a i y x (loads.Version first)
+    × (w' ≡ changed w i (with_loads y (loads.Value first (value_now w x))))
 Next l w (Value a) s w' = ⊥
 Next l w (Second a) seen.Idle w' =
-    ((i first bits : ℕ) (y : Started) (x : VarId) → Reading l w a i y x (first ∷ bits ∷ []) → ⊥) × (w' ≡ w)
+    ((i first bits : ℕ) (y : Started) (x : VarId) → Reading l w a i y x (loads.Value first bits) → ⊥) × (w' ≡ w)
 Next l w (Second a) seen.Stale w' =
-    (i first bits : ℕ) × (y : Started) × (x : VarId) × Reading l w a i y x (first ∷ bits ∷ [])
+    (i first bits : ℕ) × (y : Started) × (x : VarId) × Reading l w a i y x (loads.Value first bits)
     × (version_now w x ≢ first)
     × (w' ≡ changed w i (stale_at_load y))
 Next l w (Second a) seen.Spent w' =
-    (i first bits : ℕ) × (y : Started) × (x : VarId) × Reading l w a i y x (first ∷ bits ∷ [])
+    (i first bits : ℕ) × (y : Started) × (x : VarId) × Reading l w a i y x (loads.Value first bits)
     × (version_now w x ≡ first) × (y.check ≡ None)
     × (w' ≡ changed w i (with_fate (with_read y x bits) fate.Spent))
 Next l w (Second a) s w' =
-    (i first bits : ℕ) × (y : Started) × (x : VarId) × Reading l w a i y x (first ∷ bits ∷ [])
+    (i first bits : ℕ) × (y : Started) × (x : VarId) × Reading l w a i y x (loads.Value first bits)
     × (version_now w x ≡ first)
     × (s ≡ (reads_on l y x bits y.check).0)
     × (w' ≡ changed w i (reads_on l y x bits y.check).1)

@@ -11,7 +11,7 @@ use Rattle.txn_programs.specs.declared.ast.Outcome.TheVariants.{Retries}
 use Rattle.attempt.specs.Asking.{Known, Ends}
 use Rattle.attempt.specs.Frame.{Agrees}
 use Rattle.world_law.specs.declared.events.Fate.TheVariants as fate
-use Rattle.world_law.specs.World.{Check, Started, Committer, World, stand, wanted, bound, version_now, value_now}
+use Rattle.world_law.specs.World.{Check, Started, Committer, World, stand, wanted, bound, version_now, value_now, words_loaded}
 use Rattle.world_law.specs.Commits.{IsAsFar}
 
 -- what the attempt read is so in the state m, and it ended, if it did, as its program ends there
@@ -57,13 +57,13 @@ pub record Opaque (l : Listing) (w : World) : Type 0 where
 -- What the words mean, between any two loads and stores. The words are what the commits stored, as far as the committer
 -- is; and of the variable that an attempt reads, no version word is below what it loaded of it, and either a greater one
 -- is there now, or the value, also the one that it loaded, is that of its state, or of the one that it checks.
-pub record WordsHold (l : Listing) (w : World) : Type 0 where
+pub record WordsFit (l : Listing) (w : World) : Type 0 where
   pub commit : Commit
   pub history : commit.history ≡ w.history
   pub words : WordsMean w.words commit
   pub far : IsAsFar w.committer commit
   pub loads : (i : ℕ) (y : Started) (x : VarId) → slice_get w.attempts i ≡ Some y → wanted l y ≡ Some x
-      → SamplingHolds (version_now w x) (value_now w x) (bound y) (value_of (state_of w.history (bound y)) x.0) y.loads
+      → SamplingHolds (version_now w x) (value_now w x) (bound y) (value_of (state_of w.history (bound y)) x.0) (words_loaded y.loads)
   -- the state that an attempt checks is one of the history, and so many of the pairs that it read are so in it
   pub checks : (i : ℕ) (y : Started) (c : Check) → slice_get w.attempts i ≡ Some y → y.check ≡ Some c
       → (c.candidate < length w.history) × Agrees (take c.checked y.log) (state_of w.history c.candidate)

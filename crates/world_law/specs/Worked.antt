@@ -1,16 +1,19 @@
 -- Runs of the world worked out by hand, event by event.
 use Rattle.std.specs.Prelude.{ℕ, Bool, true, false, List, [], ◌∷◌, pos, Option, Some, None}
 use Rattle.txn_programs.specs.Listing.{Listing}
-use Rattle.txn_programs.specs.Tree.{Int, Var, Add, Skip, Set, Seq, End, More}
+use Rattle.txn_programs.specs.Tree.{Int, Var, Add, Eq, Skip, Set, Seq, If, Retry, Throw, End, More}
 use Rattle.txn_programs.specs.declared.ast.TaskId.{TaskId}
 use Rattle.txn_programs.specs.declared.ast.TxId.{TxId}
 use Rattle.txn_programs.specs.declared.ast.VarId.{VarId}
-use Rattle.txn_programs.specs.declared.ast.Outcome.TheVariants.{Returned}
+use Rattle.txn_programs.specs.declared.ast.Fault.TheVariants.{User}
+use Rattle.txn_programs.specs.declared.ast.Outcome.TheVariants.{Returned, Thrown, Retries}
 use Rattle.attempt.specs.Asking.{Known}
 use Rattle.world_law.specs.declared.events.Fate.{Fate}
 use Rattle.world_law.specs.declared.events.Fate.TheVariants as fate
+use Rattle.world_law.specs.declared.events.Loads.{Loads}
+use Rattle.world_law.specs.declared.events.Loads.TheVariants as loads
 use Rattle.world_law.specs.declared.events.Event.{Event}
-use Rattle.world_law.specs.declared.events.Event.TheVariants.{Begin, First, Value, Second, Ask, Word, Again}
+use Rattle.world_law.specs.declared.events.Event.TheVariants.{Begin, First, Value, Second, Ask, Word, Drop, Again}
 use Rattle.world_law.specs.declared.events.Seen.{Seen}
 use Rattle.world_law.specs.declared.events.Seen.TheVariants as seen
 use Rattle.world_law.specs.World.{Check, Started, World}
@@ -62,8 +65,8 @@ torn_end = record {
   words = 1 ∷ 2 ∷ 2 ∷ 2 ∷ 2 ∷ [];
   history = (pos 1 ∷ pos 1 ∷ []) ∷ (pos 2 ∷ pos 2 ∷ []) ∷ [];
   attempts =
-      record { task = task 0; rv = 0; log = (x, pos 1) ∷ []; loads = []; fate = fate.Stale; movable = true; check = None }
-      ∷ record { task = task 1; rv = 0; log = []; loads = []; fate = fate.Committed 1; movable = false; check = None }
+      record { task = task 0; rv = 0; log = (x, pos 1) ∷ []; loads = loads.Nothing; fate = fate.Stale; movable = true; check = None }
+      ∷ record { task = task 1; rv = 0; log = []; loads = loads.Nothing; fate = fate.Committed 1; movable = false; check = None }
       ∷ [];
   committer = None;
 }
@@ -105,9 +108,9 @@ back_end = record {
   words = 3 ∷ 4 ∷ 1 ∷ [];
   history = (pos 1 ∷ []) ∷ (pos 2 ∷ []) ∷ (pos 1 ∷ []) ∷ (pos 1 ∷ []) ∷ [];
   attempts =
-      record { task = task 0; rv = 0; log = (x, pos 1) ∷ []; loads = []; fate = fate.Committed 3; movable = false; check = None }
-      ∷ record { task = task 1; rv = 0; log = []; loads = []; fate = fate.Committed 1; movable = false; check = None }
-      ∷ record { task = task 2; rv = 1; log = []; loads = []; fate = fate.Committed 2; movable = false; check = None }
+      record { task = task 0; rv = 0; log = (x, pos 1) ∷ []; loads = loads.Nothing; fate = fate.Committed 3; movable = false; check = None }
+      ∷ record { task = task 1; rv = 0; log = []; loads = loads.Nothing; fate = fate.Committed 1; movable = false; check = None }
+      ∷ record { task = task 2; rv = 1; log = []; loads = loads.Nothing; fate = fate.Committed 2; movable = false; check = None }
       ∷ [];
   committer = None;
 }
@@ -116,8 +119,8 @@ back_end = record {
 abbrev pub at : ℕ → ℕ → Check
 at n checked = record { candidate = n; checked = checked }
 
-abbrev pub attempt : ℕ → ℕ → Known → List ℕ → Fate → Bool → Option Check → Started
-attempt a rv log loads f movable check = record { task = task a; rv = rv; log = log; loads = loads; fate = f; movable = movable; check = check }
+abbrev pub attempt : ℕ → ℕ → Known → Loads → Fate → Bool → Option Check → Started
+attempt a rv log ls f movable check = record { task = task a; rv = rv; log = log; loads = ls; fate = f; movable = movable; check = check }
 
 -- One task adds x and y, which are both 1; the other sets y to 5.
 abbrev pub half : Listing
@@ -156,8 +159,8 @@ moved_end = record {
   words = 2 ∷ 0 ∷ 1 ∷ 2 ∷ 5 ∷ [];
   history = (pos 1 ∷ pos 1 ∷ []) ∷ (pos 1 ∷ pos 5 ∷ []) ∷ (pos 1 ∷ pos 5 ∷ []) ∷ [];
   attempts =
-      attempt 0 1 ((x, pos 1) ∷ (y, pos 5) ∷ []) [] (fate.Committed 2) false None
-      ∷ attempt 1 0 [] [] (fate.Committed 1) false None
+      attempt 0 1 ((x, pos 1) ∷ (y, pos 5) ∷ []) loads.Nothing (fate.Committed 2) false None
+      ∷ attempt 1 0 [] loads.Nothing (fate.Committed 1) false None
       ∷ [];
   committer = None;
 }
@@ -184,8 +187,8 @@ refused_end = record {
   words = 1 ∷ 2 ∷ 2 ∷ 2 ∷ 2 ∷ [];
   history = (pos 1 ∷ pos 1 ∷ []) ∷ (pos 2 ∷ pos 2 ∷ []) ∷ [];
   attempts =
-      attempt 0 0 ((x, pos 1) ∷ []) (2 ∷ 2 ∷ []) fate.Stale false (Some (at 1 0))
-      ∷ attempt 1 0 [] [] (fate.Committed 1) false None
+      attempt 0 0 ((x, pos 1) ∷ []) (loads.Value 2 2) fate.Stale false (Some (at 1 0))
+      ∷ attempt 1 0 [] loads.Nothing (fate.Committed 1) false None
       ∷ [];
   committer = None;
 }
@@ -212,8 +215,114 @@ fresh_end = record {
   words = 1 ∷ 2 ∷ 2 ∷ 2 ∷ 2 ∷ [];
   history = (pos 1 ∷ pos 1 ∷ []) ∷ (pos 2 ∷ pos 2 ∷ []) ∷ [];
   attempts =
-      attempt 0 1 ((x, pos 2) ∷ (y, pos 2) ∷ []) [] fate.Running false None
-      ∷ attempt 1 0 [] [] (fate.Committed 1) false None
+      attempt 0 1 ((x, pos 2) ∷ (y, pos 2) ∷ []) loads.Nothing fate.Running false None
+      ∷ attempt 1 0 [] loads.Nothing (fate.Committed 1) false None
       ∷ [];
   committer = None;
+}
+
+-- One task waits until x, which is 1, is another; one sets it to 2 and throws 7; the last sets it to 2.
+abbrev pub waiting : Listing
+waiting =
+    record {
+      names = (120 ∷ []) ∷ [];
+      initial = pos 1 ∷ [];
+      always = [];
+      transactions =
+          record { name = 119 ∷ []; body = If (Eq (Var x) (Int (pos 1))) Retry Skip; result = Var x }
+          ∷ record { name = 116 ∷ []; body = Seq (More (Set x (Int (pos 2))) (More (Throw (Int (pos 7))) End)); result = Int (pos 0) }
+          ∷ record { name = 115 ∷ []; body = Set x (Int (pos 2)); result = Int (pos 0) }
+          ∷ [];
+      runs = (tx 0, 1) ∷ (tx 1, 1) ∷ (tx 2, 1) ∷ [];
+    }
+
+-- A throw commits: its state is the one before, since it drops what it wrote. Its task is done.
+abbrev pub thrown_events : List Event
+thrown_events = Begin (task 1) ∷ Ask (task 1) ∷ Word ∷ Begin (task 1) ∷ []
+
+abbrev pub thrown_answers : List Seen
+thrown_answers = seen.Ended (Thrown (User (pos 7))) ∷ seen.Commits 1 ∷ seen.Committed 1 ∷ seen.Idle ∷ []
+
+abbrev pub thrown_end : World
+thrown_end = record {
+  words = 1 ∷ 0 ∷ 1 ∷ [];
+  history = (pos 1 ∷ []) ∷ (pos 1 ∷ []) ∷ [];
+  attempts = attempt 1 0 [] loads.Nothing (fate.Committed 1) false None ∷ [];
+  committer = None;
+}
+
+-- A retry on the present values parks, and does not run again; its task begins anew, and retries too. While another commits
+-- it can't ask; and once x is another it is stale, which no load found, so its task can only begin anew.
+abbrev pub parked_events : List Event
+parked_events =
+    Begin (task 0) ∷ First (task 0) x ∷ Value (task 0) ∷ Second (task 0) ∷ Ask (task 0) ∷ Again (task 0)
+    ∷ Begin (task 0) ∷ First (task 0) x ∷ Value (task 0) ∷ Second (task 0)
+    ∷ Begin (task 2) ∷ Ask (task 2) ∷ Ask (task 0) ∷ Word ∷ Word ∷ Word ∷ Word
+    ∷ Ask (task 0) ∷ Again (task 0) ∷ Begin (task 0) ∷ []
+
+abbrev pub parked_answers : List Seen
+parked_answers =
+    seen.Needs x ∷ seen.Loaded ∷ seen.Loaded ∷ seen.Ended Retries ∷ seen.Parked ∷ seen.Idle
+    ∷ seen.Needs x ∷ seen.Loaded ∷ seen.Loaded ∷ seen.Ended Retries
+    ∷ seen.Ended (Returned (pos 0)) ∷ seen.Commits 1 ∷ seen.Idle ∷ seen.Stored ∷ seen.Stored ∷ seen.Stored ∷ seen.Committed 1
+    ∷ seen.Stale ∷ seen.Idle ∷ seen.Needs x ∷ []
+
+abbrev pub parked_end : World
+parked_end = record {
+  words = 1 ∷ 2 ∷ 2 ∷ [];
+  history = (pos 1 ∷ []) ∷ (pos 2 ∷ []) ∷ [];
+  attempts =
+      attempt 0 0 ((x, pos 1) ∷ []) loads.Nothing fate.Parked false None
+      ∷ attempt 0 0 ((x, pos 1) ∷ []) loads.Nothing fate.Stale false None
+      ∷ attempt 2 0 [] loads.Nothing (fate.Committed 1) false None
+      ∷ attempt 0 1 [] loads.Nothing fate.Running false None
+      ∷ [];
+  committer = None;
+}
+
+-- An attempt is dropped in a read: it reads no more, is not dropped twice, and does not run again. One that commits is not
+-- dropped. The task of the first begins anew.
+abbrev pub dropped_events : List Event
+dropped_events =
+    Begin (task 0) ∷ First (task 0) x ∷ Drop (task 0) ∷ Value (task 0) ∷ Drop (task 0) ∷ Again (task 0)
+    ∷ Begin (task 2) ∷ Ask (task 2) ∷ Drop (task 2) ∷ Begin (task 0) ∷ []
+
+abbrev pub dropped_answers : List Seen
+dropped_answers =
+    seen.Needs x ∷ seen.Loaded ∷ seen.Dropped ∷ seen.Idle ∷ seen.Idle ∷ seen.Idle
+    ∷ seen.Ended (Returned (pos 0)) ∷ seen.Commits 1 ∷ seen.Idle ∷ seen.Needs x ∷ []
+
+abbrev pub dropped_end : World
+dropped_end = record {
+  words = 0 ∷ 0 ∷ 1 ∷ [];
+  history = (pos 1 ∷ []) ∷ [];
+  attempts =
+      attempt 0 0 [] (loads.Version 0) fate.Dropped false None
+      ∷ attempt 2 0 [] loads.Nothing fate.Running false None
+      ∷ attempt 0 0 [] loads.Nothing fate.Running false None
+      ∷ [];
+  committer = Some record { place = 1; number = 1; changes = (x, pos 2) ∷ []; stored = 0 };
+}
+
+-- A commit locks x between the loads of a read: the second load of the version finds it. The attempt, which had read nothing,
+-- runs again, and its first load finds the lock.
+abbrev pub locked_events : List Event
+locked_events =
+    Begin (task 0) ∷ First (task 0) x ∷ Begin (task 2) ∷ Ask (task 2) ∷ Word ∷ Value (task 0) ∷ Second (task 0)
+    ∷ Again (task 0) ∷ First (task 0) x ∷ []
+
+abbrev pub locked_answers : List Seen
+locked_answers =
+    seen.Needs x ∷ seen.Loaded ∷ seen.Ended (Returned (pos 0)) ∷ seen.Commits 1 ∷ seen.Stored ∷ seen.Loaded ∷ seen.Stale
+    ∷ seen.Needs x ∷ seen.Stale ∷ []
+
+abbrev pub locked_end : World
+locked_end = record {
+  words = 0 ∷ 1 ∷ 1 ∷ [];
+  history = (pos 1 ∷ []) ∷ [];
+  attempts =
+      attempt 0 0 [] loads.Nothing fate.Stale true None
+      ∷ attempt 2 0 [] loads.Nothing fate.Running false None
+      ∷ [];
+  committer = Some record { place = 1; number = 1; changes = (x, pos 2) ∷ []; stored = 1 };
 }

@@ -14,6 +14,10 @@ use Rattle.attempt.specs.Asking.{Known, Answer, Needs, Ends, ask}
 use Rattle.attempt.specs.Frame.{store}
 use Rattle.world_law.specs.declared.events.Fate.{Fate}
 use Rattle.world_law.specs.declared.events.Fate.TheVariants as fate
+use Rattle.world_law.specs.declared.events.Loads.{Loads}
+use Rattle.world_law.specs.declared.events.Loads.TheVariants as loads
+use Rattle.world_law.specs.declared.events.Store.{Store}
+use Rattle.world_law.specs.declared.events.Store.TheVariants.{Lock, Put, Tick, Free}
 
 -- a state that an attempt may move to: its number, which it loaded of the clock, and how many of the pairs that it read it
 -- has found to be so there
@@ -28,8 +32,8 @@ pub record Started : Type 0 where
   pub rv : ℕ
   -- what it read, in this order
   pub log : Known
-  -- what the read that it is in has loaded: the version word, and then the value word
-  pub loads : List ℕ
+  -- what the read that it is in has loaded
+  pub loads : Loads
   pub fate : Fate
   -- whether it became stale at a load, and so may run again
   pub movable : Bool
@@ -114,8 +118,14 @@ abbrev pub bound : Started → ℕ
 bound y = bound_by y.rv y.check
 
 -- the running attempt of the task reads the variable x, and has loaded so much of it
-abbrev pub Reading : Listing → World → TaskId → ℕ → Started → VarId → List ℕ → Type 0
-Reading l w a i y x loads = (IsRunning w a i y × (wanted l y ≡ Some x)) × (y.loads ≡ loads)
+abbrev pub Reading : Listing → World → TaskId → ℕ → Started → VarId → Loads → Type 0
+Reading l w a i y x ls = (IsRunning w a i y × (wanted l y ≡ Some x)) × (y.loads ≡ ls)
+
+-- the words that it has loaded, in this order
+abbrev pub words_loaded : Loads → List ℕ
+words_loaded loads.Nothing = []
+words_loaded (loads.Version version) = version ∷ []
+words_loaded (loads.Value version bits) = version ∷ bits ∷ []
 
 -- y, at the place i, is the attempt of the task a that began last
 abbrev pub IsLatest : World → TaskId → ℕ → Started → Type 0
@@ -134,22 +144,22 @@ abbrev pub value_now : World → VarId → ℕ
 value_now w x = slice_index w.words (value_word x.0)
 
 -- the world with an attempt more, of which this became at once
-abbrev pub begun : World → TaskId → Fate → World
-begun w a f =
+abbrev pub with_attempt : World → TaskId → Fate → World
+with_attempt w a f =
     record w {
-      attempts = w.attempts ++ record { task = a; rv = slice_index w.words 0; log = []; loads = []; fate = f; movable = false; check = None } ∷ [];
+      attempts = w.attempts ++ record { task = a; rv = slice_index w.words 0; log = []; loads = loads.Nothing; fate = f; movable = false; check = None } ∷ [];
     }
 
 -- the world with another attempt at the place i
 abbrev pub changed : World → ℕ → Started → World
 changed w i y = record w { attempts = slice_set w.attempts i y }
 
-abbrev pub with_loads : Started → List ℕ → Started
-with_loads y loads = record y { loads = loads }
+abbrev pub with_loads : Started → Loads → Started
+with_loads y ls = record y { loads = ls }
 
 -- the attempt that has read x, whose value word was `bits`
 abbrev pub with_read : Started → VarId → ℕ → Started
-with_read y x bits = record y { log = y.log ++ (x, cast_signed w64 bits) ∷ []; loads = [] }
+with_read y x bits = record y { log = y.log ++ (x, cast_signed w64 bits) ∷ []; loads = loads.Nothing }
 
 abbrev pub with_fate : Started → Fate → Started
 with_fate y f = record y { fate = f }
@@ -164,11 +174,11 @@ running_again y = record y { fate = fate.Running; movable = false }
 
 -- it has found so many of the pairs that it read to be so in the state n, and goes on to check the next one
 abbrev pub checking : Started → ℕ → ℕ → Started
-checking y n checked = record y { loads = []; check = Some record { candidate = n; checked = checked } }
+checking y n checked = record y { loads = loads.Nothing; check = Some record { candidate = n; checked = checked } }
 
 -- it has found all of them to be so there, and moves to the state n
 abbrev pub moved : Started → ℕ → Started
-moved y n = record y { rv = n; loads = []; check = None }
+moved y n = record y { rv = n; loads = loads.Nothing; check = None }
 
 -- the variables, from number n on, whose values differ, with their new values
 abbrev pub differences : ℕ → State → State → List Change
@@ -182,22 +192,14 @@ committing w i writes =
     let m = last_state w.history in
     record { place = i; number = length w.history; changes = differences 0 m (store writes m); stored = 0 }
 
--- one store of a commit: a version word gets its lock bit, a value word a value, the clock the commit's number, or a
--- version word that number and no lock bit
-pub data Store : Type 0 where
-  Lock : (x : ℕ) → Store
-  Put : (x : ℕ) (v : ℤ) → Store
-  Tick : Store
-  Free : (x : ℕ) → Store
-
 abbrev pub locks : List Change → List Store
-locks changes = map (λ (c : Change). Lock c.0.0) changes
+locks changes = map (λ (c : Change). Lock c.0) changes
 
 abbrev pub puts : List Change → List Store
-puts changes = map (λ (c : Change). Put c.0.0 c.1) changes
+puts changes = map (λ (c : Change). Put c.0 c.1) changes
 
 abbrev pub frees : List Change → List Store
-frees changes = map (λ (c : Change). Free c.0.0) changes
+frees changes = map (λ (c : Change). Free c.0) changes
 
 -- all stores of a commit, in their order
 abbrev pub stores : List Change → List Store
@@ -205,10 +207,10 @@ stores changes = locks changes ++ (puts changes ++ (Tick ∷ frees changes))
 
 -- what the words are after a store of the commit of the number n
 abbrev pub Writes : Store → ℕ → List ℕ → List ℕ → Type 0
-Writes (Lock x) n words words' = words' ≡ slice_set words (version_word x) (slice_index words (version_word x) + 1)
-Writes (Put x v) n words words' = (bits : ℕ) × AreBits v bits × (words' ≡ slice_set words (value_word x) bits)
+Writes (Lock x) n words words' = words' ≡ slice_set words (version_word x.0) (slice_index words (version_word x.0) + 1)
+Writes (Put x v) n words words' = (bits : ℕ) × AreBits v bits × (words' ≡ slice_set words (value_word x.0) bits)
 Writes Tick n words words' = words' ≡ slice_set words 0 n
-Writes (Free x) n words words' = words' ≡ slice_set words (version_word x) (2 * n)
+Writes (Free x) n words words' = words' ≡ slice_set words (version_word x.0) (2 * n)
 
 -- and what the history is: a state more once the clock was stored
 abbrev pub history_after : Store → List Change → List State → List State

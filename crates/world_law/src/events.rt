@@ -1,4 +1,5 @@
-//! What may happen in the world, what is seen of it, and what becomes of an attempt.
+//! What may happen in the world, what is seen of it, what an attempt has loaded, what a commit stores,
+//! and what becomes of an attempt.
 
 use txn::{Outcome, TaskId, VarId};
 
@@ -53,6 +54,29 @@ pub enum Seen {
     Checks(VarId),
     /// What it read of the variable that it checked is no longer so.
     Changed,
+}
+
+/// What the read that an attempt is in has loaded.
+#[derive(Clone, Copy, Debug, PartialEq, Eq)]
+pub enum Loads {
+    Nothing,
+    /// The version word.
+    Version(u64),
+    /// The version word, and then the value word.
+    Value(u64, u64),
+}
+
+/// One store of a commit.
+#[derive(Clone, Copy, Debug, PartialEq, Eq)]
+pub enum Store {
+    /// A version word gets its lock bit.
+    Lock(VarId),
+    /// A value word gets a value.
+    Put(VarId, i64),
+    /// The clock gets the commit's number.
+    Tick,
+    /// A version word gets that number, and no lock bit.
+    Free(VarId),
 }
 
 /// What became of an attempt.

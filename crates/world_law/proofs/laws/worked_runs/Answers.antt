@@ -1,4 +1,5 @@
 use Rattle.world_law.proofs.Working.{torn_holds, back_holds, pair_opens, back_opens, half_opens, moved_holds, refused_holds, fresh_holds}
+use Rattle.world_law.proofs.Waiting.{waiting_opens, thrown_holds, parked_holds, dropped_holds, locked_holds}
 use Rattle.world_law.proofs.laws.worked_runs.Goals as goal
 
 pub returns-clause-pair : goal.returns-clause-pair
@@ -24,3 +25,18 @@ returns-clause-refused c = refused_holds
 
 pub returns-clause-fresh : goal.returns-clause-fresh
 returns-clause-fresh c = fresh_holds
+
+pub returns-clause-waiting : goal.returns-clause-waiting
+returns-clause-waiting c = waiting_opens
+
+pub returns-clause-thrown : goal.returns-clause-thrown
+returns-clause-thrown c = thrown_holds
+
+pub returns-clause-parked : goal.returns-clause-parked
+returns-clause-parked c = parked_holds
+
+pub returns-clause-dropped : goal.returns-clause-dropped
+returns-clause-dropped c = dropped_holds
+
+pub returns-clause-locked : goal.returns-clause-locked
+returns-clause-locked c = locked_holds

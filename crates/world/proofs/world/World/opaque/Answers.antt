@@ -1,7 +1,7 @@
 use Rattle.std.proofs.Common.{subst}
 use Rattle.std.specs.List.{All}
 use Rattle.txn_programs.specs.Standing.{Upholds}
-use Rattle.world_law.specs.Opacity.{Opaque, WordsHold}
+use Rattle.world_law.specs.Opacity.{Opaque, WordsFit}
 use Rattle.world_law.proofs.Framed.{sound_by}
 use Rattle.world_law.proofs.Reached.{reached_opaque, reached_words}
 use Rattle.world_law.proofs.Upheld.{reached_upheld}
@@ -18,7 +18,7 @@ returns-clause-opaque c =
 pub returns-clause-words : goal.returns-clause-words
 returns-clause-words c =
     let s = c.self.inside.scene in
-    subst (λ (v : WorldView). WordsHold v.listing v.world) c.self.view_is
+    subst (λ (v : WorldView). WordsFit v.listing v.world) c.self.view_is
     (reached_words (listing s) (sound_by (listing s) c.rules.ensures.names c.rules.ensures.named) (world_of s) c.self.invariant.reached)
 
 pub returns-clause-upheld : goal.returns-clause-upheld

@@ -6,7 +6,7 @@ use Rattle.attempt.specs.declared.next.Stand.TheVariants as stand
 use Rattle.attempt.specs.declared.next.Next.{Next}
 use Rattle.world_law.specs.declared.events.Fate.TheVariants as fate
 use Rattle.world_events.specs.Trials.{answer_fate}
-use Rattle.world_events.proofs.trial.begun.Goals as goal
+use Rattle.world_events.proofs.trial.first_asked.Goals as goal
 
 pub returns : goal.returns
 returns c =

@@ -6,15 +6,15 @@ use Rattle.world_law.specs.declared.events.Seen.TheVariants as seen
 use Rattle.world_law.specs.declared.events.Fate.TheVariants as fate
 use Rattle.world_events.specs.declared.trial.Trial.{Trial}
 use Rattle.world_events.specs.Inside.{listing, with_trial, Leads}
-use Rattle.world_events.specs.Steps.{store_of, with_committer}
+use Rattle.world_events.specs.Steps.{with_committer}
 use Rattle.world_events.proofs.Seeing.{read_is}
 use Rattle.world_events.proofs.Working.{may_write, stored_leads, finished_leads}
-use Rattle.world_events.proofs.storing.store_next.Goals as goal
+use Rattle.world_events.proofs.storing.make_next.Goals as goal
 
 pub write-requires : goal.write-requires
 write-requires c =
     let s = c.args.scene.now in
-    may_write s c.args.publishing (store_of c.next_step-step.result) c.requires.kept c.next_step-step.ensures (sound_by (listing s) c.rules.ensures.names c.rules.ensures.named) c.requires.reached
+    may_write s c.args.publishing c.next_store-store.result c.requires.kept c.next_store-store.ensures (sound_by (listing s) c.rules.ensures.names c.rules.ensures.named) c.requires.reached
 
 pub index_mut-requires : goal.index_mut-requires
 index_mut-requires c =
@@ -30,12 +30,12 @@ returns-then-publishing-len c =
     let last : p.stored ≡ 3 * length p.changes.items = omega (arith, c.if-publishing-len.true, c.len.ensures, p.changes.ok.0) in
     subst (λ (t : Trial). Leads (with_committer s p) Word (seen.Committed p.number)
     (with_trial (record s { words = c.write.new.words; count = c.counted-scene.result }) p.place (record t { fate = fate.Committed p.number }))) (sym same)
-    (finished_leads s p (store_of c.next_step-step.result) c.requires.kept c.next_step-step.ensures c.write.new.words c.counted-scene.result c.write.ensures c.counted-scene.ensures
+    (finished_leads s p c.next_store-store.result c.requires.kept c.next_store-store.ensures c.write.new.words c.counted-scene.result c.write.ensures c.counted-scene.ensures
     r.0 s.committer c.requires.none r.1 r.2 last)
 
 pub returns : goal.returns
 returns c =
     let s = c.args.scene.now in
     let p = c.args.publishing in
-    stored_leads s p (store_of c.next_step-step.result) c.requires.kept c.next_step-step.ensures c.write.new.words c.counted-scene.result c.write.ensures c.counted-scene.ensures
+    stored_leads s p c.next_store-store.result c.requires.kept c.next_store-store.ensures c.write.new.words c.counted-scene.result c.write.ensures c.counted-scene.ensures
     (λ e. c.if-publishing-len.false (omega (arith, e, c.len.ensures, p.changes.ok.0)))

@@ -2,10 +2,11 @@ use Rattle.std.proofs.Common.{◌≡◌, ℕ, ◌+◌, ◌-◌, ◌*◌, ◌<◌
 use Rattle.std.specs.List.{slice_get}
 use Rattle.std.proofs.lemmas.Option.{slice_get-get_or}
 use Rattle.txn_words.specs.Stores.{Change, no_change}
-use Rattle.world_law.specs.World.{stores, Free}
+use Rattle.world_law.specs.declared.events.Store.TheVariants.{Free}
+use Rattle.world_law.specs.World.{stores}
 use Rattle.world_law.proofs.Order.{is_free}
 use Rattle.world_events.proofs.Seeing.{read_is}
-use Rattle.world_events.proofs.storing.next_step.Goals as goal
+use Rattle.world_events.proofs.storing.next_store.Goals as goal
 
 pub returns : goal.returns
 returns c =
@@ -16,4 +17,4 @@ returns c =
     let under : i < length cs = omega (arith, n, c.requires.under, c.if-stored-count-2.false, c.if-stored-count-3.false) in
     let at : p.stored ≡ 2 * length cs + 1 + i = omega (arith, n, c.if-stored-count-2.false, c.if-stored-count-3.false) in
     let same : c.index-2.result.now ≡ get_or cs i no_change = read_is cs i (get_or cs i no_change) c.index-2.result.now (slice_get-get_or cs i no_change under) c.index-2.ensures in
-    ap (slice_get (stores cs)) at ∙ (is_free cs i under ∙ ap (λ (q : Change). Some (Free q.0.0)) (sym same))
+    ap (slice_get (stores cs)) at ∙ (is_free cs i under ∙ ap (λ (q : Change). Some (Free q.0)) (sym same))
