@@ -1,6 +1,6 @@
 //! What a host's lock guards: the book, which publishes to the cells.
 
-ghost use Rattle.std.specs.Prelude.{◌≡◌, ◌≢◌, ◌⊎◌, ◌∷◌, [], ◌<◌, ◌≤◌, ◌+◌, length, All, None, false, IfOk, IfErr, OnOk, IfSome, MatchBool, string_bytes};
+ghost use Rattle.std.specs.Prelude.{◌≡◌, ◌≢◌, ◌⊎◌, ◌∷◌, [], ◌<◌, ◌≤◌, ◌+◌, length, All, None, Err, false, IfOk, IfErr, OnOk, IfSome, MatchBool, string_bytes};
 ghost use Rattle.std.specs.Coded.{codes};
 ghost use Rattle.txn.specs.Codes.{coded_listing};
 ghost use Rattle.txn_programs.specs.declared.limits.TheConstants.{MAX_TASKS};
@@ -117,6 +117,7 @@ impl Store {
     pub fn worker(&mut self) -> Option<Worker>
         ensures of { IfSome result (λ w. (w.catalogue.now ≡ self.old.catalogue.now) × (w.cells.now ≡ self.old.cells.now) × (w.ended ≡ None)) }
         ensures fewer { IfSome result (λ w. length self.new.passes.items + 1 ≡ length self.old.passes.items) }
+        ensures some { IfSome result (λ w. 0 < length self.old.catalogue.now.transactions) }
         ensures none { result ≡ None → ((self.old.passes.items ≡ []) ⊎ (self.old.catalogue.now.transactions ≡ [])) × (self.new.passes.items ≡ self.old.passes.items) }
         ensures book { self.new.book ≡ self.old.book }
         ensures catalogue { self.new.catalogue.now ≡ self.old.catalogue.now }
@@ -136,6 +137,8 @@ impl Store {
         requires known { tx.0 < length self.old.catalogue.now.transactions }
         ensures submitted { Submits self.old.book tx result self.new.book }
         ensures catalogue { self.new.catalogue.now ≡ self.old.catalogue.now }
+        ensures cells { self.new.cells.now ≡ self.old.cells.now }
+        ensures workers { self.new.passes.items ≡ self.old.passes.items }
         ensures every { self.new.every ≡ self.old.every }
     {
         self.book.submit(tx)
@@ -180,6 +183,8 @@ impl Store {
         ensures known { IfSome result (λ job. job.tx.0 < length self.old.catalogue.now.transactions) }
         ensures listing { self.new.book.catalogue ≡ self.old.book.catalogue }
         ensures catalogue { self.new.catalogue.now ≡ self.old.catalogue.now }
+        ensures cells { self.new.cells.now ≡ self.old.cells.now }
+        ensures workers { self.new.passes.items ≡ self.old.passes.items }
         ensures every { self.new.every ≡ self.old.every }
     {
         let task = self.book.take()?;
@@ -199,6 +204,8 @@ impl Store {
         ensures ended { worker.new.ended ≡ None }
         ensures listing { self.new.book.catalogue ≡ self.old.book.catalogue }
         ensures catalogue { self.new.catalogue.now ≡ self.old.catalogue.now }
+        ensures cells { self.new.cells.now ≡ self.old.cells.now }
+        ensures workers { self.new.passes.items ≡ self.old.passes.items }
         ensures every { self.new.every ≡ self.old.every }
         ensures worker { worker.new.catalogue.now ≡ worker.old.catalogue.now }
     {
@@ -222,6 +229,8 @@ impl Store {
         ensures served { ServedBy self.old.every self.old.book task result self.new.book }
         ensures listing { self.new.book.catalogue ≡ self.old.book.catalogue }
         ensures catalogue { self.new.catalogue.now ≡ self.old.catalogue.now }
+        ensures cells { self.new.cells.now ≡ self.old.cells.now }
+        ensures workers { self.new.passes.items ≡ self.old.passes.items }
         ensures every { self.new.every ≡ self.old.every }
     {
         self.book.law();
@@ -237,6 +246,8 @@ impl Store {
         ensures given_up { MatchBool result (IsRunning self.old.book task × (self.new.book ≡ stands self.old.book task Task.GivenUp)) (¬ (IsRunning self.old.book task) × (self.new.book ≡ self.old.book)) }
         ensures listing { self.new.book.catalogue ≡ self.old.book.catalogue }
         ensures catalogue { self.new.catalogue.now ≡ self.old.catalogue.now }
+        ensures cells { self.new.cells.now ≡ self.old.cells.now }
+        ensures workers { self.new.passes.items ≡ self.old.passes.items }
         ensures every { self.new.every ≡ self.old.every }
     {
         self.book.law();
@@ -249,6 +260,8 @@ impl Store {
         ensures checkpointed { self.new.book ≡ checkpointed self.old.book }
         ensures listing { self.new.book.catalogue ≡ self.old.book.catalogue }
         ensures catalogue { self.new.catalogue.now ≡ self.old.catalogue.now }
+        ensures cells { self.new.cells.now ≡ self.old.cells.now }
+        ensures workers { self.new.passes.items ≡ self.old.passes.items }
         ensures every { self.new.every ≡ self.old.every }
     {
         self.book.checkpoint();
@@ -263,17 +276,21 @@ impl Store {
         ensures text { IfOk result (λ text. IsTextOf self.new.book (string_bytes text)) }
         ensures listing { self.new.book.catalogue ≡ self.old.book.catalogue }
         ensures catalogue { self.new.catalogue.now ≡ self.old.catalogue.now }
+        ensures cells { self.new.cells.now ≡ self.old.cells.now }
+        ensures workers { self.new.passes.items ≡ self.old.passes.items }
         ensures every { self.new.every ≡ self.old.every }
     {
         self.book.drain(self.alloc, self.every);
         printed(self.alloc, &self.book)
     }
 
-    /// As `report`, with no turn given: where a task is ready or running, it answers `WorkLeft`.
+    /// As `report`, with no turn given: `WorkLeft` exactly where a task is ready or running.
+    /// `Memory` only where a growth was refused.
     pub fn report_now(&self) -> Result<String, ReportFault>
         ensures text { IfOk result (λ text. IsTextOf self.now.book (string_bytes text)) }
         ensures idle { OnOk result (IsIdle self.now.book) }
         ensures left { IfErr result (λ e. e ≡ ReportFault.WorkLeft → ¬ (IsIdle self.now.book)) }
+        ensures always_left { ¬ (IsIdle self.now.book) → result ≡ Err ReportFault.WorkLeft }
     {
         if !self.book.is_idle() {
             return Err(ReportFault::WorkLeft);
