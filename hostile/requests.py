@@ -7,7 +7,7 @@ import os
 from parts import TOP, run, shown, stop
 from refusals import allocator
 
-COUNTED = ("attempt_tests", "world_tests")
+COUNTED = ("attempt_tests", "cells_tests", "world_tests")
 
 
 def try_counts(trials):

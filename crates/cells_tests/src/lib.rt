@@ -6,6 +6,8 @@ mod apart;
 #[cfg(test)]
 mod beside;
 #[cfg(test)]
+mod counted;
+#[cfg(test)]
 mod extending;
 #[cfg(test)]
 mod members;
