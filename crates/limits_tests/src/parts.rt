@@ -33,34 +33,47 @@ fn report_of(
     }
 }
 
-/// How many lines the text has, and whether one of them has ended by want of memory.
+/// How many lines the text has, and whether one of them tells want of memory: that of a task in a
+/// report, or that of a move of a schedule.
 pub(crate) fn lines_of(text: &[u8]) -> (usize, bool) {
     let mut lines = 0usize;
     let mut wants = false;
     for line in text.split(|byte| *byte == b'\n') {
         lines = lines.saturating_add(1);
-        wants = wants || line.starts_with(b"memory ");
+        wants = wants || line.starts_with(b"memory ") || line.ends_with(b" memory");
     }
     (lines, wants)
 }
 
+/// Whether nothing is stopped by want of memory in the report, and it is lawful.
+fn is_whole(alloc: Global, file: &[u8], report: &[u8], wanted: &Wanted) -> bool {
+    lines_of(report) == (wanted.lines, false)
+        && report.ends_with(wanted.end.as_bytes())
+        && check(alloc, file, report) == Ok(Verdict::Good)
+}
+
 /// The file is run and reported with nothing stopped by want of memory, and the report is lawful.
+fn runs_file(
+    rt: &(impl Abort + Threads + Wait + Sync),
+    alloc: Global,
+    file: &[u8],
+    wanted: &Wanted,
+) {
+    match report_of(rt, alloc, file, wanted.workers, wanted.checkpoint) {
+        Some(report) => assert!(rt; is_whole(alloc, file, report.as_slice(), wanted)),
+        None => panic!(rt; "no report"),
+    }
+}
+
+/// So is that of the parts.
 pub(crate) fn runs_whole(
-    rt: &(impl Abort + Eprint + Threads + Wait + Sync),
+    rt: &(impl Abort + Threads + Wait + Sync),
     alloc: Global,
     parts: &[Part],
     wanted: &Wanted,
 ) {
-    let Ok(file) = text_of(alloc, parts) else {
-        panic!(rt; "no text")
-    };
-    let file = file.as_bytes();
-    let Some(report) = report_of(rt, alloc, file, wanted.workers, wanted.checkpoint) else {
-        panic!(rt; "no report")
-    };
-    let (lines, wants) = lines_of(report.as_slice());
-    assert_eq!(rt; lines, wanted.lines);
-    assert!(rt; !wants);
-    assert!(rt; report.as_slice().ends_with(wanted.end.as_bytes()));
-    assert!(rt; check(alloc, file, report.as_slice()) == Ok(Verdict::Good));
+    match text_of(alloc, parts) {
+        Ok(file) => runs_file(rt, alloc, file.as_bytes(), wanted),
+        Err(_) => panic!(rt; "no text"),
+    }
 }

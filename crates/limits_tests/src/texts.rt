@@ -6,23 +6,9 @@ use std::alloc::{AllocError, Global};
 /// between each two of its words.
 #[derive(Clone, Copy)]
 pub(crate) struct Part<'a> {
-    first: u32,
-    times: u32,
-    words: &'a [&'a str],
-}
-
-/// A part that is numbered from 0 on.
-pub(crate) fn times<'a>(times: u32, words: &'a [&'a str]) -> Part<'a> {
-    times_from(0, times, words)
-}
-
-/// A part that is numbered from this number on.
-pub(crate) fn times_from<'a>(first: u32, times: u32, words: &'a [&'a str]) -> Part<'a> {
-    Part {
-        first,
-        times,
-        words,
-    }
+    pub(crate) first: u32,
+    pub(crate) times: u32,
+    pub(crate) words: &'a [&'a str],
 }
 
 /// The words with this number between each two.
