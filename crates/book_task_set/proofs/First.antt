@@ -57,11 +57,11 @@ one_first count word few e w =
     ]
 
 -- the set of the first numbers
-pub levels_first : (count room : ℕ) (numbers words : List ℕ) (top : ℕ) → count ≤ room → room ≤ 262144 → length numbers ≡ div_ceil room 64 → length words ≡ div_ceil (div_ceil room 64) 64 → AreFirst count numbers → AreFirst (div_ceil count 64) words → AreFirst (div_ceil (div_ceil count 64) 64) (top ∷ []) → AreLevels room numbers words (top ∷ [])
+pub levels_first : (count room : ℕ) (numbers words : List ℕ) (top : ℕ) → count ≤ room → room ≤ 262144 → length numbers ≡ div_ceil count 64 → length words ≡ div_ceil (div_ceil room 64) 64 → AreFirst count numbers → AreFirst (div_ceil count 64) words → AreFirst (div_ceil (div_ceil count 64) 64) (top ∷ []) → AreLevels room numbers words (top ∷ [])
 levels_first count room numbers words top low few first second x y z =
     record {
-      numbers_fit = omega (arith, first);
-      words_fit = omega (arith, first, second);
+      room_fits = omega (arith, second);
+      words_fit = omega (arith, first, second, low);
       top_fits = omega (arith, second, few);
       one = refl;
       spare = λ k past. has_past count numbers x k (omega (arith, low, past));

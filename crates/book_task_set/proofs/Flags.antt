@@ -1,14 +1,14 @@
 -- The flags that a row of bits shows.
-use Rattle.std.proofs.Common.{◌≡◌, ◌≢◌, inl, inr, ℕ, ◌/◌, ◌<◌, ◌≤◌, Bool, true, false, List, Some, length, get_or, set, sym, ◌∙◌, ap, arith}
+use Rattle.std.proofs.Common.{◌≡◌, ◌≢◌, inl, inr, ℕ, refl, ◌/◌, ◌<◌, ◌≤◌, Bool, true, false, List, Some, length, get_or, set, sym, ◌∙◌, ap, arith}
 use Rattle.std.specs.List.{slice_get}
 use Rattle.std.proofs.lemmas.Bool.{cases_eq, cases_lt, true≢false}
-use Rattle.std.proofs.lemmas.List.{ext_get_or, get_or-set_same, get_or-set_other, length-set}
+use Rattle.std.proofs.lemmas.List.{ext_get_or, get_or-set_same, get_or-set_other, length-set, get_or_past}
 use Rattle.std.proofs.lemmas.List.FromFn.{length-map-range_with_len, get_or-map-range_with_len}
 use Rattle.std.proofs.lemmas.Option.{same_Some, slice_get-get_or, slice_get_within}
 use Rattle.book_task_set.specs.Levels.{has, with_bit, without_bit, IsFirstBit}
 use Rattle.book_task_set.specs.SetInside.{flags}
 use Rattle.book_task_set.specs.Members.{IsLowest, HasNone}
-use Rattle.book_task_set.proofs.Rows.{has_with, has_with_other, has_without, has_without_other}
+use Rattle.book_task_set.proofs.Rows.{has_zero, has_with, has_with_other, has_without, has_without_other}
 
 pub length_flags : (room : ℕ) (words : List ℕ) → length (flags room words) ≡ room
 length_flags room words = length-map-range_with_len (has words) 0 room
@@ -66,3 +66,17 @@ is_lowest room words k spare first =
       )
       | inr past ↦ absurd (true≢false (sym first.here ∙ spare k past))
     ]
+
+pub flags_alike : (room : ℕ) (v w : List ℕ) → ((k : ℕ) → has v k ≡ has w k) → flags room v ≡ flags room w
+flags_alike room v w same =
+    ext_get_or false (flags room v) (flags room w) (length_flags room v ∙ sym (length_flags room w))
+    (λ j low.
+    let inside : j < room = omega (arith, low, length_flags room v) in
+    flag_at room v j false inside ∙ (same j ∙ sym (flag_at room w j false inside)))
+
+-- what lies past the words is not in the set
+pub past_words : (words : List ℕ) (k : ℕ) → length words ≤ k / 64 → has words k ≡ false
+past_words words k past = has_zero words k (get_or_past words (k / 64) 0 past)
+
+pub flags_unset : (room : ℕ) (words : List ℕ) (k : ℕ) → k < room → length words ≤ k / 64 → flags room words ≡ set (flags room words) k false
+flags_unset room words k h past = flags_set room words words k false h (past_words words k past) (λ j other. refl)

@@ -28,6 +28,10 @@ has_same : (v w : List ℕ) (j : ℕ) → bit_at (get_or v (j / 64) 0) (j % 64) 
 unfolding has
 has_same v w j e = ap (λ x. nat_eq x 1) e
 
+-- rows of the same words have the same bits
+pub has_alike : (v w : List ℕ) → ((j : ℕ) → get_or v j 0 ≡ get_or w j 0) → (k : ℕ) → has v k ≡ has w k
+has_alike v w same k = has_same v w k (ap (λ x. bit_at x (k % 64)) (same (k / 64)))
+
 -- 1 << r at 64 bits
 shifted : (r : ℕ) → r < 64 → 2 ^ r ≡ 1 * 2 ^ r % 2 ^ 64
 shifted r h = sym (one_shl r 64 h)

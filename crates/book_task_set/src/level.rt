@@ -1,6 +1,6 @@
 //! One level of a set: a row of bits in words of 64.
 
-ghost use Rattle.std.specs.Prelude.{◌≡◌, ◌≢◌, ◌<◌, ◌≤◌, ◌-◌, ◌*◌, ◌/◌, ◌^◌, length, nat_eq, slice_index, IfOk};
+ghost use Rattle.std.specs.Prelude.{◌≡◌, ◌≢◌, ℕ, ◌<◌, ◌≤◌, ◌-◌, ◌*◌, ◌/◌, ◌^◌, ◌++◌, ◌∷◌, [], length, max, nat_eq, slice_index, IfOk, vec_len, vec_capacity};
 ghost use Rattle.std.specs.Int.{div_ceil};
 ghost use Rattle.book_task_set.specs.Levels.{has, with_bit, without_bit, AreFirst, IsFirstWord, IsFirstBit};
 
@@ -18,17 +18,43 @@ pub fn lowest_bits(count: usize) -> u64
     }
 }
 
-/// A row of which the first `count` bits are set, with room for so many bits at least.
+/// A row that reaches as far as its first `count` bits, which are set, with room for so many bits.
 pub fn of_first(alloc: Global, count: usize, room: usize) -> Result<Vec<u64>, AllocError>
     requires { count ≤ room }
-    ensures len { IfOk result (λ words. length words.items ≡ div_ceil room 64) }
+    ensures len { IfOk result (λ words. length words.items ≡ div_ceil count 64) }
     ensures first { IfOk result (λ words. AreFirst count words.items) }
+    ensures room { IfOk result (λ words. div_ceil room 64 ≤ vec_capacity words) }
 {
-    let mut words = vec![in alloc; 0; room.div_ceil(64)]?;
+    let mut words = Vec::with_capacity(alloc, room.div_ceil(64))?;
     for word in 0..count.div_ceil(64) {
-        words[word] = lowest_bits((count - word * 64).min(64));
+        add(&mut words, lowest_bits((count - word * 64).min(64)));
     }
     Ok(words)
+}
+
+/// A word more, for which there is room.
+fn add(words: &mut Vec<u64>, word: u64)
+    requires { vec_len words.old < vec_capacity words.old }
+    ensures added { words.new.items ≡ words.old.items ++ word ∷ [] }
+    ensures capacity { vec_capacity words.old ≤ vec_capacity words.new }
+{
+    match words.push(word) {
+        Ok(()) => {}
+        Err(_) => unreachable!(),
+    }
+}
+
+/// The row reaches as far as so many bits, and no bit more is set. There is room for them.
+pub fn reach(words: &mut Vec<u64>, bits: usize)
+    requires { div_ceil bits 64 ≤ vec_capacity words.old }
+    ensures reached { div_ceil bits 64 ≤ length words.new.items }
+    ensures short { length words.new.items ≤ max (length words.old.items) (div_ceil bits 64) }
+    ensures same { (w : ℕ) → slice_index words.new.items w ≡ slice_index words.old.items w }
+    ensures capacity { vec_capacity words.old ≤ vec_capacity words.new }
+{
+    while words.len() < bits.div_ceil(64) {
+        add(words, 0);
+    }
 }
 
 /// Whether the bit is set.

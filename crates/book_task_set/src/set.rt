@@ -3,7 +3,7 @@
 ghost use Rattle.std.specs.Prelude.{◌≡◌, ◌<◌, ◌≤◌, Some, true, false, length, replicate, ◌++◌, ◌-◌, IfOk, IsTrue, ◌↔◌, MatchOption, slice_get, slice_set};
 ghost use Rattle.book_task_set.specs.Members.{IsLowest, HasNone, IsLowestWord};
 
-use crate::level::{clear, first, has, lowest_bits, of_first, set};
+use crate::level::{clear, first, has, lowest_bits, of_first, reach, set};
 use std::alloc::{AllocError, Global};
 use std::marker::Model;
 
@@ -14,7 +14,7 @@ pub const MAX_ROOM: usize = 262_144;
 #[derive(Drop)]
 pub struct TaskSet {
     room: usize,
-    /// A bit for each number.
+    /// A bit for each number, as far up as numbers have come.
     numbers: Vec<u64>,
     /// A bit for each word of `numbers` that is not 0.
     words: Vec<u64>,
@@ -50,7 +50,8 @@ impl TaskSet {
         ensures { IfOk result (λ s. s ≡ replicate count true ++ replicate (room - count) false) }
     {
         let numbers = of_first(alloc, count, room)?;
-        let words = of_first(alloc, count.div_ceil(64), numbers.len())?;
+        let mut words = of_first(alloc, count.div_ceil(64), room.div_ceil(64))?;
+        reach(&mut words, room.div_ceil(64));
         let top = lowest_bits(count.div_ceil(64).div_ceil(64));
         Ok(TaskSet {
             room,
@@ -65,6 +66,7 @@ impl TaskSet {
         requires { number < length self.old }
         ensures { self.new ≡ slice_set self.old number true }
     {
+        reach(&mut self.numbers, number + 1);
         set(&mut self.numbers, number);
         set(&mut self.words, number / 64);
         set(&mut self.top, number / 64 / 64);
@@ -75,6 +77,9 @@ impl TaskSet {
         requires { number < length self.old }
         ensures { self.new ≡ slice_set self.old number false }
     {
+        if number / 64 >= self.numbers.len() {
+            return;
+        }
         if !clear(&mut self.numbers, number) {
             return;
         }
@@ -89,6 +94,9 @@ impl TaskSet {
         requires { number < length self.now }
         ensures { slice_get self.now number ≡ Some result }
     {
+        if number / 64 >= self.numbers.len() {
+            return false;
+        }
         has(&self.numbers, number)
     }
 

@@ -8,10 +8,10 @@ use Rattle.book_task_set.proofs.set.TaskSet.lowest.Goals as goal
 pub returns-then-self-eq0 : goal.returns-then-self-eq0
 returns-then-self-eq0 c =
     let s = c.self.inside in
-    subst HasNone c.self.view_is (none_on_top s.room s.numbers.items s.words.items s.top c.self.invariant c.if-self-eq0.true)
+    subst HasNone c.self.view_is (none_on_top s.room s.numbers.items s.words.items s.top c.self.invariant.levels c.if-self-eq0.true)
 
 pub returns : goal.returns
 returns c =
     let s = c.self.inside in
     let found : IsFirstBit s.numbers.items c.first.result = subst (λ (xs : List ℕ). IsFirstBit xs c.first.result) c.deref-2.ensures.value c.first.ensures in
-    subst (λ (xs : List Bool). IsLowest xs c.first.result) c.self.view_is (is_lowest s.room s.numbers.items c.first.result c.self.invariant.spare found)
+    subst (λ (xs : List Bool). IsLowest xs c.first.result) c.self.view_is (is_lowest s.room s.numbers.items c.first.result c.self.invariant.levels.spare found)
