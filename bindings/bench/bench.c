@@ -30,28 +30,30 @@ static void fails(const char *why) {
     exit(2);
 }
 
-/* One task: tries without the lock, then a turn under it. */
-static void run(stm_worker *worker, uint32_t task) {
+/* One task: tries without the lock, then a turn under it. The next task is taken under the same lock as the end; the
+ * answer is its number, or below 0 where none is ready. */
+static int64_t run(stm_worker *worker, uint32_t task) {
     for (int tries = 0; tries < STALE_TRIES; tries++) {
         if (stm_try(worker, task) != STM_DONE) continue;
         pthread_mutex_lock(&lock);
-        stm_told told = stm_finish(&store, worker);
+        int is_done = stm_finish(&store, worker).code == STM_DONE;
+        int64_t after = is_done ? stm_take(&store) : -1;
         pthread_mutex_unlock(&lock);
-        if (told.code == STM_DONE) return;
+        if (is_done) return after;
     }
     pthread_mutex_lock(&lock);
     stm_serial(&store, task);
+    int64_t after = stm_take(&store);
     pthread_mutex_unlock(&lock);
+    return after;
 }
 
 static void *work(void *worker) {
-    for (;;) {
-        pthread_mutex_lock(&lock);
-        int64_t task = stm_take(&store);
-        pthread_mutex_unlock(&lock);
-        if (task < 0) return NULL;
-        run(worker, (uint32_t)task);
-    }
+    pthread_mutex_lock(&lock);
+    int64_t task = stm_take(&store);
+    pthread_mutex_unlock(&lock);
+    while (task >= 0) task = run(worker, (uint32_t)task);
+    return NULL;
 }
 
 /* What a thread does, with what, and when it began and ended. */

@@ -200,7 +200,7 @@ int32_t stm_checkpoint(stm_store *store);
  * lock. Where the answer is STM_SHORT, call again with room for `wanted` bytes. */
 int32_t stm_report(stm_store *store, uint8_t *room, size_t room_length, size_t *wanted);
 
-/* As `stm_report`, with no turn given: STM_WORK_LEFT where a task is ready or running. Under the lock. */
+/* As `stm_report`, with no turn given: STM_WORK_LEFT exactly where a task is ready or running. Under the lock. */
 int32_t stm_report_now(stm_store *store, uint8_t *room, size_t room_length, size_t *wanted);
 
 /* Copies the file as it has become, with a run for each task that was submitted, into the room: with the

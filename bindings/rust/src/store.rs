@@ -125,7 +125,7 @@ impl Store {
         held(&self.raw).file()
     }
 
-    /// As `report`, with no turn given: `WorkLeft` where a task is ready or running.
+    /// As `report`, with no turn given: `WorkLeft` exactly where a task is ready or running.
     pub fn report_now(&self) -> Result<String, Error> {
         held(&self.raw).report_now()
     }

@@ -17,9 +17,13 @@ use Rattle.stm_c.specs.declared.codes.Taken.{Taken}
 use Rattle.stm_c.specs.declared.codes.Told.{Told}
 use Rattle.stm_c.specs.Numbers.{taken_as, told_brought, told_served, no_such, number_of_try, told_observed}
 
--- what no call changes of a store: its program, and when it makes checkpoints
+-- what no call changes of a store: its program, its cells, and when it makes checkpoints
+abbrev pub IsStillOf : Store → Store → Type 0
+IsStillOf old new = (new.catalogue.now ≡ old.catalogue.now) × (new.cells.now ≡ old.cells.now) × (new.every ≡ old.every)
+
+-- and the workers that it can still make, which `stm_hire` alone makes fewer
 abbrev pub StaysOf : Store → Store → Type 0
-StaysOf old new = (new.catalogue.now ≡ old.catalogue.now) × (new.every ≡ old.every)
+StaysOf old new = IsStillOf old new × (new.passes.items ≡ old.passes.items)
 
 -- what no call changes of a worker: its program, and its cells
 abbrev pub StaysWith : Worker → Worker → Type 0

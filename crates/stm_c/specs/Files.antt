@@ -1,11 +1,12 @@
 -- What the calls on whole files answer in numbers.
-use Rattle.std.specs.Prelude.{◌≡◌, ℕ, ℤ, List, Result, Ok, Err, ◌⊎◌}
+use Rattle.std.specs.Prelude.{◌≡◌, ℕ, ℤ, List, Some, Result, Ok, Err, ◌⊎◌}
+use Rattle.text_grammar.specs.Spelling.{first_fault}
 use Rattle.txn_text.specs.Faults.{IsFirst}
 use Rattle.text_words.specs.declared.fault.ReadFault.{ReadFault}
 use Rattle.text_words.specs.declared.fault.ReadFault.TheVariants as refused
 use Rattle.checker.specs.Verdicts.{Judges}
 use Rattle.checker.specs.declared.verdict.Verdict.{Verdict}
-use Rattle.stm_c.specs.Numbers.{number_of_verdict}
+use Rattle.stm_c.specs.Numbers.{number_of_fault, number_of_verdict}
 
 -- the verdict on the report; or want of memory, or the first fault of the file
 abbrev pub IsJudged : List ℕ → List ℕ → Result Verdict ReadFault → Type 0
@@ -17,3 +18,9 @@ pub record Judged (file report : List ℕ) (n : ℤ) : Type 0 where
   pub answer : Result Verdict ReadFault
   pub is : IsJudged file report answer
   pub answered : n ≡ number_of_verdict answer
+
+-- the number of the fault of the file that reading comes to first, or of want of memory
+pub record IsRefused (file : List ℕ) (n : ℤ) : Type 0 where
+  pub fault : ReadFault
+  pub is : (fault ≡ refused.Memory) ⊎ (first_fault file ≡ Some fault)
+  pub answered : n ≡ number_of_fault fault

@@ -1,15 +1,10 @@
 -- What a host is told of a store in numbers.
-use Rattle.std.specs.Prelude.{◌≡◌, ℕ, ℤ, pos, negsuc, ◌<◌, ◌≤◌, List, length, Option, Some, None, Result, Ok, Err, IsUtf8, string_bytes}
-use Rattle.std.specs.declared.alloc.Global.{Global}
-use Rattle.std.specs.declared.string.String.{String}
+use Rattle.std.specs.Prelude.{◌≡◌, ℕ, ℤ, pos, negsuc, ◌<◌, ◌≤◌, List, length, Option, Some, None, IsUtf8}
 use Rattle.txn_programs.specs.declared.ast.TaskId.{TaskId}
 use Rattle.book.specs.View.{BookView}
 use Rattle.book.specs.Submitted.{Submits}
 use Rattle.book.specs.declared.counting.Counts.{Counts}
-use Rattle.book.specs.Turns.{IsIdle}
-use Rattle.stm_store.specs.declared.telling.ReportFault.{ReportFault}
-use Rattle.stm_store.specs.declared.telling.ReportFault.TheVariants as refused
-use Rattle.stm_store.specs.Working.{IsValueOf, IsTextOf}
+use Rattle.stm_store.specs.Working.{IsValueOf}
 use Rattle.stm_c.specs.declared.codes.Standing.{Standing}
 
 -- a task's number; where none was submitted, that there is no room (-14)
@@ -30,12 +25,6 @@ counts_in s = record { ready = s.ready; running = s.running; parked = s.parked; 
 -- `stm_value`: the present value and version of the variable of this name
 abbrev pub ValueIs : BookView → List ℕ → ℤ → ℕ → Type 0
 ValueIs b name value version = IsValueOf b name (Some (value, version))
-
--- `report_now`: the text of the book; or a task is ready or running, or want of memory
-abbrev pub Tells : BookView → Result (String Global) ReportFault → Type 0
-Tells b (Ok text) = IsTextOf b (string_bytes text)
-Tells b (Err refused.WorkLeft) = IsIdle b → ⊥
-Tells b (Err refused.Memory) = Unit {0}
 
 -- there is no variable of this name, which is text or else is none's
 abbrev pub NoValue : BookView → List ℕ → Type 0

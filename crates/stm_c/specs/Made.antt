@@ -1,5 +1,5 @@
 -- What a handle holds that was just made.
-use Rattle.std.specs.Prelude.{◌≡◌, ℕ, ◌+◌, List, length, Option, Some, None}
+use Rattle.std.specs.Prelude.{◌≡◌, ℕ, ℤ, pos, negsuc, ◌+◌, ◌⊎◌, List, [], length, Option, Some, None}
 use Rattle.txn_text.specs.Spelling.{Spells}
 use Rattle.book.specs.View.{opened}
 use Rattle.stm_store.specs.declared.program.Program.{Program}
@@ -32,3 +32,9 @@ pub record IsWorkerOf (store : Store) (worker : Worker) : Type 0 where
 abbrev pub IsHiredBy : Option Store → Worker → Type 0
 IsHiredBy None worker = ⊥
 IsHiredBy (Some store) worker = IsWorkerOf store worker
+
+-- `stm_hire`: a worker less is left where it answers 0; where it answers -10 there was none, or there is nothing to work on
+pub record LeavesWorkers (old : Store) (answer : ℤ) (new : Store) : Type 0 where
+  pub one : answer ≡ pos 0 → length new.passes.items + 1 ≡ length old.passes.items
+  pub none : answer ≡ negsuc 9 → (old.passes.items ≡ []) ⊎ (old.catalogue.now.transactions ≡ [])
+  pub stays : (answer ≡ pos 0 → ⊥) → (answer ≡ negsuc 5 → ⊥) → new.passes.items ≡ old.passes.items

@@ -11,6 +11,8 @@ use stm_store::{Brought, Job, Tried};
 use txn::{Fault, Outcome, TaskId};
 use txn_text::ReadFault;
 
+/// The file would be longer than a file may be.
+pub(crate) const FILE_TOO_LONG: i32 = -1;
 /// Want of memory.
 pub(crate) const MEMORY: i32 = -6;
 /// The room is too short; how long it has to be was written.
@@ -99,6 +101,7 @@ pub(crate) fn no_job() -> Taken
 /// Why a file is refused. Never 0.
 pub(crate) fn file_fault(fault: ReadFault) -> i32
     ensures never { result ≢ pos 0 }
+    ensures room { result ≢ SHORT }
     ensures below { IsBelow result }
     ensures number { result ≡ number_of_fault fault }
 {
@@ -116,6 +119,7 @@ pub(crate) fn file_fault(fault: ReadFault) -> i32
 /// Why a schedule is refused. Never 0.
 pub(crate) fn schedule_fault(fault: ReadFault) -> i32
     ensures never { result ≢ pos 0 }
+    ensures room { result ≢ SHORT }
     ensures below { IsBelow result }
 {
     match fault {

@@ -1,17 +1,19 @@
 //! A store, as a handle: its calls stand under the host's lock.
 
-ghost use Rattle.std.specs.Prelude.{◌≡◌, ◌≢◌, None, pos};
+ghost use Rattle.std.specs.Prelude.{◌≡◌, ◌≢◌, ◌<◌, ◌≤◌, ◌+◌, None, pos, length};
+ghost use Rattle.txn_programs.specs.declared.limits.TheConstants.{MAX_TASKS};
+ghost use Rattle.txn_programs.specs.Listing.{tasks};
 ghost use Rattle.stm_store.specs.Working.{IsTextOf};
-ghost use Rattle.stm_c.specs.Calls.{StaysOf, Takes, Finishes, ServesAny, GivesUp, Reports, LeavesChecked};
+ghost use Rattle.stm_c.specs.Calls.{IsStillOf, Takes, Finishes, ServesAny, GivesUp, Reports, LeavesChecked};
 ghost use Rattle.stm_c.specs.Held.{FinishesOn, HoldsSome, IsOf, On};
-ghost use Rattle.stm_c.specs.Made.{IsHiredBy, IsOpened, IsOpenedOf, IsWorkerOf};
+ghost use Rattle.stm_c.specs.Made.{IsHiredBy, IsOpened, IsOpenedOf, IsWorkerOf, LeavesWorkers};
 ghost use Rattle.stm_c.specs.Numbers.{nothing_held, nothing_taken};
-ghost use Rattle.stm_c.specs.Rooms.{Holds};
+ghost use Rattle.stm_c.specs.Rooms.{Holds, TooShort};
 ghost use Rattle.stm_c.specs.declared.codes.Taken.{Taken};
 
 use crate::codes::{
-    EMPTY, FULL, MEMORY, NO_ROOM, NO_WORKER, Taken, Told, UNKNOWN, brought, empty, job_of, no_job,
-    served, unknown,
+    EMPTY, FULL, MEMORY, NO_ROOM, NO_WORKER, SHORT, Taken, Told, UNKNOWN, brought, empty, job_of,
+    no_job, served, unknown,
 };
 use crate::program_handle::ProgramHandle;
 use crate::reading::program_of;
@@ -35,6 +37,7 @@ pub extern "C" fn stm_open(
 ) -> i32
     ensures program { program.new.value ≡ program.old.value }
     ensures done { result ≡ pos 0 → HoldsSome (IsOpenedOf program.old.value workers checkpoint 0) out.new.value }
+    ensures many { result ≡ NO_WORKER → 32 < workers }
     ensures kept { result ≢ pos 0 → out.new.value ≡ out.old.value }
     ensures empty { program.old.value ≡ None → result ≡ EMPTY }
     ensures full { program.old.value ≢ None → out.old.value ≢ None → result ≡ FULL }
@@ -58,6 +61,8 @@ pub extern "C" fn stm_open_with_room(
 ) -> i32
     ensures program { program.new.value ≡ program.old.value }
     ensures done { result ≡ pos 0 → HoldsSome (IsOpenedOf program.old.value workers checkpoint spare) out.new.value }
+    ensures many { result ≡ NO_WORKER → 32 < workers }
+    ensures room { result ≡ NO_ROOM → HoldsSome (λ p. MAX_TASKS < length (tasks p.catalogue.now) + spare) program.old.value }
     ensures kept { result ≢ pos 0 → out.new.value ≡ out.old.value }
     ensures empty { program.old.value ≡ None → result ≡ EMPTY }
     ensures full { program.old.value ≢ None → out.old.value ≢ None → result ≡ FULL }
@@ -77,6 +82,9 @@ fn open(
     out: &mut StoreHandle,
 ) -> i32
     ensures done { result ≡ pos 0 → HoldsSome (IsOpened program workers checkpoint spare) out.new.value }
+    ensures many { result ≡ NO_WORKER → 32 < workers }
+    ensures room { result ≡ NO_ROOM → MAX_TASKS < length (tasks program.catalogue.now) + spare }
+    ensures none { length (tasks program.catalogue.now) + spare ≤ MAX_TASKS → result ≢ NO_ROOM }
     ensures kept { result ≢ pos 0 → out.new.value ≡ out.old.value }
     ensures full { out.old.value ≢ None → result ≡ FULL }
 {
@@ -112,7 +120,7 @@ pub extern "C" fn stm_store_free(alloc: Global, store: &mut StoreHandle)
 /// the store's handle is empty, or `out` is not. Else than with 0, `out` is as it was.
 #[unsafe(no_mangle)]
 pub extern "C" fn stm_hire(alloc: Global, store: &mut StoreHandle, out: &mut WorkerHandle) -> i32
-    ensures store { On store.old.value store.new.value EMPTY result (λ old answer new. (new.book ≡ old.book) × StaysOf old new) }
+    ensures store { On store.old.value store.new.value EMPTY result (λ old answer new. (new.book ≡ old.book) × IsStillOf old new × LeavesWorkers old answer new) }
     ensures done { result ≡ pos 0 → HoldsSome (IsHiredBy store.old.value) out.new.value }
     ensures kept { result ≢ pos 0 → out.new.value ≡ out.old.value }
     ensures full { store.old.value ≢ None → out.old.value ≢ None → result ≡ FULL }
@@ -127,7 +135,8 @@ pub extern "C" fn stm_hire(alloc: Global, store: &mut StoreHandle, out: &mut Wor
 
 fn hire(alloc: Global, store: &mut Store, out: &mut WorkerHandle) -> i32
     ensures book { store.new.book ≡ store.old.book }
-    ensures stays { StaysOf store.old store.new }
+    ensures stays { IsStillOf store.old store.new }
+    ensures workers { LeavesWorkers store.old result store.new }
     ensures done { result ≡ pos 0 → HoldsSome (IsWorkerOf store.old) out.new.value }
     ensures kept { result ≢ pos 0 → out.new.value ≡ out.old.value }
     ensures full { out.old.value ≢ None → result ≡ FULL }
@@ -282,7 +291,7 @@ pub extern "C" fn stm_report(
     room: &mut [u8],
     wanted: &mut usize,
 ) -> i32
-    ensures { On store.old.value store.new.value EMPTY result (λ old answer new. Reports old new × (answer ≡ pos 0 → Holds (IsTextOf new.book) room.old room.new wanted.new)) }
+    ensures { On store.old.value store.new.value EMPTY result (λ old answer new. Reports old new × (answer ≡ pos 0 → Holds (IsTextOf new.book) room.old room.new wanted.new) × (answer ≡ SHORT → TooShort (IsTextOf new.book) room.old room.new wanted.new)) }
 {
     *wanted = 0;
     let Some(mut held) = store.take(alloc) else {
@@ -296,6 +305,7 @@ pub extern "C" fn stm_report(
 fn reported(store: &mut Store, room: &mut [u8], wanted: &mut usize) -> i32
     ensures turns { Reports store.old store.new }
     ensures done { result ≡ pos 0 → Holds (IsTextOf store.new.book) room.old room.new wanted.new }
+    ensures short { result ≡ SHORT → TooShort (IsTextOf store.new.book) room.old room.new wanted.new }
 {
     match store.report() {
         Ok(text) => copy(text.as_bytes(), room, wanted),

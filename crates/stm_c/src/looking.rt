@@ -1,14 +1,15 @@
 //! What is seen of a store: under the host's lock. Nothing changes.
 
-ghost use Rattle.std.specs.Prelude.{◌≡◌, ◌≢◌, pos};
+ghost use Rattle.std.specs.Prelude.{◌≡◌, ◌≢◌, ◌<◌, pos, length};
+ghost use Rattle.txn_text.specs.Canonical.{file_text};
 ghost use Rattle.book.specs.Counting.{AreCounts};
 ghost use Rattle.book.specs.Turns.{IsIdle};
 ghost use Rattle.stm_store.specs.Working.{IsFileOf, IsTextOf};
 ghost use Rattle.stm_c.specs.Held.{Asked};
-ghost use Rattle.stm_c.specs.Rooms.{Holds};
-ghost use Rattle.stm_c.specs.Looking.{counts_in, NoValue, Tells, ValueIs};
+ghost use Rattle.stm_c.specs.Rooms.{Holds, TooShort};
+ghost use Rattle.stm_c.specs.Looking.{counts_in, NoValue, ValueIs};
 
-use crate::codes::{EMPTY, MEMORY, Standing, UNKNOWN, WORK_LEFT};
+use crate::codes::{EMPTY, FILE_TOO_LONG, MEMORY, SHORT, Standing, UNKNOWN, WORK_LEFT};
 use crate::store_handle::StoreHandle;
 use crate::writing::copy;
 use book::Counts;
@@ -90,6 +91,8 @@ pub extern "C" fn stm_file(
     wanted: &mut usize,
 ) -> i32
     ensures done { Asked store.old.value EMPTY result (λ held answer. answer ≡ pos 0 → Holds (IsFileOf held.book) room.old room.new wanted.new) }
+    ensures short { Asked store.old.value EMPTY result (λ held answer. answer ≡ SHORT → TooShort (IsFileOf held.book) room.old room.new wanted.new) }
+    ensures long { Asked store.old.value EMPTY result (λ held answer. answer ≡ FILE_TOO_LONG → 1048576 < length (file_text held.book.catalogue)) }
     ensures stays { store.new.value ≡ store.old.value }
 {
     *wanted = 0;
@@ -102,16 +105,19 @@ pub extern "C" fn stm_file(
 }
 
 fn file_of(store: &Store, room: &mut [u8], wanted: &mut usize) -> i32
-    ensures { result ≡ pos 0 → Holds (IsFileOf store.now.book) room.old room.new wanted.new }
+    ensures done { result ≡ pos 0 → Holds (IsFileOf store.now.book) room.old room.new wanted.new }
+    ensures short { result ≡ SHORT → TooShort (IsFileOf store.now.book) room.old room.new wanted.new }
+    ensures long { result ≡ FILE_TOO_LONG → 1048576 < length (file_text store.now.book.catalogue) }
 {
     match store.file() {
         Ok(text) => copy(text.as_bytes(), room, wanted),
-        Err(FileFault::TooLong) => -1,
+        Err(FileFault::TooLong) => FILE_TOO_LONG,
         Err(FileFault::Memory) => MEMORY,
     }
 }
 
-/// As `stm_report`, with no turn given. -15: a task is ready or running.
+/// As `stm_report`, with no turn given. -15: a task is ready or running; it is answered wherever
+/// one is, whatever memory there is.
 #[unsafe(no_mangle)]
 pub extern "C" fn stm_report_now(
     alloc: Global,
@@ -120,7 +126,9 @@ pub extern "C" fn stm_report_now(
     wanted: &mut usize,
 ) -> i32
     ensures done { Asked store.old.value EMPTY result (λ held answer. answer ≡ pos 0 → Holds (IsTextOf held.book) room.old room.new wanted.new) }
+    ensures short { Asked store.old.value EMPTY result (λ held answer. answer ≡ SHORT → TooShort (IsTextOf held.book) room.old room.new wanted.new) }
     ensures left { Asked store.old.value EMPTY result (λ held answer. answer ≡ WORK_LEFT → ¬ (IsIdle held.book)) }
+    ensures always_left { Asked store.old.value EMPTY result (λ held answer. ¬ (IsIdle held.book) → answer ≡ WORK_LEFT) }
     ensures stays { store.new.value ≡ store.old.value }
 {
     *wanted = 0;
@@ -134,7 +142,9 @@ pub extern "C" fn stm_report_now(
 
 fn report_of(store: &Store, room: &mut [u8], wanted: &mut usize) -> i32
     ensures done { result ≡ pos 0 → Holds (IsTextOf store.now.book) room.old room.new wanted.new }
+    ensures short { result ≡ SHORT → TooShort (IsTextOf store.now.book) room.old room.new wanted.new }
     ensures left { result ≡ WORK_LEFT → ¬ (IsIdle store.now.book) }
+    ensures always_left { ¬ (IsIdle store.now.book) → result ≡ WORK_LEFT }
 {
     match store.report_now() {
         Ok(text) => copy(text.as_bytes(), room, wanted),

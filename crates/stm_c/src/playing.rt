@@ -1,11 +1,11 @@
 //! A schedule played on the stepped world of a file.
 
-ghost use Rattle.std.specs.Prelude.{◌≡◌, IfErr, IfOk, pos};
+ghost use Rattle.std.specs.Prelude.{◌≡◌, ◌≢◌, IfErr, IfOk, pos};
 ghost use Rattle.world_runner.specs.Showing.{IsShowing};
 ghost use Rattle.stm_c.specs.Numbers.{IsBelow};
-ghost use Rattle.stm_c.specs.Rooms.{Holds};
+ghost use Rattle.stm_c.specs.Rooms.{Holds, TooShort};
 
-use crate::codes::{MEMORY, file_fault, schedule_fault};
+use crate::codes::{MEMORY, SHORT, file_fault, schedule_fault};
 use crate::writing::copy;
 use run_faults::RunFault;
 use run_sink::Out;
@@ -24,6 +24,7 @@ pub extern "C" fn stm_world(
     wanted: &mut usize,
 ) -> i32
     ensures done { result ≡ pos 0 → Holds (IsShowing file.now schedule.now) room.old room.new wanted.new }
+    ensures short { result ≡ SHORT → TooShort (IsShowing file.now schedule.now) room.old room.new wanted.new }
 {
     *wanted = 0;
     match seen(alloc, file, schedule) {
@@ -37,6 +38,7 @@ pub extern "C" fn stm_world(
 fn seen(alloc: Global, file: &[u8], schedule: &[u8]) -> Result<Vec<u8>, i32>
     ensures seen { IfOk result (λ text. IsShowing file.now schedule.now text.items) }
     ensures none { IfErr result IsBelow }
+    ensures other { IfErr result (λ code. code ≢ SHORT) }
 {
     let mut out = Out::new(Vec::new(alloc));
     match world_bytes(alloc, file, schedule, &mut out) {

@@ -1,6 +1,6 @@
 //! All tasks of a file, one after another on the calling thread, and the report.
 
-ghost use Rattle.std.specs.Prelude.{◌≡◌, pos, IfOk, IfErr, ◌⊎◌, Some, string_bytes};
+ghost use Rattle.std.specs.Prelude.{◌≡◌, ◌≢◌, pos, IfOk, IfErr, ◌⊎◌, Some, string_bytes};
 ghost use Rattle.txn_programs.specs.Told.{told};
 ghost use Rattle.txn_programs.specs.LawfulReport.{LawfulReport, BaseReached};
 ghost use Rattle.text_grammar.specs.Spelling.{Spells, first_fault};
@@ -8,9 +8,10 @@ ghost use Rattle.text_words.specs.declared.fault.ReadFault.TheVariants as ReadFa
 ghost use Rattle.book.specs.Turns.{IsIdle, ReportIs};
 ghost use Rattle.run_workers.specs.Journals.{KeepsShort};
 ghost use Rattle.runner.specs.Running.{IsReportBy};
-ghost use Rattle.stm_c.specs.Rooms.{Holds};
+ghost use Rattle.stm_c.specs.Rooms.{Holds, TooShort};
+ghost use Rattle.stm_c.specs.Files.{IsRefused};
 
-use crate::codes::file_fault;
+use crate::codes::{SHORT, file_fault};
 use crate::writing::copy;
 use book::Book;
 use cells::Cells;
@@ -31,6 +32,8 @@ pub extern "C" fn stm_run_one(
     wanted: &mut usize,
 ) -> i32
     ensures done { result ≡ pos 0 → Holds (IsReportBy checkpoint file.now) room.old room.new wanted.new }
+    ensures short { result ≡ SHORT → TooShort (IsReportBy checkpoint file.now) room.old room.new wanted.new }
+    ensures refused { result ≢ pos 0 → result ≢ SHORT → IsRefused file.now result }
 {
     *wanted = 0;
     match report_of(alloc, file, checkpoint) {

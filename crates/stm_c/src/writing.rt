@@ -1,6 +1,6 @@
 //! Where a text goes: into the room that the host lends.
 
-ghost use Rattle.std.specs.Prelude.{◌≡◌, ◌≤◌, ◌<◌, ◌++◌, pos, drop, length};
+ghost use Rattle.std.specs.Prelude.{◌≡◌, ◌≤◌, ◌<◌, ◌++◌, ◌⊎◌, pos, drop, length};
 
 use crate::codes::SHORT;
 
@@ -11,6 +11,8 @@ pub(crate) fn copy(text: &[u8], room: &mut [u8], wanted: &mut usize) -> i32
     ensures fits { length text.now ≤ length room.old → result ≡ pos 0 }
     ensures done { result ≡ pos 0 → room.new ≡ text.now ++ drop (length text.now) room.old }
     ensures short { length room.old < length text.now → (result ≡ SHORT) × (room.new ≡ room.old) }
+    ensures answers { (result ≡ pos 0) ⊎ (result ≡ SHORT) }
+    ensures why { result ≡ SHORT → (length room.old < length text.now) × (room.new ≡ room.old) }
 {
     *wanted = text.len();
     if text.len() > room.len() {
