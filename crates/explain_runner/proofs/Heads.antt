@@ -1,5 +1,5 @@
 -- A line begins with its head.
-use Rattle.std.proofs.Common.{◌≡◌, ℕ, List, [], ◌∷◌, ◌++◌, sym, ap, ◌∙◌, append_assoc}
+use Rattle.std.proofs.Common.{◌≡◌, ℕ, List, ◌++◌, sym, ap, ◌∙◌, append_assoc}
 use Rattle.std.specs.Prelude.{codes}
 use Rattle.explain_files.specs.Places.{line_at, column_at}
 use Rattle.text_words.specs.declared.fault.ReadFault.{ReadFault}

@@ -1,18 +1,16 @@
 -- Which line is to be found, by the kind of the fault.
-use Rattle.std.proofs.Common.{◌≡◌, ◌∙◌, ℕ, ◌≤◌, Bool, true, false, ◌&&◌, List, [], ◌∷◌, length, Option, Some, None, Result, Ok, Err, refl, sym, ap}
+use Rattle.std.proofs.Common.{◌≡◌, ◌∙◌, ℕ, Bool, true, false, List, [], ◌∷◌, length, Option, Some, None, Ok, refl}
 use Rattle.std.specs.Prelude.{nat_lt, is_some}
 use Rattle.std.specs.List.{list_all}
 use Rattle.std.specs.Str.Parse.{digits_value}
 use Rattle.std.proofs.lemmas.Bool.{and_parts}
 use Rattle.txn_programs.specs.declared.ast.TaskId.{TaskId}
 use Rattle.txn_programs.specs.declared.ast.VarId.{VarId}
-use Rattle.txn_programs.specs.declared.limits.TheConstants.{MAX_TASKS}
 use Rattle.txn_programs.specs.declared.moves.Move.{Move}
 use Rattle.txn_programs.specs.declared.moves.Move.TheVariants as move
 use Rattle.txn_programs.specs.Listing.{Listing, tasks, variable_named}
 use Rattle.txn_programs.specs.Limits.{limits_hold}
 use Rattle.txn_programs.proofs.Lawful.{few_tasks}
-use Rattle.text_words.specs.declared.fault.ReadFault.{ReadFault}
 use Rattle.text_words.specs.declared.fault.ReadFault.TheVariants.{Name, Limit}
 use Rattle.text_lines.specs.Counts.{task_id, below}
 use Rattle.text_schedule_reader.specs.Raw.{Raw, OfTask, OfVariable, Word}

@@ -1,27 +1,25 @@
 -- What a line says, and where it stops being one.
-use Rattle.std.proofs.Common.{◌≡◌, ◌∙◌, ℕ, ◌+◌, ◌≤◌, Bool, true, false, List, [], ◌∷◌, ◌++◌, length, Option, Some, None, Result, Ok, Err, refl, sym, ap, subst, inl, inr, append_assoc, length-append, arith}
+use Rattle.std.proofs.Common.{◌≡◌, ◌∙◌, ℕ, ◌+◌, ◌≤◌, Bool, true, false, List, [], ◌∷◌, ◌++◌, length, Option, Some, None, Result, Ok, Err, refl, sym, ap, subst, length-append, arith}
 use Rattle.std.specs.Prelude.{codes, is_some}
 use Rattle.std.specs.Str.{bytes_eq}
-use Rattle.std.proofs.lemmas.Bool.{and_from}
 use Rattle.std.proofs.lemmas.List.{append-nil}
 use Rattle.txn_programs.specs.Names.{is_name}
-use Rattle.text_words.specs.Bytes.{is_int, is_positive}
-use Rattle.text_words.specs.Words.{line}
+use Rattle.text_words.specs.Bytes.{is_int}
 use Rattle.text_words.specs.declared.fault.ReadFault.{ReadFault}
 use Rattle.text_words.specs.declared.fault.ReadFault.TheVariants.{Shape}
-use Rattle.text_words.specs.Answers.{◌>>=◌, Fails}
+use Rattle.text_words.specs.Answers.{Fails}
 use Rattle.text_lines.specs.Lines.{parted}
 use Rattle.text_lines.specs.Words.{is_number}
-use Rattle.text_lines.specs.Words.{first_word, number_in, name_in, given}
+use Rattle.text_lines.specs.Words.{first_word, number_in, name_in}
 use Rattle.text_lines.proofs.Parting.{parted_takes, parted_again}
 use Rattle.text_lines.proofs.Numbers.{number_lacks, name_lacks}
-use Rattle.text_lines.proofs.Steps.{Takes, text_of, number_takes}
-use Rattle.text_schedule_reader.specs.Raw.{Raw, OfTask, OfVariable, Word, task_word, variable_word, raw_words, IsRaw}
-use Rattle.text_schedule_reader.specs.Reading.{task_verb, variable_verb, alone, of_task, of_variable, of_verb, of_parts, move_in}
+use Rattle.text_lines.proofs.Steps.{text_of, number_takes}
+use Rattle.text_schedule_reader.specs.Raw.{Raw, OfTask, OfVariable, Word, task_word, variable_word, raw_words}
+use Rattle.text_schedule_reader.specs.Reading.{task_verb, variable_verb, alone, of_task, of_variable, of_verb, move_in}
 use Rattle.text_schedule_reader.proofs.Steps.{task_word_is, variable_word_is, move_takes}
 use Rattle.explain_schedules.specs.Words.{behind, behind_len, lacks, task_place, name_place}
 use Rattle.explain_schedules.specs.Lines.{Opens, Closes, StopsAt}
-use Rattle.explain_schedules.proofs.Parts.{SpaceFirst, Split, split, has_it, same_front, behind_more, behind_length, lacks_parts}
+use Rattle.explain_schedules.proofs.Parts.{SpaceFirst, split, has_it, same_front}
 
 -- the kinds of verbs, which the reader keeps to itself
 abbrev pub Domain : {A B : Type 0} → (A → B) → Type 0

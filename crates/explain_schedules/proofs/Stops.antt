@@ -1,18 +1,17 @@
 -- Where a line stops being one, bytes stop being the beginning of a schedule.
-use Rattle.std.proofs.Common.{◌≡◌, ◌∙◌, ℕ, ◌+◌, Bool, true, false, List, [], ◌∷◌, ◌++◌, length, Ok, Err, refl, sym, ap, subst, inl, inr, append_assoc, length-append, arith}
-use Rattle.std.specs.Prelude.{codes}
+use Rattle.std.proofs.Common.{◌≡◌, ◌∙◌, ℕ, ◌+◌, true, List, [], ◌∷◌, ◌++◌, length, Ok, Err, refl, sym, ap, subst, inl, inr, append_assoc, length-append, arith}
 use Rattle.std.specs.List.{AllByRecursion}
 use Rattle.std.proofs.lemmas.List.{append-nil}
 use Rattle.text_words.specs.Bytes.{is_blank}
 use Rattle.text_words.specs.Words.{line}
 use Rattle.text_words.specs.declared.fault.ReadFault.TheVariants.{Shape}
 use Rattle.text_lines.specs.Lines.{lines}
-use Rattle.text_schedule_reader.specs.Raw.{Raw, raw_words, raw_text, IsRaw}
+use Rattle.text_schedule_reader.specs.Raw.{Raw, raw_text, IsRaw}
 use Rattle.text_schedule_reader.specs.Reading.{move_in, raws_at}
 use Rattle.text_schedule_reader.proofs.Steps.{move_takes}
-use Rattle.explain_schedules.specs.Words.{behind, behind_len, lacks, EndsWord, ending, IsParted}
+use Rattle.explain_schedules.specs.Words.{behind, lacks, EndsWord, ending, IsParted}
 use Rattle.explain_schedules.specs.Lines.{Opens, Closes, StopsAt}
-use Rattle.explain_schedules.specs.Places.{Begins, IsWrongWord, IsUnended, IsStop}
+use Rattle.explain_schedules.specs.Places.{Begins, IsWrongWord, IsStop}
 use Rattle.explain_schedules.specs.Walking.{IsWalked}
 use Rattle.explain_schedules.proofs.Parts.{behind_more, behind_whole, behind_length, lacks_parts, word_bytes}
 use Rattle.explain_schedules.proofs.Rows.{behind_read, whole_read, begun_read, line_is, text_more, all_more}

@@ -1,13 +1,12 @@
 -- The walk to the first line of which something is not so.
-use Rattle.std.proofs.Common.{◌≡◌, ◌∙◌, ℕ, ◌+◌, ◌≤◌, Bool, true, false, cond, ◌&&◌, List, [], ◌∷◌, ◌++◌, length, Option, Some, None, Ok, Err, refl, sym, ap, subst, append_assoc, length-append, arith}
+use Rattle.std.proofs.Common.{◌≡◌, ◌∙◌, ℕ, ◌+◌, ◌≤◌, Bool, true, false, ◌&&◌, List, [], ◌∷◌, ◌++◌, length, Option, Some, None, Ok, refl, sym, ap, subst, append_assoc, length-append, arith}
 use Rattle.std.specs.List.{list_all}
 use Rattle.std.proofs.lemmas.Bool.{and_from}
 use Rattle.std.proofs.lemmas.List.Folds.{list_all-append}
 use Rattle.text_words.proofs.Steps.{bind_ok, ok_is}
-use Rattle.text_lines.specs.Lines.{Line, Whole, lines}
+use Rattle.text_lines.specs.Lines.{Whole, lines}
 use Rattle.text_lines.proofs.Parting.{lines_text}
-use Rattle.text_lines.proofs.Steps.{text_of}
-use Rattle.text_schedule_reader.specs.Raw.{Raw, raw_words, raw_text}
+use Rattle.text_schedule_reader.specs.Raw.{Raw, raw_text}
 use Rattle.text_schedule_reader.specs.Reading.{move_in, raws_at}
 use Rattle.text_schedule_reader.specs.Schedules.{IsWritten}
 use Rattle.text_schedule_reader.proofs.Steps.{move_takes}

@@ -7,6 +7,8 @@
 #[cfg(test)]
 mod many_workers;
 #[cfg(test)]
+mod on_many;
+#[cfg(test)]
 mod one_byte;
 #[cfg(test)]
 mod parts;

@@ -1,9 +1,6 @@
-//! The catalogues of the tests, where memory may be refused.
+//! The file of the tests.
 
-use std::alloc::Global;
-use std::process::Abort;
-use txn::{Catalogue, TaskId};
-use txn_text::{ReadFault, read_file};
+use txn::TaskId;
 
 pub(crate) const A: TaskId = TaskId(0);
 
@@ -19,14 +16,3 @@ pub(crate) const MANY: &str =
     (tx all (seq (orelse (seq (set a 1) (retry)) (set a (add a 1))) (set b (add b 1)) (set c (add c 1)) \
     (set d (add d 1)) (set e (add e 1)) (set f (add f 1)) (set g (add g 1)) (set h (add h 1)) (set i (add i 1)) \
     (set j (add j 1))) a)(run all 2)";
-
-/// The catalogue of a text, `None` where memory is refused.
-pub(crate) fn catalogue(rt: &impl Abort, alloc: Global, text: &str) -> Option<Catalogue> {
-    match read_file(alloc, text.as_bytes()) {
-        Ok(catalogue) => Some(catalogue),
-        Err(fault) => {
-            assert!(rt; fault == ReadFault::Memory);
-            None
-        }
-    }
-}

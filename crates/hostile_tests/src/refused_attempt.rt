@@ -2,7 +2,8 @@
 
 ghost use Rattle.std.specs.Prelude.{◌≡◌};
 
-use crate::parts::{MANY, VARIABLES, catalogue};
+use crate::on_many::{Use, on_many};
+use crate::parts::VARIABLES;
 use crate::uses::{advanced_twice, supplied_or_asked};
 use attempt::{Attempt, Next, Stand};
 use std::alloc::Global;
@@ -45,7 +46,8 @@ fn is_driven(attempt: &mut Attempt<'_>) -> bool {
     false
 }
 
-fn drives(rt: &impl Abort, alloc: Global, catalogue: &Catalogue) {
+/// An attempt of the first transaction is driven so.
+pub(crate) fn drives(rt: &impl Abort, alloc: Global, catalogue: &Catalogue) {
     assert!(rt; catalogue.tx_count() > 0);
     let mut attempt = Attempt::new(alloc, catalogue, TxId(0));
     assert!(rt; is_driven(&mut attempt));
@@ -53,7 +55,5 @@ fn drives(rt: &impl Abort, alloc: Global, catalogue: &Catalogue) {
 
 #[test]
 fn an_attempt_goes_on_or_is_spent(rt: HostRuntime) {
-    if let Some(catalogue) = catalogue(&rt, rt.alloc(), MANY) {
-        drives(&rt, rt.alloc(), &catalogue);
-    }
+    on_many(&rt, rt.alloc(), Use::Attempt);
 }

@@ -2,7 +2,8 @@
 
 ghost use Rattle.std.specs.Prelude.{◌<◌, length};
 
-use crate::parts::{A, MANY, catalogue};
+use crate::on_many::{Use, on_many};
+use crate::parts::A;
 use crate::uses::{entries_after_report, given_up_twice};
 use attempt::{Attempt, Next};
 use book::{Book, Serial};
@@ -13,7 +14,7 @@ use txn::{Catalogue, TxId};
 
 /// What is done with a book that was just opened.
 #[derive(Clone, Copy)]
-enum Script {
+pub(crate) enum Script {
     Takes,
     GivesUp,
     Serves,
@@ -21,7 +22,7 @@ enum Script {
 }
 
 /// Opens a book of the catalogue, and follows the script. Whether it was opened.
-fn over(rt: &impl Abort, alloc: Global, catalogue: &Catalogue, script: Script) -> bool {
+pub(crate) fn over(rt: &impl Abort, alloc: Global, catalogue: &Catalogue, script: Script) -> bool {
     let Ok((cells, publisher, _)) = Cells::open(alloc, catalogue.initial(), 0) else {
         return false;
     };
@@ -108,30 +109,20 @@ fn reports(rt: &impl Abort, alloc: Global, book: &mut Book<'_>) {
 
 #[test]
 fn after_a_refused_opening_a_book_opens(rt: HostRuntime) {
-    if let Some(catalogue) = catalogue(&rt, rt.alloc(), MANY) {
-        let first = over(&rt, rt.alloc(), &catalogue, Script::Takes);
-        let second = over(&rt, rt.alloc(), &catalogue, Script::Takes);
-        assert!(rt; first || second);
-    }
+    on_many(&rt, rt.alloc(), Use::OpensBooks);
 }
 
 #[test]
 fn a_task_without_memory_is_given_up_once(rt: HostRuntime) {
-    if let Some(catalogue) = catalogue(&rt, rt.alloc(), MANY) {
-        over(&rt, rt.alloc(), &catalogue, Script::GivesUp);
-    }
+    on_many(&rt, rt.alloc(), Use::Book(Script::GivesUp));
 }
 
 #[test]
 fn a_turn_without_memory_gives_its_task_up(rt: HostRuntime) {
-    if let Some(catalogue) = catalogue(&rt, rt.alloc(), MANY) {
-        over(&rt, rt.alloc(), &catalogue, Script::Serves);
-    }
+    on_many(&rt, rt.alloc(), Use::Book(Script::Serves));
 }
 
 #[test]
 fn a_refused_report_leaves_the_journal(rt: HostRuntime) {
-    if let Some(catalogue) = catalogue(&rt, rt.alloc(), MANY) {
-        over(&rt, rt.alloc(), &catalogue, Script::Reports);
-    }
+    on_many(&rt, rt.alloc(), Use::Book(Script::Reports));
 }

@@ -121,7 +121,7 @@ fn expect_verdict(rt: &impl Abort, alloc: Global, file: &str, part: u8, report: 
 }
 
 /// Reports of two increments, each with the part that it fails first, and 0 where it is lawful.
-const VERDICTS: [(u8, &str); 8] = [
+const VERDICTS: &[(u8, &str)] = &[
     (
         0,
         "base 0\nx 5 0\nentry 1 0 inc returned 6\nentry 2 1 inc returned 7\nnow 2\nx 7 2\nend\n",
@@ -157,7 +157,7 @@ const VERDICTS: [(u8, &str); 8] = [
 ];
 
 /// Reports of a condition that is broken, likewise.
-const CONDITIONS: [(u8, &str); 3] = [
+const CONDITIONS: &[(u8, &str)] = &[
     (
         0,
         "base 0\nx 1 0\nentry 1 0 z broke ok\nnow 1\nx 1 0\nend\n",
@@ -172,10 +172,10 @@ const CONDITIONS: [(u8, &str); 3] = [
 #[test]
 fn a_check_has_its_verdict_or_none(rt: HostRuntime) {
     for (part, report) in VERDICTS {
-        expect_verdict(&rt, rt.alloc(), INCREMENTS, part, report);
+        expect_verdict(&rt, rt.alloc(), INCREMENTS, *part, report);
     }
     for (part, report) in CONDITIONS {
-        expect_verdict(&rt, rt.alloc(), DIVISION, part, report);
+        expect_verdict(&rt, rt.alloc(), DIVISION, *part, report);
     }
 }
 

@@ -1,6 +1,7 @@
 //! What a refused event leaves of a world.
 
-use crate::parts::{A, B, MANY, VARIABLES, catalogue};
+use crate::on_many::{Use, on_many};
+use crate::parts::{A, B, VARIABLES};
 use crate::uses::lines_after_refusal;
 use std::alloc::Global;
 use std::process::Abort;
@@ -35,7 +36,8 @@ fn plays(rt: &impl Abort, alloc: Global, world: &mut World<'_>) {
     steps(rt, alloc, world, Event::Begin(B));
 }
 
-fn opens(rt: &impl Abort, alloc: Global, catalogue: &Catalogue) -> bool {
+/// Whether a world opens, which then goes by its events.
+pub(crate) fn opens(rt: &impl Abort, alloc: Global, catalogue: &Catalogue) -> bool {
     match World::open(alloc, catalogue) {
         Ok(mut world) => plays(rt, alloc, &mut world),
         Err(_) => return false,
@@ -45,9 +47,5 @@ fn opens(rt: &impl Abort, alloc: Global, catalogue: &Catalogue) -> bool {
 
 #[test]
 fn a_refused_event_changes_nothing(rt: HostRuntime) {
-    if let Some(catalogue) = catalogue(&rt, rt.alloc(), MANY) {
-        let first = opens(&rt, rt.alloc(), &catalogue);
-        let second = opens(&rt, rt.alloc(), &catalogue);
-        assert!(rt; first || second);
-    }
+    on_many(&rt, rt.alloc(), Use::OpensWorlds);
 }

@@ -1,4 +1,3 @@
-use Rattle.text_schedule_reader.specs.Raw.{Raw}
 use Rattle.explain_schedules.proofs.Stops.{walks_on, stop_in_line}
 use Rattle.explain_schedules.proofs.form.first_stop.Goals as goal
 

@@ -1,4 +1,3 @@
-use Rattle.std.proofs.Common.{refl}
 use Rattle.explain_runner.proofs.Heads.{begins_at}
 use Rattle.explain_schedules.proofs.text.told.Goals as goal
 
