@@ -178,8 +178,8 @@ none_tried : (i : ℕ) (tx : TxId) → IsTried 0 0 i tx → ⊥
 none_tried i tx (inl h) = absurd (omega arith)
 none_tried i tx (inr (e, h)) = absurd (omega arith)
 
-pub begun : (l : Listing) (limit : ℕ) (kinds : List Kinds) → 0 < limit → limit ≤ 16777216 → kinds ≡ replicate (length l.transactions) none_seen → IsUnderWay l limit (first_shelf l) kinds [] 0 0
-begun l limit kinds some small none =
+pub at_start : (l : Listing) (limit : ℕ) (kinds : List Kinds) → 0 < limit → limit ≤ 16777216 → kinds ≡ replicate (length l.transactions) none_seen → IsUnderWay l limit (first_shelf l) kinds [] 0 0
+at_start l limit kinds some small none =
     let ps = first_place l ∷ [] in
     record {
       searched = record {

@@ -118,7 +118,7 @@ fn searched(alloc: Global, catalogue: &Catalogue, limit: usize) -> Result<Search
 /// The search that knows the first place alone.
 fn begin(alloc: Global, catalogue: &Catalogue, limit: usize) -> Result<Search, Unexplored>
     requires { limit ≤ MAX_STATES }
-    ensures begun { IfOk result (λ s. IsUnderWay catalogue.now limit s.places s.kinds.items s.ends.items 0 0) }
+    ensures at_start { IfOk result (λ s. IsUnderWay catalogue.now limit s.places s.kinds.items s.ends.items 0 0) }
     ensures first { IfOk result (λ s. s.places ≡ first_shelf catalogue.now) }
     ensures none { IfOk result (λ s. s.ends.items ≡ []) }
     ensures charted { IfOk result (λ s. IsCharted catalogue.now s.places.places s.came.items) }

@@ -49,7 +49,7 @@ pub(crate) fn try_orders(
     catalogue: &Catalogue,
     limit: usize,
 ) -> Result<(), Unexplored>
-    requires begun { IsUnderWay catalogue.now limit s.old.places s.old.kinds.items s.old.ends.items 0 0 }
+    requires at_start { IsUnderWay catalogue.now limit s.old.places s.old.kinds.items s.old.ends.items 0 0 }
     requires first { s.old.places ≡ first_shelf catalogue.now }
     requires none { s.old.ends.items ≡ [] }
     requires charted { IsCharted catalogue.now s.old.places.places s.old.came.items }
@@ -72,7 +72,7 @@ fn try_places<'a>(
     catalogue: &'a Catalogue,
     limit: usize,
 ) -> Result<(), Unexplored>
-    requires begun { IsUnderWay catalogue.now limit s.old.places s.old.kinds.items s.old.ends.items 0 0 }
+    requires at_start { IsUnderWay catalogue.now limit s.old.places s.old.kinds.items s.old.ends.items 0 0 }
     requires charted { IsCharted catalogue.now s.old.places.places s.old.came.items }
     ensures done { OnOk result (IsUnderWay catalogue.now limit s.new.places s.new.kinds.items s.new.ends.items (length s.new.places.places) 0) }
     ensures charted { OnOk result (IsCharted catalogue.now s.new.places.places s.new.came.items) }
