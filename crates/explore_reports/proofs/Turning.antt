@@ -17,7 +17,7 @@ use Rattle.book.specs.declared.task.Serial.TheVariants as serial
 use Rattle.book.specs.View.{BookView, committed, entry_of, woken, opened}
 use Rattle.book.specs.Turns.{Served, Taken}
 use Rattle.explore_law.specs.Orders.{HasTurn, turned, first_place, counted, count_at}
-use Rattle.explore_reports.specs.Giving.{entered_by, IsTaken, queue_at, Leaves, AreOwn, IsUnderWay, place_of}
+use Rattle.explore_reports.specs.Giving.{entered_by, IsTaken, queue_at, Leaves, AreOwn, IsGiving, place_of}
 use Rattle.explore_reports.proofs.Leading.{own_tx, place, applied_state}
 use Rattle.explore_reports.proofs.Queueing.{get_append_at, get_append_left}
 
@@ -79,7 +79,7 @@ taken_none b e =
     }
 
 -- when all are taken, each that is left is running
-pub all_taken : (l : Listing) (b : BookView) (qs : List (List ℕ)) → IsTaken l (length (tasks l)) b → AreOwn l qs → IsUnderWay b qs
+pub all_taken : (l : Listing) (b : BookView) (qs : List (List ℕ)) → IsTaken l (length (tasks l)) b → AreOwn l qs → IsGiving b qs
 all_taken l b qs h own =
     record {
       base = h.base ∙ ap opening (sym h.catalogue);
@@ -94,7 +94,7 @@ abbrev transaction : ℕ → TxId
 transaction n = record { 0 = n }
 
 -- what is popped
-module _ (b : BookView) (qs more : List (List ℕ)) (tx : TxId) (t : ℕ) (u : IsUnderWay b qs) (w : Leaves qs tx (Some t) more) where
+module _ (b : BookView) (qs more : List (List ℕ)) (tx : TxId) (t : ℕ) (u : IsGiving b qs) (w : Leaves qs tx (Some t) more) where
   abbrev task : TaskId
   task = record { 0 = t }
 
@@ -172,7 +172,7 @@ module _ (b : BookView) (qs more : List (List ℕ)) (tx : TxId) (t : ℕ) (u : I
       ∙ (slice_get-map (woken b.present.state new_state) (set b.tasks t (Done (b.present.number + 1))) v
       ∙ ap (option_map (woken b.present.state new_state)) (get_set_other b.tasks t v (Done (b.present.number + 1)) apart ∙ e))
 
-  committed_on : IsUnderWay (committed b task) more
+  committed_on : IsGiving (committed b task) more
   committed_on =
       record {
         base = committed_base ∙ (u.base ∙ ap opening (sym committed_catalogue));
@@ -200,8 +200,8 @@ module _ (b : BookView) (qs more : List (List ℕ)) (tx : TxId) (t : ℕ) (u : I
       ap entered_by committed_journal
       ∙ (map-append (λ (e : Entry). e.tx) b.journal (entry_of b task ∷ []) ∙ ap (λ (x : TxId). entered_by b.journal ++ x ∷ []) popped_tx)
 
-  pub turn_on : (c : BookView) → c ≡ committed b task → IsUnderWay c more
-  turn_on c is = subst (λ (x : BookView). IsUnderWay x more) (sym is) committed_on
+  pub turn_on : (c : BookView) → c ≡ committed b task → IsGiving c more
+  turn_on c is = subst (λ (x : BookView). IsGiving x more) (sym is) committed_on
 
   pub turn_turned : (c : BookView) → c ≡ committed b task → tx.0 < length qs → place_of c more ≡ turned b.catalogue (place_of b qs) tx
   turn_turned c is low = ap (λ (x : BookView). place_of x more) is ∙ committed_turned low

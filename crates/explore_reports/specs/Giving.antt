@@ -41,7 +41,7 @@ pub record AreOwn (l : Listing) (qs : List (List ℕ)) : Type 0 where
   pub once : (k : ℕ) → Once (queue_at qs k)
 
 -- a book that began with the opening, in which each task that is left is running
-pub record IsUnderWay (b : BookView) (qs : List (List ℕ)) : Type 0 where
+pub record IsGiving (b : BookView) (qs : List (List ℕ)) : Type 0 where
   pub base : b.base ≡ opening b.catalogue
   pub own : AreOwn b.catalogue qs
   pub running : (k i t : ℕ) → slice_get (queue_at qs k) i ≡ Some t → slice_get b.tasks t ≡ Some Running

@@ -9,7 +9,7 @@ ghost use Rattle.txn_programs.specs.declared.report.Entry.{Entry as EntryOf};
 ghost use Rattle.book.specs.View.{opened};
 ghost use Rattle.explore_law.specs.Orders.{Place, HasTurn, turned, first_place, Leads};
 ghost use Rattle.explore_reports.specs.Ends.{EndsAt, LeadsToEnd};
-ghost use Rattle.explore_reports.specs.Giving.{IsTaken, IsUnderWay, queues, place_of, entered_by};
+ghost use Rattle.explore_reports.specs.Giving.{IsTaken, IsGiving, queues, place_of, entered_by};
 
 use crate::queues::{next, tasks_by_transaction};
 use book::{Book, Serial};
@@ -45,6 +45,7 @@ fn take_all(book: &mut Book<'_>, count: usize)
     ensures { IsTaken book.old.catalogue count book.new }
 {
     'tasks: for _done in 0..count {
+        // Each has its turn in time, so which one is taken now is not asked.
         let _task = book.take();
     }
 }
@@ -56,9 +57,9 @@ fn give_turn(
     waiting: &mut Vec<Vec<u32>>,
     tx: TxId,
 ) -> Result<(), Memory>
-    requires underway { IsUnderWay book.old (queues waiting.old.items) }
+    requires underway { IsGiving book.old (queues waiting.old.items) }
     requires turn { HasTurn book.old.catalogue (place_of book.old (queues waiting.old.items)) tx }
-    ensures underway { OnOk result (IsUnderWay book.new (queues waiting.new.items)) }
+    ensures underway { OnOk result (IsGiving book.new (queues waiting.new.items)) }
     ensures turned { OnOk result (place_of book.new (queues waiting.new.items) ≡ turned book.old.catalogue (place_of book.old (queues waiting.old.items)) tx) }
     ensures entered { OnOk result (entered_by book.new.journal ≡ entered_by book.old.journal ++ tx ∷ []) }
     ensures catalogue { OnOk result (book.new.catalogue ≡ book.old.catalogue) }
