@@ -1,8 +1,6 @@
 //! A condition that stands: no transaction leaves the two accounts with another sum.
 
-use runner::{OpenGate, Options, run_tasks};
-use txn::{AlwaysId, Fault, Outcome};
-use txn_text::read_file;
+use stm_library::{AlwaysId, Fault, OpenGate, Options, Outcome, read_file, run_tasks};
 
 const ACCOUNTS: &str = "(stm 2)(var a 100)(var b 0)(always sum (eq (add a b) 100))\
     (tx move (seq (set a (sub a 60)) (set b (add b 60))) a)(tx leak (set a 0) a)\

@@ -1,8 +1,9 @@
 //! A counter: a catalogue made in code, and all its tasks run by four workers.
 
-use runner::{OpenGate, Options, run_tasks};
 use std::alloc::{AllocError, Global};
-use txn::{BuildFault, Catalogue, Expr, Stmt, Tx, TxId, VarId};
+use stm_library::{
+    BuildFault, Catalogue, Expr, OpenGate, Options, Stmt, Tx, TxId, VarId, run_tasks,
+};
 
 const X: VarId = VarId(0);
 

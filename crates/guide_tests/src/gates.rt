@@ -1,9 +1,8 @@
 //! A gate: it is called where a worker stands with no lock held, so a test can hold workers there, or look.
 
 use crate::counter::counter;
-use runner::{Gate, Options, Point, run_tasks};
 use std::sync::atomic::{AtomicU64, Ordering};
-use txn::TaskId;
+use stm_library::{Gate, Options, Point, TaskId, run_tasks};
 
 /// Counts the tasks that are finished.
 #[derive(Drop)]

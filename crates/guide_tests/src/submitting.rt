@@ -2,12 +2,12 @@
 
 ghost use Rattle.std.specs.Prelude.{◌≡◌};
 
-use book::{Counts, Finish};
-use checker::{Verdict, check};
 use std::alloc::Global;
 use std::process::Abort;
-use stm_store::{Brought, Job, Program, ReportFault, Store, Tried, Worker};
-use txn::{TaskId, TxId};
+use stm_library::{
+    Brought, Counts, Finish, Job, Program, ReportFault, Store, TaskId, Tried, TxId, Verdict,
+    Worker, check,
+};
 
 const FILE: &str =
     "(var full 0)(tx get (if (eq full 0) (retry) (set full 0)) full)(tx put (set full 1) full)(run get 1)";

@@ -1,10 +1,7 @@
 //! A book of one's own, turn by turn, with no other thread: take a task, let it have its turn, look at what became of it.
 
-use book::{Book, Serial};
-use cells::Cells;
 use std::alloc::Global;
-use txn::{Catalogue, Memory, Report, TxId};
-use txn_text::read_file;
+use stm_library::{Book, Catalogue, Cells, Memory, Report, Serial, TxId, read_file};
 
 /// Each task has one turn, in order; then the report.
 fn each_in_turn(alloc: Global, catalogue: &Catalogue) -> Result<Report, Memory> {

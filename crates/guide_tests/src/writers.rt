@@ -1,8 +1,8 @@
 //! A sink over one's own writer: the report goes wherever its bytes are taken.
 
-use runner::{OpenGate, Options, Out, run_bytes};
 use std::io;
 use std::io::Write;
+use stm_library::{OpenGate, Options, Out, run_bytes};
 
 /// Counts lines.
 #[derive(Drop)]

@@ -1,7 +1,12 @@
 //! A day with three accounts.
 
-use crate::{BankFault, day, declared, transfer};
+ghost use Rattle.std.specs.Prelude.{IfOk};
+ghost use Rattle.host_bank.specs.Balances.{IsBank};
+
+use host_bank::{BankFault, day, declared, transfer};
 use std::alloc::{AllocError, Global};
+use std::process::Abort;
+use stm_store::Program;
 use txn::{BuildFault, Expr, Stmt, Tx, TxId, VarId};
 
 const RENT: VarId = VarId(0);
@@ -43,39 +48,41 @@ fn runs(alloc: Global) -> Result<Vec<(TxId, u32)>, AllocError> {
     Ok(vec![in alloc; (TxId(1), 30), (TxId(0), 40), (TxId(3), 1), (TxId(2), 1)]?)
 }
 
+/// The bank of all that, whose first account has so much.
+fn bank(alloc: Global, rent: i64) -> Result<Program, BankFault>
+    ensures { IfOk result (λ p. IsBank p.catalogue.now) }
+{
+    let (Ok(accounts), Ok(txs), Ok(runs)) = (
+        accounts(alloc, rent),
+        transactions(alloc),
+        runs(alloc),
+    ) else {
+        return Err(BankFault::Memory);
+    };
+    declared(alloc, accounts, txs, runs)
+}
+
 #[test]
 fn money_is_moved_and_none_is_made(rt: HostRuntime) {
-    let alloc = rt.alloc();
-    let (Ok(accounts), Ok(txs), Ok(runs)) = (accounts(alloc, 300), transactions(alloc), runs(alloc))
-    else {
-        panic!(rt; "no memory");
-    };
-    let Ok(program) = declared(alloc, accounts, txs, runs) else {
+    let Ok(program) = bank(rt.alloc(), 300) else {
         panic!(rt; "no bank");
     };
-    match day(&rt, alloc, program) {
+    match day(&rt, rt.alloc(), program) {
         Ok(balances) => assert_eq!(rt; balances.as_slice(), [0, 100, 350].as_slice()),
         Err(_) => panic!(rt; "no memory"),
     }
 }
 
+/// With so much in its first account it is no bank, for this reason.
+fn is_no_bank(rt: &impl Abort, alloc: Global, rent: i64, fault: BankFault) {
+    match bank(alloc, rent) {
+        Ok(_) => panic!(rt; "a bank"),
+        Err(why) => assert_eq!(rt; why, fault),
+    }
+}
+
 #[test]
 fn an_account_below_zero_is_no_bank(rt: HostRuntime) {
-    let alloc = rt.alloc();
-    for (rent, fault) in [
-        (-1, BankFault::Refused(BuildFault::Broken)),
-        (i64::MAX, BankFault::TooMuch),
-    ] {
-        let (Ok(accounts), Ok(txs), Ok(runs)) = (
-            accounts(alloc, rent),
-            transactions(alloc),
-            runs(alloc),
-        ) else {
-            panic!(rt; "no memory");
-        };
-        match declared(alloc, accounts, txs, runs) {
-            Ok(_) => panic!(rt; "a bank"),
-            Err(why) => assert_eq!(rt; why, fault),
-        }
-    }
+    is_no_bank(&rt, rt.alloc(), -1, BankFault::Refused(BuildFault::Broken));
+    is_no_bank(&rt, rt.alloc(), i64::MAX, BankFault::TooMuch);
 }

@@ -1,6 +1,6 @@
 //! A small build.
 
-use crate::{PlanFault, Step, Work, run};
+use host_scheduler::{PlanFault, Step, Work, run};
 use std::alloc::{AllocError, Global};
 use std::sync::atomic::{AtomicU64, Ordering};
 use txn::BuildFault;
