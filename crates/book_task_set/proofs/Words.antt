@@ -17,6 +17,7 @@ word_bit numbers w i low =
 pub lowest_word : (room : ℕ) (numbers : List ℕ) (w : ℕ) → ((j : ℕ) → room ≤ j → has numbers j ≡ false) → IsFirstWord numbers w → IsLowestWord (flags room numbers) (w * 64) (get_or numbers w 0)
 lowest_word room numbers w spare first =
     record {
+      whole = omega arith;
       some = first.here;
       bits = λ i low. (
         λ e.

@@ -1,6 +1,6 @@
 -- Which numbers are in a set that is told by a flag for each number.
 use Rattle.std.specs.Int.{bit_at}
-use Rattle.std.specs.Prelude.{◌≡◌, ◌≢◌, ℕ, ◌+◌, ◌<◌, ◌↔◌, Bool, true, List, Some, slice_get}
+use Rattle.std.specs.Prelude.{◌≡◌, ◌≢◌, ℕ, ◌+◌, ◌%◌, ◌<◌, ◌↔◌, Bool, true, List, Some, slice_get}
 
 abbrev pub HasNone : List Bool → Type 0
 HasNone set = (k : ℕ) → slice_get set k ≢ Some true
@@ -8,8 +8,9 @@ HasNone set = (k : ℕ) → slice_get set k ≢ Some true
 abbrev pub IsLowest : List Bool → ℕ → Type 0
 IsLowest set n = (slice_get set n ≡ Some true) × ((k : ℕ) → k < n → slice_get set k ≢ Some true)
 
--- a word with a bit for each of 64 numbers from `first` on, whether it is in the set; one is, and no number before them
+-- a word with a bit for each of 64 numbers from `first` on, a multiple of 64, whether it is in the set; one is, and no number before them
 pub record IsLowestWord (set : List Bool) (first word : ℕ) : Type 0 where
+  pub whole : first % 64 ≡ 0
   pub some : word ≢ 0
   pub bits : (i : ℕ) → i < 64 → (bit_at word i ≡ 1) ↔ (slice_get set (first + i) ≡ Some true)
   pub before : (k : ℕ) → k < first → slice_get set k ≢ Some true

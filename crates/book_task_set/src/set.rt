@@ -112,8 +112,8 @@ impl TaskSet {
         Some(first(&self.numbers, word))
     }
 
-    /// The first of 64 numbers, the lowest that have one in the set, and a word with a bit for each of
-    /// them that is in the set. `None` exactly if the set is empty.
+    /// The first of 64 numbers, from a multiple of 64 on, the lowest that have one in the set, and a
+    /// word with a bit for each of them that is in the set. `None` exactly if the set is empty.
     pub fn lowest_word(&self) -> Option<(usize, u64)>
         ensures { MatchOption result (HasNone self.now) (λ p. IsLowestWord self.now p.0 p.1) }
     {
