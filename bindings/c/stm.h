@@ -165,7 +165,8 @@ int32_t stm_counted(stm_store *store, stm_counts *out);
  * STM_DONE, and both were written; STM_UNKNOWN. Under the lock. */
 int32_t stm_value(stm_store *store, const uint8_t *name, size_t name_length, int64_t *value, uint64_t *version);
 
-/* A worker of the store, for one thread. Under the lock. */
+/* A worker of the store, for one thread; STM_NO_WORKER where all were hired, or there is no transaction.
+ * Where it answers STM_MEMORY, the store can make one worker less. Under the lock. */
 int32_t stm_hire(stm_store *store, stm_worker *out);
 
 /* The lowest ready task, which is then running; -1 where none is ready. Under the lock. */
