@@ -35,8 +35,8 @@ fresh_attempt l id =
     record { program = program_at l id; variables = length l.initial; log = []; writes = []; stand = stand.Fresh; steps = 0; total = 0 }
 
 -- the attempt as it began
-abbrev pub begun : AttemptView → AttemptView
-begun a =
+abbrev pub begun_anew : AttemptView → AttemptView
+begun_anew a =
     record { program = a.program; variables = a.variables; log = []; writes = []; stand = stand.Fresh; steps = 0; total = 0 }
 
 -- the attempt with a variable's value at the end of its log

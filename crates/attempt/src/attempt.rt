@@ -1,6 +1,6 @@
 //! An attempt: a transaction, what it was told, and where it stands.
 
-ghost use Rattle.std.specs.Prelude.{◌≡◌, ◌≢◌, ◌<◌, ◌≤◌, ◌+◌, ◌++◌, ◌∷◌, [], None, length, IsOk, IfOk, OnOk, OnErr};
+ghost use Rattle.std.specs.Prelude.{◌≡◌, ◌≢◌, ◌<◌, ◌≤◌, ◌+◌, ◌++◌, ◌∷◌, [], None, true, length, IsOk, IfOk, OnOk, OnErr};
 ghost use Rattle.txn_programs.specs.Cost.{cost};
 ghost use Rattle.txn_programs.specs.Meaning.{State, outcome, after};
 ghost use Rattle.txn_programs.specs.Scope.{ProgramKnown};
@@ -9,12 +9,12 @@ ghost use Rattle.attempt_machine.specs.Frame.{Agrees, store};
 ghost use Rattle.attempt_writes.specs.Order.{AllKnown, Apart, Ascending};
 ghost use Rattle.attempt_machine.specs.Room.{NeedsNoMemory};
 ghost use Rattle.attempt_machine.specs.Reading.{ReadsOn};
-ghost use Rattle.attempt.specs.View.{fresh_attempt, begun, supplied, idle, next_of, Answers, HoldsAt, OnlyOfReturned};
+ghost use Rattle.attempt.specs.View.{fresh_attempt, begun_anew, supplied, idle, next_of, Answers, HoldsAt, OnlyOfReturned};
 
 use crate::log::Log;
 use crate::next::{Next, Stand, answer, outcome_of};
 use crate::running::go_on;
-use attempt_machine::{Count, Machine};
+use attempt_machine::{Count, Machine, Reader};
 use attempt_writes::LogTable;
 use std::alloc::Global;
 use std::marker::Model;
@@ -94,7 +94,7 @@ impl<'a> Attempt<'a> {
     /// What the attempt was told, kept after it; the attempt begins anew. It takes no memory.
     pub fn take_log(&mut self) -> Log
         ensures log { result ≡ self.old.log }
-        ensures anew { self.new ≡ begun self.old }
+        ensures anew { self.new ≡ begun_anew self.old }
     {
         let pairs = self.log.take_pairs();
         self.machine.restart();
@@ -203,7 +203,47 @@ impl<'a> Attempt<'a> {
     {
         self.steps = 0;
         match self.stand {
-            Stand::Fresh => self.go_on(&[]),
+            Stand::Fresh => {
+                let mut nothing: &[i64] = &[];
+                self.go_on(&mut nothing)
+            }
+            Stand::Over(outcome) => answer(outcome),
+            Stand::Needs(x) => Next::Need(x),
+            Stand::Spent => Next::Memory,
+        }
+    }
+
+    /// Goes on as `advance` does, and reads what it needs by this reader: as if it were advanced,
+    /// supplied with the value that is read, and advanced again.
+    ///
+    /// It answers `Need` where a variable can't be read, or where the log has no room for its value;
+    /// otherwise the reader stays open. The log has grown by what was read, in the order in which it
+    /// was needed, and agrees with the reader's values where it agreed before.
+    pub fn advance_by<R: Reader>(&mut self, reader: &mut R) -> Next
+        requires values { length (R.values reader.old) ≡ self.old.variables }
+        ensures answers { Answers result self.new }
+        ensures program { self.new.program ≡ self.old.program }
+        ensures variables { self.new.variables ≡ self.old.variables }
+        ensures reads { ReadsOn self.old.program (R.values reader.old) self.old.log self.new.log }
+        ensures agrees { Agrees self.old.log (R.values reader.old) → Agrees self.new.log (R.values reader.old) }
+        ensures known { AllKnown self.new.variables self.new.log }
+        ensures apart { Apart self.new.log }
+        ensures values { R.values reader.new ≡ R.values reader.old }
+        ensures kept { R.kept reader.new ≡ R.kept reader.old }
+        ensures open { ((x : VarId) → result ≢ Next.Need x) → R.is_open reader.old ≡ true → R.is_open reader.new ≡ true }
+        ensures asks_again { (x : VarId) → self.old.stand ≡ Stand.Needs x → (result ≡ Next.Need x) × (self.new ≡ idle self.old) }
+        ensures repeats { (o : Outcome) → self.old.stand ≡ Stand.Over o → (result ≡ next_of o) × (self.new ≡ idle self.old) }
+        ensures spent { self.old.stand ≡ Stand.Spent → (result ≡ Next.Memory) × (self.new ≡ idle self.old) }
+        ensures steps { self.new.steps ≤ cost self.old.program }
+        ensures total { self.new.total ≤ cost self.old.program + length self.new.log }
+        ensures short { NeedsNoMemory self.old.program → self.old.stand ≢ Stand.Spent → result ≢ Next.Memory }
+        ensures needed { (x : VarId) → result ≡ Next.Need x → (x.0 < self.new.variables) × (known_at self.new.log x ≡ None) }
+        ensures frame { (m : State) → length m ≡ self.new.variables → Agrees self.new.log m → HoldsAt result self.new m }
+    {
+        self.catalogue.rules();
+        self.steps = 0;
+        match self.stand {
+            Stand::Fresh => self.go_on(reader),
             Stand::Over(outcome) => answer(outcome),
             Stand::Needs(x) => Next::Need(x),
             Stand::Spent => Next::Memory,
@@ -234,24 +274,30 @@ impl<'a> Attempt<'a> {
         ensures steps { self.new.steps ≤ cost self.old.program }
     {
         self.catalogue.rules();
-        let next = self.go_on(values);
+        let mut reader = values;
+        let next = self.go_on(&mut reader);
         outcome_of(next)
     }
 
-    /// Goes on with the machine where it stands, and reads what it needs and has one of these values.
+    /// Goes on with the machine where it stands, and reads what it needs and can be read.
     /// It is a call of its own, so that an answer that is repeated costs little.
     #[inline(never)]
-    fn go_on(&mut self, values: &[i64]) -> Next
+    fn go_on<R: Reader>(&mut self, reader: &mut R) -> Next
         requires fresh { self.old.stand ≡ Stand.Fresh }
-        requires values { length values.now ≤ MAX_VARIABLES }
+        requires values { length (R.values reader.old) ≤ MAX_VARIABLES }
         ensures answers { Answers result self.new }
         ensures program { self.new.program ≡ self.old.program }
         ensures variables { self.new.variables ≡ self.old.variables }
-        ensures reads { ReadsOn self.old.program values.now self.old.log self.new.log }
-        ensures log { values.now ≡ [] → self.new.log ≡ self.old.log }
+        ensures reads { ReadsOn self.old.program (R.values reader.old) self.old.log self.new.log }
+        ensures log { R.values reader.old ≡ [] → self.new.log ≡ self.old.log }
+        ensures logged { AllKnown self.new.variables self.new.log }
+        ensures apart { Apart self.new.log }
+        ensures values { R.values reader.new ≡ R.values reader.old }
+        ensures kept { R.kept reader.new ≡ R.kept reader.old }
+        ensures open { ((x : VarId) → result ≢ Next.Need x) → R.is_open reader.old ≡ true → R.is_open reader.new ≡ true }
         ensures known { ProgramKnown self.new.variables self.new.program }
         ensures steps { self.new.steps ≤ cost self.old.program }
-        ensures adds { values.now ≡ [] → self.new.total ≡ self.old.total + self.new.steps }
+        ensures adds { R.values reader.old ≡ [] → self.new.total ≡ self.old.total + self.new.steps }
         ensures total { self.new.total ≤ cost self.old.program + length self.new.log }
         ensures short { NeedsNoMemory self.old.program → result ≢ Next.Memory }
     {
@@ -264,7 +310,7 @@ impl<'a> Attempt<'a> {
             self.catalogue,
             self.id,
             &mut self.log,
-            values,
+            reader,
         );
         let reached = self.count.entered + self.count.ahead;
         let more = reached - before.entered - before.ahead;

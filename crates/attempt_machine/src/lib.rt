@@ -12,10 +12,13 @@ mod branches;
 pub mod found;
 pub mod laws;
 pub mod machine;
+pub mod reader;
 pub mod running;
+mod seeing;
 pub mod spot;
 
 pub use found::{Found, Halt};
 pub use laws::{answers, frame, fuses, resumes};
 pub use machine::Machine;
+pub use reader::Reader;
 pub use running::{Count, run};

@@ -2,7 +2,7 @@
 //! worked out by hand.
 
 use crate::parts::{X, Y, catalogue};
-use attempt::Attempt;
+use attempt::{Attempt, Next};
 use std::alloc::Global;
 use txn::{Catalogue, Fault, Outcome, TxId, VarId};
 
@@ -82,11 +82,40 @@ fn goes(alloc: Global, catalogue: &Catalogue, row: &Row) -> bool {
     }
 }
 
+/// Whether it goes so by a reader, and then answers the same end again with no node entered.
+fn goes_by_reader(alloc: Global, catalogue: &Catalogue, row: &Row) -> bool {
+    let values = [5, 9];
+    if catalogue.tx_count() == 0 || catalogue.initial().len() != values.len() {
+        return false;
+    }
+    let mut attempt = Attempt::new(alloc, catalogue, TxId(0));
+    let mut reader = values.as_slice();
+    let next = attempt.advance_by(&mut reader);
+    let entered = attempt.steps();
+    next == end_of(row.outcome)
+        && entered == row.steps
+        && attempt.log() == row.log
+        && attempt.writes() == row.writes
+        && attempt.advance_by(&mut reader) == next
+        && attempt.steps() == 0
+}
+
+/// What an attempt answers that ended so.
+fn end_of(outcome: Outcome) -> Next {
+    match outcome {
+        Outcome::Returned(v) => Next::Returned(v),
+        Outcome::Thrown(fault) => Next::Thrown(fault),
+        Outcome::Retries => Next::Retry,
+    }
+}
+
 fn goes_so(alloc: Global, row: &Row) -> bool {
     let text = format!(in alloc; "(var x 0)(var y 0)(tx t {})", row.text);
     match text {
         Ok(text) => match catalogue(alloc, text.as_str()) {
-            Some(catalogue) => goes(alloc, &catalogue, row),
+            Some(catalogue) => {
+                goes(alloc, &catalogue, row) && goes_by_reader(alloc, &catalogue, row)
+            }
             None => false,
         },
         Err(_) => false,
@@ -97,5 +126,28 @@ fn goes_so(alloc: Global, row: &Row) -> bool {
 fn values_are_read_where_they_are_needed(rt: HostRuntime) {
     for row in ROWS {
         assert!(rt; goes_so(rt.alloc(), row), "{}", row.text);
+    }
+}
+
+/// Whether an attempt that needs `y` asks for it again, and reads only what it was not told.
+fn reads_the_rest(alloc: Global, catalogue: &Catalogue) -> bool {
+    let values = [5, 9];
+    if catalogue.tx_count() == 0 || catalogue.initial().len() != values.len() {
+        return false;
+    }
+    let mut attempt = Attempt::new(alloc, catalogue, TxId(0));
+    let mut reader = values.as_slice();
+    attempt.advance() == Next::Need(Y)
+        && attempt.advance_by(&mut reader) == Next::Need(Y)
+        && attempt.supply(Y, 9).is_ok()
+        && attempt.advance_by(&mut reader) == Next::Returned(14)
+        && attempt.log() == [(Y, 9), (X, 5)].as_slice()
+}
+
+#[test]
+fn a_reader_reads_what_was_not_told(rt: HostRuntime) {
+    match catalogue(rt.alloc(), "(var x 0)(var y 0)(tx t (skip) (add y x))") {
+        Some(catalogue) => assert!(rt; reads_the_rest(rt.alloc(), &catalogue)),
+        None => panic!(rt; "no catalogue"),
     }
 }

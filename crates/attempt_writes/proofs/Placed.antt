@@ -1,5 +1,5 @@
 -- A variable is found by its place.
-use Rattle.std.proofs.Common.{◌≡◌, ◌≢◌, ℕ, zero, suc, ◌+◌, ◌<◌, ◌≤◌, pos, Bool, true, false, List, [], ◌∷◌, ◌++◌, length, Option, Some, None, ℤ, refl, sym, ap, ◌∙◌, arith, ⊎_elim, ◌==◌, eqb, ◌||◌, if◌then◌else◌, slice_get, slice_set}
+use Rattle.std.proofs.Common.{◌≡◌, ◌≢◌, ℕ, zero, suc, ◌+◌, ◌<◌, ◌≤◌, pos, Bool, true, false, List, [], ◌∷◌, ◌++◌, length, Option, Some, None, ℤ, refl, sym, ap, ◌∙◌, arith, ⊎_elim, ◌==◌, eqb, ◌||◌, if◌then◌else◌, slice_get, slice_set, take, length-append, length-take-le}
 use Rattle.std.specs.List.{list_any}
 use Rattle.std.proofs.lemmas.Bool.{or_right}
 use Rattle.std.proofs.lemmas.Bool.Decides.{eqb_tells}
@@ -9,7 +9,7 @@ use Rattle.std.proofs.lemmas.Option.{slice_get-get_or, slice_get_within, get_or_
 use Rattle.std.proofs.Math.ListN.{set, length-set}
 use Rattle.txn_programs.specs.declared.ast.VarId.{VarId}
 use Rattle.attempt_writes.specs.Known.{Known, known_at}
-use Rattle.attempt_writes.specs.Places.{ArePlaced, value_of, value_at}
+use Rattle.attempt_writes.specs.Places.{ArePlaced, pair_value, placed_value}
 
 same_number : (n : ℕ) → (n == n) ≡ true
 same_number n = ⊎_elim (λ (t : ((n == n) ≡ true) × (n ≡ n)). t.0) (λ (t : ((n == n) ≡ false) × (n ≢ n)). absurd (t.1 refl)) (eqb_tells n n)
@@ -51,11 +51,11 @@ apart_from (q ∷ rest) x zero p e g =
     ap (λ (r : VarId × ℤ). r.0.0 == x.0) (sym same) ∙ (none_here q rest x (q.0.0 == x.0) e).0
 apart_from (q ∷ rest) x (suc k) p e g = apart_from rest x k p (none_here q rest x (q.0.0 == x.0) e).1 g
 
-none_of : (w : Known) (x : VarId) (k : ℕ) (o : Option (VarId × ℤ)) → known_at w x ≡ None → slice_get w k ≡ o → None ≡ value_of o x
+none_of : (w : Known) (x : VarId) (k : ℕ) (o : Option (VarId × ℤ)) → known_at w x ≡ None → slice_get w k ≡ o → None ≡ pair_value o x
 none_of w x k None e g = refl
 none_of w x k (Some p) e g = ap (λ b. if b then Some p.1 else None) (sym (apart_from w x k p e g))
 
-by_cases : (w : Known) (places : List ℕ) (x : VarId) (o : Option ℤ) (place : Option ℕ) → known_at w x ≡ o → slice_get places x.0 ≡ place → ArePlaced 0 w places → o ≡ value_at place w x
+by_cases : (w : Known) (places : List ℕ) (x : VarId) (o : Option ℤ) (place : Option ℕ) → known_at w x ≡ o → slice_get places x.0 ≡ place → ArePlaced 0 w places → o ≡ placed_value place w x
 by_cases w places x None None e f a = refl
 by_cases w places x None (Some k) e f a = none_of w x k (slice_get w k) e refl
 by_cases w places x (Some v) None e f a = let r = found 0 w places x v a e in absurd (cc)
@@ -64,10 +64,10 @@ by_cases w places x (Some v) (Some k) e f a =
     let at : 0 + r.0 ≡ k = cc in
     let at' : r.0 ≡ k = omega (arith, at) in
     let here : slice_get w k ≡ Some (x, v) = ap (λ n. slice_get w n) (sym at') ∙ r.2 in
-    ap (λ b. if b then Some v else None) (sym (same_number x.0)) ∙ ap (λ (o : Option (VarId × ℤ)). value_of o x) (sym here)
+    ap (λ b. if b then Some v else None) (sym (same_number x.0)) ∙ ap (λ (o : Option (VarId × ℤ)). pair_value o x) (sym here)
 
 -- the value is that of the pair at the variable's place
-pub known_by_place : (w : Known) (places : List ℕ) (x : VarId) → ArePlaced 0 w places → known_at w x ≡ value_at (slice_get places x.0) w x
+pub known_by_place : (w : Known) (places : List ℕ) (x : VarId) → ArePlaced 0 w places → known_at w x ≡ placed_value (slice_get places x.0) w x
 known_by_place w places x a = by_cases w places x (known_at w x) (slice_get places x.0) refl refl a
 
 get_same : (places : List ℕ) (k n : ℕ) → k < length places → slice_get (slice_set places k n) k ≡ Some n
@@ -116,3 +116,12 @@ placed_few w places a =
     let at = place_at 0 w places q _ a p in
     let here : 0 + q ≡ q = omega arith in
     any_at places _ q (at ∙ ap Some here))
+
+-- where each of the first so many lines has its place, and x has none, there is a place for one more
+pub fewer_than_places : (lines : Known) (count : ℕ) (places : List ℕ) (x : VarId) → count ≤ length lines → x.0 < length places → known_at (take count lines) x ≡ None → ArePlaced 0 (take count lines) places
+    → count < length places
+fewer_than_places lines count places x within lt none a =
+    let w = take count lines in
+    let at : length w ≡ 0 + length w = omega arith in
+    let few = placed_few (w ++ (x, pos 0) ∷ []) (slice_set places x.0 (length w)) (placed_more 0 w places x (pos 0) (length w) at lt none a) in
+    omega (arith, few, length-append w ((x, pos 0) ∷ []), length-set places x.0 (length w), length-take-le count lines within)

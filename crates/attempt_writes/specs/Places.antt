@@ -8,10 +8,10 @@ ArePlaced i [] places = Unit {0}
 ArePlaced i (p ∷ rest) places = (slice_get places p.0.0 ≡ Some i) × ArePlaced (i + 1) rest places
 
 -- a pair's value, if it is the variable's
-abbrev pub value_of : Option (VarId × ℤ) → VarId → Option ℤ
-value_of None x = None
-value_of (Some p) x = if p.0.0 == x.0 then Some p.1 else None
+abbrev pub pair_value : Option (VarId × ℤ) → VarId → Option ℤ
+pair_value None x = None
+pair_value (Some p) x = if p.0.0 == x.0 then Some p.1 else None
 
-abbrev pub value_at : Option ℕ → Known → VarId → Option ℤ
-value_at None w x = None
-value_at (Some place) w x = value_of (slice_get w place) x
+abbrev pub placed_value : Option ℕ → Known → VarId → Option ℤ
+placed_value None w x = None
+placed_value (Some place) w x = pair_value (slice_get w place) x

@@ -1,8 +1,8 @@
 //! What an attempt was told, found in constant time.
 
-ghost use Rattle.std.specs.Prelude.{◌≡◌, ◌<◌, ◌≤◌, ◌++◌, ◌∷◌, [], None, length, slice_get, IsOk, IfOk, OnOk, OnErr};
+ghost use Rattle.std.specs.Prelude.{◌≡◌, ◌<◌, ◌≤◌, ◌+◌, ◌++◌, ◌∷◌, [], None, length, take, slice_get, slice_set, IsOk, IfOk, OnOk, OnErr};
 ghost use Rattle.attempt_writes.specs.Known.{known_at};
-ghost use Rattle.attempt_writes.specs.Places.{value_at};
+ghost use Rattle.attempt_writes.specs.Places.{placed_value};
 
 use crate::layer::Layer;
 use smallvec::SmallVec;
@@ -15,79 +15,107 @@ use txn_programs::{Memory, VarId};
 /// Variables with a value each, in the order of supply. A clause sees the pairs.
 #[derive(Drop)]
 pub struct LogTable {
-    pairs: Layer,
+    /// The first of these are the pairs; the others are blank, so that a pair more is put with no
+    /// move of what is there.
+    lines: Layer,
     /// How many pairs there are. Where they lie is not looked at for it, nor for the room.
     count: usize,
-    /// For how many there is room.
+    /// How many lines there are.
     room: usize,
     /// At each variable's number the place of its pair, where it has one; else any number.
     places: [u8; MAX_VARIABLES],
 }
 
 impl Model for LogTable {
+    ghost use Rattle.std.specs.Prelude.{take};
     ghost use Rattle.attempt_writes.specs.Known.{Known};
 
     ghost Value = { Known };
 
-    ghost view = { λ l. l.pairs.items };
+    ghost view = { λ l. take l.count l.lines.items };
 
     ghost use Rattle.attempt_writes.specs.LogTableInside.{IsKept};
 
     ghost invariant = { IsKept };
 }
 
+/// A line that is no pair yet.
+const BLANK: (VarId, i64) = (VarId(0), 0);
+
 /// The value of the pair at the variable's place, if it is the variable's. Most often the place is
 /// behind all pairs, and they are not looked at.
 #[inline(always)]
-fn look(pairs: &Layer, count: usize, places: &[u8], x: VarId) -> Option<i64>
-    requires { count ≡ length pairs.now.items }
-    ensures { result ≡ value_at (slice_get places.now x.0) pairs.now.items x }
+fn look(lines: &Layer, count: usize, places: &[u8], x: VarId) -> Option<i64>
+    requires { count ≤ length lines.now.items }
+    ensures { result ≡ placed_value (slice_get places.now x.0) (take count lines.now.items) x }
 {
     let place = usize::from(*places.get(x.0 as usize)?);
     if place >= count {
         return None;
     }
-    let (y, v) = *pairs.as_slice().get(place)?;
+    let pairs = &lines.as_slice()[..count];
+    let (y, v) = *pairs.get(place)?;
     if y.0 == x.0 { Some(v) } else { None }
 }
 
-/// Room for one pair more, where there is none: for how many there is room then.
+/// Twice as many lines: how many there are then. It is a call of its own, so that putting a pair is
+/// short enough to be inlined where a value is read.
 #[cold]
 #[inline(never)]
-fn make_room(pairs: &mut Layer) -> Result<usize, AllocError>
-    ensures items { pairs.new.items ≡ pairs.old.items }
-    ensures more { IfOk result (λ room. length pairs.new.items < room) }
-    ensures room { IfOk result (λ room. room ≤ pairs.new.capacity) }
-    ensures capacity { IfOk result (λ room. pairs.old.capacity ≤ room) }
-    ensures refused { OnErr result (pairs.new ≡ pairs.old) }
+fn make_room(lines: &mut Layer) -> Result<usize, AllocError>
+    requires some { 0 < length lines.old.items }
+    requires few { length lines.old.items ≤ MAX_VARIABLES }
+    ensures room { IfOk result (λ room. room ≡ length lines.new.items) }
+    ensures more { IfOk result (λ room. length lines.old.items < room) }
+    ensures front { take (length lines.old.items) lines.new.items ≡ lines.old.items }
+    ensures refused { OnErr result (lines.new.items ≡ lines.old.items) }
 {
-    pairs.reserve(1)?;
-    Ok(pairs.capacity())
+    let room = 2 * lines.len();
+    lines.resize(room, BLANK)?;
+    Ok(room)
 }
 
-/// One pair more, at the end. What is done where there is no room is a call of its own, so that this
-/// one is short enough to be inlined where a value is read.
+/// A pair in the line at this place.
+#[inline(always)]
+fn put(lines: &mut Layer, place: usize, pair: (VarId, i64))
+    requires { place < length lines.old.items }
+    ensures { lines.new.items ≡ slice_set lines.old.items place pair }
+{
+    lines.as_mut_slice()[place] = pair;
+}
+
+/// One pair more, behind so many.
 #[inline(always)]
 fn append(
-    pairs: &mut Layer,
+    lines: &mut Layer,
     count: usize,
     room: &mut usize,
-    x: VarId,
-    v: i64,
+    pair: (VarId, i64),
 ) -> Result<(), AllocError>
-    requires count { count ≡ length pairs.old.items }
-    requires room { room.old ≤ pairs.old.capacity }
-    ensures ok { OnOk result (pairs.new.items ≡ pairs.old.items ++ (x, v) ∷ []) }
-    ensures succeeds { count < room.old → IsOk result }
-    ensures refused { OnErr result (pairs.new ≡ pairs.old) }
-    ensures room { room.new ≤ pairs.new.capacity }
+    requires room { room.old ≡ length lines.old.items }
+    requires within { count ≤ room.old }
+    requires some { 0 < room.old }
+    requires few { count < MAX_VARIABLES }
+    ensures ok { OnOk result (take (count + 1) lines.new.items ≡ take count lines.old.items ++ pair ∷ []) }
+    ensures refused { OnErr result (lines.new.items ≡ lines.old.items) }
+    ensures within { OnOk result (count < room.new) }
+    ensures room { room.new ≡ length lines.new.items }
     ensures more { room.old ≤ room.new }
+    ensures succeeds { count < room.old → IsOk result }
 {
     if count >= *room {
-        *room = make_room(pairs)?;
+        *room = make_room(lines)?;
     }
-    pairs.push_reserved((x, v));
+    put(lines, count, pair);
     Ok(())
+}
+
+/// The pairs alone, of which there are so many: the blank lines are cut off.
+fn cut(mut lines: Layer, count: usize) -> Layer
+    ensures { result.items ≡ take count lines.items }
+{
+    lines.truncate(count);
+    lines
 }
 
 impl LogTable {
@@ -96,7 +124,7 @@ impl LogTable {
         ensures { result ≡ [] }
     {
         LogTable {
-            pairs: SmallVec::new(alloc),
+            lines: SmallVec::from_buf(alloc, [BLANK; 8]),
             count: 0,
             room: 8,
             places: [0; MAX_VARIABLES],
@@ -107,7 +135,7 @@ impl LogTable {
     pub fn as_slice(&self) -> &[(VarId, i64)]
         ensures { result.now ≡ self.now }
     {
-        self.pairs.as_slice()
+        &self.lines.as_slice()[..self.count]
     }
 
     /// How many pairs there are.
@@ -122,7 +150,7 @@ impl LogTable {
     pub fn into_pairs(self) -> Layer
         ensures { result.items ≡ self }
     {
-        self.pairs
+        cut(self.lines, self.count)
     }
 
     /// The pairs alone; the log is empty then. It takes no memory.
@@ -130,17 +158,17 @@ impl LogTable {
         ensures pairs { result.items ≡ self.old }
         ensures emptied { self.new ≡ [] }
     {
-        let alloc = *self.pairs.allocator();
-        self.count = 0;
+        let alloc = *self.lines.allocator();
+        let count = mem::replace(&mut self.count, 0);
         self.room = 8;
-        mem::replace(&mut self.pairs, SmallVec::new(alloc))
+        let lines = mem::replace(&mut self.lines, SmallVec::from_buf(alloc, [BLANK; 8]));
+        cut(lines, count)
     }
 
     /// Drops all, and keeps the room.
     pub fn clear(&mut self)
         ensures { self.new ≡ [] }
     {
-        self.pairs.clear();
         self.count = 0;
     }
 
@@ -150,7 +178,7 @@ impl LogTable {
     pub fn find(&self, x: VarId) -> Option<i64>
         ensures { result ≡ known_at self.now x }
     {
-        look(&self.pairs, self.count, &self.places, x)
+        look(&self.lines, self.count, &self.places, x)
     }
 
     /// One pair more, of a variable that is not there.
@@ -163,7 +191,7 @@ impl LogTable {
         ensures short { length self.old < 8 → IsOk result }
     {
         let place = self.count;
-        append(&mut self.pairs, place, &mut self.room, x, v)?;
+        append(&mut self.lines, place, &mut self.room, (x, v))?;
         self.count = place + 1;
         self.places[x.0 as usize] = place as u8;
         Ok(())

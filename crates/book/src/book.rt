@@ -266,11 +266,12 @@ impl<'a> Book<'a> {
     {
         let catalogue = self.catalogue;
         let mut attempt = Attempt::new(alloc, catalogue, self.task_tx(task));
-        self.serve(&mut attempt, task)
+        self.serial_lent(&mut attempt, task)
     }
 
-    /// A turn of the task, by an attempt that is restarted for it.
-    fn serve(&mut self, attempt: &mut Attempt<'a>, task: TaskId) -> Serial
+    /// As `serial`, by an attempt that the caller keeps, which is restarted for it. What it was an
+    /// attempt of before does not matter.
+    pub fn serial_lent(&mut self, attempt: &mut Attempt<'a>, task: TaskId) -> Serial
         requires exists { task.0 < length self.old.tasks }
         ensures served { Served self.old task result self.new }
         ensures catalogue { self.new.catalogue ≡ self.old.catalogue }
@@ -371,7 +372,7 @@ impl<'a> Book<'a> {
         requires { IsRunning self.old task }
         ensures { Turn every self.old task self.new }
     {
-        let how = self.serve(attempt, task);
+        let how = self.serial_lent(attempt, task);
         self.keep_short(every, how);
     }
 

@@ -64,13 +64,13 @@ pub fn put_names(names: &mut Vec<u8>, start: usize, log: &[(VarId, i64)])
 {
     let mut at = start;
     for pair in log {
-        names[at] = name_of(pair);
+        names[at] = number_byte(pair);
         at += 1;
     }
 }
 
 /// A variable's number, in a byte.
-fn name_of(pair: &(VarId, i64)) -> u8
+fn number_byte(pair: &(VarId, i64)) -> u8
     requires { pair.now.0.0 < MAX_VARIABLES }
     ensures { result ≡ pair.now.0.0 }
 {

@@ -3,7 +3,7 @@ use Rattle.std.proofs.Common.{◌≡◌, ◌≢◌, ◌⊎◌, ℕ, zero, suc, �
 use mathlib.Core.Logic.{dite}
 use native.Mathlib.Decide.{ℕ_discrete}
 use lib.Seq.{take-length}
-use Rattle.txn_words.specs.Words.{Commit, value_of, state_of, last_state}
+use Rattle.txn_words.specs.Words.{Commit, state_value, state_of, last_state}
 use Rattle.txn_words.specs.Stores.{Change, no_change, id_of, new_of, with_changes, AreChanges, after_clock}
 use Rattle.txn_words.proofs.Words.{last_pushed, state_before}
 use Rattle.cells.specs.Publishing.{IsResting}
@@ -60,9 +60,9 @@ module _ (c : Commit) (n : ℕ) (vs : List ℕ) (cs : List Change) (r : IsRestin
   pub same_size : length (with_changes c.values cs) ≡ length c.values
   same_size = sets_length (λ (d : Change). d.1) c.values cs
 
-  pub each_differs : (i : ℕ) → i < length cs → value_of (last_state (counted c cs).history) (id_of cs i) ≢ value_of (state_of (counted c cs).history (n + 1 - 1)) (id_of cs i)
-  each_differs i l e = let many = r.counted in a.differ i l (sym (each_stored i l) ∙ (ap (λ s. value_of s (id_of cs i)) (sym (last_pushed c.history (with_changes c.values cs)))
-      ∙ (e ∙ (ap (λ s. value_of s (id_of cs i)) (state_before c.history (with_changes c.values cs) (n + 1 - 1) (omega arith)) ∙ ap (λ (z : ℕ). value_of (state_of c.history z) (id_of cs i)) (omega arith)))))
+  pub each_differs : (i : ℕ) → i < length cs → state_value (last_state (counted c cs).history) (id_of cs i) ≢ state_value (state_of (counted c cs).history (n + 1 - 1)) (id_of cs i)
+  each_differs i l e = let many = r.counted in a.differ i l (sym (each_stored i l) ∙ (ap (λ s. state_value s (id_of cs i)) (sym (last_pushed c.history (with_changes c.values cs)))
+      ∙ (e ∙ (ap (λ s. state_value s (id_of cs i)) (state_before c.history (with_changes c.values cs) (n + 1 - 1) (omega arith)) ∙ ap (λ (z : ℕ). state_value (state_of c.history z) (id_of cs i)) (omega arith)))))
 
   pub longer_by_one : n + 1 + 1 ≡ length (c.history ++ with_changes c.values cs ∷ [])
   longer_by_one = let many = r.counted in omega (arith, length-append c.history (with_changes c.values cs ∷ []))

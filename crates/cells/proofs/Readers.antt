@@ -6,7 +6,7 @@ use Rattle.std.specs.Int.{w64, cast_signed}
 use Rattle.atomic_table.specs.Table.{step, keeps, stepped, Allows}
 use Rattle.atomic_table.specs.Seated.{TableId}
 use Rattle.txn_words.specs.Words.{state_of, last_state, version_word, value_word, StartsWith}
-use Rattle.txn_words.specs.Loads.{PassRecord, begun, sampled, loaded, met, value_at, ReaderHolds}
+use Rattle.txn_words.specs.Loads.{PassRecord, begun, sampled, loaded, met, seen_value, ReaderHolds}
 use Rattle.txn_words.proofs.Words.{seen_state}
 use Rattle.txn_words.proofs.Loads.{same_width, begin_right, sample_right, value_right, again_right, again_tells}
 use Rattle.cells.specs.Sight.{Sight, reading, record_of}
@@ -79,7 +79,7 @@ versions_read slots id me x v first b is of_v two s r _ at _ =
       reader_step s r (version_word v) id me.1 (loaded n x) (again_right s.words r.commit r.words x k v first b of_v two),
       λ y is'. let e = same me x y is is' in (
         ap (λ (u : PassRecord). reading (loaded n u)) e,
-        subst (λ (u : PassRecord). (got : ℕ) → u.loads ≡ n ∷ got ∷ [] → n % 2 ≡ 0 → n ≤ 2 * u.rv → cast_signed w64 got ≡ value_at u u.variable) e
+        subst (λ (u : PassRecord). (got : ℕ) → u.loads ≡ n ∷ got ∷ [] → n % 2 ≡ 0 → n ≤ 2 * u.rv → cast_signed w64 got ≡ seen_value u u.variable) e
             (λ got loads even early. again_tells s.words r.commit r.words x k v n got of_v loads refl even early),
       ),
     )

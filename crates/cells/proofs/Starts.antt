@@ -7,7 +7,7 @@ use lib.ListN.{get_elem?, get_or-append}
 use Rattle.std.specs.Int.{w64, cast_signed}
 use Rattle.atomic_table.specs.Table.{opening, Splits}
 use Rattle.atomic_table.proofs.Lists.{at_snoc}
-use Rattle.txn_words.specs.Words.{Commit, value_of, version_word, value_word}
+use Rattle.txn_words.specs.Words.{Commit, state_value, version_word, value_word}
 use Rattle.txn_words.specs.Stores.{opened}
 use Rattle.txn_words.specs.Loads.{enrolled, ReaderHolds}
 use Rattle.txn_words.proofs.Words.{starts_whole, all_free, all_zero, opened_sized, opens}
@@ -52,7 +52,7 @@ pushed (x ∷ xs) a zero e = absurd (omega arith)
 pushed (x ∷ xs) a (suc n) e = pushed xs a n (omega arith)
 
 -- two words more, for one variable more
-pub first_more : (m : List ℤ) (words : List ℕ) (k b : ℕ) → AreFirstWords m words k → cast_signed w64 b ≡ value_of m k → AreFirstWords m ((words ++ 0 ∷ []) ++ b ∷ []) (k + 1)
+pub first_more : (m : List ℤ) (words : List ℕ) (k b : ℕ) → AreFirstWords m words k → cast_signed w64 b ≡ state_value m k → AreFirstWords m ((words ++ 0 ∷ []) ++ b ∷ []) (k + 1)
 first_more m words k b h is = let wide = h.wide in let one : length (words ++ 0 ∷ []) ≡ length words + 1 = length-append words (0 ∷ []) in let two = length-append (words ++ 0 ∷ []) (b ∷ []) in
     let before : (n : ℕ) → n < length words → get_or ((words ++ 0 ∷ []) ++ b ∷ []) n 0 ≡ get_or words n 0 =
     λ n l. get_or-append (words ++ 0 ∷ []) (b ∷ []) 0 n (omega arith) ∙ get_or-append words (0 ∷ []) 0 n l in record {
@@ -61,7 +61,7 @@ first_more m words k b h is = let wide = h.wide in let one : length (words ++ 0 
       each = λ x l. dite (ℕ_discrete x k)
           (λ e. (
             get_or-append (words ++ 0 ∷ []) (b ∷ []) 0 (version_word x) (omega arith) ∙ pushed words 0 (version_word x) (omega arith),
-            ap (cast_signed w64) (pushed (words ++ 0 ∷ []) b (value_word x) (omega arith)) ∙ (is ∙ ap (value_of m) (sym e)),
+            ap (cast_signed w64) (pushed (words ++ 0 ∷ []) b (value_word x) (omega arith)) ∙ (is ∙ ap (state_value m) (sym e)),
           ))
           (λ n. let t = h.each x (omega arith) in (before (version_word x) (omega arith) ∙ t.0, ap (cast_signed w64) (before (value_word x) (omega arith)) ∙ t.1));
     }

@@ -3,9 +3,9 @@ use Rattle.std.specs.Prelude.{◌≡◌, ℕ, ◌+◌, ◌*◌, ◌%◌, ◌<◌
 use Rattle.std.specs.Int.{w64, cast_signed}
 use Rattle.atomic_table.specs.Seated.{TableId}
 use Rattle.atomic_table.specs.declared.shared.Seat.{Seat}
-use Rattle.txn_words.specs.Words.{Commit, value_of, state_of, last_state, version_word, value_word, StartsWith}
+use Rattle.txn_words.specs.Words.{Commit, state_value, state_of, last_state, version_word, value_word, StartsWith}
 use Rattle.txn_words.specs.Stores.{Change, id_of, with_changes}
-use Rattle.txn_words.specs.Loads.{PassRecord, begun, loaded, value_at}
+use Rattle.txn_words.specs.Loads.{PassRecord, begun, loaded, seen_value}
 use Rattle.cells.specs.Cells.{CellsId}
 use Rattle.cells.specs.Sight.{Sight, publishing, reading, commit_of, record_of}
 
@@ -47,7 +47,7 @@ HasBegun p q n = let r = record_of p.me.0 in
 abbrev pub HasSampled : CellsSeat → CellsSeat → ℕ → Type 0
 HasSampled p q n = let r = record_of p.me.0 in
     (q.me.0 ≡ reading (loaded n r))
-    × ((value : ℕ) → r.loads ≡ n ∷ value ∷ [] → n % 2 ≡ 0 → n ≤ 2 * r.rv → cast_signed w64 value ≡ value_at r r.variable)
+    × ((value : ℕ) → r.loads ≡ n ∷ value ∷ [] → n % 2 ≡ 0 → n ≤ 2 * r.rv → cast_signed w64 value ≡ seen_value r r.variable)
 
 -- the reader has loaded the version word of x, and nothing since
 abbrev pub HasVersion : PassRecord → ℕ → Type 0
@@ -91,4 +91,4 @@ pub record AreFirstWords (m : List ℤ) (words : List ℕ) (k : ℕ) : Type 0 wh
   pub wide : length words ≡ 2 * k + 1
   pub clock : slice_index words 0 ≡ 0
   pub each : (x : ℕ) → x < k
-      → (slice_index words (version_word x) ≡ 0) × (cast_signed w64 (slice_index words (value_word x)) ≡ value_of m x)
+      → (slice_index words (version_word x) ≡ 0) × (cast_signed w64 (slice_index words (value_word x)) ≡ state_value m x)

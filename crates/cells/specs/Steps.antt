@@ -6,7 +6,7 @@ use Rattle.std.specs.Int.{w64, cast_signed}
 use Rattle.atomic_table.specs.Table.{Me, Step}
 use Rattle.txn_words.specs.Words.{Commit, state_of, last_state, StartsWith}
 use Rattle.txn_words.specs.Stores.{after_lock, after_value, after_clock, after_release}
-use Rattle.txn_words.specs.Loads.{PassRecord, begun, sampled, loaded, met, value_at}
+use Rattle.txn_words.specs.Loads.{PassRecord, begun, sampled, loaded, met, seen_value}
 use Rattle.cells.specs.Sight.{Sight, publishing, reading, meeting}
 
 -- a seat, with the slots that it holds: here none
@@ -40,7 +40,7 @@ abbrev pub samples_again : Step Unit → Seated → ℕ → Seated → Type 0
 samples_again s m n m' = (r : PassRecord) → m.0 ≡ reading r
     → (m'.0 ≡ reading (loaded n r))
     × ((value : ℕ) → r.loads ≡ n ∷ value ∷ [] → n % 2 ≡ 0 → n ≤ 2 * r.rv
-    → cast_signed w64 value ≡ value_at r r.variable)
+    → cast_signed w64 value ≡ seen_value r r.variable)
 
 -- a store of the publisher, that changes what was stored by `f`
 abbrev pub Moves : (Commit → Commit) → Seated → Seated → Type 0

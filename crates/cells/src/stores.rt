@@ -1,6 +1,6 @@
 //! The stores of a publish, kind by kind. In each contract `c` is what was stored before the call.
 ghost use Rattle.std.specs.Prelude.{◌≡◌, ◌≢◌, ℕ, ◌+◌, ◌-◌, ◌^◌, ◌<◌, ◌≤◌, false, Bool, length, slice_index, slice_index_or};
-ghost use Rattle.txn_words.specs.Words.{value_of, state_of, last_state};
+ghost use Rattle.txn_words.specs.Words.{state_value, state_of, last_state};
 ghost use Rattle.txn_words.specs.Stores.{AreChanges, id_of};
 ghost use Rattle.cells.specs.Sight.{publishing, commit_of};
 ghost use Rattle.cells.specs.Private.{IsSeated, IsSameSeat, AreLocked, all_locked, all_stored, all_released, numbered_by};
@@ -65,8 +65,8 @@ pub(crate) fn release_all(
         → id_of changes.now i < id_of changes.now j }
     requires moved { (commit_of seat.old.me.0).storing ≡ false }
     requires changed { let c = commit_of seat.old.me.0 in (i : ℕ) → i < length changes.now
-        → value_of (last_state c.history) (id_of changes.now i)
-        ≢ value_of (state_of c.history (number - 1)) (id_of changes.now i) }
+        → state_value (last_state c.history) (id_of changes.now i)
+        ≢ state_value (state_of c.history (number - 1)) (id_of changes.now i) }
     requires versions { let c = commit_of seat.old.me.0 in
         (c.versions ≡ versions.old.items)
         × (length c.versions ≡ length c.values)

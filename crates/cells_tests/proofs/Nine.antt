@@ -1,6 +1,6 @@
 -- Nine variables that all get one value.
 use Rattle.std.proofs.Common.{◌≡◌, ◌≢◌, ◌∙◌, ℕ, zero, suc, ◌<◌, List, [], ◌∷◌, length, ℤ, refl, sym, arith}
-use Rattle.txn_words.specs.Words.{value_of}
+use Rattle.txn_words.specs.Words.{state_value}
 use Rattle.txn_words.specs.Stores.{Change, id_of, new_of, AreChanges}
 use Rattle.cells_tests.specs.Nine.{nine}
 
@@ -31,7 +31,7 @@ values v (suc (suc (suc (suc (suc (suc (suc zero))))))) l = refl
 values v (suc (suc (suc (suc (suc (suc (suc (suc zero)))))))) l = refl
 values v (suc (suc (suc (suc (suc (suc (suc (suc (suc i))))))))) l = absurd (omega (arith, l))
 
-before : (u v : ℤ) (i : ℕ) → i < length (all_nine v) → value_of (nine u) (id_of (all_nine v) i) ≡ u
+before : (u v : ℤ) (i : ℕ) → i < length (all_nine v) → state_value (nine u) (id_of (all_nine v) i) ≡ u
 before u v zero l = refl
 before u v (suc zero) l = refl
 before u v (suc (suc zero)) l = refl

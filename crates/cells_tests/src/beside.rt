@@ -1,7 +1,7 @@
 //! A reader beside a publisher, in two threads.
 
 ghost use Rattle.std.specs.Prelude.{◌≡◌, ◌≤◌, [], ◌∷◌, pos, IfSome};
-ghost use Rattle.txn_words.specs.Words.{value_of, StartsWith};
+ghost use Rattle.txn_words.specs.Words.{state_value, StartsWith};
 ghost use Rattle.cells.specs.Passing.{at};
 
 use crate::parts::{X, Y};
@@ -28,7 +28,7 @@ fn read_pair(cells: &Cells, pass: &mut Pass) -> Option<(i64, i64)>
     ensures own { pass.new.cells ≡ pass.old.cells }
     ensures later { StartsWith pass.new.seen pass.old.seen }
     ensures values { IfSome result (λ r.
-        (r.0 ≡ value_of (at pass.new) 0) × (r.1 ≡ value_of (at pass.new) 1)) }
+        (r.0 ≡ state_value (at pass.new) 0) × (r.1 ≡ state_value (at pass.new) 1)) }
 {
     pass.begin(cells);
     let Read::Value(x) = pass.read(cells, X) else {

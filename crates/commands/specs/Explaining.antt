@@ -6,8 +6,8 @@ use Rattle.checker.specs.declared.verdict.Part.{Part}
 use Rattle.run_faults.specs.declared.fault.RunFault.{RunFault}
 use Rattle.run_faults.specs.declared.fault.RunFault.TheVariants.{Input, Memory, Output, Schedule}
 use Rattle.explain_runner.specs.Telling.{Telling}
-use Rattle.explain_runner.specs.declared.bytes.Told.{Told}
-use Rattle.explain_runner.specs.declared.bytes.Told.TheVariants as file
+use Rattle.explain_runner.specs.declared.bytes.Judgement.{Judgement}
+use Rattle.explain_runner.specs.declared.bytes.Judgement.TheVariants as file
 use Rattle.explain_reports.specs.Writing.{Written}
 use Rattle.explain_schedules.specs.Telling as schedules
 use Rattle.command_line.specs.declared.explaining_words.Explained.{Explained}
@@ -16,10 +16,10 @@ use Rattle.command_answers.specs.declared.answer.Answer.{Answer}
 use Rattle.command_answers.specs.declared.answer.Answer.TheVariants.{Done, Unlawful, Refused, Unreadable, Failed}
 
 -- the answers of explaining bytes
-abbrev pub told : Told → Result Told RunFault
+abbrev pub told : Judgement → Result Judgement RunFault
 told what = Ok what
 
-abbrev pub untold : RunFault → Result Told RunFault
+abbrev pub untold : RunFault → Result Judgement RunFault
 untold fault = Err fault
 
 -- by the answer: what explaining these bytes leaves that ends so

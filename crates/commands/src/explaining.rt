@@ -9,7 +9,7 @@ use crate::checking::answer_of;
 use crate::reading::{both_of, both_opened, bytes_of, opened};
 use command_answers::Answer;
 use command_line::{Explain, Explained};
-use explain_runner::{Told, explain_bytes};
+use explain_runner::{Judgement, explain_bytes};
 use run_faults::RunFault;
 use run_sink::Sink;
 use std::alloc::Global;
@@ -72,8 +72,8 @@ fn explained<S: Sink>(alloc: Global, bytes: &[u8], sink: &mut S) -> Answer
     ensures failures { S.failed sink.new ≡ S.failed sink.old + failed_calls result }
 {
     match explain_bytes(alloc, bytes, sink) {
-        Ok(Told::Good) => Answer::Done,
-        Ok(Told::Refused(kind)) => Answer::Failed(RunFault::Input(kind)),
+        Ok(Judgement::Good) => Answer::Done,
+        Ok(Judgement::Refused(kind)) => Answer::Failed(RunFault::Input(kind)),
         Err(fault) => Answer::Failed(fault),
     }
 }
@@ -177,8 +177,8 @@ fn explained_moves<S: Sink>(alloc: Global, file: &[u8], schedule: &[u8], sink: &
     ensures failures { S.failed sink.new ≡ S.failed sink.old + failed_calls result }
 {
     match explain_schedules::explain_bytes(alloc, file, schedule, sink) {
-        Ok(Told::Good) => Answer::Done,
-        Ok(Told::Refused(kind)) => Answer::Failed(RunFault::Schedule(kind)),
+        Ok(Judgement::Good) => Answer::Done,
+        Ok(Judgement::Refused(kind)) => Answer::Failed(RunFault::Schedule(kind)),
         Err(fault) => Answer::Failed(fault),
     }
 }

@@ -1,5 +1,7 @@
 //! The program: words and files in, a report and a status out.
 
+ghost use Rattle.std.specs.Prelude.{◌<◌, ◌^◌};
+
 use crate::checking::check_files;
 use crate::explaining::explain_files;
 use crate::exploring::{explore_file, witness_file};
@@ -7,8 +9,8 @@ use crate::playing::play_files;
 use crate::printing::print_files;
 use crate::running::run_file;
 use command_answers::{Answer, told};
-use command_line::{Request, asked, words_given};
-use run_sink::Out;
+use command_line::{Orders, Request, asked, words_given};
+use run_sink::{Out, Sink};
 use std::io;
 use std::rt::{Env, Files};
 use std::sync::Wait;
@@ -23,8 +25,7 @@ pub fn run<T: Threads + Wait + Sync, R: Files + Env + Print + Eprint + AllocGlob
     told(rt, answer(threads, rt))
 }
 
-/// Does what the command line asks for. What it prints goes to the standard output as it is, each
-/// put of the sink by one write.
+/// Does what the command line asks for.
 fn answer<T: Threads + Wait + Sync, R: Files + Env + Print + Eprint + AllocGlobal>(
     threads: &T,
     rt: &R,
@@ -34,33 +35,39 @@ fn answer<T: Threads + Wait + Sync, R: Files + Env + Print + Eprint + AllocGloba
         Err(answer) => return answer,
     };
     match asked(rt, words.as_slice()) {
-        Ok(Request::Run(request)) => {
-            let mut out = Out::new(io::writer(rt));
-            run_file(threads, rt, request.file, request.options, &mut out)
-        }
-        Ok(Request::Check(request)) => {
-            let mut out = Out::new(io::writer(rt));
-            check_files(rt, request.file, request.report, &mut out)
-        }
-        Ok(Request::World(request)) => {
-            let mut out = Out::new(io::writer(rt));
-            play_files(rt, request.file, request.schedule, &mut out)
-        }
-        Ok(Request::Print(request)) => {
-            let mut out = Out::new(io::writer(rt));
-            print_files(rt, &request, &mut out)
-        }
-        Ok(Request::Explore(request)) => {
-            let mut out = Out::new(io::writer(rt));
-            match request.to {
-                Some(end) => witness_file(rt, request.file, request.limit, end, &mut out),
-                None => explore_file(rt, request.file, request.limit, &mut out),
-            }
-        }
-        Ok(Request::Explain(request)) => {
-            let mut out = Out::new(io::writer(rt));
-            explain_files(rt, &request, &mut out)
-        }
+        Ok(request) => answered(threads, rt, &request),
         Err(answer) => answer,
+    }
+}
+
+/// Does what was asked for. What it prints goes to the standard output as it is, each put of the sink
+/// by one write.
+fn answered<T: Threads + Wait + Sync, R: Files + Print + Eprint + AllocGlobal>(
+    threads: &T,
+    rt: &R,
+    request: &Request<'_>,
+) -> Answer {
+    let mut out = Out::new(io::writer(rt));
+    match request {
+        Request::Run(run) => run_file(threads, rt, run.file, run.options, &mut out),
+        Request::Check(check) => check_files(rt, check.file, check.report, &mut out),
+        Request::World(played) => play_files(rt, played.file, played.schedule, &mut out),
+        Request::Print(print) => print_files(rt, print, &mut out),
+        Request::Explore(orders) => orders_of(rt, orders, &mut out),
+        Request::Explain(explain) => explain_files(rt, explain, &mut out),
+    }
+}
+
+/// All orders of a file's tasks, or the one that was asked for.
+fn orders_of<R: Files + Eprint + AllocGlobal, S: Sink>(
+    rt: &R,
+    orders: &Orders<'_>,
+    sink: &mut S,
+) -> Answer
+    requires { S.failed sink.old < 2 ^ 63 }
+{
+    match orders.to {
+        Some(end) => witness_file(rt, orders.file, orders.limit, end, sink),
+        None => explore_file(rt, orders.file, orders.limit, sink),
     }
 }

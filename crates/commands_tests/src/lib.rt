@@ -1,4 +1,5 @@
-//! Tests of the public calls of `commands`: each status, and what is read and written on the way.
+//! Tests of the public calls of `command_line`, what the words ask for, help, and refusals; and of `commands`, each status,
+//! and what is read and written on the way.
 #![tactic(auto)]
 
 #[cfg(test)]
@@ -19,3 +20,7 @@ mod printing;
 mod program;
 #[cfg(test)]
 mod reading;
+#[cfg(test)]
+mod shown;
+#[cfg(test)]
+mod words;

@@ -14,7 +14,7 @@ use txn::Memory;
 
 /// What was told of a file.
 #[derive(Clone, Copy, Debug, PartialEq, Eq)]
-pub enum Told {
+pub enum Judgement {
     /// It is read.
     Good,
     /// It is refused for a first fault of this kind.
@@ -22,17 +22,17 @@ pub enum Told {
 }
 
 /// What is told, and its text.
-fn text_of(alloc: Global, bytes: &[u8]) -> Result<(Told, String), Memory>
+fn text_of(alloc: Global, bytes: &[u8]) -> Result<(Judgement, String), Memory>
     ensures { IfOk result (λ x. IsTextOf bytes.now x.0 (string_bytes x.1)) }
 {
     match explain(alloc, bytes)? {
         Explanation::Good => {
             let text = String::from_str(alloc, "good\n")?;
-            Ok((Told::Good, text))
+            Ok((Judgement::Good, text))
         }
         Explanation::Refused(refusal) => {
             let text = told(alloc, bytes, &refusal)?;
-            Ok((Told::Refused(refusal.kind), text))
+            Ok((Judgement::Refused(refusal.kind), text))
         }
     }
 }
@@ -42,7 +42,11 @@ fn text_of(alloc: Global, bytes: &[u8]) -> Result<(Told, String), Memory>
 ///
 /// `Ok`: exactly that line was written, and then flushed. `Memory`: a growth was refused; nothing was
 /// written. `Output`: a call of the sink failed, the only one, and a beginning of the line was written.
-pub fn explain_bytes<S: Sink>(alloc: Global, bytes: &[u8], sink: &mut S) -> Result<Told, RunFault>
+pub fn explain_bytes<S: Sink>(
+    alloc: Global,
+    bytes: &[u8],
+    sink: &mut S,
+) -> Result<Judgement, RunFault>
     requires { S.failed sink.old < 2 ^ 63 }
     ensures told { Telling bytes.now (S.bytes sink.old) (S.bytes sink.new) result }
     ensures flushed { OnOk result (S.flushed sink.new ≡ true) }

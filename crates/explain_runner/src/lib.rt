@@ -6,5 +6,5 @@ mod near;
 mod text;
 mod words;
 
-pub use bytes::{Told, explain_bytes};
+pub use bytes::{Judgement, explain_bytes};
 pub use text::{kind_name, line_of};

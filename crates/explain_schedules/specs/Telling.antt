@@ -10,8 +10,8 @@ use Rattle.run_faults.specs.declared.fault.RunFault.{RunFault}
 use Rattle.run_faults.specs.declared.fault.RunFault.TheVariants.{Input, Memory, Output, Schedule}
 use Rattle.explain_files.specs.Places.{line_at, column_at}
 use Rattle.explain_runner.specs.Telling.{Begins, head, kind_name}
-use Rattle.explain_runner.specs.declared.bytes.Told.{Told}
-use Rattle.explain_runner.specs.declared.bytes.Told.TheVariants.{Good, Refused}
+use Rattle.explain_runner.specs.declared.bytes.Judgement.{Judgement}
+use Rattle.explain_runner.specs.declared.bytes.Judgement.TheVariants.{Good, Refused}
 use Rattle.explain_schedules.specs.Explaining.{IsRefused}
 use Rattle.explain_schedules.specs.declared.explaining.Refusal.{Refusal}
 
@@ -26,30 +26,30 @@ pub record IsRefusedAs (l : Listing) (bytes : List ℕ) (kind : ReadFault) (text
   pub is : refusal.kind ≡ kind
   pub begins : Begins (head_of bytes refusal) text
 
-abbrev pub IsTextOf : Listing → List ℕ → Told → List ℕ → Type 0
+abbrev pub IsTextOf : Listing → List ℕ → Judgement → List ℕ → Type 0
 IsTextOf l bytes Good text = (moves : List Move) × (IsSchedule l bytes moves × (text ≡ codes "good\n"))
 IsTextOf l bytes (Refused kind) text = IsRefusedAs l bytes kind text
 
 -- the text says of the schedule what is so, for the file that the bytes spell
-pub record IsAnswer (file schedule : List ℕ) (told : Told) (text : List ℕ) : Type 0 where
+pub record IsAnswer (file schedule : List ℕ) (told : Judgement) (text : List ℕ) : Type 0 where
   pub listing : Listing
   pub spelled : Spells file listing
   pub is : IsTextOf listing schedule told text
 
-pub record Wrote (file schedule : List ℕ) (told : Told) (old new : Option (List ℕ)) : Type 0 where
+pub record Wrote (file schedule : List ℕ) (told : Judgement) (old new : Option (List ℕ)) : Type 0 where
   pub text : List ℕ
   pub is : IsAnswer file schedule told text
   pub written : Appends old new text
 
 pub record WroteBeginning (file schedule : List ℕ) (old new : Option (List ℕ)) : Type 0 where
-  pub told : Told
+  pub told : Judgement
   pub text : List ℕ
   pub is : IsAnswer file schedule told text
   pub count : ℕ
   pub written : Appends old new (take count text)
 
 -- by the answer: the whole line; or nothing and the first kind of fault of the file; or nothing; or a beginning
-abbrev pub Telling : List ℕ → List ℕ → Option (List ℕ) → Option (List ℕ) → Result Told RunFault → Type 0
+abbrev pub Telling : List ℕ → List ℕ → Option (List ℕ) → Option (List ℕ) → Result Judgement RunFault → Type 0
 Telling file schedule old new (Ok told) = Wrote file schedule told old new
 Telling file schedule old new (Err (Input kind)) = (first_fault file ≡ Some kind) × Keeps old new
 Telling file schedule old new (Err Memory) = Keeps old new

@@ -7,7 +7,7 @@ ghost use Rattle.explain_schedules.specs.Telling.{Telling, IsTextOf, IsAnswer, I
 
 use crate::explaining::{Explanation, explain};
 use crate::text::told;
-use explain_runner::Told;
+use explain_runner::Judgement;
 use run_faults::RunFault;
 use run_sink::{Sink, put_all};
 use std::alloc::Global;
@@ -25,7 +25,7 @@ pub fn explain_bytes<S: Sink>(
     file: &[u8],
     schedule: &[u8],
     sink: &mut S,
-) -> Result<Told, RunFault>
+) -> Result<Judgement, RunFault>
     requires { S.failed sink.old < 2 ^ 63 }
     ensures told { Telling file.now schedule.now (S.bytes sink.old) (S.bytes sink.new) result }
     ensures flushed { OnOk result (S.flushed sink.new ≡ true) }
@@ -53,23 +53,27 @@ fn catalogue_of(alloc: Global, file: &[u8]) -> Result<Catalogue, RunFault>
 }
 
 /// What is told of a schedule, and its text.
-fn text_of(alloc: Global, catalogue: &Catalogue, schedule: &[u8]) -> Result<(Told, String), Memory>
+fn text_of(
+    alloc: Global,
+    catalogue: &Catalogue,
+    schedule: &[u8],
+) -> Result<(Judgement, String), Memory>
     ensures { IfOk result (λ x. IsTextOf catalogue.now schedule.now x.0 (string_bytes x.1)) }
 {
     match explain(alloc, catalogue, schedule)? {
         Explanation::Good => {
             let text = String::from_str(alloc, "good\n")?;
-            Ok((Told::Good, text))
+            Ok((Judgement::Good, text))
         }
         Explanation::Refused(refusal) => {
             let text = told(alloc, catalogue, schedule, &refusal)?;
-            Ok((Told::Refused(refusal.kind), text))
+            Ok((Judgement::Refused(refusal.kind), text))
         }
     }
 }
 
 /// What is told of a schedule of the file that the bytes spell, and its text.
-fn answered(alloc: Global, file: &[u8], schedule: &[u8]) -> Result<(Told, String), RunFault>
+fn answered(alloc: Global, file: &[u8], schedule: &[u8]) -> Result<(Judgement, String), RunFault>
     ensures answered { IfOk result (λ x. IsAnswer file.now schedule.now x.0 (string_bytes x.1)) }
     ensures refused { IfErr result (IsUntold file.now) }
 {

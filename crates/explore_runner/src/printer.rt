@@ -6,7 +6,7 @@ ghost use Rattle.txn_programs.specs.Listing.{tasks};
 ghost use Rattle.explore_law.specs.Orders.{counted};
 ghost use Rattle.explore_runner.specs.FoundText.{broke_word, each_below, end_line, flag_words, found_text, more_text, parked_words, tx_line, tx_part, value_words, waiting_words};
 
-use crate::words::{count_at, is_parked, put_only, some_wait, value_at};
+use crate::words::{count_at, is_parked, put_only, some_wait, value_or_zero};
 use explore::task_counts;
 use explore_law::{End, Found, Kinds};
 use std::alloc::{AllocError, Global};
@@ -153,7 +153,7 @@ fn put_value(
 ) -> Result<(), AllocError>
     ensures { OnOk result (string_bytes out.new ≡ string_bytes out.old ++ value_words catalogue.now values.now k) }
 {
-    let value = value_at(values, k);
+    let value = value_or_zero(values, k);
     out.push_str(" ")?;
     out.push_str(variable_name(catalogue, k))?;
     write!(out, " {value}")?;

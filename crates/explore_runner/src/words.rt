@@ -28,7 +28,7 @@ pub(crate) fn count_at(counts: &[u32], i: usize) -> u32
 }
 
 /// The value at this place, or 0 past the end.
-pub(crate) fn value_at(values: &[i64], i: usize) -> i64
+pub(crate) fn value_or_zero(values: &[i64], i: usize) -> i64
     ensures { result ≡ slice_index_or values.now i (pos 0) }
 {
     match values.get(i) {

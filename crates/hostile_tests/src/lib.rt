@@ -1,9 +1,20 @@
-//! Tests of hostile use: each request for memory refused in turn, and writers that fail at each call.
+//! Tests of hostile use: each request for memory refused in turn, writers that fail at each call, and the limits with
+//! ample memory, where nothing answers want of memory, since none was refused.
 //!
 //! A test of a `refused` module holds with ample memory, and also where any one request for memory is
 //! refused: `hostile/gate` runs each of them so, for each request that it makes.
 #![tactic(auto)]
 
+#[cfg(test)]
+mod limit_files;
+#[cfg(test)]
+mod limit_observers;
+#[cfg(test)]
+mod limit_parts;
+#[cfg(test)]
+mod limit_schedules;
+#[cfg(test)]
+mod limit_texts;
 #[cfg(test)]
 mod many_workers;
 #[cfg(test)]

@@ -1,15 +1,20 @@
 -- What observing a transaction says, and what telling an attempt what it needs does.
-use Rattle.std.specs.Prelude.{◌≡◌, ◌≢◌, ◌⊎◌, ℕ, ◌+◌, ◌*◌, ◌<◌, ◌≤◌, true, false, length}
+use Rattle.std.specs.Prelude.{◌≡◌, ◌≢◌, ◌⊎◌, ℕ, ℤ, ◌+◌, ◌*◌, ◌<◌, ◌≤◌, true, false, List, length}
 use Rattle.txn_programs.specs.declared.ast.TxId.{TxId}
 use Rattle.txn_programs.specs.Listing.{Listing, program_at}
-use Rattle.txn_programs.specs.Meaning.{outcome}
-use Rattle.txn_words.specs.Words.{value_of, state_of, StartsWith}
+use Rattle.txn_programs.specs.Meaning.{State, outcome}
+use Rattle.txn_words.specs.Words.{state_value, state_of, StartsWith}
 use Rattle.txn_words.specs.Stores.{id_of, new_of}
 use Rattle.txn_words.specs.Loads.{ShowsStale}
 use Rattle.attempt.specs.Asking.{Known}
+use Rattle.attempt.specs.Frame.{Agrees}
+use Rattle.attempt.specs.View.{AttemptView}
+use Rattle.attempt.specs.declared.next.Stand.TheVariants.{Over}
+use Rattle.cells.specs.Cells.{CellsId}
 use Rattle.cells.specs.Passing.{Passing, at}
 use Rattle.run_observer.specs.declared.observation.Observed.{Observed}
-use Rattle.run_observer.specs.declared.observation.Observed.TheVariants.{Outcome, Stale, Memory}
+use Rattle.txn_programs.specs.declared.ast.Outcome.{Outcome}
+use Rattle.run_observer.specs.declared.observation.Observed.TheVariants as observed
 
 -- From the pass p to q, one clock load began it anew, and it moved at most once for each variable. It sees a history
 -- that begins with what it saw, and is at that history's last state, whose number the last clock load gave.
@@ -24,7 +29,7 @@ pub record ObservesBy (p q : Passing) : Type 0 where
 -- the last that the pass p had seen.
 abbrev pub ShowsChange : Passing → Passing → Type 0
 ShowsChange p q = (n : ℕ) × (length p.seen ≤ n + 1) × (n < q.rv)
-    × (value_of (at q) q.variable ≢ value_of (state_of q.seen n) q.variable)
+    × (state_value (at q) q.variable ≢ state_value (state_of q.seen n) q.variable)
 
 -- A stale answer closed the pass, after it began and tried to move: the loads of its last read show why, or the value
 -- that they gave does.
@@ -33,9 +38,19 @@ IsStaleFrom p q = (q.open_now ≡ false) × (p.clock_loads + 2 ≤ q.clock_loads
 
 -- An outcome is that of the transaction on the state at which the pass is in the end.
 abbrev pub IsObserved : Listing → TxId → Passing → Passing → Observed → Type 0
-IsObserved l tx p q (Outcome o) = (outcome (program_at l tx) (at q) ≡ o) × (q.open_now ≡ true)
-IsObserved l tx p q Stale = IsStaleFrom p q
-IsObserved l tx p q Memory = q.open_now ≡ true
+IsObserved l tx p q (observed.Outcome o) = (outcome (program_at l tx) (at q) ≡ o) × (q.open_now ≡ true)
+IsObserved l tx p q observed.Stale = IsStaleFrom p q
+IsObserved l tx p q observed.Memory = q.open_now ≡ true
+
+-- where a pass is: what reading leaves
+pub record Moment : Type 0 where
+  pub cells : CellsId
+  pub seen : List (List ℤ)
+  pub clock_loads : ℕ
+  pub rv : ℕ
+
+abbrev pub moment : Passing → Moment
+moment p = record { cells = p.cells; seen = p.seen; clock_loads = p.clock_loads; rv = p.rv }
 
 -- the pass is where it was
 abbrev pub StaysAt : Passing → Passing → Type 0
@@ -55,8 +70,18 @@ pub record TellsBy (p q : Passing) (log : Known) : Type 0 where
 
 -- the variable that was read last has another value than the log has
 abbrev pub ShowsOther : Passing → Known → Type 0
-ShowsOther q log = (i : ℕ) × (i < length log) × (q.variable ≡ id_of log i) × (value_of (at q) (id_of log i) ≢ new_of log i)
+ShowsOther q log = (i : ℕ) × (i < length log) × (q.variable ≡ id_of log i) × (state_value (at q) (id_of log i) ≢ new_of log i)
 
 -- The pass q is closed, after it was to move: the loads of its last read show why, or the value that they gave does.
 abbrev pub IsCutFrom : Passing → Passing → Known → Type 0
 IsCutFrom p q log = MovesOn p q × (q.open_now ≡ false) × (ShowsStale q.rv q.loads ⊎ ShowsOther q log)
+
+-- An attempt of the transaction that has ended as the transaction does on the state m, and on each state that agrees
+-- with its log.
+pub record EndsOn (l : Listing) (tx : TxId) (m : State) (how : Outcome) (a : AttemptView) : Type 0 where
+  pub program : a.program ≡ program_at l tx
+  pub variables : a.variables ≡ length l.initial
+  pub ended : a.stand ≡ Over how
+  pub agrees : Agrees a.log m
+  pub outcome_is : outcome (program_at l tx) m ≡ how
+  pub frame : (s : State) → length s ≡ length l.initial → Agrees a.log s → outcome (program_at l tx) s ≡ how

@@ -10,7 +10,9 @@ ghost use Rattle.cells.specs.Passing.{at};
 ghost use Rattle.cells.specs.Answers.{AgreesUpTo};
 ghost use Rattle.run_observer.specs.Observing.{ObservesBy, IsObserved, TellsBy, MovesOn, IsCutFrom};
 
-use attempt::{Attempt, Next, Stand};
+use crate::evaluating::evaluate;
+use crate::reading::peek;
+use attempt::{Attempt, Stand};
 use cells::{Cells, Extend, Pass, Read};
 use std::alloc::Global;
 use txn::{Catalogue, Outcome, TxId, VarId};
@@ -52,22 +54,11 @@ pub fn observe(
     ensures observes { ObservesBy pass.old pass.new }
     ensures answer { IsObserved catalogue.now tx pass.old pass.new result }
 {
-    pass.begin(cells);
     let mut attempt = Attempt::new(alloc, catalogue, tx);
-    'needs: loop {
-        pass.law();
-        let x = match attempt.advance() {
-            Next::Need(x) => x,
-            Next::Returned(v) => return Observed::Outcome(Outcome::Returned(v)),
-            Next::Thrown(fault) => return Observed::Outcome(Outcome::Thrown(fault)),
-            Next::Retry => return Observed::Outcome(Outcome::Retries),
-            Next::Memory => return Observed::Memory,
-        };
-        match tell(&mut attempt, x, cells, pass) {
-            Ok(()) => {}
-            Err(Cut::Stale) => return Observed::Stale,
-            Err(Cut::Memory) => return Observed::Memory,
-        }
+    match evaluate(&mut attempt, catalogue, tx, cells, pass) {
+        Ok(outcome) => Observed::Outcome(outcome),
+        Err(Cut::Stale) => Observed::Stale,
+        Err(Cut::Memory) => Observed::Memory,
     }
 }
 
@@ -81,17 +72,16 @@ pub enum Cut {
 }
 
 /// Reads the variable that the attempt needs, and tells the attempt its value. Where the read is
-/// stale, the pass is extended by the attempt's log, and where it moved, the variable is read once
-/// more. So what the attempt has read stays what it is in one state.
+/// stale, or the pass is closed already, the pass is extended by the attempt's log, and where it
+/// moved, the variable is read once more. So what the attempt has read stays what it is in one state.
 ///
 /// `Stale` where the extension did not move, or the second read was stale too: the pass is closed,
 /// and its last read shows why. `Memory` only where a growth was refused; the pass is open. Where
-/// it answers an error the attempt is as it was. The pass has to be one of these cells and open,
-/// and the variables have to exist.
+/// it answers an error the attempt is as it was. The pass has to be one of these cells, and the
+/// variables have to exist.
 pub fn tell(attempt: &mut Attempt<'_>, x: VarId, cells: &Cells, pass: &mut Pass) -> Result<(), Cut>
     requires needed { attempt.old.stand ≡ Stand.Needs x }
     requires own { pass.old.cells ≡ cells.now }
-    requires open { pass.old.open_now ≡ true }
     requires exists { x.0 < cells.now.variables }
     requires variables { attempt.old.variables ≤ cells.now.variables }
     ensures reads { TellsBy pass.old pass.new attempt.old.log }
@@ -102,9 +92,9 @@ pub fn tell(attempt: &mut Attempt<'_>, x: VarId, cells: &Cells, pass: &mut Pass)
     ensures stale { IfErr result (λ why. why ≡ Cut.Stale → IsCutFrom pass.old pass.new attempt.old.log) }
     ensures memory { IfErr result (λ why. why ≡ Cut.Memory → pass.new.open_now ≡ true) }
 {
-    let value = match pass.read(cells, x) {
-        Read::Value(value) => value,
-        Read::Stale => read_later(attempt.log(), x, cells, pass)?,
+    let value = match peek(cells, pass, x) {
+        Some(value) => value,
+        None => read_later(attempt.log(), x, cells, pass)?,
     };
     match attempt.supply(x, value) {
         Ok(()) => Ok(()),

@@ -32,12 +32,15 @@ module _ (k ℓ : NamedLft) (G : RattleType) (N : RattleType) (n : Ghosts N.Deno
       declared_sync (crew.the_type k ℓ G N n) (
         search (sendable, crosses) depth 20,
         (
-          shared_field k catalogue.the_row tt catalogue_sync,
+          shared_field ℓ catalogue.the_row tt catalogue_sync,
           (
-            shared_field k cells.the_row tt crossing.the_sync,
+            search (sendable, crosses) depth 20,
             (
-              shared_field k (mutex.the_row (named.the_row ℓ N n)) tt (mutex_sync s),
-              (search sendable, (search sendable, (search sendable, tt))),
+              shared_field k cells.the_row tt crossing.the_sync,
+              (
+                shared_field k (mutex.the_row (named.the_row ℓ N n)) tt (mutex_sync s),
+                (search sendable, (search sendable, (search sendable, tt))),
+              ),
             ),
           ),
         ),

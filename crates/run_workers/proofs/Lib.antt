@@ -1,3 +1,4 @@
 pub mod Journals
 pub mod Crossing
 pub mod Crew
+pub mod Few

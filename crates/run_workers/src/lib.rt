@@ -11,6 +11,7 @@ mod tasks;
 mod threads;
 mod trying;
 mod waiting;
+mod weights;
 mod worker;
 
 pub use gate::{Gate, OpenGate, Point};

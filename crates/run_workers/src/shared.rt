@@ -15,6 +15,7 @@ ghost use Rattle.run_workers.specs.Journals.{IsShort, KeepsShort};
 ghost use Rattle.run_workers.specs.declared.shared.Tried.TheVariants.{Passed};
 
 use crate::waiting::lock;
+use crate::weights::weight_in;
 use attempt::Attempt;
 use book::{Book, Finish, Serial};
 use cells::{Cells, Publisher};
@@ -22,6 +23,12 @@ use std::alloc::Global;
 use std::marker::{Brand, PhantomData};
 use std::sync::{Mutex, Wait};
 use txn::{Catalogue, Memory, Report, TaskId};
+
+/// How many turns are given in one time under the lock at most.
+const TURNS: u32 = 1_000;
+
+/// How much the tasks that have these turns weigh together at most, but for the first one.
+const ROOM: u32 = 40_000;
 
 /// Which catalogue a run is of, and after how many entries a checkpoint is made, 0 for never. Each
 /// run picks both.
@@ -156,26 +163,78 @@ fn end<N: Naming>(
     }
 }
 
-/// A turn of a task on the present values, under the lock.
-pub(crate) fn serial<R: Wait, N: Naming>(
+/// A turn of a task on the present values, under the lock, by an attempt that is restarted for it.
+pub(crate) fn serial<'b, R: Wait, N: Naming>(
     rt: &R,
-    alloc: Global,
-    shared: &Mutex<Named<'_, N>>,
+    shared: &Mutex<Named<'b, N>>,
     every: u32,
+    attempt: &mut Attempt<'b>,
     task: TaskId,
 ) -> Tried
     requires every { every ≡ N.every }
     requires exists { task.0 < length (tasks N.catalogue) }
+    ensures { (next : Option TaskId) → result ≢ Passed next }
 {
     let mut named = lock(rt, shared);
-    let book = &mut named.book;
-    book.law();
-    let how = book.serial(alloc, task);
-    book.keep_short(every, how);
-    match how {
+    match turn(&mut named, every, attempt, task) {
         Serial::NotRunning => Tried::NotRunning,
         Serial::Parked | Serial::Committed(_) | Serial::Abandoned => Tried::Over,
     }
+}
+
+/// Gives a task that was taken its turn, and then each next one that is short, all in one time under
+/// the lock. The next task, which then was taken: it is not short, or so many turns were given.
+/// `None` if none is ready.
+pub(crate) fn turns<'b, R: Wait, N: Naming>(
+    rt: &R,
+    shared: &Mutex<Named<'b, N>>,
+    every: u32,
+    weights: &[Option<u32>],
+    attempt: &mut Attempt<'b>,
+    first: TaskId,
+) -> Option<TaskId>
+    requires every { every ≡ N.every }
+    requires exists { first.0 < length (tasks N.catalogue) }
+    ensures { IfSome result (λ t. t.0 < length (tasks N.catalogue)) }
+{
+    let mut named = lock(rt, shared);
+    let mut task = first;
+    let mut room = ROOM;
+    'turns: for _ in 0..TURNS {
+        turn(&mut named, every, attempt, task);
+        task = next(&mut named)?;
+        match weight(&named, weights, task) {
+            Some(weight) if weight <= room => room -= weight,
+            _ => return Some(task),
+        }
+    }
+    Some(task)
+}
+
+/// The weight of the task's transaction, if that is short.
+fn weight<N: Naming>(named: &Named<'_, N>, weights: &[Option<u32>], task: TaskId) -> Option<u32>
+    requires { task.0 < length (tasks N.catalogue) }
+{
+    let book = &named.book;
+    book.law();
+    weight_in(weights, book.task_tx(task))
+}
+
+/// The turn of a task, and a checkpoint where one is due.
+fn turn<'b, N: Naming>(
+    named: &mut Named<'b, N>,
+    every: u32,
+    attempt: &mut Attempt<'b>,
+    task: TaskId,
+) -> Serial
+    requires every { every ≡ N.every }
+    requires exists { task.0 < length (tasks N.catalogue) }
+{
+    let book = &mut named.book;
+    book.law();
+    let how = book.serial_lent(attempt, task);
+    book.keep_short(every, how);
+    how
 }
 
 /// Gives what is left a turn, and tells the book.

@@ -7,12 +7,13 @@ ghost use Rattle.txn_programs.specs.Standing.{Upholds};
 ghost use Rattle.run_workers.specs.Journals.{KeepsShort};
 
 use crate::gate::Gate;
-use crate::shared::{Naming, open, settle};
+use crate::shared::{Named, Naming, open, settle};
 use crate::threads::start;
+use crate::weights::{are_short, short_weights};
 use crate::worker::{Crew, work};
 use cells::{Cells, Pass, Publisher};
 use run_options::Options;
-use std::alloc::Global;
+use std::alloc::{AllocError, Global};
 use std::marker::Brand;
 use std::sync::{Mutex, Wait};
 use std::thread::Threads;
@@ -23,10 +24,11 @@ use txn::{Catalogue, Memory, Report};
 ///
 /// The workers read the cells by a pass each, and share the book behind a lock, which publishes to
 /// the cells. When they have ended, the book gives a turn to what is left, and no task is ready or
-/// running when it reports. One worker whose gate is open would do just what these turns do, so
-/// all is left to them. Each standing condition is true of the values that it reports. With a
-/// checkpoint after each N entries the journal has fewer than N, and the base is a multiple of N;
-/// with none the base is 0.
+/// running when it reports. Where the gate is open, a task that is short has such a turn too, under
+/// the lock and before any try; and one worker, or any number of them where all tasks are short, would
+/// do just what these turns do, so all is left to them. Each standing condition is true of the values
+/// that it reports. With a checkpoint after each N entries the journal has fewer than N, and the base
+/// is a multiple of N; with none the base is 0.
 pub fn run_tasks<R: Threads + Wait + Sync, G: Gate>(
     rt: &R,
     alloc: Global,
@@ -50,11 +52,11 @@ pub fn run_tasks<R: Threads + Wait + Sync, G: Gate>(
 }
 
 /// Runs the tasks of the catalogue of this name.
-fn run_named<R: Threads + Wait + Sync, G: Gate, N: Naming>(
+fn run_named<'b, R: Threads + Wait + Sync, G: Gate, N: Naming>(
     rt: &R,
     alloc: Global,
-    catalogue: &Catalogue,
-    cells: &Cells,
+    catalogue: &'b Catalogue,
+    cells: &'b Cells,
     publisher: Publisher,
     passes: Vec<Pass>,
     options: Options,
@@ -70,21 +72,58 @@ fn run_named<R: Threads + Wait + Sync, G: Gate, N: Naming>(
     ensures reached { IfOk result (λ r. BaseReached catalogue.now (told r)) }
     ensures short { IfOk result (λ r. KeepsShort options.checkpoint (told r)) }
 {
-    let every = options.checkpoint();
+    let weights = weights_under::<G>(alloc, catalogue, options)?;
+    let is_drain = options.workers() == 1 || are_short(&weights, catalogue.runs());
     let shared = Mutex::new(open::<N>(alloc, catalogue, cells, publisher)?);
+    if !G::IS_OPEN || !is_drain {
+        run_beside(
+            rt, alloc, catalogue, weights, cells, &shared, passes, options, gate,
+        );
+    }
+    settle(alloc, options.checkpoint(), shared.into_inner())
+}
+
+/// What each transaction weighs, where several workers stand under an open gate; else none, so that no
+/// task has its turn before its tries.
+fn weights_under<G: Gate>(
+    alloc: Global,
+    catalogue: &Catalogue,
+    options: Options,
+) -> Result<Vec<Option<u32>>, AllocError> {
+    if G::IS_OPEN && options.workers() > 1 {
+        return short_weights(alloc, catalogue);
+    }
+    Ok(Vec::new(alloc))
+}
+
+/// Runs a worker for each pass, side by side, and waits for them.
+fn run_beside<'b, R: Threads + Wait + Sync, G: Gate, N: Naming>(
+    rt: &R,
+    alloc: Global,
+    catalogue: &'b Catalogue,
+    weights: Vec<Option<u32>>,
+    cells: &'b Cells,
+    shared: &Mutex<Named<'b, N>>,
+    passes: Vec<Pass>,
+    options: Options,
+    gate: &G,
+)
+    requires named { catalogue.now ≡ N.catalogue }
+    requires passes { All (λ p. p.cells ≡ cells.now) passes.items }
+    requires variables { cells.now.variables ≡ length catalogue.now.initial }
+    requires every { options.checkpoint ≡ N.every }
+{
     let crew = Crew {
         alloc,
         catalogue,
+        weights,
         cells,
-        shared: &shared,
+        shared,
         gate,
         tries: options.tries(),
-        every,
+        every: options.checkpoint(),
     };
-    if options.workers() > 1 || !G::IS_OPEN {
-        run_crew(rt, &crew, passes);
-    }
-    settle(alloc, every, shared.into_inner())
+    run_crew(rt, &crew, passes);
 }
 
 /// Runs a worker for each pass, and waits for them.

@@ -8,17 +8,44 @@ ghost use Rattle.run_workers.specs.Working.{EndsOver};
 use crate::gate::{Gate, Point, stop_at};
 use attempt::{Attempt, Next};
 use cells::{Cells, Pass};
-use run_observer::{Cut, tell};
+use run_observer::{Cut, evaluate, tell};
 use txn::{Catalogue, TaskId, TxId};
 
 /// Restarts the attempt as one of the task's transaction, and brings it to its end on one state of
-/// the cells: that of the begin of the pass, or the last to which the pass moved. The gate is told
-/// of each need before it is read, and of the end.
+/// the cells: that of the begin of the pass, or the last to which the pass moved. A gate that is not
+/// open is told of each need before it is read, and of the end.
 ///
 /// `Stale` where a read was and the pass could not move, which closed the pass. `Memory` only where
 /// a growth was refused: the pass is open. The pass has to be one of these cells, and the cells
 /// have to have a variable for each of the catalogue's.
 pub(crate) fn attempt_on<'c, G: Gate>(
+    attempt: &mut Attempt<'c>,
+    catalogue: &'c Catalogue,
+    tx: TxId,
+    cells: &Cells,
+    pass: &mut Pass,
+    gate: &G,
+    task: TaskId,
+) -> Result<(), Cut>
+    requires known { tx.0 < length catalogue.now.transactions }
+    requires own { pass.old.cells ≡ cells.now }
+    requires variables { cells.now.variables ≡ length catalogue.now.initial }
+    ensures observes { ObservesBy pass.old pass.new }
+    ensures ended { OnOk result (EndsOver catalogue.now tx (at pass.new) attempt.new) }
+    ensures stale { IfErr result (λ why. why ≡ Cut.Stale → IsStaleFrom pass.old pass.new) }
+    ensures memory { IfErr result (λ why. why ≡ Cut.Memory → pass.new.open_now ≡ true) }
+{
+    if G::IS_OPEN {
+        return match evaluate(attempt, catalogue, tx, cells, pass) {
+            Ok(_) => Ok(()),
+            Err(cut) => Err(cut),
+        };
+    }
+    attempt_held(attempt, catalogue, tx, cells, pass, gate, task)
+}
+
+/// The same beside a gate that is not open: the machine is left at each need, for the gate.
+fn attempt_held<'c, G: Gate>(
     attempt: &mut Attempt<'c>,
     catalogue: &'c Catalogue,
     tx: TxId,

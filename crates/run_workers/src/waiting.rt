@@ -3,8 +3,8 @@
 //! What is done under the lock is short, and costs more where the book's words have to come from
 //! another processor. So whoever finds the lock held stays away for a while, longer each time, and
 //! gives the processor away before it sleeps. A stale try is a sign that others commit to the same
-//! variables, so a rest lies between it and the next one. No rest is longer than 64,000 loads, which is
-//! well below a thousandth of a second.
+//! variables, so a rest lies between it and the next one. No rest is longer than 8,000 loads, which is
+//! a few millionths of a second.
 
 ghost use Rattle.std.specs.Prelude.{◌≤◌, ◌<◌, ◌+◌};
 
@@ -14,20 +14,20 @@ use std::sync::{Mutex, MutexGuard, Wait};
 use std::thread;
 
 /// How long the first rest is, in loads of a word that no one else has.
-const SHORT: u32 = 8_000;
+const SHORT: u32 = 250;
 
 /// How long a rest is at most.
-const LONG: u32 = 64_000;
+const LONG: u32 = 8_000;
 
 /// How often the lock is tried with a rest after it.
-const RESTS: u32 = 16;
+const RESTS: u32 = 40;
 
 /// How often the lock is then tried with the processor given away after it.
 const YIELDS: u32 = 50;
 
 /// Does nothing for a while, which is so many loads.
 fn rest(length: u32)
-    requires { length ≤ 64000 }
+    requires { length ≤ 8000 }
 {
     let word = AtomicU64::new(0);
     for _ in 0..length {
@@ -38,7 +38,7 @@ fn rest(length: u32)
 
 /// Twice the length, as far as rests go.
 fn longer(length: u32) -> u32
-    ensures { result ≤ 64000 }
+    ensures { result ≤ 8000 }
 {
     length.saturating_mul(2).min(LONG)
 }

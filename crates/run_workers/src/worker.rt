@@ -1,8 +1,9 @@
 //! The worker: it takes a task, tries it on what its pass reads, and brings the end to the book.
 //!
-//! It evaluates outside the lock. A try whose pass could not move after a stale read, and an end
-//! that is stale, are each one stale try; after so many of them the task has its turn under the
-//! lock. A try that moved is none.
+//! It evaluates outside the lock, but for a task that is short where the gate is open: that one has its
+//! turn under the lock. A try whose pass could not move after a stale read, and an end that is stale,
+//! are each one stale try; after so many of them the task has its turn under the lock. A try that moved
+//! is none.
 
 ghost use Rattle.std.specs.Prelude.{◌≡◌, ◌<◌, length, IfSome, Some};
 ghost use Rattle.std.specs.Coded.{codes};
@@ -11,9 +12,10 @@ ghost use Rattle.txn_programs.specs.Listing.{tasks};
 ghost use Rattle.run_workers.specs.declared.shared.Tried.TheVariants.{Passed};
 
 use crate::gate::{Gate, Point, stop_at};
-use crate::shared::{Named, Naming, Tried, finish, give_up, serial, take};
+use crate::shared::{Named, Naming, Tried, finish, give_up, serial, take, turns};
 use crate::trying::attempt_on;
 use crate::waiting::rest_after;
+use crate::weights::weight_in;
 use attempt::Attempt;
 use cells::{Cells, Pass};
 use run_observer::Cut;
@@ -25,7 +27,9 @@ use txn::{Catalogue, TaskId};
 #[derive(Drop)]
 pub(crate) struct Crew<'a, 'b, G: Gate, N: Naming> {
     pub(crate) alloc: Global,
-    pub(crate) catalogue: &'a Catalogue,
+    pub(crate) catalogue: &'b Catalogue,
+    /// What each transaction weighs, where short ones have their turn under the lock; else none.
+    pub(crate) weights: Vec<Option<u32>>,
     pub(crate) cells: &'a Cells,
     /// The book, behind its lock.
     pub(crate) shared: &'a Mutex<Named<'b, N>>,
@@ -52,11 +56,11 @@ pub(crate) fn work<R: Wait, G: Gate, N: Naming>(rt: &R, crew: &Crew<'_, '_, G, N
 }
 
 /// Gives the task its tries, and then each next one, until none is ready.
-fn serve<'a, R: Wait, G: Gate, N: Naming>(
+fn serve<'b, R: Wait, G: Gate, N: Naming>(
     rt: &R,
-    crew: &Crew<'a, '_, G, N>,
+    crew: &Crew<'_, 'b, G, N>,
     pass: &mut Pass,
-    attempt: &mut Attempt<'a>,
+    attempt: &mut Attempt<'b>,
     first: TaskId,
 )
     requires exists { first.0 < length (tasks N.catalogue) }
@@ -65,15 +69,37 @@ fn serve<'a, R: Wait, G: Gate, N: Naming>(
     let mut task = first;
     for _ in rt.forever() {
         stop_at(crew.gate, Point::Taken, task);
-        let Some(next) = run_task(rt, crew, pass, attempt, task) else {
+        let Some(next) = pass_on(rt, crew, pass, attempt, task) else {
             return;
         };
         task = next;
     }
 }
 
+/// Gives a task that was taken its turn under the lock where it is short, and else its tries. The
+/// next task, `None` if none is ready.
+fn pass_on<'b, R: Wait, G: Gate, N: Naming>(
+    rt: &R,
+    crew: &Crew<'_, 'b, G, N>,
+    pass: &mut Pass,
+    attempt: &mut Attempt<'b>,
+    task: TaskId,
+) -> Option<TaskId>
+    requires exists { task.0 < length (tasks N.catalogue) }
+    requires own { pass.old.cells ≡ crew.now.cells.now }
+    ensures own { pass.new.cells ≡ pass.old.cells }
+    ensures next { IfSome result (λ t. t.0 < length (tasks N.catalogue)) }
+{
+    let weights = crew.weights.as_slice();
+    let tx = crew.catalogue.task_tx(task);
+    match weight_in(weights, tx) {
+        Some(_) => turns(rt, crew.shared, crew.every, weights, attempt, task),
+        None => run_task(rt, crew, pass, attempt, task),
+    }
+}
+
 /// An attempt of the task's transaction.
-fn first_attempt<'a, G: Gate, N: Naming>(crew: &Crew<'a, '_, G, N>, task: TaskId) -> Attempt<'a>
+fn first_attempt<'b, G: Gate, N: Naming>(crew: &Crew<'_, 'b, G, N>, task: TaskId) -> Attempt<'b>
     requires { task.0 < length (tasks N.catalogue) }
 {
     let catalogue = crew.catalogue;
@@ -82,11 +108,11 @@ fn first_attempt<'a, G: Gate, N: Naming>(crew: &Crew<'a, '_, G, N>, task: TaskId
 
 /// All tries of a task that was taken, and then a turn under the lock. The next task, `None` if
 /// none is ready.
-fn run_task<'a, R: Wait, G: Gate, N: Naming>(
+fn run_task<'b, R: Wait, G: Gate, N: Naming>(
     rt: &R,
-    crew: &Crew<'a, '_, G, N>,
+    crew: &Crew<'_, 'b, G, N>,
     pass: &mut Pass,
-    attempt: &mut Attempt<'a>,
+    attempt: &mut Attempt<'b>,
     task: TaskId,
 ) -> Option<TaskId>
     requires exists { task.0 < length (tasks N.catalogue) }
@@ -110,7 +136,7 @@ fn run_task<'a, R: Wait, G: Gate, N: Naming>(
             }
         }
     }
-    if serial(rt, crew.alloc, crew.shared, crew.every, task) == Tried::Over {
+    if serial(rt, crew.shared, crew.every, attempt, task) == Tried::Over {
         return go_on(rt, crew, task);
     }
     take(rt, crew.shared)
@@ -129,11 +155,11 @@ fn go_on<R: Wait, G: Gate, N: Naming>(
 }
 
 /// One try: the attempt outside the lock, and its end.
-fn try_task<'a, R: Wait, G: Gate, N: Naming>(
+fn try_task<'b, R: Wait, G: Gate, N: Naming>(
     rt: &R,
-    crew: &Crew<'a, '_, G, N>,
+    crew: &Crew<'_, 'b, G, N>,
     pass: &mut Pass,
-    attempt: &mut Attempt<'a>,
+    attempt: &mut Attempt<'b>,
     task: TaskId,
 ) -> Tried
     requires exists { task.0 < length (tasks N.catalogue) }

@@ -51,6 +51,10 @@ fn failing_writers(rt: HostRuntime) {
     // What the writer had room for is let go, so that the room can be looked at.
     let _rest = out.into_inner();
     assert_eq!(rt; room, *b"base 0\n");
+}
+
+#[test]
+fn failed_runs_have_their_statuses_and_lines(rt: HostRuntime) {
     assert_eq!(rt; RunFault::Output.status(), 4);
     assert_eq!(rt; RunFault::Output.line(), "stm: cannot write");
     assert_eq!(rt; RunFault::Memory.status(), 5);

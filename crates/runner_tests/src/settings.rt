@@ -14,6 +14,10 @@ fn options_have_limits(rt: HostRuntime) {
     ] {
         assert_eq!(rt; Options::new(workers, tries, checkpoint), None);
     }
+}
+
+#[test]
+fn options_reach_their_limits(rt: HostRuntime) {
     let options = options(&rt, 16, 64, 65536);
     options.law();
     assert_eq!(rt; options.workers(), 16);

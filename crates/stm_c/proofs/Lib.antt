@@ -1,4 +1,5 @@
 pub mod ProgramHandle
+pub mod Refused
 pub mod StoreHandle
 pub mod WorkerHandle
 pub mod Written

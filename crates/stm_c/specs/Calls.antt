@@ -14,7 +14,7 @@ use Rattle.stm_store.specs.declared.worker.Tried.{Tried}
 use Rattle.stm_store.specs.declared.worker.Worker.{Worker}
 use Rattle.stm_store.specs.Working.{TakesJob, Brings, ServedBy, TriedBy}
 use Rattle.stm_c.specs.declared.codes.Taken.{Taken}
-use Rattle.stm_c.specs.declared.codes.Told.{Told}
+use Rattle.stm_c.specs.declared.codes.KindAndValue.{KindAndValue}
 use Rattle.stm_c.specs.Numbers.{taken_as, told_brought, told_served, no_such, number_of_try, told_observed}
 
 -- what no call changes of a store: its program, its cells, and when it makes checkpoints
@@ -37,22 +37,22 @@ pub record Takes (old : Store) (answer : Taken) (new : Store) : Type 0 where
   pub stays : StaysOf old new
 
 -- a worker's end is brought, and it has none any more
-pub record Finishes (old : Store) (before : Worker) (answer : Told) (new : Store) (after : Worker) : Type 0 where
+pub record Finishes (old : Store) (before : Worker) (answer : KindAndValue) (new : Store) (after : Worker) : Type 0 where
   pub how : Brought
   pub brought : Brings old.every old.book before.ended before.attempt how new.book
   pub answered : answer ≡ told_brought how
   pub stays : StaysOf old new
   pub over : after.ended ≡ None
-  pub worker : after.catalogue.now ≡ before.catalogue.now
+  pub worker : StaysWith before after
 
 -- a turn of a task that exists
-pub record Serves (old : Store) (task : ℕ) (answer : Told) (new : Store) : Type 0 where
+pub record Serves (old : Store) (task : ℕ) (answer : KindAndValue) (new : Store) : Type 0 where
   pub how : Serial
   pub served : ServedBy old.every old.book (record { 0 = task }) how new.book
   pub answered : answer ≡ told_served how
 
 -- `stm_serial`: -9 and no change where there is no such task
-pub record ServesAny (old : Store) (task : ℕ) (answer : Told) (new : Store) : Type 0 where
+pub record ServesAny (old : Store) (task : ℕ) (answer : KindAndValue) (new : Store) : Type 0 where
   pub unknown : length (tasks old.book.catalogue) ≤ task → (answer ≡ no_such) × (new ≡ old)
   pub served : task < length (tasks old.book.catalogue) → Serves old task answer new
   pub stays : StaysOf old new
@@ -96,7 +96,7 @@ pub record TriesTask (old : Worker) (task : ℕ) (answer : ℤ) (new : Worker) :
   pub stays : StaysWith old new
 
 -- how a transaction that exists would end
-pub record Observes (old : Worker) (tx : ℕ) (answer : Told) (new : Worker) : Type 0 where
+pub record Observes (old : Worker) (tx : ℕ) (answer : KindAndValue) (new : Worker) : Type 0 where
   pub how : Observed
   pub observes : ObservesBy old.pass new.pass
   pub observed : IsObserved old.catalogue.now (record { 0 = tx }) old.pass new.pass how
@@ -104,7 +104,7 @@ pub record Observes (old : Worker) (tx : ℕ) (answer : Told) (new : Worker) : T
   pub ended : new.ended ≡ None
 
 -- `stm_observe`: -9 and no change where there is no such transaction
-pub record ObservesAny (old : Worker) (tx : ℕ) (answer : Told) (new : Worker) : Type 0 where
+pub record ObservesAny (old : Worker) (tx : ℕ) (answer : KindAndValue) (new : Worker) : Type 0 where
   pub unknown : length old.catalogue.now.transactions ≤ tx → (answer ≡ no_such) × (new ≡ old)
   pub observed : tx < length old.catalogue.now.transactions → Observes old tx answer new
   pub stays : StaysWith old new

@@ -1,12 +1,14 @@
 -- What the calls on whole files answer in numbers.
-use Rattle.std.specs.Prelude.{◌≡◌, ℕ, ℤ, List, Some, Result, Ok, Err, ◌⊎◌}
+use Rattle.std.specs.Prelude.{◌≡◌, ◌-◌, ℕ, ℤ, List, Some, Result, Ok, Err, ◌⊎◌}
 use Rattle.text_grammar.specs.Spelling.{first_fault}
 use Rattle.txn_text.specs.Faults.{IsFirst}
 use Rattle.text_words.specs.declared.fault.ReadFault.{ReadFault}
 use Rattle.text_words.specs.declared.fault.ReadFault.TheVariants as refused
 use Rattle.checker.specs.Verdicts.{Judges}
 use Rattle.checker.specs.declared.verdict.Verdict.{Verdict}
-use Rattle.stm_c.specs.Numbers.{number_of_fault, number_of_verdict}
+use Rattle.explore_runner.specs.Witness.{IsPast}
+use Rattle.world_runner.specs.Showing.{IsNoSchedule}
+use Rattle.stm_c.specs.Numbers.{number_of_fault, number_of_schedule_fault, number_of_verdict}
 
 -- the verdict on the report; or want of memory, or the first fault of the file
 abbrev pub IsJudged : List ℕ → List ℕ → Result Verdict ReadFault → Type 0
@@ -24,3 +26,13 @@ pub record IsRefused (file : List ℕ) (n : ℤ) : Type 0 where
   pub fault : ReadFault
   pub is : (fault ≡ refused.Memory) ⊎ (first_fault file ≡ Some fault)
   pub answered : n ≡ number_of_fault fault
+
+-- the file is spelled, and this is the number of the first fault of the schedule
+pub record IsNotPlayed (file schedule : List ℕ) (n : ℤ) : Type 0 where
+  pub fault : ReadFault
+  pub is : IsNoSchedule file schedule fault
+  pub answered : n ≡ number_of_schedule_fault fault
+
+-- `stm_explore_to`: ends are counted from 1, and there is none of this number
+abbrev pub IsNoEnd : List ℕ → ℕ → Type 0
+IsNoEnd file end = (end ≡ 0) ⊎ ((text : List ℕ) × IsPast file (end - 1) text)

@@ -2,7 +2,7 @@
 use Rattle.std.specs.Prelude.{◌≡◌, ℤ, negsuc, Option, Some, None}
 use Rattle.stm_store.specs.declared.store.Store.{Store}
 use Rattle.stm_store.specs.declared.worker.Worker.{Worker}
-use Rattle.stm_c.specs.declared.codes.Told.{Told}
+use Rattle.stm_c.specs.declared.codes.KindAndValue.{KindAndValue}
 use Rattle.stm_c.specs.Numbers.{nothing_held}
 use Rattle.stm_c.specs.Calls.{Finishes}
 
@@ -30,7 +30,7 @@ IsOf (Some worker) None = Unit {0}
 IsOf None store = Unit {0}
 
 -- `stm_finish`: both handles are as they were where one is empty
-abbrev pub FinishesOn : Option Store → Option Worker → Told → Option Store → Option Worker → Type 0
+abbrev pub FinishesOn : Option Store → Option Worker → KindAndValue → Option Store → Option Worker → Type 0
 FinishesOn (Some old) (Some before) answer (Some new) (Some after) = Finishes old before answer new after
 FinishesOn (Some old) (Some before) answer (Some new) None = ⊥
 FinishesOn (Some old) (Some before) answer None worker = ⊥

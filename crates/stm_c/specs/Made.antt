@@ -1,5 +1,7 @@
 -- What a handle holds that was just made.
-use Rattle.std.specs.Prelude.{◌≡◌, ℕ, ℤ, pos, negsuc, ◌+◌, ◌⊎◌, List, [], length, Option, Some, None}
+use Rattle.std.specs.Prelude.{◌≡◌, ℕ, ℤ, pos, negsuc, ◌+◌, ◌<◌, ◌≤◌, ◌⊎◌, List, [], length, Option, Some, None}
+use Rattle.txn_programs.specs.declared.limits.TheConstants.{MAX_TASKS}
+use Rattle.txn_programs.specs.Listing.{tasks}
 use Rattle.txn_text.specs.Spelling.{Spells}
 use Rattle.book.specs.View.{opened}
 use Rattle.stm_store.specs.declared.program.Program.{Program}
@@ -22,6 +24,13 @@ abbrev pub IsOpenedOf : Option Program → ℕ → ℕ → ℕ → Store → Typ
 IsOpenedOf None workers every spare store = ⊥
 IsOpenedOf (Some program) workers every spare store = IsOpened program workers every spare store
 
+-- which number a call that opens a store of this program answers, by what the handle holds that is to be filled: it is full, too many workers, too many tasks; else it is done, or want of memory
+pub record AnswersOpen (program : Program) (workers spare : ℕ) (out : Option Store) (n : ℤ) : Type 0 where
+  pub full : (out ≡ None → ⊥) → n ≡ negsuc 12
+  pub many : out ≡ None → 32 < workers → n ≡ negsuc 9
+  pub room : out ≡ None → workers ≤ 32 → MAX_TASKS < length (tasks program.catalogue.now) + spare → n ≡ negsuc 13
+  pub fits : out ≡ None → workers ≤ 32 → length (tasks program.catalogue.now) + spare ≤ MAX_TASKS → (n ≡ pos 0) ⊎ (n ≡ negsuc 5)
+
 -- a worker of the store's program and cells, with nothing to bring
 pub record IsWorkerOf (store : Store) (worker : Worker) : Type 0 where
   pub program : worker.catalogue.now ≡ store.catalogue.now
@@ -33,8 +42,15 @@ abbrev pub IsHiredBy : Option Store → Worker → Type 0
 IsHiredBy None worker = ⊥
 IsHiredBy (Some store) worker = IsWorkerOf store worker
 
--- `stm_hire`: a worker less is left where it answers 0; where it answers -10 there was none, or there is nothing to work on
+-- `stm_hire`: which number it answers, by what the handle holds that is to be filled: it is full, no worker is left or there is nothing to work on; else it is done, or want of memory
+pub record AnswersHire (store : Store) (out : Option Worker) (n : ℤ) : Type 0 where
+  pub full : (out ≡ None → ⊥) → n ≡ negsuc 12
+  pub none : out ≡ None → (store.passes.items ≡ []) ⊎ (store.catalogue.now.transactions ≡ []) → n ≡ negsuc 9
+  pub some : out ≡ None → 0 < length store.passes.items → 0 < length store.catalogue.now.transactions → (n ≡ pos 0) ⊎ (n ≡ negsuc 5)
+
+-- `stm_hire`: a worker less is left where it answers 0, and for want of memory; where it answers -10 there was none, or there is nothing to work on
 pub record LeavesWorkers (old : Store) (answer : ℤ) (new : Store) : Type 0 where
   pub one : answer ≡ pos 0 → length new.passes.items + 1 ≡ length old.passes.items
+  pub memory : answer ≡ negsuc 5 → length new.passes.items + 1 ≡ length old.passes.items
   pub none : answer ≡ negsuc 9 → (old.passes.items ≡ []) ⊎ (old.catalogue.now.transactions ≡ [])
   pub stays : (answer ≡ pos 0 → ⊥) → (answer ≡ negsuc 5 → ⊥) → new.passes.items ≡ old.passes.items

@@ -2,7 +2,7 @@
 
 ghost use Rattle.std.specs.Prelude.{◌≡◌, ◌≢◌, pos, negsuc};
 ghost use Rattle.stm_c.specs.Looking.{number_of_task};
-ghost use Rattle.stm_c.specs.Numbers.{IsBelow, entered, kind, no_such, nothing_held, nothing_taken, number_of_fault, number_of_part, number_of_try, taken_as, told_brought, told_observed, told_served, told_thrown};
+ghost use Rattle.stm_c.specs.Numbers.{IsFileFault, entered, kind, no_such, nothing_held, nothing_taken, number_of_fault, number_of_part, number_of_schedule_fault, number_of_try, taken_as, told_brought, told_observed, told_served, told_thrown};
 
 use book::{Finish, Serial};
 use checker::Part;
@@ -41,7 +41,7 @@ pub(crate) const NO_END: i32 = 10;
 /// A kind, and a number.
 #[repr(C)]
 #[derive(Clone, Copy)]
-pub struct Told {
+pub struct KindAndValue {
     pub kind: i32,
     pub value: i64,
 }
@@ -65,24 +65,24 @@ pub struct Standing {
     pub given_up: usize,
 }
 
-fn bare(number: i32) -> Told
+fn bare(number: i32) -> KindAndValue
     ensures { result ≡ kind number }
 {
-    Told {
+    KindAndValue {
         kind: number,
         value: 0,
     }
 }
 
 /// No such task or transaction.
-pub(crate) fn unknown() -> Told
+pub(crate) fn unknown() -> KindAndValue
     ensures { result ≡ no_such }
 {
     bare(UNKNOWN)
 }
 
 /// The handle is empty.
-pub(crate) fn empty() -> Told
+pub(crate) fn empty() -> KindAndValue
     ensures { result ≡ nothing_held }
 {
     bare(EMPTY)
@@ -102,7 +102,7 @@ pub(crate) fn no_job() -> Taken
 pub(crate) fn file_fault(fault: ReadFault) -> i32
     ensures never { result ≢ pos 0 }
     ensures room { result ≢ SHORT }
-    ensures below { IsBelow result }
+    ensures among { IsFileFault result }
     ensures number { result ≡ number_of_fault fault }
 {
     match fault {
@@ -120,7 +120,7 @@ pub(crate) fn file_fault(fault: ReadFault) -> i32
 pub(crate) fn schedule_fault(fault: ReadFault) -> i32
     ensures never { result ≢ pos 0 }
     ensures room { result ≢ SHORT }
-    ensures below { IsBelow result }
+    ensures number { result ≡ number_of_schedule_fault fault }
 {
     match fault {
         ReadFault::TooLong => -21,
@@ -171,18 +171,18 @@ pub(crate) fn job_of(job: Option<Job>) -> Taken
     }
 }
 
-fn committed(number: u64) -> Told
+fn committed(number: u64) -> KindAndValue
     ensures { result ≡ entered number }
 {
     let most = i64::MAX as u64;
-    Told {
+    KindAndValue {
         kind: 0,
         value: number.min(most) as i64,
     }
 }
 
 /// 0 committed, with the number of its entry; 1 parked; 2 stale; 3 the task was not running.
-pub(crate) fn brought(how: Brought) -> Told
+pub(crate) fn brought(how: Brought) -> KindAndValue
     ensures { result ≡ told_brought how }
 {
     match how {
@@ -196,7 +196,7 @@ pub(crate) fn brought(how: Brought) -> Told
 }
 
 /// As `brought`; 4 given up for want of memory.
-pub(crate) fn served(how: Serial) -> Told
+pub(crate) fn served(how: Serial) -> KindAndValue
     ensures { result ≡ told_served how }
 {
     match how {
@@ -220,11 +220,11 @@ pub(crate) fn tried(how: Tried) -> i32
 
 /// 0 returned, with the value; 1 retries; 2 stale; 5 thrown by the program, with the value;
 /// 6 overflow; 7 division by zero; 8 a standing condition broken, with its number.
-pub(crate) fn observed(how: Observed) -> Told
+pub(crate) fn observed(how: Observed) -> KindAndValue
     ensures { result ≡ told_observed how }
 {
     match how {
-        Observed::Outcome(Outcome::Returned(value)) => Told { kind: 0, value },
+        Observed::Outcome(Outcome::Returned(value)) => KindAndValue { kind: 0, value },
         Observed::Outcome(Outcome::Retries) => bare(1),
         Observed::Outcome(Outcome::Thrown(fault)) => thrown(fault),
         Observed::Stale => bare(2),
@@ -232,14 +232,14 @@ pub(crate) fn observed(how: Observed) -> Told
     }
 }
 
-fn thrown(fault: Fault) -> Told
+fn thrown(fault: Fault) -> KindAndValue
     ensures { result ≡ told_thrown fault }
 {
     match fault {
-        Fault::User(value) => Told { kind: 5, value },
+        Fault::User(value) => KindAndValue { kind: 5, value },
         Fault::Overflow => bare(6),
         Fault::DivideByZero => bare(7),
-        Fault::Broken(condition) => Told {
+        Fault::Broken(condition) => KindAndValue {
             kind: 8,
             value: i64::from(condition.0),
         },

@@ -1,12 +1,14 @@
 //! Every order of a file's tasks.
 
-ghost use Rattle.std.specs.Prelude.{◌≡◌, ◌-◌, IfErr, IfOk, pos};
+ghost use Rattle.std.specs.Prelude.{◌≡◌, ◌≢◌, ◌↔◌, ◌-◌, ◌⊎◌, IfErr, IfOk, pos};
+ghost use Rattle.explore_options.specs.Bounds.{IsAllowed};
 ghost use Rattle.explore_runner.specs.Showing.{IsFoundText, IsMoreText, IsShown};
 ghost use Rattle.explore_runner.specs.Witness.{IsAnswer, IsWitness};
-ghost use Rattle.stm_c.specs.Numbers.{IsBelow};
-ghost use Rattle.stm_c.specs.Rooms.{Holds};
+ghost use Rattle.stm_c.specs.Files.{IsNoEnd, IsRefused};
+ghost use Rattle.stm_c.specs.Numbers.{IsFileFault};
+ghost use Rattle.stm_c.specs.Rooms.{Holds, TooShort};
 
-use crate::codes::{MEMORY, MORE, NO_END, STATES, file_fault};
+use crate::codes::{MEMORY, MORE, NO_END, SHORT, STATES, file_fault};
 use crate::writing::{copied_as, copy};
 use explore_options::Limit;
 use explore_runner::{Sight, Witnessed, explore_bytes, witness_bytes};
@@ -28,6 +30,11 @@ pub extern "C" fn stm_explore(
 ) -> i32
     ensures whole { result ≡ pos 0 → Holds (IsFoundText file.now) room.old room.new wanted.new }
     ensures more { result ≡ pos 9 → Holds (IsMoreText file.now states) room.old room.new wanted.new }
+    ensures short { result ≡ SHORT → TooShort (λ text. IsFoundText file.now text ⊎ IsMoreText file.now states text) room.old room.new wanted.new }
+    ensures states { result ≡ STATES ↔ ¬ (IsAllowed states) }
+    ensures refused { IsFileFault result → IsRefused file.now result }
+    ensures answers { (result ≡ pos 0) ⊎ (result ≡ pos 9) ⊎ (result ≡ SHORT) ⊎ (result ≡ STATES) ⊎ IsFileFault result }
+    ensures kept { result ≢ pos 0 → result ≢ pos 9 → room.new ≡ room.old }
 {
     *wanted = 0;
     let Some(limit) = Limit::new(states) else {
@@ -40,11 +47,12 @@ pub extern "C" fn stm_explore(
     }
 }
 
-/// The bytes of what is found; else why there are none, which is below 0.
+/// The bytes of what is found; else why there are none.
 #[tactic(auto, using(crate::proofs::Written::shown_in))]
 fn found(alloc: Global, file: &[u8], limit: Limit) -> Result<(Sight, Vec<u8>), i32>
     ensures found { IfOk result (λ s. IsShown file.now limit s.0 s.1.items) }
-    ensures none { IfErr result IsBelow }
+    ensures none { IfErr result IsFileFault }
+    ensures refused { IfErr result (IsRefused file.now) }
 {
     let mut out = Out::new(Vec::new(alloc));
     match explore_bytes(alloc, file, limit, &mut out) {
@@ -68,6 +76,12 @@ pub extern "C" fn stm_explore_to(
 ) -> i32
     ensures report { result ≡ pos 0 → Holds (IsWitness file.now (end - 1)) room.old room.new wanted.new }
     ensures more { result ≡ pos 9 → Holds (IsMoreText file.now states) room.old room.new wanted.new }
+    ensures no_end { result ≡ pos 10 → IsNoEnd file.now end }
+    ensures short { result ≡ SHORT → TooShort (λ text. IsWitness file.now (end - 1) text ⊎ IsMoreText file.now states text) room.old room.new wanted.new }
+    ensures states { result ≡ STATES ↔ ¬ (IsAllowed states) }
+    ensures refused { IsFileFault result → IsRefused file.now result }
+    ensures answers { (result ≡ pos 0) ⊎ (result ≡ pos 9) ⊎ (result ≡ pos 10) ⊎ (result ≡ SHORT) ⊎ (result ≡ STATES) ⊎ IsFileFault result }
+    ensures kept { result ≢ pos 0 → result ≢ pos 9 → room.new ≡ room.old }
 {
     *wanted = 0;
     let Some(limit) = Limit::new(states) else {
@@ -88,7 +102,8 @@ pub extern "C" fn stm_explore_to(
 #[tactic(auto, using(crate::proofs::Written::answer_in))]
 fn way(alloc: Global, file: &[u8], limit: Limit, end: usize) -> Result<(Witnessed, Vec<u8>), i32>
     ensures found { IfOk result (λ s. IsAnswer file.now limit end s.0 s.1.items) }
-    ensures none { IfErr result IsBelow }
+    ensures none { IfErr result IsFileFault }
+    ensures refused { IfErr result (IsRefused file.now) }
 {
     let mut out = Out::new(Vec::new(alloc));
     match witness_bytes(alloc, file, limit, end, &mut out) {

@@ -1,19 +1,19 @@
 //! A store, as a handle: its calls stand under the host's lock.
 
-ghost use Rattle.std.specs.Prelude.{◌≡◌, ◌≢◌, ◌<◌, ◌≤◌, ◌+◌, None, pos, length};
+ghost use Rattle.std.specs.Prelude.{◌≡◌, ◌≢◌, ◌<◌, ◌≤◌, ◌+◌, ◌⊎◌, None, pos, length};
 ghost use Rattle.txn_programs.specs.declared.limits.TheConstants.{MAX_TASKS};
 ghost use Rattle.txn_programs.specs.Listing.{tasks};
 ghost use Rattle.stm_store.specs.Working.{IsTextOf};
 ghost use Rattle.stm_c.specs.Calls.{IsStillOf, Takes, Finishes, ServesAny, GivesUp, Reports, LeavesChecked};
-ghost use Rattle.stm_c.specs.Held.{FinishesOn, HoldsSome, IsOf, On};
-ghost use Rattle.stm_c.specs.Made.{IsHiredBy, IsOpened, IsOpenedOf, IsWorkerOf, LeavesWorkers};
+ghost use Rattle.stm_c.specs.Held.{Asked, FinishesOn, HoldsSome, IsOf, On};
+ghost use Rattle.stm_c.specs.Made.{AnswersHire, AnswersOpen, IsHiredBy, IsOpened, IsOpenedOf, IsWorkerOf, LeavesWorkers};
 ghost use Rattle.stm_c.specs.Numbers.{nothing_held, nothing_taken};
 ghost use Rattle.stm_c.specs.Rooms.{Holds, TooShort};
 ghost use Rattle.stm_c.specs.declared.codes.Taken.{Taken};
 
 use crate::codes::{
-    EMPTY, FULL, MEMORY, NO_ROOM, NO_WORKER, SHORT, Taken, Told, UNKNOWN, brought, empty, job_of,
-    no_job, served, unknown,
+    EMPTY, FULL, KindAndValue, MEMORY, NO_ROOM, NO_WORKER, SHORT, Taken, UNKNOWN, brought, empty,
+    job_of, no_job, served, unknown,
 };
 use crate::program_handle::ProgramHandle;
 use crate::reading::program_of;
@@ -41,9 +41,15 @@ pub extern "C" fn stm_open(
     ensures kept { result ≢ pos 0 → out.new.value ≡ out.old.value }
     ensures empty { program.old.value ≡ None → result ≡ EMPTY }
     ensures full { program.old.value ≢ None → out.old.value ≢ None → result ≡ FULL }
+    ensures room { result ≢ NO_ROOM }
+    ensures answer { Asked program.old.value EMPTY result (λ p n. AnswersOpen p workers 0 out.old.value n) }
 {
     match program_of(alloc, program) {
-        Some(program) => open(alloc, program, workers, checkpoint, 0, out),
+        Some(program) => {
+            // By its clause they are no more than there may be, so that there is always room.
+            let _tasks = program.catalogue().tasks();
+            open(alloc, program, workers, checkpoint, 0, out)
+        }
         None => EMPTY,
     }
 }
@@ -66,6 +72,7 @@ pub extern "C" fn stm_open_with_room(
     ensures kept { result ≢ pos 0 → out.new.value ≡ out.old.value }
     ensures empty { program.old.value ≡ None → result ≡ EMPTY }
     ensures full { program.old.value ≢ None → out.old.value ≢ None → result ≡ FULL }
+    ensures answer { Asked program.old.value EMPTY result (λ p n. AnswersOpen p workers spare out.old.value n) }
 {
     match program_of(alloc, program) {
         Some(program) => open(alloc, program, workers, checkpoint, spare, out),
@@ -87,6 +94,7 @@ fn open(
     ensures none { length (tasks program.catalogue.now) + spare ≤ MAX_TASKS → result ≢ NO_ROOM }
     ensures kept { result ≢ pos 0 → out.new.value ≡ out.old.value }
     ensures full { out.old.value ≢ None → result ≡ FULL }
+    ensures answer { AnswersOpen program workers spare out.old.value result }
 {
     if out.is_full(alloc) {
         return FULL;
@@ -124,6 +132,7 @@ pub extern "C" fn stm_hire(alloc: Global, store: &mut StoreHandle, out: &mut Wor
     ensures done { result ≡ pos 0 → HoldsSome (IsHiredBy store.old.value) out.new.value }
     ensures kept { result ≢ pos 0 → out.new.value ≡ out.old.value }
     ensures full { store.old.value ≢ None → out.old.value ≢ None → result ≡ FULL }
+    ensures answer { Asked store.old.value EMPTY result (λ held n. AnswersHire held out.old.value n) }
 {
     let Some(mut held) = store.take(alloc) else {
         return EMPTY;
@@ -140,6 +149,7 @@ fn hire(alloc: Global, store: &mut Store, out: &mut WorkerHandle) -> i32
     ensures done { result ≡ pos 0 → HoldsSome (IsWorkerOf store.old) out.new.value }
     ensures kept { result ≢ pos 0 → out.new.value ≡ out.old.value }
     ensures full { out.old.value ≢ None → result ≡ FULL }
+    ensures answer { AnswersHire store.old out.old.value result }
 {
     if out.is_full(alloc) {
         return FULL;
@@ -197,7 +207,7 @@ pub extern "C" fn stm_finish(
     alloc: Global,
     store: &mut StoreHandle,
     worker: &mut WorkerHandle,
-) -> Told
+) -> KindAndValue
     requires { IsOf worker.old.value store.old.value }
     ensures { FinishesOn store.old.value worker.old.value result store.new.value worker.new.value }
 {
@@ -215,7 +225,7 @@ pub extern "C" fn stm_finish(
 }
 
 /// The worker's end is brought to the store.
-fn ended(store: &mut Store, worker: &mut Worker) -> Told
+fn ended(store: &mut Store, worker: &mut Worker) -> KindAndValue
     requires { worker.old.catalogue.now ≡ store.old.catalogue.now }
     ensures { Finishes store.old worker.old result store.new worker.new }
 {
@@ -225,7 +235,7 @@ fn ended(store: &mut Store, worker: &mut Worker) -> Told
 /// A turn of a running task on the present values. -9: there is no such task. -12: the handle is
 /// empty.
 #[unsafe(no_mangle)]
-pub extern "C" fn stm_serial(alloc: Global, store: &mut StoreHandle, task: u32) -> Told
+pub extern "C" fn stm_serial(alloc: Global, store: &mut StoreHandle, task: u32) -> KindAndValue
     ensures { On store.old.value store.new.value nothing_held result (λ old how new. ServesAny old task how new) }
 {
     let Some(mut held) = store.take(alloc) else {
@@ -236,7 +246,7 @@ pub extern "C" fn stm_serial(alloc: Global, store: &mut StoreHandle, task: u32) 
     how
 }
 
-fn turn(store: &mut Store, task: u32) -> Told
+fn turn(store: &mut Store, task: u32) -> KindAndValue
     ensures { ServesAny store.old task result store.new }
 {
     if task as usize >= store.tasks() {
@@ -291,7 +301,8 @@ pub extern "C" fn stm_report(
     room: &mut [u8],
     wanted: &mut usize,
 ) -> i32
-    ensures { On store.old.value store.new.value EMPTY result (λ old answer new. Reports old new × (answer ≡ pos 0 → Holds (IsTextOf new.book) room.old room.new wanted.new) × (answer ≡ SHORT → TooShort (IsTextOf new.book) room.old room.new wanted.new)) }
+    ensures report { On store.old.value store.new.value EMPTY result (λ old answer new. Reports old new × (answer ≡ pos 0 → Holds (IsTextOf new.book) room.old room.new wanted.new) × (answer ≡ SHORT → TooShort (IsTextOf new.book) room.old room.new wanted.new) × ((answer ≡ pos 0) ⊎ (answer ≡ SHORT) ⊎ (answer ≡ MEMORY))) }
+    ensures kept { result ≢ pos 0 → room.new ≡ room.old }
 {
     *wanted = 0;
     let Some(mut held) = store.take(alloc) else {
@@ -306,6 +317,8 @@ fn reported(store: &mut Store, room: &mut [u8], wanted: &mut usize) -> i32
     ensures turns { Reports store.old store.new }
     ensures done { result ≡ pos 0 → Holds (IsTextOf store.new.book) room.old room.new wanted.new }
     ensures short { result ≡ SHORT → TooShort (IsTextOf store.new.book) room.old room.new wanted.new }
+    ensures answers { (result ≡ pos 0) ⊎ (result ≡ SHORT) ⊎ (result ≡ MEMORY) }
+    ensures kept { result ≢ pos 0 → room.new ≡ room.old }
 {
     match store.report() {
         Ok(text) => copy(text.as_bytes(), room, wanted),

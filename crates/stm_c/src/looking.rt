@@ -1,6 +1,6 @@
 //! What is seen of a store: under the host's lock. Nothing changes.
 
-ghost use Rattle.std.specs.Prelude.{◌≡◌, ◌≢◌, ◌<◌, pos, length};
+ghost use Rattle.std.specs.Prelude.{◌≡◌, ◌≢◌, ◌<◌, ◌⊎◌, pos, length};
 ghost use Rattle.txn_text.specs.Canonical.{file_text};
 ghost use Rattle.book.specs.Counting.{AreCounts};
 ghost use Rattle.book.specs.Turns.{IsIdle};
@@ -60,12 +60,12 @@ pub extern "C" fn stm_value(
     let Some(held) = store.take(alloc) else {
         return EMPTY;
     };
-    let answer = value_of(&held, name, value, version);
+    let answer = tell_value(&held, name, value, version);
     *store = StoreHandle::of(held);
     answer
 }
 
-fn value_of(store: &Store, name: &[u8], value: &mut i64, version: &mut u64) -> i32
+fn tell_value(store: &Store, name: &[u8], value: &mut i64, version: &mut u64) -> i32
     ensures done { result ≡ pos 0 → ValueIs store.now.book name.now value.new version.new }
     ensures unknown { result ≢ pos 0 → (result ≡ UNKNOWN) × NoValue store.now.book name.now × (value.new ≡ value.old) × (version.new ≡ version.old) }
 {
@@ -93,6 +93,8 @@ pub extern "C" fn stm_file(
     ensures done { Asked store.old.value EMPTY result (λ held answer. answer ≡ pos 0 → Holds (IsFileOf held.book) room.old room.new wanted.new) }
     ensures short { Asked store.old.value EMPTY result (λ held answer. answer ≡ SHORT → TooShort (IsFileOf held.book) room.old room.new wanted.new) }
     ensures long { Asked store.old.value EMPTY result (λ held answer. answer ≡ FILE_TOO_LONG → 1048576 < length (file_text held.book.catalogue)) }
+    ensures answers { Asked store.old.value EMPTY result (λ held answer. (answer ≡ pos 0) ⊎ (answer ≡ SHORT) ⊎ (answer ≡ FILE_TOO_LONG) ⊎ (answer ≡ MEMORY)) }
+    ensures kept { result ≢ pos 0 → room.new ≡ room.old }
     ensures stays { store.new.value ≡ store.old.value }
 {
     *wanted = 0;
@@ -108,6 +110,8 @@ fn file_of(store: &Store, room: &mut [u8], wanted: &mut usize) -> i32
     ensures done { result ≡ pos 0 → Holds (IsFileOf store.now.book) room.old room.new wanted.new }
     ensures short { result ≡ SHORT → TooShort (IsFileOf store.now.book) room.old room.new wanted.new }
     ensures long { result ≡ FILE_TOO_LONG → 1048576 < length (file_text store.now.book.catalogue) }
+    ensures answers { (result ≡ pos 0) ⊎ (result ≡ SHORT) ⊎ (result ≡ FILE_TOO_LONG) ⊎ (result ≡ MEMORY) }
+    ensures kept { result ≢ pos 0 → room.new ≡ room.old }
 {
     match store.file() {
         Ok(text) => copy(text.as_bytes(), room, wanted),
@@ -129,6 +133,8 @@ pub extern "C" fn stm_report_now(
     ensures short { Asked store.old.value EMPTY result (λ held answer. answer ≡ SHORT → TooShort (IsTextOf held.book) room.old room.new wanted.new) }
     ensures left { Asked store.old.value EMPTY result (λ held answer. answer ≡ WORK_LEFT → ¬ (IsIdle held.book)) }
     ensures always_left { Asked store.old.value EMPTY result (λ held answer. ¬ (IsIdle held.book) → answer ≡ WORK_LEFT) }
+    ensures answers { Asked store.old.value EMPTY result (λ held answer. (answer ≡ pos 0) ⊎ (answer ≡ SHORT) ⊎ (answer ≡ WORK_LEFT) ⊎ (answer ≡ MEMORY)) }
+    ensures kept { result ≢ pos 0 → room.new ≡ room.old }
     ensures stays { store.new.value ≡ store.old.value }
 {
     *wanted = 0;
@@ -145,6 +151,8 @@ fn report_of(store: &Store, room: &mut [u8], wanted: &mut usize) -> i32
     ensures short { result ≡ SHORT → TooShort (IsTextOf store.now.book) room.old room.new wanted.new }
     ensures left { result ≡ WORK_LEFT → ¬ (IsIdle store.now.book) }
     ensures always_left { ¬ (IsIdle store.now.book) → result ≡ WORK_LEFT }
+    ensures answers { (result ≡ pos 0) ⊎ (result ≡ SHORT) ⊎ (result ≡ WORK_LEFT) ⊎ (result ≡ MEMORY) }
+    ensures kept { result ≢ pos 0 → room.new ≡ room.old }
 {
     match store.report_now() {
         Ok(text) => copy(text.as_bytes(), room, wanted),

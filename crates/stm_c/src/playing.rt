@@ -1,8 +1,8 @@
 //! A schedule played on the stepped world of a file.
 
-ghost use Rattle.std.specs.Prelude.{◌≡◌, ◌≢◌, IfErr, IfOk, pos};
+ghost use Rattle.std.specs.Prelude.{◌≡◌, ◌≢◌, ◌⊎◌, IfErr, IfOk, pos};
 ghost use Rattle.world_runner.specs.Showing.{IsShowing};
-ghost use Rattle.stm_c.specs.Numbers.{IsBelow};
+ghost use Rattle.stm_c.specs.Files.{IsNotPlayed, IsRefused};
 ghost use Rattle.stm_c.specs.Rooms.{Holds, TooShort};
 
 use crate::codes::{MEMORY, SHORT, file_fault, schedule_fault};
@@ -25,6 +25,8 @@ pub extern "C" fn stm_world(
 ) -> i32
     ensures done { result ≡ pos 0 → Holds (IsShowing file.now schedule.now) room.old room.new wanted.new }
     ensures short { result ≡ SHORT → TooShort (IsShowing file.now schedule.now) room.old room.new wanted.new }
+    ensures refused { result ≢ pos 0 → result ≢ SHORT → IsRefused file.now result ⊎ IsNotPlayed file.now schedule.now result }
+    ensures kept { result ≢ pos 0 → room.new ≡ room.old }
 {
     *wanted = 0;
     match seen(alloc, file, schedule) {
@@ -33,12 +35,13 @@ pub extern "C" fn stm_world(
     }
 }
 
-/// The bytes of what is seen; else why there are none, which is below 0.
+/// The bytes of what is seen; else why there are none.
 #[tactic(auto, using(crate::proofs::Written::showing_in))]
 fn seen(alloc: Global, file: &[u8], schedule: &[u8]) -> Result<Vec<u8>, i32>
     ensures seen { IfOk result (λ text. IsShowing file.now schedule.now text.items) }
-    ensures none { IfErr result IsBelow }
+    ensures none { IfErr result (λ code. code ≢ pos 0) }
     ensures other { IfErr result (λ code. code ≢ SHORT) }
+    ensures refused { IfErr result (λ code. IsRefused file.now code ⊎ IsNotPlayed file.now schedule.now code) }
 {
     let mut out = Out::new(Vec::new(alloc));
     match world_bytes(alloc, file, schedule, &mut out) {

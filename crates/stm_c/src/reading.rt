@@ -1,16 +1,20 @@
 //! Programs, as handles: read once, and kept until the process ends.
 
-ghost use Rattle.std.specs.Prelude.{◌≡◌, ◌≢◌, None, pos, length};
+ghost use Rattle.std.specs.Prelude.{◌≡◌, ◌≢◌, ◌⊎◌, IfErr, IfOk, None, Some, pos, length};
 ghost use Rattle.txn_programs.specs.Listing.{tasks};
+ghost use Rattle.text_grammar.specs.Spelling.{first_fault};
+ghost use Rattle.text_words.specs.declared.fault.ReadFault.TheVariants as ReadFault;
+ghost use Rattle.stm_c.specs.Files.{IsRefused};
 ghost use Rattle.stm_c.specs.Held.{Asked, HoldsSome};
 ghost use Rattle.stm_c.specs.Made.{IsRead};
 ghost use Rattle.stm_c.specs.Named.{IsVariable, IsTransaction};
 
-use crate::codes::{EMPTY, FULL, MEMORY, UNKNOWN, file_fault};
+use crate::codes::{EMPTY, FULL, UNKNOWN, file_fault};
 use crate::program_handle::ProgramHandle;
 use std::alloc::Global;
 use stm_store::Program;
 use txn::Catalogue;
+use txn_text::ReadFault;
 
 /// Reads the program that the bytes spell. 0, and `out` holds it; -1 to -7: the file is refused, or
 /// want of memory; -13: `out` is not empty. Else than with 0, `out` is as it was.
@@ -19,19 +23,30 @@ pub extern "C" fn stm_read(alloc: Global, file: &[u8], out: &mut ProgramHandle) 
     ensures done { result ≡ pos 0 → HoldsSome (IsRead file.now) out.new.value }
     ensures kept { result ≢ pos 0 → out.new.value ≡ out.old.value }
     ensures full { out.old.value ≢ None → result ≡ FULL }
+    ensures refused { out.old.value ≡ None → result ≢ pos 0 → IsRefused file.now result }
 {
     if out.is_full(alloc) {
         return FULL;
     }
-    let program = match Program::read(alloc, file) {
-        Ok(program) => program,
-        Err(fault) => return file_fault(fault),
-    };
-    let Ok(made) = Box::new(alloc, program) else {
-        return MEMORY;
-    };
-    *out = ProgramHandle::of(made);
-    0
+    match read(alloc, file) {
+        Ok(made) => {
+            *out = ProgramHandle::of(made);
+            0
+        }
+        Err(fault) => file_fault(fault),
+    }
+}
+
+/// The program that the bytes spell, in a box; else the first fault of the file, or want of memory.
+fn read(alloc: Global, file: &[u8]) -> Result<Box<Program>, ReadFault>
+    ensures found { IfOk result (λ b. IsRead file.now b.value) }
+    ensures fault { IfErr result (λ e. (e ≡ ReadFault.Memory) ⊎ (first_fault file.now ≡ Some e)) }
+{
+    let program = Program::read(alloc, file)?;
+    match Box::new(alloc, program) {
+        Ok(made) => Ok(made),
+        Err(_) => Err(ReadFault::Memory),
+    }
 }
 
 /// Lets a handle of a program go, which is empty afterwards. What the program says stays, for its

@@ -34,6 +34,7 @@ pub extern "C" fn stm_run_one(
     ensures done { result ≡ pos 0 → Holds (IsReportBy checkpoint file.now) room.old room.new wanted.new }
     ensures short { result ≡ SHORT → TooShort (IsReportBy checkpoint file.now) room.old room.new wanted.new }
     ensures refused { result ≢ pos 0 → result ≢ SHORT → IsRefused file.now result }
+    ensures kept { result ≢ pos 0 → room.new ≡ room.old }
 {
     *wanted = 0;
     match report_of(alloc, file, checkpoint) {

@@ -5,7 +5,7 @@ ghost use Rattle.stm_c.specs.Calls.{TriesAny, TriesTask, ObservesAny};
 ghost use Rattle.stm_c.specs.Held.{On};
 ghost use Rattle.stm_c.specs.Numbers.{nothing_held};
 
-use crate::codes::{EMPTY, Told, UNKNOWN, empty, observed, tried, unknown};
+use crate::codes::{EMPTY, KindAndValue, UNKNOWN, empty, observed, tried, unknown};
 use crate::worker_handle::WorkerHandle;
 use std::alloc::Global;
 use stm_store::{Job, Worker};
@@ -70,7 +70,7 @@ fn try_task(worker: &mut Worker, task: u32) -> i32
 
 /// How the transaction would end on one state.
 #[unsafe(no_mangle)]
-pub extern "C" fn stm_observe(alloc: Global, worker: &mut WorkerHandle, tx: u32) -> Told
+pub extern "C" fn stm_observe(alloc: Global, worker: &mut WorkerHandle, tx: u32) -> KindAndValue
     ensures { On worker.old.value worker.new.value nothing_held result (λ old how new. ObservesAny old tx how new) }
 {
     let Some(mut held) = worker.take(alloc) else {
@@ -81,7 +81,7 @@ pub extern "C" fn stm_observe(alloc: Global, worker: &mut WorkerHandle, tx: u32)
     how
 }
 
-fn observe(worker: &mut Worker, tx: u32) -> Told
+fn observe(worker: &mut Worker, tx: u32) -> KindAndValue
     ensures { ObservesAny worker.old tx result worker.new }
 {
     if tx as usize >= worker.catalogue().tx_count() {

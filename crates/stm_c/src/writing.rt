@@ -1,6 +1,6 @@
 //! Where a text goes: into the room that the host lends.
 
-ghost use Rattle.std.specs.Prelude.{◌≡◌, ◌≤◌, ◌<◌, ◌++◌, ◌⊎◌, pos, drop, length};
+ghost use Rattle.std.specs.Prelude.{◌≡◌, ◌≢◌, ◌≤◌, ◌<◌, ◌++◌, ◌⊎◌, pos, drop, length};
 
 use crate::codes::SHORT;
 
@@ -27,6 +27,7 @@ pub(crate) fn copied_as(done: i32, text: &[u8], room: &mut [u8], wanted: &mut us
     ensures wanted { wanted.new ≡ length text.now }
     ensures fits { length text.now ≤ length room.old → (result ≡ done) × (room.new ≡ text.now ++ drop (length text.now) room.old) }
     ensures short { length room.old < length text.now → (result ≡ SHORT) × (room.new ≡ room.old) }
+    ensures why { result ≢ done → (result ≡ SHORT) × (length room.old < length text.now) × (room.new ≡ room.old) }
 {
     match copy(text, room, wanted) {
         0 => done,

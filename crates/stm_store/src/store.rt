@@ -208,6 +208,7 @@ impl Store {
         ensures workers { self.new.passes.items ≡ self.old.passes.items }
         ensures every { self.new.every ≡ self.old.every }
         ensures worker { worker.new.catalogue.now ≡ worker.old.catalogue.now }
+        ensures worker_cells { worker.new.cells.now ≡ worker.old.cells.now }
     {
         let Some(job) = worker.ended else {
             return Brought::NotEnded;

@@ -5,9 +5,9 @@ ghost use Rattle.cells.specs.Passing.{at};
 ghost use Rattle.run_observer.specs.Observing.{ObservesBy, IsStaleFrom};
 ghost use Rattle.stm_store.specs.Working.{EndsAs};
 
-use attempt::{Attempt, Next};
+use attempt::Attempt;
 use cells::{Cells, Pass};
-use run_observer::{Cut, tell};
+use run_observer::{Cut, evaluate};
 use txn::{Catalogue, Outcome, TxId};
 
 /// Restarts the attempt as one of the transaction, and brings it to its end on one state of the
@@ -32,21 +32,5 @@ pub(crate) fn attempt_on<'c>(
     ensures stale { IfErr result (λ why. why ≡ Cut.Stale → IsStaleFrom pass.old pass.new) }
     ensures memory { IfErr result (λ why. why ≡ Cut.Memory → pass.new.open_now ≡ true) }
 {
-    pass.begin(cells);
-    attempt.restart(catalogue, tx);
-    'needs: loop {
-        pass.law();
-        let x = match attempt.advance() {
-            Next::Need(x) => x,
-            Next::Returned(v) => return Ok(Outcome::Returned(v)),
-            Next::Thrown(fault) => return Ok(Outcome::Thrown(fault)),
-            Next::Retry => return Ok(Outcome::Retries),
-            Next::Memory => return Err(Cut::Memory),
-        };
-        match tell(attempt, x, cells, pass) {
-            Ok(()) => {}
-            Err(Cut::Stale) => return Err(Cut::Stale),
-            Err(Cut::Memory) => return Err(Cut::Memory),
-        }
-    }
+    evaluate(attempt, catalogue, tx, cells, pass)
 }

@@ -8,6 +8,7 @@ ghost use Rattle.text_laws.specs.Faults.{IsFirst};
 ghost use Rattle.text_resolver.specs.Parts.{view_parts};
 ghost use Rattle.text_words.specs.declared.fault.ReadFault.TheVariants.{Memory};
 
+use crate::at_once::parts_at_once;
 use std::alloc::Global;
 use text_parser::file::tree_of;
 use text_resolver::resolve::{Parts, resolve};
@@ -27,13 +28,26 @@ fn built(alloc: Global, parts: Parts) -> Result<Catalogue, ReadFault>
     }
 }
 
+/// The catalogue of a file, or its first fault: its whole tree is read first, and its names are judged
+/// before its numbers.
 #[tactic(auto, unfolding(text_grammar::specs::Spelling::listing_at))]
-fn read(alloc: Global, bytes: &[u8]) -> Result<Catalogue, ReadFault>
+fn read_in_passes(alloc: Global, bytes: &[u8]) -> Result<Catalogue, ReadFault>
     ensures { Gives (λ c. c) result (listing_at bytes.now) }
 {
     let file = tree_of(alloc, bytes)?;
     let parts = resolve(alloc, file)?;
     built(alloc, parts)
+}
+
+/// The catalogue of a file, or its first fault. A file without a fault is read in one pass; where one
+/// is met, the passes tell which is the first.
+fn read(alloc: Global, bytes: &[u8]) -> Result<Catalogue, ReadFault>
+    ensures { Gives (λ c. c) result (listing_at bytes.now) }
+{
+    match parts_at_once(alloc, bytes) {
+        Ok(parts) => built(alloc, parts),
+        Err(_) => read_in_passes(alloc, bytes),
+    }
 }
 
 /// Reads a file. It is `Ok` exactly where the bytes spell a catalogue by the rules of the

@@ -39,8 +39,10 @@ fn pair_of<'a>(bytes: &'a [u8], word: &str) -> Result<(RawPair<'a>, &'a [u8]), R
 /// The most parentheses that may be open inside the one of a condition or of a transaction.
 const INNER_DEPTH: u32 = 31;
 
+/// A standing condition, and the bytes behind it. It fails by `Shape` where none stands next, or one
+/// that is too deep.
 #[tactic(auto, unfolding(text_grammar::specs::Reading::always_at))]
-fn always_of(alloc: Global, bytes: &[u8]) -> Result<(RawAlways<'_>, &[u8]), ReadFault>
+pub fn always_of(alloc: Global, bytes: &[u8]) -> Result<(RawAlways<'_>, &[u8]), ReadFault>
     ensures value { Gives (λ x. (view_always x.0, tokens x.1.now)) result (always_at (tokens bytes.now)) }
     ensures shorter { IfOk result (λ x. length x.1.now < length bytes.now) }
 {
@@ -56,8 +58,10 @@ fn always_of(alloc: Global, bytes: &[u8]) -> Result<(RawAlways<'_>, &[u8]), Read
     }
 }
 
+/// A transaction, and the bytes behind it. It fails by `Shape` where none stands next, or one that is
+/// too deep.
 #[tactic(auto, unfolding(text_grammar::specs::Reading::tx_at))]
-fn tx_of(alloc: Global, bytes: &[u8]) -> Result<(RawTx<'_>, &[u8]), ReadFault>
+pub fn tx_of(alloc: Global, bytes: &[u8]) -> Result<(RawTx<'_>, &[u8]), ReadFault>
     ensures value { Gives (λ x. (view_tx x.0, tokens x.1.now)) result (tx_at (tokens bytes.now)) }
     ensures shorter { IfOk result (λ x. length x.1.now < length bytes.now) }
 {
@@ -93,7 +97,9 @@ fn closed_tx<'a>(
     }
 }
 
-fn pairs_of<'a>(
+/// The pairs behind this word, as long as one stands next, and the bytes behind them. It fails by
+/// `Shape` where the word begins what is no pair.
+pub fn pairs_of<'a>(
     alloc: Global,
     bytes: &'a [u8],
     word: &str,
@@ -151,8 +157,9 @@ fn txs_of(alloc: Global, bytes: &[u8]) -> Result<(Vec<RawTx<'_>>, &[u8]), ReadFa
     Ok((txs, rest))
 }
 
+/// The end of the bytes. It fails by `Shape` where a token is left.
 #[tactic(auto, unfolding(text_grammar::specs::Reading::end_at))]
-fn end(bytes: &[u8]) -> Result<(), ReadFault>
+pub fn end(bytes: &[u8]) -> Result<(), ReadFault>
     ensures value { Gives (λ x. x) result (end_at (tokens bytes.now)) }
     ensures kind { IfErr result (λ e. e ≡ Shape) }
 {
@@ -185,9 +192,10 @@ fn announced_of(bytes: &[u8]) -> Result<(FileForm, &[u8]), ReadFault>
     Ok((file_form, rest))
 }
 
-/// Form 1, unless another is announced.
+/// The form, and the bytes behind its announcement: form 1, unless another is announced. It fails by
+/// `Shape` where what is announced is no form.
 #[tactic(auto, unfolding(text_grammar::specs::Reading::heading_at))]
-fn heading_of(bytes: &[u8]) -> Result<(FileForm, &[u8]), ReadFault>
+pub fn heading_of(bytes: &[u8]) -> Result<(FileForm, &[u8]), ReadFault>
     ensures value { Gives (λ x. (x.0, tokens x.1.now)) result (heading_at (tokens bytes.now)) }
     ensures kind { IfErr result (λ e. e ≡ Shape) }
 {

@@ -16,15 +16,15 @@ use Rattle.text_lines.proofs.Places.{place_again}
 abbrev nothing : Transaction
 nothing = record { name = []; body = Skip; result = Int (pos 0) }
 
-abbrev name_of : Transaction → List ℕ
-name_of t = t.name
+abbrev transaction_text : Transaction → List ℕ
+transaction_text t = t.name
 
-named : (l : Listing) (tx : TxId) → tx.0 < length l.transactions → get_or (map name_of l.transactions) tx.0 [] ≡ (program_at l tx).name
-named l tx lt = get_or-map name_of l.transactions tx.0 nothing [] lt
+named : (l : Listing) (tx : TxId) → tx.0 < length l.transactions → get_or (map transaction_text l.transactions) tx.0 [] ≡ (program_at l tx).name
+named l tx lt = get_or-map transaction_text l.transactions tx.0 nothing [] lt
 
 pub tx_named : (l : Listing) (tx : TxId) → names_hold l ≡ true → tx.0 < length l.transactions → transaction_named l (program_at l tx).name ≡ Some tx
 tx_named l tx h lt =
-    let names = map name_of l.transactions in
+    let names = map transaction_text l.transactions in
     let inside : tx.0 < length names = rw length-map lt in
     ap (λ (name : List ℕ). as_transaction (position (bytes_eq name) names)) (sym (named l tx lt)) ∙ ap as_transaction (place_again names tx.0 (names_parts l h).tx_distinct inside)
 
@@ -37,12 +37,12 @@ pub record HasName (l : Listing) (name : List ℕ) (tx : TxId) : Type 0 where
   pub name_is : (program_at l tx).name ≡ name
   pub known : tx.0 < length l.transactions
 
-placed : (l : Listing) (name : List ℕ) (o : Option ℕ) (tx : TxId) → position (bytes_eq name) (map name_of l.transactions) ≡ o → found (as_transaction o) ≡ Ok tx → HasName l name tx
+placed : (l : Listing) (name : List ℕ) (o : Option ℕ) (tx : TxId) → position (bytes_eq name) (map transaction_text l.transactions) ≡ o → found (as_transaction o) ≡ Ok tx → HasName l name tx
 placed l name None tx e is = absurd cc
 placed l name (Some i) tx e is =
-    let names = map name_of l.transactions in
+    let names = map transaction_text l.transactions in
     let p = position-Some (bytes_eq name) names i [] e in
-    let lt : i < length l.transactions = let inside = p.0 in let n = length-map l.transactions name_of in omega arith in
+    let lt : i < length l.transactions = let inside = p.0 in let n = length-map l.transactions transaction_text in omega arith in
     let made : TxId = record { 0 = i } in
     let same : made ≡ tx = cc in
     subst (HasName l name) same (record {
@@ -52,7 +52,7 @@ placed l name (Some i) tx e is =
 
 pub tx_back : (l : Listing) (name : List ℕ) (tx : TxId) → tx_id l name ≡ Ok tx → HasName l name tx
 unfolding tx_id
-tx_back l name tx e = placed l name (position (bytes_eq name) (map name_of l.transactions)) tx refl e
+tx_back l name tx e = placed l name (position (bytes_eq name) (map transaction_text l.transactions)) tx refl e
 
 -- a standing condition is the one of its name
 pub condition_is : (l : Listing) (id : AlwaysId) → names_hold l ≡ true → id.0 < length l.always → condition_named l (always_name l id) ≡ Some id

@@ -1,5 +1,5 @@
 //! From the tree of a file to what a catalogue is built of: names judged, then written as ids.
 #![tactic(auto)]
 
-mod names;
+pub mod names;
 pub mod resolve;

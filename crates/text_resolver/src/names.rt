@@ -16,9 +16,9 @@ use text_grammar::file::{RawAlways, RawFile, RawPair, RawTx};
 use text_grammar::stmt::RawStmt;
 use text_words::ReadFault;
 
-/// Adds a name that is not there.
+/// Adds a name that is not there. It fails by `Name` where the name is there.
 #[tactic(auto, unfolding(text_grammar::specs::Resolving::declared_one))]
-fn declare<'a>(names: &mut IndexSet<&'a str>, name: &'a str) -> Result<(), ReadFault>
+pub fn declare<'a>(names: &mut IndexSet<&'a str>, name: &'a str) -> Result<(), ReadFault>
     ensures { Gives (λ _. texts names.new.keys) result (declared_one (texts names.old.keys) name.now) }
 {
     match names.insert(name) {
@@ -28,11 +28,8 @@ fn declare<'a>(names: &mut IndexSet<&'a str>, name: &'a str) -> Result<(), ReadF
     }
 }
 
-/// The names of variables, in their order.
-pub(crate) fn var_names<'a>(
-    alloc: Global,
-    pairs: &[RawPair<'a>],
-) -> Result<IndexSet<&'a str>, ReadFault>
+/// The names of variables, in their order. It fails by `Name` where one comes twice.
+pub fn var_names<'a>(alloc: Global, pairs: &[RawPair<'a>]) -> Result<IndexSet<&'a str>, ReadFault>
     ensures { Gives (λ names. texts names.keys) result (declared_after [] (map pair_name (view_pairs pairs.now))) }
 {
     let mut names = IndexSet::new(alloc);

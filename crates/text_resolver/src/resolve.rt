@@ -255,7 +255,7 @@ fn statements(
 ) -> Result<Vec<Stmt>, ReadFault>
     ensures { Gives (λ made. map statement_of made.items) result (each (statement_in (texts names.now.keys)) (view_stmts parts.now)) }
 {
-    let mut made = Vec::new(alloc);
+    let mut made = Vec::with_capacity(alloc, parts.len())?;
     'parts: for part in parts {
         let statement = statement(alloc, names, part)?;
         made.push(statement)?;
@@ -272,10 +272,12 @@ fn variable_of(alloc: Global, pair: &RawPair<'_>) -> Result<(String, i64), ReadF
     Ok((name, value))
 }
 
-fn variables(alloc: Global, pairs: &[RawPair<'_>]) -> Result<Vec<(String, i64)>, ReadFault>
+/// The names and first values of variables. It fails by `Limit` where 64 signed bits have no room for
+/// a value.
+pub fn variables(alloc: Global, pairs: &[RawPair<'_>]) -> Result<Vec<(String, i64)>, ReadFault>
     ensures { Gives (λ made. map view_variable made.items) result (each variable_of (view_pairs pairs.now)) }
 {
-    let mut made = Vec::new(alloc);
+    let mut made = Vec::with_capacity(alloc, pairs.len())?;
     'pairs: for pair in pairs {
         let variable = variable_of(alloc, pair)?;
         made.push(variable)?;
@@ -296,8 +298,9 @@ fn always(
     Ok((name, condition))
 }
 
-/// A condition that has to stand, whose tree is let go.
-fn always_from(
+/// A condition that has to stand, whose tree is let go. It fails by `Name` where a name is not
+/// declared, and by `Limit` where 64 signed bits have no room for an integer.
+pub fn always_from(
     alloc: Global,
     names: &IndexSet<&str>,
     raw: RawAlways<'_>,
@@ -339,8 +342,13 @@ fn transaction(alloc: Global, names: &IndexSet<&str>, tx: &RawTx<'_>) -> Result<
     }
 }
 
-/// A transaction, whose tree is let go.
-fn transaction_from(alloc: Global, names: &IndexSet<&str>, tx: RawTx<'_>) -> Result<Tx, ReadFault>
+/// A transaction, whose tree is let go. It fails by `Name` where a name is not declared, and by
+/// `Limit` where the machine has no room for a number.
+pub fn transaction_from(
+    alloc: Global,
+    names: &IndexSet<&str>,
+    tx: RawTx<'_>,
+) -> Result<Tx, ReadFault>
     ensures { Gives transaction_of result (transaction_in (texts names.now.keys) (view_tx tx.entry)) }
 {
     let made = transaction(alloc, names, &tx);
@@ -374,14 +382,16 @@ fn run(names: &IndexSet<&str>, pair: &RawPair<'_>) -> Result<(TxId, u32), ReadFa
     Ok((TxId(place), count))
 }
 
-fn runs(
+/// The transactions to run, each with how often. It fails by `Name` where a transaction is not
+/// declared, and by `Limit` where 32 bits have no room for a count.
+pub fn runs(
     alloc: Global,
     names: &IndexSet<&str>,
     pairs: &[RawPair<'_>],
 ) -> Result<Vec<(TxId, u32)>, ReadFault>
     ensures { Gives (λ made. made.items) result (each (run_in (texts names.now.keys)) (view_pairs pairs.now)) }
 {
-    let mut made = Vec::new(alloc);
+    let mut made = Vec::with_capacity(alloc, pairs.len())?;
     'pairs: for pair in pairs {
         let entry = run(names, pair)?;
         made.push(entry)?;

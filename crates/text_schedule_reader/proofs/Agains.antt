@@ -19,7 +19,7 @@ use Rattle.text_schedule_reader.specs.declared.raw.VariableVerb.{VariableVerb}
 use Rattle.text_schedule_reader.specs.declared.raw.VariableVerb.TheVariants as of_variable
 use Rattle.text_schedule_reader.specs.Raw.{Raw, OfTask, OfVariable, Word, raw_words, raw_text, IsRaw}
 use Rattle.text_schedule_reader.specs.Resolving.{is_known, names_known, task_move, variable_move, move_told, moves_told, resolved}
-use Rattle.text_schedule_reader.specs.Spelling.{variable_name, move_words, schedule_text, TaskFits, VariableFits, MoveFits}
+use Rattle.text_schedule_reader.specs.Spelling.{spelled_name, move_words, schedule_text, TaskFits, VariableFits, MoveFits}
 use Rattle.text_schedule_reader.proofs.Places.{variable_again, variable_is_known, variable_is_name}
 use Rattle.text_schedule_reader.proofs.Backs.{task_words, variable_words}
 
@@ -31,10 +31,10 @@ record Keeps (l : Listing) : Type 0 where
 -- the line of a move
 pub written_move : Listing → Move → Raw
 written_move l (move.Begin task) = OfTask of_task.Begin (decimal task.0)
-written_move l (move.Read task x) = OfVariable of_variable.Read (decimal task.0) (variable_name l x)
+written_move l (move.Read task x) = OfVariable of_variable.Read (decimal task.0) (spelled_name l x)
 written_move l (move.Commit task) = OfTask of_task.Commit (decimal task.0)
 written_move l (move.Drop task) = OfTask of_task.Drop (decimal task.0)
-written_move l (move.First task x) = OfVariable of_variable.First (decimal task.0) (variable_name l x)
+written_move l (move.First task x) = OfVariable of_variable.First (decimal task.0) (spelled_name l x)
 written_move l (move.Value task) = OfTask of_task.Value (decimal task.0)
 written_move l (move.Second task) = OfTask of_task.Second (decimal task.0)
 written_move l (move.Ask task) = OfTask of_task.Ask (decimal task.0)
@@ -59,7 +59,7 @@ of_task_again l keeps v task h =
       text = ap line (task_words l v task);
     }
 
-of_variable_again : (l : Listing) → Keeps l → (v : VariableVerb) (task : TaskId) (x : VarId) → TaskFits l task × VariableFits l x → ReadAgain l (OfVariable v (decimal task.0) (variable_name l x)) (variable_move v task x)
+of_variable_again : (l : Listing) → Keeps l → (v : VariableVerb) (task : TaskId) (x : VarId) → TaskFits l task × VariableFits l x → ReadAgain l (OfVariable v (decimal task.0) (spelled_name l x)) (variable_move v task x)
 of_variable_again l keeps v task x h =
     let few = keeps.few in
     let task_known = h.0 in

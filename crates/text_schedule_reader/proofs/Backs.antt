@@ -20,7 +20,7 @@ use Rattle.text_schedule_reader.specs.declared.raw.VariableVerb.{VariableVerb}
 use Rattle.text_schedule_reader.specs.declared.raw.VariableVerb.TheVariants as of_variable
 use Rattle.text_schedule_reader.specs.Raw.{Raw, OfTask, OfVariable, Word, task_word, variable_word, raw_words, raw_text, IsRaw}
 use Rattle.text_schedule_reader.specs.Resolving.{task_move, variable_move, variable_id, move_told, moves_told}
-use Rattle.text_schedule_reader.specs.Spelling.{variable_name, move_words, schedule_text, TaskFits, VariableFits, MoveFits}
+use Rattle.text_schedule_reader.specs.Spelling.{spelled_name, move_words, schedule_text, TaskFits, VariableFits, MoveFits}
 use Rattle.text_schedule_reader.proofs.Places.{HasName, variable_back}
 
 -- ---- the words of a verb's move
@@ -45,7 +45,7 @@ task_fits l of_task.Ask task h = h
 task_fits l of_task.Again task h = h
 task_fits l of_task.Move task h = h
 
-pub variable_words : (l : Listing) (v : VariableVerb) (task : TaskId) (x : VarId) → move_words l (variable_move v task x) ≡ variable_word v ∷ decimal task.0 ∷ variable_name l x ∷ []
+pub variable_words : (l : Listing) (v : VariableVerb) (task : TaskId) (x : VarId) → move_words l (variable_move v task x) ≡ variable_word v ∷ decimal task.0 ∷ spelled_name l x ∷ []
 variable_words l of_variable.Read task x = refl
 variable_words l of_variable.First task x = refl
 

@@ -10,24 +10,24 @@ use Rattle.txn_programs.specs.Names.{is_name, names_hold}
 use Rattle.txn_programs.proofs.Lawful.{names_parts, passes_at}
 use Rattle.text_lines.proofs.Places.{place_again}
 use Rattle.text_schedule_reader.specs.Resolving.{found, variable_id}
-use Rattle.text_schedule_reader.specs.Spelling.{variable_name}
+use Rattle.text_schedule_reader.specs.Spelling.{spelled_name}
 
-named : (l : Listing) (x : VarId) → names_hold l ≡ true → x.0 < length l.names → variable_named l (variable_name l x) ≡ Some x
+named : (l : Listing) (x : VarId) → names_hold l ≡ true → x.0 < length l.names → variable_named l (spelled_name l x) ≡ Some x
 named l x h lt = ap as_variable (place_again l.names x.0 (names_parts l h).distinct lt)
 
-pub variable_again : (l : Listing) (x : VarId) → names_hold l ≡ true → x.0 < length l.names → variable_id l (variable_name l x) ≡ Ok x
+pub variable_again : (l : Listing) (x : VarId) → names_hold l ≡ true → x.0 < length l.names → variable_id l (spelled_name l x) ≡ Ok x
 unfolding variable_id
 variable_again l x h lt = ap found (named l x h lt)
 
-pub variable_is_known : (l : Listing) (x : VarId) → names_hold l ≡ true → x.0 < length l.names → is_some (variable_named l (variable_name l x)) ≡ true
+pub variable_is_known : (l : Listing) (x : VarId) → names_hold l ≡ true → x.0 < length l.names → is_some (variable_named l (spelled_name l x)) ≡ true
 variable_is_known l x h lt = ap is_some (named l x h lt)
 
-pub variable_is_name : (l : Listing) (x : VarId) → names_hold l ≡ true → x.0 < length l.names → is_name (variable_name l x) ≡ true
-variable_is_name l x h lt = passes_at is_name l.names x.0 (variable_name l x) (names_parts l h).forms (slice_get-get_or l.names x.0 [] lt)
+pub variable_is_name : (l : Listing) (x : VarId) → names_hold l ≡ true → x.0 < length l.names → is_name (spelled_name l x) ≡ true
+variable_is_name l x h lt = passes_at is_name l.names x.0 (spelled_name l x) (names_parts l h).forms (slice_get-get_or l.names x.0 [] lt)
 
 -- the variable of a name has that name
 pub record HasName (l : Listing) (name : List ℕ) (x : VarId) : Type 0 where
-  pub name_is : variable_name l x ≡ name
+  pub name_is : spelled_name l x ≡ name
   pub known : x.0 < length l.names
 
 placed : (l : Listing) (name : List ℕ) (o : Option ℕ) (x : VarId) → position (bytes_eq name) l.names ≡ o → found (as_variable o) ≡ Ok x → HasName l name x

@@ -11,16 +11,16 @@ use Rattle.txn_programs.specs.Listing.{Listing, tasks}
 use Rattle.text_words.specs.Words.{line}
 
 -- the name of a variable
-abbrev pub variable_name : Listing → VarId → List ℕ
-variable_name l x = slice_index_or l.names x.0 []
+abbrev pub spelled_name : Listing → VarId → List ℕ
+spelled_name l x = slice_index_or l.names x.0 []
 
 -- the words of a move's line
 abbrev pub move_words : Listing → Move → List (List ℕ)
 move_words l (Begin task) = codes "begin" ∷ decimal task.0 ∷ []
-move_words l (Read task x) = codes "read" ∷ decimal task.0 ∷ variable_name l x ∷ []
+move_words l (Read task x) = codes "read" ∷ decimal task.0 ∷ spelled_name l x ∷ []
 move_words l (Commit task) = codes "commit" ∷ decimal task.0 ∷ []
 move_words l (Drop task) = codes "drop" ∷ decimal task.0 ∷ []
-move_words l (First task x) = codes "first" ∷ decimal task.0 ∷ variable_name l x ∷ []
+move_words l (First task x) = codes "first" ∷ decimal task.0 ∷ spelled_name l x ∷ []
 move_words l (Value task) = codes "value" ∷ decimal task.0 ∷ []
 move_words l (Second task) = codes "second" ∷ decimal task.0 ∷ []
 move_words l (Ask task) = codes "ask" ∷ decimal task.0 ∷ []

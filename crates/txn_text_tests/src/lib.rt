@@ -1,8 +1,17 @@
-//! Tests of what `txn_text`, `text_report_printer`, `text_report_reader` and `text_schedule_reader` promise their callers.
+//! Tests of what `txn_text`, `text_report_printer`, `text_report_reader`, `text_schedule_reader` and `checker` promise their
+//! callers.
 #![tactic(auto)]
 
 #[cfg(test)]
+mod checked_parts;
+#[cfg(test)]
+mod checked_tasks;
+#[cfg(test)]
+mod checked_texts;
+#[cfg(test)]
 mod conditions;
+#[cfg(test)]
+mod many;
 #[cfg(test)]
 mod names;
 #[cfg(test)]
@@ -23,3 +32,5 @@ mod round_trips;
 mod schedule_faults;
 #[cfg(test)]
 mod schedule_reading;
+#[cfg(test)]
+mod verdicts;

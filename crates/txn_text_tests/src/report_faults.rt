@@ -61,7 +61,7 @@ fn limits_are_judged_last(rt: HostRuntime) {
 }
 
 #[test]
-fn bytes_and_length_come_first(rt: HostRuntime) {
+fn bytes_come_before_shape(rt: HostRuntime) {
     let alloc = rt.alloc();
     let kind = Kind::Report;
     for bad in [9, 31, 127, 200] {
@@ -80,6 +80,12 @@ fn bytes_and_length_come_first(rt: HostRuntime) {
             "of {other}"
         );
     }
+}
+
+#[test]
+fn length_comes_before_bytes(rt: HostRuntime) {
+    let alloc = rt.alloc();
+    let kind = Kind::Report;
     assert_eq!(rt;
         long_fault(alloc, kind, MAX_REPORT, &[]),
         Some(ReadFault::Shape)

@@ -76,7 +76,7 @@ fn a_task_of_thousands_of_digits(rt: HostRuntime) {
 }
 
 #[test]
-fn bytes_and_length_come_first(rt: HostRuntime) {
+fn bytes_come_before_shape(rt: HostRuntime) {
     let alloc = rt.alloc();
     let kind = Kind::Schedule;
     for bad in [9, 31, 127, 200] {
@@ -95,6 +95,12 @@ fn bytes_and_length_come_first(rt: HostRuntime) {
             "of {other}"
         );
     }
+}
+
+#[test]
+fn length_comes_before_bytes(rt: HostRuntime) {
+    let alloc = rt.alloc();
+    let kind = Kind::Schedule;
     assert_eq!(rt;
         long_fault(alloc, kind, MAX_SCHEDULE, &[]),
         Some(ReadFault::Shape)

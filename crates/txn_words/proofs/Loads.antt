@@ -1,8 +1,8 @@
 -- What a reader knows stays true under each store, and each of its loads adds to it.
 use Rattle.std.proofs.Common.{◌≡◌, ◌⊎◌, ℕ, ◌-◌, ◌*◌, ◌%◌, ◌<◌, ◌≤◌, List, [], ◌∷◌, ◌++◌, length, get_or, ℤ, sym, ap, ◌∙◌, subst, ⊎_elim, inl, inr, arith}
 use Rattle.std.specs.Int.{w64, cast_signed}
-use Rattle.txn_words.specs.Words.{Commit, value_of, state_of, last_state, version_word, value_word, StartsWith, WordsMean}
-use Rattle.txn_words.specs.Loads.{PassRecord, begun, sampled, loaded, met, value_at, LoadedIs, SamplingHolds, ReaderHolds}
+use Rattle.txn_words.specs.Words.{Commit, state_value, state_of, last_state, version_word, value_word, StartsWith, WordsMean}
+use Rattle.txn_words.specs.Loads.{PassRecord, begun, sampled, loaded, met, seen_value, LoadedIs, SamplingHolds, ReaderHolds}
 use Rattle.txn_words.proofs.Words.{starts_whole, starts_on, seen_state, seen_shorter, fresh}
 use Rattle.txn_words.proofs.Stores.{Grows}
 
@@ -55,12 +55,12 @@ module _ (ws : List ℕ) (c : Commit) (w : WordsMean ws c) (r : PassRecord) (k :
   sample_right x inside = let s = at_state in record {
     seen = k.seen;
     began = k.began;
-    sampling = (omega arith, omega arith, λ even early. inr (fresh ws c x r.rv w (omega (arith, s.2)) s.1 even early ∙ ap (λ (m : List ℤ). value_of m x) s.0, tt));
+    sampling = (omega arith, omega arith, λ even early. inr (fresh ws c x r.rv w (omega (arith, s.2)) s.1 even early ∙ ap (λ (m : List ℤ). state_value m x) s.0, tt));
   }
 
   pub value_right : (x first : ℕ) → r.variable ≡ x → r.loads ≡ first ∷ [] → ReaderHolds ws c.history (loaded (get_or ws (value_word x) 0) r)
   value_right x first of_x one = let n : ℕ = get_or ws (value_word x) 0 in
-      let version : ℕ = get_or ws (version_word r.variable) 0 in let value : ℕ = get_or ws (value_word r.variable) 0 in let z : ℤ = value_at r r.variable in
+      let version : ℕ = get_or ws (version_word r.variable) 0 in let value : ℕ = get_or ws (value_word r.variable) 0 in let z : ℤ = seen_value r r.variable in
       let here : n ≡ value = ap (λ (u : ℕ). get_or ws (value_word u) 0) (sym of_x) in
       let was : SamplingHolds version value r.rv z (first ∷ []) = subst (SamplingHolds version value r.rv z) one k.sampling in
       let now : SamplingHolds version value r.rv z (first ∷ n ∷ []) = (
@@ -72,16 +72,16 @@ module _ (ws : List ℕ) (c : Commit) (w : WordsMean ws c) (r : PassRecord) (k :
 
   pub again_right : (x first got : ℕ) → r.variable ≡ x → r.loads ≡ first ∷ got ∷ [] → ReaderHolds ws c.history (loaded (get_or ws (version_word x) 0) r)
   again_right x first got of_x two = let n : ℕ = get_or ws (version_word x) 0 in
-      let version : ℕ = get_or ws (version_word r.variable) 0 in let value : ℕ = get_or ws (value_word r.variable) 0 in let z : ℤ = value_at r r.variable in
+      let version : ℕ = get_or ws (version_word r.variable) 0 in let value : ℕ = get_or ws (value_word r.variable) 0 in let z : ℤ = seen_value r r.variable in
       let here : n ≡ version = ap (λ (u : ℕ). get_or ws (version_word u) 0) (sym of_x) in
       let was : SamplingHolds version value r.rv z (first ∷ got ∷ []) = subst (SamplingHolds version value r.rv z) two k.sampling in
       let now : SamplingHolds version value r.rv z (first ∷ got ∷ n ∷ []) = (was.0, omega arith, was.2) in
       record { seen = k.seen; began = k.began; sampling = subst (λ (l : List ℕ). SamplingHolds version value r.rv z (l ++ n ∷ [])) (sym two) now }
 
   -- two samplings that are the same, free and no later than rv: the value between them is that in the state rv
-  pub again_tells : (x first got : ℕ) → r.variable ≡ x → r.loads ≡ first ∷ got ∷ [] → get_or ws (version_word x) 0 ≡ first → first % 2 ≡ 0 → first ≤ 2 * r.rv → cast_signed w64 got ≡ value_at r r.variable
+  pub again_tells : (x first got : ℕ) → r.variable ≡ x → r.loads ≡ first ∷ got ∷ [] → get_or ws (version_word x) 0 ≡ first → first % 2 ≡ 0 → first ≤ 2 * r.rv → cast_signed w64 got ≡ seen_value r r.variable
   again_tells x first got of_x two same even early =
-      let version : ℕ = get_or ws (version_word r.variable) 0 in let value : ℕ = get_or ws (value_word r.variable) 0 in let z : ℤ = value_at r r.variable in
+      let version : ℕ = get_or ws (version_word r.variable) 0 in let value : ℕ = get_or ws (value_word r.variable) 0 in let z : ℤ = seen_value r r.variable in
       let here : get_or ws (version_word x) 0 ≡ version = ap (λ (u : ℕ). get_or ws (version_word u) 0) (sym of_x) in
       let was : SamplingHolds version value r.rv z (first ∷ got ∷ []) = subst (SamplingHolds version value r.rv z) two k.sampling in
       ⊎_elim (λ (t : first < version). absurd (omega arith)) (λ (t : (cast_signed w64 value ≡ z) × (cast_signed w64 got ≡ z)). t.1) (was.2 even early)
@@ -91,5 +91,5 @@ module _ (ws : List ℕ) (c : Commit) (w : WordsMean ws c) (r : PassRecord) (k :
   meeting_right = let s = at_state in let l = s.1 in record {
     seen = starts_whole c.history;
     began = omega arith;
-    sampling = subst (λ (m : List ℤ). SamplingHolds (get_or ws (version_word r.variable) 0) (get_or ws (value_word r.variable) 0) r.rv (value_of m r.variable) r.loads) (sym s.0) k.sampling;
+    sampling = subst (λ (m : List ℤ). SamplingHolds (get_or ws (version_word r.variable) 0) (get_or ws (value_word r.variable) 0) r.rv (state_value m r.variable) r.loads) (sym s.0) k.sampling;
   }

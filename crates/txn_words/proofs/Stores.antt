@@ -4,7 +4,7 @@ use mathlib.Core.Logic.{dite}
 use native.Mathlib.Decide.{ℕ_discrete, dec_lt}
 use Rattle.std.proofs.lemmas.Bool.{false≢true}
 use Rattle.std.specs.Int.{w64, cast_signed}
-use Rattle.txn_words.specs.Words.{Commit, value_of, state_of, version_word, value_word, IsLastChange, VariableMeans, WordsMean}
+use Rattle.txn_words.specs.Words.{Commit, state_value, state_of, version_word, value_word, IsLastChange, VariableMeans, WordsMean}
 use Rattle.txn_words.specs.Stores.{after_lock, after_value, after_clock, after_release, MayLock, MayStore, MayRelease}
 use Rattle.txn_words.proofs.Words.{longer, state_before, state_new, last_pushed, change_stays}
 
@@ -20,7 +20,7 @@ abbrev pub Keeps : List ℕ → List ℕ → Commit → Type 0
 Keeps ws ws' c' = WordsMean ws' c' × ((y : ℕ) → Grows ws ws' y)
 
 abbrev Means : List ℕ → Commit → ℕ → Type 0
-Means ws c y = VariableMeans (get_or ws (version_word y) 0) (get_or ws (value_word y) 0) (get_or c.versions y 0) (get_or c.locked y false) (value_of c.values y) c.history y
+Means ws c y = VariableMeans (get_or ws (version_word y) 0) (get_or ws (value_word y) 0) (get_or c.versions y 0) (get_or c.locked y false) (state_value c.values y) c.history y
 
 -- a variable of which nothing changed
 unmoved : (stamp bits at stamp' bits' at' : ℕ) (locked locked' : Bool) (now now' : ℤ) (h : List (List ℤ)) (y : ℕ) → stamp ≡ stamp' → bits ≡ bits' → at ≡ at' → locked ≡ locked' → now ≡ now'
@@ -106,7 +106,7 @@ clock_keeps ws c b is h = let wide = h.wide in let more = longer c.history c.val
         each = λ y l. let here = h.each y l in record {
           version = version_same y ∙ here.version;
           value = ap (cast_signed w64) (value_same y) ∙ here.value;
-          free = λ f. let t = here.free f in (change_stays c.history c.values y _ t.0 t.1, ap (λ s. value_of s y) (sym (last_pushed c.history c.values)));
+          free = λ f. let t = here.free f in (change_stays c.history c.values y _ t.0 t.1, ap (λ s. state_value s y) (sym (last_pushed c.history c.values)));
         };
       },
       λ y. inr (sym (version_same y), inr (sym (value_same y))),
@@ -132,10 +132,10 @@ release_keeps ws c x b may is h = let wide = h.wide in let inside = may.within i
               free = λ f. (
                 subst (IsLastChange c.history x) (sym number) record {
                   within = omega arith;
-                  since = λ n low high. ap (λ (k : ℕ). value_of (state_of c.history k) x) (omega arith);
+                  since = λ n low high. ap (λ (k : ℕ). state_value (state_of c.history k) x) (omega arith);
                   changed = λ _. may.changed;
                 },
-                ap (λ s. value_of s x) (h.settled may.after_clock),
+                ap (λ s. state_value s x) (h.settled may.after_clock),
               );
             })
             (λ n. let o = others_version ws x b y n in

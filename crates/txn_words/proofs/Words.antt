@@ -4,7 +4,7 @@ use mathlib.Core.Logic.{dite}
 use native.Mathlib.Decide.{dec_lt}
 use lib.ListN.{length-map, get_or-append}
 use Rattle.std.specs.Int.{w64, cast_signed}
-use Rattle.txn_words.specs.Words.{Commit, value_of, state_of, last_state, version_word, value_word, IsLastChange, StartsWith, WordsMean}
+use Rattle.txn_words.specs.Words.{Commit, state_value, state_of, last_state, version_word, value_word, IsLastChange, StartsWith, WordsMean}
 use Rattle.txn_words.specs.Stores.{opened}
 
 pub starts_whole : (h : List (List ℤ)) → StartsWith h h
@@ -36,13 +36,13 @@ pub last_pushed : (h : List (List ℤ)) (m : List ℤ) → last_state (h ++ m �
 last_pushed h m = state_new h m (length (h ++ m ∷ []) - 1) (let k = longer h m in omega arith)
 
 -- a state in which x is as before leaves the last change of x where it was
-pub change_stays : (h : List (List ℤ)) (m : List ℤ) (x v : ℕ) → IsLastChange h x v → value_of m x ≡ value_of (last_state h) x → IsLastChange (h ++ m ∷ []) x v
+pub change_stays : (h : List (List ℤ)) (m : List ℤ) (x v : ℕ) → IsLastChange h x v → state_value m x ≡ state_value (last_state h) x → IsLastChange (h ++ m ∷ []) x v
 change_stays h m x v k same = let inside = k.within in let more = longer h m in let at_v = state_before h m v inside in record {
   within = omega arith;
   since = λ n low high. dite (dec_lt n (length h))
-      (λ l. ap (λ s. value_of s x) (state_before h m n l) ∙ (k.since n low l ∙ ap (λ s. value_of s x) (sym at_v)))
-      (λ not. ap (λ s. value_of s x) (state_new h m n (omega arith)) ∙ (same ∙ (k.since (length h - 1) (omega arith) (omega arith) ∙ ap (λ s. value_of s x) (sym at_v))));
-  changed = λ up e. k.changed up (ap (λ s. value_of s x) (sym at_v) ∙ (e ∙ ap (λ s. value_of s x) (state_before h m (v - 1) (omega arith))));
+      (λ l. ap (λ s. state_value s x) (state_before h m n l) ∙ (k.since n low l ∙ ap (λ s. state_value s x) (sym at_v)))
+      (λ not. ap (λ s. state_value s x) (state_new h m n (omega arith)) ∙ (same ∙ (k.since (length h - 1) (omega arith) (omega arith) ∙ ap (λ s. state_value s x) (sym at_v))));
+  changed = λ up e. k.changed up (ap (λ s. state_value s x) (sym at_v) ∙ (e ∙ ap (λ s. state_value s x) (state_before h m (v - 1) (omega arith))));
 }
 
 -- no change is the last one before another
@@ -59,7 +59,7 @@ unlocked stamp at false e even = refl
 
 -- Why a read is right: where the version word of x is even and no later than the state rv, the value word is x in that state.
 pub fresh : (words : List ℕ) (c : Commit) (x rv : ℕ) → WordsMean words c → x < length c.values → rv < length c.history
-    → get_or words (version_word x) 0 % 2 ≡ 0 → get_or words (version_word x) 0 ≤ 2 * rv → cast_signed w64 (get_or words (value_word x) 0) ≡ value_of (state_of c.history rv) x
+    → get_or words (version_word x) 0 % 2 ≡ 0 → get_or words (version_word x) 0 ≤ 2 * rv → cast_signed w64 (get_or words (value_word x) 0) ≡ state_value (state_of c.history rv) x
 fresh words c x rv w inside low even early = let h = w.each x inside in
     let free : get_or c.locked x false ≡ false = unlocked (get_or words (version_word x) 0) (get_or c.versions x 0) (get_or c.locked x false) h.version even in
     let t = h.free free in let k = t.0 in let ok = k.within in let at : ℕ = get_or c.versions x 0 in
@@ -78,7 +78,7 @@ one_state P m h (suc n) l = absurd (omega arith)
 unchanged : (m : List ℤ) (x : ℕ) → IsLastChange (m ∷ []) x 0
 unchanged m x = record {
   within = omega arith;
-  since = λ n _ l. one_state (λ s. value_of s x ≡ value_of m x) m refl n l;
+  since = λ n _ l. one_state (λ s. state_value s x ≡ state_value m x) m refl n l;
   changed = λ l. absurd (omega arith);
 }
 
@@ -93,7 +93,7 @@ opened_sized m = (length-map m (λ _. 0), length-map m (λ _. false))
 
 -- the first words: the clock and the versions are 0, and the values are those of the state m
 pub opens : (m : List ℤ) (words : List ℕ) → length words ≡ 2 * length m + 1 → get_or words 0 0 ≡ 0
-    → ((x : ℕ) → x < length m → (get_or words (version_word x) 0 ≡ 0) × (cast_signed w64 (get_or words (value_word x) 0) ≡ value_of m x)) → WordsMean words (opened m)
+    → ((x : ℕ) → x < length m → (get_or words (version_word x) 0 ≡ 0) × (cast_signed w64 (get_or words (value_word x) 0) ≡ state_value m x)) → WordsMean words (opened m)
 opens m words wide clock each = record {
   wide = wide;
   sized = opened_sized m;

@@ -2,7 +2,7 @@
 -- word again.
 use Rattle.std.specs.Prelude.{◌≡◌, ◌≢◌, ◌⊎◌, ℕ, ◌+◌, ◌*◌, ◌%◌, ◌<◌, ◌≤◌, List, [], ◌∷◌, ◌++◌, length, slice_index, ℤ}
 use Rattle.std.specs.Int.{w64, cast_signed}
-use Rattle.txn_words.specs.Words.{value_of, state_of, version_word, value_word, StartsWith}
+use Rattle.txn_words.specs.Words.{state_value, state_of, version_word, value_word, StartsWith}
 
 -- It is changed by the reader's own loads alone.
 pub record PassRecord : Type 0 where
@@ -38,8 +38,8 @@ abbrev pub met : List (List ℤ) → PassRecord → PassRecord
 met h r = record r { seen = h; clock_loads = r.clock_loads + 1 }
 
 -- the value of x in the state of the last begin or extend
-abbrev pub value_at : PassRecord → ℕ → ℤ
-value_at r x = value_of (state_of r.seen r.rv) x
+abbrev pub seen_value : PassRecord → ℕ → ℤ
+seen_value r x = state_value (state_of r.seen r.rv) x
 
 -- the loads of a read show why it is stale: the first sampling was locked, or later than rv, or the two samplings differ
 abbrev pub ShowsStale : ℕ → List ℕ → Type 0
@@ -67,4 +67,4 @@ pub record ReaderHolds (words : List ℕ) (h : List (List ℤ)) (r : PassRecord)
   pub seen : StartsWith h r.seen
   pub began : r.rv < length r.seen
   pub sampling : SamplingHolds (slice_index words (version_word r.variable)) (slice_index words (value_word r.variable))
-      r.rv (value_at r r.variable) r.loads
+      r.rv (seen_value r r.variable) r.loads

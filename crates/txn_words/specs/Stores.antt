@@ -1,7 +1,7 @@
 -- The order of a commit's stores: lock each version word, store each value, move the clock, release each version word.
 use Rattle.std.specs.Prelude.{◌≡◌, ◌≢◌, ℕ, ◌+◌, ◌-◌, ◌<◌, true, false, List, [], ◌∷◌, ◌++◌, fold, map, length, slice_index, slice_index_or, slice_set, ℤ, pos}
 use Rattle.txn_programs.specs.declared.ast.VarId.{VarId}
-use Rattle.txn_words.specs.Words.{Commit, value_of, state_of, last_state}
+use Rattle.txn_words.specs.Words.{Commit, state_value, state_of, last_state}
 
 -- a variable, and its value from now on
 abbrev pub Change : Type 0
@@ -26,7 +26,7 @@ new_of changes i = (slice_index_or changes i no_change).1
 pub record AreChanges (m : List ℤ) (changes : List Change) : Type 0 where
   pub exist : (i : ℕ) → i < length changes → id_of changes i < length m
   pub ascend : (i j : ℕ) → i < j → j < length changes → id_of changes i < id_of changes j
-  pub differ : (i : ℕ) → i < length changes → new_of changes i ≢ value_of m (id_of changes i)
+  pub differ : (i : ℕ) → i < length changes → new_of changes i ≢ state_value m (id_of changes i)
 
 -- what was stored when the words are made: one state, m, whose number is 0
 abbrev pub opened : List ℤ → Commit
@@ -75,4 +75,4 @@ pub record MayRelease (c : Commit) (x : ℕ) : Type 0 where
   pub locked : slice_index_or c.locked x false ≡ true
   pub after_clock : c.storing ≡ false
   pub older : slice_index c.versions x < length c.history - 1
-  pub changed : value_of (last_state c.history) x ≢ value_of (state_of c.history (length c.history - 1 - 1)) x
+  pub changed : state_value (last_state c.history) x ≢ state_value (state_of c.history (length c.history - 1 - 1)) x

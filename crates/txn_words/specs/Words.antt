@@ -6,8 +6,8 @@ use Rattle.std.specs.Int.{w64, cast_signed}
 
 -- A state has a value for each variable. A history is the list of its states, the oldest first: the state of number n
 -- is the one at place n.
-abbrev pub value_of : List ℤ → ℕ → ℤ
-value_of m x = slice_index_or m x (pos 0)
+abbrev pub state_value : List ℤ → ℕ → ℤ
+state_value m x = slice_index_or m x (pos 0)
 
 abbrev pub state_of : List (List ℤ) → ℕ → List ℤ
 state_of h n = slice_index_or h n []
@@ -22,8 +22,8 @@ StartsWith h s = (rest : List (List ℤ)) × (h ≡ s ++ rest)
 -- v is the number of the last state at which x changed, 0 if it never did
 pub record IsLastChange (h : List (List ℤ)) (x v : ℕ) : Type 0 where
   pub within : v < length h
-  pub since : (n : ℕ) → v ≤ n → n < length h → value_of (state_of h n) x ≡ value_of (state_of h v) x
-  pub changed : 0 < v → value_of (state_of h v) x ≢ value_of (state_of h (v - 1)) x
+  pub since : (n : ℕ) → v ≤ n → n < length h → state_value (state_of h n) x ≡ state_value (state_of h v) x
+  pub changed : 0 < v → state_value (state_of h v) x ≢ state_value (state_of h (v - 1)) x
 
 abbrev pub version_word : ℕ → ℕ
 version_word x = 2 * x + 1
@@ -54,7 +54,7 @@ pub record Commit : Type 0 where
 pub record VariableMeans (stamp bits at : ℕ) (locked : Bool) (now : ℤ) (h : List (List ℤ)) (x : ℕ) : Type 0 where
   pub version : stamp ≡ 2 * at + (if locked then 1 else 0)
   pub value : cast_signed w64 bits ≡ now
-  pub free : locked ≡ false → IsLastChange h x at × (now ≡ value_of (last_state h) x)
+  pub free : locked ≡ false → IsLastChange h x at × (now ≡ state_value (last_state h) x)
 
 -- The clock is the number of the last state, and each other word holds what the commit stored there last.
 -- Unless a value is stored that is in no state yet, every value word, also of a locked variable, is in the last state.
@@ -67,4 +67,4 @@ pub record WordsMean (words : List ℕ) (c : Commit) : Type 0 where
   pub settled : c.storing ≡ false → c.values ≡ last_state c.history
   pub each : (x : ℕ) → x < length c.values
       → VariableMeans (slice_index words (version_word x)) (slice_index words (value_word x)) (slice_index c.versions x)
-      (slice_index_or c.locked x false) (value_of c.values x) c.history x
+      (slice_index_or c.locked x false) (state_value c.values x) c.history x

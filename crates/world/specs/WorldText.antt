@@ -5,7 +5,7 @@ use Rattle.std.specs.List.{flat_map}
 use Rattle.txn_programs.specs.declared.ast.TaskId.{TaskId}
 use Rattle.txn_programs.specs.declared.ast.VarId.{VarId}
 use Rattle.txn_programs.specs.Listing.{Listing}
-use Rattle.txn_words.specs.Words.{IsLastChange, last_state, value_of}
+use Rattle.txn_words.specs.Words.{IsLastChange, last_state, state_value}
 use Rattle.text_words.specs.Words.{line}
 use Rattle.text_report_printer.specs.Names.{variable_name}
 use Rattle.text_report_printer.specs.ReportText.{variable_lines}
@@ -17,7 +17,7 @@ use Rattle.world_law.specs.World.{Started, World}
 -- of so many variables the value in the last state, and the number of the last state that changed it
 pub record ArePresent (h : List (List ℤ)) (count : ℕ) (vars : List (ℤ × ℕ)) : Type 0 where
   pub all : length vars ≡ count
-  pub each : (x : ℕ) (v : ℤ × ℕ) → slice_get vars x ≡ Some v → (v.0 ≡ value_of (last_state h) x) × IsLastChange h x v.1
+  pub each : (x : ℕ) (v : ℤ × ℕ) → slice_get vars x ≡ Some v → (v.0 ≡ state_value (last_state h) x) × IsLastChange h x v.1
 
 abbrev pub fate_text : Fate → List ℕ
 fate_text Running = codes "running"

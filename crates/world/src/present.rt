@@ -1,7 +1,7 @@
 //! The values and the versions of the last state.
 
 ghost use Rattle.std.specs.Prelude.{◌≡◌, ◌<◌, ◌≤◌, IfOk, length, map};
-ghost use Rattle.txn_words.specs.Words.{IsLastChange, last_state, value_of};
+ghost use Rattle.txn_words.specs.Words.{IsLastChange, last_state, state_value};
 ghost use Rattle.world_events.specs.Inside.{state_items};
 ghost use Rattle.world.specs.WorldText.{ArePresent};
 
@@ -9,7 +9,7 @@ use std::alloc::{AllocError, Global};
 
 /// The value of a variable, 0 where there is no such variable.
 fn value_in(state: &Vec<i64>, x: usize) -> i64
-    ensures { result ≡ value_of state.now.items x }
+    ensures { result ≡ state_value state.now.items x }
 {
     state.get(x).copied().unwrap_or(0)
 }

@@ -5,7 +5,7 @@ use Rattle.std.proofs.lemmas.Option.{slice_get_within}
 use Rattle.txn_programs.specs.Listing.{Listing, task_program}
 use Rattle.txn_programs.specs.Meaning.{State, outcome, after}
 use Rattle.txn_programs.specs.Tree.{Program}
-use Rattle.txn_words.specs.Words.{Commit, WordsMean, value_of, state_of, last_state}
+use Rattle.txn_words.specs.Words.{Commit, WordsMean, state_value, state_of, last_state}
 use Rattle.txn_words.specs.Stores.{Change, with_changes, AreChanges}
 use Rattle.txn_words.specs.Loads.{SamplingHolds}
 use Rattle.txn_programs.specs.declared.ast.TaskId.{TaskId}
@@ -52,7 +52,7 @@ WasFirst rv (first ∷ more) = (first % 2 ≡ 0) × (first ≤ 2 * rv)
 -- what an attempt has loaded of x
 abbrev pub LoadedOf : World → ℕ → VarId → Loads → Type 0
 LoadedOf w rv x ls =
-    SamplingHolds (version_now w x) (value_now w x) rv (value_of (state_of w.history rv) x.0) (words_loaded ls) × WasFirst rv (words_loaded ls)
+    SamplingHolds (version_now w x) (value_now w x) rv (state_value (state_of w.history rv) x.0) (words_loaded ls) × WasFirst rv (words_loaded ls)
 
 abbrev pub LoadsHold : Listing → World → Started → Type 0
 LoadsHold k w y = (x : VarId) → wanted k y ≡ Some x → LoadedOf w (bound y) x y.loads

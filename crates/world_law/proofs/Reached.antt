@@ -7,7 +7,7 @@ use Rattle.std.specs.Ordering.{int_eq}
 use Rattle.std.proofs.lemmas.Bool.Decides.{Decides-int_eq}
 use Rattle.txn_programs.specs.Listing.{Listing, task_program}
 use Rattle.txn_programs.specs.Meaning.{State}
-use Rattle.txn_words.specs.Words.{WordsMean, value_of, state_of, value_word}
+use Rattle.txn_words.specs.Words.{WordsMean, state_value, state_of, value_word}
 use Rattle.txn_words.specs.Stores.{no_change, new_of, opened}
 use Rattle.txn_words.specs.Loads.{LoadedIs}
 use Rattle.txn_programs.specs.declared.ast.TaskId.{TaskId}
@@ -40,7 +40,7 @@ many (v ∷ m) (a ∷ []) h = absurd h
 many (v ∷ m) (a ∷ b ∷ words) h = let e = many m words h.2 in omega arith
 
 value_held : (m : State) (words : List ℕ) → HoldValues m words → (x : ℕ) → x < length m
-    → (get_or words (2 * x) 0 ≡ 0) × (cast_signed w64 (get_or words (2 * x + 1) 0) ≡ value_of m x)
+    → (get_or words (2 * x) 0 ≡ 0) × (cast_signed w64 (get_or words (2 * x + 1) 0) ≡ state_value m x)
 value_held [] words h x l = absurd (omega arith)
 value_held (v ∷ m) [] h x l = absurd h
 value_held (v ∷ m) (a ∷ []) h x l = absurd h
@@ -99,9 +99,9 @@ past_end (x ∷ l) zero d h = absurd (omega arith)
 past_end (x ∷ l) (suc i) d h = past_end l i d (omega arith)
 
 -- an even version word no later than the state rv: the value word is that of the state rv
-fresh_now : (k : Listing) (w : World) (h : Holds k w) (x : VarId) (rv : ℕ) → rv < length w.history → version_now w x % 2 ≡ 0 → version_now w x ≤ 2 * rv → cast_signed w64 (value_now w x) ≡ value_of (state_of w.history rv) x.0
+fresh_now : (k : Listing) (w : World) (h : Holds k w) (x : VarId) (rv : ℕ) → rv < length w.history → version_now w x % 2 ≡ 0 → version_now w x ≤ 2 * rv → cast_signed w64 (value_now w x) ≡ state_value (state_of w.history rv) x.0
 fresh_now k w h x rv low even early = let same = ap (λ (l : List State). length l) h.history in dite (dec_lt x.0 (length h.commit.values))
-    (λ inside. fresh w.words h.commit x.0 rv h.words inside (omega arith) even early ∙ ap (λ (l : List State). value_of (state_of l rv) x.0) h.history)
+    (λ inside. fresh w.words h.commit x.0 rv h.words inside (omega arith) even early ∙ ap (λ (l : List State). state_value (state_of l rv) x.0) h.history)
     (λ outside. let wide = h.words.wide in
     let size = h.words.states rv (omega arith) in
     let long : length (state_of w.history rv) ≤ x.0 = subst (λ (l : List State). length (state_of l rv) ≤ x.0) h.history (omega arith) in
@@ -164,9 +164,9 @@ loads_kept k w a i y x old new h r holds =
     (λ z wants. subst (λ (v : VarId). LoadedOf w (bound y) v new) (same_wanted k y x z r.0.1 wants) holds) (standing_of w a i y r.0.0)
 
 -- what a read that ends well has found
-read_is : (w : World) (rv first bits : ℕ) (x : VarId) → LoadedOf w rv x (loads.Value first bits) → version_now w x ≡ first → value_of (state_of w.history rv) x.0 ≡ cast_signed w64 bits
+read_is : (w : World) (rv first bits : ℕ) (x : VarId) → LoadedOf w rv x (loads.Value first bits) → version_now w x ≡ first → state_value (state_of w.history rv) x.0 ≡ cast_signed w64 bits
 read_is w rv first bits x s same =
-    let z : ℤ = value_of (state_of w.history rv) x.0 in
+    let z : ℤ = state_value (state_of w.history rv) x.0 in
     ⊎_elim (λ (t : first < version_now w x). absurd (omega arith))
     (λ (t : (cast_signed w64 (value_now w x) ≡ z) × (cast_signed w64 bits ≡ z)). sym t.1) (s.0.2 s.1.0 s.1.1)
 
@@ -270,7 +270,7 @@ next_holds k w w' (First a x) seen.Loaded sound h n = subst (Holds k) (sym n.5) 
     ((omega arith, omega arith, λ even low. inr (fresh_now k w h x (bound n.1) (let r = h.reads n.0 n.1 n.2.0.0.0 in bound_within w.history n.1.log n.1.rv n.1.check r.0 r.2) even low, tt)), (n.3, n.4)))
 next_holds k w w' (First a x) s sound h n = absurd n
 next_holds k w w' (Value a) seen.Idle sound h n = subst (Holds k) (sym n.1) h
-next_holds k w w' (Value a) seen.Loaded sound h n = subst (Holds k) (sym n.5) (let s = loads_of k w a n.0 n.2 n.3 (loads.Version n.1) h n.4 in let z : ℤ = value_of (state_of w.history (bound n.2)) n.3.0 in
+next_holds k w w' (Value a) seen.Loaded sound h n = subst (Holds k) (sym n.5) (let s = loads_of k w a n.0 n.2 n.3 (loads.Version n.1) h n.4 in let z : ℤ = state_value (state_of w.history (bound n.2)) n.3.0 in
     loads_kept k w a n.0 n.2 n.3 (loads.Version n.1) (loads.Value n.1 (value_now w n.3)) h n.4
     ((s.0.0, omega arith, λ even low. ⊎_elim (λ (t : n.1 < version_now w n.3). inl t) (λ (t : (cast_signed w64 (value_now w n.3) ≡ z) × LoadedIs z []). inr (t.0, t.0)) (s.0.2 even low)), s.1))
 next_holds k w w' (Value a) s sound h n = absurd n

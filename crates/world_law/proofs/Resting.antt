@@ -3,7 +3,7 @@ use Rattle.std.proofs.Common.{◌≡◌, ◌≢◌, ◌⊎◌, ℕ, zero, suc, �
 use mathlib.Core.Logic.{dite}
 use native.Mathlib.Decide.{ℕ_discrete}
 use lib.Seq.{take-length}
-use Rattle.txn_words.specs.Words.{Commit, value_of, state_of, last_state}
+use Rattle.txn_words.specs.Words.{Commit, state_value, state_of, last_state}
 use Rattle.txn_words.specs.Stores.{Change, no_change, id_of, new_of, with_changes, AreChanges}
 use Rattle.txn_words.proofs.Words.{last_pushed, state_before}
 use Rattle.world_law.specs.Commits.{RestsAt}
@@ -89,9 +89,9 @@ module _ (base : Commit) (n : ℕ) (cs : List Change) (r : RestsAt base n) (a : 
   abbrev then : List (List ℤ)
   then = base.history ++ with_changes base.values cs ∷ []
 
-  pub each_differs : (i : ℕ) → i < length cs → value_of (last_state then) (id_of cs i) ≢ value_of (state_of then (n + 1 - 1)) (id_of cs i)
-  each_differs i l e = let many = r.counted in a.differ i l (sym (each_stored i l) ∙ (ap (λ s. value_of s (id_of cs i)) (sym (last_pushed base.history (with_changes base.values cs)))
-      ∙ (e ∙ (ap (λ s. value_of s (id_of cs i)) (state_before base.history (with_changes base.values cs) (n + 1 - 1) (omega arith)) ∙ ap (λ (z : ℕ). value_of (state_of base.history z) (id_of cs i)) (omega arith)))))
+  pub each_differs : (i : ℕ) → i < length cs → state_value (last_state then) (id_of cs i) ≢ state_value (state_of then (n + 1 - 1)) (id_of cs i)
+  each_differs i l e = let many = r.counted in a.differ i l (sym (each_stored i l) ∙ (ap (λ s. state_value s (id_of cs i)) (sym (last_pushed base.history (with_changes base.values cs)))
+      ∙ (e ∙ (ap (λ s. state_value s (id_of cs i)) (state_before base.history (with_changes base.values cs) (n + 1 - 1) (omega arith)) ∙ ap (λ (z : ℕ). state_value (state_of base.history z) (id_of cs i)) (omega arith)))))
 
   pub longer_by_one : n + 1 + 1 ≡ length then
   longer_by_one = let many = r.counted in omega (arith, length-append base.history (with_changes base.values cs ∷ []))

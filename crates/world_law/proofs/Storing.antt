@@ -2,7 +2,7 @@
 use Rattle.std.proofs.Common.{◌≡◌, ◌≢◌, ℕ, ◌+◌, ◌-◌, ◌*◌, ◌<◌, ◌≤◌, Bool, true, false, if◌then◌else◌, List, [], ◌∷◌, ◌++◌, ℤ, length, take, get_or, set, sym, refl, ap, ◌∙◌, subst, arith}
 use lib.Seq.{take-length}
 use Rattle.std.specs.Int.{w64, cast_signed}
-use Rattle.txn_words.specs.Words.{Commit, WordsMean, value_of, state_of, last_state, version_word, value_word}
+use Rattle.txn_words.specs.Words.{Commit, WordsMean, state_value, state_of, last_state, version_word, value_word}
 use Rattle.txn_words.specs.Stores.{Change, id_of, new_of, with_changes, AreChanges, after_lock, after_value, after_clock, after_release}
 use Rattle.txn_words.proofs.Stores.{Keeps, lock_keeps, value_keeps, clock_keeps, release_keeps}
 use Rattle.world_law.specs.declared.events.Store.{Store}
@@ -111,8 +111,8 @@ module _ (base : Commit) (n : ℕ) (cs : List Change) (r : RestsAt base n) (a : 
       ∙ (sets_else (λ (_ : Change). false) (locked_by true base.locked cs) cs x false i (omega arith) apart ∙ each_locked base n cs r a i l) in
       let version : get_or c.versions x 0 ≡ get_or base.versions x 0 = ap (λ (b : List ℕ). get_or b x 0) e.versions ∙ sets_else (λ (_ : Change). n + 1) base.versions cs x 0 i (omega arith) apart in
       let old = r.past x in let long = ap (λ (h : List (List ℤ)). length h) e.history in let last : length c.history - 1 ≡ n + 1 = omega arith in
-      let differ : value_of (last_state c.history) x ≢ value_of (state_of c.history (length c.history - 1 - 1)) x =
-      subst (λ (z : List (List ℤ) × ℕ). value_of (last_state z.0) x ≢ value_of (state_of z.0 (z.1 - 1)) x) (λ j. (sym e.history j, sym last j)) (each_differs base n cs r a i l) in (
+      let differ : state_value (last_state c.history) x ≢ state_value (state_of c.history (length c.history - 1 - 1)) x =
+      subst (λ (z : List (List ℤ) × ℕ). state_value (last_state z.0) x ≢ state_value (state_of z.0 (z.1 - 1)) x) (λ j. (sym e.history j, sym last j)) (each_differs base n cs r a i l) in (
         release_keeps ws c x (2 * number) record { within = omega (arith, inside base n cs r a i l); locked = lock; after_clock = e.storing; older = omega arith; changed = differ } (omega arith) holds,
         Freeing (i + 1) (omega arith) (omega arith) record {
           history = e.history;

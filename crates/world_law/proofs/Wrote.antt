@@ -4,7 +4,7 @@ use mathlib.Core.Logic.{dite}
 use native.Mathlib.Decide.{ℕ_discrete, dec_lt}
 use Rattle.txn_programs.specs.Listing.{Listing}
 use Rattle.txn_programs.specs.Meaning.{State}
-use Rattle.txn_words.specs.Words.{Commit, value_of, state_of, last_state}
+use Rattle.txn_words.specs.Words.{Commit, state_value, state_of, last_state}
 use Rattle.txn_words.specs.Stores.{Change, with_changes}
 use Rattle.txn_words.specs.Loads.{SamplingHolds}
 use Rattle.txn_words.proofs.Words.{longer, state_before, state_new}
@@ -113,7 +113,7 @@ module _ (k : Listing) (w : World) (c : Committer) (s : Store) (ws : List ℕ) (
     );
     loads = λ i y at x needs. (
       sampling_stays _ _ _ _ (bound y) _ (went.0.1 x.0) (words_loaded y.loads)
-          (subst (λ (u : State). SamplingHolds (version_now w x) (value_now w x) (bound y) (value_of u x.0) (words_loaded y.loads))
+          (subst (λ (u : State). SamplingHolds (version_now w x) (value_now w x) (bound y) (state_value u x.0) (words_loaded y.loads))
           (sym (state_before w.history new (bound y) (let r = h.reads i y at in bound_within w.history y.log y.rv y.check r.0 r.2))) (h.loads i y at x needs).0),
       (h.loads i y at x needs).1,
     );

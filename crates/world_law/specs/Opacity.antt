@@ -3,7 +3,7 @@ use Rattle.std.specs.Prelude.{◌≡◌, ◌≢◌, ◌⊎◌, ℕ, ◌-◌, ◌
 use Rattle.std.specs.List.{slice_get}
 use Rattle.txn_programs.specs.Listing.{Listing, task_program}
 use Rattle.txn_programs.specs.Meaning.{State, outcome, after}
-use Rattle.txn_words.specs.Words.{Commit, WordsMean, state_of, value_of}
+use Rattle.txn_words.specs.Words.{Commit, WordsMean, state_of, state_value}
 use Rattle.txn_words.specs.Loads.{SamplingHolds}
 use Rattle.txn_programs.specs.declared.ast.VarId.{VarId}
 use Rattle.txn_programs.specs.declared.ast.Outcome.{Outcome}
@@ -63,7 +63,7 @@ pub record WordsFit (l : Listing) (w : World) : Type 0 where
   pub words : WordsMean w.words commit
   pub far : IsAsFar w.committer commit
   pub loads : (i : ℕ) (y : Started) (x : VarId) → slice_get w.attempts i ≡ Some y → wanted l y ≡ Some x
-      → SamplingHolds (version_now w x) (value_now w x) (bound y) (value_of (state_of w.history (bound y)) x.0) (words_loaded y.loads)
+      → SamplingHolds (version_now w x) (value_now w x) (bound y) (state_value (state_of w.history (bound y)) x.0) (words_loaded y.loads)
   -- the state that an attempt checks is one of the history, and so many of the pairs that it read are so in it
   pub checks : (i : ℕ) (y : Started) (c : Check) → slice_get w.attempts i ≡ Some y → y.check ≡ Some c
       → (c.candidate < length w.history) × Agrees (take c.checked y.log) (state_of w.history c.candidate)

@@ -7,7 +7,7 @@ use Rattle.txn_programs.specs.Meaning.{value_at, outcome, after}
 use Rattle.txn_programs.specs.declared.ast.VarId.{VarId}
 use Rattle.txn_programs.specs.declared.ast.Outcome.{Outcome}
 use Rattle.txn_programs.specs.declared.ast.Outcome.TheVariants.{Retries}
-use Rattle.txn_words.specs.Words.{state_of, last_state, value_of}
+use Rattle.txn_words.specs.Words.{state_of, last_state, state_value}
 use Rattle.attempt.specs.Asking.{Known, Ends}
 use Rattle.attempt.specs.Frame.{Agrees}
 use Rattle.world_law.specs.declared.events.Fate.TheVariants as fate
@@ -53,11 +53,11 @@ TasksCommitOnce w = (i j m n : ℕ) (y z : Started) → slice_get w.attempts i �
 -- while nobody commits, no variable is locked, and each value word has the value of the last state
 abbrev pub WordsAreTheLastState : World → Type 0
 WordsAreTheLastState w = (x : VarId) → w.committer ≡ None → x.0 < length (last_state w.history)
-    → (version_now w x % 2 ≡ 0) × (cast_signed w64 (value_now w x) ≡ value_of (last_state w.history) x.0)
+    → (version_now w x % 2 ≡ 0) × (cast_signed w64 (value_now w x) ≡ state_value (last_state w.history) x.0)
 
 -- the value that an attempt has loaded is that of the state that it reads, where the version word was free and no later than
 -- that state, and still is what it was
 abbrev pub LoadsAreOfTheState : Listing → World → Type 0
 LoadsAreOfTheState l w = (i first bits : ℕ) (y : Started) (x : VarId) → slice_get w.attempts i ≡ Some y → wanted l y ≡ Some x
     → y.loads ≡ loads.Value first bits → first % 2 ≡ 0 → first ≤ 2 * bound y → version_now w x ≡ first
-    → cast_signed w64 bits ≡ value_of (state_of w.history (bound y)) x.0
+    → cast_signed w64 bits ≡ state_value (state_of w.history (bound y)) x.0

@@ -4,7 +4,7 @@
 use crate::parts::{X, catalogue};
 use std::alloc::Global;
 use std::process::Abort;
-use txn::TaskId;
+use txn::{Catalogue, TaskId};
 use world::World;
 use world_law::{Event, Seen};
 
@@ -43,12 +43,21 @@ fn go_on(rt: &impl Abort, world: &mut World<'_>) {
 
 fn play(rt: &impl Abort, alloc: Global, goes_on: bool) {
     let catalogue = catalogue(rt, alloc, FILE);
-    let Ok(mut world) = World::open(alloc, &catalogue) else {
-        panic!(rt; "no world")
-    };
-    begin(rt, &mut world);
+    play_over(rt, alloc, &catalogue, goes_on);
+}
+
+/// The same in a world of this catalogue.
+fn play_over(rt: &impl Abort, alloc: Global, catalogue: &Catalogue, goes_on: bool) {
+    match World::open(alloc, catalogue) {
+        Ok(mut world) => play_in(rt, &mut world, goes_on),
+        Err(_) => panic!(rt; "no world"),
+    }
+}
+
+fn play_in(rt: &impl Abort, world: &mut World<'_>, goes_on: bool) {
+    begin(rt, world);
     if goes_on {
-        go_on(rt, &mut world);
+        go_on(rt, world);
     }
 }
 

@@ -8,8 +8,7 @@ use txn::{Catalogue, TaskId, VarId};
 use world::World;
 use world_law::{Event, Seen};
 
-/// A world of 256 variables opens, nine attempts begin in it, and its last lines are put behind
-/// another text.
+/// A world of 256 variables opens, nine attempts begin in it, and it tells them.
 fn tells_nine(rt: &impl Abort, alloc: Global, catalogue: &Catalogue) {
     let Ok(mut world) = World::open(alloc, catalogue) else {
         panic!(rt; "no world")
@@ -18,6 +17,11 @@ fn tells_nine(rt: &impl Abort, alloc: Global, catalogue: &Catalogue) {
         let seen = world.step(Event::Begin(TaskId(task)));
         assert!(rt; seen == Ok(Seen::Needs(VarId(255))));
     }
+    has_nine_lines(rt, alloc, &world);
+}
+
+/// The last lines of that world are put behind another text.
+fn has_nine_lines(rt: &impl Abort, alloc: Global, world: &World<'_>) {
     let mut text = String::new(alloc);
     assert!(rt; text.push_str("9 needs v255\n").is_ok());
     assert!(rt; world.put_text(&mut text) == Ok(()));

@@ -39,27 +39,39 @@ pub(crate) fn expect(rt: &(impl Abort + Eprint), alloc: Global, text: &str, scri
 
 /// Whether the events in one run leave the text that they leave one by one.
 fn runs_alike(alloc: Global, catalogue: &Catalogue, steps: &[(Event, Seen)]) -> bool {
-    let (Ok(mut stepped), Ok(mut run)) = (
-        World::open(alloc, catalogue),
-        World::open(alloc, catalogue),
-    ) else {
-        return false;
-    };
+    match text_of_run(alloc, catalogue, steps) {
+        Some(text) => steps_to(alloc, catalogue, steps, text.as_str()),
+        None => false,
+    }
+}
+
+/// The last lines of a world behind the events in one run.
+fn text_of_run(alloc: Global, catalogue: &Catalogue, steps: &[(Event, Seen)]) -> Option<String> {
     let mut events = Vec::new(alloc);
     for (event, _) in steps {
-        if stepped.step(*event).is_err() || events.push(*event).is_err() {
+        events.push(*event).ok()?;
+    }
+    let mut world = World::open(alloc, catalogue).ok()?;
+    world.run(events.as_slice()).ok()?;
+    world.text().ok()
+}
+
+/// Whether the events one by one leave these last lines.
+fn steps_to(alloc: Global, catalogue: &Catalogue, steps: &[(Event, Seen)], text: &str) -> bool {
+    match World::open(alloc, catalogue) {
+        Ok(mut world) => are_stepped(&mut world, steps) && has_text(&world, text),
+        Err(_) => false,
+    }
+}
+
+/// Whether none of the events is refused.
+fn are_stepped(world: &mut World<'_>, steps: &[(Event, Seen)]) -> bool {
+    for (event, _) in steps {
+        if world.step(*event).is_err() {
             return false;
         }
     }
-    run.run(events.as_slice()) == Ok(()) && have_one_text(&stepped, &run)
-}
-
-/// Whether the last lines of both worlds are the same.
-fn have_one_text(first: &World<'_>, second: &World<'_>) -> bool {
-    match (first.text(), second.text()) {
-        (Ok(first), Ok(second)) => first.as_str() == second.as_str(),
-        _ => false,
-    }
+    true
 }
 
 /// Opens a world of the catalogue, and follows the script.

@@ -1,4 +1,4 @@
-use Rattle.std.proofs.Common.{◌≡◌, ◌<◌, ◌≤◌, ◌∙◌, List, ap, arith, length, map, String, Global, subst, sym, true}
+use Rattle.std.proofs.Common.{◌≡◌, ◌≢◌, ◌<◌, ◌≤◌, Result, Ok, Err, ◌∙◌, List, ap, arith, length, map, String, Global, refl, subst, sym, true}
 use Rattle.txn_programs.specs.Code.{program_code}
 use Rattle.txn_programs.specs.Fused.{machine_code}
 use Rattle.txn_programs.specs.Limits.{program_fits, conditions_fit}
@@ -9,7 +9,11 @@ use Rattle.txn_programs.specs.Tree.{Program, condition_of, transaction_of}
 use Rattle.txn_programs.specs.declared.ast.Cond.{Cond}
 use Rattle.txn_programs.specs.declared.ast.Tx.{Tx}
 use Rattle.txn_programs.specs.declared.ast.TxId.{TxId}
+use Rattle.txn_programs.specs.declared.ast.VarId.{VarId}
+use Rattle.txn_programs.specs.declared.ast.Outcome.{Outcome}
 use Rattle.txn_programs.proofs.Lawful.{limits_parts}
+use Rattle.attempt_machine.specs.declared.found.Found.{Found}
+use Rattle.attempt_machine.specs.declared.found.Found.TheVariants as found
 use Rattle.attempt_machine.specs.Room.{AreDeclared}
 use Rattle.attempt_machine.proofs.Declared.{program_fitting, conditions_fitting, program_known}
 use Rattle.attempt_machine.proofs.Stores.{program_declared}
@@ -21,14 +25,21 @@ use Rattle.attempt.proofs.Reading.{reads_known}
 use Rattle.attempt.proofs.Under.{same_program, same_code}
 use Rattle.attempt.proofs.running.go_on.Goals as goal
 
+-- what ended, or met want of memory, needs no variable
+end_needs_none : {E : Type 0} (r : Result Found E) (o : Outcome) (x : VarId) → r ≡ Ok (found.End o) → r ≢ Ok (found.Need x)
+end_needs_none r o x e f = cc
+
+short_needs_none : {E : Type 0} (r : Result Found E) (short : E) (x : VarId) → r ≡ Err short → r ≢ Ok (found.Need x)
+short_needs_none r short x e f = cc
+
 pub run-requires-clause-code : goal.run-requires-clause-code
-run-requires-clause-code c =
+run-requires-clause-code g c =
     let l = c.args.catalogue.now in
     let same = same_program l c.args.id c.always-always.result.now c.tx-tx.result.now c.always-always.ensures.conditions c.tx-tx.ensures.value in
     same_code l c.args.id c.code-own.result.now c.ending-ending.result.now c.code-own.ensures.value c.ending-ending.ensures.value ∙ ap machine_code (sym same)
 
 pub run-requires-clause-declared : goal.run-requires-clause-declared
-run-requires-clause-declared c =
+run-requires-clause-declared g c =
     let l = c.args.catalogue.now in
     let few = (limits_parts l c.rules.ensures.limits).variables in
     let most : length l.initial ≤ 256 = omega (arith, few, c.rules.ensures.named) in
@@ -37,13 +48,13 @@ run-requires-clause-declared c =
     subst (λ (t : Program). AreDeclared (program_code t)) (sym same) (program_declared (length l.initial) most (program_at l c.args.id) known)
 
 pub run-requires-clause-fits : goal.run-requires-clause-fits
-run-requires-clause-fits c =
+run-requires-clause-fits g c =
     let l = c.args.catalogue.now in
     let same = same_program l c.args.id c.always-always.result.now c.tx-tx.result.now c.always-always.ensures.conditions c.tx-tx.ensures.value in
     subst (λ (t : Program). program_fits t ≡ true) (sym same) (program_fitting l c.args.id c.rules.ensures.limits c.requires.declared)
 
 pub run-requires-clause-conditions : goal.run-requires-clause-conditions
-run-requires-clause-conditions c =
+run-requires-clause-conditions g c =
     let l = c.args.catalogue.now in
     let same = same_program l c.args.id c.always-always.result.now c.tx-tx.result.now c.always-always.ensures.conditions c.tx-tx.ensures.value in
     subst (λ (t : Program). conditions_fit t.always ≡ true) (sym same) (conditions_fitting l c.args.id c.rules.ensures.limits)
@@ -56,25 +67,34 @@ logged l id always tx m earlier later conditions is names named declared reads k
     reads_known (length l.initial) (program_at l id) m earlier later (program_known l id names named declared) (subst (λ (t : Program). ReadsOn t m earlier later) same reads) known apart
 
 pub returns-in-Ok-Need-clause-known : goal.returns-in-Ok-Need-clause-known
-returns-in-Ok-Need-clause-known c =
-    (logged c.args.catalogue.now c.args.id c.always-always.result.now c.tx-tx.result.now c.args.values.now c.args.log.now c.run.new.log c.always-always.ensures.conditions c.tx-tx.ensures.value c.rules.ensures.names c.rules.ensures.named c.requires.declared c.run.ensures.reads c.requires.known c.requires.apart).0
+returns-in-Ok-Need-clause-known g c =
+    (logged c.args.catalogue.now c.args.id c.always-always.result.now c.tx-tx.result.now (g.R.Reader.values c.args.reader.now) c.args.log.now c.run.new.log c.always-always.ensures.conditions c.tx-tx.ensures.value c.rules.ensures.names c.rules.ensures.named c.requires.declared c.run.ensures.reads c.requires.known c.requires.apart).0
 
 pub returns-in-Ok-Need-clause-apart : goal.returns-in-Ok-Need-clause-apart
-returns-in-Ok-Need-clause-apart c =
-    (logged c.args.catalogue.now c.args.id c.always-always.result.now c.tx-tx.result.now c.args.values.now c.args.log.now c.run.new.log c.always-always.ensures.conditions c.tx-tx.ensures.value c.rules.ensures.names c.rules.ensures.named c.requires.declared c.run.ensures.reads c.requires.known c.requires.apart).1
+returns-in-Ok-Need-clause-apart g c =
+    (logged c.args.catalogue.now c.args.id c.always-always.result.now c.tx-tx.result.now (g.R.Reader.values c.args.reader.now) c.args.log.now c.run.new.log c.always-always.ensures.conditions c.tx-tx.ensures.value c.rules.ensures.names c.rules.ensures.named c.requires.declared c.run.ensures.reads c.requires.known c.requires.apart).1
 
 pub returns-in-Ok-End-clause-known : goal.returns-in-Ok-End-clause-known
-returns-in-Ok-End-clause-known c =
-    (logged c.args.catalogue.now c.args.id c.always-always.result.now c.tx-tx.result.now c.args.values.now c.args.log.now c.run.new.log c.always-always.ensures.conditions c.tx-tx.ensures.value c.rules.ensures.names c.rules.ensures.named c.requires.declared c.run.ensures.reads c.requires.known c.requires.apart).0
+returns-in-Ok-End-clause-known g c =
+    (logged c.args.catalogue.now c.args.id c.always-always.result.now c.tx-tx.result.now (g.R.Reader.values c.args.reader.now) c.args.log.now c.run.new.log c.always-always.ensures.conditions c.tx-tx.ensures.value c.rules.ensures.names c.rules.ensures.named c.requires.declared c.run.ensures.reads c.requires.known c.requires.apart).0
 
 pub returns-in-Ok-End-clause-apart : goal.returns-in-Ok-End-clause-apart
-returns-in-Ok-End-clause-apart c =
-    (logged c.args.catalogue.now c.args.id c.always-always.result.now c.tx-tx.result.now c.args.values.now c.args.log.now c.run.new.log c.always-always.ensures.conditions c.tx-tx.ensures.value c.rules.ensures.names c.rules.ensures.named c.requires.declared c.run.ensures.reads c.requires.known c.requires.apart).1
+returns-in-Ok-End-clause-apart g c =
+    (logged c.args.catalogue.now c.args.id c.always-always.result.now c.tx-tx.result.now (g.R.Reader.values c.args.reader.now) c.args.log.now c.run.new.log c.always-always.ensures.conditions c.tx-tx.ensures.value c.rules.ensures.names c.rules.ensures.named c.requires.declared c.run.ensures.reads c.requires.known c.requires.apart).1
 
 pub returns-in-Err-clause-known : goal.returns-in-Err-clause-known
-returns-in-Err-clause-known c =
-    (logged c.args.catalogue.now c.args.id c.always-always.result.now c.tx-tx.result.now c.args.values.now c.args.log.now c.run.new.log c.always-always.ensures.conditions c.tx-tx.ensures.value c.rules.ensures.names c.rules.ensures.named c.requires.declared c.run.ensures.reads c.requires.known c.requires.apart).0
+returns-in-Err-clause-known g c =
+    (logged c.args.catalogue.now c.args.id c.always-always.result.now c.tx-tx.result.now (g.R.Reader.values c.args.reader.now) c.args.log.now c.run.new.log c.always-always.ensures.conditions c.tx-tx.ensures.value c.rules.ensures.names c.rules.ensures.named c.requires.declared c.run.ensures.reads c.requires.known c.requires.apart).0
 
 pub returns-in-Err-clause-apart : goal.returns-in-Err-clause-apart
-returns-in-Err-clause-apart c =
-    (logged c.args.catalogue.now c.args.id c.always-always.result.now c.tx-tx.result.now c.args.values.now c.args.log.now c.run.new.log c.always-always.ensures.conditions c.tx-tx.ensures.value c.rules.ensures.names c.rules.ensures.named c.requires.declared c.run.ensures.reads c.requires.known c.requires.apart).1
+returns-in-Err-clause-apart g c =
+    (logged c.args.catalogue.now c.args.id c.always-always.result.now c.tx-tx.result.now (g.R.Reader.values c.args.reader.now) c.args.log.now c.run.new.log c.always-always.ensures.conditions c.tx-tx.ensures.value c.rules.ensures.names c.rules.ensures.named c.requires.declared c.run.ensures.reads c.requires.known c.requires.apart).1
+
+pub returns-in-Ok-Need-clause-open : goal.returns-in-Ok-Need-clause-open
+returns-in-Ok-Need-clause-open g c = λ h e. absurd (h c.in-Ok-Need.x refl)
+
+pub returns-in-Ok-End-clause-open : goal.returns-in-Ok-End-clause-open
+returns-in-Ok-End-clause-open g c = λ h. c.run.ensures.open (λ x. end_needs_none _ _ x (c.in-Ok-End.is ∙ ap Ok c.in-Ok-End.field-0-is))
+
+pub returns-in-Err-clause-open : goal.returns-in-Err-clause-open
+returns-in-Err-clause-open g c = λ h. c.run.ensures.open (λ x. short_needs_none _ _ x c.in-Err.is)

@@ -1,5 +1,5 @@
 use Rattle.std.proofs.Common.{◌≡◌, ◌≢◌, ℕ, ◌+◌, ◌-◌, true, false, List, take, length, set, get_or, sym, refl, ap, ◌∙◌, subst, arith}
-use Rattle.txn_words.specs.Words.{Commit, value_of, state_of, last_state}
+use Rattle.txn_words.specs.Words.{Commit, state_value, state_of, last_state}
 use Rattle.txn_words.specs.Stores.{Change, id_of, after_release, MayRelease}
 use Rattle.cells.specs.Sight.{Sight, publishing, commit_of}
 use Rattle.cells.specs.Private.{locked_by, numbered_by, all_released}
@@ -29,7 +29,7 @@ release_version-requires-clause-may c =
       locked = lock;
       after_clock = c.requires.moved;
       older = let old = c.requires.versions.2 x in omega arith;
-      changed = subst (λ (z : ℕ). value_of (last_state r.history) x ≢ value_of (state_of r.history (z - 1)) x) (omega arith) (c.requires.changed k (omega arith));
+      changed = subst (λ (z : ℕ). state_value (last_state r.history) x ≢ state_value (state_of r.history (z - 1)) x) (omega arith) (c.requires.changed k (omega arith));
     }
 
 pub release_version-requires-clause-number : goal.release_version-requires-clause-number

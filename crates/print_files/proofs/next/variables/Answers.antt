@@ -3,11 +3,11 @@ use Rattle.std.proofs.lemmas.Option.{slice_get-get_or}
 use Rattle.print_files.proofs.Moved.{moved}
 use Rattle.print_files.proofs.next.variables.Goals as goal
 
-abbrev name_of : String Global × ℤ → List ℕ
-name_of v = string_bytes v.0
+abbrev pair_name : String Global × ℤ → List ℕ
+pair_name v = string_bytes v.0
 
-abbrev value_of : String Global × ℤ → ℤ
-value_of v = v.1
+abbrev pair_value : String Global × ℤ → ℤ
+pair_value v = v.1
 
 pub vars-preserved : goal.vars-preserved
 vars-preserved c =
@@ -18,8 +18,8 @@ vars-preserved c =
     let v = c.in_ok-variable.variable in
     let pushed : c.push.new.self.items ≡ made ++ v ∷ [] = c.in_ok-push.ensures.items in
     record {
-      names = ap (λ xs. map name_of xs ++ drop (i + 1) names) pushed
-          ∙ moved name_of made names i v c.var_name.result.now names c.var_name.ensures c.in_ok-variable.ensures.name c.vars.invariant.names;
-      values = ap (λ xs. map value_of xs ++ drop (i + 1) values) pushed
-          ∙ moved value_of made values i v v.1 values (slice_get-get_or values i (pos 0) c.vars-test.true ∙ ap (λ (z : ℤ). Some z) (sym c.in_ok-variable.ensures.value)) refl c.vars.invariant.values;
+      names = ap (λ xs. map pair_name xs ++ drop (i + 1) names) pushed
+          ∙ moved pair_name made names i v c.var_name.result.now names c.var_name.ensures c.in_ok-variable.ensures.name c.vars.invariant.names;
+      values = ap (λ xs. map pair_value xs ++ drop (i + 1) values) pushed
+          ∙ moved pair_value made values i v v.1 values (slice_get-get_or values i (pos 0) c.vars-test.true ∙ ap (λ (z : ℤ). Some z) (sym c.in_ok-variable.ensures.value)) refl c.vars.invariant.values;
     }

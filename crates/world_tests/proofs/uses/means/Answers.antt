@@ -3,7 +3,7 @@ use Rattle.std.specs.Prelude.{slice_index}
 use Rattle.std.specs.Int.{w64, cast_signed}
 use Rattle.txn_programs.specs.Listing.{Listing}
 use Rattle.txn_programs.specs.declared.ast.VarId.{VarId}
-use Rattle.txn_words.specs.Words.{state_of, last_state, value_of}
+use Rattle.txn_words.specs.Words.{state_of, last_state, state_value}
 use Rattle.txn_words.specs.Loads.{SamplingHolds, LoadedIs}
 use Rattle.world_law.specs.declared.events.Loads.{Loads}
 use Rattle.world_law.specs.World.{Committer, World, bound, version_now, value_now, words_loaded}
@@ -20,11 +20,11 @@ last l w f x none low =
     let each = f.words.each x.0 (omega (arith, size, low)) in
     let at : ℕ = slice_index f.commit.versions x.0 in
     let version : version_now w x ≡ 2 * at + 0 = each.version ∙ ap (λ (b : Bool). 2 * at + (if b then 1 else 0)) (rest.1.free x.0) in
-    (omega (arith, version), each.value ∙ ap (λ (m : List ℤ). value_of m x.0) values)
+    (omega (arith, version), each.value ∙ ap (λ (m : List ℤ). state_value m x.0) values)
 
 of_state : (l : Listing) (w : World) → WordsFit l w → LoadsAreOfTheState l w
 of_state l w f i first bits y x at wants is even low same =
-    let z : ℤ = value_of (state_of w.history (bound y)) x.0 in
+    let z : ℤ = state_value (state_of w.history (bound y)) x.0 in
     let s = subst (λ (o : Loads). SamplingHolds (version_now w x) (value_now w x) (bound y) z (words_loaded o)) is (f.loads i y x at wants) in
     ⊎_elim (λ (t : first < version_now w x). absurd (omega (arith, t, same)))
     (λ (t : (cast_signed w64 (value_now w x) ≡ z) × (cast_signed w64 bits ≡ z)). t.1) (s.2 even low)

@@ -1,11 +1,22 @@
-use Rattle.std.proofs.Common.{◌≡◌, ◌+◌, ◌-◌, ◌∙◌, ap, arith, length, length-append, refl, subst, sym}
+use Rattle.std.proofs.Common.{◌≡◌, ◌≢◌, ◌+◌, ◌-◌, ◌∙◌, ap, arith, length, length-append, refl, subst, sym}
 use Rattle.attempt_machine.specs.declared.machine.Machine.{Machine}
+use Rattle.txn_programs.specs.declared.ast.Outcome.{Outcome}
+use Rattle.txn_programs.specs.declared.ast.VarId.{VarId}
+use Rattle.attempt.specs.declared.next.Stand.{Stand}
+use Rattle.attempt.specs.declared.next.Stand.TheVariants as stand
 use Rattle.attempt.specs.View.{AttemptView}
 use Rattle.attempt.proofs.Lawful.{Settles, went_on}
 use Rattle.attempt.proofs.attempt.Attempt.go_on.Goals as goal
 
+-- what ended, or met want of memory, needs no variable
+over_needs_none : (s : Stand) (o : Outcome) (x : VarId) → s ≡ stand.Over o → s ≢ stand.Needs x
+over_needs_none s o x e f = cc
+
+spent_needs_none : (s : Stand) (x : VarId) → s ≡ stand.Spent → s ≢ stand.Needs x
+spent_needs_none s x e f = cc
+
 pub invariant_of-self : goal.invariant_of-self
-invariant_of-self c =
+invariant_of-self g c =
     let i = c.self.inside in
     let m = c.go_on-stand.new.m in
     let count = c.go_on-stand.new.count in
@@ -17,7 +28,7 @@ invariant_of-self c =
     went_on i c.go_on-stand.result m m count log _ _ c.self.invariant (ap (λ (b : AttemptView). b.stand) c.self.view_is ∙ c.requires.fresh) refl read c.go_on-stand.ensures.known c.go_on-stand.ensures.apart c.go_on-stand.ensures.stops c.go_on-stand.ensures.few c.go_on-stand.ensures.more settles
 
 pub invariant_of-self-in-Over : goal.invariant_of-self-in-Over
-invariant_of-self-in-Over c =
+invariant_of-self-in-Over g c =
     let i = c.self.inside in
     let m = c.go_on-stand.new.m in
     let after : Machine = record { at = m.at; stack = m.stack; loops = m.loops; own = c.settle.new.self; end = m.end } in
@@ -28,3 +39,12 @@ invariant_of-self-in-Over c =
     let read : length i.log + (c.len-in_all.result - c.len-logged.result) ≡ length log = omega (arith, grown, c.len-in_all.ensures.value, c.len-logged.ensures.value) in
     let settles = subst (λ s. Settles s m after) (sym c.in-Over.is) c.settle.ensures.pairs in
     went_on i c.go_on-stand.result m after count log _ _ c.self.invariant (ap (λ (b : AttemptView). b.stand) c.self.view_is ∙ c.requires.fresh) refl read c.go_on-stand.ensures.known c.go_on-stand.ensures.apart c.go_on-stand.ensures.stops c.go_on-stand.ensures.few c.go_on-stand.ensures.more settles
+
+pub returns-in-Needs-clause-open : goal.returns-in-Needs-clause-open
+returns-in-Needs-clause-open g c = λ h e. absurd (h c.in-Needs.x refl)
+
+pub returns-in-Over-clause-open : goal.returns-in-Over-clause-open
+returns-in-Over-clause-open g c = λ h. c.go_on-stand.ensures.open (λ x. over_needs_none _ _ x c.in-Over.is)
+
+pub returns-in-Spent-clause-open : goal.returns-in-Spent-clause-open
+returns-in-Spent-clause-open g c = λ h. c.go_on-stand.ensures.open (λ x. spent_needs_none _ x c.in-Spent.is)

@@ -1,8 +1,8 @@
 use Rattle.std.proofs.Common.{◌≡◌, ℕ, ◌+◌, ◌*◌, ◌%◌, ◌≤◌, [], ◌∷◌, length, sym, refl, ap, ◌∙◌, subst, inl, inr, arith}
 use Rattle.std.specs.Int.{w64, cast_signed, cast_unsigned}
 use Rattle.std.proofs.lemmas.Int.{of_z-to_z}
-use Rattle.txn_words.specs.Words.{value_of}
-use Rattle.txn_words.specs.Loads.{PassRecord, sampled, loaded, value_at, ShowsStale}
+use Rattle.txn_words.specs.Words.{state_value}
+use Rattle.txn_words.specs.Loads.{PassRecord, sampled, loaded, seen_value, ShowsStale}
 use Rattle.cells.specs.Sight.{Sight, reading, record_of}
 use Rattle.cells.specs.Cells.{CellsId}
 use Rattle.cells.specs.Passing.{Passing, at}
@@ -175,8 +175,8 @@ returns-clause-answer c =
     let seat3 = c.load_version_again-second.new.seat in let second : ℕ = c.load_version_again-second.result in let r3 : PassRecord = loaded second r2 in
     let place3 = c.load_version_again-second.ensures.seat.0 ∙ place2 in let is3 : seat3.me.0 ≡ reading r3 = c.load_version_again-second.ensures.told.0 ∙ ap (λ (d : Sight). reading (loaded second (record_of d))) is2 in
     let rv : r0.rv ≡ c.self.inside.rv = c.self.invariant.1 in let same : second ≡ first = c.if-second-first.false in let even = c.if-first-ne0.false in let early = c.if-first-self.false in
-    let tells = subst (λ (d : Sight). (v : ℕ) → (record_of d).loads ≡ second ∷ v ∷ [] → second % 2 ≡ 0 → second ≤ 2 * (record_of d).rv → cast_signed w64 v ≡ value_at (record_of d) (record_of d).variable) is2 c.load_version_again-second.ensures.told.1 in
-    let found : cast_signed w64 value ≡ value_at r0 x = tells value (λ i. sym same i ∷ value ∷ []) (omega arith) (omega arith) in
+    let tells = subst (λ (d : Sight). (v : ℕ) → (record_of d).loads ≡ second ∷ v ∷ [] → second % 2 ≡ 0 → second ≤ 2 * (record_of d).rv → cast_signed w64 v ≡ seen_value (record_of d) (record_of d).variable) is2 c.load_version_again-second.ensures.told.1 in
+    let found : cast_signed w64 value ≡ seen_value r0 x = tells value (λ i. sym same i ∷ value ∷ []) (omega arith) (omega arith) in
     let result : cast_signed w64 (cast_unsigned w64 c.cast_signed.result) ≡ cast_signed w64 value = ap (cast_signed w64) (ap (cast_unsigned w64) c.cast_signed.ensures ∙ of_z-to_z w64 value c.load_value-value.type_inv) in
-    let seen_same : value_at r0 x ≡ value_of (at c.args.self.now) x = ap (λ (p : Passing). value_of (at p) x) c.self.view_is in
+    let seen_same : seen_value r0 x ≡ state_value (at c.args.self.now) x = ap (λ (p : Passing). state_value (at p) x) c.self.view_is in
     (result ∙ (found ∙ seen_same), subst (λ (d : Sight). length (record_of d).loads ≡ 3) (sym is3) refl, refl)

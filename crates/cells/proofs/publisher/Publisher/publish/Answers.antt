@@ -1,5 +1,5 @@
 use Rattle.std.proofs.Common.{rules, ◌≡◌, ◌≢◌, ℕ, ◌+◌, ◌-◌, ◌<◌, [], ◌∷◌, ◌++◌, Bool, true, false, List, ℤ, length, get_or, sym, ap, ◌∙◌, subst, arith}
-use Rattle.txn_words.specs.Words.{Commit, value_of, state_of, last_state}
+use Rattle.txn_words.specs.Words.{Commit, state_value, state_of, last_state}
 use Rattle.txn_words.specs.Stores.{Change, AreChanges, with_changes, id_of, after_clock}
 use Rattle.cells.specs.Sight.{publishing, commit_of}
 use Rattle.cells.specs.Cells.{CellsId}
@@ -105,7 +105,7 @@ release_all-requires-clause-changed c =
     let e2 : commit_of c.store_all.new.seat.me.0 ≡ stored c0 cs b = ap commit_of is2 in
     let is3 : c.store_clock.new.seat.me.0 ≡ publishing (counted c0 cs) = c.store_clock.ensures.told ∙ ap (λ (z : Commit). publishing (after_clock z)) e2 in
     let e3 : commit_of c.store_clock.new.seat.me.0 ≡ counted c0 cs = ap commit_of is3 in
-    subst (λ (z : Commit). (i : ℕ) → i < length cs → value_of (last_state z.history) (id_of cs i) ≢ value_of (state_of z.history (n + 1 - 1)) (id_of cs i)) (sym e3) (each_differs c0 n vs cs r a)
+    subst (λ (z : Commit). (i : ℕ) → i < length cs → state_value (last_state z.history) (id_of cs i) ≢ state_value (state_of z.history (n + 1 - 1)) (id_of cs i)) (sym e3) (each_differs c0 n vs cs r a)
 
 pub release_all-requires-clause-versions : goal.release_all-requires-clause-versions
 release_all-requires-clause-versions c =

@@ -1,7 +1,0 @@
-//! Tests of schedules explained.
-#![tactic(auto)]
-
-#[cfg(test)]
-mod kinds;
-#[cfg(test)]
-mod long;

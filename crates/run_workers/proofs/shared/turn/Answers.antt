@@ -1,0 +1,11 @@
+use Rattle.std.proofs.Common.{◌∙◌}
+use Rattle.run_workers.proofs.Journals.{serial_short}
+use Rattle.run_workers.proofs.shared.turn.Goals as goal
+
+pub invariant_of-named : goal.invariant_of-named
+invariant_of-named g c =
+    let named = c.args.named.now in
+    record {
+      of_catalogue = c.keep_short.ensures.catalogue ∙ (c.serial_lent-how.ensures.catalogue ∙ named.of_catalogue);
+      short = serial_short c.args.every g.N.Naming.every c.requires.every named.book c.law.ensures.lawful named.short _ _ c.args.task c.serial_lent-how.result c.serial_lent-how.ensures.served c.keep_short.ensures.kept_short;
+    }

@@ -1,0 +1,14 @@
+use Rattle.std.proofs.Common.{◌≡◌, ◌-◌, true, length}
+use Rattle.cells.specs.Passing.{at}
+use Rattle.attempt.proofs.Logs.{Going}
+use Rattle.run_observer.proofs.Seeing.{Moving}
+use Rattle.run_workers.proofs.trying.attempt_held.Given as goal
+
+abbrev pub invariant-loop-x : goal.invariant-loop-x
+invariant-loop-x g l =
+    Going l.catalogue l.fn.tx (at l.pass) l.attempt
+    × Moving l.fn.pass l.pass (length l.attempt.log)
+    × (l.pass.open_now ≡ true)
+
+abbrev pub decreases-loop-x : goal.decreases-loop-x
+decreases-loop-x g l = length l.catalogue.initial - length l.attempt.log

@@ -1,0 +1,118 @@
+-- Items that are resolved as they are read are those of the whole tree.
+use Rattle.std.proofs.Common.{◌≡◌, ℕ, ℤ, true, false, List, [], ◌∷◌, ◌++◌, map, Result, Ok, Err, refl, ap, ◌∙◌}
+use Rattle.std.specs.Prelude.{codes}
+use Rattle.std.proofs.lemmas.List.{map_push}
+use Rattle.txn_programs.specs.declared.ast.TxId.{TxId}
+use Rattle.txn_programs.specs.Tree.{Condition, Transaction}
+use Rattle.txn_programs.specs.Listing.{Listing}
+use Rattle.text_words.specs.Tokens.{Lexeme}
+use Rattle.text_words.specs.TokenReading.{Read, begins, all_of}
+use Rattle.text_words.specs.Answers.{◌>>=◌}
+use Rattle.text_words.specs.declared.fault.ReadFault.{ReadFault}
+use Rattle.text_words.proofs.Steps.{bind_ok, ok_is, done}
+use Rattle.text_words.proofs.Many.{Shortens, with_front, goes_on, is_done}
+use Rattle.text_grammar.specs.declared.file.FileForm.{FileForm}
+use Rattle.text_grammar.specs.Tree.{Pair, Always, Declaration, File}
+use Rattle.text_grammar.specs.Reading.{pair_at, conditions_at, tx_at, heading_at, end_at, file_of, tree_of}
+use Rattle.text_grammar.specs.Resolving.{each, declared_one, declared_after, pair_name, condition_name, tx_name, variable_of, always_in, transaction_in, run_in, listing, resolved}
+use Rattle.text_grammar.specs.Spelling.{lawful, listing_at}
+use Rattle.text_resolver.proofs.Parts.{converted_is}
+use Rattle.text_file_reader.specs.Resolved.{Resolves}
+use Rattle.text_file_reader.proofs.Known.{uses_are_known}
+
+-- ---- one more item
+
+pub each_push : {A B : Type 0} (one : A → Result B ReadFault) (xs : List A) (ys : List B) (x : A) (y : B) → each one xs ≡ Ok ys → one x ≡ Ok y → each one (xs ++ x ∷ []) ≡ Ok (ys ++ y ∷ [])
+each_push {A} {B} one [] ys x y h is = rw is (ap (λ (zs : List B). done (zs ++ y ∷ [])) (ok_is [] ys h))
+each_push {A} {B} one (first ∷ xs) ys x y h is =
+    let a = bind_ok (one first) _ ys h in
+    let b = bind_ok (each one xs) _ ys a.2 in
+    rw (a.1, each_push one xs b.0 x y b.1 is) (ap (λ (zs : List B). done (zs ++ y ∷ [])) (ok_is (a.0 ∷ b.0) ys b.2))
+
+pub declared_push : (earlier xs names more : List (List ℕ)) (name : List ℕ) → declared_after earlier xs ≡ Ok names → declared_one names name ≡ Ok more → declared_after earlier (xs ++ name ∷ []) ≡ Ok more
+declared_push earlier [] names more name h is = rw (ok_is earlier names h, is) refl
+declared_push earlier (first ∷ xs) names more name h is =
+    let a = bind_ok (declared_one earlier first) _ names h in
+    rw a.1 (declared_push a.0 xs names more name a.2 is)
+
+-- ---- the loop
+
+-- what was read so far is made into these, and the whole is that and what is read of the rest
+pub record SoFar {A B : Type 0} (word : List ℕ) (item_at : List Lexeme → Read A) (one : A → Result B ReadFault) (name : A → List ℕ) (total : Read (List A)) (made : List B) (names : List (List ℕ)) (rest : List Lexeme) : Type 0 where
+  pub items : List A
+  pub are_read : with_front items (all_of (begins word) item_at rest) ≡ total
+  pub are_made : each one items ≡ Ok made
+  pub are_declared : declared_after [] (map name items) ≡ Ok names
+
+nothing_before : {A : Type 0} (read : Read (List A)) → with_front [] read ≡ read
+nothing_before (Ok x) = refl
+nothing_before (Err e) = refl
+
+pub none_yet : {A B : Type 0} (word : List ℕ) (item_at : List Lexeme → Read A) (one : A → Result B ReadFault) (name : A → List ℕ) (ts : List Lexeme) → SoFar word item_at one name (all_of (begins word) item_at ts) [] [] ts
+none_yet word item_at one name ts = record { items = []; are_read = nothing_before (all_of (begins word) item_at ts); are_made = refl; are_declared = refl }
+
+pub one_more : {A B : Type 0} (word : List ℕ) (item_at : List Lexeme → Read A) (one : A → Result B ReadFault) (name : A → List ℕ) → Shortens item_at
+    → (total : Read (List A)) (made : List B) (names more : List (List ℕ)) (rest after : List Lexeme) (x : A) (y : B) → SoFar word item_at one name total made names rest
+    → begins word rest ≡ true → item_at rest ≡ Ok (x, after) → one x ≡ Ok y → declared_one names (name x) ≡ Ok more → SoFar word item_at one name total (made ++ y ∷ []) more after
+one_more word item_at one name shortens total made names more rest after x y so_far going is_read is_made is_declared =
+    record {
+      items = so_far.items ++ x ∷ [];
+      are_read = goes_on (begins word) item_at shortens so_far.items rest (x, after) total going is_read so_far.are_read;
+      are_made = each_push one so_far.items made x y so_far.are_made is_made;
+      are_declared = ap (declared_after []) (map_push name so_far.items x) ∙ declared_push [] (map name so_far.items) names more (name x) so_far.are_declared is_declared;
+    }
+
+pub no_more : {A B : Type 0} (word : List ℕ) (item_at : List Lexeme → Read A) (one : A → Result B ReadFault) (name : A → List ℕ) (total : Read (List A)) (made : List B) (names : List (List ℕ)) (rest : List Lexeme)
+    → SoFar word item_at one name total made names rest → begins word rest ≡ false → Resolves total one name made names rest
+no_more word item_at one name total made names rest so_far stop =
+    record {
+      items = so_far.items;
+      are_read = is_done (begins word) item_at so_far.items rest total stop so_far.are_read;
+      are_made = so_far.are_made;
+      are_declared = so_far.are_declared;
+    }
+
+-- ---- the whole file
+
+abbrev var_items : List Lexeme → Read (List Pair)
+var_items ts = all_of (begins (codes "var")) (pair_at (codes "var")) ts
+
+abbrev tx_items : List Lexeme → Read (List Declaration)
+tx_items ts = all_of (begins (codes "tx")) tx_at ts
+
+abbrev run_items : List Lexeme → Read (List Pair)
+run_items ts = all_of (begins (codes "run")) (pair_at (codes "run")) ts
+
+file_is : (ts behind_heading behind_vars behind_always behind_txs behind_runs : List Lexeme) (form : FileForm) (vars : List Pair) (always : List Always) (txs : List Declaration) (runs : List Pair)
+    → heading_at ts ≡ Ok (form, behind_heading) → var_items behind_heading ≡ Ok (vars, behind_vars) → conditions_at form behind_vars ≡ Ok (always, behind_always) → tx_items behind_always ≡ Ok (txs, behind_txs)
+    → run_items behind_txs ≡ Ok (runs, behind_runs) → end_at behind_runs ≡ Ok tt → file_of ts ≡ Ok (record { form = form; vars = vars; always = always; txs = txs; runs = runs })
+unfolding file_of
+file_is ts behind_heading behind_vars behind_always behind_txs behind_runs form vars always txs runs h v a t r e = rw (h, v, a, t, r, e) refl
+
+resolved_is : (file : File) (vars conditions txs : List (List ℕ)) (values : List (List ℕ × ℤ)) (always : List (List ℕ × Condition)) (transactions : List Transaction) (runs : List (TxId × ℕ))
+    → declared_after [] (map pair_name file.vars) ≡ Ok vars → declared_after [] (map condition_name file.always) ≡ Ok conditions → declared_after [] (map tx_name file.txs) ≡ Ok txs
+    → each variable_of file.vars ≡ Ok values → each (always_in vars) file.always ≡ Ok always → each (transaction_in vars) file.txs ≡ Ok transactions → each (run_in txs) file.runs ≡ Ok runs
+    → resolved file ≡ Ok (listing values always transactions runs)
+unfolding resolved
+resolved_is file vars conditions txs values always transactions runs d e g v a t r =
+    rw (d, e, g, uses_are_known vars txs file always transactions runs a t r) (converted_is vars txs file values always transactions runs v a t r)
+
+-- what is resolved as it is read is what the whole tree is resolved to
+pub at_once_is : (ts behind_heading behind_vars behind_always behind_txs behind_runs : List Lexeme) (form : FileForm) (vars conditions txs : List (List ℕ)) (pairs : List Pair)
+    (values : List (List ℕ × ℤ)) (always : List (List ℕ × Condition)) (transactions : List Transaction) (runs : List (TxId × ℕ))
+    → heading_at ts ≡ Ok (form, behind_heading) → Resolves (var_items behind_heading) variable_of pair_name values vars behind_vars
+    → Resolves (conditions_at form behind_vars) (always_in vars) condition_name always conditions behind_always → Resolves (tx_items behind_always) (transaction_in vars) tx_name transactions txs behind_txs
+    → run_items behind_txs ≡ Ok (pairs, behind_runs) → end_at behind_runs ≡ Ok tt → each (run_in txs) pairs ≡ Ok runs → (file_of ts >>= λ file. resolved file) ≡ Ok (listing values always transactions runs)
+at_once_is ts behind_heading behind_vars behind_always behind_txs behind_runs form vars conditions txs pairs values always transactions runs h v a t r e m =
+    let file : File = record { form = form; vars = v.items; always = a.items; txs = t.items; runs = pairs } in
+    rw (file_is ts behind_heading behind_vars behind_always behind_txs behind_runs form v.items a.items t.items pairs h v.are_read a.are_read t.are_read r e)
+    (resolved_is file vars conditions txs values always transactions runs v.are_declared a.are_declared t.are_declared v.are_made a.are_made t.are_made m)
+
+regroup : (r : Result File ReadFault) → (r >>= λ file. resolved file >>= λ l. lawful l) ≡ ((r >>= λ file. resolved file) >>= λ l. lawful l)
+regroup (Ok file) = refl
+regroup (Err e) = refl
+
+-- what was resolved at once is judged as the listing
+pub listing_is : (bytes : List ℕ) (l : Listing) → (tree_of bytes >>= λ file. resolved file) ≡ Ok l → listing_at bytes ≡ lawful l
+unfolding listing_at
+listing_is bytes l h = regroup (tree_of bytes) ∙ ap (λ r. r >>= λ l. lawful l) h

@@ -1,0 +1,13 @@
+-- Items that are resolved as they are read.
+use Rattle.std.specs.Prelude.{◌≡◌, ℕ, Result, Ok, List, [], map}
+use Rattle.text_words.specs.Tokens.{Lexeme}
+use Rattle.text_words.specs.TokenReading.{Read}
+use Rattle.text_words.specs.declared.fault.ReadFault.{ReadFault}
+use Rattle.text_grammar.specs.Resolving.{each, declared_after}
+
+-- what was read is made into these, each name is declared once, and these tokens are left
+pub record Resolves {A B : Type 0} (read : Read (List A)) (one : A → Result B ReadFault) (name : A → List ℕ) (made : List B) (names : List (List ℕ)) (rest : List Lexeme) : Type 0 where
+  pub items : List A
+  pub are_read : read ≡ Ok (items, rest)
+  pub are_made : each one items ≡ Ok made
+  pub are_declared : declared_after [] (map name items) ≡ Ok names
