@@ -98,11 +98,14 @@ fn first_unlike(alloc: Global, catalogue: &Catalogue) -> Option<(i64, i64)> {
 /// Of the first transaction of the text it is so from each.
 fn expect_alike_in(rt: &(impl Abort + Eprint), alloc: Global, text: &str) {
     match catalogue(alloc, text) {
-        Some(catalogue) => {
-            assert_eq!(rt; first_unlike(alloc, &catalogue), None, "of {text}");
-        }
+        Some(catalogue) => expect_none(rt, first_unlike(alloc, &catalogue), text),
         None => panic!(rt; "no catalogue"),
     }
+}
+
+/// It is so from each state.
+fn expect_none(rt: &(impl Abort + Eprint), unlike: Option<(i64, i64)>, text: &str) {
+    assert_eq!(rt; unlike, None, "of {text}");
 }
 
 /// Of the transaction with this body and result it is so from each.

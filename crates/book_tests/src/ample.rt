@@ -9,17 +9,33 @@ use std::alloc::{AllocError, Global};
 use std::process::Abort;
 use txn::TaskId;
 
-/// One transaction that adds 1 to each of so many variables, all 0, and so many runs of it.
-fn adding_to_all(alloc: Global, variables: u32, runs: u32) -> Result<String, AllocError> {
-    let mut text = String::new(alloc);
+/// So many variables, all 0.
+fn put_variables(alloc: Global, text: &mut String, variables: u32) -> Result<(), AllocError> {
     for i in 0..variables {
         text.push_str(format!(in alloc; "(var v{i} 0)")?.as_str())?;
     }
+    Ok(())
+}
+
+/// One transaction that adds 1 to each of them, and so many runs of it.
+fn put_all(
+    alloc: Global,
+    text: &mut String,
+    variables: u32,
+    runs: u32,
+) -> Result<(), AllocError> {
     text.push_str("(tx all (seq")?;
     for i in 0..variables {
         text.push_str(format!(in alloc; " (set v{i} (add v{i} 1))")?.as_str())?;
     }
-    text.push_str(format!(in alloc; ") v0)(run all {runs})")?.as_str())?;
+    text.push_str(format!(in alloc; ") v0)(run all {runs})")?.as_str())
+}
+
+/// One transaction that adds 1 to each of so many variables, all 0, and so many runs of it.
+fn adding_to_all(alloc: Global, variables: u32, runs: u32) -> Result<String, AllocError> {
+    let mut text = String::new(alloc);
+    put_variables(alloc, &mut text, variables)?;
+    put_all(alloc, &mut text, variables, runs)?;
     Ok(text)
 }
 

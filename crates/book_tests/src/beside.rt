@@ -105,6 +105,18 @@ fn meets(book: &mut Book<'_>, cells: &Cells, pass: &mut Pass) -> bool
     !pass.is_open()
 }
 
+/// The last of the passes of these cells.
+fn popped(rt: &impl Abort, passes: &mut Vec<Pass>, cells: &Cells) -> Pass
+    requires own { All (λ p. p.cells ≡ cells.now) passes.old.items }
+    ensures own { result.cells ≡ cells.now }
+    ensures others { All (λ p. p.cells ≡ cells.now) passes.new.items }
+{
+    match passes.pop() {
+        Some(pass) => pass,
+        None => panic!(rt; "no pass"),
+    }
+}
+
 /// A pass meets the book, and then two passes are read beside it.
 pub(crate) fn goes_beside(
     rt: &impl Abort,
@@ -118,15 +130,11 @@ pub(crate) fn goes_beside(
     requires book { book.old.cells ≡ cells.now }
     requires variables { cells.now.variables ≡ length catalogue.now.initial }
 {
-    assert!(rt; catalogue.initial().len() == 1);
-    let (Some(mut met), Some(mut first), Some(mut second)) = (
-        passes.pop(),
-        passes.pop(),
-        passes.pop(),
-    ) else {
-        panic!(rt; "no three passes")
-    };
+    let mut met = popped(rt, passes, cells);
     assert!(rt; meets(book, cells, &mut met));
+    assert!(rt; catalogue.initial().len() == 1);
+    let mut first = popped(rt, passes, cells);
+    let mut second = popped(rt, passes, cells);
     assert!(rt; two_attempts(alloc, book, catalogue, cells, &mut first, &mut second));
     assert!(rt; one_more_attempt(alloc, book, catalogue, cells, &mut second));
 }

@@ -8,8 +8,9 @@ use crate::parts::{X, Y, begins, is_stale, sees};
 use attempt::Attempt;
 use cells::{Cells, Extend, Pass, Publisher};
 use run_observer::Cut;
+use std::alloc::Global;
 use std::process::Abort;
-use txn::{TxId, VarId};
+use txn::{Catalogue, TxId, VarId};
 
 /// The pass is extended by the log with this answer, and is open exactly where it moved.
 fn extends(rt: &impl Abort, cells: &Cells, pass: &mut Pass, log: &[(VarId, i64)], answer: Extend)
@@ -101,33 +102,31 @@ fn is_told_beside(
     assert!(rt; told(cells, pass, attempt) == Some(Ok(())));
     publish_other(cells, publisher, both);
     let second = told(cells, pass, attempt);
-    if both {
-        assert!(rt; second == Some(Err(Cut::Stale)));
-        assert!(rt; attempt.log() == [(X, 3)].as_slice());
-    } else {
-        assert!(rt; second == Some(Ok(())));
-        assert!(rt; attempt.log() == [(X, 3), (Y, -5)].as_slice());
-    }
+    assert!(rt; second == Some(if both { Err(Cut::Stale) } else { Ok(()) }));
+    let pairs = if both { 1 } else { 2 };
+    assert!(rt; attempt.log() == &[(X, 3), (Y, -5)][..pairs]);
     assert!(rt; pass.is_open() != both);
+}
+
+/// It is so of cells that were just opened, and of an attempt of this transaction.
+fn is_told_of_new_cells(rt: &impl Abort, alloc: Global, catalogue: &Catalogue, both: bool)
+    requires some { 0 < length catalogue.now.transactions }
+    requires two { length catalogue.now.initial ≡ 2 }
+{
+    let Ok((cells, mut publisher, mut passes)) = Cells::open(alloc, &[3, 4], 1) else {
+        panic!(rt; "no cells")
+    };
+    let mut attempt = Attempt::new(alloc, catalogue, TxId(0));
+    let pass = &mut passes[0];
+    is_told_beside(rt, &cells, &mut publisher, pass, &mut attempt, both);
 }
 
 #[test]
 fn a_stale_read_moves_an_attempt_unless_its_reads_have_changed(rt: HostRuntime) {
     let text = "(var x 3)(var y 4)(tx sum (skip) (add x y))(run sum 1)";
     let catalogue = catalogue(&rt, rt.alloc(), text);
-    assert!(rt; catalogue.initial().len() == 2 && catalogue.tx_count() == 1);
-    for both in [false, true] {
-        let Ok((cells, mut publisher, mut passes)) = Cells::open(rt.alloc(), &[3, 4], 1) else {
-            panic!(rt; "no cells")
-        };
-        let mut attempt = Attempt::new(rt.alloc(), &catalogue, TxId(0));
-        is_told_beside(
-            &rt,
-            &cells,
-            &mut publisher,
-            &mut passes[0],
-            &mut attempt,
-            both,
-        );
-    }
+    assert!(rt; catalogue.initial().len() == 2);
+    assert!(rt; catalogue.tx_count() == 1);
+    is_told_of_new_cells(&rt, rt.alloc(), &catalogue, false);
+    is_told_of_new_cells(&rt, rt.alloc(), &catalogue, true);
 }

@@ -118,18 +118,22 @@ fn is_cut_at_flush(
     ends_so(rt, alloc, text, Place::Flush, trouble, bytes, calls)
 }
 
+/// No cut of the text is wrong, by this trouble.
+fn expect_cuts(
+    rt: &(impl Threads + Wait + Sync + Abort + Eprint),
+    alloc: Global,
+    text: Text,
+    trouble: Trouble,
+) {
+    assert_eq!(rt; first_wrong_cut(rt, alloc, text, trouble), None);
+}
+
 /// All of it, of one text.
 fn expect_all(rt: &(impl Threads + Wait + Sync + Abort + Eprint), alloc: Global, text: Text) {
     assert!(rt; is_whole(rt, alloc, text));
-    assert_eq!(rt; first_wrong_cut(rt, alloc, text, Trouble::Fails), None);
-    assert_eq!(rt;
-        first_wrong_cut(rt, alloc, text, Trouble::IsInterrupted),
-        None
-    );
-    assert_eq!(rt;
-        first_wrong_cut(rt, alloc, text, Trouble::TakesNothing),
-        None
-    );
+    expect_cuts(rt, alloc, text, Trouble::Fails);
+    expect_cuts(rt, alloc, text, Trouble::IsInterrupted);
+    expect_cuts(rt, alloc, text, Trouble::TakesNothing);
     assert!(rt; is_cut_at_flush(rt, alloc, text, Trouble::Fails));
     assert!(rt; is_cut_at_flush(rt, alloc, text, Trouble::IsInterrupted));
 }
