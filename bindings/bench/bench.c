@@ -1,6 +1,7 @@
 /* 65,536 increments of one variable, by so many threads; prints one line of names and numbers.
  *
  *     bench stm THREADS      a store: milliseconds to read, open, run and report; with one thread nanoseconds of each call
+ *     bench turns THREADS    a store whose tasks have their turns under the lock, up to 1,000 at a time
  *     bench mutex THREADS    the same sum under a mutex
  *     bench itm THREADS      the same sum by the compiler's transactions, where it was built with them
  */
@@ -12,7 +13,7 @@
 #include <string.h>
 #include <time.h>
 
-enum { TASKS = 65536, STALE_TRIES = 8, MOST = 31 };
+enum { TASKS = 65536, STALE_TRIES = 8, MOST = 31, TURNS = 1000 };
 
 static const char FILE_TEXT[] = "(var x 0)\n(tx inc (set x (add x 1)) x)\n(run inc 65536)\n";
 static pthread_mutex_t lock = PTHREAD_MUTEX_INITIALIZER;
@@ -53,6 +54,17 @@ static void *work(void *worker) {
     int64_t task = stm_take(&store);
     pthread_mutex_unlock(&lock);
     while (task >= 0) task = run(worker, (uint32_t)task);
+    return NULL;
+}
+
+/* The same by turns under the lock: whoever has it gives so many. */
+static void *turn(void *worker) {
+    int64_t given = 1;
+    while (given > 0) {
+        pthread_mutex_lock(&lock);
+        given = stm_turns(&store, worker, TURNS);
+        pthread_mutex_unlock(&lock);
+    }
     return NULL;
 }
 
@@ -124,7 +136,7 @@ static uint8_t *report(double *cost, size_t *wanted) {
     return room;
 }
 
-static void by_store(int threads) {
+static void by_store(int threads, void *(*life)(void *)) {
     static stm_worker workers[MOST];
     stm_program program = {0};
     size_t length = strlen(FILE_TEXT), wanted = 0;
@@ -136,13 +148,13 @@ static void by_store(int threads) {
     for (int i = 0; i < threads; i++) {
         if (stm_hire(&store, &workers[i]) != STM_DONE) fails("no worker");
     }
-    double open = now() - at, ran = by_threads(threads, work, workers);
+    double open = now() - at, ran = by_threads(threads, life, workers);
     uint8_t *text = report(&told, &wanted);
     if (stm_check((const uint8_t *)FILE_TEXT, length, text, wanted) != STM_DONE) fails("the report is bad");
     printf("read_ms %.3f open_ms %.3f run_ms %.3f report_ms %.3f", read / 1e6, open / 1e6, ran / 1e6, told / 1e6);
     for (int i = 0; i < threads; i++) stm_worker_free(&workers[i]);
     stm_store_free(&store);
-    if (threads == 1) {
+    if (threads == 1 && life == work) {
         if (stm_open(&program, 1, 0, &store) != STM_DONE || stm_hire(&store, workers) != STM_DONE) fails("no store");
         each_call(workers);
     }
@@ -186,9 +198,11 @@ static void by_peer(int threads, void *(*life)(void *)) {
 
 int main(int count, char **words) {
     int threads = count > 2 ? atoi(words[2]) : 0;
-    if (threads < 1 || threads > MOST) fails("bench stm|mutex|itm THREADS");
+    if (threads < 1 || threads > MOST) fails("bench stm|turns|mutex|itm THREADS");
     if (strcmp(words[1], "stm") == 0) {
-        by_store(threads);
+        by_store(threads, work);
+    } else if (strcmp(words[1], "turns") == 0) {
+        by_store(threads, turn);
     } else if (strcmp(words[1], "mutex") == 0) {
         by_peer(threads, by_mutex);
 #ifdef ITM
@@ -196,7 +210,7 @@ int main(int count, char **words) {
         by_peer(threads, by_itm);
 #endif
     } else {
-        fails("bench stm|mutex|itm THREADS");
+        fails("bench stm|turns|mutex|itm THREADS");
     }
     return 0;
 }

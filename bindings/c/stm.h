@@ -191,6 +191,12 @@ stm_told stm_finish(stm_store *store, stm_worker *worker);
  * STM_GIVEN_UP; STM_UNKNOWN. */
 stm_told stm_serial(stm_store *store, uint32_t task);
 
+/* Gives the lowest ready task a turn, and then the next one, until so many turns were given or none is
+ * ready: how many turns were given, or STM_EMPTY. For short tasks: it costs less than to take, try and
+ * finish each, but the lock is held meanwhile. The worker lends its attempt, and has no ended one to
+ * bring afterwards; it may be of any store. What meets want of memory is given up. Under the lock. */
+int64_t stm_turns(stm_store *store, stm_worker *worker, uint32_t most);
+
 /* A running task is given up, under the lock: STM_DONE, STM_NOT_RUNNING, STM_UNKNOWN. */
 int32_t stm_give_up(stm_store *store, uint32_t task);
 

@@ -95,6 +95,35 @@ static void full_handles(stm_program *program) {
     wants(stm_finish(&store, &worker).code == STM_NOT_ENDED && stm_program_tasks(program) == 2);
 }
 
+/* Turns under the lock: so many as were asked for, or until none is ready. What was tried before is not brought. */
+static void turns(stm_program *program) {
+    stm_worker none_hired = {0};
+    wants(stm_turns(&store, &none_hired, 9) == STM_EMPTY);
+    wants(stm_open_with_room(program, 1, 0, 2, &store) == STM_DONE);
+    wants(stm_turns(&store, &none_hired, 9) == STM_EMPTY && stm_hire(&store, &worker) == STM_DONE);
+    wants(stm_turns(&store, &worker, 0) == 0);
+    stand(2, 0, 0, 0);
+    wants(stm_turns(&store, &worker, 1) == 1);
+    stand(1, 0, 1, 0);
+    wants(stm_turns(&store, &worker, UINT32_MAX) == 1);
+    stand(0, 0, 2, 0);
+
+    /* One that comes in wakes both: one of them ends, and the other waits again. */
+    wants(stm_submit(&store, 1) == 2 && stm_turns(&store, &worker, UINT32_MAX) == 3);
+    stand(0, 0, 1, 2);
+    is(0, 2);
+    agree(2);
+
+    wants(stm_submit(&store, 1) == 3);
+    stm_job job = stm_take_job(&store);
+    wants(job.task == 3 && stm_try_job(&worker, job) == STM_DONE);
+    wants(stm_turns(&store, &worker, UINT32_MAX) == 0 && stm_finish(&store, &worker).code == STM_NOT_ENDED);
+    wants(stm_serial(&store, 3).code == STM_DONE && stm_turns(&store, &worker, 1) == 1);
+    stand(0, 0, 0, 4);
+    stm_worker_free(&worker);
+    stm_store_free(&store);
+}
+
 int main(void) {
     stm_program program = {0};
     empty_handles();
@@ -140,6 +169,7 @@ int main(void) {
 
     stm_worker_free(&worker);
     stm_store_free(&store);
+    turns(&program);
     stm_program_free(&program);
     wants(!worker.at && !store.at && !program.at);
     printf("good\n");

@@ -108,6 +108,7 @@ extern "C" {
     ) -> i32;
     fn stm_finish(store: *mut Handle, worker: *mut Handle) -> Told;
     fn stm_serial(store: *mut Handle, task: u32) -> Told;
+    fn stm_turns(store: *mut Handle, worker: *mut Handle, most: u32) -> i64;
     fn stm_give_up(store: *mut Handle, task: u32) -> i32;
     fn stm_checkpoint(store: *mut Handle) -> i32;
     fn stm_report(store: *mut Handle, room: *mut u8, room_length: usize, wanted: *mut usize) -> i32;
@@ -404,6 +405,12 @@ impl RawStore {
             return Err(Error::Unknown);
         }
         Ok(brought(told))
+    }
+
+    pub fn turns(&mut self, worker: &mut RawWorker, most: u32) -> u32 {
+        // SAFETY: two `&mut`; the worker may be of any store.
+        let given = unsafe { stm_turns(&mut self.0, &mut worker.0, most) };
+        u32::try_from(given).expect("no handle is empty, and no more turns are given than were asked for")
     }
 
     pub fn give_up(&mut self, task: u32) -> Result<bool, Error> {

@@ -166,6 +166,24 @@ impl Store {
         held(&self.raw).serial(task)
     }
 
+    /// Gives the lowest ready task a turn, and then the next one, until so many turns were given or
+    /// none is ready: how many turns were given. The lock is held meanwhile, so it is for short tasks,
+    /// which cost less so than where each is taken, tried and brought. The worker lends its attempt, and
+    /// has no ended one to bring afterwards. What meets want of memory is given up.
+    ///
+    /// ```
+    /// let program = stm::Program::read("(var x 0) (tx inc (set x (add x 1)) x) (run inc 5)")?;
+    /// let store = stm::Store::open(&program, 1, 0)?;
+    /// let mut worker = store.worker()?;
+    /// assert_eq!(store.turns(&mut worker, 3), 3);
+    /// assert_eq!(store.turns(&mut worker, 3), 2);
+    /// assert_eq!(store.value("x"), Some((5, 5)));
+    /// # Ok::<(), stm::Error>(())
+    /// ```
+    pub fn turns(&self, worker: &mut Worker, most: u32) -> u32 {
+        held(&self.raw).turns(&mut worker.raw, most)
+    }
+
     /// A running task is given up. `false` and no change where it was not running.
     pub fn give_up(&self, task: u32) -> Result<bool, Error> {
         held(&self.raw).give_up(task)

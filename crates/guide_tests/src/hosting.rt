@@ -82,6 +82,27 @@ fn a_store_is_worked_on(rt: HostRuntime) {
     reports(&rt, &mut store, text);
 }
 
+/// The report with no turn given is this text.
+fn tells(rt: &impl Abort, store: &Store, wanted: &str) {
+    match store.report_now() {
+        Ok(text) => assert!(rt; text.as_str() == wanted),
+        Err(_) => panic!(rt; "work is left"),
+    }
+}
+
+#[test]
+fn turns_are_given_under_the_lock(rt: HostRuntime) {
+    let mut store = opened(&rt, rt.alloc(), 1, 1);
+    let mut worker = hired(&rt, &mut store);
+    assert!(rt; store.turns(&mut worker, 0) == 0);
+    assert!(rt; store.report_now().is_err());
+    assert!(rt; store.turns(&mut worker, 1) == 1);
+    assert!(rt; store.report_now().is_err());
+    assert!(rt; store.turns(&mut worker, u32::MAX) == 1);
+    assert!(rt; store.turns(&mut worker, u32::MAX) == 0);
+    tells(&rt, &store, "base 1\nx 6 1\nnow 1\nx 6 1\nparked 1 wait\nend\n");
+}
+
 /// A task that was taken is given up once, and has no turn afterwards.
 fn is_given_up(rt: &impl Abort, store: &mut Store) {
     let Some(job) = store.take() else {

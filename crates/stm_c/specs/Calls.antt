@@ -12,7 +12,7 @@ use Rattle.stm_store.specs.declared.store.Store.{Store}
 use Rattle.stm_store.specs.declared.store.Brought.{Brought}
 use Rattle.stm_store.specs.declared.worker.Tried.{Tried}
 use Rattle.stm_store.specs.declared.worker.Worker.{Worker}
-use Rattle.stm_store.specs.Working.{TakesJob, Brings, ServedBy, TriedBy}
+use Rattle.stm_store.specs.Working.{TakesJob, Brings, ServedBy, GivesTurns, TriedBy}
 use Rattle.stm_c.specs.declared.codes.Taken.{Taken}
 use Rattle.stm_c.specs.declared.codes.KindAndValue.{KindAndValue}
 use Rattle.stm_c.specs.Numbers.{taken_as, told_brought, told_served, no_such, number_of_try, told_observed}
@@ -56,6 +56,15 @@ pub record ServesAny (old : Store) (task : ℕ) (answer : KindAndValue) (new : S
   pub unknown : length (tasks old.book.catalogue) ≤ task → (answer ≡ no_such) × (new ≡ old)
   pub served : task < length (tasks old.book.catalogue) → Serves old task answer new
   pub stays : StaysOf old new
+
+-- `stm_turns`: the answer is how many turns were given, and the worker has no end to bring any more
+pub record Turns (old : Store) (before : Worker) (most : ℕ) (answer : ℤ) (new : Store) (after : Worker) : Type 0 where
+  pub given : ℕ
+  pub turns : GivesTurns old.every most old.book given new.book
+  pub answered : answer ≡ pos given
+  pub stays : StaysOf old new
+  pub over : after.ended ≡ None
+  pub worker : StaysWith before after
 
 -- `stm_give_up`: 0 where the task was running, which is given up; 3 where it was not, and -9 where there is none, and then the book is as it was
 pub record GivesUp (old : Store) (task : ℕ) (answer : ℤ) (new : Store) : Type 0 where

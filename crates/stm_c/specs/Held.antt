@@ -1,10 +1,7 @@
 -- What a call does where a handle that it is given may be empty.
-use Rattle.std.specs.Prelude.{◌≡◌, ℤ, negsuc, Option, Some, None}
+use Rattle.std.specs.Prelude.{◌≡◌, Option, Some, None}
 use Rattle.stm_store.specs.declared.store.Store.{Store}
 use Rattle.stm_store.specs.declared.worker.Worker.{Worker}
-use Rattle.stm_c.specs.declared.codes.KindAndValue.{KindAndValue}
-use Rattle.stm_c.specs.Numbers.{nothing_held}
-use Rattle.stm_c.specs.Calls.{Finishes}
 
 -- where the handle is empty, it stays so and the answer says it; else the call is made on what it holds, and it holds what is left
 abbrev pub On : {X A : Type 0} → Option X → Option X → A → A → (X → A → X → Type 0) → Type 0
@@ -29,10 +26,10 @@ IsOf (Some worker) (Some store) = worker.catalogue.now ≡ store.catalogue.now
 IsOf (Some worker) None = Unit {0}
 IsOf None store = Unit {0}
 
--- `stm_finish`: both handles are as they were where one is empty
-abbrev pub FinishesOn : Option Store → Option Worker → KindAndValue → Option Store → Option Worker → Type 0
-FinishesOn (Some old) (Some before) answer (Some new) (Some after) = Finishes old before answer new after
-FinishesOn (Some old) (Some before) answer (Some new) None = ⊥
-FinishesOn (Some old) (Some before) answer None worker = ⊥
-FinishesOn (Some old) None answer store worker = (answer ≡ nothing_held) × (store ≡ Some old) × (worker ≡ None)
-FinishesOn None before answer store worker = (answer ≡ nothing_held) × (store ≡ None) × (worker ≡ before)
+-- the same as `On` of a call on a store and a worker: both handles are as they were where one is empty
+abbrev pub OnBoth : {A : Type 0} → Option Store → Option Worker → Option Store → Option Worker → A → A → (Store → Worker → A → Store → Worker → Type 0) → Type 0
+OnBoth (Some old) (Some before) (Some new) (Some after) empty answer Call = Call old before answer new after
+OnBoth (Some old) (Some before) (Some new) None empty answer Call = ⊥
+OnBoth (Some old) (Some before) None worker empty answer Call = ⊥
+OnBoth (Some old) None store worker empty answer Call = (answer ≡ empty) × (store ≡ Some old) × (worker ≡ None)
+OnBoth None before store worker empty answer Call = (answer ≡ empty) × (store ≡ None) × (worker ≡ before)

@@ -4,8 +4,8 @@ ghost use Rattle.std.specs.Prelude.{◌≡◌, ◌≢◌, ◌<◌, ◌≤◌, �
 ghost use Rattle.txn_programs.specs.declared.limits.TheConstants.{MAX_TASKS};
 ghost use Rattle.txn_programs.specs.Listing.{tasks};
 ghost use Rattle.stm_store.specs.Working.{IsTextOf};
-ghost use Rattle.stm_c.specs.Calls.{IsStillOf, Takes, Finishes, ServesAny, GivesUp, Reports, LeavesChecked};
-ghost use Rattle.stm_c.specs.Held.{Asked, FinishesOn, HoldsSome, IsOf, On};
+ghost use Rattle.stm_c.specs.Calls.{IsStillOf, Takes, Finishes, ServesAny, Turns, GivesUp, Reports, LeavesChecked};
+ghost use Rattle.stm_c.specs.Held.{Asked, HoldsSome, IsOf, On, OnBoth};
 ghost use Rattle.stm_c.specs.Made.{AnswersHire, AnswersOpen, IsHiredBy, IsOpened, IsOpenedOf, IsWorkerOf, LeavesWorkers};
 ghost use Rattle.stm_c.specs.Numbers.{nothing_held, nothing_taken};
 ghost use Rattle.stm_c.specs.Rooms.{Holds, TooShort};
@@ -209,7 +209,7 @@ pub extern "C" fn stm_finish(
     worker: &mut WorkerHandle,
 ) -> KindAndValue
     requires { IsOf worker.old.value store.old.value }
-    ensures { FinishesOn store.old.value worker.old.value result store.new.value worker.new.value }
+    ensures { OnBoth store.old.value worker.old.value store.new.value worker.new.value nothing_held result (λ old before how new after. Finishes old before how new after) }
 {
     let Some(mut held) = store.take(alloc) else {
         return empty();
@@ -253,6 +253,37 @@ fn turn(store: &mut Store, task: u32) -> KindAndValue
         return unknown();
     }
     served(store.serial(TaskId(task)))
+}
+
+/// Gives the lowest ready task a turn, and then the next one, until so many turns were given or none
+/// is ready: how many were given. The worker has no end to bring afterwards. -12: one of the handles
+/// is empty.
+#[unsafe(no_mangle)]
+pub extern "C" fn stm_turns(
+    alloc: Global,
+    store: &mut StoreHandle,
+    worker: &mut WorkerHandle,
+    most: u32,
+) -> i64
+    ensures { OnBoth store.old.value worker.old.value store.new.value worker.new.value EMPTY result (λ old before given new after. Turns old before most given new after) }
+{
+    let Some(mut held) = store.take(alloc) else {
+        return i64::from(EMPTY);
+    };
+    let Some(mut lender) = worker.take(alloc) else {
+        *store = StoreHandle::of(held);
+        return i64::from(EMPTY);
+    };
+    let given = turns(&mut held, &mut lender, most);
+    *store = StoreHandle::of(held);
+    *worker = WorkerHandle::of(lender);
+    given
+}
+
+fn turns(store: &mut Store, worker: &mut Worker, most: u32) -> i64
+    ensures { Turns store.old worker.old most result store.new worker.new }
+{
+    i64::from(store.turns(worker, most))
 }
 
 /// Gives a running task up: 0; 3 where it was not running; -9 where there is no such task; -12 where

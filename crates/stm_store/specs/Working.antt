@@ -1,5 +1,5 @@
 -- What the calls of a worker and of a store leave.
-use Rattle.std.specs.Prelude.{◌≡◌, ℕ, ℤ, Bool, true, false, List, [], length, Option, Some, None, slice_get}
+use Rattle.std.specs.Prelude.{◌≡◌, ◌≢◌, ℕ, ℤ, ◌+◌, ◌<◌, ◌≤◌, Bool, true, false, List, [], length, Option, Some, None, slice_get}
 use Rattle.txn_programs.specs.declared.ast.TaskId.{TaskId}
 use Rattle.txn_programs.specs.declared.ast.TxId.{TxId}
 use Rattle.txn_programs.specs.declared.ast.VarId.{VarId}
@@ -19,7 +19,8 @@ use Rattle.attempt.specs.declared.next.Stand.TheVariants as stand
 use Rattle.cells.specs.Passing.{Passing, at}
 use Rattle.run_observer.specs.Observing.{ObservesBy, IsStaleFrom}
 use Rattle.book.specs.View.{BookView}
-use Rattle.book.specs.Turns.{Taken, Finished, Served, ReportIs, kept_short}
+use Rattle.book.specs.Tasks.{Ready}
+use Rattle.book.specs.Turns.{Taken, Finished, Served, Turn, ReportIs, kept_short}
 use Rattle.book.specs.Counting.{IsPresent}
 use Rattle.book.specs.declared.task.Finish.{Finish}
 use Rattle.book.specs.declared.task.Finish.TheVariants as finish
@@ -84,6 +85,17 @@ Brings every old ended a (brought.Finished how) new =
 -- `serial`: a turn of the task, and a checkpoint where one is due
 abbrev pub ServedBy : ℕ → BookView → TaskId → Serial → BookView → Type 0
 ServedBy every old task how new = (b : BookView) × Served old task how b × (new ≡ kept_short every how b)
+
+-- so many turns of the lowest ready task, one after another, each with the checkpoint that is due
+pub data Turns (every : ℕ) (start : BookView) : ℕ → BookView → Type 0 where
+  NoTurn : Turns every start 0 start
+  OneMore : {n : ℕ} {a : BookView} (b : BookView) {c : BookView} (task : TaskId) → Turns every start n a → Taken a (Some task) b → Turn every b task c → Turns every start (n + 1) c
+
+-- `turns`: as many as were asked for, or until no task is ready
+pub record GivesTurns (every most : ℕ) (old : BookView) (n : ℕ) (new : BookView) : Type 0 where
+  pub turns : Turns every old n new
+  pub most : n ≤ most
+  pub rest : n < most → (k : ℕ) → slice_get new.tasks k ≢ Some Ready
 
 -- the text of a lawful report of the book's program, which tells exactly this book
 pub record IsTextOf (b : BookView) (text : List ℕ) : Type 0 where

@@ -10,6 +10,7 @@ mod program;
 mod store;
 mod telling;
 mod trying;
+mod turns;
 mod worker;
 
 pub use job::Job;

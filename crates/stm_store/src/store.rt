@@ -17,12 +17,13 @@ ghost use Rattle.txn_values.specs.Values.{with_values};
 ghost use Rattle.stm_store.specs.declared.next.NextFault.TheVariants as NextFault;
 ghost use Rattle.stm_store.specs.declared.telling.FileFault.TheVariants as FileFault;
 ghost use Rattle.stm_store.specs.declared.telling.ReportFault.TheVariants as ReportFault;
-ghost use Rattle.stm_store.specs.Working.{TakesJob, Brings, ServedBy, IsTextOf, IsFileOf, IsValueOf, as_turn, without_runs};
+ghost use Rattle.stm_store.specs.Working.{TakesJob, Brings, ServedBy, IsTextOf, IsFileOf, IsValueOf, GivesTurns, as_turn, without_runs};
 
 use crate::job::Job;
 use crate::next::{NextFault, next_as, next_of, present_values};
 use crate::program::Program;
 use crate::telling::{FileFault, ReportFault, file_of, printed};
+use crate::turns::give_turns;
 use crate::worker::Worker;
 use book::{Book, Counts, Finish, Serial};
 use cells::{Cells, Pass};
@@ -238,6 +239,28 @@ impl Store {
         let how = self.book.serial(self.alloc, task);
         self.book.keep_short(self.every, how);
         how
+    }
+
+    /// Gives the lowest ready task a turn on the present values, and then the next one, until so many
+    /// turns were given or none is ready: how many were given. After want of memory a task is given
+    /// up.
+    ///
+    /// It is for short tasks: it costs less than to take each, try it and bring it, but the lock is
+    /// held meanwhile. The worker lends its attempt, and what it tried and did not bring is
+    /// forgotten. It may be of another store.
+    pub fn turns(&mut self, worker: &mut Worker, most: u32) -> u32
+        ensures given { GivesTurns self.old.every most self.old.book result self.new.book }
+        ensures listing { self.new.book.catalogue ≡ self.old.book.catalogue }
+        ensures catalogue { self.new.catalogue.now ≡ self.old.catalogue.now }
+        ensures cells { self.new.cells.now ≡ self.old.cells.now }
+        ensures workers { self.new.passes.items ≡ self.old.passes.items }
+        ensures every { self.new.every ≡ self.old.every }
+        ensures ended { worker.new.ended ≡ None }
+        ensures worker { worker.new.catalogue.now ≡ worker.old.catalogue.now }
+        ensures worker_cells { worker.new.cells.now ≡ worker.old.cells.now }
+    {
+        worker.ended = None;
+        give_turns(&mut self.book, &mut worker.attempt, self.every, most)
     }
 
     /// A running task is given up: it will not be entered. `false` and no change where it was not
