@@ -8,6 +8,7 @@ use Rattle.book.specs.declared.task.Finish.TheVariants as finish
 use Rattle.book.specs.declared.task.Serial.{Serial}
 use Rattle.book.specs.declared.task.Serial.TheVariants as serial
 use Rattle.book.specs.View.{BookView, committed, checkpointed}
+use Rattle.stm_store.specs.Working.{Turns}
 use Rattle.book.specs.Turns.{Taken, Finished, Served, Turn, Drains, NoTurn, OneMore, readied, is_due, kept_short}
 
 committed_cells : (b : BookView) (task : TaskId) → (committed b task).cells ≡ b.cells
@@ -50,3 +51,8 @@ drained every start new (OneMore b task before taken turn) =
 
 pub drained_cells : (every : ℕ) (old new : BookView) → Drains every (readied old) new → new.cells ≡ old.cells
 drained_cells every old new h = drained every (readied old) new h
+
+pub given_cells : (every : ℕ) (start new : BookView) (n : ℕ) → Turns every start n new → new.cells ≡ start.cells
+given_cells every start new n Turns.NoTurn = refl
+given_cells every start new n (Turns.OneMore b task before taken turn) =
+    turn_cells every b new task turn ∙ (taken_cells _ b (Some task) taken ∙ given_cells every start _ _ before)

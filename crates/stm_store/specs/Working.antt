@@ -94,7 +94,7 @@ pub data Turns (every : ℕ) (start : BookView) : ℕ → BookView → Type 0 wh
 -- `turns`: as many as were asked for, or until no task is ready
 pub record GivesTurns (every most : ℕ) (old : BookView) (n : ℕ) (new : BookView) : Type 0 where
   pub turns : Turns every old n new
-  pub most : n ≤ most
+  pub bound : n ≤ most
   pub rest : n < most → (k : ℕ) → slice_get new.tasks k ≢ Some Ready
 
 -- the text of a lawful report of the book's program, which tells exactly this book
