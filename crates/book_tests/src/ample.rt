@@ -18,12 +18,7 @@ fn put_variables(alloc: Global, text: &mut String, variables: u32) -> Result<(),
 }
 
 /// One transaction that adds 1 to each of them, and so many runs of it.
-fn put_all(
-    alloc: Global,
-    text: &mut String,
-    variables: u32,
-    runs: u32,
-) -> Result<(), AllocError> {
+fn put_all(alloc: Global, text: &mut String, variables: u32, runs: u32) -> Result<(), AllocError> {
     text.push_str("(tx all (seq")?;
     for i in 0..variables {
         text.push_str(format!(in alloc; " (set v{i} (add v{i} 1))")?.as_str())?;

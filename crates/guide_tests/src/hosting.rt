@@ -100,7 +100,11 @@ fn turns_are_given_under_the_lock(rt: HostRuntime) {
     assert!(rt; store.report_now().is_err());
     assert!(rt; store.turns(&mut worker, u32::MAX) == 1);
     assert!(rt; store.turns(&mut worker, u32::MAX) == 0);
-    tells(&rt, &store, "base 1\nx 6 1\nnow 1\nx 6 1\nparked 1 wait\nend\n");
+    tells(
+        &rt,
+        &store,
+        "base 1\nx 6 1\nnow 1\nx 6 1\nparked 1 wait\nend\n",
+    );
 }
 
 /// A task that was taken is given up once, and has no turn afterwards.

@@ -28,7 +28,7 @@ serial_lent-how-requires c =
 pub loop-given-preserved : goal.loop-given-preserved
 loop-given-preserved c = (
   Turns.OneMore _ c.in-Some.task c.loop-given.invariant.0 c.in-Some.ensures.taken
-    (c.serial_lent-how.result, (c.serial_lent-how.new.self, c.serial_lent-how.ensures.served, c.keep_short.ensures.kept_short)),
+      (c.serial_lent-how.result, (c.serial_lent-how.new.self, c.serial_lent-how.ensures.served, c.keep_short.ensures.kept_short)),
   c.keep_short.ensures.catalogue ∙ (c.serial_lent-how.ensures.catalogue ∙ (c.take.ensures.catalogue ∙ c.loop-given.invariant.1)),
   omega (arith, c.loop-given-test.true),
 )
