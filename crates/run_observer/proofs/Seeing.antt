@@ -21,7 +21,7 @@ use Rattle.cells.specs.Cells.{CellsId}
 use Rattle.cells.specs.Passing.{Passing, at, BeginsBy}
 use Rattle.cells.specs.Answers.{AgreesUpTo}
 use Rattle.attempt.proofs.Logs.{Going, agrees_more, known_more, apart_more, few_more, few_apart}
-use Rattle.run_observer.specs.Observing.{ObservesBy, ShowsChange, IsStaleFrom, Moment, moment, StaysAt, TellsBy, MovesOn, ShowsOther, IsCutFrom, EndsOn}
+use Rattle.run_observer.specs.Observing.{ObservesBy, ShowsChange, IsStaleFrom, Moment, moment, StaysAt, TellsBy, MovesOn, ShowsOther, IsCutFrom, EvaluatesTo}
 
 -- a pass that stays is at the same state
 pub at_stays : (p q : Passing) → StaysAt p q → at q ≡ at p
@@ -169,8 +169,8 @@ pub memory_needs_none : (n : Next) (x : VarId) → n ≡ next.Memory → n ≢ n
 memory_needs_none n x e f = cc
 
 -- an attempt that has ended has done so on each state that agrees with its log
-pub ends_on : (l : Listing) (tx : TxId) (m : State) (o : Outcome) (n : Next) (a : AttemptView) → n ≡ next_of o → Answers n a → ((s : State) → length s ≡ a.variables → Agrees a.log s → HoldsAt n a s) → length m ≡ length l.initial → Going l tx m a → EndsOn l tx m o a
-ends_on l tx m o n a e ans holds wide g =
+pub evaluates_to : (l : Listing) (tx : TxId) (m : State) (o : Outcome) (n : Next) (a : AttemptView) → n ≡ next_of o → Answers n a → ((s : State) → length s ≡ a.variables → Agrees a.log s → HoldsAt n a s) → length m ≡ length l.initial → Going l tx m a → EvaluatesTo l tx m o a
+evaluates_to l tx m o n a e ans holds wide g =
     let frame : (s : State) → length s ≡ length l.initial → Agrees a.log s → outcome (program_at l tx) s ≡ o =
     λ s len h. ends l tx a.program s o g.program (outcome_held o n a s e (holds s (len ∙ sym g.variables) h)) in
     record { program = g.program; variables = g.variables; ended = stand_held o n a e ans; agrees = g.agrees; outcome_is = frame m wide g.agrees; frame = frame }

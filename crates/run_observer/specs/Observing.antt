@@ -78,10 +78,14 @@ IsCutFrom p q log = MovesOn p q × (q.open_now ≡ false) × (ShowsStale q.rv q.
 
 -- An attempt of the transaction that has ended as the transaction does on the state m, and on each state that agrees
 -- with its log.
-pub record EndsOn (l : Listing) (tx : TxId) (m : State) (how : Outcome) (a : AttemptView) : Type 0 where
+pub record EvaluatesTo (l : Listing) (tx : TxId) (m : State) (how : Outcome) (a : AttemptView) : Type 0 where
   pub program : a.program ≡ program_at l tx
   pub variables : a.variables ≡ length l.initial
   pub ended : a.stand ≡ Over how
   pub agrees : Agrees a.log m
   pub outcome_is : outcome (program_at l tx) m ≡ how
   pub frame : (s : State) → length s ≡ length l.initial → Agrees a.log s → outcome (program_at l tx) s ≡ how
+
+-- the same, however it ended
+abbrev pub Evaluates : Listing → TxId → State → AttemptView → Type 0
+Evaluates l tx m a = (how : Outcome) × EvaluatesTo l tx m how a

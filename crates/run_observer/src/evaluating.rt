@@ -2,7 +2,7 @@
 
 ghost use Rattle.std.specs.Prelude.{◌≡◌, ◌<◌, length, true, IfOk, OnOk, IfErr};
 ghost use Rattle.cells.specs.Passing.{at};
-ghost use Rattle.run_observer.specs.Observing.{ObservesBy, IsStaleFrom, EndsOn};
+ghost use Rattle.run_observer.specs.Observing.{ObservesBy, IsStaleFrom, EvaluatesTo};
 
 use crate::observation::{Cut, tell};
 use crate::reading::advance_on;
@@ -28,7 +28,7 @@ pub fn evaluate<'c>(
     requires own { pass.old.cells ≡ cells.now }
     requires variables { cells.now.variables ≡ length catalogue.now.initial }
     ensures observes { ObservesBy pass.old pass.new }
-    ensures ended { IfOk result (λ how. EndsOn catalogue.now tx (at pass.new) how attempt.new) }
+    ensures ended { IfOk result (λ how. EvaluatesTo catalogue.now tx (at pass.new) how attempt.new) }
     ensures open { OnOk result (pass.new.open_now ≡ true) }
     ensures stale { IfErr result (λ why. why ≡ Cut.Stale → IsStaleFrom pass.old pass.new) }
     ensures memory { IfErr result (λ why. why ≡ Cut.Memory → pass.new.open_now ≡ true) }

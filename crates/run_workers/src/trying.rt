@@ -1,15 +1,14 @@
 //! An attempt of a transaction on what a pass reads.
 
-ghost use Rattle.std.specs.Prelude.{◌≡◌, ◌<◌, length, true, IfErr, OnOk};
+ghost use Rattle.std.specs.Prelude.{◌≡◌, ◌<◌, length, true, IfErr, IfOk};
 ghost use Rattle.cells.specs.Passing.{at};
-ghost use Rattle.run_observer.specs.Observing.{ObservesBy, IsStaleFrom};
-ghost use Rattle.run_workers.specs.Working.{EndsOver};
+ghost use Rattle.run_observer.specs.Observing.{ObservesBy, IsStaleFrom, EvaluatesTo};
 
 use crate::gate::{Gate, Point, stop_at};
 use attempt::{Attempt, Next};
 use cells::{Cells, Pass};
 use run_observer::{Cut, evaluate, tell};
-use txn::{Catalogue, TaskId, TxId};
+use txn::{Catalogue, Outcome, TaskId, TxId};
 
 /// Restarts the attempt as one of the task's transaction, and brings it to its end on one state of
 /// the cells: that of the begin of the pass, or the last to which the pass moved. A gate that is not
@@ -26,20 +25,17 @@ pub(crate) fn attempt_on<'c, G: Gate>(
     pass: &mut Pass,
     gate: &G,
     task: TaskId,
-) -> Result<(), Cut>
+) -> Result<Outcome, Cut>
     requires known { tx.0 < length catalogue.now.transactions }
     requires own { pass.old.cells ≡ cells.now }
     requires variables { cells.now.variables ≡ length catalogue.now.initial }
     ensures observes { ObservesBy pass.old pass.new }
-    ensures ended { OnOk result (EndsOver catalogue.now tx (at pass.new) attempt.new) }
+    ensures ended { IfOk result (λ how. EvaluatesTo catalogue.now tx (at pass.new) how attempt.new) }
     ensures stale { IfErr result (λ why. why ≡ Cut.Stale → IsStaleFrom pass.old pass.new) }
     ensures memory { IfErr result (λ why. why ≡ Cut.Memory → pass.new.open_now ≡ true) }
 {
     if G::IS_OPEN {
-        return match evaluate(attempt, catalogue, tx, cells, pass) {
-            Ok(_) => Ok(()),
-            Err(cut) => Err(cut),
-        };
+        return evaluate(attempt, catalogue, tx, cells, pass);
     }
     attempt_held(attempt, catalogue, tx, cells, pass, gate, task)
 }
@@ -53,28 +49,36 @@ fn attempt_held<'c, G: Gate>(
     pass: &mut Pass,
     gate: &G,
     task: TaskId,
-) -> Result<(), Cut>
+) -> Result<Outcome, Cut>
     requires known { tx.0 < length catalogue.now.transactions }
     requires own { pass.old.cells ≡ cells.now }
     requires variables { cells.now.variables ≡ length catalogue.now.initial }
     ensures observes { ObservesBy pass.old pass.new }
-    ensures ended { OnOk result (EndsOver catalogue.now tx (at pass.new) attempt.new) }
+    ensures ended { IfOk result (λ how. EvaluatesTo catalogue.now tx (at pass.new) how attempt.new) }
     ensures stale { IfErr result (λ why. why ≡ Cut.Stale → IsStaleFrom pass.old pass.new) }
     ensures memory { IfErr result (λ why. why ≡ Cut.Memory → pass.new.open_now ≡ true) }
 {
     pass.begin(cells);
     attempt.restart(catalogue, tx);
     loop {
+        pass.law();
         match attempt.advance() {
             Next::Need(x) => {
                 stop_at(gate, Point::Needs, task);
                 tell(attempt, x, cells, pass)?;
             }
             Next::Memory => return Err(Cut::Memory),
-            Next::Returned(_) | Next::Thrown(_) | Next::Retry => {
-                stop_at(gate, Point::Ended, task);
-                return Ok(());
-            }
+            Next::Returned(v) => return ended(gate, task, Outcome::Returned(v)),
+            Next::Thrown(fault) => return ended(gate, task, Outcome::Thrown(fault)),
+            Next::Retry => return ended(gate, task, Outcome::Retries),
         }
     }
+}
+
+/// Tells the gate that the attempt has ended so.
+fn ended<G: Gate>(gate: &G, task: TaskId, how: Outcome) -> Result<Outcome, Cut>
+    ensures { result ≡ Ok how }
+{
+    stop_at(gate, Point::Ended, task);
+    Ok(how)
 }

@@ -170,7 +170,7 @@ fn try_task<'b, R: Wait, G: Gate, N: Naming>(
     let catalogue = crew.catalogue;
     let tx = catalogue.task_tx(task);
     match attempt_on(attempt, catalogue, tx, crew.cells, pass, crew.gate, task) {
-        Ok(()) => finish(rt, crew.shared, crew.every, task, attempt, G::IS_OPEN),
+        Ok(_) => finish(rt, crew.shared, crew.every, task, attempt, G::IS_OPEN),
         Err(Cut::Stale) => Tried::Stale,
         Err(Cut::Memory) => Tried::Memory,
     }

@@ -58,7 +58,7 @@ pub record ServesAny (old : Store) (task : ℕ) (answer : KindAndValue) (new : S
   pub stays : StaysOf old new
 
 -- `stm_turns`: the answer is how many turns were given, and the worker has no end to bring any more
-pub record Turns (old : Store) (before : Worker) (most : ℕ) (answer : ℤ) (new : Store) (after : Worker) : Type 0 where
+pub record ServesReady (old : Store) (before : Worker) (most : ℕ) (answer : ℤ) (new : Store) (after : Worker) : Type 0 where
   pub given : ℕ
   pub turns : GivesTurns old.every most old.book given new.book
   pub answered : answer ≡ pos given

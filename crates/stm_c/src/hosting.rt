@@ -4,7 +4,7 @@ ghost use Rattle.std.specs.Prelude.{◌≡◌, ◌≢◌, ◌<◌, ◌≤◌, �
 ghost use Rattle.txn_programs.specs.declared.limits.TheConstants.{MAX_TASKS};
 ghost use Rattle.txn_programs.specs.Listing.{tasks};
 ghost use Rattle.stm_store.specs.Working.{IsTextOf};
-ghost use Rattle.stm_c.specs.Calls.{IsStillOf, Takes, Finishes, ServesAny, Turns, GivesUp, Reports, LeavesChecked};
+ghost use Rattle.stm_c.specs.Calls.{IsStillOf, Takes, Finishes, ServesAny, ServesReady, GivesUp, Reports, LeavesChecked};
 ghost use Rattle.stm_c.specs.Held.{Asked, HoldsSome, IsOf, On, OnBoth};
 ghost use Rattle.stm_c.specs.Made.{AnswersHire, AnswersOpen, IsHiredBy, IsOpened, IsOpenedOf, IsWorkerOf, LeavesWorkers};
 ghost use Rattle.stm_c.specs.Numbers.{nothing_held, nothing_taken};
@@ -265,7 +265,7 @@ pub extern "C" fn stm_turns(
     worker: &mut WorkerHandle,
     most: u32,
 ) -> i64
-    ensures { OnBoth store.old.value worker.old.value store.new.value worker.new.value EMPTY result (λ old before given new after. Turns old before most given new after) }
+    ensures { OnBoth store.old.value worker.old.value store.new.value worker.new.value EMPTY result (λ old before given new after. ServesReady old before most given new after) }
 {
     let Some(mut held) = store.take(alloc) else {
         return i64::from(EMPTY);
@@ -281,7 +281,7 @@ pub extern "C" fn stm_turns(
 }
 
 fn turns(store: &mut Store, worker: &mut Worker, most: u32) -> i64
-    ensures { Turns store.old worker.old most result store.new worker.new }
+    ensures { ServesReady store.old worker.old most result store.new worker.new }
 {
     i64::from(store.turns(worker, most))
 }

@@ -1,23 +1,19 @@
 -- What the calls of a worker and of a store leave.
-use Rattle.std.specs.Prelude.{◌≡◌, ◌≢◌, ℕ, ℤ, ◌+◌, ◌<◌, ◌≤◌, Bool, true, false, List, [], length, Option, Some, None, slice_get}
+use Rattle.std.specs.Prelude.{◌≡◌, ◌≢◌, ℕ, ℤ, ◌+◌, ◌<◌, ◌≤◌, Bool, true, false, List, [], Option, Some, None, slice_get}
 use Rattle.txn_programs.specs.declared.ast.TaskId.{TaskId}
-use Rattle.txn_programs.specs.declared.ast.TxId.{TxId}
 use Rattle.txn_programs.specs.declared.ast.VarId.{VarId}
-use Rattle.txn_programs.specs.declared.ast.Outcome.{Outcome}
-use Rattle.txn_programs.specs.Meaning.{State, outcome}
-use Rattle.txn_programs.specs.Listing.{Listing, tasks, program_at, variable_named}
+use Rattle.txn_programs.specs.Listing.{Listing, tasks, variable_named}
 use Rattle.txn_programs.specs.Told.{Told}
 use Rattle.txn_programs.specs.LawfulReport.{LawfulReport, BaseReached}
 use Rattle.txn_text.specs.Spelling.{Spells}
 use Rattle.txn_text.specs.Canonical.{file_text}
 use Rattle.txn_text.specs.ReportText.{report_text}
 use Rattle.txn_text.specs.ReportFits.{ReportFits}
-use Rattle.attempt.specs.Frame.{Agrees}
 use Rattle.attempt.specs.View.{AttemptView}
 use Rattle.attempt.specs.declared.next.Stand.{Stand}
 use Rattle.attempt.specs.declared.next.Stand.TheVariants as stand
 use Rattle.cells.specs.Passing.{Passing, at}
-use Rattle.run_observer.specs.Observing.{ObservesBy, IsStaleFrom}
+use Rattle.run_observer.specs.Observing.{ObservesBy, IsStaleFrom, Evaluates}
 use Rattle.book.specs.View.{BookView}
 use Rattle.book.specs.Tasks.{Ready}
 use Rattle.book.specs.Turns.{Taken, Finished, Served, Turn, ReportIs, kept_short}
@@ -32,14 +28,6 @@ use Rattle.stm_store.specs.declared.worker.Tried.TheVariants as tried
 use Rattle.stm_store.specs.declared.store.Brought.{Brought}
 use Rattle.stm_store.specs.declared.store.Brought.TheVariants as brought
 
--- an attempt of the transaction that has ended as the transaction does on the state m, over a log that agrees with m
-pub record EndsAs (l : Listing) (tx : TxId) (m : State) (how : Outcome) (a : AttemptView) : Type 0 where
-  pub program : a.program ≡ program_at l tx
-  pub variables : a.variables ≡ length l.initial
-  pub ended : a.stand ≡ stand.Over how
-  pub agrees : Agrees a.log m
-  pub outcome_is : outcome (program_at l tx) m ≡ how
-
 -- the attempt has ended
 abbrev pub is_over : Stand → Bool
 is_over stand.Fresh = false
@@ -50,7 +38,7 @@ is_over stand.Spent = false
 -- `try_job`, from the pass p to q: where it ended, the attempt is for the job and ended on the state at which the pass is
 abbrev pub TriedBy : Listing → Job → Passing → Tried → Passing → AttemptView → Option Job → Type 0
 TriedBy l job p tried.Ended q a ended =
-    ObservesBy p q × (ended ≡ Some job) × ((how : Outcome) × EndsAs l job.tx (at q) how a)
+    ObservesBy p q × (ended ≡ Some job) × Evaluates l job.tx (at q) a
 TriedBy l job p tried.Stale q a ended = ObservesBy p q × (ended ≡ None) × IsStaleFrom p q
 TriedBy l job p tried.Memory q a ended = ObservesBy p q × (ended ≡ None)
 
@@ -87,13 +75,13 @@ abbrev pub ServedBy : ℕ → BookView → TaskId → Serial → BookView → Ty
 ServedBy every old task how new = (b : BookView) × Served old task how b × (new ≡ kept_short every how b)
 
 -- so many turns of the lowest ready task, one after another, each with the checkpoint that is due
-pub data Turns (every : ℕ) (start : BookView) : ℕ → BookView → Type 0 where
-  NoTurn : Turns every start 0 start
-  OneMore : {n : ℕ} {a : BookView} (b : BookView) {c : BookView} (task : TaskId) → Turns every start n a → Taken a (Some task) b → Turn every b task c → Turns every start (n + 1) c
+pub data TurnsGiven (every : ℕ) (start : BookView) : ℕ → BookView → Type 0 where
+  NoTurn : TurnsGiven every start 0 start
+  OneMore : {n : ℕ} {a : BookView} (b : BookView) {c : BookView} (task : TaskId) → TurnsGiven every start n a → Taken a (Some task) b → Turn every b task c → TurnsGiven every start (n + 1) c
 
 -- `turns`: as many as were asked for, or until no task is ready
 pub record GivesTurns (every most : ℕ) (old : BookView) (n : ℕ) (new : BookView) : Type 0 where
-  pub turns : Turns every old n new
+  pub turns : TurnsGiven every old n new
   pub bound : n ≤ most
   pub rest : n < most → (k : ℕ) → slice_get new.tasks k ≢ Some Ready
 

@@ -9,7 +9,6 @@ mod next;
 mod program;
 mod store;
 mod telling;
-mod trying;
 mod turns;
 mod worker;
 

@@ -4,8 +4,8 @@ use Rattle.txn_programs.specs.Meaning.{value_at}
 use Rattle.txn_programs.specs.declared.ast.Outcome.TheVariants.{Returned, Thrown, Retries}
 use Rattle.cells.specs.Cells.{CellsId}
 use Rattle.cells.specs.Passing.{at}
-use Rattle.run_observer.specs.Observing.{IsCutFrom, IsStaleFrom, EndsOn}
-use Rattle.run_observer.proofs.Seeing.{at_stays, moving_more, moving_few, cut_stale, going_told, room_for, observes, read_on, ends_on, end_needs_none, memory_needs_none}
+use Rattle.run_observer.specs.Observing.{IsCutFrom, IsStaleFrom, EvaluatesTo}
+use Rattle.run_observer.proofs.Seeing.{at_stays, moving_more, moving_few, cut_stale, going_told, room_for, observes, read_on, evaluates_to, end_needs_none, memory_needs_none}
 use Rattle.run_observer.proofs.evaluating.evaluate.Goals as goal
 
 pub returns-in-Returned-clause-observes : goal.returns-in-Returned-clause-observes
@@ -21,7 +21,7 @@ returns-in-Returned-clause-ended c =
     let i = c.needs.invariant in let e = c.advance_on.ensures in let b = c.advance_on.new.attempt in
     let on = read_on l c.args.tx p q r c.needs.attempt b e.cells e.stays e.grows e.program e.variables e.agrees e.logged e.apart i.0 i.1 in
     let wide = ap length (at_stays q r e.stays) ∙ (c.law.ensures ∙ (ap (λ (z : CellsId). z.variables) (i.1.cells ∙ c.requires.own) ∙ c.requires.variables)) in
-    let ended : EndsOn l c.args.tx (at r) (Returned c.in-Returned.v) b = ends_on l c.args.tx (at r) (Returned c.in-Returned.v) c.advance_on.result b c.in-Returned.is e.answers e.frame wide on.0 in
+    let ended : EvaluatesTo l c.args.tx (at r) (Returned c.in-Returned.v) b = evaluates_to l c.args.tx (at r) (Returned c.in-Returned.v) c.advance_on.result b c.in-Returned.is e.answers e.frame wide on.0 in
     search rules
 
 pub returns-in-Returned-clause-open : goal.returns-in-Returned-clause-open
@@ -40,7 +40,7 @@ returns-in-Thrown-clause-ended c =
     let i = c.needs.invariant in let e = c.advance_on.ensures in let b = c.advance_on.new.attempt in
     let on = read_on l c.args.tx p q r c.needs.attempt b e.cells e.stays e.grows e.program e.variables e.agrees e.logged e.apart i.0 i.1 in
     let wide = ap length (at_stays q r e.stays) ∙ (c.law.ensures ∙ (ap (λ (z : CellsId). z.variables) (i.1.cells ∙ c.requires.own) ∙ c.requires.variables)) in
-    let ended : EndsOn l c.args.tx (at r) (Thrown c.in-Thrown.fault) b = ends_on l c.args.tx (at r) (Thrown c.in-Thrown.fault) c.advance_on.result b c.in-Thrown.is e.answers e.frame wide on.0 in
+    let ended : EvaluatesTo l c.args.tx (at r) (Thrown c.in-Thrown.fault) b = evaluates_to l c.args.tx (at r) (Thrown c.in-Thrown.fault) c.advance_on.result b c.in-Thrown.is e.answers e.frame wide on.0 in
     search rules
 
 pub returns-in-Thrown-clause-open : goal.returns-in-Thrown-clause-open
@@ -59,7 +59,7 @@ returns-in-Retry-clause-ended c =
     let i = c.needs.invariant in let e = c.advance_on.ensures in let b = c.advance_on.new.attempt in
     let on = read_on l c.args.tx p q r c.needs.attempt b e.cells e.stays e.grows e.program e.variables e.agrees e.logged e.apart i.0 i.1 in
     let wide = ap length (at_stays q r e.stays) ∙ (c.law.ensures ∙ (ap (λ (z : CellsId). z.variables) (i.1.cells ∙ c.requires.own) ∙ c.requires.variables)) in
-    let ended : EndsOn l c.args.tx (at r) Retries b = ends_on l c.args.tx (at r) Retries c.advance_on.result b c.in-Retry.is e.answers e.frame wide on.0 in
+    let ended : EvaluatesTo l c.args.tx (at r) Retries b = evaluates_to l c.args.tx (at r) Retries c.advance_on.result b c.in-Retry.is e.answers e.frame wide on.0 in
     search rules
 
 pub returns-in-Retry-clause-open : goal.returns-in-Retry-clause-open

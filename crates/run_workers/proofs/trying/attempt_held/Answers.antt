@@ -1,13 +1,14 @@
 use Rattle.std.proofs.Common.{rules, ◌≡◌, ◌+◌, ◌∙◌, length, ap, sym, subst, arith}
 use Rattle.std.proofs.lemmas.List.{length_push}
 use Rattle.txn_programs.specs.Meaning.{value_at}
+use Rattle.txn_programs.specs.declared.ast.Outcome.TheVariants.{Returned, Thrown, Retries}
 use Rattle.attempt.specs.Asking.{Known}
 use Rattle.attempt.specs.Frame.{Agrees}
 use Rattle.cells.specs.Cells.{CellsId}
 use Rattle.cells.specs.Passing.{at}
 use Rattle.attempt.proofs.Logs.{going_advanced}
-use Rattle.run_observer.specs.Observing.{IsCutFrom, IsStaleFrom}
-use Rattle.run_observer.proofs.Seeing.{moving_more, moving_few, cut_stale, going_told, room_for, observes}
+use Rattle.run_observer.specs.Observing.{IsCutFrom, IsStaleFrom, EvaluatesTo}
+use Rattle.run_observer.proofs.Seeing.{moving_more, moving_few, cut_stale, going_told, room_for, observes, evaluates_to}
 use Rattle.run_workers.proofs.trying.attempt_held.Goals as goal
 
 pub tell-requires-clause-exists : goal.tell-requires-clause-exists
@@ -63,8 +64,41 @@ returns-in-Memory-clause-observes g c =
     let i = c.loop-x.invariant in let own = ap (λ (z : CellsId). z.variables) (i.1.cells ∙ c.requires.own) in
     observes c.args.catalogue.now c.args.tx (at c.loop-x.pass) c.loop-x.attempt c.args.pass.now c.loop-x.pass i.0 i.1 (own ∙ c.requires.variables)
 
-pub returns-in-Returned : goal.returns-in-Returned
-returns-in-Returned g c =
+pub returns-in-Returned-clause-observes : goal.returns-in-Returned-clause-observes
+returns-in-Returned-clause-observes g c =
     let i = c.loop-x.invariant in let own = ap (λ (z : CellsId). z.variables) (i.1.cells ∙ c.requires.own) in
-    let begins = observes c.args.catalogue.now c.args.tx (at c.loop-x.pass) c.loop-x.attempt c.args.pass.now c.loop-x.pass i.0 i.1 (own ∙ c.requires.variables) in
+    observes c.args.catalogue.now c.args.tx (at c.loop-x.pass) c.loop-x.attempt c.args.pass.now c.loop-x.pass i.0 i.1 (own ∙ c.requires.variables)
+
+pub returns-in-Returned-clause-ended : goal.returns-in-Returned-clause-ended
+returns-in-Returned-clause-ended g c =
+    let l = c.args.catalogue.now in let m = at c.loop-x.pass in let e = c.advance.ensures in let i = c.loop-x.invariant in
+    let going = going_advanced l c.args.tx m c.loop-x.attempt c.advance.new.self e.program e.variables e.log i.0 in
+    let wide = c.law.ensures ∙ (ap (λ (z : CellsId). z.variables) (i.1.cells ∙ c.requires.own) ∙ c.requires.variables) in
+    let ended : EvaluatesTo l c.args.tx m (Returned c.in-Returned.v) c.advance.new.self = evaluates_to l c.args.tx m (Returned c.in-Returned.v) c.advance.result c.advance.new.self c.in-Returned.is e.answers e.frame wide going in
+    search rules
+
+pub returns-in-Thrown-clause-observes : goal.returns-in-Thrown-clause-observes
+returns-in-Thrown-clause-observes g c =
+    let i = c.loop-x.invariant in let own = ap (λ (z : CellsId). z.variables) (i.1.cells ∙ c.requires.own) in
+    observes c.args.catalogue.now c.args.tx (at c.loop-x.pass) c.loop-x.attempt c.args.pass.now c.loop-x.pass i.0 i.1 (own ∙ c.requires.variables)
+
+pub returns-in-Thrown-clause-ended : goal.returns-in-Thrown-clause-ended
+returns-in-Thrown-clause-ended g c =
+    let l = c.args.catalogue.now in let m = at c.loop-x.pass in let e = c.advance.ensures in let i = c.loop-x.invariant in
+    let going = going_advanced l c.args.tx m c.loop-x.attempt c.advance.new.self e.program e.variables e.log i.0 in
+    let wide = c.law.ensures ∙ (ap (λ (z : CellsId). z.variables) (i.1.cells ∙ c.requires.own) ∙ c.requires.variables) in
+    let ended : EvaluatesTo l c.args.tx m (Thrown c.in-Thrown.fault) c.advance.new.self = evaluates_to l c.args.tx m (Thrown c.in-Thrown.fault) c.advance.result c.advance.new.self c.in-Thrown.is e.answers e.frame wide going in
+    search rules
+
+pub returns-in-Retry-clause-observes : goal.returns-in-Retry-clause-observes
+returns-in-Retry-clause-observes g c =
+    let i = c.loop-x.invariant in let own = ap (λ (z : CellsId). z.variables) (i.1.cells ∙ c.requires.own) in
+    observes c.args.catalogue.now c.args.tx (at c.loop-x.pass) c.loop-x.attempt c.args.pass.now c.loop-x.pass i.0 i.1 (own ∙ c.requires.variables)
+
+pub returns-in-Retry-clause-ended : goal.returns-in-Retry-clause-ended
+returns-in-Retry-clause-ended g c =
+    let l = c.args.catalogue.now in let m = at c.loop-x.pass in let e = c.advance.ensures in let i = c.loop-x.invariant in
+    let going = going_advanced l c.args.tx m c.loop-x.attempt c.advance.new.self e.program e.variables e.log i.0 in
+    let wide = c.law.ensures ∙ (ap (λ (z : CellsId). z.variables) (i.1.cells ∙ c.requires.own) ∙ c.requires.variables) in
+    let ended : EvaluatesTo l c.args.tx m Retries c.advance.new.self = evaluates_to l c.args.tx m Retries c.advance.result c.advance.new.self c.in-Retry.is e.answers e.frame wide going in
     search rules
