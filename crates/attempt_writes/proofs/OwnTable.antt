@@ -1,14 +1,14 @@
 -- A table of values by variable, and the ascending list of its pairs.
-use Rattle.std.proofs.Common.{◌≡◌, ◌≢◌, ℕ, zero, suc, ◌+◌, ◌<◌, ◌≤◌, List, [], ◌∷◌, length, Option, Some, None, ℤ, refl, sym, ap, ◌∙◌, subst, arith, ⊎_elim, true, false, ◌==◌, get_or, replicate, slice_get}
+use Rattle.std.proofs.Common.{◌≡◌, ◌≢◌, ℕ, zero, suc, ◌+◌, ◌<◌, ◌≤◌, List, [], ◌∷◌, ◌++◌, length, Option, Some, None, ℤ, refl, sym, ap, ◌∙◌, subst, arith, ⊎_elim, true, false, ◌==◌, get_or, replicate, slice_get}
 use Rattle.std.proofs.lemmas.Bool.{cases_lt}
 use Rattle.std.proofs.lemmas.Bool.Decides.{nat_tests, eqb_tells}
 use Rattle.std.proofs.Math.ListN.{set}
 use Rattle.txn_programs.specs.declared.ast.VarId.{VarId}
-use Rattle.attempt_writes.specs.Known.{Known, known_at, write}
+use Rattle.attempt_writes.specs.Known.{Known, known_at, or_known, write}
 use Rattle.attempt_writes.specs.Order.{AllAfter, AllKnown, Ascending}
 use Rattle.attempt_writes.specs.Own.{flat, value_in, onto, listed, valued, IsListed, AreListed}
 use Rattle.attempt_writes.proofs.InOrder.{known_past}
-use Rattle.attempt_writes.proofs.Pairs.{Ascending-write}
+use Rattle.attempt_writes.proofs.Pairs.{Ascending-write, known_at-append}
 
 pub get_same : {X : Type 0} (t : List X) (i : ℕ) (a : X) → i < length t → slice_get (set t i a) i ≡ Some a
 get_same [] i a lt = absurd (omega arith)
@@ -216,11 +216,23 @@ put_listed w t x o u h here still y b e = same_or_other x.0 y.0
     (λ same. subst (IsListed u) (same_id x y same) here)
     (λ ne. still y (h y b (sym (ap flat (get_other t x.0 y.0 o (λ s. ne (sym s)))) ∙ e)))
 
--- the table without the first pair's value
-pub forget_listed : (p : VarId × ℤ) (w : Known) (t : List (Option ℤ)) → p.0.0 < length t → AreListed (p ∷ w) t → AreListed w (set t p.0.0 None)
-forget_listed p w t lt h y b e = same_or_other p.0.0 y.0
+-- what is not the last pair's variable is listed before it
+listed_before : (w : Known) (p : VarId × ℤ) (y : VarId) → p.0.0 ≢ y.0 → IsListed (w ++ p ∷ []) y → IsListed w y
+listed_before w p y ne l = (l.0, first (known_at w y) l.0 (ap (or_known (known_at w y)) (sym (known_past p [] y ne)) ∙ (sym (known_at-append w p.0 p.1 y) ∙ l.1)))
+  where
+    first : (o : Option ℤ) (v : ℤ) → or_known o None ≡ Some v → o ≡ Some v
+    first None v e = e
+    first (Some u) v e = e
+
+-- the table without the last pair's value
+pub forget_listed : (w : Known) (p : VarId × ℤ) (t : List (Option ℤ)) → p.0.0 < length t → AreListed (w ++ p ∷ []) t → AreListed w (set t p.0.0 None)
+forget_listed w p t lt h y b e = same_or_other p.0.0 y.0
     (λ same. let none = ap flat (get_same t p.0.0 None lt) in let e' = sym none ∙ ap (λ k. flat (slice_get (set t p.0.0 None) k)) same ∙ e in absurd (cc e'))
-    (λ ne. let l = h y b (sym (ap flat (get_other t p.0.0 y.0 None (λ s. ne (sym s)))) ∙ e) in (l.0, sym (known_past p w y ne) ∙ l.1))
+    (λ ne. listed_before w p y ne (h y b (sym (ap flat (get_other t p.0.0 y.0 None (λ s. ne (sym s)))) ∙ e)))
+
+pub known_but_last : (n : ℕ) (w : Known) (p : VarId × ℤ) → AllKnown n (w ++ p ∷ []) → AllKnown n w × (p.0.0 < n)
+known_but_last n [] p k = (tt, k.0)
+known_but_last n (q ∷ w) p k = let rest = known_but_last n w p k.1 in ((k.0, rest.0), rest.1)
 
 pub value_or : (t : List (Option ℤ)) (i : ℕ) → flat (slice_get t i) ≡ get_or t i None
 value_or [] i = refl

@@ -147,14 +147,15 @@ fn gather(pairs: &mut [(VarId, i64)], table: &[Option<i64>]) -> usize
     kept
 }
 
-/// Takes the value of each listed variable out of a table.
-fn forget(table: &mut [Option<i64>], pairs: &[(VarId, i64)])
-    requires known { AllKnown (length table.old) pairs.now }
-    requires listed { AreListed pairs.now table.old }
+/// Unlists all, and takes the value of each out of a table.
+fn forget(table: &mut [Option<i64>], pairs: &mut Pairs)
+    requires known { AllKnown (length table.old) pairs.old.items }
+    requires listed { AreListed pairs.old.items table.old }
     ensures wide { length table.new ≡ length table.old }
     ensures nothing { AreListed [] table.new }
+    ensures none { pairs.new.items ≡ [] }
 {
-    for pair in pairs {
+    while let Some(pair) = pairs.pop() {
         table[pair.0.0 as usize] = None;
     }
 }
@@ -167,6 +168,16 @@ pub type Loops = ArrayVec<u32, ROOM>;
 
 /// The loops to go back to: seldom any. Up to four lie in the value itself.
 pub type Kept = SmallVec<u32, 4>;
+
+/// The loops to go back to. Most often there is none, and nothing is copied.
+fn kept(alloc: Global, loops: &[u32]) -> Result<Kept, AllocError>
+    ensures { IfOk result (λ k. k.items ≡ loops.now) }
+{
+    if loops.is_empty() {
+        return Ok(SmallVec::new(alloc));
+    }
+    SmallVec::from_slice(alloc, loops)
+}
 
 /// A variable that a live first branch wrote, its own write before, and the hint before.
 #[derive(Clone, Copy)]
@@ -456,7 +467,7 @@ impl Writes {
         ensures writes { OnOk result (self.new.writes ≡ self.old.writes) }
     {
         let height = self.notes.len();
-        let loops = SmallVec::from_slice(self.alloc, loops.as_slice())?;
+        let loops = kept(self.alloc, loops.as_slice())?;
         self.branches.push(Branch {
             begin,
             passed,
@@ -521,8 +532,7 @@ impl Writes {
         ensures marks { self.new.marks ≡ [] }
         ensures pairs { self.new.pairs ≡ [] }
     {
-        forget(&mut self.table, self.pairs.as_slice());
-        self.pairs.clear();
+        forget(&mut self.table, &mut self.pairs);
         self.notes.clear();
         self.branches.clear();
     }

@@ -20,4 +20,5 @@ mod Reporting
 mod Listed
 pub mod Accounts
 mod Finishing
+mod Serving
 mod Tallies

@@ -281,15 +281,17 @@ impl<'a> Book<'a> {
         }
         let catalogue = self.catalogue;
         let tx = transaction_of(catalogue, &self.submitted, task);
-        let Ok(_) = bring_to_end(attempt, catalogue, tx, &self.present.values) else {
+        let Ok(how) = bring_to_end(attempt, catalogue, tx, &self.present.values) else {
             let _ = self.give_up(task);
             return Serial::Abandoned;
         };
-        match self.finish_lent(task, attempt) {
-            Finish::NotRunning | Finish::Stale => unreachable!(),
-            Finish::Parked => Serial::Parked,
-            Finish::Committed(number) => Serial::Committed(number),
+        // It read the present values, so its log is not compared with them once more.
+        let writes = attempt.writes();
+        if matches!(how, Outcome::Retries) {
+            self.park(task, attempt.log());
+            return Serial::Parked;
         }
+        Serial::Committed(self.commit(task, how, writes))
     }
 
     /// A running task is given up: it will not be entered. `false` and no change where it was not

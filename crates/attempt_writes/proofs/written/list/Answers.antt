@@ -1,4 +1,4 @@
-use Rattle.std.proofs.Common.{◌≡◌, ◌≤◌, ◌∙◌, ◌++◌, ◌∷◌, [], ℤ, pos, insert, length, ap, subst, sym, arith}
+use Rattle.std.proofs.Common.{◌≡◌, ◌≤◌, ◌∙◌, ◌++◌, ◌∷◌, [], pos, length, ap, subst, sym, arith}
 use Rattle.std.proofs.lemmas.List.Edits.{insert_end}
 use mir.Syntax.{w64}
 use mir.Val.{to_z, of_z}

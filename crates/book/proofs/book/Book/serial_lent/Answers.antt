@@ -1,42 +1,28 @@
-use Rattle.std.proofs.Common.{List, ◌≡◌, sym, ◌∙◌, ap}
-use Rattle.txn_programs.specs.declared.ast.TaskId.{TaskId}
-use Rattle.txn_programs.specs.declared.ast.TxId.{TxId}
-use Rattle.txn_programs.specs.declared.ast.Outcome.{Outcome}
+use Rattle.std.proofs.Common.{rules, ◌≡◌, ◌≢◌, Some, sym, subst, ap, ◌∙◌}
+use Rattle.std.specs.List.{slice_get}
+use Rattle.txn_words.specs.Stores.{with_changes}
 use Rattle.txn_programs.specs.declared.ast.Outcome.TheVariants.{Retries}
-use Rattle.txn_programs.specs.Meaning.{State, outcome}
-use Rattle.txn_programs.specs.Listing.{Listing, task_tx, task_program, program_at}
-use Rattle.attempt.specs.View.{AttemptView}
-use Rattle.attempt.specs.declared.next.Stand.TheVariants.{Over}
-use Rattle.book.specs.declared.book.Book.TheInside.{Inside}
-use Rattle.book.specs.View.{BookView}
-use Rattle.book.specs.BookInside.{book_of}
-use Rattle.txn.specs.Grown.{grown}
-use Rattle.book.specs.Turns.{EndsOn}
+use Rattle.attempt.specs.Asking.{Known}
+use Rattle.attempt.specs.Order.{Ascending}
+use Rattle.book.specs.View.{BookView, IsRunning}
+use Rattle.book.proofs.Draining.{committed_catalogue}
+use Rattle.book.proofs.Filling.{running_with}
+use Rattle.book.proofs.Serving.{outcome_now, after_now}
 use Rattle.book.proofs.book.Book.serial_lent.Goals as goal
 
-same_end : (o p : Outcome) → Over o ≡ Over p → o ≡ p
-same_end o p e = cc
+pub commit-requires-clause-after : goal.commit-requires-clause-after
+commit-requires-clause-after c =
+    let told = c.writes-writes.ensures.value in
+    after_now c.self.inside c.args.self.now c.args.task c.transaction_of-tx.result c.deref.result.now c.in-Ok.how c.bring_to_end.new.attempt c.self.view_is c.deref.ensures.value c.transaction_of-tx.ensures.value c.in-Ok.ensures (subst Ascending told c.writes-writes.ensures.ascending)
+    ∙ ap (λ (l : Known). with_changes c.args.self.now.present.state l) (sym told)
 
--- the attempt ended as the task's program does on the state
-ended_so : (l : Listing) (txs : List TxId) (task : TaskId) (tx : TxId) (m : State) (a : AttemptView) → tx ≡ task_tx (grown l txs) task → (h : EndsOn l tx m a) → h.ended.0 ≡ outcome (task_program (grown l txs) task) m
-ended_so l txs task tx m a own h = h.outcome_is ∙ ap (λ (x : TxId). outcome (program_at l x) m) own
+pub returns-clause-served : goal.returns-clause-served
+returns-clause-served c =
+    let running : IsRunning c.args.self.now c.args.task =
+    ap (λ (x : BookView). slice_get x.tasks c.args.task.0) (sym c.self.view_is) ∙ running_with c.self.inside.present.values.items c.self.inside.table.tasks c.args.task.0 c.if-not-is_running.ensures in
+    let out = outcome_now c.self.inside c.args.self.now c.args.task c.transaction_of-tx.result c.deref.result.now c.in-Ok.how c.bring_to_end.new.attempt c.self.view_is c.deref.ensures.value c.transaction_of-tx.ensures.value c.in-Ok.ensures in
+    let ends : c.in-Ok.how ≢ Retries = search rules in
+    (running, λ e. ends (out ∙ e), c.commit.ensures.number, c.commit.ensures.committed)
 
--- the same, seen from outside
-outcome_now : (b : Inside) (v : BookView) (task : TaskId) (tx : TxId) (m : State) (a : AttemptView) → book_of b ≡ v → m ≡ b.present.values.items → tx ≡ task_tx (grown b.catalogue.now b.submitted.items) task → (h : EndsOn b.catalogue.now tx m a) → h.ended.0 ≡ outcome (task_program v.catalogue task) v.present.state
-outcome_now b v task tx m a view values own h =
-    ended_so b.catalogue.now b.submitted.items task tx m a own h
-    ∙ (ap (λ (s : State). outcome (task_program (grown b.catalogue.now b.submitted.items) task) s) values ∙ ap (λ (x : BookView). outcome (task_program x.catalogue task) x.present.state) view)
-
-pub returns-in-Parked-clause-served : goal.returns-in-Parked-clause-served
-returns-in-Parked-clause-served c =
-    let f = c.in-Parked.ensures.finished in
-    let h = c.in-Ok.ensures in
-    let out = outcome_now c.self.inside c.args.self.now c.args.task c.transaction_of-tx.result c.deref.result.now c.bring_to_end.new.attempt c.self.view_is c.deref.ensures.value c.transaction_of-tx.ensures.value h in
-    (f.0, sym out ∙ same_end h.ended.0 Retries (sym h.ended.1 ∙ f.2), (c.bring_to_end.new.attempt.log, f.1, f.3))
-
-pub returns-in-Committed-clause-served : goal.returns-in-Committed-clause-served
-returns-in-Committed-clause-served c =
-    let f = c.in-Committed.ensures.finished in
-    let h = c.in-Ok.ensures in
-    let out = outcome_now c.self.inside c.args.self.now c.args.task c.transaction_of-tx.result c.deref.result.now c.bring_to_end.new.attempt c.self.view_is c.deref.ensures.value c.transaction_of-tx.ensures.value h in
-    (f.0, λ e. f.2 (h.ended.1 ∙ ap Over (out ∙ e)), f.3, f.4)
+pub returns-clause-catalogue : goal.returns-clause-catalogue
+returns-clause-catalogue c = ap (λ (b : BookView). b.catalogue) c.commit.ensures.committed ∙ committed_catalogue c.args.self.now c.args.task

@@ -1,0 +1,34 @@
+-- What a turn on the present values says, seen from outside.
+use Rattle.std.proofs.Common.{◌≡◌, sym, ◌∙◌, ap}
+use Rattle.txn_programs.specs.declared.ast.TaskId.{TaskId}
+use Rattle.txn_programs.specs.declared.ast.TxId.{TxId}
+use Rattle.txn_programs.specs.declared.ast.Outcome.{Outcome}
+use Rattle.txn_programs.specs.Meaning.{State, outcome, after}
+use Rattle.txn_programs.specs.Tree.{Program}
+use Rattle.txn_programs.specs.Listing.{task_tx, task_program, program_at}
+use Rattle.txn_words.specs.Stores.{with_changes}
+use Rattle.txn.specs.Grown.{grown}
+use Rattle.attempt.specs.Frame.{store}
+use Rattle.attempt.specs.Order.{Ascending}
+use Rattle.attempt.specs.View.{AttemptView}
+use Rattle.book.specs.declared.book.Book.TheInside.{Inside}
+use Rattle.book.specs.BookInside.{book_of}
+use Rattle.book.specs.Turns.{EndsOn}
+use Rattle.book.specs.View.{BookView}
+use Rattle.book.proofs.Writes.{store_is_changes}
+
+-- an attempt of the task's transaction that ended on the present values of the book, which is seen as v
+module _ (b : Inside) (v : BookView) (task : TaskId) (tx : TxId) (m : State) (how : Outcome) (a : AttemptView) (view : book_of b ≡ v) (values : m ≡ b.present.values.items) (own : tx ≡ task_tx (grown b.catalogue.now b.submitted.items) task) (h : EndsOn b.catalogue.now tx m how a) where
+  program_is : program_at b.catalogue.now tx ≡ task_program v.catalogue task
+  program_is = ap (λ (x : TxId). program_at b.catalogue.now x) own ∙ ap (λ (x : BookView). task_program x.catalogue task) view
+
+  state_is : m ≡ v.present.state
+  state_is = values ∙ ap (λ (x : BookView). x.present.state) view
+
+  pub outcome_now : how ≡ outcome (task_program v.catalogue task) v.present.state
+  outcome_now = sym h.outcome_is ∙ (ap (λ (t : Program). outcome t m) program_is ∙ ap (outcome (task_program v.catalogue task)) state_is)
+
+  pub after_now : Ascending a.writes → after (task_program v.catalogue task) v.present.state ≡ with_changes v.present.state a.writes
+  after_now up =
+      sym (ap (λ (t : Program). after t m) program_is ∙ ap (after (task_program v.catalogue task)) state_is)
+      ∙ (h.after_is ∙ (store_is_changes a.writes m up ∙ ap (λ (s : State). with_changes s a.writes) state_is))
