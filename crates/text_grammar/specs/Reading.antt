@@ -180,14 +180,19 @@ stmt_at (suc depth) ts = do
 
 -- ---- files
 
--- ( WORD NAME INT )
-unfoldable pub pair_at : List ℕ → List Lexeme → Read Pair
-pair_at word ts = do
-  inside ← form_at word ts
+-- NAME INT )
+abbrev pub pair_behind : List Lexeme → Read Pair
+pair_behind inside = do
   name ← name_at inside
   value ← int_at name.1
   rest ← close_at value.1
   Ok (record { name = name.0; value = value.0 }, rest)
+
+-- ( WORD NAME INT )
+unfoldable pub pair_at : List ℕ → List Lexeme → Read Pair
+pair_at word ts = do
+  inside ← form_at word ts
+  pair_behind inside
 
 -- ( always NAME COND )
 unfoldable pub always_at : List Lexeme → Read Always

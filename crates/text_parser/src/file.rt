@@ -6,7 +6,7 @@ ghost use Rattle.text_words.specs.Tokens.{Lexeme, tokens};
 ghost use Rattle.text_words.specs.Answers.{Gives, ◌>>=◌ as ◌>>=ᴿ◌};
 ghost use Rattle.text_words.specs.declared.fault.ReadFault.TheVariants.{Shape};
 ghost use Rattle.text_grammar.specs.Tree.{Declaration};
-ghost use Rattle.text_grammar.specs.Reading.{pair_at, always_at, conditions_at, tx_at, end_at, form_numbered, announced_at, heading_at, file_of, tree_of};
+ghost use Rattle.text_grammar.specs.Reading.{pair_at, pair_behind, always_at, conditions_at, tx_at, end_at, form_numbered, announced_at, heading_at, file_of, tree_of};
 ghost use Rattle.text_words.specs.TokenReading.{begins, all_of, close_at};
 ghost use Rattle.text_grammar.specs.View.{view_expr, view_stmt, view_pair, view_pairs, view_always, view_conditions, view_tx, view_txs, view_file};
 
@@ -23,14 +23,13 @@ use text_words::lexer::next_token;
 use text_words::numeral::Numeral;
 use text_words::tokens::{begins, close, form, int_of, name_of};
 
-#[tactic(auto, unfolding(text_grammar::specs::Reading::pair_at))]
-fn pair_of<'a>(bytes: &'a [u8], word: &str) -> Result<(RawPair<'a>, &'a [u8]), ReadFault>
-    ensures value { Gives (λ x. (view_pair x.0, tokens x.1.now)) result (pair_at word.now (tokens bytes.now)) }
+/// A pair behind its parenthesis and its word.
+fn pair_behind(bytes: &[u8]) -> Result<(RawPair<'_>, &[u8]), ReadFault>
+    ensures value { Gives (λ x. (view_pair x.0, tokens x.1.now)) result (pair_behind (tokens bytes.now)) }
     ensures shorter { IfOk result (λ x. length x.1.now < length bytes.now) }
     ensures kind { IfErr result (λ e. e ≡ Shape) }
 {
-    let rest = form(bytes, word)?;
-    let (name, rest) = name_of(rest)?;
+    let (name, rest) = name_of(bytes)?;
     let (value, rest) = int_of(rest)?;
     let rest = close(rest)?;
     Ok((RawPair { name, value }, rest))
@@ -108,8 +107,8 @@ pub fn pairs_of<'a>(
 {
     let mut pairs = Vec::new(alloc);
     let mut rest = bytes;
-    'pairs: while begins(rest, word) {
-        let (pair, after) = pair_of(rest, word)?;
+    'pairs: while let Ok(inside) = form(rest, word) {
+        let (pair, after) = pair_behind(inside)?;
         pairs.push(pair)?;
         rest = after;
     }
