@@ -242,6 +242,11 @@ value_or (o ∷ t) (suc i) = value_or t i
 same_tested : (m n : ℕ) → (m == n) ≡ true → m ≡ n
 same_tested m n e = ⊎_elim (λ (t : (m == n ≡ true) × (m ≡ n)). t.1) (λ (t : (m == n ≡ false) × (m ≢ n)). absurd (cc)) (eqb_tells m n)
 
+-- where no variable is listed nothing is written
+pub unwritten : (w : Known) (t : List (Option ℤ)) → (length w == 0) ≡ true → AreListed w t → w ≡ listed 0 t
+unwritten [] t e h = sym (listed_nothing t h)
+unwritten (p ∷ w) t e h = let none = same_tested (length (p ∷ w)) 0 e in absurd (omega (arith, none))
+
 -- where no variable is listed none has a value
 pub empty_known : (w : Known) (t : List (Option ℤ)) (x : VarId) → (length w == 0) ≡ true → AreListed w t → None ≡ known_at (listed 0 t) x
 empty_known [] t x e h = ap (λ (l : Known). known_at l x) (sym (listed_nothing t h))

@@ -515,7 +515,21 @@ impl Writes {
     }
 
     /// Makes the pairs those of the own writes, and ends all live branches.
+    #[inline(always)]
     pub fn settle(&mut self)
+        ensures writes { self.new.writes ≡ self.old.writes }
+        ensures marks { self.new.marks ≡ [] }
+        ensures pairs { self.new.pairs ≡ self.old.writes }
+    {
+        if self.pairs.is_empty() && self.branches.is_empty() {
+            return;
+        }
+        self.settle_some();
+    }
+
+    /// The same, where something was written or a branch is live.
+    #[inline(never)]
+    fn settle_some(&mut self)
         ensures writes { self.new.writes ≡ self.old.writes }
         ensures marks { self.new.marks ≡ [] }
         ensures pairs { self.new.pairs ≡ self.old.writes }

@@ -1,47 +1,10 @@
-use Rattle.std.proofs.Common.{◌≡◌, ◌≤◌, ◌∙◌, List, length, reverse, take, ap, subst, sym, arith}
-use Rattle.std.specs.List.{All}
-use Rattle.std.proofs.lemmas.List.Elements.{All-nil}
-use Rattle.arrayvec.proofs.ArrayVecLemmas.{items-with_items}
-use Rattle.attempt_writes.specs.declared.written.Branch.{Branch}
-use Rattle.attempt_writes.specs.declared.written.Note.{Note}
-use Rattle.attempt_writes.specs.Known.{Known}
-use Rattle.attempt_writes.specs.Order.{AllKnown, Ascending}
-use Rattle.attempt_writes.specs.Own.{Own, AreHinted, AreListed, AreNested, AreNotedListed, AreOnce, listed, valued}
-use Rattle.attempt_writes.proofs.OwnTable.{known_valued, listed_all, listed_ascending, valued_listed}
+use Rattle.std.proofs.Common.{◌∙◌, ap, sym}
+use Rattle.attempt_writes.specs.Own.{Own}
+use Rattle.attempt_writes.proofs.OwnTable.{unwritten}
 use Rattle.attempt_writes.proofs.written.Writes.settle.Goals as goal
 
-pub invariant_of-self : goal.invariant_of-self
-invariant_of-self c =
+pub returns-then-is_empty-2-clause-pairs : goal.returns-then-is_empty-2-clause-pairs
+returns-then-is_empty-2-clause-pairs c =
     let i = c.self.inside in
-    let w = i.pairs.items in
-    let k = c.self.invariant in
-    let same = c.gather-kept.ensures.same ∙ ap length c.as_mut_slice.ensures.value in
-    let now : c.truncate.new.self.items ≡ valued w i.table =
-    c.truncate.ensures.items
-    ∙ ap (λ (l : Known). take c.gather-kept.result l) (items-with_items i.pairs c.gather-kept.new.pairs same)
-    ∙ c.gather-kept.ensures.front ∙ ap (λ (l : Known). valued l i.table) c.as_mut_slice.ensures.value in
-    let settled : listed 0 i.table ≡ c.truncate.new.self.items = sym (now ∙ valued_listed w i.table k.ascending k.listed) in
-    record {
-      wide = k.wide;
-      hints = k.hints;
-      ascending = subst Ascending settled (listed_ascending i.table);
-      known = subst (AllKnown 256) (sym now) (known_valued 256 w i.table k.known);
-      listed = subst (λ (l : Known). AreListed l i.table) settled (listed_all i.table);
-      noted = subst (λ (l : List Note). AreNotedListed c.truncate.new.self.items l) (sym c.clear.ensures.items) tt;
-      nested = subst (λ (l : List Branch). AreNested (length c.clear.new.self.items) (reverse l)) (sym c.clear-2.ensures.items) tt;
-      few = omega (arith, ap length c.clear.ensures.items);
-      hinted = subst (λ (l : List Note). AreHinted 0 l i.noted) (sym c.clear.ensures.items) tt;
-      once = subst (λ (l : List Branch). AreOnce c.clear.new.self.items (reverse l)) (sym c.clear-2.ensures.items) tt;
-      short = subst (All (λ (b : Branch). length b.loops.items ≤ 32)) (sym c.clear-2.ensures.items) (All-nil (λ (b : Branch). length b.loops.items ≤ 32));
-    }
-
-pub returns-clause-pairs : goal.returns-clause-pairs
-returns-clause-pairs c =
-    let i = c.self.inside in
-    let w = i.pairs.items in
-    let same = c.gather-kept.ensures.same ∙ ap length c.as_mut_slice.ensures.value in
-    c.truncate.ensures.items
-    ∙ ap (λ (l : Known). take c.gather-kept.result l) (items-with_items i.pairs c.gather-kept.new.pairs same)
-    ∙ c.gather-kept.ensures.front ∙ ap (λ (l : Known). valued l i.table) c.as_mut_slice.ensures.value
-    ∙ valued_listed w i.table c.self.invariant.ascending c.self.invariant.listed
-    ∙ ap (λ (o : Own). o.writes) c.self.view_is
+    sym (ap (λ (o : Own). o.pairs) c.self.view_is)
+    ∙ (unwritten i.pairs.items i.table (sym c.if-is_empty.ensures) c.self.invariant.listed ∙ ap (λ (o : Own). o.writes) c.self.view_is)
