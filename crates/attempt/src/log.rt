@@ -1,6 +1,7 @@
 //! The log of an attempt, kept after it.
 
 ghost use Rattle.std.specs.Prelude.{◌≡◌};
+ghost use Rattle.attempt_writes.specs.Order.{Apart};
 
 use attempt_writes::Layer;
 use std::marker::Model;
@@ -18,12 +19,17 @@ impl Model for Log {
     ghost Value = { Known };
 
     ghost view = { λ l. l.pairs.items };
+
+    ghost use Rattle.attempt_writes.specs.Order.{Apart};
+
+    ghost invariant = { λ l. Apart l.pairs.items };
 }
 
 impl Log {
     /// The pairs, in the order of supply.
     pub fn as_slice(&self) -> &[(VarId, i64)]
-        ensures { result.now ≡ self.now }
+        ensures value { result.now ≡ self.now }
+        ensures apart { Apart result.now }
     {
         self.pairs.as_slice()
     }

@@ -13,7 +13,7 @@ use Rattle.txn_programs.specs.Replay.{Replays, opening, entered}
 use Rattle.txn_words.specs.Words.{last_state}
 use Rattle.attempt.specs.Asking.{Known, ask, Ends}
 use Rattle.attempt.specs.Frame.{Agrees}
-use Rattle.attempt.specs.Order.{AllKnown}
+use Rattle.attempt.specs.Order.{AllKnown, Apart}
 use Rattle.book.specs.Tasks.{Task}
 use Rattle.book.specs.Tasks.{Ready, Running, Parked, Done, GivenUp}
 use Rattle.book.specs.View.{BookView}
@@ -29,6 +29,8 @@ pub record Waits (l : Listing) (state : State) (task : TaskId) (log : Known) : T
   pub agrees : Agrees log state
   pub asks : ask (task_program l task) log ≡ Ends Retries []
   pub known : AllKnown (length l.initial) log
+  -- each variable is named once
+  pub apart : Apart log
 
 abbrev pub AreParked : Listing → State → List Task → Type 0
 AreParked l state ts = (t : ℕ) (log : Known) → slice_get ts t ≡ Some (Parked log) → Waits l state (record { 0 = t }) log

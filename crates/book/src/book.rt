@@ -5,7 +5,7 @@ ghost use Rattle.txn_programs.specs.declared.limits.TheConstants.{MAX_TASKS};
 ghost use Rattle.txn_words.specs.Stores.{with_changes};
 ghost use Rattle.attempt.specs.Asking.{Known};
 ghost use Rattle.attempt.specs.Frame.{Agrees};
-ghost use Rattle.attempt.specs.Order.{Ascending, AllKnown, Apart};
+ghost use Rattle.attempt.specs.Order.{Ascending, AllKnown};
 ghost use Rattle.cells.specs.Passing.{MeetsBy};
 ghost use Rattle.book.specs.Turns.{is_committed};
 
@@ -469,7 +469,6 @@ impl<'a> Book<'a> {
     fn park(&mut self, task: TaskId, log: &[(VarId, i64)])
         requires running { IsRunning self.old task }
         requires waits { Waits self.old.catalogue self.old.present.state task log.now }
-        requires apart { Apart log.now }
         ensures { self.new ≡ stands self.old task (Task.Parked log.now) }
     {
         self.table.park(task, log);

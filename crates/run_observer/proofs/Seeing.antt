@@ -16,12 +16,13 @@ use Rattle.attempt.specs.Order.{AllKnown, Apart}
 use Rattle.attempt.specs.View.{AttemptView, supplied, next_of, Answers, HoldsAt}
 use Rattle.attempt.specs.declared.next.Next.{Next}
 use Rattle.attempt.specs.declared.next.Next.TheVariants as next
-use Rattle.attempt.specs.declared.next.Stand.TheVariants.{Over}
+use Rattle.attempt.specs.Room.{NeedsNoMemory}
+use Rattle.attempt.specs.declared.next.Stand.TheVariants.{Over, Fresh, Spent}
 use Rattle.cells.specs.Cells.{CellsId}
 use Rattle.cells.specs.Passing.{Passing, at, BeginsBy}
 use Rattle.cells.specs.Answers.{AgreesUpTo}
 use Rattle.attempt.proofs.Logs.{Going, agrees_more, known_more, apart_more, few_more, few_apart}
-use Rattle.run_observer.specs.Observing.{ObservesBy, ShowsChange, IsStaleFrom, Moment, moment, StaysAt, TellsBy, MovesOn, ShowsOther, IsCutFrom, EvaluatesTo}
+use Rattle.run_observer.specs.Observing.{ObservesBy, ShowsChange, IsStaleFrom, Moment, moment, StaysAt, TellsBy, MovesOn, ShowsOther, IsCutFrom, EvaluatesTo, LacksMemory}
 
 -- a pass that stays is at the same state
 pub at_stays : (p q : Passing) → StaysAt p q → at q ≡ at p
@@ -167,6 +168,19 @@ end_needs_none Retries n x e f = cc
 
 pub memory_needs_none : (n : Next) (x : VarId) → n ≡ next.Memory → n ≢ next.Need x
 memory_needs_none n x e f = cc
+
+-- an answer of want of memory has spent the attempt, whose program may take some
+pub lacks_more : (n : Next) (a b : AttemptView) → n ≡ next.Memory → Answers n b → b.program ≡ a.program → a.stand ≡ Fresh → (NeedsNoMemory a.program → a.stand ≢ Spent → n ≢ next.Memory) → LacksMemory b
+lacks_more n a b e says program fresh short =
+    inl (subst (λ (k : Next). Answers k b) e says, λ small. short (subst NeedsNoMemory program small) (λ spent. fresh_stays (sym fresh ∙ spent)) e)
+  where
+    fresh_stays : Fresh ≢ Spent
+    fresh_stays e = cc
+
+-- an attempt that needs a variable, and was told nothing for want of room
+pub lacks_room : (n : Next) (x : VarId) (b d : AttemptView) → n ≡ next.Need x → Answers n b → d ≡ b → 8 ≤ length b.log → LacksMemory d
+lacks_room n x b d e says same many =
+    subst LacksMemory (sym same) (inr (x, (subst (λ (k : Next). Answers k b) e says).1, many))
 
 -- an attempt that has ended has done so on each state that agrees with its log
 pub evaluates_to : (l : Listing) (tx : TxId) (m : State) (o : Outcome) (n : Next) (a : AttemptView) → n ≡ next_of o → Answers n a → ((s : State) → length s ≡ a.variables → Agrees a.log s → HoldsAt n a s) → length m ≡ length l.initial → Going l tx m a → EvaluatesTo l tx m o a

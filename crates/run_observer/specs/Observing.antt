@@ -1,6 +1,7 @@
 -- What observing a transaction says, and what telling an attempt what it needs does.
 use Rattle.std.specs.Prelude.{◌≡◌, ◌≢◌, ◌⊎◌, ℕ, ℤ, ◌+◌, ◌*◌, ◌<◌, ◌≤◌, true, false, List, length}
 use Rattle.txn_programs.specs.declared.ast.TxId.{TxId}
+use Rattle.txn_programs.specs.declared.ast.VarId.{VarId}
 use Rattle.txn_programs.specs.Listing.{Listing, program_at}
 use Rattle.txn_programs.specs.Meaning.{State, outcome}
 use Rattle.txn_words.specs.Words.{state_value, state_of, StartsWith}
@@ -9,7 +10,8 @@ use Rattle.txn_words.specs.Loads.{ShowsStale}
 use Rattle.attempt.specs.Asking.{Known}
 use Rattle.attempt.specs.Frame.{Agrees}
 use Rattle.attempt.specs.View.{AttemptView}
-use Rattle.attempt.specs.declared.next.Stand.TheVariants.{Over}
+use Rattle.attempt.specs.Room.{NeedsNoMemory}
+use Rattle.attempt.specs.declared.next.Stand.TheVariants.{Over, Needs, Spent}
 use Rattle.cells.specs.Cells.{CellsId}
 use Rattle.cells.specs.Passing.{Passing, at}
 use Rattle.run_observer.specs.declared.observation.Observed.{Observed}
@@ -89,3 +91,9 @@ pub record EvaluatesTo (l : Listing) (tx : TxId) (m : State) (how : Outcome) (a 
 -- the same, however it ended
 abbrev pub Evaluates : Listing → TxId → State → AttemptView → Type 0
 Evaluates l tx m a = (how : Outcome) × EvaluatesTo l tx m how a
+
+-- Going on took memory that was refused, which only a program with an `orelse` takes; or it needs a variable whose value
+-- was to be supplied beside eight or more that were.
+abbrev pub LacksMemory : AttemptView → Type 0
+LacksMemory a =
+    ((a.stand ≡ Spent) × (NeedsNoMemory a.program → ⊥)) ⊎ ((x : VarId) × (a.stand ≡ Needs x) × (8 ≤ length a.log))

@@ -2,7 +2,7 @@
 
 ghost use Rattle.std.specs.Prelude.{◌≡◌, ◌<◌, length, true, IfOk, OnOk, IfErr};
 ghost use Rattle.cells.specs.Passing.{at};
-ghost use Rattle.run_observer.specs.Observing.{ObservesBy, IsStaleFrom, EvaluatesTo};
+ghost use Rattle.run_observer.specs.Observing.{ObservesBy, IsStaleFrom, EvaluatesTo, LacksMemory};
 
 use crate::observation::{Cut, tell};
 use crate::reading::advance_on;
@@ -15,7 +15,8 @@ use txn::{Catalogue, Outcome, TxId};
 /// as it goes on; where a read is stale, the pass is moved by what the attempt has read.
 ///
 /// `Stale` where a read was and the pass could not move, which closed the pass. `Memory` only where
-/// a growth was refused: the pass is open. The pass has to be one of these cells, and the cells
+/// a growth was refused: the attempt is spent, or needs a variable for whose value its log has no
+/// room, and the pass is open. The pass has to be one of these cells, and the cells
 /// have to have a variable for each of the catalogue's.
 pub fn evaluate<'c>(
     attempt: &mut Attempt<'c>,
@@ -31,7 +32,7 @@ pub fn evaluate<'c>(
     ensures ended { IfOk result (λ how. EvaluatesTo catalogue.now tx (at pass.new) how attempt.new) }
     ensures open { OnOk result (pass.new.open_now ≡ true) }
     ensures stale { IfErr result (λ why. why ≡ Cut.Stale → IsStaleFrom pass.old pass.new) }
-    ensures memory { IfErr result (λ why. why ≡ Cut.Memory → pass.new.open_now ≡ true) }
+    ensures memory { IfErr result (λ why. why ≡ Cut.Memory → (pass.new.open_now ≡ true) × LacksMemory attempt.new) }
 {
     pass.begin(cells);
     attempt.restart(catalogue, tx);

@@ -76,9 +76,9 @@ pub enum Cut {
 /// moved, the variable is read once more. So what the attempt has read stays what it is in one state.
 ///
 /// `Stale` where the extension did not move, or the second read was stale too: the pass is closed,
-/// and its last read shows why. `Memory` only where a growth was refused; the pass is open. Where
-/// it answers an error the attempt is as it was. The pass has to be one of these cells, and the
-/// variables have to exist.
+/// and its last read shows why. `Memory` only where the log had to grow and couldn't, which the
+/// first eight variables never meet; the pass is open. Where it answers an error the attempt is as
+/// it was. The pass has to be one of these cells, and the variables have to exist.
 pub fn tell(attempt: &mut Attempt<'_>, x: VarId, cells: &Cells, pass: &mut Pass) -> Result<(), Cut>
     requires needed { attempt.old.stand ≡ Stand.Needs x }
     requires own { pass.old.cells ≡ cells.now }
@@ -90,7 +90,7 @@ pub fn tell(attempt: &mut Attempt<'_>, x: VarId, cells: &Cells, pass: &mut Pass)
     ensures agrees { OnOk result (Agrees attempt.old.log (at pass.old) → Agrees attempt.new.log (at pass.new)) }
     ensures refused { OnErr result (attempt.new ≡ attempt.old) }
     ensures stale { IfErr result (λ why. why ≡ Cut.Stale → IsCutFrom pass.old pass.new attempt.old.log) }
-    ensures memory { IfErr result (λ why. why ≡ Cut.Memory → pass.new.open_now ≡ true) }
+    ensures memory { IfErr result (λ why. why ≡ Cut.Memory → (pass.new.open_now ≡ true) × (8 ≤ length attempt.old.log)) }
 {
     let value = match peek(cells, pass, x) {
         Some(value) => value,

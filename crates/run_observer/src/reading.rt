@@ -5,7 +5,9 @@ ghost use Rattle.txn_programs.specs.Meaning.{State, value_at};
 ghost use Rattle.attempt.specs.Asking.{known_at};
 ghost use Rattle.attempt.specs.Frame.{Agrees};
 ghost use Rattle.attempt.specs.Order.{AllKnown, Apart};
+ghost use Rattle.attempt.specs.Room.{NeedsNoMemory};
 ghost use Rattle.attempt.specs.View.{Answers, HoldsAt};
+ghost use Rattle.attempt.specs.declared.next.Stand.TheVariants.{Spent};
 ghost use Rattle.cells.specs.Passing.{at};
 ghost use Rattle.run_observer.specs.Observing.{Moment, moment, StaysAt};
 
@@ -86,6 +88,7 @@ pub(crate) fn advance_on(
     ensures agrees { Agrees attempt.old.log (at pass.old) → Agrees attempt.new.log (at pass.old) }
     ensures logged { AllKnown attempt.new.variables attempt.new.log }
     ensures apart { Apart attempt.new.log }
+    ensures short { NeedsNoMemory attempt.old.program → attempt.old.stand ≢ Spent → result ≢ Next.Memory }
     ensures needed { (x : VarId) → result ≡ Next.Need x → (x.0 < attempt.new.variables) × (known_at attempt.new.log x ≡ None) }
     ensures frame { (m : State) → length m ≡ attempt.new.variables → Agrees attempt.new.log m → HoldsAt result attempt.new m }
 {

@@ -2,7 +2,7 @@
 
 ghost use Rattle.std.specs.Prelude.{◌≡◌, ◌<◌, length, true, IfErr, IfOk};
 ghost use Rattle.cells.specs.Passing.{at};
-ghost use Rattle.run_observer.specs.Observing.{ObservesBy, IsStaleFrom, EvaluatesTo};
+ghost use Rattle.run_observer.specs.Observing.{ObservesBy, IsStaleFrom, EvaluatesTo, LacksMemory};
 
 use crate::gate::{Gate, Point, stop_at};
 use attempt::{Attempt, Next};
@@ -15,7 +15,8 @@ use txn::{Catalogue, Outcome, TaskId, TxId};
 /// open is told of each need before it is read, and of the end.
 ///
 /// `Stale` where a read was and the pass could not move, which closed the pass. `Memory` only where
-/// a growth was refused: the pass is open. The pass has to be one of these cells, and the cells
+/// a growth was refused: the attempt is spent, or needs a variable for whose value its log has no
+/// room, and the pass is open. The pass has to be one of these cells, and the cells
 /// have to have a variable for each of the catalogue's.
 pub(crate) fn attempt_on<'c, G: Gate>(
     attempt: &mut Attempt<'c>,
@@ -32,7 +33,7 @@ pub(crate) fn attempt_on<'c, G: Gate>(
     ensures observes { ObservesBy pass.old pass.new }
     ensures ended { IfOk result (λ how. EvaluatesTo catalogue.now tx (at pass.new) how attempt.new) }
     ensures stale { IfErr result (λ why. why ≡ Cut.Stale → IsStaleFrom pass.old pass.new) }
-    ensures memory { IfErr result (λ why. why ≡ Cut.Memory → pass.new.open_now ≡ true) }
+    ensures memory { IfErr result (λ why. why ≡ Cut.Memory → (pass.new.open_now ≡ true) × LacksMemory attempt.new) }
 {
     if G::IS_OPEN {
         return evaluate(attempt, catalogue, tx, cells, pass);
@@ -56,7 +57,7 @@ fn attempt_held<'c, G: Gate>(
     ensures observes { ObservesBy pass.old pass.new }
     ensures ended { IfOk result (λ how. EvaluatesTo catalogue.now tx (at pass.new) how attempt.new) }
     ensures stale { IfErr result (λ why. why ≡ Cut.Stale → IsStaleFrom pass.old pass.new) }
-    ensures memory { IfErr result (λ why. why ≡ Cut.Memory → pass.new.open_now ≡ true) }
+    ensures memory { IfErr result (λ why. why ≡ Cut.Memory → (pass.new.open_now ≡ true) × LacksMemory attempt.new) }
 {
     pass.begin(cells);
     attempt.restart(catalogue, tx);

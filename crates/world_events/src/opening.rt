@@ -2,7 +2,7 @@
 
 ghost use Rattle.std.specs.Prelude.{◌≡◌, ◌≤◌, length, replicate, None, IfOk};
 ghost use Rattle.world_law.specs.World.{IsOpening};
-ghost use Rattle.world_events.specs.Opening.{AreFirstWords};
+ghost use Rattle.world_events.specs.Opening.{AreOpeningWords};
 ghost use Rattle.world_events.specs.Inside.{Kept, world_of};
 
 use crate::scene::Scene;
@@ -35,7 +35,7 @@ pub fn first_scene<'a>(alloc: Global, catalogue: &'a Catalogue) -> Result<Scene<
 /// The words of these values: the clock and each version are 0.
 fn opening_words(alloc: Global, values: &[i64]) -> Result<Vec<u64>, AllocError>
     requires { length values.now ≤ 256 }
-    ensures { IfOk result (λ v. AreFirstWords values.now v.items) }
+    ensures { IfOk result (λ v. AreOpeningWords values.now v.items) }
 {
     let mut words = Vec::with_capacity(alloc, 2 * values.len() + 1)?;
     words.push(0)?;

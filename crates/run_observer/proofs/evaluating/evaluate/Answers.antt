@@ -5,7 +5,7 @@ use Rattle.txn_programs.specs.declared.ast.Outcome.TheVariants.{Returned, Thrown
 use Rattle.cells.specs.Cells.{CellsId}
 use Rattle.cells.specs.Passing.{at}
 use Rattle.run_observer.specs.Observing.{IsCutFrom, IsStaleFrom, EvaluatesTo}
-use Rattle.run_observer.proofs.Seeing.{at_stays, moving_more, moving_few, cut_stale, going_told, room_for, observes, read_on, evaluates_to, end_needs_none, memory_needs_none}
+use Rattle.run_observer.proofs.Seeing.{at_stays, moving_more, moving_few, cut_stale, going_told, room_for, observes, read_on, evaluates_to, end_needs_none, memory_needs_none, lacks_more, lacks_room}
 use Rattle.run_observer.proofs.evaluating.evaluate.Goals as goal
 
 pub returns-in-Returned-clause-observes : goal.returns-in-Returned-clause-observes
@@ -73,7 +73,11 @@ returns-in-Memory-clause-observes c =
     observes l c.args.tx (at r) b p r on.0 on.1 (ap (λ (z : CellsId). z.variables) (on.1.cells ∙ c.requires.own) ∙ c.requires.variables)
 
 pub returns-in-Memory-clause-memory : goal.returns-in-Memory-clause-memory
-returns-in-Memory-clause-memory c = λ same. c.advance_on.ensures.open (λ x. memory_needs_none c.advance_on.result x c.in-Memory.is) c.needs.invariant.2
+returns-in-Memory-clause-memory c = λ same.
+    let e = c.advance_on.ensures in (
+      e.open (λ x. memory_needs_none c.advance_on.result x c.in-Memory.is) c.needs.invariant.2,
+      lacks_more c.advance_on.result c.needs.attempt c.advance_on.new.attempt c.in-Memory.is e.answers e.program c.needs.invariant.3 e.short,
+    )
 
 pub tell-requires-clause-exists : goal.tell-requires-clause-exists
 tell-requires-clause-exists c =
@@ -102,6 +106,7 @@ needs-preserved c =
       going_told l c.args.tx (at r) (at t) b d x (value_at (at t) x) room.0 needed.1 told.told told.agrees on.0,
       moving_more p r t (length b.log) (length d.log) b.log on.1 c.tell.ensures.reads more,
       told.open.0,
+      ap (λ s. s.stand) told.told,
     )
 
 pub returns-in-Err-Stale-clause-observes : goal.returns-in-Err-Stale-clause-observes
@@ -125,6 +130,12 @@ returns-in-Err-Memory-clause-observes c =
     let t = c.tell.new.pass in let reads = c.tell.ensures.reads in let n = length b.log + 1 in
     let own = ap (λ (z : CellsId). z.variables) (reads.cells ∙ (on.1.cells ∙ c.requires.own)) in
     moving_few p t n (moving_more p r t (length b.log) n b.log on.1 reads (λ _. n)) (omega (arith, room.1, own, c.requires.variables))
+
+pub returns-in-Err-Memory-clause-memory : goal.returns-in-Err-Memory-clause-memory
+returns-in-Err-Memory-clause-memory c =
+    let e = c.advance_on.ensures in
+    let lacks = lacks_room c.advance_on.result c.in-Need.x c.advance_on.new.attempt c.tell.new.attempt c.in-Need.is e.answers in
+    search rules
 
 pub returns-in-Err-Stale-clause-stale : goal.returns-in-Err-Stale-clause-stale
 returns-in-Err-Stale-clause-stale c =

@@ -8,7 +8,7 @@ use Rattle.cells.specs.Cells.{CellsId}
 use Rattle.cells.specs.Passing.{at}
 use Rattle.attempt.proofs.Logs.{going_advanced}
 use Rattle.run_observer.specs.Observing.{IsCutFrom, IsStaleFrom, EvaluatesTo}
-use Rattle.run_observer.proofs.Seeing.{moving_more, moving_few, cut_stale, going_told, room_for, observes, evaluates_to}
+use Rattle.run_observer.proofs.Seeing.{moving_more, moving_few, cut_stale, going_told, room_for, observes, evaluates_to, lacks_more, lacks_room}
 use Rattle.run_workers.proofs.trying.attempt_held.Goals as goal
 
 pub tell-requires-clause-exists : goal.tell-requires-clause-exists
@@ -37,6 +37,7 @@ loop-x-preserved g c =
       going_told l c.args.tx m (at c.tell.new.pass) b c.tell.new.attempt x v room.0 needed.1 told.told told.agrees going,
       moving_more c.args.pass.now c.loop-x.pass c.tell.new.pass (length c.loop-x.attempt.log) (length c.tell.new.attempt.log) b.log i.1 c.tell.ensures.reads more,
       told.open.0,
+      ap (λ s. s.stand) told.told,
     )
 
 pub returns-in_err-tell-in-Need-clause-observes : goal.returns-in_err-tell-in-Need-clause-observes
@@ -57,6 +58,17 @@ returns-in_err-tell-in-Need-clause-stale g c =
     let agrees = subst (λ (log : Known). Agrees log (at c.loop-x.pass)) (sym c.advance.ensures.log) i.0.agrees in
     let stale : IsCutFrom c.loop-x.pass c.tell.new.pass b.log → IsStaleFrom c.args.pass.now c.tell.new.pass =
     cut_stale c.args.pass.now c.loop-x.pass c.tell.new.pass (length c.loop-x.attempt.log) b.log i.1 agrees c.tell.ensures.reads in
+    search rules
+
+pub returns-in_err-tell-in-Need-clause-memory : goal.returns-in_err-tell-in-Need-clause-memory
+returns-in_err-tell-in-Need-clause-memory g c =
+    let lacks = lacks_room c.advance.result c.in-Need.x c.advance.new.self c.tell.new.attempt c.in-Need.is c.advance.ensures.answers in
+    search rules
+
+pub returns-in-Memory-clause-memory : goal.returns-in-Memory-clause-memory
+returns-in-Memory-clause-memory g c =
+    let e = c.advance.ensures in
+    let lacks = lacks_more c.advance.result c.loop-x.attempt c.advance.new.self c.in-Memory.is e.answers e.program c.loop-x.invariant.3 e.short in
     search rules
 
 pub returns-in-Memory-clause-observes : goal.returns-in-Memory-clause-observes
