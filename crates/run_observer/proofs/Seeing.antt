@@ -1,5 +1,5 @@
 -- The pass while a transaction is observed, and the end of the attempt.
-use Rattle.std.proofs.Common.{◌≡◌, ◌≢◌, ◌∙◌, ℕ, zero, suc, ◌+◌, ◌<◌, ◌≤◌, ℤ, List, [], ◌∷◌, length, None, ap, subst, sym, refl, inl, inr, arith}
+use Rattle.std.proofs.Common.{◌≡◌, ◌≢◌, ◌⊎◌, ◌∙◌, ℕ, zero, suc, ◌+◌, ◌<◌, ◌≤◌, ℤ, List, [], ◌∷◌, length, None, ap, subst, sym, refl, inl, inr, arith}
 use Rattle.txn_programs.specs.declared.ast.Outcome.{Outcome}
 use Rattle.txn_programs.specs.declared.ast.Outcome.TheVariants.{Returned, Thrown, Retries}
 use Rattle.txn_programs.specs.declared.ast.TxId.{TxId}
@@ -17,7 +17,7 @@ use Rattle.attempt.specs.View.{AttemptView, supplied, next_of, Answers, HoldsAt}
 use Rattle.attempt.specs.declared.next.Next.{Next}
 use Rattle.attempt.specs.declared.next.Next.TheVariants as next
 use Rattle.attempt.specs.Room.{NeedsNoMemory}
-use Rattle.attempt.specs.declared.next.Stand.TheVariants.{Over, Fresh, Spent}
+use Rattle.attempt.specs.declared.next.Stand.TheVariants.{Over, Needs, Fresh, Spent}
 use Rattle.cells.specs.Cells.{CellsId}
 use Rattle.cells.specs.Passing.{Passing, at, BeginsBy}
 use Rattle.cells.specs.Answers.{AgreesUpTo}
@@ -170,17 +170,21 @@ pub memory_needs_none : (n : Next) (x : VarId) → n ≡ next.Memory → n ≢ n
 memory_needs_none n x e f = cc
 
 -- an answer of want of memory has spent the attempt, whose program may take some
-pub lacks_more : (n : Next) (a b : AttemptView) → n ≡ next.Memory → Answers n b → b.program ≡ a.program → a.stand ≡ Fresh → (NeedsNoMemory a.program → a.stand ≢ Spent → n ≢ next.Memory) → LacksMemory b
-lacks_more n a b e says program fresh short =
-    inl (subst (λ (k : Next). Answers k b) e says, λ small. short (subst NeedsNoMemory program small) (λ spent. fresh_stays (sym fresh ∙ spent)) e)
+pub lacks_more : (l : Listing) (tx : TxId) (m : State) (n : Next) (a b : AttemptView) → n ≡ next.Memory → Answers n b → Going l tx m a → a.stand ≡ Fresh → (NeedsNoMemory a.program → a.stand ≢ Spent → n ≢ next.Memory) → LacksMemory l tx b
+lacks_more l tx m n a b e says g fresh short = (
+  λ small. absurd (short (subst NeedsNoMemory (sym g.program) small) (λ spent. fresh_stays (sym fresh ∙ spent)) e),
+  inl (subst (λ (k : Next). Answers k b) e says),
+)
   where
     fresh_stays : Fresh ≢ Spent
     fresh_stays e = cc
 
 -- an attempt that needs a variable, and was told nothing for want of room
-pub lacks_room : (n : Next) (x : VarId) (b d : AttemptView) → n ≡ next.Need x → Answers n b → d ≡ b → 8 ≤ length b.log → LacksMemory d
-lacks_room n x b d e says same many =
-    subst LacksMemory (sym same) (inr (x, (subst (λ (k : Next). Answers k b) e says).1, many))
+pub lacks_room : (l : Listing) (tx : TxId) (m : State) (n : Next) (x : VarId) (b d : AttemptView) → n ≡ next.Need x → Answers n b → Going l tx m b → (x.0 < b.variables) × (known_at b.log x ≡ None) → d ≡ b → 8 ≤ length b.log → LacksMemory l tx d
+lacks_room l tx m n x b d e says g needed same many = (
+  λ small. omega (arith, (room_for l tx m b x g needed.0 needed.1).1, many),
+  subst (λ (k : AttemptView). (k.stand ≡ Spent) ⊎ ((y : VarId) × (k.stand ≡ Needs y) × (8 ≤ length k.log))) (sym same) (inr (x, (subst (λ (k : Next). Answers k b) e says).1, many)),
+)
 
 -- an attempt that has ended has done so on each state that agrees with its log
 pub evaluates_to : (l : Listing) (tx : TxId) (m : State) (o : Outcome) (n : Next) (a : AttemptView) → n ≡ next_of o → Answers n a → ((s : State) → length s ≡ a.variables → Agrees a.log s → HoldsAt n a s) → length m ≡ length l.initial → Going l tx m a → EvaluatesTo l tx m o a

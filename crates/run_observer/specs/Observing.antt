@@ -38,11 +38,15 @@ ShowsChange p q = (n : ℕ) × (length p.seen ≤ n + 1) × (n < q.rv)
 abbrev pub IsStaleFrom : Passing → Passing → Type 0
 IsStaleFrom p q = (q.open_now ≡ false) × (p.clock_loads + 2 ≤ q.clock_loads) × (ShowsStale q.rv q.loads ⊎ ShowsChange p q)
 
+-- The transaction may take memory: it has an `orelse`, or there are more variables than eight, which a log tells without.
+abbrev pub TakesMemory : Listing → TxId → Type 0
+TakesMemory l tx = NeedsNoMemory (program_at l tx) → 8 < length l.initial
+
 -- An outcome is that of the transaction on the state at which the pass is in the end.
 abbrev pub IsObserved : Listing → TxId → Passing → Passing → Observed → Type 0
 IsObserved l tx p q (observed.Outcome o) = (outcome (program_at l tx) (at q) ≡ o) × (q.open_now ≡ true)
 IsObserved l tx p q observed.Stale = IsStaleFrom p q
-IsObserved l tx p q observed.Memory = q.open_now ≡ true
+IsObserved l tx p q observed.Memory = (q.open_now ≡ true) × TakesMemory l tx
 
 -- where a pass is: what reading leaves
 pub record Moment : Type 0 where
@@ -92,8 +96,8 @@ pub record EvaluatesTo (l : Listing) (tx : TxId) (m : State) (how : Outcome) (a 
 abbrev pub Evaluates : Listing → TxId → State → AttemptView → Type 0
 Evaluates l tx m a = (how : Outcome) × EvaluatesTo l tx m how a
 
--- Going on took memory that was refused, which only a program with an `orelse` takes; or it needs a variable whose value
--- was to be supplied beside eight or more that were.
-abbrev pub LacksMemory : AttemptView → Type 0
-LacksMemory a =
-    ((a.stand ≡ Spent) × (NeedsNoMemory a.program → ⊥)) ⊎ ((x : VarId) × (a.stand ≡ Needs x) × (8 ≤ length a.log))
+-- An attempt of a transaction that takes memory: going on spent it, or it needs a variable, beside eight or more that it
+-- was told.
+abbrev pub LacksMemory : Listing → TxId → AttemptView → Type 0
+LacksMemory l tx a =
+    TakesMemory l tx × ((a.stand ≡ Spent) ⊎ ((x : VarId) × (a.stand ≡ Needs x) × (8 ≤ length a.log)))

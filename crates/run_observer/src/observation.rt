@@ -37,7 +37,8 @@ pub enum Observed {
 /// `Outcome` is the transaction's outcome on the state at which the pass then is, all of it, and
 /// the pass is open. `Stale` where the pass could not move: the loads of the last read, or the
 /// value that they gave, show why, and the pass is closed. `Memory` only where a growth was
-/// refused; the pass is open. Nothing is written, no lock is taken, and it waits for nobody.
+/// refused, which a transaction without an `orelse` over at most eight variables never meets; the
+/// pass is open. Nothing is written, no lock is taken, and it waits for nobody.
 ///
 /// The pass has to be one of these cells, the cells have to have a variable for each of the
 /// catalogue's, and the transaction has to exist.

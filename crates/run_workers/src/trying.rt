@@ -33,7 +33,7 @@ pub(crate) fn attempt_on<'c, G: Gate>(
     ensures observes { ObservesBy pass.old pass.new }
     ensures ended { IfOk result (λ how. EvaluatesTo catalogue.now tx (at pass.new) how attempt.new) }
     ensures stale { IfErr result (λ why. why ≡ Cut.Stale → IsStaleFrom pass.old pass.new) }
-    ensures memory { IfErr result (λ why. why ≡ Cut.Memory → (pass.new.open_now ≡ true) × LacksMemory attempt.new) }
+    ensures memory { IfErr result (λ why. why ≡ Cut.Memory → (pass.new.open_now ≡ true) × LacksMemory catalogue.now tx attempt.new) }
 {
     if G::IS_OPEN {
         return evaluate(attempt, catalogue, tx, cells, pass);
@@ -57,7 +57,7 @@ fn attempt_held<'c, G: Gate>(
     ensures observes { ObservesBy pass.old pass.new }
     ensures ended { IfOk result (λ how. EvaluatesTo catalogue.now tx (at pass.new) how attempt.new) }
     ensures stale { IfErr result (λ why. why ≡ Cut.Stale → IsStaleFrom pass.old pass.new) }
-    ensures memory { IfErr result (λ why. why ≡ Cut.Memory → (pass.new.open_now ≡ true) × LacksMemory attempt.new) }
+    ensures memory { IfErr result (λ why. why ≡ Cut.Memory → (pass.new.open_now ≡ true) × LacksMemory catalogue.now tx attempt.new) }
 {
     pass.begin(cells);
     attempt.restart(catalogue, tx);

@@ -13,7 +13,7 @@ use Rattle.attempt.specs.View.{AttemptView}
 use Rattle.attempt.specs.declared.next.Stand.{Stand}
 use Rattle.attempt.specs.declared.next.Stand.TheVariants as stand
 use Rattle.cells.specs.Passing.{Passing, at}
-use Rattle.run_observer.specs.Observing.{ObservesBy, IsStaleFrom, Evaluates}
+use Rattle.run_observer.specs.Observing.{ObservesBy, IsStaleFrom, Evaluates, LacksMemory}
 use Rattle.book.specs.View.{BookView}
 use Rattle.book.specs.Tasks.{Ready}
 use Rattle.book.specs.Turns.{Taken, Finished, Served, Turn, ReportIs, kept_short}
@@ -40,7 +40,8 @@ abbrev pub TriedBy : Listing → Job → Passing → Tried → Passing → Attem
 TriedBy l job p tried.Ended q a ended =
     ObservesBy p q × (ended ≡ Some job) × Evaluates l job.tx (at q) a
 TriedBy l job p tried.Stale q a ended = ObservesBy p q × (ended ≡ None) × IsStaleFrom p q
-TriedBy l job p tried.Memory q a ended = ObservesBy p q × (ended ≡ None)
+TriedBy l job p tried.Memory q a ended =
+    ObservesBy p q × (ended ≡ None) × (q.open_now ≡ true) × LacksMemory l job.tx a
 
 -- a listing without its runs: what a store's program declares, whatever was submitted
 abbrev pub without_runs : Listing → Listing

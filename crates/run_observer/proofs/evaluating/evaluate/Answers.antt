@@ -76,7 +76,7 @@ pub returns-in-Memory-clause-memory : goal.returns-in-Memory-clause-memory
 returns-in-Memory-clause-memory c = λ same.
     let e = c.advance_on.ensures in (
       e.open (λ x. memory_needs_none c.advance_on.result x c.in-Memory.is) c.needs.invariant.2,
-      lacks_more c.advance_on.result c.needs.attempt c.advance_on.new.attempt c.in-Memory.is e.answers e.program c.needs.invariant.3 e.short,
+      lacks_more c.args.catalogue.now c.args.tx (at c.needs.pass) c.advance_on.result c.needs.attempt c.advance_on.new.attempt c.in-Memory.is e.answers c.needs.invariant.0 c.needs.invariant.3 e.short,
     )
 
 pub tell-requires-clause-exists : goal.tell-requires-clause-exists
@@ -133,8 +133,10 @@ returns-in-Err-Memory-clause-observes c =
 
 pub returns-in-Err-Memory-clause-memory : goal.returns-in-Err-Memory-clause-memory
 returns-in-Err-Memory-clause-memory c =
-    let e = c.advance_on.ensures in
-    let lacks = lacks_room c.advance_on.result c.in-Need.x c.advance_on.new.attempt c.tell.new.attempt c.in-Need.is e.answers in
+    let l = c.args.catalogue.now in let p = c.args.pass.now in let q = c.needs.pass in let r = c.advance_on.new.pass in
+    let i = c.needs.invariant in let e = c.advance_on.ensures in let b = c.advance_on.new.attempt in
+    let on = read_on l c.args.tx p q r c.needs.attempt b e.cells e.stays e.grows e.program e.variables e.agrees e.logged e.apart i.0 i.1 in
+    let lacks = lacks_room l c.args.tx (at r) c.advance_on.result c.in-Need.x b c.tell.new.attempt c.in-Need.is e.answers on.0 (e.needed c.in-Need.x c.in-Need.is) in
     search rules
 
 pub returns-in-Err-Stale-clause-stale : goal.returns-in-Err-Stale-clause-stale

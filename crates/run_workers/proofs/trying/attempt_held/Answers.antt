@@ -62,13 +62,15 @@ returns-in_err-tell-in-Need-clause-stale g c =
 
 pub returns-in_err-tell-in-Need-clause-memory : goal.returns-in_err-tell-in-Need-clause-memory
 returns-in_err-tell-in-Need-clause-memory g c =
-    let lacks = lacks_room c.advance.result c.in-Need.x c.advance.new.self c.tell.new.attempt c.in-Need.is c.advance.ensures.answers in
+    let l = c.args.catalogue.now in let m = at c.loop-x.pass in let b = c.advance.new.self in let e = c.advance.ensures in
+    let going = going_advanced l c.args.tx m c.loop-x.attempt b e.program e.variables e.log c.loop-x.invariant.0 in
+    let lacks = lacks_room l c.args.tx m c.advance.result c.in-Need.x b c.tell.new.attempt c.in-Need.is e.answers going (e.needed c.in-Need.x c.in-Need.is) in
     search rules
 
 pub returns-in-Memory-clause-memory : goal.returns-in-Memory-clause-memory
 returns-in-Memory-clause-memory g c =
     let e = c.advance.ensures in
-    let lacks = lacks_more c.advance.result c.loop-x.attempt c.advance.new.self c.in-Memory.is e.answers e.program c.loop-x.invariant.3 e.short in
+    let lacks = lacks_more c.args.catalogue.now c.args.tx (at c.loop-x.pass) c.advance.result c.loop-x.attempt c.advance.new.self c.in-Memory.is e.answers c.loop-x.invariant.0 c.loop-x.invariant.3 e.short in
     search rules
 
 pub returns-in-Memory-clause-observes : goal.returns-in-Memory-clause-observes
