@@ -8,7 +8,6 @@
 #![tactic(auto)]
 
 mod arithmetic;
-mod branches;
 pub mod found;
 pub mod laws;
 pub mod machine;

@@ -229,9 +229,9 @@ other_undone [] x t a = refl
 other_undone (n ∷ ns) x t a = get_other (undone ns t) n.x.0 x.0 n.old (λ e. a.0 (sym e)) ∙ other_undone ns x t a.1
 
 -- what the innermost branch has changed it has noted
-pub changed_noted : (bs : List Branch) (ns : List Note) (t : List (Option ℤ)) (x : VarId) → IsChangedInner (marks_of bs ns t) (listed 0 t) x → IsNotedInner bs ns x
-changed_noted [] ns t x h = absurd h
-changed_noted (b ∷ outer) ns t x h = ⊎_elim
+pub changed_noted : (bs : List Branch) (ns : List Note) (kept : List ℕ) (t : List (Option ℤ)) (x : VarId) → IsChangedInner (marks_of bs ns kept t) (listed 0 t) x → IsNotedInner bs ns x
+changed_noted [] ns kept t x h = absurd h
+changed_noted (b ∷ outer) ns kept t x h = ⊎_elim
     (λ (f : Noted (drop b.height ns) x).
     let at : slice_get ns (b.height + f.0) ≡ Some f.1 = sym (drop_get ns b.height f.0 (b.height + f.0) refl) ∙ f.2 in
     let within = slice_get_within ns (b.height + f.0) f.1 at in

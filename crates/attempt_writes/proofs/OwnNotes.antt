@@ -1,15 +1,15 @@
 -- Going back by notes, and what a write leaves of the marks.
 use Rattle.std.proofs.Common.{◌≡◌, ◌≢◌, ℕ, zero, suc, ◌+◌, ◌-◌, ◌<◌, ◌≤◌, List, [], ◌∷◌, ◌++◌, length, Option, Some, ℤ, refl, sym, ap, ◌∙◌, subst, arith, drop, take, reverse, slice_get, append_assoc, length-append}
-use Rattle.std.proofs.lemmas.List.{set-set, drop-append-le, drop-set-lt, take-append-le, take_more_set, reverse-append, reverse-reverse}
+use Rattle.std.proofs.lemmas.List.{set-set, length-take-le, drop-append-le, drop-set-lt, take-append-le, take_more_set, reverse-append, reverse-reverse}
 use Rattle.std.proofs.lemmas.Option.{slice_get_within}
-use Rattle.std.proofs.Math.ListN.{get_or-append, set}
-use Rattle.std.proofs.Math.Seq.{drop-length, get_or-append_seam, take-length}
-use Rattle.std.specs.List.{All, refill}
+use Rattle.std.proofs.Math.ListN.{set}
+use Rattle.std.proofs.Math.Seq.{drop-append_seam, drop-length, take-append_seam, take-length}
+use Rattle.std.specs.List.{refill}
 use Rattle.txn_programs.specs.declared.ast.VarId.{VarId}
 use Rattle.attempt_writes.specs.declared.written.Note.{Note}
 use Rattle.attempt_writes.specs.declared.written.Branch.{Branch}
 use Rattle.attempt_writes.specs.Known.{Known}
-use Rattle.attempt_writes.specs.Own.{Mark, Marked, flat, value_in, undone, listed, written_at, marks_of, AreNested, IsListed, AreNotedListed, AreInside, GoesBack, HasNote, IsNoted}
+use Rattle.attempt_writes.specs.Own.{Mark, Marked, flat, value_in, undone, listed, written_at, marks_of, AreNested, IsListed, AreNotedListed, AreInside, HaveFloors, LeavesInner, GoesBack, HasNote, IsNoted}
 use Rattle.attempt_writes.specs.Order.{AllKnown}
 use Rattle.attempt_writes.proofs.OwnTable.{known_small, same_or_other}
 
@@ -66,13 +66,13 @@ nested_more m n [] le h = tt
 nested_more m n (b ∷ bs) le h = (let lower = h.0 in omega (arith, lower, le), h.1)
 
 -- the same marks where each height goes back to the same table
-pub marks_same : (n : ℕ) (bs : List Branch) (before after : List Note) (t u : List (Option ℤ)) → AreNested n bs → ((h : ℕ) → h ≤ n → undone (drop h after) u ≡ undone (drop h before) t) → marks_of bs after u ≡ marks_of bs before t
-marks_same n [] before after t u k e = refl
-marks_same n (b ∷ bs) before after t u k e =
+pub marks_same : (n : ℕ) (bs : List Branch) (before after : List Note) (kept : List ℕ) (t u : List (Option ℤ)) → AreNested n bs → ((h : ℕ) → h ≤ n → undone (drop h after) u ≡ undone (drop h before) t) → marks_of bs after kept u ≡ marks_of bs before kept t
+marks_same n [] before after kept t u k e = refl
+marks_same n (b ∷ bs) before after kept t u k e =
     let lower = k.0 in
-    let rest = marks_same b.height bs before after t u k.1 (λ h le. e h (omega (arith, le, lower))) in
-    ap (λ (w : List (Option ℤ)). Marked (b.begin + b.passed) (reverse b.loops.items) (listed 0 w) ∷ marks_of bs after u) (e b.height lower)
-    ∙ ap (λ (l : List Mark). Marked (b.begin + b.passed) (reverse b.loops.items) (written_at b.height before t) ∷ l) rest
+    let rest = marks_same b.height bs before after (take b.floor kept) t u k.1 (λ h le. e h (omega (arith, le, lower))) in
+    ap (λ (w : List (Option ℤ)). Marked (b.begin + b.passed) (reverse (drop b.floor kept)) (listed 0 w) ∷ marks_of bs after (take b.floor kept) u) (e b.height lower)
+    ∙ ap (λ (l : List Mark). Marked (b.begin + b.passed) (reverse (drop b.floor kept)) (written_at b.height before t) ∷ l) rest
 
 pub noted_append : (pairs : Known) (ns : List Note) (n : Note) → IsListed pairs n.x → AreNotedListed pairs ns → AreNotedListed pairs (ns ++ n ∷ [])
 noted_append pairs [] n l a = (l, tt)
@@ -131,7 +131,7 @@ noted_keeps bs b x old ns high e k has =
     let all = (inner_nested (length ns) bs b e k).1 in
     let far = has.2 in
     record {
-      marks = λ t v lt was. marks_same b.height (reverse bs) ns ns t (set t x.0 (Some v)) all (λ h le. noted_undone h ns has.0 has.1 t x.0 (Some v) (omega (arith, le, far)) has.4 has.5);
+      marks = λ kept t v lt was. marks_same b.height (reverse bs) ns ns kept t (set t x.0 (Some v)) all (λ h le. noted_undone h ns has.0 has.1 t x.0 (Some v) (omega (arith, le, far)) has.4 has.5);
       noted = λ pairs l a. a;
       nested = k;
     }
@@ -142,17 +142,17 @@ noted_fresh bs n ns k =
     let long = length-append ns (n ∷ []) in
     let more : length ns ≤ length (ns ++ n ∷ []) = omega (arith, long) in
     record {
-      marks = λ t v lt was. marks_same (length ns) (reverse bs) ns (ns ++ n ∷ []) t (set t n.x.0 (Some v)) k (λ h le. fresh_undone h ns n t (Some v) le lt was);
+      marks = λ kept t v lt was. marks_same (length ns) (reverse bs) ns (ns ++ n ∷ []) kept t (set t n.x.0 (Some v)) k (λ h le. fresh_undone h ns n t (Some v) le lt was);
       noted = λ pairs l a. noted_append pairs ns n l a;
       nested = nested_more (length ns) (length (ns ++ n ∷ [])) (reverse bs) more k;
     }
 
-no_mark : (bs : List Branch) (ns : List Note) (t : List (Option ℤ)) → marks_of bs ns t ≡ [] → bs ≡ []
-no_mark [] ns t e = refl
-no_mark (b ∷ bs) ns t e = absurd (cc)
+no_mark : (bs : List Branch) (ns : List Note) (kept : List ℕ) (t : List (Option ℤ)) → marks_of bs ns kept t ≡ [] → bs ≡ []
+no_mark [] ns kept t e = refl
+no_mark (b ∷ bs) ns kept t e = absurd (cc)
 
-pub no_marks : (bs : List Branch) (ns : List Note) (t : List (Option ℤ)) → marks_of (reverse bs) ns t ≡ [] → bs ≡ []
-no_marks bs ns t e = sym (reverse-reverse bs) ∙ ap reverse (no_mark (reverse bs) ns t e)
+pub no_marks : (bs : List Branch) (ns : List Note) (kept : List ℕ) (t : List (Option ℤ)) → marks_of (reverse bs) ns kept t ≡ [] → bs ≡ []
+no_marks bs ns kept t e = sym (reverse-reverse bs) ∙ ap reverse (no_mark (reverse bs) ns kept t e)
 
 -- the innermost branch is nested in what there is, and the outer ones in it
 pub popped_inner : (n : ℕ) (bs init : List Branch) (b : Branch) → bs ≡ init ++ b ∷ [] → AreNested n (reverse bs) → (b.height ≤ n) × AreNested b.height (reverse init)
@@ -166,27 +166,61 @@ pub noted_inside : (k : ℕ) (w : Known) (ns : List Note) → AllKnown k w → A
 noted_inside k w [] a h = tt
 noted_inside k w (n ∷ ns) a h = (known_small k w n.x a h.0, noted_inside k w ns a h.1)
 
--- what holds of each holds of the last, and of those before it
-pub each_popped : (P : Branch → Type 0) (bs init : List Branch) (b : Branch) → bs ≡ init ++ b ∷ [] → All P bs → P b × All P init
-each_popped P bs init b e h =
-    let all = subst (All P) e h in
-    let long = length-append init (b ∷ []) in
-    let last : length init < length (init ++ b ∷ []) = omega (arith, long) in
-    (subst P (get_or-append_seam init b [] b) (all (length init) b last), λ k d lt. subst P (get_or-append init (b ∷ []) d k lt) (all k d (omega (arith, lt, long))))
+-- and its loops lie above those of the outer ones
+pub popped_floors : (n : ℕ) (bs init : List Branch) (b : Branch) → bs ≡ init ++ b ∷ [] → HaveFloors n (reverse bs) → (b.floor ≤ n) × (n ≤ b.floor + 32) × HaveFloors b.floor (reverse init)
+popped_floors n bs init b e k = subst (HaveFloors n) (ap reverse e ∙ last_first init b) k
+
+-- the floors of the outer branches, where the loops of the innermost are kept no longer
+pub outer_floors : (bs init : List Branch) (b : Branch) (kept after : List ℕ) → bs ≡ init ++ b ∷ [] → after ≡ take b.floor kept → HaveFloors (length kept) (reverse bs) → HaveFloors (length after) (reverse init)
+outer_floors bs init b kept after e is k =
+    let h = popped_floors (length kept) bs init b e k in
+    subst (λ (n : ℕ). HaveFloors n (reverse init)) (sym (ap length is ∙ length-take-le b.floor kept h.0)) h.2
+
+-- a branch that begins keeps the loops that are added
+pub floors_more : (bs : List Branch) (b : Branch) (kept loops : List ℕ) → b.floor ≡ length kept → length loops ≤ 32 → HaveFloors (length kept) (reverse bs) → HaveFloors (length (kept ++ loops)) (reverse (bs ++ b ∷ []))
+floors_more bs b kept loops floor few k =
+    let long = length-append kept loops in
+    subst (HaveFloors (length (kept ++ loops))) (sym (last_first bs b)) (
+      omega (arith, floor, long),
+      omega (arith, floor, long, few),
+      subst (λ (n : ℕ). HaveFloors n (reverse bs)) (sym floor) k,
+    )
+
+pub marks_more : (bs : List Branch) (b : Branch) (ns : List Note) (kept loops : List ℕ) (t : List (Option ℤ)) → b.floor ≡ length kept → marks_of (reverse (bs ++ b ∷ [])) ns (kept ++ loops) t ≡ Marked (b.begin + b.passed) (reverse loops) (written_at b.height ns t) ∷ marks_of (reverse bs) ns kept t
+marks_more bs b ns kept loops t floor =
+    ap (λ (l : List Branch). marks_of l ns (kept ++ loops) t) (last_first bs b)
+    ∙ ap (λ (n : ℕ). Marked (b.begin + b.passed) (reverse (drop n (kept ++ loops))) (written_at b.height ns t) ∷ marks_of (reverse bs) ns (take n (kept ++ loops)) t) floor
+    ∙ ap (λ (l : List ℕ). Marked (b.begin + b.passed) (reverse l) (written_at b.height ns t) ∷ marks_of (reverse bs) ns (take (length kept) (kept ++ loops)) t) (drop-append_seam kept loops)
+    ∙ ap (λ (l : List ℕ). Marked (b.begin + b.passed) (reverse loops) (written_at b.height ns t) ∷ marks_of (reverse bs) ns l t) (take-append_seam kept loops)
+
+-- what a branch that is done leaves
+pub leaves_inner : (bs init : List Branch) (b : Branch) (ns ms : List Note) (kept loops after : List ℕ) (t : List (Option ℤ)) → bs ≡ init ++ b ∷ []
+    → loops ≡ drop b.floor kept → after ≡ take b.floor kept
+    → ((k : List ℕ) (u : List (Option ℤ)) → marks_of (reverse init) ms k u ≡ marks_of (reverse init) ns k u)
+    → LeavesInner (marks_of (reverse bs) ns kept t) (reverse loops) (marks_of (reverse init) ms after t)
+leaves_inner bs init b ns ms kept loops after t e loops_are after_is same =
+    subst (λ (l : List Branch). LeavesInner (marks_of l ns kept t) (reverse loops) (marks_of (reverse init) ms after t))
+    (sym (ap reverse e ∙ last_first init b))
+    (ap reverse (sym loops_are), ap (λ (k : List ℕ). marks_of (reverse init) ms k t) after_is ∙ same (take b.floor kept) t)
 
 -- what a retry leaves
-pub goes_back : (bs init : List Branch) (b : Branch) (ns ms : List Note) (t u : List (Option ℤ)) → bs ≡ init ++ b ∷ [] → AreNested (length ns) (reverse bs) → length ms ≡ b.height
+pub goes_back : (bs init : List Branch) (b : Branch) (ns ms : List Note) (kept loops after : List ℕ) (t u : List (Option ℤ)) → bs ≡ init ++ b ∷ [] → AreNested (length ns) (reverse bs) → length ms ≡ b.height
+    → loops ≡ drop b.floor kept → after ≡ take b.floor kept
     → ((h : ℕ) → h ≤ b.height → undone (drop h ms) u ≡ undone (drop h ns) t)
-    → GoesBack (marks_of (reverse bs) ns t) (b.begin + b.passed) (reverse b.loops.items) (listed 0 u) (marks_of (reverse init) ms u)
-goes_back bs init b ns ms t u e k long to =
+    → GoesBack (marks_of (reverse bs) ns kept t) (b.begin + b.passed) (reverse loops) (listed 0 u) (marks_of (reverse init) ms after u)
+goes_back bs init b ns ms kept loops after t u e k long loops_are after_is to =
     let inner = popped_inner (length ns) bs init b e k in
     let low : b.height ≤ b.height = omega arith in
     let none : drop b.height ms ≡ [] = ap (λ m. drop m ms) (sym long) ∙ drop-length ms in
     let now : u ≡ undone (drop b.height ns) t = ap (λ (l : List Note). undone l u) (sym none) ∙ to b.height low in
     subst
-    (λ (l : List Branch). GoesBack (marks_of l ns t) (b.begin + b.passed) (reverse b.loops.items) (listed 0 u) (marks_of (reverse init) ms u))
-    (sym (ap reverse e ∙ last_first init b))
-    (refl, refl, ap (listed 0) (sym now), marks_same b.height (reverse init) ns ms t u inner.1 to)
+    (λ (l : List Branch). GoesBack (marks_of l ns kept t) (b.begin + b.passed) (reverse loops) (listed 0 u) (marks_of (reverse init) ms after u))
+    (sym (ap reverse e ∙ last_first init b)) (
+      refl,
+      ap reverse (sym loops_are),
+      ap (listed 0) (sym now),
+      ap (λ (l : List ℕ). marks_of (reverse init) ms l u) after_is ∙ marks_same b.height (reverse init) ns ms (take b.floor kept) t u inner.1 to,
+    )
 
 undone_join : (ns ms : List Note) (t : List (Option ℤ)) → undone (ns ++ ms) t ≡ undone ns (undone ms t)
 undone_join [] ms t = refl

@@ -12,4 +12,4 @@ pub mod written;
 
 pub use layer::Layer;
 pub use log_table::LogTable;
-pub use written::{Kept, Loops, Second, Writes};
+pub use written::{Loops, Second, Writes};

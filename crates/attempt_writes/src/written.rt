@@ -9,7 +9,6 @@ ghost use Rattle.attempt_writes.specs.Own.{Marked, marks_of, value_in, valued, u
 ghost use Rattle.attempt_writes.specs.Order.{AllBefore, AllKnown, Ascending};
 
 use arrayvec::ArrayVec;
-use smallvec::SmallVec;
 use std::alloc::{AllocError, Global};
 use std::marker::Model;
 use txn_programs::VarId;
@@ -166,19 +165,6 @@ pub const ROOM: usize = 32;
 /// The turns that are left of each loop.
 pub type Loops = ArrayVec<u32, ROOM>;
 
-/// The loops to go back to: seldom any. Up to four lie in the value itself.
-pub type Kept = SmallVec<u32, 4>;
-
-/// The loops to go back to. Most often there is none, and nothing is copied.
-fn kept(alloc: Global, loops: &[u32]) -> Result<Kept, AllocError>
-    ensures { IfOk result (λ k. k.items ≡ loops.now) }
-{
-    if loops.is_empty() {
-        return Ok(SmallVec::new(alloc));
-    }
-    SmallVec::from_slice(alloc, loops)
-}
-
 /// A variable that a live first branch wrote, its own write before, and the hint before.
 #[derive(Clone, Copy)]
 pub struct Note {
@@ -187,22 +173,40 @@ pub struct Note {
     pub old: Option<i64>,
 }
 
-/// A live first branch: where it begins, how many instructions further the second one does, the
-/// loops to go back to, and how many notes there were.
-#[derive(Drop)]
+/// A live first branch: where it begins, how many instructions further the second one does, how
+/// many notes there were, and how many loops were kept.
+#[derive(Clone, Copy)]
 pub struct Branch {
     pub begin: usize,
     pub passed: usize,
-    pub loops: Kept,
     pub height: usize,
+    pub floor: usize,
 }
 
-/// Where the second branch is, and the loops to go on with.
-#[derive(Drop)]
+/// Where the second branch is: it begins so many instructions behind the begin of the first.
+#[derive(Clone, Copy)]
 pub struct Second {
     pub begin: usize,
     pub passed: usize,
-    pub loops: Kept,
+}
+
+/// The loops that were kept from `floor` on, in place of those that there are; then they are no
+/// longer kept. Most often there is none, and nothing is copied.
+fn take_up(loops: &mut Loops, kept: &mut Vec<u32>, floor: usize)
+    requires within { floor ≤ length kept.old.items }
+    requires room { length kept.old.items ≤ floor + ROOM }
+    ensures loops { loops.new.items ≡ drop floor kept.old.items }
+    ensures kept { kept.new.items ≡ take floor kept.old.items }
+{
+    loops.clear();
+    if kept.len() == floor {
+        return;
+    }
+    match loops.try_extend_from_slice(&kept[floor..]) {
+        Ok(()) => {}
+        Err(_) => unreachable!(),
+    }
+    kept.truncate(floor);
 }
 
 /// Whether the note at a place is the variable's, and the place from `low` on and below `high`.
@@ -365,7 +369,7 @@ fn merge(branches: &[Branch], notes: &mut Vec<Note>, noted: &mut [u16], height: 
     ensures few { length notes.new.items ≤ MAX_NOTES }
     ensures hinted { AreHinted 0 notes.new.items noted.new }
     ensures once { AreOnce notes.new.items (reverse branches.now) }
-    ensures marks { (table : List (Option ℤ)) → marks_of (reverse branches.now) notes.new.items table ≡ marks_of (reverse branches.now) notes.old.items table }
+    ensures marks { (kept : List ℕ) (table : List (Option ℤ)) → marks_of (reverse branches.now) notes.new.items kept table ≡ marks_of (reverse branches.now) notes.old.items kept table }
     ensures nested { AreNested (length notes.new.items) (reverse branches.now) }
     ensures noted { (pairs : Known) → AreNotedListed pairs notes.old.items → AreNotedListed pairs notes.new.items }
 {
@@ -390,7 +394,8 @@ pub struct Writes {
     pairs: Pairs,
     notes: Vec<Note>,
     branches: Vec<Branch>,
-    alloc: Global,
+    /// The loops to go back to, those of the outer branches first.
+    kept: Vec<u32>,
 }
 
 impl Model for Writes {
@@ -416,7 +421,7 @@ impl Writes {
             pairs: ArrayVec::new(),
             notes: Vec::new(alloc),
             branches: Vec::new(alloc),
-            alloc,
+            kept: Vec::new(alloc),
         }
     }
 
@@ -461,43 +466,58 @@ impl Writes {
         Ok(())
     }
 
-    /// A first branch begins: these are the loops to go back to.
-    pub fn enter(&mut self, begin: usize, passed: usize, loops: &Loops) -> Result<(), AllocError>
-        ensures marks { OnOk result (self.new.marks ≡ Marked (begin + passed) (reverse loops.now.items) self.old.writes ∷ self.old.marks) }
+    /// A first branch begins: the loops are kept to go back to, and none is live in it.
+    #[inline(never)]
+    pub fn enter(
+        &mut self,
+        begin: usize,
+        passed: usize,
+        loops: &mut Loops,
+    ) -> Result<(), AllocError>
+        ensures marks { OnOk result (self.new.marks ≡ Marked (begin + passed) (reverse loops.old.items) self.old.writes ∷ self.old.marks) }
         ensures writes { OnOk result (self.new.writes ≡ self.old.writes) }
+        ensures loops { OnOk result (loops.new.items ≡ []) }
     {
         let height = self.notes.len();
-        let loops = kept(self.alloc, loops.as_slice())?;
+        let floor = self.kept.len();
         self.branches.push(Branch {
             begin,
             passed,
-            loops,
             height,
+            floor,
         })?;
+        if loops.is_empty() {
+            return Ok(());
+        }
+        self.kept.extend_from_slice(loops.as_slice())?;
+        loops.clear();
         Ok(())
     }
 
-    /// The innermost first branch is done: its loops to go on with. None where no branch is live.
-    pub fn keep(&mut self) -> Option<Kept>
-        ensures some { IfSome result (λ loops. LeavesInner self.old.marks (reverse loops.items) self.new.marks) }
-        ensures few { IfSome result (λ loops. length loops.items ≤ ROOM) }
-        ensures none { result ≡ None → self.old.marks ≡ [] }
+    /// The innermost first branch is done, and its loops are those to go on with: whether there is one.
+    #[inline(never)]
+    pub fn keep(&mut self, loops: &mut Loops) -> bool
+        ensures left { result ≡ true → LeavesInner self.old.marks (reverse loops.new.items) self.new.marks }
+        ensures none { result ≡ false → self.old.marks ≡ [] }
         ensures writes { self.new.writes ≡ self.old.writes }
     {
-        let branch = self.branches.pop()?;
+        let Some(branch) = self.branches.pop() else {
+            return false;
+        };
         merge(
             self.branches.as_slice(),
             &mut self.notes,
             &mut self.noted,
             branch.height,
         );
-        Some(branch.loops)
+        take_up(loops, &mut self.kept, branch.floor);
+        true
     }
 
-    /// The innermost first branch retried: all that it wrote is as it was before. None where no branch is live.
-    pub fn back(&mut self) -> Option<Second>
-        ensures some { IfSome result (λ s. GoesBack self.old.marks (s.begin + s.passed) (reverse s.loops.items) self.new.writes self.new.marks) }
-        ensures few { IfSome result (λ s. length s.loops.items ≤ ROOM) }
+    /// The innermost first branch retried: all that it wrote is as it was before, and its loops are
+    /// those to go on with. None where no branch is live.
+    pub fn back(&mut self, loops: &mut Loops) -> Option<Second>
+        ensures some { IfSome result (λ s. GoesBack self.old.marks (s.begin + s.passed) (reverse loops.new.items) self.new.writes self.new.marks) }
         ensures none { result ≡ None → (self.old.marks ≡ []) × (self.new ≡ self.old) }
     {
         let branch = self.branches.pop()?;
@@ -507,10 +527,10 @@ impl Writes {
             &mut self.noted,
             branch.height,
         );
+        take_up(loops, &mut self.kept, branch.floor);
         Some(Second {
             begin: branch.begin,
             passed: branch.passed,
-            loops: branch.loops,
         })
     }
 
@@ -538,6 +558,7 @@ impl Writes {
         self.pairs.truncate(kept);
         self.notes.clear();
         self.branches.clear();
+        self.kept.clear();
     }
 
     /// Drops all.
@@ -549,5 +570,6 @@ impl Writes {
         forget(&mut self.table, &mut self.pairs);
         self.notes.clear();
         self.branches.clear();
+        self.kept.clear();
     }
 }

@@ -6,14 +6,14 @@ use Rattle.attempt_writes.proofs.OwnNotes.{inner_nested, marks_same, refilled}
 use Rattle.attempt_writes.proofs.written.merge.Goals as goal
 
 pub returns-in-Some-clause-marks : goal.returns-in-Some-clause-marks
-returns-in-Some-clause-marks c = λ t.
+returns-in-Some-clause-marks c = λ kept t.
     let ns = c.args.notes.now in
     let bs = c.args.branches.now in
     let b = c.in-Some.outer.now in
     let same = c.join-kept.ensures.same ∙ c.as_mut_slice.ensures.len in
     let now = c.truncate.ensures.items ∙ ap (λ (l : List Note). take c.join-kept.result l) (refilled ns.len ns.items c.join-kept.new.notes same) in
     let all = (inner_nested c.args.height bs b (sym c.in-Some.ensures.value) c.requires.nested).1 in
-    marks_same b.height (reverse bs) ns.items c.truncate.new.self.items t t all
+    marks_same b.height (reverse bs) ns.items c.truncate.new.self.items kept t t all
     (λ h le.
     ap (λ (l : List Note). undone (drop h l) t) now
     ∙ c.join-kept.ensures.undone h le t

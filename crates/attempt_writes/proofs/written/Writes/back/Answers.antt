@@ -1,9 +1,8 @@
-use Rattle.std.proofs.Common.{◌+◌, ◌≤◌, List, arith, length, reverse, subst, sym, ◌∙◌}
-use Rattle.attempt_writes.specs.declared.written.Branch.{Branch}
+use Rattle.std.proofs.Common.{◌+◌, List, arith, length, reverse, subst, sym, ◌∙◌}
 use Rattle.attempt_writes.specs.declared.written.Note.{Note}
 use Rattle.attempt_writes.specs.Own.{Own, AreInside, AreNested, AreOnce, GoesBack, listed, marks_of}
 use Rattle.attempt_writes.proofs.OwnHints.{once_popped}
-use Rattle.attempt_writes.proofs.OwnNotes.{each_popped, goes_back, noted_inside, popped_inner}
+use Rattle.attempt_writes.proofs.OwnNotes.{goes_back, noted_inside, outer_floors, popped_floors, popped_inner}
 use Rattle.attempt_writes.proofs.written.Writes.back.Goals as goal
 
 pub undo-requires-clause-inside : goal.undo-requires-clause-inside
@@ -29,7 +28,7 @@ invariant_of-self-2 c =
       once =
           subst (λ (l : List Note). AreOnce l (reverse c.pop.new.self.items)) (sym c.undo.ensures.front)
           (once_popped i.branches.items c.pop.new.self.items c.in_ok-branch.branch i.notes.items c.in_ok-branch.ensures.items k.once).1;
-      short = (each_popped (λ (b : Branch). length b.loops.items ≤ 32) i.branches.items c.pop.new.self.items c.in_ok-branch.branch c.in_ok-branch.ensures.items k.short).1;
+      floors = outer_floors i.branches.items c.pop.new.self.items c.in_ok-branch.branch i.kept.items c.take_up.new.kept.items c.in_ok-branch.ensures.items c.take_up.ensures.kept k.floors;
     }
 
 pub returns-clause-some : goal.returns-clause-some
@@ -39,8 +38,17 @@ returns-clause-some c =
     let init = c.pop.new.self.items in
     let ms = c.undo.new.notes.items in
     let u = c.undo.new.table in
-    let went = goes_back i.branches.items init b i.notes.items ms i.table u c.in_ok-branch.ensures.items c.self.invariant.nested c.undo.ensures.height c.undo.ensures.undone in
-    subst (λ (o : Own). GoesBack o.marks (b.begin + b.passed) (reverse b.loops.items) (listed 0 u) (marks_of (reverse init) ms u)) c.self.view_is went
+    let kept = c.take_up.new.kept.items in
+    let loops = c.take_up.new.loops.items in
+    let went = goes_back i.branches.items init b i.notes.items ms i.kept.items loops kept i.table u c.in_ok-branch.ensures.items c.self.invariant.nested c.undo.ensures.height c.take_up.ensures.loops c.take_up.ensures.kept c.undo.ensures.undone in
+    subst (λ (o : Own). GoesBack o.marks (b.begin + b.passed) (reverse loops) (listed 0 u) (marks_of (reverse init) ms kept u)) c.self.view_is went
 
-pub returns-clause-few : goal.returns-clause-few
-returns-clause-few c = (each_popped (λ (b : Branch). length b.loops.items ≤ 32) c.self.inside.branches.items c.pop.new.self.items c.in_ok-branch.branch c.in_ok-branch.ensures.items c.self.invariant.short).0
+pub take_up-requires-clause-within : goal.take_up-requires-clause-within
+take_up-requires-clause-within c =
+    let i = c.self.inside in
+    (popped_floors (length i.kept.items) i.branches.items c.pop.new.self.items c.in_ok-branch.branch c.in_ok-branch.ensures.items c.self.invariant.floors).0
+
+pub take_up-requires-clause-room : goal.take_up-requires-clause-room
+take_up-requires-clause-room c =
+    let i = c.self.inside in
+    (popped_floors (length i.kept.items) i.branches.items c.pop.new.self.items c.in_ok-branch.branch c.in_ok-branch.ensures.items c.self.invariant.floors).1

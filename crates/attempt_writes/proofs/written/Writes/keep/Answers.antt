@@ -1,8 +1,8 @@
-use Rattle.std.proofs.Common.{◌≤◌, List, take, length, reverse, subst, sym, ◌∙◌}
+use Rattle.std.proofs.Common.{◌≡◌, ℕ, ℤ, List, Option, take, length, reverse, subst, sym, ◌∙◌}
 use Rattle.attempt_writes.specs.declared.written.Branch.{Branch}
-use Rattle.attempt_writes.specs.Own.{AreInside, AreNested, AreOnce}
+use Rattle.attempt_writes.specs.Own.{Own, AreInside, AreNested, AreOnce, LeavesInner, marks_of}
 use Rattle.attempt_writes.proofs.OwnHints.{once_popped}
-use Rattle.attempt_writes.proofs.OwnNotes.{each_popped, noted_inside}
+use Rattle.attempt_writes.proofs.OwnNotes.{leaves_inner, noted_inside, outer_floors, popped_floors}
 use Rattle.attempt_writes.proofs.written.Writes.keep.Goals as goal
 
 pub merge-requires-clause-inside : goal.merge-requires-clause-inside
@@ -26,20 +26,35 @@ invariant_of-self-2 c =
       few = c.merge.ensures.few;
       hinted = c.merge.ensures.hinted;
       once = subst (λ (bs : List Branch). AreOnce c.merge.new.notes.items (reverse bs)) c.as_slice.ensures.value c.merge.ensures.once;
-      short = (each_popped (λ (b : Branch). length b.loops.items ≤ 32) i.branches.items c.pop.new.self.items c.in_ok-branch.branch c.in_ok-branch.ensures.items k.short).1;
+      floors = outer_floors i.branches.items c.pop.new.self.items c.in-Some.branch i.kept.items c.take_up.new.kept.items c.in-Some.ensures.items c.take_up.ensures.kept k.floors;
     }
 
 pub merge-requires-clause-inner : goal.merge-requires-clause-inner
 merge-requires-clause-inner c =
     let i = c.self.inside in
-    (once_popped i.branches.items c.pop.new.self.items c.in_ok-branch.branch i.notes.items c.in_ok-branch.ensures.items c.self.invariant.once).0
+    (once_popped i.branches.items c.pop.new.self.items c.in-Some.branch i.notes.items c.in-Some.ensures.items c.self.invariant.once).0
 
 pub merge-requires-clause-outer : goal.merge-requires-clause-outer
 merge-requires-clause-outer c =
     let i = c.self.inside in
-    let b = c.in_ok-branch.branch in
-    let outer = (once_popped i.branches.items c.pop.new.self.items b i.notes.items c.in_ok-branch.ensures.items c.self.invariant.once).1 in
+    let b = c.in-Some.branch in
+    let outer = (once_popped i.branches.items c.pop.new.self.items b i.notes.items c.in-Some.ensures.items c.self.invariant.once).1 in
     subst (λ (bs : List Branch). AreOnce (take b.height i.notes.items) (reverse bs)) (sym c.as_slice.ensures.value) outer
 
-pub returns-clause-few : goal.returns-clause-few
-returns-clause-few c = (each_popped (λ (b : Branch). length b.loops.items ≤ 32) c.self.inside.branches.items c.pop.new.self.items c.in_ok-branch.branch c.in_ok-branch.ensures.items c.self.invariant.short).0
+pub take_up-requires-clause-within : goal.take_up-requires-clause-within
+take_up-requires-clause-within c =
+    let i = c.self.inside in
+    (popped_floors (length i.kept.items) i.branches.items c.pop.new.self.items c.in-Some.branch c.in-Some.ensures.items c.self.invariant.floors).0
+
+pub take_up-requires-clause-room : goal.take_up-requires-clause-room
+take_up-requires-clause-room c =
+    let i = c.self.inside in
+    (popped_floors (length i.kept.items) i.branches.items c.pop.new.self.items c.in-Some.branch c.in-Some.ensures.items c.self.invariant.floors).1
+
+pub returns-clause-left : goal.returns-clause-left
+returns-clause-left c = λ e.
+    let i = c.self.inside in
+    let init = c.pop.new.self.items in
+    let same = subst (λ (bs : List Branch). (k : List ℕ) (u : List (Option ℤ)) → marks_of (reverse bs) c.merge.new.notes.items k u ≡ marks_of (reverse bs) i.notes.items k u) c.as_slice.ensures.value c.merge.ensures.marks in
+    let left = leaves_inner i.branches.items init c.in-Some.branch i.notes.items c.merge.new.notes.items i.kept.items c.take_up.new.loops.items c.take_up.new.kept.items i.table c.in-Some.ensures.items c.take_up.ensures.loops c.take_up.ensures.kept same in
+    subst (λ (o : Own). LeavesInner o.marks (reverse c.take_up.new.loops.items) (marks_of (reverse init) c.merge.new.notes.items c.take_up.new.kept.items i.table)) c.self.view_is left

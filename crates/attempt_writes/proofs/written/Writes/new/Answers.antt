@@ -17,5 +17,5 @@ invariant_of-result c = record {
   few = search rules;
   hinted = search rules;
   once = search rules;
-  short = search rules;
+  floors = search rules;
 }

@@ -13,7 +13,7 @@ use Rattle.attempt_writes.proofs.written.Writes.put.Goals as goal
 pub returns-in_err-take_note-clause-short : goal.returns-in_err-take_note-clause-short
 returns-in_err-take_note-clause-short c = λ e.
     let i = c.self.inside in
-    let none = no_marks i.branches.items i.notes.items i.table (ap (λ (o : Own). o.marks) c.self.view_is ∙ e) in
+    let none = no_marks i.branches.items i.notes.items i.kept.items i.table (ap (λ (o : Own). o.marks) c.self.view_is ∙ e) in
     absurd (cc (c.in_err-take_note.ensures.short (c.as_slice.ensures.value ∙ none)))
 
 pub list-requires-clause-there : goal.list-requires-clause-there
@@ -37,7 +37,7 @@ invariant_of-self-2 c =
       few = c.take_note.ensures.few;
       hinted = c.take_note.ensures.hinted;
       once = subst (λ (bs : List Branch). AreOnce c.take_note.new.notes.items (reverse bs)) c.as_slice.ensures.value c.take_note.ensures.once;
-      short = k.short;
+      floors = k.floors;
     }
 
 pub returns-clause-value : goal.returns-clause-value
@@ -53,14 +53,14 @@ returns-clause-marks c =
     let i = c.self.inside in
     let v = to_z w64 (of_z w64 c.args.v) in
     let lt : c.args.x.0 < length i.table = omega (arith, c.requires, c.self.invariant.wide) in
-    let same = c.in_ok-take_note.ensures.ok.marks i.table v lt (value_or i.table c.args.x.0) in
-    subst (λ (bs : List Branch). marks_of (reverse bs) c.take_note.new.notes.items (set i.table c.args.x.0 (Some v)) ≡ marks_of (reverse bs) i.notes.items i.table) c.as_slice.ensures.value same
+    let same = c.in_ok-take_note.ensures.ok.marks i.kept.items i.table v lt (value_or i.table c.args.x.0) in
+    subst (λ (bs : List Branch). marks_of (reverse bs) c.take_note.new.notes.items i.kept.items (set i.table c.args.x.0 (Some v)) ≡ marks_of (reverse bs) i.notes.items i.kept.items i.table) c.as_slice.ensures.value same
     ∙ ap (λ (o : Own). o.marks) c.self.view_is
 
 pub returns-in_err-take_note-clause-again : goal.returns-in_err-take_note-clause-again
 returns-in_err-take_note-clause-again c = λ changed.
     let i = c.self.inside in
     let inner = subst (λ (o : Own). IsChangedInner o.marks o.writes c.args.x) (sym c.self.view_is) changed in
-    let has = changed_noted (reverse i.branches.items) i.notes.items i.table c.args.x inner in
+    let has = changed_noted (reverse i.branches.items) i.notes.items i.kept.items i.table c.args.x inner in
     let again = c.in_err-take_note.ensures.again (subst (λ (bs : List Branch). IsNotedInner (reverse bs) i.notes.items c.args.x) (sym c.as_slice.ensures.value) has) in
     absurd (cc again.0)

@@ -1,12 +1,10 @@
-use Rattle.std.proofs.Common.{◌≡◌, ◌≤◌, ◌∙◌, List, length, reverse, take, ap, subst, sym, arith}
-use Rattle.std.specs.List.{All}
-use Rattle.std.proofs.lemmas.List.Elements.{All-nil}
+use Rattle.std.proofs.Common.{◌≡◌, ◌∙◌, List, length, reverse, take, ap, subst, sym, arith}
 use Rattle.arrayvec.proofs.ArrayVecLemmas.{items-with_items}
 use Rattle.attempt_writes.specs.declared.written.Branch.{Branch}
 use Rattle.attempt_writes.specs.declared.written.Note.{Note}
 use Rattle.attempt_writes.specs.Known.{Known}
 use Rattle.attempt_writes.specs.Order.{AllKnown, Ascending}
-use Rattle.attempt_writes.specs.Own.{Own, AreHinted, AreListed, AreNested, AreNotedListed, AreOnce, listed, valued}
+use Rattle.attempt_writes.specs.Own.{Own, AreHinted, AreListed, AreNested, AreNotedListed, AreOnce, HaveFloors, listed, valued}
 use Rattle.attempt_writes.proofs.OwnTable.{known_valued, listed_all, listed_ascending, valued_listed}
 use Rattle.attempt_writes.proofs.written.Writes.settle_some.Goals as goal
 
@@ -32,7 +30,7 @@ invariant_of-self c =
       few = omega (arith, ap length c.clear.ensures.items);
       hinted = subst (λ (l : List Note). AreHinted 0 l i.noted) (sym c.clear.ensures.items) tt;
       once = subst (λ (l : List Branch). AreOnce c.clear.new.self.items (reverse l)) (sym c.clear-2.ensures.items) tt;
-      short = subst (All (λ (b : Branch). length b.loops.items ≤ 32)) (sym c.clear-2.ensures.items) (All-nil (λ (b : Branch). length b.loops.items ≤ 32));
+      floors = subst (λ (l : List Branch). HaveFloors (length c.clear-3.new.self.items) (reverse l)) (sym c.clear-2.ensures.items) tt;
     }
 
 pub returns-clause-pairs : goal.returns-clause-pairs
