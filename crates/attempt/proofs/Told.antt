@@ -1,6 +1,5 @@
 -- What an answer says: of the variable that is needed, and of a state that agrees with the log.
-use Rattle.std.proofs.Common.{◌≡◌, Result, Ok, Err, IfOk, subst, length}
-use Rattle.std.specs.Prelude.{OnOk}
+use Rattle.std.proofs.Common.{◌≡◌, subst, length}
 use Rattle.txn_programs.specs.Meaning.{State, outcome, after}
 use Rattle.txn_programs.specs.Tree.{Program}
 use Rattle.txn_programs.specs.Scope.{ProgramKnown}
@@ -11,7 +10,6 @@ use Rattle.attempt.specs.declared.next.Next.{Next}
 use Rattle.attempt.specs.declared.next.Next.TheVariants as next
 use Rattle.attempt_machine.specs.Asking.{Ends, ask}
 use Rattle.attempt_machine.specs.Frame.{Agrees, AnswersAt, store}
-use Rattle.attempt.specs.declared.next.Stand.TheVariants as stand
 use Rattle.attempt.specs.View.{AttemptView, Answers, HoldsAt, next_of}
 use Rattle.attempt.proofs.Answered.{IsMissing, needs_missing}
 use Rattle.attempt_machine.proofs.FrameProof.{frame_holds}
@@ -38,29 +36,12 @@ pub told_missing : (r : Next) (a : AttemptView) (x : VarId) → Answers r a → 
 told_missing r a x h known e = let g : Answers (next.Need x) a = subst (λ s. Answers s a) e h in needs_missing a.variables a.program a.log x known g.0
 
 -- the outcome that an answer tells, on a state that agrees with the log
-outcome_holds : (o : Outcome) (next : Next) (p : Program) (a : AttemptView) (m : State) → next ≡ next_of o → HoldsAt next a m → a.program ≡ p → outcome p m ≡ o
+pub outcome_holds : (o : Outcome) (next : Next) (p : Program) (a : AttemptView) (m : State) → next ≡ next_of o → HoldsAt next a m → a.program ≡ p → outcome p m ≡ o
 outcome_holds (Returned v) next p a m e h q = subst (λ (t : Program). outcome t m ≡ Returned v) q (subst (λ (n : Next). HoldsAt n a m) e h).0
 outcome_holds (Thrown f) next p a m e h q = subst (λ (t : Program). outcome t m ≡ Thrown f) q (subst (λ (n : Next). HoldsAt n a m) e h).0
 outcome_holds Retries next p a m e h q = subst (λ (t : Program). outcome t m ≡ Retries) q (subst (λ (n : Next). HoldsAt n a m) e h).0
 
-after_holds : (o : Outcome) (next : Next) (p : Program) (a : AttemptView) (m : State) → next ≡ next_of o → HoldsAt next a m → a.program ≡ p → after p m ≡ store a.writes m
+pub after_holds : (o : Outcome) (next : Next) (p : Program) (a : AttemptView) (m : State) → next ≡ next_of o → HoldsAt next a m → a.program ≡ p → after p m ≡ store a.writes m
 after_holds (Returned v) next p a m e h q = subst (λ (t : Program). after t m ≡ store a.writes m) q (subst (λ (n : Next). HoldsAt n a m) e h).1
 after_holds (Thrown f) next p a m e h q = subst (λ (t : Program). after t m ≡ store a.writes m) q (subst (λ (n : Next). HoldsAt n a m) e h).1
 after_holds Retries next p a m e h q = subst (λ (t : Program). after t m ≡ store a.writes m) q (subst (λ (n : Next). HoldsAt n a m) e h).1
-
-stand_told : (o : Outcome) (next : Next) (a : AttemptView) → next ≡ next_of o → Answers next a → a.stand ≡ stand.Over o
-stand_told (Returned v) next a e h = (subst (λ (n : Next). Answers n a) e h).1
-stand_told (Thrown f) next a e h = (subst (λ (n : Next). Answers n a) e h).1
-stand_told Retries next a e h = (subst (λ (n : Next). Answers n a) e h).1
-
-pub tells_outcome : {E : Type 0} (r : Result Outcome E) (next : Next) (p : Program) (a : AttemptView) (m : State) → IfOk r (λ o. next ≡ next_of o) → HoldsAt next a m → a.program ≡ p → IfOk r (λ o. outcome p m ≡ o)
-tells_outcome (Ok o) next p a m e h q = outcome_holds o next p a m e h q
-tells_outcome (Err short) next p a m e h q = tt
-
-pub tells_after : {E : Type 0} (r : Result Outcome E) (next : Next) (p : Program) (a : AttemptView) (m : State) → IfOk r (λ o. next ≡ next_of o) → HoldsAt next a m → a.program ≡ p → OnOk r (after p m ≡ store a.writes m)
-tells_after (Ok o) next p a m e h q = after_holds o next p a m e h q
-tells_after (Err short) next p a m e h q = tt
-
-pub tells_end : {E : Type 0} (r : Result Outcome E) (next : Next) (a : AttemptView) → IfOk r (λ o. next ≡ next_of o) → Answers next a → IfOk r (λ o. a.stand ≡ stand.Over o)
-tells_end (Ok o) next a e h = stand_told o next a e h
-tells_end (Err short) next a e h = tt

@@ -9,10 +9,11 @@ ghost use Rattle.attempt_machine.specs.Frame.{Agrees, store};
 ghost use Rattle.attempt_writes.specs.Order.{AllKnown, Apart, Ascending};
 ghost use Rattle.attempt_machine.specs.Room.{NeedsNoMemory};
 ghost use Rattle.attempt_machine.specs.Reading.{ReadsOn};
+ghost use Rattle.attempt.specs.AttemptInside.{StandsAt};
 ghost use Rattle.attempt.specs.View.{fresh_attempt, begun_anew, supplied, idle, next_of, Answers, HoldsAt, OnlyOfReturned};
 
 use crate::log::Log;
-use crate::next::{Next, Stand, answer, outcome_of};
+use crate::next::{Next, Stand, answer_of};
 use crate::running::go_on;
 use attempt_machine::{Count, Machine, Reader};
 use attempt_writes::LogTable;
@@ -202,12 +203,13 @@ impl<'a> Attempt<'a> {
         ensures frame { (m : State) → length m ≡ self.new.variables → Agrees self.new.log m → HoldsAt result self.new m }
     {
         self.steps = 0;
+        let mut nothing: &[i64] = &[];
         match self.stand {
             Stand::Fresh => {
-                let mut nothing: &[i64] = &[];
-                self.go_on(&mut nothing)
+                self.go_on(&mut nothing);
+                self.answer()
             }
-            Stand::Over(outcome) => answer(outcome),
+            Stand::Over(outcome) => answer_of(outcome),
             Stand::Needs(x) => Next::Need(x),
             Stand::Spent => Next::Memory,
         }
@@ -243,8 +245,11 @@ impl<'a> Attempt<'a> {
         self.catalogue.rules();
         self.steps = 0;
         match self.stand {
-            Stand::Fresh => self.go_on(reader),
-            Stand::Over(outcome) => answer(outcome),
+            Stand::Fresh => {
+                self.go_on(reader);
+                self.answer()
+            }
+            Stand::Over(outcome) => answer_of(outcome),
             Stand::Needs(x) => Next::Need(x),
             Stand::Spent => Next::Memory,
         }
@@ -275,17 +280,36 @@ impl<'a> Attempt<'a> {
     {
         self.catalogue.rules();
         let mut reader = values;
-        let next = self.go_on(&mut reader);
-        outcome_of(next)
+        self.go_on(&mut reader);
+        let Stand::Over(outcome) = self.stand else {
+            return Err(Memory);
+        };
+        Ok(outcome)
+    }
+
+    /// What it answers where it stands, once it was advanced.
+    fn answer(&self) -> Next
+        requires { self.now.stand ≢ Stand.Fresh }
+        ensures answers { Answers result self.now }
+        ensures needs { (x : VarId) → self.now.stand ≡ Stand.Needs x → result ≡ Next.Need x }
+        ensures spent { result ≡ Next.Memory → self.now.stand ≡ Stand.Spent }
+    {
+        match self.stand {
+            Stand::Needs(x) => Next::Need(x),
+            Stand::Over(outcome) => answer_of(outcome),
+            Stand::Spent => Next::Memory,
+            Stand::Fresh => unreachable!(),
+        }
     }
 
     /// Goes on with the machine where it stands, and reads what it needs and can be read.
     /// It is a call of its own, so that an answer that is repeated costs little.
     #[inline(never)]
-    fn go_on<R: Reader>(&mut self, reader: &mut R) -> Next
+    fn go_on<R: Reader>(&mut self, reader: &mut R)
         requires fresh { self.old.stand ≡ Stand.Fresh }
         requires values { length (R.values reader.old) ≤ MAX_VARIABLES }
-        ensures answers { Answers result self.new }
+        ensures advanced { self.new.stand ≢ Stand.Fresh }
+        ensures stands { StandsAt self.new self.new.stand }
         ensures program { self.new.program ≡ self.old.program }
         ensures variables { self.new.variables ≡ self.old.variables }
         ensures reads { ReadsOn self.old.program (R.values reader.old) self.old.log self.new.log }
@@ -294,12 +318,12 @@ impl<'a> Attempt<'a> {
         ensures apart { Apart self.new.log }
         ensures values { R.values reader.new ≡ R.values reader.old }
         ensures kept { R.kept reader.new ≡ R.kept reader.old }
-        ensures open { ((x : VarId) → result ≢ Next.Need x) → R.is_open reader.old ≡ true → R.is_open reader.new ≡ true }
+        ensures open { ((x : VarId) → self.new.stand ≢ Stand.Needs x) → R.is_open reader.old ≡ true → R.is_open reader.new ≡ true }
         ensures known { ProgramKnown self.new.variables self.new.program }
         ensures steps { self.new.steps ≤ cost self.old.program }
         ensures adds { R.values reader.old ≡ [] → self.new.total ≡ self.old.total + self.new.steps }
         ensures total { self.new.total ≤ cost self.old.program + length self.new.log }
-        ensures short { NeedsNoMemory self.old.program → result ≢ Next.Memory }
+        ensures short { NeedsNoMemory self.old.program → self.new.stand ≢ Stand.Spent }
     {
         self.catalogue.rules();
         let before = self.count;
@@ -322,12 +346,9 @@ impl<'a> Attempt<'a> {
         self.again = 0;
         self.stand = stand;
         match stand {
-            Stand::Needs(x) => Next::Need(x),
-            Stand::Over(outcome) => {
-                self.machine.own.settle();
-                answer(outcome)
-            }
-            Stand::Spent => Next::Memory,
+            Stand::Needs(_) => {}
+            Stand::Over(_) => self.machine.own.settle(),
+            Stand::Spent => {}
             Stand::Fresh => unreachable!(),
         }
     }

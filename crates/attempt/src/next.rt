@@ -1,9 +1,9 @@
 //! What an attempt answers, and where it stands.
 
-ghost use Rattle.std.specs.Prelude.{◌≡◌, IfOk};
+ghost use Rattle.std.specs.Prelude.{◌≡◌};
 ghost use Rattle.attempt.specs.View.{next_of};
 
-use txn::{Fault, Memory, Outcome, VarId};
+use txn::{Fault, Outcome, VarId};
 
 /// What `advance` answers.
 #[derive(Clone, Copy, Debug, PartialEq, Eq)]
@@ -32,25 +32,12 @@ pub enum Stand {
 }
 
 /// The answer of an attempt that ended.
-pub(crate) fn answer(outcome: Outcome) -> Next
+pub(crate) fn answer_of(outcome: Outcome) -> Next
     ensures { result ≡ next_of outcome }
 {
     match outcome {
         Outcome::Returned(v) => Next::Returned(v),
         Outcome::Thrown(f) => Next::Thrown(f),
         Outcome::Retries => Next::Retry,
-    }
-}
-
-/// The outcome that an answer tells, if it tells one.
-pub(crate) fn outcome_of(next: Next) -> Result<Outcome, Memory>
-    ensures { IfOk result (λ o. next ≡ next_of o) }
-{
-    match next {
-        Next::Returned(v) => Ok(Outcome::Returned(v)),
-        Next::Thrown(fault) => Ok(Outcome::Thrown(fault)),
-        Next::Retry => Ok(Outcome::Retries),
-        Next::Need(_) => Err(Memory),
-        Next::Memory => Err(Memory),
     }
 }

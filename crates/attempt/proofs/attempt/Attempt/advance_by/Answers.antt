@@ -1,4 +1,4 @@
-use Rattle.std.proofs.Common.{◌+◌, ◌∙◌, ap, arith, length, subst, sym}
+use Rattle.std.proofs.Common.{ap, arith, subst, sym}
 use Rattle.txn_programs.proofs.Lawful.{limits_parts}
 use Rattle.txn_programs.specs.Cost.{cost}
 use Rattle.attempt_machine.specs.Frame.{Agrees}
@@ -31,10 +31,10 @@ returns-in-Fresh-clause-total g c =
     omega (arith, c.go_on.ensures.total, own)
 
 pub returns-in-Fresh-clause-needed : goal.returns-in-Fresh-clause-needed
-returns-in-Fresh-clause-needed g c = λ x e. told_missing c.go_on.result c.go_on.new.self x c.go_on.ensures.answers c.go_on.ensures.known e
+returns-in-Fresh-clause-needed g c = λ x e. told_missing c.answer.result c.go_on.new.self x c.answer.ensures.answers c.go_on.ensures.known e
 
 pub returns-in-Fresh-clause-frame : goal.returns-in-Fresh-clause-frame
-returns-in-Fresh-clause-frame g c = λ m len h. told_holds c.go_on.result c.go_on.new.self m c.go_on.ensures.answers c.go_on.ensures.known len h
+returns-in-Fresh-clause-frame g c = λ m len h. told_holds c.answer.result c.go_on.new.self m c.answer.ensures.answers c.go_on.ensures.known len h
 
 pub returns-in-Over-clause-reads : goal.returns-in-Over-clause-reads
 returns-in-Over-clause-reads g c =
@@ -58,4 +58,4 @@ pub returns-in-Over-clause-frame : goal.returns-in-Over-clause-frame
 returns-in-Over-clause-frame g c = λ m len h.
     let a = idle (viewed c.self.inside) in
     let kept = c.self.invariant.lawful in
-    subst (λ r. HoldsAt r a m) (sym c.answer.ensures) (over_holds a c.in-Over.outcome m kept.known len h (subst (StandsAt a) c.in-Over.is kept.stands))
+    subst (λ r. HoldsAt r a m) (sym c.answer_of.ensures) (over_holds a c.in-Over.outcome m kept.known len h (subst (StandsAt a) c.in-Over.is kept.stands))

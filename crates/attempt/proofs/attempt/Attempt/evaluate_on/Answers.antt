@@ -1,35 +1,38 @@
-use Rattle.std.proofs.Common.{◌∙◌, ap, arith, sym}
+use Rattle.std.proofs.Common.{◌∙◌, ap, arith, refl, subst, sym}
 use Rattle.txn_programs.proofs.Lawful.{limits_parts}
-use Rattle.attempt.specs.View.{AttemptView, HoldsAt}
+use Rattle.attempt.specs.AttemptInside.{StandsAt}
+use Rattle.attempt.specs.View.{AttemptView, HoldsAt, next_of}
 use Rattle.attempt.proofs.Reading.{reads_agree}
-use Rattle.attempt.proofs.Told.{told_holds, tells_outcome, tells_after, tells_end}
+use Rattle.attempt.proofs.Told.{over_holds, outcome_holds, after_holds}
 use Rattle.attempt.proofs.attempt.Attempt.evaluate_on.Goals as goal
 
-pub go_on-next-requires-clause-values : goal.go_on-next-requires-clause-values
-go_on-next-requires-clause-values c =
+pub go_on-requires-clause-values : goal.go_on-requires-clause-values
+go_on-requires-clause-values c =
     let l = c.self.inside.catalogue.now in
     let few = (limits_parts l c.rules.ensures.limits).variables in
     let variables = ap (λ (a : AttemptView). a.variables) c.self.view_is in
     omega (arith, few, c.rules.ensures.named, c.requires.values, variables)
 
 pub returns-clause-agrees : goal.returns-clause-agrees
-returns-clause-agrees c = reads_agree _ c.args.values.now _ _ c.go_on-next.ensures.reads c.requires.agrees
+returns-clause-agrees c = reads_agree _ c.args.values.now _ _ c.go_on.ensures.reads c.requires.agrees
 
-pub returns-clause-ended : goal.returns-clause-ended
-returns-clause-ended c = tells_end c.outcome_of.result c.go_on-next.result c.go_on-next.new.self c.outcome_of.ensures c.go_on-next.ensures.answers
+pub returns-in_default-clause-agrees : goal.returns-in_default-clause-agrees
+returns-in_default-clause-agrees c = reads_agree _ c.args.values.now _ _ c.go_on.ensures.reads c.requires.agrees
 
 pub returns-clause-outcome : goal.returns-clause-outcome
 returns-clause-outcome c =
     let m = c.args.values.now in
-    let b = c.go_on-next.new.self in
-    let agrees = reads_agree _ m _ _ c.go_on-next.ensures.reads c.requires.agrees in
-    let holds : HoldsAt c.go_on-next.result b m = told_holds c.go_on-next.result b m c.go_on-next.ensures.answers c.go_on-next.ensures.known (c.requires.values ∙ sym c.go_on-next.ensures.variables) agrees in
-    tells_outcome c.outcome_of.result c.go_on-next.result _ b m c.outcome_of.ensures holds c.go_on-next.ensures.program
+    let b = c.go_on.new.self in
+    let o = c.in-Over.outcome in
+    let agrees = reads_agree _ m _ _ c.go_on.ensures.reads c.requires.agrees in
+    let holds : HoldsAt (next_of o) b m = over_holds b o m c.go_on.ensures.known (c.requires.values ∙ sym c.go_on.ensures.variables) agrees (subst (StandsAt b) (sym (ap (λ (a : AttemptView). a.stand) c.self-2.view_is) ∙ c.in-Over.is) c.go_on.ensures.stands) in
+    outcome_holds o _ _ b m refl holds c.go_on.ensures.program
 
 pub returns-clause-after : goal.returns-clause-after
 returns-clause-after c =
     let m = c.args.values.now in
-    let b = c.go_on-next.new.self in
-    let agrees = reads_agree _ m _ _ c.go_on-next.ensures.reads c.requires.agrees in
-    let holds : HoldsAt c.go_on-next.result b m = told_holds c.go_on-next.result b m c.go_on-next.ensures.answers c.go_on-next.ensures.known (c.requires.values ∙ sym c.go_on-next.ensures.variables) agrees in
-    tells_after c.outcome_of.result c.go_on-next.result _ b m c.outcome_of.ensures holds c.go_on-next.ensures.program
+    let b = c.go_on.new.self in
+    let o = c.in-Over.outcome in
+    let agrees = reads_agree _ m _ _ c.go_on.ensures.reads c.requires.agrees in
+    let holds : HoldsAt (next_of o) b m = over_holds b o m c.go_on.ensures.known (c.requires.values ∙ sym c.go_on.ensures.variables) agrees (subst (StandsAt b) (sym (ap (λ (a : AttemptView). a.stand) c.self-2.view_is) ∙ c.in-Over.is) c.go_on.ensures.stands) in
+    after_holds o _ _ b m refl holds c.go_on.ensures.program

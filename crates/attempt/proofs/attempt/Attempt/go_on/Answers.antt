@@ -41,7 +41,10 @@ invariant_of-self-in-Over g c =
     went_on i c.go_on-stand.result m after count log _ _ c.self.invariant (ap (λ (b : AttemptView). b.stand) c.self.view_is ∙ c.requires.fresh) refl read c.go_on-stand.ensures.known c.go_on-stand.ensures.apart c.go_on-stand.ensures.stops c.go_on-stand.ensures.few c.go_on-stand.ensures.more settles
 
 pub returns-in-Needs-clause-open : goal.returns-in-Needs-clause-open
-returns-in-Needs-clause-open g c = λ h e. absurd (h c.in-Needs.x refl)
+returns-in-Needs-clause-open g c = λ h e. absurd (h c.in-Needs.field-0 c.in-Needs.is)
+
+pub returns-in-Needs-clause-stands : goal.returns-in-Needs-clause-stands
+returns-in-Needs-clause-stands g c = (invariant_of-self g c).lawful.stands
 
 pub returns-in-Over-clause-open : goal.returns-in-Over-clause-open
 returns-in-Over-clause-open g c = λ h. c.go_on-stand.ensures.open (λ x. over_needs_none _ _ x c.in-Over.is)
