@@ -4,3 +4,5 @@ pub mod Numerals
 pub mod Steps
 pub mod Many
 pub mod Pieces
+pub mod Fronts
+pub mod Nexts

@@ -4,6 +4,7 @@ ghost use Rattle.std.specs.Prelude.{◌≡◌, ◌≤◌, length};
 ghost use Rattle.std.specs.List.{prefix_len, list_all};
 ghost use Rattle.std.specs.Char.{is_ascii_digit};
 ghost use Rattle.std.specs.Str.{IsAscii};
+ghost use Rattle.txn_programs.specs.Names.{is_name_byte};
 ghost use Rattle.text_words.specs.Bytes.{is_allowed, is_atom_byte, is_in_line, is_int, is_positive};
 
 use std::str;
@@ -39,6 +40,20 @@ pub(crate) fn atom_len(bytes: &[u8]) -> usize
     ensures bound { result ≤ length bytes.now }
 {
     bytes.iter().take_while(|b| is_atom_byte(**b)).count()
+}
+
+fn is_name_byte(b: u8) -> bool
+    ensures { result ≡ is_name_byte b }
+{
+    b.is_ascii_alphanumeric() || b == b'_'
+}
+
+/// How many bytes at the front a name may have behind its first letter.
+pub(crate) fn name_len(bytes: &[u8]) -> usize
+    ensures value { result ≡ prefix_len is_name_byte bytes.now }
+    ensures bound { result ≤ length bytes.now }
+{
+    bytes.iter().take_while(|b| is_name_byte(**b)).count()
 }
 
 fn is_in_line(b: u8) -> bool

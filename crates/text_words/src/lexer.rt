@@ -1,12 +1,14 @@
 //! Bytes as tokens.
 
-ghost use Rattle.std.specs.Prelude.{◌≡◌, ℕ, List, true, ◌<◌, [], ◌∷◌, ◌++◌, IfSome, IfNone, length};
-ghost use Rattle.text_words.specs.Tokens.{atom, tokens};
-ghost use Rattle.text_words.specs.TokenView.{view, front};
+ghost use Rattle.std.specs.Prelude.{◌≡◌, true, false, ◌||◌, ◌==◌, ◌<◌, ◌≤◌, [], ◌∷◌, IfSome, IfNone, length};
+ghost use Rattle.std.specs.List.{prefix_len, take_while};
+ghost use Rattle.txn_programs.specs.Names.{is_name};
+ghost use Rattle.text_words.specs.Bytes.{is_atom_byte, is_blank, is_int};
+ghost use Rattle.text_words.specs.Tokens.{atom, after, tokens};
+ghost use Rattle.text_words.specs.TokenView.{view};
 
-use crate::bytes::{as_text, atom_len, is_atom_byte, is_int, line_len};
+use crate::bytes::{as_text, atom_len, is_atom_byte, is_int, line_len, name_len};
 use crate::numeral::Numeral;
-use txn_programs::names::is_name;
 
 /// A parenthesis, or an atom.
 #[derive(Clone, Copy, Debug)]
@@ -19,42 +21,87 @@ pub enum Token<'a> {
     Other,
 }
 
-#[tactic(auto, using(crate::proofs::Ascii::name_is_ascii, crate::proofs::Ascii::int_is_ascii), unfolding(crate::specs::Tokens::atom))]
-fn atom(text: &[u8]) -> Token<'_>
-    ensures { view result ≡ atom text.now }
+/// The bytes from the next token on, with no blank and no comment before it.
+pub(crate) fn token_start(bytes: &[u8]) -> &[u8]
+    ensures same { tokens result.now ≡ tokens bytes.now }
+    ensures front { prefix_len (λ b. is_blank b || (b == 59)) result.now ≡ 0 }
+    ensures within { length result.now ≤ length bytes.now }
 {
-    if is_name(text) {
-        Token::Name(as_text(text))
-    } else if is_int(text) {
-        Token::Int(Numeral {
-            text: as_text(text),
-        })
-    } else {
-        Token::Other
+    let mut rest = bytes;
+    'gaps: while let Some((first, after)) = rest.split_first() {
+        match *first {
+            b' ' | b'\n' => rest = after,
+            b';' => {
+                let (_, behind) = after.split_at(line_len(after));
+                rest = behind;
+            }
+            _ => return rest,
+        }
+    }
+    rest
+}
+
+/// Whether no byte of an atom stands next.
+fn ends_atom(bytes: &[u8]) -> bool
+    ensures { result ≡ (prefix_len is_atom_byte bytes.now == 0) }
+{
+    match bytes {
+        [] => true,
+        [b, ..] => !is_atom_byte(*b),
     }
 }
 
-/// What the front of the bytes is, a token or a blank or a comment, and what follows it.
-fn step<'a>(bytes: &'a [u8]) -> Option<(Option<Token<'a>>, &'a [u8])>
-    ensures none { IfNone result (bytes.now ≡ []) }
-    ensures some { IfSome result (λ x. tokens bytes.now ≡ front x.0 ++ tokens x.1.now) }
-    ensures shorter { IfSome result (λ x. length x.1.now < length bytes.now) }
+/// The atom at the front and what follows it, where it is a name: its bytes are looked at once.
+pub(crate) fn name_at(bytes: &[u8]) -> Option<(&str, &[u8])>
+    ensures none { IfNone result (is_name (take_while is_atom_byte bytes.now) ≡ false) }
+    ensures name { IfSome result (λ x. is_name x.0.now ≡ true) }
+    ensures atom { IfSome result (λ x. x.0.now ≡ take_while is_atom_byte bytes.now) }
+    ensures rest { IfSome result (λ x. x.1.now ≡ after is_atom_byte bytes.now) }
 {
-    let (first, after) = bytes.split_first()?;
-    match *first {
-        b'(' => Some((Some(Token::Open), after)),
-        b')' => Some((Some(Token::Close), after)),
-        b';' => {
-            let (_, rest) = after.split_at(line_len(after));
-            Some((None, rest))
-        }
-        b if is_atom_byte(b) => {
-            let n = atom_len(after);
-            let (text, rest) = bytes.split_at(n + 1);
-            Some((Some(atom(text)), rest))
-        }
-        _ => Some((None, after)),
+    let (first, inner) = bytes.split_first()?;
+    if !first.is_ascii_alphabetic() {
+        return None;
     }
+    let (text, rest) = bytes.split_at(1 + name_len(inner));
+    if ends_atom(rest) {
+        Some((as_text(text), rest))
+    } else {
+        None
+    }
+}
+
+/// The atom at the front and what follows it, where it is an integer.
+#[tactic(auto, using(crate::proofs::Ascii::int_is_ascii))]
+pub(crate) fn int_at(bytes: &[u8]) -> Option<(Numeral<'_>, &[u8])>
+    ensures none { IfNone result (is_int (take_while is_atom_byte bytes.now) ≡ false) }
+    ensures atom { IfSome result (λ x. x.0.text.now ≡ take_while is_atom_byte bytes.now) }
+    ensures rest { IfSome result (λ x. x.1.now ≡ after is_atom_byte bytes.now) }
+{
+    let (text, rest) = bytes.split_at(atom_len(bytes));
+    if is_int(text) {
+        let numeral = Numeral {
+            text: as_text(text),
+        };
+        Some((numeral, rest))
+    } else {
+        None
+    }
+}
+
+/// The atom at the front, and what follows it.
+#[tactic(auto, unfolding(crate::specs::Tokens::atom))]
+fn atom_at(bytes: &[u8]) -> (Token<'_>, &[u8])
+    ensures token { view result.0 ≡ atom (take_while is_atom_byte bytes.now) }
+    ensures rest { result.1.now ≡ after is_atom_byte bytes.now }
+{
+    if let Some((name, rest)) = name_at(bytes) {
+        return (Token::Name(name), rest);
+    }
+    if let Some((numeral, rest)) = int_at(bytes) {
+        return (Token::Int(numeral), rest);
+    }
+    let (_, rest) = bytes.split_at(atom_len(bytes));
+    (Token::Other, rest)
 }
 
 /// The next token and what follows it, or nothing where only blanks and comments are left.
@@ -63,12 +110,11 @@ pub fn next_token(bytes: &[u8]) -> Option<(Token<'_>, &[u8])>
     ensures some { IfSome result (λ x. tokens bytes.now ≡ view x.0 ∷ tokens x.1.now) }
     ensures shorter { IfSome result (λ x. length x.1.now < length bytes.now) }
 {
-    let mut rest = bytes;
-    while let Some((token, after)) = step(rest) {
-        if let Some(token) = token {
-            return Some((token, after));
-        }
-        rest = after;
+    let start = token_start(bytes);
+    let (first, after) = start.split_first()?;
+    match *first {
+        b'(' => Some((Token::Open, after)),
+        b')' => Some((Token::Close, after)),
+        _ => Some(atom_at(start)),
     }
-    None
 }

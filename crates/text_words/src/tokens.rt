@@ -9,7 +9,7 @@ ghost use Rattle.text_words.specs.TokenReading.{next_at, open_at, close_at, name
 ghost use Rattle.text_words.specs.declared.fault.ReadFault.TheVariants.{Shape};
 
 use crate::fault::ReadFault;
-use crate::lexer::{Token, next_token};
+use crate::lexer::{Token, int_at, name_at, next_token, token_start};
 use crate::numeral::Numeral;
 
 /// The next token.
@@ -18,10 +18,7 @@ pub fn token_of(bytes: &[u8]) -> Result<(Token<'_>, &[u8]), ReadFault>
     ensures shorter { IfOk result (λ x. length x.1.now < length bytes.now) }
     ensures kind { IfErr result (λ e. e ≡ Shape) }
 {
-    match next_token(bytes) {
-        Some(found) => Ok(found),
-        None => Err(ReadFault::Shape),
-    }
+    next_token(bytes).ok_or(ReadFault::Shape)
 }
 
 /// An opening parenthesis.
@@ -31,9 +28,8 @@ pub fn open(bytes: &[u8]) -> Result<&[u8], ReadFault>
     ensures shorter { IfOk result (λ x. length x.now < length bytes.now) }
     ensures kind { IfErr result (λ e. e ≡ Shape) }
 {
-    let (token, rest) = token_of(bytes)?;
-    match token {
-        Token::Open => Ok(rest),
+    match token_start(bytes).split_first() {
+        Some((b'(', rest)) => Ok(rest),
         _ => Err(ReadFault::Shape),
     }
 }
@@ -45,9 +41,8 @@ pub fn close(bytes: &[u8]) -> Result<&[u8], ReadFault>
     ensures shorter { IfOk result (λ x. length x.now < length bytes.now) }
     ensures kind { IfErr result (λ e. e ≡ Shape) }
 {
-    let (token, rest) = token_of(bytes)?;
-    match token {
-        Token::Close => Ok(rest),
+    match token_start(bytes).split_first() {
+        Some((b')', rest)) => Ok(rest),
         _ => Err(ReadFault::Shape),
     }
 }
@@ -59,10 +54,9 @@ pub fn name_of(bytes: &[u8]) -> Result<(&str, &[u8]), ReadFault>
     ensures shorter { IfOk result (λ x. length x.1.now < length bytes.now) }
     ensures kind { IfErr result (λ e. e ≡ Shape) }
 {
-    let (token, rest) = token_of(bytes)?;
-    match token {
-        Token::Name(name) => Ok((name, rest)),
-        _ => Err(ReadFault::Shape),
+    match name_at(token_start(bytes)) {
+        Some((name, rest)) => Ok((name, rest)),
+        None => Err(ReadFault::Shape),
     }
 }
 
@@ -73,19 +67,18 @@ pub fn int_of(bytes: &[u8]) -> Result<(Numeral<'_>, &[u8]), ReadFault>
     ensures shorter { IfOk result (λ x. length x.1.now < length bytes.now) }
     ensures kind { IfErr result (λ e. e ≡ Shape) }
 {
-    let (token, rest) = token_of(bytes)?;
-    match token {
-        Token::Int(numeral) => Ok((numeral, rest)),
-        _ => Err(ReadFault::Shape),
+    match int_at(token_start(bytes)) {
+        Some((numeral, rest)) => Ok((numeral, rest)),
+        None => Err(ReadFault::Shape),
     }
 }
 
 /// Whether a parenthesis opens.
-#[tactic(auto, unfolding(crate::specs::TokenReading::is_open, crate::specs::TokenReading::open_at))]
+#[tactic(auto, unfolding(crate::specs::TokenReading::is_open))]
 pub fn is_open(bytes: &[u8]) -> bool
     ensures { result ≡ is_open (tokens bytes.now) }
 {
-    matches!(next_token(bytes), Some((Token::Open, _)))
+    open(bytes).is_ok()
 }
 
 /// A parenthesis and a word.
