@@ -1,0 +1,7 @@
+use Rattle.std.proofs.Common.{◌≡◌, ◌+◌, ◌<◌, Bool, false, arith}
+use Rattle.std.proofs.lemmas.List.FromFn.{get_or-map-range_with_len}
+use Rattle.text_words.specs.Bytes.{is_atom_byte}
+use Rattle.text_words.proofs.bytes.is_atom_byte.Goals as goal
+
+pub returns : goal.returns
+returns c = let here : c.args.b < 256 = omega (arith, c.ranges.b.fits) in get_or-map-range_with_len is_atom_byte 0 256 c.args.b c.args.b false here (omega arith)
