@@ -7,6 +7,7 @@ ghost use Rattle.std.specs.Str.{IsAscii};
 ghost use Rattle.txn_programs.specs.Names.{is_name_byte};
 ghost use Rattle.text_words.specs.Bytes.{is_allowed, is_atom_byte, is_in_line, is_int, is_positive};
 
+use crate::tables::{ATOM_BYTES, NAME_BYTES};
 use std::str;
 
 fn is_allowed(b: u8) -> bool
@@ -27,27 +28,6 @@ pub fn are_allowed(bytes: &[u8]) -> bool
     allowed
 }
 
-/// Which bytes an atom may have: all but blanks, parentheses and the semicolon.
-static ATOM_BYTES: [bool; 256] = [
-    true, true, true, true, true, true, true, true, true, true, false, true, true, true, true,
-    true, true, true, true, true, true, true, true, true, true, true, true, true, true, true, true,
-    true, false, true, true, true, true, true, true, true, false, false, true, true, true, true,
-    true, true, true, true, true, true, true, true, true, true, true, true, true, false, true,
-    true, true, true, true, true, true, true, true, true, true, true, true, true, true, true, true,
-    true, true, true, true, true, true, true, true, true, true, true, true, true, true, true, true,
-    true, true, true, true, true, true, true, true, true, true, true, true, true, true, true, true,
-    true, true, true, true, true, true, true, true, true, true, true, true, true, true, true, true,
-    true, true, true, true, true, true, true, true, true, true, true, true, true, true, true, true,
-    true, true, true, true, true, true, true, true, true, true, true, true, true, true, true, true,
-    true, true, true, true, true, true, true, true, true, true, true, true, true, true, true, true,
-    true, true, true, true, true, true, true, true, true, true, true, true, true, true, true, true,
-    true, true, true, true, true, true, true, true, true, true, true, true, true, true, true, true,
-    true, true, true, true, true, true, true, true, true, true, true, true, true, true, true, true,
-    true, true, true, true, true, true, true, true, true, true, true, true, true, true, true, true,
-    true, true, true, true, true, true, true, true, true, true, true, true, true, true, true, true,
-    true, true, true,
-];
-
 /// Whether the byte is part of an atom.
 pub(crate) fn is_atom_byte(b: u8) -> bool
     ensures { result ≡ is_atom_byte b }
@@ -62,29 +42,6 @@ pub(crate) fn atom_len(bytes: &[u8]) -> usize
 {
     bytes.iter().take_while(|b| is_atom_byte(**b)).count()
 }
-
-/// Which bytes a name may have: letters, digits and the underscore. One load tells it.
-static NAME_BYTES: [bool; 256] = [
-    false, false, false, false, false, false, false, false, false, false, false, false, false,
-    false, false, false, false, false, false, false, false, false, false, false, false, false,
-    false, false, false, false, false, false, false, false, false, false, false, false, false,
-    false, false, false, false, false, false, false, false, false, true, true, true, true, true,
-    true, true, true, true, true, false, false, false, false, false, false, false, true, true,
-    true, true, true, true, true, true, true, true, true, true, true, true, true, true, true, true,
-    true, true, true, true, true, true, true, true, false, false, false, false, true, false, true,
-    true, true, true, true, true, true, true, true, true, true, true, true, true, true, true, true,
-    true, true, true, true, true, true, true, true, true, false, false, false, false, false, false,
-    false, false, false, false, false, false, false, false, false, false, false, false, false,
-    false, false, false, false, false, false, false, false, false, false, false, false, false,
-    false, false, false, false, false, false, false, false, false, false, false, false, false,
-    false, false, false, false, false, false, false, false, false, false, false, false, false,
-    false, false, false, false, false, false, false, false, false, false, false, false, false,
-    false, false, false, false, false, false, false, false, false, false, false, false, false,
-    false, false, false, false, false, false, false, false, false, false, false, false, false,
-    false, false, false, false, false, false, false, false, false, false, false, false, false,
-    false, false, false, false, false, false, false, false, false, false, false, false, false,
-    false, false, false, false, false, false, false, false, false, false,
-];
 
 fn is_name_byte(b: u8) -> bool
     ensures { result ≡ is_name_byte b }

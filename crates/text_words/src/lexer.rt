@@ -105,6 +105,7 @@ fn atom_at(bytes: &[u8]) -> (Token<'_>, &[u8])
 }
 
 /// The next token and what follows it, or nothing where only blanks and comments are left.
+#[inline(always)]
 pub fn next_token(bytes: &[u8]) -> Option<(Token<'_>, &[u8])>
     ensures none { IfNone result (tokens bytes.now ≡ []) }
     ensures some { IfSome result (λ x. tokens bytes.now ≡ view x.0 ∷ tokens x.1.now) }

@@ -6,6 +6,7 @@ pub mod bytes;
 pub mod fault;
 pub mod lexer;
 pub mod numeral;
+mod tables;
 pub mod tokens;
 
 pub use fault::ReadFault;

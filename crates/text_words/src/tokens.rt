@@ -22,7 +22,7 @@ pub fn token_of(bytes: &[u8]) -> Result<(Token<'_>, &[u8]), ReadFault>
 }
 
 /// An opening parenthesis.
-#[tactic(auto, unfolding(crate::specs::TokenReading::open_at))]
+#[inline(always)]
 pub fn open(bytes: &[u8]) -> Result<&[u8], ReadFault>
     ensures value { Gives (λ x. tokens x.now) result (open_at (tokens bytes.now)) }
     ensures shorter { IfOk result (λ x. length x.now < length bytes.now) }
@@ -35,7 +35,7 @@ pub fn open(bytes: &[u8]) -> Result<&[u8], ReadFault>
 }
 
 /// A closing parenthesis.
-#[tactic(auto, unfolding(crate::specs::TokenReading::close_at))]
+#[inline(always)]
 pub fn close(bytes: &[u8]) -> Result<&[u8], ReadFault>
     ensures value { Gives (λ x. tokens x.now) result (close_at (tokens bytes.now)) }
     ensures shorter { IfOk result (λ x. length x.now < length bytes.now) }
@@ -48,7 +48,7 @@ pub fn close(bytes: &[u8]) -> Result<&[u8], ReadFault>
 }
 
 /// A name.
-#[tactic(auto, unfolding(crate::specs::TokenReading::name_at))]
+#[inline(always)]
 pub fn name_of(bytes: &[u8]) -> Result<(&str, &[u8]), ReadFault>
     ensures value { Gives (λ x. (x.0.now, tokens x.1.now)) result (name_at (tokens bytes.now)) }
     ensures shorter { IfOk result (λ x. length x.1.now < length bytes.now) }
@@ -61,7 +61,7 @@ pub fn name_of(bytes: &[u8]) -> Result<(&str, &[u8]), ReadFault>
 }
 
 /// An integer.
-#[tactic(auto, unfolding(crate::specs::TokenReading::int_at))]
+#[inline(always)]
 pub fn int_of(bytes: &[u8]) -> Result<(Numeral<'_>, &[u8]), ReadFault>
     ensures value { Gives (λ x. (int_value x.0.text.now, tokens x.1.now)) result (int_at (tokens bytes.now)) }
     ensures shorter { IfOk result (λ x. length x.1.now < length bytes.now) }
@@ -82,6 +82,7 @@ pub fn is_open(bytes: &[u8]) -> bool
 }
 
 /// A parenthesis and a word.
+#[inline(always)]
 #[tactic(auto, unfolding(crate::specs::TokenReading::word_at))]
 pub fn word_of(bytes: &[u8]) -> Result<(&str, &[u8]), ReadFault>
     ensures value { Gives (λ x. (x.0.now, tokens x.1.now)) result (word_at (tokens bytes.now)) }
@@ -93,6 +94,7 @@ pub fn word_of(bytes: &[u8]) -> Result<(&str, &[u8]), ReadFault>
 }
 
 /// A parenthesis and this word.
+#[inline(always)]
 #[tactic(auto, unfolding(crate::specs::TokenReading::form_at))]
 pub fn form<'a>(bytes: &'a [u8], wanted: &str) -> Result<&'a [u8], ReadFault>
     ensures value { Gives (λ x. tokens x.now) result (form_at wanted.now (tokens bytes.now)) }

@@ -1,4 +1,4 @@
-use Rattle.std.proofs.Common.{◌≡◌, ◌+◌, ◌<◌, Bool, false, arith}
+use Rattle.std.proofs.Common.{◌<◌, false, arith}
 use Rattle.std.proofs.lemmas.List.FromFn.{get_or-map-range_with_len}
 use Rattle.txn_programs.specs.Names.{is_name_byte}
 use Rattle.text_words.proofs.bytes.is_name_byte.Goals as goal
