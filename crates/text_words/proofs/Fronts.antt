@@ -18,7 +18,7 @@ reaches : (p q : ℕ → Bool) → ((b : ℕ) → p b ≡ true → q b ≡ true)
 reaches p q within [] = refl
 reaches p q within (b ∷ bytes) =
     elim (tells (p b)) [
-      | inl h ↦ let g = within b h in rw (h, g, one-add, one-add) (rw h (reaches p q within bytes))
+      | inl h ↦ let g = within b h in rw (h, g, one-add (prefix_len p bytes), one-add (prefix_len q bytes)) (rw h (reaches p q within bytes))
       | inr h ↦ elim (tells (q b)) [
         | inl g ↦ rw (h, g, one-add) (rw h (ne_eqb (suc (prefix_len q bytes)) 0 (omega arith)))
         | inr g ↦ rw (h, g) refl
