@@ -1,5 +1,4 @@
 -- What the code's tokens say, and not where they lie in memory.
-use Rattle.std.specs.Prelude.{List, [], ◌∷◌, Option, Some, None}
 use Rattle.text_words.specs.Bytes.{int_value}
 use Rattle.text_words.specs.Tokens.{Lexeme, Opens, Closes, Name, Int, Other}
 use Rattle.text_words.specs.declared.lexer.Token.{Token}
@@ -11,8 +10,3 @@ view code.Close = Closes
 view (code.Name text) = Name text.now
 view (code.Int numeral) = Int (int_value numeral.text.now)
 view code.Other = Other
-
--- a token, or none
-abbrev pub front : Option Token → List Lexeme
-front None = []
-front (Some t) = view t ∷ []
