@@ -16,6 +16,8 @@ mod limit_schedules;
 #[cfg(test)]
 mod limit_texts;
 #[cfg(test)]
+mod limit_workers;
+#[cfg(test)]
 mod many_workers;
 #[cfg(test)]
 mod on_many;
@@ -31,6 +33,8 @@ mod refused_book;
 mod refused_bytes;
 #[cfg(test)]
 mod refused_cells;
+#[cfg(test)]
+mod refused_workers;
 #[cfg(test)]
 mod refused_world;
 #[cfg(test)]

@@ -11,7 +11,7 @@ use txn::{Catalogue, Outcome, TxId};
 use txn_text::read_file;
 
 /// A transaction that reads 256 variables.
-const READS_ALL: &[Part<'static>] = &[
+pub(crate) const READS_ALL: &[Part<'static>] = &[
     Part {
         first: 0,
         times: 256,
@@ -30,7 +30,7 @@ const READS_ALL: &[Part<'static>] = &[
     Part {
         first: 0,
         times: 1,
-        words: &[") v255)"],
+        words: &[") v255)(run all 1)"],
     },
 ];
 

@@ -1,6 +1,7 @@
 //! Long schedules of many attempts, by their text and by events.
 
 use crate::limit_files::THE_LARGEST_FILE;
+use crate::limit_observers::READS_ALL;
 use crate::limit_parts::lines_of;
 use crate::limit_texts::{Part, text_of};
 use runner::Out;
@@ -66,6 +67,39 @@ fn a_schedule_of_the_largest_file_is_played(rt: HostRuntime) {
     ) {
         (Ok(file), Ok(schedule)) => {
             assert!(rt; is_played(rt.alloc(), file.as_str(), schedule.as_str(), 1027, end))
+        }
+        _ => panic!(rt; "no texts"),
+    }
+}
+
+/// A task reads 256 variables, one after the other, and commits.
+const ALL_READS: &[Part<'static>] = &[
+    Part {
+        first: 0,
+        times: 1,
+        words: &["begin 0\n"],
+    },
+    Part {
+        first: 0,
+        times: 256,
+        words: &["read 0 v", "\n"],
+    },
+    Part {
+        first: 0,
+        times: 1,
+        words: &["commit 0\n"],
+    },
+];
+
+#[test]
+fn a_schedule_of_256_reads_of_an_attempt_is_played(rt: HostRuntime) {
+    let end = " v254 5 v255 5\nend\n";
+    match (
+        text_of(rt.alloc(), READS_ALL),
+        text_of(rt.alloc(), ALL_READS),
+    ) {
+        (Ok(file), Ok(schedule)) => {
+            assert!(rt; is_played(rt.alloc(), file.as_str(), schedule.as_str(), 518, end))
         }
         _ => panic!(rt; "no texts"),
     }

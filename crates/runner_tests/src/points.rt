@@ -166,11 +166,12 @@ fn sixteen_workers_have_a_task_at_once(rt: HostRuntime) {
 }
 
 /// Lets another increment commit behind each end of the first task, so that each of its tries is
-/// stale.
+/// stale; and counts how often that task is over.
 #[derive(Drop)]
 struct Spoils {
     ends: AtomicU64,
     commits: AtomicU64,
+    over: AtomicU64,
     late: AtomicBool,
 }
 
@@ -185,6 +186,10 @@ impl Spoils {
             (Point::Taken, other) if other > 0 => comes_to(&self.ends, u64::from(other)),
             (Point::Finished, other) if other > 0 => {
                 self.commits.fetch_add(1, Ordering::SeqCst);
+                true
+            }
+            (Point::Finished, _) => {
+                self.over.fetch_add(1, Ordering::SeqCst);
                 true
             }
             _ => true,
@@ -208,11 +213,13 @@ fn a_task_has_its_turn_after_64_tries(rt: HostRuntime) {
     let gate = Spoils {
         ends: AtomicU64::new(0),
         commits: AtomicU64::new(0),
+        over: AtomicU64::new(0),
         late: AtomicBool::new(false),
     };
     let ran = run_under(&rt, rt.alloc(), file, options(&rt, 2, 64, 65), &gate);
     assert!(rt; !gate.late.load(Ordering::SeqCst));
     assert_eq!(rt; gate.ends.load(Ordering::SeqCst), 64);
+    assert_eq!(rt; gate.over.load(Ordering::SeqCst), 1);
     let report = b"base 65\nx 70 65\nnow 65\nx 70 65\nend\n";
     match ran {
         Some(text) => assert!(rt; text.as_slice() == report.as_slice()),
