@@ -1,10 +1,10 @@
 //! Events that take no memory. Both tests do the same, but that such events happen in one of them:
 //! `hostile/gate` counts that they make as many requests for memory.
 
-use crate::parts::{X, catalogue};
+use crate::parts::{X, Y, catalogue};
 use std::alloc::Global;
 use std::process::Abort;
-use txn::{Catalogue, TaskId};
+use txn::{Catalogue, TaskId, VarId};
 use world::World;
 use world_law::{Event, Seen};
 
@@ -15,29 +15,51 @@ const FILE: &str =
 
 const READERS: u32 = 20;
 
+/// So many of them are dropped, and the others run again.
+const DROPPED: u32 = 10;
+
 const WRITER: TaskId = TaskId(20);
 
-/// Each task begins, and the one that sets both asks to commit.
+/// Each task begins and reads the first variable, and the one that sets both asks to commit.
 fn begin(rt: &impl Abort, world: &mut World<'_>) {
     for task in 0..READERS {
         assert!(rt; world.step(Event::Begin(TaskId(task))) == Ok(Seen::Needs(X)));
+        loads_two(rt, world, TaskId(task), X);
+        assert!(rt; world.step(Event::Second(TaskId(task))) == Ok(Seen::Needs(Y)));
     }
     assert!(rt; world.step(Event::Begin(WRITER)).is_ok());
     assert!(rt; world.step(Event::Ask(WRITER)) == Ok(Seen::Commits(1)));
 }
 
-/// The others load two words each, the commit makes its stores, and they are dropped.
+/// The task's attempt loads two of the words that it reads of the variable.
+fn loads_two(rt: &impl Abort, world: &mut World<'_>, task: TaskId, x: VarId) {
+    assert!(rt; world.step(Event::First(task, x)) == Ok(Seen::Loaded));
+    assert!(rt; world.step(Event::Value(task)) == Ok(Seen::Loaded));
+}
+
+/// The task's attempt is stale at the second variable, runs again, and finds the first one changed.
+fn runs_again(rt: &impl Abort, world: &mut World<'_>, task: TaskId) {
+    assert!(rt; world.step(Event::Second(task)) == Ok(Seen::Stale));
+    assert!(rt; world.step(Event::Again(task)) == Ok(Seen::Checks(X)));
+    loads_two(rt, world, task, X);
+    assert!(rt; world.step(Event::Second(task)) == Ok(Seen::Changed));
+}
+
+/// The others load two words of the second variable each, the commit makes its stores, and some of
+/// them are dropped, where the others run again.
 fn go_on(rt: &impl Abort, world: &mut World<'_>) {
     for task in 0..READERS {
-        assert!(rt; world.step(Event::First(TaskId(task), X)) == Ok(Seen::Loaded));
-        assert!(rt; world.step(Event::Value(TaskId(task))) == Ok(Seen::Loaded));
+        loads_two(rt, world, TaskId(task), Y);
     }
     for _ in 0..6u32 {
         assert!(rt; world.step(Event::Word) == Ok(Seen::Stored));
     }
     assert!(rt; world.step(Event::Word) == Ok(Seen::Committed(1)));
-    for task in 0..READERS {
+    for task in 0..DROPPED {
         assert!(rt; world.step(Event::Drop(TaskId(task))) == Ok(Seen::Dropped));
+    }
+    for task in DROPPED..READERS {
+        runs_again(rt, world, TaskId(task));
     }
 }
 
