@@ -1,6 +1,6 @@
 //! Many workers: what they leave is the same whatever the schedule.
 
-use crate::parts::{options, run_with};
+use crate::parts::{Passing, options, run_under, run_with};
 use runner::{Gate, Point, run_tasks};
 use std::alloc::{AllocError, Global};
 use std::process::Abort;
@@ -24,7 +24,7 @@ const MOVED_ONCE: &str =
 
 const THOUSAND: &str = "(var x 5)(tx inc (set x (add x 1)) x)(run inc 1000)";
 
-/// Any number of workers makes this report of the file.
+/// Any number of workers makes this report of the file, also where each task is tried.
 fn expect_of_any_number(
     rt: &(impl Abort + Eprint + Threads + Wait + Sync),
     alloc: Global,
@@ -36,6 +36,10 @@ fn expect_of_any_number(
         let (text, fault) = run_with(rt, alloc, file.as_bytes(), options);
         let is_so = fault.is_none() && text.as_slice() == report.as_bytes();
         assert!(rt; is_so, "of {workers}");
+        match run_under(rt, alloc, file, options, &Passing) {
+            Some(text) => assert!(rt; text.as_slice() == report.as_bytes(), "of {workers}"),
+            None => panic!(rt; "no report of {workers}"),
+        }
     }
 }
 
@@ -157,29 +161,43 @@ fn each_of_a_thousand_tasks_goes_its_way_once(rt: HostRuntime) {
     }
 }
 
+/// Whether the text has this beginning, and the end of a thousand increments.
+fn counts_to_a_thousand(text: &[u8], front: &[u8]) -> bool {
+    text.starts_with(front) && text.ends_with(b"\nnow 1000\nx 1005 1000\nend\n")
+}
+
 #[test]
 fn eight_workers_count_to_a_thousand(rt: HostRuntime) {
     let options = options(&rt, 8, 8, 0);
     let (text, fault) = run_with(&rt, rt.alloc(), THOUSAND.as_bytes(), options);
     assert!(rt; fault.is_none());
-    assert!(rt; text.as_slice().ends_with(b"\nnow 1000\nx 1005 1000\nend\n"));
+    assert!(rt; counts_to_a_thousand(text.as_slice(), b"base 0\n"));
+    match run_under(&rt, rt.alloc(), THOUSAND, options, &Passing) {
+        Some(text) => assert!(rt; counts_to_a_thousand(text.as_slice(), b"base 0\n")),
+        None => panic!(rt; "no report"),
+    }
 }
 
 /// A journal that begins anew at 300 entries is that of the last 100 of a thousand tasks.
 #[test]
 fn any_number_of_workers_keeps_the_journal_short(rt: HostRuntime) {
+    let front = b"base 900\nx 905 900\nentry 901 ";
     for workers in 1..17 {
         let options = options(&rt, workers, 8, 300);
         let (text, fault) = run_with(&rt, rt.alloc(), THOUSAND.as_bytes(), options);
         assert!(rt; fault.is_none());
         assert!(rt;
-            text.as_slice()
-                .starts_with(b"base 900\nx 905 900\nentry 901 "),
+            counts_to_a_thousand(text.as_slice(), front),
             "of {workers}"
         );
-        assert!(rt;
-            text.as_slice().ends_with(b"\nnow 1000\nx 1005 1000\nend\n"),
-            "of {workers}"
-        );
+        match run_under(&rt, rt.alloc(), THOUSAND, options, &Passing) {
+            Some(text) => {
+                assert!(rt;
+                    counts_to_a_thousand(text.as_slice(), front),
+                    "of {workers}"
+                );
+            }
+            None => panic!(rt; "no report of {workers}"),
+        }
     }
 }

@@ -1,10 +1,11 @@
 //! A run from bytes to bytes, and what has to come of it.
 
-use runner::{Gate, OpenGate, Options, Out, RunFault, run_bytes};
+use runner::{Gate, OpenGate, Options, Out, Point, RunFault, run_bytes};
 use std::alloc::Global;
 use std::process::Abort;
 use std::sync::Wait;
 use std::thread::Threads;
+use txn::TaskId;
 use txn_text::ReadFault;
 
 /// Options that are allowed.
@@ -13,6 +14,13 @@ pub(crate) fn options(rt: &impl Abort, workers: u32, tries: u32, checkpoint: u32
         Some(options) => options,
         None => panic!(rt; "options"),
     }
+}
+
+/// A gate that holds nobody and is not open: so workers try tasks that are short, too.
+pub(crate) struct Passing;
+
+impl Gate for Passing {
+    fn at(&self, _point: Point, _task: TaskId) {}
 }
 
 /// What a run of the text with these options writes, and the fault where it ends in one.
