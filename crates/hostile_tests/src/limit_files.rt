@@ -2,6 +2,7 @@
 
 use crate::limit_parts::{Wanted, runs_whole};
 use crate::limit_texts::Part;
+use std::alloc::{AllocError, Global};
 
 /// 256 variables of 32 bytes at the most, which are 5 at first.
 const VARIABLES: &[&str] = &["(var the_variable_with_a_long_name", " 5)"];
@@ -77,6 +78,55 @@ fn all_variables_are_read_and_written(rt: HostRuntime) {
         end: "\nthe_variable_with_a_long_name255 14 9\nend\n",
     };
     runs_whole(&rt, rt.alloc(), ALL_VARIABLES_ARE_READ_AND_WRITTEN, &wanted);
+}
+
+/// One part, once.
+fn once(words: &'static [&'static str]) -> Part<'static> {
+    Part {
+        first: 0,
+        times: 1,
+        words,
+    }
+}
+
+/// 14 live branches, one inside the other, each of which notes 256 variables.
+fn noted_14_times(alloc: Global) -> Result<Vec<Part<'static>>, AllocError> {
+    let mut parts = Vec::new(alloc);
+    parts.push(Part {
+        first: 0,
+        times: 256,
+        words: VARIABLES,
+    })?;
+    parts.push(once(&["(tx deep"]))?;
+    for _ in 0..14u32 {
+        parts.push(once(&[" (orelse (seq"]))?;
+        parts.push(Part {
+            first: 0,
+            times: 256,
+            words: ADD,
+        })?;
+    }
+    parts.push(Part {
+        first: 0,
+        times: 14,
+        words: &[") (retry))"],
+    })?;
+    parts.push(once(&[" 0)(run deep 2)"]))?;
+    Ok(parts)
+}
+
+#[test]
+fn all_variables_are_noted_in_14_branches(rt: HostRuntime) {
+    let wanted = Wanted {
+        workers: 1,
+        checkpoint: 0,
+        lines: 518,
+        end: "\nthe_variable_with_a_long_name255 33 2\nend\n",
+    };
+    match noted_14_times(rt.alloc()) {
+        Ok(parts) => runs_whole(&rt, rt.alloc(), parts.as_slice(), &wanted),
+        Err(_) => panic!(rt; "no parts"),
+    }
 }
 
 /// 29 branches are live at a write, and each retries into the next.
