@@ -78,8 +78,9 @@ impl<'a> Book<'a> {
     /// All tasks ready, number 0, the initial values, an empty journal. `Memory` only where a
     /// growth was refused.
     ///
-    /// Room for one entry a task, for one change a variable, and for each variable's set of the
-    /// tasks that wait for it is taken here, so that no commit takes any. The cells and the publisher have to have been opened
+    /// Room for how each task stands, for one entry a task, for one change a variable, and for each
+    /// variable's set of the tasks that wait for it is taken here, and for what each of these has read, so
+    /// that no commit takes any. The cells and the publisher have to have been opened
     /// together on the catalogue's initial values, and nothing published since.
     pub fn open(
         alloc: Global,
@@ -91,6 +92,7 @@ impl<'a> Book<'a> {
         requires unused { publisher.history ≡ catalogue.now.initial ∷ [] }
         ensures { IfOk result (λ b. b ≡ opened catalogue.now cells.now 0) }
     {
+        // To ask for the tasks is to be told that they are not too many.
         let _count = catalogue.tasks();
         Book::open_with_room(alloc, catalogue, cells, publisher, 0)
     }
@@ -282,6 +284,7 @@ impl<'a> Book<'a> {
         let catalogue = self.catalogue;
         let tx = transaction_of(catalogue, &self.submitted, task);
         let Ok(how) = bring_to_end(attempt, catalogue, tx, &self.present.values) else {
+            // It runs, so it is given up.
             let _ = self.give_up(task);
             return Serial::Abandoned;
         };
@@ -462,6 +465,7 @@ impl<'a> Book<'a> {
     {
         // Its law: a program that retries over a log does so on each state that agrees with the log.
         frame();
+        // To look at a field is to be told what the type keeps.
         let _ = &self.table;
     }
 

@@ -62,6 +62,7 @@ impl Pass {
     pub fn law(&self)
         ensures { length (at self.now) ≡ self.now.cells.variables }
     {
+        // To look at a field is to be told what the type keeps.
         let _ = &self.ready;
     }
 

@@ -119,6 +119,7 @@ impl<N: Planned> Scheduler<N> {
     pub fn done(&mut self, job: u32) {
         let end = TxId(job.saturating_add(self.jobs));
         if (end.0 as usize) < self.store.catalogue().tx_count() {
+            // Whoever takes it is told its number then.
             let _task = self.store.submit(end);
         }
         self.at_work = self.at_work.saturating_sub(1);

@@ -88,6 +88,7 @@ pub fn going_on(alloc: Global, catalogue: &Catalogue, report: &Report) -> Result
 {
     catalogue.rules();
     lawful_reports_uphold();
+    // To ask for them is to be told that they are not too many.
     let _few = catalogue.initial();
     let values = values_of(alloc, &report.now_vars)?;
     let vars = variables(alloc, catalogue, &values)?;

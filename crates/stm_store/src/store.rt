@@ -77,6 +77,7 @@ impl Store {
         ensures workers { IfOk result (λ s. length s.passes.items ≡ workers) }
         ensures every { IfOk result (λ s. s.every ≡ every) }
     {
+        // To ask for the tasks is to be told that they are not too many.
         let _tasks = program.catalogue.tasks();
         Store::open_with_room(alloc, program, workers, every, 0)
     }

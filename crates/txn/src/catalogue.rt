@@ -106,6 +106,7 @@ impl Catalogue {
         ensures limits { limits_hold self.now ≡ true }
         ensures upheld { Upholds self.now self.now.initial }
     {
+        // To look at a field is to be told what the type keeps.
         let _values = self.initial.len();
     }
 

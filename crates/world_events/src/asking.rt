@@ -74,6 +74,7 @@ fn commit(scene: &mut Scene, place: usize) -> Result<Seen, Memory>
     ensures ok { IfOk result (λ s. BecomesCommitter scene.old place s scene.new) }
     ensures refused { OnErr result (Stays scene.old scene.new) }
 {
+    // To ask for them is to be told that they are not too many.
     let _few = scene.catalogue.initial().len();
     let alloc = *scene.words.allocator();
     let last = &scene.states[scene.count - 1];

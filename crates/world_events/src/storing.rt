@@ -31,6 +31,7 @@ fn make_next(scene: &mut Scene, mut publishing: Publishing) -> Seen
     ensures { Leads (with_committer scene.old publishing) Word result scene.new }
 {
     scene.catalogue.rules();
+    // To ask for them is to be told that they are not too many.
     let _few = scene.catalogue.initial().len();
     let store = next_store(&publishing);
     let number = publishing.number;

@@ -36,7 +36,7 @@ pub enum Seen {
     Ended(Outcome),
     /// A word was loaded.
     Loaded,
-    /// The attempt read, or would have to read, what is no longer so.
+    /// The attempt read, or would have to read, what is no longer so, or is just being stored.
     Stale,
     /// The attempt retried on the present values.
     Parked,
