@@ -7,8 +7,8 @@ import subprocess
 
 from parts import SECONDS
 
-# Tasks that only read, of some 800,000 nodes each, so that none makes another one stale.
-LONG = "(var x 0)(tx long (repeat 1000 (repeat 160 (if (eq x 1) (throw 1) (skip)))) x)(run long 64)"
+# Tasks that only read, of some 500,000 nodes each, so that none makes another one stale.
+LONG = "(var x 0)(tx long (repeat 1000 (repeat 100 (if (eq x 1) (throw 1) (skip)))) x)(run long 64)"
 SHORT = "(var x 0)(tx inc (set x (add x 1)) x)(run inc 64)"
 
 
