@@ -85,6 +85,7 @@ fn closed_tx<'a>(
 ) -> Result<(RawTx<'a>, &'a [u8]), ReadFault>
     ensures value { Gives {Y = Declaration × List Lexeme} (λ x. (view_tx x.0, tokens x.1.now)) result (close_at (tokens bytes.now) >>=ᴿ λ rest. Ok (record { name = name.now; body = view_stmt body.entry; value = view_expr value.entry }, rest)) }
     ensures shorter { IfOk result (λ x. length x.1.now < length bytes.now) }
+    ensures kind { IfErr result (λ e. e ≡ Shape) }
 {
     match close(bytes) {
         Ok(rest) => Ok((RawTx { name, body, value }, rest)),
