@@ -20,4 +20,4 @@ pub mod program;
 pub mod reading;
 pub mod running;
 
-pub use program::run;
+pub use program::{run, run_by};

@@ -11,6 +11,7 @@ use crate::running::run_file;
 use command_answers::{Answer, told};
 use command_line::{Orders, Request, asked, words_given};
 use run_sink::{Out, Sink};
+use runner::{Gate, OpenGate};
 use std::io;
 use std::rt::{Env, Files};
 use std::sync::Wait;
@@ -22,34 +23,45 @@ pub fn run<T: Threads + Wait + Sync, R: Files + Env + Print + Eprint + AllocGlob
     threads: &T,
     rt: &R,
 ) -> u8 {
-    told(rt, answer(threads, rt))
+    run_by(threads, rt, &OpenGate)
+}
+
+/// The same where the workers of `stm run` come by this gate, as a test holds one.
+pub fn run_by<T: Threads + Wait + Sync, R: Files + Env + Print + Eprint + AllocGlobal, G: Gate>(
+    threads: &T,
+    rt: &R,
+    gate: &G,
+) -> u8 {
+    told(rt, answer(threads, rt, gate))
 }
 
 /// Does what the command line asks for.
-fn answer<T: Threads + Wait + Sync, R: Files + Env + Print + Eprint + AllocGlobal>(
+fn answer<T: Threads + Wait + Sync, R: Files + Env + Print + Eprint + AllocGlobal, G: Gate>(
     threads: &T,
     rt: &R,
+    gate: &G,
 ) -> Answer {
     let words = match words_given(rt) {
         Ok(words) => words,
         Err(answer) => return answer,
     };
     match asked(rt, words.as_slice()) {
-        Ok(request) => answered(threads, rt, &request),
+        Ok(request) => answered(threads, rt, &request, gate),
         Err(answer) => answer,
     }
 }
 
 /// Does what was asked for. What it prints goes to the standard output as it is, each put of the sink
 /// by one write.
-fn answered<T: Threads + Wait + Sync, R: Files + Print + Eprint + AllocGlobal>(
+fn answered<T: Threads + Wait + Sync, R: Files + Print + Eprint + AllocGlobal, G: Gate>(
     threads: &T,
     rt: &R,
     request: &Request<'_>,
+    gate: &G,
 ) -> Answer {
     let mut out = Out::new(io::writer(rt));
     match request {
-        Request::Run(run) => run_file(threads, rt, run.file, run.options, &mut out),
+        Request::Run(run) => run_file(threads, rt, run.file, run.options, gate, &mut out),
         Request::Check(check) => check_files(rt, check.file, check.report, &mut out),
         Request::World(played) => play_files(rt, played.file, played.schedule, &mut out),
         Request::Print(print) => print_files(rt, print, &mut out),

@@ -7,7 +7,7 @@ use crate::reading::{bytes_of, opened};
 use command_answers::Answer;
 use run_options::Options;
 use run_sink::Sink;
-use runner::{OpenGate, run_bytes};
+use runner::{Gate, run_bytes};
 use std::alloc::Global;
 use std::io::Read;
 use std::rt::Files;
@@ -16,11 +16,12 @@ use std::thread::Threads;
 use txn_text::MAX_FILE;
 
 /// Runs the file at the path with these options, and writes its report to the sink.
-pub(crate) fn run_file<T: Threads + Wait + Sync, R: Files + AllocGlobal, S: Sink>(
+pub(crate) fn run_file<T: Threads + Wait + Sync, R: Files + AllocGlobal, G: Gate, S: Sink>(
     threads: &T,
     rt: &R,
     path: &str,
     options: Options,
+    gate: &G,
     sink: &mut S,
 ) -> Answer
     requires { S.failed sink.old < 2 ^ 63 }
@@ -29,17 +30,19 @@ pub(crate) fn run_file<T: Threads + Wait + Sync, R: Files + AllocGlobal, S: Sink
     ensures failures { S.failed sink.new ≡ S.failed sink.old + failed_calls result }
 {
     match opened(rt, path) {
-        Ok(file) => run_input(threads, rt.alloc(), file, options, sink),
+        Ok(file) => run_input(threads, rt.alloc(), file, options, gate, sink),
         Err(answer) => answer,
     }
 }
 
-/// Runs the file that a reader has with these options, and writes its report to the sink.
-pub fn run_input<T: Threads + Wait + Sync, I: Read + Drop, S: Sink>(
+/// Runs the file that a reader has with these options, by workers that come by this gate, and writes
+/// its report to the sink.
+pub fn run_input<T: Threads + Wait + Sync, I: Read + Drop, G: Gate, S: Sink>(
     threads: &T,
     alloc: Global,
     input: I,
     options: Options,
+    gate: &G,
     sink: &mut S,
 ) -> Answer
     requires { S.failed sink.old < 2 ^ 63 }
@@ -48,17 +51,18 @@ pub fn run_input<T: Threads + Wait + Sync, I: Read + Drop, S: Sink>(
     ensures failures { S.failed sink.new ≡ S.failed sink.old + failed_calls result }
 {
     match bytes_of(alloc, input, MAX_FILE) {
-        Ok(bytes) => answered(threads, alloc, bytes.as_slice(), options, sink),
+        Ok(bytes) => answered(threads, alloc, bytes.as_slice(), options, gate, sink),
         Err(answer) => answer,
     }
 }
 
 /// Runs the file of these bytes, and writes its report to the sink.
-fn answered<T: Threads + Wait + Sync, S: Sink>(
+fn answered<T: Threads + Wait + Sync, G: Gate, S: Sink>(
     threads: &T,
     alloc: Global,
     bytes: &[u8],
     options: Options,
+    gate: &G,
     sink: &mut S,
 ) -> Answer
     requires { S.failed sink.old < 2 ^ 63 }
@@ -66,7 +70,7 @@ fn answered<T: Threads + Wait + Sync, S: Sink>(
     ensures flushed { result ≡ Answer.Done → S.flushed sink.new ≡ true }
     ensures failures { S.failed sink.new ≡ S.failed sink.old + failed_calls result }
 {
-    match run_bytes(threads, alloc, bytes, options, &OpenGate, sink) {
+    match run_bytes(threads, alloc, bytes, options, gate, sink) {
         Ok(()) => Answer::Done,
         Err(fault) => Answer::Failed(fault),
     }

@@ -11,6 +11,7 @@ use commands::running::run_input;
 use explore_options::Limit;
 use run_options::Options;
 use run_sink::Out;
+use runner::OpenGate;
 use std::process::Abort;
 
 const FILE: &[u8] = b"(var x 5)(tx inc (set x (add x 1)) x)(run inc 2)";
@@ -41,7 +42,7 @@ fn a_file_is_run(rt: HostRuntime) {
             panic!(rt; "no options")
         };
         let mut out = Out::new(Vec::new(rt.alloc()));
-        let answer = run_input(&rt, rt.alloc(), FILE, options, &mut out);
+        let answer = run_input(&rt, rt.alloc(), FILE, options, &OpenGate, &mut out);
         expect(&rt, answer, out, report);
     }
 }

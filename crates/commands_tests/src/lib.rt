@@ -23,4 +23,6 @@ mod reading;
 #[cfg(test)]
 mod shown;
 #[cfg(test)]
+mod tries;
+#[cfg(test)]
 mod words;
