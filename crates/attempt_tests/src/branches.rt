@@ -37,6 +37,20 @@ fn a_branch_is_noted_anew_in_each_turn(rt: HostRuntime) {
     leaves(&rt, rt.alloc(), text, 3, &[(X, 3)]);
 }
 
+/// Thirteen branches, one inside the other and each in a loop: a retry goes on with the loops around
+/// its own branch, and an end of a branch with those around that, turn by turn.
+#[test]
+fn each_branch_goes_on_with_its_loops(rt: HostRuntime) {
+    let text = "(var x 0)(var y 0)(tx t (seq (set x 0)
+        (repeat 2 (orelse (repeat 2 (orelse (repeat 2 (orelse (repeat 2 (orelse
+        (repeat 2 (orelse (repeat 2 (orelse (repeat 2 (orelse (repeat 2 (orelse
+        (repeat 2 (orelse (repeat 2 (orelse (repeat 2 (orelse (repeat 2 (orelse
+        (repeat 2 (orelse (seq (set x (add x 9)) (retry)) (set x (add x 1))))
+        (skip))) (skip))) (skip))) (skip))) (skip))) (skip)))
+        (skip))) (skip))) (skip))) (skip))) (skip))) (skip)))) x)";
+    leaves(&rt, rt.alloc(), text, 8192, &[(X, 8192)]);
+}
+
 #[test]
 fn many_writes_of_a_variable_are_taken_back(rt: HostRuntime) {
     let text = "(var x 0)(var y 0)(tx t (seq (set x 3) (orelse (seq
