@@ -14,7 +14,7 @@ ghost use Rattle.attempt.specs.View.{fresh_attempt, begun_anew, supplied, idle, 
 
 use crate::log::Log;
 use crate::next::{Next, Stand, answer_of};
-use crate::running::go_on;
+use crate::running::run_on;
 use attempt_machine::{Count, Machine, Reader};
 use attempt_writes::LogTable;
 use std::alloc::Global;
@@ -328,7 +328,7 @@ impl<'a> Attempt<'a> {
         self.catalogue.rules();
         let before = self.count;
         let logged = self.log.len();
-        let stand = go_on(
+        let stand = run_on(
             &mut self.machine,
             &mut self.count,
             self.catalogue,

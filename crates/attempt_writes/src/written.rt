@@ -190,18 +190,46 @@ pub struct Second {
     pub passed: usize,
 }
 
+/// Keeps the loops behind those that are kept; then there is none.
+#[cold]
+#[inline(never)]
+fn keep_loops(loops: &mut Loops, kept: &mut Vec<u32>) -> Result<(), AllocError>
+    ensures kept { OnOk result (kept.new.items ≡ kept.old.items ++ loops.old.items) }
+    ensures loops { OnOk result (loops.new.items ≡ []) }
+    ensures err { OnErr result (kept.new.items ≡ kept.old.items) }
+    ensures more { length kept.old.items ≤ length kept.new.items }
+    ensures room { length kept.new.items ≤ length kept.old.items + ROOM }
+{
+    kept.extend_from_slice(loops.as_slice())?;
+    loops.clear();
+    Ok(())
+}
+
 /// The loops that were kept from `floor` on, in place of those that there are; then they are no
 /// longer kept. Most often there is none, and nothing is copied.
+#[inline(always)]
 fn take_up(loops: &mut Loops, kept: &mut Vec<u32>, floor: usize)
     requires within { floor ≤ length kept.old.items }
     requires room { length kept.old.items ≤ floor + ROOM }
     ensures loops { loops.new.items ≡ drop floor kept.old.items }
     ensures kept { kept.new.items ≡ take floor kept.old.items }
 {
-    loops.clear();
-    if kept.len() == floor {
+    if kept.len() == floor && loops.is_empty() {
         return;
     }
+    take_up_some(loops, kept, floor);
+}
+
+/// The same, where there are loops, or some are kept.
+#[cold]
+#[inline(never)]
+fn take_up_some(loops: &mut Loops, kept: &mut Vec<u32>, floor: usize)
+    requires within { floor ≤ length kept.old.items }
+    requires room { length kept.old.items ≤ floor + ROOM }
+    ensures loops { loops.new.items ≡ drop floor kept.old.items }
+    ensures kept { kept.new.items ≡ take floor kept.old.items }
+{
+    loops.clear();
     match loops.try_extend_from_slice(&kept[floor..]) {
         Ok(()) => {}
         Err(_) => unreachable!(),
@@ -225,8 +253,8 @@ fn has_note(notes: &[Note], low: usize, high: usize, place: u16, x: VarId) -> bo
 /// which is more than a program has.
 const MAX_NOTES: usize = 65_536;
 
-/// Notes what a variable was, unless no branch is live or it is noted in the innermost.
-#[inline(never)]
+/// Notes what a variable was, unless no branch is live, as most often, or it is noted in the innermost.
+#[inline(always)]
 fn note_in_branch(
     branches: &[Branch],
     notes: &mut Vec<Note>,
@@ -265,36 +293,8 @@ fn note_in_branch(
     Ok(())
 }
 
-/// Notes what a variable was as `note_in_branch` does. Most often no branch is live, and then it is no call.
-#[inline(always)]
-fn take_note(
-    branches: &[Branch],
-    notes: &mut Vec<Note>,
-    noted: &mut [u16],
-    x: VarId,
-    old: Option<i64>,
-) -> Result<(), AllocError>
-    requires small { x.0 < length noted.old }
-    requires nested { AreNested (length notes.old.items) (reverse branches.now) }
-    requires few { length notes.old.items ≤ MAX_NOTES }
-    requires hinted { AreHinted 0 notes.old.items noted.old }
-    requires once { AreOnce notes.old.items (reverse branches.now) }
-    ensures hints { length noted.new ≡ length noted.old }
-    ensures ok { OnOk result (IsNoted branches.now x old notes.old.items notes.new.items) }
-    ensures err { OnErr result (notes.new.items ≡ notes.old.items) }
-    ensures few { length notes.new.items ≤ MAX_NOTES }
-    ensures hinted { AreHinted 0 notes.new.items noted.new }
-    ensures once { AreOnce notes.new.items (reverse branches.now) }
-    ensures short { branches.now ≡ [] → IsOk result }
-    ensures again { IsNotedInner (reverse branches.now) notes.old.items x → IsOk result × (notes.new.items ≡ notes.old.items) }
-{
-    if branches.is_empty() {
-        return Ok(());
-    }
-    note_in_branch(branches, notes, noted, x, old)
-}
-
 /// Goes back in a table by the notes from `height` on, the last first, and drops them.
+#[inline(always)]
 fn undo(table: &mut [Option<i64>], notes: &mut Vec<Note>, noted: &mut [u16], height: usize)
     requires within { height ≤ length notes.old.items }
     requires inside { AreInside (length table.old) notes.old.items }
@@ -454,7 +454,7 @@ impl Writes {
         ensures again { IsChangedInner self.old.marks self.old.writes x → IsOk result }
     {
         let old = self.table[x.0 as usize];
-        take_note(
+        note_in_branch(
             self.branches.as_slice(),
             &mut self.notes,
             &mut self.noted,
@@ -467,7 +467,7 @@ impl Writes {
     }
 
     /// A first branch begins: the loops are kept to go back to, and none is live in it.
-    #[inline(never)]
+    #[inline(always)]
     pub fn enter(
         &mut self,
         begin: usize,
@@ -489,8 +489,7 @@ impl Writes {
         if loops.is_empty() {
             return Ok(());
         }
-        self.kept.extend_from_slice(loops.as_slice())?;
-        loops.clear();
+        keep_loops(loops, &mut self.kept)?;
         Ok(())
     }
 
@@ -516,6 +515,7 @@ impl Writes {
 
     /// The innermost first branch retried: all that it wrote is as it was before, and its loops are
     /// those to go on with. None where no branch is live.
+    #[inline(always)]
     pub fn back(&mut self, loops: &mut Loops) -> Option<Second>
         ensures some { IfSome result (λ s. GoesBack self.old.marks (s.begin + s.passed) (reverse loops.new.items) self.new.writes self.new.marks) }
         ensures none { result ≡ None → (self.old.marks ≡ []) × (self.new ≡ self.old) }

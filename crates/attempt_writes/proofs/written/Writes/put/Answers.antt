@@ -10,11 +10,11 @@ use Rattle.attempt_writes.proofs.OwnHints.{changed_noted}
 use Rattle.attempt_writes.proofs.OwnNotes.{no_marks, noted_still}
 use Rattle.attempt_writes.proofs.written.Writes.put.Goals as goal
 
-pub returns-in_err-take_note-clause-short : goal.returns-in_err-take_note-clause-short
-returns-in_err-take_note-clause-short c = λ e.
+pub returns-in_err-note_in_branch-clause-short : goal.returns-in_err-note_in_branch-clause-short
+returns-in_err-note_in_branch-clause-short c = λ e.
     let i = c.self.inside in
     let none = no_marks i.branches.items i.notes.items i.kept.items i.table (ap (λ (o : Own). o.marks) c.self.view_is ∙ e) in
-    absurd (cc (c.in_err-take_note.ensures.short (c.as_slice.ensures.value ∙ none)))
+    absurd (cc (c.in_err-note_in_branch.ensures.short (c.as_slice.ensures.value ∙ none)))
 
 pub list-requires-clause-there : goal.list-requires-clause-there
 list-requires-clause-there c = λ u e. c.self.invariant.listed c.args.x u (value_or c.self.inside.table c.args.x.0 ∙ e)
@@ -25,18 +25,18 @@ invariant_of-self-2 c =
     let k = c.self.invariant in
     let v = to_z w64 (of_z w64 c.args.v) in
     let now = c.list.new.pairs.items in
-    let ready = c.in_ok-take_note.ensures.ok in
+    let ready = c.in_ok-note_in_branch.ensures.ok in
     record {
       wide = length-set i.table c.args.x.0 (Some v) ∙ k.wide;
-      hints = c.take_note.ensures.hints ∙ k.hints;
+      hints = c.note_in_branch.ensures.hints ∙ k.hints;
       ascending = c.list.ensures.ascending;
       known = c.list.ensures.known;
       listed = put_listed i.pairs.items i.table c.args.x (Some v) now k.listed c.list.ensures.here c.list.ensures.still;
       noted = ready.noted now c.list.ensures.here (noted_still i.pairs.items now i.notes.items c.list.ensures.still k.noted);
-      nested = subst (λ (bs : List Branch). AreNested (length c.take_note.new.notes.items) (reverse bs)) c.as_slice.ensures.value ready.nested;
-      few = c.take_note.ensures.few;
-      hinted = c.take_note.ensures.hinted;
-      once = subst (λ (bs : List Branch). AreOnce c.take_note.new.notes.items (reverse bs)) c.as_slice.ensures.value c.take_note.ensures.once;
+      nested = subst (λ (bs : List Branch). AreNested (length c.note_in_branch.new.notes.items) (reverse bs)) c.as_slice.ensures.value ready.nested;
+      few = c.note_in_branch.ensures.few;
+      hinted = c.note_in_branch.ensures.hinted;
+      once = subst (λ (bs : List Branch). AreOnce c.note_in_branch.new.notes.items (reverse bs)) c.as_slice.ensures.value c.note_in_branch.ensures.once;
       floors = k.floors;
     }
 
@@ -53,14 +53,14 @@ returns-clause-marks c =
     let i = c.self.inside in
     let v = to_z w64 (of_z w64 c.args.v) in
     let lt : c.args.x.0 < length i.table = omega (arith, c.requires, c.self.invariant.wide) in
-    let same = c.in_ok-take_note.ensures.ok.marks i.kept.items i.table v lt (value_or i.table c.args.x.0) in
-    subst (λ (bs : List Branch). marks_of (reverse bs) c.take_note.new.notes.items i.kept.items (set i.table c.args.x.0 (Some v)) ≡ marks_of (reverse bs) i.notes.items i.kept.items i.table) c.as_slice.ensures.value same
+    let same = c.in_ok-note_in_branch.ensures.ok.marks i.kept.items i.table v lt (value_or i.table c.args.x.0) in
+    subst (λ (bs : List Branch). marks_of (reverse bs) c.note_in_branch.new.notes.items i.kept.items (set i.table c.args.x.0 (Some v)) ≡ marks_of (reverse bs) i.notes.items i.kept.items i.table) c.as_slice.ensures.value same
     ∙ ap (λ (o : Own). o.marks) c.self.view_is
 
-pub returns-in_err-take_note-clause-again : goal.returns-in_err-take_note-clause-again
-returns-in_err-take_note-clause-again c = λ changed.
+pub returns-in_err-note_in_branch-clause-again : goal.returns-in_err-note_in_branch-clause-again
+returns-in_err-note_in_branch-clause-again c = λ changed.
     let i = c.self.inside in
     let inner = subst (λ (o : Own). IsChangedInner o.marks o.writes c.args.x) (sym c.self.view_is) changed in
     let has = changed_noted (reverse i.branches.items) i.notes.items i.kept.items i.table c.args.x inner in
-    let again = c.in_err-take_note.ensures.again (subst (λ (bs : List Branch). IsNotedInner (reverse bs) i.notes.items c.args.x) (sym c.as_slice.ensures.value) has) in
+    let again = c.in_err-note_in_branch.ensures.again (subst (λ (bs : List Branch). IsNotedInner (reverse bs) i.notes.items c.args.x) (sym c.as_slice.ensures.value) has) in
     absurd (cc again.0)

@@ -23,7 +23,7 @@ use Rattle.attempt_machine.specs.Reading.{ReadsOn}
 use Rattle.attempt_writes.specs.Order.{AllKnown, Apart}
 use Rattle.attempt.proofs.Reading.{reads_known}
 use Rattle.attempt.proofs.Under.{same_program, same_code}
-use Rattle.attempt.proofs.running.go_on.Goals as goal
+use Rattle.attempt.proofs.running.run_on.Goals as goal
 
 -- what ended, or met want of memory, needs no variable
 end_needs_none : {E : Type 0} (r : Result Found E) (o : Outcome) (x : VarId) → r ≡ Ok (found.End o) → r ≢ Ok (found.Need x)
