@@ -10,6 +10,9 @@ pub use txn::{
     AlwaysId, BuildFault, Catalogue, Cond, Entry, Expr, Fault, Memory, Outcome, Report, Stmt,
     TaskId, Tx, TxId, VarId, evaluate, laws, limits,
 };
+// Transactions copied, and compared.
+pub use txn_copies::copy::copied_transaction;
+pub use txn_copies::same::same_transactions;
 // Files, reports and schedules as text.
 pub use txn_text::{
     MAX_FILE, MAX_REPORT, MAX_SCHEDULE, ReadFault, print_file, print_report, read_file,

@@ -4,7 +4,7 @@ use crate::words::Operator;
 use text_words::numeral::Numeral;
 
 /// An expression whose names are not looked up and whose integers are not measured.
-#[derive(Debug, Drop)]
+#[derive(Drop)]
 pub enum RawExpr<'a> {
     Int(Numeral<'a>),
     Name(&'a str),

@@ -6,28 +6,28 @@ use crate::stmt::RawStmt;
 use text_words::numeral::Numeral;
 
 /// A variable and its first value, or a transaction and how often it runs.
-#[derive(Clone, Copy, Debug)]
+#[derive(Clone, Copy)]
 pub struct RawPair<'a> {
     pub name: &'a str,
     pub value: Numeral<'a>,
 }
 
 /// The form of a file: the second can have standing conditions.
-#[derive(Clone, Copy, Debug, PartialEq, Eq)]
+#[derive(Clone, Copy)]
 pub enum FileForm {
     One,
     Two,
 }
 
 /// A standing condition.
-#[derive(Debug, Drop)]
+#[derive(Drop)]
 pub struct RawAlways<'a> {
     pub name: &'a str,
     pub condition: RawCond<'a>,
 }
 
 /// A transaction.
-#[derive(Debug, Drop)]
+#[derive(Drop)]
 pub struct RawTx<'a> {
     pub name: &'a str,
     pub body: RawStmt<'a>,
@@ -35,7 +35,7 @@ pub struct RawTx<'a> {
 }
 
 /// A file whose names are not looked up and whose integers are not measured.
-#[derive(Debug, Drop)]
+#[derive(Drop)]
 pub struct RawFile<'a> {
     pub form: FileForm,
     pub vars: Vec<RawPair<'a>>,

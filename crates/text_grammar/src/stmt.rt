@@ -5,7 +5,7 @@ use crate::expr::RawExpr;
 use text_words::numeral::Numeral;
 
 /// A statement whose names are not looked up and whose integers are not measured.
-#[derive(Debug, Drop)]
+#[derive(Drop)]
 pub enum RawStmt<'a> {
     Skip,
     Set(&'a str, RawExpr<'a>),

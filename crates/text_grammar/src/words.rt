@@ -8,7 +8,7 @@ ghost use Rattle.text_grammar.specs.Reading.{operator_of, test_of, keyword_of};
 use text_words::ReadFault;
 
 /// An operator of two expressions.
-#[derive(Clone, Copy, Debug, PartialEq, Eq)]
+#[derive(Clone, Copy)]
 pub enum Operator {
     Add,
     Sub,
@@ -18,7 +18,7 @@ pub enum Operator {
 }
 
 /// A comparison of two expressions.
-#[derive(Clone, Copy, Debug, PartialEq, Eq)]
+#[derive(Clone, Copy)]
 pub enum Comparison {
     Eq,
     Lt,
@@ -26,14 +26,14 @@ pub enum Comparison {
 }
 
 /// What joins two conditions.
-#[derive(Clone, Copy, Debug, PartialEq, Eq)]
+#[derive(Clone, Copy)]
 pub enum Connective {
     And,
     Or,
 }
 
 /// What kind of condition a word begins.
-#[derive(Clone, Copy, Debug, PartialEq, Eq)]
+#[derive(Clone, Copy)]
 pub enum Test {
     Compares(Comparison),
     Negates,
@@ -41,7 +41,7 @@ pub enum Test {
 }
 
 /// What kind of statement a word begins.
-#[derive(Clone, Copy, Debug, PartialEq, Eq)]
+#[derive(Clone, Copy)]
 pub enum Keyword {
     Skip,
     Set,

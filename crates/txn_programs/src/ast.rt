@@ -17,7 +17,7 @@ pub struct TaskId(pub u32);
 pub struct AlwaysId(pub u32);
 
 /// An expression: a signed 64-bit number, or a fault.
-#[derive(Clone, Debug, PartialEq, Eq, Drop)]
+#[derive(Debug, PartialEq, Eq, Drop)]
 pub enum Expr {
     Int(i64),
     Var(VarId),
@@ -29,7 +29,7 @@ pub enum Expr {
 }
 
 /// A condition: yes, no or a fault.
-#[derive(Clone, Debug, PartialEq, Eq, Drop)]
+#[derive(Debug, PartialEq, Eq, Drop)]
 pub enum Cond {
     Eq(Expr, Expr),
     Lt(Expr, Expr),
@@ -40,7 +40,7 @@ pub enum Cond {
 }
 
 /// A statement.
-#[derive(Clone, Debug, PartialEq, Eq, Drop)]
+#[derive(Debug, PartialEq, Eq, Drop)]
 pub enum Stmt {
     Skip,
     Set(VarId, Expr),
@@ -53,7 +53,7 @@ pub enum Stmt {
 }
 
 /// A transaction: a body, and a result that sees the body's writes.
-#[derive(Clone, Debug, PartialEq, Eq, Drop)]
+#[derive(Debug, PartialEq, Eq, Drop)]
 pub struct Tx {
     pub name: String,
     pub body: Stmt,

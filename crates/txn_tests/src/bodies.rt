@@ -116,12 +116,12 @@ fn both(alloc: Global, first: Cond, second: Cond) -> Result<Cond, AllocError> {
 }
 
 fn tree(alloc: Global, height: u8) -> Result<Cond, AllocError> {
-    let mut holds = is(5);
-    for _level in 0..height {
-        let copy = holds.clone()?;
-        holds = both(alloc, holds, copy)?;
+    if height == 0 {
+        return Ok(is(5));
     }
-    Ok(holds)
+    let first = tree(alloc, height - 1)?;
+    let second = tree(alloc, height - 1)?;
+    both(alloc, first, second)
 }
 
 /// The condition.
