@@ -1,5 +1,5 @@
 -- Items that are resolved as they are read are those of the whole tree.
-use Rattle.std.proofs.Common.{◌≡◌, ℕ, ℤ, true, false, List, [], ◌∷◌, ◌++◌, map, Result, Ok, Err, refl, ap, ◌∙◌}
+use Rattle.std.proofs.Common.{◌≡◌, ◌<◌, ℕ, ℤ, Bool, true, false, List, [], ◌∷◌, ◌++◌, map, length, Result, Ok, Err, refl, ap, ◌∙◌}
 use Rattle.std.specs.Prelude.{codes}
 use Rattle.std.proofs.lemmas.List.{map_push}
 use Rattle.txn_programs.specs.declared.ast.TxId.{TxId}
@@ -17,7 +17,7 @@ use Rattle.text_grammar.specs.Reading.{pair_at, conditions_at, tx_at, heading_at
 use Rattle.text_grammar.specs.Resolving.{each, declared_one, declared_after, pair_name, condition_name, tx_name, variable_of, always_in, transaction_in, run_in, listing, resolved}
 use Rattle.text_grammar.specs.Spelling.{lawful, listing_at}
 use Rattle.text_resolver.proofs.Parts.{converted_is}
-use Rattle.text_file_reader.specs.Resolved.{Resolves}
+use Rattle.text_file_reader.specs.Resolved.{MakesNamed, Resolves}
 use Rattle.text_file_reader.proofs.Known.{uses_are_known}
 
 -- ---- one more item
@@ -37,29 +37,46 @@ declared_push earlier (first ∷ xs) names more name h is =
 
 -- ---- the loop
 
--- what was read so far is made into these, and the whole is that and what is read of the rest
-pub record SoFar {A B : Type 0} (word : List ℕ) (item_at : List Lexeme → Read A) (one : A → Result B ReadFault) (name : A → List ℕ) (total : Read (List A)) (made : List B) (names : List (List ℕ)) (rest : List Lexeme) : Type 0 where
-  pub items : List A
-  pub are_read : with_front items (all_of (begins word) item_at rest) ≡ total
+-- these items were read so far and are made into these, and the whole is that and what is read of the rest
+pub record GoesOn {A B : Type 0} (goes : List Lexeme → Bool) (item_at : List Lexeme → Read A) (one : A → Result B ReadFault) (total : Read (List A)) (items : List A) (made : List B) (rest : List Lexeme) : Type 0 where
+  pub are_read : with_front items (all_of goes item_at rest) ≡ total
   pub are_made : each one items ≡ Ok made
-  pub are_declared : declared_after [] (map name items) ≡ Ok names
 
 nothing_before : {A : Type 0} (read : Read (List A)) → with_front [] read ≡ read
 nothing_before (Ok x) = refl
 nothing_before (Err e) = refl
 
+pub begun : {A B : Type 0} (goes : List Lexeme → Bool) (item_at : List Lexeme → Read A) (one : A → Result B ReadFault) (ts : List Lexeme) → GoesOn goes item_at one (all_of goes item_at ts) [] [] ts
+begun goes item_at one ts = record { are_read = nothing_before (all_of goes item_at ts); are_made = refl }
+
+pub one_more_item : {A B : Type 0} (goes : List Lexeme → Bool) (item_at : List Lexeme → Read A) (one : A → Result B ReadFault) → Shortens item_at
+    → (total : Read (List A)) (items : List A) (made : List B) (rest after : List Lexeme) (x : A) (y : B) → GoesOn goes item_at one total items made rest
+    → goes rest ≡ true → item_at rest ≡ Ok (x, after) → one x ≡ Ok y → GoesOn goes item_at one total (items ++ x ∷ []) (made ++ y ∷ []) after
+one_more_item goes item_at one shortens total items made rest after x y so_far going is_read is_made =
+    record {
+      are_read = goes_on goes item_at shortens items rest (x, after) total going is_read so_far.are_read;
+      are_made = each_push one items made x y so_far.are_made is_made;
+    }
+
+-- such items with the names that they declare
+pub record SoFar {A B : Type 0} (word : List ℕ) (item_at : List Lexeme → Read A) (one : A → Result B ReadFault) (name : A → List ℕ) (total : Read (List A)) (made : List B) (names : List (List ℕ)) (rest : List Lexeme) : Type 0 where
+  pub items : List A
+  pub goes_on : GoesOn (begins word) item_at one total items made rest
+  pub are_declared : declared_after [] (map name items) ≡ Ok names
+
 pub none_yet : {A B : Type 0} (word : List ℕ) (item_at : List Lexeme → Read A) (one : A → Result B ReadFault) (name : A → List ℕ) (ts : List Lexeme) → SoFar word item_at one name (all_of (begins word) item_at ts) [] [] ts
-none_yet word item_at one name ts = record { items = []; are_read = nothing_before (all_of (begins word) item_at ts); are_made = refl; are_declared = refl }
+none_yet word item_at one name ts = record { items = []; goes_on = begun (begins word) item_at one ts; are_declared = refl }
 
 pub one_more : {A B : Type 0} (word : List ℕ) (item_at : List Lexeme → Read A) (one : A → Result B ReadFault) (name : A → List ℕ) → Shortens item_at
-    → (total : Read (List A)) (made : List B) (names more : List (List ℕ)) (rest after : List Lexeme) (x : A) (y : B) → SoFar word item_at one name total made names rest
-    → begins word rest ≡ true → item_at rest ≡ Ok (x, after) → one x ≡ Ok y → declared_one names (name x) ≡ Ok more → SoFar word item_at one name total (made ++ y ∷ []) more after
-one_more word item_at one name shortens total made names more rest after x y so_far going is_read is_made is_declared =
+    → (total : Read (List A)) (made : List B) (names more : List (List ℕ)) (rest after : List Lexeme) (y : B) (called : List ℕ) → SoFar word item_at one name total made names rest
+    → begins word rest ≡ true → MakesNamed (item_at rest) one name y called after → declared_one names called ≡ Ok more → SoFar word item_at one name total (made ++ y ∷ []) more after
+one_more word item_at one name shortens total made names more rest after y called so_far going makes is_declared =
+    let x = makes.item in
+    let declared : declared_one names (name x) ≡ Ok more = rw makes.is_named is_declared in
     record {
       items = so_far.items ++ x ∷ [];
-      are_read = goes_on (begins word) item_at shortens so_far.items rest (x, after) total going is_read so_far.are_read;
-      are_made = each_push one so_far.items made x y so_far.are_made is_made;
-      are_declared = ap (declared_after []) (map_push name so_far.items x) ∙ declared_push [] (map name so_far.items) names more (name x) so_far.are_declared is_declared;
+      goes_on = one_more_item (begins word) item_at one shortens total so_far.items made rest after x y so_far.goes_on going makes.is_read makes.is_made;
+      are_declared = ap (declared_after []) (map_push name so_far.items x) ∙ declared_push [] (map name so_far.items) names more (name x) so_far.are_declared declared;
     }
 
 pub no_more : {A B : Type 0} (word : List ℕ) (item_at : List Lexeme → Read A) (one : A → Result B ReadFault) (name : A → List ℕ) (total : Read (List A)) (made : List B) (names : List (List ℕ)) (rest : List Lexeme)
@@ -67,10 +84,14 @@ pub no_more : {A B : Type 0} (word : List ℕ) (item_at : List Lexeme → Read A
 no_more word item_at one name total made names rest so_far stop =
     record {
       items = so_far.items;
-      are_read = is_done (begins word) item_at so_far.items rest total stop so_far.are_read;
-      are_made = so_far.are_made;
+      are_read = is_done (begins word) item_at so_far.items rest total stop so_far.goes_on.are_read;
+      are_made = so_far.goes_on.are_made;
       are_declared = so_far.are_declared;
     }
+
+-- an item takes a token at least
+pub takes_one : {A B : Type 0} (item_at : List Lexeme → Read A) (one : A → Result B ReadFault) (name : A → List ℕ) → Shortens item_at → (rest after : List Lexeme) (y : B) (called : List ℕ) → MakesNamed (item_at rest) one name y called after → length after < length rest
+takes_one item_at one name shortens rest after y called makes = shortens.by rest (makes.item, after) makes.is_read
 
 -- ---- the whole file
 

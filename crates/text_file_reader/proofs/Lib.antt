@@ -1,2 +1,3 @@
 pub mod Known
+pub mod Made
 pub mod AtOnce

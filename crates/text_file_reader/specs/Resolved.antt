@@ -1,4 +1,4 @@
--- Items that are resolved as they are read.
+-- Items that are made as they are read: one, one with its name, and all that stand next.
 use Rattle.std.specs.Prelude.{◌≡◌, ℕ, Result, Ok, List, [], map}
 use Rattle.text_words.specs.Tokens.{Lexeme}
 use Rattle.text_words.specs.TokenReading.{Read}
@@ -11,3 +11,16 @@ pub record Resolves {A B : Type 0} (read : Read (List A)) (one : A → Result B 
   pub are_read : read ≡ Ok (items, rest)
   pub are_made : each one items ≡ Ok made
   pub are_declared : declared_after [] (map name items) ≡ Ok names
+
+-- an item was read, it is made into this, and these tokens are left
+pub record Makes {A B : Type 0} (read : Read A) (one : A → Result B ReadFault) (made : B) (rest : List Lexeme) : Type 0 where
+  pub item : A
+  pub is_read : read ≡ Ok (item, rest)
+  pub is_made : one item ≡ Ok made
+
+-- the same of an item with this name
+pub record MakesNamed {A B : Type 0} (read : Read A) (one : A → Result B ReadFault) (name : A → List ℕ) (made : B) (named : List ℕ) (rest : List Lexeme) : Type 0 where
+  pub item : A
+  pub is_read : read ≡ Ok (item, rest)
+  pub is_made : one item ≡ Ok made
+  pub is_named : name item ≡ named

@@ -1,5 +1,5 @@
-//! Files without a fault, read in one pass: each condition and each transaction is resolved as soon
-//! as it is read, so that no more than one of them stands as a tree of texts.
+//! Files without a fault, read in one pass: conditions and transactions are made as they are read,
+//! and no tree of texts stands beside them.
 
 ghost use Rattle.std.specs.Prelude.{◌≡◌, ℕ, List, Ok, IfOk, map, codes};
 ghost use Rattle.txn_programs.specs.Tree.{transaction_of};
@@ -10,17 +10,20 @@ ghost use Rattle.text_grammar.specs.Reading.{pair_at, always_at, conditions_at, 
 ghost use Rattle.text_grammar.specs.Resolving.{variable_of, always_in, transaction_in, pair_name, condition_name, tx_name, resolved};
 ghost use Rattle.text_resolver.specs.Texts.{texts};
 ghost use Rattle.text_resolver.specs.Parts.{view_variable, view_condition, view_parts};
-ghost use Rattle.text_file_reader.specs.Resolved.{Resolves};
+ghost use Rattle.text_file_reader.specs.Resolved.{MakesNamed, Resolves};
 
+use crate::conditions::condition_at_once;
+use crate::expressions::expression_at_once;
+use crate::statements::statement_at_once;
 use indexmap::IndexSet;
 use std::alloc::Global;
 use text_grammar::file::FileForm;
-use text_parser::file::{MAX_FILE, always_of, end, heading_of, pairs_of, tx_of};
+use text_parser::file::{INNER_DEPTH, MAX_FILE, end, heading_of, pairs_of};
 use text_resolver::names::{declare, var_names};
-use text_resolver::resolve::{Parts, always_from, runs, transaction_from, variables};
+use text_resolver::resolve::{Parts, runs, variables};
 use text_words::ReadFault;
 use text_words::bytes::are_allowed;
-use text_words::tokens::begins;
+use text_words::tokens::{begins, close, form, name_of};
 use txn_programs::{Cond, Tx};
 
 /// The variables that stand next: their names, their first values, and the bytes behind them.
@@ -36,6 +39,22 @@ fn variables_at_once<'a>(
     Ok((names, made, rest))
 }
 
+/// A condition that has to stand: its name, the condition with its name, and the bytes behind it.
+fn always_at_once<'a>(
+    alloc: Global,
+    vars: &IndexSet<&str>,
+    bytes: &'a [u8],
+) -> Result<(&'a str, (String, Cond), &'a [u8]), ReadFault>
+    ensures { IfOk result (λ x. MakesNamed (always_at (tokens bytes.now)) (always_in (texts vars.now.keys)) condition_name (view_condition x.1) x.0.now (tokens x.2.now)) }
+{
+    let rest = form(bytes, "always")?;
+    let (name, rest) = name_of(rest)?;
+    let (condition, rest) = condition_at_once(alloc, vars, INNER_DEPTH, rest)?;
+    let rest = close(rest)?;
+    let held = String::from_str(alloc, name)?;
+    Ok((name, (held, condition), rest))
+}
+
 /// The conditions that stand next, and the bytes behind them.
 fn standing_at_once<'a>(
     alloc: Global,
@@ -48,9 +67,7 @@ fn standing_at_once<'a>(
     let mut names = IndexSet::new(alloc);
     let mut rest = bytes;
     'standing: while begins(rest, "always") {
-        let (raw, after) = always_of(alloc, rest)?;
-        let name = raw.name;
-        let condition = always_from(alloc, vars, raw)?;
+        let (name, condition, after) = always_at_once(alloc, vars, rest)?;
         made.push(condition)?;
         declare(&mut names, name)?;
         rest = after;
@@ -74,6 +91,31 @@ fn conditions_at_once<'a>(
     }
 }
 
+/// A transaction: its name, what it is, and the bytes behind it.
+fn tx_at_once<'a>(
+    alloc: Global,
+    vars: &IndexSet<&str>,
+    bytes: &'a [u8],
+) -> Result<(&'a str, Tx, &'a [u8]), ReadFault>
+    ensures { IfOk result (λ x. MakesNamed (tx_at (tokens bytes.now)) (transaction_in (texts vars.now.keys)) tx_name (transaction_of x.1) x.0.now (tokens x.2.now)) }
+{
+    let rest = form(bytes, "tx")?;
+    let (name, rest) = name_of(rest)?;
+    let (body, rest) = statement_at_once(alloc, vars, INNER_DEPTH, rest)?;
+    let (result, rest) = expression_at_once(alloc, vars, INNER_DEPTH, rest)?;
+    let rest = close(rest)?;
+    let held = String::from_str(alloc, name)?;
+    Ok((
+        name,
+        Tx {
+            name: held,
+            body,
+            result,
+        },
+        rest,
+    ))
+}
+
 /// The transactions that stand next: their names, what they are, and the bytes behind them.
 fn transactions_at_once<'a>(
     alloc: Global,
@@ -86,9 +128,7 @@ fn transactions_at_once<'a>(
     let mut names = IndexSet::new(alloc);
     let mut rest = bytes;
     'txs: while begins(rest, "tx") {
-        let (raw, after) = tx_of(alloc, rest)?;
-        let name = raw.name;
-        let tx = transaction_from(alloc, vars, raw)?;
+        let (name, tx, after) = tx_at_once(alloc, vars, rest)?;
         made.push(tx)?;
         declare(&mut names, name)?;
         rest = after;

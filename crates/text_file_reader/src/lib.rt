@@ -2,6 +2,9 @@
 #![tactic(auto)]
 
 mod at_once;
+mod conditions;
+mod expressions;
 mod read;
+mod statements;
 
 pub use read::read_file;

@@ -36,7 +36,7 @@ fn pair_behind(bytes: &[u8]) -> Result<(RawPair<'_>, &[u8]), ReadFault>
 }
 
 /// The most parentheses that may be open inside the one of a condition or of a transaction.
-const INNER_DEPTH: u32 = 31;
+pub const INNER_DEPTH: u32 = 31;
 
 /// A standing condition, and the bytes behind it. It fails by `Shape` where none stands next, or one
 /// that is too deep.

@@ -35,8 +35,10 @@ fn place_in(names: &IndexSet<&str>, name: &str) -> Result<u32, ReadFault>
     u32::try_from(place).ok().ok_or(ReadFault::Limit)
 }
 
+/// The id of a declared variable. It fails by `Name` where none of this name is declared, and by
+/// `Limit` where 32 bits have no room for its place.
 #[tactic(auto, unfolding(text_grammar::specs::Resolving::variable_in))]
-fn variable(names: &IndexSet<&str>, name: &str) -> Result<VarId, ReadFault>
+pub fn variable(names: &IndexSet<&str>, name: &str) -> Result<VarId, ReadFault>
     ensures value { Gives (λ x. x) result (variable_in (texts names.now.keys) name.now) }
     ensures kind { IfErr result (λ e. (e ≡ Name) ⊎ (e ≡ Limit)) }
 {
@@ -44,7 +46,8 @@ fn variable(names: &IndexSet<&str>, name: &str) -> Result<VarId, ReadFault>
     Ok(VarId(place))
 }
 
-fn binary(op: Operator, left: Box<Expr>, right: Box<Expr>) -> Expr
+/// The operation that an operator makes of two expressions.
+pub fn binary(op: Operator, left: Box<Expr>, right: Box<Expr>) -> Expr
     ensures { expression_of result ≡ binary op (expression_of left.value) (expression_of right.value) }
 {
     match op {
@@ -91,7 +94,8 @@ fn boxed_expression(
     Ok(held)
 }
 
-fn compare(op: Comparison, left: Expr, right: Expr) -> Cond
+/// The condition that a comparison makes of two expressions.
+pub fn compare(op: Comparison, left: Expr, right: Expr) -> Cond
     ensures { condition_of result ≡ compare op (expression_of left) (expression_of right) }
 {
     match op {
@@ -115,7 +119,8 @@ fn comparison(
     Ok(compare(op, left, right))
 }
 
-fn connect(op: Connective, left: Box<Cond>, right: Box<Cond>) -> Cond
+/// The condition that is made of two.
+pub fn connect(op: Connective, left: Box<Cond>, right: Box<Cond>) -> Cond
     ensures { condition_of result ≡ connect op (condition_of left.value) (condition_of right.value) }
 {
     match op {
@@ -300,7 +305,7 @@ fn always(
 
 /// A condition that has to stand, whose tree is let go. It fails by `Name` where a name is not
 /// declared, and by `Limit` where 64 signed bits have no room for an integer.
-pub fn always_from(
+fn always_from(
     alloc: Global,
     names: &IndexSet<&str>,
     raw: RawAlways<'_>,
@@ -344,11 +349,7 @@ fn transaction(alloc: Global, names: &IndexSet<&str>, tx: &RawTx<'_>) -> Result<
 
 /// A transaction, whose tree is let go. It fails by `Name` where a name is not declared, and by
 /// `Limit` where the machine has no room for a number.
-pub fn transaction_from(
-    alloc: Global,
-    names: &IndexSet<&str>,
-    tx: RawTx<'_>,
-) -> Result<Tx, ReadFault>
+fn transaction_from(alloc: Global, names: &IndexSet<&str>, tx: RawTx<'_>) -> Result<Tx, ReadFault>
     ensures { Gives transaction_of result (transaction_in (texts names.now.keys) (view_tx tx.entry)) }
 {
     let made = transaction(alloc, names, &tx);

@@ -13,4 +13,4 @@ abbrev pub invariant-standing : goal.invariant-standing
 invariant-standing l = SoFar (codes "always") always_at (always_in (texts l.fn.vars.keys)) condition_name (all_of (begins (codes "always")) always_at (tokens l.fn.bytes)) (map view_condition l.made.items) (texts l.names.keys) (tokens l.rest)
 
 abbrev pub decreases-standing : goal.decreases-standing
-decreases-standing l = length l.rest
+decreases-standing l = length (tokens l.rest)

@@ -6,10 +6,9 @@ use Rattle.text_words.specs.Tokens.{tokens}
 use Rattle.text_words.specs.TokenReading.{begins, all_of}
 use Rattle.text_grammar.specs.Reading.{tx_at}
 use Rattle.text_grammar.specs.Resolving.{transaction_in, tx_name}
-use Rattle.text_grammar.specs.View.{view_tx}
 use Rattle.text_grammar.proofs.Files.{tx_shortens}
 use Rattle.text_resolver.specs.Texts.{texts}
-use Rattle.text_file_reader.proofs.AtOnce.{none_yet, one_more, no_more}
+use Rattle.text_file_reader.proofs.AtOnce.{none_yet, one_more, no_more, takes_one}
 use Rattle.text_file_reader.proofs.at_once.transactions_at_once.Goals as goal
 
 pub txs-init : goal.txs-init
@@ -18,11 +17,14 @@ txs-init c = rw (c.new-made.ensures.items, c.new-names.ensures.empty) (none_yet 
 pub txs-preserved : goal.txs-preserved
 txs-preserved c =
     let word = codes "tx" in
-    let tx = c.in_ok-tx.tx in
+    let tx = c.in_ok-name.tx in
     let e : map transaction_of c.push.new.self.items ≡ map transaction_of c.txs.made.items ++ transaction_of tx ∷ [] = rw c.in_ok-push.ensures.items (map_push transaction_of c.txs.made.items tx) in
     rw e (one_more word tx_at (transaction_in (texts c.args.vars.now.keys)) tx_name tx_shortens (all_of (begins word) tx_at (tokens c.args.bytes.now)) (map transaction_of c.txs.made.items)
-    (texts c.txs.names.keys) (texts c.declare.new.names.keys) (tokens c.txs.rest.now) (tokens c.in_ok-raw.after.now) (view_tx c.in_ok-raw.raw) (transaction_of tx) c.txs.invariant
-    (sym c.begins.ensures ∙ c.txs-test.true) c.in_ok-raw.ensures.value c.in_ok-tx.ensures c.in_ok-declare.ensures)
+    (texts c.txs.names.keys) (texts c.declare.new.names.keys) (tokens c.txs.rest.now) (tokens c.in_ok-name.after.now) (transaction_of tx) c.in_ok-name.name.now c.txs.invariant
+    (sym c.begins.ensures ∙ c.txs-test.true) c.in_ok-name.ensures c.in_ok-declare.ensures)
+
+pub txs-smaller : goal.txs-smaller
+txs-smaller c = takes_one tx_at (transaction_in (texts c.args.vars.now.keys)) tx_name tx_shortens (tokens c.txs.rest.now) (tokens c.in_ok-name.after.now) (transaction_of c.in_ok-name.tx) c.in_ok-name.name.now c.in_ok-name.ensures
 
 pub returns : goal.returns
 returns c =

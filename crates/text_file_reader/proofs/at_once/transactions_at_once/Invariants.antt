@@ -13,4 +13,4 @@ abbrev pub invariant-txs : goal.invariant-txs
 invariant-txs l = SoFar (codes "tx") tx_at (transaction_in (texts l.fn.vars.keys)) tx_name (all_of (begins (codes "tx")) tx_at (tokens l.fn.bytes)) (map transaction_of l.made.items) (texts l.names.keys) (tokens l.rest)
 
 abbrev pub decreases-txs : goal.decreases-txs
-decreases-txs l = length l.rest
+decreases-txs l = length (tokens l.rest)

@@ -1,0 +1,106 @@
+//! Conditions, made as they are read.
+
+ghost use Rattle.std.specs.Prelude.{IfOk};
+ghost use Rattle.txn_programs.specs.Tree.{condition_of};
+ghost use Rattle.text_words.specs.Tokens.{tokens};
+ghost use Rattle.text_grammar.specs.Reading.{expr_at, cond_at, cond_with};
+ghost use Rattle.text_grammar.specs.Resolving.{condition_in};
+ghost use Rattle.text_grammar.specs.declared.words.Test.TheVariants.{Compares, Negates, Connects};
+ghost use Rattle.text_resolver.specs.Texts.{texts};
+ghost use Rattle.text_file_reader.specs.Resolved.{Makes};
+
+use crate::expressions::expression_at_once;
+use indexmap::IndexSet;
+use std::alloc::Global;
+use text_grammar::words::{Comparison, Connective, Test, test_of};
+use text_resolver::resolve::{compare, connect};
+use text_words::ReadFault;
+use text_words::tokens::{close, word_of};
+use txn_programs::Cond;
+
+/// A condition with no more than `depth` parentheses open at a time.
+#[cycle(conditions)]
+pub(crate) fn condition_at_once<'a>(
+    alloc: Global,
+    names: &IndexSet<&str>,
+    depth: u32,
+    bytes: &'a [u8],
+) -> Result<(Cond, &'a [u8]), ReadFault>
+    ensures { IfOk result (λ x. Makes (cond_at depth (tokens bytes.now)) (condition_in (texts names.now.keys)) (condition_of x.0) (tokens x.1.now)) }
+{
+    if depth == 0 {
+        return Err(ReadFault::Shape);
+    }
+    let (word, rest) = word_of(bytes)?;
+    let test = test_of(word)?;
+    match test {
+        Test::Compares(comparison) => {
+            comparison_at_once(alloc, names, depth - 1, comparison, rest)
+        }
+        Test::Negates => negation_at_once(alloc, names, depth - 1, rest),
+        Test::Connects(connective) => {
+            connection_at_once(alloc, names, depth - 1, connective, rest)
+        }
+    }
+}
+
+fn comparison_at_once<'a>(
+    alloc: Global,
+    names: &IndexSet<&str>,
+    depth: u32,
+    comparison: Comparison,
+    bytes: &'a [u8],
+) -> Result<(Cond, &'a [u8]), ReadFault>
+    ensures { IfOk result (λ x. Makes (cond_with (expr_at depth) (cond_at depth) (Compares comparison) (tokens bytes.now)) (condition_in (texts names.now.keys)) (condition_of x.0) (tokens x.1.now)) }
+{
+    let (left, rest) = expression_at_once(alloc, names, depth, bytes)?;
+    let (right, rest) = expression_at_once(alloc, names, depth, rest)?;
+    let rest = close(rest)?;
+    Ok((compare(comparison, left, right), rest))
+}
+
+#[cycle(conditions)]
+fn negation_at_once<'a>(
+    alloc: Global,
+    names: &IndexSet<&str>,
+    depth: u32,
+    bytes: &'a [u8],
+) -> Result<(Cond, &'a [u8]), ReadFault>
+    ensures { IfOk result (λ x. Makes (cond_with (expr_at depth) (cond_at depth) Negates (tokens bytes.now)) (condition_in (texts names.now.keys)) (condition_of x.0) (tokens x.1.now)) }
+{
+    let (inner, rest) = boxed(alloc, names, depth, bytes)?;
+    let rest = close(rest)?;
+    Ok((Cond::Not(inner), rest))
+}
+
+#[cycle(conditions)]
+fn connection_at_once<'a>(
+    alloc: Global,
+    names: &IndexSet<&str>,
+    depth: u32,
+    connective: Connective,
+    bytes: &'a [u8],
+) -> Result<(Cond, &'a [u8]), ReadFault>
+    ensures { IfOk result (λ x. Makes (cond_with (expr_at depth) (cond_at depth) (Connects connective) (tokens bytes.now)) (condition_in (texts names.now.keys)) (condition_of x.0) (tokens x.1.now)) }
+{
+    let (left, rest) = boxed(alloc, names, depth, bytes)?;
+    let (right, rest) = boxed(alloc, names, depth, rest)?;
+    let rest = close(rest)?;
+    Ok((connect(connective, left, right), rest))
+}
+
+/// A condition that stands in another.
+#[inline(always)]
+#[cycle(conditions)]
+fn boxed<'a>(
+    alloc: Global,
+    names: &IndexSet<&str>,
+    depth: u32,
+    bytes: &'a [u8],
+) -> Result<(Box<Cond>, &'a [u8]), ReadFault>
+    ensures { IfOk result (λ x. Makes (cond_at depth (tokens bytes.now)) (condition_in (texts names.now.keys)) (condition_of x.0.value) (tokens x.1.now)) }
+{
+    let (made, rest) = condition_at_once(alloc, names, depth, bytes)?;
+    let held = Box::new(alloc, made)?;
+    Ok((held, rest))
+}

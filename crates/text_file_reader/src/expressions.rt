@@ -1,0 +1,82 @@
+//! Expressions, made as they are read: names as ids, and integers as numbers of the machine.
+
+ghost use Rattle.std.specs.Prelude.{IfOk};
+ghost use Rattle.txn_programs.specs.Tree.{expression_of};
+ghost use Rattle.text_words.specs.Tokens.{tokens};
+ghost use Rattle.text_grammar.specs.Reading.{expr_at, binary_with};
+ghost use Rattle.text_grammar.specs.Resolving.{expression_in};
+ghost use Rattle.text_resolver.specs.Texts.{texts};
+ghost use Rattle.text_file_reader.specs.Resolved.{Makes};
+
+use indexmap::IndexSet;
+use std::alloc::Global;
+use text_grammar::words::operator_of;
+use text_resolver::resolve::{binary, variable};
+use text_words::ReadFault;
+use text_words::lexer::Token;
+use text_words::tokens::{close, name_of, token_of};
+use txn_programs::Expr;
+
+/// An expression with no more than `depth` parentheses open at a time.
+#[cycle(expressions)]
+pub(crate) fn expression_at_once<'a>(
+    alloc: Global,
+    names: &IndexSet<&str>,
+    depth: u32,
+    bytes: &'a [u8],
+) -> Result<(Expr, &'a [u8]), ReadFault>
+    ensures { IfOk result (λ x. Makes (expr_at depth (tokens bytes.now)) (expression_in (texts names.now.keys)) (expression_of x.0) (tokens x.1.now)) }
+{
+    let (token, rest) = token_of(bytes)?;
+    match token {
+        Token::Int(numeral) => {
+            let number = numeral.number()?;
+            Ok((Expr::Int(number), rest))
+        }
+        Token::Name(name) => {
+            let id = variable(names, name)?;
+            Ok((Expr::Var(id), rest))
+        }
+        Token::Open => {
+            if depth == 0 {
+                return Err(ReadFault::Shape);
+            }
+            binary_at_once(alloc, names, depth - 1, rest)
+        }
+        Token::Close | Token::Other => Err(ReadFault::Shape),
+    }
+}
+
+/// An operation behind its parenthesis.
+#[cycle(expressions)]
+fn binary_at_once<'a>(
+    alloc: Global,
+    names: &IndexSet<&str>,
+    depth: u32,
+    bytes: &'a [u8],
+) -> Result<(Expr, &'a [u8]), ReadFault>
+    ensures { IfOk result (λ x. Makes (binary_with (expr_at depth) (tokens bytes.now)) (expression_in (texts names.now.keys)) (expression_of x.0) (tokens x.1.now)) }
+{
+    let (word, rest) = name_of(bytes)?;
+    let operator = operator_of(word)?;
+    let (left, rest) = boxed(alloc, names, depth, rest)?;
+    let (right, rest) = boxed(alloc, names, depth, rest)?;
+    let rest = close(rest)?;
+    Ok((binary(operator, left, right), rest))
+}
+
+/// An expression that stands in another.
+#[inline(always)]
+#[cycle(expressions)]
+fn boxed<'a>(
+    alloc: Global,
+    names: &IndexSet<&str>,
+    depth: u32,
+    bytes: &'a [u8],
+) -> Result<(Box<Expr>, &'a [u8]), ReadFault>
+    ensures { IfOk result (λ x. Makes (expr_at depth (tokens bytes.now)) (expression_in (texts names.now.keys)) (expression_of x.0.value) (tokens x.1.now)) }
+{
+    let (made, rest) = expression_at_once(alloc, names, depth, bytes)?;
+    let held = Box::new(alloc, made)?;
+    Ok((held, rest))
+}

@@ -1,0 +1,163 @@
+//! Statements, made as they are read.
+
+ghost use Rattle.std.specs.Prelude.{IfOk};
+ghost use Rattle.txn_programs.specs.Tree.{statement_of};
+ghost use Rattle.text_words.specs.Tokens.{tokens};
+ghost use Rattle.text_grammar.specs.Reading.{expr_at, cond_at, stmt_at, set_with, seq_with, if_with, repeat_with, orelse_with, throw_with};
+ghost use Rattle.text_grammar.specs.Resolving.{statement_in};
+ghost use Rattle.text_resolver.specs.Texts.{texts};
+ghost use Rattle.text_file_reader.specs.Resolved.{Makes};
+
+use crate::conditions::condition_at_once;
+use crate::expressions::expression_at_once;
+use indexmap::IndexSet;
+use std::alloc::Global;
+use text_grammar::words::{Keyword, keyword_of};
+use text_resolver::resolve::variable;
+use text_words::ReadFault;
+use text_words::tokens::{close, int_of, is_open, name_of, word_of};
+use txn_programs::Stmt;
+
+/// A statement with no more than `depth` parentheses open at a time.
+#[cycle(statements)]
+pub(crate) fn statement_at_once<'a>(
+    alloc: Global,
+    names: &IndexSet<&str>,
+    depth: u32,
+    bytes: &'a [u8],
+) -> Result<(Stmt, &'a [u8]), ReadFault>
+    ensures { IfOk result (λ x. Makes (stmt_at depth (tokens bytes.now)) (statement_in (texts names.now.keys)) (statement_of x.0) (tokens x.1.now)) }
+{
+    if depth == 0 {
+        return Err(ReadFault::Shape);
+    }
+    let (word, rest) = word_of(bytes)?;
+    match keyword_of(word)? {
+        Keyword::Skip => {
+            let rest = close(rest)?;
+            Ok((Stmt::Skip, rest))
+        }
+        Keyword::Set => set_at_once(alloc, names, depth - 1, rest),
+        Keyword::Seq => seq_at_once(alloc, names, depth - 1, rest),
+        Keyword::If => if_at_once(alloc, names, depth - 1, rest),
+        Keyword::Repeat => repeat_at_once(alloc, names, depth - 1, rest),
+        Keyword::Retry => {
+            let rest = close(rest)?;
+            Ok((Stmt::Retry, rest))
+        }
+        Keyword::OrElse => orelse_at_once(alloc, names, depth - 1, rest),
+        Keyword::Throw => throw_at_once(alloc, names, depth - 1, rest),
+    }
+}
+
+fn set_at_once<'a>(
+    alloc: Global,
+    names: &IndexSet<&str>,
+    depth: u32,
+    bytes: &'a [u8],
+) -> Result<(Stmt, &'a [u8]), ReadFault>
+    ensures { IfOk result (λ x. Makes (set_with (expr_at depth) (tokens bytes.now)) (statement_in (texts names.now.keys)) (statement_of x.0) (tokens x.1.now)) }
+{
+    let (name, rest) = name_of(bytes)?;
+    let id = variable(names, name)?;
+    let (value, rest) = expression_at_once(alloc, names, depth, rest)?;
+    let rest = close(rest)?;
+    Ok((Stmt::Set(id, value), rest))
+}
+
+/// The parts of a sequence, as long as a parenthesis opens, and its end.
+#[cycle(statements)]
+fn seq_at_once<'a>(
+    alloc: Global,
+    names: &IndexSet<&str>,
+    depth: u32,
+    bytes: &'a [u8],
+) -> Result<(Stmt, &'a [u8]), ReadFault>
+    ensures { IfOk result (λ x. Makes (seq_with (stmt_at depth) (tokens bytes.now)) (statement_in (texts names.now.keys)) (statement_of x.0) (tokens x.1.now)) }
+{
+    let mut parts = Vec::new(alloc);
+    let mut rest = bytes;
+    'parts: while is_open(rest) {
+        let (part, after) = statement_at_once(alloc, names, depth, rest)?;
+        parts.push(part)?;
+        rest = after;
+    }
+    let rest = close(rest)?;
+    Ok((Stmt::Seq(parts), rest))
+}
+
+#[cycle(statements)]
+fn if_at_once<'a>(
+    alloc: Global,
+    names: &IndexSet<&str>,
+    depth: u32,
+    bytes: &'a [u8],
+) -> Result<(Stmt, &'a [u8]), ReadFault>
+    ensures { IfOk result (λ x. Makes (if_with (cond_at depth) (stmt_at depth) (tokens bytes.now)) (statement_in (texts names.now.keys)) (statement_of x.0) (tokens x.1.now)) }
+{
+    let (test, rest) = condition_at_once(alloc, names, depth, bytes)?;
+    let (first, rest) = boxed(alloc, names, depth, rest)?;
+    let (second, rest) = boxed(alloc, names, depth, rest)?;
+    let rest = close(rest)?;
+    Ok((Stmt::If(test, first, second), rest))
+}
+
+#[cycle(statements)]
+fn repeat_at_once<'a>(
+    alloc: Global,
+    names: &IndexSet<&str>,
+    depth: u32,
+    bytes: &'a [u8],
+) -> Result<(Stmt, &'a [u8]), ReadFault>
+    ensures { IfOk result (λ x. Makes (repeat_with (stmt_at depth) (tokens bytes.now)) (statement_in (texts names.now.keys)) (statement_of x.0) (tokens x.1.now)) }
+{
+    let (numeral, rest) = int_of(bytes)?;
+    let count = numeral.count()?;
+    let (body, rest) = boxed(alloc, names, depth, rest)?;
+    let rest = close(rest)?;
+    Ok((Stmt::Repeat(count, body), rest))
+}
+
+#[cycle(statements)]
+fn orelse_at_once<'a>(
+    alloc: Global,
+    names: &IndexSet<&str>,
+    depth: u32,
+    bytes: &'a [u8],
+) -> Result<(Stmt, &'a [u8]), ReadFault>
+    ensures { IfOk result (λ x. Makes (orelse_with (stmt_at depth) (tokens bytes.now)) (statement_in (texts names.now.keys)) (statement_of x.0) (tokens x.1.now)) }
+{
+    let (first, rest) = boxed(alloc, names, depth, bytes)?;
+    let (second, rest) = boxed(alloc, names, depth, rest)?;
+    let rest = close(rest)?;
+    Ok((Stmt::OrElse(first, second), rest))
+}
+
+/// A statement that stands in another.
+#[inline(always)]
+#[cycle(statements)]
+fn boxed<'a>(
+    alloc: Global,
+    names: &IndexSet<&str>,
+    depth: u32,
+    bytes: &'a [u8],
+) -> Result<(Box<Stmt>, &'a [u8]), ReadFault>
+    ensures { IfOk result (λ x. Makes (stmt_at depth (tokens bytes.now)) (statement_in (texts names.now.keys)) (statement_of x.0.value) (tokens x.1.now)) }
+{
+    let (made, rest) = statement_at_once(alloc, names, depth, bytes)?;
+    let held = Box::new(alloc, made)?;
+    Ok((held, rest))
+}
+
+fn throw_at_once<'a>(
+    alloc: Global,
+    names: &IndexSet<&str>,
+    depth: u32,
+    bytes: &'a [u8],
+) -> Result<(Stmt, &'a [u8]), ReadFault>
+    ensures { IfOk result (λ x. Makes (throw_with (expr_at depth) (tokens bytes.now)) (statement_in (texts names.now.keys)) (statement_of x.0) (tokens x.1.now)) }
+{
+    let (value, rest) = expression_at_once(alloc, names, depth, bytes)?;
+    let rest = close(rest)?;
+    Ok((Stmt::Throw(value), rest))
+}
