@@ -21,7 +21,7 @@ use Rattle.text_grammar.specs.declared.words.Keyword.{Keyword}
 use Rattle.text_grammar.specs.declared.words.Keyword.TheVariants as keyword
 use Rattle.text_grammar.proofs.Stmts.{stmt_step}
 use Rattle.text_resolver.proofs.Parts.{chain, seq_is}
-use Rattle.text_file_reader.specs.Resolved.{Makes, MakesNamed}
+use Rattle.text_file_reader.specs.Resolved.{Makes, MakesLast, MakesTwo, MakesNamed}
 
 -- ---- expressions
 
@@ -55,10 +55,11 @@ binary_makes names operand ts behind_word behind_left behind_right rest word op 
 abbrev pub MakesCondition : (names : List (List ℕ)) → Read Cond → Condition → List Lexeme → Type 0
 MakesCondition names read made rest = Makes read (condition_in names) made rest
 
-pub comparison_makes : (names : List (List ℕ)) (expr : List Lexeme → Read Expr) (part : List Lexeme → Read Cond) (ts behind_left behind_right rest : List Lexeme) (op : Comparison) (a b : Expression)
-    → MakesExpression names (expr ts) a behind_left → MakesExpression names (expr behind_left) b behind_right → close_at behind_right ≡ Ok rest → MakesCondition names (cond_with expr part (Compares op) ts) (compare op a b) rest
-comparison_makes names expr part ts behind_left behind_right rest op a b left right c =
-    record { item = tree.Compare op left.item right.item; is_read = rw (left.is_read, right.is_read, c) refl; is_made = rw (left.is_made, right.is_made) refl }
+pub comparison_makes : (names : List (List ℕ)) (expr : List Lexeme → Read Expr) (part : List Lexeme → Read Cond) (ts behind_left rest : List Lexeme) (op : Comparison) (a b : Expression)
+    → MakesExpression names (expr ts) a behind_left → MakesLast (expr behind_left) (expression_in names) b rest → MakesCondition names (cond_with expr part (Compares op) ts) (compare op a b) rest
+comparison_makes names expr part ts behind_left rest op a b left last =
+    let right = last.makes in
+    record { item = tree.Compare op left.item right.item; is_read = rw (left.is_read, right.is_read, last.closes) refl; is_made = rw (left.is_made, right.is_made) refl }
 
 pub negation_makes : (names : List (List ℕ)) (expr : List Lexeme → Read Expr) (part : List Lexeme → Read Cond) (ts behind rest : List Lexeme) (c : Condition)
     → MakesCondition names (part ts) c behind → close_at behind ≡ Ok rest → MakesCondition names (cond_with expr part Negates ts) (t.Not c) rest
@@ -93,33 +94,40 @@ skip_makes names expr cond part ts rest c = record { item = tree.Skip; is_read =
 pub retry_makes : (names : List (List ℕ)) (expr : List Lexeme → Read Expr) (cond : List Lexeme → Read Cond) (part : List Lexeme → Read Stmt) (ts rest : List Lexeme) → close_at ts ≡ Ok rest → MakesStatement names (stmt_with expr cond part keyword.Retry ts) t.Retry rest
 retry_makes names expr cond part ts rest c = record { item = tree.Retry; is_read = rw c refl; is_made = refl }
 
-pub set_makes : (names : List (List ℕ)) (expr : List Lexeme → Read Expr) (ts behind_name behind_value rest : List Lexeme) (name : List ℕ) (x : VarId) (e : Expression)
-    → name_at ts ≡ Ok (name, behind_name) → variable_in names name ≡ Ok x → MakesExpression names (expr behind_name) e behind_value → close_at behind_value ≡ Ok rest → MakesStatement names (set_with expr ts) (t.Set x e) rest
+pub set_makes : (names : List (List ℕ)) (expr : List Lexeme → Read Expr) (ts behind_name rest : List Lexeme) (name : List ℕ) (x : VarId) (e : Expression)
+    → name_at ts ≡ Ok (name, behind_name) → variable_in names name ≡ Ok x → MakesLast (expr behind_name) (expression_in names) e rest → MakesStatement names (set_with expr ts) (t.Set x e) rest
 unfolding set_with
-set_makes names expr ts behind_name behind_value rest name x e n v value c = record { item = tree.Set name value.item; is_read = rw (n, value.is_read, c) refl; is_made = rw (v, value.is_made) refl }
+set_makes names expr ts behind_name rest name x e n v last =
+    let value = last.makes in
+    record { item = tree.Set name value.item; is_read = rw (n, value.is_read, last.closes) refl; is_made = rw (v, value.is_made) refl }
 
-pub if_makes : (names : List (List ℕ)) (cond : List Lexeme → Read Cond) (part : List Lexeme → Read Stmt) (ts behind_test behind_first behind_second rest : List Lexeme) (c : Condition) (p q : Statement)
-    → MakesCondition names (cond ts) c behind_test → MakesStatement names (part behind_test) p behind_first → MakesStatement names (part behind_first) q behind_second → close_at behind_second ≡ Ok rest
-    → MakesStatement names (if_with cond part ts) (t.If c p q) rest
+pub if_makes : (names : List (List ℕ)) (cond : List Lexeme → Read Cond) (part : List Lexeme → Read Stmt) (ts behind_test rest : List Lexeme) (c : Condition) (p q : Statement)
+    → MakesCondition names (cond ts) c behind_test → MakesTwo part (statement_in names) behind_test p q rest → MakesStatement names (if_with cond part ts) (t.If c p q) rest
 unfolding if_with
-if_makes names cond part ts behind_test behind_first behind_second rest c p q tested first second e =
-    record { item = tree.If tested.item first.item second.item; is_read = rw (tested.is_read, first.is_read, second.is_read, e) refl; is_made = rw (tested.is_made, first.is_made, second.is_made) refl }
+if_makes names cond part ts behind_test rest c p q tested both =
+    let first = both.makes_first in
+    let second = both.makes_second.makes in
+    record { item = tree.If tested.item first.item second.item; is_read = rw (tested.is_read, first.is_read, second.is_read, both.makes_second.closes) refl; is_made = rw (tested.is_made, first.is_made, second.is_made) refl }
 
 pub repeat_makes : (names : List (List ℕ)) (part : List Lexeme → Read Stmt) (ts behind_count behind_body rest : List Lexeme) (count : ℤ) (n : ℕ) (p : Statement)
     → int_at ts ≡ Ok (count, behind_count) → count_of count ≡ Ok n → MakesStatement names (part behind_count) p behind_body → close_at behind_body ≡ Ok rest → MakesStatement names (repeat_with part ts) (t.Repeat n p) rest
 unfolding repeat_with
 repeat_makes names part ts behind_count behind_body rest count n p i k body c = record { item = tree.Repeat count body.item; is_read = rw (i, body.is_read, c) refl; is_made = rw (k, body.is_made) refl }
 
-pub orelse_makes : (names : List (List ℕ)) (part : List Lexeme → Read Stmt) (ts behind_first behind_second rest : List Lexeme) (p q : Statement)
-    → MakesStatement names (part ts) p behind_first → MakesStatement names (part behind_first) q behind_second → close_at behind_second ≡ Ok rest → MakesStatement names (orelse_with part ts) (t.OrElse p q) rest
+pub orelse_makes : (names : List (List ℕ)) (part : List Lexeme → Read Stmt) (ts rest : List Lexeme) (p q : Statement)
+    → MakesTwo part (statement_in names) ts p q rest → MakesStatement names (orelse_with part ts) (t.OrElse p q) rest
 unfolding orelse_with
-orelse_makes names part ts behind_first behind_second rest p q first second c =
-    record { item = tree.OrElse first.item second.item; is_read = rw (first.is_read, second.is_read, c) refl; is_made = rw (first.is_made, second.is_made) refl }
+orelse_makes names part ts rest p q both =
+    let first = both.makes_first in
+    let second = both.makes_second.makes in
+    record { item = tree.OrElse first.item second.item; is_read = rw (first.is_read, second.is_read, both.makes_second.closes) refl; is_made = rw (first.is_made, second.is_made) refl }
 
-pub throw_makes : (names : List (List ℕ)) (expr : List Lexeme → Read Expr) (ts behind rest : List Lexeme) (e : Expression)
-    → MakesExpression names (expr ts) e behind → close_at behind ≡ Ok rest → MakesStatement names (throw_with expr ts) (t.Throw e) rest
+pub throw_makes : (names : List (List ℕ)) (expr : List Lexeme → Read Expr) (ts rest : List Lexeme) (e : Expression)
+    → MakesLast (expr ts) (expression_in names) e rest → MakesStatement names (throw_with expr ts) (t.Throw e) rest
 unfolding throw_with
-throw_makes names expr ts behind rest e value c = record { item = tree.Throw value.item; is_read = rw (value.is_read, c) refl; is_made = rw value.is_made refl }
+throw_makes names expr ts rest e last =
+    let value = last.makes in
+    record { item = tree.Throw value.item; is_read = rw (value.is_read, last.closes) refl; is_made = rw value.is_made refl }
 
 pub seq_makes : (names : List (List ℕ)) (part : List Lexeme → Read Stmt) (ts behind rest : List Lexeme) (parts : List Stmt) (made : List Statement)
     → all_of is_open part ts ≡ Ok (parts, behind) → each (statement_in names) parts ≡ Ok made → close_at behind ≡ Ok rest → MakesStatement names (seq_with part ts) (t.Seq (chain made)) rest
@@ -135,9 +143,10 @@ unfolding always_at
 always_makes names ts inside behind_name behind_condition rest name c f n condition e =
     record { item = record { name = name; condition = condition.item }; is_read = rw (f, n, condition.is_read, e) refl; is_made = rw condition.is_made refl; is_named = refl }
 
-pub tx_makes : (names : List (List ℕ)) (ts inside behind_name behind_body behind_value rest : List Lexeme) (name : List ℕ) (s : Statement) (e : Expression)
-    → form_at (codes "tx") ts ≡ Ok inside → name_at inside ≡ Ok (name, behind_name) → MakesStatement names (stmt_at 31 behind_name) s behind_body → MakesExpression names (expr_at 31 behind_body) e behind_value → close_at behind_value ≡ Ok rest
+pub tx_makes : (names : List (List ℕ)) (ts inside behind_name behind_body rest : List Lexeme) (name : List ℕ) (s : Statement) (e : Expression)
+    → form_at (codes "tx") ts ≡ Ok inside → name_at inside ≡ Ok (name, behind_name) → MakesStatement names (stmt_at 31 behind_name) s behind_body → MakesLast (expr_at 31 behind_body) (expression_in names) e rest
     → MakesNamed (tx_at ts) (transaction_in names) tx_name (record { name = name; body = s; result = e }) name rest
 unfolding tx_at
-tx_makes names ts inside behind_name behind_body behind_value rest name s e f n body value c =
-    record { item = record { name = name; body = body.item; value = value.item }; is_read = rw (f, n, body.is_read, value.is_read, c) refl; is_made = rw (body.is_made, value.is_made) refl; is_named = refl }
+tx_makes names ts inside behind_name behind_body rest name s e f n body last =
+    let value = last.makes in
+    record { item = record { name = name; body = body.item; value = value.item }; is_read = rw (f, n, body.is_read, value.is_read, last.closes) refl; is_made = rw (body.is_made, value.is_made) refl; is_named = refl }

@@ -13,7 +13,7 @@ ghost use Rattle.text_resolver.specs.Parts.{view_variable, view_condition, view_
 ghost use Rattle.text_file_reader.specs.Resolved.{MakesNamed, Resolves};
 
 use crate::conditions::condition_at_once;
-use crate::expressions::expression_at_once;
+use crate::expressions::last_expression_at_once;
 use crate::statements::statement_at_once;
 use indexmap::IndexSet;
 use std::alloc::Global;
@@ -49,10 +49,15 @@ fn always_at_once<'a>(
 {
     let rest = form(bytes, "always")?;
     let (name, rest) = name_of(rest)?;
-    let (condition, rest) = condition_at_once(alloc, vars, INNER_DEPTH, rest)?;
-    let rest = close(rest)?;
     let held = String::from_str(alloc, name)?;
-    Ok((name, (held, condition), rest))
+    let (condition, rest) = condition_at_once(alloc, vars, INNER_DEPTH, rest)?;
+    match close(rest) {
+        Ok(rest) => Ok((name, (held, condition), rest)),
+        Err(fault) => {
+            drop(condition);
+            Err(fault)
+        }
+    }
 }
 
 /// The conditions that stand next, and the bytes behind them.
@@ -101,19 +106,23 @@ fn tx_at_once<'a>(
 {
     let rest = form(bytes, "tx")?;
     let (name, rest) = name_of(rest)?;
-    let (body, rest) = statement_at_once(alloc, vars, INNER_DEPTH, rest)?;
-    let (result, rest) = expression_at_once(alloc, vars, INNER_DEPTH, rest)?;
-    let rest = close(rest)?;
     let held = String::from_str(alloc, name)?;
-    Ok((
-        name,
-        Tx {
-            name: held,
-            body,
-            result,
-        },
-        rest,
-    ))
+    let (body, rest) = statement_at_once(alloc, vars, INNER_DEPTH, rest)?;
+    match last_expression_at_once(alloc, vars, INNER_DEPTH, rest) {
+        Ok((result, rest)) => Ok((
+            name,
+            Tx {
+                name: held,
+                body,
+                result,
+            },
+            rest,
+        )),
+        Err(fault) => {
+            drop(body);
+            Err(fault)
+        }
+    }
 }
 
 /// The transactions that stand next: their names, what they are, and the bytes behind them.

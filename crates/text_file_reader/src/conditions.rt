@@ -9,7 +9,7 @@ ghost use Rattle.text_grammar.specs.declared.words.Test.TheVariants.{Compares, N
 ghost use Rattle.text_resolver.specs.Texts.{texts};
 ghost use Rattle.text_file_reader.specs.Resolved.{Makes};
 
-use crate::expressions::expression_at_once;
+use crate::expressions::{expression_at_once, last_expression_at_once};
 use indexmap::IndexSet;
 use std::alloc::Global;
 use text_grammar::words::{Comparison, Connective, Test, test_of};
@@ -54,9 +54,13 @@ fn comparison_at_once<'a>(
     ensures { IfOk result (λ x. Makes (cond_with (expr_at depth) (cond_at depth) (Compares comparison) (tokens bytes.now)) (condition_in (texts names.now.keys)) (condition_of x.0) (tokens x.1.now)) }
 {
     let (left, rest) = expression_at_once(alloc, names, depth, bytes)?;
-    let (right, rest) = expression_at_once(alloc, names, depth, rest)?;
-    let rest = close(rest)?;
-    Ok((compare(comparison, left, right), rest))
+    match last_expression_at_once(alloc, names, depth, rest) {
+        Ok((right, rest)) => Ok((compare(comparison, left, right), rest)),
+        Err(fault) => {
+            drop(left);
+            Err(fault)
+        }
+    }
 }
 
 #[cycle(conditions)]

@@ -6,7 +6,7 @@ ghost use Rattle.text_words.specs.Tokens.{tokens};
 ghost use Rattle.text_grammar.specs.Reading.{expr_at, binary_with};
 ghost use Rattle.text_grammar.specs.Resolving.{expression_in};
 ghost use Rattle.text_resolver.specs.Texts.{texts};
-ghost use Rattle.text_file_reader.specs.Resolved.{Makes};
+ghost use Rattle.text_file_reader.specs.Resolved.{Makes, MakesLast};
 
 use indexmap::IndexSet;
 use std::alloc::Global;
@@ -44,6 +44,25 @@ pub(crate) fn expression_at_once<'a>(
             binary_at_once(alloc, names, depth - 1, rest)
         }
         Token::Close | Token::Other => Err(ReadFault::Shape),
+    }
+}
+
+/// An expression, and the parenthesis that closes behind it.
+pub(crate) fn last_expression_at_once<'a>(
+    alloc: Global,
+    names: &IndexSet<&str>,
+    depth: u32,
+    bytes: &'a [u8],
+) -> Result<(Expr, &'a [u8]), ReadFault>
+    ensures { IfOk result (λ x. MakesLast (expr_at depth (tokens bytes.now)) (expression_in (texts names.now.keys)) (expression_of x.0) (tokens x.1.now)) }
+{
+    let (made, rest) = expression_at_once(alloc, names, depth, bytes)?;
+    match close(rest) {
+        Ok(rest) => Ok((made, rest)),
+        Err(fault) => {
+            drop(made);
+            Err(fault)
+        }
     }
 }
 

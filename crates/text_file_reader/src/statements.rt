@@ -6,10 +6,10 @@ ghost use Rattle.text_words.specs.Tokens.{tokens};
 ghost use Rattle.text_grammar.specs.Reading.{expr_at, cond_at, stmt_at, set_with, seq_with, if_with, repeat_with, orelse_with, throw_with};
 ghost use Rattle.text_grammar.specs.Resolving.{statement_in};
 ghost use Rattle.text_resolver.specs.Texts.{texts};
-ghost use Rattle.text_file_reader.specs.Resolved.{Makes};
+ghost use Rattle.text_file_reader.specs.Resolved.{Makes, MakesTwo};
 
 use crate::conditions::condition_at_once;
-use crate::expressions::expression_at_once;
+use crate::expressions::last_expression_at_once;
 use indexmap::IndexSet;
 use std::alloc::Global;
 use text_grammar::words::{Keyword, keyword_of};
@@ -60,8 +60,7 @@ fn set_at_once<'a>(
 {
     let (name, rest) = name_of(bytes)?;
     let id = variable(names, name)?;
-    let (value, rest) = expression_at_once(alloc, names, depth, rest)?;
-    let rest = close(rest)?;
+    let (value, rest) = last_expression_at_once(alloc, names, depth, rest)?;
     Ok((Stmt::Set(id, value), rest))
 }
 
@@ -96,10 +95,13 @@ fn if_at_once<'a>(
     ensures { IfOk result (λ x. Makes (if_with (cond_at depth) (stmt_at depth) (tokens bytes.now)) (statement_in (texts names.now.keys)) (statement_of x.0) (tokens x.1.now)) }
 {
     let (test, rest) = condition_at_once(alloc, names, depth, bytes)?;
-    let (first, rest) = boxed(alloc, names, depth, rest)?;
-    let (second, rest) = boxed(alloc, names, depth, rest)?;
-    let rest = close(rest)?;
-    Ok((Stmt::If(test, first, second), rest))
+    match branches_at_once(alloc, names, depth, rest) {
+        Ok((first, second, rest)) => Ok((Stmt::If(test, first, second), rest)),
+        Err(fault) => {
+            drop(test);
+            Err(fault)
+        }
+    }
 }
 
 #[cycle(statements)]
@@ -127,10 +129,25 @@ fn orelse_at_once<'a>(
 ) -> Result<(Stmt, &'a [u8]), ReadFault>
     ensures { IfOk result (λ x. Makes (orelse_with (stmt_at depth) (tokens bytes.now)) (statement_in (texts names.now.keys)) (statement_of x.0) (tokens x.1.now)) }
 {
+    let (first, second, rest) = branches_at_once(alloc, names, depth, bytes)?;
+    Ok((Stmt::OrElse(first, second), rest))
+}
+
+/// Two statements, and the parenthesis that closes behind them.
+#[inline(always)]
+#[cycle(statements)]
+fn branches_at_once<'a>(
+    alloc: Global,
+    names: &IndexSet<&str>,
+    depth: u32,
+    bytes: &'a [u8],
+) -> Result<(Box<Stmt>, Box<Stmt>, &'a [u8]), ReadFault>
+    ensures { IfOk result (λ x. MakesTwo (stmt_at depth) (statement_in (texts names.now.keys)) (tokens bytes.now) (statement_of x.0.value) (statement_of x.1.value) (tokens x.2.now)) }
+{
     let (first, rest) = boxed(alloc, names, depth, bytes)?;
     let (second, rest) = boxed(alloc, names, depth, rest)?;
     let rest = close(rest)?;
-    Ok((Stmt::OrElse(first, second), rest))
+    Ok((first, second, rest))
 }
 
 /// A statement that stands in another.
@@ -157,7 +174,6 @@ fn throw_at_once<'a>(
 ) -> Result<(Stmt, &'a [u8]), ReadFault>
     ensures { IfOk result (λ x. Makes (throw_with (expr_at depth) (tokens bytes.now)) (statement_in (texts names.now.keys)) (statement_of x.0) (tokens x.1.now)) }
 {
-    let (value, rest) = expression_at_once(alloc, names, depth, bytes)?;
-    let rest = close(rest)?;
+    let (value, rest) = last_expression_at_once(alloc, names, depth, bytes)?;
     Ok((Stmt::Throw(value), rest))
 }

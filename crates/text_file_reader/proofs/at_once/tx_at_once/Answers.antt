@@ -4,7 +4,7 @@ use Rattle.text_resolver.specs.Texts.{texts}
 use Rattle.text_file_reader.proofs.Made.{tx_makes}
 use Rattle.text_file_reader.proofs.at_once.tx_at_once.Goals as goal
 
-pub returns : goal.returns
-returns c =
-    rw c.in_ok-held.ensures.ok (tx_makes (texts c.args.vars.now.keys) (tokens c.args.bytes.now) (tokens c.in_ok-rest.rest.now) (tokens c.in_ok-name.rest.now) (tokens c.in_ok-body.rest.now) (tokens c.in_ok-result.rest.now) (tokens c.in_ok-rest-2.rest.now)
-    c.in_ok-name.name.now (statement_of c.in_ok-body.body) (expression_of c.in_ok-result.result) c.in_ok-rest.ensures.value c.in_ok-name.ensures.value c.in_ok-body.ensures c.in_ok-result.ensures c.in_ok-rest-2.ensures.value)
+pub returns-in-Ok : goal.returns-in-Ok
+returns-in-Ok c =
+    rw c.in_ok-held.ensures.ok (tx_makes (texts c.args.vars.now.keys) (tokens c.args.bytes.now) (tokens c.in_ok-rest.rest.now) (tokens c.in_ok-name.rest.now) (tokens c.in_ok-body.rest.now) (tokens c.in-Ok.rest.now)
+    c.in_ok-name.name.now (statement_of c.in_ok-body.body) (expression_of c.in-Ok.result) c.in_ok-rest.ensures.value c.in_ok-name.ensures.value c.in_ok-body.ensures c.in-Ok.ensures)

@@ -80,10 +80,10 @@ statement_at_once-returns-in_ok-rest-in-Retry t c =
     behind_keyword names c.args.depth (tokens c.args.bytes.now) inside behind c.in_ok-word.word.now keyword.Retry plain.Retry (omega arith) c.in_ok-word.ensures.value (c.in_ok-keyword_of.ensures.value ∙ ap done c.in-Retry.is)
     (retry_makes names (expr_at (c.args.depth - 1)) (cond_at (c.args.depth - 1)) part inside behind c.in_ok-rest-in-Retry.ensures.value)
 
-pub if_at_once-returns : goal.if_at_once-returns
-if_at_once-returns t c =
-    if_makes (texts c.args.names.now.keys) (cond_at c.args.depth) (stmt_at c.args.depth) (tokens c.args.bytes.now) (tokens c.in_ok-test.rest.now) (tokens c.in_ok-first.rest.now) (tokens c.in_ok-second.rest.now) (tokens c.in_ok-rest.rest.now)
-    (condition_of c.in_ok-test.test) (statement_of c.in_ok-first.first.value) (statement_of c.in_ok-second.second.value) c.in_ok-test.ensures c.in_ok-first.ensures c.in_ok-second.ensures c.in_ok-rest.ensures.value
+pub if_at_once-returns-in-Ok : goal.if_at_once-returns-in-Ok
+if_at_once-returns-in-Ok t c =
+    if_makes (texts c.args.names.now.keys) (cond_at c.args.depth) (stmt_at c.args.depth) (tokens c.args.bytes.now) (tokens c.in_ok-test.rest.now) (tokens c.in-Ok.rest.now)
+    (condition_of c.in_ok-test.test) (statement_of c.in-Ok.first.value) (statement_of c.in-Ok.second.value) c.in_ok-test.ensures c.in-Ok.ensures
 
 pub repeat_at_once-returns : goal.repeat_at_once-returns
 repeat_at_once-returns t c =
@@ -92,8 +92,7 @@ repeat_at_once-returns t c =
 
 pub orelse_at_once-returns : goal.orelse_at_once-returns
 orelse_at_once-returns t c =
-    orelse_makes (texts c.args.names.now.keys) (stmt_at c.args.depth) (tokens c.args.bytes.now) (tokens c.in_ok-first.rest.now) (tokens c.in_ok-second.rest.now) (tokens c.in_ok-rest.rest.now)
-    (statement_of c.in_ok-first.first.value) (statement_of c.in_ok-second.second.value) c.in_ok-first.ensures c.in_ok-second.ensures c.in_ok-rest.ensures.value
+    orelse_makes (texts c.args.names.now.keys) (stmt_at c.args.depth) (tokens c.args.bytes.now) (tokens c.in_ok-first.rest.now) (statement_of c.in_ok-first.first.value) (statement_of c.in_ok-first.second.value) c.in_ok-first.ensures
 
 pub seq_at_once-parts-init : goal.seq_at_once-parts-init
 seq_at_once-parts-init t c =

@@ -10,10 +10,10 @@ use Rattle.text_file_reader.proofs.AtOnce.{GoesOn}
 use Rattle.text_file_reader.proofs.statements.+statements.Given as goal
 
 abbrev pub decreases-statement_at_once : goal.decreases-statement_at_once
-decreases-statement_at_once l = 3 * l.depth
+decreases-statement_at_once l = 4 * l.depth
 
 abbrev pub decreases-seq_at_once : goal.decreases-seq_at_once
-decreases-seq_at_once l = 3 * l.depth + 2
+decreases-seq_at_once l = 4 * l.depth + 3
 
 abbrev pub invariant-seq_at_once-parts : goal.invariant-seq_at_once-parts
 invariant-seq_at_once-parts l = (items : List Stmt) × GoesOn is_open (stmt_at l.fn.depth) (statement_in (texts l.fn.names.keys)) (all_of is_open (stmt_at l.fn.depth) (tokens l.fn.bytes)) items (map statement_of l.parts.items) (tokens l.rest)
@@ -22,13 +22,16 @@ abbrev pub decreases-seq_at_once-parts : goal.decreases-seq_at_once-parts
 decreases-seq_at_once-parts l = length (tokens l.rest)
 
 abbrev pub decreases-if_at_once : goal.decreases-if_at_once
-decreases-if_at_once l = 3 * l.depth + 2
+decreases-if_at_once l = 4 * l.depth + 3
 
 abbrev pub decreases-repeat_at_once : goal.decreases-repeat_at_once
-decreases-repeat_at_once l = 3 * l.depth + 2
+decreases-repeat_at_once l = 4 * l.depth + 3
 
 abbrev pub decreases-orelse_at_once : goal.decreases-orelse_at_once
-decreases-orelse_at_once l = 3 * l.depth + 2
+decreases-orelse_at_once l = 4 * l.depth + 3
+
+abbrev pub decreases-branches_at_once : goal.decreases-branches_at_once
+decreases-branches_at_once l = 4 * l.depth + 2
 
 abbrev pub decreases-boxed : goal.decreases-boxed
-decreases-boxed l = 3 * l.depth + 1
+decreases-boxed l = 4 * l.depth + 1

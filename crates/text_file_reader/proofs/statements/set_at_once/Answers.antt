@@ -7,5 +7,5 @@ use Rattle.text_file_reader.proofs.statements.set_at_once.Goals as goal
 
 pub returns : goal.returns
 returns c =
-    set_makes (texts c.args.names.now.keys) (expr_at c.args.depth) (tokens c.args.bytes.now) (tokens c.in_ok-name.rest.now) (tokens c.in_ok-value.rest.now) (tokens c.in_ok-rest.rest.now)
-    c.in_ok-name.name.now c.in_ok-id.id (expression_of c.in_ok-value.value) c.in_ok-name.ensures.value c.in_ok-id.ensures.value c.in_ok-value.ensures c.in_ok-rest.ensures.value
+    set_makes (texts c.args.names.now.keys) (expr_at c.args.depth) (tokens c.args.bytes.now) (tokens c.in_ok-name.rest.now) (tokens c.in_ok-value.rest.now)
+    c.in_ok-name.name.now c.in_ok-id.id (expression_of c.in_ok-value.value) c.in_ok-name.ensures.value c.in_ok-id.ensures.value c.in_ok-value.ensures

@@ -7,5 +7,5 @@ use Rattle.text_file_reader.proofs.statements.throw_at_once.Goals as goal
 
 pub returns : goal.returns
 returns c =
-    throw_makes (texts c.args.names.now.keys) (expr_at c.args.depth) (tokens c.args.bytes.now) (tokens c.in_ok-value.rest.now) (tokens c.in_ok-rest.rest.now) (expression_of c.in_ok-value.value)
-    c.in_ok-value.ensures c.in_ok-rest.ensures.value
+    throw_makes (texts c.args.names.now.keys) (expr_at c.args.depth) (tokens c.args.bytes.now) (tokens c.in_ok-value.rest.now) (expression_of c.in_ok-value.value)
+    c.in_ok-value.ensures
