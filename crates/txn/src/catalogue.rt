@@ -31,9 +31,9 @@ pub struct Catalogue {
     always: Vec<(String, Cond)>,
     always_names: IndexSet<String>,
     tx_names: IndexSet<String>,
-    txs: Vec<Tx>,
     codes: Vec<Vec<Op>>,
     ending: Vec<Op>,
+    txs: Vec<Tx>,
     runs: Vec<(TxId, u32)>,
     task_txs: Vec<TxId>,
 }
