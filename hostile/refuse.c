@@ -1,7 +1,7 @@
 /* An allocator in front of the C library's, which refuses one request for memory: number REFUSE, counted from 1
  * (malloc, calloc, realloc and the aligned ones alike), and with REFUSE_ON each later one too. To the file number
  * REFUSE_FD it tells each refusal by an 'r', and at the end how many blocks were given and not taken back, or with
- * REFUSE_COUNT how many requests there were.
+ * REFUSE_COUNT how many requests there were, or with REFUSE_THREADS how many threads were begun.
  *
  * It is made by the kit's own compiler, with no header and nothing to link with. */
 
@@ -16,10 +16,11 @@ extern char *getenv(const char *);
 extern long write(int, const void *, size_t);
 extern long syscall(long, ...);
 extern int *__errno_location(void);
+extern void *dlsym(void *, const char *);
 
 enum { OUT_OF_MEMORY = 12, EXIT_GROUP = 231 };
 
-static size_t requests;
+static size_t requests, threads;
 static long blocks;
 
 static size_t number(const char *name) {
@@ -73,11 +74,24 @@ void free(void *block) {
     __libc_free(block);
 }
 
+/* The C library's own comes after this one (-1 is what it calls RTLD_NEXT). */
+int pthread_create(size_t *thread, const void *how, void *(*body)(void *), void *with) {
+    int (*begin)(size_t *, const void *, void *(*)(void *), void *) = dlsym((void *)-1, "pthread_create");
+    __atomic_add_fetch(&threads, 1, __ATOMIC_SEQ_CST);
+    return begin(thread, how, body, with);
+}
+
+static long told(void) {
+    if (number("REFUSE_COUNT")) return (long)requests;
+    if (number("REFUSE_THREADS")) return (long)threads;
+    return blocks < 0 ? -blocks : blocks;
+}
+
 /* A program ends by _exit, and a test by returning, after all that it drops. */
 static __attribute__((destructor)) void end(void) {
     char text[24];
     size_t at = sizeof text;
-    long left = number("REFUSE_COUNT") ? (long)requests : blocks < 0 ? -blocks : blocks;
+    long left = told();
     do text[--at] = (char)('0' + left % 10);
     while (left /= 10);
     tell(text + at, sizeof text - at);
