@@ -1,3 +1,4 @@
+mod Ids
 pub mod Known
 pub mod Made
 pub mod AtOnce

@@ -1,7 +1,8 @@
 //! Files read as catalogues.
 
-ghost use Rattle.std.specs.Prelude.{◌≡◌, Some, IfOk, IfErr, ◌⊎◌};
+ghost use Rattle.std.specs.Prelude.{◌≡◌, true, Some, IfOk, IfErr, ◌⊎◌};
 ghost use Rattle.txn_programs.specs.Listing.{Listing};
+ghost use Rattle.txn.specs.Ids.{ids_hold};
 ghost use Rattle.text_words.specs.Answers.{Gives};
 ghost use Rattle.text_grammar.specs.Spelling.{Spells, listing_at, lawful, first_fault};
 ghost use Rattle.text_laws.specs.Faults.{IsFirst};
@@ -15,11 +16,13 @@ use text_resolver::resolve::{Parts, resolve};
 use text_words::ReadFault;
 use txn::{BuildFault, Catalogue};
 
-/// The catalogue of the parts, or which of names, limits and conditions does not hold.
+/// The catalogue of the parts, whose ids are those of names that were looked up, or which of names,
+/// limits and conditions does not hold.
 fn built(alloc: Global, parts: Parts) -> Result<Catalogue, ReadFault>
+    requires { ids_hold (view_parts parts) ≡ true }
     ensures { Gives (λ c. c) result (lawful (view_parts parts)) }
 {
-    match Catalogue::build(alloc, parts.vars, parts.always, parts.txs, parts.runs) {
+    match Catalogue::build_known(alloc, parts.vars, parts.always, parts.txs, parts.runs) {
         Ok(catalogue) => Ok(catalogue),
         Err(BuildFault::Name) => Err(ReadFault::Name),
         Err(BuildFault::Limit) => Err(ReadFault::Limit),

@@ -12,7 +12,7 @@ use Rattle.txn_programs.specs.declared.ast.TxId.{TxId}
 use Rattle.txn_programs.specs.declared.ast.Cond.{Cond}
 use Rattle.txn_programs.specs.Tree.{Condition, condition_of, Transaction, transaction_of, statement_of, expression_of, under}
 use Rattle.txn_programs.specs.Meaning.{State, truth}
-use Rattle.txn_programs.specs.Listing.{Listing, listing_of, conditions}
+use Rattle.txn_programs.specs.Listing.{Listing, listing_of, conditions, always_names}
 use Rattle.txn_programs.specs.Fused.{own_code}
 use Rattle.txn_programs.specs.Cost.{conditions_cost}
 use Rattle.txn_programs.specs.Depth.{condition_depth, statement_depth, expression_depth}
@@ -26,6 +26,7 @@ use Rattle.txn_rules.proofs.Beside.{all_fit_beside}
 use Rattle.txn_evaluator.specs.Always.{conditions_of}
 use Rattle.txn_copies.specs.Conditions.{standing_of}
 use Rattle.txn_evaluator.proofs.Always as declared
+use Rattle.txn.specs.Ids.{ids_hold}
 
 list_any-map : {X Y : Type 0} (p : Y → Bool) (f : X → Y) (xs : List X) → list_any p (map f xs) ≡ list_any (λ x. p (f x)) xs
 list_any-map p f [] = refl
@@ -50,21 +51,42 @@ all_names p always = ap (list_all p) (sym (always_names_are always)) ∙ list_al
 all_conditions : (p : Condition → Bool) (always : List Declared) → list_all p (map (λ (a : List ℕ × Condition). a.1) (map standing_of always)) ≡ list_all (λ (a : Declared). p (condition_of a.1)) always
 all_conditions p always = ap (list_all p) (map-map (λ (a : List ℕ × Condition). a.1) standing_of always) ∙ list_all-map p (λ (a : Declared). condition_of a.1) always
 
--- the tests of the forms, over what `build` is given
-pub well_formed_is : (vars : List (String Global × ℤ)) (always : List (String Global × Cond)) (txs : List Tx) (runs : List (TxId × ℕ)) → is_well_formed (listing_of vars always txs runs)
-    ≡ (list_all (λ var. is_name (string_bytes var.0)) vars && (list_all (λ a. is_name (string_bytes a.0)) always && (list_all (λ tx. is_name (string_bytes tx.name)) txs
-    && (list_all (λ a. knows_condition (length vars) (condition_of a.1)) always
-    && (list_all (λ tx. knows_transaction (length vars) (transaction_of tx)) txs && list_all (λ run. nat_lt run.0.0 (length txs)) runs)))))
-unfolding is_well_formed
-well_formed_is vars always txs runs =
+-- a listing is well-formed where its names have the form of one, and its ids hold
+well_formed_by : (l : Listing) → is_well_formed l ≡ (list_all is_name l.names && (list_all is_name (always_names l) && (list_all (λ t. is_name t.name) l.transactions && ids_hold l)))
+unfolding is_well_formed ids_hold
+well_formed_by l = refl
+
+and_true : (b : Bool) → (b && true) ≡ b
+and_true true = refl
+and_true false = refl
+
+last_false : (a b c : Bool) → (a && (b && (c && false))) ≡ false
+last_false true true true = refl
+last_false true true false = refl
+last_false true false c = refl
+last_false false b c = refl
+
+-- the tests of the forms, over what `build` is given, where ids hold
+pub well_formed_is : (vars : List (String Global × ℤ)) (always : List (String Global × Cond)) (txs : List Tx) (runs : List (TxId × ℕ)) → ids_hold (listing_of vars always txs runs) ≡ true → is_well_formed (listing_of vars always txs runs)
+    ≡ (list_all (λ var. is_name (string_bytes var.0)) vars && (list_all (λ a. is_name (string_bytes a.0)) always && list_all (λ tx. is_name (string_bytes tx.name)) txs))
+well_formed_is vars always txs runs known =
     let a = list_all-map is_name (λ (v : String Global × ℤ). string_bytes v.0) vars in
     let a' = all_names is_name always in
     let b = list_all-map (λ (t : Transaction). is_name t.name) transaction_of txs in
+    rw (well_formed_by (listing_of vars always txs runs), known, a, a', b, and_true (list_all (λ (tx : Tx). is_name (string_bytes tx.name)) txs)) refl
+
+pub unknown_ids : (l : Listing) → ids_hold l ≡ false → is_well_formed l ≡ false
+unknown_ids l h = rw (well_formed_by l, h) (last_false (list_all is_name l.names) (list_all is_name (always_names l)) (list_all (λ t. is_name t.name) l.transactions))
+
+pub ids_are : (vars : List (String Global × ℤ)) (always : List (String Global × Cond)) (txs : List Tx) (runs : List (TxId × ℕ)) → ids_hold (listing_of vars always txs runs)
+    ≡ (list_all (λ a. knows_condition (length vars) (condition_of a.1)) always && (list_all (λ tx. knows_transaction (length vars) (transaction_of tx)) txs && list_all (λ run. nat_lt run.0.0 (length txs)) runs))
+unfolding ids_hold
+ids_are vars always txs runs =
     let n = length-map vars (λ (v : String Global × ℤ). string_bytes v.0) in
-    let c' = all_conditions (knows_condition (length vars)) always in
-    let c = list_all-map (knows_transaction (length vars)) transaction_of txs in
+    let a = all_conditions (knows_condition (length vars)) always in
+    let b = list_all-map (knows_transaction (length vars)) transaction_of txs in
     let m = length-map txs transaction_of in
-    rw (a, a', b, n, c', c, m) refl
+    rw (n, a, b, m) refl
 
 -- the tests of the limits, over what `build` is given
 pub limits_are : (vars : List (String Global × ℤ)) (always : List (String Global × Cond)) (txs : List Tx) (runs : List (TxId × ℕ)) (cost : ℕ)

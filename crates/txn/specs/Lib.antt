@@ -28,3 +28,4 @@ pub use Rattle.txn_evaluator.specs.Worked
 pub mod Codes
 pub mod Grown
 pub mod CatalogueInside
+pub mod Ids

@@ -7,11 +7,12 @@ ghost use Rattle.txn_programs.specs.Fused.{own_code, common_code};
 ghost use Rattle.txn_programs.specs.Depth.{condition_depth, statement_depth, expression_depth};
 ghost use Rattle.txn_programs.specs.Tree.{condition_of, expression_of, statement_of};
 ghost use Rattle.txn_programs.specs.Listing.{listing_of, tasks_of};
-ghost use Rattle.txn_programs.specs.Names.{are_distinct, is_well_formed, names_hold};
+ghost use Rattle.txn_programs.specs.Names.{are_distinct, is_name, names_hold};
 ghost use Rattle.txn_programs.specs.Limits.{deepest, most_conditions, limits_hold};
 ghost use Rattle.txn_programs.specs.Scope.{ConditionsKnown};
 ghost use Rattle.txn_programs.specs.Standing.{is_true, upholds};
 ghost use Rattle.txn_evaluator.specs.Always.{conditions_of};
+ghost use Rattle.txn.specs.Ids.{ids_hold};
 ghost use Rattle.txn.specs.declared.build.BuildFault.TheVariants.{Memory};
 
 use indexmap::IndexSet;
@@ -54,22 +55,26 @@ impl From<AllocError> for BuildFault {
     }
 }
 
-/// Whether each name has the form of one, and each id is one of those declared.
-#[tactic(auto, using(crate::proofs::Building::well_formed_is))]
-fn well_formed(
+/// Whether each id is one of those declared.
+#[tactic(auto, using(crate::proofs::Building::ids_are))]
+pub(crate) fn ids_known(
     vars: &[(String, i64)],
     always: &[(String, Cond)],
     txs: &[Tx],
     runs: &[(TxId, u32)],
 ) -> bool
-    ensures { result ≡ is_well_formed (listing_of vars.now always.now txs.now runs.now) }
+    ensures { result ≡ ids_hold (listing_of vars.now always.now txs.now runs.now) }
 {
-    names_have_form(vars)
-        && always_names_have_form(always)
-        && tx_names_have_form(txs)
-        && always_known(always, vars.len())
+    always_known(always, vars.len())
         && transactions_known(txs, vars.len())
         && runs_known(runs, txs.len())
+}
+
+/// Whether each name has the form of one.
+fn names_formed(vars: &[(String, i64)], always: &[(String, Cond)], txs: &[Tx]) -> bool
+    ensures { result ≡ (list_all (λ var. is_name (string_bytes var.0)) vars.now && (list_all (λ a. is_name (string_bytes a.0)) always.now && list_all (λ tx. is_name (string_bytes tx.name)) txs.now)) }
+{
+    names_have_form(vars) && always_names_have_form(always) && tx_names_have_form(txs)
 }
 
 /// Whether all limits hold.
@@ -175,6 +180,7 @@ fn declare(
 }
 
 /// What is declared, where names, limits and standing conditions hold; else the first that does not.
+/// The ids are known to hold.
 pub(crate) fn judged(
     alloc: Global,
     vars: Vec<(String, i64)>,
@@ -182,6 +188,7 @@ pub(crate) fn judged(
     txs: &[Tx],
     runs: &[(TxId, u32)],
 ) -> Result<Declared, BuildFault>
+    requires { ids_hold (listing_of vars.items always.now txs.now runs.now) ≡ true }
     ensures declared_names { IfOk result (λ d. map string_bytes d.names.keys ≡ map (λ v. string_bytes v.0) vars.items) }
     ensures initial { IfOk result (λ d. d.initial.items ≡ map (λ v. v.1) vars.items) }
     ensures always_names { IfOk result (λ d. map string_bytes d.always_names.keys ≡ map (λ a. string_bytes a.0) always.now) }
@@ -196,7 +203,7 @@ pub(crate) fn judged(
     ensures broken_after_limits { IfErr result (λ e. e ≡ BuildFault.Broken → limits_hold (listing_of vars.items always.now txs.now runs.now) ≡ true) }
     ensures broken { IfErr result (λ e. e ≡ BuildFault.Broken → upholds (listing_of vars.items always.now txs.now runs.now) (map (λ v. v.1) vars.items) ≡ false) }
 {
-    if !well_formed(&vars, always, txs, runs) {
+    if !names_formed(&vars, always, txs) {
         return Err(BuildFault::Name);
     }
     let within = within_limits(&vars, always, txs, runs);

@@ -11,8 +11,9 @@ ghost use Rattle.txn_programs.specs.Standing.{Upholds, upholds};
 ghost use Rattle.txn_evaluator.specs.Always.{conditions_of};
 ghost use Rattle.txn_copies.specs.Conditions.{standing_of};
 ghost use Rattle.txn.specs.Grown.{grown, SameButRuns};
+ghost use Rattle.txn.specs.Ids.{ids_hold};
 
-use crate::build::{BuildFault, Copies, judged, work_out};
+use crate::build::{BuildFault, Copies, ids_known, judged, work_out};
 use indexmap::IndexSet;
 use std::alloc::{AllocError, Global};
 use std::marker::Model;
@@ -23,7 +24,8 @@ use txn_programs::{AlwaysId, Cond, Memory, Op, TaskId, Tx, TxId, VarId};
 /// Variables, standing conditions, transactions and runs, in declared order. A clause sees what they
 /// say, as a `Listing`. In every catalogue names and ids hold, and all limits, and each condition is
 /// true of the initial values. It keeps the flat code of each transaction, and once that of the
-/// conditions: the listing determines them.
+/// conditions: the listing determines them. They are let go before the trees: blocks as large as
+/// these make the C library join all small ones that lie free, one by one.
 #[derive(Drop)]
 pub struct Catalogue {
     names: IndexSet<String>,
@@ -70,6 +72,33 @@ impl Catalogue {
         txs: Vec<Tx>,
         runs: Vec<(TxId, u32)>,
     ) -> Result<Catalogue, BuildFault>
+        ensures built { IfOk result (λ c. c ≡ listing_of vars.items always.items txs.items runs.items) }
+        ensures names { OnOk result (names_hold (listing_of vars.items always.items txs.items runs.items) ≡ true) }
+        ensures limits { OnOk result (limits_hold (listing_of vars.items always.items txs.items runs.items) ≡ true) }
+        ensures upheld { OnOk result (upholds (listing_of vars.items always.items txs.items runs.items) (map (λ v. v.1) vars.items) ≡ true) }
+        ensures name { IfErr result (λ e. e ≡ BuildFault.Name → names_hold (listing_of vars.items always.items txs.items runs.items) ≡ false) }
+        ensures limit_after_names { IfErr result (λ e. e ≡ BuildFault.Limit → names_hold (listing_of vars.items always.items txs.items runs.items) ≡ true) }
+        ensures limit { IfErr result (λ e. e ≡ BuildFault.Limit → limits_hold (listing_of vars.items always.items txs.items runs.items) ≡ false) }
+        ensures broken_after_names { IfErr result (λ e. e ≡ BuildFault.Broken → names_hold (listing_of vars.items always.items txs.items runs.items) ≡ true) }
+        ensures broken_after_limits { IfErr result (λ e. e ≡ BuildFault.Broken → limits_hold (listing_of vars.items always.items txs.items runs.items) ≡ true) }
+        ensures broken { IfErr result (λ e. e ≡ BuildFault.Broken → upholds (listing_of vars.items always.items txs.items runs.items) (map (λ v. v.1) vars.items) ≡ false) }
+    {
+        if !ids_known(&vars, &always, &txs, &runs) {
+            return Err(BuildFault::Name);
+        }
+        Catalogue::build_known(alloc, vars, always, txs, runs)
+    }
+
+    /// The same where each id is known to be one of those declared, and so is not looked at once
+    /// more: as `build` does, and a reader that found each by its name.
+    pub fn build_known(
+        alloc: Global,
+        vars: Vec<(String, i64)>,
+        always: Vec<(String, Cond)>,
+        txs: Vec<Tx>,
+        runs: Vec<(TxId, u32)>,
+    ) -> Result<Catalogue, BuildFault>
+        requires { ids_hold (listing_of vars.items always.items txs.items runs.items) ≡ true }
         ensures built { IfOk result (λ c. c ≡ listing_of vars.items always.items txs.items runs.items) }
         ensures names { OnOk result (names_hold (listing_of vars.items always.items txs.items runs.items) ≡ true) }
         ensures limits { OnOk result (limits_hold (listing_of vars.items always.items txs.items runs.items) ≡ true) }

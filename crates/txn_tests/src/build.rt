@@ -136,6 +136,26 @@ fn refusal(alloc: Global, of: Of) -> Refusal {
     Ok(Catalogue::build(alloc, vars, always, txs, runs).err())
 }
 
+/// The same of variables alone, with no id that could be unknown.
+#[tactic(auto, unfolding(txn::specs::Ids::ids_hold))]
+fn refusal_known(alloc: Global, of: Of) -> Refusal {
+    let vars = vars_of(alloc, of)?;
+    let none = Vec::new(alloc);
+    Ok(Catalogue::build_known(alloc, vars, Vec::new(alloc), Vec::new(alloc), none).err())
+}
+
+/// Each is refused so, where its ids are known.
+pub(crate) fn expect_known(
+    rt: &(impl Abort + Eprint),
+    alloc: Global,
+    rows: &[(Of, Option<BuildFault>)],
+) {
+    for place in 0..rows.len() {
+        let (of, want) = rows[place];
+        assert!(rt; refusal_known(alloc, of) == Ok(want), "row {place}");
+    }
+}
+
 /// Each is refused so.
 pub(crate) fn expect(rt: &(impl Abort + Eprint), alloc: Global, rows: &[(Of, Option<BuildFault>)]) {
     for place in 0..rows.len() {

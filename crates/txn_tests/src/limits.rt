@@ -1,7 +1,7 @@
-//! What `Catalogue::build` refuses, at each limit.
+//! What `Catalogue::build` refuses, at each limit, and `build_known`.
 
 use crate::bodies::{Body, Holds};
-use crate::build::{Of, expect};
+use crate::build::{Of, expect, expect_known};
 use txn::names::is_name;
 use txn::{BuildFault, TxId};
 
@@ -31,6 +31,20 @@ fn names_and_ids_come_first(rt: HostRuntime) {
     assert!(rt; !is_name(b"1x"));
     assert!(rt; !is_name(b""));
     expect(&rt, rt.alloc(), NAMES_AND_IDS);
+}
+
+const KNOWN: &[(Of, Option<BuildFault>)] = &[
+    (Of::Vars(&[("x", 5), ("y", -3)]), None),
+    (Of::Vars(&[("1x", 0)]), NAME),
+    (Of::Vars(&[("x", 0), ("x", 1)]), NAME),
+    (Of::Vars(&[(LONGER, 0)]), LIMIT),
+    (Of::ManyVars(256), None),
+    (Of::ManyVars(257), LIMIT),
+];
+
+#[test]
+fn known_ids_leave_names_and_limits(rt: HostRuntime) {
+    expect_known(&rt, rt.alloc(), KNOWN);
 }
 
 const LONG_NAMES: &[(Of, Option<BuildFault>)] = &[
