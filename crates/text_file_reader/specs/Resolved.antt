@@ -1,4 +1,4 @@
--- Items that are made as they are read: one, one with its name, and all that stand next.
+-- Items that are made as they are read: one, the last before a parenthesis, two, one with its name, and all that stand next.
 use Rattle.std.specs.Prelude.{◌≡◌, ℕ, Result, Ok, List, [], map}
 use Rattle.text_words.specs.Tokens.{Lexeme}
 use Rattle.text_words.specs.TokenReading.{Read, close_at}
