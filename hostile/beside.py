@@ -9,10 +9,10 @@ from parts import SECONDS, run, shown
 from refusals import allocator
 
 # How often a run is watched that had too few threads at a time.
-TRIES = 5
+TRIES = 20
 
 # Tasks that only read, of some 500,000 nodes each, so that none makes another one stale.
-LONG = "(var x 0)(tx long (repeat 1000 (repeat 100 (if (eq x 1) (throw 1) (skip)))) x)(run long 256)"
+LONG = "(var x 0)(tx long (repeat 1000 (repeat 100 (if (eq x 1) (throw 1) (skip)))) x)(run long 1024)"
 SHORT = "(var x 0)(tx inc (set x (add x 1)) x)(run inc 64)"
 
 
