@@ -89,8 +89,10 @@ impl Catalogue {
         Catalogue::build_known(alloc, vars, always, txs, runs)
     }
 
-    /// The same where each id is known to be one of those declared, and so is not looked at once
-    /// more: as `build` does, and a reader that found each by its name.
+    /// The same catalogue where each id is known to be one of those declared, as a reader knows that
+    /// found each by its name: no id is looked at. It is refused as `build` refuses: by `Name` where
+    /// a name has not the form of one or is given twice, else by `Limit`, else by `Broken`; `Memory`
+    /// may come in place of any answer, where a growth was refused.
     pub fn build_known(
         alloc: Global,
         vars: Vec<(String, i64)>,
