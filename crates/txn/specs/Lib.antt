@@ -26,6 +26,7 @@ pub use Rattle.txn_evaluator.specs.Always
 pub use Rattle.txn_evaluator.specs.Flow
 pub use Rattle.txn_evaluator.specs.Worked
 pub mod Codes
+pub mod Places
 pub mod Grown
 pub mod CatalogueInside
 pub mod Ids

@@ -13,10 +13,11 @@ ghost use Rattle.txn_programs.specs.Scope.{ConditionsKnown};
 ghost use Rattle.txn_programs.specs.Standing.{is_true, upholds};
 ghost use Rattle.txn_evaluator.specs.Always.{conditions_of};
 ghost use Rattle.txn.specs.Ids.{ids_hold};
+ghost use Rattle.txn.specs.Places.{TellsPlaces};
 ghost use Rattle.txn.specs.declared.build.BuildFault.TheVariants.{Memory};
 
-use indexmap::IndexSet;
 use std::alloc::{AllocError, AllocFailed, Global};
+use std::collections::HashMap;
 use thiserror::Error;
 use txn_compiler::compile::{compile, ending};
 use txn_evaluator::evaluate::truth;
@@ -115,23 +116,24 @@ fn upheld(always: &[(String, Cond)], state: &[i64]) -> bool
     true
 }
 
-/// The names as a set in their order, if they are distinct.
-fn name_set(alloc: Global, names: Vec<String>) -> Result<IndexSet<String>, BuildFault>
-    ensures ok { IfOk result (λ s. map string_bytes s.keys ≡ map string_bytes names.items) }
+/// Where each name stands among them, if they are distinct.
+fn places_of(alloc: Global, names: Vec<String>) -> Result<HashMap<String, usize>, BuildFault>
+    ensures ok { IfOk result (λ places. TellsPlaces places (map string_bytes names.items)) }
     ensures distinct { OnOk result (are_distinct (map string_bytes names.items) ≡ true) }
     ensures name { IfErr result (λ e. e ≡ BuildFault.Name → are_distinct (map string_bytes names.items) ≡ false) }
     ensures limit { IfErr result (λ e. e ≢ BuildFault.Limit) }
     ensures broken { IfErr result (λ e. e ≢ BuildFault.Broken) }
 {
-    let mut set = IndexSet::new(alloc);
+    let mut places = HashMap::new(alloc);
+    let mut place = 0;
     for name in names {
-        match set.insert(name) {
-            Ok(true) => {}
-            Ok(false) => return Err(BuildFault::Name),
+        match places.insert(name, place) {
+            Ok(None) => place += 1,
+            Ok(Some(_)) => return Err(BuildFault::Name),
             Err(_) => return Err(BuildFault::Memory),
         }
     }
-    Ok(set)
+    Ok(places)
 }
 
 /// What a catalogue is built of.
@@ -143,13 +145,15 @@ pub(crate) struct Copies {
     pub(crate) runs: Vec<(TxId, u32)>,
 }
 
-/// What a catalogue declares: the names, and the initial values.
+/// What a catalogue declares: the names of its variables, where each name stands, and the initial
+/// values.
 #[derive(Drop)]
 pub(crate) struct Declared {
-    pub(crate) names: IndexSet<String>,
+    pub(crate) names: Vec<String>,
+    pub(crate) places: HashMap<String, usize>,
     pub(crate) initial: Vec<i64>,
-    pub(crate) always_names: IndexSet<String>,
-    pub(crate) tx_names: IndexSet<String>,
+    pub(crate) always_places: HashMap<String, usize>,
+    pub(crate) tx_places: HashMap<String, usize>,
 }
 
 /// What is declared, if no name is given twice among variables, among conditions or among
@@ -160,22 +164,25 @@ fn declare(
     always: &[(String, Cond)],
     txs: &[Tx],
 ) -> Result<Declared, BuildFault>
-    ensures names { IfOk result (λ d. map string_bytes d.names.keys ≡ map (λ v. string_bytes v.0) vars.items) }
+    ensures names { IfOk result (λ d. map string_bytes d.names.items ≡ map (λ v. string_bytes v.0) vars.items) }
+    ensures places { IfOk result (λ d. TellsPlaces d.places (map (λ v. string_bytes v.0) vars.items)) }
     ensures initial { IfOk result (λ d. d.initial.items ≡ map (λ v. v.1) vars.items) }
-    ensures always_names { IfOk result (λ d. map string_bytes d.always_names.keys ≡ map (λ a. string_bytes a.0) always.now) }
-    ensures tx_names { IfOk result (λ d. map string_bytes d.tx_names.keys ≡ map (λ t. string_bytes t.name) txs.now) }
+    ensures always_places { IfOk result (λ d. TellsPlaces d.always_places (map (λ a. string_bytes a.0) always.now)) }
+    ensures tx_places { IfOk result (λ d. TellsPlaces d.tx_places (map (λ t. string_bytes t.name) txs.now)) }
     ensures distinct { OnOk result ((are_distinct (map (λ v. string_bytes v.0) vars.items) && (are_distinct (map (λ a. string_bytes a.0) always.now) && are_distinct (map (λ t. string_bytes t.name) txs.now))) ≡ true) }
     ensures name { IfErr result (λ e. e ≡ BuildFault.Name → (are_distinct (map (λ v. string_bytes v.0) vars.items) && (are_distinct (map (λ a. string_bytes a.0) always.now) && are_distinct (map (λ t. string_bytes t.name) txs.now))) ≡ false) }
     ensures limit { IfErr result (λ e. e ≢ BuildFault.Limit) }
     ensures broken { IfErr result (λ e. e ≢ BuildFault.Broken) }
 {
-    let (names, initial) = names_and_values(alloc, vars)?;
-    let (always_names, tx_names) = other_names(alloc, always, txs)?;
+    let initial = initial_values(alloc, &vars)?;
+    let (names, places) = variable_names(alloc, vars)?;
+    let (always_places, tx_places) = other_places(alloc, always, txs)?;
     Ok(Declared {
         names,
+        places,
         initial,
-        always_names,
-        tx_names,
+        always_places,
+        tx_places,
     })
 }
 
@@ -189,10 +196,11 @@ pub(crate) fn judged(
     runs: &[(TxId, u32)],
 ) -> Result<Declared, BuildFault>
     requires { ids_hold (listing_of vars.items always.now txs.now runs.now) ≡ true }
-    ensures declared_names { IfOk result (λ d. map string_bytes d.names.keys ≡ map (λ v. string_bytes v.0) vars.items) }
+    ensures declared_names { IfOk result (λ d. map string_bytes d.names.items ≡ map (λ v. string_bytes v.0) vars.items) }
+    ensures places { IfOk result (λ d. TellsPlaces d.places (map (λ v. string_bytes v.0) vars.items)) }
     ensures initial { IfOk result (λ d. d.initial.items ≡ map (λ v. v.1) vars.items) }
-    ensures always_names { IfOk result (λ d. map string_bytes d.always_names.keys ≡ map (λ a. string_bytes a.0) always.now) }
-    ensures tx_names { IfOk result (λ d. map string_bytes d.tx_names.keys ≡ map (λ t. string_bytes t.name) txs.now) }
+    ensures always_places { IfOk result (λ d. TellsPlaces d.always_places (map (λ a. string_bytes a.0) always.now)) }
+    ensures tx_places { IfOk result (λ d. TellsPlaces d.tx_places (map (λ t. string_bytes t.name) txs.now)) }
     ensures names { OnOk result (names_hold (listing_of vars.items always.now txs.now runs.now) ≡ true) }
     ensures limits { OnOk result (limits_hold (listing_of vars.items always.now txs.now runs.now) ≡ true) }
     ensures upheld { OnOk result (upholds (listing_of vars.items always.now txs.now runs.now) (map (λ v. v.1) vars.items) ≡ true) }
@@ -232,75 +240,68 @@ fn allowed(within: bool, always: &[(String, Cond)], state: &[i64]) -> Result<(),
     Ok(())
 }
 
-/// The names of the variables, if they are distinct, and their initial values.
-fn names_and_values(
+/// The names of the variables, and where each stands, if they are distinct.
+fn variable_names(
     alloc: Global,
     vars: Vec<(String, i64)>,
-) -> Result<(IndexSet<String>, Vec<i64>), BuildFault>
-    ensures names { IfOk result (λ d. map string_bytes d.0.keys ≡ map (λ v. string_bytes v.0) vars.items) }
-    ensures initial { IfOk result (λ d. d.1.items ≡ map (λ v. v.1) vars.items) }
+) -> Result<(Vec<String>, HashMap<String, usize>), BuildFault>
+    ensures names { IfOk result (λ d. map string_bytes d.0.items ≡ map (λ v. string_bytes v.0) vars.items) }
+    ensures places { IfOk result (λ d. TellsPlaces d.1 (map (λ v. string_bytes v.0) vars.items)) }
     ensures distinct { OnOk result (are_distinct (map (λ v. string_bytes v.0) vars.items) ≡ true) }
     ensures name { IfErr result (λ e. e ≡ BuildFault.Name → are_distinct (map (λ v. string_bytes v.0) vars.items) ≡ false) }
     ensures limit { IfErr result (λ e. e ≢ BuildFault.Limit) }
     ensures broken { IfErr result (λ e. e ≢ BuildFault.Broken) }
 {
-    let initial = initial_values(alloc, &vars)?;
-    let names = variable_names(alloc, vars)?;
-    Ok((names, initial))
+    let names = variable_texts(alloc, vars)?;
+    let keys = copied(alloc, &names)?;
+    let places = places_of(alloc, keys)?;
+    Ok((names, places))
 }
 
-/// The names of the variables, if they are distinct.
-fn variable_names(alloc: Global, vars: Vec<(String, i64)>) -> Result<IndexSet<String>, BuildFault>
-    ensures ok { IfOk result (λ s. map string_bytes s.keys ≡ map (λ v. string_bytes v.0) vars.items) }
-    ensures distinct { OnOk result (are_distinct (map (λ v. string_bytes v.0) vars.items) ≡ true) }
-    ensures name { IfErr result (λ e. e ≡ BuildFault.Name → are_distinct (map (λ v. string_bytes v.0) vars.items) ≡ false) }
-    ensures limit { IfErr result (λ e. e ≢ BuildFault.Limit) }
-    ensures broken { IfErr result (λ e. e ≢ BuildFault.Broken) }
-{
-    let texts = variable_texts(alloc, vars)?;
-    name_set(alloc, texts)
-}
-
-/// The names of the standing conditions and those of the transactions, if each are distinct.
-fn other_names(
+/// Where the names of the standing conditions and those of the transactions stand, if each are
+/// distinct.
+fn other_places(
     alloc: Global,
     always: &[(String, Cond)],
     txs: &[Tx],
-) -> Result<(IndexSet<String>, IndexSet<String>), BuildFault>
-    ensures always_names { IfOk result (λ d. map string_bytes d.0.keys ≡ map (λ a. string_bytes a.0) always.now) }
-    ensures tx_names { IfOk result (λ d. map string_bytes d.1.keys ≡ map (λ t. string_bytes t.name) txs.now) }
+) -> Result<(HashMap<String, usize>, HashMap<String, usize>), BuildFault>
+    ensures always_places { IfOk result (λ d. TellsPlaces d.0 (map (λ a. string_bytes a.0) always.now)) }
+    ensures tx_places { IfOk result (λ d. TellsPlaces d.1 (map (λ t. string_bytes t.name) txs.now)) }
     ensures distinct { OnOk result ((are_distinct (map (λ a. string_bytes a.0) always.now) && are_distinct (map (λ t. string_bytes t.name) txs.now)) ≡ true) }
     ensures name { IfErr result (λ e. e ≡ BuildFault.Name → (are_distinct (map (λ a. string_bytes a.0) always.now) && are_distinct (map (λ t. string_bytes t.name) txs.now)) ≡ false) }
     ensures limit { IfErr result (λ e. e ≢ BuildFault.Limit) }
     ensures broken { IfErr result (λ e. e ≢ BuildFault.Broken) }
 {
-    let always_names = condition_names(alloc, always)?;
-    let tx_names = transaction_names(alloc, txs)?;
-    Ok((always_names, tx_names))
+    let always_places = condition_places(alloc, always)?;
+    let tx_places = transaction_places(alloc, txs)?;
+    Ok((always_places, tx_places))
 }
 
-/// The names of the standing conditions, if they are distinct.
-fn condition_names(alloc: Global, always: &[(String, Cond)]) -> Result<IndexSet<String>, BuildFault>
-    ensures ok { IfOk result (λ s. map string_bytes s.keys ≡ map (λ a. string_bytes a.0) always.now) }
+/// Where the names of the standing conditions stand, if they are distinct.
+fn condition_places(
+    alloc: Global,
+    always: &[(String, Cond)],
+) -> Result<HashMap<String, usize>, BuildFault>
+    ensures ok { IfOk result (λ places. TellsPlaces places (map (λ a. string_bytes a.0) always.now)) }
     ensures distinct { OnOk result (are_distinct (map (λ a. string_bytes a.0) always.now) ≡ true) }
     ensures name { IfErr result (λ e. e ≡ BuildFault.Name → are_distinct (map (λ a. string_bytes a.0) always.now) ≡ false) }
     ensures limit { IfErr result (λ e. e ≢ BuildFault.Limit) }
     ensures broken { IfErr result (λ e. e ≢ BuildFault.Broken) }
 {
     let texts = always_names(alloc, always)?;
-    name_set(alloc, texts)
+    places_of(alloc, texts)
 }
 
-/// The names of the transactions, if they are distinct.
-fn transaction_names(alloc: Global, txs: &[Tx]) -> Result<IndexSet<String>, BuildFault>
-    ensures ok { IfOk result (λ s. map string_bytes s.keys ≡ map (λ t. string_bytes t.name) txs.now) }
+/// Where the names of the transactions stand, if they are distinct.
+fn transaction_places(alloc: Global, txs: &[Tx]) -> Result<HashMap<String, usize>, BuildFault>
+    ensures ok { IfOk result (λ places. TellsPlaces places (map (λ t. string_bytes t.name) txs.now)) }
     ensures distinct { OnOk result (are_distinct (map (λ t. string_bytes t.name) txs.now) ≡ true) }
     ensures name { IfErr result (λ e. e ≡ BuildFault.Name → are_distinct (map (λ t. string_bytes t.name) txs.now) ≡ false) }
     ensures limit { IfErr result (λ e. e ≢ BuildFault.Limit) }
     ensures broken { IfErr result (λ e. e ≢ BuildFault.Broken) }
 {
     let texts = tx_names(alloc, txs)?;
-    name_set(alloc, texts)
+    places_of(alloc, texts)
 }
 
 /// The initial values of the variables.
@@ -323,6 +324,17 @@ fn variable_texts(alloc: Global, vars: Vec<(String, i64)>) -> Result<Vec<String>
         names.push(name)?;
     }
     Ok(names)
+}
+
+/// Copies of the names.
+fn copied(alloc: Global, names: &[String]) -> Result<Vec<String>, AllocError>
+    ensures { IfOk result (λ copies. map string_bytes copies.items ≡ map string_bytes names.now) }
+{
+    let mut copies = Vec::with_capacity(alloc, names.len())?;
+    for name in names {
+        copies.push(name.clone()?)?;
+    }
+    Ok(copies)
 }
 
 /// The names of the standing conditions.

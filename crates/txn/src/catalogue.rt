@@ -1,6 +1,7 @@
 //! The catalogue: what a file declares.
 
-ghost use Rattle.std.specs.Prelude.{◌≡◌, ◌<◌, ◌≤◌, ◌+◌, ◌^◌, ℕ, All, List, length, map, slice_get, string_bytes, bytes_eq, position, Some, IfErr, true, false, IfOk, OnOk, IsTrue, ◌↔◌};
+ghost use Rattle.std.specs.Prelude.{◌≡◌, ◌<◌, ◌≤◌, ◌+◌, ◌^◌, ℕ, All, List, length, map, slice_get, Some, IfSome, IfErr, true, false, IfOk, OnOk, IsTrue, ◌↔◌};
+ghost use Rattle.std.specs.HashMap.{get_by_text};
 ghost use Rattle.txn_programs.specs.Fused.{own_code, common_code};
 ghost use Rattle.txn_programs.specs.Names.{names_hold};
 ghost use Rattle.txn_programs.specs.Limits.{limits_hold, most_variables};
@@ -14,8 +15,8 @@ ghost use Rattle.txn.specs.Grown.{grown, SameButRuns};
 ghost use Rattle.txn.specs.Ids.{ids_hold};
 
 use crate::build::{BuildFault, Copies, ids_known, judged, work_out};
-use indexmap::IndexSet;
 use std::alloc::{AllocError, Global};
+use std::collections::HashMap;
 use std::marker::Model;
 use txn_copies::copy::{always_of, runs_with, transactions_of, variables_of};
 use txn_copies::same::{same_always, same_names, same_runs, same_transactions, same_values};
@@ -25,14 +26,16 @@ use txn_programs::{AlwaysId, Cond, Memory, Op, TaskId, Tx, TxId, VarId};
 /// say, as a `Listing`. In every catalogue names and ids hold, and all limits, and each condition is
 /// true of the initial values. It keeps the flat code of each transaction, and once that of the
 /// conditions: the listing determines them. They are let go before the trees: blocks as large as
-/// these make the C library join all small ones that lie free, one by one.
+/// these make the C library join all small ones that lie free, one by one. Beside the names it keeps
+/// where each stands, so that it is found at once.
 #[derive(Drop)]
 pub struct Catalogue {
-    names: IndexSet<String>,
+    names: Vec<String>,
+    places: HashMap<String, usize>,
     initial: Vec<i64>,
     always: Vec<(String, Cond)>,
-    always_names: IndexSet<String>,
-    tx_names: IndexSet<String>,
+    always_places: HashMap<String, usize>,
+    tx_places: HashMap<String, usize>,
     codes: Vec<Vec<Op>>,
     ending: Vec<Op>,
     txs: Vec<Tx>,
@@ -116,10 +119,11 @@ impl Catalogue {
         let derived = work_out(alloc, &always, &txs, &runs)?;
         Ok(Catalogue {
             names: declared.names,
+            places: declared.places,
             initial: declared.initial,
             always,
-            always_names: declared.always_names,
-            tx_names: declared.tx_names,
+            always_places: declared.always_places,
+            tx_places: declared.tx_places,
             txs,
             codes: derived.codes,
             ending: derived.ending,
@@ -154,7 +158,7 @@ impl Catalogue {
     pub fn same_but_runs(&self, other: &Catalogue) -> bool
         ensures { IsTrue result ↔ SameButRuns self.now other.now }
     {
-        same_names(self.names.as_slice(), other.names.as_slice())
+        same_names(&self.names, &other.names)
             && same_values(self.initial(), other.initial())
             && same_always(&self.always, &other.always)
             && same_transactions(&self.txs, &other.txs)
@@ -184,7 +188,7 @@ impl Catalogue {
         ensures { IfOk result (λ c. listing_of c.vars.items c.always.items c.txs.items c.runs.items ≡ grown self.now more.now) }
     {
         Ok(Copies {
-            vars: variables_of(alloc, self.names.as_slice(), self.initial())?,
+            vars: variables_of(alloc, &self.names, self.initial())?,
             always: always_of(alloc, &self.always)?,
             txs: transactions_of(alloc, &self.txs)?,
             runs: runs_with(alloc, self.runs(), more)?,
@@ -275,17 +279,14 @@ impl Catalogue {
         requires { id.0 < length self.now.names }
         ensures { slice_get self.now.names id.0 ≡ Some result.now }
     {
-        match self.names.get_index(id.0 as usize) {
-            Some(name) => name.as_str(),
-            None => unreachable!(),
-        }
+        self.names[id.0 as usize].as_str()
     }
 
     /// The variable of a name.
     pub fn var_id(&self, name: &str) -> Option<VarId>
         ensures { result ≡ variable_named self.now name.now }
     {
-        match place_of(&self.names, name) {
+        match place_of(&self.places, name) {
             Some(place) => Some(VarId(place)),
             None => None,
         }
@@ -303,7 +304,7 @@ impl Catalogue {
     pub fn always_id(&self, name: &str) -> Option<AlwaysId>
         ensures { result ≡ condition_named self.now name.now }
     {
-        match place_of(&self.always_names, name) {
+        match place_of(&self.always_places, name) {
             Some(place) => Some(AlwaysId(place)),
             None => None,
         }
@@ -321,7 +322,7 @@ impl Catalogue {
     pub fn tx_id(&self, name: &str) -> Option<TxId>
         ensures { result ≡ transaction_named self.now name.now }
     {
-        match place_of(&self.tx_names, name) {
+        match place_of(&self.tx_places, name) {
             Some(place) => Some(TxId(place)),
             None => None,
         }
@@ -329,13 +330,12 @@ impl Catalogue {
 }
 
 /// The place of a name among names of which there are few.
-#[tactic(auto, using(txn_programs::proofs::Lawful::place_at))]
-fn place_of(names: &IndexSet<String>, name: &str) -> Option<u32>
-    requires { length names.now.keys ≤ most_variables }
-    ensures { result ≡ position (bytes_eq name.now) (map string_bytes names.now.keys) }
+fn place_of(places: &HashMap<String, usize>, name: &str) -> Option<u32>
+    requires { IfSome (get_by_text places.now name.now) (λ place. place ≤ most_variables) }
+    ensures { result ≡ get_by_text places.now name.now }
 {
-    match names.get_index_of(name) {
-        Some(place) => Some(place as u32),
+    match places.get(name) {
+        Some(place) => Some(*place as u32),
         None => None,
     }
 }
