@@ -12,8 +12,8 @@ open-requires-clause-words c =
     let values : c.extend_from_slice.new.self.items ≡ m = search rules in let same : c.deref.result.now ≡ words = search rules in
     subst (λ (t : List ℕ × List ℤ). AreFirstWords t.1 t.0 (length t.1)) (λ i. (sym same i, sym values i)) c.in_ok-words.ensures
 
-pub invariant_of-publisher : goal.invariant_of-publisher
-invariant_of-publisher c =
+pub invariant_of-writer : goal.invariant_of-writer
+invariant_of-writer c =
     let m = c.args.values.now in let values : c.extend_from_slice.new.self.items ≡ m = search rules in
     let at_start = c.in_ok-board.ensures.seat.1 in
     let is : c.enroll.new.seat.me.0 ≡ publishing (opened m) = c.in_ok-passes.ensures.seat.1 ∙ (at_start ∙ ap (λ (l : List ℤ). publishing (opened l)) values) in
