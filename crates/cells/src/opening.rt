@@ -1,6 +1,7 @@
 //! How cells are made.
 ghost use Rattle.std.specs.Prelude.{◌≡◌, ◌+◌, ◌*◌, ◌<◌, ◌≤◌, [], ◌∷◌, true, false, length, replicate, IfOk};
-ghost use Rattle.cells.specs.Sight.{commit_of};
+ghost use Rattle.txn_words.specs.Stores.{opened};
+ghost use Rattle.cells.specs.Sight.{publishing, commit_of};
 ghost use Rattle.cells.specs.Passing.{new_pass};
 ghost use Rattle.cells.specs.Private.{AreFirstWords, IsSeated, IsSameSeat};
 
@@ -36,13 +37,9 @@ impl Cells {
         ensures passes { IfOk result (λ r.
             r.2.items ≡ replicate readers (new_pass r.0.table (values.now ∷ []))) }
     {
-        let words = first_words(alloc, values)?;
+        let (cells, mut seat, _) = lay(alloc, values, true)?;
         let versions = vec![in alloc; 0; values.len()]?;
-        let mut first = Vec::with_capacity(alloc, values.len())?;
-        first.extend_from_slice(values)?;
-        let (board, mut seat) = Board::open(alloc, &words, &first, true)?;
-        let passes = enroll(alloc, &board, &mut seat, readers)?;
-        let cells = Cells { board };
+        let passes = enroll(alloc, &cells.board, &mut seat, readers)?;
         let writer = Writer {
             seat,
             number: 0,
@@ -65,14 +62,29 @@ impl Cells {
         ensures publisher { IfOk result (λ r.
             r.1 ≡ record { cells = r.0; history = values.now ∷ []; stores = 0 }) }
     {
-        let words = first_words(alloc, values)?;
-        let mut first = Vec::with_capacity(alloc, values.len())?;
-        first.extend_from_slice(values)?;
-        let (board, _) = Board::open(alloc, &words, &first, false)?;
-        let cells = Cells { board };
+        let (cells, _, first) = lay(alloc, values, false)?;
         let how = How::Keeps(Keeper::open(&cells, first));
         Ok((cells, Publisher { how }))
     }
+}
+
+// The cells of these values, which are read or not, with the publisher's seat, and a copy of the
+// values.
+fn lay(
+    alloc: Global,
+    values: &[i64],
+    are_read: bool,
+) -> Result<(Cells, Seat<(), Sight>, Vec<i64>), AllocError>
+    requires { length values.now ≤ 256 }
+    ensures cells { IfOk result (λ r. (r.0.variables ≡ length values.now) × (r.0.are_read ≡ are_read)) }
+    ensures seat { IfOk result (λ r. (r.1.table_id ≡ r.0.table) × (r.1.me.0 ≡ publishing (opened values.now))) }
+    ensures values { IfOk result (λ r. r.2.items ≡ values.now) }
+{
+    let words = first_words(alloc, values)?;
+    let mut first = Vec::with_capacity(alloc, values.len())?;
+    first.extend_from_slice(values)?;
+    let (board, seat) = Board::open(alloc, &words, &first, are_read)?;
+    Ok((Cells { board }, seat, first))
 }
 
 // The words of these values: the clock and each version are 0.
