@@ -122,7 +122,7 @@ fn runs_both(rt: &(impl Abort + Eprint), alloc: Global, book: &mut Book<'_>, cat
 fn over(rt: &(impl Abort + Eprint), alloc: Global, catalogue: &Catalogue)
     requires { conditions catalogue.now ≡ sum_stays ∷ [] }
 {
-    let Ok((cells, publisher, _)) = Cells::open(alloc, catalogue.initial(), 0) else {
+    let Ok((cells, publisher)) = Cells::unread(alloc, catalogue.initial()) else {
         panic!(rt; "no cells")
     };
     match Book::open(alloc, catalogue, &cells, publisher) {

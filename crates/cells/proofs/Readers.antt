@@ -91,7 +91,7 @@ still_reading d x rv is e l = subst (λ (d : Sight). (d ≡ reading (record_of d
 -- the cells that a seat is of, over a step that leaves the record y, at the same moment
 pub cells_stay : (p q : CellsSeat) (y : PassRecord) → q.table_id ≡ p.table_id → q.me.0 ≡ reading y → y.seen ≡ (record_of p.me.0).seen → y.rv ≡ (record_of p.me.0).rv → reader_cells q ≡ reader_cells p
 cells_stay p q y table is seen rv =
-    λ i. record { table = table i; variables = (ap (λ (d : Sight). length (state_of (record_of d).seen (record_of d).rv)) is ∙ (λ j. length (state_of (seen j) (rv j)))) i }
+    λ i. record { table = table i; variables = (ap (λ (d : Sight). length (state_of (record_of d).seen (record_of d).rv)) is ∙ (λ j. length (state_of (seen j) (rv j)))) i; are_read = true }
 
 -- a seat with the record y is a reader's
 pub still_reader : (d : Sight) (y : PassRecord) → d ≡ reading y → d ≡ reading (record_of d)
@@ -101,7 +101,7 @@ pub reads_by : (p : Passing) (z z' : TableId) (b b' : Bool) (x y : PassRecord) (
     → y.seen ≡ x.seen → y.clock_loads ≡ x.clock_loads → y.word_loads ≡ x.word_loads + length y.loads → y.rv ≡ x.rv → y.variable ≡ v → length y.loads ≤ 3 → ReadsBy p (passing z' b' (record_of d)) v
 reads_by p z z' b b' x y d v view table is seen clock_loads word_loads rv variable few =
     subst (λ (t : Passing × Sight). ReadsBy t.0 (passing z' b' (record_of t.1)) v) (λ i. (view i, sym is i)) record {
-      cells = λ i. record { table = table i; variables = length (state_of (seen i) (rv i)) };
+      cells = λ i. record { table = table i; variables = length (state_of (seen i) (rv i)); are_read = true };
       seen = seen;
       clock_loads = clock_loads;
       word_loads = word_loads;
@@ -114,7 +114,7 @@ pub begins_by : (p : Passing) (z z' : TableId) (b : Bool) (x : PassRecord) (d : 
     → length (last_state h) ≡ length (state_of x.seen x.rv) → BeginsBy p (passing z' true (record_of d))
 begins_by p z z' b x d h n view table is more count size = let last : length h - 1 ≡ n = omega arith in
     subst (λ (t : Passing × Sight). BeginsBy t.0 (passing z' true (record_of t.1))) (λ i. (view i, sym is i)) record {
-      cells = λ i. record { table = table i; variables = (ap (λ (k : ℕ). length (state_of h k)) (sym last) ∙ size) i };
+      cells = λ i. record { table = table i; variables = (ap (λ (k : ℕ). length (state_of h k)) (sym last) ∙ size) i; are_read = true };
       is_open = refl;
       seen = more;
       clock_loads = refl;
@@ -126,7 +126,7 @@ pub meets_by : (p : Passing) (z z' : TableId) (b : Bool) (x : PassRecord) (d : S
     → MeetsBy p (passing z' false (record_of d)) h
 meets_by p z z' b x d h view table is more began =
     subst (λ (t : Passing × Sight). MeetsBy t.0 (passing z' false (record_of t.1)) h) (λ i. (view i, sym is i)) record {
-      cells = λ i. record { table = table i; variables = length (seen_state h x.seen x.rv more began i) };
+      cells = λ i. record { table = table i; variables = length (seen_state h x.seen x.rv more began i); are_read = true };
       is_closed = refl;
       seen = refl;
       extends = more;

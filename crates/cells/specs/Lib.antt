@@ -3,6 +3,8 @@ pub mod Rule
 pub mod Steps
 pub mod Cells
 pub mod Publishing
+pub mod Past
+pub mod Publishers
 pub mod Passing
 pub mod Answers
 pub mod Private

@@ -22,7 +22,7 @@ pub record Passing : Type 0 where
 
 abbrev pub passing : TableId → Bool → PassRecord → Passing
 passing table b r = record {
-  cells = record { table = table; variables = length (state_of r.seen r.rv) };
+  cells = record { table = table; variables = length (state_of r.seen r.rv); are_read = true };
   open_now = b;
   seen = r.seen;
   clock_loads = r.clock_loads;

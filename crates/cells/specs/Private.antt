@@ -26,7 +26,7 @@ IsReader p = p.me.0 ≡ reading (record_of p.me.0)
 
 -- the cells that a reader's seat is of
 abbrev pub reader_cells : CellsSeat → CellsId
-reader_cells p = record { table = p.table_id; variables = length (state_of (record_of p.me.0).seen (record_of p.me.0).rv) }
+reader_cells p = record { table = p.table_id; variables = length (state_of (record_of p.me.0).seen (record_of p.me.0).rv); are_read = true }
 
 -- a reader's seat, at a clock load that gave rv
 abbrev pub IsReading : CellsSeat → ℕ → Type 0

@@ -1,5 +1,5 @@
 -- What a caller sees of the publisher: its cells, and the history of the states that it published.
-use Rattle.std.specs.Prelude.{◌≡◌, ℕ, ◌+◌, ◌≤◌, false, List, length, slice_index, slice_index_or, ℤ}
+use Rattle.std.specs.Prelude.{◌≡◌, ℕ, ◌+◌, ◌*◌, ◌≤◌, false, true, if◌then◌else◌, List, length, slice_index, slice_index_or, ℤ}
 use Rattle.atomic_table.specs.Seated.{TableId}
 use Rattle.txn_words.specs.Words.{Commit, last_state}
 use Rattle.cells.specs.Cells.{CellsId}
@@ -11,8 +11,12 @@ pub record Publishing : Type 0 where
   -- how many words the publisher has stored
   pub stores : ℕ
 
+-- how many words a publish of so many changes stores: none where nobody reads
+abbrev pub stores_of : CellsId → ℕ → ℕ
+stores_of z changes = if z.are_read then 3 * changes + 1 else 0
+
 abbrev pub published : TableId → ℕ → Commit → Publishing
-published table variables c = record { cells = record { table = table; variables = variables }; history = c.history; stores = c.stores }
+published table variables c = record { cells = record { table = table; variables = variables; are_read = true }; history = c.history; stores = c.stores }
 
 -- No commit is pending: no version word is locked, the value words are the last state, `number` is its number, and
 -- `versions` are the numbers of the last changes.
@@ -24,3 +28,9 @@ pub record IsResting (c : Commit) (number : ℕ) (versions : List ℕ) : Type 0 
   pub in_order : c.late ≡ false
   pub settled : (c.storing ≡ false) × (c.values ≡ last_state c.history)
   pub sized : (length c.versions ≡ length c.values) × (length c.locked ≡ length c.values)
+
+-- Nobody reads the cells z. `values` are the last state of the history, and `number` is its number.
+pub record IsUnread (z : CellsId) (history : List (List ℤ)) (number : ℕ) (values : List ℤ) : Type 0 where
+  pub unread : z.are_read ≡ false
+  pub counted : number + 1 ≡ length history
+  pub settled : values ≡ last_state history

@@ -5,7 +5,7 @@
 //! The kinds of step, in the one order in which they are named everywhere: 1 `LoadClock`,
 //! 2 `LoadVersion`, 3 `LoadValue`, 4 `LoadVersionAgain`; 5 `LockVersion`, 6 `StoreValue`,
 //! 7 `StoreClock`, 8 `ReleaseVersion`.
-ghost use Rattle.std.specs.Prelude.{◌≡◌, ◌+◌, ◌^◌, ◌<◌, ◌≤◌, length, slice_index, IfOk};
+ghost use Rattle.std.specs.Prelude.{◌≡◌, ◌+◌, ◌^◌, ◌<◌, ◌≤◌, true, length, slice_index, IfOk};
 ghost use Rattle.txn_words.specs.Words.{StartsWith};
 ghost use Rattle.txn_words.specs.Stores.{opened, MayLock, MayStore, MayRelease, after_lock, after_value, after_clock, after_release};
 ghost use Rattle.txn_words.specs.Loads.{enrolled, sampled, loaded, met};
@@ -28,6 +28,8 @@ use std::snapshot::Snapshot;
 pub(crate) struct Board {
     table: Table<(), Sight, Snapshot<Vec<i64>>, WordsRule, Global>,
     variables: usize,
+    /// Whether readers may have seats.
+    are_read: bool,
 }
 
 impl Model for Board {
@@ -36,28 +38,37 @@ impl Model for Board {
 
     ghost Value = { CellsId };
 
-    ghost view = { λ b. record { table = b.table.shared.table_id; variables = b.variables } };
+    ghost view = { λ b. record { table = b.table.shared.table_id; variables = b.variables; are_read = b.are_read } };
 
     ghost invariant = { λ b.
         (b.table.shared.table_id.words ≡ 2 * b.variables + 1) × (b.variables ≤ 256) };
 }
 
 impl Board {
-    /// The words of these values, and the publisher's seat.
+    /// The words of these values, that readers may have seats at or nobody, and the publisher's seat.
     pub(crate) fn open(
         alloc: Global,
         words: &[u64],
         values: &Vec<i64>,
+        are_read: bool,
     ) -> Result<(Board, Seat<(), Sight>), AllocError>
         requires words { AreFirstWords values.now.items words.now (length values.now.items) }
         requires variables { length values.now.items ≤ 256 }
         ensures board { IfOk result (λ b. b.0.variables ≡ length values.now.items) }
+        ensures read { IfOk result (λ b. b.0.are_read ≡ are_read) }
         ensures seat { IfOk result (λ b. (b.1.table_id ≡ b.0.table)
             × (b.1.me.0 ≡ publishing (opened values.now.items))) }
     {
         let (table, seat) = Table::of_words(alloc, words, &Snapshot::of(values))?;
         let variables = values.len();
-        Ok((Board { table, variables }, seat))
+        Ok((
+            Board {
+                table,
+                variables,
+                are_read,
+            },
+            seat,
+        ))
     }
 
     /// 1. A reader loads the clock, as it begins.
@@ -167,6 +178,7 @@ impl Board {
     /// once for it, and throws away what that gave.
     pub(crate) fn enroll(&self, publisher: &mut Seat<(), Sight>) -> Seat<(), Sight>
         requires own { publisher.old.table_id ≡ self.now.table }
+        requires read { self.now.are_read ≡ true }
         requires publisher { IsPublisher publisher.old }
         ensures publisher { IsSameSeat publisher.old publisher.new
             × (publisher.new.me.0 ≡ publisher.old.me.0) }

@@ -4,12 +4,15 @@
 
 mod board;
 mod cells;
+mod keeper;
 mod opening;
 mod pass;
+mod past;
 mod publisher;
 mod rule;
 mod sight;
 mod stores;
+mod writer;
 
 pub use cells::Cells;
 pub use pass::{Extend, Pass, Read};

@@ -1,14 +1,17 @@
 //! How cells are made.
-ghost use Rattle.std.specs.Prelude.{◌≡◌, ◌+◌, ◌*◌, ◌<◌, ◌≤◌, [], ◌∷◌, length, replicate, IfOk};
-ghost use Rattle.cells.specs.Sight.{commit_of};
+ghost use Rattle.std.specs.Prelude.{◌≡◌, ◌+◌, ◌*◌, ◌<◌, ◌≤◌, [], ◌∷◌, true, false, length, replicate, IfOk};
+ghost use Rattle.txn_words.specs.Stores.{opened};
+ghost use Rattle.cells.specs.Sight.{publishing, commit_of};
 ghost use Rattle.cells.specs.Passing.{new_pass};
 ghost use Rattle.cells.specs.Private.{AreFirstWords, IsSeated, IsSameSeat};
 
 use crate::board::Board;
 use crate::cells::Cells;
+use crate::keeper::Keeper;
 use crate::pass::Pass;
-use crate::publisher::Publisher;
+use crate::publisher::{How, Publisher};
 use crate::sight::Sight;
+use crate::writer::Writer;
 use atomic_table::Seat;
 use std::alloc::{AllocError, Global};
 use txn_programs::Memory;
@@ -18,8 +21,8 @@ impl Cells {
     /// passes.
     ///
     /// The history has one state, these values, and its number is 0. Each pass was told of that
-    /// history, has loaded nothing, and is closed. This is the only call of the crate that takes
-    /// memory: `Err` says that a growth was refused, and leaves nothing behind.
+    /// history, has loaded nothing, and is closed. This and `unread` are the only calls of the crate
+    /// that take memory: `Err` says that a growth was refused, and leaves nothing behind.
     pub fn open(
         alloc: Global,
         values: &[i64],
@@ -28,25 +31,60 @@ impl Cells {
         requires variables { length values.now ≤ 256 }
         requires readers { readers ≤ 32 }
         ensures cells { IfOk result (λ r. r.0.variables ≡ length values.now) }
+        ensures read { IfOk result (λ r. r.0.are_read ≡ true) }
         ensures publisher { IfOk result (λ r.
             r.1 ≡ record { cells = r.0; history = values.now ∷ []; stores = 0 }) }
         ensures passes { IfOk result (λ r.
             r.2.items ≡ replicate readers (new_pass r.0.table (values.now ∷ []))) }
     {
-        let words = first_words(alloc, values)?;
+        let (cells, mut seat, _) = lay(alloc, values, true)?;
         let versions = vec![in alloc; 0; values.len()]?;
-        let mut first = Vec::with_capacity(alloc, values.len())?;
-        first.extend_from_slice(values)?;
-        let (board, mut seat) = Board::open(alloc, &words, &first)?;
-        let passes = enroll(alloc, &board, &mut seat, readers)?;
-        let cells = Cells { board };
-        let publisher = Publisher {
+        let passes = enroll(alloc, &cells.board, &mut seat, readers)?;
+        let writer = Writer {
             seat,
             number: 0,
             versions,
         };
-        Ok((cells, publisher, passes))
+        let how = How::Stores(writer);
+        Ok((cells, Publisher { how }, passes))
     }
+
+    /// Makes cells that nobody reads, whose variables have these values, and the one publisher of
+    /// them.
+    ///
+    /// There is no pass of them, so nobody can tell how a publish is kept: it stores no word. The
+    /// history has one state, these values, and its number is 0. `Err` says that a growth was
+    /// refused, and leaves nothing behind.
+    pub fn unread(alloc: Global, values: &[i64]) -> Result<(Cells, Publisher), Memory>
+        requires variables { length values.now ≤ 256 }
+        ensures cells { IfOk result (λ r. r.0.variables ≡ length values.now) }
+        ensures unread { IfOk result (λ r. r.0.are_read ≡ false) }
+        ensures publisher { IfOk result (λ r.
+            r.1 ≡ record { cells = r.0; history = values.now ∷ []; stores = 0 }) }
+    {
+        let (cells, _, first) = lay(alloc, values, false)?;
+        let how = How::Keeps(Keeper::open(&cells, first));
+        Ok((cells, Publisher { how }))
+    }
+}
+
+// The cells of these values, which are read or not, with the publisher's seat, and a copy of the
+// values.
+fn lay(
+    alloc: Global,
+    values: &[i64],
+    are_read: bool,
+) -> Result<(Cells, Seat<(), Sight>, Vec<i64>), AllocError>
+    requires { length values.now ≤ 256 }
+    ensures cells { IfOk result (λ r. (r.0.variables ≡ length values.now) × (r.0.are_read ≡ are_read)) }
+    ensures seat { IfOk result (λ r. (r.1.table_id ≡ r.0.table) × (r.1.me.0 ≡ publishing (opened values.now))) }
+    ensures values { IfOk result (λ r. r.2.items ≡ values.now) }
+{
+    let words = first_words(alloc, values)?;
+    let mut first = Vec::with_capacity(alloc, values.len())?;
+    first.extend_from_slice(values)?;
+    let (board, seat) = Board::open(alloc, &words, &first, are_read)?;
+    Ok((Cells { board }, seat, first))
 }
 
 // The words of these values: the clock and each version are 0.
@@ -71,6 +109,7 @@ fn enroll(
     readers: usize,
 ) -> Result<Vec<Pass>, AllocError>
     requires table { IsSeated seat.old board.now.table }
+    requires read { board.now.are_read ≡ true }
     requires history { 0 < length (commit_of seat.old.me.0).history }
     ensures seat { IsSameSeat seat.old seat.new × (seat.new.me.0 ≡ seat.old.me.0) }
     ensures passes { IfOk result (λ v. v.items
@@ -85,6 +124,7 @@ fn enroll(
 
 fn enroll_one(board: &Board, seat: &mut Seat<(), Sight>) -> Pass
     requires table { IsSeated seat.old board.now.table }
+    requires read { board.now.are_read ≡ true }
     requires history { 0 < length (commit_of seat.old.me.0).history }
     ensures seat { IsSameSeat seat.old seat.new × (seat.new.me.0 ≡ seat.old.me.0) }
     ensures pass { result ≡ new_pass board.now.table (commit_of seat.old.me.0).history }

@@ -66,6 +66,13 @@ impl Pass {
         let _ = &self.ready;
     }
 
+    /// Its cells are read. It does nothing: its contract is the law.
+    pub(crate) fn read_law(&self)
+        ensures { self.now.cells.are_read ≡ true }
+    {
+        let _ = &self.ready;
+    }
+
     /// Whether the pass may read.
     pub fn is_open(&self) -> bool
         ensures { result ≡ self.now.open_now }

@@ -3,12 +3,12 @@ ghost use Rattle.std.specs.Prelude.{◌≡◌, ◌+◌, ◌*◌, ◌^◌, ◌≤
 ghost use Rattle.txn_words.specs.Words.{last_state};
 ghost use Rattle.txn_words.specs.Stores.{AreChanges, with_changes};
 ghost use Rattle.cells.specs.Passing.{MeetsBy};
+ghost use Rattle.cells.specs.Publishing.{stores_of};
 
 use crate::cells::Cells;
+use crate::keeper::Keeper;
 use crate::pass::Pass;
-use crate::sight::Sight;
-use crate::stores::{lock_all, release_all, store_all};
-use atomic_table::Seat;
+use crate::writer::Writer;
 use std::marker::Model;
 use txn_programs::VarId;
 
@@ -18,24 +18,25 @@ use txn_programs::VarId;
 /// many words it has stored.
 #[derive(Drop)]
 pub struct Publisher {
-    pub(crate) seat: Seat<(), Sight>,
-    pub(crate) number: u64,
-    pub(crate) versions: Vec<u64>,
+    pub(crate) how: How,
+}
+
+/// How it publishes.
+#[derive(Drop)]
+pub(crate) enum How {
+    /// By stores in words that readers load.
+    Stores(Writer),
+    /// By no store, since nobody reads.
+    Keeps(Keeper),
 }
 
 impl Model for Publisher {
-    ghost use Rattle.std.specs.Prelude.{◌≡◌, length};
-    ghost use Rattle.cells.specs.Sight.{publishing, commit_of};
-    ghost use Rattle.cells.specs.Publishing.{Publishing, published, IsResting};
+    ghost use Rattle.cells.specs.Publishing.{Publishing};
+    ghost use Rattle.cells.specs.Publishers.{seen_of};
 
     ghost Value = { Publishing };
 
-    ghost view = { λ p.
-        published p.seat.table_id (length p.versions.items) (commit_of p.seat.me.0) };
-
-    ghost invariant = { λ p.
-        (p.seat.me.0 ≡ publishing (commit_of p.seat.me.0))
-        × IsResting (commit_of p.seat.me.0) p.number p.versions.items };
+    ghost view = { λ p. seen_of p.how };
 }
 
 impl Publisher {
@@ -43,11 +44,14 @@ impl Publisher {
     pub fn number(&self) -> u64
         ensures { result + 1 ≡ length self.now.history }
     {
-        self.number
+        match &self.how {
+            How::Stores(writer) => writer.number(),
+            How::Keeps(keeper) => keeper.number(),
+        }
     }
 
     /// Adds one state to the history: the last one with these changes, of which there may be none.
-    /// It always succeeds, by `3k + 1` stores for `k` changes.
+    /// It always succeeds, by `3k + 1` stores for `k` changes, and by none where nobody reads.
     ///
     /// The variables have to exist and to ascend, each new value has to differ from the present
     /// one, and fewer than 2^62 states may have been published before. The publisher has to be that
@@ -59,15 +63,13 @@ impl Publisher {
         ensures cells { self.new.cells ≡ self.old.cells }
         ensures history { self.new.history
             ≡ self.old.history ++ with_changes (last_state self.old.history) changes.now ∷ [] }
-        ensures stores { self.new.stores ≡ self.old.stores + 3 * length changes.now + 1 }
+        ensures stores { self.new.stores
+            ≡ self.old.stores + stores_of self.old.cells (length changes.now) }
     {
-        let board = &cells.board;
-        let number = self.number + 1;
-        lock_all(board, &mut self.seat, &self.versions, changes);
-        store_all(board, &mut self.seat, changes);
-        board.store_clock(&mut self.seat, number);
-        release_all(board, &mut self.seat, &mut self.versions, changes, number);
-        self.number = number;
+        match &mut self.how {
+            How::Stores(writer) => writer.publish(cells, changes),
+            How::Keeps(keeper) => keeper.publish(changes),
+        }
     }
 
     /// Tells a pass the whole history, by one load of the clock, and closes it. A begin after it is
@@ -81,7 +83,14 @@ impl Publisher {
         ensures same { self.new ≡ self.old }
         ensures met { MeetsBy pass.old pass.new self.old.history }
     {
-        cells.board.meet(&mut self.seat, &mut pass.seat);
-        pass.ready = false;
+        match &mut self.how {
+            How::Stores(writer) => writer.meet(cells, pass),
+            How::Keeps(keeper) => {
+                // There is no pass of such cells.
+                keeper.unread_law();
+                pass.read_law();
+                unreachable!()
+            }
+        }
     }
 }

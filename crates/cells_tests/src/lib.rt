@@ -20,4 +20,6 @@ mod observing;
 #[cfg(test)]
 mod parts;
 #[cfg(test)]
+mod unread;
+#[cfg(test)]
 mod uses;

@@ -28,7 +28,7 @@ pub fn witness(alloc: Global, catalogue: &Catalogue, turns: &[TxId]) -> Result<R
     ensures turns { IfOk result (λ r. entered_by (told r).entries ≡ turns.now) }
 {
     catalogue.rules();
-    let (cells, publisher, _passes) = Cells::open(alloc, catalogue.initial(), 0)?;
+    let (cells, publisher) = Cells::unread(alloc, catalogue.initial())?;
     let mut book = Book::open(alloc, catalogue, &cells, publisher)?;
     take_all(&mut book, catalogue.tasks());
     let mut waiting = tasks_by_transaction(alloc, catalogue)?;

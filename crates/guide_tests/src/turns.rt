@@ -5,7 +5,7 @@ use stm_library::{Book, Catalogue, Cells, Memory, Report, Serial, TxId, read_fil
 
 /// Each task has one turn, in order; then the report.
 fn each_in_turn(alloc: Global, catalogue: &Catalogue) -> Result<Report, Memory> {
-    let (cells, publisher, _passes) = Cells::open(alloc, catalogue.initial(), 0)?;
+    let (cells, publisher) = Cells::unread(alloc, catalogue.initial())?;
     let mut book = Book::open(alloc, catalogue, &cells, publisher)?;
     for _turn in 0..1000 {
         let Some(task) = book.take() else {
@@ -27,7 +27,7 @@ fn and_one_more(alloc: Global, catalogue: &Catalogue, tx: TxId) -> Result<Option
     if catalogue.tasks() == 65536 || tx.0 as usize >= catalogue.tx_count() {
         return Ok(None);
     }
-    let (cells, publisher, _passes) = Cells::open(alloc, catalogue.initial(), 0)?;
+    let (cells, publisher) = Cells::unread(alloc, catalogue.initial())?;
     let mut book = Book::open_with_room(alloc, catalogue, &cells, publisher, 1)?;
     book.drain(alloc, 0);
     let _task = book.submit(tx);

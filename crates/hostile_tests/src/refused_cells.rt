@@ -1,6 +1,8 @@
 //! What a refused opening of cells leaves.
 
-use cells::{Cells, Read};
+ghost use Rattle.std.specs.Prelude.{◌≡◌, [], ◌∷◌, pos};
+
+use cells::{Cells, Publisher, Read};
 use std::alloc::Global;
 use txn::VarId;
 
@@ -17,4 +19,26 @@ fn after_a_refused_opening_cells_open(rt: HostRuntime) {
     let first = read(rt.alloc());
     let second = read(rt.alloc());
     assert!(rt; first == Some(Read::Value(5)) || second == Some(Read::Value(5)));
+}
+
+/// Publishes that the variable, which is 5, is 6.
+fn publish(cells: &Cells, publisher: &mut Publisher)
+    requires own { publisher.old.cells ≡ cells.now }
+    requires start { publisher.old.history ≡ (pos 5 ∷ []) ∷ [] }
+{
+    publisher.publish(cells, &[(VarId(0), 6)]);
+}
+
+/// How many states were published to new cells that nobody reads, `None` where the opening is refused.
+fn number(alloc: Global) -> Option<u64> {
+    let (cells, mut publisher) = Cells::unread(alloc, &[5]).ok()?;
+    publish(&cells, &mut publisher);
+    Some(publisher.number())
+}
+
+#[test]
+fn after_a_refused_opening_unread_cells_open(rt: HostRuntime) {
+    let first = number(rt.alloc());
+    let second = number(rt.alloc());
+    assert!(rt; first == Some(1) || second == Some(1));
 }

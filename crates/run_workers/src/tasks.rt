@@ -26,9 +26,9 @@ use txn::{Catalogue, Memory, Report};
 /// the cells. When they have ended, the book gives a turn to what is left, and no task is ready or
 /// running when it reports. Where the gate is open, a task that is short has such a turn too, under
 /// the lock and before any try; and one worker, or any number of them where all tasks are short, would
-/// do just what these turns do, so all is left to them. Each standing condition is true of the values
-/// that it reports. With a checkpoint after each N entries the journal has fewer than N, and the base
-/// is a multiple of N; with none the base is 0.
+/// do just what these turns do, so all is left to them, over cells that nobody reads. Each standing
+/// condition is true of the values that it reports. With a checkpoint after each N entries the journal
+/// has fewer than N, and the base is a multiple of N; with none the base is 0.
 pub fn run_tasks<R: Threads + Wait + Sync, G: Gate>(
     rt: &R,
     alloc: Global,
@@ -41,21 +41,52 @@ pub fn run_tasks<R: Threads + Wait + Sync, G: Gate>(
     ensures upheld { IfOk result (λ r. Upholds catalogue.now (base_of (told r)).state × Upholds catalogue.now (now_of (told r)).state) }
     ensures short { IfOk result (λ r. KeepsShort options.checkpoint (told r)) }
 {
+    let weights = weights_under::<G>(alloc, catalogue, options)?;
+    if G::IS_OPEN && is_drain(&weights, catalogue, options) {
+        let (cells, publisher) = Cells::unread(alloc, catalogue.initial())?;
+        return drain_named::<Brand>(alloc, catalogue, &cells, publisher, options);
+    }
     let (cells, publisher, passes) = Cells::open(
         alloc,
         catalogue.initial(),
         options.workers() as usize,
     )?;
     run_named::<R, G, Brand>(
-        rt, alloc, catalogue, &cells, publisher, passes, options, gate,
+        rt, alloc, catalogue, weights, &cells, publisher, passes, options, gate,
     )
 }
 
-/// Runs the tasks of the catalogue of this name.
+/// Whether workers under an open gate would do just what turns of the lowest ready task do.
+fn is_drain(weights: &[Option<u32>], catalogue: &Catalogue, options: Options) -> bool {
+    options.workers() == 1 || are_short(weights, catalogue.runs())
+}
+
+/// Gives the tasks of the catalogue of this name their turns, with no worker.
+fn drain_named<'b, N: Naming>(
+    alloc: Global,
+    catalogue: &'b Catalogue,
+    cells: &'b Cells,
+    publisher: Publisher,
+    options: Options,
+) -> Result<Report, Memory>
+    requires named { catalogue.now ≡ N.catalogue }
+    requires own { publisher.cells ≡ cells.now }
+    requires unused { publisher.history ≡ catalogue.now.initial ∷ [] }
+    requires every { options.checkpoint ≡ N.every }
+    ensures lawful { IfOk result (λ r. LawfulReport catalogue.now (told r)) }
+    ensures reached { IfOk result (λ r. BaseReached catalogue.now (told r)) }
+    ensures short { IfOk result (λ r. KeepsShort options.checkpoint (told r)) }
+{
+    let named = open::<N>(alloc, catalogue, cells, publisher)?;
+    settle(alloc, options.checkpoint(), named)
+}
+
+/// Runs the tasks of the catalogue of this name by workers, and gives what they leave its turn.
 fn run_named<'b, R: Threads + Wait + Sync, G: Gate, N: Naming>(
     rt: &R,
     alloc: Global,
     catalogue: &'b Catalogue,
+    weights: Vec<Option<u32>>,
     cells: &'b Cells,
     publisher: Publisher,
     passes: Vec<Pass>,
@@ -72,14 +103,10 @@ fn run_named<'b, R: Threads + Wait + Sync, G: Gate, N: Naming>(
     ensures reached { IfOk result (λ r. BaseReached catalogue.now (told r)) }
     ensures short { IfOk result (λ r. KeepsShort options.checkpoint (told r)) }
 {
-    let weights = weights_under::<G>(alloc, catalogue, options)?;
-    let is_drain = options.workers() == 1 || are_short(&weights, catalogue.runs());
     let shared = Mutex::new(open::<N>(alloc, catalogue, cells, publisher)?);
-    if !G::IS_OPEN || !is_drain {
-        run_beside(
-            rt, alloc, catalogue, weights, cells, &shared, passes, options, gate,
-        );
-    }
+    run_beside(
+        rt, alloc, catalogue, weights, cells, &shared, passes, options, gate,
+    );
     settle(alloc, options.checkpoint(), shared.into_inner())
 }
 

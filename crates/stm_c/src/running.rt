@@ -80,7 +80,7 @@ fn run_alone(alloc: Global, catalogue: &Catalogue, checkpoint: u32) -> Result<Re
     ensures reached { IfOk result (λ r. BaseReached catalogue.now (told r)) }
     ensures short { IfOk result (λ r. KeepsShort checkpoint (told r)) }
 {
-    let (cells, publisher, _passes) = Cells::open(alloc, catalogue.initial(), 0)?;
+    let (cells, publisher) = Cells::unread(alloc, catalogue.initial())?;
     let mut book = Book::open(alloc, catalogue, &cells, publisher)?;
     book.law();
     book.drain(alloc, checkpoint);

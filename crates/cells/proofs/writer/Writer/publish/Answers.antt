@@ -1,14 +1,14 @@
-use Rattle.std.proofs.Common.{rules, ◌≡◌, ◌≢◌, ℕ, ◌+◌, ◌-◌, ◌<◌, [], ◌∷◌, ◌++◌, Bool, true, false, List, ℤ, length, get_or, sym, ap, ◌∙◌, subst, arith}
+use Rattle.std.proofs.Common.{rules, ◌≡◌, ◌≢◌, ℕ, ◌+◌, ◌-◌, ◌*◌, ◌<◌, [], ◌∷◌, ◌++◌, Bool, true, false, List, ℤ, length, get_or, sym, ap, ◌∙◌, subst, arith}
 use Rattle.txn_words.specs.Words.{Commit, state_value, state_of, last_state}
 use Rattle.txn_words.specs.Stores.{Change, AreChanges, with_changes, id_of, after_clock}
 use Rattle.cells.specs.Sight.{publishing, commit_of}
 use Rattle.cells.specs.Cells.{CellsId}
-use Rattle.cells.specs.Publishing.{IsResting}
+use Rattle.cells.specs.Publishing.{stores_of, IsResting}
 use Rattle.cells.specs.Private.{numbered_by, all_locked, all_stored, all_released}
 use Rattle.cells.proofs.Changes.{sets_length}
 use Rattle.cells.proofs.Commits.{still_publisher}
 use Rattle.cells.proofs.Publish.{stored, counted, released, inside, each_locked, each_differs, same_size, longer_by_one, rests_again}
-use Rattle.cells.proofs.publisher.Publisher.publish.Goals as goal
+use Rattle.cells.proofs.writer.Writer.publish.Goals as goal
 
 changes_of : (h h' : List (List ℤ)) (cs : List Change) → h ≡ h' → AreChanges (last_state h') cs → AreChanges (last_state h) cs
 changes_of h h' cs e a = subst (λ (z : List (List ℤ)). AreChanges (last_state z) cs) (sym e) a
@@ -153,7 +153,7 @@ returns-clause-cells c =
     let n : ℕ = c.self.inside.number in let vs : List ℕ = c.self.inside.versions.items in let cs : List Change = c.args.changes.now in
     let size : length c.release_all.new.versions.items ≡ length vs = ap length c.release_all.ensures.versions ∙ sets_length (λ (_ : Change). n + 1) vs cs in
     let place = c.release_all.ensures.seat.0 ∙ (c.store_clock.ensures.seat.0 ∙ (c.store_all.ensures.seat.0 ∙ c.lock_all.ensures.seat.0)) in
-    (λ i. record { table = place i; variables = size i }) ∙ ap (λ v. v.cells) c.self.view_is
+    (λ i. record { table = place i; variables = size i; are_read = true }) ∙ ap (λ v. v.cells) c.self.view_is
 
 pub returns-clause-history : goal.returns-clause-history
 returns-clause-history c =
@@ -182,4 +182,5 @@ returns-clause-stores c =
     let e3 : commit_of c.store_clock.new.seat.me.0 ≡ counted c0 cs = ap commit_of is3 in
     let is4 : c.release_all.new.seat.me.0 ≡ publishing (released c0 cs (n + 1)) = c.release_all.ensures.stored ∙ ap (λ (z : Commit). publishing (all_released (n + 1) cs z)) e3 in
     let e4 : commit_of c.release_all.new.seat.me.0 ≡ released c0 cs (n + 1) = ap commit_of is4 in
-    let count = ap (λ (z : Commit). z.stores) e4 in let before : c0.stores ≡ c.args.self.now.stores = ap (λ v. v.stores) c.self.view_is in omega arith
+    let count = ap (λ (z : Commit). z.stores) e4 in let before : c0.stores ≡ c.args.self.now.stores = ap (λ v. v.stores) c.self.view_is in
+    let each : stores_of c.args.self.now.cells (length cs) ≡ 3 * length cs + 1 = ap (λ v. stores_of v.cells (length cs)) (sym c.self.view_is) in omega arith

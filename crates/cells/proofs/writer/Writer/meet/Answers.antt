@@ -7,7 +7,7 @@ use Rattle.cells.specs.Cells.{CellsId}
 use Rattle.cells.specs.Publishing.{published, IsResting}
 use Rattle.cells.specs.Passing.{passing, MeetsBy}
 use Rattle.cells.proofs.Readers.{still_reading, meets_by}
-use Rattle.cells.proofs.publisher.Publisher.meet.Goals as goal
+use Rattle.cells.proofs.writer.Writer.meet.Goals as goal
 
 pub meet-requires-clause-own : goal.meet-requires-clause-own
 meet-requires-clause-own c = (

@@ -1,0 +1,87 @@
+//! What publishes to cells that nobody reads.
+ghost use Rattle.std.specs.Prelude.{◌≡◌, ◌<◌, ◌+◌, ◌^◌, ◌≤◌, [], ◌∷◌, ◌++◌, ℕ, false, length};
+ghost use Rattle.txn_words.specs.Words.{last_state};
+ghost use Rattle.txn_words.specs.Stores.{AreChanges, id_of, with_changes};
+ghost use Rattle.cells.specs.Publishing.{stores_of};
+
+use crate::cells::Cells;
+use crate::past::Past;
+use std::marker::Model;
+use std::snapshot::Snapshot;
+use txn_programs::VarId;
+
+/// The publisher of cells that nobody reads. It keeps the last state, and all others for clauses
+/// alone. It stores no word.
+#[derive(Drop)]
+pub(crate) struct Keeper {
+    cells: Snapshot<Cells>,
+    number: u64,
+    values: Vec<i64>,
+    past: Past,
+}
+
+impl Model for Keeper {
+    ghost use Rattle.cells.specs.Publishing.{Publishing, IsUnread};
+    ghost use Rattle.cells.specs.Past.{states};
+
+    ghost Value = { Publishing };
+
+    ghost view = { λ k. record { cells = k.cells.value; history = states k.past; stores = 0 } };
+
+    ghost invariant = { λ k. IsUnread k.cells.value (states k.past) k.number k.values.items };
+}
+
+impl Keeper {
+    /// The publisher of these cells, to which nothing but these values was published.
+    pub(crate) fn open(cells: &Cells, values: Vec<i64>) -> Keeper
+        requires unread { cells.now.are_read ≡ false }
+        ensures { result ≡ record { cells = cells.now; history = values.items ∷ []; stores = 0 } }
+    {
+        Keeper {
+            cells: Snapshot::of(cells),
+            number: 0,
+            past: Past::first(&values),
+            values,
+        }
+    }
+
+    /// Nobody reads its cells. It does nothing: its contract is the law.
+    pub(crate) fn unread_law(&self)
+        ensures { self.now.cells.are_read ≡ false }
+    {
+        // To look at a field is to be told what the type keeps.
+        let _ = &self.number;
+    }
+
+    /// The number of the last state.
+    pub(crate) fn number(&self) -> u64
+        ensures { result + 1 ≡ length self.now.history }
+    {
+        self.number
+    }
+
+    /// Adds one state to the history, the last one with these changes.
+    pub(crate) fn publish(&mut self, changes: &[(VarId, i64)])
+        requires changes { AreChanges (last_state self.old.history) changes.now }
+        requires room { length self.old.history ≤ 2 ^ 62 }
+        ensures cells { self.new.cells ≡ self.old.cells }
+        ensures history { self.new.history
+            ≡ self.old.history ++ with_changes (last_state self.old.history) changes.now ∷ [] }
+        ensures stores { self.new.stores
+            ≡ self.old.stores + stores_of self.old.cells (length changes.now) }
+    {
+        put(&mut self.values, changes);
+        self.past = self.past.and(&self.values);
+        self.number += 1;
+    }
+}
+
+/// Puts the changes into the values.
+fn put(values: &mut Vec<i64>, changes: &[(VarId, i64)])
+    requires { (i : ℕ) → i < length changes.now → id_of changes.now i < length values.old.items }
+    ensures { values.new.items ≡ with_changes values.old.items changes.now }
+{
+    for change in changes {
+        values[change.0.0 as usize] = change.1;
+    }
+}
