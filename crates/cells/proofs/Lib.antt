@@ -5,3 +5,4 @@ pub mod Changes
 pub mod Publish
 pub mod Starts
 pub mod Meeting
+pub mod Crossing

@@ -3,7 +3,7 @@ pub mod Rule
 pub mod Steps
 pub mod Cells
 pub mod Publishing
-pub mod Past
+pub mod History
 pub mod Publishers
 pub mod Passing
 pub mod Answers

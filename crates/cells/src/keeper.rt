@@ -5,7 +5,7 @@ ghost use Rattle.txn_words.specs.Stores.{AreChanges, id_of, with_changes};
 ghost use Rattle.cells.specs.Publishing.{stores_of};
 
 use crate::cells::Cells;
-use crate::past::Past;
+use crate::history::History;
 use std::marker::Model;
 use std::snapshot::Snapshot;
 use txn_programs::VarId;
@@ -17,18 +17,17 @@ pub(crate) struct Keeper {
     cells: Snapshot<Cells>,
     number: u64,
     values: Vec<i64>,
-    past: Past,
+    history: History,
 }
 
 impl Model for Keeper {
     ghost use Rattle.cells.specs.Publishing.{Publishing, IsUnread};
-    ghost use Rattle.cells.specs.Past.{states};
 
     ghost Value = { Publishing };
 
-    ghost view = { λ k. record { cells = k.cells.value; history = states k.past; stores = 0 } };
+    ghost view = { λ k. record { cells = k.cells.value; history = k.history; stores = 0 } };
 
-    ghost invariant = { λ k. IsUnread k.cells.value (states k.past) k.number k.values.items };
+    ghost invariant = { λ k. IsUnread k.cells.value k.history k.number k.values.items };
 }
 
 impl Keeper {
@@ -40,7 +39,7 @@ impl Keeper {
         Keeper {
             cells: Snapshot::of(cells),
             number: 0,
-            past: Past::first(&values),
+            history: History::open(&values),
             values,
         }
     }
@@ -71,7 +70,7 @@ impl Keeper {
             ≡ self.old.stores + stores_of self.old.cells (length changes.now) }
     {
         put(&mut self.values, changes);
-        self.past = self.past.and(&self.values);
+        self.history.add(&self.values);
         self.number += 1;
     }
 }

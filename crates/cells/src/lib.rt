@@ -4,10 +4,10 @@
 
 mod board;
 mod cells;
+mod history;
 mod keeper;
 mod opening;
 mod pass;
-mod past;
 mod publisher;
 mod rule;
 mod sight;

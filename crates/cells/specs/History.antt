@@ -1,9 +1,9 @@
--- All states that were published where nobody reads.
+-- The history of states that nobody reads.
 use Rattle.std.specs.Prelude.{[], ◌∷◌, ◌++◌, List, ℤ}
-use Rattle.cells.specs.declared.past.Past.{Past}
-use Rattle.cells.specs.declared.past.Past.TheVariants.{First, After'}
+use Rattle.cells.specs.declared.history.Past.{Past}
+use Rattle.cells.specs.declared.history.Past.TheVariants.{First, After'}
 
--- the oldest first
+-- the states that there were, the oldest first
 abbrev pub states : Past → List (List ℤ)
 states (First values) = values.value.items ∷ []
 states (After' marker past values) = states past ++ values.value.items ∷ []

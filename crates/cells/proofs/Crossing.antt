@@ -1,0 +1,16 @@
+-- A publisher may go from one thread to another: a history owns nothing, and all else goes by its fields.
+use denote.Param.Send.{IsSend, sendable}
+use Rattle.std.proofs.Crossing.{crosses}
+use Rattle.cells.specs.contracts.history.History as history
+use Rattle.cells.specs.contracts.keeper.Keeper as keeper
+use Rattle.cells.specs.contracts.publisher.Publisher as publisher
+use Rattle.cells.proofs.writer.Writer.TheSendSync as writer
+
+history_send : IsSend history.the_row
+history_send = search (sendable, crosses) depth 20
+
+keeper_send : IsSend keeper.the_row
+keeper_send = let h = history_send in search (sendable, crosses) depth 40
+
+pub publisher_send : IsSend publisher.the_row
+publisher_send = let k = keeper_send in let w = writer.the_send in search (sendable, crosses) depth 60
