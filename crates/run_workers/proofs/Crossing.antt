@@ -8,6 +8,7 @@ use denote.Param.SendFields.{variants_sync, declared_sync}
 use denote.Hole.FixSend.{fix_sync}
 use denote.Hole.FixLaws.{layer_row}
 use Rattle.std.proofs.Crossing.{crosses, Box-sync, Vec-sync}
+use Rattle.std.proofs.MapsCrossing as maps
 use Rattle.txn_programs.specs.contracts.ast.Expr as expr
 use Rattle.txn_programs.specs.contracts.ast.Expr.TheKnot as ek
 use Rattle.txn_programs.specs.declared.ast.Expr.TheBlock.{member-Expr}
@@ -83,7 +84,7 @@ tx_sync : IsSync tx.the_row
 tx_sync = declared_sync tx.the_type (search (sendable, crosses) depth 20, (stmt_sync, (expr_sync, tt)))
 
 pub catalogue_sync : IsSync catalogue.the_row
-catalogue_sync = let t = tx_sync in let c = cond_sync in let o = op.the_sync in search (sendable, crosses) depth 80 fits 6000
+catalogue_sync = let t = tx_sync in let c = cond_sync in let o = op.the_sync in search (sendable, crosses, maps.crosses) depth 80 fits 6000
 
 pub book_send : (ℓ : NamedLft) → IsSend (book.the_row ℓ)
 book_send ℓ = let a = catalogue_sync in let b = cells.the_sync in let c = publisher_send in let d = stored.the_send in let e = standing.the_send in let f = entry.the_send in let h = table.the_send in search (sendable, crosses) depth 60
