@@ -12,7 +12,7 @@ use txn_programs::Op;
 
 /// What a short transaction weighs at most that writes nothing: it makes no other one stale, so many of
 /// them can be tried side by side.
-const SHORT: u32 = 100;
+const SHORT: u32 = 150;
 
 /// What any short transaction weighs at most.
 const SHORT_WRITER: u32 = 2_000;
