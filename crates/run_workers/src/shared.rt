@@ -164,6 +164,7 @@ fn end<N: Naming>(
 }
 
 /// A turn of a task on the present values, under the lock, by an attempt that is restarted for it.
+#[inline(never)]
 pub(crate) fn serial<'b, R: Wait, N: Naming>(
     rt: &R,
     shared: &Mutex<Named<'b, N>>,

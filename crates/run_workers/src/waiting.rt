@@ -46,6 +46,7 @@ fn longer(length: u32) -> u32
 /// A rest between a stale try, before which there were so many of the same task, and the next one:
 /// longer after each further one. There is none after the last of the tries, behind which the task has
 /// its turn at once.
+#[inline(never)]
 pub(crate) fn rest_after(stale: u32, tries: u32)
     requires { stale + 1 < tries }
 {
