@@ -1,6 +1,6 @@
 //! The words of `stm explore`.
 
-use crate::words::{Request, described, number, required, with_two};
+use crate::words::{Request, of_file, with_number};
 use clap::{Arg, ArgMatches, Command, value_parser};
 use explore_options::Limit;
 use std::alloc::{AllocError, Global};
@@ -28,12 +28,11 @@ const TO: &str =
 const STATES: &str = "How many places are looked at, at most, 1 to 16777216";
 
 /// The command `stm explore`.
+#[inline(never)]
 pub(crate) fn explore_command<'a>(alloc: Global) -> Result<Command<'a>, AllocError> {
-    let explore = with_two(
-        described(alloc, "explore", EXPLORE, FOUND),
-        required(alloc, "FILE", "The path of the file whose orders are seen"),
-        number(alloc, "states", (1, 16_777_216), "1000000", STATES),
-    )?;
+    let file = "The path of the file whose orders are seen";
+    let explore = of_file(alloc, "explore", EXPLORE, FOUND, file)?;
+    let explore = with_number(alloc, explore, "states", (1, 16_777_216), "1000000", STATES)?;
     explore.arg(to(alloc))
 }
 

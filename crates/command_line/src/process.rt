@@ -28,7 +28,9 @@ fn words_of<R: Env + AllocGlobal>(rt: &R) -> io::Result<Vec<String>> {
 }
 
 /// The command that the words ask for. `Err`: they ask for none, and help or the version was shown,
-/// or what is wrong with them.
+/// or what is wrong with them. It is a call of its own, so that its stack is given back before the command
+/// runs.
+#[inline(never)]
 pub fn asked<'a, R: Print + Eprint + AllocGlobal>(
     rt: &R,
     words: &'a [String],

@@ -1,4 +1,7 @@
 //! The command line.
+//!
+//! What makes a command of `clap` is not inlined: it has some 700 bytes, and each step of its making takes as
+//! much of the stack for itself, which a call gives back before the next one.
 
 use crate::explaining_words::{Explain, explain_command, wanted_explanation};
 use crate::exploring_words::{Orders, explore_command, wanted_orders};
@@ -102,14 +105,37 @@ const TRIES: &str = "After how many stale tries a task is run alone, 1 to 64";
 const CHECKPOINT: &str =
     "After this many journal entries the report begins anew from the values reached; at most 65536, and 0 for never";
 
-/// The command `stm` with its subcommands.
-fn command<'a>(alloc: Global) -> Result<Command<'a>, AllocError> {
-    let stm = added(Ok(root(alloc)), run_command(alloc));
-    let stm = added(stm, check_command(alloc));
-    let stm = added(stm, world_command(alloc));
-    let stm = added(stm, explore_command(alloc));
-    let stm = added(stm, print_command(alloc));
-    added(stm, explain_command(alloc))
+/// The names of the subcommands, in the order in which help lists them.
+const NAMES: [&str; 6] = ["run", "check", "world", "explore", "print", "explain"];
+
+/// The command `stm` with the subcommands that these words can come to: where the word behind the program's
+/// name is that of a subcommand, this one alone.
+///
+/// Each subcommand takes memory and time whenever the program starts. Where one is named at once, all further
+/// words are its own, and no text tells of another: subcommands are listed and suggested only where none is.
+#[inline(never)]
+fn command<'a>(alloc: Global, words: &[String]) -> Result<Command<'a>, AllocError> {
+    let named = words.get(1).map_or("", |word| word.as_str());
+    let all = !NAMES.contains(&named);
+    let mut stm = root(alloc);
+    for name in NAMES {
+        if all || name == named {
+            stm = stm.subcommand(subcommand(alloc, name)?)?;
+        }
+    }
+    Ok(stm)
+}
+
+/// The subcommand of one of these names.
+fn subcommand<'a>(alloc: Global, name: &str) -> Result<Command<'a>, AllocError> {
+    match name {
+        "run" => run_command(alloc),
+        "check" => check_command(alloc),
+        "world" => world_command(alloc),
+        "explore" => explore_command(alloc),
+        "print" => print_command(alloc),
+        _ => explain_command(alloc),
+    }
 }
 
 /// The command `stm` without its subcommands.
@@ -120,93 +146,80 @@ fn root<'a>(alloc: Global) -> Command<'a> {
         .arg_required_else_help(true)
 }
 
-/// The command with one more subcommand, if there was memory for both.
-fn added<'a>(
-    command: Result<Command<'a>, AllocError>,
-    subcommand: Result<Command<'a>, AllocError>,
-) -> Result<Command<'a>, AllocError> {
-    command?.subcommand(subcommand?)
+/// A command of this name, what it does, and what its help ends with.
+fn described<'a>(alloc: Global, name: &'a str, about: &'a str, after: &'a str) -> Command<'a> {
+    Command::new(alloc, name).about(about).after_help(after)
 }
 
-/// A command of this name, what it does, and what its help ends with.
-pub(crate) fn described<'a>(
+/// The same of a command on a file, with what the file is.
+#[inline(never)]
+pub(crate) fn of_file<'a>(
     alloc: Global,
     name: &'a str,
     about: &'a str,
     after: &'a str,
-) -> Command<'a> {
-    Command::new(alloc, name).about(about).after_help(after)
-}
-
-/// The command with two more arguments.
-pub(crate) fn with_two<'a>(
-    command: Command<'a>,
-    first: Arg<'a>,
-    second: Arg<'a>,
+    file: &'a str,
 ) -> Result<Command<'a>, AllocError> {
-    command.arg(first)?.arg(second)
+    described(alloc, name, about, after).arg(required(alloc, "FILE", file))
 }
 
 /// An argument that has to be given, by its place.
-pub(crate) fn required<'a>(alloc: Global, name: &'a str, help: &'a str) -> Arg<'a> {
+fn required<'a>(alloc: Global, name: &'a str, help: &'a str) -> Arg<'a> {
     Arg::new(alloc, name).required(true).help(help)
 }
 
 /// The command `stm run`.
+#[inline(never)]
 fn run_command<'a>(alloc: Global) -> Result<Command<'a>, AllocError> {
-    let run = with_two(
-        described(alloc, "run", RUN, EXAMPLE),
-        required(alloc, "FILE", "The path of the file to run"),
-        number(alloc, "workers", (1, 16), "4", WORKERS),
-    )?;
-    with_two(
-        run,
-        number(alloc, "tries", (1, 64), "8", TRIES),
-        number(alloc, "checkpoint", (0, 65536), "0", CHECKPOINT),
-    )
+    let run = of_file(alloc, "run", RUN, EXAMPLE, "The path of the file to run")?;
+    let run = with_number(alloc, run, "workers", (1, 16), "4", WORKERS)?;
+    let run = with_number(alloc, run, "tries", (1, 64), "8", TRIES)?;
+    with_number(alloc, run, "checkpoint", (0, 65536), "0", CHECKPOINT)
 }
 
-/// The option `--NAME N` of a number in this range, ends included, with this one where it is left out.
-pub(crate) fn number<'a>(
+/// The command with the option `--NAME N` of a number in this range, ends included, with this one where it
+/// is left out.
+#[inline(never)]
+pub(crate) fn with_number<'a>(
     alloc: Global,
+    command: Command<'a>,
     name: &'a str,
     range: (i64, i64),
     default: &'a str,
     help: &'a str,
-) -> Arg<'a> {
-    Arg::new(alloc, name)
-        .long(name)
-        .value_name("N")
-        .value_parser(value_parser!(u32).range(range.0..=range.1))
-        .default_value(default)
-        .help(help)
+) -> Result<Command<'a>, AllocError> {
+    command.arg(
+        Arg::new(alloc, name)
+            .long(name)
+            .value_name("N")
+            .value_parser(value_parser!(u32).range(range.0..=range.1))
+            .default_value(default)
+            .help(help),
+    )
 }
 
 /// The command `stm check`.
+#[inline(never)]
 fn check_command<'a>(alloc: Global) -> Result<Command<'a>, AllocError> {
-    with_two(
-        described(alloc, "check", CHECK, VERDICTS),
-        required(alloc, "FILE", "The path of the file that was run"),
-        required(alloc, "REPORT", "The path of the report of it"),
-    )
+    let file = "The path of the file that was run";
+    let check = of_file(alloc, "check", CHECK, VERDICTS, file)?;
+    check.arg(required(alloc, "REPORT", "The path of the report of it"))
 }
 
 /// The command `stm world`.
+#[inline(never)]
 fn world_command<'a>(alloc: Global) -> Result<Command<'a>, AllocError> {
-    with_two(
-        described(alloc, "world", WORLD, SEEN),
-        required(alloc, "FILE", "The path of the file whose tasks take part"),
-        required(alloc, "SCHEDULE", "The path of the schedule to play").long_help(SCHEDULE),
-    )
+    let file = "The path of the file whose tasks take part";
+    let world = of_file(alloc, "world", WORLD, SEEN, file)?;
+    world.arg(required(alloc, "SCHEDULE", "The path of the schedule to play").long_help(SCHEDULE))
 }
 
 /// The command `stm print`.
+#[inline(never)]
 fn print_command<'a>(alloc: Global) -> Result<Command<'a>, AllocError> {
-    with_two(
-        described(alloc, "print", PRINT, PRINTED),
-        required(alloc, "FILE", "The path of the file to print"),
-        from(alloc),
-    )
+    let file = "The path of the file to print";
+    let print = of_file(alloc, "print", PRINT, PRINTED, file)?;
+    print.arg(from(alloc))
 }
 
 /// The option `--from REPORT`.
@@ -220,7 +233,7 @@ fn from<'a>(alloc: Global) -> Arg<'a> {
 /// What the words ask for. An `Err` has the text to show: help or the version, where it was asked for,
 /// or what is wrong with the words.
 pub(crate) fn parse<'a>(alloc: Global, words: &'a [String]) -> Result<Request<'a>, Error> {
-    let mut command = command(alloc)?;
+    let mut command = command(alloc, words)?;
     request_by(&mut command, words)
 }
 

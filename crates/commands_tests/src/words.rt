@@ -206,6 +206,82 @@ fn help_is_shown(rt: HostRuntime) {
     }
 }
 
+/// A command line asks for the same help as another one.
+fn expect_same_help(rt: &impl Abort, alloc: Global, line: &str, other: &str) {
+    let shown = Shown::new(alloc);
+    assert!(rt; refusal(rt, &shown, line) == Some(Answer::Done));
+    assert!(rt; !shown.has_printed(""));
+    let known = Shown::new(alloc);
+    assert!(rt; refusal(rt, &known, other) == Some(Answer::Done));
+    assert!(rt; shown.prints_as(&known), "of {line}");
+}
+
+/// The help of a subcommand is the same where it is made alone, for a line that names it at once, and where
+/// all are made.
+#[test]
+fn help_is_the_same_by_both_lines(rt: HostRuntime) {
+    for (line, other) in [
+        ("stm run --help", "stm help run"),
+        ("stm check --help", "stm help check"),
+        ("stm world --help", "stm help world"),
+        ("stm explore --help", "stm help explore"),
+        ("stm print --help", "stm help print"),
+        ("stm explain --help", "stm help explain"),
+    ] {
+        expect_same_help(&rt, rt.alloc(), line, other);
+    }
+}
+
+/// A misspelt name is told with all names that are close to it.
+#[test]
+fn close_names_are_told(rt: HostRuntime) {
+    for (line, told) in [
+        (
+            "stm chekc a b",
+            "error: unrecognized subcommand 'chekc'\n\n  tip: a similar subcommand exists: 'check'\n\nUsage: stm <COMMAND>\n",
+        ),
+        (
+            "stm wrold run",
+            "error: unrecognized subcommand 'wrold'\n\n  tip: a similar subcommand exists: 'world'\n",
+        ),
+        (
+            "stm prnit a",
+            "error: unrecognized subcommand 'prnit'\n\n  tip: a similar subcommand exists: 'print'\n",
+        ),
+        (
+            "stm explian a",
+            "error: unrecognized subcommand 'explian'\n\n  tip: some similar subcommands exist: 'explore', 'explain'\n",
+        ),
+    ] {
+        expect_told(&rt, rt.alloc(), line, told);
+    }
+}
+
+/// What is wrong with the words of a subcommand is told with its own usage.
+#[test]
+fn usages_are_told(rt: HostRuntime) {
+    for (line, told) in [
+        (
+            "stm run",
+            "error: the following required arguments were not provided:\n  <FILE>\n\nUsage: stm run <FILE>\n",
+        ),
+        (
+            "stm check a",
+            "error: the following required arguments were not provided:\n  <REPORT>\n\nUsage: stm check <FILE> <REPORT>\n",
+        ),
+        (
+            "stm run a --wrokers 3",
+            "error: unexpected argument '--wrokers' found\n\n  tip: a similar argument exists: '--workers'\n\nUsage: stm run --workers <N> <FILE>\n",
+        ),
+        (
+            "stm print --form b",
+            "error: unexpected argument '--form' found\n\n  tip: a similar argument exists: '--from'\n",
+        ),
+    ] {
+        expect_told(&rt, rt.alloc(), line, told);
+    }
+}
+
 /// A command line asks for this version.
 fn expect_version(rt: &impl Abort, alloc: Global, line: &str, version: &str) {
     let shown = Shown::new(alloc);
