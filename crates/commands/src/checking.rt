@@ -17,6 +17,7 @@ use txn_text::ReadFault;
 
 /// Checks the report of the file at these paths, and writes the verdict's line to the sink. Both are
 /// read before either is judged.
+#[inline(never)]
 pub fn check_files<R: Files + AllocGlobal, S: Sink>(
     rt: &R,
     file: &str,

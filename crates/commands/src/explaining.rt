@@ -20,6 +20,7 @@ use text_schedule_reader::MAX_SCHEDULE;
 use txn_text::MAX_FILE;
 
 /// Explains what the command line asks for.
+#[inline(never)]
 pub fn explain_files<R: Files + AllocGlobal, S: Sink>(
     rt: &R,
     request: &Explain<'_>,

@@ -9,6 +9,8 @@
 //! the bytes of what is found of all orders, `print_files` writes files anew, and
 //! `explain_runner`, `explain_reports` and `explain_schedules` go to the bytes of what is wrong with a
 //! file, a report or a schedule.
+//!
+//! What does one command is not inlined into `program`, so that a command takes stack for itself alone.
 #![tactic(auto)]
 
 pub mod checking;

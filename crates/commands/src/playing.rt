@@ -15,6 +15,7 @@ use world_runner::world_bytes;
 
 /// Plays the schedule of the file at these paths, and writes the text of the world that it leads to
 /// to the sink. Both are read before either is judged.
+#[inline(never)]
 pub fn play_files<R: Files + AllocGlobal, S: Sink>(
     rt: &R,
     file: &str,

@@ -18,6 +18,7 @@ use text_report_reader::MAX_REPORT;
 use txn_text::MAX_FILE;
 
 /// Prints what the command line asks for.
+#[inline(never)]
 pub fn print_files<R: Files + AllocGlobal, S: Sink>(
     rt: &R,
     request: &Print<'_>,

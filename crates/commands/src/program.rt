@@ -71,6 +71,7 @@ fn answered<T: Threads + Wait + Sync, R: Files + Print + Eprint + AllocGlobal, G
 }
 
 /// All orders of a file's tasks, or the one that was asked for.
+#[inline(never)]
 fn orders_of<R: Files + Eprint + AllocGlobal, S: Sink>(
     rt: &R,
     orders: &Orders<'_>,

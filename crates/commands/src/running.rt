@@ -16,6 +16,7 @@ use std::thread::Threads;
 use txn_text::MAX_FILE;
 
 /// Runs the file at the path with these options, and writes its report to the sink.
+#[inline(never)]
 pub(crate) fn run_file<T: Threads + Wait + Sync, R: Files + AllocGlobal, G: Gate, S: Sink>(
     threads: &T,
     rt: &R,
