@@ -109,7 +109,7 @@ const CHECKPOINT: &str =
 const NAMES: [&str; 6] = ["run", "check", "world", "explore", "print", "explain"];
 
 /// The command `stm` with the subcommands that these words can come to: where the word behind the program's
-/// name is that of a subcommand, this one alone.
+/// name is that of a subcommand, this one alone, without the subcommand `help`.
 ///
 /// Each subcommand takes memory and time whenever the program starts. Where one is named at once, all further
 /// words are its own, and no text tells of another: subcommands are listed and suggested only where none is.
@@ -117,7 +117,7 @@ const NAMES: [&str; 6] = ["run", "check", "world", "explore", "print", "explain"
 fn command<'a>(alloc: Global, words: &[String]) -> Result<Command<'a>, AllocError> {
     let named = words.get(1).map_or("", |word| word.as_str());
     let all = !NAMES.contains(&named);
-    let mut stm = root(alloc);
+    let mut stm = root(alloc, all);
     for name in NAMES {
         if all || name == named {
             stm = stm.subcommand(subcommand(alloc, name)?)?;
@@ -138,12 +138,14 @@ fn subcommand<'a>(alloc: Global, name: &str) -> Result<Command<'a>, AllocError> 
     }
 }
 
-/// The command `stm` without its subcommands.
-fn root<'a>(alloc: Global) -> Command<'a> {
+/// The command `stm` without its subcommands, to which `clap` adds `help` or does not.
+#[inline(never)]
+fn root<'a>(alloc: Global, helps: bool) -> Command<'a> {
     described(alloc, "stm", ABOUT, STATUSES)
         .version(VERSION)
         .subcommand_required(true)
         .arg_required_else_help(true)
+        .disable_help_subcommand(!helps)
 }
 
 /// A command of this name, what it does, and what its help ends with.
