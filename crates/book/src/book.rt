@@ -200,6 +200,14 @@ impl<'a> Book<'a> {
         Some((self.present.values[place], self.present.versions[place]))
     }
 
+    /// The present values, one for each variable, in their order.
+    pub fn values(&self) -> &[i64]
+        ensures value { result.now ≡ self.now.present.state }
+        ensures wide { length result.now ≡ length self.now.catalogue.initial }
+    {
+        self.present.values.as_slice()
+    }
+
     /// The catalogue that the book is of now: that which it was opened on, with a run of one task
     /// more for each task that was submitted. `Memory` only where a growth was refused.
     pub fn catalogue(&self, alloc: Global) -> Result<Catalogue, Memory>

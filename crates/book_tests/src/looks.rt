@@ -17,7 +17,7 @@ pub(crate) enum Look {
     Runs(TaskId, TxId, bool),
     /// How many tasks are ready, running, parked, done and given up.
     Stand([usize; 5]),
-    /// The present value of a variable, and its version.
+    /// The present value of a variable, by itself and among all, and its version.
     Present(VarId, Option<(i64, u64)>),
     /// Whether it is for the catalogue of a text, and has as many tasks.
     IsFor(&'static str, bool, bool),
@@ -63,6 +63,16 @@ fn is_for(alloc: Global, book: &Book<'_>, text: &str, is_so: bool, is_as_long: b
     }
 }
 
+/// Whether the variable has this value and version, and that value among all present ones.
+fn is_present(book: &Book<'_>, variable: VarId, wanted: &Option<(i64, u64)>) -> bool {
+    let value = book.values().get(variable.0 as usize);
+    let is_value = match wanted {
+        Some(pair) => value == Some(&pair.0),
+        None => value.is_none(),
+    };
+    book.present(variable) == *wanted && is_value
+}
+
 fn is_grown(alloc: Global, book: &Book<'_>, tasks: usize, last: (TxId, u32)) -> bool {
     match book.catalogue(alloc) {
         Ok(grown) => grown.tasks() == tasks && grown.runs().last() == Some(&last),
@@ -78,7 +88,7 @@ pub(crate) fn shows(alloc: Global, book: &Book<'_>, look: &Look) -> bool {
         Look::Spare(count) => book.spare() == *count,
         Look::Runs(task, tx, is_so) => book.runs(*task, *tx) == *is_so,
         Look::Stand(wanted) => stand(book, wanted),
-        Look::Present(variable, wanted) => book.present(*variable) == *wanted,
+        Look::Present(variable, wanted) => is_present(book, *variable, wanted),
         Look::IsFor(text, is_so, is_as_long) => is_for(alloc, book, text, *is_so, *is_as_long),
         Look::Grown(tasks, last) => is_grown(alloc, book, *tasks, *last),
     }

@@ -2,3 +2,4 @@ pub mod Journals
 pub mod Crossing
 pub mod Crew
 pub mod Few
+pub mod Ended

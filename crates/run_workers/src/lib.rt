@@ -6,9 +6,11 @@
 #![tactic(auto)]
 
 mod gate;
+mod rounds;
 mod shared;
 mod tasks;
 mod threads;
+mod trials;
 mod trying;
 mod waiting;
 mod weights;

@@ -4,9 +4,10 @@
 //! how short its journal is kept: a run picks a name, and the name has the run's catalogue and after
 //! how many entries a checkpoint is made.
 
-ghost use Rattle.std.specs.Prelude.{◌≡◌, ◌≢◌, ◌<◌, ℕ, [], ◌∷◌, length, IfOk, IfSome, Option, Some};
+ghost use Rattle.std.specs.Prelude.{◌≡◌, ◌≢◌, ◌<◌, ◌≤◌, ℕ, [], ◌∷◌, length, IfOk, IfSome, Option, Some};
 ghost use Rattle.std.specs.Coded.{codes};
 ghost use Rattle.txn.specs.Codes.{coded_listing};
+ghost use Rattle.txn_programs.specs.declared.limits.TheConstants.{MAX_VARIABLES};
 ghost use Rattle.txn_programs.specs.Listing.{Listing, tasks};
 ghost use Rattle.txn_programs.specs.Told.{told};
 ghost use Rattle.txn_programs.specs.LawfulReport.{LawfulReport, BaseReached};
@@ -15,7 +16,7 @@ ghost use Rattle.run_workers.specs.Journals.{IsShort, KeepsShort};
 ghost use Rattle.run_workers.specs.declared.shared.Tried.TheVariants.{Passed};
 
 use crate::waiting::lock;
-use crate::weights::weight_in;
+use crate::weights::{Size, size_in};
 use attempt::Attempt;
 use book::{Book, Finish, Serial};
 use cells::{Cells, Publisher};
@@ -23,12 +24,6 @@ use std::alloc::Global;
 use std::marker::{Brand, PhantomData};
 use std::sync::{Mutex, Wait};
 use txn::{Catalogue, Memory, Report, TaskId};
-
-/// How many turns are given in one time under the lock at most.
-const TURNS: u32 = 1_000;
-
-/// How much the tasks that have these turns weigh together at most, but for the first one.
-const ROOM: u32 = 40_000;
 
 /// Which catalogue a run is of, and after how many entries a checkpoint is made, 0 for never. Each
 /// run picks both.
@@ -96,7 +91,7 @@ pub(crate) fn take<R: Wait, N: Naming>(rt: &R, shared: &Mutex<Named<'_, N>>) -> 
 }
 
 /// The lowest ready task, which is then running.
-fn next<N: Naming>(named: &mut Named<'_, N>) -> Option<TaskId>
+pub(crate) fn next<N: Naming>(named: &mut Named<'_, N>) -> Option<TaskId>
     ensures { IfSome result (λ t. t.0 < length (tasks N.catalogue)) }
 {
     let book = &mut named.book;
@@ -109,6 +104,13 @@ pub(crate) fn give_up<R: Wait, N: Naming>(rt: &R, shared: &Mutex<Named<'_, N>>, 
     requires { task.0 < length (tasks N.catalogue) }
 {
     let mut named = lock(rt, shared);
+    drop_task(&mut named, task);
+}
+
+/// A task is given up.
+pub(crate) fn drop_task<N: Naming>(named: &mut Named<'_, N>, task: TaskId)
+    requires { task.0 < length (tasks N.catalogue) }
+{
     let book = &mut named.book;
     book.law();
     book.give_up(task);
@@ -139,7 +141,7 @@ pub(crate) fn finish<R: Wait, N: Naming>(
 
 /// Brings the end of an attempt to the book. A commit that makes the journal long enough is
 /// followed by a checkpoint.
-fn end<N: Naming>(
+pub(crate) fn end<N: Naming>(
     named: &mut Named<'_, N>,
     every: u32,
     task: TaskId,
@@ -183,46 +185,27 @@ pub(crate) fn serial<'b, R: Wait, N: Naming>(
     }
 }
 
-/// Gives a task that was taken its turn, and then each next one that is short, all in one time under
-/// the lock. The next task, which then was taken: it is not short, or so many turns were given.
-/// `None` if none is ready.
-pub(crate) fn turns<'b, R: Wait, N: Naming>(
-    rt: &R,
-    shared: &Mutex<Named<'b, N>>,
-    every: u32,
-    weights: &[Option<u32>],
-    attempt: &mut Attempt<'b>,
-    first: TaskId,
-) -> Option<TaskId>
-    requires every { every ≡ N.every }
-    requires exists { first.0 < length (tasks N.catalogue) }
-    ensures { IfSome result (λ t. t.0 < length (tasks N.catalogue)) }
+/// The present values, one for each variable.
+pub(crate) fn present<'n, N: Naming>(named: &'n Named<'_, N>) -> &'n [i64]
+    ensures wide { length result.now ≡ length N.catalogue.initial }
+    ensures few { length result.now ≤ MAX_VARIABLES }
 {
-    let mut named = lock(rt, shared);
-    let mut task = first;
-    let mut room = ROOM;
-    'turns: for _ in 0..TURNS {
-        turn(&mut named, every, attempt, task);
-        task = next(&mut named)?;
-        match weight(&named, weights, task) {
-            Some(weight) if weight <= room => room -= weight,
-            _ => return Some(task),
-        }
-    }
-    Some(task)
+    let book = &named.book;
+    book.law();
+    book.values()
 }
 
-/// The weight of the task's transaction, if that is short.
-fn weight<N: Naming>(named: &Named<'_, N>, weights: &[Option<u32>], task: TaskId) -> Option<u32>
+/// How a task is run, by these.
+pub(crate) fn size<N: Naming>(named: &Named<'_, N>, sizes: &[Size], task: TaskId) -> Size
     requires { task.0 < length (tasks N.catalogue) }
 {
     let book = &named.book;
     book.law();
-    weight_in(weights, book.task_tx(task))
+    size_in(sizes, book.task_tx(task))
 }
 
 /// The turn of a task, and a checkpoint where one is due.
-fn turn<'b, N: Naming>(
+pub(crate) fn turn<'b, N: Naming>(
     named: &mut Named<'b, N>,
     every: u32,
     attempt: &mut Attempt<'b>,

@@ -9,7 +9,7 @@ ghost use Rattle.run_workers.specs.Journals.{KeepsShort};
 use crate::gate::Gate;
 use crate::shared::{Named, Naming, open, settle};
 use crate::threads::start;
-use crate::weights::{are_short, short_weights};
+use crate::weights::{Size, are_short, sizes_of};
 use crate::worker::{Crew, work};
 use cells::{Cells, Pass, Publisher};
 use run_options::Options;
@@ -41,8 +41,8 @@ pub fn run_tasks<R: Threads + Wait + Sync, G: Gate>(
     ensures upheld { IfOk result (λ r. Upholds catalogue.now (base_of (told r)).state × Upholds catalogue.now (now_of (told r)).state) }
     ensures short { IfOk result (λ r. KeepsShort options.checkpoint (told r)) }
 {
-    let weights = weights_under::<G>(alloc, catalogue, options)?;
-    if G::IS_OPEN && is_drain(&weights, catalogue, options) {
+    let sizes = sizes_under::<G>(alloc, catalogue, options)?;
+    if G::IS_OPEN && is_drain(&sizes, catalogue, options) {
         let (cells, publisher) = Cells::unread(alloc, catalogue.initial())?;
         return drain_named::<Brand>(alloc, catalogue, &cells, publisher, options);
     }
@@ -52,13 +52,13 @@ pub fn run_tasks<R: Threads + Wait + Sync, G: Gate>(
         options.workers() as usize,
     )?;
     run_named::<R, G, Brand>(
-        rt, alloc, catalogue, weights, &cells, publisher, passes, options, gate,
+        rt, alloc, catalogue, sizes, &cells, publisher, passes, options, gate,
     )
 }
 
 /// Whether workers under an open gate would do just what turns of the lowest ready task do.
-fn is_drain(weights: &[Option<u32>], catalogue: &Catalogue, options: Options) -> bool {
-    options.workers() == 1 || are_short(weights, catalogue.runs())
+fn is_drain(sizes: &[Size], catalogue: &Catalogue, options: Options) -> bool {
+    options.workers() == 1 || are_short(sizes, catalogue.runs())
 }
 
 /// Gives the tasks of the catalogue of this name their turns, with no worker.
@@ -86,7 +86,7 @@ fn run_named<'b, R: Threads + Wait + Sync, G: Gate, N: Naming>(
     rt: &R,
     alloc: Global,
     catalogue: &'b Catalogue,
-    weights: Vec<Option<u32>>,
+    sizes: Vec<Size>,
     cells: &'b Cells,
     publisher: Publisher,
     passes: Vec<Pass>,
@@ -105,20 +105,20 @@ fn run_named<'b, R: Threads + Wait + Sync, G: Gate, N: Naming>(
 {
     let shared = Mutex::new(open::<N>(alloc, catalogue, cells, publisher)?);
     run_beside(
-        rt, alloc, catalogue, weights, cells, &shared, passes, options, gate,
+        rt, alloc, catalogue, sizes, cells, &shared, passes, options, gate,
     );
     settle(alloc, options.checkpoint(), shared.into_inner())
 }
 
-/// What each transaction weighs, where several workers stand under an open gate; else none, so that no
-/// task has its turn before its tries.
-fn weights_under<G: Gate>(
+/// How tasks of each transaction are run, where several workers stand under an open gate; else nothing,
+/// so that all are tried on what a pass reads.
+fn sizes_under<G: Gate>(
     alloc: Global,
     catalogue: &Catalogue,
     options: Options,
-) -> Result<Vec<Option<u32>>, AllocError> {
+) -> Result<Vec<Size>, AllocError> {
     if G::IS_OPEN && options.workers() > 1 {
-        return short_weights(alloc, catalogue);
+        return sizes_of(alloc, catalogue);
     }
     Ok(Vec::new(alloc))
 }
@@ -128,7 +128,7 @@ fn run_beside<'b, R: Threads + Wait + Sync, G: Gate, N: Naming>(
     rt: &R,
     alloc: Global,
     catalogue: &'b Catalogue,
-    weights: Vec<Option<u32>>,
+    sizes: Vec<Size>,
     cells: &'b Cells,
     shared: &Mutex<Named<'b, N>>,
     passes: Vec<Pass>,
@@ -143,7 +143,7 @@ fn run_beside<'b, R: Threads + Wait + Sync, G: Gate, N: Naming>(
     let crew = Crew {
         alloc,
         catalogue,
-        weights,
+        sizes,
         cells,
         shared,
         gate,

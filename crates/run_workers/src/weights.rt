@@ -1,8 +1,9 @@
-//! How much transactions weigh, and which are short.
+//! How much transactions weigh, and how tasks of them are run where the gate is open.
 //!
-//! To evaluate a short transaction costs no more than to give the lock back, to read beside the other
-//! workers and to come for the lock again, or than to be stale in vain. So a task of one has its turn
-//! under the lock.
+//! To evaluate a short transaction costs no more than to give the lock back and to come for it again, or
+//! than to be stale in vain. So a task of one has its turn under the lock. A light one is tried on a copy
+//! of the present values, some of them for each time under the lock. A long one is tried on what its pass
+//! reads, beside all that others commit meanwhile.
 
 ghost use Rattle.std.specs.Prelude.{◌<◌, length};
 
@@ -12,10 +13,25 @@ use txn_programs::Op;
 
 /// What a short transaction weighs at most that writes nothing: it makes no other one stale, so many of
 /// them can be tried side by side.
-const SHORT: u32 = 150;
+const SHORT: u32 = 60;
 
-/// What any short transaction weighs at most.
-const SHORT_WRITER: u32 = 2_000;
+/// What any short transaction weighs at most, and any light one.
+const LIGHT: u32 = 2_000;
+
+/// How many light tasks there are at least for each short one where light ones are tried. Most short tasks
+/// write, and so make the light ones stale that others are trying just then.
+const PER_SHORT: u32 = 12;
+
+/// How tasks of a transaction are run; a short one with what it weighs.
+#[derive(Clone, Copy, Debug, PartialEq, Eq)]
+pub(crate) enum Size {
+    /// By a turn under the lock.
+    Short(u32),
+    /// By tries on a copy of the present values. It writes nothing.
+    Light(u32),
+    /// By tries on what a pass reads.
+    Long,
+}
 
 /// How many instructions are done at most, with so many before them. Each counts as often as all loops
 /// that begin before it have turns together, so what stands behind a loop is counted too often.
@@ -43,41 +59,68 @@ fn writes(code: &[Op]) -> bool {
     code.iter().any(|op| matches!(*op, Op::Store(_)))
 }
 
-/// The weight of a transaction where it is short, else `None`.
-fn short_weight(catalogue: &Catalogue, tx: TxId) -> Option<u32>
+/// How tasks of a transaction are run.
+fn size_of(catalogue: &Catalogue, tx: TxId) -> Size
     requires { tx.0 < length catalogue.now.transactions }
 {
     let weight = weight_of(catalogue, tx);
-    if weight <= SHORT || weight <= SHORT_WRITER && writes(catalogue.code(tx)) {
-        return Some(weight);
+    if weight > LIGHT {
+        return Size::Long;
     }
-    None
+    if weight <= SHORT || writes(catalogue.code(tx)) {
+        return Size::Short(weight);
+    }
+    Size::Light(weight)
 }
 
-/// The weight of each transaction that is short, and `None` for each other one, in their order.
+/// How tasks of each transaction are run, in their order.
 #[tactic(auto, using(crate::proofs::Few::few_transactions))]
-pub(crate) fn short_weights(
-    alloc: Global,
-    catalogue: &Catalogue,
-) -> Result<Vec<Option<u32>>, AllocError> {
+pub(crate) fn sizes_of(alloc: Global, catalogue: &Catalogue) -> Result<Vec<Size>, AllocError> {
     catalogue.rules();
     let count = catalogue.tx_count();
-    let mut weights = Vec::with_capacity(alloc, count)?;
+    let mut sizes = Vec::with_capacity(alloc, count)?;
     for place in 0..count {
-        weights.push(short_weight(catalogue, TxId(place as u32)))?;
+        sizes.push(size_of(catalogue, TxId(place as u32)))?;
     }
-    Ok(weights)
+    if !are_mostly_light(&sizes, catalogue.runs()) {
+        shorten(&mut sizes);
+    }
+    Ok(sizes)
 }
 
-/// The weight of the transaction among these, which has one where it is short.
-pub(crate) fn weight_in(weights: &[Option<u32>], tx: TxId) -> Option<u32> {
-    match weights.get(tx.0 as usize) {
-        Some(weight) => *weight,
-        None => None,
+/// Whether the runs have so many light tasks for each short one that it pays to try them.
+fn are_mostly_light(sizes: &[Size], runs: &[(TxId, u32)]) -> bool {
+    let mut light: u32 = 0;
+    let mut short: u32 = 0;
+    for run in runs {
+        match size_in(sizes, run.0) {
+            Size::Light(_) => light = light.saturating_add(run.1),
+            Size::Short(_) => short = short.saturating_add(run.1),
+            Size::Long => {}
+        }
+    }
+    light / PER_SHORT >= short
+}
+
+/// Makes each light one short.
+fn shorten(sizes: &mut [Size]) {
+    for size in sizes.iter_mut() {
+        if let Size::Light(weight) = *size {
+            *size = Size::Short(weight);
+        }
+    }
+}
+
+/// How tasks of the transaction are run, by these: where none says it, as long ones.
+pub(crate) fn size_in(sizes: &[Size], tx: TxId) -> Size {
+    match sizes.get(tx.0 as usize) {
+        Some(size) => *size,
+        None => Size::Long,
     }
 }
 
 /// Whether all transactions of these runs are short.
-pub(crate) fn are_short(weights: &[Option<u32>], runs: &[(TxId, u32)]) -> bool {
-    runs.iter().all(|run| weight_in(weights, run.0).is_some())
+pub(crate) fn are_short(sizes: &[Size], runs: &[(TxId, u32)]) -> bool {
+    runs.iter()
+        .all(|run| matches!(size_in(sizes, run.0), Size::Short(_)))
 }

@@ -12,10 +12,12 @@ ghost use Rattle.txn_programs.specs.Listing.{tasks};
 ghost use Rattle.run_workers.specs.declared.shared.Tried.TheVariants.{Passed};
 
 use crate::gate::{Gate, Point, stop_at};
-use crate::shared::{Named, Naming, Tried, finish, give_up, serial, take, turns};
+use crate::rounds::{Values, close, round};
+use crate::shared::{Named, Naming, Tried, finish, give_up, serial, take};
+use crate::trials::{Trial, are_idle, evaluate_all, idle_trials};
 use crate::trying::attempt_on;
 use crate::waiting::rest_after;
-use crate::weights::weight_in;
+use crate::weights::{Size, size_in};
 use attempt::Attempt;
 use cells::{Cells, Pass};
 use run_observer::Cut;
@@ -23,13 +25,16 @@ use std::alloc::Global;
 use std::sync::{Mutex, Wait};
 use txn::{Catalogue, TaskId};
 
+/// After how many rounds a worker goes on as with a new task, so that the loop over them ends.
+const ROUNDS: u32 = 1_000_000;
+
 /// What the workers of a run share.
 #[derive(Drop)]
 pub(crate) struct Crew<'a, 'b, G: Gate, N: Naming> {
     pub(crate) alloc: Global,
     pub(crate) catalogue: &'b Catalogue,
-    /// What each transaction weighs, where short ones have their turn under the lock; else none.
-    pub(crate) weights: Vec<Option<u32>>,
+    /// How tasks of each transaction are run; where it says nothing, by tries on what a pass reads.
+    pub(crate) sizes: Vec<Size>,
     pub(crate) cells: &'a Cells,
     /// The book, behind its lock.
     pub(crate) shared: &'a Mutex<Named<'b, N>>,
@@ -44,7 +49,7 @@ pub(crate) struct Crew<'a, 'b, G: Gate, N: Naming> {
 }
 
 /// The life of a worker: it gives the lowest ready task its tries until none is ready. It has one
-/// attempt for life, which is restarted for each try.
+/// attempt for life, which is restarted for each try, and its trials.
 pub(crate) fn work<R: Wait, G: Gate, N: Naming>(rt: &R, crew: &Crew<'_, '_, G, N>, mut pass: Pass)
     requires own { pass.cells ≡ crew.now.cells.now }
 {
@@ -52,7 +57,15 @@ pub(crate) fn work<R: Wait, G: Gate, N: Naming>(rt: &R, crew: &Crew<'_, '_, G, N
         return;
     };
     let mut attempt = first_attempt(crew, first);
-    serve(rt, crew, &mut pass, &mut attempt, first);
+    let mut trials = first_trials(crew, first);
+    serve(
+        rt,
+        crew,
+        &mut pass,
+        &mut attempt,
+        trials.as_mut_slice(),
+        first,
+    );
 }
 
 /// Gives the task its tries, and then each next one, until none is ready.
@@ -61,6 +74,7 @@ fn serve<'b, R: Wait, G: Gate, N: Naming>(
     crew: &Crew<'_, 'b, G, N>,
     pass: &mut Pass,
     attempt: &mut Attempt<'b>,
+    trials: &mut [Trial<'b, N>],
     first: TaskId,
 )
     requires exists { first.0 < length (tasks N.catalogue) }
@@ -69,20 +83,20 @@ fn serve<'b, R: Wait, G: Gate, N: Naming>(
     let mut task = first;
     for _ in rt.forever() {
         stop_at(crew.gate, Point::Taken, task);
-        let Some(next) = pass_on(rt, crew, pass, attempt, task) else {
+        let Some(next) = pass_on(rt, crew, pass, attempt, trials, task) else {
             return;
         };
         task = next;
     }
 }
 
-/// Gives a task that was taken its turn under the lock where it is short, and else its tries. The
-/// next task, `None` if none is ready.
+/// Runs a task that was taken, as its size asks. The next task, `None` if none is ready.
 fn pass_on<'b, R: Wait, G: Gate, N: Naming>(
     rt: &R,
     crew: &Crew<'_, 'b, G, N>,
     pass: &mut Pass,
     attempt: &mut Attempt<'b>,
+    trials: &mut [Trial<'b, N>],
     task: TaskId,
 ) -> Option<TaskId>
     requires exists { task.0 < length (tasks N.catalogue) }
@@ -90,12 +104,71 @@ fn pass_on<'b, R: Wait, G: Gate, N: Naming>(
     ensures own { pass.new.cells ≡ pass.old.cells }
     ensures next { IfSome result (λ t. t.0 < length (tasks N.catalogue)) }
 {
-    let weights = crew.weights.as_slice();
     let tx = crew.catalogue.task_tx(task);
-    match weight_in(weights, tx) {
-        Some(_) => turns(rt, crew.shared, crew.every, weights, attempt, task),
-        None => run_task(rt, crew, pass, attempt, task),
+    match size_in(crew.sizes.as_slice(), tx) {
+        Size::Long => run_task(rt, crew, pass, attempt, task),
+        Size::Light(_) if trials.is_empty() => run_task(rt, crew, pass, attempt, task),
+        Size::Short(_) | Size::Light(_) => run_rounds(rt, crew, attempt, trials, task),
     }
+}
+
+/// Runs a task that was taken, and then each next one that is not long: short ones by their turns under
+/// the lock, light ones together, by tries between two times under it. The next task, `None` if none is
+/// ready.
+fn run_rounds<'b, R: Wait, G: Gate, N: Naming>(
+    rt: &R,
+    crew: &Crew<'_, 'b, G, N>,
+    attempt: &mut Attempt<'b>,
+    trials: &mut [Trial<'b, N>],
+    first: TaskId,
+) -> Option<TaskId>
+    requires exists { first.0 < length (tasks N.catalogue) }
+    ensures { IfSome result (λ t. t.0 < length (tasks N.catalogue)) }
+{
+    let sizes = crew.sizes.as_slice();
+    let mut values = Values::new();
+    let mut given = Some(first);
+    'rounds: for _ in 0..ROUNDS {
+        let left = round(
+            rt,
+            crew.shared,
+            crew.every,
+            crew.tries,
+            sizes,
+            attempt,
+            trials,
+            &mut values,
+            given,
+        );
+        if are_idle(trials) {
+            return left;
+        }
+        evaluate_all(trials, crew.catalogue, values.as_slice());
+        if left.is_some() {
+            close(rt, crew.shared, crew.every, attempt, trials);
+            return left;
+        }
+        given = None;
+    }
+    close(rt, crew.shared, crew.every, attempt, trials);
+    take(rt, crew.shared)
+}
+
+/// Its trials, where there are light tasks; else none.
+fn first_trials<'b, G: Gate, N: Naming>(
+    crew: &Crew<'_, 'b, G, N>,
+    task: TaskId,
+) -> Vec<Trial<'b, N>>
+    requires { task.0 < length (tasks N.catalogue) }
+{
+    if crew
+        .sizes
+        .iter()
+        .any(|size| matches!(*size, Size::Light(_)))
+    {
+        return idle_trials(crew.alloc, crew.catalogue, task);
+    }
+    Vec::new(crew.alloc)
 }
 
 /// An attempt of the task's transaction.

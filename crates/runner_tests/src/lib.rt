@@ -9,6 +9,8 @@ mod gates;
 #[cfg(test)]
 mod holds;
 #[cfg(test)]
+mod light;
+#[cfg(test)]
 mod long;
 #[cfg(test)]
 mod many;

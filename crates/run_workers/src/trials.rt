@@ -1,0 +1,157 @@
+//! Light tasks that a worker tries together, on a copy of the present values.
+//!
+//! A light task reads and writes nothing, so it makes no other one stale, and what it costs beside the
+//! others is the lock. So a worker takes some of them in one time under the lock, tries each with no lock
+//! held, and brings their ends to the book in the next.
+
+ghost use Rattle.std.specs.Prelude.{◌≡◌, ◌<◌, length, true};
+ghost use Rattle.std.specs.Coded.{codes};
+ghost use Rattle.txn_programs.specs.Listing.{tasks, task_program};
+ghost use Rattle.attempt.specs.CodedProgram.{coded_program};
+ghost use Rattle.run_workers.specs.Over.{is_over};
+ghost use Rattle.run_workers.specs.declared.trials.How.{How};
+
+use crate::shared::Naming;
+use attempt::Attempt;
+use std::alloc::Global;
+use std::marker::PhantomData;
+use txn::{Catalogue, TaskId};
+
+/// How many light tasks a worker has at once. More cost less of the lock, and more of them are stale.
+const TOGETHER: usize = 4;
+
+/// How a trial stands.
+#[derive(Clone, Copy, Debug, PartialEq, Eq)]
+pub(crate) enum How {
+    /// It has no task.
+    Idle,
+    /// It has a task that is running, and is to be evaluated.
+    Begun,
+    /// Its attempt is an end of its task.
+    Ended,
+    /// A growth was refused.
+    Memory,
+}
+
+/// A light task, and its attempt.
+#[derive(Drop)]
+pub(crate) struct Trial<'b, N: Naming> {
+    pub(crate) task: TaskId,
+    pub(crate) attempt: Attempt<'b>,
+    pub(crate) how: How,
+    /// How many tries of the task were stale.
+    pub(crate) stale: u32,
+    of: PhantomData<N>,
+    ghost exists: { task.0 < length (tasks N.catalogue) },
+    ghost own: { how ≡ How.Ended → attempt.program ≡ task_program N.catalogue task } by { Prim.hlevel (codes, coded_program) },
+    ghost known: { how ≡ How.Ended → attempt.variables ≡ length N.catalogue.initial },
+    ghost over: { how ≡ How.Ended → is_over attempt.stand ≡ true },
+}
+
+impl<'b, N: Naming> Trial<'b, N> {
+    /// A trial with no task. The task that is named stands in for one.
+    fn idle(alloc: Global, catalogue: &'b Catalogue, task: TaskId) -> Trial<'b, N>
+        requires named { catalogue.now ≡ N.catalogue }
+        requires exists { task.0 < length (tasks N.catalogue) }
+    {
+        Trial {
+            task,
+            attempt: Attempt::new(alloc, catalogue, catalogue.task_tx(task)),
+            how: How::Idle,
+            stale: 0,
+            of: PhantomData,
+        }
+    }
+
+    /// It has this task from now on, which was taken.
+    pub(crate) fn give(&mut self, task: TaskId)
+        requires exists { task.0 < length (tasks N.catalogue) }
+    {
+        self.how = How::Begun;
+        self.task = task;
+        self.stale = 0;
+    }
+
+    /// Brings its attempt to an end on these values, where it has a task.
+    fn evaluate(&mut self, catalogue: &'b Catalogue, values: &[i64])
+        requires named { catalogue.now ≡ N.catalogue }
+        requires values { length values.now ≡ length catalogue.now.initial }
+    {
+        if self.how == How::Idle {
+            return;
+        }
+        self.how = How::Begun;
+        self.attempt
+            .restart(catalogue, catalogue.task_tx(self.task));
+        match self.attempt.evaluate_on(values) {
+            Ok(_) => self.how = How::Ended,
+            Err(_) => self.how = How::Memory,
+        }
+    }
+}
+
+/// So many trials as a worker has, with no task. Where a growth was refused there are none.
+pub(crate) fn idle_trials<'b, N: Naming>(
+    alloc: Global,
+    catalogue: &'b Catalogue,
+    task: TaskId,
+) -> Vec<Trial<'b, N>>
+    requires named { catalogue.now ≡ N.catalogue }
+    requires exists { task.0 < length (tasks N.catalogue) }
+{
+    let Ok(mut trials) = Vec::with_capacity(alloc, TOGETHER) else {
+        return Vec::new(alloc);
+    };
+    for _ in 0..TOGETHER {
+        // Fewer do as well.
+        let _refused = trials.push(Trial::idle(alloc, catalogue, task));
+    }
+    trials
+}
+
+/// Whether none has a task.
+pub(crate) fn are_idle<N: Naming>(trials: &[Trial<'_, N>]) -> bool {
+    for trial in trials {
+        if trial.how != How::Idle {
+            return false;
+        }
+    }
+    true
+}
+
+/// Whether each has a task, and there is one.
+pub(crate) fn are_busy<N: Naming>(trials: &[Trial<'_, N>]) -> bool {
+    for trial in trials {
+        if trial.how == How::Idle {
+            return false;
+        }
+    }
+    !trials.is_empty()
+}
+
+/// Gives the task to a trial that has none: whether there was one.
+pub(crate) fn give_one<N: Naming>(trials: &mut [Trial<'_, N>], task: TaskId) -> bool
+    requires exists { task.0 < length (tasks N.catalogue) }
+{
+    for trial in trials.iter_mut() {
+        if trial.how == How::Idle {
+            trial.give(task);
+            return true;
+        }
+    }
+    false
+}
+
+/// Tries the task of each.
+pub(crate) fn evaluate_all<'b, N: Naming>(
+    trials: &mut [Trial<'b, N>],
+    catalogue: &'b Catalogue,
+    values: &[i64],
+)
+    requires named { catalogue.now ≡ N.catalogue }
+    requires values { length values.now ≡ length catalogue.now.initial }
+{
+    for trial in trials.iter_mut() {
+        trial.evaluate(catalogue, values);
+    }
+}
