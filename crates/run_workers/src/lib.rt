@@ -2,7 +2,9 @@
 //!
 //! `run_tasks` opens the cells and the book, has the tasks run by workers, and makes the report. A
 //! worker (`worker`) tries tasks by attempts on its own pass (`trying`), with no lock held, and
-//! brings their ends to the book behind its lock (`shared`). A `Gate` can hold it in between.
+//! brings their ends to the book behind its lock (`shared`). A `Gate` can hold it in between. Under an
+//! open gate it does so with long tasks alone (`weights`): light ones it tries together on a copy of the
+//! present values (`trials`, `rounds`), and short ones have their turn under the lock.
 #![tactic(auto)]
 
 mod gate;

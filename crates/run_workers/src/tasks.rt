@@ -25,7 +25,8 @@ use txn::{Catalogue, Memory, Report};
 /// The workers read the cells by a pass each, and share the book behind a lock, which publishes to
 /// the cells. When they have ended, the book gives a turn to what is left, and no task is ready or
 /// running when it reports. Where the gate is open, a task that is short has such a turn too, under
-/// the lock and before any try; and one worker, or any number of them where all tasks are short, would
+/// the lock and before any try, and light ones, which only read, are tried some at a time on a copy of
+/// the present values; and one worker, or any number of them where all tasks are short, would
 /// do just what these turns do, so all is left to them, over cells that nobody reads. Each standing
 /// condition is true of the values that it reports. With a checkpoint after each N entries the journal
 /// has fewer than N, and the base is a multiple of N; with none the base is 0.

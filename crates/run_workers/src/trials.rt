@@ -1,8 +1,8 @@
 //! Light tasks that a worker tries together, on a copy of the present values.
 //!
-//! A light task reads and writes nothing, so it makes no other one stale, and what it costs beside the
-//! others is the lock. So a worker takes some of them in one time under the lock, tries each with no lock
-//! held, and brings their ends to the book in the next.
+//! A light task reads and writes nothing, so it makes no other one stale; what it costs beside the others
+//! is the lock. So a worker takes some of them in one time under the lock, tries each with no lock held,
+//! and brings their ends to the book in the next.
 
 ghost use Rattle.std.specs.Prelude.{◌≡◌, ◌<◌, length, true};
 ghost use Rattle.std.specs.Coded.{codes};

@@ -11,8 +11,8 @@ use std::alloc::{AllocError, Global};
 use txn::{Catalogue, TxId};
 use txn_programs::Op;
 
-/// What a short transaction weighs at most that writes nothing: it makes no other one stale, so many of
-/// them can be tried side by side.
+/// What a short transaction weighs at most that writes nothing. Those that weigh more pay for the lock where
+/// they are tried side by side, since they make no other one stale.
 const SHORT: u32 = 60;
 
 /// What any short transaction weighs at most, and any light one.

@@ -1,7 +1,7 @@
 //! The worker: it takes a task, tries it on what its pass reads, and brings the end to the book.
 //!
-//! It evaluates outside the lock, but for a task that is short where the gate is open: that one has its
-//! turn under the lock. A try whose pass could not move after a stale read, and an end that is stale,
+//! Where the gate is open it does so with long tasks alone: short ones have their turn under the lock, and
+//! light ones are tried together, on a copy of the present values. A try whose pass could not move after a stale read, and an end that is stale,
 //! are each one stale try; after so many of them the task has its turn under the lock. A try that moved
 //! is none.
 
