@@ -22,6 +22,10 @@ FILES = {
     "a condition with a fault": "(stm 2)(var x 1)(always ok (le 0 (div 1 x)))(tx z (set x 0) x)(run z 1)",
     "twelve variables": "".join(f"(var v{i} 0)" for i in range(12))
     + "(tx t (seq" + "".join(f" (orelse (seq (set v{i} 1) (retry)) (set v{i} (add v{i} 1)))" for i in range(12)) + ") v0)(run t 2)",
+    # They only read, in some 300 instructions each, and keep more variables than a log has room for.
+    "light tasks": "".join(f"(var v{i} 0)" for i in range(12))
+    + "(tx look (seq (repeat 40 (if (lt v0 0) (throw 1) (skip))) (orelse (if (eq v1 0) (retry) (skip)) (skip))) "
+    + "(add " * 11 + "v0" + "".join(f" v{i})" for i in range(1, 12)) + ")(tx inc (set v1 (add v1 1)) v1)(run look 24)(run inc 1)",
 }
 
 # Reports of two increments.

@@ -1,0 +1,54 @@
+"""Tasks of every size side by side: short ones, which have their turn under the lock, light ones, which only read and are
+tried some at a time, and long ones; some retry until another has written, and some throw. Files are drawn by a fixed seed.
+Each run ends with a report that `stm check` finds good, in which no task lacked memory.
+"""
+
+import os
+import random
+
+from parts import run, shown
+
+FILES = 40
+WORKERS = (2, 4, 8)
+
+
+def drawn(draw):
+    """A file of one to six variables, and a few runs of light tasks with short and long ones between them."""
+    names = [f"v{i}" for i in range(draw.randint(1, 6))]
+    text = "".join(f"(var {name} {draw.randint(0, 3)})" for name in names)
+    one = lambda: draw.choice(names)
+    reads = lambda turns: f"(repeat {turns} (if (lt {one()} 0) (throw 1) (skip)))"
+    ends = [
+        lambda: "(skip)",
+        lambda: f"(if (eq {one()} {draw.randint(0, 3)}) (retry) (skip))",
+        lambda: f"(orelse (if (lt {one()} {draw.randint(0, 4)}) (retry) (skip)) (skip))",
+        lambda: f"(if (lt {one()} {draw.randint(0, 4)}) (throw 7) (skip))",
+    ]
+    looks = range(draw.randint(1, 3))
+    for look in looks:
+        text += f"(tx look{look} (seq {reads(draw.randint(12, 200))} {draw.choice(ends)()}) {one()})"
+    for name, before in [("short", "(skip)"), ("long", reads(700))]:
+        text += f"(tx {name} (seq {before} (set {names[0]} (add {names[-1]} 1))) {names[0]})"
+    for _ in range(draw.randint(1, 8)):
+        text += f"(run look{draw.choice(looks)} {draw.randint(20, 120)})(run short {draw.randint(1, 3)})"
+        text += f"(run long {draw.randint(1, 3)})" * (draw.random() < 0.4)
+    return text
+
+
+def faults_of(trials, program, text, options):
+    """What is wrong with a run of the file."""
+    file = trials.write("mixed", text)
+    ended = run([program, "run", file, *options], trials.folder)
+    verdict = run([program, "check", file, trials.write("mixed-report", ended.out)], trials.folder)
+    is_so = ended.status == 0 and verdict.out == b"good\n" and b"\nmemory " not in ended.out
+    return [] if is_so else [f"{text} with {' '.join(options)}: {shown(ended)}; {shown(verdict)}"]
+
+
+def try_mixed(trials, program):
+    by = os.path.basename(program)
+    for workers in WORKERS:
+        draw, faults = random.Random(workers), []
+        for place in range(FILES):
+            options = ["--workers", str(workers), "--tries", "128"[place % 3], "--checkpoint", ("0", "7")[place % 2]]
+            faults += faults_of(trials, program, drawn(draw), options)
+        trials.tell(f"{by} run, tasks of every size, workers {workers}", faults, f"{FILES} good reports")
