@@ -11,6 +11,20 @@ from parts import run, shown
 FILES = 40
 WORKERS = (2, 4, 8)
 
+# A task that only reads, and one that writes, in so many instructions and more.
+LOOK = "(tx look (repeat 50 (if (lt v0 0) (throw 1) (skip))) v0)"
+WRITE = "(tx write (seq (repeat 300 (skip)) (set v0 (add v0 1))) v0)"
+
+# At the limits: all variables read; more short ones in a row than have their turns in one time under the lock, by their
+# number and by their weight.
+LIMITS = {
+    "256 variables": "".join(f"(var v{i} {i})" for i in range(256))
+    + "(tx sum (seq" + "".join(f" (if (eq v{i} 1000) (throw 1) (skip))" for i in range(256)) + ") v255)"
+    + "(tx write (set v255 (add v255 1)) v255)(run sum 240)(run write 2)(run sum 240)",
+    "3,000 short ones in a row": "(var v0 5)" + LOOK + "(tx inc (set v0 (add v0 1)) v0)(run look 18000)(run inc 3000)(run look 18000)",
+    "200 long-winded short ones in a row": "(var v0 5)" + LOOK + WRITE + "(run look 1200)(run write 200)(run look 1200)",
+}
+
 
 def drawn(draw):
     """A file of one to six variables, and a few runs of light tasks with short and long ones between them."""
@@ -52,3 +66,6 @@ def try_mixed(trials, program):
             options = ["--workers", str(workers), "--tries", "128"[place % 3], "--checkpoint", ("0", "7")[place % 2]]
             faults += faults_of(trials, program, drawn(draw), options)
         trials.tell(f"{by} run, tasks of every size, workers {workers}", faults, f"{FILES} good reports")
+        for what, text in LIMITS.items():
+            faults = faults_of(trials, program, text, ["--workers", str(workers)])
+            trials.tell(f"{by} run, light tasks and {what}, workers {workers}", faults, "a good report")

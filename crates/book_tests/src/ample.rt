@@ -7,7 +7,7 @@ use crate::texts::ALL_TASKS;
 use book::{Finish, Serial};
 use std::alloc::{AllocError, Global};
 use std::process::Abort;
-use txn::TaskId;
+use txn::{TaskId, VarId};
 
 /// So many variables, all 0.
 fn put_variables(alloc: Global, text: &mut String, variables: u32) -> Result<(), AllocError> {
@@ -54,6 +54,8 @@ const COMMITS_ALL: &[Step] = &[
     Step::Takes(Some(TaskId(1))),
     Step::Turns(TaskId(0), Serial::Committed(1)),
     Step::Ends(TaskId(1), &[1; 256], (256, 256), Finish::Committed(2)),
+    Step::Shows(Look::Present(VarId(255), Some((2, 2)))),
+    Step::Shows(Look::Present(VarId(256), None)),
     Step::Says(Said::Last(256, (2, 2))),
 ];
 
