@@ -1,7 +1,7 @@
 //! The book: how each task stands, the journal, and the present values.
 
 ghost use Rattle.std.specs.Prelude.{◌≡◌, ◌≢◌, ◌<◌, ◌≤◌, ◌+◌, ◌++◌, ◌∷◌, [], ℕ, length, map, IfOk, IsTrue, ◌↔◌, MatchBool, vec_len, vec_capacity, All, Some, slice_get};
-ghost use Rattle.txn_programs.specs.declared.limits.TheConstants.{MAX_TASKS};
+ghost use Rattle.txn_programs.specs.declared.limits.TheConstants.{MAX_TASKS, MAX_TRANSACTIONS};
 ghost use Rattle.txn_words.specs.Stores.{with_changes};
 ghost use Rattle.attempt.specs.Asking.{Known};
 ghost use Rattle.attempt.specs.Frame.{Agrees};
@@ -20,6 +20,7 @@ use crate::validate::agrees;
 use crate::whose::transaction_of;
 use attempt::{Attempt, Next, frame};
 use cells::{Cells, Pass, Publisher};
+use journal::{Line, RunReport, entries_of};
 use std::alloc::Global;
 use std::marker::Model;
 use txn::{Catalogue, Entry, Memory, Outcome, Report, TaskId, TxId, VarId};
@@ -37,7 +38,7 @@ pub struct Book<'a> {
     cells: &'a Cells,
     publisher: Publisher,
     base: Stored,
-    journal: Vec<Entry>,
+    journal: Vec<Line>,
     present: Stored,
     /// What the last commit changed. Its room is for one change a variable.
     changes: Vec<(VarId, i64)>,
@@ -70,6 +71,7 @@ impl<'a> Book<'a> {
     ghost use Rattle.txn_programs.specs.declared.ast.Outcome as Outcome;
     ghost use Rattle.book.specs.Tasks as Task;
     ghost use Rattle.txn_programs.specs.Told.{told};
+    ghost use Rattle.journal.specs.Lines.{told_run};
     ghost use Rattle.book.specs.View.{opened, IsRunning, stands, committed, checkpointed};
     ghost use Rattle.book.specs.Turns.{Taken, IsEndOf, Finished, IsLeft, Served, Turn, Drains, kept_short, readied, IsIdle, without_journal, ReportIs};
     ghost use Rattle.book.specs.LawfulBook.{LawfulBook, BookFits, KeepsConditions, Waits};
@@ -422,18 +424,25 @@ impl<'a> Book<'a> {
         ensures { IfOk result (λ r. ReportIs self.now (told r)) }
     {
         let mut report = self.all_but_entries(alloc)?;
-        report.entries = self.journal.as_slice().to_vec(alloc)?;
+        report.entries = entries_of(alloc, &self.journal)?;
         Ok(report)
     }
 
-    /// As `report`, of a book that ends with it: the report takes the journal over, where `report`
-    /// copies it.
+    /// As `report`, of a book that ends with it.
     pub fn into_report(self, alloc: Global) -> Result<Report, Memory>
         ensures { IfOk result (λ r. ReportIs self.entry (told r)) }
     {
-        let mut report = self.all_but_entries(alloc)?;
-        report.entries = self.journal;
-        Ok(report)
+        self.into_run_report(alloc)?.report(alloc)
+    }
+
+    /// As `into_report`, with the journal in the lines in which the book kept it: the report takes them
+    /// over, where the others make an entry of each.
+    pub fn into_run_report(self, alloc: Global) -> Result<RunReport, Memory>
+        ensures { IfOk result (λ r. ReportIs self.entry (told_run r)) }
+    {
+        let rest = self.all_but_entries(alloc)?;
+        let journal = self.journal;
+        Ok(RunReport { journal, rest })
     }
 
     /// The report but for its entries.
@@ -499,6 +508,8 @@ impl<'a> Book<'a> {
     {
         // Its law: a program that retries over a log does so on each state that agrees with the log.
         frame();
+        // Its law: there are few transactions, so that a line has room for the number of each.
+        self.catalogue.rules();
         let number = self.present.number + 1;
         let tx = transaction_of(self.catalogue, &self.submitted, task);
         note_changes(&mut self.changes, writes, &self.present.values);
@@ -528,12 +539,16 @@ impl<'a> Book<'a> {
 }
 
 /// Adds an entry, for which there is room.
-fn enter(journal: &mut Vec<Entry>, entry: Entry)
-    requires { vec_len journal.old < vec_capacity journal.old }
+#[inline(always)]
+fn enter(journal: &mut Vec<Line>, entry: Entry)
+    requires room { vec_len journal.old < vec_capacity journal.old }
+    requires number { entry.number ≤ MAX_TASKS }
+    requires task { entry.task.0 < MAX_TASKS }
+    requires tx { entry.tx.0 < MAX_TRANSACTIONS }
     ensures items { journal.new.items ≡ journal.old.items ++ entry ∷ [] }
     ensures capacity { vec_capacity journal.old ≤ vec_capacity journal.new }
 {
-    match journal.push(entry) {
+    match journal.push(Line::new(entry)) {
         Ok(()) => {}
         Err(_) => unreachable!(),
     }

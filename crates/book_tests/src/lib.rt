@@ -1,4 +1,4 @@
-//! Tests of the public calls of `book`.
+//! Tests of the public calls of `book`, and of the lines in which it keeps its journal, which are of `journal`.
 #![tactic(auto)]
 
 #[cfg(test)]
@@ -11,6 +11,8 @@ mod attempts;
 mod beside;
 #[cfg(test)]
 mod lent;
+#[cfg(test)]
+mod lines;
 #[cfg(test)]
 mod looks;
 #[cfg(test)]

@@ -147,12 +147,16 @@ fn fill<'b, N: Naming>(
             None => next(named)?,
         };
         match size(named, sizes, task) {
-            Size::Light(_) if give_one(trials, task) => {}
+            Size::Light(_) => {
+                if !give_one(trials, task) {
+                    return Some(task);
+                }
+            }
             Size::Short(weight) if weight <= room => {
                 room -= weight;
                 turn(named, every, attempt, task);
             }
-            _ => return Some(task),
+            Size::Short(_) | Size::Long => return Some(task),
         }
         given = None;
     }

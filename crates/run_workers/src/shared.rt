@@ -9,7 +9,7 @@ ghost use Rattle.std.specs.Coded.{codes};
 ghost use Rattle.txn.specs.Codes.{coded_listing};
 ghost use Rattle.txn_programs.specs.declared.limits.TheConstants.{MAX_VARIABLES};
 ghost use Rattle.txn_programs.specs.Listing.{Listing, tasks};
-ghost use Rattle.txn_programs.specs.Told.{told};
+ghost use Rattle.journal.specs.Lines.{told_run};
 ghost use Rattle.txn_programs.specs.LawfulReport.{LawfulReport, BaseReached};
 ghost use Rattle.book.specs.Turns.{IsEndOf, IsIdle, ReportIs};
 ghost use Rattle.run_workers.specs.Journals.{IsShort, KeepsShort};
@@ -20,10 +20,11 @@ use crate::weights::{Size, size_in};
 use attempt::Attempt;
 use book::{Book, Finish, Serial};
 use cells::{Cells, Publisher};
+use journal::RunReport;
 use std::alloc::Global;
 use std::marker::{Brand, PhantomData};
 use std::sync::{Mutex, Wait};
-use txn::{Catalogue, Memory, Report, TaskId};
+use txn::{Catalogue, Memory, TaskId};
 
 /// Which catalogue a run is of, and after how many entries a checkpoint is made, 0 for never. Each
 /// run picks both.
@@ -226,11 +227,11 @@ pub(crate) fn settle<N: Naming>(
     alloc: Global,
     every: u32,
     named: Named<'_, N>,
-) -> Result<Report, Memory>
+) -> Result<RunReport, Memory>
     requires every { every ≡ N.every }
-    ensures lawful { IfOk result (λ r. LawfulReport N.catalogue (told r)) }
-    ensures reached { IfOk result (λ r. BaseReached N.catalogue (told r)) }
-    ensures short { IfOk result (λ r. KeepsShort N.every (told r)) }
+    ensures lawful { IfOk result (λ r. LawfulReport N.catalogue (told_run r)) }
+    ensures reached { IfOk result (λ r. BaseReached N.catalogue (told_run r)) }
+    ensures short { IfOk result (λ r. KeepsShort N.every (told_run r)) }
 {
     let Named { mut book, of: _ } = named;
     book.law();
@@ -239,12 +240,12 @@ pub(crate) fn settle<N: Naming>(
 }
 
 /// The report of a book with no task ready or running, which takes its journal over.
-fn report(alloc: Global, book: Book<'_>) -> Result<Report, Memory>
+fn report(alloc: Global, book: Book<'_>) -> Result<RunReport, Memory>
     requires { IsIdle book }
-    ensures lawful { IfOk result (λ r. LawfulReport book.entry.catalogue (told r)) }
-    ensures reached { IfOk result (λ r. BaseReached book.entry.catalogue (told r)) }
-    ensures is { IfOk result (λ r. ReportIs book.entry (told r)) }
+    ensures lawful { IfOk result (λ r. LawfulReport book.entry.catalogue (told_run r)) }
+    ensures reached { IfOk result (λ r. BaseReached book.entry.catalogue (told_run r)) }
+    ensures is { IfOk result (λ r. ReportIs book.entry (told_run r)) }
 {
     book.law();
-    book.into_report(alloc)
+    book.into_run_report(alloc)
 }

@@ -4,6 +4,7 @@ ghost use Rattle.std.specs.Prelude.{◌≡◌, ◌∷◌, [], length, All, IfOk}
 ghost use Rattle.txn_programs.specs.Told.{told, base_of, now_of};
 ghost use Rattle.txn_programs.specs.LawfulReport.{LawfulReport, BaseReached};
 ghost use Rattle.txn_programs.specs.Standing.{Upholds};
+ghost use Rattle.journal.specs.Lines.{told_run};
 ghost use Rattle.run_workers.specs.Journals.{KeepsShort};
 
 use crate::gate::Gate;
@@ -12,6 +13,7 @@ use crate::threads::start;
 use crate::weights::{Size, are_short, sizes_of};
 use crate::worker::{Crew, work};
 use cells::{Cells, Pass, Publisher};
+use journal::RunReport;
 use run_options::Options;
 use std::alloc::{AllocError, Global};
 use std::marker::Brand;
@@ -42,6 +44,23 @@ pub fn run_tasks<R: Threads + Wait + Sync, G: Gate>(
     ensures upheld { IfOk result (λ r. Upholds catalogue.now (base_of (told r)).state × Upholds catalogue.now (now_of (told r)).state) }
     ensures short { IfOk result (λ r. KeepsShort options.checkpoint (told r)) }
 {
+    run_in_lines(rt, alloc, catalogue, options, gate)?.report(alloc)
+}
+
+/// As `run_tasks`, with the journal in the lines in which the book kept it, for a caller that goes through
+/// it once.
+pub fn run_in_lines<R: Threads + Wait + Sync, G: Gate>(
+    rt: &R,
+    alloc: Global,
+    catalogue: &Catalogue,
+    options: Options,
+    gate: &G,
+) -> Result<RunReport, Memory>
+    ensures lawful { IfOk result (λ r. LawfulReport catalogue.now (told_run r)) }
+    ensures reached { IfOk result (λ r. BaseReached catalogue.now (told_run r)) }
+    ensures upheld { IfOk result (λ r. Upholds catalogue.now (base_of (told_run r)).state × Upholds catalogue.now (now_of (told_run r)).state) }
+    ensures short { IfOk result (λ r. KeepsShort options.checkpoint (told_run r)) }
+{
     let sizes = sizes_under::<G>(alloc, catalogue, options)?;
     if G::IS_OPEN && is_drain(&sizes, catalogue, options) {
         let (cells, publisher) = Cells::unread(alloc, catalogue.initial())?;
@@ -69,14 +88,14 @@ fn drain_named<'b, N: Naming>(
     cells: &'b Cells,
     publisher: Publisher,
     options: Options,
-) -> Result<Report, Memory>
+) -> Result<RunReport, Memory>
     requires named { catalogue.now ≡ N.catalogue }
     requires own { publisher.cells ≡ cells.now }
     requires unused { publisher.history ≡ catalogue.now.initial ∷ [] }
     requires every { options.checkpoint ≡ N.every }
-    ensures lawful { IfOk result (λ r. LawfulReport catalogue.now (told r)) }
-    ensures reached { IfOk result (λ r. BaseReached catalogue.now (told r)) }
-    ensures short { IfOk result (λ r. KeepsShort options.checkpoint (told r)) }
+    ensures lawful { IfOk result (λ r. LawfulReport catalogue.now (told_run r)) }
+    ensures reached { IfOk result (λ r. BaseReached catalogue.now (told_run r)) }
+    ensures short { IfOk result (λ r. KeepsShort options.checkpoint (told_run r)) }
 {
     let named = open::<N>(alloc, catalogue, cells, publisher)?;
     settle(alloc, options.checkpoint(), named)
@@ -93,16 +112,16 @@ fn run_named<'b, R: Threads + Wait + Sync, G: Gate, N: Naming>(
     passes: Vec<Pass>,
     options: Options,
     gate: &G,
-) -> Result<Report, Memory>
+) -> Result<RunReport, Memory>
     requires named { catalogue.now ≡ N.catalogue }
     requires own { publisher.cells ≡ cells.now }
     requires unused { publisher.history ≡ catalogue.now.initial ∷ [] }
     requires passes { All (λ p. p.cells ≡ cells.now) passes.items }
     requires variables { cells.now.variables ≡ length catalogue.now.initial }
     requires every { options.checkpoint ≡ N.every }
-    ensures lawful { IfOk result (λ r. LawfulReport catalogue.now (told r)) }
-    ensures reached { IfOk result (λ r. BaseReached catalogue.now (told r)) }
-    ensures short { IfOk result (λ r. KeepsShort options.checkpoint (told r)) }
+    ensures lawful { IfOk result (λ r. LawfulReport catalogue.now (told_run r)) }
+    ensures reached { IfOk result (λ r. BaseReached catalogue.now (told_run r)) }
+    ensures short { IfOk result (λ r. KeepsShort options.checkpoint (told_run r)) }
 {
     let shared = Mutex::new(open::<N>(alloc, catalogue, cells, publisher)?);
     run_beside(

@@ -111,22 +111,12 @@ pub(crate) fn idle_trials<'b, N: Naming>(
 
 /// Whether none has a task.
 pub(crate) fn are_idle<N: Naming>(trials: &[Trial<'_, N>]) -> bool {
-    for trial in trials {
-        if trial.how != How::Idle {
-            return false;
-        }
-    }
-    true
+    trials.iter().all(|trial| trial.how == How::Idle)
 }
 
 /// Whether each has a task, and there is one.
 pub(crate) fn are_busy<N: Naming>(trials: &[Trial<'_, N>]) -> bool {
-    for trial in trials {
-        if trial.how == How::Idle {
-            return false;
-        }
-    }
-    !trials.is_empty()
+    !trials.is_empty() && trials.iter().all(|trial| trial.how != How::Idle)
 }
 
 /// Gives the task to a trial that has none: whether there was one.

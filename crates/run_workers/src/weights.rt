@@ -22,7 +22,7 @@ const LIGHT: u32 = 2_000;
 /// write, and so make the light ones stale that others are trying just then.
 const PER_SHORT: u32 = 12;
 
-/// How tasks of a transaction are run; a short one with what it weighs.
+/// How tasks of a transaction are run; a short or a light one with what it weighs.
 #[derive(Clone, Copy, Debug, PartialEq, Eq)]
 pub(crate) enum Size {
     /// By a turn under the lock.

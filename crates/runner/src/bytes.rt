@@ -5,15 +5,14 @@ ghost use Rattle.txn_text.specs.Spelling.{Spells};
 ghost use Rattle.run_faults.specs.Failures.{output_failures};
 ghost use Rattle.runner.specs.Running.{Ran};
 
-use crate::pieces::write_report;
+use crate::pieces::{run_values_fit, write_report};
 use run_faults::RunFault;
 use run_options::Options;
 use run_sink::Sink;
-use run_workers::{Gate, run_tasks};
+use run_workers::{Gate, run_in_lines};
 use std::alloc::Global;
 use std::sync::Wait;
 use std::thread::Threads;
-use text_report_printer::values_fit;
 use txn::Catalogue;
 use txn_text::{ReadFault, read_file};
 
@@ -59,9 +58,9 @@ fn run_on<R: Threads + Wait + Sync, G: Gate, S: Sink>(
     ensures flushed { OnOk result (S.flushed sink.new ≡ true) }
     ensures failures { S.failed sink.new ≡ S.failed sink.old + output_failures result }
 {
-    let Ok(report) = run_tasks(rt, alloc, catalogue, options, gate) else {
+    let Ok(report) = run_in_lines(rt, alloc, catalogue, options, gate) else {
         return Err(RunFault::Memory);
     };
-    values_fit(&report);
+    run_values_fit(&report);
     write_report(alloc, catalogue, &report, sink)
 }

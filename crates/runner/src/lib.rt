@@ -1,16 +1,18 @@
 //! The run of all tasks of a file: from bytes to bytes.
 //!
 //! `run_bytes` reads a file, has its tasks run, and writes the report to a sink. `run_tasks`, from
-//! a catalogue to a report, and what it takes are of the crate `run_workers`, and are handed out here, as
-//! are the faults of a run, which are of `run_faults`.
+//! a catalogue to a report, and `run_in_lines`, whose journal stays in the book's lines, are of the crate
+//! `run_workers`, and are handed out here with what they take, as are the faults of a run, which are of
+//! `run_faults`.
 #![tactic(auto)]
 
 mod bytes;
 mod pieces;
 
 pub use bytes::run_bytes;
+pub use journal::{Line, RunReport};
 pub use run_faults::RunFault;
 pub use run_observer::{Observed, observe};
 pub use run_options::Options;
 pub use run_sink::{Out, Sink, SinkFault};
-pub use run_workers::{Gate, OpenGate, Point, run_tasks};
+pub use run_workers::{Gate, OpenGate, Point, run_in_lines, run_tasks};

@@ -4,24 +4,29 @@
 //! whenever less than half of that room is left. So want of memory writes nothing, and a long report
 //! takes no more memory on its way than a short one.
 
-ghost use Rattle.std.specs.Prelude.{◌≡◌, ◌≤◌, ◌<◌, ◌+◌, ◌^◌, [], ◌∷◌, ◌++◌, All, codes, length, string_bytes, string_capacity, string_len, true, IfErr, OnOk, OnErr};
+ghost use Rattle.std.specs.Prelude.{◌≡◌, ◌≤◌, ◌<◌, ◌+◌, ◌*◌, ◌^◌, [], ◌∷◌, ◌++◌, All, codes, length, string_bytes, string_capacity, string_len, true, IfErr, IsOk, OnOk, OnErr};
 ghost use Rattle.std.specs.Fmt.{decimal};
 ghost use Rattle.std.specs.Io.KnownBytes.{Appends, Keeps};
 ghost use Rattle.std.specs.List.{flat_map};
 ghost use Rattle.txn_programs.specs.declared.limits.TheConstants.{MAX_VARIABLES};
 ghost use Rattle.txn_programs.specs.LawfulReport.{FitsCatalogue};
-ghost use Rattle.txn_programs.specs.Told.{told};
+ghost use Rattle.journal.specs.Lines.{told_run};
 ghost use Rattle.text_words.specs.Words.{line};
+ghost use Rattle.text_report_printer.specs.declared.report.TheConstants.{LONGEST};
+ghost use Rattle.text_report_printer.specs.ReportFits.{OutcomesFit, ReportFits};
 ghost use Rattle.text_report_printer.specs.ReportText.{variable_lines, entry_line, task_line, report_text};
 ghost use Rattle.run_faults.specs.Failures.{output_failures};
 ghost use Rattle.runner.specs.Pieces.{Gathers, Breaks};
 ghost use Rattle.runner.specs.Running.{Wrote};
 
+use journal::{Line, RunReport};
 use run_faults::RunFault;
 use run_sink::{Sink, SinkFault, put_all, put_bytes};
-use std::alloc::Global;
-use text_report_printer::{LONGEST, put_entries, put_number, put_tasks, put_variables};
-use txn::{Catalogue, Entry, Report, TaskId, TxId};
+use std::alloc::{AllocError, Global};
+use text_report_printer::{
+    LONGEST, put_entry, put_number, put_tasks, put_variables, value_fits, values_fit,
+};
+use txn::{Catalogue, TaskId, TxId};
 
 /// How many lines are put at once, at most: there are no more variables.
 const AT_ONCE: usize = 256;
@@ -79,27 +84,40 @@ fn put_values<S: Sink>(
     Ok(())
 }
 
-/// Puts a line for each entry.
+/// Puts a line for each of so few lines that the text has room for them.
+fn put_lines(text: &mut String, catalogue: &Catalogue, lines: &[Line]) -> Result<(), AllocError>
+    requires { All (λ e. e.tx.0 < length catalogue.now.transactions) lines.now }
+    ensures text { OnOk result (string_bytes text.new ≡ string_bytes text.old ++ flat_map (entry_line catalogue.now) lines.now) }
+    ensures room { string_len text.old + LONGEST * length lines.now ≤ string_capacity text.old → IsOk result }
+    ensures capacity { string_capacity text.old ≤ string_capacity text.new }
+{
+    'lines: for line in lines {
+        put_entry(text, catalogue, &line.entry())?;
+    }
+    Ok(())
+}
+
+/// Puts a line for each line of the journal.
 fn put_journal<S: Sink>(
     sink: &mut S,
     text: &mut String,
     catalogue: &Catalogue,
-    entries: &[Entry],
+    lines: &[Line],
 ) -> Result<(), SinkFault>
     requires failed { S.failed sink.old < 2 ^ 63 }
     requires room { 65664 ≤ string_capacity text.old }
-    requires known { All (λ e. e.tx.0 < length catalogue.now.transactions) entries.now }
-    ensures gathers { OnOk result (Gathers (S.bytes sink.old) (string_bytes text.old) (S.bytes sink.new) (string_bytes text.new) (flat_map (entry_line catalogue.now) entries.now)) }
+    requires known { All (λ e. e.tx.0 < length catalogue.now.transactions) lines.now }
+    ensures gathers { OnOk result (Gathers (S.bytes sink.old) (string_bytes text.old) (S.bytes sink.new) (string_bytes text.new) (flat_map (entry_line catalogue.now) lines.now)) }
     ensures none_failed { OnOk result (S.failed sink.new ≡ S.failed sink.old) }
-    ensures breaks { OnErr result (Breaks (S.bytes sink.old) (string_bytes text.old) (S.bytes sink.new) (flat_map (entry_line catalogue.now) entries.now)) }
+    ensures breaks { OnErr result (Breaks (S.bytes sink.old) (string_bytes text.old) (S.bytes sink.new) (flat_map (entry_line catalogue.now) lines.now)) }
     ensures one_failed { OnErr result (S.failed sink.new ≡ S.failed sink.old + 1) }
     ensures capacity { string_capacity text.old ≤ string_capacity text.new }
 {
-    let mut rest = entries;
+    let mut rest = lines;
     while !rest.is_empty() {
         make_room(sink, text)?;
         let count = rest.len().min(AT_ONCE);
-        let Ok(()) = put_entries(text, catalogue, &rest[..count]) else {
+        let Ok(()) = put_lines(text, catalogue, &rest[..count]) else {
             unreachable!()
         };
         rest = &rest[count..];
@@ -159,30 +177,24 @@ fn put_report<S: Sink>(
     sink: &mut S,
     text: &mut String,
     catalogue: &Catalogue,
-    report: &Report,
+    report: &RunReport,
 ) -> Result<(), SinkFault>
     requires failed { S.failed sink.old < 2 ^ 63 }
     requires room { 65664 ≤ string_capacity text.old }
-    requires fits { FitsCatalogue catalogue.now (told report.now) }
-    ensures gathers { OnOk result (Gathers (S.bytes sink.old) (string_bytes text.old) (S.bytes sink.new) [] (report_text catalogue.now (told report.entry.now))) }
+    requires fits { FitsCatalogue catalogue.now (told_run report.now) }
+    ensures gathers { OnOk result (Gathers (S.bytes sink.old) (string_bytes text.old) (S.bytes sink.new) [] (report_text catalogue.now (told_run report.entry.now))) }
     ensures flushed { OnOk result (S.flushed sink.new ≡ true) }
     ensures none_failed { OnOk result (S.failed sink.new ≡ S.failed sink.old) }
-    ensures breaks { OnErr result (Breaks (S.bytes sink.old) (string_bytes text.old) (S.bytes sink.new) (report_text catalogue.now (told report.entry.now))) }
+    ensures breaks { OnErr result (Breaks (S.bytes sink.old) (string_bytes text.old) (S.bytes sink.new) (report_text catalogue.now (told_run report.entry.now))) }
     ensures one_failed { OnErr result (S.failed sink.new ≡ S.failed sink.old + 1) }
 {
     catalogue.rules();
-    put_values(
-        sink,
-        text,
-        catalogue,
-        "base",
-        report.base,
-        &report.base_vars,
-    )?;
-    put_journal(sink, text, catalogue, &report.entries)?;
-    put_values(sink, text, catalogue, "now", report.now, &report.now_vars)?;
-    put_all_tasks(sink, text, catalogue, "parked", &report.parked)?;
-    put_all_tasks(sink, text, catalogue, "memory", &report.memory)?;
+    let rest = &report.rest;
+    put_values(sink, text, catalogue, "base", rest.base, &rest.base_vars)?;
+    put_journal(sink, text, catalogue, &report.journal)?;
+    put_values(sink, text, catalogue, "now", rest.now, &rest.now_vars)?;
+    put_all_tasks(sink, text, catalogue, "parked", &rest.parked)?;
+    put_all_tasks(sink, text, catalogue, "memory", &rest.memory)?;
     put_end(sink, text)
 }
 
@@ -191,12 +203,12 @@ fn put_report<S: Sink>(
 pub(crate) fn write_report<S: Sink>(
     alloc: Global,
     catalogue: &Catalogue,
-    report: &Report,
+    report: &RunReport,
     sink: &mut S,
 ) -> Result<(), RunFault>
     requires failed { S.failed sink.old < 2 ^ 63 }
-    requires fits { FitsCatalogue catalogue.now (told report.now) }
-    ensures wrote { Wrote (report_text catalogue.now (told report.entry.now)) (S.bytes sink.old) (S.bytes sink.new) result }
+    requires fits { FitsCatalogue catalogue.now (told_run report.now) }
+    ensures wrote { Wrote (report_text catalogue.now (told_run report.entry.now)) (S.bytes sink.old) (S.bytes sink.new) result }
     ensures flushed { OnOk result (S.flushed sink.new ≡ true) }
     ensures failures { S.failed sink.new ≡ S.failed sink.old + output_failures result }
 {
@@ -207,4 +219,21 @@ pub(crate) fn write_report<S: Sink>(
         Ok(()) => Ok(()),
         Err(_) => return Err(RunFault::Output),
     }
+}
+
+fn lines_fit(lines: &[Line])
+    ensures { OutcomesFit lines.now }
+{
+    'lines: for line in lines {
+        value_fits(&line.entry());
+    }
+}
+
+/// Each value that the report of a run tells is one of 64 signed bits. It does nothing: its contract is the
+/// law.
+pub(crate) fn run_values_fit(report: &RunReport)
+    ensures { ReportFits (told_run report.entry.now) }
+{
+    lines_fit(&report.journal);
+    values_fit(&report.rest);
 }

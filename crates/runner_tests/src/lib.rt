@@ -11,6 +11,8 @@ mod holds;
 #[cfg(test)]
 mod light;
 #[cfg(test)]
+mod lines;
+#[cfg(test)]
 mod long;
 #[cfg(test)]
 mod many;

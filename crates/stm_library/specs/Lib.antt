@@ -16,4 +16,6 @@ pub use Rattle.checker.specs.Verdicts
 pub use Rattle.book.specs.View
 pub use Rattle.book.specs.LawfulBook
 pub use Rattle.book.specs.Turns
+-- journals in lines
+pub use Rattle.journal.specs.Lines
 pub use Rattle.stm_store.specs.Working

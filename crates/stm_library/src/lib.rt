@@ -20,8 +20,8 @@ pub use txn_text::{
 };
 // All tasks of a file, by workers side by side; and what a transaction would end as, meanwhile.
 pub use runner::{
-    Gate, Observed, OpenGate, Options, Out, Point, RunFault, Sink, SinkFault, observe, run_bytes,
-    run_tasks,
+    Gate, Line, Observed, OpenGate, Options, Out, Point, RunFault, RunReport, Sink, SinkFault,
+    observe, run_bytes, run_in_lines, run_tasks,
 };
 // Whether a report is lawful.
 pub use checker::{Part, Verdict, check};

@@ -7,6 +7,6 @@ mod report;
 
 pub use names::{always_name, transaction_name, variable_name};
 pub use report::{
-    LONGEST, print_report, put_entries, put_number, put_outcome, put_tasks, put_variables,
-    values_fit,
+    LONGEST, print_report, put_entries, put_entry, put_number, put_outcome, put_tasks,
+    put_variables, value_fits, values_fit,
 };

@@ -1,6 +1,6 @@
 use Rattle.std.proofs.lemmas.Result.{IfOk-weaker}
-use Rattle.txn_programs.specs.declared.report.Report.{Report}
-use Rattle.txn_programs.specs.Told.{told}
+use Rattle.journal.specs.declared.run_report.RunReport.{RunReport}
+use Rattle.journal.specs.Lines.{told_run}
 use Rattle.txn_programs.specs.LawfulReport.{LawfulReport, BaseReached}
 use Rattle.book.specs.View.{BookView}
 use Rattle.book.specs.Turns.{ReportIs}
@@ -10,11 +10,11 @@ use Rattle.run_workers.proofs.shared.report.Goals as goal
 pub returns-clause-lawful : goal.returns-clause-lawful
 returns-clause-lawful c =
     let b : BookView = c.args.book in
-    IfOk-weaker c.into_report.result (λ (r : Report). ReportIs b (told r)) (λ (r : Report). LawfulReport b.catalogue (told r))
-    (λ (r : Report) (is : ReportIs b (told r)). report_lawful b (told r) c.law.ensures.lawful c.law.ensures.fits c.requires is) c.into_report.ensures
+    IfOk-weaker c.into_run_report.result (λ (r : RunReport). ReportIs b (told_run r)) (λ (r : RunReport). LawfulReport b.catalogue (told_run r))
+    (λ (r : RunReport) (is : ReportIs b (told_run r)). report_lawful b (told_run r) c.law.ensures.lawful c.law.ensures.fits c.requires is) c.into_run_report.ensures
 
 pub returns-clause-reached : goal.returns-clause-reached
 returns-clause-reached c =
     let b : BookView = c.args.book in
-    IfOk-weaker c.into_report.result (λ (r : Report). ReportIs b (told r)) (λ (r : Report). BaseReached b.catalogue (told r))
-    (λ (r : Report) (is : ReportIs b (told r)). report_reached b (told r) c.law.ensures.lawful c.law.ensures.fits c.requires is) c.into_report.ensures
+    IfOk-weaker c.into_run_report.result (λ (r : RunReport). ReportIs b (told_run r)) (λ (r : RunReport). BaseReached b.catalogue (told_run r))
+    (λ (r : RunReport) (is : ReportIs b (told_run r)). report_reached b (told_run r) c.law.ensures.lawful c.law.ensures.fits c.requires is) c.into_run_report.ensures

@@ -2,8 +2,8 @@ use Rattle.std.proofs.Common.{◌∙◌, subst}
 use Rattle.std.proofs.lemmas.Result.{IfOk-weaker}
 use Rattle.std.specs.Prelude.{IfOk}
 use Rattle.txn_programs.specs.Listing.{Listing}
-use Rattle.txn_programs.specs.declared.report.Report.{Report}
-use Rattle.txn_programs.specs.Told.{told}
+use Rattle.journal.specs.declared.run_report.RunReport.{RunReport}
+use Rattle.journal.specs.Lines.{told_run}
 use Rattle.txn_programs.specs.LawfulReport.{LawfulReport, BaseReached}
 use Rattle.book.specs.Turns.{ReportIs}
 use Rattle.run_workers.specs.Journals.{KeepsShort}
@@ -12,15 +12,15 @@ use Rattle.run_workers.proofs.shared.settle.Goals as goal
 
 pub returns-clause-lawful : goal.returns-clause-lawful
 returns-clause-lawful g c =
-    subst (λ (l : Listing). IfOk c.report.result (λ r. LawfulReport l (told r))) (c.drain.ensures.catalogue ∙ c.args.named.of_catalogue) c.report.ensures.lawful
+    subst (λ (l : Listing). IfOk c.report.result (λ r. LawfulReport l (told_run r))) (c.drain.ensures.catalogue ∙ c.args.named.of_catalogue) c.report.ensures.lawful
 
 pub returns-clause-reached : goal.returns-clause-reached
 returns-clause-reached g c =
-    subst (λ (l : Listing). IfOk c.report.result (λ r. BaseReached l (told r))) (c.drain.ensures.catalogue ∙ c.args.named.of_catalogue) c.report.ensures.reached
+    subst (λ (l : Listing). IfOk c.report.result (λ r. BaseReached l (told_run r))) (c.drain.ensures.catalogue ∙ c.args.named.of_catalogue) c.report.ensures.reached
 
 pub returns-clause-short : goal.returns-clause-short
 returns-clause-short g c =
     let named = c.args.named in
     let short = drain_short c.args.every g.N.Naming.every c.requires.every named.book c.law.ensures.lawful named.short c.drain.new.self c.drain.ensures.turns in
-    IfOk-weaker c.report.result (λ (r : Report). ReportIs c.drain.new.self (told r)) (λ (r : Report). KeepsShort g.N.Naming.every (told r))
-    (λ (r : Report) (is : ReportIs c.drain.new.self (told r)). report_short g.N.Naming.every c.drain.new.self (told r) is short) c.report.ensures.is
+    IfOk-weaker c.report.result (λ (r : RunReport). ReportIs c.drain.new.self (told_run r)) (λ (r : RunReport). KeepsShort g.N.Naming.every (told_run r))
+    (λ (r : RunReport) (is : ReportIs c.drain.new.self (told_run r)). report_short g.N.Naming.every c.drain.new.self (told_run r) is short) c.report.ensures.is

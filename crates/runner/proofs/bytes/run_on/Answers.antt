@@ -1,20 +1,20 @@
 use Rattle.std.proofs.Common.{refl}
-use Rattle.txn_programs.specs.Told.{told}
+use Rattle.journal.specs.Lines.{told_run}
 use Rattle.text_report_printer.specs.ReportText.{report_text}
 use Rattle.runner.proofs.Answering.{ran_of}
 use Rattle.runner.proofs.bytes.run_on.Goals as goal
 
 pub returns-clause-ran : goal.returns-clause-ran
 returns-clause-ran g c file spelled =
-    ran_of _ file (report_text c.args.catalogue.now (told c.in-Ok.report)) _ _ c.write_report.result
+    ran_of _ file (report_text c.args.catalogue.now (told_run c.in-Ok.report)) _ _ c.write_report.result
     (record {
       of = record {
         file = c.args.catalogue.now;
         spelled = spelled;
-        report = told c.in-Ok.report;
+        report = told_run c.in-Ok.report;
         lawful = c.in-Ok.ensures.lawful;
         reached = c.in-Ok.ensures.reached;
-        values = c.values_fit.ensures;
+        values = c.run_values_fit.ensures;
         printed = refl;
       };
       short = c.in-Ok.ensures.short;

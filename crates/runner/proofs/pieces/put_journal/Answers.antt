@@ -15,5 +15,5 @@ loop-rest-preserved g c =
       lines = lines_more (entry_line c.args.catalogue.now) _ _ _ _ _ _ _ _ _ _ before.lines c.in_ok-make_room.ensures.gathers c.in-Ok.ensures.text;
       none_failed = c.in_ok-make_room.ensures.none_failed ∙ before.none_failed;
       known = All-take (λ (e : Entry). e.tx.0 < length c.args.catalogue.now.transactions) _ _ (All-drop (λ (e : Entry). e.tx.0 < length c.args.catalogue.now.transactions) _ _ before.known);
-      capacity = omega (arith, before.capacity, c.make_room.ensures.capacity, c.put_entries.ensures.capacity);
+      capacity = omega (arith, before.capacity, c.make_room.ensures.capacity, c.put_lines.ensures.capacity);
     }

@@ -3,7 +3,7 @@ use Rattle.std.specs.Prelude.{codes}
 use Rattle.std.specs.Fmt.{decimal}
 use Rattle.std.specs.List.{flat_map}
 use Rattle.txn_programs.proofs.Lawful.{limits_parts}
-use Rattle.txn_programs.specs.Told.{told}
+use Rattle.journal.specs.Lines.{told_run}
 use Rattle.txn_programs.specs.declared.ast.TaskId.{TaskId}
 use Rattle.txn_programs.specs.declared.ast.TxId.{TxId}
 use Rattle.txn_programs.specs.declared.report.Entry.{Entry}
@@ -27,14 +27,14 @@ put_values-requires-2-clause-few g c =
 pub returns-in_err-put_values-clause-breaks : goal.returns-in_err-put_values-clause-breaks
 returns-in_err-put_values-clause-breaks g c =
     let l = c.args.catalogue.now in
-    let r = told c.args.report.now in
+    let r = told_run c.args.report.now in
     let broke = subst (λ (vs : List (ℤ × ℕ)). Breaks (g.S.Sink.bytes c.args.sink.now) (string_bytes c.args.text.now) (g.S.Sink.bytes c.put_values.new.sink) (line (codes "base" ∷ decimal r.base ∷ []) ++ variable_lines l.names vs)) c.deref.ensures.value c.in_err-put_values.ensures.breaks in
     on_err _ (subst (Breaks (g.S.Sink.bytes c.args.sink.now) (string_bytes c.args.text.now) (g.S.Sink.bytes c.put_values.new.sink)) (parts_are_text l r) (breaks_before (g.S.Sink.bytes c.args.sink.now) (g.S.Sink.bytes c.put_values.new.sink) (string_bytes c.args.text.now) (base_part l r) (behind_base l r) broke))
 
 pub returns-in_err-put_journal-clause-breaks : goal.returns-in_err-put_journal-clause-breaks
 returns-in_err-put_journal-clause-breaks g c =
     let l = c.args.catalogue.now in
-    let r = told c.args.report.now in
+    let r = told_run c.args.report.now in
     let g0 = subst (λ (vs : List (ℤ × ℕ)). Gathers (g.S.Sink.bytes c.args.sink.now) (string_bytes c.args.text.now) (g.S.Sink.bytes c.put_values.new.sink) (string_bytes c.put_values.new.text) (line (codes "base" ∷ decimal r.base ∷ []) ++ variable_lines l.names vs)) c.deref.ensures.value c.in_ok-put_values.ensures.gathers in
     let broke = subst (λ (es : List Entry). Breaks (g.S.Sink.bytes c.put_values.new.sink) (string_bytes c.put_values.new.text) (g.S.Sink.bytes c.put_journal.new.sink) (flat_map (entry_line l) es)) c.deref-2.ensures.value c.in_err-put_journal.ensures.breaks in
     on_err _ (subst (Breaks (g.S.Sink.bytes c.args.sink.now) (string_bytes c.args.text.now) (g.S.Sink.bytes c.put_journal.new.sink)) (parts_are_text l r) (then_breaks (g.S.Sink.bytes c.args.sink.now) (g.S.Sink.bytes c.put_values.new.sink) (g.S.Sink.bytes c.put_journal.new.sink) (string_bytes c.args.text.now) (string_bytes c.put_values.new.text) (base_part l r) (behind_base l r) g0 (breaks_before (g.S.Sink.bytes c.put_values.new.sink) (g.S.Sink.bytes c.put_journal.new.sink) (string_bytes c.put_values.new.text) (journal_part l r) (behind_journal l r) broke)))
@@ -42,7 +42,7 @@ returns-in_err-put_journal-clause-breaks g c =
 pub returns-in_err-put_values-2-clause-breaks : goal.returns-in_err-put_values-2-clause-breaks
 returns-in_err-put_values-2-clause-breaks g c =
     let l = c.args.catalogue.now in
-    let r = told c.args.report.now in
+    let r = told_run c.args.report.now in
     let g0 = subst (λ (vs : List (ℤ × ℕ)). Gathers (g.S.Sink.bytes c.args.sink.now) (string_bytes c.args.text.now) (g.S.Sink.bytes c.put_values.new.sink) (string_bytes c.put_values.new.text) (line (codes "base" ∷ decimal r.base ∷ []) ++ variable_lines l.names vs)) c.deref.ensures.value c.in_ok-put_values.ensures.gathers in
     let g1 = subst (λ (es : List Entry). Gathers (g.S.Sink.bytes c.put_values.new.sink) (string_bytes c.put_values.new.text) (g.S.Sink.bytes c.put_journal.new.sink) (string_bytes c.put_journal.new.text) (flat_map (entry_line l) es)) c.deref-2.ensures.value c.in_ok-put_journal.ensures.gathers in
     let broke = subst (λ (vs : List (ℤ × ℕ)). Breaks (g.S.Sink.bytes c.put_journal.new.sink) (string_bytes c.put_journal.new.text) (g.S.Sink.bytes c.put_values-2.new.sink) (line (codes "now" ∷ decimal r.current ∷ []) ++ variable_lines l.names vs)) c.deref-3.ensures.value c.in_err-put_values-2.ensures.breaks in
@@ -51,7 +51,7 @@ returns-in_err-put_values-2-clause-breaks g c =
 pub returns-in_err-put_all_tasks-clause-breaks : goal.returns-in_err-put_all_tasks-clause-breaks
 returns-in_err-put_all_tasks-clause-breaks g c =
     let l = c.args.catalogue.now in
-    let r = told c.args.report.now in
+    let r = told_run c.args.report.now in
     let g0 = subst (λ (vs : List (ℤ × ℕ)). Gathers (g.S.Sink.bytes c.args.sink.now) (string_bytes c.args.text.now) (g.S.Sink.bytes c.put_values.new.sink) (string_bytes c.put_values.new.text) (line (codes "base" ∷ decimal r.base ∷ []) ++ variable_lines l.names vs)) c.deref.ensures.value c.in_ok-put_values.ensures.gathers in
     let g1 = subst (λ (es : List Entry). Gathers (g.S.Sink.bytes c.put_values.new.sink) (string_bytes c.put_values.new.text) (g.S.Sink.bytes c.put_journal.new.sink) (string_bytes c.put_journal.new.text) (flat_map (entry_line l) es)) c.deref-2.ensures.value c.in_ok-put_journal.ensures.gathers in
     let g2 = subst (λ (vs : List (ℤ × ℕ)). Gathers (g.S.Sink.bytes c.put_journal.new.sink) (string_bytes c.put_journal.new.text) (g.S.Sink.bytes c.put_values-2.new.sink) (string_bytes c.put_values-2.new.text) (line (codes "now" ∷ decimal r.current ∷ []) ++ variable_lines l.names vs)) c.deref-3.ensures.value c.in_ok-put_values-2.ensures.gathers in
@@ -61,7 +61,7 @@ returns-in_err-put_all_tasks-clause-breaks g c =
 pub returns-in_err-put_all_tasks-2-clause-breaks : goal.returns-in_err-put_all_tasks-2-clause-breaks
 returns-in_err-put_all_tasks-2-clause-breaks g c =
     let l = c.args.catalogue.now in
-    let r = told c.args.report.now in
+    let r = told_run c.args.report.now in
     let g0 = subst (λ (vs : List (ℤ × ℕ)). Gathers (g.S.Sink.bytes c.args.sink.now) (string_bytes c.args.text.now) (g.S.Sink.bytes c.put_values.new.sink) (string_bytes c.put_values.new.text) (line (codes "base" ∷ decimal r.base ∷ []) ++ variable_lines l.names vs)) c.deref.ensures.value c.in_ok-put_values.ensures.gathers in
     let g1 = subst (λ (es : List Entry). Gathers (g.S.Sink.bytes c.put_values.new.sink) (string_bytes c.put_values.new.text) (g.S.Sink.bytes c.put_journal.new.sink) (string_bytes c.put_journal.new.text) (flat_map (entry_line l) es)) c.deref-2.ensures.value c.in_ok-put_journal.ensures.gathers in
     let g2 = subst (λ (vs : List (ℤ × ℕ)). Gathers (g.S.Sink.bytes c.put_journal.new.sink) (string_bytes c.put_journal.new.text) (g.S.Sink.bytes c.put_values-2.new.sink) (string_bytes c.put_values-2.new.text) (line (codes "now" ∷ decimal r.current ∷ []) ++ variable_lines l.names vs)) c.deref-3.ensures.value c.in_ok-put_values-2.ensures.gathers in
@@ -72,7 +72,7 @@ returns-in_err-put_all_tasks-2-clause-breaks g c =
 pub returns-clause-gathers : goal.returns-clause-gathers
 returns-clause-gathers g c =
     let l = c.args.catalogue.now in
-    let r = told c.args.report.now in
+    let r = told_run c.args.report.now in
     let g0 = subst (λ (vs : List (ℤ × ℕ)). Gathers (g.S.Sink.bytes c.args.sink.now) (string_bytes c.args.text.now) (g.S.Sink.bytes c.put_values.new.sink) (string_bytes c.put_values.new.text) (line (codes "base" ∷ decimal r.base ∷ []) ++ variable_lines l.names vs)) c.deref.ensures.value c.in_ok-put_values.ensures.gathers in
     let g1 = subst (λ (es : List Entry). Gathers (g.S.Sink.bytes c.put_values.new.sink) (string_bytes c.put_values.new.text) (g.S.Sink.bytes c.put_journal.new.sink) (string_bytes c.put_journal.new.text) (flat_map (entry_line l) es)) c.deref-2.ensures.value c.in_ok-put_journal.ensures.gathers in
     let g2 = subst (λ (vs : List (ℤ × ℕ)). Gathers (g.S.Sink.bytes c.put_journal.new.sink) (string_bytes c.put_journal.new.text) (g.S.Sink.bytes c.put_values-2.new.sink) (string_bytes c.put_values-2.new.text) (line (codes "now" ∷ decimal r.current ∷ []) ++ variable_lines l.names vs)) c.deref-3.ensures.value c.in_ok-put_values-2.ensures.gathers in
@@ -83,7 +83,7 @@ returns-clause-gathers g c =
 pub returns-clause-breaks : goal.returns-clause-breaks
 returns-clause-breaks g c =
     let l = c.args.catalogue.now in
-    let r = told c.args.report.now in
+    let r = told_run c.args.report.now in
     let g0 = subst (λ (vs : List (ℤ × ℕ)). Gathers (g.S.Sink.bytes c.args.sink.now) (string_bytes c.args.text.now) (g.S.Sink.bytes c.put_values.new.sink) (string_bytes c.put_values.new.text) (line (codes "base" ∷ decimal r.base ∷ []) ++ variable_lines l.names vs)) c.deref.ensures.value c.in_ok-put_values.ensures.gathers in
     let g1 = subst (λ (es : List Entry). Gathers (g.S.Sink.bytes c.put_values.new.sink) (string_bytes c.put_values.new.text) (g.S.Sink.bytes c.put_journal.new.sink) (string_bytes c.put_journal.new.text) (flat_map (entry_line l) es)) c.deref-2.ensures.value c.in_ok-put_journal.ensures.gathers in
     let g2 = subst (λ (vs : List (ℤ × ℕ)). Gathers (g.S.Sink.bytes c.put_journal.new.sink) (string_bytes c.put_journal.new.text) (g.S.Sink.bytes c.put_values-2.new.sink) (string_bytes c.put_values-2.new.text) (line (codes "now" ∷ decimal r.current ∷ []) ++ variable_lines l.names vs)) c.deref-3.ensures.value c.in_ok-put_values-2.ensures.gathers in

@@ -9,4 +9,4 @@ abbrev none : Entry
 none = record { number = 0; task = record { 0 = 0 }; tx = record { 0 = 0 }; outcome = Returned (pos 0) }
 
 pub entries-preserved : goal.entries-preserved
-entries-preserved c = All-more (λ (e : Entry). OutcomeFits e.outcome) c.args.entries.now c.entries.entry-index none c.entries-test.true c.entries.invariant c.see_entry.ensures
+entries-preserved c = All-more (λ (e : Entry). OutcomeFits e.outcome) c.args.entries.now c.entries.entry-index none c.entries-test.true c.entries.invariant c.value_fits.ensures

@@ -11,6 +11,8 @@ use Rattle.book.specs.LawfulBook.{LawfulBook, BookFits}
 use Rattle.book.specs.Tasks.{Task}
 use Rattle.book.specs.BookInside.{book_of, with_values}
 use Rattle.std.proofs.lemmas.List.{length-map}
+use Rattle.std.proofs.lemmas.Option.{slice_get_within}
+use Rattle.txn_programs.proofs.Lawful.{limits_parts}
 use Rattle.book.proofs.Laws.{open_count-set, replays_number}
 use Rattle.book.proofs.Filling.{running_without, all_woken}
 use Rattle.book.proofs.Lists.{map_set}
@@ -45,13 +47,31 @@ wake-requires c =
     (subst (λ (m : State). AreChanges m changes) c.deref.ensures.value c.note_changes.ensures.changes)
     (k.fits.values ∙ (sym k.variables ∙ sym (ap (λ (x : TableView). x.variables) c.finish.ensures)))
 
-pub enter-requires : goal.enter-requires
-enter-requires c =
+pub enter-requires-clause-room : goal.enter-requires-clause-room
+enter-requires-clause-room c =
     let k = c.self.invariant in
     let b = book_of c.self.inside in
     let at = subst (λ (b : BookView). IsRunning b c.args.task) (sym c.self.view_is) c.requires.running in
     let n = replays_number b.catalogue b.base b.present b.journal k.lawful.replays in
     omega (arith, k.room, k.fits.counted, n, open_count-set b.tasks c.args.task.0 Running (Done 0) at, length-map c.self.inside.table.tasks (with_values c.self.inside.present.values.items), c.self.inside.journal.ok.0)
+
+pub enter-requires-clause-number : goal.enter-requires-clause-number
+enter-requires-clause-number c =
+    let k = c.self.invariant in
+    let b = book_of c.self.inside in
+    let at = subst (λ (b : BookView). IsRunning b c.args.task) (sym c.self.view_is) c.requires.running in
+    omega (arith, k.fits.counted, k.fits.few, open_count-set b.tasks c.args.task.0 Running (Done 0) at)
+
+pub enter-requires-clause-task : goal.enter-requires-clause-task
+enter-requires-clause-task c =
+    let k = c.self.invariant in
+    let b = book_of c.self.inside in
+    let at = subst (λ (b : BookView). IsRunning b c.args.task) (sym c.self.view_is) c.requires.running in
+    omega (arith, k.fits.few, slice_get_within b.tasks c.args.task.0 Running at)
+
+pub enter-requires-clause-tx : goal.enter-requires-clause-tx
+enter-requires-clause-tx c =
+    omega (arith, c.transaction_of-tx.ensures.known, (limits_parts c.self.inside.catalogue.now c.rules.ensures.limits).transactions)
 
 at_end : (c : After-enter) → IsRunning (book_of c.self.inside) c.args.task
 at_end c = subst (λ (b : BookView). IsRunning b c.args.task) (sym c.self.view_is) c.requires.running

@@ -1,4 +1,4 @@
-use Rattle.run_workers.proofs.tasks.run_tasks.Given as goal
+use Rattle.run_workers.proofs.tasks.run_in_lines.Given as goal
 
 -- the run is of this catalogue, and has these checkpoints
 abbrev pub ghosts-drain_named : goal.ghosts-drain_named
