@@ -44,7 +44,7 @@ def drawn(draw):
     for name, before in [("short", "(skip)"), ("long", reads(700))]:
         text += f"(tx {name} (seq {before} (set {names[0]} (add {names[-1]} 1))) {names[0]})"
     for _ in range(draw.randint(1, 8)):
-        text += f"(run look{draw.choice(looks)} {draw.randint(20, 120)})(run short {draw.randint(1, 3)})"
+        text += f"(run look{draw.choice(looks)} {draw.randint(20, 120)})(run short {draw.randint(1, 9)})"
         text += f"(run long {draw.randint(1, 3)})" * (draw.random() < 0.4)
     return text
 

@@ -5,10 +5,12 @@
 //! worker (`worker`) tries tasks by attempts on its own pass (`trying`), with no lock held, and
 //! brings their ends to the book behind its lock (`shared`). A `Gate` can hold it in between. Under an
 //! open gate it does so with long tasks alone (`weights`): light ones it tries together on a copy of the
-//! present values (`trials`, `rounds`), and short ones have their turn under the lock.
+//! present values (`trials`, `rounds`), and short ones have their turn under the lock, between light ones some at a time
+//! (`held`).
 #![tactic(auto)]
 
 mod gate;
+mod held;
 mod rounds;
 mod shared;
 mod tasks;

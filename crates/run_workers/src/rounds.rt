@@ -5,6 +5,7 @@ ghost use Rattle.txn_programs.specs.Listing.{tasks};
 ghost use Rattle.txn_programs.specs.declared.limits.TheConstants.{MAX_VARIABLES};
 ghost use Rattle.run_workers.specs.declared.trials.How.{How};
 
+use crate::held::hold;
 use crate::shared::{Named, Naming, Tried, drop_task, end, next, present, size, turn};
 use crate::trials::{How, Trial, are_busy, give_one};
 use crate::waiting::lock;
@@ -37,8 +38,8 @@ fn copy(from: &[i64], values: &mut Values)
 }
 
 /// Brings what was tried to the book, and takes the next tasks, all in one time under the lock: a short
-/// one has its turn at once, a light one is given to a trial, and before any other one no more is taken. The
-/// task that was `given` was taken already. What is left is a task that was taken and is still to be run,
+/// one has its turn at once or is held, a light one is given to a trial, and before any other one no more is
+/// taken. The task that was `given` was taken already. What is left is a task that was taken and is still to be run,
 /// `None` if there is none.
 pub(crate) fn round<'b, R: Wait, N: Naming>(
     rt: &R,
@@ -156,7 +157,11 @@ fn fill<'b, N: Naming>(
                 room -= weight;
                 turn(named, every, attempt, task);
             }
-            Size::Short(_) | Size::Long => return Some(task),
+            Size::Held(weight) if weight <= room => {
+                room -= weight;
+                hold(named, every, attempt, task);
+            }
+            Size::Short(_) | Size::Held(_) | Size::Long => return Some(task),
         }
         given = None;
     }

@@ -15,6 +15,7 @@ ghost use Rattle.book.specs.Turns.{IsEndOf, IsIdle, ReportIs};
 ghost use Rattle.run_workers.specs.Journals.{IsShort, KeepsShort};
 ghost use Rattle.run_workers.specs.declared.shared.Tried.TheVariants.{Passed};
 
+use crate::held::Held;
 use crate::waiting::lock;
 use crate::weights::{Size, size_in};
 use attempt::Attempt;
@@ -44,6 +45,8 @@ impl Naming for Brand {
 #[derive(Drop)]
 pub(crate) struct Named<'a, N: Naming> {
     book: Book<'a>,
+    /// Tasks that were taken, and wait for their turns.
+    pub(crate) held: Vec<Held<N>>,
     of: PhantomData<N>,
     ghost of_catalogue: { book.catalogue ≡ N.catalogue } by { Prim.hlevel (codes, coded_listing) },
     ghost short: { IsShort N.every book.base.number (length book.journal) },
@@ -79,6 +82,7 @@ pub(crate) fn open<'a, N: Naming>(
     let book = Book::open(alloc, catalogue, cells, publisher)?;
     Ok(Named {
         book,
+        held: Vec::new(alloc),
         of: PhantomData,
     })
 }
@@ -233,7 +237,11 @@ pub(crate) fn settle<N: Naming>(
     ensures reached { IfOk result (λ r. BaseReached N.catalogue (told_run r)) }
     ensures short { IfOk result (λ r. KeepsShort N.every (told_run r)) }
 {
-    let Named { mut book, of: _ } = named;
+    let Named {
+        mut book,
+        held: _,
+        of: _,
+    } = named;
     book.law();
     book.drain(alloc, every);
     report(alloc, book)

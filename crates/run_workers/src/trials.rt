@@ -18,7 +18,7 @@ use std::marker::PhantomData;
 use txn::{Catalogue, TaskId};
 
 /// How many light tasks a worker has at once. More cost less of the lock, and more of them are stale.
-const TOGETHER: usize = 4;
+const TOGETHER: usize = 6;
 
 /// How a trial stands.
 #[derive(Clone, Copy, Debug, PartialEq, Eq)]

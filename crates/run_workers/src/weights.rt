@@ -22,11 +22,16 @@ const LIGHT: u32 = 2_000;
 /// write, and so make the light ones stale that others are trying just then.
 const PER_SHORT: u32 = 12;
 
-/// How tasks of a transaction are run; a short or a light one with what it weighs.
+/// The same where short ones are held, so that some of them make others stale at once.
+const PER_HELD: u32 = 4;
+
+/// How tasks of a transaction are run; but for long ones with what they weigh.
 #[derive(Clone, Copy, Debug, PartialEq, Eq)]
 pub(crate) enum Size {
     /// By a turn under the lock.
     Short(u32),
+    /// By such a turn, with others together.
+    Held(u32),
     /// By tries on a copy of the present values. It writes nothing.
     Light(u32),
     /// By tries on what a pass reads.
@@ -59,6 +64,11 @@ fn writes(code: &[Op]) -> bool {
     code.iter().any(|op| matches!(*op, Op::Store(_)))
 }
 
+/// Whether the code has a `retry`, so that a task may have to wait for what another one writes.
+fn retries(code: &[Op]) -> bool {
+    code.iter().any(|op| matches!(*op, Op::Back(_)))
+}
+
 /// How tasks of a transaction are run.
 fn size_of(catalogue: &Catalogue, tx: TxId) -> Size
     requires { tx.0 < length catalogue.now.transactions }
@@ -73,33 +83,49 @@ fn size_of(catalogue: &Catalogue, tx: TxId) -> Size
     Size::Light(weight)
 }
 
-/// How tasks of each transaction are run, in their order.
+/// How tasks of each transaction are run, in their order. Short ones between light ones are held where no
+/// task can wait for one of them.
 #[tactic(auto, using(crate::proofs::Few::few_transactions))]
 pub(crate) fn sizes_of(alloc: Global, catalogue: &Catalogue) -> Result<Vec<Size>, AllocError> {
     catalogue.rules();
     let count = catalogue.tx_count();
     let mut sizes = Vec::with_capacity(alloc, count)?;
+    let mut waits = false;
     for place in 0..count {
-        sizes.push(size_of(catalogue, TxId(place as u32)))?;
+        let tx = TxId(place as u32);
+        waits = waits || retries(catalogue.code(tx));
+        sizes.push(size_of(catalogue, tx))?;
     }
-    if !are_mostly_light(&sizes, catalogue.runs()) {
+    let per_short = if waits { PER_SHORT } else { PER_HELD };
+    if !are_mostly_light(&sizes, catalogue.runs(), per_short) {
         shorten(&mut sizes);
+    } else if !waits {
+        hold(&mut sizes);
     }
     Ok(sizes)
 }
 
-/// Whether the runs have so many light tasks for each short one that it pays to try them.
-fn are_mostly_light(sizes: &[Size], runs: &[(TxId, u32)]) -> bool {
+/// Whether the runs have at least so many light tasks for each short one.
+fn are_mostly_light(sizes: &[Size], runs: &[(TxId, u32)], per_short: u32) -> bool {
     let mut light: u32 = 0;
     let mut short: u32 = 0;
     for run in runs {
         match size_in(sizes, run.0) {
             Size::Light(_) => light = light.saturating_add(run.1),
-            Size::Short(_) => short = short.saturating_add(run.1),
+            Size::Short(_) | Size::Held(_) => short = short.saturating_add(run.1),
             Size::Long => {}
         }
     }
-    light / PER_SHORT >= short
+    light >= short.saturating_mul(per_short)
+}
+
+/// Has each short one held.
+fn hold(sizes: &mut [Size]) {
+    for size in sizes.iter_mut() {
+        if let Size::Short(weight) = *size {
+            *size = Size::Held(weight);
+        }
+    }
 }
 
 /// Makes each light one short.

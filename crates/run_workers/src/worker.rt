@@ -108,7 +108,9 @@ fn pass_on<'b, R: Wait, G: Gate, N: Naming>(
     match size_in(crew.sizes.as_slice(), tx) {
         Size::Long => run_task(rt, crew, pass, attempt, task),
         Size::Light(_) if trials.is_empty() => run_task(rt, crew, pass, attempt, task),
-        Size::Short(_) | Size::Light(_) => run_rounds(rt, crew, attempt, trials, task),
+        Size::Short(_) | Size::Held(_) | Size::Light(_) => {
+            run_rounds(rt, crew, attempt, trials, task)
+        }
     }
 }
 

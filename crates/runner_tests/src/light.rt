@@ -11,6 +11,11 @@ use std::thread::Threads;
 const BESIDE_SHORT: &str =
     "(var x 5)(tx look (repeat 50 (if (lt x 0) (throw 1) (skip))) x)(tx inc (set x (add x 1)) 0)(run look 100)(run inc 2)(run look 100)(run inc 2)";
 
+/// 72 of them, and 24 that write what they read, three runs each: more of these than wait together for their
+/// turns, and at the end fewer.
+const BESIDE_MANY: &str =
+    "(var x 5)(tx look (repeat 50 (if (lt x 0) (throw 1) (skip))) x)(tx inc (set x (add x 1)) 0)(run look 24)(run inc 10)(run look 24)(run inc 9)(run look 24)(run inc 5)";
+
 /// 60 of them, and two of some 5,000 instructions between them.
 const BESIDE_LONG: &str =
     "(var x 5)(tx look (repeat 50 (if (lt x 0) (throw 1) (skip))) x)(tx long (seq (repeat 1000 (if (lt x 0) (throw 1) (skip))) (set x (add x 1))) 0)(run look 30)(run long 2)(run look 30)";
@@ -52,6 +57,18 @@ fn light_tasks_run_beside_short_ones(rt: HostRuntime) {
         8,
         "base 200\n",
         "\nnow 204\nx 9 ",
+    );
+}
+
+#[test]
+fn light_tasks_run_beside_many_short_ones(rt: HostRuntime) {
+    expect_parts(
+        &rt,
+        rt.alloc(),
+        BESIDE_MANY,
+        8,
+        "base 90\n",
+        "\nnow 96\nx 29 ",
     );
 }
 
