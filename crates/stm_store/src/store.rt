@@ -21,6 +21,7 @@ ghost use Rattle.stm_store.specs.Working.{TakesJob, Brings, ServedBy, IsTextOf, 
 
 use crate::job::Job;
 use crate::next::{NextFault, next_as, next_of, present_values};
+use crate::opening::cells_for;
 use crate::program::Program;
 use crate::telling::{FileFault, ReportFault, file_of, printed};
 use crate::turns::give_turns;
@@ -64,7 +65,8 @@ impl Store {
     /// 32. Where `every` is not 0, a commit that makes the journal at least so many entries long is
     /// followed by a checkpoint. `Memory` only where a growth was refused.
     ///
-    /// The cells' memory is kept until the process ends, as the program's is.
+    /// The cells' memory is kept until the process ends, as the program's is. A store with no worker has
+    /// cells that nobody reads, so that its commits store no word in them.
     pub fn open(
         alloc: Global,
         program: Program,
@@ -98,7 +100,7 @@ impl Store {
         ensures every { IfOk result (λ s. s.every ≡ every) }
     {
         let catalogue = program.catalogue;
-        let (cells, publisher, passes) = Cells::open(alloc, catalogue.initial(), workers)?;
+        let (cells, publisher, passes) = cells_for(alloc, catalogue, workers)?;
         let Ok(held) = Box::new(alloc, cells) else {
             return Err(Memory);
         };
