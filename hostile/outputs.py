@@ -33,7 +33,13 @@ def try_outputs(trials, program):
         ok = ended.status == wanted[0] and (wanted[1] is None or ended.err == wanted[1]) and ended.out in (b"", b"base 0\n")
         trials.tell(f"{by} {what} {redirect}".rstrip(), [] if ok else [shown(ended)], f"status {wanted[0]}")
 
-    for words in (["run", file], ["check", file, report], ["world", file, schedule], ["explore", file], ["--help"], ["run", "--help"], ["--version"]):
+    writing = [
+        ["run", file], ["check", file, report], ["world", file, schedule], ["explore", file], ["explore", file, "--to", "1"],
+        ["print", file], ["print", file, "--from", report],
+        ["explain", file], ["explain", file, report], ["explain", file, "--schedule", schedule],
+        ["--help"], ["run", "--help"], ["--version"],
+    ]
+    for words in writing:
         for redirect in (FULL, CLOSED):
             expect(" ".join(words), words, UNWRITTEN, redirect)
     expect("run many, read to its first line", ["run", many], (4, None), after='2>said | head -n 1; test "$(cat said)" = "stm: cannot write" && exit 4')
@@ -46,6 +52,12 @@ def try_outputs(trials, program):
         expect(f"check, {what}", ["check", file, path], UNREAD)
         expect(f"world, {what}", ["world", file, path], UNREAD)
         expect(f"explore, {what}", ["explore", path], UNREAD)
+        expect(f"explore --to, {what}", ["explore", path, "--to", "1"], UNREAD)
+        expect(f"print, {what}", ["print", path], UNREAD)
+        expect(f"print --from, {what}", ["print", file, "--from", path], UNREAD)
+        expect(f"explain, {what}", ["explain", path], UNREAD)
+        expect(f"explain a report, {what}", ["explain", file, path], UNREAD)
+        expect(f"explain a schedule, {what}", ["explain", file, "--schedule", path], UNREAD)
     expect("run, a file with no end", ["run", "/dev/zero"], LONG)
     expect("run, a file with no end, of any bytes", ["run", "/dev/urandom"], LONG)
     expect("world, a schedule with no end", ["world", file, "/dev/zero"], (2, b"stm: schedule: F1 TooLong\n"))

@@ -13,6 +13,9 @@ from parts import run, shown
 # In KB. All of it runs in half as much.
 STACK = 256
 
+# How many places of every order are looked at.
+STATES = "300"
+
 FILES = {
     "a sum on the right": f"(var x 0)(tx t (skip) {nested(31, '(add 0 ', 'x')})(run t 3)",
     "a sum on the left": f"(var x 0)(tx t (skip) {nested(31, '(add ', 'x', ' 0)')})(run t 3)",
@@ -40,6 +43,25 @@ SCHEDULES = {
 }
 
 
+def looked_at(trials, small, file):
+    """The other commands on the file, with the report of its last run: how each ended, and whether that is right. Of all
+    orders few places are looked at, for there may be many: more is the status 1."""
+    schedule = trials.write("deep-schedule", "begin 0\ncommit 0\n")
+    calls = [
+        (["world", file, schedule], (0,)),
+        (["explore", file, "--states", STATES], (0, 1)),
+        (["explore", file, "--states", STATES, "--to", "1"], (0, 1)),
+        (["explain", file], (0,)),
+        (["explain", file, "deep-report"], (0,)),
+        (["explain", file, "--schedule", schedule], (0,)),
+        (["print", file], (0,)),
+        (["print", file, "--from", "deep-report"], (0,)),
+    ]
+    for words, statuses in calls:
+        ended = small(words)
+        yield words, ended, ended.status in statuses and ended.err == b"" and ended.out != b""
+
+
 def try_stacks(trials, program):
     by = os.path.basename(program)
     small = lambda words: run(["sh", "-c", f'ulimit -s {STACK}; exec "$@"', "sh", program, *words], trials.folder, {"PATH": "/usr/bin:/bin"})
@@ -53,10 +75,8 @@ def try_stacks(trials, program):
             # There is memory enough: what waits is parked, and nothing is given up for want of it.
             if any(line.startswith(b"memory ") for line in ended.out.splitlines()):
                 faults.append(f"workers {workers}: a task was given up for want of memory")
-        seen = small(["world", file, trials.write("deep-schedule", "begin 0\ncommit 0\n")])
-        if (seen.status, seen.err) != (0, b""):
-            faults.append(f"world: {shown(seen)}")
-        trials.tell(f"{by} in {STACK} KB, {what}", faults, "run by 1 and by 16 workers, checked, begun in a world")
+        faults += [f"{words[0]}: {shown(ended)}" for words, ended, is_right in looked_at(trials, small, file) if not is_right]
+        trials.tell(f"{by} in {STACK} KB, {what}", faults, "run by 1 and by 16 workers, checked, begun in a world, explored, explained, printed")
     file = trials.write("deep", FILES["a sum on the right"])
     for what, schedule in SCHEDULES.items():
         ended = small(["world", file, trials.write("deep-schedule", schedule)])

@@ -1,6 +1,7 @@
 /* 65,536 increments of one variable, by so many threads; prints one line of names and numbers.
  *
- *     bench stm THREADS      a store: milliseconds to read, open, run and report; with one thread nanoseconds of each call
+ *     bench stm THREADS      a store: milliseconds to read, open, run and report; with one thread nanoseconds of each call,
+ *                            of a task by turns and by calls, and microseconds of a chapter's begin after all of them
  *     bench turns THREADS    a store whose tasks have their turns under the lock, up to 1,000 at a time
  *     bench mutex THREADS    the same sum under a mutex
  *     bench itm THREADS      the same sum by the compiler's transactions, where it was built with them
@@ -16,6 +17,7 @@
 enum { TASKS = 65536, STALE_TRIES = 8, MOST = 31, TURNS = 1000 };
 
 static const char FILE_TEXT[] = "(var x 0)\n(tx inc (set x (add x 1)) x)\n(run inc 65536)\n";
+static const char NO_RUNS[] = "(var x 0)\n(tx inc (set x (add x 1)) x)\n";
 static pthread_mutex_t lock = PTHREAD_MUTEX_INITIALIZER;
 static pthread_barrier_t begun;
 static stm_store store;
@@ -128,6 +130,32 @@ static void each_call(stm_worker *worker) {
     printf(" take_ns %.0f try_ns %.0f finish_ns %.0f observe_ns %.0f", taken / TASKS, tried / TASKS, finished / TASKS, observed);
 }
 
+/* A task by calls, and by turns of a worker, both of stores that were opened for one worker. */
+static void calls_and_turns(const stm_program *program) {
+    stm_program bare = {0};
+    stm_worker worker = {0};
+    stm_lender lender = {0};
+    if (stm_open(program, 1, 0, &store) != STM_DONE || stm_hire(&store, &worker) != STM_DONE) fails("no store");
+    double turns = now();
+    if (stm_turns(&store, &worker, TASKS) != TASKS) fails("not all turns were given");
+    turns = (now() - turns) / TASKS;
+    stm_worker_free(&worker);
+    stm_store_free(&store);
+    if (stm_read((const uint8_t *)NO_RUNS, strlen(NO_RUNS), &bare) != STM_DONE) fails("no program");
+    if (stm_open_with_room(&bare, 1, 0, TASKS, &store) != STM_DONE || stm_lend(&store, &lender) != STM_DONE) fails("no store");
+    double calls = now();
+    for (int64_t i = 0; i < TASKS; i++) {
+        if (stm_call(&store, &lender, 0).value != i + 1) fails("a call answers another number");
+    }
+    calls = (now() - calls) / TASKS;
+    double chapter = now();
+    if (stm_begin_chapter(&store) != STM_DONE) fails("no chapter");
+    chapter = now() - chapter;
+    stm_lender_free(&lender);
+    stm_store_free(&store);
+    printf(" turn_ns %.0f call_ns %.0f chapter_us %.1f", turns, calls, chapter / 1e3);
+}
+
 static uint8_t *report(double *cost, size_t *wanted) {
     static uint8_t room[8388608];
     double begin = now();
@@ -157,6 +185,9 @@ static void by_store(int threads, void *(*life)(void *)) {
     if (threads == 1 && life == work) {
         if (stm_open(&program, 1, 0, &store) != STM_DONE || stm_hire(&store, workers) != STM_DONE) fails("no store");
         each_call(workers);
+        stm_worker_free(workers);
+        stm_store_free(&store);
+        calls_and_turns(&program);
     }
     printf("\n");
 }

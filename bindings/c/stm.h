@@ -1,15 +1,19 @@
 /* stm: transactions over named variables, for hosts in C and C++.
  *
- * Link with libstm_c.a (`rt lib` in crates/stm_c) and heap.c, which stands beside this file.
+ * Link with libstm_c.a (`rt lib` in crates/stm_c), and with heap.c and words.c, which stand beside this file.
  *
  * What the host owes, and no call can test:
- *   1. A store's handle is given to one call at a time: its calls stand under a lock of the host's.
- *   2. A worker's handle is given to one call at a time. Its calls need no lock, while other threads
- *      use the store and other workers.
- *   3. A worker is brought to its own store, or to another store of a program that says the same.
- *   4. A new handle is `{0}`. One is copied only to move it: only one copy is used on. What it holds is
+ *   1. A handle is given to one call at a time, but many that take it `const` may be made at once. The calls
+ *      on a store stand under a lock of the host's; those on a worker need none, for one thread has it, while
+ *      others use the store and other workers.
+ *   2. A new handle is `{0}`. One is copied only to move it: only one copy is used on. What it holds is
  *      never written.
- *   5. A pointer that goes with a length is to that many bytes, and is not null even where that is 0.
+ *   3. No pointer is null (`out`, `wanted`, `value` and `version` neither), but one that goes with a length
+ *      of 0: `NULL, 0` for the room asks how much is wanted. A pointer that goes with a length is to that
+ *      many bytes.
+ *   4. What a call may write (a handle that is not `const`, a room, `out`, `wanted`, `value`, `version`)
+ *      overlaps nothing else that it is given.
+ *   5. A call has 64 KB of stack, whatever the file: the deepest that the limits allow take less than half.
  *   6. No call is made from a signal handler, nor from the forked child of a process with threads.
  *
  * What stays in memory until the process ends: what a program says, once for each `stm_read`,
@@ -27,18 +31,18 @@ extern "C" {
 
 /* What the calls answer: 0 or more where they did what they are for, else why not. */
 enum stm_code {
-    /* Done: the attempt ended, the task committed, the transaction returned, the report is good. */
+    /* Done: the attempt ended, the transaction returned, the task is done, the report is good. */
     STM_DONE = 0,
-    /* `finish`, `serial`: the program retries, and the task is parked. `observe`: it retries. */
+    /* The program retries, and the task is parked. `observe`, `try_call`: it retries, and nothing changed. */
     STM_RETRIES = 1,
     /* What was read is no longer so: try again. */
     STM_STALE = 2,
     /* The task was not running, and nothing changed. */
     STM_NOT_RUNNING = 3,
-    /* Want of memory: the task was given up. */
+    /* The task was given up: for want of memory, or (`standing`) by the host. */
     STM_GIVEN_UP = 4,
-    /* `observe`: thrown by the program, with the value; a result outside 64 bits; a division by 0; a
-       standing condition that would not be true, with its number. */
+    /* How a transaction ended that did not return: thrown by the program, with the value; a result outside 64
+       bits; a division by 0; a standing condition that would not be true, with its number. The task is done. */
     STM_THROWN = 5,
     STM_OVERFLOW = 6,
     STM_DIVIDE_BY_ZERO = 7,
@@ -47,6 +51,22 @@ enum stm_code {
     STM_MORE = 9,
     /* `stm_explore_to`: there is no end of that number, and no text. */
     STM_NO_END = 10,
+    /* `turn`: no task is ready, and nothing changed. */
+    STM_IDLE = 11,
+    /* `outcome`: the journal has no entry of the task, for it is not done, or a checkpoint was made since. */
+    STM_NO_ENTRY = 12,
+    /* `standing`: the task can be taken; it was taken. */
+    STM_READY = 13,
+    STM_RUNNING = 14,
+    /* `withdraw`: the task is neither ready nor parked, and nothing changed. */
+    STM_NOT_WAITING = 15,
+    /* `stm_check`: the first part of the report that does not hold. */
+    STM_BAD_TEXT = 101,
+    STM_BAD_BASE = 102,
+    STM_BAD_ENTRIES = 103,
+    STM_BAD_PRESENT = 104,
+    STM_BAD_TASKS = 105,
+    STM_BAD_PARKED = 106,
     /* The file is refused: too long; a byte that is not allowed; not of the grammar; a name; a limit. */
     STM_FILE_TOO_LONG = -1,
     STM_FILE_BAD_BYTE = -2,
@@ -59,21 +79,28 @@ enum stm_code {
     STM_FILE_BROKEN = -7,
     /* The room is too short; how long it has to be was written. */
     STM_SHORT = -8,
-    /* There is no such task, transaction or variable; or the store runs another transaction as this task. */
+    /* There is no such transaction or variable, or no task of this ticket (any more); or (`finish`) the store has
+       no such task, or runs another transaction as it. */
     STM_UNKNOWN = -9,
-    /* More than 32 workers, or no worker left; or the program has no transaction. */
+    /* `open`: more than 32 workers. `hire`: no worker is left. `hire`, `lend`: the program has no transaction. */
     STM_NO_WORKER = -10,
     /* The worker has no ended attempt to bring. */
     STM_NOT_ENDED = -11,
     /* The handle is empty; or `out` is not. */
     STM_EMPTY = -12,
     STM_FULL = -13,
-    /* No room for another task; or there would be more tasks than 65536. */
+    /* The chapter has no room for another task; or it would have more tasks than 65536. */
     STM_NO_ROOM = -14,
     /* A task is ready or running, and the report could not account for it. */
     STM_WORK_LEFT = -15,
     /* The number of places to look at is not from 1 to 16777216. */
     STM_STATES = -16,
+    /* `finish`: the worker is of a program that says otherwise of the transaction, of the standing conditions, or
+       of how many variables there are. Nothing changed. */
+    STM_OTHER_PROGRAM = -17,
+    /* `finish`: the job was taken in another chapter. Its task became ready when that one ended, if it was not
+       over. Nothing changed. */
+    STM_OTHER_CHAPTER = -18,
     /* The schedule is refused, for the reasons of a file. */
     STM_SCHEDULE_TOO_LONG = -21,
     STM_SCHEDULE_BAD_BYTE = -22,
@@ -82,33 +109,51 @@ enum stm_code {
     STM_SCHEDULE_LIMIT = -25
 };
 
-/* A code, and a number that goes with it: of the entry, or what was returned or thrown. */
+/* A code; what was returned (STM_DONE), what was thrown (STM_THROWN) or the number of a condition (STM_BROKEN),
+ * else 0; and the number of the task's entry, 0 where there is none. */
 typedef struct stm_told {
     int32_t code;
     int64_t value;
+    uint64_t entry;
 } stm_told;
 
-/* A task that was taken, and its transaction; the task -1 (or STM_EMPTY) where there is none. */
+/* A task that was taken: its ticket; the chapter in which it was taken, and its number there; and its
+ * transaction. The ticket is -1, STM_UNKNOWN or STM_EMPTY where there is none. */
 typedef struct stm_job {
-    int64_t task;
+    int64_t ticket;
+    uint64_t chapter;
+    uint32_t task;
     uint32_t transaction;
 } stm_job;
 
-/* How many tasks are ready, running, parked, done, and given up for want of memory. */
+/* A turn: the ticket of the task that had it, -1 where none had; its transaction; and how it ended. */
+typedef struct stm_turned {
+    int64_t ticket;
+    uint32_t transaction;
+    int32_t code;
+    int64_t value;
+    uint64_t entry;
+} stm_turned;
+
+/* How many tasks are ready, running, parked, done, and given up. */
 typedef struct stm_counts {
     size_t ready, running, parked, done, given_up;
 } stm_counts;
 
-/* Whole files. `wanted` is how long the text is; with STM_SHORT, how long the room has to be. No
- * report is longer than 8388608 bytes. */
+/* A code's word, which is ASCII, ends in a 0 and stays: "unknown code" where there is no such code. */
+const char *stm_word(int32_t code);
+
+/* Whole files. `wanted` is how long the text is; with STM_SHORT, how long the room has to be; 0 with any other
+ * answer, for there is no text. The room is written only where there is one. No report is longer than 8388608
+ * bytes. */
 
 /* Runs all tasks of the file on the calling thread, and copies the report into the room. A journal of
  * `checkpoint` entries is followed by a checkpoint; 0: never. */
 int32_t stm_run_one(const uint8_t *file, size_t file_length, uint32_t checkpoint, uint8_t *room,
                     size_t room_length, size_t *wanted);
 
-/* Whether the report is lawful for the file: STM_DONE, or 1 to 6 for the first part that does not hold
- * (text, base, entries, present, tasks, parked). */
+/* Whether the report is lawful for the file: STM_DONE, or STM_BAD_TEXT .. STM_BAD_PARKED, by the first part that
+ * does not hold. */
 int32_t stm_check(const uint8_t *file, size_t file_length, const uint8_t *report, size_t report_length);
 
 /* Plays the schedule on the stepped world of the file, and copies what is seen into the room. */
@@ -116,8 +161,8 @@ int32_t stm_world(const uint8_t *file, size_t file_length, const uint8_t *schedu
                   uint8_t *room, size_t room_length, size_t *wanted);
 
 /* Sees every order of the file's tasks, and copies what is found into the room: STM_DONE. At most `states`
- * places are looked at: STM_MORE where more are reached. What is found may be long, so call first with no
- * room where there is no good guess. */
+ * places are looked at: STM_MORE where more are reached. What is found may be long, so call first with
+ * `NULL, 0` for the room where there is no good guess. */
 int32_t stm_explore(const uint8_t *file, size_t file_length, uint32_t states, uint8_t *room, size_t room_length,
                     size_t *wanted);
 
@@ -131,34 +176,41 @@ int32_t stm_explore_to(const uint8_t *file, size_t file_length, uint32_t states,
 typedef struct stm_program { void *at; } stm_program;
 typedef struct stm_store { void *at; } stm_store;
 typedef struct stm_worker { void *at; } stm_worker;
+typedef struct stm_lender { void *at; } stm_lender;
 
 /* Reads a program. */
 int32_t stm_read(const uint8_t *file, size_t file_length, stm_program *out);
 
 /* How many tasks, variables and transactions a program has. 0 of an empty handle. */
-size_t stm_program_tasks(stm_program *program);
-size_t stm_program_variables(stm_program *program);
-size_t stm_program_transactions(stm_program *program);
+size_t stm_program_tasks(const stm_program *program);
+size_t stm_program_variables(const stm_program *program);
+size_t stm_program_transactions(const stm_program *program);
 
 /* The number of the variable or the transaction of this name, or STM_UNKNOWN. */
-int64_t stm_program_variable(stm_program *program, const uint8_t *name, size_t name_length);
-int64_t stm_program_transaction(stm_program *program, const uint8_t *name, size_t name_length);
+int64_t stm_program_variable(const stm_program *program, const uint8_t *name, size_t name_length);
+int64_t stm_program_transaction(const stm_program *program, const uint8_t *name, size_t name_length);
 
 /* Opens a store of the program for at most 32 workers. `checkpoint` is as for `stm_run_one`. */
-int32_t stm_open(stm_program *program, size_t workers, uint32_t checkpoint, stm_store *out);
+int32_t stm_open(const stm_program *program, size_t workers, uint32_t checkpoint, stm_store *out);
 
 /* As `stm_open`, with room for so many tasks more, which can be submitted. STM_NO_ROOM. */
-int32_t stm_open_with_room(stm_program *program, size_t workers, uint32_t checkpoint, size_t spare, stm_store *out);
+int32_t stm_open_with_room(const stm_program *program, size_t workers, uint32_t checkpoint, size_t spare,
+                           stm_store *out);
 
-/* A ready task of the transaction more: its number, STM_NO_ROOM or STM_UNKNOWN. It takes no memory.
+/* Tickets. The host knows a task by its ticket, a number from 0 to 2^62 that stays the task's own through all
+ * chapters of the store. The tasks of the program have 0, 1, .. in the order of the runs, and each task that is
+ * submitted or called has the next one. A task that was done or given up when its chapter ended is gone, and
+ * its ticket is no task's any more: STM_UNKNOWN. */
+
+/* A ready task of the transaction more: its ticket, STM_NO_ROOM or STM_UNKNOWN. It takes no memory.
  * Under the lock. */
 int64_t stm_submit(stm_store *store, uint32_t transaction);
 
-/* How many tasks more can be submitted, and how many there are. 0 of an empty handle. Under the lock. */
+/* How many tasks more the chapter has room for, and how many it has. 0 of an empty handle. Under the lock. */
 size_t stm_store_spare(stm_store *store);
 size_t stm_store_tasks(stm_store *store);
 
-/* How many tasks stand how. Under the lock. */
+/* How many tasks of the chapter stand how. Under the lock. */
 int32_t stm_counted(stm_store *store, stm_counts *out);
 
 /* The present value of the variable of this name, and the number of the last entry that changed it:
@@ -169,27 +221,50 @@ int32_t stm_value(stm_store *store, const uint8_t *name, size_t name_length, int
  * Where it answers STM_MEMORY, the store can make one worker less. Under the lock. */
 int32_t stm_hire(stm_store *store, stm_worker *out);
 
-/* The lowest ready task, which is then running; -1 where none is ready. Under the lock. */
+/* The lowest ready task, which is then running: its ticket; -1 where none is ready. Under the lock. */
 int64_t stm_take(stm_store *store);
 
-/* As `stm_take`, with the transaction that the task runs, which a worker has to be told of a task that
- * was submitted. Under the lock. */
+/* As `stm_take`, with all that a worker has to be told of the task. Under the lock. */
 stm_job stm_take_job(stm_store *store);
 
-/* Evaluates a task of the program on one state, with no lock: STM_DONE, STM_STALE, STM_MEMORY,
- * STM_UNKNOWN. */
+/* The task with the ticket, where it is ready, which is then running; -1 where it is not ready; STM_UNKNOWN.
+ * Under the lock. */
+stm_job stm_claim(stm_store *store, int64_t ticket);
+
+/* Evaluates a job that was taken on one state, with no lock: STM_DONE, STM_STALE, STM_MEMORY, STM_UNKNOWN. */
+int32_t stm_try_job(stm_worker *worker, stm_job job);
+
+/* As `stm_try_job`, of a task of the program by its bare number, which is of the first chapter: so it serves
+ * stores that begin no other, where a task of the program has its number as its ticket. */
 int32_t stm_try(stm_worker *worker, uint32_t task);
 
-/* As `stm_try`, of a task of the store and the transaction that it runs. */
-int32_t stm_worker_try_job(stm_worker *worker, uint32_t task, uint32_t transaction);
-
-/* Brings the worker's ended attempt to the store, under the lock: STM_DONE with the number of the
- * entry, STM_RETRIES (the task is parked), STM_STALE, STM_NOT_RUNNING, STM_NOT_ENDED. */
+/* Brings the worker's ended attempt to the store, under the lock: how the transaction ended (STM_DONE,
+ * STM_THROWN .. STM_BROKEN) with the number of the entry; STM_RETRIES (the task is parked), STM_STALE,
+ * STM_NOT_RUNNING, STM_NOT_ENDED, STM_UNKNOWN, STM_OTHER_PROGRAM, STM_OTHER_CHAPTER. The worker may be of any
+ * store: where its program says otherwise the attempt is refused. Its time grows with the transaction. */
 stm_told stm_finish(stm_store *store, stm_worker *worker);
 
 /* A turn of a running task on the present values, under the lock: as `stm_finish`, never stale;
  * STM_GIVEN_UP; STM_UNKNOWN. */
-stm_told stm_serial(stm_store *store, uint32_t task);
+stm_told stm_serial(stm_store *store, int64_t ticket);
+
+/* An attempt to lend to the calls below: STM_NO_WORKER where there is no transaction. It is no worker of the
+ * store, and may be lent to any. Under the lock. */
+int32_t stm_lend(stm_store *store, stm_lender *out);
+
+/* A task of the transaction more, which has its turn at once, whatever else is ready: its ticket, and the code
+ * STM_DONE or STM_THROWN .. STM_BROKEN with the value and the number of the entry; STM_RETRIES (it is parked),
+ * STM_GIVEN_UP. The ticket -1 and no change: STM_NO_ROOM, STM_UNKNOWN, STM_EMPTY. What it woke is ready.
+ * Under the lock. */
+stm_turned stm_call(stm_store *store, stm_lender *lender, uint32_t transaction);
+
+/* As `stm_call`, but nothing changes where the transaction retries on the present values: the ticket -1 and
+ * STM_RETRIES. Under the lock. */
+stm_turned stm_try_call(stm_store *store, stm_lender *lender, uint32_t transaction);
+
+/* Gives the lowest ready task a turn: as `stm_call`; the ticket -1 and STM_IDLE where none is ready. Under the
+ * lock. */
+stm_turned stm_turn(stm_store *store, stm_lender *lender);
 
 /* Gives the lowest ready task a turn, and then the next one, until so many turns were given or none is
  * ready: how many turns were given, or STM_EMPTY. For short tasks: it costs less than to take, try and
@@ -197,8 +272,31 @@ stm_told stm_serial(stm_store *store, uint32_t task);
  * bring afterwards; it may be of any store. What meets want of memory is given up. Under the lock. */
 int64_t stm_turns(stm_store *store, stm_worker *worker, uint32_t most);
 
-/* A running task is given up, under the lock: STM_DONE, STM_NOT_RUNNING, STM_UNKNOWN. */
-int32_t stm_give_up(stm_store *store, uint32_t task);
+/* A running task is given up: STM_DONE, STM_NOT_RUNNING, STM_UNKNOWN. Under the lock. */
+int32_t stm_give_up(stm_store *store, int64_t ticket);
+
+/* A task that is ready or parked is given up: STM_DONE, STM_NOT_WAITING, STM_UNKNOWN. Under the lock. */
+int32_t stm_withdraw(stm_store *store, int64_t ticket);
+
+/* How the task stands: STM_READY, STM_RUNNING, STM_RETRIES (it is parked), STM_DONE with the number of its entry,
+ * STM_GIVEN_UP; STM_UNKNOWN. Under the lock. */
+stm_told stm_standing(stm_store *store, int64_t ticket);
+
+/* What the task's entry records: as `stm_call`; STM_NO_ENTRY, STM_UNKNOWN. A checkpoint takes the entries away,
+ * so who wants an outcome asks before. Under the lock. */
+stm_told stm_outcome(stm_store *store, int64_t ticket);
+
+/* A new chapter begins where the present one is: the tasks that are ready, running or parked come over with
+ * their tickets, in their order, and are numbered anew. One that was running is ready, and a job of it that was
+ * taken before is refused (STM_OTHER_CHAPTER); one that was parked waits as it did. The journal is empty, and
+ * each task that is done or given up has left its room. The file and the reports are of the chapter. It takes no
+ * memory, and is never refused. Under the lock. */
+int32_t stm_begin_chapter(stm_store *store);
+
+/* The number of the chapter, from 0 on, and how many entries there were in all chapters. 0 of an empty handle.
+ * Under the lock. */
+uint64_t stm_chapter(stm_store *store);
+uint64_t stm_entered(stm_store *store);
 
 /* The base becomes the present, and the journal is empty. Under the lock. */
 int32_t stm_checkpoint(stm_store *store);
@@ -215,62 +313,17 @@ int32_t stm_report_now(stm_store *store, uint8_t *room, size_t room_length, size
 int32_t stm_file(stm_store *store, uint8_t *room, size_t room_length, size_t *wanted);
 
 /* How the transaction would end on one state, with no lock: STM_DONE with the value that it returns,
- * STM_RETRIES, STM_STALE, STM_THROWN .. STM_BROKEN, STM_MEMORY, STM_UNKNOWN. */
+ * STM_RETRIES, STM_STALE, STM_THROWN .. STM_BROKEN, STM_MEMORY, STM_UNKNOWN. It has no entry. */
 stm_told stm_observe(stm_worker *worker, uint32_t transaction);
 
 /* Let go, and leave the handle empty. An empty one stays so. */
 void stm_program_free(stm_program *program);
 void stm_store_free(stm_store *store);
 void stm_worker_free(stm_worker *worker);
+void stm_lender_free(stm_lender *lender);
 
 #ifdef __cplusplus
 }
 #endif
-
-/* Evaluates a job that was taken on one state, with no lock: as `stm_try`. */
-static inline int32_t stm_try_job(stm_worker *worker, stm_job job) {
-    if (!worker->at) return STM_EMPTY;
-    if (job.task < 0 || job.task > 65535) return STM_UNKNOWN;
-    return stm_worker_try_job(worker, (uint32_t)job.task, job.transaction);
-}
-
-/* A code's word. */
-static inline const char *stm_word(int32_t code) {
-    switch (code) {
-    case STM_DONE: return "done";
-    case STM_RETRIES: return "retries";
-    case STM_STALE: return "stale";
-    case STM_NOT_RUNNING: return "not running";
-    case STM_GIVEN_UP: return "given up";
-    case STM_THROWN: return "thrown";
-    case STM_OVERFLOW: return "overflow";
-    case STM_DIVIDE_BY_ZERO: return "divide by zero";
-    case STM_BROKEN: return "broken condition";
-    case STM_MORE: return "more places are reached";
-    case STM_NO_END: return "no such end";
-    case STM_FILE_TOO_LONG: return "file: too long";
-    case STM_FILE_BAD_BYTE: return "file: bad byte";
-    case STM_FILE_SHAPE: return "file: shape";
-    case STM_FILE_NAME: return "file: name";
-    case STM_FILE_LIMIT: return "file: limit";
-    case STM_MEMORY: return "out of memory";
-    case STM_FILE_BROKEN: return "file: broken condition";
-    case STM_SHORT: return "room too short";
-    case STM_UNKNOWN: return "unknown task, transaction or variable";
-    case STM_NO_WORKER: return "no worker";
-    case STM_NOT_ENDED: return "no ended attempt";
-    case STM_EMPTY: return "empty handle";
-    case STM_FULL: return "full handle";
-    case STM_NO_ROOM: return "no room for another task";
-    case STM_WORK_LEFT: return "work left";
-    case STM_STATES: return "number of places out of range";
-    case STM_SCHEDULE_TOO_LONG: return "schedule: too long";
-    case STM_SCHEDULE_BAD_BYTE: return "schedule: bad byte";
-    case STM_SCHEDULE_SHAPE: return "schedule: shape";
-    case STM_SCHEDULE_NAME: return "schedule: name";
-    case STM_SCHEDULE_LIMIT: return "schedule: limit";
-    default: return "unknown code";
-    }
-}
 
 #endif

@@ -30,7 +30,7 @@ static const char *const names[TASKS] = {"test", "link", "compile", "compile", "
 /* What the threads share: the store, behind the lock, and which task each entry is of. */
 static pthread_mutex_t lock = PTHREAD_MUTEX_INITIALIZER;
 static stm_store store;
-static int64_t entry[TASKS];
+static uint64_t entry[TASKS];
 
 static stm_told finish(stm_worker *worker) {
     pthread_mutex_lock(&lock);
@@ -66,7 +66,7 @@ static void *work(void *argument) {
         stm_told told = run(worker, (uint32_t)task);
         if (told.code == STM_DONE) {
             pthread_mutex_lock(&lock);
-            entry[task] = told.value;
+            entry[task] = told.entry;
             pthread_mutex_unlock(&lock);
         }
     }
@@ -103,7 +103,7 @@ int main(int count, char **words) {
     if (code != STM_DONE) return fail("report", code);
     int32_t verdict = stm_check((const uint8_t *)build, strlen(build), report, length);
 
-    for (int64_t number = 1; number <= TASKS; number++) {
+    for (uint64_t number = 1; number <= TASKS; number++) {
         for (int task = 0; task < TASKS; task++) {
             if (entry[task] == number) printf("%s\n", names[task]);
         }

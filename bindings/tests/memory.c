@@ -6,11 +6,12 @@
  */
 #include "stm.h"
 
+#include <stdbool.h>
 #include <stdio.h>
 #include <stdlib.h>
 
 struct block {
-    size_t got;
+    bool got;
     void *at;
 };
 
@@ -51,10 +52,15 @@ static int host(long *kept) {
     stm_program program = {0};
     stm_store store = {0};
     stm_worker worker = {0};
+    stm_lender lender = {0};
     told_of |= stm_read(file, length, &program) == STM_MEMORY;
     *kept = blocks;
     told_of |= stm_open(&program, 2, 0, &store) == STM_MEMORY;
     told_of |= stm_hire(&store, &worker) == STM_MEMORY;
+    told_of |= stm_lend(&store, &lender) == STM_MEMORY;
+    int32_t turned = stm_turn(&store, &lender).code;
+    if (turned == STM_EMPTY ? store.at && lender.at : turned < 0) exit(6);
+    told_of |= turned == STM_GIVEN_UP;
     for (int64_t task; worker.at && (task = stm_take(&store)) >= 0;) {
         int32_t tried = stm_try(&worker, (uint32_t)task);
         if (tried == STM_MEMORY) {
@@ -73,9 +79,36 @@ static int host(long *kept) {
     refused = 0;
     if (code == STM_DONE && stm_check(file, length, room, wanted) != STM_DONE) exit(7);
     stm_worker_free(&worker);
+    stm_lender_free(&lender);
     stm_store_free(&store);
     stm_program_free(&program);
     return told_of;
+}
+
+/* Calls, turns, and all that is asked or done of one task by its ticket, and chapters: none of it takes memory. */
+static int takes_none(void) {
+    static const char text[] = "(var x 0)(tx inc (set x (add x 1)) x)(tx wait (if (lt x 100) (retry) (skip)) x)";
+    stm_program program = {0};
+    stm_store store = {0};
+    stm_lender lender = {0};
+    if (stm_read((const uint8_t *)text, sizeof text - 1, &program) != STM_DONE) return 0;
+    if (stm_open_with_room(&program, 0, 0, 6, &store) != STM_DONE || stm_lend(&store, &lender) != STM_DONE) return 0;
+    long before = requests;
+    for (int chapter = 0; chapter < 50; chapter++) {
+        int64_t ticket = stm_submit(&store, 0), other = stm_submit(&store, 1);
+        if (ticket < 0 || stm_claim(&store, ticket).ticket != ticket || stm_serial(&store, ticket).code != STM_DONE) return 0;
+        if (stm_outcome(&store, ticket).code != STM_DONE || stm_standing(&store, ticket).code != STM_DONE) return 0;
+        int32_t waits = stm_turn(&store, &lender).code;
+        if (waits != STM_RETRIES && waits != STM_DONE) return 0;
+        if (stm_call(&store, &lender, 0).code != STM_DONE || stm_try_call(&store, &lender, 0).code != STM_DONE) return 0;
+        stm_withdraw(&store, other);
+        if (stm_begin_chapter(&store) != STM_DONE) return 0;
+    }
+    int none = requests == before;
+    stm_lender_free(&lender);
+    stm_store_free(&store);
+    stm_program_free(&program);
+    return none;
 }
 
 int main(int count, char **words) {
@@ -100,6 +133,8 @@ int main(int count, char **words) {
             return 3;
         }
     }
+    refused = 0;
+    if (!takes_none()) return 8;
     /* A store: what stays is what the program says, and the cells; a refusal changes nothing of that. */
     long kept, before = blocks;
     refused = 0;

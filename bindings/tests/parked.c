@@ -25,9 +25,9 @@ static void fails(const char *what, int line) {
 static const uint8_t *bytes(const char *text) { return (const uint8_t *)text; }
 
 /* The next job ends so. */
-static void ends(int64_t task, uint32_t transaction, int32_t code) {
+static void ends(int64_t ticket, uint32_t transaction, int32_t code) {
     stm_job job = stm_take_job(&store);
-    wants(job.task == task && job.transaction == transaction);
+    wants(job.ticket == ticket && job.transaction == transaction);
     wants(stm_report_now(&store, &none, 0, &unused) == STM_WORK_LEFT);
     wants(stm_try_job(&worker, job) == STM_DONE);
     wants(stm_finish(&store, &worker).code == code);
@@ -66,12 +66,12 @@ static void empty_handles(void) {
     uint64_t version;
     stm_program program = {0};
     wants(stm_open_with_room(&program, 1, 0, 1, &store) == STM_EMPTY);
-    wants(stm_submit(&store, 0) == STM_EMPTY && stm_take_job(&store).task == STM_EMPTY);
+    wants(stm_submit(&store, 0) == STM_EMPTY && stm_take_job(&store).ticket == STM_EMPTY);
     wants(stm_counted(&store, &counts) == STM_EMPTY);
     wants(stm_value(&store, bytes("full"), 4, &value, &version) == STM_EMPTY);
     wants(stm_file(&store, &none, 0, &unused) == STM_EMPTY && stm_report_now(&store, &none, 0, &unused) == STM_EMPTY);
-    wants(stm_try_job(&worker, (stm_job){0, 0}) == STM_EMPTY);
-    wants(stm_worker_try_job(&worker, 0, 0) == STM_EMPTY && stm_try(&worker, 0) == STM_EMPTY);
+    wants(stm_try_job(&worker, (stm_job){.ticket = 0}) == STM_EMPTY);
+    wants(stm_try(&worker, 0) == STM_EMPTY);
     wants(stm_observe(&worker, 0).code == STM_EMPTY && stm_finish(&store, &worker).code == STM_EMPTY);
     wants(stm_open(&program, 1, 0, &store) == STM_EMPTY && stm_hire(&store, &worker) == STM_EMPTY);
     wants(stm_take(&store) == STM_EMPTY && stm_serial(&store, 0).code == STM_EMPTY);
@@ -116,7 +116,7 @@ static void turns(stm_program *program) {
 
     wants(stm_submit(&store, 1) == 3);
     stm_job job = stm_take_job(&store);
-    wants(job.task == 3 && stm_try_job(&worker, job) == STM_DONE);
+    wants(job.ticket == 3 && stm_try_job(&worker, job) == STM_DONE);
     wants(stm_turns(&store, &worker, UINT32_MAX) == 0 && stm_finish(&store, &worker).code == STM_NOT_ENDED);
     wants(stm_serial(&store, 3).code == STM_DONE && stm_turns(&store, &worker, 1) == 1);
     stand(0, 0, 0, 4);
@@ -133,12 +133,13 @@ int main(void) {
     wants(stm_open_with_room(&program, 1, 0, 3, &store) == STM_FULL);
     wants(stm_hire(&store, &worker) == STM_DONE);
     full_handles(&program);
-    wants(stm_try_job(&worker, (stm_job){-1, 0}) == STM_UNKNOWN && stm_try_job(&worker, (stm_job){0, 2}) == STM_UNKNOWN);
+    wants(stm_try_job(&worker, (stm_job){.ticket = -1}) == STM_UNKNOWN);
+    wants(stm_try_job(&worker, (stm_job){.transaction = 2}) == STM_UNKNOWN);
 
     /* Both wait, and nothing is ready. */
     ends(0, 0, STM_RETRIES);
     ends(1, 0, STM_RETRIES);
-    wants(stm_take_job(&store).task == -1);
+    wants(stm_take_job(&store).ticket == -1);
     stand(0, 0, 2, 0);
     is(0, 0);
     agree(1);

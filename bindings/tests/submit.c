@@ -18,7 +18,7 @@ static int closed;
 static stm_job next(void) {
     pthread_mutex_lock(&lock);
     stm_job job = stm_take_job(&store);
-    while (job.task < 0 && !closed) {
+    while (job.ticket < 0 && !closed) {
         pthread_cond_wait(&more, &lock);
         job = stm_take_job(&store);
     }
@@ -38,12 +38,12 @@ static void run(stm_worker *worker, stm_job job) {
         if (told.code != STM_STALE) return;
     }
     pthread_mutex_lock(&lock);
-    stm_serial(&store, (uint32_t)job.task);
+    stm_serial(&store, job.ticket);
     pthread_mutex_unlock(&lock);
 }
 
 static void *work(void *argument) {
-    for (stm_job job = next(); job.task >= 0; job = next()) run(argument, job);
+    for (stm_job job = next(); job.ticket >= 0; job = next()) run(argument, job);
     return NULL;
 }
 
@@ -51,10 +51,10 @@ static void *work(void *argument) {
 static int submit_all(uint32_t transaction, size_t count, size_t before) {
     for (size_t i = 0; i < count; i++) {
         pthread_mutex_lock(&lock);
-        int64_t task = stm_submit(&store, transaction);
+        int64_t ticket = stm_submit(&store, transaction);
         pthread_cond_signal(&more);
         pthread_mutex_unlock(&lock);
-        if (task != (int64_t)(before + i)) return 0;
+        if (ticket != (int64_t)(before + i)) return 0;
     }
     pthread_mutex_lock(&lock);
     int refused = stm_submit(&store, transaction) == STM_NO_ROOM && stm_submit(&store, UINT32_MAX) == STM_UNKNOWN;
@@ -90,7 +90,7 @@ int main(int count, char **words) {
     int threads = atoi(words[4]);
     stm_program program = {0};
     stm_job none = stm_take_job(&store);
-    if (none.task != STM_EMPTY || stm_submit(&store, 0) != STM_EMPTY) return 2;
+    if (none.ticket != STM_EMPTY || stm_submit(&store, 0) != STM_EMPTY) return 2;
     if (stm_read(file, length, &program) != STM_DONE) return 2;
     size_t tasks = stm_program_tasks(&program);
     int64_t transaction = stm_program_transaction(&program, (const uint8_t *)words[2], strlen(words[2]));

@@ -37,7 +37,7 @@ static int checked(void) {
     struct text report = content(words[3]);
     int32_t part = stm_check(file.bytes, file.length, report.bytes, report.length);
     if (part == STM_DONE) printf("good\n");
-    if (part > 0) printf("bad %d\n", part);
+    if (part > 0) printf("bad %d\n", part - STM_BAD_TEXT + 1);
     return part < 0 ? 2 : 0;
 }
 

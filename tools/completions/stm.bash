@@ -5,9 +5,10 @@ _stm() {
     local options="--help"
     case $command in
     run) options="--workers --tries --checkpoint --help" ;;
-    print) options="--from --help" ;;
+    check) options="--after --help" ;;
+    print) options="--from --after --help" ;;
     explore) options="--states --to --help" ;;
-    explain) options="--schedule --help" ;;
+    explain) options="--schedule --after --help" ;;
     esac
     if [ "$COMP_CWORD" -eq 1 ]; then
         COMPREPLY=($(compgen -W "$commands --help --version" -- "$word"))

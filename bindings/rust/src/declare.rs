@@ -78,6 +78,34 @@ pub fn rem(left: impl Into<Expr>, right: impl Into<Expr>) -> Expr {
     left.into() % right.into()
 }
 
+/// The sum of all, and 0 of none. `a + b + c ..` opens a parenthesis more for each part, of which a file has at
+/// most 32 open at a time; this one opens as few as can be: neighbours are added, and then their sums.
+///
+/// ```
+/// use stm::{skip, sum, Declare};
+///
+/// let mut bank = Declare::new();
+/// let accounts: Vec<_> = (0..200).map(|i| bank.var(&format!("account{i}"), i)).collect();
+/// bank.tx("audit", skip(), sum(&accounts));
+/// let store = stm::Store::open(&bank.program()?, 1, 0)?;
+/// assert_eq!(store.worker()?.observe(0), Ok(stm::Observed::Returned(19_900)));
+/// # Ok::<(), stm::Error>(())
+/// ```
+pub fn sum<E: Into<Expr>>(parts: impl IntoIterator<Item = E>) -> Expr {
+    let mut row: Vec<Expr> = parts.into_iter().map(Into::into).collect();
+    while row.len() > 1 {
+        let mut parts = row.into_iter();
+        row = Vec::new();
+        while let Some(left) = parts.next() {
+            row.push(match parts.next() {
+                Some(right) => left + right,
+                None => left,
+            });
+        }
+    }
+    row.pop().unwrap_or(int(0))
+}
+
 /// Whether they are equal.
 pub fn eq(left: impl Into<Expr>, right: impl Into<Expr>) -> Cond {
     Cond(two("eq", left.into(), right.into()))
@@ -156,6 +184,9 @@ pub fn throw(value: impl Into<Expr>) -> Stmt {
 
 /// The declarations of a program.
 ///
+/// A name is a letter, and then letters, digits and `_`. Where another word was to be declared, `text` and
+/// `program` answer `Name`.
+///
 /// ```
 /// use stm::{le, lt, seq, set, var, when, retry, skip, Declare};
 ///
@@ -184,6 +215,13 @@ pub struct Declare {
     always: String,
     txs: String,
     runs: String,
+    has_wrong_name: bool,
+}
+
+/// A letter, and then letters, digits and `_`.
+fn is_name(word: &str) -> bool {
+    word.starts_with(|first: char| first.is_ascii_alphabetic())
+        && word.bytes().all(|byte| byte.is_ascii_alphanumeric() || byte == b'_')
 }
 
 impl Declare {
@@ -192,21 +230,34 @@ impl Declare {
         Declare::default()
     }
 
+    /// The word where it is a name; else none, with which nothing is declared here nor anywhere else.
+    fn named(&mut self, word: &str) -> String {
+        self.has_wrong_name |= !is_name(word);
+        if is_name(word) {
+            word.to_string()
+        } else {
+            String::new()
+        }
+    }
+
     /// A variable with its initial value.
     pub fn var(&mut self, name: &str, value: i64) -> Var {
+        let name = self.named(name);
         let _ = writeln!(self.vars, "(var {name} {value})");
-        Var(name.to_string())
+        Var(name)
     }
 
     /// A standing condition, which each state keeps.
     pub fn always(&mut self, name: &str, cond: Cond) {
+        let name = self.named(name);
         let _ = writeln!(self.always, "(always {name} {})", cond.0);
     }
 
     /// A transaction: a body, and a result that sees what the body wrote.
     pub fn tx(&mut self, name: &str, body: Stmt, result: impl Into<Expr>) -> Tx {
+        let name = self.named(name);
         let _ = writeln!(self.txs, "(tx {name} {} {})", body.0, result.into().0);
-        Tx(name.to_string())
+        Tx(name)
     }
 
     /// So many tasks that run the transaction.
@@ -214,13 +265,16 @@ impl Declare {
         let _ = writeln!(self.runs, "(run {} {times})", tx.0);
     }
 
-    /// The text of a file of form 2.
-    pub fn text(&self) -> String {
-        format!("(stm 2)\n{}{}{}{}", self.vars, self.always, self.txs, self.runs)
+    /// The text of a file of form 2; `Name` where a word was to be declared that is no name.
+    pub fn text(&self) -> Result<String, Error> {
+        if self.has_wrong_name {
+            return Err(Error::Name);
+        }
+        Ok(format!("(stm 2)\n{}{}{}{}", self.vars, self.always, self.txs, self.runs))
     }
 
     /// The program, or why the file is refused.
     pub fn program(&self) -> Result<Program, Error> {
-        Program::read(&self.text())
+        Program::read(&self.text()?)
     }
 }

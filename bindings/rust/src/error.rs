@@ -1,5 +1,6 @@
 //! Why a call answered nothing.
 
+use crate::answers::Ticket;
 use std::fmt;
 
 /// Why a call answered nothing. Nothing changed then, unless the call says more.
@@ -9,7 +10,8 @@ pub enum Error {
     TooLong,
     /// A byte is not one of those that a file may have.
     BadByte,
-    /// The file is not of the grammar.
+    /// The file is not of the grammar, or has more than 32 parentheses open at a time: a declared one may nest
+    /// too deep. `sum` of many parts nests as little as can be.
     Shape,
     /// A name is declared twice, or not at all, or has not the form of one.
     Name,
@@ -19,12 +21,17 @@ pub enum Error {
     Broken,
     /// A growth was refused.
     Memory,
-    /// There is no such task, transaction or variable.
-    Unknown,
-    /// A store has at most 32 workers, and as many as it was opened for; its program has to have a
-    /// transaction.
+    /// The program has no transaction of this number.
+    UnknownTransaction(u32),
+    /// The program has no task of this number.
+    UnknownTask(u32),
+    /// The store has no task of this ticket, or not any more: it was over when its chapter ended.
+    UnknownTicket(Ticket),
+    /// A store is opened for at most 32 workers.
+    TooManyWorkers,
+    /// A store has as many workers as it was opened for; and its program has to have a transaction.
     NoWorker,
-    /// There is no room for another task, or there would be more than 65,536 tasks.
+    /// The chapter has no room for another task, or it would have more than 65,536 tasks.
     NoRoom,
     /// A task is ready or running, and the report could not account for it.
     WorkLeft,
@@ -36,7 +43,8 @@ pub enum Error {
     NoEnd,
     /// The schedule is refused. The fault is what a file would have been refused for.
     Schedule(ScheduleFault),
-    /// A worker was brought to the store of another program.
+    /// A worker was brought to the store of a program that says otherwise of the transaction, of the standing
+    /// conditions, or of how many variables there are.
     OtherProgram,
 }
 
@@ -52,7 +60,12 @@ pub enum ScheduleFault {
 
 impl fmt::Display for Error {
     fn fmt(&self, out: &mut fmt::Formatter<'_>) -> fmt::Result {
-        out.write_str(match self {
+        let text = match self {
+            Error::UnknownTransaction(number) => return write!(out, "there is no transaction {number}"),
+            Error::UnknownTask(number) => return write!(out, "the program has no task {number}"),
+            Error::UnknownTicket(Ticket(number)) => {
+                return write!(out, "there is no task with the ticket {number}")
+            }
             Error::TooLong => "the file is too long",
             Error::BadByte => "the file has a byte that is not allowed",
             Error::Shape => "the file is not of the grammar",
@@ -60,7 +73,7 @@ impl fmt::Display for Error {
             Error::Limit => "the file passes a limit",
             Error::Broken => "a standing condition is not true of the initial values",
             Error::Memory => "out of memory",
-            Error::Unknown => "there is no such task, transaction or variable",
+            Error::TooManyWorkers => "a store has at most 32 workers",
             Error::NoWorker => "the store has no worker left",
             Error::NoRoom => "there is no room for another task",
             Error::WorkLeft => "a task is ready or running",
@@ -73,7 +86,8 @@ impl fmt::Display for Error {
             Error::Schedule(ScheduleFault::Name) => "a name of the schedule is wrong",
             Error::Schedule(ScheduleFault::Limit) => "the schedule passes a limit",
             Error::OtherProgram => "the worker is of another program",
-        })
+        };
+        out.write_str(text)
     }
 }
 

@@ -2,7 +2,8 @@
 //!
 //! A [`Program`] declares variables, standing conditions, transactions and tasks. A [`Store`] has
 //! its tasks, its journal and its present values; threads share it by a reference. A [`Worker`] is
-//! what one thread has: it evaluates a task without a lock, and brings the end to the store.
+//! what one thread has: it evaluates a task without a lock, and brings the end to the store. [`Store::call`] runs
+//! a transaction at once, and answers how it ended.
 //!
 //! ```
 //! use stm::{set, var, Declare};
@@ -19,17 +20,21 @@
 //! # Ok::<(), stm::Error>(())
 //! ```
 
+#![deny(unsafe_code)]
+
+mod answers;
 mod declare;
 mod error;
 mod raw;
 mod store;
 
+pub use answers::{Brought, End, Entered, Job, Observed, Outcome, Standing, Ticket, Tried, Turned};
 pub use declare::{
-    and, div, eq, int, le, lt, not, or, or_else, rem, repeat, retry, seq, set, skip, throw, var, when, Cond,
-    Declare, Expr, Stmt, Tx, Var,
+    and, div, eq, int, le, lt, not, or, or_else, rem, repeat, retry, seq, set, skip, sum, throw, var, when,
+    Cond, Declare, Expr, Stmt, Tx, Var,
 };
 pub use error::{Error, ScheduleFault};
-pub use raw::{Brought, Counts, Job, Observed, Tried, Verdict};
+pub use raw::{Counts, Part, Verdict};
 pub use store::{run, run_with, Program, Retry, Store, Worker};
 
 /// All tasks of a file, one after another on this thread: its report. A journal of `checkpoint`

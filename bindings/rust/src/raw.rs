@@ -1,8 +1,58 @@
-//! The calls of the static library. This is the one file with `unsafe`: nothing checks the
-//! declarations against the library's, and what a call owes is said where it is made.
+//! The calls of the static library. This is the one file with `unsafe`: what a call owes is said where it is
+//! made. `bindings/declarations` compares codes, structs and calls with those of `bindings/c/stm.h`.
 
+#![allow(unsafe_code)]
+
+use crate::answers::{Brought, End, Entered, Job, Observed, Outcome, Standing, Ticket, Tried, Turned};
 use crate::error::{Error, ScheduleFault};
 use std::ffi::c_void;
+
+/// What the calls answer, by the names of the header.
+mod code {
+    pub const DONE: i32 = 0;
+    pub const RETRIES: i32 = 1;
+    pub const STALE: i32 = 2;
+    pub const NOT_RUNNING: i32 = 3;
+    pub const GIVEN_UP: i32 = 4;
+    pub const THROWN: i32 = 5;
+    pub const OVERFLOW: i32 = 6;
+    pub const DIVIDE_BY_ZERO: i32 = 7;
+    pub const BROKEN: i32 = 8;
+    pub const MORE: i32 = 9;
+    pub const NO_END: i32 = 10;
+    pub const IDLE: i32 = 11;
+    pub const NO_ENTRY: i32 = 12;
+    pub const READY: i32 = 13;
+    pub const RUNNING: i32 = 14;
+    pub const NOT_WAITING: i32 = 15;
+    pub const BAD_TEXT: i32 = 101;
+    pub const BAD_BASE: i32 = 102;
+    pub const BAD_ENTRIES: i32 = 103;
+    pub const BAD_PRESENT: i32 = 104;
+    pub const BAD_TASKS: i32 = 105;
+    pub const BAD_PARKED: i32 = 106;
+    pub const FILE_TOO_LONG: i32 = -1;
+    pub const FILE_BAD_BYTE: i32 = -2;
+    pub const FILE_SHAPE: i32 = -3;
+    pub const FILE_NAME: i32 = -4;
+    pub const FILE_LIMIT: i32 = -5;
+    pub const MEMORY: i32 = -6;
+    pub const FILE_BROKEN: i32 = -7;
+    pub const SHORT: i32 = -8;
+    pub const UNKNOWN: i32 = -9;
+    pub const NO_WORKER: i32 = -10;
+    pub const NOT_ENDED: i32 = -11;
+    pub const NO_ROOM: i32 = -14;
+    pub const WORK_LEFT: i32 = -15;
+    pub const STATES: i32 = -16;
+    pub const OTHER_PROGRAM: i32 = -17;
+    pub const OTHER_CHAPTER: i32 = -18;
+    pub const SCHEDULE_TOO_LONG: i32 = -21;
+    pub const SCHEDULE_BAD_BYTE: i32 = -22;
+    pub const SCHEDULE_SHAPE: i32 = -23;
+    pub const SCHEDULE_NAME: i32 = -24;
+    pub const SCHEDULE_LIMIT: i32 = -25;
+}
 
 #[repr(C)]
 struct Handle {
@@ -13,12 +63,24 @@ struct Handle {
 struct Told {
     code: i32,
     value: i64,
+    entry: u64,
 }
 
 #[repr(C)]
 struct Taken {
-    task: i64,
+    ticket: i64,
+    chapter: u64,
+    task: u32,
     transaction: u32,
+}
+
+#[repr(C)]
+struct TurnTold {
+    ticket: i64,
+    transaction: u32,
+    code: i32,
+    value: i64,
+    entry: u64,
 }
 
 /// How many tasks stand how. Together they are all tasks.
@@ -33,15 +95,8 @@ pub struct Counts {
     pub parked: usize,
     /// They committed.
     pub done: usize,
-    /// They met want of memory.
+    /// They were given up, for want of memory or by the host.
     pub given_up: usize,
-}
-
-/// A task that was taken, and the transaction that it runs.
-#[derive(Clone, Copy, Debug, PartialEq, Eq)]
-pub struct Job {
-    pub task: u32,
-    pub transaction: u32,
 }
 
 extern "C" {
@@ -82,11 +137,11 @@ extern "C" {
     ) -> i32;
     fn stm_read(file: *const u8, file_length: usize, out: *mut Handle) -> i32;
     fn stm_program_free(program: *mut Handle);
-    fn stm_program_tasks(program: *mut Handle) -> usize;
-    fn stm_program_variable(program: *mut Handle, name: *const u8, name_length: usize) -> i64;
-    fn stm_program_transaction(program: *mut Handle, name: *const u8, name_length: usize) -> i64;
+    fn stm_program_tasks(program: *const Handle) -> usize;
+    fn stm_program_variable(program: *const Handle, name: *const u8, name_length: usize) -> i64;
+    fn stm_program_transaction(program: *const Handle, name: *const u8, name_length: usize) -> i64;
     fn stm_open_with_room(
-        program: *mut Handle,
+        program: *const Handle,
         workers: usize,
         checkpoint: u32,
         spare: usize,
@@ -107,15 +162,27 @@ extern "C" {
         version: *mut u64,
     ) -> i32;
     fn stm_finish(store: *mut Handle, worker: *mut Handle) -> Told;
-    fn stm_serial(store: *mut Handle, task: u32) -> Told;
+    fn stm_serial(store: *mut Handle, ticket: i64) -> Told;
+    fn stm_claim(store: *mut Handle, ticket: i64) -> Taken;
+    fn stm_lend(store: *mut Handle, out: *mut Handle) -> i32;
+    fn stm_lender_free(lender: *mut Handle);
+    fn stm_call(store: *mut Handle, lender: *mut Handle, transaction: u32) -> TurnTold;
+    fn stm_try_call(store: *mut Handle, lender: *mut Handle, transaction: u32) -> TurnTold;
+    fn stm_turn(store: *mut Handle, lender: *mut Handle) -> TurnTold;
     fn stm_turns(store: *mut Handle, worker: *mut Handle, most: u32) -> i64;
-    fn stm_give_up(store: *mut Handle, task: u32) -> i32;
+    fn stm_give_up(store: *mut Handle, ticket: i64) -> i32;
+    fn stm_withdraw(store: *mut Handle, ticket: i64) -> i32;
+    fn stm_standing(store: *mut Handle, ticket: i64) -> Told;
+    fn stm_outcome(store: *mut Handle, ticket: i64) -> Told;
+    fn stm_begin_chapter(store: *mut Handle) -> i32;
+    fn stm_chapter(store: *mut Handle) -> u64;
+    fn stm_entered(store: *mut Handle) -> u64;
     fn stm_checkpoint(store: *mut Handle) -> i32;
     fn stm_report(store: *mut Handle, room: *mut u8, room_length: usize, wanted: *mut usize) -> i32;
     fn stm_report_now(store: *mut Handle, room: *mut u8, room_length: usize, wanted: *mut usize) -> i32;
     fn stm_file(store: *mut Handle, room: *mut u8, room_length: usize, wanted: *mut usize) -> i32;
     fn stm_try(worker: *mut Handle, task: u32) -> i32;
-    fn stm_worker_try_job(worker: *mut Handle, task: u32, transaction: u32) -> i32;
+    fn stm_try_job(worker: *mut Handle, job: Taken) -> i32;
     fn stm_observe(worker: *mut Handle, transaction: u32) -> Told;
     fn stm_worker_free(worker: *mut Handle);
 }
@@ -124,77 +191,47 @@ extern "C" {
 #[derive(Clone, Copy, Debug, PartialEq, Eq)]
 pub enum Verdict {
     Good,
-    /// The first part, 1 to 6, that does not hold: text, base, entries, present, tasks, parked.
-    Bad(u8),
+    /// The first part that does not hold.
+    Bad(Part),
 }
 
-/// How a try ended.
+/// A part of a report.
 #[derive(Clone, Copy, Debug, PartialEq, Eq)]
-pub enum Tried {
-    /// Bring it to the store.
-    Ended,
-    /// What was read is no longer so: try again.
-    Stale,
-    /// A growth was refused: give the task up, or try again.
-    Memory,
-}
-
-/// What became of a task.
-#[derive(Clone, Copy, Debug, PartialEq, Eq)]
-pub enum Brought {
-    /// It is done, with the journal entry of this number.
-    Committed(u64),
-    /// Its program retries: it waits for a change of what it read.
+pub enum Part {
+    /// It is not the text of a report of the file.
+    Text,
+    /// What it begins with.
+    Base,
+    /// The entries, each on the state that those before it left.
+    Entries,
+    /// The values and versions that the entries lead to.
+    Present,
+    /// Each task is accounted for once.
+    Tasks,
+    /// A parked task retries on the present values.
     Parked,
-    /// What it read is no longer so: try again.
-    Stale,
-    /// It was not running, and nothing changed.
-    NotRunning,
-    /// Want of memory: it was given up.
-    GivenUp,
-    /// The worker has no ended attempt.
-    NotEnded,
-    /// The store has no such task, or runs another transaction as it: nothing changed.
-    OtherTask,
-}
-
-/// How a transaction would end.
-#[derive(Clone, Copy, Debug, PartialEq, Eq)]
-pub enum Observed {
-    Returned(i64),
-    Retries,
-    Thrown(i64),
-    Overflow,
-    DivideByZero,
-    /// It would break the standing condition of this number.
-    Broken(u32),
-    /// What was read is no longer so: try again.
-    Stale,
-    /// A growth was refused.
-    Memory,
 }
 
 fn error_of(code: i32) -> Error {
     match code {
-        -1 => Error::TooLong,
-        -2 => Error::BadByte,
-        -3 => Error::Shape,
-        -4 => Error::Name,
-        -5 => Error::Limit,
-        -6 => Error::Memory,
-        -7 => Error::Broken,
-        -9 => Error::Unknown,
-        -10 => Error::NoWorker,
-        -14 => Error::NoRoom,
-        -15 => Error::WorkLeft,
-        -16 => Error::States,
-        9 => Error::MoreStates,
-        10 => Error::NoEnd,
-        -21 => Error::Schedule(ScheduleFault::TooLong),
-        -22 => Error::Schedule(ScheduleFault::BadByte),
-        -23 => Error::Schedule(ScheduleFault::Shape),
-        -24 => Error::Schedule(ScheduleFault::Name),
-        -25 => Error::Schedule(ScheduleFault::Limit),
+        code::FILE_TOO_LONG => Error::TooLong,
+        code::FILE_BAD_BYTE => Error::BadByte,
+        code::FILE_SHAPE => Error::Shape,
+        code::FILE_NAME => Error::Name,
+        code::FILE_LIMIT => Error::Limit,
+        code::MEMORY => Error::Memory,
+        code::FILE_BROKEN => Error::Broken,
+        code::NO_WORKER => Error::NoWorker,
+        code::NO_ROOM => Error::NoRoom,
+        code::WORK_LEFT => Error::WorkLeft,
+        code::STATES => Error::States,
+        code::MORE => Error::MoreStates,
+        code::NO_END => Error::NoEnd,
+        code::SCHEDULE_TOO_LONG => Error::Schedule(ScheduleFault::TooLong),
+        code::SCHEDULE_BAD_BYTE => Error::Schedule(ScheduleFault::BadByte),
+        code::SCHEDULE_SHAPE => Error::Schedule(ScheduleFault::Shape),
+        code::SCHEDULE_NAME => Error::Schedule(ScheduleFault::Name),
+        code::SCHEDULE_LIMIT => Error::Schedule(ScheduleFault::Limit),
         other => unreachable!("the library answers {other}"),
     }
 }
@@ -205,11 +242,11 @@ fn text(mut call: impl FnMut(&mut [u8], &mut usize) -> i32) -> Result<String, Er
     loop {
         let mut wanted = 0;
         match call(&mut room, &mut wanted) {
-            0 => {
+            code::DONE => {
                 room.truncate(wanted);
                 return Ok(String::from_utf8(room).expect("the library's texts are ASCII"));
             }
-            -8 => room.resize(wanted, 0),
+            code::SHORT => room.resize(wanted, 0),
             code => return Err(error_of(code)),
         }
     }
@@ -225,8 +262,13 @@ pub fn run_one(file: &[u8], checkpoint: u32) -> Result<String, Error> {
 pub fn check(file: &[u8], report: &[u8]) -> Result<Verdict, Error> {
     // SAFETY: as `run_one`.
     match unsafe { stm_check(file.as_ptr(), file.len(), report.as_ptr(), report.len()) } {
-        0 => Ok(Verdict::Good),
-        part @ 1..=6 => Ok(Verdict::Bad(part as u8)),
+        code::DONE => Ok(Verdict::Good),
+        code::BAD_TEXT => Ok(Verdict::Bad(Part::Text)),
+        code::BAD_BASE => Ok(Verdict::Bad(Part::Base)),
+        code::BAD_ENTRIES => Ok(Verdict::Bad(Part::Entries)),
+        code::BAD_PRESENT => Ok(Verdict::Bad(Part::Present)),
+        code::BAD_TASKS => Ok(Verdict::Bad(Part::Tasks)),
+        code::BAD_PARKED => Ok(Verdict::Bad(Part::Parked)),
         code => Err(error_of(code)),
     }
 }
@@ -264,32 +306,82 @@ pub fn explore_to(file: &[u8], states: u32, end: usize) -> Result<String, Error>
     })
 }
 
-fn brought(told: Told) -> Brought {
+/// How a transaction ended, where the code says that it did.
+fn outcome(told: &Told) -> Option<Outcome> {
     match told.code {
-        0 => Brought::Committed(told.value as u64),
-        1 => Brought::Parked,
-        2 => Brought::Stale,
-        3 => Brought::NotRunning,
-        4 => Brought::GivenUp,
-        -11 => Brought::NotEnded,
-        -9 => Brought::OtherTask,
+        code::DONE => Some(Outcome::Returned(told.value)),
+        code::THROWN => Some(Outcome::Thrown(told.value)),
+        code::OVERFLOW => Some(Outcome::Overflow),
+        code::DIVIDE_BY_ZERO => Some(Outcome::DivideByZero),
+        code::BROKEN => Some(Outcome::Broken(told.value as u32)),
+        _ => None,
+    }
+}
+
+fn entered(told: &Told) -> Option<Entered> {
+    Some(Entered { number: told.entry, outcome: outcome(told)? })
+}
+
+fn brought(told: Told) -> Brought {
+    if let Some(entered) = entered(&told) {
+        return Brought::Committed(entered);
+    }
+    match told.code {
+        code::RETRIES => Brought::Parked,
+        code::STALE => Brought::Stale,
+        code::NOT_RUNNING => Brought::NotRunning,
+        code::GIVEN_UP => Brought::GivenUp,
+        code::NOT_ENDED => Brought::NotEnded,
+        code::UNKNOWN => Brought::OtherTask,
+        code::OTHER_CHAPTER => Brought::OtherChapter,
         other => unreachable!("the library answers {other}"),
     }
 }
 
+/// A turn, where there was one; else the code.
+fn turned(told: TurnTold) -> Result<Turned, i32> {
+    let ticket = Ticket(u64::try_from(told.ticket).map_err(|_| told.code)?);
+    let end = match told.code {
+        code::RETRIES => End::Parked,
+        code::GIVEN_UP => End::GivenUp,
+        code => End::Entered(
+            entered(&Told { code, value: told.value, entry: told.entry })
+                .expect("a turn ends, parks or is given up"),
+        ),
+    };
+    Ok(Turned { ticket, transaction: told.transaction, end })
+}
+
+/// A job, where there is one; else the code.
+fn job(taken: Taken) -> Result<Job, i32> {
+    let ticket = Ticket(u64::try_from(taken.ticket).map_err(|_| taken.ticket as i32)?);
+    Ok(Job { ticket, chapter: taken.chapter, task: taken.task, transaction: taken.transaction })
+}
+
+/// A ticket as the library takes it. One that no store gives is negative, which is none's.
+fn number(ticket: Ticket) -> i64 {
+    i64::try_from(ticket.0).unwrap_or(-1)
+}
+
 /// A program's handle. Never empty.
 pub struct RawProgram(Handle);
-/// A store's handle. Never empty.
-pub struct RawStore(Handle);
+/// A store's handle, never empty, and what is lent to its turns: none where there is no transaction.
+pub struct RawStore(Handle, Option<RawLender>);
 /// A worker's handle. Never empty.
 pub struct RawWorker(Handle);
+/// A lender's handle. Never empty.
+struct RawLender(Handle);
 
 // SAFETY: what they hold is proved to be `Send` in the library.
 unsafe impl Send for RawStore {}
 // SAFETY: as for the store.
 unsafe impl Send for RawWorker {}
-// SAFETY: it holds one reference to what no call changes, and each of its calls takes `&mut`.
+// SAFETY: as for the store.
+unsafe impl Send for RawLender {}
+// SAFETY: as for the store.
 unsafe impl Send for RawProgram {}
+// SAFETY: a program's handle is proved to be `Sync`: the calls that take it by `&` only read it.
+unsafe impl Sync for RawProgram {}
 
 fn empty() -> Handle {
     Handle { at: std::ptr::null_mut() }
@@ -300,31 +392,32 @@ impl RawProgram {
         let mut out = empty();
         // SAFETY: a slice as above; `out` is an empty handle, and holds a program where the answer is 0.
         match unsafe { stm_read(file.as_ptr(), file.len(), &mut out) } {
-            0 => Ok(RawProgram(out)),
+            code::DONE => Ok(RawProgram(out)),
             code => Err(error_of(code)),
         }
     }
 
-    pub fn tasks(&mut self) -> usize {
-        // SAFETY: `&mut self`, so no other call has this handle.
-        unsafe { stm_program_tasks(&mut self.0) }
+    pub fn tasks(&self) -> usize {
+        // SAFETY: it is only read.
+        unsafe { stm_program_tasks(&self.0) }
     }
 
-    pub fn variable(&mut self, name: &str) -> Option<u32> {
+    pub fn variable(&self, name: &str) -> Option<u32> {
         // SAFETY: as `tasks`; a slice that is borrowed for the call.
-        u32::try_from(unsafe { stm_program_variable(&mut self.0, name.as_ptr(), name.len()) }).ok()
+        u32::try_from(unsafe { stm_program_variable(&self.0, name.as_ptr(), name.len()) }).ok()
     }
 
-    pub fn transaction(&mut self, name: &str) -> Option<u32> {
+    pub fn transaction(&self, name: &str) -> Option<u32> {
         // SAFETY: as `variable`.
-        u32::try_from(unsafe { stm_program_transaction(&mut self.0, name.as_ptr(), name.len()) }).ok()
+        u32::try_from(unsafe { stm_program_transaction(&self.0, name.as_ptr(), name.len()) }).ok()
     }
 
-    pub fn open(&mut self, workers: usize, checkpoint: u32, spare: usize) -> Result<RawStore, Error> {
+    pub fn open(&self, workers: usize, checkpoint: u32, spare: usize) -> Result<RawStore, Error> {
         let mut out = empty();
         // SAFETY: as `tasks`; `out` is an empty handle, and holds a store where the answer is 0.
-        match unsafe { stm_open_with_room(&mut self.0, workers, checkpoint, spare, &mut out) } {
-            0 => Ok(RawStore(out)),
+        match unsafe { stm_open_with_room(&self.0, workers, checkpoint, spare, &mut out) } {
+            code::DONE => RawStore(out, None).with_lender(),
+            code::NO_WORKER => Err(Error::TooManyWorkers),
             code => Err(error_of(code)),
         }
     }
@@ -335,21 +428,72 @@ impl RawStore {
         let mut out = empty();
         // SAFETY: `&mut self`; `out` is an empty handle, and holds a worker where the answer is 0.
         match unsafe { stm_hire(&mut self.0, &mut out) } {
-            0 => Ok(RawWorker(out)),
+            code::DONE => Ok(RawWorker(out)),
             code => Err(error_of(code)),
         }
     }
 
-    pub fn take(&mut self) -> Option<Job> {
-        // SAFETY: `&mut self`.
-        let taken = unsafe { stm_take_job(&mut self.0) };
-        Some(Job { task: u32::try_from(taken.task).ok()?, transaction: taken.transaction })
+    fn with_lender(mut self) -> Result<RawStore, Error> {
+        let mut out = empty();
+        // SAFETY: as `worker`.
+        match unsafe { stm_lend(&mut self.0, &mut out) } {
+            code::DONE => self.1 = Some(RawLender(out)),
+            code::NO_WORKER => {}
+            code => return Err(error_of(code)),
+        }
+        Ok(self)
     }
 
-    pub fn submit(&mut self, transaction: u32) -> Result<u32, Error> {
+    pub fn take(&mut self) -> Option<Job> {
+        // SAFETY: `&mut self`.
+        job(unsafe { stm_take_job(&mut self.0) }).ok()
+    }
+
+    pub fn claim(&mut self, ticket: Ticket) -> Result<Option<Job>, Error> {
+        // SAFETY: `&mut self`. The library tests the ticket.
+        match job(unsafe { stm_claim(&mut self.0, number(ticket)) }) {
+            Ok(job) => Ok(Some(job)),
+            Err(code::UNKNOWN) => Err(Error::UnknownTicket(ticket)),
+            Err(_) => Ok(None),
+        }
+    }
+
+    pub fn submit(&mut self, transaction: u32) -> Result<Ticket, Error> {
         // SAFETY: `&mut self`. The library tests the number.
-        let task = unsafe { stm_submit(&mut self.0, transaction) };
-        u32::try_from(task).map_err(|_| error_of(task as i32))
+        let ticket = unsafe { stm_submit(&mut self.0, transaction) };
+        u64::try_from(ticket).map(Ticket).map_err(|_| match ticket as i32 {
+            code::UNKNOWN => Error::UnknownTransaction(transaction),
+            code => error_of(code),
+        })
+    }
+
+    pub fn call(&mut self, transaction: u32) -> Result<Turned, Error> {
+        let lender = self.1.as_mut().ok_or(Error::UnknownTransaction(transaction))?;
+        // SAFETY: two `&mut`. The library tests the number.
+        turned(unsafe { stm_call(&mut self.0, &mut lender.0, transaction) }).map_err(|code| match code {
+            code::UNKNOWN => Error::UnknownTransaction(transaction),
+            code => error_of(code),
+        })
+    }
+
+    pub fn try_call(&mut self, transaction: u32) -> Result<Option<Turned>, Error> {
+        let lender = self.1.as_mut().ok_or(Error::UnknownTransaction(transaction))?;
+        // SAFETY: as `call`.
+        match turned(unsafe { stm_try_call(&mut self.0, &mut lender.0, transaction) }) {
+            Ok(turned) => Ok(Some(turned)),
+            Err(code::RETRIES) => Ok(None),
+            Err(code::UNKNOWN) => Err(Error::UnknownTransaction(transaction)),
+            Err(code) => Err(error_of(code)),
+        }
+    }
+
+    pub fn turn(&mut self) -> Option<Turned> {
+        // SAFETY: as `call`.
+        match turned(unsafe { stm_turn(&mut self.0, &mut self.1.as_mut()?.0) }) {
+            Ok(turned) => Some(turned),
+            Err(code::IDLE) => None,
+            Err(other) => unreachable!("the library answers {other}"),
+        }
     }
 
     pub fn spare(&mut self) -> usize {
@@ -373,7 +517,7 @@ impl RawStore {
         let (mut value, mut version) = (0, 0);
         // SAFETY: `&mut self`; a slice that is borrowed for the call; both numbers are only written.
         match unsafe { stm_value(&mut self.0, name.as_ptr(), name.len(), &mut value, &mut version) } {
-            0 => Some((value, version)),
+            code::DONE => Some((value, version)),
             _ => None,
         }
     }
@@ -392,19 +536,46 @@ impl RawStore {
         })
     }
 
-    /// The worker has to be of a store of the same program: the caller keeps that.
-    pub fn finish(&mut self, worker: &mut RawWorker) -> Brought {
-        // SAFETY: two `&mut`; one program, as said above: `Store::finish` compares the numbers of the programs.
-        brought(unsafe { stm_finish(&mut self.0, &mut worker.0) })
-    }
-
-    pub fn serial(&mut self, task: u32) -> Result<Brought, Error> {
-        // SAFETY: `&mut self`. The library tests the task.
-        let told = unsafe { stm_serial(&mut self.0, task) };
-        if told.code == -9 {
-            return Err(Error::Unknown);
+    pub fn finish(&mut self, worker: &mut RawWorker) -> Result<Brought, Error> {
+        // SAFETY: two `&mut`; the worker may be of any store.
+        let told = unsafe { stm_finish(&mut self.0, &mut worker.0) };
+        if told.code == code::OTHER_PROGRAM {
+            return Err(Error::OtherProgram);
         }
         Ok(brought(told))
+    }
+
+    pub fn serial(&mut self, ticket: Ticket) -> Result<Brought, Error> {
+        // SAFETY: `&mut self`. The library tests the ticket.
+        let told = unsafe { stm_serial(&mut self.0, number(ticket)) };
+        if told.code == code::UNKNOWN {
+            return Err(Error::UnknownTicket(ticket));
+        }
+        Ok(brought(told))
+    }
+
+    pub fn standing(&mut self, ticket: Ticket) -> Result<Standing, Error> {
+        // SAFETY: as `serial`.
+        let told = unsafe { stm_standing(&mut self.0, number(ticket)) };
+        match told.code {
+            code::READY => Ok(Standing::Ready),
+            code::RUNNING => Ok(Standing::Running),
+            code::RETRIES => Ok(Standing::Parked),
+            code::DONE => Ok(Standing::Done(told.entry)),
+            code::GIVEN_UP => Ok(Standing::GivenUp),
+            code::UNKNOWN => Err(Error::UnknownTicket(ticket)),
+            other => unreachable!("the library answers {other}"),
+        }
+    }
+
+    pub fn outcome(&mut self, ticket: Ticket) -> Result<Option<Entered>, Error> {
+        // SAFETY: as `serial`.
+        let told = unsafe { stm_outcome(&mut self.0, number(ticket)) };
+        match told.code {
+            code::NO_ENTRY => Ok(None),
+            code::UNKNOWN => Err(Error::UnknownTicket(ticket)),
+            _ => Ok(Some(entered(&told).expect("an entry tells how the transaction ended"))),
+        }
     }
 
     pub fn turns(&mut self, worker: &mut RawWorker, most: u32) -> u32 {
@@ -413,13 +584,39 @@ impl RawStore {
         u32::try_from(given).expect("no handle is empty, and no more turns are given than were asked for")
     }
 
-    pub fn give_up(&mut self, task: u32) -> Result<bool, Error> {
-        // SAFETY: `&mut self`. The library tests the task.
-        match unsafe { stm_give_up(&mut self.0, task) } {
-            0 => Ok(true),
-            3 => Ok(false),
-            code => Err(error_of(code)),
+    pub fn give_up(&mut self, ticket: Ticket) -> Result<bool, Error> {
+        // SAFETY: as `serial`.
+        match unsafe { stm_give_up(&mut self.0, number(ticket)) } {
+            code::DONE => Ok(true),
+            code::NOT_RUNNING => Ok(false),
+            code::UNKNOWN => Err(Error::UnknownTicket(ticket)),
+            other => unreachable!("the library answers {other}"),
         }
+    }
+
+    pub fn withdraw(&mut self, ticket: Ticket) -> Result<bool, Error> {
+        // SAFETY: as `serial`.
+        match unsafe { stm_withdraw(&mut self.0, number(ticket)) } {
+            code::DONE => Ok(true),
+            code::NOT_WAITING => Ok(false),
+            code::UNKNOWN => Err(Error::UnknownTicket(ticket)),
+            other => unreachable!("the library answers {other}"),
+        }
+    }
+
+    pub fn begin_chapter(&mut self) {
+        // SAFETY: `&mut self`.
+        unsafe { stm_begin_chapter(&mut self.0) };
+    }
+
+    pub fn chapter(&mut self) -> u64 {
+        // SAFETY: `&mut self`.
+        unsafe { stm_chapter(&mut self.0) }
+    }
+
+    pub fn entered(&mut self) -> u64 {
+        // SAFETY: `&mut self`.
+        unsafe { stm_entered(&mut self.0) }
     }
 
     pub fn checkpoint(&mut self) {
@@ -435,40 +632,48 @@ impl RawStore {
     }
 }
 
-fn tried(code: i32) -> Result<Tried, Error> {
+/// How a try ended; where the library knows no such task or transaction, this error.
+fn tried(code: i32, unknown: Error) -> Result<Tried, Error> {
     match code {
-        0 => Ok(Tried::Ended),
-        2 => Ok(Tried::Stale),
-        -6 => Ok(Tried::Memory),
-        code => Err(error_of(code)),
+        code::DONE => Ok(Tried::Ended),
+        code::STALE => Ok(Tried::Stale),
+        code::MEMORY => Ok(Tried::Memory),
+        code::UNKNOWN => Err(unknown),
+        other => unreachable!("the library answers {other}"),
     }
 }
 
 impl RawWorker {
     pub fn try_task(&mut self, task: u32) -> Result<Tried, Error> {
         // SAFETY: `&mut self`. The library tests the task.
-        tried(unsafe { stm_try(&mut self.0, task) })
+        tried(unsafe { stm_try(&mut self.0, task) }, Error::UnknownTask(task))
     }
 
     pub fn try_job(&mut self, job: Job) -> Result<Tried, Error> {
-        // SAFETY: `&mut self`. The library tests the transaction, and the store the task.
-        tried(unsafe { stm_worker_try_job(&mut self.0, job.task, job.transaction) })
+        let Job { ticket, chapter, task, transaction } = job;
+        let taken = Taken { ticket: number(ticket), chapter, task, transaction };
+        let unknown = if taken.ticket < 0 {
+            Error::UnknownTicket(ticket)
+        } else {
+            Error::UnknownTransaction(transaction)
+        };
+        // SAFETY: `&mut self`. The library tests the transaction, and the store whether the job is one of its tasks.
+        tried(unsafe { stm_try_job(&mut self.0, taken) }, unknown)
     }
 
     pub fn observe(&mut self, transaction: u32) -> Result<Observed, Error> {
         // SAFETY: `&mut self`. The library tests the number.
         let told = unsafe { stm_observe(&mut self.0, transaction) };
-        Ok(match told.code {
-            0 => Observed::Returned(told.value),
-            1 => Observed::Retries,
-            2 => Observed::Stale,
-            5 => Observed::Thrown(told.value),
-            6 => Observed::Overflow,
-            7 => Observed::DivideByZero,
-            8 => Observed::Broken(told.value as u32),
-            -6 => Observed::Memory,
-            code => return Err(error_of(code)),
-        })
+        if let Some(outcome) = outcome(&told) {
+            return Ok(outcome.into());
+        }
+        match told.code {
+            code::RETRIES => Ok(Observed::Retries),
+            code::STALE => Ok(Observed::Stale),
+            code::MEMORY => Ok(Observed::Memory),
+            code::UNKNOWN => Err(Error::UnknownTransaction(transaction)),
+            other => unreachable!("the library answers {other}"),
+        }
     }
 }
 
@@ -490,5 +695,12 @@ impl Drop for RawWorker {
     fn drop(&mut self) {
         // SAFETY: the handle is emptied, and used no more.
         unsafe { stm_worker_free(&mut self.0) }
+    }
+}
+
+impl Drop for RawLender {
+    fn drop(&mut self) {
+        // SAFETY: the handle is emptied, and used no more.
+        unsafe { stm_lender_free(&mut self.0) }
     }
 }

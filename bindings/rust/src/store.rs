@@ -1,27 +1,21 @@
 //! Programs, stores and workers, safe to use.
 
+use crate::answers::{Brought, Entered, Job, Observed, Standing, Ticket, Tried, Turned};
 use crate::error::Error;
-use crate::raw::{Brought, Counts, Job, Observed, RawProgram, RawStore, RawWorker, Tried};
-use std::sync::atomic::{AtomicU64, Ordering};
+use crate::raw::{Counts, RawProgram, RawStore, RawWorker};
 use std::sync::{Mutex, MutexGuard, PoisonError};
 
-static NEXT: AtomicU64 = AtomicU64::new(0);
-
-/// What a file declares. What it says stays in memory until the process ends: read it once.
+/// What a file declares. Threads share it by a reference, and read it at once. What it says stays in memory until
+/// the process ends: read it once.
 pub struct Program {
-    raw: Mutex<RawProgram>,
+    raw: RawProgram,
     text: String,
-    id: u64,
 }
 
 impl Program {
     /// The program that the text spells.
     pub fn read(text: &str) -> Result<Program, Error> {
-        Ok(Program {
-            raw: Mutex::new(RawProgram::read(text.as_bytes())?),
-            text: text.to_string(),
-            id: NEXT.fetch_add(1, Ordering::Relaxed),
-        })
+        Ok(Program { raw: RawProgram::read(text.as_bytes())?, text: text.to_string() })
     }
 
     /// The text that it was read from.
@@ -31,17 +25,17 @@ impl Program {
 
     /// How many tasks it has, numbered from 0 in the order of the runs.
     pub fn tasks(&self) -> usize {
-        held(&self.raw).tasks()
+        self.raw.tasks()
     }
 
     /// The number of a variable.
     pub fn variable(&self, name: &str) -> Option<u32> {
-        held(&self.raw).variable(name)
+        self.raw.variable(name)
     }
 
     /// The number of a transaction.
     pub fn transaction(&self, name: &str) -> Option<u32> {
-        held(&self.raw).transaction(name)
+        self.raw.transaction(name)
     }
 }
 
@@ -49,13 +43,11 @@ impl Program {
 /// it has its lock inside.
 pub struct Store {
     raw: Mutex<RawStore>,
-    program: u64,
 }
 
 /// What one thread has. It may outlive its store.
 pub struct Worker {
     raw: RawWorker,
-    program: u64,
 }
 
 /// A handle stays good whatever a thread that held it did.
@@ -65,7 +57,7 @@ fn held<T>(lock: &Mutex<T>) -> MutexGuard<'_, T> {
 
 impl Store {
     /// All tasks ready, the initial values, an empty journal, and room for so many workers, at most
-    /// 32. A journal of `checkpoint` entries is followed by a checkpoint; 0: never.
+    /// 32 (`TooManyWorkers`). A journal of `checkpoint` entries is followed by a checkpoint; 0: never.
     pub fn open(program: &Program, workers: usize, checkpoint: u32) -> Result<Store, Error> {
         Store::open_with_room(program, workers, checkpoint, 0)
     }
@@ -77,7 +69,7 @@ impl Store {
     ///
     /// let program = Program::read("(var x 1) (tx two (set x (add x x)) x)")?;
     /// let store = Store::open_with_room(&program, 0, 0, 1)?;
-    /// assert_eq!(store.submit(0), Ok(0));
+    /// assert_eq!(store.submit(0), Ok(stm::Ticket(0)));
     /// let report = store.report()?;
     /// assert_eq!(store.value("x"), Some((2, 1)));
     /// assert_eq!(stm::check(&store.file()?, &report)?, Verdict::Good);
@@ -89,26 +81,76 @@ impl Store {
         checkpoint: u32,
         spare: usize,
     ) -> Result<Store, Error> {
-        let raw = held(&program.raw).open(workers, checkpoint, spare)?;
-        Ok(Store { raw: Mutex::new(raw), program: program.id })
+        let raw = program.raw.open(workers, checkpoint, spare)?;
+        Ok(Store { raw: Mutex::new(raw) })
     }
 
-    /// A ready task of the transaction more: its number. It takes no memory.
-    pub fn submit(&self, transaction: u32) -> Result<u32, Error> {
+    /// A ready task of the transaction more: its ticket. It takes no memory.
+    pub fn submit(&self, transaction: u32) -> Result<Ticket, Error> {
         held(&self.raw).submit(transaction)
     }
 
-    /// How many tasks more can be submitted.
+    /// Runs the transaction as a task more, which has its turn at once, whatever else is ready: how it ended. What
+    /// it woke is ready. `NoRoom` where the chapter has no room for a task more.
+    ///
+    /// ```
+    /// use stm::{End, Entered, Outcome, Program, Store};
+    ///
+    /// let program = Program::read("(var x 1) (tx two (set x (add x x)) x) (tx no (throw 7) x)")?;
+    /// let store = Store::open_with_room(&program, 0, 0, 3)?;
+    /// let ended = |number, outcome| End::Entered(Entered { number, outcome });
+    /// assert_eq!(store.call(0)?.end, ended(1, Outcome::Returned(2)));
+    /// assert_eq!(store.call(1)?.end, ended(2, Outcome::Thrown(7)));
+    /// assert_eq!(store.call(2), Err(stm::Error::UnknownTransaction(2)));
+    /// assert_eq!(store.call(0)?.end, ended(3, Outcome::Returned(4)));
+    /// assert_eq!(store.call(0), Err(stm::Error::NoRoom));
+    /// store.begin_chapter();
+    /// assert_eq!(store.call(0)?.end, ended(1, Outcome::Returned(8)));
+    /// # Ok::<(), stm::Error>(())
+    /// ```
+    pub fn call(&self, transaction: u32) -> Result<Turned, Error> {
+        held(&self.raw).call(transaction)
+    }
+
+    /// As `call`; `None`, and nothing changed, where the transaction retries on the present values.
+    ///
+    /// ```
+    /// let program = stm::Program::read("(var n 0) (tx get (if (lt n 1) (retry) (set n (sub n 1))) n) (tx put (set n (add n 1)) n)")?;
+    /// let store = stm::Store::open_with_room(&program, 0, 0, 2)?;
+    /// assert_eq!(store.try_call(0)?, None);
+    /// store.call(1)?;
+    /// assert!(store.try_call(0)?.is_some());
+    /// # Ok::<(), stm::Error>(())
+    /// ```
+    pub fn try_call(&self, transaction: u32) -> Result<Option<Turned>, Error> {
+        held(&self.raw).try_call(transaction)
+    }
+
+    /// Gives the lowest ready task a turn: which task, and how it ended. `None` where none is ready.
+    ///
+    /// ```
+    /// let program = stm::Program::read("(var x 5) (tx inc (set x (add x 1)) x) (run inc 1)")?;
+    /// let store = stm::Store::open(&program, 0, 0)?;
+    /// let turned = store.turn().expect("the task is ready");
+    /// assert_eq!((turned.ticket, turned.transaction), (stm::Ticket(0), 0));
+    /// assert_eq!(store.turn(), None);
+    /// # Ok::<(), stm::Error>(())
+    /// ```
+    pub fn turn(&self) -> Option<Turned> {
+        held(&self.raw).turn()
+    }
+
+    /// How many tasks more the chapter has room for.
     pub fn spare(&self) -> usize {
         held(&self.raw).spare()
     }
 
-    /// How many tasks there are: those of the program, and those that were submitted.
+    /// How many tasks the chapter has: those with which it began, and those that were submitted.
     pub fn tasks(&self) -> usize {
         held(&self.raw).tasks()
     }
 
-    /// How many tasks stand how.
+    /// How many tasks of the chapter stand how.
     pub fn counts(&self) -> Counts {
         held(&self.raw).counts()
     }
@@ -139,31 +181,74 @@ impl Store {
 
     /// A worker, for one thread.
     pub fn worker(&self) -> Result<Worker, Error> {
-        Ok(Worker { raw: held(&self.raw).worker()?, program: self.program })
+        Ok(Worker { raw: held(&self.raw).worker()? })
     }
 
     /// The lowest ready task, which is then running.
-    pub fn take(&self) -> Option<u32> {
-        self.take_job().map(|job| job.task)
+    pub fn take(&self) -> Option<Ticket> {
+        self.take_job().map(|job| job.ticket)
     }
 
-    /// As `take`, with the transaction that the task runs, which a worker has to be told of a task
-    /// that was submitted.
+    /// As `take`, with all that a worker has to be told of the task.
     pub fn take_job(&self) -> Option<Job> {
         held(&self.raw).take()
     }
 
-    /// Brings the worker's ended attempt to the store.
+    /// The task with the ticket, where it is ready, which is then running. `None` and no change where it is not.
+    ///
+    /// ```
+    /// let program = stm::Program::read("(var x 5) (tx inc (set x (add x 1)) x) (run inc 2)")?;
+    /// let store = stm::Store::open(&program, 0, 0)?;
+    /// assert_eq!(store.claim(stm::Ticket(1))?.map(|job| job.task), Some(1));
+    /// assert_eq!(store.claim(stm::Ticket(1))?, None);
+    /// assert_eq!(store.claim(stm::Ticket(2)), Err(stm::Error::UnknownTicket(stm::Ticket(2))));
+    /// # Ok::<(), stm::Error>(())
+    /// ```
+    pub fn claim(&self, ticket: Ticket) -> Result<Option<Job>, Error> {
+        held(&self.raw).claim(ticket)
+    }
+
+    /// Brings the worker's ended attempt to the store. `OtherProgram`, and nothing changed, where the worker's
+    /// program says otherwise of the transaction.
     pub fn finish(&self, worker: &mut Worker) -> Result<Brought, Error> {
-        if worker.program != self.program {
-            return Err(Error::OtherProgram);
-        }
-        Ok(held(&self.raw).finish(&mut worker.raw))
+        held(&self.raw).finish(&mut worker.raw)
     }
 
     /// A turn of a running task on the present values, under the lock.
-    pub fn serial(&self, task: u32) -> Result<Brought, Error> {
-        held(&self.raw).serial(task)
+    pub fn serial(&self, ticket: Ticket) -> Result<Brought, Error> {
+        held(&self.raw).serial(ticket)
+    }
+
+    /// How the task with the ticket stands.
+    ///
+    /// ```
+    /// let program = stm::Program::read("(var x 5) (tx inc (set x (add x 1)) x) (run inc 1)")?;
+    /// let store = stm::Store::open(&program, 0, 0)?;
+    /// assert_eq!(store.standing(stm::Ticket(0)), Ok(stm::Standing::Ready));
+    /// store.turn();
+    /// assert_eq!(store.standing(stm::Ticket(0)), Ok(stm::Standing::Done(1)));
+    /// # Ok::<(), stm::Error>(())
+    /// ```
+    pub fn standing(&self, ticket: Ticket) -> Result<Standing, Error> {
+        held(&self.raw).standing(ticket)
+    }
+
+    /// What the task's entry records. `None` where it is not done, or a checkpoint was made since: who wants an
+    /// outcome asks before.
+    ///
+    /// ```
+    /// use stm::{Entered, Outcome, Program, Store};
+    ///
+    /// let program = Program::read("(var x 5) (tx inc (set x (add x 1)) x)")?;
+    /// let store = Store::open_with_room(&program, 0, 0, 1)?;
+    /// let ticket = store.call(0)?.ticket;
+    /// assert_eq!(store.outcome(ticket), Ok(Some(Entered { number: 1, outcome: Outcome::Returned(6) })));
+    /// store.checkpoint();
+    /// assert_eq!(store.outcome(ticket), Ok(None));
+    /// # Ok::<(), stm::Error>(())
+    /// ```
+    pub fn outcome(&self, ticket: Ticket) -> Result<Option<Entered>, Error> {
+        held(&self.raw).outcome(ticket)
     }
 
     /// Gives the lowest ready task a turn, and then the next one, until so many turns were given or
@@ -185,8 +270,51 @@ impl Store {
     }
 
     /// A running task is given up. `false` and no change where it was not running.
-    pub fn give_up(&self, task: u32) -> Result<bool, Error> {
-        held(&self.raw).give_up(task)
+    pub fn give_up(&self, ticket: Ticket) -> Result<bool, Error> {
+        held(&self.raw).give_up(ticket)
+    }
+
+    /// A task that is ready or parked is given up. `false` and no change where it was neither.
+    ///
+    /// ```
+    /// let program = stm::Program::read("(tx wait (retry) 0) (run wait 1)")?;
+    /// let store = stm::Store::open(&program, 0, 0)?;
+    /// assert_eq!(store.turn().map(|turned| turned.end), Some(stm::End::Parked));
+    /// assert_eq!(store.withdraw(stm::Ticket(0)), Ok(true));
+    /// assert_eq!(store.withdraw(stm::Ticket(0)), Ok(false));
+    /// # Ok::<(), stm::Error>(())
+    /// ```
+    pub fn withdraw(&self, ticket: Ticket) -> Result<bool, Error> {
+        held(&self.raw).withdraw(ticket)
+    }
+
+    /// A new chapter begins where the present one is: the tasks that are ready, running or parked come over with
+    /// their tickets, and are numbered anew. One that was running is ready, and a job of it that was taken before
+    /// is refused (`OtherChapter`); one that was parked waits as it did. The journal is empty, and each task that
+    /// is over has left its room. The file and the reports are of the chapter. It takes no memory.
+    ///
+    /// ```
+    /// let program = stm::Program::read("(var n 0) (tx get (if (lt n 1) (retry) (set n (sub n 1))) n) (tx put (set n (add n 1)) n)")?;
+    /// let store = stm::Store::open_with_room(&program, 0, 0, 2)?;
+    /// let waits = store.call(0)?.ticket;
+    /// store.begin_chapter();
+    /// store.call(1)?;
+    /// assert_eq!(store.turn().map(|turned| turned.ticket), Some(waits));
+    /// assert_eq!((store.chapter(), store.entered()), (1, 2));
+    /// # Ok::<(), stm::Error>(())
+    /// ```
+    pub fn begin_chapter(&self) {
+        held(&self.raw).begin_chapter()
+    }
+
+    /// The number of the chapter, from 0 on.
+    pub fn chapter(&self) -> u64 {
+        held(&self.raw).chapter()
+    }
+
+    /// How many entries there were in all chapters.
+    pub fn entered(&self) -> u64 {
+        held(&self.raw).entered()
     }
 
     /// The base becomes the present, and the journal is empty.
@@ -201,7 +329,8 @@ impl Store {
 }
 
 impl Worker {
-    /// Evaluates a task of the program on one state, without a lock.
+    /// Evaluates a task of the program on one state, without a lock. Its bare number is of the first chapter, in
+    /// which it is the task's ticket: it serves stores that begin no other.
     pub fn try_task(&mut self, task: u32) -> Result<Tried, Error> {
         self.raw.try_task(task)
     }
@@ -260,18 +389,18 @@ pub fn run_with(program: &Program, workers: usize, retry: Retry) -> Result<Strin
 
 /// The life of a worker: it gives the lowest ready task its tries until none is ready.
 fn work(store: &Store, worker: &mut Worker, tries: u32) {
-    while let Some(task) = store.take() {
-        if !tried(store, worker, task, tries) {
+    while let Some(job) = store.take_job() {
+        if !tried(store, worker, job, tries) {
             // A task that was taken exists, so this has an answer.
-            let _ = store.serial(task);
+            let _ = store.serial(job.ticket);
         }
     }
 }
 
 /// Whether the task is over after at most so many tries.
-fn tried(store: &Store, worker: &mut Worker, task: u32, tries: u32) -> bool {
+fn tried(store: &Store, worker: &mut Worker, job: Job, tries: u32) -> bool {
     for stale in 0..tries {
-        match worker.try_task(task) {
+        match worker.try_job(job) {
             Ok(Tried::Ended) => {
                 if !matches!(store.finish(worker), Ok(Brought::Stale)) {
                     return true;
@@ -279,7 +408,7 @@ fn tried(store: &Store, worker: &mut Worker, task: u32, tries: u32) -> bool {
             }
             Ok(Tried::Stale) => {}
             Ok(Tried::Memory) | Err(_) => {
-                let _ = store.give_up(task);
+                let _ = store.give_up(job.ticket);
                 return true;
             }
         }

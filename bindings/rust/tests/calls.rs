@@ -1,15 +1,22 @@
 //! Each call once where it does what it is for, and at its limits.
 
-use stm::{Brought, Counts, Declare, Error, Job, Observed, Program, Retry, Store, Tried, Verdict};
+use stm::{
+    Brought, Counts, Declare, Entered, Error, Job, Observed, Outcome, Part, Program, Retry, Store, Ticket,
+    Tried, Verdict,
+};
 
 const FILE: &str = "(var x 5)\n(tx inc (set x (add x 1)) x)\n(tx wait (if (lt x 100) (retry) (skip)) x)\n(run inc 2)\n(run wait 1)\n";
+
+fn returned(number: u64, value: i64) -> Brought {
+    Brought::Committed(Entered { number, outcome: Outcome::Returned(value) })
+}
 
 #[test]
 fn whole_files() {
     let report = stm::run_one(FILE, 0).unwrap();
     assert_eq!(report, "base 0\nx 5 0\nentry 1 0 inc returned 6\nentry 2 1 inc returned 7\nnow 2\nx 7 2\nparked 2 wait\nend\n");
     assert_eq!(stm::check(FILE, &report), Ok(Verdict::Good));
-    assert_eq!(stm::check(FILE, &report.replace("x 7 2", "x 8 2")), Ok(Verdict::Bad(4)));
+    assert_eq!(stm::check(FILE, &report.replace("x 7 2", "x 8 2")), Ok(Verdict::Bad(Part::Present)));
     assert_eq!(stm::check("(", &report), Err(Error::Shape));
     assert_eq!(stm::run_one("(var x 1)(var x 2)", 0), Err(Error::Name));
     assert_eq!(stm::run_one("(stm 2)(var x 1)(always low (lt x 1))", 0), Err(Error::Broken));
@@ -26,8 +33,14 @@ fn every_order() {
     assert_eq!(report, stm::run_one(FILE, 0).unwrap());
     assert_eq!(stm::explore(FILE, 2), Err(Error::MoreStates));
     assert_eq!(stm::explore_to(FILE, 2, 1), Err(Error::MoreStates));
-    assert_eq!((stm::explore_to(FILE, 3, 0), stm::explore_to(FILE, 3, 2)), (Err(Error::NoEnd), Err(Error::NoEnd)));
-    assert_eq!((stm::explore(FILE, 0), stm::explore(FILE, 16_777_217)), (Err(Error::States), Err(Error::States)));
+    assert_eq!(
+        (stm::explore_to(FILE, 3, 0), stm::explore_to(FILE, 3, 2)),
+        (Err(Error::NoEnd), Err(Error::NoEnd))
+    );
+    assert_eq!(
+        (stm::explore(FILE, 0), stm::explore(FILE, 16_777_217)),
+        (Err(Error::States), Err(Error::States))
+    );
     assert_eq!(stm::explore("(", 10), Err(Error::Shape));
 }
 
@@ -41,26 +54,26 @@ fn a_store_turn_by_turn() {
     let mut other = store.worker().unwrap();
     assert!(matches!(store.worker(), Err(Error::NoWorker)));
     assert_eq!(store.finish(&mut worker), Ok(Brought::NotEnded));
-    assert_eq!(worker.try_task(3), Err(Error::Unknown));
-    assert_eq!(store.serial(3), Err(Error::Unknown));
-    assert_eq!(worker.observe(2), Err(Error::Unknown));
+    assert_eq!(worker.try_task(3), Err(Error::UnknownTask(3)));
+    assert_eq!(store.serial(Ticket(3)), Err(Error::UnknownTicket(Ticket(3))));
+    assert_eq!(worker.observe(2), Err(Error::UnknownTransaction(2)));
 
-    assert_eq!((store.take(), store.take()), (Some(0), Some(1)));
+    assert_eq!((store.take(), store.take()), (Some(Ticket(0)), Some(Ticket(1))));
     assert_eq!(worker.try_task(0), Ok(Tried::Ended));
     assert_eq!(other.try_task(1), Ok(Tried::Ended));
-    assert_eq!(store.finish(&mut worker), Ok(Brought::Committed(1)));
+    assert_eq!(store.finish(&mut worker), Ok(returned(1, 6)));
     assert_eq!(store.finish(&mut other), Ok(Brought::Stale));
-    assert_eq!(store.serial(1), Ok(Brought::Committed(2)));
-    assert_eq!(store.serial(1), Ok(Brought::NotRunning));
+    assert_eq!(store.serial(Ticket(1)), Ok(returned(2, 7)));
+    assert_eq!(store.serial(Ticket(1)), Ok(Brought::NotRunning));
     assert_eq!(other.observe(inc), Ok(Observed::Returned(8)));
     assert_eq!(other.observe(wait), Ok(Observed::Retries));
 
-    assert_eq!(store.take(), Some(2));
+    assert_eq!(store.take(), Some(Ticket(2)));
     assert_eq!(worker.try_task(2), Ok(Tried::Ended));
     assert_eq!(store.finish(&mut worker), Ok(Brought::Parked));
     assert_eq!(store.take(), None);
-    assert_eq!(store.give_up(2), Ok(false));
-    assert_eq!(store.give_up(3), Err(Error::Unknown));
+    assert_eq!(store.give_up(Ticket(2)), Ok(false));
+    assert_eq!(store.give_up(Ticket(3)), Err(Error::UnknownTicket(Ticket(3))));
     store.checkpoint();
     let report = store.report().unwrap();
     assert_eq!(report, "base 2\nx 7 2\nnow 2\nx 7 2\nparked 2 wait\nend\n");
@@ -73,12 +86,12 @@ fn a_store_turn_by_turn() {
 fn what_is_given_up_is_reported() {
     let program = Program::read(FILE).unwrap();
     let store = Store::open(&program, 0, 0).unwrap();
-    assert_eq!(store.take(), Some(0));
-    assert_eq!(store.give_up(0), Ok(true));
+    assert_eq!(store.take(), Some(Ticket(0)));
+    assert_eq!(store.give_up(Ticket(0)), Ok(true));
     let report = store.report().unwrap();
     assert!(report.ends_with("memory 0 inc\nend\n"));
     assert_eq!(stm::check(FILE, &report), Ok(Verdict::Good));
-    assert!(matches!(Store::open(&program, 33, 0), Err(Error::NoWorker)));
+    assert!(matches!(Store::open(&program, 33, 0), Err(Error::TooManyWorkers)));
 }
 
 #[test]
@@ -117,8 +130,8 @@ fn an_observer_sees_one_state() {
     std::thread::scope(|scope| {
         let store = &store;
         scope.spawn(move || {
-            while let Some(task) = store.take() {
-                assert_eq!(worker.try_task(task), Ok(Tried::Ended));
+            while let Some(job) = store.take_job() {
+                assert_eq!(worker.try_job(job), Ok(Tried::Ended));
                 assert!(matches!(store.finish(&mut worker), Ok(Brought::Committed(_))));
             }
         });
@@ -135,10 +148,21 @@ fn an_observer_sees_one_state() {
 
 #[test]
 fn a_worker_of_another_program_is_refused() {
-    let (a, b) = (Program::read(FILE).unwrap(), Program::read(FILE).unwrap());
-    let (first, second) = (Store::open(&a, 1, 0).unwrap(), Store::open(&b, 1, 0).unwrap());
+    let same = Program::read(FILE).unwrap();
+    let other = Program::read(&FILE.replace("(add x 1)", "(add x 2)")).unwrap();
+    let program = Program::read(FILE).unwrap();
+    let store = Store::open(&program, 1, 0).unwrap();
+    let job = store.take_job().unwrap();
+    let second = Store::open(&other, 1, 0).unwrap();
     let mut worker = second.worker().unwrap();
-    assert_eq!(first.finish(&mut worker), Err(Error::OtherProgram));
+    assert_eq!(worker.try_job(job), Ok(Tried::Ended));
+    assert_eq!(store.finish(&mut worker), Err(Error::OtherProgram));
+    assert_eq!(store.finish(&mut worker), Ok(Brought::NotEnded));
+    // One that says the same is as good as the store's own.
+    let third = Store::open(&same, 1, 0).unwrap();
+    let mut worker = third.worker().unwrap();
+    assert_eq!(worker.try_job(job), Ok(Tried::Ended));
+    assert_eq!(store.finish(&mut worker), Ok(returned(1, 6)));
 }
 
 #[test]
@@ -163,23 +187,23 @@ fn tasks_are_submitted_while_all_wait() {
     let mut worker = store.worker().unwrap();
     assert!(matches!(Store::open_with_room(&program, 1, 0, 65536), Err(Error::NoRoom)));
     let get = store.take_job().unwrap();
-    assert_eq!(get, Job { task: 0, transaction: 0 });
+    assert_eq!(get, Job { ticket: Ticket(0), chapter: 0, task: 0, transaction: 0 });
     assert_eq!(store.report_now(), Err(Error::WorkLeft));
     assert_eq!(worker.try_job(get), Ok(Tried::Ended));
     assert_eq!(store.finish(&mut worker), Ok(Brought::Parked));
     assert!(store.report_now().unwrap().ends_with("parked 0 get\nend\n"));
 
     let put = program.transaction("put").unwrap();
-    assert_eq!(store.submit(2), Err(Error::Unknown));
-    assert_eq!((store.submit(put), store.submit(put)), (Ok(1), Ok(2)));
+    assert_eq!(store.submit(2), Err(Error::UnknownTransaction(2)));
+    assert_eq!((store.submit(put), store.submit(put)), (Ok(Ticket(1)), Ok(Ticket(2))));
     assert_eq!((store.submit(put), store.spare(), store.tasks()), (Err(Error::NoRoom), 0, 3));
     let job = store.take_job().unwrap();
-    assert_eq!(worker.try_task(1), Err(Error::Unknown));
+    assert_eq!(worker.try_task(1), Err(Error::UnknownTask(1)));
     assert_eq!(worker.try_job(Job { transaction: 0, ..job }), Ok(Tried::Ended));
     assert_eq!(store.finish(&mut worker), Ok(Brought::OtherTask));
-    assert_eq!(worker.try_job(Job { transaction: 2, ..job }), Err(Error::Unknown));
+    assert_eq!(worker.try_job(Job { transaction: 2, ..job }), Err(Error::UnknownTransaction(2)));
     assert_eq!(worker.try_job(job), Ok(Tried::Ended));
-    assert_eq!(store.finish(&mut worker), Ok(Brought::Committed(1)));
+    assert_eq!(store.finish(&mut worker), Ok(returned(1, 1)));
     assert_eq!((store.value("full"), store.value("empty")), (Some((1, 1)), None));
     assert_eq!(store.counts(), Counts { ready: 2, done: 1, ..Counts::default() });
     let (report, file) = store.report_and_file().unwrap();
@@ -204,12 +228,13 @@ fn tasks_are_submitted_while_threads_run() {
                     };
                     while worker.try_job(job) != Ok(Tried::Ended)
                         || !matches!(store.finish(&mut worker), Ok(Brought::Committed(_)))
-                    {}
+                    {
+                    }
                 }
             });
         }
         for task in 0..2000 {
-            assert_eq!(store.submit(0), Ok(task));
+            assert_eq!(store.submit(0), Ok(Ticket(task)));
         }
     });
     let (report, file) = store.report_and_file().unwrap();

@@ -1,5 +1,5 @@
 -- What a contract sees of an attempt, and what an answer says.
-use Rattle.std.specs.Prelude.{◌≡◌, ℕ, ℤ, [], ◌∷◌, ◌++◌, length}
+use Rattle.std.specs.Prelude.{◌≡◌, ◌<◌, ℕ, ℤ, None, [], ◌∷◌, ◌++◌, length}
 use Rattle.txn_programs.specs.Tree.{Program}
 use Rattle.txn_programs.specs.Listing.{Listing, program_at}
 use Rattle.txn_programs.specs.Meaning.{State, outcome, after}
@@ -11,7 +11,7 @@ use Rattle.attempt.specs.declared.next.Stand.{Stand}
 use Rattle.attempt.specs.declared.next.Stand.TheVariants as stand
 use Rattle.attempt.specs.declared.next.Next.{Next}
 use Rattle.attempt.specs.declared.next.Next.TheVariants as next
-use Rattle.attempt_machine.specs.Asking.{Known, ask, Needs, Ends}
+use Rattle.attempt_machine.specs.Asking.{Known, ask, known_at, Needs, Ends}
 use Rattle.attempt_machine.specs.Frame.{store}
 
 pub record AttemptView : Type 0 where
@@ -69,6 +69,13 @@ HoldsAt (next.Returned v) a m = (outcome a.program m ≡ Returned v) × (after a
 HoldsAt (next.Thrown f) a m = (outcome a.program m ≡ Thrown f) × (after a.program m ≡ store a.writes m)
 HoldsAt next.Retry a m = (outcome a.program m ≡ Retries) × (after a.program m ≡ store a.writes m)
 HoldsAt next.Memory a m = Unit {0}
+
+-- no end was reached for want of memory: it waits for a variable that it was not told, or is spent
+abbrev pub IsHeldUp : Stand → AttemptView → Type 0
+IsHeldUp stand.Fresh a = ⊥
+IsHeldUp (stand.Needs x) a = (ask a.program a.log ≡ Needs x) × (x.0 < a.variables) × (known_at a.log x ≡ None)
+IsHeldUp (stand.Over o) a = ⊥
+IsHeldUp stand.Spent a = Unit {0}
 
 -- writes remain only where the program returned
 abbrev pub OnlyOfReturned : Stand → Known → Type 0

@@ -10,7 +10,7 @@ ghost use Rattle.attempt_writes.specs.Order.{AllKnown, Apart, Ascending};
 ghost use Rattle.attempt_machine.specs.Room.{NeedsNoMemory};
 ghost use Rattle.attempt_machine.specs.Reading.{ReadsOn};
 ghost use Rattle.attempt.specs.AttemptInside.{StandsAt};
-ghost use Rattle.attempt.specs.View.{fresh_attempt, begun_anew, supplied, idle, next_of, Answers, HoldsAt, OnlyOfReturned};
+ghost use Rattle.attempt.specs.View.{fresh_attempt, begun_anew, supplied, idle, next_of, Answers, HoldsAt, IsHeldUp, OnlyOfReturned};
 
 use crate::log::Log;
 use crate::next::{Next, Stand, answer_of};
@@ -276,6 +276,8 @@ impl<'a> Attempt<'a> {
         ensures ended { IfOk result (λ o. self.new.stand ≡ Stand.Over o) }
         ensures outcome { IfOk result (λ o. outcome self.old.program values.now ≡ o) }
         ensures after { OnOk result (after self.old.program values.now ≡ store self.new.writes values.now) }
+        ensures refused { OnErr result (IsHeldUp self.new.stand self.new) }
+        ensures short { NeedsNoMemory self.old.program → self.new.stand ≢ Stand.Spent }
         ensures steps { self.new.steps ≤ cost self.old.program }
     {
         self.catalogue.rules();

@@ -1,6 +1,6 @@
 //! What an attempt was told, found in constant time.
 
-ghost use Rattle.std.specs.Prelude.{◌≡◌, ◌<◌, ◌≤◌, ◌+◌, ◌++◌, ◌∷◌, [], None, length, take, slice_get, slice_set, IsOk, IfOk, OnOk, OnErr};
+ghost use Rattle.std.specs.Prelude.{◌≡◌, ◌<◌, ◌≤◌, ◌+◌, ◌*◌, ◌++◌, ◌∷◌, [], None, length, take, slice_get, slice_set, IsOk, IfOk, OnOk, OnErr};
 ghost use Rattle.attempt_writes.specs.Known.{known_at};
 ghost use Rattle.attempt_writes.specs.Places.{placed_value};
 
@@ -66,7 +66,7 @@ fn make_room(lines: &mut Layer) -> Result<usize, AllocError>
     requires some { 0 < length lines.old.items }
     requires few { length lines.old.items ≤ MAX_VARIABLES }
     ensures room { IfOk result (λ room. room ≡ length lines.new.items) }
-    ensures more { IfOk result (λ room. length lines.old.items < room) }
+    ensures twice { IfOk result (λ room. room ≡ 2 * length lines.old.items) }
     ensures front { take (length lines.old.items) lines.new.items ≡ lines.old.items }
     ensures refused { OnErr result (lines.new.items ≡ lines.old.items) }
 {

@@ -2,7 +2,7 @@
 use Rattle.std.proofs.Common.{◌≡◌, Vec, Global, ◌+◌, ◌-◌, ◌++◌, length-append, ℕ, zero, suc, replicate, ◌<◌, ◌≤◌, List, [], ◌∷◌, length, map, Option, Some, None, set, refl, sym, ◌∙◌, ap, subst, arith, vec_capacity}
 use Rattle.std.specs.List.{slice_get, All}
 use Rattle.std.proofs.lemmas.List.{length-set, length-map, length-replicate}
-use Rattle.std.proofs.lemmas.List.Elements.{All-nil, All-push, All-replicate}
+use Rattle.std.proofs.lemmas.List.Elements.{All-nil, All-replicate}
 use Rattle.txn_programs.specs.declared.ast.TaskId.{TaskId}
 use Rattle.txn_programs.specs.declared.report.Entry.{Entry}
 use Rattle.txn_programs.specs.declared.limits.TheConstants.{MAX_TASKS, MAX_VARIABLES}
@@ -28,7 +28,7 @@ use Rattle.book.specs.declared.stored.Stored.{Stored}
 use Rattle.txn_programs.specs.declared.ast.TxId.{TxId}
 use Rattle.txn.specs.Grown.{grown}
 use Rattle.book.specs.Submitted.{submitted}
-use Rattle.txn.proofs.Growing.{grown_none, grown_more}
+use Rattle.book.specs.Chapters.{ChapterView}
 use Rattle.book.proofs.Submitting.{lawful_submitted, fits_submitted}
 use Rattle.book.proofs.Laws.{NotDone, NotParked, open_count-set, lawful_opened, stands_lawful, parks_lawful, checkpoint_lawful}
 use Rattle.book.proofs.Readying.{readied_lawful, readied_fits}
@@ -104,15 +104,17 @@ fits_checkpoint b h =
       counted = h.counted;
     }
 
--- what the fields of a new book are
-pub record IsNew (b : Inside) : Type 0 where
+-- what the fields of a new book of this listing are
+pub record IsNew (l : Listing) (b : Inside) : Type 0 where
   pub own : b.publisher.cells ≡ b.cells.now
-  pub unused : b.publisher.history ≡ b.catalogue.now.initial ∷ []
-  pub base : snapshot_of b.base ≡ opening b.catalogue.now
-  pub present : snapshot_of b.present ≡ opening b.catalogue.now
+  pub unused : b.publisher.history ≡ l.initial ∷ []
+  pub base : snapshot_of b.base ≡ opening l
+  pub present : snapshot_of b.present ≡ opening l
   pub journal : b.journal.items ≡ []
-  pub tasks : b.table.tasks ≡ replicate (length (tasks b.catalogue.now)) Ready
-  pub submitted : b.submitted.items ≡ []
+  pub listing : b.chapter.listing ≡ l
+  pub room : b.room ≡ length (tasks l) + b.spare
+  pub tasks : b.table.tasks ≡ replicate (length (tasks l)) Ready
+  pub before : b.before ≡ 0
 
 -- one task of the table stands otherwise, and so does that of the book
 pub view_placed : (b : Inside) (task : TaskId) (is : Task) → book_of (record b { table = placed b.table task is }) ≡ stands (book_of b) task (with_values b.present.values.items is)
@@ -120,32 +122,34 @@ view_placed b task is =
     let v = book_of b in
     ap (λ (ts : List Task). let r : BookView = record v { tasks = ts } in r) (map_set (with_values b.present.values.items) b.table.tasks task.0 is)
 
-pub new_is : (b : Inside) → IsNew b → book_of b ≡ opened b.catalogue.now b.cells.now b.table.spare
-new_is b n =
-    let l = b.catalogue.now in
-    let made : Listing → CellsId → List State → Snapshot → List Entry → Snapshot → List Task → BookView = λ m c h x j y t. record { catalogue = m; cells = b.cells.now; published_to = c; history = h; base = x; journal = j; present = y; tasks = t; spare = b.table.spare } in
-    ap (λ (m : Listing). made m b.publisher.cells b.publisher.history (snapshot_of b.base) b.journal.items (snapshot_of b.present) (tasks_of b)) (ap (grown l) n.submitted ∙ grown_none l)
+pub new_is : (l : Listing) (b : Inside) → IsNew l b → book_of b ≡ opened l b.cells.now b.spare
+new_is l b n =
+    let made : Listing → CellsId → List State → Snapshot → List Entry → Snapshot → List Task → BookView = λ m c h x j y t. record { catalogue = m; cells = b.cells.now; published_to = c; history = h; base = x; journal = j; present = y; tasks = t; spare = b.spare; room = b.room; before = b.before } in
+    let ended : ℕ → ℕ → BookView = λ r k. record (made l b.cells.now (l.initial ∷ []) (opening l) [] (opening l) (replicate (length (tasks l)) Ready)) { room = r; before = k } in
+    ap (λ (m : Listing). made m b.publisher.cells b.publisher.history (snapshot_of b.base) b.journal.items (snapshot_of b.present) (tasks_of b)) n.listing
     ∙ (ap (λ (c : CellsId). made l c b.publisher.history (snapshot_of b.base) b.journal.items (snapshot_of b.present) (tasks_of b)) n.own
     ∙ (ap (λ (h : List State). made l b.cells.now h (snapshot_of b.base) b.journal.items (snapshot_of b.present) (tasks_of b)) n.unused
     ∙ (ap (λ (x : Snapshot). made l b.cells.now (l.initial ∷ []) x b.journal.items (snapshot_of b.present) (tasks_of b)) n.base
     ∙ (ap (λ (j : List Entry). made l b.cells.now (l.initial ∷ []) (opening l) j (snapshot_of b.present) (tasks_of b)) n.journal
     ∙ (ap (λ (y : Snapshot). made l b.cells.now (l.initial ∷ []) (opening l) [] y (tasks_of b)) n.present
-    ∙ ap (λ (t : List Task). made l b.cells.now (l.initial ∷ []) (opening l) [] (opening l) t) (ap (map (with_values b.present.values.items)) n.tasks ∙ all_ready b.present.values.items (length (tasks l))))))))
+    ∙ (ap (λ (t : List Task). made l b.cells.now (l.initial ∷ []) (opening l) [] (opening l) t) (ap (map (with_values b.present.values.items)) n.tasks ∙ all_ready b.present.values.items (length (tasks l)))
+    ∙ (ap (λ (r : ℕ). ended r b.before) n.room ∙ ap (ended (length (tasks l) + b.spare)) n.before)))))))
 
-pub kept_opened : (b : Inside) → IsNew b → length (tasks b.catalogue.now) + b.table.spare ≤ MAX_TASKS → length b.catalogue.now.initial ≤ MAX_VARIABLES → AllKnow b.catalogue.now → Upholds b.catalogue.now b.catalogue.now.initial → length (tasks b.catalogue.now) + b.table.spare ≤ vec_capacity b.journal → b.table.spare ≤ vec_capacity b.submitted → length b.catalogue.now.initial ≤ vec_capacity b.changes → b.table.variables ≡ length b.catalogue.now.initial → IsKept b
-kept_opened b n few few_variables known stands room submit_room changes_room variables =
-    let l = b.catalogue.now in
-    let is = new_is b n in
+pub kept_opened : (l : Listing) (b : Inside) → IsNew l b → length (tasks l) + b.spare ≤ MAX_TASKS → length l.initial ≤ MAX_VARIABLES → AllKnow l → Upholds l l.initial → b.room ≤ vec_capacity b.journal → b.room ≤ b.chapter.room → length l.initial ≤ vec_capacity b.changes → b.table.spare ≡ b.spare → b.table.variables ≡ length l.initial → IsKept b
+kept_opened l b n few few_variables known stands room submit_room changes_room spare variables =
+    let is = new_is l b n in
     let size : length b.table.tasks ≡ length (tasks l) = ap length n.tasks ∙ length-replicate (length (tasks l)) Ready in
     record {
-      lawful = subst LawfulBook (sym is) (lawful_opened l b.cells.now b.table.spare stands);
-      fits = subst BookFits (sym is) (fits_opened l b.cells.now b.table.spare (omega (arith, few)) few_variables known);
-      room = omega (arith, room, size);
-      submit_room = omega (arith, submit_room, ap length n.submitted);
-      few = omega (arith, few, size);
-      submitted = subst (λ (txs : List TxId). All (λ (tx : TxId). tx.0 < length l.transactions) txs) (sym n.submitted) (All-nil (λ (tx : TxId). tx.0 < length l.transactions));
-      changes_room = changes_room;
-      variables = variables;
+      lawful = subst LawfulBook (sym is) (lawful_opened l b.cells.now b.spare stands);
+      fits = subst BookFits (sym is) (fits_opened l b.cells.now b.spare (omega (arith, few)) few_variables known);
+      room = room;
+      submit_room = submit_room;
+      changes_room = omega (arith, changes_room, ap (λ (m : Listing). length m.initial) n.listing);
+      whole = omega (arith, size, spare, n.room);
+      spared = omega (arith, spare);
+      few = omega (arith, few, n.room);
+      clock = omega (arith, few, size, n.before);
+      variables = omega (arith, variables, ap (λ (m : Listing). length m.initial) n.listing);
     }
 
 -- one task stands otherwise; it was not done and is neither done nor parked
@@ -160,11 +164,13 @@ kept_stand b table task was is k e at was_open is_open is_awake same =
     (record {
       lawful = subst LawfulBook (sym view) (stands_lawful v task (with_values m was) (with_values m is) k.lawful there was_open is_open is_awake);
       fits = subst BookFits (sym view) (fits_stand v task (with_values m was) (with_values m is) k.fits there same);
-      room = omega (arith, k.room, length-set b.table.tasks task.0 is);
+      room = k.room;
       submit_room = k.submit_room;
-      few = omega (arith, k.few, length-set b.table.tasks task.0 is);
-      submitted = k.submitted;
       changes_room = k.changes_room;
+      whole = omega (arith, k.whole, length-set b.table.tasks task.0 is);
+      spared = k.spared;
+      few = k.few;
+      clock = omega (arith, k.clock, length-set b.table.tasks task.0 is);
       variables = k.variables;
     })
 
@@ -188,7 +194,7 @@ view_parked b task log agrees =
     view_placed b task (Parked (unvalued log)) ∙ ap (λ (l : Known). stands (book_of b) task (Parked l)) (told_again b.present.values.items log agrees)
 
 -- a running task waits
-pub kept_park : (b : Inside) (table : TableView) (task : TaskId) (log : Known) → IsKept b → table ≡ placed b.table task (Parked (unvalued log)) → slice_get b.table.tasks task.0 ≡ Some Running → Waits (grown b.catalogue.now b.submitted.items) b.present.values.items task log → IsKept (record b { table = table })
+pub kept_park : (b : Inside) (table : TableView) (task : TaskId) (log : Known) → IsKept b → table ≡ placed b.table task (Parked (unvalued log)) → slice_get b.table.tasks task.0 ≡ Some Running → Waits b.chapter.listing b.present.values.items task log → IsKept (record b { table = table })
 kept_park b table task log k e at waits =
     let v = book_of b in
     let m = b.present.values.items in
@@ -198,11 +204,13 @@ kept_park b table task log k e at waits =
     (record {
       lawful = subst LawfulBook (sym view) (parks_lawful v task log k.lawful there waits);
       fits = subst BookFits (sym view) (fits_stand v task Running (Parked log) k.fits there refl);
-      room = omega (arith, k.room, length-set b.table.tasks task.0 (Parked (unvalued log)));
+      room = k.room;
       submit_room = k.submit_room;
-      few = omega (arith, k.few, length-set b.table.tasks task.0 (Parked (unvalued log)));
-      submitted = k.submitted;
       changes_room = k.changes_room;
+      whole = omega (arith, k.whole, length-set b.table.tasks task.0 (Parked (unvalued log)));
+      spared = k.spared;
+      few = k.few;
+      clock = omega (arith, k.clock, length-set b.table.tasks task.0 (Parked (unvalued log)));
       variables = k.variables;
     })
 
@@ -220,11 +228,13 @@ kept_readied b table k e =
     (record {
       lawful = subst LawfulBook (sym view) (readied_lawful v k.lawful);
       fits = subst BookFits (sym view) (readied_fits v k.fits);
-      room = omega (arith, k.room, length-map b.table.tasks readied_one);
+      room = k.room;
       submit_room = k.submit_room;
-      few = omega (arith, k.few, length-map b.table.tasks readied_one);
-      submitted = k.submitted;
       changes_room = k.changes_room;
+      whole = omega (arith, k.whole, length-map b.table.tasks readied_one);
+      spared = k.spared;
+      few = k.few;
+      clock = omega (arith, k.clock, length-map b.table.tasks readied_one);
       variables = k.variables;
     })
 
@@ -239,9 +249,11 @@ kept_checkpoint b base journal k e none capacity =
       fits = subst BookFits (sym view) (fits_checkpoint v k.fits);
       room = omega (arith, k.room, capacity);
       submit_room = k.submit_room;
-      few = omega (arith, k.few, capacity);
-      submitted = k.submitted;
       changes_room = k.changes_room;
+      whole = k.whole;
+      spared = k.spared;
+      few = k.few;
+      clock = k.clock;
       variables = k.variables;
     }
 
@@ -250,29 +262,32 @@ same_snapshot n values state versions vs e f =
     ap (λ (m : State). let r : Snapshot = record { number = n; state = m; versions = versions } in r) e
     ∙ ap (λ (x : List ℕ). let r : Snapshot = record { number = n; state = state; versions = x } in r) f
 
--- one task more
-pub view_submitted : (b : Inside) (table : TableView) (txs : Vec TxId Global) (tx : TxId) → table ≡ with_one_more b.table → txs.items ≡ b.submitted.items ++ tx ∷ [] → book_of (record b { submitted = txs; table = table }) ≡ submitted (book_of b) tx
-view_submitted b table txs tx e more =
+-- a task is submitted
+view_submitted : (b : Inside) (chapter : ChapterView) (table : TableView) (tx : TxId) → table ≡ with_one_more b.table → chapter.listing ≡ grown b.chapter.listing (tx ∷ []) → book_of (record b { chapter = chapter; table = table; spare = b.spare - 1 }) ≡ submitted (book_of b) tx
+view_submitted b chapter table tx e more =
     let v = book_of b in
     let m = b.present.values.items in
-    let made : Listing → List Task → ℕ → BookView = λ l ts n. record v { catalogue = l; tasks = ts; spare = n } in
-    ap (λ (x : TableView). made (grown b.catalogue.now txs.items) (map (with_values m) x.tasks) x.spare) e
-    ∙ (ap (λ (l : Listing). made l (map (with_values m) (b.table.tasks ++ Ready ∷ [])) (b.table.spare - 1)) (ap (grown b.catalogue.now) more ∙ sym (grown_more b.catalogue.now b.submitted.items (tx ∷ [])))
-    ∙ ap (λ (ts : List Task). made (grown (grown b.catalogue.now b.submitted.items) (tx ∷ [])) ts (b.table.spare - 1)) (one_more_ready m b.table.tasks))
+    let made : Listing → List Task → BookView = λ l ts. record v { catalogue = l; tasks = ts; spare = b.spare - 1 } in
+    ap (λ (x : TableView). made chapter.listing (map (with_values m) x.tasks)) e
+    ∙ (ap (λ (l : Listing). made l (map (with_values m) (b.table.tasks ++ Ready ∷ []))) more
+    ∙ ap (made (grown b.chapter.listing (tx ∷ []))) (one_more_ready m b.table.tasks))
 
-pub kept_submitted : (b : Inside) (table : TableView) (txs : Vec TxId Global) (tx : TxId) → IsKept b → table ≡ with_one_more b.table → 0 < b.table.spare → txs.items ≡ b.submitted.items ++ tx ∷ [] → vec_capacity b.submitted ≤ vec_capacity txs → tx.0 < length b.catalogue.now.transactions → ProgramKnown (length b.catalogue.now.initial) (program_at b.catalogue.now tx) → IsKept (record b { submitted = txs; table = table })
-kept_submitted b table txs tx k e spare more capacity known program =
+pub kept_submitted : (b : Inside) (chapter : ChapterView) (table : TableView) (tx : TxId) → IsKept b → table ≡ with_one_more b.table → 0 < b.spare → chapter.listing ≡ grown b.chapter.listing (tx ∷ []) → chapter.room ≡ b.chapter.room → ProgramKnown (length b.chapter.listing.initial) (program_at b.chapter.listing tx) → IsKept (record b { chapter = chapter; table = table; spare = b.spare - 1 })
+kept_submitted b chapter table tx k e spare more same program =
     let v = book_of b in
-    let view = view_submitted b table txs tx e more in
+    let view = view_submitted b chapter table tx e more in
     let size : length table.tasks ≡ length b.table.tasks + 1 = ap (λ (x : TableView). length x.tasks) e ∙ length-append b.table.tasks (Ready ∷ []) in
     let left : table.spare ≡ b.table.spare - 1 = ap (λ (x : TableView). x.spare) e in
+    let wide = ap (λ (l : Listing). length l.initial) more in
     record {
       lawful = subst LawfulBook (sym view) (lawful_submitted v tx k.lawful k.fits.tasks);
-      fits = subst BookFits (sym view) (fits_submitted v tx k.fits (omega (arith, k.few, spare, length-map b.table.tasks (with_values b.present.values.items))) program);
-      room = omega (arith, k.room, size, left, spare);
-      submit_room = omega (arith, k.submit_room, ap length more, length-append b.submitted.items (tx ∷ []), left, spare, capacity);
-      few = omega (arith, k.few, size, left, spare);
-      submitted = subst (λ (ts : List TxId). All (λ (x : TxId). x.0 < length b.catalogue.now.transactions) ts) (sym more) (All-push (λ (x : TxId). x.0 < length b.catalogue.now.transactions) b.submitted.items tx k.submitted known);
-      changes_room = k.changes_room;
-      variables = ap (λ (x : TableView). x.variables) e ∙ k.variables;
+      fits = subst BookFits (sym view) (fits_submitted v tx k.fits (omega (arith, k.whole, k.spared, k.few, spare, length-map b.table.tasks (with_values b.present.values.items))) program);
+      room = k.room;
+      submit_room = omega (arith, k.submit_room, same);
+      changes_room = omega (arith, k.changes_room, wide);
+      whole = omega (arith, k.whole, size, left, k.spared, spare);
+      spared = omega (arith, k.spared, left);
+      few = k.few;
+      clock = omega (arith, k.clock, size, spare);
+      variables = omega (arith, ap (λ (x : TableView). x.variables) e, k.variables, wide);
     }

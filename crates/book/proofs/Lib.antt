@@ -22,3 +22,11 @@ pub mod Accounts
 mod Finishing
 mod Serving
 mod Tallies
+mod Carrying
+mod Parking
+pub mod Staying
+mod Programs
+mod Listings
+mod Beginning
+mod Begins
+pub mod Recording

@@ -10,8 +10,8 @@ use Rattle.attempt.specs.Asking.{Known}
 use Rattle.attempt.specs.Order.{AllKnown}
 use Rattle.std.specs.Prelude.{nat_eq}
 use Rattle.book.specs.Tasks.{Task, Ready, Running, Parked}
-use Rattle.book.specs.declared.task.Standing.{Standing}
-use Rattle.book.specs.declared.task.Standing.TheVariants as standing
+use Rattle.book.specs.declared.task.Slot.{Slot}
+use Rattle.book.specs.declared.task.Slot.TheVariants as standing
 use Rattle.book.specs.Table.{unvalued, names, flagged}
 use Rattle.book.specs.Standings.{row, named_by, naming, shown, shown_from, HaveRows, bare, unlogged}
 use Rattle.book.proofs.Lists.{get_set_same, get_set_other, get_replicate, get_append_last}
@@ -23,6 +23,19 @@ row_same zero a now was h = refl
 row_same (suc n) a now was h =
     ap (λ (x : ℕ). x ∷ row now (a + 1) n) (h a (omega arith) (omega arith))
     ∙ ap (λ (xs : List ℕ). get_or was a 0 ∷ xs) (row_same n (a + 1) now was (λ k low high. h k (omega (arith, low)) (omega (arith, high))))
+
+-- bytes that stand elsewhere make the same row
+pub row_moved : (n a b : ℕ) (now was : List ℕ) → ((j : ℕ) → j < n → get_or now (b + j) 0 ≡ get_or was (a + j) 0) → row now b n ≡ row was a n
+row_moved zero a b now was h = refl
+row_moved (suc n) a b now was h =
+    let from : a ≡ a + 0 = omega arith in
+    let to : b ≡ b + 0 = omega arith in
+    ap (λ (x : ℕ). x ∷ row now (b + 1) n) (ap (λ (k : ℕ). get_or now k 0) to ∙ (h 0 (omega arith) ∙ ap (λ (k : ℕ). get_or was k 0) (sym from)))
+    ∙ ap (λ (xs : List ℕ). get_or was a 0 ∷ xs)
+    (row_moved n (a + 1) (b + 1) now was (λ j low.
+    let from_next : a + suc j ≡ (a + 1) + j = omega arith in
+    let to_next : (b + 1) + j ≡ b + suc j = omega arith in
+    ap (λ (k : ℕ). get_or now k 0) to_next ∙ (h (suc j) (omega (arith, low)) ∙ ap (λ (k : ℕ). get_or was k 0) from_next)))
 
 -- a row that was written byte by byte
 pub row_is : (log : Known) (a : ℕ) (now : List ℕ) → ((j : ℕ) → j < length log → get_or now (a + j) 0 ≡ (get_or log j no_pair).0.0) → row now a (length log) ≡ named_by log
@@ -100,20 +113,20 @@ put_next log start i at v now was low room e h =
 pub put_row : (log : Known) (start i at : ℕ) (now was : List ℕ) → length log ≤ i → PutSoFar log start i at now was → row now start (length log) ≡ named_by log
 put_row log start i at now was past h = row_is log start now (λ j low. h.written j (omega (arith, low, past)))
 
-length_from : (w : ℕ) (names : List ℕ) (k : ℕ) (ss : List Standing) → length (shown_from w names k ss) ≡ length ss
+length_from : (w : ℕ) (names : List ℕ) (k : ℕ) (ss : List Slot) → length (shown_from w names k ss) ≡ length ss
 length_from w names k [] = refl
 length_from w names k (s ∷ ss) = ap suc (length_from w names (k + 1) ss)
 
-pub length_shown : (w : ℕ) (names : List ℕ) (ss : List Standing) → length (shown_from w names 0 ss) ≡ length ss
+pub length_shown : (w : ℕ) (names : List ℕ) (ss : List Slot) → length (shown_from w names 0 ss) ≡ length ss
 length_shown w names ss = length_from w names 0 ss
 
 -- a standing shows its task
-from_at : (w : ℕ) (names : List ℕ) (k : ℕ) (ss : List Standing) (t : ℕ) (s : Standing) → slice_get ss t ≡ Some s → slice_get (shown_from w names k ss) t ≡ Some (shown w names (k + t) s)
+from_at : (w : ℕ) (names : List ℕ) (k : ℕ) (ss : List Slot) (t : ℕ) (s : Slot) → slice_get ss t ≡ Some s → slice_get (shown_from w names k ss) t ≡ Some (shown w names (k + t) s)
 from_at w names k [] t s h = absurd (cc)
 from_at w names k (u ∷ ss) zero s h =
     let same : u ≡ s = same_Some u s h in
     let here : k ≡ k + 0 = omega arith in
-    ap (λ (v : Standing). Some (shown w names k v)) same ∙ ap (λ (j : ℕ). Some (shown w names j s)) here
+    ap (λ (v : Slot). Some (shown w names k v)) same ∙ ap (λ (j : ℕ). Some (shown w names j s)) here
 from_at w names k (u ∷ ss) (suc t) s h =
     let next : (k + 1) + t ≡ k + suc t = omega arith in
     from_at w names (k + 1) ss t s h ∙ ap (λ (j : ℕ). Some (shown w names j s)) next
@@ -121,10 +134,10 @@ from_at w names k (u ∷ ss) (suc t) s h =
 plus_none : (t : ℕ) → 0 + t ≡ t
 plus_none t = omega arith
 
-pub shown_at : (w : ℕ) (names : List ℕ) (ss : List Standing) (t : ℕ) (s : Standing) → slice_get ss t ≡ Some s → slice_get (shown_from w names 0 ss) t ≡ Some (shown w names t s)
+pub shown_at : (w : ℕ) (names : List ℕ) (ss : List Slot) (t : ℕ) (s : Slot) → slice_get ss t ≡ Some s → slice_get (shown_from w names 0 ss) t ≡ Some (shown w names t s)
 shown_at w names ss t s h = from_at w names 0 ss t s h ∙ ap (λ (j : ℕ). Some (shown w names j s)) (plus_none t)
 
-at_from : (w : ℕ) (names : List ℕ) (k : ℕ) (ss : List Standing) (t : ℕ) (task : Task) → slice_get (shown_from w names k ss) t ≡ Some task → (s : Standing) × (slice_get ss t ≡ Some s) × (shown w names (k + t) s ≡ task)
+at_from : (w : ℕ) (names : List ℕ) (k : ℕ) (ss : List Slot) (t : ℕ) (task : Task) → slice_get (shown_from w names k ss) t ≡ Some task → (s : Slot) × (slice_get ss t ≡ Some s) × (shown w names (k + t) s ≡ task)
 at_from w names k [] t task h = absurd (cc)
 at_from w names k (s ∷ ss) zero task h =
     let here : k + 0 ≡ k = omega arith in
@@ -135,12 +148,12 @@ at_from w names k (s ∷ ss) (suc t) task h =
     (g.0, g.1, ap (λ (j : ℕ). shown w names j g.0) next ∙ g.2)
 
 -- a task is shown by a standing
-pub at_shown : (w : ℕ) (names : List ℕ) (ss : List Standing) (t : ℕ) (task : Task) → slice_get (shown_from w names 0 ss) t ≡ Some task → (s : Standing) × (slice_get ss t ≡ Some s) × (shown w names t s ≡ task)
+pub at_shown : (w : ℕ) (names : List ℕ) (ss : List Slot) (t : ℕ) (task : Task) → slice_get (shown_from w names 0 ss) t ≡ Some task → (s : Slot) × (slice_get ss t ≡ Some s) × (shown w names t s ≡ task)
 at_shown w names ss t task h =
     let g = at_from w names 0 ss t task h in
     (g.0, g.1, ap (λ (j : ℕ). shown w names j g.0) (sym (plus_none t)) ∙ g.2)
 
-from_set : (w : ℕ) (names : List ℕ) (k : ℕ) (ss : List Standing) (t : ℕ) (s : Standing) → shown_from w names k (set ss t s) ≡ set (shown_from w names k ss) t (shown w names (k + t) s)
+from_set : (w : ℕ) (names : List ℕ) (k : ℕ) (ss : List Slot) (t : ℕ) (s : Slot) → shown_from w names k (set ss t s) ≡ set (shown_from w names k ss) t (shown w names (k + t) s)
 from_set w names k [] t s = refl
 from_set w names k (u ∷ ss) zero s =
     let here : k ≡ k + 0 = omega arith in
@@ -151,17 +164,17 @@ from_set w names k (u ∷ ss) (suc t) s =
     (from_set w names (k + 1) ss t s ∙ ap (λ (j : ℕ). set (shown_from w names (k + 1) ss) t (shown w names j s)) next)
 
 -- one task stands otherwise
-pub shown_set : (w : ℕ) (names : List ℕ) (ss : List Standing) (t : ℕ) (s : Standing) → shown_from w names 0 (set ss t s) ≡ set (shown_from w names 0 ss) t (shown w names t s)
+pub shown_set : (w : ℕ) (names : List ℕ) (ss : List Slot) (t : ℕ) (s : Slot) → shown_from w names 0 (set ss t s) ≡ set (shown_from w names 0 ss) t (shown w names t s)
 shown_set w names ss t s = from_set w names 0 ss t s ∙ ap (λ (j : ℕ). set (shown_from w names 0 ss) t (shown w names j s)) (plus_none t)
 
-one_same : (w : ℕ) (now was : List ℕ) (k : ℕ) (s : Standing) → ((n : ℕ) → s ≡ standing.Parked n → row now (k * w) n ≡ row was (k * w) n) → shown w now k s ≡ shown w was k s
+one_same : (w : ℕ) (now was : List ℕ) (k : ℕ) (s : Slot) → ((n : ℕ) → s ≡ standing.Parked n → row now (k * w) n ≡ row was (k * w) n) → shown w now k s ≡ shown w was k s
 one_same w now was k standing.Ready h = refl
 one_same w now was k standing.Running h = refl
 one_same w now was k (standing.Parked n) h = ap (λ (r : List ℕ). Parked (naming r)) (h n refl)
 one_same w now was k (standing.Done n) h = refl
 one_same w now was k standing.GivenUp h = refl
 
-from_names : (w : ℕ) (now was : List ℕ) (k : ℕ) (ss : List Standing) → ((t n : ℕ) → slice_get ss t ≡ Some (standing.Parked n) → row now ((k + t) * w) n ≡ row was ((k + t) * w) n) → shown_from w now k ss ≡ shown_from w was k ss
+from_names : (w : ℕ) (now was : List ℕ) (k : ℕ) (ss : List Slot) → ((t n : ℕ) → slice_get ss t ≡ Some (standing.Parked n) → row now ((k + t) * w) n ≡ row was ((k + t) * w) n) → shown_from w now k ss ≡ shown_from w was k ss
 from_names w now was k [] h = refl
 from_names w now was k (s ∷ ss) h =
     let here : k + 0 ≡ k = omega arith in
@@ -171,16 +184,16 @@ from_names w now was k (s ∷ ss) h =
     (from_names w now was (k + 1) ss (λ t n at. let next : k + suc t ≡ (k + 1) + t = omega arith in subst (λ (j : ℕ). row now (j * w) n ≡ row was (j * w) n) next (h (suc t) n at)))
 
 -- where the rows of the parked tasks are the same, the same tasks are shown
-pub shown_names : (w : ℕ) (now was : List ℕ) (ss : List Standing) → ((t n : ℕ) → slice_get ss t ≡ Some (standing.Parked n) → row now (t * w) n ≡ row was (t * w) n) → shown_from w now 0 ss ≡ shown_from w was 0 ss
+pub shown_names : (w : ℕ) (now was : List ℕ) (ss : List Slot) → ((t n : ℕ) → slice_get ss t ≡ Some (standing.Parked n) → row now (t * w) n ≡ row was (t * w) n) → shown_from w now 0 ss ≡ shown_from w was 0 ss
 shown_names w now was ss h =
     from_names w now was 0 ss (λ t n at. subst (λ (j : ℕ). row now (j * w) n ≡ row was (j * w) n) (sym (plus_none t)) (h t n at))
 
-from_more : (w : ℕ) (names : List ℕ) (k : ℕ) (ss : List Standing) → shown_from w names k (ss ++ standing.Ready ∷ []) ≡ shown_from w names k ss ++ Ready ∷ []
+from_more : (w : ℕ) (names : List ℕ) (k : ℕ) (ss : List Slot) → shown_from w names k (ss ++ standing.Ready ∷ []) ≡ shown_from w names k ss ++ Ready ∷ []
 from_more w names k [] = refl
 from_more w names k (s ∷ ss) = ap (λ (ts : List Task). shown w names k s ∷ ts) (from_more w names (k + 1) ss)
 
 -- a ready task more
-pub shown_more : (w : ℕ) (names : List ℕ) (ss : List Standing) → shown_from w names 0 (ss ++ standing.Ready ∷ []) ≡ shown_from w names 0 ss ++ Ready ∷ []
+pub shown_more : (w : ℕ) (names : List ℕ) (ss : List Slot) → shown_from w names 0 (ss ++ standing.Ready ∷ []) ≡ shown_from w names 0 ss ++ Ready ∷ []
 shown_more w names ss = from_more w names 0 ss
 
 from_ready : (w : ℕ) (names : List ℕ) (k n : ℕ) → shown_from w names k (replicate n standing.Ready) ≡ replicate n Ready
@@ -191,27 +204,27 @@ pub shown_ready : (w : ℕ) (names : List ℕ) (n : ℕ) → shown_from w names 
 shown_ready w names n = from_ready w names 0 n
 
 -- a task that runs stands so, and so does one that waits
-running_standing : (w : ℕ) (names : List ℕ) (k : ℕ) (s : Standing) → shown w names k s ≡ Running → s ≡ standing.Running
+running_standing : (w : ℕ) (names : List ℕ) (k : ℕ) (s : Slot) → shown w names k s ≡ Running → s ≡ standing.Running
 running_standing w names k standing.Ready e = absurd (cc)
 running_standing w names k standing.Running e = refl
 running_standing w names k (standing.Parked n) e = absurd (cc)
 running_standing w names k (standing.Done n) e = absurd (cc)
 running_standing w names k standing.GivenUp e = absurd (cc)
 
-pub stands_running : (w : ℕ) (names : List ℕ) (ss : List Standing) (t : ℕ) → slice_get (shown_from w names 0 ss) t ≡ Some Running → slice_get ss t ≡ Some standing.Running
+pub stands_running : (w : ℕ) (names : List ℕ) (ss : List Slot) (t : ℕ) → slice_get (shown_from w names 0 ss) t ≡ Some Running → slice_get ss t ≡ Some standing.Running
 stands_running w names ss t e = let g = at_shown w names ss t Running e in g.1 ∙ ap Some (running_standing w names t g.0 g.2)
 
-ready_standing : (w : ℕ) (names : List ℕ) (k : ℕ) (s : Standing) → shown w names k s ≡ Ready → s ≡ standing.Ready
+ready_standing : (w : ℕ) (names : List ℕ) (k : ℕ) (s : Slot) → shown w names k s ≡ Ready → s ≡ standing.Ready
 ready_standing w names k standing.Ready e = refl
 ready_standing w names k standing.Running e = absurd (cc)
 ready_standing w names k (standing.Parked n) e = absurd (cc)
 ready_standing w names k (standing.Done n) e = absurd (cc)
 ready_standing w names k standing.GivenUp e = absurd (cc)
 
-pub stands_ready : (w : ℕ) (names : List ℕ) (ss : List Standing) (t : ℕ) → slice_get (shown_from w names 0 ss) t ≡ Some Ready → slice_get ss t ≡ Some standing.Ready
+pub stands_ready : (w : ℕ) (names : List ℕ) (ss : List Slot) (t : ℕ) → slice_get (shown_from w names 0 ss) t ≡ Some Ready → slice_get ss t ≡ Some standing.Ready
 stands_ready w names ss t e = let g = at_shown w names ss t Ready e in g.1 ∙ ap Some (ready_standing w names t g.0 g.2)
 
-parked_standing : (w : ℕ) (names : List ℕ) (k : ℕ) (s : Standing) (log : Known) → shown w names k s ≡ Parked log → (n : ℕ) × (s ≡ standing.Parked n) × (log ≡ naming (row names (k * w) n))
+parked_standing : (w : ℕ) (names : List ℕ) (k : ℕ) (s : Slot) (log : Known) → shown w names k s ≡ Parked log → (n : ℕ) × (s ≡ standing.Parked n) × (log ≡ naming (row names (k * w) n))
 parked_standing w names k standing.Ready log e = absurd (cc)
 parked_standing w names k standing.Running log e = absurd (cc)
 parked_standing w names k (standing.Parked n) log e =
@@ -221,25 +234,25 @@ parked_standing w names k (standing.Parked n) log e =
 parked_standing w names k (standing.Done n) log e = absurd (cc)
 parked_standing w names k standing.GivenUp log e = absurd (cc)
 
-pub stands_parked : (w : ℕ) (names : List ℕ) (ss : List Standing) (t : ℕ) (log : Known) → slice_get (shown_from w names 0 ss) t ≡ Some (Parked log) → (n : ℕ) × (slice_get ss t ≡ Some (standing.Parked n)) × (log ≡ naming (row names (t * w) n))
+pub stands_parked : (w : ℕ) (names : List ℕ) (ss : List Slot) (t : ℕ) (log : Known) → slice_get (shown_from w names 0 ss) t ≡ Some (Parked log) → (n : ℕ) × (slice_get ss t ≡ Some (standing.Parked n)) × (log ≡ naming (row names (t * w) n))
 stands_parked w names ss t log e =
     let g = at_shown w names ss t (Parked log) e in
     let p = parked_standing w names t g.0 log g.2 in
     (p.0, g.1 ∙ ap Some p.1, p.2)
 
-bare_shown : (w : ℕ) (names : List ℕ) (k : ℕ) (s : Standing) → bare s ≡ unlogged (shown w names k s)
+bare_shown : (w : ℕ) (names : List ℕ) (k : ℕ) (s : Slot) → bare s ≡ unlogged (shown w names k s)
 bare_shown w names k standing.Ready = refl
 bare_shown w names k standing.Running = refl
 bare_shown w names k (standing.Parked n) = refl
 bare_shown w names k (standing.Done n) = refl
 bare_shown w names k standing.GivenUp = refl
 
-bare_from : (w : ℕ) (names : List ℕ) (k : ℕ) (ss : List Standing) → map bare ss ≡ map unlogged (shown_from w names k ss)
+bare_from : (w : ℕ) (names : List ℕ) (k : ℕ) (ss : List Slot) → map bare ss ≡ map unlogged (shown_from w names k ss)
 bare_from w names k [] = refl
 bare_from w names k (s ∷ ss) =
     ap (λ (t : Task). t ∷ map bare ss) (bare_shown w names k s) ∙ ap (λ (ts : List Task). unlogged (shown w names k s) ∷ ts) (bare_from w names (k + 1) ss)
 
-pub all_bare : (w : ℕ) (names : List ℕ) (ss : List Standing) → map bare ss ≡ map unlogged (shown_from w names 0 ss)
+pub all_bare : (w : ℕ) (names : List ℕ) (ss : List Slot) → map bare ss ≡ map unlogged (shown_from w names 0 ss)
 all_bare w names ss = bare_from w names 0 ss
 
 -- what is kept of the rows when one is written
@@ -258,14 +271,14 @@ other_rows w t now was u n h other fits whole =
     ])
 
 -- where no parked task was parked there before, all tasks are shown as they were
-pub written_same : (w t : ℕ) (now was : List ℕ) (ss : List Standing) → RowWritten w t now was → HaveRows w was ss → slice_get ss t ≡ Some standing.Running → shown_from w now 0 ss ≡ shown_from w was 0 ss
+pub written_same : (w t : ℕ) (now was : List ℕ) (ss : List Slot) → RowWritten w t now was → HaveRows w was ss → slice_get ss t ≡ Some standing.Running → shown_from w now 0 ss ≡ shown_from w was 0 ss
 written_same w t now was ss h rows at =
     shown_names w now was ss (λ u n parked.
     let other : u ≢ t = λ e. let bad : standing.Running ≡ standing.Parked n = same_Some _ _ (sym at ∙ (ap (slice_get ss) (sym e) ∙ parked)) in cc in
     other_rows w t now was u n h other (rows.fits u n parked) (rows.whole u n parked))
 
 -- the task that is parked is shown with the variables of its log, and every other as it was
-pub shown_parked : (w t : ℕ) (now was : List ℕ) (ss : List Standing) (log : Known) → RowWritten w t now was → HaveRows w was ss → slice_get ss t ≡ Some standing.Running → row now (t * w) (length log) ≡ named_by log
+pub shown_parked : (w t : ℕ) (now was : List ℕ) (ss : List Slot) (log : Known) → RowWritten w t now was → HaveRows w was ss → slice_get ss t ≡ Some standing.Running → row now (t * w) (length log) ≡ named_by log
     → shown_from w now 0 (set ss t (standing.Parked (length log))) ≡ set (shown_from w was 0 ss) t (Parked (unvalued log))
 shown_parked w t now was ss log h rows at written =
     shown_set w now ss t (standing.Parked (length log))
@@ -273,7 +286,7 @@ shown_parked w t now was ss log h rows at written =
     ∙ ap (λ (l : Known). set (shown_from w was 0 ss) t (Parked l)) (ap naming written ∙ naming_names log))
 
 -- each parked task still has its row
-pub rows_parked : (w t n : ℕ) (now was : List ℕ) (ss : List Standing) → RowWritten w t now was → HaveRows w was ss → n ≤ w → slice_get ss t ≡ Some standing.Running → HaveRows w now (set ss t (standing.Parked n))
+pub rows_parked : (w t n : ℕ) (now was : List ℕ) (ss : List Slot) → RowWritten w t now was → HaveRows w was ss → n ≤ w → slice_get ss t ≡ Some standing.Running → HaveRows w now (set ss t (standing.Parked n))
 rows_parked w t n now was ss h rows few at =
     record {
       fits = λ u m parked.
@@ -292,7 +305,7 @@ rows_parked w t n now was ss h rows few at =
     }
 
 -- a task that is not parked has no row
-pub rows_awake : (w t : ℕ) (names : List ℕ) (ss : List Standing) (was is : Standing) → HaveRows w names ss → slice_get ss t ≡ Some was → ((n : ℕ) → is ≢ standing.Parked n) → HaveRows w names (set ss t is)
+pub rows_awake : (w t : ℕ) (names : List ℕ) (ss : List Slot) (was is : Slot) → HaveRows w names ss → slice_get ss t ≡ Some was → ((n : ℕ) → is ≢ standing.Parked n) → HaveRows w names (set ss t is)
 rows_awake w t names ss was is rows at awake =
     record {
       fits = λ u m parked. rows.fits u m (still u m parked);
@@ -312,7 +325,7 @@ rows_ready w n names =
       whole = λ t m e. let bad : standing.Ready ≡ standing.Parked m = get_replicate n t standing.Ready (standing.Parked m) e in absurd (cc);
     }
 
-pub rows_more : (w : ℕ) (names : List ℕ) (ss : List Standing) → HaveRows w names ss → HaveRows w names (ss ++ standing.Ready ∷ [])
+pub rows_more : (w : ℕ) (names : List ℕ) (ss : List Slot) → HaveRows w names ss → HaveRows w names (ss ++ standing.Ready ∷ [])
 rows_more w names ss rows =
     record {
       fits = λ t m e. rows.fits t m (before t m e);
@@ -326,7 +339,7 @@ rows_more w names ss rows =
           ]
 
 -- a standing that was read, without its log
-pub bare_here : (ss : List Standing) (i : ℕ) (d : Standing) → i < length ss → bare (get_or ss i d) ≡ get_or (map bare ss) i (bare (get_or ss i d))
+pub bare_here : (ss : List Slot) (i : ℕ) (d : Slot) → i < length ss → bare (get_or ss i d) ≡ get_or (map bare ss) i (bare (get_or ss i d))
 bare_here [] i d low = absurd (omega (arith, low))
 bare_here (u ∷ ss) zero d low = refl
 bare_here (u ∷ ss) (suc i) d low = bare_here ss i d (omega (arith, low))

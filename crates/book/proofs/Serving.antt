@@ -7,8 +7,6 @@ use Rattle.txn_programs.specs.Meaning.{State, outcome, after}
 use Rattle.txn_programs.specs.Tree.{Program}
 use Rattle.txn_programs.specs.Listing.{task_tx, task_program, program_at}
 use Rattle.txn_words.specs.Stores.{with_changes}
-use Rattle.txn.specs.Grown.{grown}
-use Rattle.attempt.specs.Frame.{store}
 use Rattle.attempt.specs.Order.{Ascending}
 use Rattle.attempt.specs.View.{AttemptView}
 use Rattle.book.specs.declared.book.Book.TheInside.{Inside}
@@ -18,9 +16,9 @@ use Rattle.book.specs.View.{BookView}
 use Rattle.book.proofs.Writes.{store_is_changes}
 
 -- an attempt of the task's transaction that ended on the present values of the book, which is seen as v
-module _ (b : Inside) (v : BookView) (task : TaskId) (tx : TxId) (m : State) (how : Outcome) (a : AttemptView) (view : book_of b ≡ v) (values : m ≡ b.present.values.items) (own : tx ≡ task_tx (grown b.catalogue.now b.submitted.items) task) (h : EndsOn b.catalogue.now tx m how a) where
-  program_is : program_at b.catalogue.now tx ≡ task_program v.catalogue task
-  program_is = ap (λ (x : TxId). program_at b.catalogue.now x) own ∙ ap (λ (x : BookView). task_program x.catalogue task) view
+module _ (b : Inside) (v : BookView) (task : TaskId) (tx : TxId) (m : State) (how : Outcome) (a : AttemptView) (view : book_of b ≡ v) (values : m ≡ b.present.values.items) (own : tx ≡ task_tx b.chapter.listing task) (h : EndsOn b.chapter.listing tx m how a) where
+  program_is : program_at b.chapter.listing tx ≡ task_program v.catalogue task
+  program_is = ap (λ (x : TxId). program_at b.chapter.listing x) own ∙ ap (λ (x : BookView). task_program x.catalogue task) view
 
   state_is : m ≡ v.present.state
   state_is = values ∙ ap (λ (x : BookView). x.present.state) view

@@ -3,10 +3,15 @@ pub mod Standings
 pub mod View
 pub mod LawfulBook
 pub mod Waiting
+pub mod Chapters
+pub mod Openings
+pub mod ChapterInside
 pub mod BookInside
 pub mod Turns
 pub mod Submitted
 pub mod Table
 pub mod TableInside
+pub mod Carrying
 pub mod Agreeing
 pub mod Counting
+pub mod Recorded

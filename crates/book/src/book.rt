@@ -1,27 +1,30 @@
 //! The book: how each task stands, the journal, and the present values.
 
-ghost use Rattle.std.specs.Prelude.{◌≡◌, ◌≢◌, ◌<◌, ◌≤◌, ◌+◌, ◌++◌, ◌∷◌, [], ℕ, length, map, IfOk, IsTrue, ◌↔◌, MatchBool, vec_len, vec_capacity, All, Some, slice_get};
-ghost use Rattle.txn_programs.specs.declared.limits.TheConstants.{MAX_TASKS, MAX_TRANSACTIONS};
+ghost use Rattle.std.specs.Prelude.{◌≡◌, ◌≢◌, ◌<◌, ◌≤◌, ◌+◌, ◌++◌, ◌∷◌, [], ℕ, length, map, IfOk, IsTrue, ◌↔◌, MatchBool, vec_len, vec_capacity, All, Some, slice_get, min, replicate, ◌-◌};
+ghost use Rattle.txn_programs.specs.declared.limits.TheConstants.{MAX_TASKS, MAX_TRANSACTIONS, MAX_VARIABLES};
 ghost use Rattle.txn_words.specs.Stores.{with_changes};
 ghost use Rattle.attempt.specs.Asking.{Known};
 ghost use Rattle.attempt.specs.Frame.{Agrees};
 ghost use Rattle.attempt.specs.Order.{Ascending, AllKnown};
 ghost use Rattle.cells.specs.Passing.{MeetsBy};
 ghost use Rattle.book.specs.Turns.{is_committed};
+ghost use Rattle.book.specs.Chapters.{most_entries};
+ghost use Rattle.book.specs.Openings.{IsOpening};
 
 use crate::changing::{note_changes, store_changes};
-use crate::counting::{Counts, counts_of};
+use crate::chapter::Chapter;
+use crate::counting::Counts;
 use crate::ending::bring_to_end;
 use crate::listing::{given_up, parked};
+use crate::standing::Standing;
 use crate::stored::{Stored, opening, pairs};
 use crate::table::TaskTable;
 use crate::task::{Finish, Serial};
 use crate::validate::agrees;
-use crate::whose::transaction_of;
 use attempt::{Attempt, Next, frame};
 use cells::{Cells, Pass, Publisher};
 use journal::{Line, RunReport, entries_of};
-use std::alloc::Global;
+use std::alloc::{AllocError, Global};
 use std::marker::Model;
 use txn::{Catalogue, Entry, Memory, Outcome, Report, TaskId, TxId, VarId};
 
@@ -32,9 +35,8 @@ use txn::{Catalogue, Entry, Memory, Outcome, Report, TaskId, TxId, VarId};
 /// conditions.
 #[derive(Drop)]
 pub struct Book<'a> {
-    catalogue: &'a Catalogue,
-    /// The transactions of the tasks that were submitted.
-    submitted: Vec<TxId>,
+    /// The catalogue of the present chapter.
+    chapter: Chapter<'a>,
     cells: &'a Cells,
     publisher: Publisher,
     base: Stored,
@@ -44,6 +46,12 @@ pub struct Book<'a> {
     changes: Vec<(VarId, i64)>,
     /// How each task stands.
     table: TaskTable,
+    /// For how many tasks there is room in a chapter.
+    room: usize,
+    /// How many tasks more this chapter can have: all that there is room for, as far as the clock reaches.
+    spare: usize,
+    /// How many entries the chapters before this one had.
+    before: u64,
 }
 
 impl<'a> Model for Book<'a> {
@@ -65,7 +73,8 @@ impl<'a> Model for Book<'a> {
 impl<'a> Book<'a> {
     ghost use Rattle.txn_programs.specs.Meaning.{outcome, after};
     ghost use Rattle.txn_programs.specs.Listing.{tasks, task_tx, task_program};
-    ghost use Rattle.txn.specs.Grown.{SameButRuns};
+    ghost use Rattle.txn.specs.Grown.{SameProgram};
+    ghost use Rattle.book.specs.Chapters.{chapter_of, entered_in_all};
     ghost use Rattle.book.specs.Submitted.{Submits};
     ghost use Rattle.book.specs.Counting.{AreCounts, IsPresent};
     ghost use Rattle.txn_programs.specs.declared.ast.Outcome as Outcome;
@@ -73,9 +82,11 @@ impl<'a> Book<'a> {
     ghost use Rattle.txn_programs.specs.Told.{told};
     ghost use Rattle.journal.specs.Lines.{told_run};
     ghost use Rattle.book.specs.View.{opened, IsRunning, stands, committed, checkpointed};
-    ghost use Rattle.book.specs.Turns.{Taken, IsEndOf, Finished, IsLeft, Served, Turn, Drains, kept_short, readied, IsIdle, without_journal, ReportIs};
+    ghost use Rattle.book.specs.Turns.{Taken, IsEndOf, EndsOn, Finished, IsLeft, Served, Turn, Drains, kept_short, readied, IsIdle, without_journal, ReportIs};
     ghost use Rattle.book.specs.LawfulBook.{LawfulBook, BookFits, KeepsConditions, Waits};
     ghost use Rattle.book.specs.Waiting.{ParkedWait};
+    ghost use Rattle.book.specs.Table.{IsWaiting};
+    ghost use Rattle.book.specs.Recorded.{IsReady, IsRecorded, told_as};
 
     /// All tasks ready, number 0, the initial values, an empty journal. `Memory` only where a
     /// growth was refused.
@@ -114,19 +125,59 @@ impl<'a> Book<'a> {
     {
         let count = catalogue.tasks();
         let variables = catalogue.initial().len();
-        catalogue.rules();
         let room = count + spare;
-        Ok(Book {
-            catalogue,
+        let chapter = Chapter::first(alloc, catalogue, room)?;
+        let (base, present) = openings(alloc, catalogue)?;
+        let journal = Vec::with_capacity(alloc, room)?;
+        let changes = Vec::with_capacity(alloc, variables)?;
+        let table = TaskTable::open(alloc, count, spare, variables)?;
+        Ok(Book::of_parts(
+            chapter, cells, publisher, base, present, journal, changes, table, spare,
+        ))
+    }
+
+    /// The book of these parts, at the beginning of its first chapter.
+    fn of_parts(
+        chapter: Chapter<'a>,
+        cells: &'a Cells,
+        publisher: Publisher,
+        base: Stored,
+        present: Stored,
+        journal: Vec<Line>,
+        changes: Vec<(VarId, i64)>,
+        table: TaskTable,
+        spare: usize,
+    ) -> Book<'a>
+        requires own { publisher.cells ≡ cells.now }
+        requires unused { publisher.history ≡ chapter.listing.initial ∷ [] }
+        requires base { IsOpening chapter.listing base }
+        requires present { IsOpening chapter.listing present }
+        requires journal { journal.items ≡ [] }
+        requires journal_room { length (tasks chapter.listing) + spare ≤ vec_capacity journal }
+        requires changes_room { length chapter.listing.initial ≤ vec_capacity changes }
+        requires room { length (tasks chapter.listing) + spare ≤ chapter.room }
+        requires few { length (tasks chapter.listing) + spare ≤ MAX_TASKS }
+        requires few_variables { length chapter.listing.initial ≤ MAX_VARIABLES }
+        requires tasks { table.tasks ≡ replicate (length (tasks chapter.listing)) Task.Ready }
+        requires spare { table.spare ≡ spare }
+        requires variables { table.variables ≡ length chapter.listing.initial }
+        ensures { result ≡ opened chapter.entry.listing cells.now spare }
+    {
+        chapter.rules();
+        let room = table.len() + spare;
+        Book {
+            chapter,
             cells,
             publisher,
-            submitted: Vec::with_capacity(alloc, spare)?,
-            base: opening(alloc, catalogue.initial())?,
-            journal: Vec::with_capacity(alloc, room)?,
-            present: opening(alloc, catalogue.initial())?,
-            changes: Vec::with_capacity(alloc, variables)?,
-            table: TaskTable::open(alloc, count, spare, variables)?,
-        })
+            base,
+            journal,
+            present,
+            changes,
+            table,
+            room,
+            spare,
+            before: 0,
+        }
     }
 
     /// A ready task of the transaction more, with the next number. `None` and no change exactly if
@@ -135,11 +186,12 @@ impl<'a> Book<'a> {
         requires { tx.0 < length self.old.catalogue.transactions }
         ensures { Submits self.old tx result self.new }
     {
-        if self.spare() == 0 {
+        if self.spare == 0 {
             return None;
         }
-        self.catalogue.tx(tx);
-        note(&mut self.submitted, tx);
+        self.chapter.rules();
+        self.spare -= 1;
+        self.chapter.add(tx);
         Some(self.table.add())
     }
 
@@ -147,7 +199,7 @@ impl<'a> Book<'a> {
     pub fn spare(&self) -> usize
         ensures { result ≡ self.now.spare }
     {
-        self.table.spare()
+        self.spare
     }
 
     /// The transaction that a task runs.
@@ -157,7 +209,7 @@ impl<'a> Book<'a> {
         ensures own { slice_get (tasks self.now.catalogue) task.0 ≡ Some result }
         ensures known { result.0 < length self.now.catalogue.transactions }
     {
-        transaction_of(self.catalogue, &self.submitted, task)
+        self.chapter.transaction(task)
     }
 
     /// Whether there is such a task, and it runs this transaction.
@@ -175,14 +227,26 @@ impl<'a> Book<'a> {
         self.table.len()
     }
 
-    /// How many tasks stand how. Its time grows with the tasks.
+    /// How many tasks stand how. It looks at no task.
     pub fn counts(&self) -> Counts
         ensures { AreCounts self.now.tasks result }
     {
-        counts_of(self.table.standings())
+        let tally = self.table.tally();
+        let running = tally.running as usize;
+        let parked = tally.parked as usize;
+        let given_up = tally.given_up as usize;
+        let done = self.present.number as usize;
+        let ready = self.table.len() - running - parked - given_up - done;
+        Counts {
+            ready,
+            running,
+            parked,
+            done,
+            given_up,
+        }
     }
 
-    /// Whether no task is ready or running. Its time grows with the tasks.
+    /// Whether no task is ready or running.
     pub fn is_idle(&self) -> bool
         ensures { IsTrue result ↔ IsIdle self.now }
     {
@@ -215,7 +279,7 @@ impl<'a> Book<'a> {
     pub fn catalogue(&self, alloc: Global) -> Result<Catalogue, Memory>
         ensures { IfOk result (λ c. c ≡ self.now.catalogue) }
     {
-        self.catalogue.grown(alloc, self.submitted.as_slice())
+        self.chapter.catalogue(alloc)
     }
 
     /// The lowest ready task, which is then running. `None` exactly if none is ready. It takes no
@@ -225,6 +289,51 @@ impl<'a> Book<'a> {
         ensures catalogue { self.new.catalogue ≡ self.old.catalogue }
     {
         self.table.take()
+    }
+
+    /// A ready task is running. `false` and no change where it was not ready. It takes no memory.
+    pub fn claim(&mut self, task: TaskId) -> bool
+        requires exists { task.0 < length self.old.tasks }
+        ensures claimed { MatchBool result (IsReady self.old task × (self.new ≡ stands self.old task Task.Running)) (¬ (IsReady self.old task) × (self.new ≡ self.old)) }
+        ensures catalogue { self.new.catalogue ≡ self.old.catalogue }
+    {
+        if !self.table.is_ready(task) {
+            return false;
+        }
+        self.table.claim(task);
+        true
+    }
+
+    /// A ready or a parked task is given up: it will not be entered. `false` and no change where it was
+    /// neither. It takes no memory.
+    pub fn withdraw(&mut self, task: TaskId) -> bool
+        requires exists { task.0 < length self.old.tasks }
+        ensures withdrawn { MatchBool result (IsWaiting (slice_get self.old.tasks task.0) × (self.new ≡ stands self.old task Task.GivenUp)) (¬ (IsWaiting (slice_get self.old.tasks task.0)) × (self.new ≡ self.old)) }
+        ensures catalogue { self.new.catalogue ≡ self.old.catalogue }
+    {
+        self.table.withdraw(task)
+    }
+
+    /// How the task stands.
+    pub fn standing(&self, task: TaskId) -> Standing
+        requires { task.0 < length self.now.tasks }
+        ensures { slice_get (map told_as self.now.tasks) task.0 ≡ Some result }
+    {
+        self.table.standing(task)
+    }
+
+    /// What the task's entry records. `None` exactly where the task is not done, or its entry is no
+    /// longer in the journal. It takes no memory.
+    pub fn outcome(&self, task: TaskId) -> Option<Outcome>
+        requires exists { task.0 < length self.now.tasks }
+        ensures { IsRecorded self.now task result }
+    {
+        let number = self.table.number_of(task)?;
+        if number <= self.base.number {
+            return None;
+        }
+        let place = (number - self.base.number - 1) as usize;
+        Some(self.journal[place].entry().outcome)
     }
 
     /// The end of an attempt of the task: it commits or is parked where all that it read is still
@@ -276,8 +385,7 @@ impl<'a> Book<'a> {
         ensures served { Served self.old task result self.new }
         ensures catalogue { self.new.catalogue ≡ self.old.catalogue }
     {
-        let catalogue = self.catalogue;
-        let mut attempt = Attempt::new(alloc, catalogue, self.task_tx(task));
+        let mut attempt = Attempt::new(alloc, self.chapter.opened(), self.task_tx(task));
         self.serial_lent(&mut attempt, task)
     }
 
@@ -291,9 +399,8 @@ impl<'a> Book<'a> {
         if !self.table.is_running(task) {
             return Serial::NotRunning;
         }
-        let catalogue = self.catalogue;
-        let tx = transaction_of(catalogue, &self.submitted, task);
-        let Ok(how) = bring_to_end(attempt, catalogue, tx, &self.present.values) else {
+        let tx = self.chapter.transaction(task);
+        let Ok(how) = bring_to_end(attempt, &self.chapter, tx, &self.present.values) else {
             // It runs, so it is given up.
             let _ = self.give_up(task);
             return Serial::Abandoned;
@@ -305,6 +412,15 @@ impl<'a> Book<'a> {
             return Serial::Parked;
         }
         Serial::Committed(self.commit(task, how, writes))
+    }
+
+    /// How the transaction ends on the present values, by an attempt that the caller keeps, which is
+    /// restarted for it and ends so. The book stays as it is. `Memory` only where a growth was refused.
+    pub fn outcome_now(&self, attempt: &mut Attempt<'a>, tx: TxId) -> Result<Outcome, Memory>
+        requires { tx.0 < length self.now.catalogue.transactions }
+        ensures { IfOk result (λ how. EndsOn self.now.catalogue tx self.now.present.state how attempt.new) }
+    {
+        bring_to_end(attempt, &self.chapter, tx, &self.present.values)
     }
 
     /// A running task is given up: it will not be entered. `false` and no change where it was not
@@ -333,6 +449,31 @@ impl<'a> Book<'a> {
         self.journal.clear();
     }
 
+    /// A new chapter begins, where the present one is. Its catalogue declares the same, begins at the
+    /// present values, and has a task for each that is ready, running or parked, in their order: a running
+    /// one is ready, and a parked one waits as it did. Its number and all versions are 0, and its journal is
+    /// empty. What was published, and each pass, stays as it is: the clock goes on. It takes no memory.
+    pub fn begin_chapter(&mut self)
+        ensures { self.new ≡ chapter_of self.old }
+    {
+        self.chapter
+            .begin(&self.present.values, self.table.standings());
+        self.table.carry_on();
+        self.before += self.present.number;
+        self.spare = reach(self.before, self.room) - self.table.len();
+        start_anew(&mut self.present);
+        self.base.values.copy_from_slice(&self.present.values);
+        start_anew(&mut self.base);
+        self.journal.clear();
+    }
+
+    /// How many entries there were in all chapters: the number that the clock of the cells tells.
+    pub fn entered(&self) -> u64
+        ensures { result ≡ entered_in_all self.now }
+    {
+        self.before + self.present.number
+    }
+
     /// A checkpoint, where one is due after a turn that answered so: it committed, `every` is not
     /// 0, and the journal is at least `every` entries long.
     pub fn keep_short(&mut self, every: u32, how: Serial)
@@ -358,7 +499,7 @@ impl<'a> Book<'a> {
         let Some(first) = self.take() else {
             return;
         };
-        let mut attempt = Attempt::new(alloc, self.catalogue, self.task_tx(first));
+        let mut attempt = Attempt::new(alloc, self.chapter.opened(), self.task_tx(first));
         self.turn(&mut attempt, every, first);
         self.turns(&mut attempt, every);
     }
@@ -402,13 +543,21 @@ impl<'a> Book<'a> {
         self.publisher.meet(cells, pass);
     }
 
-    /// Whether the catalogue declares what the book's does: the same variables with the same
-    /// initial values, the same standing conditions, the same transactions. Their runs may differ:
-    /// `tasks` tells how many tasks the book has, and `runs` which transaction each of them runs.
+    /// Whether the catalogue is the book's present one: the tasks that were submitted and the values at
+    /// which the chapter begins included.
     pub fn is_for(&self, catalogue: &Catalogue) -> bool
-        ensures { IsTrue result ↔ SameButRuns self.now.catalogue catalogue.now }
+        ensures { IsTrue result ↔ (self.now.catalogue ≡ catalogue.now) }
     {
-        self.catalogue.same_but_runs(catalogue)
+        self.chapter.is(catalogue)
+    }
+
+    /// Whether the catalogue declares what the book's does, at whatever values it begins and whatever it
+    /// runs: the same variables, the same standing conditions, the same transactions. `tasks` tells how many
+    /// tasks the book has, and `runs` which transaction each of them runs.
+    pub fn declares(&self, catalogue: &Catalogue) -> bool
+        ensures { IsTrue result ↔ SameProgram self.now.catalogue catalogue.now }
+    {
+        self.chapter.opened().same_program(catalogue)
     }
 
     /// How many entries the journal has.
@@ -455,18 +604,8 @@ impl<'a> Book<'a> {
             entries: Vec::new(alloc),
             now: self.present.number,
             now_vars: pairs(alloc, &self.present)?,
-            parked: parked(
-                alloc,
-                self.catalogue,
-                &self.submitted,
-                self.table.standings(),
-            )?,
-            memory: given_up(
-                alloc,
-                self.catalogue,
-                &self.submitted,
-                self.table.standings(),
-            )?,
+            parked: parked(alloc, &self.chapter, self.table.standings())?,
+            memory: given_up(alloc, &self.chapter, self.table.standings())?,
         })
     }
 
@@ -477,13 +616,14 @@ impl<'a> Book<'a> {
         ensures lawful { LawfulBook self.now }
         ensures fits { BookFits self.now }
         ensures upheld { KeepsConditions self.now }
-        ensures numbered { length self.now.history ≡ self.now.present.number + 1 }
+        ensures numbered { length self.now.history ≡ entered_in_all self.now + 1 }
+        ensures named { length self.now.catalogue.names ≡ length self.now.catalogue.initial }
         ensures waits { ParkedWait self.now }
     {
         // Its law: a program that retries over a log does so on each state that agrees with the log.
         frame();
-        // To look at a field is to be told what the type keeps.
-        let _ = &self.table;
+        // What its catalogue keeps, and with it, since a field is looked at, what the type does.
+        self.chapter.rules();
     }
 
     /// The task waits for a change of a logged variable.
@@ -509,9 +649,9 @@ impl<'a> Book<'a> {
         // Its law: a program that retries over a log does so on each state that agrees with the log.
         frame();
         // Its law: there are few transactions, so that a line has room for the number of each.
-        self.catalogue.rules();
+        self.chapter.rules();
         let number = self.present.number + 1;
-        let tx = transaction_of(self.catalogue, &self.submitted, task);
+        let tx = self.chapter.transaction(task);
         note_changes(&mut self.changes, writes, &self.present.values);
         let cells = self.cells;
         self.publisher.publish(cells, &self.changes);
@@ -554,16 +694,40 @@ fn enter(journal: &mut Vec<Line>, entry: Entry)
     }
 }
 
-/// Adds a transaction, for which there is room.
-fn note(submitted: &mut Vec<TxId>, tx: TxId)
-    requires { vec_len submitted.old < vec_capacity submitted.old }
-    ensures items { submitted.new.items ≡ submitted.old.items ++ tx ∷ [] }
-    ensures capacity { vec_capacity submitted.old ≤ vec_capacity submitted.new }
+/// What is stored at the opening, twice.
+fn openings(alloc: Global, catalogue: &Catalogue) -> Result<(Stored, Stored), AllocError>
+    ensures base { IfOk result (λ p. IsOpening catalogue.now p.0) }
+    ensures present { IfOk result (λ p. IsOpening catalogue.now p.1) }
 {
-    match submitted.push(tx) {
-        Ok(()) => {}
-        Err(_) => unreachable!(),
+    let base = opening(alloc, catalogue.initial())?;
+    let present = opening(alloc, catalogue.initial())?;
+    Ok((base, present))
+}
+
+/// How many entries a life of a book can have: so far the clock of its cells counts.
+const MOST_ENTRIES: u64 = 1 << 62;
+
+/// The room of a chapter, as far as the clock reaches after so many entries.
+fn reach(entered: u64, room: usize) -> usize
+    requires { entered ≤ most_entries }
+    ensures { result ≡ min room (most_entries - entered) }
+{
+    let left = MOST_ENTRIES - entered;
+    if (room as u64) < left {
+        room
+    } else {
+        left as usize
     }
+}
+
+/// Number 0, and all versions 0, at the same values.
+fn start_anew(stored: &mut Stored)
+    ensures number { stored.new.number ≡ 0 }
+    ensures values { stored.new.values.items ≡ stored.old.values.items }
+    ensures versions { stored.new.versions.items ≡ replicate (length stored.old.versions.items) 0 }
+{
+    stored.number = 0;
+    stored.versions.fill(0);
 }
 
 fn is_committed(how: Serial) -> bool

@@ -7,17 +7,19 @@
 mod bits;
 mod book;
 mod changing;
+mod chapter;
 mod counting;
 mod ending;
 mod listing;
 mod names;
 mod sleepers;
+mod standing;
 mod stored;
 mod table;
 mod task;
 mod validate;
-mod whose;
 
 pub use book::Book;
 pub use counting::Counts;
+pub use standing::Standing;
 pub use task::{Finish, Serial};

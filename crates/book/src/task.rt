@@ -1,12 +1,17 @@
 //! How a task stands, and what the end of an attempt and a turn of a task answer.
 
-ghost use Rattle.std.specs.Prelude.{◌≡◌, ◌<◌, length, slice_set, vec_capacity};
+ghost use Rattle.std.specs.Prelude.{◌≡◌, ◌≤◌, false, length, map, Some, slice_get, slice_set, vec_capacity};
+ghost use Rattle.txn_programs.specs.declared.limits.TheConstants.{MAX_TASKS};
+ghost use Rattle.book.specs.Standings.{bare};
+ghost use Rattle.book.specs.Carrying.{stays};
+ghost use Rattle.book.specs.Counting.{IsTally};
 
+use crate::counting::{Tally, with_one_more, without_one};
 use txn::TaskId;
 
-/// How a task stands, in eight bytes.
+/// How a task is kept, in eight bytes.
 #[derive(Drop)]
-pub enum Standing {
+pub enum Slot {
     /// It can be taken.
     Ready,
     /// It was taken, and is neither done nor parked nor given up since.
@@ -15,7 +20,7 @@ pub enum Standing {
     Parked(u32),
     /// It committed, and its journal entry has this number.
     Done(u32),
-    /// It met want of memory, and enters nothing.
+    /// It was given up, for want of memory or by the host: it enters nothing.
     GivenUp,
 }
 
@@ -45,11 +50,38 @@ pub enum Serial {
     Abandoned,
 }
 
-/// The task stands so from now on.
-pub fn stand(standings: &mut Vec<Standing>, task: TaskId, how: Standing)
-    requires { task.0 < length standings.old.items }
+/// A task that stood so stands otherwise from now on, and is counted so.
+#[inline(always)]
+pub fn stand(standings: &mut Vec<Slot>, tally: &mut Tally, task: TaskId, was: &Slot, how: Slot)
+    requires was { slice_get standings.old.items task.0 ≡ Some was.now }
+    requires few { length standings.old.items ≤ MAX_TASKS }
+    requires tallied { IsTally (map bare standings.old.items) tally.old }
     ensures items { standings.new.items ≡ slice_set standings.old.items task.0 how }
     ensures capacity { vec_capacity standings.new ≡ vec_capacity standings.old }
+    ensures tallied { IsTally (map bare standings.new.items) tally.new }
 {
+    *tally = with_one_more(without_one(*tally, was), &how);
     standings[task.0 as usize] = how;
+}
+
+/// A task that has ended is kept so.
+pub fn ended(task: &Slot) -> Slot
+    requires { stays (bare task.now) ≡ false }
+    ensures { result ≡ task.now }
+{
+    match task {
+        Slot::Done(number) => Slot::Done(*number),
+        Slot::GivenUp => Slot::GivenUp,
+        Slot::Ready | Slot::Running | Slot::Parked(_) => unreachable!(),
+    }
+}
+
+/// Whether the task comes over to the next chapter.
+pub fn stays(task: &Slot) -> bool
+    ensures { result ≡ stays (bare task.now) }
+{
+    match task {
+        Slot::Ready | Slot::Running | Slot::Parked(_) => true,
+        Slot::Done(_) | Slot::GivenUp => false,
+    }
 }

@@ -8,15 +8,11 @@ use book::{Book, Finish};
 use std::alloc::Global;
 use txn::{Catalogue, Outcome, TaskId, VarId};
 
-/// Whether the book is of the catalogue's programs, and has the task, which runs what the catalogue
-/// says where it is one of the catalogue's.
+/// Whether the book is of the catalogue's programs, and has the task.
 pub(crate) fn has(book: &Book<'_>, catalogue: &Catalogue, task: TaskId) -> bool
     ensures { IsTrue result → task.0 < length book.now.tasks }
 {
-    if !book.is_for(catalogue) || (task.0 as usize) >= book.tasks() {
-        return false;
-    }
-    (task.0 as usize) >= catalogue.tasks() || book.task_tx(task) == catalogue.task_tx(task)
+    book.declares(catalogue) && (task.0 as usize) < book.tasks()
 }
 
 /// Tells the attempt what it needs of these values. Whether it could be told.
@@ -64,9 +60,10 @@ pub(crate) fn ends_anew<'c>(
     requires { task.0 < length book.now.tasks }
     ensures { IsTrue result → IsEndOf book.now.catalogue task attempt.new }
 {
-    if !book.is_for(catalogue) {
+    if !book.declares(catalogue) {
         return false;
     }
+    catalogue.rules();
     book.law();
     attempt.restart(catalogue, book.task_tx(task));
     is_over(attempt, values)
@@ -83,7 +80,7 @@ fn ended<'c>(
     requires { task.0 < length book.now.tasks }
     ensures { IfSome result (λ a. IsEndOf book.now.catalogue task a) }
 {
-    if !book.is_for(catalogue) {
+    if !book.declares(catalogue) {
         return None;
     }
     book.law();

@@ -10,11 +10,15 @@ mod attempts;
 #[cfg(test)]
 mod beside;
 #[cfg(test)]
+mod chapters;
+#[cfg(test)]
 mod lent;
 #[cfg(test)]
 mod lines;
 #[cfg(test)]
 mod looks;
+#[cfg(test)]
+mod results;
 #[cfg(test)]
 mod rows;
 #[cfg(test)]

@@ -1,8 +1,8 @@
 //! What is seen of a book, and what its report says.
 
-use book::{Book, Counts};
+use book::{Book, Counts, Standing};
 use std::alloc::Global;
-use txn::{Catalogue, Entry, Report, TaskId, TxId, VarId};
+use txn::{Catalogue, Entry, Outcome, Report, TaskId, TxId, VarId};
 use txn_text::read_file;
 
 /// Something that a book shows.
@@ -19,8 +19,12 @@ pub(crate) enum Look {
     Stand([usize; 5]),
     /// The present value of a variable, by itself and among all, and its version.
     Present(VarId, Option<(i64, u64)>),
-    /// Whether it is for the catalogue of a text, and has as many tasks.
+    /// Whether the catalogue of a text is its own, and whether that declares what it does.
     IsFor(&'static str, bool, bool),
+    /// How the task stands, and what its entry records.
+    Task(TaskId, Standing, Option<Outcome>),
+    /// How many entries there were in all chapters.
+    EnteredInAll(u64),
     /// How many tasks its catalogue has, and the last run there.
     Grown(usize, (TxId, u32)),
 }
@@ -53,14 +57,19 @@ fn stand(book: &Book<'_>, wanted: &[usize; 5]) -> bool {
     book.counts() == counts && book.is_idle() == (wanted[0] == 0 && wanted[1] == 0)
 }
 
-/// Whether it is for the catalogue of a text as wanted.
-fn is_for(alloc: Global, book: &Book<'_>, text: &str, is_so: bool, is_as_long: bool) -> bool {
+/// Whether it is for the catalogue of a text, and is declared by it, as wanted.
+fn is_for(alloc: Global, book: &Book<'_>, text: &str, is_so: bool, declares: bool) -> bool {
     match read_file(alloc, text.as_bytes()) {
-        Ok(other) => {
-            book.is_for(&other) == is_so && (book.tasks() == other.tasks()) == is_as_long
-        }
+        Ok(other) => book.is_for(&other) == is_so && book.declares(&other) == declares,
         Err(_) => false,
     }
+}
+
+/// Whether the task, which there has to be, stands so, and its entry records this.
+fn stands(book: &Book<'_>, task: TaskId, standing: Standing, outcome: Option<Outcome>) -> bool {
+    (task.0 as usize) < book.tasks()
+        && book.standing(task) == standing
+        && book.outcome(task) == outcome
 }
 
 /// Whether the variable has this value and version, and that value among all present ones.
@@ -89,7 +98,9 @@ pub(crate) fn shows(alloc: Global, book: &Book<'_>, look: &Look) -> bool {
         Look::Runs(task, tx, is_so) => book.runs(*task, *tx) == *is_so,
         Look::Stand(wanted) => stand(book, wanted),
         Look::Present(variable, wanted) => is_present(book, *variable, wanted),
-        Look::IsFor(text, is_so, is_as_long) => is_for(alloc, book, text, *is_so, *is_as_long),
+        Look::IsFor(text, is_so, declares) => is_for(alloc, book, text, *is_so, *declares),
+        Look::Task(task, standing, outcome) => stands(book, *task, *standing, *outcome),
+        Look::EnteredInAll(count) => book.entered() == *count,
         Look::Grown(tasks, last) => is_grown(alloc, book, *tasks, *last),
     }
 }

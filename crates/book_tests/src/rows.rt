@@ -21,6 +21,12 @@ pub(crate) enum Step {
     Turns(TaskId, Serial),
     /// To give the task up answers so.
     GivesUp(TaskId, bool),
+    /// To claim the task answers so.
+    Claims(TaskId, bool),
+    /// To withdraw the task answers so.
+    Withdraws(TaskId, bool),
+    /// The next chapter begins.
+    BeginsChapter,
     /// An attempt of the task on these values logs and writes so many variables, and its end answers
     /// so.
     Ends(TaskId, &'static [i64], (usize, usize), Finish),
@@ -39,7 +45,7 @@ pub(crate) enum Step {
 
 /// Whether to submit the transaction answers so.
 fn submits(book: &mut Book<'_>, catalogue: &Catalogue, tx: TxId, task: Option<TaskId>) -> bool {
-    if !book.is_for(catalogue) || (tx.0 as usize) >= catalogue.tx_count() {
+    if !book.declares(catalogue) || (tx.0 as usize) >= catalogue.tx_count() {
         return false;
     }
     book.submit(tx) == task
@@ -71,12 +77,28 @@ fn gives_up(book: &mut Book<'_>, catalogue: &Catalogue, task: TaskId, how: bool)
     has(book, catalogue, task) && book.give_up(task) == how
 }
 
+/// Whether to claim the task answers so.
+fn claims(book: &mut Book<'_>, catalogue: &Catalogue, task: TaskId, how: bool) -> bool {
+    has(book, catalogue, task) && book.claim(task) == how
+}
+
+/// Whether to withdraw the task answers so.
+fn withdraws(book: &mut Book<'_>, catalogue: &Catalogue, task: TaskId, how: bool) -> bool {
+    has(book, catalogue, task) && book.withdraw(task) == how
+}
+
 /// Whether the step is answered so.
 fn goes(alloc: Global, book: &mut Book<'_>, catalogue: &Catalogue, step: &Step) -> bool {
     match step {
         Step::Takes(task) => book.take() == *task,
         Step::Turns(task, how) => turns(alloc, book, catalogue, *task, *how),
         Step::GivesUp(task, how) => gives_up(book, catalogue, *task, *how),
+        Step::Claims(task, how) => claims(book, catalogue, *task, *how),
+        Step::Withdraws(task, how) => withdraws(book, catalogue, *task, *how),
+        Step::BeginsChapter => {
+            book.begin_chapter();
+            true
+        }
         Step::Ends(task, values, sizes, how) => {
             ends(alloc, book, catalogue, *task, values, *sizes, *how)
         }

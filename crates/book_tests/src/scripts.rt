@@ -2,7 +2,7 @@
 
 use crate::looks::{Look, Said};
 use crate::rows::{Step, What, expect};
-use crate::texts::{ONE, STANDING, THREE, TWO, WAITING, WAITING_TWICE};
+use crate::texts::{NONE_AT_8, ONE, STANDING, THREE, TWO, TWO_AND_ONE, WAITING, WAITING_TWICE};
 use book::{Finish, Serial};
 use txn::{Entry, Outcome, TaskId, TxId, VarId};
 
@@ -105,16 +105,26 @@ fn a_task_is_given_up_once(rt: HostRuntime) {
     expect(&rt, rt.alloc(), TWO, None, &What::Steps(GIVES_UP));
 }
 
-/// The book is of two increments. A catalogue with other runs declares the same.
+/// The book is of two increments. A catalogue with other runs declares the same, and is the book's own
+/// once a third one was submitted.
 const IS_FOR: &[Step] = &[
     Step::Shows(Look::IsFor(TWO, true, true)),
-    Step::Shows(Look::IsFor(THREE, true, false)),
+    Step::Shows(Look::IsFor(THREE, false, true)),
     Step::Shows(Look::IsFor(WAITING, false, false)),
+    Step::Submits(TxId(0), Some(TaskId(2))),
+    Step::Shows(Look::IsFor(TWO, false, true)),
+    Step::Shows(Look::IsFor(THREE, false, true)),
+    Step::Shows(Look::IsFor(TWO_AND_ONE, true, true)),
+    Step::Drains(0),
+    Step::Submits(TxId(0), None),
+    Step::BeginsChapter,
+    Step::Shows(Look::IsFor(NONE_AT_8, true, true)),
+    Step::Shows(Look::IsFor(TWO_AND_ONE, false, true)),
 ];
 
 #[test]
 fn a_book_is_for_an_equal_catalogue(rt: HostRuntime) {
-    expect(&rt, rt.alloc(), TWO, None, &What::Steps(IS_FOR));
+    expect(&rt, rt.alloc(), TWO, Some(1), &What::Steps(IS_FOR));
 }
 
 /// A report copies the journal, which stays.

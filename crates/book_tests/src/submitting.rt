@@ -26,7 +26,7 @@ const WHILE_OTHERS_RUN: &[Step] = &[
     Step::Shows(Look::Journal(3)),
     Step::Says(Said::Now(3)),
     Step::Says(Said::Entered(&[TaskId(1), TaskId(0), TaskId(2)])),
-    Step::Shows(Look::IsFor(ONE, true, false)),
+    Step::Shows(Look::IsFor(ONE, false, true)),
 ];
 
 #[test]

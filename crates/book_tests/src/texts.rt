@@ -9,6 +9,12 @@ pub(crate) const TWO: &str = "(var x 5)(tx inc (set x (add x 1)) x)(run inc 2)";
 /// So do three.
 pub(crate) const THREE: &str = "(var x 5)(tx inc (set x (add x 1)) x)(run inc 3)";
 
+/// So do two tasks, and one that is a run of its own.
+pub(crate) const TWO_AND_ONE: &str = "(var x 5)(tx inc (set x (add x 1)) x)(run inc 2)(run inc 1)";
+
+/// x is 8, and there is no task.
+pub(crate) const NONE_AT_8: &str = "(var x 8)(tx inc (set x (add x 1)) x)";
+
 /// So do all tasks that there may be.
 pub(crate) const ALL_TASKS: &str = "(var x 5)(tx inc (set x (add x 1)) x)(run inc 65536)";
 
@@ -24,3 +30,11 @@ pub(crate) const WAITING_TWICE: &str =
 /// to 6.
 pub(crate) const STANDING: &str =
     "(stm 2)(var x 5)(always low (le x 6))(tx wait (if (eq x 5) (retry) (skip)) x)(tx x_to_9 (set x 9) 0)(tx x_to_6 (set x 6) 0)(run wait 1)(run x_to_9 1)(run x_to_6 1)";
+
+/// Two wait: one for n to be another value than 0, one for 100 or more. One adds 7.
+pub(crate) const HOLDING: &str =
+    "(var n 0)(tx inc (set n (add n 7)) n)(tx more (set n (add n 93)) n)(tx wait (if (eq n 0) (retry) (skip)) n)(tx hold (if (lt n 100) (retry) (skip)) n)(run wait 1)(run hold 1)(run inc 1)";
+
+/// What waits for a, for b and for either stands between what ends.
+pub(crate) const MIXED: &str =
+    "(var a 0)(var b 0)(tx wait_a (if (eq a 0) (retry) (skip)) a)(tx wait_b (if (eq b 0) (retry) (skip)) b)(tx wait_ab (if (eq a 0) (if (eq b 0) (retry) (skip)) (skip)) (add a b))(tx none (skip) 0)(tx set_a (set a 1) 1)(tx set_b (set b 2) 2)(run none 3)(run wait_a 2)(run none 1)(run wait_b 2)(run none 70)(run wait_ab 2)(run none 2)(run wait_a 1)";

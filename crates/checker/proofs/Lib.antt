@@ -4,3 +4,6 @@ mod Lists
 mod Named
 mod Whole
 mod Only
+mod Firsts
+mod Chaptered
+mod Chapterings

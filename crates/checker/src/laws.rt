@@ -1,7 +1,10 @@
 //! What is so of every verdict, whatever was checked.
 
-ghost use Rattle.std.specs.Prelude.{◌≡◌, ◌↔◌, ℕ, List};
+ghost use Rattle.std.specs.Prelude.{◌≡◌, ◌↔◌, ℕ, List, length};
+ghost use Rattle.txn_programs.specs.declared.ast.TxId.{TxId};
 ghost use Rattle.txn_programs.specs.Listing.{Listing};
+ghost use Rattle.txn.specs.Grown.{grown};
+ghost use Rattle.checker.specs.Chapters.{GoesOnAfter, beginning, next_chapter};
 ghost use Rattle.txn_programs.specs.Standing.{Upholds};
 ghost use Rattle.txn_programs.specs.Told.{Told, base_of, now_of};
 ghost use Rattle.txn_programs.specs.LawfulReport.{FitsCatalogue, LawfulReport};
@@ -30,4 +33,19 @@ pub fn lawful_texts_are_good()
 /// A lawful report breaks no standing condition: each is true of its base, and of its present.
 pub fn lawful_reports_uphold()
     ensures { (l : Listing) (r : Told) → LawfulReport l r → Upholds l (base_of r).state × Upholds l (now_of r).state }
+{}
+
+/// The next chapter, as it begins, goes on where the report ended.
+pub fn next_chapters_go_on()
+    ensures { (l : Listing) (r : Told) → GoesOnAfter l r (next_chapter l r) }
+{}
+
+/// A chapter to which tasks are submitted goes on where it began.
+pub fn grown_chapters_go_on()
+    ensures { (l : Listing) (r : Told) (next : Listing) (txs : List TxId) → GoesOnAfter l r next → GoesOnAfter l r (grown next txs) }
+{}
+
+/// A file goes on exactly where its beginning, with as many tasks as are parked, is the next chapter.
+pub fn chapters_begin_as_told()
+    ensures { (l : Listing) (r : Told) (next : Listing) → (GoesOnAfter l r next ↔ (beginning (length r.parked) next ≡ next_chapter l r)) }
 {}

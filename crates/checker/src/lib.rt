@@ -3,10 +3,16 @@
 //! `check` reads both and judges the parts in their order: `opening`, `replay`, `tasks` and
 //! `parked` have a function for each. Entries are replayed by the plain evaluator of `txn`, which
 //! is not what runs the tasks: so a fault of the one can't agree with itself.
+//!
+//! `check_after` judges a chapter: a report of a file, and whether the file goes on where an earlier file
+//! and its report ended. `next_chapter` makes the catalogue with which a chapter begins.
 #![tactic(auto)]
 
+mod chapter;
 mod judge;
+mod judging;
 pub mod laws;
+mod next;
 mod opening;
 mod parked;
 mod raise;
@@ -16,5 +22,8 @@ mod stage;
 mod tasks;
 mod verdict;
 
+pub use chapter::{ChapterFault, ChapterVerdict, check_after, goes_on_after};
+pub use judging::{Judgement, judged};
+pub use next::{beginning, next_chapter};
 pub use reading::check;
 pub use verdict::{Part, Verdict};

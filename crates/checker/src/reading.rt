@@ -16,7 +16,11 @@ use txn::{Catalogue, Memory};
 use txn_text::{ReadFault, read_file};
 
 /// The verdict on the bytes of a report of a catalogue.
-fn verdict_of(alloc: Global, catalogue: &Catalogue, report: &[u8]) -> Result<Verdict, Memory>
+pub(crate) fn verdict_of(
+    alloc: Global,
+    catalogue: &Catalogue,
+    report: &[u8],
+) -> Result<Verdict, Memory>
     ensures verdict { IfOk result (IsVerdictOn catalogue.now report.now) }
     ensures alone { (v : VerdictOf) → IsVerdictOn catalogue.now report.now v → IfOk result (λ w. w ≡ v) }
 {

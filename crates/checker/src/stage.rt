@@ -14,7 +14,7 @@ pub(crate) struct Stage {
     pub(crate) versions: Vec<u64>,
 }
 
-fn values_of(alloc: Global, vars: &[(i64, u64)]) -> Result<Vec<i64>, AllocError>
+pub(crate) fn values_of(alloc: Global, vars: &[(i64, u64)]) -> Result<Vec<i64>, AllocError>
     ensures { IfOk result (λ v. v.items ≡ map (λ x. x.0) vars.now) }
 {
     vars.iter().map(|v| v.0).collect(alloc)

@@ -1,9 +1,10 @@
 //! How the program ends: what came of the command line, and the status of each.
 
 ghost use Rattle.std.specs.Prelude.{◌≡◌};
-ghost use Rattle.command_answers.specs.Statuses.{exit_status};
+ghost use Rattle.command_answers.specs.Statuses.{earlier_line, exit_status};
 
 use run_faults::RunFault;
+use text_words::ReadFault;
 
 /// What came of the command line.
 #[derive(Clone, Copy, Debug, PartialEq, Eq)]
@@ -20,9 +21,12 @@ pub enum Answer {
     Unreadable,
     /// There is no report and no text of a world, or help that was asked for could not be printed.
     Failed(RunFault),
+    /// The earlier file, behind which a chapter is to go on, spells no file, by a fault of this kind,
+    /// which is never `Memory`. Nothing was printed.
+    Earlier(ReadFault),
 }
 
-/// The status to end with: 0 done, 1 the report that was checked is not lawful or more places are reached than were asked for, 2 the file is refused, 3 the command line is refused, 4 a file
+/// The status to end with: 0 done, 1 the report that was checked is not lawful or more places are reached than were asked for, 2 a file is refused, 3 the command line is refused, 4 a file
 /// cannot be read or the output cannot be written, 5 out of memory.
 pub fn status(answer: Answer) -> u8
     ensures { result ≡ exit_status answer }
@@ -33,6 +37,7 @@ pub fn status(answer: Answer) -> u8
         Answer::Refused => 3,
         Answer::Unreadable => 4,
         Answer::Failed(fault) => fault.status(),
+        Answer::Earlier(_) => 2,
     }
 }
 
@@ -46,6 +51,22 @@ pub fn told<R: Eprint>(rt: &R, answer: Answer) -> u8
         Answer::Done | Answer::Unlawful | Answer::Refused => Ok(()),
         Answer::Unreadable => rt.eprintln("stm: cannot read"),
         Answer::Failed(fault) => rt.eprintln(fault.line()),
+        Answer::Earlier(kind) => rt.eprintln(earlier_line(kind)),
     };
     status(answer)
+}
+
+/// The line that says why the earlier file is refused, without its newline.
+fn earlier_line(kind: ReadFault) -> &'static str
+    ensures { result.now ≡ earlier_line kind }
+{
+    match kind {
+        ReadFault::TooLong => "stm: earlier file: F1 TooLong",
+        ReadFault::BadByte => "stm: earlier file: F2 BadByte",
+        ReadFault::Shape => "stm: earlier file: F3 Shape",
+        ReadFault::Name => "stm: earlier file: F4 Name",
+        ReadFault::Limit => "stm: earlier file: F5 Limit",
+        ReadFault::Broken => "stm: earlier file: F7 Broken",
+        ReadFault::Memory => "stm: out of memory",
+    }
 }

@@ -1,5 +1,6 @@
 //! The words of `stm explain`.
 
+use crate::checking_words::{Earlier, after, earlier_of};
 use crate::words::{Request, of_file};
 use clap::{Arg, ArgMatches, Command};
 use std::alloc::{AllocError, Global};
@@ -20,6 +21,8 @@ pub enum Explained<'a> {
     File,
     /// A report of it, at this path.
     Report(&'a str),
+    /// A report of it, at this path, and whether the file goes on behind an earlier pair.
+    Chapter(&'a str, Earlier<'a>),
     /// A schedule of it, at this path.
     Schedule(&'a str),
 }
@@ -28,7 +31,10 @@ const EXPLAIN: &str =
     "Tells where and why a file or a schedule is refused, or which line of a report is not as replay has it.";
 
 const EXPLAINED: &str =
-    "Prints `good`, or of a file that is refused a line:\n\n    line 3, column 12: F3 Shape: an expression is wanted: INT, NAME, ..; here stands )\n\n    F1 TooLong  the place of the first byte that no file has room for\n    F2 BadByte  the first byte that no file has\n    F3 Shape    the first token with which the file is no longer the beginning of one\n    F4 Name     the first name that is declared twice or not at all\n    F5 Limit    a name, a number or a declaration that goes over a limit\n    F7 Broken   the first standing condition that is not true of the initial values\n\nWith --schedule it says the same of a schedule of the file, which has to be read:\n\n    line 2, column 8: F4 Name: no variable of this name is declared; here stands y\n\n    F3 Shape    the first word that is none of a schedule's there, or a missing newline\n    F4 Name     the first name of a variable that is not declared\n    F5 Limit    the first number of a task that the file does not have\n\nOf a report that is not good it prints the verdict of stm check, the first line on which\nthat shows, and what replay has in its place:\n\n    bad 3\n    line 4: entry 2 1 inc returned 8\n    replay has entry 2 1 inc returned 7\n\nLines and columns are counted from 1, columns in bytes.\n\nStatus: 0 good, 1 the report is not good, 2 the file or the schedule is refused,\n3 the command line is refused, 4 a file cannot be read or the output cannot be written,\n5 out of memory.\n\nExample: stm explain a.stm; stm explain a.stm a.report;\n    stm explain a.stm --schedule a.schedule";
+    "Prints `good`, or of a file that is refused a line:\n\n    line 3, column 12: F3 Shape: an expression is wanted: INT, NAME, ..; here stands )\n\n    F1 TooLong  the place of the first byte that no file has room for\n    F2 BadByte  the first byte that no file has\n    F3 Shape    the first token with which the file is no longer the beginning of one\n    F4 Name     the first name that is declared twice or not at all\n    F5 Limit    a name, a number or a declaration that goes over a limit\n    F7 Broken   the first standing condition that is not true of the initial values\n\nWith --schedule it says the same of a schedule of the file, which has to be read:\n\n    line 2, column 8: F4 Name: no variable of this name is declared; here stands y\n\n    F3 Shape    the first word that is none of a schedule's there, or a missing newline\n    F4 Name     the first name of a variable that is not declared\n    F5 Limit    the first number of a task that the file does not have\n\nOf a report that is not good it prints the verdict of stm check, the first line on which\nthat shows, and what replay has in its place:\n\n    bad 3\n    line 4: entry 2 1 inc returned 8\n    replay has entry 2 1 inc returned 7\n\nWith --after it says the same of the earlier report, behind `before`, and of a file that\ndoes not go on where that one ended what is wanted and what stands there:\n\n    bad 7\n    x 7 is wanted; here stands x 5\n\nLines and columns are counted from 1, columns in bytes.\n\nStatus: 0 good, 1 the report is not good, 2 a file or the schedule is refused,\n3 the command line is refused, 4 a file cannot be read or the output cannot be written,\n5 out of memory.\n\nExample: stm explain a.stm; stm explain a.stm a.report;\n    stm explain a.stm --schedule a.schedule";
+
+const AFTER: &str =
+    "The paths of the file and the report of the chapter before, where the report's file is to go on";
 
 /// The command `stm explain`.
 #[inline(never)]
@@ -36,6 +42,7 @@ pub(crate) fn explain_command<'a>(alloc: Global) -> Result<Command<'a>, AllocErr
     let file = "The path of the file to explain";
     let explain = of_file(alloc, "explain", EXPLAIN, EXPLAINED, file)?;
     let explain = explain.arg(report(alloc))?;
+    let explain = explain.arg(after(alloc, AFTER).requires_arg("REPORT")?)?;
     explain.arg(schedule(alloc)?)
 }
 
@@ -50,7 +57,16 @@ fn schedule<'a>(alloc: Global) -> Result<Arg<'a>, AllocError> {
         .long("schedule")
         .value_name("SCHEDULE")
         .help("The path of a schedule of it, which is explained in its place")
-        .conflicts_with("REPORT")
+        .conflicts_with("REPORT")?
+        .conflicts_with("after")
+}
+
+/// A report, alone or behind an earlier pair.
+fn report_explained<'a>(report: &'a str, after: Option<Earlier<'a>>) -> Explained<'a> {
+    match after {
+        Some(earlier) => Explained::Chapter(report, earlier),
+        None => Explained::Report(report),
+    }
 }
 
 /// What the words ask for.
@@ -58,7 +74,7 @@ pub(crate) fn wanted_explanation<'a>(matches: &ArgMatches<'a>) -> Option<Request
     let file = matches.get_str("FILE")?;
     let what = match (matches.get_str("schedule"), matches.get_str("REPORT")) {
         (Some(schedule), _) => Explained::Schedule(schedule),
-        (None, Some(report)) => Explained::Report(report),
+        (None, Some(report)) => report_explained(report, earlier_of(matches)),
         (None, None) => Explained::File,
     };
     Some(Request::Explain(Explain { file, what }))

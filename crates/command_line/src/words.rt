@@ -3,8 +3,10 @@
 //! What makes a command of `clap` is not inlined: it has some 700 bytes, and each step of its making takes as
 //! much of the stack for itself, which a call gives back before the next one.
 
+use crate::checking_words::{Check, check_command, wanted_check};
 use crate::explaining_words::{Explain, explain_command, wanted_explanation};
 use crate::exploring_words::{Orders, explore_command, wanted_orders};
+use crate::printing_words::{Print, print_command, wanted_print};
 use clap::error::ErrorKind;
 use clap::{Arg, ArgMatches, Command, Error, value_parser};
 use run_options::Options;
@@ -36,15 +38,6 @@ pub struct Run<'a> {
     pub options: Options,
 }
 
-/// A report to check.
-#[derive(Drop)]
-pub struct Check<'a> {
-    /// The path of the file that it is of.
-    pub file: &'a str,
-    /// Its own path.
-    pub report: &'a str,
-}
-
 /// A schedule to play.
 #[derive(Drop)]
 pub struct Played<'a> {
@@ -52,15 +45,6 @@ pub struct Played<'a> {
     pub file: &'a str,
     /// Its own path.
     pub schedule: &'a str,
-}
-
-/// A file to print.
-#[derive(Drop)]
-pub struct Print<'a> {
-    /// Its path.
-    pub file: &'a str,
-    /// The path of the report whose present values the variables begin at.
-    pub report: Option<&'a str>,
 }
 
 const VERSION: &str = "0.1.0";
@@ -77,12 +61,6 @@ const RUN: &str =
 const EXAMPLE: &str =
     "A file declares variables, transactions and runs:\n\n    (var x 5)\n    (tx inc (set x (add x 1)) x)\n    (run inc 2)\n\nIn a file that begins with (stm 2) standing conditions may follow the variables. A\ntransaction that would leave one of them untrue has no effect:\n\n    (always small (lt x 7))\n\nThe statements are skip, set, seq, if, repeat, retry, orelse and throw.\n\nStatus: 0 done, 2 the file is refused, 3 the command line is refused,\n4 a file cannot be read or the output cannot be written, 5 out of memory.";
 
-const CHECK: &str =
-    "Checks a report of a file: replays its journal and says whether the report is lawful, without trust in who made it.";
-
-const VERDICTS: &str =
-    "Prints `good`, or `bad` and the first part that fails:\n\n    1  the text is that of no report of the file\n    2  the base: of number 0 and not the initial values, or a version above its number\n    3  an entry: its number, or its outcome in the replay\n    4  the present number, values or versions: not those at the end of the replay\n    5  the tasks: another's transaction, two lines, out of order, or not all accounted for\n    6  a parked task, which would not retry on the present values\n\nStatus: 0 good, 1 bad, 2 the file is refused, 3 the command line is refused,\n4 a file cannot be read or the output cannot be written, 5 out of memory.\n\nExample: stm run a.stm > a.report; stm check a.stm a.report";
-
 const WORLD: &str =
     "Plays a schedule on the stepped world of a file: one load and one store at a time, in the order that you name, with no threads.";
 
@@ -91,12 +69,6 @@ const SCHEDULE: &str =
 
 const SEEN: &str =
     "Prints for each line its number and what is seen: idle, needs X, ended OUTCOME,\nloaded, stale, parked, commits N, stored, committed N, dropped, memory, checks X or\nchanged.\nThen the present number, values and versions, and each attempt with its task,\nthe number of the state that it reads, its fate, and what it has read.\n\nStatus: 0 done, 2 the file or the schedule is refused, 3 the command line is refused,\n4 a file cannot be read or the output cannot be written, 5 out of memory.";
-
-const PRINT: &str =
-    "Prints the one text of a file that says what it says: one form a line, one space between two tokens, no comments.";
-
-const PRINTED: &str =
-    "Printing what was printed changes nothing. Comments are no part of it: they are left out.\n\nWith --from each variable begins at the value that it has at the report's present, so\nthat work goes on where the report ended. The report has to be lawful for the file, else\n`bad` and the first part that fails are printed, as `stm check` does.\n\nStatus: 0 done, 1 the report is not good, 2 the file is refused, 3 the command line is\nrefused, 4 a file cannot be read or the output cannot be written, 5 out of memory.\n\nExample: stm run a.stm > a.report; stm print a.stm --from a.report > b.stm";
 
 const WORKERS: &str = "How many workers run the tasks, 1 to 16";
 
@@ -166,7 +138,7 @@ pub(crate) fn of_file<'a>(
 }
 
 /// An argument that has to be given, by its place.
-fn required<'a>(alloc: Global, name: &'a str, help: &'a str) -> Arg<'a> {
+pub(crate) fn required<'a>(alloc: Global, name: &'a str, help: &'a str) -> Arg<'a> {
     Arg::new(alloc, name).required(true).help(help)
 }
 
@@ -200,36 +172,12 @@ pub(crate) fn with_number<'a>(
     )
 }
 
-/// The command `stm check`.
-#[inline(never)]
-fn check_command<'a>(alloc: Global) -> Result<Command<'a>, AllocError> {
-    let file = "The path of the file that was run";
-    let check = of_file(alloc, "check", CHECK, VERDICTS, file)?;
-    check.arg(required(alloc, "REPORT", "The path of the report of it"))
-}
-
 /// The command `stm world`.
 #[inline(never)]
 fn world_command<'a>(alloc: Global) -> Result<Command<'a>, AllocError> {
     let file = "The path of the file whose tasks take part";
     let world = of_file(alloc, "world", WORLD, SEEN, file)?;
     world.arg(required(alloc, "SCHEDULE", "The path of the schedule to play").long_help(SCHEDULE))
-}
-
-/// The command `stm print`.
-#[inline(never)]
-fn print_command<'a>(alloc: Global) -> Result<Command<'a>, AllocError> {
-    let file = "The path of the file to print";
-    let print = of_file(alloc, "print", PRINT, PRINTED, file)?;
-    print.arg(from(alloc))
-}
-
-/// The option `--from REPORT`.
-fn from<'a>(alloc: Global) -> Arg<'a> {
-    Arg::new(alloc, "from")
-        .long("from")
-        .value_name("REPORT")
-        .help("The path of a report of the file, whose present values the variables begin at")
 }
 
 /// What the words ask for. An `Err` has the text to show: help or the version, where it was asked for,
@@ -282,20 +230,8 @@ fn wanted_run<'a>(matches: &ArgMatches<'a>) -> Option<Request<'a>> {
     Some(Request::Run(Run { file, options }))
 }
 
-fn wanted_check<'a>(matches: &ArgMatches<'a>) -> Option<Request<'a>> {
-    let file = matches.get_str("FILE")?;
-    let report = matches.get_str("REPORT")?;
-    Some(Request::Check(Check { file, report }))
-}
-
 fn wanted_world<'a>(matches: &ArgMatches<'a>) -> Option<Request<'a>> {
     let file = matches.get_str("FILE")?;
     let schedule = matches.get_str("SCHEDULE")?;
     Some(Request::World(Played { file, schedule }))
-}
-
-fn wanted_print<'a>(matches: &ArgMatches<'a>) -> Option<Request<'a>> {
-    let file = matches.get_str("FILE")?;
-    let report = matches.get_str("from");
-    Some(Request::Print(Print { file, report }))
 }

@@ -9,7 +9,7 @@ use Rattle.explore_runner.specs.declared.sight.Witnessed.TheVariants.{Report, No
 use Rattle.commands.specs.Files.{AfterReading, file_limit}
 use Rattle.run_faults.specs.declared.fault.RunFault.{RunFault}
 use Rattle.command_answers.specs.declared.answer.Answer.{Answer}
-use Rattle.command_answers.specs.declared.answer.Answer.TheVariants.{Done, Unlawful, Refused, Unreadable, Failed}
+use Rattle.command_answers.specs.declared.answer.Answer.TheVariants.{Done, Unlawful, Refused, Unreadable, Failed, Earlier}
 
 -- the answers of exploring bytes
 abbrev pub seen : Sight → Result Sight RunFault
@@ -25,6 +25,7 @@ ExploredBytes limit file old new Unlawful = Showed file limit old new (seen sigh
 ExploredBytes limit file old new Refused = ⊥
 ExploredBytes limit file old new Unreadable = ⊥
 ExploredBytes limit file old new (Failed fault) = Showed file limit old new (unseen fault)
+ExploredBytes limit file old new (Earlier kind) = ⊥
 
 -- of a file of which it is known that it has these bytes, if anything is
 abbrev pub ExploredFile : Option (List ℕ) → ℕ → Option (List ℕ) → Option (List ℕ) → Answer → Type 0
@@ -45,6 +46,7 @@ WitnessedBytes limit end file old new Unlawful = Answered file limit end old new
 WitnessedBytes limit end file old new Refused = Answered file limit end old new (answered NoEnd)
 WitnessedBytes limit end file old new Unreadable = ⊥
 WitnessedBytes limit end file old new (Failed fault) = Answered file limit end old new (unanswered fault)
+WitnessedBytes limit end file old new (Earlier kind) = ⊥
 
 abbrev pub WitnessedFile : Option (List ℕ) → ℕ → ℕ → Option (List ℕ) → Option (List ℕ) → Answer → Type 0
 WitnessedFile known limit end old new a = AfterReading file_limit known (λ file. WitnessedBytes limit end file old new a) old new a

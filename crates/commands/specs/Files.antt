@@ -6,7 +6,7 @@ use Rattle.runner.specs.Running.{Ran}
 use Rattle.run_faults.specs.declared.fault.RunFault.{RunFault}
 use Rattle.run_faults.specs.declared.fault.RunFault.TheVariants.{Memory}
 use Rattle.command_answers.specs.declared.answer.Answer.{Answer}
-use Rattle.command_answers.specs.declared.answer.Answer.TheVariants.{Done, Unlawful, Refused, Unreadable, Failed}
+use Rattle.command_answers.specs.declared.answer.Answer.TheVariants.{Done, Unlawful, Refused, Unreadable, Failed, Earlier}
 
 -- how many bytes a file, a report and a schedule have at most
 abbrev pub file_limit : ℕ
@@ -43,6 +43,12 @@ abbrev pub AfterReadingBoth : ℕ → Option (List ℕ) → Option (List ℕ) �
 AfterReadingBoth limit file other Left old new a =
     (IsUnread a × Keeps old new) ⊎ OfRead file_limit file (λ bytes. OfRead limit other (Left bytes))
 
+-- the same of a file and a report, and of an earlier file and a report of it
+abbrev pub AfterReadingChapter : Option (List ℕ) → Option (List ℕ) → Option (List ℕ) → Option (List ℕ) → (List ℕ → List ℕ → List ℕ → List ℕ → Type 0) → Option (List ℕ) → Option (List ℕ) → Answer → Type 0
+AfterReadingChapter file report earlier earlier_report Left old new a =
+    (IsUnread a × Keeps old new)
+    ⊎ OfRead file_limit file (λ f. OfRead report_limit report (λ r. OfRead file_limit earlier (λ e. OfRead report_limit earlier_report (Left f r e))))
+
 -- the answers of a run of bytes
 abbrev pub done : Result (Unit {0}) RunFault
 done = Ok tt
@@ -57,6 +63,7 @@ RanBytes every input old new Unlawful = ⊥
 RanBytes every input old new Refused = ⊥
 RanBytes every input old new Unreadable = ⊥
 RanBytes every input old new (Failed fault) = Ran every input old new (ended fault)
+RanBytes every input old new (Earlier kind) = ⊥
 
 -- what a run of a file leaves, of which it is known that it has these bytes, if anything is
 abbrev pub RanFile : Option (List ℕ) → ℕ → Option (List ℕ) → Option (List ℕ) → Answer → Type 0
@@ -69,3 +76,4 @@ failed_calls Unlawful = 0
 failed_calls Refused = 0
 failed_calls Unreadable = 0
 failed_calls (Failed fault) = output_failures (ended fault)
+failed_calls (Earlier kind) = 0

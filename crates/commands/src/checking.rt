@@ -2,11 +2,14 @@
 
 ghost use Rattle.std.specs.Prelude.{◌≡◌, ◌<◌, ◌+◌, ◌^◌, true, None};
 ghost use Rattle.commands.specs.Files.{failed_calls};
-ghost use Rattle.commands.specs.Checking.{Tells, Checked, CheckedFiles, verdict_answer};
+ghost use Rattle.checker.specs.Lines.{line_of};
+ghost use Rattle.commands.specs.Checking.{Tells, Checked, CheckedAs, CheckedFiles, verdict_answer};
 
+use crate::chapters::check_chapter;
 use crate::reading::{both_of, both_opened};
 use checker::{Verdict, check};
 use command_answers::Answer;
+use command_line::Check;
 use run_faults::RunFault;
 use run_sink::{Sink, put_all};
 use std::alloc::Global;
@@ -15,9 +18,27 @@ use std::rt::Files;
 use text_report_reader::MAX_REPORT;
 use txn_text::ReadFault;
 
+/// Checks what the command line asks for.
+#[inline(never)]
+pub fn check_as<R: Files + AllocGlobal, S: Sink>(
+    rt: &R,
+    request: &Check<'_>,
+    sink: &mut S,
+) -> Answer
+    requires { S.failed sink.old < 2 ^ 63 }
+    ensures checked { CheckedAs request.now.after (S.bytes sink.old) (S.bytes sink.new) result }
+    ensures good { result ≡ Answer.Done → S.flushed sink.new ≡ true }
+    ensures bad { result ≡ Answer.Unlawful → S.flushed sink.new ≡ true }
+    ensures failures { S.failed sink.new ≡ S.failed sink.old + failed_calls result }
+{
+    match request.after {
+        None => check_files(rt, request.file, request.report, sink),
+        Some(earlier) => check_chapter(rt, request.file, request.report, earlier, sink),
+    }
+}
+
 /// Checks the report of the file at these paths, and writes the verdict's line to the sink. Both are
 /// read before either is judged.
-#[inline(never)]
 pub fn check_files<R: Files + AllocGlobal, S: Sink>(
     rt: &R,
     file: &str,
@@ -73,7 +94,7 @@ fn check_bytes<S: Sink>(alloc: Global, file: &[u8], report: &[u8], sink: &mut S)
 /// Writes the verdict's line.
 fn tell<S: Sink>(verdict: Verdict, sink: &mut S) -> Answer
     requires { S.failed sink.old < 2 ^ 63 }
-    ensures told { Tells verdict (S.bytes sink.old) (S.bytes sink.new) result }
+    ensures told { Tells (verdict_answer verdict) (line_of verdict) (S.bytes sink.old) (S.bytes sink.new) result }
     ensures good { result ≡ Answer.Done → S.flushed sink.new ≡ true }
     ensures bad { result ≡ Answer.Unlawful → S.flushed sink.new ≡ true }
     ensures failures { S.failed sink.new ≡ S.failed sink.old + failed_calls result }

@@ -5,6 +5,7 @@ ghost use Rattle.std.specs.Prelude.{◌≡◌, ◌<◌, ◌+◌, ◌^◌, true, 
 ghost use Rattle.commands.specs.Files.{failed_calls};
 ghost use Rattle.commands.specs.Explaining.{ExplainedAs, ExplainedBytes, ExplainedFile, ExplainedMoves, ExplainedOnBytes, ExplainedOnFiles, ExplainedSchedule};
 
+use crate::chapters::explain_chapter_at;
 use crate::checking::answer_of;
 use crate::reading::{both_of, both_opened, bytes_of, opened};
 use command_answers::Answer;
@@ -34,6 +35,9 @@ pub fn explain_files<R: Files + AllocGlobal, S: Sink>(
     match request.what {
         Explained::File => explain_file_at(rt, request.file, sink),
         Explained::Report(report) => explain_report_at(rt, request.file, report, sink),
+        Explained::Chapter(report, earlier) => {
+            explain_chapter_at(rt, request.file, report, earlier, sink)
+        }
         Explained::Schedule(schedule) => explain_schedule_at(rt, request.file, schedule, sink),
     }
 }

@@ -1,6 +1,6 @@
 //! The commands of the program `stm`, from the words of the command line to the status to end with.
 //!
-//! `program` has the words of the command line; `running`, `checking`, `playing`, `exploring`, `explaining` and
+//! `program` has the words of the command line; `running`, `checking`, `chapters`, `playing`, `exploring`, `explaining` and
 //! `printing` have the files, which `reading` reads. Each command is said three times: of files at paths, of what
 //! readers have, whose clause names the bytes that are read, and of bytes. The words are those of the library
 //! `command_line`, and the statuses those of `command_answers`. What the commands do is in libraries, too: `runner` goes
@@ -13,6 +13,7 @@
 //! What does one command is not inlined into `program`, so that a command takes stack for itself alone.
 #![tactic(auto)]
 
+pub mod chapters;
 pub mod checking;
 pub mod explaining;
 pub mod exploring;

@@ -8,8 +8,8 @@ ghost use Rattle.commands.specs.Printing.{PrintedAs, PrintedBytes, PrintedFile, 
 use crate::checking::answer_of;
 use crate::reading::{both_of, both_opened, bytes_of, opened};
 use command_answers::Answer;
-use command_line::Print;
-use print_files::{print_bytes, print_on_bytes};
+use command_line::{Print, Printed};
+use print_files::{Next, print_bytes, print_on_bytes};
 use run_sink::Sink;
 use std::alloc::Global;
 use std::io::Read;
@@ -25,13 +25,14 @@ pub fn print_files<R: Files + AllocGlobal, S: Sink>(
     sink: &mut S,
 ) -> Answer
     requires { S.failed sink.old < 2 ^ 63 }
-    ensures printed { PrintedAs request.now.report (S.bytes sink.old) (S.bytes sink.new) result }
+    ensures printed { PrintedAs request.now.what (S.bytes sink.old) (S.bytes sink.new) result }
     ensures done { result ≡ Answer.Done → S.flushed sink.new ≡ true }
     ensures failures { S.failed sink.new ≡ S.failed sink.old + failed_calls result }
 {
-    match request.report {
-        Some(report) => print_on_files(rt, request.file, report, sink),
-        None => print_file_at(rt, request.file, sink),
+    match request.what {
+        Printed::File => print_file_at(rt, request.file, sink),
+        Printed::From(report) => print_on_files(rt, request.file, report, Next::Again, sink),
+        Printed::After(report) => print_on_files(rt, request.file, report, Next::Chapter, sink),
     }
 }
 
@@ -74,22 +75,23 @@ fn printed<S: Sink>(alloc: Global, bytes: &[u8], sink: &mut S) -> Answer
     }
 }
 
-/// Writes the canonical text of the file that goes on where a report of a file ended to the sink,
-/// or the verdict on a report that is not lawful. Both are read before either is judged.
+/// Writes the canonical text of the file with which work goes on where a report of a file ended to the
+/// sink, or the verdict on a report that is not lawful. Both are read before either is judged.
 pub fn print_on_files<R: Files + AllocGlobal, S: Sink>(
     rt: &R,
     file: &str,
     report: &str,
+    next: Next,
     sink: &mut S,
 ) -> Answer
     requires { S.failed sink.old < 2 ^ 63 }
-    ensures printed { PrintedOnFiles None None (S.bytes sink.old) (S.bytes sink.new) result }
+    ensures printed { PrintedOnFiles next None None (S.bytes sink.old) (S.bytes sink.new) result }
     ensures done { result ≡ Answer.Done → S.flushed sink.new ≡ true }
     ensures bad { result ≡ Answer.Unlawful → S.flushed sink.new ≡ true }
     ensures failures { S.failed sink.new ≡ S.failed sink.old + failed_calls result }
 {
     match both_opened(rt, file, report) {
-        Ok((file, report)) => print_on_inputs(rt.alloc(), file, report, sink),
+        Ok((file, report)) => print_on_inputs(rt.alloc(), file, report, next, sink),
         Err(answer) => answer,
     }
 }
@@ -99,29 +101,36 @@ pub fn print_on_inputs<I: Read + Drop, J: Read + Drop, S: Sink>(
     alloc: Global,
     file: I,
     report: J,
+    next: Next,
     sink: &mut S,
 ) -> Answer
     requires { S.failed sink.old < 2 ^ 63 }
-    ensures printed { PrintedOnFiles (I.remaining file) (J.remaining report) (S.bytes sink.old) (S.bytes sink.new) result }
+    ensures printed { PrintedOnFiles next (I.remaining file) (J.remaining report) (S.bytes sink.old) (S.bytes sink.new) result }
     ensures done { result ≡ Answer.Done → S.flushed sink.new ≡ true }
     ensures bad { result ≡ Answer.Unlawful → S.flushed sink.new ≡ true }
     ensures failures { S.failed sink.new ≡ S.failed sink.old + failed_calls result }
 {
     match both_of(alloc, file, report, MAX_REPORT) {
-        Ok((file, report)) => printed_on(alloc, file.as_slice(), report.as_slice(), sink),
+        Ok((file, report)) => printed_on(alloc, file.as_slice(), report.as_slice(), next, sink),
         Err(answer) => answer,
     }
 }
 
 /// The same of the bytes of both.
-fn printed_on<S: Sink>(alloc: Global, file: &[u8], report: &[u8], sink: &mut S) -> Answer
+fn printed_on<S: Sink>(
+    alloc: Global,
+    file: &[u8],
+    report: &[u8],
+    next: Next,
+    sink: &mut S,
+) -> Answer
     requires { S.failed sink.old < 2 ^ 63 }
-    ensures printed { PrintedOnBytes file.now report.now (S.bytes sink.old) (S.bytes sink.new) result }
+    ensures printed { PrintedOnBytes next file.now report.now (S.bytes sink.old) (S.bytes sink.new) result }
     ensures done { result ≡ Answer.Done → S.flushed sink.new ≡ true }
     ensures bad { result ≡ Answer.Unlawful → S.flushed sink.new ≡ true }
     ensures failures { S.failed sink.new ≡ S.failed sink.old + failed_calls result }
 {
-    match print_on_bytes(alloc, file, report, sink) {
+    match print_on_bytes(alloc, file, report, next, sink) {
         Ok(verdict) => answer_of(verdict),
         Err(fault) => Answer::Failed(fault),
     }

@@ -2,7 +2,7 @@
 
 ghost use Rattle.std.specs.Prelude.{◌<◌, ◌^◌};
 
-use crate::checking::check_files;
+use crate::checking::check_as;
 use crate::explaining::explain_files;
 use crate::exploring::{explore_file, witness_file};
 use crate::playing::play_files;
@@ -62,7 +62,7 @@ fn answered<T: Threads + Wait + Sync, R: Files + Print + Eprint + AllocGlobal, G
     let mut out = Out::new(io::writer(rt));
     match request {
         Request::Run(run) => run_file(threads, rt, run.file, run.options, gate, &mut out),
-        Request::Check(check) => check_files(rt, check.file, check.report, &mut out),
+        Request::Check(check) => check_as(rt, check, &mut out),
         Request::World(played) => play_files(rt, played.file, played.schedule, &mut out),
         Request::Print(print) => print_files(rt, print, &mut out),
         Request::Explore(orders) => orders_of(rt, orders, &mut out),

@@ -1,13 +1,15 @@
 //! What is read of a file, a report or a schedule.
 
 ghost use Rattle.std.specs.Prelude.{◌<◌, ◌^◌, IfOk, IfErr};
-ghost use Rattle.commands.specs.Files.{IsRead, IsUnread, file_limit};
+ghost use Rattle.commands.specs.Files.{IsRead, IsUnread, file_limit, report_limit};
 
 use command_answers::{Answer, unread};
+use command_line::Earlier;
 use std::alloc::Global;
 use std::io::Read;
 use std::rt::Files;
 use std::{fs, io};
+use text_report_reader::MAX_REPORT;
 use txn_text::MAX_FILE;
 
 /// What the reader has left, of which at most one byte past the limit is read: with it, what has more
@@ -75,4 +77,54 @@ pub(crate) fn both_opened<R: Files>(
     let file = opened(rt, file)?;
     let other = opened(rt, other)?;
     Ok((file, other))
+}
+
+/// What a file and a report of it have, and an earlier file and a report of that one.
+#[derive(Drop)]
+pub(crate) struct ChapterBytes {
+    pub(crate) file: Vec<u8>,
+    pub(crate) report: Vec<u8>,
+    pub(crate) earlier: Vec<u8>,
+    pub(crate) earlier_report: Vec<u8>,
+}
+
+/// The bytes of all four, in this order.
+pub(crate) fn chapter_of<I: Read + Drop, J: Read + Drop, K: Read + Drop, L: Read + Drop>(
+    alloc: Global,
+    file: I,
+    report: J,
+    earlier: K,
+    earlier_report: L,
+) -> Result<ChapterBytes, Answer>
+    ensures file { IfOk result (λ all. IsRead file_limit (I.remaining file) all.file.items) }
+    ensures report { IfOk result (λ all. IsRead report_limit (J.remaining report) all.report.items) }
+    ensures earlier { IfOk result (λ all. IsRead file_limit (K.remaining earlier) all.earlier.items) }
+    ensures earlier_report { IfOk result (λ all. IsRead report_limit (L.remaining earlier_report) all.earlier_report.items) }
+    ensures unread { IfErr result IsUnread }
+{
+    let (file, report) = both_of(alloc, file, report, MAX_REPORT)?;
+    let (earlier, earlier_report) = both_of(alloc, earlier, earlier_report, MAX_REPORT)?;
+    Ok(ChapterBytes {
+        file,
+        report,
+        earlier,
+        earlier_report,
+    })
+}
+
+/// The files at two paths.
+pub(crate) type Two<R> = (<R as Files>::File, <R as Files>::File);
+
+/// The files at all four paths.
+pub(crate) fn chapter_opened<R: Files>(
+    rt: &R,
+    file: &str,
+    report: &str,
+    earlier: Earlier<'_>,
+) -> Result<(Two<R>, Two<R>), Answer>
+    ensures { IfErr result IsUnread }
+{
+    let pair = both_opened(rt, file, report)?;
+    let before = both_opened(rt, earlier.file, earlier.report)?;
+    Ok((pair, before))
 }

@@ -25,7 +25,7 @@ pub(crate) enum Prints {
     Interrupted,
 }
 
-/// A process with the files `a.stm`, `a.report` and `a.schedule`.
+/// A process with the files `a.stm`, `a.report` and `a.schedule`, and the earlier ones `o.stm` and `o.report`.
 #[derive(Drop)]
 pub(crate) struct Host<'a> {
     pub(crate) alloc: Global,
@@ -33,6 +33,7 @@ pub(crate) struct Host<'a> {
     pub(crate) file: &'a [u8],
     pub(crate) report: &'a [u8],
     pub(crate) schedule: &'a [u8],
+    pub(crate) earlier: (&'a [u8], &'a [u8]),
     pub(crate) reads: Reads,
     pub(crate) prints: Prints,
     /// How many writes the standard output got.
@@ -52,6 +53,7 @@ impl<'a> Host<'a> {
             file,
             report: b"",
             schedule: b"",
+            earlier: (b"", b""),
             reads: Reads::AllBytes,
             prints: Prints::All,
             writes: Cell::new(0),
@@ -235,6 +237,8 @@ impl<'a> Files for Host<'a> {
             "a.stm" => self.file,
             "a.report" => self.report,
             "a.schedule" => self.schedule,
+            "o.stm" => self.earlier.0,
+            "o.report" => self.earlier.1,
             _ => return Err(io::Error::from(io::ErrorKind::NotFound)),
         };
         Ok(Opened {

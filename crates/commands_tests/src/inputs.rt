@@ -2,6 +2,7 @@
 //! show.
 
 use command_answers::Answer;
+use commands::chapters::{check_chapter_inputs, explain_chapter_inputs};
 use commands::checking::check_inputs;
 use commands::explaining::{explain_input, explain_on_inputs, explain_schedule_inputs};
 use commands::exploring::{explore_input, witness_input};
@@ -9,6 +10,7 @@ use commands::playing::play_inputs;
 use commands::printing::{print_input, print_on_inputs};
 use commands::running::run_input;
 use explore_options::Limit;
+use print_files::Next;
 use run_options::Options;
 use run_sink::Out;
 use runner::OpenGate;
@@ -18,6 +20,11 @@ const FILE: &[u8] = b"(var x 5)(tx inc (set x (add x 1)) x)(run inc 2)";
 
 const REPORT: &[u8] =
     b"base 0\nx 5 0\nentry 1 0 inc returned 6\nentry 2 1 inc returned 7\nnow 2\nx 7 2\nend\n";
+
+/// The next chapter, in which no task is left, and a report of it.
+const NEXT: &[u8] = b"(var x 7)\n(tx inc (set x (add x 1)) x)\n";
+
+const EMPTY: &[u8] = b"base 0\nx 7 0\nnow 0\nx 7 0\nend\n";
 
 const SCHEDULE: &[u8] = b"begin 0\nread 0 x\ncommit 0\n";
 
@@ -72,9 +79,27 @@ fn a_file_is_printed(rt: HostRuntime) {
 #[test]
 fn a_file_goes_on_from_a_report(rt: HostRuntime) {
     let mut out = Out::new(Vec::new(rt.alloc()));
-    let answer = print_on_inputs(rt.alloc(), FILE, REPORT, &mut out);
+    let answer = print_on_inputs(rt.alloc(), FILE, REPORT, Next::Again, &mut out);
     let text = b"(var x 7)\n(tx inc (set x (add x 1)) x)\n(run inc 2)\n";
     expect(&rt, answer, out, text);
+}
+
+#[test]
+fn the_next_chapter_is_printed(rt: HostRuntime) {
+    let mut out = Out::new(Vec::new(rt.alloc()));
+    let answer = print_on_inputs(rt.alloc(), FILE, REPORT, Next::Chapter, &mut out);
+    expect(&rt, answer, out, NEXT);
+}
+
+#[test]
+fn a_chapter_is_checked_and_explained(rt: HostRuntime) {
+    let alloc = rt.alloc();
+    let mut out = Out::new(Vec::new(alloc));
+    let answer = check_chapter_inputs(alloc, NEXT, EMPTY, FILE, REPORT, &mut out);
+    expect(&rt, answer, out, b"good\n");
+    let mut out = Out::new(Vec::new(alloc));
+    let answer = explain_chapter_inputs(alloc, NEXT, EMPTY, FILE, REPORT, &mut out);
+    expect(&rt, answer, out, b"good\n");
 }
 
 #[test]

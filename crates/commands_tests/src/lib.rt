@@ -3,6 +3,8 @@
 #![tactic(auto)]
 
 #[cfg(test)]
+mod chapters;
+#[cfg(test)]
 mod checking;
 #[cfg(test)]
 mod explaining;

@@ -2,7 +2,7 @@
 
 use crate::shown::Shown;
 use command_answers::Answer;
-use command_line::{Explained, Request, asked};
+use command_line::{Earlier, Explained, Printed, Request, asked};
 use explore_options::Limit;
 use std::alloc::{AllocError, Global};
 use std::process::Abort;
@@ -81,7 +81,10 @@ fn asks_for(rt: &impl Abort, alloc: Global, line: &str, other: &str) -> bool {
     let words = words(rt, alloc, line);
     match asked(&Shown::new(alloc), words.as_slice()) {
         Ok(Request::Check(request)) => {
-            other == "a.report" && request.file == "a.stm" && request.report == other
+            other == "a.report"
+                && request.file == "a.stm"
+                && request.report == other
+                && request.after == None
         }
         Ok(Request::World(request)) => {
             other == "a.schedule" && request.file == "a.stm" && request.schedule == other
@@ -93,6 +96,28 @@ fn asks_for(rt: &impl Abort, alloc: Global, line: &str, other: &str) -> bool {
 #[test]
 fn a_check_is_asked_for(rt: HostRuntime) {
     assert!(rt; asks_for(&rt, rt.alloc(), "stm check a.stm a.report", "a.report"));
+}
+
+/// A command line asks for a check of `b` of `a` behind the pair `c` and `d`.
+fn asks_after(rt: &impl Abort, alloc: Global, line: &str) -> bool {
+    let words = words(rt, alloc, line);
+    match asked(&Shown::new(alloc), words.as_slice()) {
+        Ok(Request::Check(request)) => {
+            request.file == "a" && request.report == "b" && request.after == Some(PAIR)
+        }
+        _ => false,
+    }
+}
+
+const PAIR: Earlier<'static> = Earlier {
+    file: "c",
+    report: "d",
+};
+
+#[test]
+fn a_check_of_a_chapter_is_asked_for(rt: HostRuntime) {
+    assert!(rt; asks_after(&rt, rt.alloc(), "stm check a b --after c d"));
+    assert!(rt; asks_after(&rt, rt.alloc(), "stm check --after c d a b"));
 }
 
 #[test]
@@ -127,6 +152,10 @@ fn mistakes_are_refused(rt: HostRuntime) {
         "stm check a",
         "stm check a b c",
         "stm check a b --workers 1",
+        "stm check a b --after",
+        "stm check a b --after c",
+        "stm check a b --after c d e",
+        "stm check a --after c d",
         "stm world",
         "stm world a",
         "stm world a b c",
@@ -140,6 +169,12 @@ fn mistakes_are_refused(rt: HostRuntime) {
         "stm print",
         "stm print a b",
         "stm print a --from",
+        "stm print a --after",
+        "stm print a --after b c",
+        "stm print a --after b --from b",
+        "stm explain a --after c d",
+        "stm explain a b --after c",
+        "stm explain a --after c d --schedule e",
     ] {
         expect_mistake(&rt, rt.alloc(), line);
     }
@@ -325,13 +360,13 @@ fn orders_are_asked_for(rt: HostRuntime) {
     );
 }
 
-/// A command line asks to print `a.stm`, from this report.
-fn expect_print(rt: &impl Abort, alloc: Global, line: &str, report: Option<&str>) {
+/// A command line asks to print this of `a.stm`.
+fn expect_print(rt: &impl Abort, alloc: Global, line: &str, what: Printed<'_>) {
     let words = words(rt, alloc, line);
     match asked(&Shown::new(alloc), words.as_slice()) {
         Ok(Request::Print(request)) => {
             assert!(rt; request.file == "a.stm");
-            assert!(rt; request.report == report);
+            assert!(rt; request.what == what);
         }
         _ => panic!(rt; "no print is asked for"),
     }
@@ -340,8 +375,9 @@ fn expect_print(rt: &impl Abort, alloc: Global, line: &str, report: Option<&str>
 #[test]
 fn a_print_is_asked_for(rt: HostRuntime) {
     let alloc = rt.alloc();
-    expect_print(&rt, alloc, "stm print a.stm", None);
-    expect_print(&rt, alloc, "stm print a.stm --from b", Some("b"));
+    expect_print(&rt, alloc, "stm print a.stm", Printed::File);
+    expect_print(&rt, alloc, "stm print a.stm --from b", Printed::From("b"));
+    expect_print(&rt, alloc, "stm print --after=b a.stm", Printed::After("b"));
 }
 
 /// A command line asks to explain this of `a.stm`.
@@ -361,6 +397,8 @@ fn an_explanation_is_asked_for(rt: HostRuntime) {
     let alloc = rt.alloc();
     expect_explain(&rt, alloc, "stm explain a.stm", Explained::File);
     expect_explain(&rt, alloc, "stm explain a.stm b", Explained::Report("b"));
+    let chapter = Explained::Chapter("b", PAIR);
+    expect_explain(&rt, alloc, "stm explain a.stm b --after c d", chapter);
     let schedule = Explained::Schedule("c");
     expect_explain(&rt, alloc, "stm explain a.stm --schedule c", schedule);
     expect_explain(&rt, alloc, "stm explain --schedule=c a.stm", schedule);

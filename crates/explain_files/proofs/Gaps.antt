@@ -36,7 +36,7 @@ next_parenthesis (b ∷ bytes) lt h =
       | inr p ↦ let e : eqb b 41 ≡ true = rw p.0 at h in rw (eqb-true b 41 e) (rw (tokens-close bytes) refl)
     ]
 
-neither : (a c d e : Bool) → (a || e) ≡ false → (c || d) ≡ false → not (a || (c || (d || e))) ≡ true
+pub neither : (a c d e : Bool) → (a || e) ≡ false → (c || d) ≡ false → not (a || (c || (d || e))) ≡ true
 neither true c d e h g = absurd cc
 neither false true d e h g = absurd cc
 neither false false true e h g = absurd cc

@@ -1,5 +1,6 @@
 pub mod Gaps
 pub mod Prefixes
+pub mod Cuts
 pub mod Chains
 pub mod Forms
 pub mod Declared

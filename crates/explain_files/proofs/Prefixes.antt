@@ -17,7 +17,7 @@ before_at : (p : ℕ → Bool) (x : ℕ) (xs : List ℕ) (b : Bool) → p x ≡ 
 before_at p x xs false e there = rw e refl
 before_at p x xs true e there = let one_more : 1 + prefix_len p xs ≡ suc (prefix_len p xs) = omega arith in rw (e, one_more, e) there
 
-before : (p : ℕ → Bool) (xs : List ℕ) → list_all p (take (prefix_len p xs) xs) ≡ true
+pub before : (p : ℕ → Bool) (xs : List ℕ) → list_all p (take (prefix_len p xs) xs) ≡ true
 before p [] = refl
 before p (x ∷ xs) = before_at p x xs (p x) refl (before p xs)
 

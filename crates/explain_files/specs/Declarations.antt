@@ -40,7 +40,7 @@ pub record IsDeclared (bytes : List ℕ) (place : ℕ) (used : NameUse) (text : 
   -- the tokens before it, the nearest of them first, and those behind it
   pub before : List Lexeme
   pub behind : List Lexeme
-  pub parts : tokens bytes ≡ reverse before ++ token.Name text ∷ behind
+  pub front : tokens (take place bytes) ≡ reverse before
   pub at : tokens (drop place bytes) ≡ token.Name text ∷ behind
   pub for : role_at before ≡ role.Name used
   pub first : EachToken (DoesNotDeclare used text) before

@@ -1,5 +1,5 @@
 -- Which names of a file are wrong, and which is the first.
-use Rattle.std.specs.Prelude.{◌≡◌, ◌<◌, ◌≤◌, ℕ, Bool, if◌then◌else◌, Option, Some, None, List, [], ◌∷◌, ◌++◌, length, drop, reverse}
+use Rattle.std.specs.Prelude.{◌≡◌, ◌<◌, ◌≤◌, ℕ, Bool, if◌then◌else◌, Option, Some, None, List, [], ◌∷◌, ◌++◌, length, take, drop, reverse}
 use Rattle.std.specs.List.{list_any}
 use Rattle.std.specs.Str.{bytes_eq}
 use Rattle.text_words.specs.Tokens.{Lexeme, Opens, Closes, tokens}
@@ -9,6 +9,7 @@ use Rattle.explain_files.specs.declared.wanted.Role.{Role}
 use Rattle.explain_files.specs.declared.wanted.Role.TheVariants as role
 use Rattle.explain_files.specs.declared.names.NameFault.{NameFault}
 use Rattle.explain_files.specs.declared.names.NameFault.TheVariants.{Twice, NoVariable, NoTransaction}
+use Rattle.explain_files.specs.Tokens.{IsApart}
 use Rattle.explain_files.specs.Walking.{IsTokenPlace}
 use Rattle.explain_files.specs.Roles.{role_at}
 
@@ -18,7 +19,10 @@ use Rattle.explain_files.specs.Roles.{role_at}
 pub record IsNext (bytes : List ℕ) (from place next : ℕ) (t : Lexeme) : Type 0 where
   pub here : IsTokenPlace bytes place
   pub same : tokens (drop from bytes) ≡ tokens (drop place bytes)
+  pub before : tokens (take place bytes) ≡ tokens (take from bytes)
   pub token : tokens (drop place bytes) ≡ t ∷ tokens (drop next bytes)
+  pub one_more : tokens (take next bytes) ≡ tokens (take place bytes) ++ t ∷ []
+  pub apart : IsApart bytes next
   pub behind : from ≤ place
   pub further : place < next
   pub bound : next ≤ length bytes
@@ -44,7 +48,7 @@ pub record IsFirstSaid {F : Type 0} (fault : List Lexeme → Lexeme → Option F
   pub before : List Lexeme
   pub token : Lexeme
   pub behind : List Lexeme
-  pub parts : tokens bytes ≡ reverse before ++ token ∷ behind
+  pub front : tokens (take place bytes) ≡ reverse before
   pub at : tokens (drop place bytes) ≡ token ∷ behind
   pub wrong : fault before token ≡ Some said
   pub first : EachToken (IsRight fault) before

@@ -4,6 +4,7 @@ ghost use Rattle.std.specs.Prelude.{◌≡◌, ◌≤◌, [], IfNone, IfSome, le
 ghost use Rattle.text_words.specs.TokenView.{view};
 ghost use Rattle.text_words.specs.Tokens.{tokens};
 ghost use Rattle.explain_files.specs.Judging.{IsNext};
+ghost use Rattle.explain_files.specs.Tokens.{IsApart};
 
 use crate::tokens::{token_len, token_place};
 use text_words::lexer::{Token, next_token};
@@ -17,8 +18,10 @@ pub(crate) struct Found<'a> {
 }
 
 /// The next token from this place on.
+#[tactic(auto, using(crate::proofs::Cuts::whole, crate::proofs::Cuts::one_more, crate::proofs::Cuts::apart_on))]
 pub(crate) fn token_from(bytes: &[u8], from: usize) -> Option<Found<'_>>
-    requires { from ≤ length bytes.now }
+    requires within { from ≤ length bytes.now }
+    requires apart { IsApart bytes.now from }
     ensures none { IfNone result (tokens (drop from bytes.now) ≡ []) }
     ensures some { IfSome result (λ f. IsNext bytes.now from f.place f.next (view f.token)) }
 {

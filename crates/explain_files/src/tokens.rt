@@ -1,10 +1,10 @@
 //! Where a token begins, and how long it is.
 
-ghost use Rattle.std.specs.Prelude.{◌≡◌, ◌<◌, ◌≤◌, ℕ, length, drop};
+ghost use Rattle.std.specs.Prelude.{◌≡◌, ◌<◌, ◌≤◌, ℕ, [], length, take, drop};
 ghost use Rattle.std.specs.List.{prefix_len};
 ghost use Rattle.text_words.specs.Bytes.{is_blank, is_atom_byte, is_in_line};
 ghost use Rattle.text_words.specs.Tokens.{tokens};
-ghost use Rattle.explain_files.specs.Tokens.{BeginsToken, is_parenthesis};
+ghost use Rattle.explain_files.specs.Tokens.{BeginsToken, IsApart, is_parenthesis};
 
 fn is_blank(b: u8) -> bool
     ensures { result ≡ is_blank b }
@@ -39,10 +39,12 @@ fn line_len(bytes: &[u8]) -> usize
 }
 
 /// How many bytes of a blank or of a comment stand first; none where a token begins or nothing is left.
-#[tactic(auto, using(crate::proofs::Gaps::behind_blank, crate::proofs::Gaps::behind_comment, crate::proofs::Gaps::begins))]
+#[tactic(auto, using(crate::proofs::Gaps::behind_blank, crate::proofs::Gaps::behind_comment, crate::proofs::Gaps::begins, crate::proofs::Cuts::nothing_apart, crate::proofs::Cuts::blank_apart, crate::proofs::Cuts::blank_nothing))]
 fn gap_piece(bytes: &[u8]) -> usize
     ensures bound { result ≤ length bytes.now }
     ensures same { tokens (drop result bytes.now) ≡ tokens bytes.now }
+    ensures nothing { tokens (take result bytes.now) ≡ [] }
+    ensures apart { IsApart bytes.now result }
     ensures none { result ≡ 0 → BeginsToken bytes.now }
 {
     match bytes {
@@ -53,11 +55,15 @@ fn gap_piece(bytes: &[u8]) -> usize
 }
 
 /// The place of the next token from this place on, or of the end.
+#[tactic(auto, using(crate::proofs::Cuts::apart_on, crate::proofs::Cuts::still_front))]
 pub(crate) fn token_place(bytes: &[u8], from: usize) -> usize
-    requires { from ≤ length bytes.now }
+    requires within { from ≤ length bytes.now }
+    requires apart { IsApart bytes.now from }
     ensures bound { result ≤ length bytes.now }
     ensures behind { from ≤ result }
     ensures same { tokens (drop result bytes.now) ≡ tokens (drop from bytes.now) }
+    ensures before { tokens (take result bytes.now) ≡ tokens (take from bytes.now) }
+    ensures apart { IsApart bytes.now result }
     ensures begins { BeginsToken (drop result bytes.now) }
 {
     let mut at = from;
@@ -71,12 +77,14 @@ pub(crate) fn token_place(bytes: &[u8], from: usize) -> usize
 }
 
 /// How many bytes the first token has, where one begins.
-#[tactic(auto, using(crate::proofs::Gaps::next_none, crate::proofs::Gaps::next_parenthesis, crate::proofs::Gaps::next_atom))]
+#[tactic(auto, using(crate::proofs::Gaps::next_none, crate::proofs::Gaps::next_parenthesis, crate::proofs::Gaps::next_atom, crate::proofs::Cuts::nothing_apart, crate::proofs::Cuts::none_alone, crate::proofs::Cuts::parenthesis_apart, crate::proofs::Cuts::parenthesis_alone, crate::proofs::Cuts::atom_apart, crate::proofs::Cuts::atom_alone))]
 pub(crate) fn token_len(bytes: &[u8]) -> usize
     requires { BeginsToken bytes.now }
     ensures bound { result ≤ length bytes.now }
     ensures some { 0 < length bytes.now → 0 < result }
+    ensures one { tokens (take result bytes.now) ≡ take 1 (tokens bytes.now) }
     ensures rest { tokens (drop result bytes.now) ≡ drop 1 (tokens bytes.now) }
+    ensures apart { IsApart bytes.now result }
 {
     match bytes {
         [] => 0,

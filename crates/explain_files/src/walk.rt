@@ -1,7 +1,7 @@
 //! A file walked token by token, with the place of each and what was wanted there.
 
 ghost use Rattle.std.specs.Prelude.{◌≡◌, ◌<◌, ◌≤◌, [], ◌∷◌, IfOk, length, drop, true};
-ghost use Rattle.explain_files.specs.Tokens.{BeginsToken};
+ghost use Rattle.explain_files.specs.Tokens.{BeginsToken, IsApart};
 ghost use Rattle.explain_files.specs.Walking.{IsStep, IsStop, StepMoves};
 ghost use Rattle.text_laws.specs.Faults.{IsFirst};
 ghost use Rattle.text_words.specs.declared.fault.ReadFault.TheVariants.{Shape};
@@ -35,12 +35,14 @@ pub(crate) fn beginning(alloc: Global) -> Result<Vec<Wanted>, AllocError>
 }
 
 /// The next token from this place on, and what is wanted behind it.
+#[tactic(auto, using(crate::proofs::Cuts::whole, crate::proofs::Cuts::one_more, crate::proofs::Cuts::apart_on))]
 pub(crate) fn next_step<'a>(
     bytes: &'a [u8],
     from: usize,
     stack: &mut Vec<Wanted>,
 ) -> Result<Step<'a>, AllocError>
-    requires { from ≤ length bytes.now }
+    requires within { from ≤ length bytes.now }
+    requires apart { IsApart bytes.now from }
     ensures place { IfOk result (λ s. IsStep bytes.now from s.place s.next s.went) }
     ensures moves { IfOk result (λ s. StepMoves bytes.now from s.place s.next s.went stack.old.items stack.new.items) }
 {

@@ -12,3 +12,5 @@ mod Places
 mod Numbered
 mod Verdicts
 mod Letters
+mod Apart
+mod Sayings

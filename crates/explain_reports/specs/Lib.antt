@@ -7,3 +7,5 @@ pub mod Rows
 pub mod Explaining
 pub mod Texts
 pub mod Writing
+pub mod Gaps
+pub mod Chapters

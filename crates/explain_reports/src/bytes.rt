@@ -81,7 +81,7 @@ fn answered(alloc: Global, bytes: &[u8], report: &[u8]) -> Result<(Verdict, Stri
 }
 
 /// The verdict on the report of the catalogue that the bytes spell, and what is said of it.
-fn answered_of(
+pub(crate) fn answered_of(
     alloc: Global,
     bytes: &[u8],
     catalogue: &Catalogue,

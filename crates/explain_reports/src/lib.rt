@@ -3,14 +3,17 @@
 //!
 //! `explain` reads a report and judges its parts in the checker's order. A part has a function
 //! that looks for the first thing in it that is not so: `base`, `entries`, `present`, `tasks` and
-//! `parked`.
+//! `parked`. `explain_chapter_bytes` says of a file, too, in what it does not go on where an earlier file
+//! and its report ended: `gaps` looks for the first line.
 #![tactic(auto)]
 
 mod base;
 mod bytes;
+mod chapters;
 mod entries;
 mod explaining;
 mod flaw;
+mod gaps;
 mod judge;
 mod lines;
 mod parked;
@@ -21,6 +24,7 @@ mod tasks;
 mod text;
 
 pub use bytes::explain_bytes;
+pub use chapters::{ChapterUntold, explain_chapter_bytes};
 pub use explaining::{Explanation, Line, explain};
 pub use flaw::{Flaw, TaskLine};
 pub use text::put_explanation;

@@ -1,7 +1,9 @@
 //! The line that tells where and why a file is refused.
 
-ghost use Rattle.std.specs.Prelude.{◌≡◌, ◌≤◌, ℕ, length, IfOk, string_bytes};
-ghost use Rattle.explain_runner.specs.Telling.{told_line, Begins, head_of, kind_name};
+ghost use Rattle.std.specs.Prelude.{◌≡◌, ◌≤◌, ℕ, length, IfOk, IfSome, string_bytes};
+ghost use Rattle.std.specs.List.{prefix_len};
+ghost use Rattle.text_words.specs.Bytes.{is_atom_byte};
+ghost use Rattle.explain_runner.specs.Telling.{told_line, IsInLine, IsLineWith, head_of, kind_name};
 
 use crate::near::meant;
 use crate::words::words;
@@ -40,26 +42,42 @@ pub fn line_of(
     format!(in alloc; "line {line}, column {column}: {kind}: {words}{found}\n")
 }
 
+fn is_atom_byte(b: u8) -> bool
+    ensures { result ≡ is_atom_byte b }
+{
+    !matches!(b, b'\n' | b' ' | b'(' | b')' | b';')
+}
+
+fn atom_len(bytes: &[u8]) -> usize
+    ensures value { result ≡ prefix_len is_atom_byte bytes.now }
+    ensures bound { result ≤ length bytes.now }
+{
+    bytes.iter().take_while(|b| is_atom_byte(**b)).count()
+}
+
 /// What stands first in these bytes, as far as it is short: a parenthesis or an atom.
-pub(crate) fn standing(bytes: &[u8]) -> &str {
-    let len = match bytes {
-        [b'(' | b')', ..] => 1,
-        _ => bytes
-            .iter()
-            .take_while(|b| !matches!(**b, b'\n' | b' ' | b'(' | b')' | b';'))
-            .count(),
+#[tactic(auto, using(crate::proofs::InLine::parenthesis_in_line, crate::proofs::InLine::atom_in_line))]
+pub(crate) fn standing(bytes: &[u8]) -> &str
+    ensures { IsInLine result.now }
+{
+    let front = match bytes {
+        [b'(' | b')', ..] => &bytes[..1],
+        _ => &bytes[..atom_len(bytes).min(40)],
     };
-    let shown = len.min(40).min(bytes.len());
-    str::from_utf8(&bytes[..shown]).unwrap_or("")
+    str::from_utf8(front).unwrap_or("")
 }
 
 /// What is said of what stands at a place, with what may be meant.
+#[tactic(auto, using(crate::proofs::InLine::in_line_append))]
 fn found(
     alloc: Global,
     kind: ReadFault,
     bytes: &[u8],
     meant: Option<&str>,
-) -> Result<String, AllocError> {
+) -> Result<String, AllocError>
+    requires { IfSome meant (λ word. IsInLine word.now) }
+    ensures { IfOk result (λ text. IsInLine (string_bytes text)) }
+{
     if matches!(kind, ReadFault::TooLong | ReadFault::BadByte) {
         return String::from_str(alloc, "");
     }
@@ -76,7 +94,7 @@ fn found(
 /// The line that tells where and why a file is refused.
 pub(crate) fn told(alloc: Global, bytes: &[u8], refusal: &Refusal) -> Result<String, AllocError>
     requires { refusal.now.place ≤ length bytes.now }
-    ensures { IfOk result (λ text. Begins (head_of bytes.now refusal.entry.now) (string_bytes text)) }
+    ensures { IfOk result (λ text. IsLineWith (head_of bytes.now refusal.entry.now) (string_bytes text)) }
 {
     let at = position_of(bytes, refusal.place);
     let meant = meant(bytes, refusal.place, refusal.finding);

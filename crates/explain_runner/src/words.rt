@@ -1,10 +1,14 @@
 //! What is wrong with a file, in words.
 
+ghost use Rattle.explain_runner.specs.Telling.{IsInLine};
+
 use explain_files::wanted::{NameUse, NumberUse, Section, Wanted};
 use explain_files::{Finding, LimitFault, NameFault};
 
 /// What is wrong, in words.
-pub(crate) fn words(finding: Finding) -> &'static str {
+pub(crate) fn words(finding: Finding) -> &'static str
+    ensures { IsInLine result.now }
+{
     match finding {
         Finding::TooLong => "a file has at most 1048576 bytes",
         Finding::BadByte => "no file has this byte: a file has newlines and the bytes 32 to 126",
@@ -18,7 +22,9 @@ pub(crate) fn words(finding: Finding) -> &'static str {
     }
 }
 
-fn wanted_words(wanted: Wanted) -> &'static str {
+fn wanted_words(wanted: Wanted) -> &'static str
+    ensures { IsInLine result.now }
+{
     match wanted {
         Wanted::Declarations(part) => declaration_words(part),
         Wanted::Word(part) => word_words(part),
@@ -48,7 +54,9 @@ fn wanted_words(wanted: Wanted) -> &'static str {
     }
 }
 
-fn declaration_words(part: Section) -> &'static str {
+fn declaration_words(part: Section) -> &'static str
+    ensures { IsInLine result.now }
+{
     match part {
         Section::Start =>
             "a declaration is wanted: (var NAME INT), (tx NAME STMT EXPR), (run NAME INT), or first of all (stm 2)",
@@ -65,7 +73,9 @@ fn declaration_words(part: Section) -> &'static str {
     }
 }
 
-fn word_words(part: Section) -> &'static str {
+fn word_words(part: Section) -> &'static str
+    ensures { IsInLine result.now }
+{
     match part {
         Section::Start =>
             "var, tx, run or stm is wanted; always only in a file that begins with (stm 2)",
@@ -82,7 +92,9 @@ fn word_words(part: Section) -> &'static str {
     }
 }
 
-fn used_words(used: NameUse) -> &'static str {
+fn used_words(used: NameUse) -> &'static str
+    ensures { IsInLine result.now }
+{
     match used {
         NameUse::Variable => "the name of a variable is wanted",
         NameUse::Condition => "the name of a standing condition is wanted",
@@ -92,7 +104,9 @@ fn used_words(used: NameUse) -> &'static str {
     }
 }
 
-fn number_words(used: NumberUse) -> &'static str {
+fn number_words(used: NumberUse) -> &'static str
+    ensures { IsInLine result.now }
+{
     match used {
         NumberUse::Initial => "the initial value is wanted, an INT",
         NumberUse::Turns => "the number of turns is wanted, an INT",
@@ -100,7 +114,9 @@ fn number_words(used: NumberUse) -> &'static str {
     }
 }
 
-fn name_words(fault: NameFault) -> &'static str {
+fn name_words(fault: NameFault) -> &'static str
+    ensures { IsInLine result.now }
+{
     match fault {
         NameFault::Twice(NameUse::Condition) =>
             "a standing condition of this name is declared before",
@@ -111,7 +127,9 @@ fn name_words(fault: NameFault) -> &'static str {
     }
 }
 
-fn limit_words(fault: LimitFault) -> &'static str {
+fn limit_words(fault: LimitFault) -> &'static str
+    ensures { IsInLine result.now }
+{
     match fault {
         LimitFault::Number => "a number is one of -9223372036854775808 to 9223372036854775807",
         LimitFault::Turns => "a number of turns is one of 0 to 1000",

@@ -4,3 +4,4 @@ pub mod Rows
 pub mod Stops
 pub mod Walks
 pub mod Limits
+pub mod Shown

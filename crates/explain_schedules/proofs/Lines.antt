@@ -19,6 +19,8 @@ use Rattle.text_schedule_reader.specs.Reading.{task_verb, variable_verb, alone, 
 use Rattle.text_schedule_reader.proofs.Steps.{task_word_is, variable_word_is, move_takes}
 use Rattle.explain_schedules.specs.Words.{behind, behind_len, lacks, task_place, name_place}
 use Rattle.explain_schedules.specs.Lines.{Opens, Closes, StopsAt}
+use Rattle.explain_schedules.specs.declared.line.Wanted.{Wanted}
+use Rattle.explain_schedules.specs.declared.line.Wanted.TheVariants as want
 use Rattle.explain_schedules.proofs.Parts.{SpaceFirst, split, has_it, same_front}
 
 -- the kinds of verbs, which the reader keeps to itself
@@ -128,7 +130,7 @@ task_closes v verb word (b ∷ rest) h e first fails = (first, λ more. by_task 
 task_opens : (v : TaskVerb) (verb : List ℕ) → verb ≡ task_word v → Opens (verb ∷ [])
 task_opens v verb e = record { raw = OfTask v (codes "0"); is = is_zero; more = codes "0\n"; text = ap (λ (w : List ℕ). w ++ 32 ∷ codes "0\n") (sym e) }
 
-pub task_stops : (verb rest : List ℕ) → lacks 32 verb ≡ true → is_some (task_verb verb) ≡ true → number_in rest ≡ Err Shape → StopsAt (verb ++ 32 ∷ rest) (length verb + 1)
+pub task_stops : (verb rest : List ℕ) → lacks 32 verb ≡ true → is_some (task_verb verb) ≡ true → number_in rest ≡ Err Shape → StopsAt (verb ++ 32 ∷ rest) (length verb + 1) want.Task
 task_stops verb rest h k e =
     let v = given_some (task_verb verb) k in
     let s = split rest in
@@ -141,6 +143,7 @@ task_stops verb rest h k e =
       spaceless = s.spaceless;
       opens = task_opens v.0 verb (task_verb_is v.0 verb h v.1);
       closes = task_closes v.0 verb s.word s.rest h v.1 s.first (ap number_in (sym s.whole) ∙ e);
+      wanted_is = rw k refl;
     }
 
 -- ---- of a task and a variable
@@ -207,7 +210,7 @@ name_opens : (v : VariableVerb) (verb task : List ℕ) → verb ≡ variable_wor
 name_opens v verb task e h = record { raw = OfVariable v task (codes "a"); is = (h, is_letter); more = codes "a\n"; text = ap (λ (w : List ℕ). w ++ 32 ∷ (task ++ 32 ∷ codes "a\n")) (sym e) }
 
 -- no space stands behind the verb's own
-pub word_stops : (verb rest : List ℕ) → lacks 32 verb ≡ true → is_some (variable_verb verb) ≡ true → is_some (task_verb verb) ≡ false → lacks 32 rest ≡ true → StopsAt (verb ++ 32 ∷ rest) (length verb + 1)
+pub word_stops : (verb rest : List ℕ) → lacks 32 verb ≡ true → is_some (variable_verb verb) ≡ true → is_some (task_verb verb) ≡ false → lacks 32 rest ≡ true → StopsAt (verb ++ 32 ∷ rest) (length verb + 1) want.TaskAndVariable
 word_stops verb rest h k n l =
     let v = given_some (variable_verb verb) k in
     let none = given_none (task_verb verb) n in
@@ -220,10 +223,11 @@ word_stops verb rest h k n l =
       spaceless = l;
       opens = variable_opens v.0 verb (variable_verb_is v.0 verb h none v.1);
       closes = by_variable v.0 verb rest h none v.1 ∙ word_fails v.0 rest l;
+      wanted_is = rw n refl;
     }
 
 pub number_stops : (verb first second : List ℕ) → lacks 32 verb ≡ true → is_some (variable_verb verb) ≡ true → is_some (task_verb verb) ≡ false → lacks 32 first ≡ true → number_in first ≡ Err Shape
-    → StopsAt (verb ++ 32 ∷ (first ++ 32 ∷ second)) (length verb + 1)
+    → StopsAt (verb ++ 32 ∷ (first ++ 32 ∷ second)) (length verb + 1) want.TaskAndVariable
 number_stops verb first second h k n l e =
     let v = given_some (variable_verb verb) k in
     let none = given_none (task_verb verb) n in
@@ -236,6 +240,7 @@ number_stops verb first second h k n l e =
       spaceless = l;
       opens = variable_opens v.0 verb (variable_verb_is v.0 verb h none v.1);
       closes = (refl, λ more. by_variable v.0 verb (first ++ 32 ∷ more) h none v.1 ∙ number_fails v.0 first more l e);
+      wanted_is = rw n refl;
     }
 
 name_closes : (v : VariableVerb) (verb first task word rest : List ℕ) → lacks 32 verb ≡ true → task_verb verb ≡ None → variable_verb verb ≡ Some v → lacks 32 first ≡ true → number_in first ≡ Ok task
@@ -244,7 +249,7 @@ name_closes v verb first task word [] h n e l m space fails = by_variable v verb
 name_closes v verb first task word (b ∷ rest) h n e l m space fails = (space, λ more. by_variable v verb (first ++ 32 ∷ (word ++ 32 ∷ more)) h n e ∙ name_fails v first (word ++ 32 ∷ more) task l m (spaced_name word more))
 
 pub name_stops : (verb first second task : List ℕ) → lacks 32 verb ≡ true → is_some (variable_verb verb) ≡ true → is_some (task_verb verb) ≡ false → lacks 32 first ≡ true → number_in first ≡ Ok task → name_in second ≡ Err Shape
-    → StopsAt (verb ++ 32 ∷ (first ++ 32 ∷ second)) ((length verb + 1) + (length first + 1))
+    → StopsAt (verb ++ 32 ∷ (first ++ 32 ∷ second)) ((length verb + 1) + (length first + 1)) want.Variable
 name_stops verb first second task h k n l e f =
     let v = given_some (variable_verb verb) k in
     let none = given_none (task_verb verb) n in
@@ -259,6 +264,7 @@ name_stops verb first second task h k n l e f =
       spaceless = s.spaceless;
       opens = name_opens v.0 verb first (variable_verb_is v.0 verb h none v.1) (subst (λ (t : List ℕ). is_number t ≡ true) (sym number.same) number.passes);
       closes = name_closes v.0 verb first task s.word s.rest h none v.1 l e s.first (ap name_in (sym s.whole) ∙ f);
+      wanted_is = refl;
     }
 
 -- ---- of no verb
@@ -266,7 +272,7 @@ name_stops verb first second task h k n l e f =
 word_opens : Opens []
 word_opens = record { raw = Word; is = tt; more = codes "word\n"; text = refl }
 
-pub verb_stops : (verb rest : List ℕ) → lacks 32 verb ≡ true → is_some (task_verb verb) ≡ false → is_some (variable_verb verb) ≡ false → StopsAt (verb ++ 32 ∷ rest) 0
+pub verb_stops : (verb rest : List ℕ) → lacks 32 verb ≡ true → is_some (task_verb verb) ≡ false → is_some (variable_verb verb) ≡ false → StopsAt (verb ++ 32 ∷ rest) 0 want.Line
 verb_stops verb rest h n m =
     record {
       before = [];
@@ -277,6 +283,7 @@ verb_stops verb rest h n m =
       spaceless = h;
       opens = word_opens;
       closes = (refl, λ more. by_none verb more h (given_none (task_verb verb) n) (given_none (variable_verb verb) m));
+      wanted_is = refl;
     }
 
 alone_in : (text : List ℕ) → lacks 32 text ≡ true → move_in text ≡ alone text
@@ -287,7 +294,7 @@ pub alone_line : (text : List ℕ) → lacks 32 text ≡ true → bytes_eq text 
 unfolding alone
 alone_line text h e = alone_in text h ∙ rw e refl
 
-pub alone_stops : (text : List ℕ) → lacks 32 text ≡ true → bytes_eq text (codes "word") ≡ false → StopsAt text 0
+pub alone_stops : (text : List ℕ) → lacks 32 text ≡ true → bytes_eq text (codes "word") ≡ false → StopsAt text 0 want.Line
 unfolding alone
 alone_stops text h e =
     record {
@@ -299,6 +306,7 @@ alone_stops text h e =
       spaceless = h;
       opens = word_opens;
       closes = alone_in text h ∙ rw e refl;
+      wanted_is = refl;
     }
 
 -- ---- where a line stops being one, it is none
@@ -307,8 +315,8 @@ closes_fails : (before : List (List ℕ)) (word rest : List ℕ) → Closes befo
 closes_fails before word [] c = ap (λ (t : List ℕ). move_in (behind before t)) (append-nil word) ∙ c
 closes_fails before word (b ∷ rest) c = ap (λ (d : ℕ). move_in (behind before (word ++ d ∷ rest))) c.0 ∙ c.1 rest
 
-pub stops_fails : (text : List ℕ) (at : ℕ) → StopsAt text at → move_in text ≡ Err Shape
-stops_fails text at s = ap move_in s.text_is ∙ closes_fails s.before s.word s.rest s.closes
+pub stops_fails : (text : List ℕ) (at : ℕ) (wanted : Wanted) → StopsAt text at wanted → move_in text ≡ Err Shape
+stops_fails text at wanted s = ap move_in s.text_is ∙ closes_fails s.before s.word s.rest s.closes
 
 -- ---- where the words of a line stand
 

@@ -12,6 +12,8 @@ use Rattle.text_schedule_reader.proofs.Steps.{move_takes}
 use Rattle.explain_schedules.specs.Words.{behind, lacks, EndsWord, ending, IsParted}
 use Rattle.explain_schedules.specs.Lines.{Opens, Closes, StopsAt}
 use Rattle.explain_schedules.specs.Places.{Begins, IsWrongWord, IsStop}
+use Rattle.explain_schedules.specs.declared.line.Wanted.{Wanted}
+use Rattle.explain_schedules.specs.declared.line.Wanted.TheVariants as want
 use Rattle.explain_schedules.specs.Walking.{IsWalked}
 use Rattle.explain_schedules.proofs.Parts.{behind_more, behind_whole, behind_length, lacks_parts, word_bytes}
 use Rattle.explain_schedules.proofs.Rows.{behind_read, whole_read, begun_read, line_is, text_more, all_more}
@@ -84,8 +86,8 @@ opens_at front h before o =
 last_lacks : (sep : ℕ) (before : List (List ℕ)) (word : List ℕ) → lacks sep (behind before word) ≡ true → lacks sep word ≡ true
 last_lacks sep before word h = (lacks_parts sep (behind before []) word (ap (lacks sep) (sym (behind_whole before word)) ∙ h)).1
 
-pub wrong_word : (front : List Raw) → AllByRecursion IsRaw front → (text tail : List ℕ) (at : ℕ) → StopsAt text at → lacks 10 text ≡ true → NewlineFirst tail → IsWrongWord (raw_text front ++ (text ++ tail)) (length (raw_text front) + at)
-wrong_word front h text tail at s l t =
+pub wrong_word : (front : List Raw) → AllByRecursion IsRaw front → (text tail : List ℕ) (at : ℕ) (wanted : Wanted) → StopsAt text at wanted → lacks 10 text ≡ true → NewlineFirst tail → IsWrongWord (raw_text front ++ (text ++ tail)) (length (raw_text front) + at) wanted
+wrong_word front h text tail at wanted s l t =
     let lack : lacks 10 (behind s.before (s.word ++ s.rest)) ≡ true = ap (lacks 10) (sym s.text_is) ∙ l in
     record {
       lines = front;
@@ -98,6 +100,7 @@ wrong_word front h text tail at s l t =
       ends = ends_at s.rest tail s.before s.word t s.closes;
       opens = opens_at front h s.before s.opens;
       closed = closed_at front h s.before s.word s.rest tail lack t s.closes;
+      wanted_is = s.wanted_is;
     }
 
 -- ---- the walk
@@ -120,23 +123,24 @@ walked_length bytes rest w = ap length w.text ∙ length-append (raw_text w.befo
 same_gone : (a b c gone : ℕ) → c ≡ a + b → gone + b ≡ c → gone ≡ a
 same_gone a b c gone e f = omega arith
 
-pub stop_in_line : (bytes rest line after : List ℕ) (at gone : ℕ) → IsWalked bytes rest → IsParted 10 rest line after → StopsAt line at → gone + length rest ≡ length bytes → IsStop bytes (gone + at)
-stop_in_line bytes rest line after at gone w p s e =
+pub stop_in_line : (bytes rest line after : List ℕ) (at gone : ℕ) (wanted : Wanted) → IsWalked bytes rest → IsParted 10 rest line after → StopsAt line at wanted → gone + length rest ≡ length bytes → IsStop bytes (gone + at) wanted
+stop_in_line bytes rest line after at gone wanted w p s e =
     let n = same_gone (length (raw_text w.before)) (length rest) (length bytes) gone (walked_length bytes rest w) e in
     let text : raw_text w.before ++ (line ++ 10 ∷ after) ≡ bytes = ap (λ (t : List ℕ). raw_text w.before ++ t) (sym p.whole) ∙ sym w.text in
-    inl (subst (λ (b : List ℕ). IsWrongWord b (gone + at)) text (subst (λ (k : ℕ). IsWrongWord (raw_text w.before ++ (line ++ 10 ∷ after)) (k + at)) (sym n) (wrong_word w.before w.words line (10 ∷ after) at s p.lacking refl)))
+    inl (subst (λ (b : List ℕ). IsWrongWord b (gone + at) wanted) text (subst (λ (k : ℕ). IsWrongWord (raw_text w.before ++ (line ++ 10 ∷ after)) (k + at) wanted) (sym n) (wrong_word w.before w.words line (10 ∷ after) at wanted s p.lacking refl)))
 
-pub stop_in_last : (bytes rest : List ℕ) (at gone : ℕ) → IsWalked bytes rest → lacks 10 rest ≡ true → StopsAt rest at → gone + length rest ≡ length bytes → IsStop bytes (gone + at)
-stop_in_last bytes rest at gone w l s e =
+pub stop_in_last : (bytes rest : List ℕ) (at gone : ℕ) (wanted : Wanted) → IsWalked bytes rest → lacks 10 rest ≡ true → StopsAt rest at wanted → gone + length rest ≡ length bytes → IsStop bytes (gone + at) wanted
+stop_in_last bytes rest at gone wanted w l s e =
     let n = same_gone (length (raw_text w.before)) (length rest) (length bytes) gone (walked_length bytes rest w) e in
     let text : raw_text w.before ++ (rest ++ []) ≡ bytes = ap (λ (t : List ℕ). raw_text w.before ++ t) (append-nil rest) ∙ sym w.text in
-    inl (subst (λ (b : List ℕ). IsWrongWord b (gone + at)) text (subst (λ (k : ℕ). IsWrongWord (raw_text w.before ++ (rest ++ [])) (k + at)) (sym n) (wrong_word w.before w.words rest [] at s l tt)))
+    inl (subst (λ (b : List ℕ). IsWrongWord b (gone + at) wanted) text (subst (λ (k : ℕ). IsWrongWord (raw_text w.before ++ (rest ++ [])) (k + at) wanted) (sym n) (wrong_word w.before w.words rest [] at wanted s l tt)))
 
-pub stop_at_end : (bytes rest : List ℕ) (r : Raw) (place : ℕ) → IsWalked bytes rest → move_in rest ≡ Ok r → place ≡ length bytes → IsStop bytes place
+pub stop_at_end : (bytes rest : List ℕ) (r : Raw) (place : ℕ) → IsWalked bytes rest → move_in rest ≡ Ok r → place ≡ length bytes → IsStop bytes place want.Newline
 stop_at_end bytes rest r place w e at =
     inr (record {
       lines = w.before ++ r ∷ [];
       words = all_more IsRaw w.before r w.words (move_takes rest r e).is;
       text = text_more w.before r ∙ ap (λ (t : List ℕ). raw_text w.before ++ t) (line_is rest r e) ∙ sym (append_assoc (raw_text w.before) rest (10 ∷ [])) ∙ ap (λ (t : List ℕ). t ++ 10 ∷ []) (sym w.text);
       at = at;
+      wanted_is = refl;
     })

@@ -13,6 +13,7 @@ use Rattle.text_schedule_reader.proofs.Steps.{move_takes}
 use Rattle.text_schedule_reader.proofs.Written.{written_is_read}
 use Rattle.explain_schedules.specs.Words.{lacks, IsParted, name_place, task_place}
 use Rattle.explain_schedules.specs.Lines.{StopsAt}
+use Rattle.explain_schedules.specs.declared.line.Wanted.{Wanted}
 use Rattle.explain_schedules.specs.Places.{IsFirstLine}
 use Rattle.explain_schedules.specs.declared.judging.Judged.{Judged}
 use Rattle.explain_schedules.specs.declared.judging.Judged.TheVariants.{Variables, Tasks}
@@ -43,11 +44,11 @@ next right bytes rest line after g p =
     record { raw = a.0; others = b.0; line_read = a.1; read = b.1; are = sym (ok_is (a.0 ∷ b.0) g.later b.2) }
 
 -- each line is read
-pub is_read : (right : Raw → Bool) (bytes rest line after : List ℕ) (at : ℕ) → IsGoing right bytes rest → IsParted 10 rest line after → StopsAt line at → ⊥
-is_read right bytes rest line after at g p s =
+pub is_read : (right : Raw → Bool) (bytes rest line after : List ℕ) (at : ℕ) (wanted : Wanted) → IsGoing right bytes rest → IsParted 10 rest line after → StopsAt line at wanted → ⊥
+is_read right bytes rest line after at wanted g p s =
     let n = next right bytes rest line after g p in
     let is = n.line_read in
-    let none = stops_fails line at s in
+    let none = stops_fails line at wanted s in
     cc
 
 same_raw : (text : List ℕ) (a b : Raw) → move_in text ≡ Ok a → move_in text ≡ Ok b → a ≡ b

@@ -4,35 +4,37 @@ use Rattle.std.specs.List.{list_all}
 use Rattle.txn_programs.specs.declared.moves.Move.{Move}
 use Rattle.txn_programs.specs.Listing.{Listing}
 use Rattle.text_words.specs.declared.fault.ReadFault.{ReadFault}
-use Rattle.text_words.specs.declared.fault.ReadFault.TheVariants.{TooLong, BadByte, Shape, Name, Limit, Memory, Broken}
+use Rattle.text_words.specs.declared.fault.ReadFault.TheVariants.{TooLong, BadByte, Shape, Name, Limit}
 use Rattle.text_schedule_reader.specs.Raw.{Raw}
 use Rattle.text_schedule_reader.specs.Resolving.{is_known}
 use Rattle.text_schedule_reader.specs.Schedules.{IsSchedule, IsFirst, max_len}
 use Rattle.explain_files.specs.Explaining.{IsBadByte}
 use Rattle.explain_schedules.specs.Words.{name_place, task_place}
 use Rattle.explain_schedules.specs.Places.{IsStop, IsFirstLine, names_a_task}
+use Rattle.explain_schedules.specs.declared.explaining.Finding.{Finding}
+use Rattle.explain_schedules.specs.declared.explaining.Finding.TheVariants as found
 use Rattle.explain_schedules.specs.declared.explaining.Refusal.{Refusal}
 use Rattle.explain_schedules.specs.declared.explaining.Explanation.{Explanation}
 use Rattle.explain_schedules.specs.declared.explaining.Explanation.TheVariants.{Good, Refused}
 
--- by the kind of fault: its place
-abbrev pub IsPlaceOf : Listing → ReadFault → List ℕ → ℕ → Type 0
+-- by the kind of fault and by what is found at the place: what is so there
+abbrev pub IsPlaced : Listing → ReadFault → List ℕ → ℕ → Finding → Type 0
 -- the first byte that no schedule has room for
-IsPlaceOf l TooLong bytes place = (place ≡ max_len) × (place < length bytes)
+IsPlaced l TooLong bytes place found.TooLong = (place ≡ max_len) × (place < length bytes)
 -- the first byte that no schedule may have
-IsPlaceOf l BadByte bytes place = IsBadByte bytes place
-IsPlaceOf l Shape bytes place = IsStop bytes place
+IsPlaced l BadByte bytes place found.BadByte = IsBadByte bytes place
+IsPlaced l Shape bytes place (found.Unwanted wanted) = IsStop bytes place wanted
 -- the name in the first line whose variable is not known
-IsPlaceOf l Name bytes place = IsFirstLine (is_known l) name_place bytes place
+IsPlaced l Name bytes place found.NoVariable = IsFirstLine (is_known l) name_place bytes place
 -- the number in the first line whose task there is not
-IsPlaceOf l Limit bytes place = IsFirstLine (names_a_task l) task_place bytes place
-IsPlaceOf l Memory bytes place = ⊥
-IsPlaceOf l Broken bytes place = ⊥
+IsPlaced l Limit bytes place found.NoTask = IsFirstLine (names_a_task l) task_place bytes place
+-- nothing else is found
+IsPlaced l kind bytes place finding = ⊥
 
--- why the bytes are refused: the first kind of fault, and its place
+-- why the bytes are refused: the first kind of fault, its place, and what is found there
 pub record IsRefused (l : Listing) (bytes : List ℕ) (refusal : Refusal) : Type 0 where
   pub kind : IsFirst l bytes refusal.kind
-  pub place : IsPlaceOf l refusal.kind bytes refusal.place
+  pub placed : IsPlaced l refusal.kind bytes refusal.place refusal.finding
   pub bound : refusal.place ≤ length bytes
 
 -- these are the text of moves, or this is why they are of none

@@ -5,8 +5,9 @@ use Rattle.text_words.specs.declared.fault.ReadFault.TheVariants.{Shape}
 use Rattle.text_schedule_reader.specs.Raw.{Raw, raw_words, IsRaw}
 use Rattle.text_schedule_reader.specs.Raw as raw
 use Rattle.text_schedule_reader.specs.Reading.{move_in}
-use Rattle.explain_schedules.specs.Words.{behind, behind_len, lacks, task_place, name_place}
+use Rattle.explain_schedules.specs.Words.{behind, behind_len, lacks, task_place, name_place, wanted_behind}
 use Rattle.explain_schedules.specs.declared.line.Line.{Line}
+use Rattle.explain_schedules.specs.declared.line.Wanted.{Wanted}
 use Rattle.explain_schedules.specs.declared.line.Line.TheVariants as code
 
 -- the code's line says what the line of a schedule says, and where its words stand
@@ -40,8 +41,8 @@ abbrev pub Closes : List (List ℕ) → List ℕ → List ℕ → Type 0
 Closes before word [] = move_in (behind before word) ≡ Err Shape
 Closes before word (b ∷ rest) = (b ≡ 32) × ((more : List ℕ) → move_in (behind before (word ++ (32 ∷ more))) ≡ Err Shape)
 
--- the word at the place is none of a line's there
-pub record StopsAt (text : List ℕ) (at : ℕ) : Type 0 where
+-- the word at the place is none of a line's there, and this is wanted
+pub record StopsAt (text : List ℕ) (at : ℕ) (wanted : Wanted) : Type 0 where
   pub before : List (List ℕ)
   pub word : List ℕ
   pub rest : List ℕ
@@ -50,3 +51,4 @@ pub record StopsAt (text : List ℕ) (at : ℕ) : Type 0 where
   pub spaceless : lacks 32 word ≡ true
   pub opens : Opens before
   pub closes : Closes before word rest
+  pub wanted_is : wanted ≡ wanted_behind before

@@ -5,7 +5,9 @@ use Rattle.std.specs.Str.Parse.{digits_value}
 use Rattle.txn_programs.specs.Listing.{Listing, tasks}
 use Rattle.text_schedule_reader.specs.Raw.{Raw, OfTask, OfVariable, Word, raw_text, IsRaw}
 use Rattle.text_schedule_reader.specs.Schedules.{IsWritten}
-use Rattle.explain_schedules.specs.Words.{behind, behind_len, is_word_byte, EndsWord, ending}
+use Rattle.explain_schedules.specs.Words.{behind, behind_len, is_word_byte, EndsWord, ending, wanted_behind}
+use Rattle.explain_schedules.specs.declared.line.Wanted.{Wanted}
+use Rattle.explain_schedules.specs.declared.line.Wanted.TheVariants as want
 
 -- some schedule, however long it is and whatever it names, begins with the bytes
 pub record Begins (bytes : List ℕ) : Type 0 where
@@ -15,8 +17,8 @@ pub record Begins (bytes : List ℕ) : Type 0 where
   pub text : raw_text raws ≡ bytes ++ rest
 
 -- the word at the place is none of a schedule's there: some schedule begins with the bytes before it,
--- and none with these, the word, and the space or the newline that ends it
-pub record IsWrongWord (bytes : List ℕ) (place : ℕ) : Type 0 where
+-- and none with these, the word, and the space or the newline that ends it; and this is wanted
+pub record IsWrongWord (bytes : List ℕ) (place : ℕ) (wanted : Wanted) : Type 0 where
   -- the lines before it, the words before it in its line, the word, and what stands behind it
   pub lines : List Raw
   pub before : List (List ℕ)
@@ -28,17 +30,19 @@ pub record IsWrongWord (bytes : List ℕ) (place : ℕ) : Type 0 where
   pub ends : EndsWord rest
   pub opens : Begins (raw_text lines ++ behind before [])
   pub closed : Begins (raw_text lines ++ behind before (word ++ ending rest)) → ⊥
+  pub wanted_is : wanted ≡ wanted_behind before
 
--- nothing is missing but the newline behind the last line, and the place is the end
-pub record IsUnended (bytes : List ℕ) (place : ℕ) : Type 0 where
+-- nothing is missing but the newline behind the last line, which is wanted, and the place is the end
+pub record IsUnended (bytes : List ℕ) (place : ℕ) (wanted : Wanted) : Type 0 where
   pub lines : List Raw
   pub words : AllByRecursion IsRaw lines
   pub text : raw_text lines ≡ bytes ++ codes "\n"
   pub at : place ≡ length bytes
+  pub wanted_is : wanted ≡ want.Newline
 
--- where bytes that are written as no schedule stop being the beginning of one
-abbrev pub IsStop : List ℕ → ℕ → Type 0
-IsStop bytes place = IsWrongWord bytes place ⊎ IsUnended bytes place
+-- where bytes that are written as no schedule stop being the beginning of one, and what is wanted there
+abbrev pub IsStop : List ℕ → ℕ → Wanted → Type 0
+IsStop bytes place wanted = IsWrongWord bytes place wanted ⊎ IsUnended bytes place wanted
 
 -- the first line, of bytes that are written as a schedule, of which this is not so, and the place of a word in it
 pub record IsFirstLine (right : Raw → Bool) (word_place : Raw → ℕ) (bytes : List ℕ) (place : ℕ) : Type 0 where

@@ -9,7 +9,7 @@ use Rattle.text_schedule_reader.specs.Schedules.{IsSchedule}
 use Rattle.run_faults.specs.declared.fault.RunFault.{RunFault}
 use Rattle.run_faults.specs.declared.fault.RunFault.TheVariants.{Input, Memory, Output, Schedule}
 use Rattle.explain_files.specs.Places.{line_at, column_at}
-use Rattle.explain_runner.specs.Telling.{Begins, head, kind_name}
+use Rattle.explain_runner.specs.Telling.{IsLineWith, head, kind_name}
 use Rattle.explain_runner.specs.declared.bytes.Judgement.{Judgement}
 use Rattle.explain_runner.specs.declared.bytes.Judgement.TheVariants.{Good, Refused}
 use Rattle.explain_schedules.specs.Explaining.{IsRefused}
@@ -19,12 +19,12 @@ use Rattle.explain_schedules.specs.declared.explaining.Refusal.{Refusal}
 abbrev pub head_of : List ℕ → Refusal → List ℕ
 head_of bytes refusal = head (line_at bytes refusal.place) (column_at bytes refusal.place) (kind_name refusal.kind)
 
--- the text of a refusal, whose kind this is
+-- the text of a refusal, whose kind this is: one line
 pub record IsRefusedAs (l : Listing) (bytes : List ℕ) (kind : ReadFault) (text : List ℕ) : Type 0 where
   pub refusal : Refusal
   pub refused : IsRefused l bytes refusal
   pub is : refusal.kind ≡ kind
-  pub begins : Begins (head_of bytes refusal) text
+  pub line : IsLineWith (head_of bytes refusal) text
 
 abbrev pub IsTextOf : Listing → List ℕ → Judgement → List ℕ → Type 0
 IsTextOf l bytes Good text = (moves : List Move) × (IsSchedule l bytes moves × (text ≡ codes "good\n"))

@@ -1,8 +1,11 @@
 -- The words of a line, and the bytes that stand round them.
-use Rattle.std.specs.Prelude.{◌≡◌, ◌==◌, ℕ, Bool, true, not, List, [], ◌∷◌, ◌++◌, length, codes}
+use Rattle.std.specs.Prelude.{◌≡◌, ◌==◌, ℕ, Bool, true, not, is_some, if◌then◌else◌, List, [], ◌∷◌, ◌++◌, length, codes}
 use Rattle.std.specs.List.{list_all}
 use Rattle.text_words.specs.Bytes.{is_blank}
 use Rattle.text_schedule_reader.specs.Raw.{Raw, OfTask, OfVariable, Word, task_word, variable_word}
+use Rattle.text_schedule_reader.specs.Reading.{task_verb}
+use Rattle.explain_schedules.specs.declared.line.Wanted.{Wanted}
+use Rattle.explain_schedules.specs.declared.line.Wanted.TheVariants as want
 
 -- these words with a space behind each, and then the bytes
 abbrev pub behind : List (List ℕ) → List ℕ → List ℕ
@@ -35,6 +38,12 @@ EndsWord (b ∷ rest) = is_blank b ≡ true
 abbrev pub ending : List ℕ → List ℕ
 ending [] = codes "\n"
 ending (b ∷ rest) = b ∷ []
+
+-- what is wanted behind these words of a line, each with a space behind it
+abbrev pub wanted_behind : List (List ℕ) → Wanted
+wanted_behind [] = want.Line
+wanted_behind (verb ∷ []) = if is_some (task_verb verb) then want.Task else want.TaskAndVariable
+wanted_behind (verb ∷ task ∷ more) = want.Variable
 
 -- where in its line the number of the task begins
 abbrev pub task_place : Raw → ℕ

@@ -2,7 +2,7 @@
 
 ghost use Rattle.std.specs.Prelude.{◌≡◌, ◌≤◌, IfOk, length};
 ghost use Rattle.text_schedule_reader.specs.Schedules.{IsFirst};
-ghost use Rattle.explain_schedules.specs.Explaining.{IsPlaceOf, IsExplained};
+ghost use Rattle.explain_schedules.specs.Explaining.{IsPlaced, IsExplained};
 
 use crate::form::first_stop;
 use crate::judging::{Judged, first_wrong};
@@ -48,7 +48,7 @@ pub enum Explanation {
 /// The place of the first fault of a schedule, whose kind this is.
 fn place_of(catalogue: &Catalogue, bytes: &[u8], kind: ReadFault) -> (usize, Finding)
     requires { IsFirst catalogue.now bytes.now kind }
-    ensures place { IsPlaceOf catalogue.now kind bytes.now result.0 }
+    ensures placed { IsPlaced catalogue.now kind bytes.now result.0 result.1 }
     ensures bound { result.0 ≤ length bytes.now }
 {
     catalogue.rules();

@@ -25,7 +25,7 @@ pub(crate) fn gone(bytes: &[u8], rest: &[u8]) -> usize
 /// The place of the first word that is none of a schedule's there, or of the end, where what is
 /// missing there is a newline.
 pub(crate) fn first_stop(bytes: &[u8]) -> Stop
-    ensures place { IsStop bytes.now result.place }
+    ensures stop { IsStop bytes.now result.place result.wanted }
     ensures bound { result.place ≤ length bytes.now }
 {
     let mut rest = bytes;
@@ -45,7 +45,7 @@ pub(crate) fn first_stop(bytes: &[u8]) -> Stop
 fn last_stop(bytes: &[u8], rest: &[u8]) -> Stop
     requires walked { IsWalked bytes.now rest.now }
     requires ends { lacks 10 rest.now ≡ true }
-    ensures place { IsStop bytes.now result.place }
+    ensures stop { IsStop bytes.now result.place result.wanted }
     ensures bound { result.place ≤ length bytes.now }
 {
     match line_of(rest) {

@@ -90,7 +90,7 @@ pub(crate) fn split_once(bytes: &[u8], sep: u8) -> Option<(&[u8], &[u8])>
 fn alone(text: &[u8]) -> Result<Line<'_>, WrongWord>
     requires { lacks 32 text.now ≡ true }
     ensures line { IfOk result (λ said. IsLine text.now said) }
-    ensures stop { IfErr result (λ wrong. StopsAt text.now wrong.at) }
+    ensures stop { IfErr result (λ wrong. StopsAt text.now wrong.at wrong.wanted) }
     ensures bound { IfErr result (λ wrong. wrong.at ≤ length text.now) }
 {
     if is_word(text, "word") {
@@ -108,7 +108,7 @@ fn of_task<'a>(verb: &[u8], rest: &'a [u8]) -> Result<Line<'a>, WrongWord>
     requires spaceless { lacks 32 verb.now ≡ true }
     requires verb { is_some (task_verb verb.now) ≡ true }
     ensures line { IfOk result (λ said. IsLine (verb.now ++ (32 ∷ rest.now)) said) }
-    ensures stop { IfErr result (λ wrong. StopsAt (verb.now ++ (32 ∷ rest.now)) wrong.at) }
+    ensures stop { IfErr result (λ wrong. StopsAt (verb.now ++ (32 ∷ rest.now)) wrong.at wrong.wanted) }
     ensures bound { IfErr result (λ wrong. wrong.at ≤ length verb.now + 1) }
 {
     let at = verb.len() + 1;
@@ -128,7 +128,7 @@ fn of_variable<'a>(verb: &[u8], rest: &'a [u8]) -> Result<Line<'a>, WrongWord>
     requires other { is_some (task_verb verb.now) ≡ false }
     requires room { length verb.now + (1 + length rest.now) ≤ usize.MAX }
     ensures line { IfOk result (λ said. IsLine (verb.now ++ (32 ∷ rest.now)) said) }
-    ensures stop { IfErr result (λ wrong. StopsAt (verb.now ++ (32 ∷ rest.now)) wrong.at) }
+    ensures stop { IfErr result (λ wrong. StopsAt (verb.now ++ (32 ∷ rest.now)) wrong.at wrong.wanted) }
     ensures bound { IfErr result (λ wrong. wrong.at ≤ length verb.now + (1 + length rest.now)) }
 {
     let at = verb.len() + 1;
@@ -155,7 +155,7 @@ fn named<'a>(
     requires first { lacks 32 first.now ≡ true }
     requires room { at + (length first.now + (1 + length second.now)) ≤ usize.MAX }
     ensures line { IfOk result (λ said. IsLine (verb.now ++ (32 ∷ (first.now ++ (32 ∷ second.now)))) said) }
-    ensures stop { IfErr result (λ wrong. StopsAt (verb.now ++ (32 ∷ (first.now ++ (32 ∷ second.now)))) wrong.at) }
+    ensures stop { IfErr result (λ wrong. StopsAt (verb.now ++ (32 ∷ (first.now ++ (32 ∷ second.now)))) wrong.at wrong.wanted) }
     ensures bound { IfErr result (λ wrong. wrong.at ≤ at + (length first.now + 1)) }
 {
     let Ok(task) = number_in(first) else {
@@ -179,7 +179,7 @@ fn of_verb<'a>(verb: &[u8], rest: &'a [u8]) -> Result<Line<'a>, WrongWord>
     requires spaceless { lacks 32 verb.now ≡ true }
     requires room { length verb.now + (1 + length rest.now) ≤ usize.MAX }
     ensures line { IfOk result (λ said. IsLine (verb.now ++ (32 ∷ rest.now)) said) }
-    ensures stop { IfErr result (λ wrong. StopsAt (verb.now ++ (32 ∷ rest.now)) wrong.at) }
+    ensures stop { IfErr result (λ wrong. StopsAt (verb.now ++ (32 ∷ rest.now)) wrong.at wrong.wanted) }
     ensures bound { IfErr result (λ wrong. wrong.at ≤ length verb.now + (1 + length rest.now)) }
 {
     if is_task_verb(verb) {
@@ -197,7 +197,7 @@ fn of_verb<'a>(verb: &[u8], rest: &'a [u8]) -> Result<Line<'a>, WrongWord>
 /// What a line says, without its newline, or its first word that is none of a line's there.
 pub(crate) fn line_of(text: &[u8]) -> Result<Line<'_>, WrongWord>
     ensures line { IfOk result (λ said. IsLine text.now said) }
-    ensures stop { IfErr result (λ wrong. StopsAt text.now wrong.at) }
+    ensures stop { IfErr result (λ wrong. StopsAt text.now wrong.at wrong.wanted) }
     ensures bound { IfErr result (λ wrong. wrong.at ≤ length text.now) }
 {
     match split_once(text, b' ') {

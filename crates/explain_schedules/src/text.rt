@@ -1,7 +1,9 @@
 //! The line that tells where and why a schedule is refused.
 
 ghost use Rattle.std.specs.Prelude.{◌≡◌, ◌≤◌, length, IfOk, string_bytes};
-ghost use Rattle.explain_runner.specs.Telling.{Begins};
+ghost use Rattle.std.specs.List.{prefix_len};
+ghost use Rattle.text_words.specs.Bytes.{is_in_line};
+ghost use Rattle.explain_runner.specs.Telling.{IsInLine, IsLineWith};
 ghost use Rattle.explain_schedules.specs.Telling.{head_of};
 
 use crate::explaining::{Finding, Refusal};
@@ -12,20 +14,32 @@ use std::alloc::{AllocError, Global};
 use std::str;
 use txn::Catalogue;
 
+fn line_len(bytes: &[u8]) -> usize
+    ensures value { result ≡ prefix_len is_in_line bytes.now }
+    ensures bound { result ≤ length bytes.now }
+{
+    bytes.iter().take_while(|b| **b != b'\n').count()
+}
+
 /// What stands first in these bytes, up to the end of the line, as far as it is short.
-fn standing(bytes: &[u8]) -> &str {
-    let len = bytes.iter().take_while(|b| **b != b'\n').count();
-    let shown = len.min(40).min(bytes.len());
-    str::from_utf8(&bytes[..shown]).unwrap_or("")
+#[tactic(auto, using(explain_runner::proofs::InLine::line_in_line))]
+fn standing(bytes: &[u8]) -> &str
+    ensures { IsInLine result.now }
+{
+    let front = &bytes[..line_len(bytes).min(40)];
+    str::from_utf8(front).unwrap_or("")
 }
 
 /// What is said of what stands at a place.
+#[tactic(auto, using(explain_runner::proofs::InLine::in_line_append, crate::proofs::Shown::decimal_in_line))]
 fn found(
     alloc: Global,
     catalogue: &Catalogue,
     finding: Finding,
     bytes: &[u8],
-) -> Result<String, AllocError> {
+) -> Result<String, AllocError>
+    ensures { IfOk result (λ text. IsInLine (string_bytes text)) }
+{
     let [first, ..] = bytes else {
         return String::from_str(alloc, "; here the schedule ends");
     };
@@ -54,7 +68,7 @@ pub(crate) fn told(
     refusal: &Refusal,
 ) -> Result<String, AllocError>
     requires { refusal.now.place ≤ length bytes.now }
-    ensures { IfOk result (λ text. Begins (head_of bytes.now refusal.entry.now) (string_bytes text)) }
+    ensures { IfOk result (λ text. IsLineWith (head_of bytes.now refusal.entry.now) (string_bytes text)) }
 {
     let at = position_of(bytes, refusal.place);
     let found = found(alloc, catalogue, refusal.finding, &bytes[refusal.place..])?;

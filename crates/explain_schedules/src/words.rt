@@ -1,10 +1,14 @@
 //! What is wrong with a schedule, in words.
 
+ghost use Rattle.explain_runner.specs.Telling.{IsInLine};
+
 use crate::explaining::Finding;
 use crate::line::Wanted;
 
 /// What is wrong, in words.
-pub(crate) fn words(finding: Finding) -> &'static str {
+pub(crate) fn words(finding: Finding) -> &'static str
+    ensures { IsInLine result.now }
+{
     match finding {
         Finding::TooLong => "a schedule has at most 1048576 bytes",
         Finding::BadByte =>
@@ -15,7 +19,9 @@ pub(crate) fn words(finding: Finding) -> &'static str {
     }
 }
 
-fn wanted_words(wanted: Wanted) -> &'static str {
+fn wanted_words(wanted: Wanted) -> &'static str
+    ensures { IsInLine result.now }
+{
     match wanted {
         Wanted::Line =>
             "a line is wanted: begin A, read A X, commit A, drop A, first A X, value A, second A, ask A, word, again A or move A",

@@ -6,7 +6,14 @@ use std::alloc::Global;
 use std::process::Abort;
 use text_words::ReadFault;
 
-fn expect_line(rt: &(impl Abort + Eprint), alloc: Global, file: &str, line: &str, told: Judgement) {
+/// The file is told so, with this line and nothing else.
+pub(crate) fn expect_line(
+    rt: &(impl Abort + Eprint),
+    alloc: Global,
+    file: &str,
+    line: &str,
+    told: Judgement,
+) {
     let mut out = Out::new(Vec::new(alloc));
     let found = explain_bytes(alloc, file.as_bytes(), &mut out).ok();
     let is_so = found == Some(told) && out.into_inner().as_slice() == line.as_bytes();
@@ -63,7 +70,7 @@ fn names_and_bytes(rt: HostRuntime) {
 }
 
 /// A file, and the line that is told of it.
-type Case = (&'static str, &'static str);
+pub(crate) type Case = (&'static str, &'static str);
 
 const NEAR_NAMES: &[Case] = &[
     (
@@ -118,7 +125,13 @@ const LIMITS: &[Case] = &[
     ),
 ];
 
-fn expect_lines(rt: &(impl Abort + Eprint), alloc: Global, cases: &[Case], kind: ReadFault) {
+/// Each of these files is refused for a fault of this kind, with its line.
+pub(crate) fn expect_lines(
+    rt: &(impl Abort + Eprint),
+    alloc: Global,
+    cases: &[Case],
+    kind: ReadFault,
+) {
     for &(file, line) in cases {
         expect_line(rt, alloc, file, line, Judgement::Refused(kind));
     }

@@ -2,6 +2,10 @@
 #![tactic(auto)]
 
 #[cfg(test)]
+mod chapters;
+#[cfg(test)]
+mod file_deep;
+#[cfg(test)]
 mod file_kinds;
 #[cfg(test)]
 mod file_lines;
@@ -11,6 +15,8 @@ mod file_long;
 mod file_places;
 #[cfg(test)]
 mod file_shapes;
+#[cfg(test)]
+mod file_texts;
 #[cfg(test)]
 mod report_lines;
 #[cfg(test)]

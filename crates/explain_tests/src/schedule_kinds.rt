@@ -66,6 +66,12 @@ const SHAPES: &[Case] = &[
     ),
     ("begin 0 x\n", "line 1, column 7", TASK, "; here stands 0 x"),
     (
+        "begin 1234567890123456789012345678901234567890123x\n",
+        "line 1, column 7",
+        TASK,
+        "; here stands 1234567890123456789012345678901234567890",
+    ),
+    (
         "word\ndrop -1\n",
         "line 2, column 6",
         TASK,

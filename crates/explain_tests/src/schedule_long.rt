@@ -1,7 +1,9 @@
 //! Schedules of the greatest length, and longer ones.
 
 use explain_files::position_of;
-use explain_schedules::{Explanation, explain};
+use explain_runner::Judgement;
+use explain_schedules::{Explanation, explain, explain_bytes};
+use run_sink::Out;
 use std::alloc::{AllocError, Global};
 use std::test::Fail;
 use txn_text::{ReadFault, read_file};
@@ -60,6 +62,18 @@ fn last_byte_that_no_schedule_has(rt: HostRuntime) -> Result<(), Fail> {
 #[test]
 fn one_byte_more(rt: HostRuntime) -> Result<(), Fail> {
     assert!(rt; refused_at(rt.alloc(), 209_715, "w\n", ReadFault::TooLong, 2)?);
+    Ok(())
+}
+
+#[test]
+fn the_line_of_one_byte_more(rt: HostRuntime) -> Result<(), Fail> {
+    let alloc = rt.alloc();
+    let bytes = behind_words(alloc, 209_715, "w\n")?;
+    let mut out = Out::new(Vec::new(alloc));
+    let told = explain_bytes(alloc, b"(var x 5)", bytes.as_slice(), &mut out).ok();
+    assert!(rt; told == Some(Judgement::Refused(ReadFault::TooLong)));
+    let line = "line 209716, column 2: F1 TooLong: a schedule has at most 1048576 bytes\n";
+    assert!(rt; out.into_inner().as_slice() == line.as_bytes());
     Ok(())
 }
 

@@ -1,23 +1,67 @@
 //! A store of one's own: a worker tries a task with no lock, and the store, which a lock would guard, is brought the end.
 
-ghost use Rattle.std.specs.Prelude.{◌≡◌, ◌≤◌};
+ghost use Rattle.std.specs.Prelude.{◌≡◌, ◌<◌, ◌≤◌, length};
 
-use std::alloc::Global;
+use std::alloc::{AllocError, Global};
 use std::process::Abort;
 use stm_library::{
-    Brought, Finish, Observed, Outcome, Program, ReadFault, Serial, Store, Tried, TxId, Worker,
+    Brought, Entered, Job, Observed, Outcome, Program, ReadFault, Served, Store, Tried, TxId,
+    Worker,
 };
 
-/// One task: a try with no lock, and its end under the host's lock.
-fn step(store: &mut Store, worker: &mut Worker) -> Option<Brought>
+/// How often a task is tried with no lock before it has its turn under the lock.
+const TRIES: u32 = 8;
+
+/// Tries a task that was taken, with no lock, and brings each end under the host's lock. Where others changed
+/// meanwhile what it read it is tried again, and after some tries it has its turn under the lock.
+fn serve(store: &mut Store, worker: &mut Worker, job: Job) -> Served
+    requires same { worker.old.catalogue.now ≡ store.old.catalogue.now }
+    requires known { job.tx.0 < length worker.old.catalogue.now.transactions }
+    ensures { worker.new.catalogue.now ≡ store.new.catalogue.now }
+{
+    for _ in 0..TRIES {
+        if worker.try_job(job) != Tried::Ended {
+            continue;
+        }
+        match store.finish(worker) {
+            Brought::Committed(entered) => return Served::Committed(entered),
+            Brought::Parked => return Served::Parked,
+            Brought::Stale => {}
+            // Somebody gave it up, or a chapter has ended: it is not this thread's any more.
+            _ => return Served::NotRunning,
+        }
+    }
+    store.serial(job.ticket)
+}
+
+/// What a host prints of a task that was entered.
+pub(crate) fn told(alloc: Global, entered: Entered) -> Result<String, AllocError> {
+    match entered.outcome {
+        Outcome::Returned(value) => format!(in alloc; "{}: returned {value}", entered.number),
+        Outcome::Thrown(fault) => format!(in alloc; "{}: threw {fault:?}", entered.number),
+        Outcome::Retries => String::from_str(alloc, "never entered"),
+    }
+}
+
+/// What a host prints of a task that was served.
+fn line(alloc: Global, served: Served) -> Result<String, AllocError> {
+    match served {
+        Served::Committed(entered) => told(alloc, entered),
+        Served::Parked => String::from_str(alloc, "waits"),
+        Served::Abandoned => String::from_str(alloc, "given up for want of memory"),
+        Served::NotRunning => String::from_str(alloc, "not ours"),
+    }
+}
+
+/// The next ready task is served: what a host prints of it, or `None` where none is ready.
+fn step(alloc: Global, store: &mut Store, worker: &mut Worker) -> Result<Option<String>, AllocError>
     requires { worker.old.catalogue.now ≡ store.old.catalogue.now }
     ensures { worker.new.catalogue.now ≡ store.new.catalogue.now }
 {
-    let job = store.take()?;
-    match worker.try_job(job) {
-        Tried::Ended => Some(store.finish(worker)),
-        Tried::Stale | Tried::Memory => None,
-    }
+    let Some(job) = store.take() else {
+        return Ok(None);
+    };
+    Ok(Some(line(alloc, serve(store, worker, job))?))
 }
 
 const FILE: &str =
@@ -46,14 +90,21 @@ fn hired(rt: &impl Abort, store: &mut Store) -> Worker
     }
 }
 
-/// One task commits, one is parked, and there is no third.
-fn two_end(rt: &impl Abort, store: &mut Store, worker: &mut Worker)
+/// The next step prints this.
+fn prints(
+    rt: &(impl Abort + Eprint),
+    alloc: Global,
+    store: &mut Store,
+    worker: &mut Worker,
+    wanted: &str,
+)
     requires { worker.old.catalogue.now ≡ store.old.catalogue.now }
+    ensures { worker.new.catalogue.now ≡ store.new.catalogue.now }
 {
-    let committed = Brought::Finished(Finish::Committed(1));
-    assert!(rt; step(store, worker) == Some(committed));
-    assert!(rt; step(store, worker) == Some(Brought::Finished(Finish::Parked)));
-    assert!(rt; step(store, worker).is_none());
+    match step(alloc, store, worker) {
+        Ok(Some(text)) => assert!(rt; text.as_str() == wanted, "{text}"),
+        _ => panic!(rt; "no step"),
+    }
 }
 
 /// A look at the first transaction answers this.
@@ -76,7 +127,9 @@ fn reports(rt: &impl Abort, store: &mut Store, wanted: &str) {
 fn a_store_is_worked_on(rt: HostRuntime) {
     let mut store = opened(&rt, rt.alloc(), 1, 0);
     let mut worker = hired(&rt, &mut store);
-    two_end(&rt, &mut store, &mut worker);
+    prints(&rt, rt.alloc(), &mut store, &mut worker, "1: returned 6");
+    prints(&rt, rt.alloc(), &mut store, &mut worker, "waits");
+    assert!(rt; store.take().is_none());
     looks(&rt, &mut worker, Observed::Outcome(Outcome::Returned(7)));
     let text = "base 0\nx 5 0\nentry 1 0 inc returned 6\nnow 1\nx 6 1\nparked 1 wait\nend\n";
     reports(&rt, &mut store, text);
@@ -112,9 +165,9 @@ fn is_given_up(rt: &impl Abort, store: &mut Store) {
     let Some(job) = store.take() else {
         panic!(rt; "no task");
     };
-    assert!(rt; store.give_up(job.task));
-    assert!(rt; !store.give_up(job.task));
-    assert!(rt; store.serial(job.task) == Serial::NotRunning);
+    assert!(rt; store.give_up(job.ticket));
+    assert!(rt; !store.give_up(job.ticket));
+    assert!(rt; store.serial(job.ticket) == Served::NotRunning);
 }
 
 #[test]

@@ -5,16 +5,16 @@ ghost use Rattle.std.specs.Prelude.{◌≡◌};
 use std::alloc::Global;
 use std::process::Abort;
 use stm_library::{
-    Brought, Counts, Finish, Job, Program, ReportFault, Store, TaskId, Tried, TxId, Verdict,
-    Worker, check,
+    Brought, Counts, Entered, Job, Outcome, Program, ReportFault, Store, TaskId, Ticket, Tried,
+    TxId, Verdict, Worker, check,
 };
 
 const FILE: &str =
     "(var full 0)(tx get (if (eq full 0) (retry) (set full 0)) full)(tx put (set full 1) full)(run get 1)";
 
-/// A task of the transaction of this name comes in: its number, or `None` where there is no such
+/// A task of the transaction of this name comes in: its ticket, or `None` where there is no such
 /// transaction, or no room.
-fn comes_in(store: &mut Store, name: &str) -> Option<TaskId>
+fn comes_in(store: &mut Store, name: &str) -> Option<Ticket>
     ensures { store.new.catalogue.now ≡ store.old.catalogue.now }
 {
     let tx = store.catalogue().tx_id(name)?;
@@ -42,7 +42,7 @@ fn opened(rt: &impl Abort, alloc: Global, spare: usize) -> (Store, Worker)
 }
 
 /// The next job is this one, and its end is this.
-fn ends(rt: &impl Abort, store: &mut Store, worker: &mut Worker, job: Job, how: Finish)
+fn ends(rt: &impl Abort, store: &mut Store, worker: &mut Worker, job: Job, how: Brought)
     requires { worker.old.catalogue.now ≡ store.old.catalogue.now }
     ensures { worker.new.catalogue.now ≡ store.new.catalogue.now }
 {
@@ -51,12 +51,30 @@ fn ends(rt: &impl Abort, store: &mut Store, worker: &mut Worker, job: Job, how: 
     };
     assert_eq!(rt; taken, job);
     assert_eq!(rt; worker.try_job(taken), Tried::Ended);
-    assert_eq!(rt; store.finish(worker), Brought::Finished(how));
+    assert_eq!(rt; store.finish(worker), how);
 }
 
 const GET: TxId = TxId(0);
 
 const PUT: TxId = TxId(1);
+
+/// The job of a task of the first chapter, whose ticket is its number.
+fn job(task: u32, tx: TxId) -> Job {
+    Job {
+        ticket: Ticket(u64::from(task)),
+        chapter: 0,
+        task: TaskId(task),
+        tx,
+    }
+}
+
+/// It is entered with this number, and returned this.
+fn committed(number: u64, value: i64) -> Brought {
+    Brought::Committed(Entered {
+        number,
+        outcome: Outcome::Returned(value),
+    })
+}
 
 /// The store's file and its report are a pair that a check finds good.
 fn agree(rt: &impl Abort, alloc: Global, store: &mut Store) {
@@ -73,13 +91,10 @@ fn agree(rt: &impl Abort, alloc: Global, store: &mut Store) {
 fn two_come_in(rt: &impl Abort, store: &mut Store)
     ensures { store.new.catalogue.now ≡ store.old.catalogue.now }
 {
-    let first = Job {
-        task: TaskId(0),
-        tx: GET,
-    };
+    let first = job(0, GET);
     assert_eq!(rt; store.take(), Some(first));
-    assert_eq!(rt; comes_in(store, "put"), Some(TaskId(1)));
-    assert_eq!(rt; comes_in(store, "get"), Some(TaskId(2)));
+    assert_eq!(rt; comes_in(store, "put"), Some(Ticket(1)));
+    assert_eq!(rt; comes_in(store, "get"), Some(Ticket(2)));
     assert_eq!(rt; comes_in(store, "get"), None);
     assert_eq!(rt; comes_in(store, "none"), None);
     assert_eq!(rt; (store.tasks(), store.spare()), (3, 0));
@@ -116,11 +131,8 @@ fn tasks_come_in_while_others_run(rt: HostRuntime) {
     let alloc = rt.alloc();
     let (mut store, mut worker) = opened(&rt, alloc, 2);
     two_come_in(&rt, &mut store);
-    let put = Job {
-        task: TaskId(1),
-        tx: PUT,
-    };
-    ends(&rt, &mut store, &mut worker, put, Finish::Committed(1));
+    let put = job(1, PUT);
+    ends(&rt, &mut store, &mut worker, put, committed(1, 1));
     tells_of_three(&rt, &mut store);
     agree(&rt, alloc, &mut store);
     assert!(rt; store.report_now().is_ok());
@@ -131,20 +143,14 @@ fn tasks_come_in_while_others_run(rt: HostRuntime) {
 fn a_task_that_comes_in_wakes_those_that_wait(rt: HostRuntime) {
     let alloc = rt.alloc();
     let (mut store, mut worker) = opened(&rt, alloc, 1);
-    let get = Job {
-        task: TaskId(0),
-        tx: GET,
-    };
-    let put = Job {
-        task: TaskId(1),
-        tx: PUT,
-    };
-    ends(&rt, &mut store, &mut worker, get, Finish::Parked);
+    let get = job(0, GET);
+    let put = job(1, PUT);
+    ends(&rt, &mut store, &mut worker, get, Brought::Parked);
     assert_eq!(rt; store.take(), None);
     assert!(rt; store.report_now().is_ok());
-    assert_eq!(rt; comes_in(&mut store, "put"), Some(TaskId(1)));
-    ends(&rt, &mut store, &mut worker, put, Finish::Committed(1));
-    ends(&rt, &mut store, &mut worker, get, Finish::Committed(2));
+    assert_eq!(rt; comes_in(&mut store, "put"), Some(Ticket(1)));
+    ends(&rt, &mut store, &mut worker, put, committed(1, 1));
+    ends(&rt, &mut store, &mut worker, get, committed(2, 0));
     agree(&rt, alloc, &mut store);
 }
 
@@ -156,13 +162,10 @@ fn a_task_of_another_store_is_not_brought(rt: HostRuntime) {
     if worker.catalogue().tx_count() < 2 {
         panic!(rt; "no transaction");
     }
-    let stranger = Job {
-        task: TaskId(1),
-        tx: PUT,
-    };
+    let stranger = job(1, PUT);
     assert_eq!(rt; worker.try_job(stranger), Tried::Ended);
     assert_eq!(rt; store.finish(&mut worker), Brought::OtherTask);
-    assert_eq!(rt; comes_in(&mut store, "get"), Some(TaskId(1)));
+    assert_eq!(rt; comes_in(&mut store, "get"), Some(Ticket(1)));
     assert_eq!(rt; worker.try_job(stranger), Tried::Ended);
     assert_eq!(rt; store.finish(&mut worker), Brought::OtherTask);
     assert_eq!(rt; store.finish(&mut worker), Brought::NotEnded);

@@ -7,8 +7,8 @@ ghost use Rattle.txn_programs.specs.Listing.{Listing, tasks};
 ghost use Rattle.txn_programs.specs.declared.limits.TheConstants.{MAX_TASKS};
 ghost use Rattle.host_scheduler.specs.Order.{KeepsOrder, TellsInOrder};
 ghost use Rattle.host_scheduler.specs.Plan.{IsPlan};
+ghost use Rattle.stm_store.specs.Working.{without_runs};
 
-use book::Finish;
 use std::alloc::Global;
 use std::marker::{Brand, PhantomData};
 use stm_store::{Brought, Job, Program, Store, Tried, Worker};
@@ -47,6 +47,7 @@ pub struct Scheduler<N: Planned> {
     /// How many tasks were taken and are not over.
     at_work: u32,
     of: PhantomData<N>,
+    ghost first: { without_runs store.book.catalogue ≡ without_runs store.catalogue.now } by { Prim.hlevel (codes, coded_listing) },
     ghost named: { store.catalogue.now ≡ N.catalogue } by { Prim.hlevel (codes, coded_listing) },
 }
 
@@ -105,8 +106,8 @@ impl<N: Planned> Scheduler<N> {
     /// Brings what a hand has tried.
     pub fn bring(&mut self, hand: &mut Hand<N>, job: Job) -> Came {
         match self.store.finish(&mut hand.worker) {
-            Brought::Finished(Finish::Stale) => return Came::Stale,
-            Brought::Finished(Finish::Committed(_)) if job.tx.0 < self.jobs => {
+            Brought::Stale => return Came::Stale,
+            Brought::Committed(_) if job.tx.0 < self.jobs => {
                 return Came::Begun(job.tx.0);
             }
             _ => {}
@@ -119,17 +120,15 @@ impl<N: Planned> Scheduler<N> {
     pub fn done(&mut self, job: u32) {
         let end = TxId(job.saturating_add(self.jobs));
         if (end.0 as usize) < self.store.catalogue().tx_count() {
-            // Whoever takes it is told its number then.
-            let _task = self.store.submit(end);
+            // Whoever takes it is told its ticket then.
+            let _ticket = self.store.submit(end);
         }
         self.at_work = self.at_work.saturating_sub(1);
     }
 
     /// A task is given up, after want of memory.
     pub fn give_up(&mut self, job: Job) {
-        if (job.task.0 as usize) < self.store.tasks() {
-            self.store.give_up(job.task);
-        }
+        self.store.give_up(job.ticket);
         self.at_work = self.at_work.saturating_sub(1);
     }
 

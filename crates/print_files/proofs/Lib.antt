@@ -1,3 +1,2 @@
-mod Same
 mod Moved
 mod Values

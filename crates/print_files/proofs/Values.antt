@@ -1,13 +1,13 @@
 -- The listing that goes on where a report ended, and what holds of it.
-use Rattle.std.proofs.Common.{◌≡◌, ◌∙◌, ℕ, ℤ, true, List, [], ◌∷◌, map, refl, ap, String, Global, string_bytes}
+use Rattle.std.proofs.Common.{◌≡◌, ℕ, ℤ, true, List, [], ◌∷◌, map, refl, ap, String, Global, string_bytes}
 use Rattle.std.specs.List.{list_all}
 use Rattle.std.proofs.lemmas.Bool.{and_from}
 use Rattle.txn_programs.specs.declared.ast.Cond.{Cond}
 use Rattle.txn_programs.specs.declared.ast.Tx.{Tx}
 use Rattle.txn_programs.specs.declared.ast.TxId.{TxId}
 use Rattle.txn_programs.specs.Meaning.{State, truth}
-use Rattle.txn_programs.specs.Tree.{Condition, condition_of, transaction_of}
-use Rattle.txn_programs.specs.Listing.{Listing, listing_of, conditions}
+use Rattle.txn_programs.specs.Tree.{Condition, transaction_of}
+use Rattle.txn_programs.specs.Listing.{Listing, listing_of}
 use Rattle.txn_programs.specs.Names.{names_hold, is_well_formed}
 use Rattle.txn_programs.specs.Limits.{limits_hold}
 use Rattle.txn_programs.specs.Standing.{AllTrue, is_true}

@@ -14,7 +14,8 @@ use Rattle.checker.specs.declared.verdict.Verdict.{Verdict}
 use Rattle.checker.specs.declared.verdict.Verdict.TheVariants.{Good, Bad}
 use Rattle.checker.specs.Lines.{line_of}
 use Rattle.checker.specs.Verdicts.{IsVerdictOn}
-use Rattle.print_files.specs.GoingOn.{going_on}
+use Rattle.print_files.specs.declared.next.Next.{Next}
+use Rattle.print_files.specs.GoingOn.{next_of}
 
 -- the longest file, in bytes
 abbrev pub longest : ℕ
@@ -32,13 +33,13 @@ pub record IsPrinted (input text : List ℕ) : Type 0 where
   pub printed : IsTextOf file text
 
 -- the text is the canonical one of what goes on where the report ended, which is lawful for the file
-pub record IsPrintedOn (input report text : List ℕ) : Type 0 where
+pub record IsPrintedOn (next : Next) (input report text : List ℕ) : Type 0 where
   pub file : Listing
   pub spelled : Spells input file
   pub told : Told
   pub read : IsReport file report told
   pub lawful : LawfulReport file told
-  pub printed : IsTextOf (going_on file told) text
+  pub printed : IsTextOf (next_of next file told) text
 
 -- the report is not lawful for the file, and this part of it fails first
 pub record IsUnlawful (input report : List ℕ) (part : Part) : Type 0 where
@@ -69,17 +70,17 @@ Printed input old new (Err Output) = WroteBeginning (IsPrinted input) old new
 Printed input old new (Err (Schedule kind)) = ⊥
 
 -- what is written of a file and a report: the text, or the line of the verdict
-abbrev pub IsAnswer : List ℕ → List ℕ → Verdict → List ℕ → Type 0
-IsAnswer input report Good text = IsPrintedOn input report text
-IsAnswer input report (Bad part) text = IsUnlawful input report part × (text ≡ line_of (Bad part))
+abbrev pub IsAnswer : Next → List ℕ → List ℕ → Verdict → List ℕ → Type 0
+IsAnswer next input report Good text = IsPrintedOn next input report text
+IsAnswer next input report (Bad part) text = IsUnlawful input report part × (text ≡ line_of (Bad part))
 
 -- by the answer: the text of the file that goes on, or the verdict; or nothing; or a beginning
-abbrev pub PrintedOn : List ℕ → List ℕ → Option (List ℕ) → Option (List ℕ) → Result Verdict RunFault → Type 0
-PrintedOn input report old new (Ok verdict) = Wrote (IsAnswer input report verdict) old new
-PrintedOn input report old new (Err (Input kind)) = (first_fault input ≡ Some kind) × Keeps old new
-PrintedOn input report old new (Err Memory) = Keeps old new
-PrintedOn input report old new (Err Output) = (verdict : Verdict) × WroteBeginning (IsAnswer input report verdict) old new
-PrintedOn input report old new (Err (Schedule kind)) = ⊥
+abbrev pub PrintedOn : Next → List ℕ → List ℕ → Option (List ℕ) → Option (List ℕ) → Result Verdict RunFault → Type 0
+PrintedOn next input report old new (Ok verdict) = Wrote (IsAnswer next input report verdict) old new
+PrintedOn next input report old new (Err (Input kind)) = (first_fault input ≡ Some kind) × Keeps old new
+PrintedOn next input report old new (Err Memory) = Keeps old new
+PrintedOn next input report old new (Err Output) = (verdict : Verdict) × WroteBeginning (IsAnswer next input report verdict) old new
+PrintedOn next input report old new (Err (Schedule kind)) = ⊥
 
 -- why there is no text
 abbrev pub IsRefused : List ℕ → RunFault → Type 0

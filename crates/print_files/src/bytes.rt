@@ -4,15 +4,14 @@ ghost use Rattle.std.specs.Prelude.{◌≡◌, ◌+◌, ◌<◌, ◌^◌, true, 
 ghost use Rattle.txn_programs.specs.Told.{told};
 ghost use Rattle.txn_programs.specs.LawfulReport.{LawfulReport};
 ghost use Rattle.txn_text.specs.Spelling.{Spells};
-ghost use Rattle.print_files.specs.GoingOn.{going_on};
+ghost use Rattle.print_files.specs.GoingOn.{next_of};
 ghost use Rattle.run_faults.specs.Failures.{output_failures};
 ghost use Rattle.run_faults.specs.declared.fault.RunFault.TheVariants as RunFault;
 ghost use Rattle.checker.specs.declared.verdict.Verdict.{Verdict as VerdictOf};
 ghost use Rattle.print_files.specs.Printing.{IsAnswer, IsPrinted, IsTextOf, IsRefused, Printed, PrintedOn};
 
-use crate::judge::{Judgement, judged};
-use crate::next::going_on;
-use checker::Verdict;
+use crate::next::{Next, next_of};
+use checker::{Judgement, Verdict, judged};
 use run_faults::RunFault;
 use run_sink::{Sink, put_all};
 use std::alloc::Global;
@@ -41,10 +40,10 @@ pub fn print_bytes<S: Sink>(alloc: Global, bytes: &[u8], sink: &mut S) -> Result
     }
 }
 
-/// Writes the canonical text of the file that goes on where a report ended to the sink: each
-/// variable begins at the value that it has at the report's present, and all else is as the first
-/// bytes spell it. A report that is not lawful for the file is answered by its verdict, and the
-/// verdict's line is written.
+/// Writes the canonical text of the file with which work goes on where a report ended to the sink: each
+/// variable begins at the value that it has at the report's present, and the runs are those of the file
+/// or, of the next chapter, one of one task for each parked one; all else is as the first bytes spell it.
+/// A report that is not lawful for the file is answered by its verdict, and the verdict's line is written.
 ///
 /// `Ok(Good)`: exactly that text was written, and then flushed. `Ok(Bad(part))`: this part of the
 /// report fails first; `bad` and its number were written, and then flushed. `Err` as of
@@ -53,14 +52,15 @@ pub fn print_on_bytes<S: Sink>(
     alloc: Global,
     bytes: &[u8],
     report: &[u8],
+    next: Next,
     sink: &mut S,
 ) -> Result<Verdict, RunFault>
     requires { S.failed sink.old < 2 ^ 63 }
-    ensures printed { PrintedOn bytes.now report.now (S.bytes sink.old) (S.bytes sink.new) result }
+    ensures printed { PrintedOn next bytes.now report.now (S.bytes sink.old) (S.bytes sink.new) result }
     ensures flushed { OnOk result (S.flushed sink.new ≡ true) }
     ensures failures { S.failed sink.new ≡ S.failed sink.old + output_failures result }
 {
-    match answered(alloc, bytes, report) {
+    match answered(alloc, bytes, report, next) {
         Ok((verdict, text)) => match put_all(sink, text.as_bytes()) {
             Ok(()) => Ok(verdict),
             Err(_) => Err(RunFault::Output),
@@ -110,22 +110,32 @@ fn printed(alloc: Global, bytes: &[u8]) -> Result<String, RunFault>
     }
 }
 
-/// The canonical text of the file that goes on where the report ended.
-fn text_on(alloc: Global, catalogue: &Catalogue, report: &Report) -> Result<String, Memory>
+/// The canonical text of the file with which work goes on where the report ended.
+fn text_on(
+    alloc: Global,
+    catalogue: &Catalogue,
+    report: &Report,
+    next: Next,
+) -> Result<String, Memory>
     requires { LawfulReport catalogue.now (told report.now) }
-    ensures { IfOk result (λ text. IsTextOf (going_on catalogue.now (told report.entry.now)) (string_bytes text)) }
+    ensures { IfOk result (λ text. IsTextOf (next_of next catalogue.now (told report.entry.now)) (string_bytes text)) }
 {
-    let next = going_on(alloc, catalogue, report)?;
-    text_of(alloc, &next)
+    let following = next_of(alloc, catalogue, report, next)?;
+    text_of(alloc, &following)
 }
 
 /// The verdict on the report, and what is written of it.
-fn answered(alloc: Global, bytes: &[u8], report: &[u8]) -> Result<(Verdict, String), RunFault>
-    ensures answered { IfOk result (λ x. IsAnswer bytes.now report.now x.0 (string_bytes x.1)) }
+fn answered(
+    alloc: Global,
+    bytes: &[u8],
+    report: &[u8],
+    next: Next,
+) -> Result<(Verdict, String), RunFault>
+    ensures answered { IfOk result (λ x. IsAnswer next bytes.now report.now x.0 (string_bytes x.1)) }
     ensures refused { IfErr result (IsRefused bytes.now) }
 {
     match catalogue_of(alloc, bytes) {
-        Ok(catalogue) => answered_of(alloc, bytes, &catalogue, report),
+        Ok(catalogue) => answered_of(alloc, bytes, &catalogue, report, next),
         Err(fault) => Err(fault),
     }
 }
@@ -136,13 +146,14 @@ fn answered_of(
     bytes: &[u8],
     catalogue: &Catalogue,
     report: &[u8],
+    next: Next,
 ) -> Result<(Verdict, String), RunFault>
     requires { Spells bytes.now catalogue.now }
-    ensures answered { IfOk result (λ x. IsAnswer bytes.now report.now x.0 (string_bytes x.1)) }
+    ensures answered { IfOk result (λ x. IsAnswer next bytes.now report.now x.0 (string_bytes x.1)) }
     ensures refused { IfErr result (λ fault. fault ≡ RunFault.Memory) }
 {
-    match judged(alloc, bytes, catalogue, report) {
-        Ok(Judgement::Lawful(report)) => match text_on(alloc, catalogue, &report) {
+    match judged(alloc, catalogue, report) {
+        Ok(Judgement::Lawful(report)) => match text_on(alloc, catalogue, &report, next) {
             Ok(text) => Ok((Verdict::Good, text)),
             Err(_) => Err(RunFault::Memory),
         },

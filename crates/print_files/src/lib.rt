@@ -7,9 +7,8 @@
 
 mod bytes;
 mod copies;
-mod judge;
 pub mod laws;
 mod next;
 
 pub use bytes::{print_bytes, print_on_bytes};
-pub use next::going_on;
+pub use next::{Next, going_on};

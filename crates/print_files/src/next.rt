@@ -1,4 +1,4 @@
-//! The catalogue that goes on where a report ended.
+//! The catalogue with which work goes on where a report ended.
 
 ghost use Rattle.std.specs.Prelude.{◌≡◌, ◌≤◌, IfOk, length, map, string_bytes, true};
 ghost use Rattle.txn_programs.specs.Listing.{listing_of};
@@ -7,13 +7,23 @@ ghost use Rattle.txn_programs.specs.Limits.{limits_hold};
 ghost use Rattle.txn_programs.specs.Standing.{upholds};
 ghost use Rattle.txn_programs.specs.Told.{told};
 ghost use Rattle.txn_programs.specs.LawfulReport.{LawfulReport};
-ghost use Rattle.print_files.specs.GoingOn.{going_on};
+ghost use Rattle.print_files.specs.GoingOn.{going_on, next_of};
 
 use crate::copies::copied_transactions;
 use checker::laws::lawful_reports_uphold;
+use checker::next_chapter;
 use std::alloc::{AllocError, Global};
 use txn::{BuildFault, Catalogue, Cond, Memory, Report, Tx, TxId, VarId};
 use txn_copies::copy::always_of;
+
+/// With which catalogue work goes on where a report ended.
+#[derive(Clone, Copy, Debug, PartialEq, Eq)]
+pub enum Next {
+    /// With that of the report, whose variables begin at the present values: all its tasks once more.
+    Again,
+    /// With that of the next chapter, as it begins: the tasks are the parked ones.
+    Chapter,
+}
 
 /// A variable's name with a value.
 fn variable(alloc: Global, name: &str, value: &i64) -> Result<(String, i64), AllocError>
@@ -96,4 +106,20 @@ pub fn going_on(alloc: Global, catalogue: &Catalogue, report: &Report) -> Result
     let txs = copied_transactions(alloc, catalogue)?;
     let runs = copied_runs(alloc, catalogue.runs())?;
     built(alloc, vars, always, txs, runs)
+}
+
+/// The catalogue that goes on where a lawful report of this one ended, as it is asked for.
+pub(crate) fn next_of(
+    alloc: Global,
+    catalogue: &Catalogue,
+    report: &Report,
+    next: Next,
+) -> Result<Catalogue, Memory>
+    requires { LawfulReport catalogue.now (told report.now) }
+    ensures { IfOk result (λ c. c ≡ next_of next catalogue.now (told report.entry.now)) }
+{
+    match next {
+        Next::Again => going_on(alloc, catalogue, report),
+        Next::Chapter => next_chapter(alloc, catalogue, report),
+    }
 }

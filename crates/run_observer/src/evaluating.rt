@@ -6,6 +6,7 @@ ghost use Rattle.run_observer.specs.Observing.{ObservesBy, IsStaleFrom, Evaluate
 
 use crate::observation::{Cut, tell};
 use crate::reading::advance_on;
+use crate::watching::{Unwatched, Watch};
 use attempt::{Attempt, Next};
 use cells::{Cells, Pass};
 use txn::{Catalogue, Outcome, TxId};
@@ -34,12 +35,34 @@ pub fn evaluate<'c>(
     ensures stale { IfErr result (λ why. why ≡ Cut.Stale → IsStaleFrom pass.old pass.new) }
     ensures memory { IfErr result (λ why. why ≡ Cut.Memory → (pass.new.open_now ≡ true) × LacksMemory catalogue.now tx attempt.new) }
 {
+    evaluate_by(attempt, catalogue, tx, cells, pass, &Unwatched)
+}
+
+/// As `evaluate`, with a watch, which is told of each variable that the attempt needs before it is read: once,
+/// also where it is then read once more.
+pub fn evaluate_by<'c, W: Watch>(
+    attempt: &mut Attempt<'c>,
+    catalogue: &'c Catalogue,
+    tx: TxId,
+    cells: &Cells,
+    pass: &mut Pass,
+    watch: &W,
+) -> Result<Outcome, Cut>
+    requires known { tx.0 < length catalogue.now.transactions }
+    requires own { pass.old.cells ≡ cells.now }
+    requires variables { cells.now.variables ≡ length catalogue.now.initial }
+    ensures observes { ObservesBy pass.old pass.new }
+    ensures ended { IfOk result (λ how. EvaluatesTo catalogue.now tx (at pass.new) how attempt.new) }
+    ensures open { OnOk result (pass.new.open_now ≡ true) }
+    ensures stale { IfErr result (λ why. why ≡ Cut.Stale → IsStaleFrom pass.old pass.new) }
+    ensures memory { IfErr result (λ why. why ≡ Cut.Memory → (pass.new.open_now ≡ true) × LacksMemory catalogue.now tx attempt.new) }
+{
     pass.begin(cells);
     attempt.restart(catalogue, tx);
     let variables = catalogue.initial().len();
     'needs: loop {
         pass.law();
-        let x = match advance_on(attempt, variables, cells, pass) {
+        let x = match advance_on(attempt, variables, cells, pass, watch) {
             Next::Need(x) => x,
             Next::Returned(v) => return Ok(Outcome::Returned(v)),
             Next::Thrown(fault) => return Ok(Outcome::Thrown(fault)),

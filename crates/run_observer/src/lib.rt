@@ -4,6 +4,8 @@
 mod evaluating;
 mod observation;
 mod reading;
+mod watching;
 
-pub use evaluating::evaluate;
+pub use evaluating::{evaluate, evaluate_by};
 pub use observation::{Cut, Observed, observe, tell};
+pub use watching::{Unwatched, Watch};

@@ -1,6 +1,6 @@
 //! What a transaction would end as, read beside the commits.
 
-ghost use Rattle.std.specs.Prelude.{◌≡◌, ℕ, ◌+◌, ◌*◌, ◌<◌, ◌≤◌, length, true, OnOk, OnErr, IfOk, IfErr};
+ghost use Rattle.std.specs.Prelude.{◌≡◌, ℕ, ◌+◌, ◌*◌, ◌<◌, ◌≤◌, length, true, false, OnOk, OnErr, IfOk, IfErr};
 ghost use Rattle.txn_words.specs.Words.{StartsWith};
 ghost use Rattle.txn_words.specs.Stores.{id_of};
 ghost use Rattle.txn_programs.specs.Meaning.{value_at};
@@ -103,10 +103,11 @@ pub fn tell(attempt: &mut Attempt<'_>, x: VarId, cells: &Cells, pass: &mut Pass)
     }
 }
 
-/// Extends the pass by what was read before, and reads the variable at the new moment. The answer
-/// is its value there, where all that was read before is as it was.
+/// Extends the pass, which is closed, by what was read before, and reads the variable at the new moment.
+/// The answer is its value there, where all that was read before is as it was.
 fn read_later(log: &[(VarId, i64)], x: VarId, cells: &Cells, pass: &mut Pass) -> Result<i64, Cut>
     requires own { pass.old.cells ≡ cells.now }
+    requires closed { pass.old.open_now ≡ false }
     requires exists { x.0 < cells.now.variables }
     requires variables { (i : ℕ) → i < length log.now → id_of log.now i < cells.now.variables }
     ensures cells { pass.new.cells ≡ pass.old.cells }

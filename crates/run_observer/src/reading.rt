@@ -1,6 +1,6 @@
 //! What a pass reads, for an attempt.
 
-ghost use Rattle.std.specs.Prelude.{◌≡◌, ◌≢◌, ℕ, ◌+◌, ◌<◌, ◌≤◌, length, true, IfSome, None};
+ghost use Rattle.std.specs.Prelude.{◌≡◌, ◌≢◌, ℕ, ◌+◌, ◌<◌, ◌≤◌, length, true, false, IfSome, None};
 ghost use Rattle.txn_programs.specs.Meaning.{State, value_at};
 ghost use Rattle.attempt.specs.Asking.{known_at};
 ghost use Rattle.attempt.specs.Frame.{Agrees};
@@ -11,11 +11,12 @@ ghost use Rattle.attempt.specs.declared.next.Stand.TheVariants.{Spent};
 ghost use Rattle.cells.specs.Passing.{at};
 ghost use Rattle.run_observer.specs.Observing.{Moment, moment, StaysAt};
 
+use crate::watching::Watch;
 use attempt::{Attempt, Next, Reader};
 use cells::{Cells, Pass, Read};
 use txn::VarId;
 
-/// A variable's value, where the pass is open and the read is not stale.
+/// A variable's value, where the pass is open and the read is not stale. Else the pass is closed.
 pub(crate) fn peek(cells: &Cells, pass: &mut Pass, x: VarId) -> Option<i64>
     requires own { pass.old.cells ≡ cells.now }
     requires exists { x.0 < cells.now.variables }
@@ -25,6 +26,7 @@ pub(crate) fn peek(cells: &Cells, pass: &mut Pass, x: VarId) -> Option<i64>
     ensures value { IfSome result (λ v. v ≡ value_at (at pass.old) x) }
     ensures open { IfSome result (λ _. pass.new.open_now ≡ true) }
     ensures variable { IfSome result (λ _. pass.new.variable ≡ x.0) }
+    ensures closed { result ≡ None → pass.new.open_now ≡ false }
 {
     if !pass.is_open() {
         return None;
@@ -36,17 +38,18 @@ pub(crate) fn peek(cells: &Cells, pass: &mut Pass, x: VarId) -> Option<i64>
 }
 
 /// A pass of these cells, which have at least so many variables, as a reader. It never moves the
-/// pass: a stale read closes it, and then it reads nothing.
+/// pass: a stale read closes it, and then it reads nothing. Each read is told to the watch before.
 #[derive(Drop)]
-struct PassReader<'p> {
+struct PassReader<'p, W: Watch> {
     cells: &'p Cells,
     pass: &'p mut Pass,
+    watch: &'p W,
     variables: usize,
     ghost own: { pass.now.cells ≡ cells.now },
     ghost exist: { variables ≤ cells.now.variables },
 }
 
-impl<'p> Reader for PassReader<'p> {
+impl<'p, W: Watch> Reader for PassReader<'p, W> {
     ghost values = { λ r. at r.pass.now };
 
     // It stays the very reference that it was.
@@ -61,19 +64,21 @@ impl<'p> Reader for PassReader<'p> {
         if x.0 as usize >= self.variables {
             return None;
         }
+        self.watch.needs(x);
         self.pass.law();
         peek(self.cells, self.pass, x)
     }
 }
 
 /// Goes on with an attempt of a transaction that has so many variables, and reads by the pass what
-/// it needs. It answers `Need` where the read was stale, which closed the pass, or where the log has
-/// no room. The pass stays where it is.
-pub(crate) fn advance_on(
+/// it needs, which it tells the watch before. It answers `Need` where the read was stale, which closed the
+/// pass, or where the log has no room. The pass stays where it is.
+pub(crate) fn advance_on<W: Watch>(
     attempt: &mut Attempt<'_>,
     variables: usize,
     cells: &Cells,
     pass: &mut Pass,
+    watch: &W,
 ) -> Next
     requires own { pass.old.cells ≡ cells.now }
     requires known { variables ≡ attempt.old.variables }
@@ -96,6 +101,7 @@ pub(crate) fn advance_on(
     let mut reader = PassReader {
         cells,
         pass,
+        watch,
         variables,
     };
     attempt.advance_by(&mut reader)

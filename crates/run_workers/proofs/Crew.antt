@@ -7,12 +7,12 @@ use denote.Struct.Field.{shr_ref_field}
 use denote.Param.Send.{IsSend, IsSync, sendable, shr_sync}
 use denote.Param.SendFields.{declared_send, declared_sync, as_row_sync}
 use Rattle.std.proofs.Crossing.{crosses}
+use Rattle.arrayvec.proofs.array_vec.ArrayVec.TheSendSync as array_vec
 use Rattle.std.specs.contracts.sync.Mutex as mutex
 use Rattle.txn.specs.contracts.catalogue.Catalogue as catalogue
 use Rattle.cells.specs.contracts.cells.Cells as cells
 use Rattle.cells.proofs.cells.Cells.TheSendSync as crossing
 use Rattle.run_workers.specs.declared.shared.Naming.{Ghosts}
-use Rattle.run_workers.specs.contracts.held.Held as held
 use Rattle.run_workers.specs.contracts.shared.Named as named
 use Rattle.run_workers.specs.contracts.worker.Crew as crew
 use Rattle.run_workers.proofs.Crossing.{catalogue_sync, book_send}
@@ -21,12 +21,9 @@ use Rattle.run_workers.proofs.Crossing.{catalogue_sync, book_send}
 shared_field : (k : NamedLft) (R : RattleType) (one : One R.mir) → IsSync R → IsSync (as_row (shr_ref_field k R one))
 shared_field k R one s = as_row_sync (shr_ref_field k R one) (shr_sync k.mir k.lft R s)
 
-held_send : (N : RattleType) (n : Ghosts N.Denot) → IsSend N → IsSend (held.the_row N n)
-held_send N n s = declared_send (held.the_type N n) (search (sendable, crosses) depth 10, (search sendable, tt))
-
 pub named_send : (ℓ : NamedLft) (N : RattleType) (n : Ghosts N.Denot) → IsSend N → IsSend (named.the_row ℓ N n)
 named_send ℓ N n s =
-    let h = held_send N n s in
+    let held = array_vec.the_send in
     declared_send (named.the_type ℓ N n) (book_send ℓ, (search (sendable, crosses) depth 10, (search sendable, tt)))
 
 module _ (k ℓ : NamedLft) (G : RattleType) (N : RattleType) (n : Ghosts N.Denot) where

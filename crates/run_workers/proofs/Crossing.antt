@@ -23,7 +23,7 @@ use Rattle.txn.specs.contracts.catalogue.Catalogue as catalogue
 use Rattle.cells.proofs.cells.Cells.TheSendSync as cells
 use Rattle.cells.proofs.Crossing.{publisher_send}
 use Rattle.book.proofs.stored.Stored.TheSendSync as stored
-use Rattle.book.proofs.task.Standing.TheSendSync as standing
+use Rattle.book.proofs.task.Slot.TheSendSync as slot
 use Rattle.book.proofs.table.TaskTable.TheSendSync as table
 use Rattle.journal.proofs.line.Line.TheSendSync as line
 use Rattle.txn_programs.proofs.code.Op.TheSendSync as op
@@ -87,4 +87,4 @@ pub catalogue_sync : IsSync catalogue.the_row
 catalogue_sync = let t = tx_sync in let c = cond_sync in let o = op.the_sync in search (sendable, crosses, maps.crosses) depth 80 fits 6000
 
 pub book_send : (ℓ : NamedLft) → IsSend (book.the_row ℓ)
-book_send ℓ = let a = catalogue_sync in let b = cells.the_sync in let c = publisher_send in let d = stored.the_send in let e = standing.the_send in let f = line.the_send in let h = table.the_send in search (sendable, crosses) depth 60
+book_send ℓ = let a = catalogue_sync in let b = cells.the_sync in let c = publisher_send in let d = stored.the_send in let e = slot.the_send in let f = line.the_send in let h = table.the_send in search (sendable, crosses) depth 60

@@ -3,3 +3,4 @@ pub mod Crossing
 pub mod Crew
 pub mod Few
 pub mod Ended
+pub mod Standing

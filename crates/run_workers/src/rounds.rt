@@ -1,12 +1,13 @@
 //! The times under the lock of a worker that tries light tasks together.
 
-ghost use Rattle.std.specs.Prelude.{◌≡◌, ◌<◌, ◌≤◌, length, IfSome};
+ghost use Rattle.std.specs.Prelude.{◌≡◌, ◌≢◌, ◌⊎◌, ◌<◌, ◌≤◌, length, All, IfSome, None};
 ghost use Rattle.txn_programs.specs.Listing.{tasks};
 ghost use Rattle.txn_programs.specs.declared.limits.TheConstants.{MAX_VARIABLES};
+ghost use Rattle.run_workers.specs.Standing.{IsOver, NoneReady, ArePresent};
 ghost use Rattle.run_workers.specs.declared.trials.How.{How};
 
 use crate::held::hold;
-use crate::shared::{Named, Naming, Tried, drop_task, end, next, present, size, turn};
+use crate::shared::{Named, Naming, drop_task, end, next, present, size, turn};
 use crate::trials::{How, Trial, are_busy, give_one};
 use crate::waiting::lock;
 use crate::weights::Size;
@@ -19,7 +20,7 @@ use txn_programs::limits::MAX_VARIABLES;
 /// How many tasks are taken in one time under the lock at most.
 const TAKES: u32 = 1_000;
 
-/// How much the tasks that have their turns in it weigh together at most, but for the first one.
+/// How much the tasks that have their turns in it weigh together at most, but for the last one.
 const ROOM: u32 = 40_000;
 
 /// The present values, as they were at some time under the lock.
@@ -37,10 +38,33 @@ fn copy(from: &[i64], values: &mut Values)
     }
 }
 
-/// Brings what was tried to the book, and takes the next tasks, all in one time under the lock: a short
-/// one has its turn at once or is held, a light one is given to a trial, and before any other one no more is
-/// taken. The task that was `given` was taken already. What is left is a task that was taken and is still to be run,
-/// `None` if there is none.
+/// Begins with a task that was taken, and takes the next ones, all in one time under the lock: a short one
+/// has its turn at once or is held, a light one is given to a trial, and before any other one no more is
+/// taken. What is left is a task that was taken and is still to be run, `None` if there is none.
+pub(crate) fn begin<'b, R: Wait, N: Naming>(
+    rt: &R,
+    shared: &Mutex<Named<'b, N>>,
+    every: u32,
+    sizes: &[Size],
+    attempt: &mut Attempt<'b>,
+    trials: &mut [Trial<'b, N>],
+    values: &mut Values,
+    first: TaskId,
+) -> Option<TaskId>
+    requires every { every ≡ N.every }
+    requires exists { first.0 < length (tasks N.catalogue) }
+    ensures left { IfSome result (λ t. t.0 < length (tasks N.catalogue)) }
+    ensures values { ArePresent N.catalogue values.new.items }
+    ensures wide { length values.new.items ≡ length N.catalogue.initial }
+{
+    let mut named = lock(rt, shared);
+    let left = fill(&mut named, every, sizes, attempt, trials, first);
+    copy(present(&named), values);
+    left
+}
+
+/// Brings what was tried to the book, and takes the next tasks as `begin` does, all in one time under the
+/// lock.
 pub(crate) fn round<'b, R: Wait, N: Naming>(
     rt: &R,
     shared: &Mutex<Named<'b, N>>,
@@ -50,21 +74,21 @@ pub(crate) fn round<'b, R: Wait, N: Naming>(
     attempt: &mut Attempt<'b>,
     trials: &mut [Trial<'b, N>],
     values: &mut Values,
-    given: Option<TaskId>,
 ) -> Option<TaskId>
     requires every { every ≡ N.every }
-    requires given { IfSome given (λ t. t.0 < length (tasks N.catalogue)) }
     ensures left { IfSome result (λ t. t.0 < length (tasks N.catalogue)) }
-    ensures values { length values.new.items ≡ length N.catalogue.initial }
+    ensures values { ArePresent N.catalogue values.new.items }
+    ensures wide { length values.new.items ≡ length N.catalogue.initial }
 {
     let mut named = lock(rt, shared);
     bring_all(&mut named, every, tries, attempt, trials);
-    let left = fill(&mut named, every, sizes, attempt, trials, given);
+    let left = refill(&mut named, every, sizes, attempt, trials);
     copy(present(&named), values);
     left
 }
 
-/// Brings what was tried to the book. A task whose try was stale has its turn at once.
+/// Brings what was tried to the book, so that no trial has a task any more. A task that is to be tried has
+/// its turn at once.
 pub(crate) fn close<'b, R: Wait, N: Naming>(
     rt: &R,
     shared: &Mutex<Named<'b, N>>,
@@ -73,12 +97,13 @@ pub(crate) fn close<'b, R: Wait, N: Naming>(
     trials: &mut [Trial<'b, N>],
 )
     requires every { every ≡ N.every }
+    ensures { All (λ t. t.how ≡ How.Idle) trials.new }
 {
     let mut named = lock(rt, shared);
     bring_all(&mut named, every, 0, attempt, trials);
 }
 
-/// Brings each task that was tried to the book.
+/// Brings what each trial came to to the book.
 fn bring_all<'b, N: Naming>(
     named: &mut Named<'b, N>,
     every: u32,
@@ -87,21 +112,16 @@ fn bring_all<'b, N: Naming>(
     trials: &mut [Trial<'b, N>],
 )
     requires every { every ≡ N.every }
+    ensures idle { tries ≡ 0 → All (λ t. t.how ≡ How.Idle) trials.new }
 {
     for trial in trials.iter_mut() {
-        match trial.how {
-            How::Idle | How::Begun => {}
-            How::Ended => bring(named, every, tries, attempt, trial),
-            How::Memory => {
-                drop_task(named, trial.task);
-                trial.how = How::Idle;
-            }
-        }
+        bring(named, every, tries, attempt, trial);
     }
 }
 
-/// Brings the end of a trial to the book. Where it was stale the task is tried once more, unless that was
-/// the last of its tries, behind which it has its turn at once.
+/// Brings what a trial came to to the book. Where it was stale the task is to be tried once more, unless that
+/// was the last of its tries, behind which it has its turn at once. A trial that has its task no more leaves
+/// it over.
 fn bring<'b, N: Naming>(
     named: &mut Named<'b, N>,
     every: u32,
@@ -110,60 +130,90 @@ fn bring<'b, N: Naming>(
     trial: &mut Trial<'b, N>,
 )
     requires every { every ≡ N.every }
-    requires ended { trial.old.how ≡ How.Ended }
+    ensures over { trial.old.how ≢ How.Idle → trial.new.how ≡ How.Idle → IsOver named.new.book trial.old.task }
+    ensures rest { (trial.new.how ≡ How.Idle) ⊎ ((trial.new.how ≡ How.Begun) × (trial.new.stale < tries)) }
 {
-    trial.how = How::Idle;
-    if end(named, every, trial.task, &mut trial.attempt) != Tried::Stale {
-        return;
+    match trial.how {
+        How::Idle => return,
+        How::Begun => {}
+        How::Memory => {
+            drop_task(named, trial.task);
+            trial.how = How::Idle;
+            return;
+        }
+        How::Ended => {
+            if end(named, every, trial.task, &mut trial.attempt) {
+                trial.how = How::Idle;
+                return;
+            }
+            trial.stale = trial.stale.saturating_add(1);
+        }
     }
-    trial.stale = trial.stale.saturating_add(1);
     if trial.stale < tries {
         trial.how = How::Begun;
     } else {
         turn(named, every, attempt, trial.task);
+        trial.how = How::Idle;
     }
 }
 
-/// Takes tasks, as `round` says.
+/// Takes tasks as `begin` does, unless each trial has one.
+fn refill<'b, N: Naming>(
+    named: &mut Named<'b, N>,
+    every: u32,
+    sizes: &[Size],
+    attempt: &mut Attempt<'b>,
+    trials: &mut [Trial<'b, N>],
+) -> Option<TaskId>
+    requires every { every ≡ N.every }
+    ensures left { IfSome result (λ t. t.0 < length (tasks N.catalogue)) }
+    ensures none { result ≡ None → NoneReady named.new.book ⊎ All (λ t. t.how ≢ How.Idle) trials.new }
+{
+    if are_busy(trials) {
+        return None;
+    }
+    let first = next(named)?;
+    fill(named, every, sizes, attempt, trials, first)
+}
+
+/// Takes tasks behind the first one, as `begin` says. None is left only where none is ready or each trial has
+/// one.
 fn fill<'b, N: Naming>(
     named: &mut Named<'b, N>,
     every: u32,
     sizes: &[Size],
     attempt: &mut Attempt<'b>,
     trials: &mut [Trial<'b, N>],
-    given: Option<TaskId>,
+    first: TaskId,
 ) -> Option<TaskId>
     requires every { every ≡ N.every }
-    requires given { IfSome given (λ t. t.0 < length (tasks N.catalogue)) }
-    ensures { IfSome result (λ t. t.0 < length (tasks N.catalogue)) }
+    requires exists { first.0 < length (tasks N.catalogue) }
+    ensures left { IfSome result (λ t. t.0 < length (tasks N.catalogue)) }
+    ensures none { result ≡ None → NoneReady named.new.book ⊎ All (λ t. t.how ≢ How.Idle) trials.new }
 {
-    let mut given = given;
+    let mut task = first;
     let mut room = ROOM;
     'takes: for _ in 0..TAKES {
-        if are_busy(trials) {
-            return given;
-        }
-        let task = match given {
-            Some(task) => task,
-            None => next(named)?,
-        };
         match size(named, sizes, task) {
             Size::Light(_) => {
                 if !give_one(trials, task) {
                     return Some(task);
                 }
             }
-            Size::Short(weight) if weight <= room => {
-                room -= weight;
+            Size::Short(weight) if room > 0 => {
+                room = room.saturating_sub(weight);
                 turn(named, every, attempt, task);
             }
-            Size::Held(weight) if weight <= room => {
-                room -= weight;
+            Size::Held(weight) if room > 0 => {
+                room = room.saturating_sub(weight);
                 hold(named, every, attempt, task);
             }
             Size::Short(_) | Size::Held(_) | Size::Long => return Some(task),
         }
-        given = None;
+        if are_busy(trials) {
+            return None;
+        }
+        task = next(named)?;
     }
-    next(named)
+    Some(task)
 }

@@ -4,8 +4,9 @@
 //! how short its journal is kept: a run picks a name, and the name has the run's catalogue and after
 //! how many entries a checkpoint is made.
 
-ghost use Rattle.std.specs.Prelude.{◌≡◌, ◌≢◌, ◌<◌, ◌≤◌, ℕ, [], ◌∷◌, length, IfOk, IfSome, Option, Some};
+ghost use Rattle.std.specs.Prelude.{◌≡◌, ◌<◌, ◌≤◌, ℕ, [], ◌∷◌, length, All, IfOk, IfSome, IsTrue, None, Some};
 ghost use Rattle.std.specs.Coded.{codes};
+ghost use Rattle.std.proofs.Props.{props};
 ghost use Rattle.txn.specs.Codes.{coded_listing};
 ghost use Rattle.txn_programs.specs.declared.limits.TheConstants.{MAX_VARIABLES};
 ghost use Rattle.txn_programs.specs.Listing.{Listing, tasks};
@@ -13,11 +14,14 @@ ghost use Rattle.journal.specs.Lines.{told_run};
 ghost use Rattle.txn_programs.specs.LawfulReport.{LawfulReport, BaseReached};
 ghost use Rattle.book.specs.Turns.{IsEndOf, IsIdle, ReportIs};
 ghost use Rattle.run_workers.specs.Journals.{IsShort, KeepsShort};
-ghost use Rattle.run_workers.specs.declared.shared.Tried.TheVariants.{Passed};
+ghost use Rattle.run_workers.specs.Standing.{IsOver, NoneReady, ArePresent};
+ghost use Rattle.run_workers.specs.declared.held.TheConstants.{HELD};
+ghost use Rattle.run_workers.specs.declared.shared.Tried.TheVariants.{Over};
 
-use crate::held::Held;
+use crate::held::HELD;
 use crate::waiting::lock;
 use crate::weights::{Size, size_in};
+use arrayvec::ArrayVec;
 use attempt::Attempt;
 use book::{Book, Finish, Serial};
 use cells::{Cells, Publisher};
@@ -46,22 +50,20 @@ impl Naming for Brand {
 pub(crate) struct Named<'a, N: Naming> {
     book: Book<'a>,
     /// Tasks that were taken, and wait for their turns.
-    pub(crate) held: Vec<Held<N>>,
+    pub(crate) held: ArrayVec<TaskId, HELD>,
     of: PhantomData<N>,
     ghost of_catalogue: { book.catalogue ≡ N.catalogue } by { Prim.hlevel (codes, coded_listing) },
     ghost short: { IsShort N.every book.base.number (length book.journal) },
+    ghost exist: { All (λ t. t.0 < length (tasks N.catalogue)) held.items } by { Prim.hlevel props },
+    ghost room: { length held.items < HELD },
 }
 
 /// How a try ended.
 #[derive(Clone, Copy, Debug, PartialEq, Eq)]
 pub(crate) enum Tried {
-    /// The task is committed, parked or given up.
-    Over,
-    /// The task is committed or parked, and at the same time under the lock the next one was taken,
-    /// if one was ready.
-    Passed(Option<TaskId>),
-    /// The task was not running.
-    NotRunning,
+    /// The task is over: no worker has it any more. The next one, where it was taken at the same time under
+    /// the lock.
+    Over(Option<TaskId>),
     /// What was read is no longer so. The task is still running.
     Stale,
     /// A growth was refused. The task is still running.
@@ -82,7 +84,7 @@ pub(crate) fn open<'a, N: Naming>(
     let book = Book::open(alloc, catalogue, cells, publisher)?;
     Ok(Named {
         book,
-        held: Vec::new(alloc),
+        held: ArrayVec::new(),
         of: PhantomData,
     })
 }
@@ -95,82 +97,98 @@ pub(crate) fn take<R: Wait, N: Naming>(rt: &R, shared: &Mutex<Named<'_, N>>) -> 
     next(&mut named)
 }
 
-/// The lowest ready task, which is then running.
+/// The lowest ready task, which is then running. `None` only if none is ready.
 pub(crate) fn next<N: Naming>(named: &mut Named<'_, N>) -> Option<TaskId>
-    ensures { IfSome result (λ t. t.0 < length (tasks N.catalogue)) }
+    ensures exists { IfSome result (λ t. t.0 < length (tasks N.catalogue)) }
+    ensures none { result ≡ None → NoneReady named.new.book }
 {
     let book = &mut named.book;
     book.law();
     book.take()
 }
 
-/// Gives a task up.
-pub(crate) fn give_up<R: Wait, N: Naming>(rt: &R, shared: &Mutex<Named<'_, N>>, task: TaskId)
+/// The next task, where it is to be taken at the same time under the lock.
+fn next_at_once<N: Naming>(named: &mut Named<'_, N>, at_once: bool) -> Option<TaskId>
+    ensures { IfSome result (λ t. t.0 < length (tasks N.catalogue)) }
+{
+    if at_once { next(named) } else { None }
+}
+
+/// Gives a task up. The next one, where it is to be taken at once.
+pub(crate) fn give_up<R: Wait, N: Naming>(
+    rt: &R,
+    shared: &Mutex<Named<'_, N>>,
+    task: TaskId,
+    at_once: bool,
+) -> Option<TaskId>
     requires { task.0 < length (tasks N.catalogue) }
+    ensures { IfSome result (λ t. t.0 < length (tasks N.catalogue)) }
 {
     let mut named = lock(rt, shared);
     drop_task(&mut named, task);
+    next_at_once(&mut named, at_once)
 }
 
-/// A task is given up.
+/// A task is given up, so that it is over.
 pub(crate) fn drop_task<N: Naming>(named: &mut Named<'_, N>, task: TaskId)
     requires { task.0 < length (tasks N.catalogue) }
+    ensures { IsOver named.new.book task }
 {
     let book = &mut named.book;
     book.law();
     book.give_up(task);
 }
 
-/// Brings the end of an attempt to the book; the worker keeps the attempt. Where it goes `on` and
-/// the task is over, it takes the next one before the lock is let go.
+/// Brings the end of an attempt to the book; the worker keeps the attempt. Where the task is over, and the
+/// next one is to be taken at once, that is done before the lock is let go.
 pub(crate) fn finish<R: Wait, N: Naming>(
     rt: &R,
     shared: &Mutex<Named<'_, N>>,
     every: u32,
     task: TaskId,
     attempt: &mut Attempt<'_>,
-    on: bool,
+    at_once: bool,
 ) -> Tried
     requires every { every ≡ N.every }
     requires exists { task.0 < length (tasks N.catalogue) }
     requires ended { IsEndOf N.catalogue task attempt.old }
-    ensures next { (t : TaskId) → result ≡ Passed (Some t) → t.0 < length (tasks N.catalogue) }
+    ensures next { (t : TaskId) → result ≡ Over (Some t) → t.0 < length (tasks N.catalogue) }
 {
     let mut named = lock(rt, shared);
-    let tried = end(&mut named, every, task, attempt);
-    if on && tried == Tried::Over {
-        return Tried::Passed(next(&mut named));
+    if end(&mut named, every, task, attempt) {
+        Tried::Over(next_at_once(&mut named, at_once))
+    } else {
+        Tried::Stale
     }
-    tried
 }
 
-/// Brings the end of an attempt to the book. A commit that makes the journal long enough is
-/// followed by a checkpoint.
+/// Brings the end of an attempt to the book: whether the task is over then. Where it is not, what was read
+/// is no longer so. A commit that makes the journal long enough is followed by a checkpoint.
 pub(crate) fn end<N: Naming>(
     named: &mut Named<'_, N>,
     every: u32,
     task: TaskId,
     attempt: &mut Attempt<'_>,
-) -> Tried
+) -> bool
     requires every { every ≡ N.every }
     requires exists { task.0 < length (tasks N.catalogue) }
     requires ended { IsEndOf N.catalogue task attempt.old }
-    ensures { (next : Option TaskId) → result ≢ Passed next }
+    ensures { IsTrue result → IsOver named.new.book task }
 {
     let book = &mut named.book;
     book.law();
     match book.finish_lent(task, attempt) {
-        Finish::NotRunning => Tried::NotRunning,
-        Finish::Stale => Tried::Stale,
-        Finish::Parked => Tried::Over,
+        Finish::Stale => false,
+        Finish::NotRunning | Finish::Parked => true,
         Finish::Committed(number) => {
             book.keep_short(every, Serial::Committed(number));
-            Tried::Over
+            true
         }
     }
 }
 
-/// A turn of a task on the present values, under the lock, by an attempt that is restarted for it.
+/// A turn of a task on the present values, under the lock, by an attempt that is restarted for it. The next
+/// one, where it is to be taken at once.
 #[inline(never)]
 pub(crate) fn serial<'b, R: Wait, N: Naming>(
     rt: &R,
@@ -178,20 +196,20 @@ pub(crate) fn serial<'b, R: Wait, N: Naming>(
     every: u32,
     attempt: &mut Attempt<'b>,
     task: TaskId,
-) -> Tried
+    at_once: bool,
+) -> Option<TaskId>
     requires every { every ≡ N.every }
     requires exists { task.0 < length (tasks N.catalogue) }
-    ensures { (next : Option TaskId) → result ≢ Passed next }
+    ensures { IfSome result (λ t. t.0 < length (tasks N.catalogue)) }
 {
     let mut named = lock(rt, shared);
-    match turn(&mut named, every, attempt, task) {
-        Serial::NotRunning => Tried::NotRunning,
-        Serial::Parked | Serial::Committed(_) | Serial::Abandoned => Tried::Over,
-    }
+    turn(&mut named, every, attempt, task);
+    next_at_once(&mut named, at_once)
 }
 
 /// The present values, one for each variable.
 pub(crate) fn present<'n, N: Naming>(named: &'n Named<'_, N>) -> &'n [i64]
+    ensures present { ArePresent N.catalogue result.now }
     ensures wide { length result.now ≡ length N.catalogue.initial }
     ensures few { length result.now ≤ MAX_VARIABLES }
 {
@@ -209,21 +227,21 @@ pub(crate) fn size<N: Naming>(named: &Named<'_, N>, sizes: &[Size], task: TaskId
     size_in(sizes, book.task_tx(task))
 }
 
-/// The turn of a task, and a checkpoint where one is due.
+/// The turn of a task, behind which it is over, and a checkpoint where one is due.
 pub(crate) fn turn<'b, N: Naming>(
     named: &mut Named<'b, N>,
     every: u32,
     attempt: &mut Attempt<'b>,
     task: TaskId,
-) -> Serial
+)
     requires every { every ≡ N.every }
     requires exists { task.0 < length (tasks N.catalogue) }
+    ensures { IsOver named.new.book task }
 {
     let book = &mut named.book;
     book.law();
     let how = book.serial_lent(attempt, task);
     book.keep_short(every, how);
-    how
 }
 
 /// Gives what is left a turn, and tells the book.

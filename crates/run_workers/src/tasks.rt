@@ -10,12 +10,12 @@ ghost use Rattle.run_workers.specs.Journals.{KeepsShort};
 use crate::gate::Gate;
 use crate::shared::{Named, Naming, open, settle};
 use crate::threads::start;
-use crate::weights::{Size, are_short, sizes_of};
+use crate::weights::{Size, Weights, are_short, sizes_of};
 use crate::worker::{Crew, work};
 use cells::{Cells, Pass, Publisher};
 use journal::RunReport;
 use run_options::Options;
-use std::alloc::{AllocError, Global};
+use std::alloc::Global;
 use std::marker::Brand;
 use std::sync::{Mutex, Wait};
 use std::thread::Threads;
@@ -26,10 +26,8 @@ use txn::{Catalogue, Memory, Report};
 ///
 /// The workers read the cells by a pass each, and share the book behind a lock, which publishes to
 /// the cells. When they have ended, the book gives a turn to what is left, and no task is ready or
-/// running when it reports. Where the gate is open, a task that is short has such a turn too, under
-/// the lock and before any try, and light ones, which only read, are tried some at a time on a copy of
-/// the present values; and one worker, or any number of them where all tasks are short, would
-/// do just what these turns do, so all is left to them, over cells that nobody reads. Each standing
+/// running when it reports. Under a gate that is not open each task is tried by itself. Under an open one it
+/// goes by what tasks weigh (`Weights::LEAST_TIME`), and one worker tries none. Each standing
 /// condition is true of the values that it reports. With a checkpoint after each N entries the journal
 /// has fewer than N, and the base is a multiple of N; with none the base is 0.
 pub fn run_tasks<R: Threads + Wait + Sync, G: Gate>(
@@ -61,8 +59,42 @@ pub fn run_in_lines<R: Threads + Wait + Sync, G: Gate>(
     ensures upheld { IfOk result (λ r. Upholds catalogue.now (base_of (told_run r)).state × Upholds catalogue.now (now_of (told_run r)).state) }
     ensures short { IfOk result (λ r. KeepsShort options.checkpoint (told_run r)) }
 {
-    let sizes = sizes_under::<G>(alloc, catalogue, options)?;
-    if G::IS_OPEN && is_drain(&sizes, catalogue, options) {
+    let weights = weights_under::<G>(options);
+    run_weighed(rt, alloc, catalogue, options, weights, gate)
+}
+
+/// From which weight on tasks are tried: the gate says it, and how many workers there are.
+fn weights_under<G: Gate>(options: Options) -> Weights {
+    if !G::IS_OPEN {
+        return Weights::EACH;
+    }
+    if options.workers() == 1 {
+        return Weights::NONE;
+    }
+    Weights::LEAST_TIME
+}
+
+/// As `run_in_lines`, where tasks are tried from these weights on, whatever the gate is: that call gives it
+/// those which it says.
+///
+/// A task that is tried by itself is evaluated on what its worker's pass reads; one that is tried with others, on a
+/// copy of the present values; one that is not tried has its turn under the lock. Where none is tried there are no
+/// workers: all is left to the turns behind them, over cells that nobody reads.
+pub fn run_weighed<R: Threads + Wait + Sync, G: Gate>(
+    rt: &R,
+    alloc: Global,
+    catalogue: &Catalogue,
+    options: Options,
+    weights: Weights,
+    gate: &G,
+) -> Result<RunReport, Memory>
+    ensures lawful { IfOk result (λ r. LawfulReport catalogue.now (told_run r)) }
+    ensures reached { IfOk result (λ r. BaseReached catalogue.now (told_run r)) }
+    ensures upheld { IfOk result (λ r. Upholds catalogue.now (base_of (told_run r)).state × Upholds catalogue.now (now_of (told_run r)).state) }
+    ensures short { IfOk result (λ r. KeepsShort options.checkpoint (told_run r)) }
+{
+    let sizes = sizes_of(alloc, catalogue, weights)?;
+    if are_short(&sizes, catalogue.runs()) {
         let (cells, publisher) = Cells::unread(alloc, catalogue.initial())?;
         return drain_named::<Brand>(alloc, catalogue, &cells, publisher, options);
     }
@@ -74,11 +106,6 @@ pub fn run_in_lines<R: Threads + Wait + Sync, G: Gate>(
     run_named::<R, G, Brand>(
         rt, alloc, catalogue, sizes, &cells, publisher, passes, options, gate,
     )
-}
-
-/// Whether workers under an open gate would do just what turns of the lowest ready task do.
-fn is_drain(sizes: &[Size], catalogue: &Catalogue, options: Options) -> bool {
-    options.workers() == 1 || are_short(sizes, catalogue.runs())
 }
 
 /// Gives the tasks of the catalogue of this name their turns, with no worker.
@@ -128,19 +155,6 @@ fn run_named<'b, R: Threads + Wait + Sync, G: Gate, N: Naming>(
         rt, alloc, catalogue, sizes, cells, &shared, passes, options, gate,
     );
     settle(alloc, options.checkpoint(), shared.into_inner())
-}
-
-/// How tasks of each transaction are run, where several workers stand under an open gate; else nothing,
-/// so that all are tried on what a pass reads.
-fn sizes_under<G: Gate>(
-    alloc: Global,
-    catalogue: &Catalogue,
-    options: Options,
-) -> Result<Vec<Size>, AllocError> {
-    if G::IS_OPEN && options.workers() > 1 {
-        return sizes_of(alloc, catalogue);
-    }
-    Ok(Vec::new(alloc))
 }
 
 /// Runs a worker for each pass, side by side, and waits for them.

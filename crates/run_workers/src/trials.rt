@@ -4,13 +4,15 @@
 //! is the lock. So a worker takes some of them in one time under the lock, tries each with no lock held,
 //! and brings their ends to the book in the next.
 
-ghost use Rattle.std.specs.Prelude.{◌≡◌, ◌<◌, length, true};
+ghost use Rattle.std.specs.Prelude.{◌≡◌, ◌≢◌, ◌<◌, length, true, All, IsTrue};
 ghost use Rattle.std.specs.Coded.{codes};
 ghost use Rattle.txn_programs.specs.Listing.{tasks, task_program};
 ghost use Rattle.attempt.specs.CodedProgram.{coded_program};
 ghost use Rattle.run_workers.specs.Over.{is_over};
+ghost use Rattle.run_workers.specs.Standing.{ArePresent};
 ghost use Rattle.run_workers.specs.declared.trials.How.{How};
 
+use crate::gate::{Gate, Point, stop_at};
 use crate::shared::Naming;
 use attempt::Attempt;
 use std::alloc::Global;
@@ -66,6 +68,9 @@ impl<'b, N: Naming> Trial<'b, N> {
     /// It has this task from now on, which was taken.
     pub(crate) fn give(&mut self, task: TaskId)
         requires exists { task.0 < length (tasks N.catalogue) }
+        ensures task { self.new.task ≡ task }
+        ensures begun { self.new.how ≡ How.Begun }
+        ensures untried { self.new.stale ≡ 0 }
     {
         self.how = How::Begun;
         self.task = task;
@@ -110,12 +115,16 @@ pub(crate) fn idle_trials<'b, N: Naming>(
 }
 
 /// Whether none has a task.
-pub(crate) fn are_idle<N: Naming>(trials: &[Trial<'_, N>]) -> bool {
+pub(crate) fn are_idle<N: Naming>(trials: &[Trial<'_, N>]) -> bool
+    ensures { IsTrue result → All (λ t. t.how ≡ How.Idle) trials.now }
+{
     trials.iter().all(|trial| trial.how == How::Idle)
 }
 
 /// Whether each has a task, and there is one.
-pub(crate) fn are_busy<N: Naming>(trials: &[Trial<'_, N>]) -> bool {
+pub(crate) fn are_busy<N: Naming>(trials: &[Trial<'_, N>]) -> bool
+    ensures { IsTrue result → All (λ t. t.how ≢ How.Idle) trials.now }
+{
     !trials.is_empty() && trials.iter().all(|trial| trial.how != How::Idle)
 }
 
@@ -132,16 +141,25 @@ pub(crate) fn give_one<N: Naming>(trials: &mut [Trial<'_, N>], task: TaskId) -> 
     false
 }
 
-/// Tries the task of each.
-pub(crate) fn evaluate_all<'b, N: Naming>(
+/// Tries the task of each. A gate that is not open is told of a task before its first try, and of the end of
+/// each.
+pub(crate) fn evaluate_all<'b, G: Gate, N: Naming>(
+    gate: &G,
     trials: &mut [Trial<'b, N>],
     catalogue: &'b Catalogue,
     values: &[i64],
 )
     requires named { catalogue.now ≡ N.catalogue }
+    requires present { ArePresent N.catalogue values.now }
     requires values { length values.now ≡ length catalogue.now.initial }
 {
     for trial in trials.iter_mut() {
+        if trial.how == How::Begun && trial.stale == 0 {
+            stop_at(gate, Point::Taken, trial.task);
+        }
         trial.evaluate(catalogue, values);
+        if trial.how == How::Ended {
+            stop_at(gate, Point::Ended, trial.task);
+        }
     }
 }

@@ -5,10 +5,26 @@ ghost use Rattle.cells.specs.Passing.{at};
 ghost use Rattle.run_observer.specs.Observing.{ObservesBy, IsStaleFrom, EvaluatesTo, LacksMemory};
 
 use crate::gate::{Gate, Point, stop_at};
-use attempt::{Attempt, Next};
+use attempt::Attempt;
 use cells::{Cells, Pass};
-use run_observer::{Cut, evaluate, tell};
-use txn::{Catalogue, Outcome, TaskId, TxId};
+use run_observer::{Cut, Watch, evaluate_by};
+use txn::{Catalogue, Outcome, TaskId, TxId, VarId};
+
+/// The gate, which is told of what the attempt of a task needs.
+#[derive(Drop)]
+struct AtNeeds<'g, G: Gate> {
+    gate: &'g G,
+    task: TaskId,
+}
+
+impl<'g, G: Gate> Watch for AtNeeds<'g, G> {
+    #[inline(always)]
+    fn needs(&self, _x: VarId) {
+        if !G::IS_OPEN {
+            self.gate.at(Point::Needs, self.task);
+        }
+    }
+}
 
 /// Restarts the attempt as one of the task's transaction, and brings it to its end on one state of
 /// the cells: that of the begin of the pass, or the last to which the pass moved. A gate that is not
@@ -35,51 +51,10 @@ pub(crate) fn attempt_on<'c, G: Gate>(
     ensures stale { IfErr result (λ why. why ≡ Cut.Stale → IsStaleFrom pass.old pass.new) }
     ensures memory { IfErr result (λ why. why ≡ Cut.Memory → (pass.new.open_now ≡ true) × LacksMemory catalogue.now tx attempt.new) }
 {
-    if G::IS_OPEN {
-        return evaluate(attempt, catalogue, tx, cells, pass);
+    let watch = AtNeeds { gate, task };
+    let ended = evaluate_by(attempt, catalogue, tx, cells, pass, &watch);
+    if ended.is_ok() {
+        stop_at(gate, Point::Ended, task);
     }
-    attempt_held(attempt, catalogue, tx, cells, pass, gate, task)
-}
-
-/// The same beside a gate that is not open: the machine is left at each need, for the gate.
-fn attempt_held<'c, G: Gate>(
-    attempt: &mut Attempt<'c>,
-    catalogue: &'c Catalogue,
-    tx: TxId,
-    cells: &Cells,
-    pass: &mut Pass,
-    gate: &G,
-    task: TaskId,
-) -> Result<Outcome, Cut>
-    requires known { tx.0 < length catalogue.now.transactions }
-    requires own { pass.old.cells ≡ cells.now }
-    requires variables { cells.now.variables ≡ length catalogue.now.initial }
-    ensures observes { ObservesBy pass.old pass.new }
-    ensures ended { IfOk result (λ how. EvaluatesTo catalogue.now tx (at pass.new) how attempt.new) }
-    ensures stale { IfErr result (λ why. why ≡ Cut.Stale → IsStaleFrom pass.old pass.new) }
-    ensures memory { IfErr result (λ why. why ≡ Cut.Memory → (pass.new.open_now ≡ true) × LacksMemory catalogue.now tx attempt.new) }
-{
-    pass.begin(cells);
-    attempt.restart(catalogue, tx);
-    loop {
-        pass.law();
-        match attempt.advance() {
-            Next::Need(x) => {
-                stop_at(gate, Point::Needs, task);
-                tell(attempt, x, cells, pass)?;
-            }
-            Next::Memory => return Err(Cut::Memory),
-            Next::Returned(v) => return ended(gate, task, Outcome::Returned(v)),
-            Next::Thrown(fault) => return ended(gate, task, Outcome::Thrown(fault)),
-            Next::Retry => return ended(gate, task, Outcome::Retries),
-        }
-    }
-}
-
-/// Tells the gate that the attempt has ended so.
-fn ended<G: Gate>(gate: &G, task: TaskId, how: Outcome) -> Result<Outcome, Cut>
-    ensures { result ≡ Ok how }
-{
-    stop_at(gate, Point::Ended, task);
-    Ok(how)
+    ended
 }

@@ -1,23 +1,26 @@
 //! The worker: it takes a task, tries it on what its pass reads, and brings the end to the book.
 //!
-//! Where the gate is open it does so with long tasks alone: short ones have their turn under the lock, and
-//! light ones are tried together, on a copy of the present values. A try whose pass could not move after a stale read, and an end that is stale,
+//! It does so with long tasks alone: short ones have their turn under the lock, and light ones are tried together, on a
+//! copy of the present values. A try whose pass could not move after a stale read, and an end that is stale,
 //! are each one stale try; after so many of them the task has its turn under the lock. A try that moved
 //! is none.
 
-ghost use Rattle.std.specs.Prelude.{◌≡◌, ◌<◌, length, IfSome, Some};
+ghost use Rattle.std.specs.Prelude.{◌≡◌, ◌<◌, [], length, false, All, IfSome, Some};
+ghost use Rattle.std.specs.List.{list_any};
 ghost use Rattle.std.specs.Coded.{codes};
 ghost use Rattle.txn.specs.Codes.{coded_listing};
 ghost use Rattle.txn_programs.specs.Listing.{tasks};
-ghost use Rattle.run_workers.specs.declared.shared.Tried.TheVariants.{Passed};
+ghost use Rattle.run_workers.specs.declared.shared.Tried.TheVariants.{Over};
+ghost use Rattle.run_workers.specs.declared.trials.How.{How};
+ghost use Rattle.run_workers.specs.Weighing.{is_light};
 
 use crate::gate::{Gate, Point, stop_at};
-use crate::rounds::{Values, close, round};
+use crate::rounds::{Values, begin, close, round};
 use crate::shared::{Named, Naming, Tried, finish, give_up, serial, take};
 use crate::trials::{Trial, are_idle, evaluate_all, idle_trials};
 use crate::trying::attempt_on;
 use crate::waiting::rest_after;
-use crate::weights::{Size, size_in};
+use crate::weights::{Size, have_light, size_in};
 use attempt::Attempt;
 use cells::{Cells, Pass};
 use run_observer::Cut;
@@ -33,7 +36,7 @@ const ROUNDS: u32 = 1_000_000;
 pub(crate) struct Crew<'a, 'b, G: Gate, N: Naming> {
     pub(crate) alloc: Global,
     pub(crate) catalogue: &'b Catalogue,
-    /// How tasks of each transaction are run; where it says nothing, by tries on what a pass reads.
+    /// How tasks of each transaction are run.
     pub(crate) sizes: Vec<Size>,
     pub(crate) cells: &'a Cells,
     /// The book, behind its lock.
@@ -82,7 +85,6 @@ fn serve<'b, R: Wait, G: Gate, N: Naming>(
 {
     let mut task = first;
     for _ in rt.forever() {
-        stop_at(crew.gate, Point::Taken, task);
         let Some(next) = pass_on(rt, crew, pass, attempt, trials, task) else {
             return;
         };
@@ -116,7 +118,7 @@ fn pass_on<'b, R: Wait, G: Gate, N: Naming>(
 
 /// Runs a task that was taken, and then each next one that is not long: short ones by their turns under
 /// the lock, light ones together, by tries between two times under it. The next task, `None` if none is
-/// ready.
+/// ready. No trial has a task then.
 fn run_rounds<'b, R: Wait, G: Gate, N: Naming>(
     rt: &R,
     crew: &Crew<'_, 'b, G, N>,
@@ -125,35 +127,47 @@ fn run_rounds<'b, R: Wait, G: Gate, N: Naming>(
     first: TaskId,
 ) -> Option<TaskId>
     requires exists { first.0 < length (tasks N.catalogue) }
-    ensures { IfSome result (λ t. t.0 < length (tasks N.catalogue)) }
+    ensures next { IfSome result (λ t. t.0 < length (tasks N.catalogue)) }
+    ensures idle { All (λ t. t.how ≡ How.Idle) trials.new }
 {
+    let (shared, every) = (crew.shared, crew.every);
     let sizes = crew.sizes.as_slice();
     let mut values = Values::new();
-    let mut given = Some(first);
+    let mut left = begin(
+        rt,
+        shared,
+        every,
+        sizes,
+        attempt,
+        trials,
+        &mut values,
+        first,
+    );
     'rounds: for _ in 0..ROUNDS {
-        let left = round(
+        if are_idle(trials) {
+            return left;
+        }
+        evaluate_all(crew.gate, trials, crew.catalogue, values.as_slice());
+        if left.is_some() {
+            close(rt, shared, every, attempt, trials);
+            return left;
+        }
+        left = round(
             rt,
-            crew.shared,
-            crew.every,
+            shared,
+            every,
             crew.tries,
             sizes,
             attempt,
             trials,
             &mut values,
-            given,
         );
-        if are_idle(trials) {
-            return left;
-        }
-        evaluate_all(trials, crew.catalogue, values.as_slice());
-        if left.is_some() {
-            close(rt, crew.shared, crew.every, attempt, trials);
-            return left;
-        }
-        given = None;
     }
-    close(rt, crew.shared, crew.every, attempt, trials);
-    take(rt, crew.shared)
+    close(rt, shared, every, attempt, trials);
+    match left {
+        Some(task) => Some(task),
+        None => take(rt, shared),
+    }
 }
 
 /// Its trials, where there are light tasks; else none.
@@ -162,12 +176,9 @@ fn first_trials<'b, G: Gate, N: Naming>(
     task: TaskId,
 ) -> Vec<Trial<'b, N>>
     requires { task.0 < length (tasks N.catalogue) }
+    ensures { list_any is_light crew.now.sizes.items ≡ false → result.items ≡ [] }
 {
-    if crew
-        .sizes
-        .iter()
-        .any(|size| matches!(*size, Size::Light(_)))
-    {
+    if have_light(crew.sizes.as_slice()) {
         return idle_trials(crew.alloc, crew.catalogue, task);
     }
     Vec::new(crew.alloc)
@@ -181,9 +192,33 @@ fn first_attempt<'b, G: Gate, N: Naming>(crew: &Crew<'_, 'b, G, N>, task: TaskId
     Attempt::new(crew.alloc, catalogue, catalogue.task_tx(task))
 }
 
-/// All tries of a task that was taken, and then a turn under the lock. The next task, `None` if
-/// none is ready.
+/// Runs a task that was taken by tries of its own. The next task, `None` if none is ready.
 fn run_task<'b, R: Wait, G: Gate, N: Naming>(
+    rt: &R,
+    crew: &Crew<'_, 'b, G, N>,
+    pass: &mut Pass,
+    attempt: &mut Attempt<'b>,
+    task: TaskId,
+) -> Option<TaskId>
+    requires exists { task.0 < length (tasks N.catalogue) }
+    requires own { pass.old.cells ≡ crew.now.cells.now }
+    ensures own { pass.new.cells ≡ pass.old.cells }
+    ensures next { IfSome result (λ t. t.0 < length (tasks N.catalogue)) }
+{
+    stop_at(crew.gate, Point::Taken, task);
+    let next = try_often(rt, crew, pass, attempt, task);
+    stop_at(crew.gate, Point::Finished, task);
+    if G::IS_OPEN {
+        next
+    } else {
+        take(rt, crew.shared)
+    }
+}
+
+/// All tries of a task, and then a turn under the lock. The task is over then. Under an open gate the next
+/// one was taken at the same time under the lock, and is answered, `None` if none is ready. Under any other
+/// none was: whoever is held at `Finished` has no task.
+fn try_often<'b, R: Wait, G: Gate, N: Naming>(
     rt: &R,
     crew: &Crew<'_, 'b, G, N>,
     pass: &mut Pass,
@@ -197,36 +232,16 @@ fn run_task<'b, R: Wait, G: Gate, N: Naming>(
 {
     for stale in 0..crew.tries {
         match try_task(rt, crew, pass, attempt, task) {
-            Tried::Passed(next) => return next,
-            Tried::Over => return go_on(rt, crew, task),
-            Tried::NotRunning => return take(rt, crew.shared),
+            Tried::Over(next) => return next,
             Tried::Stale => {
                 if stale + 1 < crew.tries {
                     rest_after(stale, crew.tries);
                 }
             }
-            Tried::Memory => {
-                give_up(rt, crew.shared, task);
-                return go_on(rt, crew, task);
-            }
+            Tried::Memory => return give_up(rt, crew.shared, task, G::IS_OPEN),
         }
     }
-    if serial(rt, crew.shared, crew.every, attempt, task) == Tried::Over {
-        return go_on(rt, crew, task);
-    }
-    take(rt, crew.shared)
-}
-
-/// Tells that the task is over, and then takes the next one.
-fn go_on<R: Wait, G: Gate, N: Naming>(
-    rt: &R,
-    crew: &Crew<'_, '_, G, N>,
-    task: TaskId,
-) -> Option<TaskId>
-    ensures { IfSome result (λ t. t.0 < length (tasks N.catalogue)) }
-{
-    stop_at(crew.gate, Point::Finished, task);
-    take(rt, crew.shared)
+    serial(rt, crew.shared, crew.every, attempt, task, G::IS_OPEN)
 }
 
 /// One try: the attempt outside the lock, and its end.
@@ -240,7 +255,7 @@ fn try_task<'b, R: Wait, G: Gate, N: Naming>(
     requires exists { task.0 < length (tasks N.catalogue) }
     requires own { pass.old.cells ≡ crew.now.cells.now }
     ensures own { pass.new.cells ≡ pass.old.cells }
-    ensures next { (t : TaskId) → result ≡ Passed (Some t) → t.0 < length (tasks N.catalogue) }
+    ensures next { (t : TaskId) → result ≡ Over (Some t) → t.0 < length (tasks N.catalogue) }
 {
     let catalogue = crew.catalogue;
     let tx = catalogue.task_tx(task);

@@ -1,9 +1,9 @@
 //! The run of all tasks of a file: from bytes to bytes.
 //!
 //! `run_bytes` reads a file, has its tasks run, and writes the report to a sink. `run_tasks`, from
-//! a catalogue to a report, and `run_in_lines`, whose journal stays in the book's lines, are of the crate
-//! `run_workers`, and are handed out here with what they take, as are the faults of a run, which are of
-//! `run_faults`.
+//! a catalogue to a report, `run_in_lines`, whose journal stays in the book's lines, and `run_weighed`, which
+//! is told from which weight on tasks are tried, are of the crate `run_workers`, and are handed out here
+//! with what they take, as are the faults of a run, which are of `run_faults`.
 #![tactic(auto)]
 
 mod bytes;
@@ -15,4 +15,4 @@ pub use run_faults::RunFault;
 pub use run_observer::{Observed, observe};
 pub use run_options::Options;
 pub use run_sink::{Out, Sink, SinkFault};
-pub use run_workers::{Gate, OpenGate, Point, run_in_lines, run_tasks};
+pub use run_workers::{Gate, OpenGate, Point, Weights, run_in_lines, run_tasks, run_weighed};

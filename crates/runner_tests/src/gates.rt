@@ -15,28 +15,33 @@ const ENDED: Place = (Point::Ended, TaskId(0));
 
 const FINISHED: [Place; 2] = [(Point::Finished, TaskId(0)), (Point::Finished, TaskId(1))];
 
-/// A hold that nothing comes to.
-fn none() -> Hold {
-    Hold::new((Point::Taken, TaskId(2)), ENDED)
+/// This hold alone.
+fn only(hold: Hold) -> [Hold; 3] {
+    [hold, Hold::none(), Hold::none()]
+}
+
+/// These two.
+fn both(first: Hold, second: Hold) -> [Hold; 3] {
+    [first, second, Hold::none()]
 }
 
 #[test]
 fn an_end_is_held_until_the_other_committed(rt: HostRuntime) {
     let hold = Hold::new(ENDED, FINISHED[1]);
-    hold_two(&rt, rt.alloc(), 8, hold, none(), SWAPPED);
+    hold_two(&rt, rt.alloc(), 8, only(hold), SWAPPED);
 }
 
 #[test]
 fn a_need_is_held_until_the_other_committed(rt: HostRuntime) {
     let hold = Hold::new(NEEDS, FINISHED[1]);
-    let ends = hold_two(&rt, rt.alloc(), 8, hold, none(), SWAPPED);
+    let ends = hold_two(&rt, rt.alloc(), 8, only(hold), SWAPPED);
     assert_eq!(rt; ends, 1);
 }
 
 #[test]
 fn a_taken_task_is_held_until_the_other_committed(rt: HostRuntime) {
     let hold = Hold::new(TAKEN[0], FINISHED[1]);
-    hold_two(&rt, rt.alloc(), 8, hold, none(), SWAPPED);
+    hold_two(&rt, rt.alloc(), 8, only(hold), SWAPPED);
 }
 
 #[test]
@@ -44,16 +49,17 @@ fn tries_are_counted(rt: HostRuntime) {
     for tries in [1, 2] {
         let first = Hold::new(TAKEN[1], ENDED);
         let second = Hold::new(ENDED, FINISHED[1]);
-        let ends = hold_two(&rt, rt.alloc(), tries, first, second, SWAPPED);
+        let ends = hold_two(&rt, rt.alloc(), tries, both(first, second), SWAPPED);
         assert_eq!(rt; ends, u64::from(tries));
     }
 }
 
 #[test]
 fn a_finished_task_is_held_while_the_other_runs(rt: HostRuntime) {
+    // Who is held at `Finished` has no task, so the other one comes to another worker.
     let first = Hold::new(TAKEN[1], FINISHED[0]);
     let second = Hold::new(FINISHED[0], FINISHED[1]);
-    hold_two(&rt, rt.alloc(), 8, first, second, IN_TURN);
+    hold_two(&rt, rt.alloc(), 8, both(first, second), IN_TURN);
 }
 
 /// A sum of two variables, and a task that sets the second.
@@ -67,7 +73,7 @@ const MOVED: &str = "base 0\nx 1 0\ny 1 0\nentry 1 1 sety returned 0\nentry 2 0 
 #[test]
 fn a_moved_attempt_commits_at_its_first_try(rt: HostRuntime) {
     let hold = Hold::after(1, NEEDS, FINISHED[1]);
-    let ends = hold_run(&rt, rt.alloc(), SUM, 1, hold, none(), MOVED);
+    let ends = hold_run(&rt, rt.alloc(), SUM, 1, only(hold), MOVED);
     assert_eq!(rt; ends, 1);
 }
 
@@ -94,7 +100,7 @@ fn no_kind_of_end_comes_from_values_that_are_gone(rt: HostRuntime) {
     for (text, report) in SEEN_LATE {
         let first = Hold::new(TAKEN[1], ENDED);
         let second = Hold::new(ENDED, FINISHED[1]);
-        let ends = hold_run(&rt, rt.alloc(), text, 8, first, second, report);
+        let ends = hold_run(&rt, rt.alloc(), text, 8, both(first, second), report);
         assert_eq!(rt; ends, 2);
     }
 }

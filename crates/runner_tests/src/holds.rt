@@ -44,6 +44,11 @@ impl Hold {
         Hold::after(0, held, until)
     }
 
+    /// A hold that nothing comes to.
+    pub(crate) fn none() -> Hold {
+        Hold::new((Point::Taken, TaskId(u32::MAX)), (Point::Taken, TaskId(0)))
+    }
+
     /// A hold once the worker has passed so often.
     pub(crate) fn after(passes: u64, held: Place, until: Place) -> Hold {
         Hold {
@@ -79,24 +84,41 @@ impl Hold {
     }
 }
 
-/// Two holds, and how often the first task ended an attempt.
+/// Holds, and how often the first task ended an attempt.
 #[derive(Drop)]
-struct Script {
-    first: Hold,
-    second: Hold,
+pub(crate) struct Script {
+    holds: [Hold; 3],
     ends: AtomicU64,
     late: AtomicBool,
 }
 
+impl Script {
+    pub(crate) fn new(holds: [Hold; 3]) -> Script {
+        Script {
+            holds,
+            ends: AtomicU64::new(0),
+            late: AtomicBool::new(false),
+        }
+    }
+
+    /// Whether what a hold waits for did not come in time.
+    pub(crate) fn is_late(&self) -> bool {
+        self.late.load(Ordering::SeqCst)
+    }
+}
+
 impl Gate for Script {
     fn at(&self, point: Point, task: TaskId) {
-        self.first.enter(point, task);
-        self.second.enter(point, task);
+        for hold in self.holds.iter() {
+            hold.enter(point, task);
+        }
         if is_at((Point::Ended, TaskId(0)), point, task) {
             self.ends.fetch_add(1, Ordering::SeqCst);
         }
-        if !self.first.wait(point, task) || !self.second.wait(point, task) {
-            self.late.store(true, Ordering::SeqCst);
+        for hold in self.holds.iter() {
+            if !hold.wait(point, task) {
+                self.late.store(true, Ordering::SeqCst);
+            }
         }
     }
 }
@@ -106,11 +128,10 @@ pub(crate) fn hold_two(
     rt: &(impl Threads + Wait + Sync + Abort),
     alloc: Global,
     tries: u32,
-    first: Hold,
-    second: Hold,
+    holds: [Hold; 3],
     wanted: &str,
 ) -> u64 {
-    hold_run(rt, alloc, TWO, tries, first, second, wanted)
+    hold_run(rt, alloc, TWO, tries, holds, wanted)
 }
 
 /// Runs the text by two workers with these holds. How often the first task ended an attempt.
@@ -119,21 +140,15 @@ pub(crate) fn hold_run(
     alloc: Global,
     text: &str,
     tries: u32,
-    first: Hold,
-    second: Hold,
+    holds: [Hold; 3],
     wanted: &str,
 ) -> u64 {
-    let script = Script {
-        first,
-        second,
-        ends: AtomicU64::new(0),
-        late: AtomicBool::new(false),
-    };
+    let script = Script::new(holds);
     let options = options(rt, 2, tries, 0);
     let mut out = Out::new(Vec::new(alloc));
     let ran = run_bytes(rt, alloc, text.as_bytes(), options, &script, &mut out);
     assert!(rt; ran.is_ok());
     assert!(rt; out.into_inner().as_slice() == wanted.as_bytes());
-    assert!(rt; !script.late.load(Ordering::SeqCst));
+    assert!(rt; !script.is_late());
     script.ends.load(Ordering::SeqCst)
 }

@@ -19,6 +19,8 @@ mod many;
 #[cfg(test)]
 mod outputs;
 #[cfg(test)]
+mod overlap;
+#[cfg(test)]
 mod parts;
 #[cfg(test)]
 mod played_parts;
@@ -40,5 +42,7 @@ mod settings;
 mod sinks;
 #[cfg(test)]
 mod texts;
+#[cfg(test)]
+mod weighed;
 #[cfg(test)]
 mod writers;

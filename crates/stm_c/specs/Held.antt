@@ -1,7 +1,6 @@
 -- What a call does where a handle that it is given may be empty.
 use Rattle.std.specs.Prelude.{◌≡◌, Option, Some, None}
 use Rattle.stm_store.specs.declared.store.Store.{Store}
-use Rattle.stm_store.specs.declared.worker.Worker.{Worker}
 
 -- where the handle is empty, it stays so and the answer says it; else the call is made on what it holds, and it holds what is left
 abbrev pub On : {X A : Type 0} → Option X → Option X → A → A → (X → A → X → Type 0) → Type 0
@@ -20,14 +19,10 @@ abbrev pub HoldsSome : {X : Type 0} → (X → Type 0) → Option X → Type 0
 HoldsSome Is None = ⊥
 HoldsSome Is (Some held) = Is held
 
--- a worker's program is the store's, where both are there
-abbrev pub IsOf : Option Worker → Option Store → Type 0
-IsOf (Some worker) (Some store) = worker.catalogue.now ≡ store.catalogue.now
-IsOf (Some worker) None = Unit {0}
-IsOf None store = Unit {0}
-
--- the same as `On` of a call on a store and a worker: both handles are as they were where one is empty
-abbrev pub OnBoth : {A : Type 0} → Option Store → Option Worker → Option Store → Option Worker → A → A → (Store → Worker → A → Store → Worker → Type 0) → Type 0
+-- the same as `On` of a call on a store and on what another handle holds: both handles are as they were where one is
+-- empty
+abbrev pub OnBoth : {X A : Type 0} → Option Store → Option X → Option Store → Option X → A → A
+    → (Store → X → A → Store → X → Type 0) → Type 0
 OnBoth (Some old) (Some before) (Some new) (Some after) empty answer Call = Call old before answer new after
 OnBoth (Some old) (Some before) (Some new) None empty answer Call = ⊥
 OnBoth (Some old) (Some before) None worker empty answer Call = ⊥

@@ -1,6 +1,8 @@
+pub mod ByTicket
 pub mod Calls
 pub mod Files
 pub mod Held
+pub mod LenderHandle
 pub mod Looking
 pub mod Made
 pub mod Named

@@ -1,25 +1,24 @@
 -- What a host is told of a store in numbers.
-use Rattle.std.specs.Prelude.{◌≡◌, ℕ, ℤ, pos, negsuc, ◌<◌, ◌≤◌, List, length, Option, Some, None, IsUtf8}
-use Rattle.txn_programs.specs.declared.ast.TaskId.{TaskId}
+use Rattle.std.specs.Prelude.{◌≡◌, ℕ, ℤ, negsuc, ◌<◌, ◌≤◌, List, length, Option, Some, None, IsUtf8}
 use Rattle.book.specs.View.{BookView}
-use Rattle.book.specs.Submitted.{Submits}
 use Rattle.book.specs.declared.counting.Counts.{Counts}
-use Rattle.stm_store.specs.Working.{IsValueOf}
-use Rattle.stm_c.specs.declared.codes.Standing.{Standing}
-
--- a task's number; where none was submitted, that there is no room (-14)
-abbrev pub number_of_task : Option TaskId → ℤ
-number_of_task None = negsuc 13
-number_of_task (Some task) = pos task.0
+use Rattle.stm_store.specs.declared.job.Ticket.{Ticket}
+use Rattle.stm_store.specs.declared.store.Store.{Store}
+use Rattle.stm_store.specs.Asking.{Submits}
+use Rattle.stm_store.specs.Keeping.{KeepsStore}
+use Rattle.stm_store.specs.Telling.{IsValueOf}
+use Rattle.stm_c.specs.Numbers.{ticket_told}
+use Rattle.stm_c.specs.declared.codes.Counted.{Counted}
 
 -- `stm_submit`: -9 and nothing changed where there is no such transaction
-abbrev pub SubmitsBy : BookView → ℕ → ℤ → BookView → Type 0
-SubmitsBy old tx n new =
-    (length old.catalogue.transactions ≤ tx → (n ≡ negsuc 8) × (new ≡ old))
-    × (tx < length old.catalogue.transactions → (task : Option TaskId) × Submits old (record { 0 = tx }) task new × (n ≡ number_of_task task))
+pub record SubmitsBy (old : Store) (tx : ℕ) (answer : ℤ) (new : Store) : Type 0 where
+  pub unknown : length old.catalogue.now.transactions ≤ tx → (answer ≡ negsuc 8) × (new ≡ old)
+  pub submitted : tx < length old.catalogue.now.transactions
+      → (ticket : Option Ticket) × Submits old (record { 0 = tx }) ticket new × (answer ≡ ticket_told ticket)
+  pub kept : KeepsStore old new
 
 -- the counts that were written
-abbrev pub counts_in : Standing → Counts
+abbrev pub counts_in : Counted → Counts
 counts_in s = record { ready = s.ready; running = s.running; parked = s.parked; done = s.done; given_up = s.given_up }
 
 -- `stm_value`: the present value and version of the variable of this name

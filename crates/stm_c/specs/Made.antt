@@ -6,18 +6,24 @@ use Rattle.txn_text.specs.Spelling.{Spells}
 use Rattle.book.specs.View.{opened}
 use Rattle.stm_store.specs.declared.program.Program.{Program}
 use Rattle.stm_store.specs.declared.store.Store.{Store}
+use Rattle.stm_store.specs.declared.lender.Lender.{Lender}
 use Rattle.stm_store.specs.declared.worker.Worker.{Worker}
+use Rattle.stm_store.specs.Tickets.{AreNumbers}
 
 -- `stm_read`: the program that the bytes spell
 abbrev pub IsRead : List ℕ → Program → Type 0
 IsRead file program = Spells file program.catalogue.now
 
--- all tasks ready, the initial values, an empty journal, and room for so many workers and tasks more
+-- all tasks ready, each with its number as its ticket, the initial values, an empty journal, the first chapter, and
+-- room for so many workers and tasks more
 pub record IsOpened (program : Program) (workers every spare : ℕ) (store : Store) : Type 0 where
   pub book : store.book ≡ opened program.catalogue.now store.cells.now spare
   pub program_is : store.catalogue.now ≡ program.catalogue.now
   pub for_workers : length store.passes.items ≡ workers
   pub checkpoints : store.every ≡ every
+  pub numbers : AreNumbers store.tickets.held (length (tasks program.catalogue.now))
+  pub given : store.tickets.given ≡ length (tasks program.catalogue.now)
+  pub chapter : store.chapter ≡ 0
 
 -- `stm_open`: of the program that its handle holds
 abbrev pub IsOpenedOf : Option Program → ℕ → ℕ → ℕ → Store → Type 0
@@ -54,3 +60,19 @@ pub record LeavesWorkers (old : Store) (answer : ℤ) (new : Store) : Type 0 whe
   pub memory : answer ≡ negsuc 5 → length new.passes.items + 1 ≡ length old.passes.items
   pub none : answer ≡ negsuc 9 → (old.passes.items ≡ []) ⊎ (old.catalogue.now.transactions ≡ [])
   pub stays : (answer ≡ pos 0 → ⊥) → (answer ≡ negsuc 5 → ⊥) → new.passes.items ≡ old.passes.items
+
+-- what `stm_hire` leaves of a store, but for the workers that it can still make
+pub record IsStillOf (old new : Store) : Type 0 where
+  pub book : new.book ≡ old.book
+  pub tickets : new.tickets ≡ old.tickets
+  pub catalogue : new.catalogue.now ≡ old.catalogue.now
+  pub cells : new.cells.now ≡ old.cells.now
+  pub every : new.every ≡ old.every
+  pub chapter : new.chapter ≡ old.chapter
+
+-- `stm_lend`: which number it answers, by what the handle holds that is to be filled: it is full, or there is no
+-- transaction; else it is done, or want of memory
+pub record AnswersLend (store : Store) (out : Option Lender) (n : ℤ) : Type 0 where
+  pub full : (out ≡ None → ⊥) → n ≡ negsuc 12
+  pub none : out ≡ None → store.catalogue.now.transactions ≡ [] → n ≡ negsuc 9
+  pub some : out ≡ None → 0 < length store.catalogue.now.transactions → (n ≡ pos 0) ⊎ (n ≡ negsuc 5)

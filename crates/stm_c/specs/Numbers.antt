@@ -1,5 +1,5 @@
 -- What the calls answer, in the numbers of the header.
-use Rattle.std.specs.Prelude.{ℕ, ℤ, pos, negsuc, ◌<◌, ◌-◌, ◌^◌, min, Option, Some, None, Result, Ok, Err}
+use Rattle.std.specs.Prelude.{ℕ, ℤ, pos, negsuc, ◌<◌, Option, Some, None, Result, Ok, Err}
 use Rattle.txn_programs.specs.declared.ast.Fault.{Fault}
 use Rattle.txn_programs.specs.declared.ast.Fault.TheVariants as fault
 use Rattle.txn_programs.specs.declared.ast.Outcome.{Outcome}
@@ -12,16 +12,25 @@ use Rattle.checker.specs.declared.verdict.Verdict.{Verdict}
 use Rattle.checker.specs.declared.verdict.Verdict.TheVariants as verdict
 use Rattle.run_observer.specs.declared.observation.Observed.{Observed}
 use Rattle.run_observer.specs.declared.observation.Observed.TheVariants as observed
-use Rattle.book.specs.declared.task.Finish.TheVariants as finish
-use Rattle.book.specs.declared.task.Serial.{Serial}
-use Rattle.book.specs.declared.task.Serial.TheVariants as serial
+use Rattle.book.specs.declared.standing.Standing.{Standing}
+use Rattle.book.specs.declared.standing.Standing.TheVariants as standing
 use Rattle.stm_store.specs.declared.job.Job.{Job}
+use Rattle.stm_store.specs.declared.job.Ticket.{Ticket}
 use Rattle.stm_store.specs.declared.worker.Tried.{Tried}
 use Rattle.stm_store.specs.declared.worker.Tried.TheVariants as tried
-use Rattle.stm_store.specs.declared.store.Brought.{Brought}
-use Rattle.stm_store.specs.declared.store.Brought.TheVariants as brought
+use Rattle.stm_store.specs.declared.answers.Brought.{Brought}
+use Rattle.stm_store.specs.declared.answers.Brought.TheVariants as brought
+use Rattle.stm_store.specs.declared.answers.Served.{Served}
+use Rattle.stm_store.specs.declared.answers.Served.TheVariants as served
+use Rattle.stm_store.specs.declared.answers.Entered.{Entered}
+use Rattle.stm_store.specs.declared.answers.End.{End}
+use Rattle.stm_store.specs.declared.answers.End.TheVariants as end
+use Rattle.stm_store.specs.declared.answers.Turned.{Turned}
+use Rattle.stm_store.specs.declared.answers.Called.{Called}
+use Rattle.stm_store.specs.declared.answers.Called.TheVariants as called
 use Rattle.stm_c.specs.declared.codes.Taken.{Taken}
-use Rattle.stm_c.specs.declared.codes.KindAndValue.{KindAndValue}
+use Rattle.stm_c.specs.declared.codes.Told.{Told}
+use Rattle.stm_c.specs.declared.codes.TurnTold.{TurnTold}
 
 -- -1 to -7: why a file is refused, or want of memory
 abbrev pub IsFileFault : ℤ → Type 0
@@ -50,70 +59,145 @@ number_of_schedule_fault refused.Broken = negsuc 26
 
 -- the part of a report that does not hold
 abbrev pub number_of_part : Part → ℤ
-number_of_part part.Text = pos 1
-number_of_part part.Base = pos 2
-number_of_part part.Entries = pos 3
-number_of_part part.Present = pos 4
-number_of_part part.Tasks = pos 5
-number_of_part part.Parked = pos 6
+number_of_part part.Text = pos 101
+number_of_part part.Base = pos 102
+number_of_part part.Entries = pos 103
+number_of_part part.Present = pos 104
+number_of_part part.Tasks = pos 105
+number_of_part part.Parked = pos 106
 
 abbrev pub number_of_verdict : Result Verdict ReadFault → ℤ
 number_of_verdict (Ok verdict.Good) = pos 0
 number_of_verdict (Ok (verdict.Bad p)) = number_of_part p
 number_of_verdict (Err e) = number_of_fault e
 
--- a job, or the task -1
-abbrev pub taken_as : Option Job → Taken
-taken_as None = record { task = negsuc 0; tx = 0 }
-taken_as (Some job) = record { task = pos job.task.0; tx = job.tx.0 }
+abbrev pub number_of_ticket : Ticket → ℤ
+number_of_ticket t = pos t.0
 
--- a kind with no number
-abbrev pub kind : ℤ → KindAndValue
-kind n = record { kind = n; value = pos 0 }
+-- a ticket's number; where no task was submitted, that there is no room (-14)
+abbrev pub ticket_told : Option Ticket → ℤ
+ticket_told None = negsuc 13
+ticket_told (Some t) = number_of_ticket t
 
--- no such task or transaction
-abbrev pub no_such : KindAndValue
-no_such = kind (negsuc 8)
+-- no job, and why
+abbrev pub no_task_of : ℤ → Taken
+no_task_of why = record { ticket = why; chapter = 0; task = 0; tx = 0 }
 
 -- the handle is empty
-abbrev pub nothing_held : KindAndValue
-nothing_held = kind (negsuc 11)
-
 abbrev pub nothing_taken : Taken
-nothing_taken = record { task = negsuc 11; tx = 0 }
+nothing_taken = no_task_of (negsuc 11)
 
--- committed, with the number of the entry
-abbrev pub entered : ℕ → KindAndValue
-entered n = record { kind = pos 0; value = pos (min n (2 ^ 63 - 1)) }
+-- a job, or the ticket -1
+abbrev pub taken_as : Option Job → Taken
+taken_as None = no_task_of (negsuc 0)
+taken_as (Some job) = record {
+  ticket = number_of_ticket job.ticket;
+  chapter = job.chapter;
+  task = job.task.0;
+  tx = job.tx.0;
+}
 
-abbrev pub told_brought : Brought → KindAndValue
-told_brought brought.NotEnded = kind (negsuc 10)
+-- a code with no number
+abbrev pub bare : ℤ → Told
+bare n = record { code = n; value = pos 0; entry = 0 }
+
+-- no such task or transaction
+abbrev pub no_such : Told
+no_such = bare (negsuc 8)
+
+-- the handle is empty
+abbrev pub nothing_held : Told
+nothing_held = bare (negsuc 11)
+
+abbrev pub told_thrown : Fault → Told
+told_thrown (fault.User value) = record { code = pos 5; value = value; entry = 0 }
+told_thrown fault.Overflow = bare (pos 6)
+told_thrown fault.DivideByZero = bare (pos 7)
+told_thrown (fault.Broken condition) = record { code = pos 8; value = pos condition.0; entry = 0 }
+
+-- how a transaction ends
+abbrev pub told_outcome : Outcome → Told
+told_outcome (outcome.Returned value) = record { code = pos 0; value = value; entry = 0 }
+told_outcome outcome.Retries = bare (pos 1)
+told_outcome (outcome.Thrown f) = told_thrown f
+
+-- and the number of its entry
+abbrev pub told_entered : Entered → Told
+told_entered e = record {
+  code = (told_outcome e.outcome).code;
+  value = (told_outcome e.outcome).value;
+  entry = e.number;
+}
+
+abbrev pub told_brought : Brought → Told
+told_brought brought.NotEnded = bare (negsuc 10)
+told_brought brought.OtherChapter = bare (negsuc 17)
 told_brought brought.OtherTask = no_such
-told_brought (brought.Finished (finish.Committed n)) = entered n
-told_brought (brought.Finished finish.Parked) = kind (pos 1)
-told_brought (brought.Finished finish.Stale) = kind (pos 2)
-told_brought (brought.Finished finish.NotRunning) = kind (pos 3)
+told_brought brought.OtherProgram = bare (negsuc 16)
+told_brought brought.NotRunning = bare (pos 3)
+told_brought brought.Stale = bare (pos 2)
+told_brought brought.Parked = bare (pos 1)
+told_brought (brought.Committed e) = told_entered e
 
-abbrev pub told_served : Serial → KindAndValue
-told_served (serial.Committed n) = entered n
-told_served serial.Parked = kind (pos 1)
-told_served serial.NotRunning = kind (pos 3)
-told_served serial.Abandoned = kind (pos 4)
+abbrev pub told_served : Served → Told
+told_served served.NotRunning = bare (pos 3)
+told_served served.Parked = bare (pos 1)
+told_served served.Abandoned = bare (pos 4)
+told_served (served.Committed e) = told_entered e
+
+abbrev pub told_end : End → Told
+told_end (end.Entered e) = told_entered e
+told_end end.Parked = bare (pos 1)
+told_end end.Abandoned = bare (pos 4)
+
+-- no turn, and why
+abbrev pub no_turn : ℤ → TurnTold
+no_turn why = record { ticket = negsuc 0; tx = 0; code = why; value = pos 0; entry = 0 }
+
+-- a turn that was given: which task had it, and how it ended
+abbrev pub turn_told : Turned → TurnTold
+turn_told t = record {
+  ticket = number_of_ticket t.job.ticket;
+  tx = t.job.tx.0;
+  code = (told_end t.end).code;
+  value = (told_end t.end).value;
+  entry = (told_end t.end).entry;
+}
+
+-- a turn, or that no task was ready (11)
+abbrev pub told_given : Option Turned → TurnTold
+told_given None = no_turn (pos 11)
+told_given (Some t) = turn_told t
+
+-- the turn that a call had; or that there is no room (-14), or that it retries and was not made (1)
+abbrev pub told_called : Called → TurnTold
+told_called (called.Ran t) = turn_told t
+told_called called.NoRoom = no_turn (negsuc 13)
+told_called called.Retries = no_turn (pos 1)
+
+-- how a task stands; a done one with the number of its entry
+abbrev pub told_standing : Standing → Told
+told_standing standing.Ready = bare (pos 13)
+told_standing standing.Running = bare (pos 14)
+told_standing standing.Parked = bare (pos 1)
+told_standing (standing.Done number) = record { code = pos 0; value = pos 0; entry = number }
+told_standing standing.GivenUp = bare (pos 4)
+
+-- what the entry of a task that stands so records; or that the journal has none (12)
+abbrev pub told_recorded : Standing → Option Outcome → Told
+told_recorded (standing.Done number) (Some o) = told_entered (record { number = number; outcome = o })
+told_recorded (standing.Done number) None = bare (pos 12)
+told_recorded standing.Ready o = bare (pos 12)
+told_recorded standing.Running o = bare (pos 12)
+told_recorded standing.Parked o = bare (pos 12)
+told_recorded standing.GivenUp o = bare (pos 12)
 
 abbrev pub number_of_try : Tried → ℤ
 number_of_try tried.Ended = pos 0
 number_of_try tried.Stale = pos 2
 number_of_try tried.Memory = negsuc 5
 
-abbrev pub told_thrown : Fault → KindAndValue
-told_thrown (fault.User value) = record { kind = pos 5; value = value }
-told_thrown fault.Overflow = kind (pos 6)
-told_thrown fault.DivideByZero = kind (pos 7)
-told_thrown (fault.Broken condition) = record { kind = pos 8; value = pos condition.0 }
-
-abbrev pub told_observed : Observed → KindAndValue
-told_observed (observed.Outcome (outcome.Returned value)) = record { kind = pos 0; value = value }
-told_observed (observed.Outcome outcome.Retries) = kind (pos 1)
-told_observed (observed.Outcome (outcome.Thrown f)) = told_thrown f
-told_observed observed.Stale = kind (pos 2)
-told_observed observed.Memory = kind (negsuc 5)
+abbrev pub told_observed : Observed → Told
+told_observed (observed.Outcome o) = told_outcome o
+told_observed observed.Stale = bare (pos 2)
+told_observed observed.Memory = bare (negsuc 5)

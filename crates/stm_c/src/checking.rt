@@ -9,7 +9,7 @@ use crate::codes::{bad_part, file_fault};
 use checker::{Verdict, check};
 use std::alloc::Global;
 
-/// 0 where the report is lawful for the file; 1 to 6 the first part that does not hold; -1 to -7
+/// 0 where the report is lawful for the file; 101 to 106 the first part that does not hold; -1 to -7
 /// where the file is refused, by the kind of fault, and for want of memory.
 #[unsafe(no_mangle)]
 pub extern "C" fn stm_check(alloc: Global, file: &[u8], report: &[u8]) -> i32

@@ -30,10 +30,12 @@ pub extern "C" fn stm_explore(
 ) -> i32
     ensures whole { result ≡ pos 0 → Holds (IsFoundText file.now) room.old room.new wanted.new }
     ensures more { result ≡ pos 9 → Holds (IsMoreText file.now states) room.old room.new wanted.new }
-    ensures short { result ≡ SHORT → TooShort (λ text. IsFoundText file.now text ⊎ IsMoreText file.now states text) room.old room.new wanted.new }
+    ensures short { result ≡ SHORT → TooShort
+        (λ text. IsFoundText file.now text ⊎ IsMoreText file.now states text) room.old room.new wanted.new }
     ensures states { result ≡ STATES ↔ ¬ (IsAllowed states) }
     ensures refused { IsFileFault result → IsRefused file.now result }
     ensures answers { (result ≡ pos 0) ⊎ (result ≡ pos 9) ⊎ (result ≡ SHORT) ⊎ (result ≡ STATES) ⊎ IsFileFault result }
+    ensures none { result ≢ pos 0 → result ≢ pos 9 → result ≢ SHORT → wanted.new ≡ 0 }
     ensures kept { result ≢ pos 0 → result ≢ pos 9 → room.new ≡ room.old }
 {
     *wanted = 0;
@@ -77,10 +79,12 @@ pub extern "C" fn stm_explore_to(
     ensures report { result ≡ pos 0 → Holds (IsWitness file.now (end - 1)) room.old room.new wanted.new }
     ensures more { result ≡ pos 9 → Holds (IsMoreText file.now states) room.old room.new wanted.new }
     ensures no_end { result ≡ pos 10 → IsNoEnd file.now end }
-    ensures short { result ≡ SHORT → TooShort (λ text. IsWitness file.now (end - 1) text ⊎ IsMoreText file.now states text) room.old room.new wanted.new }
+    ensures short { result ≡ SHORT → TooShort
+        (λ text. IsWitness file.now (end - 1) text ⊎ IsMoreText file.now states text) room.old room.new wanted.new }
     ensures states { result ≡ STATES ↔ ¬ (IsAllowed states) }
     ensures refused { IsFileFault result → IsRefused file.now result }
     ensures answers { (result ≡ pos 0) ⊎ (result ≡ pos 9) ⊎ (result ≡ pos 10) ⊎ (result ≡ SHORT) ⊎ (result ≡ STATES) ⊎ IsFileFault result }
+    ensures none { result ≢ pos 0 → result ≢ pos 9 → result ≢ SHORT → wanted.new ≡ 0 }
     ensures kept { result ≢ pos 0 → result ≢ pos 9 → room.new ≡ room.old }
 {
     *wanted = 0;

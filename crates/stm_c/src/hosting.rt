@@ -3,26 +3,23 @@
 ghost use Rattle.std.specs.Prelude.{◌≡◌, ◌≢◌, ◌<◌, ◌≤◌, ◌+◌, ◌⊎◌, None, pos, length};
 ghost use Rattle.txn_programs.specs.declared.limits.TheConstants.{MAX_TASKS};
 ghost use Rattle.txn_programs.specs.Listing.{tasks};
-ghost use Rattle.stm_store.specs.Working.{IsTextOf};
-ghost use Rattle.stm_c.specs.Calls.{IsStillOf, Takes, Finishes, ServesAny, ServesReady, GivesUp, Reports, LeavesChecked};
-ghost use Rattle.stm_c.specs.Held.{Asked, HoldsSome, IsOf, On, OnBoth};
-ghost use Rattle.stm_c.specs.Made.{AnswersHire, AnswersOpen, IsHiredBy, IsOpened, IsOpenedOf, IsWorkerOf, LeavesWorkers};
+ghost use Rattle.stm_store.specs.Telling.{IsTextOf};
+ghost use Rattle.stm_c.specs.Calls.{Takes, Finishes, ServesReady, Reports, LeavesChecked};
+ghost use Rattle.stm_c.specs.Held.{Asked, HoldsSome, On, OnBoth};
+ghost use Rattle.stm_c.specs.Made.{AnswersHire, AnswersOpen, IsHiredBy, IsOpened, IsOpenedOf, IsStillOf, IsWorkerOf, LeavesWorkers};
 ghost use Rattle.stm_c.specs.Numbers.{nothing_held, nothing_taken};
 ghost use Rattle.stm_c.specs.Rooms.{Holds, TooShort};
 ghost use Rattle.stm_c.specs.declared.codes.Taken.{Taken};
 
 use crate::codes::{
-    EMPTY, FULL, KindAndValue, MEMORY, NO_ROOM, NO_WORKER, SHORT, Taken, UNKNOWN, brought, empty,
-    job_of, no_job, served, unknown,
+    EMPTY, FULL, MEMORY, NO_ROOM, NO_WORKER, SHORT, Taken, Told, brought, empty, job_of, no_job,
 };
 use crate::program_handle::ProgramHandle;
-use crate::reading::program_of;
 use crate::store_handle::StoreHandle;
 use crate::worker_handle::WorkerHandle;
 use crate::writing::copy;
 use std::alloc::Global;
 use stm_store::{Program, Store, Worker};
-use txn::TaskId;
 
 /// Opens a store of the program, for so many workers. 0, and `out` holds it; -6, -10: want of
 /// memory, more than 32 workers; -12, -13: the program's handle is empty, or `out` is not. Else than
@@ -30,22 +27,21 @@ use txn::TaskId;
 #[unsafe(no_mangle)]
 pub extern "C" fn stm_open(
     alloc: Global,
-    program: &mut ProgramHandle,
+    program: &ProgramHandle,
     workers: usize,
     checkpoint: u32,
     out: &mut StoreHandle,
 ) -> i32
-    ensures program { program.new.value ≡ program.old.value }
-    ensures done { result ≡ pos 0 → HoldsSome (IsOpenedOf program.old.value workers checkpoint 0) out.new.value }
+    ensures done { result ≡ pos 0 → HoldsSome (IsOpenedOf program.now.value workers checkpoint 0) out.new.value }
     ensures many { result ≡ NO_WORKER → 32 < workers }
     ensures kept { result ≢ pos 0 → out.new.value ≡ out.old.value }
-    ensures empty { program.old.value ≡ None → result ≡ EMPTY }
-    ensures full { program.old.value ≢ None → out.old.value ≢ None → result ≡ FULL }
+    ensures empty { program.now.value ≡ None → result ≡ EMPTY }
+    ensures full { program.now.value ≢ None → out.old.value ≢ None → result ≡ FULL }
     ensures room { result ≢ NO_ROOM }
-    ensures answer { Asked program.old.value EMPTY result (λ p n. AnswersOpen p workers 0 out.old.value n) }
+    ensures answer { Asked program.now.value EMPTY result (λ p n. AnswersOpen p workers 0 out.old.value n) }
 {
-    match program_of(alloc, program) {
-        Some(program) => {
+    match program.get() {
+        Some(&program) => {
             // By its clause they are no more than there may be, so that there is always room.
             let _tasks = program.catalogue().tasks();
             open(alloc, program, workers, checkpoint, 0, out)
@@ -59,23 +55,23 @@ pub extern "C" fn stm_open(
 #[unsafe(no_mangle)]
 pub extern "C" fn stm_open_with_room(
     alloc: Global,
-    program: &mut ProgramHandle,
+    program: &ProgramHandle,
     workers: usize,
     checkpoint: u32,
     spare: usize,
     out: &mut StoreHandle,
 ) -> i32
-    ensures program { program.new.value ≡ program.old.value }
-    ensures done { result ≡ pos 0 → HoldsSome (IsOpenedOf program.old.value workers checkpoint spare) out.new.value }
+    ensures done { result ≡ pos 0 → HoldsSome (IsOpenedOf program.now.value workers checkpoint spare) out.new.value }
     ensures many { result ≡ NO_WORKER → 32 < workers }
-    ensures room { result ≡ NO_ROOM → HoldsSome (λ p. MAX_TASKS < length (tasks p.catalogue.now) + spare) program.old.value }
+    ensures room { result ≡ NO_ROOM → HoldsSome
+        (λ p. MAX_TASKS < length (tasks p.catalogue.now) + spare) program.now.value }
     ensures kept { result ≢ pos 0 → out.new.value ≡ out.old.value }
-    ensures empty { program.old.value ≡ None → result ≡ EMPTY }
-    ensures full { program.old.value ≢ None → out.old.value ≢ None → result ≡ FULL }
-    ensures answer { Asked program.old.value EMPTY result (λ p n. AnswersOpen p workers spare out.old.value n) }
+    ensures empty { program.now.value ≡ None → result ≡ EMPTY }
+    ensures full { program.now.value ≢ None → out.old.value ≢ None → result ≡ FULL }
+    ensures answer { Asked program.now.value EMPTY result (λ p n. AnswersOpen p workers spare out.old.value n) }
 {
-    match program_of(alloc, program) {
-        Some(program) => open(alloc, program, workers, checkpoint, spare, out),
+    match program.get() {
+        Some(&program) => open(alloc, program, workers, checkpoint, spare, out),
         None => EMPTY,
     }
 }
@@ -128,7 +124,8 @@ pub extern "C" fn stm_store_free(alloc: Global, store: &mut StoreHandle)
 /// the store's handle is empty, or `out` is not. Else than with 0, `out` is as it was.
 #[unsafe(no_mangle)]
 pub extern "C" fn stm_hire(alloc: Global, store: &mut StoreHandle, out: &mut WorkerHandle) -> i32
-    ensures store { On store.old.value store.new.value EMPTY result (λ old answer new. (new.book ≡ old.book) × IsStillOf old new × LeavesWorkers old answer new) }
+    ensures store { On store.old.value store.new.value EMPTY result
+        (λ old answer new. IsStillOf old new × LeavesWorkers old answer new) }
     ensures done { result ≡ pos 0 → HoldsSome (IsHiredBy store.old.value) out.new.value }
     ensures kept { result ≢ pos 0 → out.new.value ≡ out.old.value }
     ensures full { store.old.value ≢ None → out.old.value ≢ None → result ≡ FULL }
@@ -143,7 +140,6 @@ pub extern "C" fn stm_hire(alloc: Global, store: &mut StoreHandle, out: &mut Wor
 }
 
 fn hire(alloc: Global, store: &mut Store, out: &mut WorkerHandle) -> i32
-    ensures book { store.new.book ≡ store.old.book }
     ensures stays { IsStillOf store.old store.new }
     ensures workers { LeavesWorkers store.old result store.new }
     ensures done { result ≡ pos 0 → HoldsSome (IsWorkerOf store.old) out.new.value }
@@ -164,8 +160,8 @@ fn hire(alloc: Global, store: &mut Store, out: &mut WorkerHandle) -> i32
     0
 }
 
-/// The lowest ready task, which is then running, with its transaction; the task -1 where none is
-/// ready, and -12 where the handle is empty.
+/// The lowest ready task, which is then running, with its ticket, its chapter and its transaction; the
+/// ticket -1 where none is ready, and -12 where the handle is empty.
 #[unsafe(no_mangle)]
 pub extern "C" fn stm_take_job(alloc: Global, store: &mut StoreHandle) -> Taken
     ensures { On store.old.value store.new.value nothing_taken result (λ old taken new. Takes old taken new) }
@@ -177,7 +173,7 @@ fn take(alloc: Global, store: &mut StoreHandle) -> Taken
     ensures { On store.old.value store.new.value nothing_taken result (λ old taken new. Takes old taken new) }
 {
     let Some(mut held) = store.take(alloc) else {
-        return no_job();
+        return no_job(EMPTY);
     };
     let taken = taken_from(&mut held);
     *store = StoreHandle::of(held);
@@ -187,29 +183,30 @@ fn take(alloc: Global, store: &mut StoreHandle) -> Taken
 fn taken_from(store: &mut Store) -> Taken
     ensures { Takes store.old result store.new }
 {
+    store.law();
     job_of(store.take())
 }
 
-/// The lowest ready task, which is then running, or -1 where none is ready, or -12 where the handle
-/// is empty.
+/// The ticket of the lowest ready task, which is then running, or -1 where none is ready, or -12 where
+/// the handle is empty.
 #[unsafe(no_mangle)]
 pub extern "C" fn stm_take(alloc: Global, store: &mut StoreHandle) -> i64
-    ensures { (taken : Taken) × On store.old.value store.new.value nothing_taken taken (λ old taken new. Takes old taken new) × (result ≡ taken.task) }
+    ensures { (taken : Taken) × On store.old.value store.new.value nothing_taken taken
+        (λ old taken new. Takes old taken new) × (result ≡ taken.ticket) }
 {
-    take(alloc, store).task
+    take(alloc, store).ticket
 }
 
-/// Brings a worker's ended attempt to the store. The kind -12 where one of the handles is empty.
-///
-/// The worker has to be of this store, or of another one of a program that says the same.
+/// Brings a worker's ended attempt to the store. The code -12 where one of the handles is empty; -9, -17,
+/// -18 where the attempt is none of a task of this store, of this program, of this chapter.
 #[unsafe(no_mangle)]
 pub extern "C" fn stm_finish(
     alloc: Global,
     store: &mut StoreHandle,
     worker: &mut WorkerHandle,
-) -> KindAndValue
-    requires { IsOf worker.old.value store.old.value }
-    ensures { OnBoth store.old.value worker.old.value store.new.value worker.new.value nothing_held result (λ old before how new after. Finishes old before how new after) }
+) -> Told
+    ensures { OnBoth store.old.value worker.old.value store.new.value worker.new.value nothing_held result
+        (λ old before how new after. Finishes old before how new after) }
 {
     let Some(mut held) = store.take(alloc) else {
         return empty();
@@ -225,34 +222,10 @@ pub extern "C" fn stm_finish(
 }
 
 /// The worker's end is brought to the store.
-fn ended(store: &mut Store, worker: &mut Worker) -> KindAndValue
-    requires { worker.old.catalogue.now ≡ store.old.catalogue.now }
+fn ended(store: &mut Store, worker: &mut Worker) -> Told
     ensures { Finishes store.old worker.old result store.new worker.new }
 {
-    brought(store.finish(worker))
-}
-
-/// A turn of a running task on the present values. -9: there is no such task. -12: the handle is
-/// empty.
-#[unsafe(no_mangle)]
-pub extern "C" fn stm_serial(alloc: Global, store: &mut StoreHandle, task: u32) -> KindAndValue
-    ensures { On store.old.value store.new.value nothing_held result (λ old how new. ServesAny old task how new) }
-{
-    let Some(mut held) = store.take(alloc) else {
-        return empty();
-    };
-    let how = turn(&mut held, task);
-    *store = StoreHandle::of(held);
-    how
-}
-
-fn turn(store: &mut Store, task: u32) -> KindAndValue
-    ensures { ServesAny store.old task result store.new }
-{
-    if task as usize >= store.tasks() {
-        return unknown();
-    }
-    served(store.serial(TaskId(task)))
+    brought(store.finish_of_any(worker))
 }
 
 /// Gives the lowest ready task a turn, and then the next one, until so many turns were given or none
@@ -265,7 +238,8 @@ pub extern "C" fn stm_turns(
     worker: &mut WorkerHandle,
     most: u32,
 ) -> i64
-    ensures { OnBoth store.old.value worker.old.value store.new.value worker.new.value EMPTY result (λ old before given new after. ServesReady old before most given new after) }
+    ensures { OnBoth store.old.value worker.old.value store.new.value worker.new.value EMPTY result
+        (λ old before given new after. ServesReady old before most given new after) }
 {
     let Some(mut held) = store.take(alloc) else {
         return i64::from(EMPTY);
@@ -286,33 +260,11 @@ fn turns(store: &mut Store, worker: &mut Worker, most: u32) -> i64
     i64::from(store.turns(worker, most))
 }
 
-/// Gives a running task up: 0; 3 where it was not running; -9 where there is no such task; -12 where
-/// the handle is empty.
-#[unsafe(no_mangle)]
-pub extern "C" fn stm_give_up(alloc: Global, store: &mut StoreHandle, task: u32) -> i32
-    ensures { On store.old.value store.new.value EMPTY result (λ old answer new. GivesUp old task answer new) }
-{
-    let Some(mut held) = store.take(alloc) else {
-        return EMPTY;
-    };
-    let answer = given_up(&mut held, task);
-    *store = StoreHandle::of(held);
-    answer
-}
-
-fn given_up(store: &mut Store, task: u32) -> i32
-    ensures { GivesUp store.old task result store.new }
-{
-    if task as usize >= store.tasks() {
-        return UNKNOWN;
-    }
-    if store.give_up(TaskId(task)) { 0 } else { 3 }
-}
-
 /// The base becomes the present, and the journal is empty: 0. -12: the handle is empty.
 #[unsafe(no_mangle)]
 pub extern "C" fn stm_checkpoint(alloc: Global, store: &mut StoreHandle) -> i32
-    ensures { On store.old.value store.new.value EMPTY result (λ old answer new. (answer ≡ pos 0) × LeavesChecked old new) }
+    ensures { On store.old.value store.new.value EMPTY result
+        (λ old answer new. (answer ≡ pos 0) × LeavesChecked old new) }
 {
     let Some(mut held) = store.take(alloc) else {
         return EMPTY;
@@ -332,7 +284,12 @@ pub extern "C" fn stm_report(
     room: &mut [u8],
     wanted: &mut usize,
 ) -> i32
-    ensures report { On store.old.value store.new.value EMPTY result (λ old answer new. Reports old new × (answer ≡ pos 0 → Holds (IsTextOf new.book) room.old room.new wanted.new) × (answer ≡ SHORT → TooShort (IsTextOf new.book) room.old room.new wanted.new) × ((answer ≡ pos 0) ⊎ (answer ≡ SHORT) ⊎ (answer ≡ MEMORY))) }
+    ensures report { On store.old.value store.new.value EMPTY result
+        (λ old answer new. Reports old new
+        × (answer ≡ pos 0 → Holds (IsTextOf new.book) room.old room.new wanted.new)
+        × (answer ≡ SHORT → TooShort (IsTextOf new.book) room.old room.new wanted.new)
+        × ((answer ≡ pos 0) ⊎ (answer ≡ SHORT) ⊎ (answer ≡ MEMORY))) }
+    ensures none { result ≢ pos 0 → result ≢ SHORT → wanted.new ≡ 0 }
     ensures kept { result ≢ pos 0 → room.new ≡ room.old }
 {
     *wanted = 0;
@@ -349,6 +306,7 @@ fn reported(store: &mut Store, room: &mut [u8], wanted: &mut usize) -> i32
     ensures done { result ≡ pos 0 → Holds (IsTextOf store.new.book) room.old room.new wanted.new }
     ensures short { result ≡ SHORT → TooShort (IsTextOf store.new.book) room.old room.new wanted.new }
     ensures answers { (result ≡ pos 0) ⊎ (result ≡ SHORT) ⊎ (result ≡ MEMORY) }
+    ensures none { result ≢ pos 0 → result ≢ SHORT → wanted.new ≡ wanted.old }
     ensures kept { result ≢ pos 0 → room.new ≡ room.old }
 {
     match store.report() {

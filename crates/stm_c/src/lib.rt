@@ -1,14 +1,17 @@
 //! The library as C and Rust hosts link it: whole files in, whole texts out (`checking`, `running`,
 //! `playing`, `exploring`); and a program, stores of it and their workers, for a host that has
-//! threads and a lock of its own (`reading`, `hosting`, `submitting`, `looking`, `trying`). No call
-//! starts a thread or takes a lock. What each answers in numbers stands in `codes`, and in the
-//! header for C.
+//! threads and a lock of its own (`reading`, `hosting`, `submitting`, `tasks`, `calling`,
+//! `chapters`, `looking`, `trying`). No call starts a thread or takes a lock. What each answers in
+//! numbers stands in `codes`, and in the header for C.
 #![tactic(auto)]
 
+mod calling;
+mod chapters;
 mod checking;
 mod codes;
 mod exploring;
 mod hosting;
+mod lender_handle;
 mod looking;
 mod parts;
 mod playing;
@@ -17,6 +20,7 @@ mod reading;
 mod running;
 mod store_handle;
 mod submitting;
+mod tasks;
 mod trying;
 mod worker_handle;
 mod writing;

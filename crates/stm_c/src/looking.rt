@@ -4,12 +4,12 @@ ghost use Rattle.std.specs.Prelude.{◌≡◌, ◌≢◌, ◌<◌, ◌⊎◌, po
 ghost use Rattle.txn_text.specs.Canonical.{file_text};
 ghost use Rattle.book.specs.Counting.{AreCounts};
 ghost use Rattle.book.specs.Turns.{IsIdle};
-ghost use Rattle.stm_store.specs.Working.{IsFileOf, IsTextOf};
+ghost use Rattle.stm_store.specs.Telling.{IsFileOf, IsTextOf};
 ghost use Rattle.stm_c.specs.Held.{Asked};
 ghost use Rattle.stm_c.specs.Rooms.{Holds, TooShort};
 ghost use Rattle.stm_c.specs.Looking.{counts_in, NoValue, ValueIs};
 
-use crate::codes::{EMPTY, FILE_TOO_LONG, MEMORY, SHORT, Standing, UNKNOWN, WORK_LEFT};
+use crate::codes::{Counted, EMPTY, FILE_TOO_LONG, MEMORY, SHORT, UNKNOWN, WORK_LEFT};
 use crate::store_handle::StoreHandle;
 use crate::writing::copy;
 use book::Counts;
@@ -18,8 +18,9 @@ use stm_store::{FileFault, ReportFault, Store};
 
 /// How many tasks stand how: 0, and they were written. -12: the handle is empty.
 #[unsafe(no_mangle)]
-pub extern "C" fn stm_counted(alloc: Global, store: &mut StoreHandle, out: &mut Standing) -> i32
-    ensures counts { Asked store.old.value EMPTY result (λ held answer. (answer ≡ pos 0) × AreCounts held.book.tasks (counts_in out.new)) }
+pub extern "C" fn stm_counted(alloc: Global, store: &mut StoreHandle, out: &mut Counted) -> i32
+    ensures counts { Asked store.old.value EMPTY result
+        (λ held answer. (answer ≡ pos 0) × AreCounts held.book.tasks (counts_in out.new)) }
     ensures kept { result ≢ pos 0 → out.new ≡ out.old }
     ensures stays { store.new.value ≡ store.old.value }
 {
@@ -31,10 +32,10 @@ pub extern "C" fn stm_counted(alloc: Global, store: &mut StoreHandle, out: &mut 
     0
 }
 
-fn standing(counts: Counts) -> Standing
+fn standing(counts: Counts) -> Counted
     ensures { counts_in result ≡ counts }
 {
-    Standing {
+    Counted {
         ready: counts.ready,
         running: counts.running,
         parked: counts.parked,
@@ -53,7 +54,9 @@ pub extern "C" fn stm_value(
     value: &mut i64,
     version: &mut u64,
 ) -> i32
-    ensures answer { Asked store.old.value EMPTY result (λ held answer. (answer ≡ pos 0 → ValueIs held.book name.now value.new version.new) × (answer ≢ pos 0 → (answer ≡ UNKNOWN) × NoValue held.book name.now)) }
+    ensures answer { Asked store.old.value EMPTY result
+        (λ held answer. (answer ≡ pos 0 → ValueIs held.book name.now value.new version.new)
+        × (answer ≢ pos 0 → (answer ≡ UNKNOWN) × NoValue held.book name.now)) }
     ensures kept { result ≢ pos 0 → (value.new ≡ value.old) × (version.new ≡ version.old) }
     ensures stays { store.new.value ≡ store.old.value }
 {
@@ -90,10 +93,15 @@ pub extern "C" fn stm_file(
     room: &mut [u8],
     wanted: &mut usize,
 ) -> i32
-    ensures done { Asked store.old.value EMPTY result (λ held answer. answer ≡ pos 0 → Holds (IsFileOf held.book) room.old room.new wanted.new) }
-    ensures short { Asked store.old.value EMPTY result (λ held answer. answer ≡ SHORT → TooShort (IsFileOf held.book) room.old room.new wanted.new) }
-    ensures long { Asked store.old.value EMPTY result (λ held answer. answer ≡ FILE_TOO_LONG → 1048576 < length (file_text held.book.catalogue)) }
-    ensures answers { Asked store.old.value EMPTY result (λ held answer. (answer ≡ pos 0) ⊎ (answer ≡ SHORT) ⊎ (answer ≡ FILE_TOO_LONG) ⊎ (answer ≡ MEMORY)) }
+    ensures done { Asked store.old.value EMPTY result
+        (λ held answer. answer ≡ pos 0 → Holds (IsFileOf held.book) room.old room.new wanted.new) }
+    ensures short { Asked store.old.value EMPTY result
+        (λ held answer. answer ≡ SHORT → TooShort (IsFileOf held.book) room.old room.new wanted.new) }
+    ensures long { Asked store.old.value EMPTY result
+        (λ held answer. answer ≡ FILE_TOO_LONG → 1048576 < length (file_text held.book.catalogue)) }
+    ensures answers { Asked store.old.value EMPTY result
+        (λ held answer. (answer ≡ pos 0) ⊎ (answer ≡ SHORT) ⊎ (answer ≡ FILE_TOO_LONG) ⊎ (answer ≡ MEMORY)) }
+    ensures none { result ≢ pos 0 → result ≢ SHORT → wanted.new ≡ 0 }
     ensures kept { result ≢ pos 0 → room.new ≡ room.old }
     ensures stays { store.new.value ≡ store.old.value }
 {
@@ -111,6 +119,7 @@ fn file_of(store: &Store, room: &mut [u8], wanted: &mut usize) -> i32
     ensures short { result ≡ SHORT → TooShort (IsFileOf store.now.book) room.old room.new wanted.new }
     ensures long { result ≡ FILE_TOO_LONG → 1048576 < length (file_text store.now.book.catalogue) }
     ensures answers { (result ≡ pos 0) ⊎ (result ≡ SHORT) ⊎ (result ≡ FILE_TOO_LONG) ⊎ (result ≡ MEMORY) }
+    ensures none { result ≢ pos 0 → result ≢ SHORT → wanted.new ≡ wanted.old }
     ensures kept { result ≢ pos 0 → room.new ≡ room.old }
 {
     match store.file() {
@@ -129,11 +138,17 @@ pub extern "C" fn stm_report_now(
     room: &mut [u8],
     wanted: &mut usize,
 ) -> i32
-    ensures done { Asked store.old.value EMPTY result (λ held answer. answer ≡ pos 0 → Holds (IsTextOf held.book) room.old room.new wanted.new) }
-    ensures short { Asked store.old.value EMPTY result (λ held answer. answer ≡ SHORT → TooShort (IsTextOf held.book) room.old room.new wanted.new) }
-    ensures left { Asked store.old.value EMPTY result (λ held answer. answer ≡ WORK_LEFT → ¬ (IsIdle held.book)) }
-    ensures always_left { Asked store.old.value EMPTY result (λ held answer. ¬ (IsIdle held.book) → answer ≡ WORK_LEFT) }
-    ensures answers { Asked store.old.value EMPTY result (λ held answer. (answer ≡ pos 0) ⊎ (answer ≡ SHORT) ⊎ (answer ≡ WORK_LEFT) ⊎ (answer ≡ MEMORY)) }
+    ensures done { Asked store.old.value EMPTY result
+        (λ held answer. answer ≡ pos 0 → Holds (IsTextOf held.book) room.old room.new wanted.new) }
+    ensures short { Asked store.old.value EMPTY result
+        (λ held answer. answer ≡ SHORT → TooShort (IsTextOf held.book) room.old room.new wanted.new) }
+    ensures left { Asked store.old.value EMPTY result
+        (λ held answer. answer ≡ WORK_LEFT → ¬ (IsIdle held.book)) }
+    ensures always_left { Asked store.old.value EMPTY result
+        (λ held answer. ¬ (IsIdle held.book) → answer ≡ WORK_LEFT) }
+    ensures answers { Asked store.old.value EMPTY result
+        (λ held answer. (answer ≡ pos 0) ⊎ (answer ≡ SHORT) ⊎ (answer ≡ WORK_LEFT) ⊎ (answer ≡ MEMORY)) }
+    ensures none { result ≢ pos 0 → result ≢ SHORT → wanted.new ≡ 0 }
     ensures kept { result ≢ pos 0 → room.new ≡ room.old }
     ensures stays { store.new.value ≡ store.old.value }
 {
@@ -152,6 +167,7 @@ fn report_of(store: &Store, room: &mut [u8], wanted: &mut usize) -> i32
     ensures left { result ≡ WORK_LEFT → ¬ (IsIdle store.now.book) }
     ensures always_left { ¬ (IsIdle store.now.book) → result ≡ WORK_LEFT }
     ensures answers { (result ≡ pos 0) ⊎ (result ≡ SHORT) ⊎ (result ≡ WORK_LEFT) ⊎ (result ≡ MEMORY) }
+    ensures none { result ≢ pos 0 → result ≢ SHORT → wanted.new ≡ wanted.old }
     ensures kept { result ≢ pos 0 → room.new ≡ room.old }
 {
     match store.report_now() {

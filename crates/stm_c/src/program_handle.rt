@@ -1,10 +1,9 @@
-//! A box as C holds it: its pointer, as one to bytes; or nothing, where that is null.
+//! A program as C holds it: a pointer to one that stays, as one to bytes; or nothing, where that is null.
 ghost use Rattle.std.specs.Prelude.{◌≡◌, ◌≢◌, Option, None, Some, MatchBool, MatchOption};
 ghost use Rattle.stm_store.specs.declared.program.Program.{Program};
 ghost use Rattle.stm_c.specs.ProgramHandle.{value_coded, handle_owns};
 
 use crate::parts::Parts;
-use core::mem::replace;
 use std::alloc::Global;
 use std::marker::Model;
 use std::ptr::null_mut;
@@ -12,83 +11,59 @@ use stm_store::Program;
 
 /// A `Program` that the host holds, or none.
 #[repr(C)]
+#[derive(Drop)]
 pub struct ProgramHandle {
     ptr: *mut u8,
-    alloc: Global,
     pub ghost value: { Option Program } by { value_coded },
 }
 
 impl Model for ProgramHandle {
-    ghost also_owns = { λ s. handle_owns s.alloc s.ptr s.value };
+    ghost also_owns = { λ s. handle_owns s.ptr s.value };
 }
 
 impl ProgramHandle {
-    fn empty(alloc: Global) -> ProgramHandle
+    pub fn empty() -> ProgramHandle
         ensures { result.value ≡ None }
     {
-        ProgramHandle {
-            ptr: null_mut(),
-            alloc,
-        }
+        ProgramHandle { ptr: null_mut() }
     }
 
     fn of_parts(parts: Parts<Program, Global>) -> ProgramHandle
         ensures { result.value ≡ Some parts.value }
     {
-        let Parts { ptr, alloc } = parts;
+        let Parts { ptr, alloc: _ } = parts;
         ProgramHandle {
             ptr: ptr as *mut u8,
-            alloc,
         }
     }
 
-    fn into_parts(self) -> Option<Parts<Program, Global>>
-        ensures { MatchOption result (self.value ≡ None) (λ p. self.value ≡ Some p.value) }
+    /// What it holds, if anything, to be read where it lies.
+    pub fn get(&self) -> Option<&Program>
+        ensures { MatchOption result (self.now.value ≡ None) (λ p. self.now.value ≡ Some p.now) }
     {
-        let ProgramHandle { ptr, alloc } = self;
+        let ptr = self.ptr;
         if ptr.is_null() {
-            None
-        } else {
-            Some(Parts {
-                ptr: ptr as *mut Program,
-                alloc,
-            })
+            return None;
         }
+        unsafe { Some(&*(ptr as *mut Program)) }
     }
 
-    /// A handle that holds this.
+    /// A handle that holds this, which stays until the process ends.
     pub fn of(held: Box<Program>) -> ProgramHandle
         ensures { result.value ≡ Some held.value }
     {
         ProgramHandle::of_parts(Parts::of(held))
     }
 
-    /// What it holds, if anything; it is empty afterwards.
-    pub fn take(&mut self, alloc: Global) -> Option<Box<Program>>
-        ensures left { self.new.value ≡ None }
-        ensures held { MatchOption result (self.old.value ≡ None) (λ b. self.old.value ≡ Some b.value) }
+    /// Whether it holds anything.
+    pub fn is_full(&self) -> bool
+        ensures full { MatchBool result (self.now.value ≢ None) (self.now.value ≡ None) }
     {
-        let parts = replace(self, ProgramHandle::empty(alloc)).into_parts()?;
-        Some(parts.into_box())
-    }
-
-    /// Whether it holds anything, which it keeps.
-    pub fn is_full(&mut self, alloc: Global) -> bool
-        ensures full { MatchBool result (self.old.value ≢ None) (self.old.value ≡ None) }
-        ensures stays { self.new.value ≡ self.old.value }
-    {
-        let Some(held) = self.take(alloc) else {
-            return false;
-        };
-        *self = ProgramHandle::of(held);
-        true
+        self.get().is_some()
     }
 }
 
-impl Drop for ProgramHandle {
-    fn drop(self) {
-        if let Some(parts) = self.into_parts() {
-            drop(parts.into_box());
-        }
-    }
-}
+// A `&` to what it holds may go to another thread, and to several at once.
+unsafe impl Send for ProgramHandle {}
+
+unsafe impl Sync for ProgramHandle {}

@@ -25,7 +25,7 @@ pub extern "C" fn stm_read(alloc: Global, file: &[u8], out: &mut ProgramHandle) 
     ensures full { out.old.value ≢ None → result ≡ FULL }
     ensures refused { out.old.value ≡ None → result ≢ pos 0 → IsRefused file.now result }
 {
-    if out.is_full(alloc) {
+    if out.is_full() {
         return FULL;
     }
     match read(alloc, file) {
@@ -52,30 +52,18 @@ fn read(alloc: Global, file: &[u8]) -> Result<Box<Program>, ReadFault>
 /// Lets a handle of a program go, which is empty afterwards. What the program says stays, for its
 /// stores and workers. An empty one stays so.
 #[unsafe(no_mangle)]
-pub extern "C" fn stm_program_free(alloc: Global, program: &mut ProgramHandle)
+pub extern "C" fn stm_program_free(program: &mut ProgramHandle)
     ensures { program.new.value ≡ None }
 {
-    drop(program.take(alloc));
-}
-
-/// The program, which the handle keeps.
-pub(crate) fn program_of(alloc: Global, handle: &mut ProgramHandle) -> Option<Program>
-    ensures program { result ≡ handle.old.value }
-    ensures stays { handle.new.value ≡ handle.old.value }
-{
-    let held = handle.take(alloc)?;
-    let program = *held;
-    *handle = ProgramHandle::of(held);
-    Some(program)
+    *program = ProgramHandle::empty();
 }
 
 /// How many tasks the program has, numbered from 0 in the order of the runs. 0 of an empty handle.
 #[unsafe(no_mangle)]
-pub extern "C" fn stm_program_tasks(alloc: Global, program: &mut ProgramHandle) -> usize
-    ensures value { Asked program.old.value 0 result (λ p n. n ≡ length (tasks p.catalogue.now)) }
-    ensures stays { program.new.value ≡ program.old.value }
+pub extern "C" fn stm_program_tasks(program: &ProgramHandle) -> usize
+    ensures value { Asked program.now.value 0 result (λ p n. n ≡ length (tasks p.catalogue.now)) }
 {
-    match program_of(alloc, program) {
+    match program.get() {
         Some(program) => program.catalogue().tasks(),
         None => 0,
     }
@@ -83,11 +71,10 @@ pub extern "C" fn stm_program_tasks(alloc: Global, program: &mut ProgramHandle) 
 
 /// How many variables it has, numbered from 0 as declared. 0 of an empty handle.
 #[unsafe(no_mangle)]
-pub extern "C" fn stm_program_variables(alloc: Global, program: &mut ProgramHandle) -> usize
-    ensures value { Asked program.old.value 0 result (λ p n. n ≡ length p.catalogue.now.initial) }
-    ensures stays { program.new.value ≡ program.old.value }
+pub extern "C" fn stm_program_variables(program: &ProgramHandle) -> usize
+    ensures value { Asked program.now.value 0 result (λ p n. n ≡ length p.catalogue.now.initial) }
 {
-    match program_of(alloc, program) {
+    match program.get() {
         Some(program) => program.catalogue().initial().len(),
         None => 0,
     }
@@ -95,11 +82,10 @@ pub extern "C" fn stm_program_variables(alloc: Global, program: &mut ProgramHand
 
 /// How many transactions it has, numbered from 0 as declared. 0 of an empty handle.
 #[unsafe(no_mangle)]
-pub extern "C" fn stm_program_transactions(alloc: Global, program: &mut ProgramHandle) -> usize
-    ensures value { Asked program.old.value 0 result (λ p n. n ≡ length p.catalogue.now.transactions) }
-    ensures stays { program.new.value ≡ program.old.value }
+pub extern "C" fn stm_program_transactions(program: &ProgramHandle) -> usize
+    ensures value { Asked program.now.value 0 result (λ p n. n ≡ length p.catalogue.now.transactions) }
 {
-    match program_of(alloc, program) {
+    match program.get() {
         Some(program) => program.catalogue().tx_count(),
         None => 0,
     }
@@ -107,15 +93,10 @@ pub extern "C" fn stm_program_transactions(alloc: Global, program: &mut ProgramH
 
 /// The number of the variable of this name, or -9. -12: the handle is empty.
 #[unsafe(no_mangle)]
-pub extern "C" fn stm_program_variable(
-    alloc: Global,
-    program: &mut ProgramHandle,
-    name: &[u8],
-) -> i64
-    ensures found { Asked program.old.value EMPTY result (λ p n. IsVariable p.catalogue.now name.now n) }
-    ensures stays { program.new.value ≡ program.old.value }
+pub extern "C" fn stm_program_variable(program: &ProgramHandle, name: &[u8]) -> i64
+    ensures found { Asked program.now.value EMPTY result (λ p n. IsVariable p.catalogue.now name.now n) }
 {
-    match program_of(alloc, program) {
+    match program.get() {
         Some(program) => variable(program.catalogue(), name),
         None => i64::from(EMPTY),
     }
@@ -135,15 +116,10 @@ fn variable(catalogue: &Catalogue, name: &[u8]) -> i64
 
 /// The number of the transaction of this name, or -9. -12: the handle is empty.
 #[unsafe(no_mangle)]
-pub extern "C" fn stm_program_transaction(
-    alloc: Global,
-    program: &mut ProgramHandle,
-    name: &[u8],
-) -> i64
-    ensures found { Asked program.old.value EMPTY result (λ p n. IsTransaction p.catalogue.now name.now n) }
-    ensures stays { program.new.value ≡ program.old.value }
+pub extern "C" fn stm_program_transaction(program: &ProgramHandle, name: &[u8]) -> i64
+    ensures found { Asked program.now.value EMPTY result (λ p n. IsTransaction p.catalogue.now name.now n) }
 {
-    match program_of(alloc, program) {
+    match program.get() {
         Some(program) => transaction(program.catalogue(), name),
         None => i64::from(EMPTY),
     }

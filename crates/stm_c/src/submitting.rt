@@ -2,7 +2,6 @@
 
 ghost use Rattle.std.specs.Prelude.{◌≡◌, length};
 ghost use Rattle.txn_programs.specs.Listing.{tasks};
-ghost use Rattle.stm_c.specs.Calls.{StaysOf};
 ghost use Rattle.stm_c.specs.Held.{Asked, On};
 ghost use Rattle.stm_c.specs.Looking.{SubmitsBy};
 
@@ -12,31 +11,30 @@ use std::alloc::Global;
 use stm_store::Store;
 use txn::TxId;
 
-/// A ready task of the transaction more: its number. -9, -12, -14: there is no such transaction, the
+/// A ready task of the transaction more: its ticket. -9, -12, -14: there is no such transaction, the
 /// handle is empty, no room for another task; then nothing changed.
 #[unsafe(no_mangle)]
 pub extern "C" fn stm_submit(alloc: Global, store: &mut StoreHandle, tx: u32) -> i64
-    ensures { On store.old.value store.new.value EMPTY result (λ old task new. SubmitsBy old.book tx task new.book × StaysOf old new) }
+    ensures { On store.old.value store.new.value EMPTY result (λ old ticket new. SubmitsBy old tx ticket new) }
 {
     let Some(mut held) = store.take(alloc) else {
         return i64::from(EMPTY);
     };
-    let task = submit(&mut held, tx);
+    let ticket = submit(&mut held, tx);
     *store = StoreHandle::of(held);
-    task
+    ticket
 }
 
 fn submit(store: &mut Store, tx: u32) -> i64
-    ensures { SubmitsBy store.old.book tx result store.new.book × StaysOf store.old store.new }
+    ensures { SubmitsBy store.old tx result store.new }
 {
-    store.law();
     if tx as usize >= store.catalogue().tx_count() {
         return i64::from(UNKNOWN);
     }
     submitted(store.submit(TxId(tx)))
 }
 
-/// How many tasks more can be submitted. 0 of an empty handle.
+/// How many tasks more the chapter has room for. 0 of an empty handle.
 #[unsafe(no_mangle)]
 pub extern "C" fn stm_store_spare(alloc: Global, store: &mut StoreHandle) -> usize
     ensures value { Asked store.old.value 0 result (λ held n. n ≡ held.book.spare) }
@@ -50,8 +48,8 @@ pub extern "C" fn stm_store_spare(alloc: Global, store: &mut StoreHandle) -> usi
     spare
 }
 
-/// How many tasks there are: those of the program, and those that were submitted. 0 of an empty
-/// handle.
+/// How many tasks the chapter has: those with which it began, and those that were submitted. 0 of an
+/// empty handle.
 #[unsafe(no_mangle)]
 pub extern "C" fn stm_store_tasks(alloc: Global, store: &mut StoreHandle) -> usize
     ensures value { Asked store.old.value 0 result (λ held n. n ≡ length (tasks held.book.catalogue)) }

@@ -1,37 +1,44 @@
 //! A worker, as a handle: its calls take no lock, by one thread at a time.
 
 ghost use Rattle.std.specs.Prelude.{◌≡◌, None};
-ghost use Rattle.stm_c.specs.Calls.{TriesAny, TriesTask, ObservesAny};
+ghost use Rattle.stm_c.specs.Calls.{TriesAny, TriesTaken, TriesTask, ObservesAny};
 ghost use Rattle.stm_c.specs.Held.{On};
 ghost use Rattle.stm_c.specs.Numbers.{nothing_held};
 
-use crate::codes::{EMPTY, KindAndValue, UNKNOWN, empty, observed, tried, unknown};
+use crate::codes::{EMPTY, Taken, Told, UNKNOWN, empty, observed, tried, unknown};
 use crate::worker_handle::WorkerHandle;
 use std::alloc::Global;
-use stm_store::{Job, Worker};
+use stm_store::{Job, Ticket, Worker};
 use txn::{TaskId, TxId};
 
-/// Evaluates the transaction on one state, for this task of a store: 0 it has ended, 2 a read was
-/// stale, -6 want of memory, -9 there is no such transaction, -12 the handle is empty.
+/// Evaluates a job that was taken on one state: 0 it has ended, 2 a read was stale, -6 want of
+/// memory, -9 there is no such task or no such transaction, -12 the handle is empty.
 #[unsafe(no_mangle)]
-pub extern "C" fn stm_worker_try_job(
-    alloc: Global,
-    worker: &mut WorkerHandle,
-    task: u32,
-    tx: u32,
-) -> i32
-    ensures { On worker.old.value worker.new.value EMPTY result (λ old how new. TriesAny old (record { task = record { 0 = task }; tx = record { 0 = tx } }) how new) }
+pub extern "C" fn stm_try_job(alloc: Global, worker: &mut WorkerHandle, job: Taken) -> i32
+    ensures { On worker.old.value worker.new.value EMPTY result
+        (λ old how new. TriesTaken old job.ticket job.chapter job.task job.tx how new) }
 {
     let Some(mut held) = worker.take(alloc) else {
         return EMPTY;
     };
-    let job = Job {
-        task: TaskId(task),
-        tx: TxId(tx),
-    };
-    let how = try_job(&mut held, job);
+    let how = try_taken(&mut held, job);
     *worker = WorkerHandle::of(held);
     how
+}
+
+fn try_taken(worker: &mut Worker, job: Taken) -> i32
+    ensures { TriesTaken worker.old job.ticket job.chapter job.task job.tx result worker.new }
+{
+    if job.ticket < 0 {
+        return UNKNOWN;
+    }
+    let job = Job {
+        ticket: Ticket(job.ticket as u64),
+        chapter: job.chapter,
+        task: TaskId(job.task),
+        tx: TxId(job.tx),
+    };
+    try_job(worker, job)
 }
 
 fn try_job(worker: &mut Worker, job: Job) -> i32
@@ -43,8 +50,8 @@ fn try_job(worker: &mut Worker, job: Job) -> i32
     tried(worker.try_job(job))
 }
 
-/// Evaluates a task of the program on one state: 0 it has ended, 2 a read was stale, -6 want of
-/// memory, -9 the program has no such task, -12 the handle is empty.
+/// Evaluates a task of the program, as the first chapter has it, on one state: 0 it has ended, 2 a read
+/// was stale, -6 want of memory, -9 the program has no such task, -12 the handle is empty.
 #[unsafe(no_mangle)]
 pub extern "C" fn stm_try(alloc: Global, worker: &mut WorkerHandle, task: u32) -> i32
     ensures { On worker.old.value worker.new.value EMPTY result (λ old how new. TriesTask old task how new) }
@@ -63,15 +70,20 @@ fn try_task(worker: &mut Worker, task: u32) -> i32
     if task as usize >= worker.catalogue().tasks() {
         return UNKNOWN;
     }
-    let task = TaskId(task);
-    let tx = worker.catalogue().task_tx(task);
-    tried(worker.try_job(Job { task, tx }))
+    let tx = worker.catalogue().task_tx(TaskId(task));
+    tried(worker.try_job(Job {
+        ticket: Ticket(u64::from(task)),
+        chapter: 0,
+        task: TaskId(task),
+        tx,
+    }))
 }
 
 /// How the transaction would end on one state.
 #[unsafe(no_mangle)]
-pub extern "C" fn stm_observe(alloc: Global, worker: &mut WorkerHandle, tx: u32) -> KindAndValue
-    ensures { On worker.old.value worker.new.value nothing_held result (λ old how new. ObservesAny old tx how new) }
+pub extern "C" fn stm_observe(alloc: Global, worker: &mut WorkerHandle, tx: u32) -> Told
+    ensures { On worker.old.value worker.new.value nothing_held result
+        (λ old how new. ObservesAny old tx how new) }
 {
     let Some(mut held) = worker.take(alloc) else {
         return empty();
@@ -81,7 +93,7 @@ pub extern "C" fn stm_observe(alloc: Global, worker: &mut WorkerHandle, tx: u32)
     how
 }
 
-fn observe(worker: &mut Worker, tx: u32) -> KindAndValue
+fn observe(worker: &mut Worker, tx: u32) -> Told
     ensures { ObservesAny worker.old tx result worker.new }
 {
     if tx as usize >= worker.catalogue().tx_count() {

@@ -16,6 +16,14 @@ pub use Rattle.checker.specs.Verdicts
 pub use Rattle.book.specs.View
 pub use Rattle.book.specs.LawfulBook
 pub use Rattle.book.specs.Turns
+pub use Rattle.book.specs.Chapters
+pub use Rattle.stm_store.specs.Working
+pub use Rattle.stm_store.specs.Keeping
+pub use Rattle.stm_store.specs.Tickets
+pub use Rattle.stm_store.specs.Entering
+pub use Rattle.stm_store.specs.Asking
+pub use Rattle.stm_store.specs.Bringing
+pub use Rattle.stm_store.specs.Turning
+pub use Rattle.stm_store.specs.Telling
 -- journals in lines
 pub use Rattle.journal.specs.Lines
-pub use Rattle.stm_store.specs.Working

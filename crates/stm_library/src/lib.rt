@@ -27,11 +27,12 @@ pub use runner::{
 pub use checker::{Part, Verdict, check};
 // A store that lives as long as its host wishes, with workers and observers.
 pub use stm_store::{
-    Brought, FileFault, Job, NextFault, Program, ReportFault, Store, Tried, Worker,
+    Brought, Called, End, Entered, FileFault, Job, Lender, NextFault, Program, ReportFault, Served,
+    Store, Ticket, Tried, Turned, Worker,
 };
 // What stands under a store: cells that are read with no lock, attempts, and the book.
 pub use attempt::{Attempt, Next, Stand};
-pub use book::{Book, Counts, Finish, Serial};
+pub use book::{Book, Counts, Finish, Serial, Standing};
 pub use cells::{Cells, Extend, Pass, Publisher, Read};
 // Schedules of single loads and stores.
 pub use world::{Event, Fate, Seen, World};

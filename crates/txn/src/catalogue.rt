@@ -11,7 +11,7 @@ ghost use Rattle.txn_programs.specs.Scope.{ConditionsKnown, ProgramKnown};
 ghost use Rattle.txn_programs.specs.Standing.{Upholds, upholds};
 ghost use Rattle.txn_evaluator.specs.Always.{conditions_of};
 ghost use Rattle.txn_copies.specs.Conditions.{standing_of};
-ghost use Rattle.txn.specs.Grown.{grown, SameButRuns};
+ghost use Rattle.txn.specs.Grown.{grown, SameButRuns, SameProgram};
 ghost use Rattle.txn.specs.Ids.{ids_hold};
 
 use crate::build::{BuildFault, Copies, ids_known, judged, work_out};
@@ -153,15 +153,22 @@ impl Catalogue {
         self.same_but_runs(other) && same_runs(self.runs(), other.runs())
     }
 
+    /// Whether the two say the same but for their runs and the values at which they begin: names, standing
+    /// conditions and transactions, each in its order.
+    pub fn same_program(&self, other: &Catalogue) -> bool
+        ensures { IsTrue result ↔ SameProgram self.now other.now }
+    {
+        same_names(&self.names, &other.names)
+            && same_always(&self.always, &other.always)
+            && same_transactions(&self.txs, &other.txs)
+    }
+
     /// Whether the two say the same but for their runs: names, initial values, standing conditions
     /// and transactions, each in its order.
     pub fn same_but_runs(&self, other: &Catalogue) -> bool
         ensures { IsTrue result ↔ SameButRuns self.now other.now }
     {
-        same_names(&self.names, &other.names)
-            && same_values(self.initial(), other.initial())
-            && same_always(&self.always, &other.always)
-            && same_transactions(&self.txs, &other.txs)
+        self.same_program(other) && same_values(self.initial(), other.initial())
     }
 
     /// A copy with a run of one task more for each of these transactions, after the other runs: the

@@ -81,17 +81,17 @@ fn same_name(a: &str, b: &str) -> bool
 }
 
 /// Whether the values are the same, in their order.
-pub fn same_values(a: &[i64], b: &[i64]) -> bool
-    ensures { IsTrue result ↔ (a.now ≡ b.now) }
+pub fn same_values(values: &[i64], others: &[i64]) -> bool
+    ensures { IsTrue result ↔ (values.now ≡ others.now) }
 {
-    a == b
+    values == others
 }
 
 /// Whether the runs are the same, in their order.
-pub fn same_runs(a: &[(TxId, u32)], b: &[(TxId, u32)]) -> bool
-    ensures { IsTrue result ↔ (a.now ≡ b.now) }
+pub fn same_runs(runs: &[(TxId, u32)], others: &[(TxId, u32)]) -> bool
+    ensures { IsTrue result ↔ (runs.now ≡ others.now) }
 {
-    a == b
+    runs == others
 }
 
 fn same_transaction(a: &Tx, b: &Tx) -> bool

@@ -3,7 +3,7 @@
 ghost use Rattle.std.specs.Prelude.{◌≡◌, ◌<◌, ◌≤◌, ◌^◌, length, IfOk};
 ghost use Rattle.txn_programs.specs.Arithmetic.{sum_of, difference_of, product_of, quotient_of, remainder_of};
 ghost use Rattle.std.specs.Prelude.{vec_len};
-ghost use Rattle.std.specs.Prelude.{OnOk};
+ghost use Rattle.std.specs.Prelude.{OnOk, OnErr};
 ghost use Rattle.txn_programs.specs.Meaning.{value, truth, upheld, final, run, run_all, repeated, outcome, after};
 ghost use Rattle.txn_programs.specs.Scope.{ExpressionKnown, ConditionKnown, ConditionsKnown, StatementKnown, StatementsKnown, ProgramKnown};
 ghost use Rattle.txn_programs.specs.Tree.{expression_of, condition_of, statement_of, statements_of_list, transaction_of, under};
@@ -83,8 +83,8 @@ pub fn truth(c: &Cond, state: &[i64]) -> Result<bool, Fault>
 }
 
 /// How a statement ends.
-#[derive(Clone, Copy, Debug, PartialEq, Eq)]
-pub enum Flow {
+#[derive(Clone, Copy)]
+enum Flow {
     Done,
     Threw(Fault),
     Retried,
@@ -92,7 +92,7 @@ pub enum Flow {
 
 /// Runs a statement on a state. Where it does not end in `Done` the state is not to be used.
 #[cycle(perform)]
-pub fn perform(s: &Stmt, state: &mut Vec<i64>) -> Result<Flow, AllocError>
+fn perform(s: &Stmt, state: &mut Vec<i64>) -> Result<Flow, AllocError>
     requires { StatementKnown (vec_len state.old) (statement_of s.now) }
     ensures ends { IfOk result (λ flow. ending_of flow state.new.items ≡ run (statement_of s.now) state.old.items) }
     ensures len { vec_len state.new ≡ vec_len state.old }
@@ -193,7 +193,7 @@ fn finish(t: &Tx, always: &[(String, Cond)], state: &[i64]) -> Result<i64, Fault
 
 /// How a transaction ends from a state under standing conditions, where the state after it stands
 /// then. One that would leave a condition untrue throws that it is broken, and leaves the state as
-/// it was.
+/// it was. So does a refused growth, which is told.
 pub fn execute(
     t: &Tx,
     always: &[(String, Cond)],
@@ -203,17 +203,19 @@ pub fn execute(
     requires numbered { length always.now ≤ 2 ^ 32 }
     ensures outcome { IfOk result (λ o. o ≡ outcome (under (conditions_of always.now) (transaction_of t.now)) state.old.items) }
     ensures after { OnOk result (state.new.items ≡ after (under (conditions_of always.now) (transaction_of t.now)) state.old.items) }
+    ensures refused { OnErr result (state.new.items ≡ state.old.items) }
     ensures len { vec_len state.new ≡ vec_len state.old }
 {
     let unchanged = state.clone()?;
-    let ended = match perform(&t.body, state)? {
-        Flow::Done => match finish(t, always, state.as_slice()) {
+    let ended = match perform(&t.body, state) {
+        Ok(Flow::Done) => match finish(t, always, state.as_slice()) {
             Ok(v) => return Ok(Outcome::Returned(v)),
-            Err(f) => Outcome::Thrown(f),
+            Err(f) => Ok(Outcome::Thrown(f)),
         },
-        Flow::Threw(f) => Outcome::Thrown(f),
-        Flow::Retried => Outcome::Retries,
+        Ok(Flow::Threw(f)) => Ok(Outcome::Thrown(f)),
+        Ok(Flow::Retried) => Ok(Outcome::Retries),
+        Err(refused) => Err(refused),
     };
     *state = unchanged;
-    Ok(ended)
+    ended
 }

@@ -3,6 +3,8 @@
 #![tactic(auto)]
 
 #[cfg(test)]
+mod chapters;
+#[cfg(test)]
 mod checked_parts;
 #[cfg(test)]
 mod checked_tasks;

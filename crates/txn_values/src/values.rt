@@ -1,15 +1,16 @@
 //! The catalogue that begins at other values.
 
-ghost use Rattle.std.specs.Prelude.{◌≡◌, ◌≢◌, IfErr, IfOk, OnOk, length, map, false, true};
+ghost use Rattle.std.specs.Prelude.{◌≡◌, ◌≢◌, ◌<◌, ◌≤◌, All, Err, IfErr, IfOk, OnOk, length, map, false, true};
 ghost use Rattle.txn_programs.specs.Listing.{listing_of};
 ghost use Rattle.txn_programs.specs.Names.{names_hold};
 ghost use Rattle.txn_programs.specs.Limits.{limits_hold};
 ghost use Rattle.txn_programs.specs.Standing.{Upholds, upholds};
-ghost use Rattle.txn_values.specs.Values.{with_values};
+ghost use Rattle.txn_values.specs.Values.{with_values, begun};
 
 use crate::parts::{Parts, parts_with};
 use std::alloc::Global;
-use txn::{BuildFault, Catalogue, Memory};
+use txn::{BuildFault, Catalogue, Memory, TxId};
+use txn_copies::copy::runs_with;
 
 /// Why a catalogue cannot begin at these values.
 #[derive(Clone, Copy, Debug, PartialEq, Eq)]
@@ -59,6 +60,7 @@ pub fn with_values(
     ensures upheld { OnOk result (Upholds catalogue.now values.now) }
     ensures count { IfErr result (λ e. e ≡ ValuesFault.Count → length values.now ≢ length catalogue.now.initial) }
     ensures each { OnOk result (length values.now ≡ length catalogue.now.initial) }
+    ensures always_count { length values.now ≢ length catalogue.now.initial → result ≡ Err ValuesFault.Count }
     ensures broken { IfErr result (λ e. e ≡ ValuesFault.Broken → upholds catalogue.now values.now ≡ false) }
 {
     catalogue.rules();
@@ -102,6 +104,36 @@ pub fn with_upheld_values(
     ensures { IfOk result (λ c. c ≡ with_values catalogue.now values.now) }
 {
     match with_values(alloc, catalogue, values) {
+        Ok(next) => Ok(next),
+        Err(ValuesFault::Memory) => Err(Memory),
+        Err(ValuesFault::Count) => unreachable!(),
+        Err(ValuesFault::Broken) => unreachable!(),
+    }
+}
+
+/// The catalogue that begins at these values, of which each standing condition is true, with one task
+/// for each of these transactions in place of its runs. `Memory` only where a growth was refused.
+pub fn begun(
+    alloc: Global,
+    catalogue: &Catalogue,
+    values: &[i64],
+    txs: &[TxId],
+) -> Result<Catalogue, Memory>
+    requires each { length values.now ≡ length catalogue.now.initial }
+    requires upheld { Upholds catalogue.now values.now }
+    requires known { All (λ tx. tx.0 < length catalogue.now.transactions) txs.now }
+    requires few { length txs.now ≤ 65536 }
+    ensures { IfOk result (λ c. c ≡ begun catalogue.now values.now txs.now) }
+{
+    catalogue.rules();
+    let Ok(mut parts) = parts_with(alloc, catalogue, values) else {
+        return Err(Memory);
+    };
+    parts.runs = match runs_with(alloc, &[], txs) {
+        Ok(runs) => runs,
+        Err(_) => return Err(Memory),
+    };
+    match built(alloc, parts) {
         Ok(next) => Ok(next),
         Err(ValuesFault::Memory) => Err(Memory),
         Err(ValuesFault::Count) => unreachable!(),

@@ -10,6 +10,7 @@ use Rattle.world_law.specs.declared.events.Seen.{Seen}
 use Rattle.world_law.specs.declared.events.Seen.TheVariants as seen
 use Rattle.world_law.specs.World.{World, Committer}
 use Rattle.world_law.specs.Next.{Next}
+use Rattle.world_events.specs.Runs.{IsChecking}
 
 -- ---- a read
 
@@ -88,3 +89,9 @@ PlaysFree line.Word = Unit {0}
 PlaysFree (line.Again a) = Unit {0}
 PlaysFree (line.Move a) = Unit {0}
 PlaysFree m = ⊥
+
+-- the line ends a read of an attempt that checks: it takes no memory
+abbrev pub PlaysCheck : World → Move → Type 0
+PlaysCheck w (line.Read a x) = IsChecking w a
+PlaysCheck w (line.Second a) = IsChecking w a
+PlaysCheck w m = ⊥

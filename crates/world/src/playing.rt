@@ -1,7 +1,7 @@
 //! One line of a schedule.
 
 ghost use Rattle.std.specs.Prelude.{◌≡◌, IfOk, OnErr, IsOk};
-ghost use Rattle.world.specs.Lines.{Reads, ReadsPart, Commits, Moves, Plays, PlaysPart, PlaysFree, IsCommitting, StoresLast};
+ghost use Rattle.world.specs.Lines.{Reads, ReadsPart, Commits, Moves, Plays, PlaysPart, PlaysFree, PlaysCheck, IsCommitting, StoresLast};
 ghost use Rattle.world_events.specs.Runs.{IsChecking};
 
 use crate::world::World;
@@ -14,6 +14,7 @@ pub(crate) fn play(world: &mut World<'_>, line: Move) -> Result<Seen, Memory>
     ensures ok { IfOk result (λ s. Plays world.old.listing world.old.world line s world.new.world) }
     ensures refused { OnErr result (PlaysPart world.old.listing world.old.world line world.new.world) }
     ensures sure { PlaysFree line → IsOk result }
+    ensures checks { PlaysCheck world.old.world line → IsOk result }
 {
     match line {
         Move::Begin(task) => world.step(Event::Begin(task)),

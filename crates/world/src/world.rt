@@ -8,7 +8,7 @@ ghost use Rattle.world_law.specs.World.{IsOpening};
 ghost use Rattle.world_law.specs.Next.{Next};
 ghost use Rattle.world_law.specs.declared.events.Seen.TheVariants as seen;
 ghost use Rattle.world_events.specs.Runs.{LeadTo, MayBeRefused, TakesNone, EndsCheck, EvaluatesFree};
-ghost use Rattle.world.specs.Lines.{Plays, PlaysPart, PlaysFree};
+ghost use Rattle.world.specs.Lines.{Plays, PlaysPart, PlaysFree, PlaysCheck};
 ghost use Rattle.world.specs.WorldText.{IsWorldText, PutsWorld};
 ghost use Rattle.world_law.specs.Opacity.{Opaque, WordsFit};
 
@@ -96,13 +96,15 @@ impl<'a> World<'a> {
     /// the answer of the last one.
     ///
     /// `Memory` where an event is refused; those of the line before it happened. The lines of the
-    /// events that take no memory are never refused, nor is a move, and of a read or a commit the last
-    /// load or the question alone.
+    /// events that take no memory are never refused, nor is a move, nor is a read or the last load of
+    /// one by an attempt that checks; and of another read or a commit the last load or the question
+    /// alone.
     pub fn play(&mut self, line: Move) -> Result<Seen, Memory>
         ensures listing { self.new.listing ≡ self.old.listing }
         ensures ok { IfOk result (λ s. Plays self.old.listing self.old.world line s self.new.world) }
         ensures refused { OnErr result (PlaysPart self.old.listing self.old.world line self.new.world) }
         ensures sure { PlaysFree line → IsOk result }
+        ensures checks { PlaysCheck self.old.world line → IsOk result }
     {
         play(self, line)
     }
@@ -118,11 +120,13 @@ impl<'a> World<'a> {
         Ok(text)
     }
 
-    /// Puts those lines behind a text.
+    /// Puts those lines behind a text, which stays as it was where a growth is refused.
     pub fn put_text(&self, out: &mut String) -> Result<(), Memory>
-        ensures { OnOk result (PutsWorld self.now.listing self.now.world (string_bytes out.old) (string_bytes out.new)) }
+        ensures ok { OnOk result (PutsWorld self.now.listing self.now.world (string_bytes out.old) (string_bytes out.new)) }
+        ensures refused { OnErr result (string_bytes out.new ≡ string_bytes out.old) }
     {
-        put_world(out, &self.scene)?;
+        let lines = self.text()?;
+        out.push_str(lines.as_str())?;
         Ok(())
     }
 

@@ -14,4 +14,5 @@ pub mod Committing
 pub mod Ending
 pub mod FirstWords
 pub mod Finished
+pub mod LetGo
 pub mod Unspent

@@ -3,7 +3,7 @@ use Rattle.std.specs.Prelude.{◌≡◌, ◌≢◌, ℕ, ◌+◌, ◌*◌, ◌<�
 use Rattle.std.specs.List.{slice_get}
 use Rattle.std.specs.declared.alloc.Global.{Global}
 use Rattle.std.specs.declared.vec.Vec.{Vec}
-use Rattle.std.specs.Option.{option_map}
+use Rattle.std.specs.Option.{option_map, option_and_then}
 use Rattle.std.specs.Vec.{with_item}
 use Rattle.txn_programs.specs.Listing.{Listing, tasks}
 use Rattle.txn_words.specs.Words.{last_state}
@@ -13,6 +13,7 @@ use Rattle.txn_programs.specs.declared.ast.VarId.{VarId}
 use Rattle.attempt.specs.declared.next.Next.TheVariants as next
 use Rattle.world_law.specs.declared.events.Fate.TheVariants as fate
 use Rattle.world_law.specs.declared.events.Event.{Event}
+use Rattle.world_law.specs.declared.events.Event.TheVariants as event
 use Rattle.world_law.specs.declared.events.Seen.{Seen}
 use Rattle.world_law.specs.World.{Committer, World, is_live}
 use Rattle.world_law.specs.Next.{Next}
@@ -81,6 +82,30 @@ pub record Kept (c : Scene) : Type 0 where
 abbrev pub IsFinished : Scene → ℕ → Type 0
 IsFinished c i = (y : Trial) × (slice_get c.trials.items i ≡ Some y) × (y.fate ≢ fate.Running)
     × (CanMove y → slice_get c.latest.items y.task.0 ≢ Some (Some i))
+
+-- the attempt at the place i keeps its log alone: it can't go on
+abbrev pub IsShort : Scene → ℕ → Type 0
+IsShort c i = (y : Trial) → slice_get c.trials.items i ≡ Some y → y.at ≡ next.Memory
+
+-- the attempt at this place, if there is one, is let go where it is finished
+abbrev pub IsLetGo : Scene → Option ℕ → Type 0
+IsLetGo c None = Unit {0}
+IsLetGo c (Some i) = IsFinished c i → IsShort c i
+
+-- the place of the latest attempt of a task, if it has one
+abbrev pub latest_of : Scene → TaskId → Option ℕ
+latest_of c a = option_and_then (λ o. o) (slice_get c.latest.items a.0)
+
+-- the place of the attempt that an event is about, if there is one: the latest of its task, or the one that commits
+abbrev pub concerned : Scene → Event → Option ℕ
+concerned c (event.Begin a) = latest_of c a
+concerned c (event.First a x) = latest_of c a
+concerned c (event.Value a) = latest_of c a
+concerned c (event.Second a) = latest_of c a
+concerned c (event.Ask a) = latest_of c a
+concerned c event.Word = option_map (λ (p : Publishing). p.place) c.committer
+concerned c (event.Drop a) = latest_of c a
+concerned c (event.Again a) = latest_of c a
 
 -- with another attempt at the place i
 abbrev pub with_trial : Scene → ℕ → Trial → Scene

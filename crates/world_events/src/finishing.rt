@@ -1,7 +1,8 @@
 //! Attempts that are finished keep their logs alone.
 
-ghost use Rattle.std.specs.Prelude.{◌≡◌, ◌<◌, length, Decides};
-ghost use Rattle.world_events.specs.Inside.{Kept, Stays, IsFinished};
+ghost use Rattle.std.specs.Prelude.{◌≡◌, ◌<◌, ℕ, Option, length, Decides};
+ghost use Rattle.world_law.specs.declared.events.Event.{Event};
+ghost use Rattle.world_events.specs.Inside.{Kept, Stays, IsFinished, IsLetGo, concerned, latest_of};
 
 use crate::scene::Scene;
 use txn::TaskId;
@@ -9,7 +10,9 @@ use world_law::{Event, Fate};
 
 /// The place of the attempt that an event is about, if there is one: the latest of its task, or the
 /// one that commits.
-pub fn concerned(scene: &Scene, event: Event) -> Option<usize> {
+pub fn concerned(scene: &Scene, event: Event) -> Option<usize>
+    ensures { result ≡ concerned scene.now event }
+{
     match event {
         Event::Begin(task) => latest(scene, task),
         Event::First(task, _) => latest(scene, task),
@@ -26,7 +29,9 @@ pub fn concerned(scene: &Scene, event: Event) -> Option<usize> {
 }
 
 /// The place of the latest attempt of a task, if it has one.
-fn latest(scene: &Scene, task: TaskId) -> Option<usize> {
+fn latest(scene: &Scene, task: TaskId) -> Option<usize>
+    ensures { result ≡ latest_of scene.now task }
+{
     if (task.0 as usize) < scene.latest.len() {
         scene.latest[task.0 as usize]
     } else {
@@ -37,15 +42,19 @@ fn latest(scene: &Scene, task: TaskId) -> Option<usize> {
 /// Where the attempt at this place is finished, it keeps its log alone. That takes no memory.
 pub fn settle(scene: &mut Scene, place: Option<usize>)
     requires { Kept scene.old }
-    ensures { Stays scene.old scene.new }
+    ensures stays { Stays scene.old scene.new }
+    ensures let_go { IsLetGo scene.new place }
+    ensures others { (other : Option ℕ) → IsLetGo scene.old other → IsLetGo scene.new other }
+    ensures about { (event : Event) → concerned scene.new event ≡ concerned scene.old event }
 {
-    match place {
-        Some(place) => {
-            if place < scene.trials.len() && is_finished(scene, place) {
-                scene.trials[place].shorten();
-            }
-        }
-        None => {}
+    let Some(place) = place else {
+        return;
+    };
+    if place >= scene.trials.len() {
+        return;
+    }
+    if is_finished(scene, place) {
+        scene.trials[place].shorten();
     }
 }
 

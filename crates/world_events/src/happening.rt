@@ -1,10 +1,10 @@
 //! One event happens.
 
-ghost use Rattle.std.specs.Prelude.{◌≡◌, ◌≢◌, IfOk, OnErr, IsOk};
+ghost use Rattle.std.specs.Prelude.{◌≡◌, ◌≢◌, IfOk, OnOk, OnErr, IsOk};
 ghost use Rattle.world_law.specs.Next.{Reachable};
 ghost use Rattle.world_law.specs.declared.events.Seen.TheVariants as seen;
 ghost use Rattle.world_events.specs.Runs.{TakesNone, EndsCheck, EvaluatesFree};
-ghost use Rattle.world_events.specs.Inside.{Kept, Leads, Stays, listing, world_of};
+ghost use Rattle.world_events.specs.Inside.{Kept, Leads, Stays, IsLetGo, concerned, listing, world_of};
 
 use crate::asking::ask;
 use crate::beginning::begin;
@@ -17,11 +17,14 @@ use crate::storing::word;
 use txn::Memory;
 use world_law::{Event, Seen};
 
-/// One event happens, and what is finished then keeps its log alone. At `Memory` nothing changed.
+/// One event happens, and what is finished then keeps its log alone: the attempt that the event was
+/// about before it, and the one that it is about behind it. At `Memory` nothing changed.
 pub fn happen(scene: &mut Scene, event: Event) -> Result<Seen, Memory>
     requires kept { Kept scene.old }
     requires reached { Reachable (listing scene.old) (world_of scene.old) }
     ensures ok { IfOk result (λ s. Leads scene.old event s scene.new) }
+    ensures before { OnOk result (IsLetGo scene.new (concerned scene.old event)) }
+    ensures after { OnOk result (IsLetGo scene.new (concerned scene.new event)) }
     ensures refused { OnErr result (Stays scene.old scene.new) }
     ensures sure { TakesNone event → IsOk result }
     ensures checks { EndsCheck (world_of scene.old) event → IsOk result }

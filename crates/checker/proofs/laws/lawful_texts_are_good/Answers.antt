@@ -1,4 +1,4 @@
-use Rattle.std.proofs.Common.{◌≡◌, ◌≤◌, ◌+◌, refl, sym, length, arith}
+use Rattle.std.proofs.Common.{◌≤◌, ◌+◌, refl, sym, length, arith}
 use Rattle.txn_programs.specs.Listing.{tasks}
 use Rattle.txn_programs.proofs.Lawful.{few_tasks}
 use Rattle.text_report_printer.proofs.Lengths.{report_short}

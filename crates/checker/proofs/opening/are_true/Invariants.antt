@@ -1,4 +1,4 @@
-use Rattle.std.proofs.Common.{◌≡◌, ◌↔◌, length, drop}
+use Rattle.std.proofs.Common.{◌↔◌, length, drop}
 use Rattle.txn_programs.specs.Scope.{ConditionsKnown}
 use Rattle.txn_programs.specs.Standing.{AllTrue}
 use Rattle.txn_evaluator.specs.Always.{conditions_of}

@@ -2,7 +2,7 @@ use Rattle.std.proofs.Common.{◌≡◌, false, refl, arith}
 use Rattle.std.proofs.lemmas.Grind.{common_steps}
 use Rattle.text_words.specs.TokenView.{view}
 use Rattle.explain_files.specs.Declarations.{DoesNotDeclare}
-use Rattle.explain_files.proofs.Judged.{goes_on, nothing_seen, does_not_declare}
+use Rattle.explain_files.proofs.Judged.{begun, goes_on, nothing_seen, does_not_declare}
 use Rattle.explain_files.proofs.declarations.declaration_place.Goals as goal
 
 pub tokens-preserved : goal.tokens-preserved
@@ -12,3 +12,6 @@ tokens-preserved c =
     let other : c.declares.result ≡ false = grind (arith, common_steps) in
     goes_on (DoesNotDeclare c.args.used c.args.name.now) nothing_seen c.args.bytes.now c.tokens.at c.in-Some.found.place c.in-Some.found.next c.tokens.role c.role_behind-role.result tt tt t
     w c.in-Some.ensures.some (does_not_declare c.args.used c.args.name.now w.before c.tokens.role t w.used_is (c.declares.ensures.not other)) c.role_behind-role.ensures refl
+
+pub tokens-init : goal.tokens-init
+tokens-init c = begun (DoesNotDeclare c.args.used c.args.name.now) nothing_seen c.args.bytes.now tt refl

@@ -3,7 +3,7 @@ use Rattle.text_words.specs.TokenView.{view}
 use Rattle.explain_files.specs.Judging.{IsRight}
 use Rattle.explain_files.specs.Limiting.{many_in, limit_fault_at}
 use Rattle.explain_files.specs.Counting.{view_counts}
-use Rattle.explain_files.proofs.Judged.{goes_on}
+use Rattle.explain_files.proofs.Judged.{begun, goes_on}
 use Rattle.explain_files.proofs.Counted.{limit_said, many_more}
 use Rattle.explain_files.proofs.limits.first_excess.Goals as goal
 
@@ -14,3 +14,6 @@ tokens-preserved c =
     goes_on (IsRight limit_fault_at) many_in c.args.bytes.now c.tokens.at c.in-Some.found.place c.in-Some.found.next c.tokens.role c.role_behind-role.result (view_counts c.tokens.counts) (view_counts c.judged.new.counts) t
     w c.in-Some.ensures.some (limit_said (view_counts c.tokens.counts) c.tokens.role w.before t None w.state_is w.used_is c.in_default-judged.ensures.fault)
     c.role_behind-role.ensures (many_more (view_counts c.tokens.counts) (view_counts c.judged.new.counts) c.tokens.role w.before t w.state_is w.used_is (c.in_default-judged.ensures.counts refl))
+
+pub tokens-init : goal.tokens-init
+tokens-init c = begun (IsRight limit_fault_at) many_in c.args.bytes.now (view_counts record { variables = 0; conditions = 0; transactions = 0; tasks = 0 }) refl

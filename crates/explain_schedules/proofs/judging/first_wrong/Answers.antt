@@ -8,7 +8,7 @@ lines-init c = begins_going (right_of c.args.catalogue.now c.args.judged) c.args
 
 pub unreachable-requires : goal.unreachable-requires
 unreachable-requires c =
-    is_read (right_of c.args.catalogue.now c.args.judged) c.args.bytes.now c.lines.rest.now c.in-Some.line.now c.in-Some.after.now c.in_default-line_of.field-0.at c.lines.invariant c.in-Some.ensures.some c.in_default-line_of.ensures.stop
+    is_read (right_of c.args.catalogue.now c.args.judged) c.args.bytes.now c.lines.rest.now c.in-Some.line.now c.in-Some.after.now c.in_default-line_of.field-0.at c.in_default-line_of.field-0.wanted c.lines.invariant c.in-Some.ensures.some c.in_default-line_of.ensures.stop
 
 pub returns-in-Some-wrong_in-clause-place : goal.returns-in-Some-wrong_in-clause-place
 returns-in-Some-wrong_in-clause-place c =

@@ -1,12 +1,13 @@
 use Rattle.std.proofs.Common.{ℕ, ◌+◌, ◌∷◌, ◌++◌, length, refl, sym, ap, subst, ◌∙◌}
 use Rattle.text_schedule_reader.specs.Raw.{OfVariable}
 use Rattle.explain_schedules.specs.Lines.{StopsAt}
+use Rattle.explain_schedules.specs.declared.line.Wanted.TheVariants as want
 use Rattle.explain_schedules.proofs.Lines.{variable_line, number_stops, name_stops, fails_shape}
 use Rattle.explain_schedules.proofs.line.named.Goals as goal
 
 pub returns-in_default-clause-stop : goal.returns-in_default-clause-stop
 returns-in_default-clause-stop c =
-    subst (λ (n : ℕ). StopsAt (c.args.verb.now ++ 32 ∷ (c.args.first.now ++ 32 ∷ c.args.second.now)) n) (sym c.requires.at)
+    subst (λ (n : ℕ). StopsAt (c.args.verb.now ++ 32 ∷ (c.args.first.now ++ 32 ∷ c.args.second.now)) n want.TaskAndVariable) (sym c.requires.at)
     (number_stops c.args.verb.now c.args.first.now c.args.second.now c.requires.spaceless c.requires.verb c.requires.other c.requires.first (fails_shape c.in_default.field-0 _ c.in_default.ensures.value c.in_default.ensures.kind))
 
 pub returns-in-Ok-name_in-clause-line : goal.returns-in-Ok-name_in-clause-line
@@ -20,5 +21,5 @@ returns-in-Ok-name_in-clause-line c =
 
 pub returns-in-Err-clause-stop : goal.returns-in-Err-clause-stop
 returns-in-Err-clause-stop c =
-    subst (λ (n : ℕ). StopsAt (c.args.verb.now ++ 32 ∷ (c.args.first.now ++ 32 ∷ c.args.second.now)) (n + (length c.args.first.now + 1))) (sym c.requires.at)
+    subst (λ (n : ℕ). StopsAt (c.args.verb.now ++ 32 ∷ (c.args.first.now ++ 32 ∷ c.args.second.now)) (n + (length c.args.first.now + 1)) want.Variable) (sym c.requires.at)
     (name_stops c.args.verb.now c.args.first.now c.args.second.now c.in-Ok.task.text.now c.requires.spaceless c.requires.verb c.requires.other c.requires.first c.in-Ok.ensures.value (fails_shape c.in-Err.field-0 _ c.in-Err.ensures.value c.in-Err.ensures.kind))

@@ -1,4 +1,4 @@
-use Rattle.std.proofs.Common.{◌<◌, length, arith}
+use Rattle.std.proofs.Common.{arith}
 use Rattle.txn_programs.proofs.Lawful.{limits_parts}
 use Rattle.print_files.proofs.copies.copied_transactions.Goals as goal
 

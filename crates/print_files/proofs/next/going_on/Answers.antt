@@ -1,12 +1,10 @@
-use Rattle.std.proofs.Common.{◌≡◌, ◌∙◌, true, IfOk, map, ap, sym, subst}
-use Rattle.std.specs.List.{list_all}
-use Rattle.txn_programs.specs.Meaning.{truth}
+use Rattle.std.proofs.Common.{◌≡◌, ◌∙◌, IfOk, map, ap, subst}
 use Rattle.txn_programs.specs.Listing.{Listing, listing_of, conditions}
 use Rattle.txn_programs.specs.Names.{names_hold}
 use Rattle.txn_programs.specs.Limits.{limits_hold}
 use Rattle.txn_programs.specs.Standing.{upholds}
 use Rattle.txn_programs.specs.Told.{told, now_of}
-use Rattle.print_files.proofs.Values.{with_values, listing_is, names_stay, limits_stay, true_upholds}
+use Rattle.print_files.proofs.Values.{listing_is, names_stay, limits_stay, true_upholds}
 use Rattle.print_files.proofs.next.going_on.Goals as goal
 
 pub built-requires-clause-names : goal.built-requires-clause-names

@@ -1,4 +1,4 @@
-use Rattle.std.proofs.Common.{◌≡◌, ◌∙◌, ◌++◌, ◌+◌, ℕ, ℤ, List, [], ◌∷◌, map, drop, get_or, Some, ap, sym, refl, pos, string_bytes, String, Global}
+use Rattle.std.proofs.Common.{◌≡◌, ◌∙◌, ◌++◌, ◌+◌, ℕ, ℤ, List, [], ◌∷◌, map, drop, Some, ap, sym, refl, pos, string_bytes, String, Global}
 use Rattle.std.proofs.lemmas.Option.{slice_get-get_or}
 use Rattle.print_files.proofs.Moved.{moved}
 use Rattle.print_files.proofs.next.variables.Goals as goal

@@ -1,7 +1,6 @@
 use Rattle.std.proofs.Common.{◌<◌, length}
-use Rattle.std.specs.Prelude.{IfSome}
 use Rattle.txn_programs.specs.Listing.{tasks}
 use Rattle.run_workers.proofs.rounds.fill.Given as goal
 
 abbrev pub invariant-takes : goal.invariant-takes
-invariant-takes g l = IfSome l.given (λ t. t.0 < length (tasks g.N.Naming.catalogue))
+invariant-takes g l = l.task.0 < length (tasks g.N.Naming.catalogue)

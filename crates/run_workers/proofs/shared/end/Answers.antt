@@ -1,5 +1,7 @@
 use Rattle.std.proofs.Common.{◌∙◌}
 use Rattle.run_workers.proofs.Journals.{finish_short}
+use Rattle.book.specs.declared.task.Serial.TheVariants as serial
+use Rattle.run_workers.proofs.Standing.{kept_over, committed_over}
 use Rattle.run_workers.proofs.shared.end.Goals as goal
 
 pub invariant_of-named-in-Committed : goal.invariant_of-named-in-Committed
@@ -8,4 +10,11 @@ invariant_of-named-in-Committed g c =
     record {
       of_catalogue = c.keep_short.ensures.catalogue ∙ (c.in-Committed.ensures.catalogue ∙ named.of_catalogue);
       short = finish_short c.args.every g.N.Naming.every c.requires.every named.book c.law.ensures.lawful named.short _ _ c.args.task c.in-Committed.number c.in-Committed.ensures.finished.4 c.keep_short.ensures.kept_short;
+      exist = named.exist;
+      room = named.room;
     }
+
+pub returns-in-Committed : goal.returns-in-Committed
+returns-in-Committed g c = λ yes.
+    let f = c.in-Committed.ensures.finished in
+    kept_over c.args.every (serial.Committed c.in-Committed.number) _ _ c.args.task c.keep_short.ensures.kept_short (committed_over _ _ c.args.task f.0 f.4)

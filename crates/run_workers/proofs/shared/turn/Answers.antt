@@ -1,5 +1,6 @@
 use Rattle.std.proofs.Common.{◌∙◌}
 use Rattle.run_workers.proofs.Journals.{serial_short}
+use Rattle.run_workers.proofs.Standing.{kept_over, served_over}
 use Rattle.run_workers.proofs.shared.turn.Goals as goal
 
 pub invariant_of-named : goal.invariant_of-named
@@ -8,4 +9,11 @@ invariant_of-named g c =
     record {
       of_catalogue = c.keep_short.ensures.catalogue ∙ (c.serial_lent-how.ensures.catalogue ∙ named.of_catalogue);
       short = serial_short c.args.every g.N.Naming.every c.requires.every named.book c.law.ensures.lawful named.short _ _ c.args.task c.serial_lent-how.result c.serial_lent-how.ensures.served c.keep_short.ensures.kept_short;
+      exist = named.exist;
+      room = named.room;
     }
+
+pub returns : goal.returns
+returns g c =
+    kept_over c.args.every c.serial_lent-how.result _ _ c.args.task c.keep_short.ensures.kept_short
+    (served_over _ _ c.args.task c.serial_lent-how.result c.serial_lent-how.ensures.served)

@@ -30,7 +30,7 @@ invariant_of-self c =
       few = omega (arith, ap length c.clear.ensures.items);
       hinted = subst (λ (l : List Note). AreHinted 0 l i.noted) (sym c.clear.ensures.items) tt;
       once = subst (λ (l : List Branch). AreOnce c.clear.new.self.items (reverse l)) (sym c.clear-2.ensures.items) tt;
-      floors = subst (λ (l : List Branch). HaveFloors (length c.clear-3.new.self.items) (reverse l)) (sym c.clear-2.ensures.items) tt;
+      floors = subst (λ (l : List Branch). HaveFloors (length c.clear-3.new.self.items) (reverse l)) (sym c.clear-2.ensures.items) (ap length c.clear-3.ensures.items);
     }
 
 pub returns-clause-pairs : goal.returns-clause-pairs

@@ -1,4 +1,4 @@
-use Rattle.std.proofs.Common.{rules, ◌≡◌, ◌≢◌, Some, sym, subst, ap, ◌∙◌}
+use Rattle.std.proofs.Common.{rules, ◌≢◌, sym, subst, ap, ◌∙◌}
 use Rattle.std.specs.List.{slice_get}
 use Rattle.txn_words.specs.Stores.{with_changes}
 use Rattle.txn_programs.specs.declared.ast.Outcome.TheVariants.{Retries}
@@ -13,14 +13,14 @@ use Rattle.book.proofs.book.Book.serial_lent.Goals as goal
 pub commit-requires-clause-after : goal.commit-requires-clause-after
 commit-requires-clause-after c =
     let told = c.writes-writes.ensures.value in
-    after_now c.self.inside c.args.self.now c.args.task c.transaction_of-tx.result c.deref.result.now c.in-Ok.how c.bring_to_end.new.attempt c.self.view_is c.deref.ensures.value c.transaction_of-tx.ensures.value c.in-Ok.ensures (subst Ascending told c.writes-writes.ensures.ascending)
+    after_now c.self.inside c.args.self.now c.args.task c.transaction-tx.result c.deref.result.now c.in-Ok.how c.bring_to_end.new.attempt c.self.view_is c.deref.ensures.value c.transaction-tx.ensures.value c.in-Ok.ensures (subst Ascending told c.writes-writes.ensures.ascending)
     ∙ ap (λ (l : Known). with_changes c.args.self.now.present.state l) (sym told)
 
 pub returns-clause-served : goal.returns-clause-served
 returns-clause-served c =
     let running : IsRunning c.args.self.now c.args.task =
     ap (λ (x : BookView). slice_get x.tasks c.args.task.0) (sym c.self.view_is) ∙ running_with c.self.inside.present.values.items c.self.inside.table.tasks c.args.task.0 c.if-not-is_running.ensures in
-    let out = outcome_now c.self.inside c.args.self.now c.args.task c.transaction_of-tx.result c.deref.result.now c.in-Ok.how c.bring_to_end.new.attempt c.self.view_is c.deref.ensures.value c.transaction_of-tx.ensures.value c.in-Ok.ensures in
+    let out = outcome_now c.self.inside c.args.self.now c.args.task c.transaction-tx.result c.deref.result.now c.in-Ok.how c.bring_to_end.new.attempt c.self.view_is c.deref.ensures.value c.transaction-tx.ensures.value c.in-Ok.ensures in
     let ends : c.in-Ok.how ≢ Retries = search rules in
     (running, λ e. ends (out ∙ e), c.commit.ensures.number, c.commit.ensures.committed)
 

@@ -1,0 +1,150 @@
+//! Each way to declare: the text that it makes, and what it does where it is run.
+
+use stm::*;
+
+/// How a transaction of this body and result ends, over `x` = 7 and `y` = -2.
+fn ends(make: impl Fn(&Var, &Var) -> (Stmt, Expr)) -> Observed {
+    let mut declare = Declare::new();
+    let (x, y) = (declare.var("x", 7), declare.var("y", -2));
+    let (body, result) = make(&x, &y);
+    declare.tx("t", body, result);
+    let store = Store::open(&declare.program().unwrap(), 1, 0).unwrap();
+    let mut worker = store.worker().unwrap();
+    worker.observe(0).unwrap()
+}
+
+fn value(make: impl Fn(&Var, &Var) -> Expr) -> Observed {
+    ends(|x, y| (skip(), make(x, y)))
+}
+
+/// Whether the condition is so.
+fn holds(make: impl Fn(&Var, &Var) -> Cond) -> bool {
+    match ends(|x, y| (when(make(x, y), skip(), throw(99)), int(1))) {
+        Observed::Returned(1) => true,
+        Observed::Thrown(99) => false,
+        other => panic!("a condition ends with {other:?}"),
+    }
+}
+
+#[test]
+fn expressions() {
+    use Observed::Returned;
+    assert_eq!(value(|x, _| x.into()), Returned(7));
+    assert_eq!(value(|x, y| var(x) + y), Returned(5));
+    assert_eq!(value(|x, y| var(x) - y), Returned(9));
+    assert_eq!(value(|x, y| var(x) * y), Returned(-14));
+    assert_eq!((value(|x, y| var(x) / y), value(|x, y| var(x) % y)), (Returned(-3), Returned(1)));
+    assert_eq!((value(|x, y| div(x, y)), value(|x, y| rem(x, y))), (Returned(-3), Returned(1)));
+    assert_eq!((value(|x, y| div(y, x)), value(|x, y| rem(y, x))), (Returned(0), Returned(-2)));
+    assert_eq!((value(|_, _| int(-5)), value(|_, _| 4.into())), (Returned(-5), Returned(4)));
+    assert_eq!(value(|x, _| sum([x, x, x])), Returned(21));
+    assert_eq!((value(|_, _| sum::<Expr>([])), value(|_, y| sum([y]))), (Returned(0), Returned(-2)));
+    assert_eq!(value(|_, _| sum(0..256)), Returned(32640));
+}
+
+#[test]
+fn conditions() {
+    assert_eq!([holds(|x, _| eq(x, 7)), holds(|x, _| eq(x, 8))], [true, false]);
+    assert_eq!([holds(|x, _| lt(x, 8)), holds(|x, _| lt(x, 7)), holds(|x, _| lt(6, x))], [true, false, true]);
+    assert_eq!([holds(|x, _| le(x, 7)), holds(|x, _| le(x, 6)), holds(|x, _| le(7, x))], [true, false, true]);
+    let (yes, no) = (|| eq(0, 0), || eq(0, 1));
+    let both = [(yes(), yes()), (yes(), no()), (no(), yes()), (no(), no())];
+    let anded = both.clone().map(|(a, b)| holds(|_, _| and(a.clone(), b.clone())));
+    let ored = both.map(|(a, b)| holds(|_, _| or(a.clone(), b.clone())));
+    assert_eq!((anded, ored), ([true, false, false, false], [true, true, true, false]));
+    assert_eq!([holds(|_, _| not(no())), holds(|_, _| not(yes()))], [true, false]);
+}
+
+#[test]
+fn statements() {
+    use Observed::{Retries, Returned, Thrown};
+    assert_eq!(ends(|x, _| (set(x, 3), x.into())), Returned(3));
+    assert_eq!(ends(|x, y| (seq([set(x, y), set(y, var(x) * 10)]), var(x) + y)), Returned(-22));
+    assert_eq!(ends(|x, _| (seq([]), x.into())), Returned(7));
+    assert_eq!(ends(|x, _| (when(lt(x, 0), set(x, 1), set(x, 2)), x.into())), Returned(2));
+    assert_eq!(ends(|x, _| (when(lt(0, x), set(x, 1), set(x, 2)), x.into())), Returned(1));
+    assert_eq!(ends(|x, _| (repeat(5, set(x, var(x) + 2)), x.into())), Returned(17));
+    assert_eq!(ends(|x, _| (retry(), x.into())), Retries);
+    assert_eq!(ends(|x, _| (throw(var(x) + 1), x.into())), Thrown(8));
+    let first = |x: &Var| seq([set(x, 1), retry()]);
+    assert_eq!(ends(|x, y| (or_else(first(x), set(y, 4)), var(x) + y)), Returned(11));
+    assert_eq!(ends(|x, y| (or_else(set(x, 1), set(y, 4)), var(x) + y)), Returned(-1));
+    assert_eq!(ends(|x, _| (or_else(retry(), retry()), x.into())), Retries);
+}
+
+#[test]
+fn faults() {
+    assert_eq!(value(|_, _| int(i64::MAX) + 1), Observed::Overflow);
+    assert_eq!(value(|x, _| div(x, 0)), Observed::DivideByZero);
+    assert_eq!(value(|x, _| rem(x, 0)), Observed::DivideByZero);
+}
+
+#[test]
+fn a_whole_text() {
+    let mut all = Declare::new();
+    let (x, y) = (all.var("x", 7), all.var("Y_2", i64::MIN));
+    all.always("low", and(lt(&x, 9), or(le(&y, 0), not(eq(&x, &y)))));
+    let body = seq([
+        set(&x, var(&x) + 1 - 2),
+        when(eq(&x, 6), skip(), retry()),
+        or_else(repeat(3, set(&y, var(&y) * 1)), throw(div(&x, rem(&y, 5)))),
+    ]);
+    let tx = all.tx("t", body, sum([&x, &x, &y]));
+    all.run(&tx, 3);
+    let text = "(stm 2)\n(var x 7)\n(var Y_2 -9223372036854775808)\n\
+        (always low (and (lt x 9) (or (le Y_2 0) (not (eq x Y_2)))))\n\
+        (tx t (seq (set x (sub (add x 1) 2)) (if (eq x 6) (skip) (retry)) \
+        (orelse (repeat 3 (set Y_2 (mul Y_2 1))) (throw (div x (rem Y_2 5))))) (add (add x x) Y_2))\n\
+        (run t 3)\n";
+    assert_eq!(all.text().as_deref(), Ok(text));
+    assert_eq!(all.program().unwrap().text(), text);
+}
+
+/// A word that is no name declares nothing, and is spliced in nowhere.
+#[test]
+fn names_are_judged() {
+    for word in ["", "x 1) (var y", "1x", "_x", "x-", "x\n", "é", "x)", "(", " x"] {
+        let mut vars = Declare::new();
+        let wrong = vars.var(word, 2);
+        assert_eq!((vars.text(), vars.program().map(|_| ())), (Err(Error::Name), Err(Error::Name)), "{word}");
+        let mut always = Declare::new();
+        always.always(word, eq(0, 0));
+        assert_eq!(always.text(), Err(Error::Name), "{word}");
+        let mut txs = Declare::new();
+        let tx = txs.tx(word, skip(), 0);
+        assert_eq!(txs.text(), Err(Error::Name), "{word}");
+        // Nor is it in another program.
+        let mut other = Declare::new();
+        let good = other.tx("t", set(&wrong, 1), 0);
+        assert_eq!(other.program().map(|_| ()), Err(Error::Shape), "{word}");
+        let mut other = Declare::new();
+        other.tx("t", skip(), 0);
+        other.run(&tx, 1);
+        assert_eq!(other.program().map(|_| ()), Err(Error::Shape), "{word}");
+        other.run(&good, 1);
+    }
+    let mut long = Declare::new();
+    long.var(&"a".repeat(32), 0);
+    assert!(long.program().is_ok());
+    long.var(&"b".repeat(33), 0);
+    assert_eq!(long.program().map(|_| ()), Err(Error::Limit));
+    let mut twice = Declare::new();
+    twice.var("x", 0);
+    twice.var("x", 0);
+    assert_eq!(twice.program().map(|_| ()), Err(Error::Name));
+}
+
+/// 31 additions open 31 parentheses, and the transaction one; the sum of so many parts opens few.
+#[test]
+fn depth() {
+    let chain = |parts: i64| {
+        let mut deep = Declare::new();
+        let x = deep.var("x", 1);
+        deep.tx("t", skip(), (1..parts).fold(var(&x), |all, one| all + one));
+        deep.program().map(|_| ())
+    };
+    assert_eq!((chain(32), chain(33)), (Ok(()), Err(Error::Shape)));
+    let mut flat = Declare::new();
+    flat.tx("t", skip(), sum(0..10_000));
+    assert!(flat.program().is_ok());
+}

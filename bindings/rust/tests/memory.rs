@@ -1,0 +1,157 @@
+//! Memory of the test's own behind the library: what is let go gives its blocks back, and want of memory is told.
+//!
+//! It has one test, since what it counts is the whole process's.
+
+use std::ffi::c_void;
+use std::sync::atomic::{AtomicI64, Ordering};
+use stm::{
+    run_with, Brought, End, Entered, Error, Observed, Outcome, Program, Retry, Store, Ticket, Tried, Verdict,
+};
+
+#[repr(C)]
+pub struct Block {
+    got: bool,
+    at: *mut c_void,
+}
+
+extern "C" {
+    fn malloc(size: usize) -> *mut c_void;
+    fn realloc(old: *mut c_void, size: usize) -> *mut c_void;
+    fn free(old: *mut c_void);
+}
+
+static BLOCKS: AtomicI64 = AtomicI64::new(0);
+static REQUESTS: AtomicI64 = AtomicI64::new(0);
+static REFUSED: AtomicI64 = AtomicI64::new(0);
+
+fn is_refused() -> bool {
+    REQUESTS.fetch_add(1, Ordering::SeqCst) + 1 == REFUSED.load(Ordering::SeqCst)
+}
+
+fn told(at: *mut c_void) -> Block {
+    let got = !at.is_null();
+    Block { got, at: if got { at } else { std::ptr::NonNull::dangling().as_ptr() } }
+}
+
+#[no_mangle]
+pub extern "C" fn rattle_alloc(size: usize, align: usize) -> Block {
+    if is_refused() {
+        return told(std::ptr::null_mut());
+    }
+    BLOCKS.fetch_add(1, Ordering::SeqCst);
+    // SAFETY: it may be called with any size.
+    told(unsafe { malloc(if size == 0 { align } else { size }) })
+}
+
+/// # Safety
+/// The library calls it with a block that `rattle_alloc` or it gave.
+#[no_mangle]
+pub unsafe extern "C" fn rattle_realloc(
+    old: *mut c_void,
+    _old_size: usize,
+    size: usize,
+    align: usize,
+) -> Block {
+    if is_refused() {
+        return told(std::ptr::null_mut());
+    }
+    // SAFETY: as said above.
+    told(unsafe { realloc(old, if size == 0 { align } else { size }) })
+}
+
+/// # Safety
+/// As for `rattle_realloc`.
+#[no_mangle]
+pub unsafe extern "C" fn rattle_dealloc(old: *mut c_void) {
+    BLOCKS.fetch_sub(1, Ordering::SeqCst);
+    // SAFETY: as said above.
+    unsafe { free(old) }
+}
+
+fn blocks() -> i64 {
+    BLOCKS.load(Ordering::SeqCst)
+}
+
+/// How many requests this makes, where the one of this number is refused; 0: none.
+fn refusing(number: i64, work: impl FnOnce()) -> i64 {
+    REQUESTS.store(0, Ordering::SeqCst);
+    REFUSED.store(number, Ordering::SeqCst);
+    work();
+    REFUSED.store(0, Ordering::SeqCst);
+    REQUESTS.load(Ordering::SeqCst)
+}
+
+/// Its attempts take memory: a first branch is left, and what it wrote.
+const FILE: &str = "(var x 0)\n(tx t (orelse (seq (set x 9) (retry)) (set x (add x 1))) x)\n(run t 3)\n";
+
+#[test]
+fn memory() {
+    // What is let go gives back what it alone had.
+    let program = Program::read(FILE).unwrap();
+    let store = Store::open(&program, 1, 0).unwrap();
+    let worker = store.worker().unwrap();
+    let all = blocks();
+    drop(worker);
+    let without_worker = blocks();
+    assert!(without_worker < all, "a worker is let go");
+    drop(store);
+    assert!(blocks() < without_worker, "a store is let go");
+
+    // Texts and refused files leave nothing.
+    let before = blocks();
+    assert!(
+        stm::run_one(FILE, 0).is_ok()
+            && stm::explore(FILE, 100).is_ok()
+            && stm::world(FILE, "begin 0\n").is_ok()
+    );
+    assert_eq!(Program::read("(var x").map(|_| ()), Err(Error::Shape));
+    assert_eq!(blocks(), before);
+
+    // Each request is refused in turn: a read, an opening, a hiring and a report say so, and a task is given up.
+    let all = refusing(0, || assert!(Program::read(FILE).is_ok()));
+    // What is refused in a first reading is read again, so that not each refusal is told.
+    let mut told = 0;
+    for number in 1..=all {
+        refusing(number, || match Program::read(FILE) {
+            Ok(_) => {}
+            Err(error) => {
+                assert_eq!(error, Error::Memory, "request {number}");
+                told += 1;
+            }
+        });
+    }
+    assert!(told > 0, "{told} reads of {all} were refused");
+    let program = Program::read(FILE).unwrap();
+    let store = Store::open(&program, 2, 0).unwrap();
+    let (mut worker, mut watcher) = (store.worker().unwrap(), store.worker().unwrap());
+    assert_eq!((store.take(), store.take()), (Some(Ticket(0)), Some(Ticket(1))));
+    refusing(1, || assert_eq!(worker.try_task(0), Ok(Tried::Memory)));
+    refusing(1, || assert_eq!(watcher.observe(0), Ok(Observed::Memory)));
+    refusing(1, || assert_eq!(store.serial(Ticket(1)), Ok(Brought::GivenUp)));
+    refusing(1, || assert_eq!(store.file(), Err(Error::Memory)));
+    let done = Brought::Committed(Entered { number: 1, outcome: Outcome::Returned(1) });
+    assert_eq!((store.counts().given_up, store.serial(Ticket(0))), (1, Ok(done)));
+    refusing(1, || assert_eq!(store.turn().map(|turned| turned.end), Some(End::GivenUp)));
+    let taken = refusing(0, || {
+        store.begin_chapter();
+        assert_eq!((store.standing(Ticket(0)), store.entered()), (Err(Error::UnknownTicket(Ticket(0))), 1));
+    });
+    assert_eq!(taken, 0, "a chapter begins in no memory");
+    let run = || run_with(&program, 1, Retry::default());
+    let all = refusing(0, || assert!(run().is_ok()));
+    let (mut refused, mut given_up) = (0, 0);
+    for number in 1..=all {
+        refusing(number, || match run() {
+            Ok(report) => {
+                REFUSED.store(0, Ordering::SeqCst);
+                assert_eq!(stm::check(FILE, &report), Ok(Verdict::Good));
+                given_up += report.lines().filter(|line| line.starts_with("memory ")).count();
+            }
+            Err(error) => {
+                assert_eq!(error, Error::Memory);
+                refused += 1;
+            }
+        });
+    }
+    assert!(refused > 0 && given_up > 0, "{refused} runs were refused, {given_up} tasks given up");
+}

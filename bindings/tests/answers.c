@@ -1,0 +1,209 @@
+/* Each code's word; what `wanted` is after each answer; rooms and inputs of no length; each verdict. Prints `good`. */
+#include "stm.h"
+
+#include <stdio.h>
+#include <stdlib.h>
+#include <string.h>
+
+#define wants(holds) ((holds) ? (void)0 : fails(#holds, __LINE__))
+
+static void fails(const char *what, int line) {
+    fprintf(stderr, "line %d: not so: %s\n", line, what);
+    exit(1);
+}
+
+static const struct {
+    int32_t code;
+    const char *word;
+} words[] = {
+    {0, "done"},
+    {1, "retries"},
+    {2, "stale"},
+    {3, "not running"},
+    {4, "given up"},
+    {5, "thrown"},
+    {6, "overflow"},
+    {7, "divide by zero"},
+    {8, "broken condition"},
+    {9, "more places are reached"},
+    {10, "no such end"},
+    {11, "no task is ready"},
+    {12, "no entry in the journal"},
+    {13, "ready"},
+    {14, "running"},
+    {15, "neither ready nor parked"},
+    {101, "report: text"},
+    {102, "report: base"},
+    {103, "report: entries"},
+    {104, "report: present"},
+    {105, "report: tasks"},
+    {106, "report: parked"},
+    {-1, "file: too long"},
+    {-2, "file: bad byte"},
+    {-3, "file: shape"},
+    {-4, "file: name"},
+    {-5, "file: limit"},
+    {-6, "out of memory"},
+    {-7, "file: broken condition"},
+    {-8, "room too short"},
+    {-9, "unknown task, transaction or variable"},
+    {-10, "no worker"},
+    {-11, "no ended attempt"},
+    {-12, "empty handle"},
+    {-13, "full handle"},
+    {-14, "no room for another task"},
+    {-15, "work left"},
+    {-16, "number of places out of range"},
+    {-17, "other program"},
+    {-18, "other chapter"},
+    {-21, "schedule: too long"},
+    {-22, "schedule: bad byte"},
+    {-23, "schedule: shape"},
+    {-24, "schedule: name"},
+    {-25, "schedule: limit"},
+};
+
+/* All codes from -200 to 200: those of the table have its word, and no other has one. */
+static void each_word(void) {
+    for (int32_t code = -200; code <= 200; code++) {
+        const char *wanted = "unknown code";
+        for (size_t i = 0; i < sizeof words / sizeof *words; i++)
+            if (words[i].code == code) wanted = words[i].word;
+        if (strcmp(stm_word(code), wanted) != 0) fprintf(stderr, "%d is called %s\n", (int)code, stm_word(code)), exit(1);
+    }
+    wants(strcmp(stm_word(INT32_MIN), "unknown code") == 0 && strcmp(stm_word(INT32_MAX), "unknown code") == 0);
+}
+
+static const char FILE_TEXT[] = "(var x 5)(tx inc (set x (add x 1)) x)(tx wait (retry) x)(run inc 1)(run wait 1)";
+static const char REPORT[] = "base 0\nx 5 0\nentry 1 0 inc returned 6\nnow 1\nx 6 1\nparked 1 wait\nend\n";
+static stm_store store;
+static stm_program program;
+static uint8_t room[8388608];
+
+static const uint8_t *bytes(const char *text) { return (const uint8_t *)text; }
+
+/* A call that copies a text: by a number, into this room. */
+static int32_t copied(int call, const char *file, uint8_t *to, size_t size, size_t *wanted) {
+    size_t length = strlen(file);
+    switch (call) {
+    case 0: return stm_run_one(bytes(file), length, 0, to, size, wanted);
+    case 1: return stm_world(bytes(file), length, bytes("begin 0\n"), 8, to, size, wanted);
+    case 2: return stm_explore(bytes(file), length, 100, to, size, wanted);
+    case 3: return stm_explore_to(bytes(file), length, 100, 1, to, size, wanted);
+    case 4: return stm_report(&store, to, size, wanted);
+    case 5: return stm_report_now(&store, to, size, wanted);
+    default: return stm_file(&store, to, size, wanted);
+    }
+}
+
+enum { FILES = 4, TEXTS = 7 };
+
+/* No room at all is asked for by `NULL, 0`; a byte less than is wanted is too little, and stays as it was. */
+static void rooms(void) {
+    for (int call = 0; call < TEXTS; call++) {
+        size_t wanted = 99, again = 99;
+        wants(copied(call, FILE_TEXT, NULL, 0, &wanted) == STM_SHORT && wanted > 10 && wanted < 1000);
+        memset(room, '?', wanted + 1);
+        wants(copied(call, FILE_TEXT, room, wanted - 1, &again) == STM_SHORT && again == wanted && room[0] == '?');
+        again = 99;
+        wants(copied(call, FILE_TEXT, room, wanted, &again) == STM_DONE && again == wanted);
+        wants(room[0] != '?' && room[wanted - 1] == '\n' && room[wanted] == '?');
+    }
+}
+
+/* Where there is no text, `wanted` is 0, whatever it was. */
+static void no_texts(void) {
+    size_t wanted;
+    room[0] = '?';
+    for (int call = 0; call < FILES; call++) {
+        wanted = 99;
+        wants(copied(call, "(var x", room, sizeof room, &wanted) == STM_FILE_SHAPE && wanted == 0);
+    }
+    wanted = 99;
+    wants(stm_world(bytes(FILE_TEXT), strlen(FILE_TEXT), bytes("begin"), 5, room, sizeof room, &wanted) == STM_SCHEDULE_SHAPE && wanted == 0);
+    wanted = 99;
+    wants(stm_explore(bytes(FILE_TEXT), strlen(FILE_TEXT), 0, room, sizeof room, &wanted) == STM_STATES && wanted == 0);
+    for (size_t end = 0; end < 4; end += 3) {
+        wanted = 99;
+        wants(stm_explore_to(bytes(FILE_TEXT), strlen(FILE_TEXT), 100, end, room, sizeof room, &wanted) == STM_NO_END && wanted == 0);
+    }
+    wanted = 99;
+    wants(stm_explore_to(bytes(FILE_TEXT), strlen(FILE_TEXT), 16777217, 1, room, sizeof room, &wanted) == STM_STATES && wanted == 0);
+    wanted = 99;
+    wants(stm_report_now(&store, room, sizeof room, &wanted) == STM_WORK_LEFT && wanted == 0);
+    stm_store none = {0};
+    wanted = 99;
+    wants(stm_report(&none, room, sizeof room, &wanted) == STM_EMPTY && wanted == 0);
+    wanted = 99;
+    wants(stm_report_now(&none, room, sizeof room, &wanted) == STM_EMPTY && wanted == 0);
+    wanted = 99;
+    wants(stm_file(&none, room, sizeof room, &wanted) == STM_EMPTY && wanted == 0);
+    wants(room[0] == '?');
+}
+
+/* Inputs of no length: the file that declares nothing, a report that is none, the name of nothing. */
+static void nothing(void) {
+    stm_program empty = {0};
+    int64_t value = 9;
+    uint64_t version = 9;
+    size_t wanted = 99;
+    wants(stm_read(NULL, 0, &empty) == STM_DONE && stm_program_tasks(&empty) == 0 && stm_program_variables(&empty) == 0);
+    wants(stm_run_one(NULL, 0, 0, room, sizeof room, &wanted) == STM_DONE && wanted > 0);
+    wants(stm_check(NULL, 0, room, wanted) == STM_DONE && stm_check(NULL, 0, NULL, 0) == STM_BAD_TEXT);
+    wants(stm_world(NULL, 0, NULL, 0, room, sizeof room, &wanted) == STM_DONE);
+    wants(stm_explore(NULL, 0, 1, room, sizeof room, &wanted) == STM_DONE);
+    wants(stm_program_variable(&program, NULL, 0) == STM_UNKNOWN && stm_program_transaction(&program, NULL, 0) == STM_UNKNOWN);
+    wants(stm_value(&store, NULL, 0, &value, &version) == STM_UNKNOWN && value == 9 && version == 9);
+    stm_program_free(&empty);
+}
+
+/* The report with one part of it put in another's place. */
+static int32_t judged(const char *file, const char *old, const char *new) {
+    char text[1000];
+    const char *at = strstr(REPORT, old);
+    wants(at != NULL);
+    snprintf(text, sizeof text, "%.*s%s%s", (int)(at - REPORT), REPORT, new, at + strlen(old));
+    return stm_check(bytes(file), strlen(file), bytes(text), strlen(text));
+}
+
+static void verdicts(void) {
+    wants(judged(FILE_TEXT, "end", "end") == STM_DONE);
+    wants(judged(FILE_TEXT, "end\n", "end") == STM_BAD_TEXT);
+    wants(judged(FILE_TEXT, "x 5 0", "x 4 0") == STM_BAD_BASE);
+    wants(judged(FILE_TEXT, "returned 6", "returned 7") == STM_BAD_ENTRIES);
+    wants(judged(FILE_TEXT, "x 6 1", "x 7 1") == STM_BAD_PRESENT);
+    wants(judged(FILE_TEXT, "parked 1 wait\n", "") == STM_BAD_TASKS);
+    const char *file = "(var x 5)(tx inc (set x (add x 1)) x)(tx wait (if (eq x 5) (retry) (skip)) x)(run inc 1)(run wait 1)";
+    wants(judged(file, "end", "end") == STM_BAD_PARKED);
+}
+
+/* A job's ticket is from 0 on, and its transaction one of the program; whether it is a task is judged by the store. */
+static void jobs(void) {
+    stm_worker worker = {0};
+    wants(stm_try_job(&worker, (stm_job){.ticket = 0}) == STM_EMPTY && stm_hire(&store, &worker) == STM_DONE);
+    wants(stm_try_job(&worker, (stm_job){.ticket = -1, .transaction = 1}) == STM_UNKNOWN);
+    wants(stm_try_job(&worker, (stm_job){.ticket = INT64_MIN, .transaction = 1}) == STM_UNKNOWN);
+    wants(stm_try_job(&worker, (stm_job){.ticket = 1, .task = 1, .transaction = 2}) == STM_UNKNOWN);
+    const stm_job strange[] = {
+        {1, 0, 2, 1}, {1, 0, 0, 1}, {2, 0, 1, 1}, {1, 0, 1, 0}, {1, 0, 65536, 1}, {1, 0, UINT32_MAX, 1}, {INT64_MAX, 0, 1, 1}};
+    for (size_t i = 0; i < sizeof strange / sizeof *strange; i++)
+        wants(stm_try_job(&worker, strange[i]) == STM_DONE && stm_finish(&store, &worker).code == STM_UNKNOWN);
+    wants(stm_try_job(&worker, (stm_job){1, 1, 1, 1}) == STM_DONE && stm_finish(&store, &worker).code == STM_OTHER_CHAPTER);
+    wants(stm_try_job(&worker, (stm_job){1, 0, 1, 1}) == STM_DONE && stm_finish(&store, &worker).code == STM_NOT_RUNNING);
+    stm_worker_free(&worker);
+}
+
+int main(void) {
+    each_word();
+    verdicts();
+    wants(stm_read(bytes(FILE_TEXT), strlen(FILE_TEXT), &program) == STM_DONE);
+    wants(stm_open(&program, 1, 0, &store) == STM_DONE);
+    nothing();
+    jobs();
+    no_texts();
+    rooms();
+    stm_store_free(&store);
+    stm_program_free(&program);
+    printf("good\n");
+    return 0;
+}

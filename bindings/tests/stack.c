@@ -1,0 +1,84 @@
+/* stack FILE: makes each kind of call on the file, on a stack that was painted before, and prints the bytes of it that the
+ * most greedy call has touched. */
+#include "stm.h"
+
+#include <pthread.h>
+#include <stdio.h>
+#include <stdlib.h>
+#include <string.h>
+#include <sys/mman.h>
+
+enum { SIZE = 1 << 20, PAINT = 0xa5, CALLS = 6 };
+
+static uint8_t file[1 << 20], report[8388608], *room;
+static size_t length, report_length, wanted;
+static const char schedule[] = "begin 0\ncommit 0\n";
+static int call;
+
+/* A store, each of whose tasks is tried, brought and observed, and given a turn. */
+static void host(void) {
+    stm_program program = {0};
+    stm_store store = {0};
+    stm_worker worker = {0};
+    if (stm_read(file, length, &program) != STM_DONE || stm_open(&program, 1, 3, &store) != STM_DONE) exit(2);
+    if (stm_hire(&store, &worker) == STM_DONE) {
+        for (stm_job job; (job = stm_take_job(&store)).ticket >= 0;) {
+            stm_observe(&worker, job.transaction);
+            if (stm_try_job(&worker, job) == STM_DONE) stm_finish(&store, &worker);
+            stm_serial(&store, job.ticket);
+        }
+        stm_turns(&store, &worker, 9);
+    }
+    stm_checkpoint(&store);
+    stm_report(&store, room, sizeof report, &wanted);
+    stm_file(&store, room, sizeof report, &wanted);
+    stm_worker_free(&worker);
+    stm_store_free(&store);
+    stm_program_free(&program);
+}
+
+static void *makes(void *unused) {
+    int32_t code = 0;
+    switch (call) {
+    case 0: code = stm_run_one(file, length, 0, room, sizeof report, &wanted); break;
+    case 1: code = stm_check(file, length, report, report_length); break;
+    case 2: code = stm_world(file, length, (const uint8_t *)schedule, strlen(schedule), room, sizeof report, &wanted); break;
+    case 3: code = stm_explore(file, length, 100, room, sizeof report, &wanted); break;
+    case 4: code = stm_explore_to(file, length, 100, 1, room, sizeof report, &wanted); break;
+    default: host();
+    }
+    if (code < 0) fprintf(stderr, "call %d answers %d\n", call, (int)code), exit(2);
+    return unused;
+}
+
+/* How many bytes of a fresh stack the call touches. */
+static size_t used(void) {
+    pthread_attr_t attributes;
+    pthread_t thread;
+    uint8_t *stack = mmap(NULL, SIZE, PROT_READ | PROT_WRITE, MAP_PRIVATE | MAP_ANONYMOUS, -1, 0);
+    if (stack == MAP_FAILED) exit(3);
+    memset(stack, PAINT, SIZE);
+    if (pthread_attr_init(&attributes) || pthread_attr_setstack(&attributes, stack, SIZE)) exit(3);
+    if (pthread_create(&thread, &attributes, makes, NULL) || pthread_join(thread, NULL)) exit(3);
+    size_t clean = 0;
+    while (clean < SIZE && stack[clean] == PAINT) clean++;
+    munmap(stack, SIZE);
+    return SIZE - clean;
+}
+
+int main(int count, char **words) {
+    size_t most = 0;
+    if (count < 2) return 9;
+    FILE *input = fopen(words[1], "rb");
+    if (!input) return 9;
+    length = fread(file, 1, sizeof file, input);
+    fclose(input);
+    room = malloc(sizeof report);
+    if (!room || stm_run_one(file, length, 0, report, sizeof report, &report_length) != STM_DONE) return 2;
+    for (call = 0; call < CALLS; call++) {
+        size_t bytes = used();
+        if (bytes > most) most = bytes;
+    }
+    printf("%zu\n", most);
+    return 0;
+}

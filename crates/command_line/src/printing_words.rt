@@ -1,0 +1,70 @@
+//! The words of `stm print`.
+
+use crate::words::{Request, of_file};
+use clap::{Arg, ArgMatches, Command};
+use std::alloc::{AllocError, Global};
+
+/// A file to print.
+#[derive(Drop)]
+pub struct Print<'a> {
+    /// Its path.
+    pub file: &'a str,
+    /// The file itself, or with what work goes on behind a report of it.
+    pub what: Printed<'a>,
+}
+
+/// A file, or what comes behind it.
+#[derive(Clone, Copy, Debug, PartialEq, Eq)]
+pub enum Printed<'a> {
+    /// The file itself.
+    File,
+    /// The file from the present values of the report at this path.
+    From(&'a str),
+    /// The file of the chapter that begins where the report at this path ended.
+    After(&'a str),
+}
+
+const PRINT: &str =
+    "Prints the one text of a file that says what it says: one form a line, one space between two tokens, no comments.";
+
+const PRINTED: &str =
+    "Printing what was printed changes nothing. Comments are no part of it: they are left out.\n\nWith --from each variable begins at the value that it has at the report's present, so\nthat work goes on where the report ended. With --after it does so too, and the runs are\none of one task for each task that the report says is parked: the next chapter, as it\nbegins. The report has to be lawful for the file, else `bad` and the first part that\nfails are printed, as `stm check` does.\n\nStatus: 0 done, 1 the report is not good, 2 the file is refused, 3 the command line is\nrefused, 4 a file cannot be read or the output cannot be written, 5 out of memory.\n\nExample: stm run a.stm > a.report; stm print a.stm --from a.report > b.stm\n    stm print a.stm --after a.report > next.stm";
+
+/// The command `stm print`.
+#[inline(never)]
+pub(crate) fn print_command<'a>(alloc: Global) -> Result<Command<'a>, AllocError> {
+    let file = "The path of the file to print";
+    let print = of_file(alloc, "print", PRINT, PRINTED, file)?;
+    let print = print.arg(from(alloc))?;
+    print.arg(after(alloc)?)
+}
+
+/// The option `--from REPORT`.
+fn from<'a>(alloc: Global) -> Arg<'a> {
+    Arg::new(alloc, "from")
+        .long("from")
+        .value_name("REPORT")
+        .help("The path of a report of the file, whose present values the variables begin at")
+}
+
+/// The option `--after REPORT`, which `--from` does not go with.
+fn after<'a>(alloc: Global) -> Result<Arg<'a>, AllocError> {
+    Arg::new(alloc, "after")
+        .long("after")
+        .value_name("REPORT")
+        .help(
+            "The path of a report of the file, where the next chapter begins, with the parked tasks",
+        )
+        .conflicts_with("from")
+}
+
+/// What the words ask for.
+pub(crate) fn wanted_print<'a>(matches: &ArgMatches<'a>) -> Option<Request<'a>> {
+    let file = matches.get_str("FILE")?;
+    let what = match (matches.get_str("from"), matches.get_str("after")) {
+        (Some(report), _) => Printed::From(report),
+        (None, Some(report)) => Printed::After(report),
+        (None, None) => Printed::File,
+    };
+    Some(Request::Print(Print { file, what }))
+}

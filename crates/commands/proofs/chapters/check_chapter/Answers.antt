@@ -1,0 +1,12 @@
+use Rattle.std.proofs.Common.{inl, inr}
+use Rattle.commands.proofs.BytesRead.{keeps_same}
+use Rattle.commands.proofs.chapters.check_chapter.Goals as goal
+
+pub returns-in-Ok-clause-checked : goal.returns-in-Ok-clause-checked
+returns-in-Ok-clause-checked g c = elim c.check_chapter_inputs.ensures.checked [
+  | inl h ↦ inl h
+  | inr r ↦ inr (r.0, tt, (r.2.0, tt, (r.2.2.0, tt, (r.2.2.2.0, tt, r.2.2.2.2))))
+]
+
+pub returns-in-Err-clause-checked : goal.returns-in-Err-clause-checked
+returns-in-Err-clause-checked g c = inl (c.in-Err.ensures, keeps_same (g.S.Sink.bytes c.args.sink.now))

@@ -1,0 +1,12 @@
+use Rattle.std.proofs.Common.{inl, inr}
+use Rattle.commands.proofs.BytesRead.{keeps_same}
+use Rattle.commands.proofs.chapters.explain_chapter_at.Goals as goal
+
+pub returns-in-Ok-clause-explained : goal.returns-in-Ok-clause-explained
+returns-in-Ok-clause-explained g c = elim c.explain_chapter_inputs.ensures.explained [
+  | inl h ↦ inl h
+  | inr r ↦ inr (r.0, tt, (r.2.0, tt, (r.2.2.0, tt, (r.2.2.2.0, tt, r.2.2.2.2))))
+]
+
+pub returns-in-Err-clause-explained : goal.returns-in-Err-clause-explained
+returns-in-Err-clause-explained g c = inl (c.in-Err.ensures, keeps_same (g.S.Sink.bytes c.args.sink.now))

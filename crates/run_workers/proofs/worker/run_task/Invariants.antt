@@ -1,5 +1,0 @@
-use Rattle.std.proofs.Common.{◌≡◌}
-use Rattle.run_workers.proofs.worker.run_task.Given as goal
-
-abbrev pub invariant-loop-stale : goal.invariant-loop-stale
-invariant-loop-stale g l = l.pass.cells ≡ l.fn.pass.cells

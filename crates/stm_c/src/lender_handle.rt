@@ -1,0 +1,97 @@
+//! A box as C holds it: its pointer, as one to bytes; or nothing, where that is null.
+ghost use Rattle.std.specs.Prelude.{◌≡◌, ◌≢◌, Option, None, Some, MatchBool, MatchOption};
+ghost use Rattle.stm_store.specs.declared.lender.Lender.{Lender};
+ghost use Rattle.stm_c.specs.LenderHandle.{value_coded, handle_owns};
+
+use crate::parts::Parts;
+use core::mem::replace;
+use std::alloc::Global;
+use std::marker::Model;
+use std::ptr::null_mut;
+use stm_store::Lender;
+
+/// A `Lender` that the host holds, or none.
+#[repr(C)]
+pub struct LenderHandle {
+    ptr: *mut u8,
+    alloc: Global,
+    pub ghost value: { Option Lender } by { value_coded },
+}
+
+impl Model for LenderHandle {
+    ghost also_owns = { λ s. handle_owns s.alloc s.ptr s.value };
+}
+
+impl LenderHandle {
+    fn empty(alloc: Global) -> LenderHandle
+        ensures { result.value ≡ None }
+    {
+        LenderHandle {
+            ptr: null_mut(),
+            alloc,
+        }
+    }
+
+    fn of_parts(parts: Parts<Lender, Global>) -> LenderHandle
+        ensures { result.value ≡ Some parts.value }
+    {
+        let Parts { ptr, alloc } = parts;
+        LenderHandle {
+            ptr: ptr as *mut u8,
+            alloc,
+        }
+    }
+
+    fn into_parts(self) -> Option<Parts<Lender, Global>>
+        ensures { MatchOption result (self.value ≡ None) (λ p. self.value ≡ Some p.value) }
+    {
+        let LenderHandle { ptr, alloc } = self;
+        if ptr.is_null() {
+            None
+        } else {
+            Some(Parts {
+                ptr: ptr as *mut Lender,
+                alloc,
+            })
+        }
+    }
+
+    /// A handle that holds this.
+    pub fn of(held: Box<Lender>) -> LenderHandle
+        ensures { result.value ≡ Some held.value }
+    {
+        LenderHandle::of_parts(Parts::of(held))
+    }
+
+    /// What it holds, if anything; it is empty afterwards.
+    pub fn take(&mut self, alloc: Global) -> Option<Box<Lender>>
+        ensures left { self.new.value ≡ None }
+        ensures held { MatchOption result (self.old.value ≡ None) (λ b. self.old.value ≡ Some b.value) }
+    {
+        let parts = replace(self, LenderHandle::empty(alloc)).into_parts()?;
+        Some(parts.into_box())
+    }
+
+    /// Whether it holds anything, which it keeps.
+    pub fn is_full(&mut self, alloc: Global) -> bool
+        ensures full { MatchBool result (self.old.value ≢ None) (self.old.value ≡ None) }
+        ensures stays { self.new.value ≡ self.old.value }
+    {
+        let Some(held) = self.take(alloc) else {
+            return false;
+        };
+        *self = LenderHandle::of(held);
+        true
+    }
+}
+
+impl Drop for LenderHandle {
+    fn drop(self) {
+        if let Some(parts) = self.into_parts() {
+            drop(parts.into_box());
+        }
+    }
+}
+
+// What it holds may go to another thread.
+unsafe impl Send for LenderHandle {}

@@ -1,0 +1,56 @@
+//! A store that outlives its room many times.
+
+use crate::lends::{By, call, turns};
+use crate::rows::{Host, Opening, opened};
+use crate::texts::MANY;
+use std::process::Abort;
+use stm_store::{Called, End, Served, Store, Ticket};
+use txn::TxId;
+
+/// How many calls a chapter has room for.
+const ROOM: usize = 1000;
+
+/// Whether so many calls of the first transaction are entered one after another, and then there is no room.
+fn fills(store: &mut Store, by: &mut By, count: usize) -> bool {
+    for _ in 0..count {
+        match call(store, by, TxId(0)) {
+            Some(Called::Ran(turned)) if matches!(turned.end, End::Entered(_)) => {}
+            _ => return false,
+        }
+    }
+    call(store, by, TxId(0)) == Some(Called::NoRoom)
+}
+
+/// The next task has this ticket, and is entered by it.
+fn opens(rt: &impl Abort, store: &mut Store, ticket: Ticket) {
+    assert!(rt; store.catalogue().tx_count() == 3);
+    assert!(rt; store.submit(TxId(1)) == Some(ticket));
+    assert!(rt; store.claim(ticket).is_some());
+    assert!(rt; matches!(store.serial(ticket), Served::Committed(_)));
+}
+
+/// 100,000 calls in chapters of 1,000, beside 40 tasks that wait all the time, and are then woken by their tickets.
+#[test]
+fn what_waits_stays_through_many_chapters(rt: HostRuntime) {
+    let opening = Opening {
+        file: MANY,
+        workers: 0,
+        every: 0,
+        spare: ROOM,
+    };
+    let Host { mut store, mut by } = opened(&rt, rt.alloc(), opening, false);
+    assert!(rt; turns(&mut store, &mut by, 40) == 40);
+    for chapter in 0..100 {
+        assert!(rt; store.chapter() == chapter);
+        assert!(rt; fills(&mut store, &mut by, ROOM));
+        store.begin_chapter();
+        assert!(rt; store.spare() == ROOM);
+        assert!(rt; store.tasks() == 40);
+    }
+    assert!(rt; store.entered() == 100000);
+    assert!(rt; store.value("n") == Some((100000, 0)));
+    // The tickets before it are those of the 40 tasks and of the 100,000 calls.
+    opens(&rt, &mut store, Ticket(100040));
+    assert!(rt; turns(&mut store, &mut by, 100) == 40);
+    assert!(rt; store.value("out") == Some((4000000, 41)));
+}
