@@ -7,44 +7,28 @@
  * FOLDER/K.report. Prints how many chapters there were, how many sleepers were woken, the bytes and the resident pages at the
  * end of the first chapter and of the last, and `good`. */
 #include "stm.h"
+#include "memory.h"
+#include "wants.h"
 
 #include <malloc.h>
 #include <pthread.h>
-#include <stdbool.h>
 #include <stdio.h>
 #include <stdlib.h>
 #include <string.h>
 
-#define wants(holds) ((holds) ? (void)0 : fails(#holds, __LINE__))
-
-static void fails(const char *what, int line) {
-    fprintf(stderr, "line %d: not so: %s\n", line, what);
-    exit(1);
-}
-
-struct block {
-    bool got;
-    void *at;
-};
-
-struct block rattle_alloc(size_t size, size_t align);
-struct block rattle_realloc(void *old, size_t old_size, size_t size, size_t align);
-void rattle_dealloc(void *old);
-
-static char nothing;
 static long bytes_held;
 
-static struct block told(void *at) {
+static struct block counted(void *at) {
     if (at) __atomic_fetch_add(&bytes_held, (long)malloc_usable_size(at), __ATOMIC_RELAXED);
-    return (struct block){at != NULL, at ? at : &nothing};
+    return told(at);
 }
 
-struct block rattle_alloc(size_t size, size_t align) { return told(malloc(size ? size : align)); }
+struct block rattle_alloc(size_t size, size_t align) { return counted(malloc(size ? size : align)); }
 
 struct block rattle_realloc(void *old, size_t old_size, size_t size, size_t align) {
     (void)old_size;
     __atomic_fetch_sub(&bytes_held, (long)malloc_usable_size(old), __ATOMIC_RELAXED);
-    return told(realloc(old, size ? size : align));
+    return counted(realloc(old, size ? size : align));
 }
 
 void rattle_dealloc(void *old) {

@@ -25,7 +25,7 @@ MORE_PAGES = 128
 
 def built(work, archive, compiler="cc"):
     out = os.path.join(work, "soak")
-    words = [compiler, "-std=gnu11", "-O2", "-Wall", "-Wextra", "-Werror", "-I", f"{ROOT}/bindings/c", f"{HERE}/soak.c"]
+    words = [compiler, "-std=gnu11", "-O2", "-Wall", "-Wextra", "-Werror", "-I", f"{ROOT}/bindings/c", "-I", f"{ROOT}/bindings/tests", f"{HERE}/soak.c"]
     subprocess.run([*words, f"{ROOT}/bindings/c/words.c", archive, "-pthread", "-o", out], check=True)
     return out
 

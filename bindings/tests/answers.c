@@ -1,16 +1,10 @@
 /* Each code's word; what `wanted` is after each answer; rooms and inputs of no length; each verdict. Prints `good`. */
 #include "stm.h"
+#include "wants.h"
 
 #include <stdio.h>
 #include <stdlib.h>
 #include <string.h>
-
-#define wants(holds) ((holds) ? (void)0 : fails(#holds, __LINE__))
-
-static void fails(const char *what, int line) {
-    fprintf(stderr, "line %d: not so: %s\n", line, what);
-    exit(1);
-}
 
 static const struct {
     int32_t code;

@@ -1,17 +1,10 @@
 /* Chapters, and workers of other programs: tickets that stay, tasks that wait across chapters, jobs and attempts that are
  * refused. Prints `good`. */
 #include "stm.h"
+#include "wants.h"
 
 #include <stdio.h>
-#include <stdlib.h>
 #include <string.h>
-
-#define wants(holds) ((holds) ? (void)0 : fails(#holds, __LINE__))
-
-static void fails(const char *what, int line) {
-    fprintf(stderr, "line %d: not so: %s\n", line, what);
-    exit(1);
-}
 
 static stm_program program;
 static stm_store store;

@@ -5,37 +5,24 @@
  * It brings its own memory, and counts blocks and requests.
  */
 #include "stm.h"
+#include "memory.h"
 
-#include <stdbool.h>
 #include <stdio.h>
 #include <stdlib.h>
 
-struct block {
-    bool got;
-    void *at;
-};
-
-struct block rattle_alloc(size_t size, size_t align);
-struct block rattle_realloc(void *old, size_t old_size, size_t size, size_t align);
-void rattle_dealloc(void *old);
-
-static char nothing;
 static long requests, refused, blocks;
 
 static int refuses(void) { return ++requests == refused; }
 
 struct block rattle_alloc(size_t size, size_t align) {
     void *at = refuses() ? NULL : malloc(size ? size : align);
-    struct block block = {at != NULL, at ? at : &nothing};
     if (at) blocks++;
-    return block;
+    return told(at);
 }
 
 struct block rattle_realloc(void *old, size_t old_size, size_t size, size_t align) {
     (void)old_size;
-    void *at = refuses() ? NULL : realloc(old, size ? size : align);
-    struct block block = {at != NULL, at ? at : &nothing};
-    return block;
+    return told(refuses() ? NULL : realloc(old, size ? size : align));
 }
 
 void rattle_dealloc(void *old) {

@@ -1,9 +1,9 @@
 /* Tasks come in while all are parked: one that is submitted wakes the others. One worker, turn by turn; each pair of file
  * and report is judged. Prints `good`. */
 #include "stm.h"
+#include "wants.h"
 
 #include <stdio.h>
-#include <stdlib.h>
 #include <string.h>
 
 static const char WAITING[] = "(var full 0)\n"
@@ -14,13 +14,6 @@ static stm_store store;
 static stm_worker worker;
 static uint8_t none;
 static size_t unused;
-
-#define wants(holds) ((holds) ? (void)0 : fails(#holds, __LINE__))
-
-static void fails(const char *what, int line) {
-    fprintf(stderr, "line %d: not so: %s\n", line, what);
-    exit(1);
-}
 
 static const uint8_t *bytes(const char *text) { return (const uint8_t *)text; }
 

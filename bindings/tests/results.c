@@ -1,17 +1,10 @@
 /* How transactions end, as a turn, a call, a worker's end and the journal tell it; tasks that are claimed and withdrawn.
  * Prints `good`. */
 #include "stm.h"
+#include "wants.h"
 
 #include <stdio.h>
-#include <stdlib.h>
 #include <string.h>
-
-#define wants(holds) ((holds) ? (void)0 : fails(#holds, __LINE__))
-
-static void fails(const char *what, int line) {
-    fprintf(stderr, "line %d: not so: %s\n", line, what);
-    exit(1);
-}
 
 static stm_program program;
 static stm_store store;

@@ -159,10 +159,8 @@ fn a_task_of_another_store_is_not_brought(rt: HostRuntime) {
     let alloc = rt.alloc();
     let (mut store, mut worker) = opened(&rt, alloc, 1);
     assert_eq!(rt; store.finish(&mut worker), Brought::NotEnded);
-    if worker.catalogue().tx_count() < 2 {
-        panic!(rt; "no transaction");
-    }
     let stranger = job(1, PUT);
+    assert!(rt; (stranger.tx.0 as usize) < worker.catalogue().tx_count());
     assert_eq!(rt; worker.try_job(stranger), Tried::Ended);
     assert_eq!(rt; store.finish(&mut worker), Brought::OtherTask);
     assert_eq!(rt; comes_in(&mut store, "get"), Some(Ticket(1)));

@@ -1,6 +1,6 @@
 //! The scheduler, which a lock guards, and a hand for each thread.
 
-ghost use Rattle.std.specs.Prelude.{◌≡◌, ◌+◌, ◌<◌, ◌≤◌, ℕ, List, [], IfOk, IfSome, length, string_bytes};
+ghost use Rattle.std.specs.Prelude.{◌≡◌, ◌+◌, ◌<◌, ◌≤◌, ℕ, true, List, [], IfOk, IfSome, length, string_bytes};
 ghost use Rattle.std.specs.Coded.{codes};
 ghost use Rattle.txn.specs.Codes.{coded_listing};
 ghost use Rattle.txn_programs.specs.Listing.{Listing, tasks};
@@ -9,6 +9,7 @@ ghost use Rattle.host_scheduler.specs.Order.{KeepsOrder, TellsInOrder};
 ghost use Rattle.host_scheduler.specs.Plan.{IsPlan};
 ghost use Rattle.stm_store.specs.Working.{without_runs};
 
+use crate::crew::Work;
 use std::alloc::Global;
 use std::marker::{Brand, PhantomData};
 use stm_store::{Brought, Job, Program, Store, Tried, Worker};
@@ -116,8 +117,10 @@ impl<N: Planned> Scheduler<N> {
         Came::Over
     }
 
-    /// A job is done: its end comes in.
-    pub fn done(&mut self, job: u32) {
+    /// A job was performed by this work: its end comes in.
+    pub fn done<W: Work>(&mut self, job: u32)
+        requires { W.performed job ≡ true }
+    {
         let end = TxId(job.saturating_add(self.jobs));
         if (end.0 as usize) < self.store.catalogue().tx_count() {
             // Whoever takes it is told its ticket then.
