@@ -7,7 +7,7 @@ use std::process::Command;
 /// Where `pkg-config` says that the library lies.
 fn asked() -> Option<String> {
     let told = Command::new("pkg-config").args(["--variable=libdir", "stm"]).output().ok()?;
-    let dir = String::from_utf8(told.stdout).ok()?.trim().to_owned();
+    let dir = String::from_utf8(told.stdout).ok()?.trim().replace("\\ ", " ");
     (told.status.success() && !dir.is_empty()).then_some(dir)
 }
 
