@@ -8,8 +8,8 @@ import tempfile
 from proving import HEADERS, LIBRARY_FILES, PARTS, SONAME, Failed
 
 SYMBOLS = "{ global: stm_*; local: *; };\n"
-VERSION_HEADER = """/* The version of the library: STM_VERSION is that of this header, and stm_version() that of the library that is linked,
- * with " (nothing proved)" behind it where it was built so. The text ends in a 0 and stays. */
+VERSION_HEADER = """/* The version of the library: STM_VERSION is that of this header, and stm_version() that of the
+ * library that is linked, with " (nothing proved)" behind it where it was built so. The text ends in a 0 and stays. */
 #ifndef STM_VERSION_H
 #define STM_VERSION_H
 
@@ -35,13 +35,16 @@ def call(*words):
     except OSError:
         raise Failed(f"a C compiler is missing: its command `{words[0]}` is not on PATH", 69) from None
     if ran.returncode != 0:
-        raise Failed("\n".join([f"`{words[0]}` cannot build the library", *(ran.stdout + ran.stderr).splitlines()[-40:]]))
+        raise Failed(
+            "\n".join([f"`{words[0]}` cannot build the library", *(ran.stdout + ran.stderr).splitlines()[-40:]])
+        )
 
 
 def assemble(place, in_c, number, archive=None, object_file=None, more_c=(), more=""):
-    """Makes of the exports, which are an archive or an object file, and of the parts in C the libraries and headers in the
-    folder. All is made beside it first, so that what was there before stays until then."""
+    """Makes of the exports, which are an archive or an object file, and of the parts in C the libraries and headers in
+    the folder. All is made beside it first, so that what was there before stays until then."""
     with tempfile.TemporaryDirectory(prefix="stm-") as work:
+
         def at(name):
             return os.path.join(work, name)
 
@@ -59,7 +62,13 @@ def assemble(place, in_c, number, archive=None, object_file=None, more_c=(), mor
             os.chmod(at("libstm.a"), 0o644)
         call("ar", "rcs", at("libstm.a"), *objects)
         whole = ["-Wl,--whole-archive", at("libstm.a"), "-Wl,--no-whole-archive"]
-        flags = [f"-Wl,-soname,{SONAME}", f"-Wl,--version-script={at('symbols')}", "-Wl,-z,defs", "-Wl,--gc-sections", "-Wl,-s"]
+        flags = [
+            f"-Wl,-soname,{SONAME}",
+            f"-Wl,--version-script={at('symbols')}",
+            "-Wl,-z,defs",
+            "-Wl,--gc-sections",
+            "-Wl,-s",
+        ]
         call("cc", "-shared", *flags, *whole, "-o", at(SONAME))
         os.makedirs(place, exist_ok=True)
         for name in LIBRARY_FILES:

@@ -42,8 +42,8 @@ To check it again, on a machine with that kit and in a fresh clone of sources wi
 tells: `./stm --build` and `./stm --library` prove every crate below from nothing and build the program and the library;
 `rt ci` proves them and all others, with their tests.
 
-Proved is what README.md says of it. Not proved are the parts in C (the library's memory, its words and its version), the
-crate for Rust, the compilers and the linkers that made these files, and the C library that they run on.
+Proved is what README.md says of it. Not proved are the parts in C (the library's memory, its words and its version),
+the crate for Rust, the compilers and the linkers that made these files, and the C library that they run on.
 
 When each crate was proved (UTC):
 
@@ -54,7 +54,8 @@ sha256 of what was made of them:
 {sums}
 """
 # What anybody can run to learn the checksum of sources: of all crates, and of the library's parts in C.
-CHECKSUM = "find crates.txt crates/*/src crates/*/specs crates/*/proofs bindings/c -type f | LC_ALL=C sort | xargs sha256sum | sha256sum"
+CHECKED = "crates.txt crates/*/src crates/*/specs crates/*/proofs bindings/c"
+CHECKSUM = f"find {CHECKED} -type f | LC_ALL=C sort | xargs sha256sum | sha256sum"
 CONTROL = """Package: stm
 Version: {version}
 Architecture: amd64
@@ -89,22 +90,27 @@ def time_of(seconds):
 def checksum(top=ROOT):
     """The checksum of the sources, as the command CHECKSUM tells it."""
     paths = ["crates.txt", *(f"bindings/c/{name}" for name in os.listdir(os.path.join(top, "bindings", "c")))]
-    paths += [os.path.relpath(file, top) for name in os.listdir(os.path.join(top, "crates")) for file in files_of(name, top)]
+    paths += [
+        os.path.relpath(file, top) for name in os.listdir(os.path.join(top, "crates")) for file in files_of(name, top)
+    ]
     lines = [f"{hashlib.sha256(read(top, path)).hexdigest()}  {path}\n" for path in sorted(paths)]
     return hashlib.sha256("".join(lines).encode()).hexdigest()
 
 
 def proved_text(parts):
     dates = "\n".join(f"{time_of(when)}  {name}" for name, when in sorted(parts.proved.items(), key=lambda one: one[1]))
-    made = {"bin/stm": parts.program, **{f"lib/{name}": os.path.join(parts.library, name) for name in ("libstm.a", SONAME)}}
+    made = {
+        "bin/stm": parts.program,
+        **{f"lib/{name}": os.path.join(parts.library, name) for name in ("libstm.a", SONAME)},
+    }
     sums = "\n".join(f"{hashlib.sha256(read(path)).hexdigest()}  {name}" for name, path in made.items())
     facts = {"version": version(), "made": time_of(parts.made) + " UTC", "kit": parts.kit, "sources": checksum()}
     return PROVED.format(command=CHECKSUM, dates=dates, sums=sums, **facts)
 
 
 def pc_text(prefix, rpath):
-    """The file for pkg-config. A host that is linked by it finds the library where it lies, if it lies in no folder that
-    the system looks through."""
+    """The file for pkg-config. A host that is linked by it finds the library where it lies, if it lies in no folder
+    that the system looks through."""
     return PC.format(prefix=prefix, version=version(), rpath=" -Wl,-rpath,${libdir}" if rpath else "")
 
 
@@ -232,7 +238,9 @@ def put(prefix, path, entry):
 def manifest_of(entries, made):
     lines = [f"folder {folder}" for folder in made]
     for path, entry in entries.items():
-        lines.append(f"link {entry} {path}" if isinstance(entry, str) else f"file {hashlib.sha256(entry[0]).hexdigest()} {path}")
+        lines.append(
+            f"link {entry} {path}" if isinstance(entry, str) else f"file {hashlib.sha256(entry[0]).hexdigest()} {path}"
+        )
     return "\n".join([*lines, ""])
 
 
@@ -244,7 +252,9 @@ def install(parts, prefix):
         before, earlier = read_manifest(prefix) if os.path.isfile(os.path.join(prefix, MANIFEST)) else ({}, [])
         for path in entries:
             if path not in before and os.path.lexists(os.path.join(prefix, path)):
-                raise Failed(f"{os.path.join(prefix, path)} is there, and was not installed from here: nothing is installed", 73)
+                raise Failed(
+                    f"{os.path.join(prefix, path)} is there, and was not installed from here: nothing is installed", 73
+                )
         if before:
             for path in take_away(prefix):
                 say(f"{path} had changed since it was installed, and is replaced")
@@ -265,7 +275,9 @@ def tar_of(parts, folder):
     """The archive, the same for the same files."""
     name = f"stm-{version()}-x86_64-linux"
     path = os.path.join(folder, name + ".tar.gz")
-    with open(path + ".new", "wb") as out, gzip.GzipFile("", "wb", 9, out, parts.made) as packed, tarfile.open(fileobj=packed, mode="w") as tar:
+    with open(path + ".new", "wb") as out, gzip.GzipFile("", "wb", 9, out, parts.made) as packed, tarfile.open(
+        fileobj=packed, mode="w"
+    ) as tar:
         for inner, entry in tree(parts, "PROVED").items():
             info = tarfile.TarInfo(f"{name}/{inner}")
             info.mtime, info.uname, info.gname = parts.made, "root", "root"
@@ -281,7 +293,9 @@ def tar_of(parts, folder):
 
 def least_libc(*contents):
     """The oldest C library that has what these files want of it."""
-    found = {(int(major), int(minor)) for content in contents for major, minor in re.findall(rb"GLIBC_(\d+)\.(\d+)", content)}
+    found = {
+        (int(major), int(minor)) for content in contents for major, minor in re.findall(rb"GLIBC_(\d+)\.(\d+)", content)
+    }
     return ".".join(str(number) for number in max(found, default=(2, 34)))
 
 
@@ -299,12 +313,18 @@ def deb_of(parts, folder):
         control = os.path.join(work, "DEBIAN")
         os.makedirs(control)
         whole = [entry[0] for entry in entries.values() if not isinstance(entry, str)]
-        facts = {"version": version(), "size": sum(map(len, whole)) // 1024, "libc": least_libc(*(read(parts.library, SONAME), read(parts.program)))}
+        facts = {
+            "version": version(),
+            "size": sum(map(len, whole)) // 1024,
+            "libc": least_libc(*(read(parts.library, SONAME), read(parts.program))),
+        }
         for name, text in (("control", CONTROL.format(**facts)), ("triggers", "activate-noawait ldconfig\n")):
             with open(os.path.join(control, name), "w") as file:
                 file.write(text)
         words = ["dpkg-deb", "--root-owner-group", "--build", work, path]
-        ran = subprocess.run(words, capture_output=True, text=True, env={**os.environ, "SOURCE_DATE_EPOCH": str(parts.made)})
+        ran = subprocess.run(
+            words, capture_output=True, text=True, env={**os.environ, "SOURCE_DATE_EPOCH": str(parts.made)}
+        )
         if ran.returncode != 0:
             raise Failed("\n".join(["dpkg-deb makes no package", *ran.stderr.splitlines()[-10:]]))
     return path

@@ -21,7 +21,11 @@ def told(program, *words):
 
 def commands_of(text):
     """Each command that the program lists, but help."""
-    return [name for name in re.findall(r"(?m)^  ([a-z]+) ", text.split("Commands:")[1].split("Options:")[0]) if name != "help"]
+    return [
+        name
+        for name in re.findall(r"(?m)^  ([a-z]+) ", text.split("Commands:")[1].split("Options:")[0])
+        if name != "help"
+    ]
 
 
 def plain(text):
@@ -45,7 +49,9 @@ def entries_of(block):
 def named(name):
     """An argument or option, with the words that stand for something in italics."""
     parts = re.split(r"<(\w+)>", name)
-    return "".join(f"\\fI{part}\\fR" if at % 2 else f"\\fB{plain(part)}\\fR" if part else "" for at, part in enumerate(parts))
+    return "".join(
+        f"\\fI{part}\\fR" if at % 2 else f"\\fB{plain(part)}\\fR" if part else "" for at, part in enumerate(parts)
+    )
 
 
 def paragraphs(text):

@@ -29,8 +29,8 @@ LIBRARY_FILES = ("libstm.a", SONAME, *HEADERS, "stm_version.h")
 
 
 class Product:
-    """What users have: the crate of which it is built, the files beside those of the crates that it rests on, what is made
-    of them, and where is written down of which."""
+    """What users have: the crate of which it is built, the files beside those of the crates that it rests on, what is
+    made of them, and where is written down of which."""
 
     def __init__(self, crate, stamp, made, more=()):
         self.crate, self.stamp, self.made, self.more = crate, stamp, made, more
@@ -213,7 +213,9 @@ class Progress:
         return f"{seconds // 60}:{seconds % 60:02d}"
 
     def show(self, running):
-        self.tell(f"{self.done} of {self.total} crates proved, {self.gone()} minutes gone, proving {', '.join(running)}")
+        self.tell(
+            f"{self.done} of {self.total} crates proved, {self.gone()} minutes gone, proving {', '.join(running)}"
+        )
 
     def tell(self, text):
         since = time.monotonic() - self.last
@@ -287,7 +289,9 @@ class Proofs:
             for file in files_of(name, self.tree):
                 with open(file, "rb") as source:
                     content = source.read()
-                found.update(f"{os.path.relpath(file, os.path.join(self.tree, 'crates'))} {len(content)}\n".encode() + content)
+                found.update(
+                    f"{os.path.relpath(file, os.path.join(self.tree, 'crates'))} {len(content)}\n".encode() + content
+                )
             for below in self.crates[name]:
                 found.update(sums[below].encode())
             sums[name] = found.hexdigest()
@@ -313,7 +317,8 @@ class Proofs:
         return (1_200_000_000 + 6_000 * self.sizes[name]) * (1 + 0.6 * (jobs - 1))
 
     def begin_ready(self):
-        """Begins what can be begun: the crate with the longest chain above it first, with the lanes that no other wants."""
+        """Begins what can be begun: the crate with the longest chain above it first, with the lanes that no other
+        wants."""
         ready = [name for name in self.names if name not in self.done and name not in self.running]
         ready = [name for name in ready if all(below in self.done for below in self.crates[name])]
         ready.sort(key=lambda name: -self.behind[name])
@@ -327,7 +332,8 @@ class Proofs:
                 self.running[name] = Run(self, name, jobs)
 
     def end_ended(self, log):
-        """Takes out what has ended, and keeps what is proved of it, also where another crate is refused. Whether any has."""
+        """Takes out what has ended, and keeps what is proved of it, also where another crate is refused. Whether any
+        has."""
         ended, refused = [name for name, run in self.running.items() if run.child.poll() is not None], None
         for name in ended:
             run = self.running.pop(name)
@@ -395,7 +401,8 @@ class Kit:
         return os.path.join(self.at, "rlibs", name + ".rlib")
 
     def words(self, proofs, name, jobs, place):
-        """The call that proves a crate from nothing, and builds its library, its archive or the program's object file."""
+        """The call that proves a crate from nothing, and builds its library, its archive or the program's object
+        file."""
         is_program = os.path.isfile(os.path.join(proofs.tree, "crates", name, "src", "main.rt"))
         words = [self.prover, "build", "--crate-name", name, "src/main.rt" if is_program else "src/lib.rt"]
         for other in ["std", *(other for other in proofs.listed[name] if other not in proofs.crates)]:
@@ -418,7 +425,9 @@ class Kit:
         """Links the program, and says why it can't be linked."""
         words = [self.linker, "--target", "x86_64-unknown-linux-gnu", "--toolchain", os.path.join(self.at, "toolchain")]
         libraries = [os.path.join(self.at, "c", name) for name in ("libos_c.a", "liblibc_c.a")]
-        ran = subprocess.run([*words, "-o", program, made, *libraries], capture_output=True, text=True, errors="replace")
+        ran = subprocess.run(
+            [*words, "-o", program, made, *libraries], capture_output=True, text=True, errors="replace"
+        )
         if ran.returncode != 0:
             raise Failed("\n".join(["it can't be linked", *(ran.stdout + ran.stderr).splitlines()[-40:]]))
 
