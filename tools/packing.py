@@ -179,6 +179,9 @@ def read_manifest(prefix):
             else:
                 mark, _, path = rest.partition(" ")
                 files[path] = (kind, mark)
+    for path in (*files, *folders):
+        if path.startswith("/") or ".." in path.split("/"):
+            raise Failed(f"{os.path.join(prefix, MANIFEST)} names what lies elsewhere: {path}")
     return files, folders
 
 
