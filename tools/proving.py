@@ -237,16 +237,18 @@ class Progress:
 
 
 def plant_tree(tree, crate):
-    """A copy of the sources of the crate, of all that it stands on and of their list, which no edit reaches; and the
-    names."""
+    """A copy of the sources of the crate, of all that it and the library stand on and of their list, which no edit
+    reaches; the crate's names, and those that the library wants besides."""
     shutil.copy(os.path.join(ROOT, "crates.txt"), tree)
-    names = names_of(crate, tree)
-    for name in names:
+    names, crates = names_of(crate, tree), read_crates(tree)
+    below = all_below(crates, LIBRARY.crate) if LIBRARY.crate in crates else []
+    beside = [name for name in below if name not in names]
+    for name in [*names, *beside]:
         for kind in SOURCES:
             folder = os.path.join(ROOT, "crates", name, kind)
             if os.path.isdir(folder):
                 shutil.copytree(folder, os.path.join(tree, "crates", name, kind))
-    return names
+    return names, beside
 
 
 def size_of(crate, top, ending=""):
@@ -263,16 +265,17 @@ def processors_and_memory():
 
 class Proofs:
     """The proofs of the crates that are named, side by side: which are done, which are under way, and what to begin
-    next. What is kept of others stays as long as they are crates of the program or of the library."""
+    next. Those that are named as `beside` are proved meanwhile, one at a time, with what the processors have to spare;
+    nobody waits for them. What is kept of others stays as long as they are crates of the program or of the library."""
 
-    def __init__(self, tree, names, kit):
-        self.tree, self.names, self.kit = tree, names, kit
+    def __init__(self, tree, names, kit, beside=()):
+        self.tree, self.names, self.kit, self.beside = tree, names, kit, list(beside)
         self.listed, self.crates = read_listed(tree), read_crates(tree)
         products = [product.crate for product in (PROGRAM, LIBRARY) if product.crate in self.crates]
         self.others = {name for crate in products for name in names_of(crate, tree)}
-        self.sums, self.done, self.running = self.digests(), set(), {}
+        self.sums, self.done, self.running, self.meanwhile = self.digests(), set(), {}, {}
         self.lanes, self.memory = processors_and_memory()
-        self.sizes = {name: size_of(name, tree) for name in names}
+        self.sizes = {name: size_of(name, tree) for name in [*names, *beside]}
         # how long the longest chain takes that begins with a crate, in bytes of code; each crate is loaded, too
         self.behind = {}
         for name in reversed(names):
@@ -284,7 +287,7 @@ class Proofs:
         with open(os.path.join(self.tree, "crates.txt"), "rb") as listed:
             lines = {line.split(b":")[0].split()[0].decode(): line for line in listed if b":" in line.split(b"#")[0]}
         sums = {}
-        for name in self.names:
+        for name in [*self.names, *self.beside]:
             found = hashlib.sha256(self.kit.mark + lines[name])
             for file in files_of(name, self.tree):
                 with open(file, "rb") as source:
@@ -304,7 +307,7 @@ class Proofs:
         for name in os.listdir(LIBRARIES):
             if name not in self.others:
                 shutil.rmtree(os.path.join(LIBRARIES, name), ignore_errors=True)
-        for name in self.names:
+        for name in [*self.names, *self.beside]:
             try:
                 with open(os.path.join(LIBRARIES, name, "stamp")) as stamp:
                     kept = stamp.read() == self.sums[name]
@@ -324,16 +327,44 @@ class Proofs:
         ready.sort(key=lambda name: -self.behind[name])
         for place, name in enumerate(ready):
             idle = self.lanes - sum(run.jobs for run in self.running.values())
-            room = self.memory - sum(run.need for run in self.running.values())
+            room = self.room()
             jobs = max(1, min(4, idle // (len(ready) - place)))
             while jobs > 1 and self.need(name, jobs) > room:
                 jobs -= 1
             if idle > 0 and (not self.running or self.need(name, jobs) <= room):
                 self.running[name] = Run(self, name, jobs)
 
+        self.begin_beside()
+
+    def room(self):
+        """The bytes that no proof under way may want."""
+        return self.memory - sum(run.need for run in [*self.running.values(), *self.meanwhile.values()])
+
+    def begin_beside(self):
+        """Begins what nobody waits for, where nothing of it is under way and there is room."""
+        for name in self.beside if self.running and not self.meanwhile else []:
+            ready = name not in self.done and all(below in self.done for below in self.crates[name])
+            if ready and self.need(name, 1) <= self.room():
+                self.meanwhile[name] = Run(self, name, 1, spare=True)
+                return
+
+    def end_beside(self, log):
+        """Takes out what has ended of what nobody waits for. Where it is refused it is not tried again."""
+        for name in [name for name, run in self.meanwhile.items() if run.child.poll() is not None]:
+            run = self.meanwhile.pop(name)
+            told = run.told()
+            log.write(f"== {name}\n{told}")
+            if run.child.returncode == 0 and is_proved(told):
+                run.keep()
+                self.done.add(name)
+            else:
+                self.beside.remove(name)
+            self.begin_beside()
+
     def end_ended(self, log):
         """Takes out what has ended, and keeps what is proved of it, also where another crate is refused. Whether any
         has."""
+        self.end_beside(log)
         ended, refused = [name for name, run in self.running.items() if run.child.poll() is not None], None
         for name in ended:
             run = self.running.pop(name)
@@ -354,14 +385,14 @@ class Proofs:
         return bool(ended)
 
     def stop(self):
-        for run in self.running.values():
+        for run in [*self.running.values(), *self.meanwhile.values()]:
             run.stop()
 
 
 class Run:
-    """The proof of one crate, under way."""
+    """The proof of one crate, under way; with what the processors have to spare, where it says so."""
 
-    def __init__(self, proofs, name, jobs):
+    def __init__(self, proofs, name, jobs, spare=False):
         self.name, self.jobs, self.need, self.sum = name, jobs, proofs.need(name, jobs), proofs.sums[name]
         self.place = os.path.join(LIBRARIES, name)
         shutil.rmtree(self.place, ignore_errors=True)
@@ -370,7 +401,8 @@ class Run:
         words = proofs.kit.words(proofs, name, jobs, self.place)
         where = os.path.join(proofs.tree, "crates", name)
         quiet = {"stdin": subprocess.DEVNULL, "stdout": self.output, "stderr": subprocess.STDOUT}
-        self.child = subprocess.Popen(words, cwd=where, start_new_session=True, **quiet)
+        last = {"preexec_fn": lambda: os.nice(19)} if spare else {}
+        self.child = subprocess.Popen(words, cwd=where, start_new_session=True, **quiet, **last)
 
     def told(self):
         self.output.seek(0)
