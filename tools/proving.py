@@ -1,0 +1,525 @@
+"""What the launcher's scripts share: which crates there are, how the kit's prover is called for many of them side by
+side, and what is kept of each proved library in the folder `out`.
+"""
+
+import contextlib
+import fcntl
+import hashlib
+import json
+import os
+import re
+import shutil
+import signal
+import subprocess
+import sys
+import tempfile
+import time
+
+ROOT = os.path.dirname(os.path.dirname(os.path.realpath(__file__)))
+OUT = os.path.join(ROOT, "out")
+LOG = os.path.join(OUT, "log")
+LIBRARIES = os.path.join(OUT, "libraries")
+SOURCES = ("src", "specs", "proofs")
+# Where the version of all of it stands.
+VERSION_SOURCE, NUMBER = "crates/command_line/src/words.rt", r"\d+\.\d+\.\d+"
+
+# The parts of the library that are in C, the headers that a host includes, and what is made of all of it.
+PARTS, HEADERS, SONAME = ("heap.c", "words.c"), ("stm.h",), "libstm.so.0"
+LIBRARY_FILES = ("libstm.a", SONAME, *HEADERS, "stm_version.h")
+
+
+class Product:
+    """What users have: the crate of which it is built, the files beside those of the crates that it rests on, what is
+    made of them, and where is written down of which."""
+
+    def __init__(self, crate, stamp, made, more=()):
+        self.crate, self.stamp, self.made, self.more = crate, stamp, made, more
+
+    def is_current(self):
+        """Whether what is there was made of the sources as they lie there, by the kit that is there."""
+        stamp, marks, kit = read_stamp(self.stamp), marks_of(*self.made), kit_at()
+        if marks is None or stamp.get("made") != marks or kit not in (None, stamp.get("kit_at")):
+            return False
+        return stamp.get("glance") == self.glance()
+
+    def glance(self):
+        return glance(names_of(self.crate), self.more)
+
+    def write_down(self, kit, sources, seen):
+        """Notes of what it was made: the kit's line, the checksum of the sources, and how they looked before."""
+        stamp = {"kit": kit, "sources": sources, "made": marks_of(*self.made), "kit_at": kit_at(), "glance": seen}
+        with open(self.stamp + ".new", "w") as file:
+            json.dump(stamp, file)
+        os.replace(self.stamp + ".new", self.stamp)
+
+
+def library_in(folder):
+    """The library for hosts, in this folder."""
+    in_c = [os.path.join(ROOT, "bindings", "c", name) for name in (*PARTS, *HEADERS)]
+    made = [os.path.join(folder, name) for name in LIBRARY_FILES]
+    return Product("stm_c", os.path.join(folder, "stamp"), made, [*in_c, os.path.join(ROOT, VERSION_SOURCE)])
+
+
+class Failed(Exception):
+    """It can't be built: what to say, and the status."""
+
+    def __init__(self, text, status=70):
+        super().__init__(text)
+        self.status = status
+
+
+def say(text):
+    print(f"stm: {text}", file=sys.stderr, flush=True)
+
+
+def version(top=ROOT):
+    """The version of program, library and archives, by the program's source."""
+    with open(os.path.join(top, VERSION_SOURCE), encoding="utf-8") as file:
+        found = re.search(rf'(?m)^const VERSION: &str = "({NUMBER})";$', file.read())
+    if not found:
+        raise OSError(f"{VERSION_SOURCE} names no version")
+    return found[1]
+
+
+def read_listed(top=ROOT):
+    """Each crate of crates.txt with all libraries that its line names, the kit's too."""
+    crates = {}
+    with open(os.path.join(top, "crates.txt")) as lines:
+        for line in lines:
+            head, colon, names = line.split("#")[0].partition(":")
+            if colon:
+                crates[head.split()[0]] = names.split()
+    return crates
+
+
+def read_crates(top=ROOT):
+    """Each crate of crates.txt with the repository's libraries that it stands on."""
+    crates = read_listed(top)
+    return {name: [below for below in names if below in crates] for name, names in crates.items()}
+
+
+def all_below(crates, name):
+    """The crates that this one stands on, lowest first."""
+    found = []
+
+    def visit(crate):
+        for below in crates[crate]:
+            if below not in found:
+                visit(below)
+                found.append(below)
+
+    visit(name)
+    return found
+
+
+def names_of(crate, top=ROOT):
+    """The crate and all that it stands on, lowest first."""
+    return [*all_below(read_crates(top), crate), crate]
+
+
+def is_static(crate, top=ROOT):
+    """Whether crates.txt has it as a static library."""
+    with open(os.path.join(top, "crates.txt")) as lines:
+        return any(line.split(":")[0].split() == [crate, "staticlib"] for line in lines)
+
+
+def files_of(crate, top=ROOT):
+    """The files that the crate's proof reads, in order."""
+    found = []
+    for kind in SOURCES:
+        for folder, folders, names in os.walk(os.path.join(top, "crates", crate, kind)):
+            folders.sort()
+            found += [os.path.join(folder, name) for name in sorted(names)]
+    return found
+
+
+def kit_at():
+    """Where the kit is, and when it was put there: enough to see another one."""
+    rt = shutil.which("rt")
+    if rt is None:
+        return None
+    real = os.path.realpath(rt)
+    return [real, os.stat(real).st_mtime_ns]
+
+
+def glance(names, more=()):
+    """What changes whenever a source does, without a look into it. `more` are files beside those of the crates."""
+    marks = []
+    for path in [os.path.join(ROOT, "crates.txt"), *(file for name in names for file in files_of(name)), *more]:
+        stat = os.stat(path)
+        marks.append(f"{path} {stat.st_size} {stat.st_mtime_ns}")
+    return hashlib.sha256("\n".join(marks).encode()).hexdigest()
+
+
+def digest(names, kit, tree, more=()):
+    """What is built of this tree rests on: the sources of the crates, the list of these, and the kit. `more` are files
+    beside those of the crates."""
+    found = hashlib.sha256(kit.encode())
+    for path in [os.path.join(tree, "crates.txt"), *(file for name in names for file in files_of(name, tree)), *more]:
+        with open(path, "rb") as file:
+            content = file.read()
+        found.update(f"{os.path.relpath(path, tree)} {len(content)}\n".encode() + content)
+    return found.hexdigest()
+
+
+def read_stamp(path):
+    """What was written down of a build, or nothing."""
+    try:
+        with open(path) as file:
+            return json.load(file)
+    except (OSError, ValueError):
+        return {}
+
+
+def marks_of(*paths):
+    """Each file by its size and its date; None where one is not there."""
+    try:
+        stats = [os.stat(path) for path in paths]
+    except OSError:
+        return None
+    return [[stat.st_size, stat.st_mtime_ns] for stat in stats]
+
+
+def kit_version():
+    """The kit's line; says where its logic, by which all is proved, is another one than README names."""
+    try:
+        told = subprocess.run(["rt", "version"], capture_output=True, text=True)
+    except OSError:
+        told = None
+    with open(os.path.join(ROOT, "README.md")) as file:
+        named = re.search(r"`(rattle-kit-\S+) logic (\S+)`", file.read())
+    wanted, logic = named.groups() if named else ("rattle-kit", "")
+    if told is None or told.returncode != 0:
+        raise Failed(f"the kit {wanted} is missing: its command `rt` is not on PATH", 69)
+    version = told.stdout.strip()
+    if version.split()[2:3] != [logic]:
+        say(f"this is the kit {version or 'of no name'}, and README names {wanted} logic {logic}")
+    return version
+
+
+PROGRAM = Product("stm", os.path.join(OUT, "stamp"), [os.path.join(ROOT, "crates", "stm", "out", "stm")])
+LIBRARY, TRIED = library_in(os.path.join(OUT, "library")), library_in(os.path.join(OUT, "try-library"))
+
+
+class Progress:
+    """One line on standard error: rewritten on a terminal, and written now and then elsewhere."""
+
+    def __init__(self, total=0):
+        self.total, self.done, self.began = total, 0, time.monotonic()
+        self.terminal, self.last = sys.stderr.isatty(), -60.0
+
+    def gone(self):
+        seconds = int(time.monotonic() - self.began)
+        return f"{seconds // 60}:{seconds % 60:02d}"
+
+    def show(self, running):
+        self.tell(
+            f"{self.done} of {self.total} crates proved, {self.gone()} minutes gone, proving {', '.join(running)}"
+        )
+
+    def tell(self, text):
+        since = time.monotonic() - self.last
+        if since < (1 if self.terminal else 30):
+            return
+        self.last = time.monotonic()
+        line = f"stm: {text}"
+        if self.terminal:
+            width = shutil.get_terminal_size().columns - 1
+            sys.stderr.write("\r\033[K" + line[:width])
+            sys.stderr.flush()
+        else:
+            print(line, file=sys.stderr, flush=True)
+
+    def clear(self):
+        if self.terminal:
+            sys.stderr.write("\r\033[K")
+            sys.stderr.flush()
+
+
+def plant_tree(tree, crate):
+    """A copy of the sources of the crate, of all that it and the library stand on and of their list, which no edit
+    reaches; the crate's names, and those that the library wants besides."""
+    shutil.copy(os.path.join(ROOT, "crates.txt"), tree)
+    names, crates = names_of(crate, tree), read_crates(tree)
+    below = all_below(crates, LIBRARY.crate) if LIBRARY.crate in crates else []
+    beside = [name for name in below if name not in names]
+    for name in [*names, *beside]:
+        for kind in SOURCES:
+            folder = os.path.join(ROOT, "crates", name, kind)
+            if os.path.isdir(folder):
+                shutil.copytree(folder, os.path.join(tree, "crates", name, kind))
+    return names, beside
+
+
+def size_of(crate, top, ending=""):
+    """The bytes of the crate's sources, or of those with this ending."""
+    return sum(os.path.getsize(file) for file in files_of(crate, top) if file.endswith(ending))
+
+
+def processors_and_memory():
+    """How many proofs may be under way at once, and how many bytes they may take together."""
+    with open("/proc/meminfo") as lines:
+        free = next(int(line.split()[1]) for line in lines if line.startswith("MemAvailable:"))
+    return len(os.sched_getaffinity(0)), 0.85 * 1024 * free
+
+
+class Proofs:
+    """The proofs of the crates that are named, side by side: which are done, which are under way, and what to begin
+    next. Those that are named as `beside` are proved meanwhile, one at a time, with what the processors have to spare;
+    nobody waits for them. What is kept of others stays as long as they are crates of the program or of the library."""
+
+    def __init__(self, tree, names, kit, beside=()):
+        self.tree, self.names, self.kit, self.beside = tree, names, kit, list(beside)
+        self.listed, self.crates = read_listed(tree), read_crates(tree)
+        products = [product.crate for product in (PROGRAM, LIBRARY) if product.crate in self.crates]
+        self.others = {name for crate in products for name in names_of(crate, tree)}
+        self.sums, self.done, self.running, self.meanwhile = self.digests(), set(), {}, {}
+        self.lanes, self.memory = processors_and_memory()
+        self.sizes = {name: size_of(name, tree) for name in [*names, *beside]}
+        # how long the longest chain takes that begins with a crate, in bytes of code; each crate is loaded, too
+        self.behind = {}
+        for name in reversed(names):
+            above = [self.behind[other] for other in names if name in self.crates[other] and other in self.behind]
+            self.behind[name] = size_of(name, tree, ".rt") + 10_000 + max(above, default=0)
+
+    def digests(self):
+        """What each crate's proof rests on: the kit, its sources, and those of the crates below it."""
+        with open(os.path.join(self.tree, "crates.txt"), "rb") as listed:
+            lines = {line.split(b":")[0].split()[0].decode(): line for line in listed if b":" in line.split(b"#")[0]}
+        sums = {}
+        for name in [*self.names, *self.beside]:
+            found = hashlib.sha256(self.kit.mark + lines[name])
+            for file in files_of(name, self.tree):
+                with open(file, "rb") as source:
+                    content = source.read()
+                found.update(
+                    f"{os.path.relpath(file, os.path.join(self.tree, 'crates'))} {len(content)}\n".encode() + content
+                )
+            for below in self.crates[name]:
+                found.update(sums[below].encode())
+            sums[name] = found.hexdigest()
+        return sums
+
+    def take_kept(self):
+        """Counts as done each library that was proved before, of the same sources over the same libraries. What is no
+        crate of a product any more goes."""
+        os.makedirs(LIBRARIES, exist_ok=True)
+        for name in os.listdir(LIBRARIES):
+            if name not in self.others:
+                shutil.rmtree(os.path.join(LIBRARIES, name), ignore_errors=True)
+        for name in [*self.names, *self.beside]:
+            try:
+                with open(os.path.join(LIBRARIES, name, "stamp")) as stamp:
+                    kept = stamp.read() == self.sums[name]
+            except OSError:
+                kept = False
+            if kept:
+                self.done.add(name)
+
+    def need(self, name, jobs):
+        return (1_200_000_000 + 6_000 * self.sizes[name]) * (1 + 0.6 * (jobs - 1))
+
+    def begin_ready(self):
+        """Begins what can be begun: the crate with the longest chain above it first, with the lanes that no other
+        wants."""
+        ready = [name for name in self.names if name not in self.done and name not in self.running]
+        ready = [name for name in ready if all(below in self.done for below in self.crates[name])]
+        ready.sort(key=lambda name: -self.behind[name])
+        for place, name in enumerate(ready):
+            idle = self.lanes - sum(run.jobs for run in self.running.values())
+            room = self.room()
+            jobs = max(1, min(4, idle // (len(ready) - place)))
+            while jobs > 1 and self.need(name, jobs) > room:
+                jobs -= 1
+            if idle > 0 and (not self.running or self.need(name, jobs) <= room):
+                self.running[name] = Run(self, name, jobs)
+
+        self.begin_beside()
+
+    def room(self):
+        """The bytes that no proof under way may want."""
+        return self.memory - sum(run.need for run in [*self.running.values(), *self.meanwhile.values()])
+
+    def begin_beside(self):
+        """Begins what nobody waits for, where nothing of it is under way and there is room."""
+        for name in self.beside if self.running and not self.meanwhile else []:
+            ready = name not in self.done and all(below in self.done for below in self.crates[name])
+            if ready and self.need(name, 1) <= self.room():
+                self.meanwhile[name] = Run(self, name, 1, spare=True)
+                return
+
+    def end_beside(self, log):
+        """Takes out what has ended of what nobody waits for. Where it is refused it is not tried again."""
+        for name in [name for name, run in self.meanwhile.items() if run.child.poll() is not None]:
+            run = self.meanwhile.pop(name)
+            told = run.told()
+            log.write(f"== {name}\n{told}")
+            if run.child.returncode == 0 and is_proved(told):
+                run.keep()
+                self.done.add(name)
+            else:
+                self.beside.remove(name)
+            self.begin_beside()
+
+    def end_ended(self, log):
+        """Takes out what has ended, and keeps what is proved of it, also where another crate is refused. Whether any
+        has."""
+        self.end_beside(log)
+        ended, refused = [name for name, run in self.running.items() if run.child.poll() is not None], None
+        for name in ended:
+            run = self.running.pop(name)
+            told = run.told()
+            log.write(f"== {name}\n{told}")
+            log.flush()
+            if run.child.returncode == -signal.SIGKILL and run.jobs > 1:
+                log.write(f"{name} was killed, most likely for want of memory: once more, alone\n")
+                self.lanes = 1
+                continue
+            if run.child.returncode == 0 and is_proved(told):
+                run.keep()
+                self.done.add(name)
+            else:
+                refused = refused or refusal(name, told)
+        if refused:
+            raise Failed(refused)
+        return bool(ended)
+
+    def stop(self):
+        for run in [*self.running.values(), *self.meanwhile.values()]:
+            run.stop()
+
+
+class Run:
+    """The proof of one crate, under way; with what the processors have to spare, where it says so."""
+
+    def __init__(self, proofs, name, jobs, spare=False):
+        self.name, self.jobs, self.need, self.sum = name, jobs, proofs.need(name, jobs), proofs.sums[name]
+        self.place = os.path.join(LIBRARIES, name)
+        shutil.rmtree(self.place, ignore_errors=True)
+        os.makedirs(self.place)
+        self.output = tempfile.TemporaryFile("w+", errors="replace")
+        words = proofs.kit.words(proofs, name, jobs, self.place)
+        where = os.path.join(proofs.tree, "crates", name)
+        quiet = {"stdin": subprocess.DEVNULL, "stdout": self.output, "stderr": subprocess.STDOUT}
+        last = {"preexec_fn": lambda: os.nice(19)} if spare else {}
+        self.child = subprocess.Popen(words, cwd=where, start_new_session=True, **quiet, **last)
+
+    def told(self):
+        self.output.seek(0)
+        return self.output.read()
+
+    def keep(self):
+        with open(os.path.join(self.place, "stamp"), "w") as stamp:
+            stamp.write(self.sum)
+
+    def stop(self):
+        try:
+            os.killpg(self.child.pid, signal.SIGKILL)
+        except ProcessLookupError:
+            pass
+        self.child.wait()
+
+
+class Kit:
+    """The kit's prover and its linker, and how they are called."""
+
+    def __init__(self, version):
+        self.at = os.path.dirname(os.path.dirname(os.path.realpath(shutil.which("rt"))))
+        self.prover, self.linker = os.path.join(self.at, "bin", "rattle"), os.path.join(self.at, "bin", "rattle-link")
+        stat = os.stat(self.prover)
+        self.mark = f"{version} {stat.st_size} {stat.st_mtime_ns}\n".encode()
+
+    def rlib(self, name):
+        return os.path.join(self.at, "rlibs", name + ".rlib")
+
+    def words(self, proofs, name, jobs, place):
+        """The call that proves a crate from nothing, and builds its library, its archive or the program's object
+        file."""
+        is_program = os.path.isfile(os.path.join(proofs.tree, "crates", name, "src", "main.rt"))
+        words = [self.prover, "build", "--crate-name", name, "src/main.rt" if is_program else "src/lib.rt"]
+        for other in ["std", *(other for other in proofs.listed[name] if other not in proofs.crates)]:
+            words += ["--extern", f"{other}={self.rlib(other)}"]
+        words += ["-L", f"dependency={os.path.join(self.at, 'rlibs')}"]
+        for below in proofs.crates[name]:
+            words += ["--extern", f"{below}={os.path.join(LIBRARIES, below, below + '.rlib')}"]
+        for below in all_below(proofs.crates, name):
+            words += ["-L", f"dependency={os.path.join(LIBRARIES, below)}"]
+        words += ["--antt-project", os.path.join(self.at, "rattle", "logic", "antt-project.json")]
+        words += ["--logic-built", os.path.join(self.at, "logic_built"), "--links", f"{name}=", "--jobs", str(jobs)]
+        tools = ["--toolchain", os.path.join(self.at, "toolchain")]
+        if is_program:
+            return [*words, *tools, "-o", os.path.join(place, name + ".o")]
+        if is_static(name, proofs.tree):
+            return [*words, "--crate-type", "staticlib", *tools, "-o", os.path.join(place, f"lib{name}.a")]
+        return [*words, "--statements", "-o", os.path.join(place, name + ".rlib")]
+
+    def link(self, made, program):
+        """Links the program, and says why it can't be linked."""
+        words = [self.linker, "--target", "x86_64-unknown-linux-gnu", "--toolchain", os.path.join(self.at, "toolchain")]
+        libraries = [os.path.join(self.at, "c", name) for name in ("libos_c.a", "liblibc_c.a")]
+        ran = subprocess.run(
+            [*words, "-o", program, made, *libraries], capture_output=True, text=True, errors="replace"
+        )
+        if ran.returncode != 0:
+            raise Failed("\n".join(["it can't be linked", *(ran.stdout + ran.stderr).splitlines()[-40:]]))
+
+
+def is_proved(told):
+    """Whether the prover's last line says that the crate is proved, with nothing left out."""
+    last = told.rstrip("\n").rpartition("\n")[2]
+    return last.startswith("logic=proved ") and " bugs=" not in last
+
+
+def refusal(name, told):
+    """What the prover wrote of the crate that it refused: not of what it loaded, and not of what is proved."""
+    silent = re.compile(r"(statements|library|crate|axioms|checked|so far:|logic) |.* proved$|logic=")
+    lines = [line for line in told.splitlines() if not silent.match(line)]
+    return "\n".join([f"{name} is not proved", *lines[-40:]])
+
+
+def prove(proofs, log):
+    """Has the kit prove and build all, and shows how far it is."""
+    progress = Progress(len(proofs.names))
+    proofs.take_kept()
+    try:
+        proofs.begin_ready()
+        while proofs.running:
+            progress.done = len(proofs.done)
+            progress.show(list(proofs.running))
+            time.sleep(0.1)
+            if proofs.end_ended(log):
+                proofs.begin_ready()
+    finally:
+        proofs.stop()
+        progress.clear()
+    return progress.gone()
+
+
+@contextlib.contextmanager
+def alone(name="lock"):
+    """One build at a time in this clone, of those with one name: another run's is waited for."""
+    os.makedirs(OUT, exist_ok=True)
+    with open(os.path.join(OUT, name), "w") as lock:
+        try:
+            fcntl.flock(lock, fcntl.LOCK_EX | fcntl.LOCK_NB)
+        except OSError:
+            say("another run is building: waiting for it")
+            fcntl.flock(lock, fcntl.LOCK_EX)
+        yield
+
+
+def ended(work, *words):
+    """Does the work, prints what it answers, and says in a line why it could not. The status."""
+    signal.signal(signal.SIGTERM, lambda *_: sys.exit(143))
+    try:
+        told = work(*words)
+    except Failed as failed:
+        say(str(failed))
+        return failed.status
+    except KeyboardInterrupt:
+        return 130
+    except (OSError, KeyError) as error:
+        say(f"cannot build: {error}")
+        return 70
+    print(told)
+    return 0
