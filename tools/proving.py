@@ -241,8 +241,8 @@ def plant_tree(tree, crate):
     reaches; the crate's names, and those that the library wants besides."""
     shutil.copy(os.path.join(ROOT, "crates.txt"), tree)
     names, crates = names_of(crate, tree), read_crates(tree)
-    below = all_below(crates, LIBRARY.crate) if LIBRARY.crate in crates else []
-    beside = [name for name in below if name not in names]
+    library = names_of(LIBRARY.crate, tree) if LIBRARY.crate in crates else []
+    beside = [name for name in library if name not in names]
     for name in [*names, *beside]:
         for kind in SOURCES:
             folder = os.path.join(ROOT, "crates", name, kind)
