@@ -1,5 +1,5 @@
-/* The memory of the library, from the host's malloc: link it with libstm_c.a. A call answers whether
-   there is a block, and the block. A host that has memory of its own brings these three in this file's place. */
+/* The memory of the library, from the host's malloc; it is inside libstm.a and libstm.so. A call answers whether there is
+   a block, and the block. A host that has memory of its own brings these three itself, and links libstm.a. */
 #include <stdbool.h>
 #include <stddef.h>
 #include <stdint.h>

@@ -1,6 +1,6 @@
 /* stm: transactions over named variables, for hosts in C and C++.
  *
- * Link with libstm_c.a (`rt lib` in crates/stm_c), and with heap.c and words.c, which stand beside this file.
+ * Link with libstm.a or libstm.so, which `./stm --library` builds; heap.c and words.c are inside both.
  *
  * What the host owes, and no call can test:
  *   1. A handle is given to one call at a time, but many that take it `const` may be made at once. The calls
@@ -13,7 +13,7 @@
  *      many bytes.
  *   4. What a call may write (a handle that is not `const`, a room, `out`, `wanted`, `value`, `version`)
  *      overlaps nothing else that it is given.
- *   5. A call has 64 KB of stack, whatever the file: the deepest that the limits allow take less than half.
+ *   5. A call has 64 KB of stack, whatever the file: the deepest that the limits allow take less than two thirds.
  *   6. No call is made from a signal handler, nor from the forked child of a process with threads.
  *
  * What stays in memory until the process ends: what a program says, once for each `stm_read`,

@@ -1,4 +1,4 @@
-/* The words of the codes: link it with libstm_c.a and heap.c. */
+/* The words of the codes; it is inside libstm.a and libstm.so. */
 #include "stm.h"
 
 const char *stm_word(int32_t code) {
