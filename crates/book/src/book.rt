@@ -75,14 +75,14 @@ impl<'a> Book<'a> {
     ghost use Rattle.txn_programs.specs.Listing.{tasks, task_tx, task_program};
     ghost use Rattle.txn.specs.Grown.{SameProgram};
     ghost use Rattle.book.specs.Chapters.{chapter_of, entered_in_all};
-    ghost use Rattle.book.specs.Submitted.{Submits};
+    ghost use Rattle.book.specs.Submitted.{Submits, SubmitsRunning};
     ghost use Rattle.book.specs.Counting.{AreCounts, IsPresent};
     ghost use Rattle.txn_programs.specs.declared.ast.Outcome as Outcome;
     ghost use Rattle.book.specs.Tasks as Task;
     ghost use Rattle.txn_programs.specs.Told.{told};
     ghost use Rattle.journal.specs.Lines.{told_run};
     ghost use Rattle.book.specs.View.{opened, IsRunning, stands, committed, checkpointed};
-    ghost use Rattle.book.specs.Turns.{Taken, IsEndOf, EndsOn, Finished, IsLeft, Served, Turn, Drains, kept_short, readied, IsIdle, without_journal, ReportIs};
+    ghost use Rattle.book.specs.Turns.{Taken, IsEndOf, EndsOn, EndsAs, Finished, IsLeft, Served, Turn, Drains, kept_short, readied, IsIdle, without_journal, ReportIs};
     ghost use Rattle.book.specs.LawfulBook.{LawfulBook, BookFits, KeepsConditions, Waits};
     ghost use Rattle.book.specs.Waiting.{ParkedWait};
     ghost use Rattle.book.specs.Table.{IsWaiting};
@@ -193,6 +193,23 @@ impl<'a> Book<'a> {
         self.spare -= 1;
         self.chapter.add(tx);
         Some(self.table.add())
+    }
+
+    /// As `submit`, but the task is running: as if it had been claimed at once.
+    #[inline(always)]
+    pub fn submit_running(&mut self, tx: TxId) -> Option<TaskId>
+        requires { tx.0 < length self.old.catalogue.transactions }
+        ensures { SubmitsRunning self.old tx result self.new }
+    {
+        let spare = self.spare;
+        if spare == 0 {
+            return None;
+        }
+        self.spare = spare - 1;
+        let chapter = &mut self.chapter;
+        chapter.rules();
+        chapter.add(tx);
+        Some(self.table.add_running())
     }
 
     /// How many tasks more can be submitted.
@@ -390,10 +407,12 @@ impl<'a> Book<'a> {
     }
 
     /// As `serial`, by an attempt that the caller keeps, which is restarted for it. What it was an
-    /// attempt of before does not matter.
+    /// attempt of before does not matter. After a commit it has ended as the entry records.
+    #[inline(always)]
     pub fn serial_lent(&mut self, attempt: &mut Attempt<'a>, task: TaskId) -> Serial
         requires exists { task.0 < length self.old.tasks }
         ensures served { Served self.old task result self.new }
+        ensures ended { EndsAs self.old task result attempt.new }
         ensures catalogue { self.new.catalogue ≡ self.old.catalogue }
     {
         if !self.table.is_running(task) {
