@@ -525,13 +525,14 @@ impl<'a> Book<'a> {
 
     /// Gives the lowest ready task a turn until none is ready, by an attempt that is restarted for
     /// each.
+    #[inline(never)]
     fn turns(&mut self, attempt: &mut Attempt<'a>, every: u32)
         requires { (k : ℕ) → slice_get self.old.tasks k ≢ Some Task.Running }
         ensures turns { Drains every self.old self.new }
         ensures idle { IsIdle self.new }
     {
         while let Some(task) = self.take() {
-            self.turn(attempt, every, task);
+            self.give_turn(attempt, every, task);
         }
     }
 
@@ -542,8 +543,19 @@ impl<'a> Book<'a> {
         self.table.ready_all();
     }
 
-    /// The turn of a task that was taken, by an attempt that is restarted for it.
+    /// The turn of a task that was taken, by an attempt that is restarted for it. It is a call, so that who makes
+    /// the attempt is short, and makes it where it stays.
+    #[inline(never)]
     fn turn(&mut self, attempt: &mut Attempt<'a>, every: u32, task: TaskId)
+        requires { IsRunning self.old task }
+        ensures { Turn every self.old task self.new }
+    {
+        self.give_turn(attempt, every, task);
+    }
+
+    /// As `turn`, where turns are given one after another.
+    #[inline(always)]
+    fn give_turn(&mut self, attempt: &mut Attempt<'a>, every: u32, task: TaskId)
         requires { IsRunning self.old task }
         ensures { Turn every self.old task self.new }
     {
