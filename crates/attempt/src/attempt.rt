@@ -1,6 +1,6 @@
 //! An attempt: a transaction, what it was told, and where it stands.
 
-ghost use Rattle.std.specs.Prelude.{◌≡◌, ◌≢◌, ◌<◌, ◌≤◌, ◌+◌, ◌++◌, ◌∷◌, [], None, true, length, IsOk, IfOk, OnOk, OnErr};
+ghost use Rattle.std.specs.Prelude.{◌≡◌, ◌≢◌, ◌<◌, ◌≤◌, ◌+◌, ◌++◌, ◌∷◌, [], None, true, length, IsOk, IfOk, IfSome, IfNone, OnOk, OnErr};
 ghost use Rattle.txn_programs.specs.Cost.{cost};
 ghost use Rattle.txn_programs.specs.Meaning.{State, outcome, after};
 ghost use Rattle.txn_programs.specs.Scope.{ProgramKnown};
@@ -136,6 +136,17 @@ impl<'a> Attempt<'a> {
         match self.stand {
             Stand::Over(_) => self.machine.own.as_slice(),
             _ => &[],
+        }
+    }
+
+    /// How the transaction ended. `None` exactly where it has not.
+    pub fn outcome(&self) -> Option<Outcome>
+        ensures some { IfSome result (λ o. self.now.stand ≡ Stand.Over o) }
+        ensures none { IfNone result ((o : Outcome) → self.now.stand ≢ Stand.Over o) }
+    {
+        match self.stand {
+            Stand::Over(outcome) => Some(outcome),
+            _ => None,
         }
     }
 

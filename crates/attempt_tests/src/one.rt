@@ -3,11 +3,13 @@
 use crate::parts::{X, Y};
 use crate::play::{Step, plays};
 use attempt::{Next, answers, frame, fuses, resumes};
-use txn::Fault;
+use txn::{Fault, Outcome};
 
 const THE_INCREMENT_GOES_ON_AT_ITS_LOAD: &[Step<'static>] = &[
+    Step::Outcome(None),
     Step::Told(X, 3, 5),
     Step::Advance(Next::Returned(6), 3),
+    Step::Outcome(Some(Outcome::Returned(6))),
     Step::Log(&[(X, 5)]),
     Step::Writes(&[(X, 6)]),
     Step::Advance(Next::Returned(6), 0),

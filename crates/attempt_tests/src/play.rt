@@ -4,7 +4,7 @@ use crate::parts::{catalogue, repeated};
 use attempt::{Attempt, Next};
 use std::alloc::Global;
 use std::process::Abort;
-use txn::{Catalogue, TxId, VarId};
+use txn::{Catalogue, Outcome, TxId, VarId};
 
 /// Calls of an attempt, and what they answer.
 #[derive(Clone, Copy)]
@@ -19,6 +19,8 @@ pub(crate) enum Step<'s> {
     Told(VarId, u64, i64),
     /// So many times `advance` needs a variable, which is told to be 6.
     Sixes(u32),
+    /// How it ended, if it did.
+    Outcome(Option<Outcome>),
     Log(&'s [(VarId, i64)]),
     Writes(&'s [(VarId, i64)]),
     /// Each of so many variables is written, the first first, with its number.
@@ -93,6 +95,7 @@ fn takes(attempt: &mut Attempt<'_>, step: Step<'_>) -> bool {
         Step::Enter(entered) => enters(attempt, entered),
         Step::Told(x, entered, v) => is_told(attempt, x, entered, v),
         Step::Sixes(count) => is_told_sixes(attempt, count),
+        Step::Outcome(how) => attempt.outcome() == how,
         Step::Log(log) => attempt.log() == log,
         Step::Writes(writes) => attempt.writes() == writes,
         Step::Numbers(count) => are_numbers(attempt.writes(), count),

@@ -263,7 +263,7 @@ same_snapshot n values state versions vs e f =
     ∙ ap (λ (x : List ℕ). let r : Snapshot = record { number = n; state = state; versions = x } in r) f
 
 -- a task is submitted
-view_submitted : (b : Inside) (chapter : ChapterView) (table : TableView) (tx : TxId) → table ≡ with_one_more b.table → chapter.listing ≡ grown b.chapter.listing (tx ∷ []) → book_of (record b { chapter = chapter; table = table; spare = b.spare - 1 }) ≡ submitted (book_of b) tx
+pub view_submitted : (b : Inside) (chapter : ChapterView) (table : TableView) (tx : TxId) → table ≡ with_one_more b.table → chapter.listing ≡ grown b.chapter.listing (tx ∷ []) → book_of (record b { chapter = chapter; table = table; spare = b.spare - 1 }) ≡ submitted (book_of b) tx
 view_submitted b chapter table tx e more =
     let v = book_of b in
     let m = b.present.values.items in

@@ -75,14 +75,14 @@ impl<'a> Book<'a> {
     ghost use Rattle.txn_programs.specs.Listing.{tasks, task_tx, task_program};
     ghost use Rattle.txn.specs.Grown.{SameProgram};
     ghost use Rattle.book.specs.Chapters.{chapter_of, entered_in_all};
-    ghost use Rattle.book.specs.Submitted.{Submits};
+    ghost use Rattle.book.specs.Submitted.{Submits, SubmitsRunning};
     ghost use Rattle.book.specs.Counting.{AreCounts, IsPresent};
     ghost use Rattle.txn_programs.specs.declared.ast.Outcome as Outcome;
     ghost use Rattle.book.specs.Tasks as Task;
     ghost use Rattle.txn_programs.specs.Told.{told};
     ghost use Rattle.journal.specs.Lines.{told_run};
     ghost use Rattle.book.specs.View.{opened, IsRunning, stands, committed, checkpointed};
-    ghost use Rattle.book.specs.Turns.{Taken, IsEndOf, EndsOn, Finished, IsLeft, Served, Turn, Drains, kept_short, readied, IsIdle, without_journal, ReportIs};
+    ghost use Rattle.book.specs.Turns.{Taken, IsEndOf, EndsOn, EndsAs, Finished, IsLeft, Served, Turn, Drains, kept_short, readied, IsIdle, without_journal, ReportIs};
     ghost use Rattle.book.specs.LawfulBook.{LawfulBook, BookFits, KeepsConditions, Waits};
     ghost use Rattle.book.specs.Waiting.{ParkedWait};
     ghost use Rattle.book.specs.Table.{IsWaiting};
@@ -193,6 +193,23 @@ impl<'a> Book<'a> {
         self.spare -= 1;
         self.chapter.add(tx);
         Some(self.table.add())
+    }
+
+    /// As `submit`, but the task is running: as if it had been claimed at once.
+    #[inline(always)]
+    pub fn submit_running(&mut self, tx: TxId) -> Option<TaskId>
+        requires { tx.0 < length self.old.catalogue.transactions }
+        ensures { SubmitsRunning self.old tx result self.new }
+    {
+        let spare = self.spare;
+        if spare == 0 {
+            return None;
+        }
+        self.spare = spare - 1;
+        let chapter = &mut self.chapter;
+        chapter.rules();
+        chapter.add(tx);
+        Some(self.table.add_running())
     }
 
     /// How many tasks more can be submitted.
@@ -390,10 +407,12 @@ impl<'a> Book<'a> {
     }
 
     /// As `serial`, by an attempt that the caller keeps, which is restarted for it. What it was an
-    /// attempt of before does not matter.
+    /// attempt of before does not matter. After a commit it has ended as the entry records.
+    #[inline(always)]
     pub fn serial_lent(&mut self, attempt: &mut Attempt<'a>, task: TaskId) -> Serial
         requires exists { task.0 < length self.old.tasks }
         ensures served { Served self.old task result self.new }
+        ensures ended { EndsAs self.old task result attempt.new }
         ensures catalogue { self.new.catalogue ≡ self.old.catalogue }
     {
         if !self.table.is_running(task) {
@@ -506,13 +525,14 @@ impl<'a> Book<'a> {
 
     /// Gives the lowest ready task a turn until none is ready, by an attempt that is restarted for
     /// each.
+    #[inline(never)]
     fn turns(&mut self, attempt: &mut Attempt<'a>, every: u32)
         requires { (k : ℕ) → slice_get self.old.tasks k ≢ Some Task.Running }
         ensures turns { Drains every self.old self.new }
         ensures idle { IsIdle self.new }
     {
         while let Some(task) = self.take() {
-            self.turn(attempt, every, task);
+            self.give_turn(attempt, every, task);
         }
     }
 
@@ -523,8 +543,19 @@ impl<'a> Book<'a> {
         self.table.ready_all();
     }
 
-    /// The turn of a task that was taken, by an attempt that is restarted for it.
+    /// The turn of a task that was taken, by an attempt that is restarted for it. It is a call, so that who makes
+    /// the attempt is short, and makes it where it stays.
+    #[inline(never)]
     fn turn(&mut self, attempt: &mut Attempt<'a>, every: u32, task: TaskId)
+        requires { IsRunning self.old task }
+        ensures { Turn every self.old task self.new }
+    {
+        self.give_turn(attempt, every, task);
+    }
+
+    /// As `turn`, where turns are given one after another.
+    #[inline(always)]
+    fn give_turn(&mut self, attempt: &mut Attempt<'a>, every: u32, task: TaskId)
         requires { IsRunning self.old task }
         ensures { Turn every self.old task self.new }
     {

@@ -226,6 +226,29 @@ impl TaskTable {
         task
     }
 
+    /// A running task more, for which there is room. It takes no memory.
+    #[inline(always)]
+    pub fn add_running(&mut self) -> TaskId
+        requires { 0 < self.old.spare }
+        ensures task { result.0 ≡ length self.old.tasks }
+        ensures added { self.new ≡ placed (with_one_more self.old) result Task.Running }
+    {
+        let task = TaskId(self.standings.len() as u32);
+        let spare = self.spare;
+        self.spare = spare - 1;
+        let standings = &mut self.standings;
+        add_ready(standings);
+        // So it never comes into the set of the ready tasks.
+        stand(
+            standings,
+            &mut self.tally,
+            task,
+            &Slot::Ready,
+            Slot::Running,
+        );
+        task
+    }
+
     /// How many tasks more there is room for.
     pub fn spare(&self) -> usize
         ensures { result ≡ self.now.spare }
@@ -503,6 +526,7 @@ fn all_ready(alloc: Global, count: usize, room: usize) -> Result<Vec<Slot>, Allo
 }
 
 /// Adds a ready task, for which there is room.
+#[inline(always)]
 fn add_ready(standings: &mut Vec<Slot>)
     requires { vec_len standings.old < vec_capacity standings.old }
     ensures items { standings.new.items ≡ standings.old.items ++ Slot.Ready ∷ [] }

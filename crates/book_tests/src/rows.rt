@@ -35,6 +35,8 @@ pub(crate) enum Step {
     Checkpoints,
     /// To submit the transaction answers so.
     Submits(TxId, Option<TaskId>),
+    /// To submit the transaction as a running task answers so.
+    SubmitsRunning(TxId, Option<TaskId>),
     /// The transaction is submitted until there are so many tasks.
     Fills(TxId, u32),
     /// The book shows this.
@@ -49,6 +51,19 @@ fn submits(book: &mut Book<'_>, catalogue: &Catalogue, tx: TxId, task: Option<Ta
         return false;
     }
     book.submit(tx) == task
+}
+
+/// Whether to submit the transaction as a running task answers so.
+fn submits_running(
+    book: &mut Book<'_>,
+    catalogue: &Catalogue,
+    tx: TxId,
+    task: Option<TaskId>,
+) -> bool {
+    if !book.declares(catalogue) || (tx.0 as usize) >= catalogue.tx_count() {
+        return false;
+    }
+    book.submit_running(tx) == task
 }
 
 /// Whether the transaction can be submitted until there are so many tasks, the first of these is 1.
@@ -111,6 +126,7 @@ fn goes(alloc: Global, book: &mut Book<'_>, catalogue: &Catalogue, step: &Step) 
             true
         }
         Step::Submits(tx, task) => submits(book, catalogue, *tx, *task),
+        Step::SubmitsRunning(tx, task) => submits_running(book, catalogue, *tx, *task),
         Step::Fills(tx, tasks) => fills(book, catalogue, *tx, *tasks),
         Step::Shows(look) => shows(alloc, book, look),
         Step::Says(said) => says(alloc, book, said),

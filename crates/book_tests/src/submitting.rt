@@ -40,6 +40,27 @@ fn tasks_are_submitted_while_others_run(rt: HostRuntime) {
     );
 }
 
+/// A task that is submitted as running has its turn while one before it is ready; a second is given up, and a
+/// third has no room.
+const AS_RUNNING: &[Step] = &[
+    Step::SubmitsRunning(TxId(0), Some(TaskId(1))),
+    Step::Claims(TaskId(1), false),
+    Step::Turns(TaskId(1), Serial::Committed(1)),
+    Step::SubmitsRunning(TxId(0), Some(TaskId(2))),
+    Step::SubmitsRunning(TxId(0), None),
+    Step::Takes(Some(TaskId(0))),
+    Step::Takes(None),
+    Step::GivesUp(TaskId(2), true),
+    Step::Turns(TaskId(0), Serial::Committed(2)),
+    Step::Says(Said::Entered(&[TaskId(1), TaskId(0)])),
+    Step::Says(Said::Memory(&[(TaskId(2), TxId(0))])),
+];
+
+#[test]
+fn a_task_is_submitted_as_running(rt: HostRuntime) {
+    expect(&rt, rt.alloc(), ONE, Some(2), &What::Steps(AS_RUNNING));
+}
+
 /// Both tasks wait until x is not 5; a submitted one sets it to 6.
 const WHILE_ALL_ARE_PARKED: &[Step] = &[
     Step::Takes(Some(TaskId(0))),

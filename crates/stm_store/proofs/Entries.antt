@@ -9,6 +9,7 @@ use Rattle.txn_programs.specs.declared.report.Entry.{Entry}
 use Rattle.txn_programs.specs.Meaning.{outcome}
 use Rattle.txn_programs.specs.Listing.{Listing, task_program}
 use Rattle.txn_programs.specs.Replay.{Snapshot, Replays, applied}
+use Rattle.attempt.specs.declared.next.Stand.TheVariants.{Over}
 use Rattle.book.specs.Tasks.{Running, Done}
 use Rattle.book.specs.declared.task.Serial.TheVariants as serial
 use Rattle.book.specs.View.{BookView, IsRunning, committed, entry_of}
@@ -70,15 +71,24 @@ committed_ends : (b : BookView) (task : TaskId) → LawfulBook (committed b task
 unfolding committed
 committed_ends b task lawful = last_ends b.catalogue b.base (committed b task).present b.journal (entry_of b task) lawful.replays
 
--- the book of a task that committed, and what the journal records of it
-pub enters : (every : ℕ) (old b new : BookView) (task : TaskId) (n : ℕ) (e : Entered) → IsRunning old task → n ≡ old.present.number + 1 → b ≡ committed old task → e.number ≡ n → HasEntry b task e.outcome → LawfulBook old → LawfulBook b → new ≡ kept_short every (serial.Committed n) b → Enters every old task e new
-enters every old b new task n e runs number is told entry lawful lawful_b short =
+-- the book of a task that committed, and what was told of it
+pub enters_told : (every : ℕ) (old b new : BookView) (task : TaskId) (n : ℕ) (e : Entered) → IsRunning old task → n ≡ old.present.number + 1 → b ≡ committed old task → e.number ≡ n → e.outcome ≡ (entry_of old task).outcome → LawfulBook old → LawfulBook b → new ≡ kept_short every (serial.Committed n) b → Enters every old task e new
+enters_told every old b new task n e runs number is told same lawful lawful_b short =
     let lawful_after : LawfulBook (committed old task) = subst LawfulBook is lawful_b in
     record {
       running = runs;
       ends = committed_ends old task lawful_after;
-      tells = record { number = told ∙ number; outcome = recorded_is old b task e.outcome runs lawful is entry };
+      tells = record { number = told ∙ number; outcome = same };
       kept = short ∙ ap (kept_short every (serial.Committed n)) is;
       lawful = lawful;
       lawful_after = lawful_after;
     }
+
+-- the book of a task that committed, and what the journal records of it
+pub enters : (every : ℕ) (old b new : BookView) (task : TaskId) (n : ℕ) (e : Entered) → IsRunning old task → n ≡ old.present.number + 1 → b ≡ committed old task → e.number ≡ n → HasEntry b task e.outcome → LawfulBook old → LawfulBook b → new ≡ kept_short every (serial.Committed n) b → Enters every old task e new
+enters every old b new task n e runs number is told entry lawful lawful_b short =
+    enters_told every old b new task n e runs number is told (recorded_is old b task e.outcome runs lawful is entry) lawful lawful_b short
+
+-- an attempt ends in one way
+pub same_end : (o p : Outcome) → Over o ≡ Over p → o ≡ p
+same_end o p e = cc

@@ -1,5 +1,5 @@
--- A task that was submitted, and claimed at once.
-use Rattle.std.proofs.Common.{◌≡◌, ◌∙◌, Bool, true, false, MatchBool, ◌<◌, ◌∷◌, [], ◌++◌, Some, List, length, set, sym, ap, subst}
+-- A task that was submitted, and runs at once.
+use Rattle.std.proofs.Common.{◌≡◌, ◌∙◌, ◌<◌, ◌∷◌, [], ◌++◌, Some, List, length, set, sym, ap, subst}
 use Rattle.std.specs.List.{slice_get}
 use Rattle.std.proofs.lemmas.Option.{slice_get_within, get_or_from_slice_get}
 use Rattle.attempt_writes.proofs.OwnTable.{get_same}
@@ -12,24 +12,14 @@ use Rattle.attempt.specs.View.{AttemptView}
 use Rattle.book.specs.Tasks.{Ready, Running}
 use Rattle.book.specs.LawfulBook.{BookFits}
 use Rattle.book.specs.Turns.{IsEndOf}
-use Rattle.book.specs.View.{BookView, IsRunning, stands}
+use Rattle.book.specs.View.{BookView, IsRunning}
 use Rattle.book.specs.Submitted.{submitted}
-use Rattle.book.specs.Recorded.{IsReady}
 use Rattle.stm_store.specs.Turning.{called_book, EndsHere}
 use Rattle.stm_store.proofs.Entries.{get_append_at}
 
 -- it is ready
 submitted_ready : (b : BookView) (tx : TxId) (task : TaskId) → task.0 ≡ length b.tasks → slice_get (submitted b tx).tasks task.0 ≡ Some Ready
 submitted_ready b tx task at = ap (slice_get (b.tasks ++ Ready ∷ [])) at ∙ get_append_at b.tasks Ready
-
-claimed_running : (b new : BookView) (task : TaskId) (r : Bool) → IsReady b task → MatchBool r (IsReady b task × (new ≡ stands b task Running)) ((IsReady b task → ⊥) × (new ≡ b)) → new ≡ stands b task Running
-claimed_running b new task true ready h = h.1
-claimed_running b new task false ready h = absurd (h.0 ready)
-
-pub called_is : (old sub new : BookView) (tx : TxId) (task : TaskId) (r : Bool) → task.0 ≡ length old.tasks → sub ≡ submitted old tx → MatchBool r (IsReady sub task × (new ≡ stands sub task Running)) ((IsReady sub task → ⊥) × (new ≡ sub)) → new ≡ called_book old tx task
-called_is old sub new tx task r at is h =
-    claimed_running sub new task r (ap (λ (b : BookView). slice_get b.tasks task.0) is ∙ submitted_ready old tx task at) h
-    ∙ ap (λ (b : BookView). stands b task Running) is
 
 pub called_runs : (old new : BookView) (tx : TxId) (task : TaskId) → task.0 ≡ length old.tasks → new ≡ called_book old tx task → IsRunning new task
 called_runs old new tx task at is =

@@ -88,6 +88,7 @@ impl Store {
 
     /// A running task of the transaction more, with the next ticket. `None` and no change exactly where there is
     /// no room for it.
+    #[inline(always)]
     fn begin_call(&mut self, tx: TxId) -> Option<Job>
         requires known { tx.0 < length self.old.catalogue.now.transactions }
         ensures begun { BeginsCall self.old tx result self.new }
@@ -98,8 +99,7 @@ impl Store {
             return None;
         }
         self.book.law();
-        let task = self.book.submit(tx)?;
-        let _ready = self.book.claim(task);
+        let task = self.book.submit_running(tx)?;
         Some(Job {
             ticket: self.tickets.give(),
             chapter: self.chapter,

@@ -16,6 +16,19 @@ use book::{Book, Finish, Serial};
 use std::alloc::Global;
 use txn::{Outcome, TaskId};
 
+/// What is told of a task that was entered with this number, by the attempt that ended for it: the journal
+/// is not looked at.
+fn told_by(attempt: &Attempt<'static>, number: u64) -> Entered
+    requires ended { (o : Outcome) × (attempt.now.stand ≡ Stand.Over o) }
+    ensures number { result.number ≡ number }
+    ensures outcome { attempt.now.stand ≡ Stand.Over result.outcome }
+{
+    let Some(outcome) = attempt.outcome() else {
+        unreachable!()
+    };
+    Entered { number, outcome }
+}
+
 /// What is told of a task that was entered with this number.
 fn entered(book: &Book<'static>, task: TaskId, number: u64) -> Entered
     requires exists { task.0 < length book.now.tasks }
@@ -30,6 +43,7 @@ fn entered(book: &Book<'static>, task: TaskId, number: u64) -> Entered
 }
 
 /// A turn of a running task on the present values, and a checkpoint where one is due: how it ended.
+#[inline(always)]
 pub(crate) fn give_turn(
     book: &mut Book<'static>,
     attempt: &mut Attempt<'static>,
@@ -46,7 +60,7 @@ pub(crate) fn give_turn(
     book.law();
     match how {
         Serial::Committed(number) => {
-            let told = entered(book, task, number);
+            let told = told_by(attempt, number);
             book.keep_short(every, how);
             End::Entered(told)
         }

@@ -3,6 +3,7 @@ use Rattle.std.specs.List.{slice_get}
 use Rattle.txn_words.specs.Stores.{with_changes}
 use Rattle.txn_programs.specs.declared.ast.Outcome.TheVariants.{Retries}
 use Rattle.attempt.specs.Asking.{Known}
+use Rattle.attempt.specs.declared.next.Stand.TheVariants.{Over}
 use Rattle.attempt.specs.Order.{Ascending}
 use Rattle.book.specs.View.{BookView, IsRunning}
 use Rattle.book.proofs.Draining.{committed_catalogue}
@@ -23,6 +24,11 @@ returns-clause-served c =
     let out = outcome_now c.self.inside c.args.self.now c.args.task c.transaction-tx.result c.deref.result.now c.in-Ok.how c.bring_to_end.new.attempt c.self.view_is c.deref.ensures.value c.transaction-tx.ensures.value c.in-Ok.ensures in
     let ends : c.in-Ok.how ≢ Retries = search rules in
     (running, λ e. ends (out ∙ e), c.commit.ensures.number, c.commit.ensures.committed)
+
+pub returns-clause-ended : goal.returns-clause-ended
+returns-clause-ended c =
+    c.in-Ok.ensures.ended
+    ∙ ap Over (outcome_now c.self.inside c.args.self.now c.args.task c.transaction-tx.result c.deref.result.now c.in-Ok.how c.bring_to_end.new.attempt c.self.view_is c.deref.ensures.value c.transaction-tx.ensures.value c.in-Ok.ensures)
 
 pub returns-clause-catalogue : goal.returns-clause-catalogue
 returns-clause-catalogue c = ap (λ (b : BookView). b.catalogue) c.commit.ensures.committed ∙ committed_catalogue c.args.self.now c.args.task

@@ -1,5 +1,5 @@
 use Rattle.std.proofs.Common.{refl}
-use Rattle.stm_store.proofs.Submitted.{called_is, called_runs}
+use Rattle.stm_store.proofs.Submitted.{called_runs}
 use Rattle.stm_store.proofs.store.Store.begin_call.Goals as goal
 
 pub returns-clause-begun : goal.returns-clause-begun
@@ -8,11 +8,10 @@ returns-clause-begun c =
       (s.2, c.if-are_used_up.ensures.left),
       record { task = s.0; ticket = c.give.ensures.ticket; chapter = refl; runs = refl },
       c.give.ensures.tickets,
-      called_is c.args.self.now.book c.submit.new.self c.claim-ready.new.self c.args.tx c.in_ok-task.task c.claim-ready.result s.0 s.1 c.claim-ready.ensures.claimed,
+      s.1,
     )
 
 pub returns-clause-runs : goal.returns-clause-runs
 returns-clause-runs c =
     let s = c.in_ok-task.ensures in
-    called_runs c.args.self.now.book c.claim-ready.new.self c.args.tx c.in_ok-task.task s.0
-    (called_is c.args.self.now.book c.submit.new.self c.claim-ready.new.self c.args.tx c.in_ok-task.task c.claim-ready.result s.0 s.1 c.claim-ready.ensures.claimed)
+    called_runs c.args.self.now.book c.submit_running.new.self c.args.tx c.in_ok-task.task s.0 s.1
