@@ -3,4 +3,5 @@ pub mod Answered
 pub mod Under
 pub mod Lawful
 pub mod Logs
+pub mod Lacking
 pub mod Reading

@@ -275,7 +275,8 @@ impl<'a> Attempt<'a> {
     /// `steps` are the nodes that were entered, each once.
     ///
     /// `Memory` where a growth was refused: of the log, then the attempt waits for the variable that
-    /// it needs; or as in `advance`, then it is spent.
+    /// it needs; or as in `advance`, then it is spent. A transaction without an `orelse` over at most
+    /// eight variables never meets it.
     pub fn evaluate_on(&mut self, values: &[i64]) -> Result<Outcome, Memory>
         requires fresh { self.old.stand ≡ Stand.Fresh }
         requires values { length values.now ≡ self.old.variables }
@@ -289,6 +290,7 @@ impl<'a> Attempt<'a> {
         ensures after { OnOk result (after self.old.program values.now ≡ store self.new.writes values.now) }
         ensures refused { OnErr result (IsHeldUp self.new.stand self.new) }
         ensures short { NeedsNoMemory self.old.program → self.new.stand ≢ Stand.Spent }
+        ensures memory { OnErr result (NeedsNoMemory self.old.program → 8 < self.old.variables) }
         ensures steps { self.new.steps ≤ cost self.old.program }
     {
         self.catalogue.rules();
@@ -337,6 +339,7 @@ impl<'a> Attempt<'a> {
         ensures adds { R.values reader.old ≡ [] → self.new.total ≡ self.old.total + self.new.steps }
         ensures total { self.new.total ≤ cost self.old.program + length self.new.log }
         ensures short { NeedsNoMemory self.old.program → self.new.stand ≢ Stand.Spent }
+        ensures room { R.reads_all ≡ true → (x : VarId) → self.new.stand ≡ Stand.Needs x → x.0 < length (R.values reader.old) → 8 ≤ length self.new.log }
     {
         self.catalogue.rules();
         let before = self.count;

@@ -5,5 +5,6 @@ pub mod Resume
 pub mod Going
 pub mod Kept
 pub mod Reading
+pub mod Loading
 pub mod Small
 pub mod Stores

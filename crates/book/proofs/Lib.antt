@@ -5,6 +5,7 @@ mod Waited
 mod Agreeing
 mod Readying
 pub mod Draining
+pub mod GivingUp
 mod Submitting
 mod Kept
 mod Sleeping

@@ -1,5 +1,5 @@
 -- What a turn on the present values says, seen from outside.
-use Rattle.std.proofs.Common.{◌≡◌, sym, ◌∙◌, ap}
+use Rattle.std.proofs.Common.{◌≡◌, sym, ◌∙◌, ap, subst}
 use Rattle.txn_programs.specs.declared.ast.TaskId.{TaskId}
 use Rattle.txn_programs.specs.declared.ast.TxId.{TxId}
 use Rattle.txn_programs.specs.declared.ast.Outcome.{Outcome}
@@ -8,12 +8,18 @@ use Rattle.txn_programs.specs.Tree.{Program}
 use Rattle.txn_programs.specs.Listing.{task_tx, task_program, program_at}
 use Rattle.txn_words.specs.Stores.{with_changes}
 use Rattle.attempt.specs.Order.{Ascending}
+use Rattle.attempt.specs.Room.{TakesMemory}
 use Rattle.attempt.specs.View.{AttemptView}
 use Rattle.book.specs.declared.book.Book.TheInside.{Inside}
 use Rattle.book.specs.BookInside.{book_of}
 use Rattle.book.specs.Turns.{EndsOn}
 use Rattle.book.specs.View.{BookView}
 use Rattle.book.proofs.Writes.{store_is_changes}
+
+-- the task's transaction takes memory
+pub takes_now : (b : Inside) (v : BookView) (task : TaskId) (tx : TxId) → book_of b ≡ v → tx ≡ task_tx b.chapter.listing task → TakesMemory b.chapter.listing tx → TakesMemory v.catalogue (task_tx v.catalogue task)
+takes_now b v task tx view own h =
+    subst (λ (x : BookView). TakesMemory x.catalogue (task_tx x.catalogue task)) view (subst (TakesMemory b.chapter.listing) own h)
 
 -- an attempt of the task's transaction that ended on the present values of the book, which is seen as v
 module _ (b : Inside) (v : BookView) (task : TaskId) (tx : TxId) (m : State) (how : Outcome) (a : AttemptView) (view : book_of b ≡ v) (values : m ≡ b.present.values.items) (own : tx ≡ task_tx b.chapter.listing task) (h : EndsOn b.chapter.listing tx m how a) where

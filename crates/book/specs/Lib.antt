@@ -8,6 +8,7 @@ pub mod Openings
 pub mod ChapterInside
 pub mod BookInside
 pub mod Turns
+pub mod GivingUp
 pub mod Submitted
 pub mod Table
 pub mod TableInside

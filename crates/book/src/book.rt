@@ -1,6 +1,6 @@
 //! The book: how each task stands, the journal, and the present values.
 
-ghost use Rattle.std.specs.Prelude.{◌≡◌, ◌≢◌, ◌<◌, ◌≤◌, ◌+◌, ◌++◌, ◌∷◌, [], ℕ, length, map, IfOk, IsTrue, ◌↔◌, MatchBool, vec_len, vec_capacity, All, Some, slice_get, min, replicate, ◌-◌};
+ghost use Rattle.std.specs.Prelude.{◌≡◌, ◌≢◌, ◌<◌, ◌≤◌, ◌+◌, ◌++◌, ◌∷◌, [], ℕ, length, map, IfOk, IsTrue, ◌↔◌, MatchBool, vec_len, vec_capacity, All, Some, slice_get, min, replicate, ◌-◌, OnErr};
 ghost use Rattle.txn_programs.specs.declared.limits.TheConstants.{MAX_TASKS, MAX_TRANSACTIONS, MAX_VARIABLES};
 ghost use Rattle.txn_words.specs.Stores.{with_changes};
 ghost use Rattle.attempt.specs.Asking.{Known};
@@ -85,6 +85,8 @@ impl<'a> Book<'a> {
     ghost use Rattle.book.specs.Turns.{Taken, IsEndOf, EndsOn, EndsAs, Finished, IsLeft, Served, Turn, Drains, kept_short, readied, IsIdle, without_journal, ReportIs};
     ghost use Rattle.book.specs.LawfulBook.{LawfulBook, BookFits, KeepsConditions, Waits};
     ghost use Rattle.book.specs.Waiting.{ParkedWait};
+    ghost use Rattle.attempt.specs.Room.{TakesMemory};
+    ghost use Rattle.book.specs.GivingUp.{GivesUpForMemory};
     ghost use Rattle.book.specs.Table.{IsWaiting};
     ghost use Rattle.book.specs.Recorded.{IsReady, IsRecorded, told_as};
 
@@ -396,10 +398,11 @@ impl<'a> Book<'a> {
     }
 
     /// A turn of the task on the present values: it commits, or is parked where its program
-    /// retries. After want of memory the task is given up.
+    /// retries. After want of memory the task is given up, which one whose transaction takes none never is.
     pub fn serial(&mut self, alloc: Global, task: TaskId) -> Serial
         requires exists { task.0 < length self.old.tasks }
         ensures served { Served self.old task result self.new }
+        ensures memory { result ≡ Serial.Abandoned → TakesMemory self.old.catalogue (task_tx self.old.catalogue task) }
         ensures catalogue { self.new.catalogue ≡ self.old.catalogue }
     {
         let mut attempt = Attempt::new(alloc, self.chapter.opened(), self.task_tx(task));
@@ -413,6 +416,7 @@ impl<'a> Book<'a> {
         requires exists { task.0 < length self.old.tasks }
         ensures served { Served self.old task result self.new }
         ensures ended { EndsAs self.old task result attempt.new }
+        ensures memory { result ≡ Serial.Abandoned → TakesMemory self.old.catalogue (task_tx self.old.catalogue task) }
         ensures catalogue { self.new.catalogue ≡ self.old.catalogue }
     {
         if !self.table.is_running(task) {
@@ -434,10 +438,12 @@ impl<'a> Book<'a> {
     }
 
     /// How the transaction ends on the present values, by an attempt that the caller keeps, which is
-    /// restarted for it and ends so. The book stays as it is. `Memory` only where a growth was refused.
+    /// restarted for it and ends so. The book stays as it is. `Memory` only where a growth was refused,
+    /// which a transaction that takes none never meets.
     pub fn outcome_now(&self, attempt: &mut Attempt<'a>, tx: TxId) -> Result<Outcome, Memory>
         requires { tx.0 < length self.now.catalogue.transactions }
-        ensures { IfOk result (λ how. EndsOn self.now.catalogue tx self.now.present.state how attempt.new) }
+        ensures ends { IfOk result (λ how. EndsOn self.now.catalogue tx self.now.present.state how attempt.new) }
+        ensures memory { OnErr result (TakesMemory self.now.catalogue tx) }
     {
         bring_to_end(attempt, &self.chapter, tx, &self.present.values)
     }
@@ -508,10 +514,12 @@ impl<'a> Book<'a> {
     /// values until none is ready. One attempt, which is restarted, serves them all.
     ///
     /// Where `every` is not 0, a commit that makes the journal at least `every` entries long is
-    /// followed by a checkpoint. A turn that meets want of memory gives its task up.
+    /// followed by a checkpoint. A turn that meets want of memory gives its task up, and that of a task whose
+    /// transaction takes none never does.
     pub fn drain(&mut self, alloc: Global, every: u32)
         ensures turns { Drains every (readied self.old) self.new }
         ensures idle { IsIdle self.new }
+        ensures memory { GivesUpForMemory self.old → GivesUpForMemory self.new }
         ensures catalogue { self.new.catalogue ≡ self.old.catalogue }
     {
         self.make_ready();
@@ -530,6 +538,7 @@ impl<'a> Book<'a> {
         requires { (k : ℕ) → slice_get self.old.tasks k ≢ Some Task.Running }
         ensures turns { Drains every self.old self.new }
         ensures idle { IsIdle self.new }
+        ensures memory { GivesUpForMemory self.old → GivesUpForMemory self.new }
     {
         while let Some(task) = self.take() {
             self.give_turn(attempt, every, task);
@@ -548,7 +557,8 @@ impl<'a> Book<'a> {
     #[inline(never)]
     fn turn(&mut self, attempt: &mut Attempt<'a>, every: u32, task: TaskId)
         requires { IsRunning self.old task }
-        ensures { Turn every self.old task self.new }
+        ensures turn { Turn every self.old task self.new }
+        ensures memory { GivesUpForMemory self.old → GivesUpForMemory self.new }
     {
         self.give_turn(attempt, every, task);
     }
@@ -557,7 +567,8 @@ impl<'a> Book<'a> {
     #[inline(always)]
     fn give_turn(&mut self, attempt: &mut Attempt<'a>, every: u32, task: TaskId)
         requires { IsRunning self.old task }
-        ensures { Turn every self.old task self.new }
+        ensures turn { Turn every self.old task self.new }
+        ensures memory { GivesUpForMemory self.old → GivesUpForMemory self.new }
     {
         let how = self.serial_lent(attempt, task);
         self.keep_short(every, how);

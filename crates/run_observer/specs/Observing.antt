@@ -10,7 +10,7 @@ use Rattle.txn_words.specs.Loads.{ShowsStale}
 use Rattle.attempt.specs.Asking.{Known}
 use Rattle.attempt.specs.Frame.{Agrees}
 use Rattle.attempt.specs.View.{AttemptView}
-use Rattle.attempt.specs.Room.{NeedsNoMemory}
+pub use Rattle.attempt.specs.Room.{TakesMemory}
 use Rattle.attempt.specs.declared.next.Stand.TheVariants.{Over, Needs, Spent}
 use Rattle.cells.specs.Cells.{CellsId}
 use Rattle.cells.specs.Passing.{Passing, at}
@@ -37,10 +37,6 @@ ShowsChange p q = (n : ℕ) × (length p.seen ≤ n + 1) × (n < q.rv)
 -- that they gave does.
 abbrev pub IsStaleFrom : Passing → Passing → Type 0
 IsStaleFrom p q = (q.open_now ≡ false) × (p.clock_loads + 2 ≤ q.clock_loads) × (ShowsStale q.rv q.loads ⊎ ShowsChange p q)
-
--- The transaction may take memory: it has an `orelse`, or there are more variables than eight, which a log tells without.
-abbrev pub TakesMemory : Listing → TxId → Type 0
-TakesMemory l tx = NeedsNoMemory (program_at l tx) → 8 < length l.initial
 
 -- An outcome is that of the transaction on the state at which the pass is in the end.
 abbrev pub IsObserved : Listing → TxId → Passing → Passing → Observed → Type 0

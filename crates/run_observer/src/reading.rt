@@ -59,6 +59,9 @@ impl<'p, W: Watch> Reader for PassReader<'p, W> {
 
     ghost is_open = { λ r. r.pass.now.open_now };
 
+    // A read may be stale.
+    ghost reads_all = { false };
+
     #[inline(always)]
     fn read(&mut self, x: VarId) -> Option<i64> {
         if x.0 as usize >= self.variables {

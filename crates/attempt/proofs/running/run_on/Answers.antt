@@ -98,3 +98,8 @@ returns-in-Ok-End-clause-open g c = λ h. c.run.ensures.open (λ x. end_needs_no
 
 pub returns-in-Err-clause-open : goal.returns-in-Err-clause-open
 returns-in-Err-clause-open g c = λ h. c.run.ensures.open (λ x. short_needs_none _ _ x c.in-Err.is)
+
+pub returns-in-Ok-Need-clause-room : goal.returns-in-Ok-Need-clause-room
+returns-in-Ok-Need-clause-room g c = λ all y is low.
+    let same : c.in-Ok-Need.x ≡ y = cc is in
+    c.run.ensures.room all y (subst (λ (z : VarId). c.run.result ≡ Ok (found.Need z)) same (c.in-Ok-Need.is ∙ ap Ok c.in-Ok-Need.field-0-is)) low

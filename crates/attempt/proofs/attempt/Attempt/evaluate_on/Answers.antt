@@ -1,7 +1,8 @@
-use Rattle.std.proofs.Common.{◌∙◌, ap, arith, refl, subst, sym}
+use Rattle.std.proofs.Common.{ℕ, ◌<◌, ◌∙◌, ap, arith, refl, subst, sym}
 use Rattle.txn_programs.proofs.Lawful.{limits_parts}
 use Rattle.attempt.specs.AttemptInside.{StandsAt}
 use Rattle.attempt.specs.View.{AttemptView, HoldsAt, next_of}
+use Rattle.attempt.proofs.Lacking.{lacks_room}
 use Rattle.attempt.proofs.Reading.{reads_agree}
 use Rattle.attempt.proofs.Told.{over_holds, outcome_holds, after_holds}
 use Rattle.attempt.proofs.attempt.Attempt.evaluate_on.Goals as goal
@@ -36,3 +37,11 @@ returns-clause-after c =
     let agrees = reads_agree _ m _ _ c.go_on.ensures.reads c.requires.agrees in
     let holds : HoldsAt (next_of o) b m = over_holds b o m c.go_on.ensures.known (c.requires.values ∙ sym c.go_on.ensures.variables) agrees (subst (StandsAt b) (sym (ap (λ (a : AttemptView). a.stand) c.self-2.view_is) ∙ c.in-Over.is) c.go_on.ensures.stands) in
     after_holds o _ _ b m refl holds c.go_on.ensures.program
+
+pub returns-in_default-clause-memory : goal.returns-in_default-clause-memory
+returns-in_default-clause-memory c = λ small.
+    let b = c.go_on.new.self in
+    let e = c.go_on.ensures in
+    subst (λ (n : ℕ). 8 < n) e.variables
+    (lacks_room b b.stand e.stands e.advanced (λ o is. c.in_default.not-Over o (ap (λ (a : AttemptView). a.stand) c.self-2.view_is ∙ is)) (e.short small)
+    (λ x is low. e.room refl x is (omega (arith, low, e.variables, c.requires.values))) e.logged e.apart)
