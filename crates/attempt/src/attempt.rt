@@ -131,7 +131,8 @@ impl<'a> Attempt<'a> {
         ensures known { AllKnown self.now.variables result.now }
         ensures ascending { Ascending result.now }
         ensures only { OnlyOfReturned self.now.stand result.now }
-        ensures ends { (o : Outcome) → self.now.stand ≡ Stand.Over o → ask self.now.program self.now.log ≡ Ends o result.now }
+        ensures ends { (o : Outcome) → self.now.stand ≡ Stand.Over o
+            → ask self.now.program self.now.log ≡ Ends o result.now }
     {
         match self.stand {
             Stand::Over(_) => self.machine.own.as_slice(),
@@ -203,15 +204,19 @@ impl<'a> Attempt<'a> {
         ensures program { self.new.program ≡ self.old.program }
         ensures variables { self.new.variables ≡ self.old.variables }
         ensures log { self.new.log ≡ self.old.log }
-        ensures asks_again { (x : VarId) → self.old.stand ≡ Stand.Needs x → (result ≡ Next.Need x) × (self.new ≡ idle self.old) }
-        ensures repeats { (o : Outcome) → self.old.stand ≡ Stand.Over o → (result ≡ next_of o) × (self.new ≡ idle self.old) }
+        ensures asks_again { (x : VarId) → self.old.stand ≡ Stand.Needs x
+            → (result ≡ Next.Need x) × (self.new ≡ idle self.old) }
+        ensures repeats { (o : Outcome) → self.old.stand ≡ Stand.Over o
+            → (result ≡ next_of o) × (self.new ≡ idle self.old) }
         ensures spent { self.old.stand ≡ Stand.Spent → (result ≡ Next.Memory) × (self.new ≡ idle self.old) }
         ensures steps { self.new.steps ≤ cost self.old.program }
         ensures adds { self.new.total ≡ self.old.total + self.new.steps }
         ensures total { self.new.total ≤ cost self.old.program + length self.old.log }
         ensures short { NeedsNoMemory self.old.program → self.old.stand ≢ Stand.Spent → result ≢ Next.Memory }
-        ensures needed { (x : VarId) → result ≡ Next.Need x → (x.0 < self.new.variables) × (known_at self.new.log x ≡ None) }
-        ensures frame { (m : State) → length m ≡ self.new.variables → Agrees self.new.log m → HoldsAt result self.new m }
+        ensures needed { (x : VarId) → result ≡ Next.Need x
+            → (x.0 < self.new.variables) × (known_at self.new.log x ≡ None) }
+        ensures frame { (m : State) → length m ≡ self.new.variables → Agrees self.new.log m
+            → HoldsAt result self.new m }
     {
         self.steps = 0;
         let mut nothing: &[i64] = &[];
@@ -243,15 +248,20 @@ impl<'a> Attempt<'a> {
         ensures apart { Apart self.new.log }
         ensures values { R.values reader.new ≡ R.values reader.old }
         ensures kept { R.kept reader.new ≡ R.kept reader.old }
-        ensures open { ((x : VarId) → result ≢ Next.Need x) → R.is_open reader.old ≡ true → R.is_open reader.new ≡ true }
-        ensures asks_again { (x : VarId) → self.old.stand ≡ Stand.Needs x → (result ≡ Next.Need x) × (self.new ≡ idle self.old) }
-        ensures repeats { (o : Outcome) → self.old.stand ≡ Stand.Over o → (result ≡ next_of o) × (self.new ≡ idle self.old) }
+        ensures open { ((x : VarId) → result ≢ Next.Need x) → R.is_open reader.old ≡ true
+            → R.is_open reader.new ≡ true }
+        ensures asks_again { (x : VarId) → self.old.stand ≡ Stand.Needs x
+            → (result ≡ Next.Need x) × (self.new ≡ idle self.old) }
+        ensures repeats { (o : Outcome) → self.old.stand ≡ Stand.Over o
+            → (result ≡ next_of o) × (self.new ≡ idle self.old) }
         ensures spent { self.old.stand ≡ Stand.Spent → (result ≡ Next.Memory) × (self.new ≡ idle self.old) }
         ensures steps { self.new.steps ≤ cost self.old.program }
         ensures total { self.new.total ≤ cost self.old.program + length self.new.log }
         ensures short { NeedsNoMemory self.old.program → self.old.stand ≢ Stand.Spent → result ≢ Next.Memory }
-        ensures needed { (x : VarId) → result ≡ Next.Need x → (x.0 < self.new.variables) × (known_at self.new.log x ≡ None) }
-        ensures frame { (m : State) → length m ≡ self.new.variables → Agrees self.new.log m → HoldsAt result self.new m }
+        ensures needed { (x : VarId) → result ≡ Next.Need x
+            → (x.0 < self.new.variables) × (known_at self.new.log x ≡ None) }
+        ensures frame { (m : State) → length m ≡ self.new.variables → Agrees self.new.log m
+            → HoldsAt result self.new m }
     {
         self.catalogue.rules();
         self.steps = 0;
@@ -333,13 +343,16 @@ impl<'a> Attempt<'a> {
         ensures apart { Apart self.new.log }
         ensures values { R.values reader.new ≡ R.values reader.old }
         ensures kept { R.kept reader.new ≡ R.kept reader.old }
-        ensures open { ((x : VarId) → self.new.stand ≢ Stand.Needs x) → R.is_open reader.old ≡ true → R.is_open reader.new ≡ true }
+        ensures open { ((x : VarId) → self.new.stand ≢ Stand.Needs x) → R.is_open reader.old ≡ true
+            → R.is_open reader.new ≡ true }
         ensures known { ProgramKnown self.new.variables self.new.program }
         ensures steps { self.new.steps ≤ cost self.old.program }
         ensures adds { R.values reader.old ≡ [] → self.new.total ≡ self.old.total + self.new.steps }
         ensures total { self.new.total ≤ cost self.old.program + length self.new.log }
         ensures short { NeedsNoMemory self.old.program → self.new.stand ≢ Stand.Spent }
-        ensures room { R.reads_all ≡ true → (x : VarId) → self.new.stand ≡ Stand.Needs x → x.0 < length (R.values reader.old) → 8 ≤ length self.new.log }
+        ensures room { R.reads_all ≡ true → (x : VarId) → self.new.stand ≡ Stand.Needs x
+            → x.0 < length (R.values reader.old)
+            → 8 ≤ length self.new.log }
     {
         self.catalogue.rules();
         let before = self.count;

@@ -313,7 +313,8 @@ impl<'a> Book<'a> {
     /// A ready task is running. `false` and no change where it was not ready. It takes no memory.
     pub fn claim(&mut self, task: TaskId) -> bool
         requires exists { task.0 < length self.old.tasks }
-        ensures claimed { MatchBool result (IsReady self.old task × (self.new ≡ stands self.old task Task.Running)) (¬ (IsReady self.old task) × (self.new ≡ self.old)) }
+        ensures claimed { MatchBool result (IsReady self.old task × (self.new ≡ stands self.old task Task.Running))
+            (¬ (IsReady self.old task) × (self.new ≡ self.old)) }
         ensures catalogue { self.new.catalogue ≡ self.old.catalogue }
     {
         if !self.table.is_ready(task) {
@@ -327,7 +328,9 @@ impl<'a> Book<'a> {
     /// neither. It takes no memory.
     pub fn withdraw(&mut self, task: TaskId) -> bool
         requires exists { task.0 < length self.old.tasks }
-        ensures withdrawn { MatchBool result (IsWaiting (slice_get self.old.tasks task.0) × (self.new ≡ stands self.old task Task.GivenUp)) (¬ (IsWaiting (slice_get self.old.tasks task.0)) × (self.new ≡ self.old)) }
+        ensures withdrawn { MatchBool result
+            (IsWaiting (slice_get self.old.tasks task.0) × (self.new ≡ stands self.old task Task.GivenUp))
+            (¬ (IsWaiting (slice_get self.old.tasks task.0)) × (self.new ≡ self.old)) }
         ensures catalogue { self.new.catalogue ≡ self.old.catalogue }
     {
         self.table.withdraw(task)
@@ -452,7 +455,8 @@ impl<'a> Book<'a> {
     /// running. It takes no memory.
     pub fn give_up(&mut self, task: TaskId) -> bool
         requires exists { task.0 < length self.old.tasks }
-        ensures given_up { MatchBool result (IsRunning self.old task × (self.new ≡ stands self.old task Task.GivenUp)) (¬ (IsRunning self.old task) × (self.new ≡ self.old)) }
+        ensures given_up { MatchBool result (IsRunning self.old task × (self.new ≡ stands self.old task Task.GivenUp))
+            (¬ (IsRunning self.old task) × (self.new ≡ self.old)) }
         ensures catalogue { self.new.catalogue ≡ self.old.catalogue }
     {
         if !self.table.is_running(task) {
@@ -681,7 +685,8 @@ impl<'a> Book<'a> {
     fn commit(&mut self, task: TaskId, how: Outcome, writes: &[(VarId, i64)]) -> u64
         requires running { IsRunning self.old task }
         requires outcome { how ≡ outcome (task_program self.old.catalogue task) self.old.present.state }
-        requires after { after (task_program self.old.catalogue task) self.old.present.state ≡ with_changes self.old.present.state writes.now }
+        requires after { after (task_program self.old.catalogue task) self.old.present.state
+            ≡ with_changes self.old.present.state writes.now }
         requires ends { how ≢ Outcome.Retries }
         requires ascending { Ascending writes.now }
         requires known { AllKnown (length self.old.catalogue.initial) writes.now }

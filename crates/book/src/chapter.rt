@@ -117,7 +117,8 @@ impl<'a> Chapter<'a> {
         requires each { length standings.now ≡ length (tasks self.old.listing) }
         requires wide { length values.now ≡ length self.old.listing.initial }
         requires upheld { Upholds self.old.listing values.now }
-        ensures listing { self.new.listing ≡ begun self.old.listing values.now (staying (tasks self.old.listing) (map bare standings.now)) }
+        ensures listing { self.new.listing
+            ≡ begun self.old.listing values.now (staying (tasks self.old.listing) (map bare standings.now)) }
         ensures room { self.new.room ≡ self.old.room }
     {
         self.is_first = false;

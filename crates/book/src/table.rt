@@ -112,7 +112,8 @@ impl TaskTable {
 
     pub fn is_running(&self, task: TaskId) -> bool
         requires { task.0 < length self.now.tasks }
-        ensures { MatchBool result (slice_get self.now.tasks task.0 ≡ Some Task.Running) (slice_get self.now.tasks task.0 ≢ Some Task.Running) }
+        ensures { MatchBool result (slice_get self.now.tasks task.0 ≡ Some Task.Running)
+            (slice_get self.now.tasks task.0 ≢ Some Task.Running) }
     {
         matches!(&self.standings[task.0 as usize], Slot::Running)
     }
@@ -178,7 +179,9 @@ impl TaskTable {
     /// A ready or a parked task is given up. `false` and no change where it was neither.
     pub fn withdraw(&mut self, task: TaskId) -> bool
         requires { task.0 < length self.old.tasks }
-        ensures { MatchBool result (IsWaiting (slice_get self.old.tasks task.0) × (self.new ≡ placed self.old task Task.GivenUp)) (¬ (IsWaiting (slice_get self.old.tasks task.0)) × (self.new ≡ self.old)) }
+        ensures { MatchBool result
+            (IsWaiting (slice_get self.old.tasks task.0) × (self.new ≡ placed self.old task Task.GivenUp))
+            (¬ (IsWaiting (slice_get self.old.tasks task.0)) × (self.new ≡ self.old)) }
     {
         match &self.standings[task.0 as usize] {
             Slot::Ready => {
@@ -196,7 +199,8 @@ impl TaskTable {
     /// Whether the task can be taken.
     pub fn is_ready(&self, task: TaskId) -> bool
         requires { task.0 < length self.now.tasks }
-        ensures { MatchBool result (slice_get self.now.tasks task.0 ≡ Some Task.Ready) (slice_get self.now.tasks task.0 ≢ Some Task.Ready) }
+        ensures { MatchBool result (slice_get self.now.tasks task.0 ≡ Some Task.Ready)
+            (slice_get self.now.tasks task.0 ≢ Some Task.Ready) }
     {
         matches!(&self.standings[task.0 as usize], Slot::Ready)
     }
@@ -337,7 +341,8 @@ impl TaskTable {
         requires to { to ≤ from }
         requires free { to < from → slice_get self.old.tasks to ≡ Some Task.Running }
         ensures next { result ≡ to + cond (stays (slice_index_or self.old.tasks from Task.Running)) 1 0 }
-        ensures settled { self.new ≡ with_tasks self.old (settled (slice_index_or self.old.tasks from Task.Running) from to self.old.tasks) }
+        ensures settled { self.new
+            ≡ with_tasks self.old (settled (slice_index_or self.old.tasks from Task.Running) from to self.old.tasks) }
     {
         if !stays(&self.standings[from]) {
             self.clear(TaskId(from as u32));
@@ -353,7 +358,10 @@ impl TaskTable {
         requires to { to ≤ from }
         requires free { to < from → slice_get self.old.tasks to ≡ Some Task.Running }
         requires stays { stays (slice_index_or self.old.tasks from Task.Running) ≡ true }
-        ensures { self.new ≡ with_tasks self.old (slice_set (slice_set self.old.tasks from Task.Running) to (readied_one (slice_index_or self.old.tasks from Task.Running))) }
+        ensures { self.new
+            ≡ with_tasks self.old
+            (slice_set (slice_set self.old.tasks from Task.Running) to
+            (readied_one (slice_index_or self.old.tasks from Task.Running))) }
     {
         match &self.standings[from] {
             Slot::Ready => {
@@ -391,7 +399,10 @@ impl TaskTable {
         requires parked { IsParked (slice_get self.old.tasks from) }
         requires below { to < from }
         requires free { slice_get self.old.tasks to ≡ Some Task.Running }
-        ensures { self.new ≡ with_tasks self.old (slice_set (slice_set self.old.tasks from Task.Running) to (slice_index_or self.old.tasks from Task.Running)) }
+        ensures { self.new
+            ≡ with_tasks self.old
+            (slice_set (slice_set self.old.tasks from Task.Running) to
+            (slice_index_or self.old.tasks from Task.Running)) }
     {
         let Slot::Parked(count) = &self.standings[from] else {
             unreachable!()

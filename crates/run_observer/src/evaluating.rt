@@ -33,7 +33,8 @@ pub fn evaluate<'c>(
     ensures ended { IfOk result (λ how. EvaluatesTo catalogue.now tx (at pass.new) how attempt.new) }
     ensures open { OnOk result (pass.new.open_now ≡ true) }
     ensures stale { IfErr result (λ why. why ≡ Cut.Stale → IsStaleFrom pass.old pass.new) }
-    ensures memory { IfErr result (λ why. why ≡ Cut.Memory → (pass.new.open_now ≡ true) × LacksMemory catalogue.now tx attempt.new) }
+    ensures memory { IfErr result
+        (λ why. why ≡ Cut.Memory → (pass.new.open_now ≡ true) × LacksMemory catalogue.now tx attempt.new) }
 {
     evaluate_by(attempt, catalogue, tx, cells, pass, &Unwatched)
 }
@@ -55,7 +56,8 @@ pub fn evaluate_by<'c, W: Watch>(
     ensures ended { IfOk result (λ how. EvaluatesTo catalogue.now tx (at pass.new) how attempt.new) }
     ensures open { OnOk result (pass.new.open_now ≡ true) }
     ensures stale { IfErr result (λ why. why ≡ Cut.Stale → IsStaleFrom pass.old pass.new) }
-    ensures memory { IfErr result (λ why. why ≡ Cut.Memory → (pass.new.open_now ≡ true) × LacksMemory catalogue.now tx attempt.new) }
+    ensures memory { IfErr result
+        (λ why. why ≡ Cut.Memory → (pass.new.open_now ≡ true) × LacksMemory catalogue.now tx attempt.new) }
 {
     pass.begin(cells);
     attempt.restart(catalogue, tx);

@@ -91,7 +91,8 @@ pub fn tell(attempt: &mut Attempt<'_>, x: VarId, cells: &Cells, pass: &mut Pass)
     ensures agrees { OnOk result (Agrees attempt.old.log (at pass.old) → Agrees attempt.new.log (at pass.new)) }
     ensures refused { OnErr result (attempt.new ≡ attempt.old) }
     ensures stale { IfErr result (λ why. why ≡ Cut.Stale → IsCutFrom pass.old pass.new attempt.old.log) }
-    ensures memory { IfErr result (λ why. why ≡ Cut.Memory → (pass.new.open_now ≡ true) × (8 ≤ length attempt.old.log)) }
+    ensures memory { IfErr result
+        (λ why. why ≡ Cut.Memory → (pass.new.open_now ≡ true) × (8 ≤ length attempt.old.log)) }
 {
     let value = match peek(cells, pass, x) {
         Some(value) => value,

@@ -97,8 +97,10 @@ pub(crate) fn advance_on<W: Watch>(
     ensures logged { AllKnown attempt.new.variables attempt.new.log }
     ensures apart { Apart attempt.new.log }
     ensures short { NeedsNoMemory attempt.old.program → attempt.old.stand ≢ Spent → result ≢ Next.Memory }
-    ensures needed { (x : VarId) → result ≡ Next.Need x → (x.0 < attempt.new.variables) × (known_at attempt.new.log x ≡ None) }
-    ensures frame { (m : State) → length m ≡ attempt.new.variables → Agrees attempt.new.log m → HoldsAt result attempt.new m }
+    ensures needed { (x : VarId) → result ≡ Next.Need x
+        → (x.0 < attempt.new.variables) × (known_at attempt.new.log x ≡ None) }
+    ensures frame { (m : State) → length m ≡ attempt.new.variables → Agrees attempt.new.log m
+        → HoldsAt result attempt.new m }
 {
     pass.law();
     let mut reader = PassReader {
