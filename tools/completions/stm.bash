@@ -7,13 +7,15 @@ _stm() {
     run) options="--workers --tries --checkpoint --help" ;;
     check) options="--after --help" ;;
     print) options="--from --after --help" ;;
-    explore) options="--states --to --help" ;;
+    explore) options="--states --to --deny --help" ;;
     explain) options="--schedule --after --help" ;;
     esac
     if [ "$COMP_CWORD" -eq 1 ]; then
         COMPREPLY=($(compgen -W "$commands --help --version" -- "$word"))
     elif [ "$command" = help ]; then
         COMPREPLY=($(compgen -W "$commands" -- "$word"))
+    elif [ "${COMP_WORDS[COMP_CWORD - 1]}" = --deny ]; then
+        COMPREPLY=($(compgen -W "parked threw broke overflow zerodiv" -- "$word"))
     elif [ "${word#-}" != "$word" ]; then
         COMPREPLY=($(compgen -W "$options" -- "$word"))
     else

@@ -13,7 +13,7 @@ pub enum Answer {
     /// was asked for, was printed.
     Done,
     /// A report was found not to be lawful, and the verdict was printed; or more places are reached
-    /// than were asked for, and that was printed.
+    /// than were asked for, and that was printed; or some order comes to what is denied, and it was said to what.
     Unlawful,
     /// The command line is refused, and it was said why.
     Refused,
@@ -26,8 +26,9 @@ pub enum Answer {
     Earlier(ReadFault),
 }
 
-/// The status to end with: 0 done, 1 the report that was checked is not lawful or more places are reached than were asked for, 2 a file is refused, 3 the command line is refused, 4 a file
-/// cannot be read or the output cannot be written, 5 out of memory.
+/// The status to end with: 0 done, 1 the report that was checked is not lawful, more places are reached than were asked
+/// for, or some order comes to what is denied, 2 a file is refused, 3 the command line is refused, 4 a file cannot be read
+/// or the output cannot be written, 5 out of memory.
 pub fn status(answer: Answer) -> u8
     ensures { result ≡ exit_status answer }
 {

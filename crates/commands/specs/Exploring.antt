@@ -1,9 +1,12 @@
 -- What exploring a file leaves.
-use Rattle.std.specs.Prelude.{ℕ, List, Option, Result, Ok, Err}
-use Rattle.explore_runner.specs.Showing.{Showed}
+use Rattle.std.specs.Prelude.{◌⊎◌, ℕ, List, Option, Result, Ok, Err}
+use Rattle.std.specs.declared.alloc.Global.{Global}
+use Rattle.std.specs.declared.string.String.{String}
+use Rattle.explore_options.specs.declared.denial.Denials.{Denials}
+use Rattle.explore_runner.specs.Judging.{Judges}
 use Rattle.explore_runner.specs.Witness.{Answered}
-use Rattle.explore_runner.specs.declared.sight.Sight.{Sight}
-use Rattle.explore_runner.specs.declared.sight.Sight.TheVariants as sight
+use Rattle.explore_runner.specs.declared.sight.Judged.{Judged}
+use Rattle.explore_runner.specs.declared.sight.Judged.TheVariants as judged
 use Rattle.explore_runner.specs.declared.sight.Witnessed.{Witnessed}
 use Rattle.explore_runner.specs.declared.sight.Witnessed.TheVariants.{Report, NoEnd, Beyond}
 use Rattle.commands.specs.Files.{AfterReading, file_limit}
@@ -12,24 +15,25 @@ use Rattle.command_answers.specs.declared.answer.Answer.{Answer}
 use Rattle.command_answers.specs.declared.answer.Answer.TheVariants.{Done, Unlawful, Refused, Unreadable, Failed, Earlier}
 
 -- the answers of exploring bytes
-abbrev pub seen : Sight → Result Sight RunFault
-seen s = Ok s
+abbrev pub seen : Judged → Result Judged RunFault
+seen j = Ok j
 
-abbrev pub unseen : RunFault → Result Sight RunFault
+abbrev pub unseen : RunFault → Result Judged RunFault
 unseen fault = Err fault
 
 -- by the answer: what exploring these bytes leaves that ends so
-abbrev pub ExploredBytes : ℕ → List ℕ → Option (List ℕ) → Option (List ℕ) → Answer → Type 0
-ExploredBytes limit file old new Done = Showed file limit old new (seen sight.Whole)
-ExploredBytes limit file old new Unlawful = Showed file limit old new (seen sight.More)
-ExploredBytes limit file old new Refused = ⊥
-ExploredBytes limit file old new Unreadable = ⊥
-ExploredBytes limit file old new (Failed fault) = Showed file limit old new (unseen fault)
-ExploredBytes limit file old new (Earlier kind) = ⊥
+abbrev pub ExploredBytes : ℕ → Denials → List ℕ → Option (List ℕ) → Option (List ℕ) → Answer → Type 0
+ExploredBytes limit ds file old new Done = Judges file limit ds old new (seen judged.Clear)
+-- more places are reached, or some order comes to what is denied
+ExploredBytes limit ds file old new Unlawful = Judges file limit ds old new (seen judged.More) ⊎ ((line : String Global) × Judges file limit ds old new (seen (judged.Denied line)))
+ExploredBytes limit ds file old new Refused = ⊥
+ExploredBytes limit ds file old new Unreadable = ⊥
+ExploredBytes limit ds file old new (Failed fault) = Judges file limit ds old new (unseen fault)
+ExploredBytes limit ds file old new (Earlier kind) = ⊥
 
 -- of a file of which it is known that it has these bytes, if anything is
-abbrev pub ExploredFile : Option (List ℕ) → ℕ → Option (List ℕ) → Option (List ℕ) → Answer → Type 0
-ExploredFile known limit old new a = AfterReading file_limit known (λ file. ExploredBytes limit file old new a) old new a
+abbrev pub ExploredFile : Option (List ℕ) → ℕ → Denials → Option (List ℕ) → Option (List ℕ) → Answer → Type 0
+ExploredFile known limit ds old new a = AfterReading file_limit known (λ file. ExploredBytes limit ds file old new a) old new a
 
 -- the answers of asking for a report that comes to an end
 abbrev pub answered : Witnessed → Result Witnessed RunFault

@@ -6,65 +6,85 @@ ghost use Rattle.commands.specs.Exploring.{ExploredBytes, ExploredFile, Witnesse
 
 use crate::reading::{bytes_of, opened};
 use command_answers::Answer;
-use explore_options::Limit;
-use explore_runner::{Sight, Witnessed, explore_bytes, witness_bytes};
+use explore_options::{Denials, Limit};
+use explore_runner::{Judged, Witnessed, judge_bytes, witness_bytes};
 use run_sink::Sink;
-use std::alloc::Global;
 use std::io::Read;
 use std::rt::Files;
 use txn_text::MAX_FILE;
 
-/// Sees every order of the tasks of the file at the path, and writes what is found to the sink.
-pub fn explore_file<R: Files + AllocGlobal, S: Sink>(
+/// Sees every order of the tasks of the file at the path, and writes what is found to the sink. Where some
+/// order comes to what is denied, the standard error is told.
+pub fn explore_file<R: Files + Eprint + AllocGlobal, S: Sink>(
     rt: &R,
     path: &str,
     limit: Limit,
+    denied: Denials,
     sink: &mut S,
 ) -> Answer
     requires { S.failed sink.old < 2 ^ 63 }
-    ensures explored { ExploredFile None limit (S.bytes sink.old) (S.bytes sink.new) result }
+    ensures explored { ExploredFile None limit denied (S.bytes sink.old) (S.bytes sink.new) result }
     ensures whole { result ≡ Answer.Done → S.flushed sink.new ≡ true }
     ensures more { result ≡ Answer.Unlawful → S.flushed sink.new ≡ true }
     ensures failures { S.failed sink.new ≡ S.failed sink.old + failed_calls result }
 {
     match opened(rt, path) {
-        Ok(file) => explore_input(rt.alloc(), file, limit, sink),
+        Ok(file) => explore_input(rt, file, limit, denied, sink),
         Err(answer) => answer,
     }
 }
 
-/// Sees every order of the tasks of the file that a reader has, and writes what is found to the sink.
-pub fn explore_input<I: Read + Drop, S: Sink>(
-    alloc: Global,
+/// Sees every order of the tasks of the file that a reader has, and writes what is found to the sink. Where some
+/// order comes to what is denied, the standard error is told.
+pub fn explore_input<R: Eprint + AllocGlobal, I: Read + Drop, S: Sink>(
+    rt: &R,
     input: I,
     limit: Limit,
+    denied: Denials,
     sink: &mut S,
 ) -> Answer
     requires { S.failed sink.old < 2 ^ 63 }
-    ensures explored { ExploredFile (I.remaining input) limit (S.bytes sink.old) (S.bytes sink.new) result }
+    ensures explored { ExploredFile (I.remaining input) limit denied (S.bytes sink.old) (S.bytes sink.new) result }
     ensures whole { result ≡ Answer.Done → S.flushed sink.new ≡ true }
     ensures more { result ≡ Answer.Unlawful → S.flushed sink.new ≡ true }
     ensures failures { S.failed sink.new ≡ S.failed sink.old + failed_calls result }
 {
+    let alloc = rt.alloc();
     match bytes_of(alloc, input, MAX_FILE) {
-        Ok(bytes) => explored(alloc, bytes.as_slice(), limit, sink),
+        Ok(bytes) => explored(rt, bytes.as_slice(), limit, denied, sink),
         Err(answer) => answer,
     }
 }
 
 /// The same of the file of these bytes.
-fn explored<S: Sink>(alloc: Global, bytes: &[u8], limit: Limit, sink: &mut S) -> Answer
+fn explored<R: Eprint + AllocGlobal, S: Sink>(
+    rt: &R,
+    bytes: &[u8],
+    limit: Limit,
+    denied: Denials,
+    sink: &mut S,
+) -> Answer
     requires { S.failed sink.old < 2 ^ 63 }
-    ensures explored { ExploredBytes limit bytes.now (S.bytes sink.old) (S.bytes sink.new) result }
+    ensures explored { ExploredBytes limit denied bytes.now (S.bytes sink.old) (S.bytes sink.new) result }
     ensures whole { result ≡ Answer.Done → S.flushed sink.new ≡ true }
     ensures more { result ≡ Answer.Unlawful → S.flushed sink.new ≡ true }
     ensures failures { S.failed sink.new ≡ S.failed sink.old + failed_calls result }
 {
-    match explore_bytes(alloc, bytes, limit, sink) {
-        Ok(Sight::Whole) => Answer::Done,
-        Ok(Sight::More) => Answer::Unlawful,
+    match judge_bytes(rt.alloc(), bytes, limit, denied, sink) {
+        Ok(Judged::Clear) => Answer::Done,
+        Ok(Judged::More) => Answer::Unlawful,
+        Ok(Judged::Denied(line)) => said(rt, &line),
         Err(fault) => Answer::Failed(fault),
     }
+}
+
+/// Says what is denied that some order comes to.
+fn said<R: Eprint>(rt: &R, line: &str) -> Answer
+    ensures { result ≡ Answer.Unlawful }
+{
+    // The status says it too, where the standard error does not take the words.
+    let _unheard = rt.eprintln(line);
+    Answer::Unlawful
 }
 
 /// Sees every order of the tasks of the file at the path, and writes to the sink the report of a run

@@ -81,6 +81,6 @@ fn orders_of<R: Files + Eprint + AllocGlobal, S: Sink>(
 {
     match orders.to {
         Some(end) => witness_file(rt, orders.file, orders.limit, end, sink),
-        None => explore_file(rt, orders.file, orders.limit, sink),
+        None => explore_file(rt, orders.file, orders.limit, orders.denied, sink),
     }
 }

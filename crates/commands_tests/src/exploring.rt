@@ -18,6 +18,30 @@ const TO_2: &[&[u8]] = &[b"stm", b"explore", b"a.stm", b"--to", b"2"];
 
 const TWO_STATES: &[&[u8]] = &[b"stm", b"explore", b"a.stm", b"--states", b"2"];
 
+const DENY: &[&[u8]] = &[
+    b"stm", b"explore", b"--deny", b"zerodiv", b"a.stm", b"--deny", b"parked",
+];
+
+/// Three tasks, of which two never have a turn.
+const WAIT: &[u8] =
+    b"(var x 0)(tx w (if (eq x 2) (skip) (retry)) x)(tx s (set x 1) x)(run w 2)(run s 1)";
+
+#[test]
+fn what_is_denied_is_1(rt: HostRuntime) {
+    let host = Host::new(rt.alloc(), DENY, WAIT);
+    ends(&rt, &host, 1, 1, Some("stm: denied: parked: see --to 1\n"));
+    assert!(rt;
+        host.has_printed(b"states 2\ntx w parks\ntx s returned\nends 1\n1 x 1 parked w 2\nend\n")
+    );
+}
+
+#[test]
+fn nothing_that_is_denied_is_0(rt: HostRuntime) {
+    let host = Host::new(rt.alloc(), DENY, INCREMENT);
+    ends(&rt, &host, 0, 1, Some(""));
+    assert!(rt; host.has_printed(FOUND));
+}
+
 #[test]
 fn orders_that_were_seen_are_0(rt: HostRuntime) {
     let host = Host::new(rt.alloc(), EXPLORE, INCREMENT);

@@ -9,7 +9,7 @@ use commands::exploring::{explore_input, witness_input};
 use commands::playing::play_inputs;
 use commands::printing::{print_input, print_on_inputs};
 use commands::running::run_input;
-use explore_options::Limit;
+use explore_options::{Denials, Limit};
 use print_files::Next;
 use run_options::Options;
 use run_sink::Out;
@@ -108,7 +108,7 @@ fn all_orders_are_seen(rt: HostRuntime) {
         panic!(rt; "no limit")
     };
     let mut out = Out::new(Vec::new(rt.alloc()));
-    let answer = explore_input(rt.alloc(), FILE, limit, &mut out);
+    let answer = explore_input(&rt, FILE, limit, Denials::none(), &mut out);
     expect(&rt, answer, out, FOUND);
     let mut out = Out::new(Vec::new(rt.alloc()));
     let answer = witness_input(&rt, FILE, limit, 0, &mut out);

@@ -3,7 +3,7 @@
 use crate::shown::Shown;
 use command_answers::Answer;
 use command_line::{Earlier, Explained, Printed, Request, asked};
-use explore_options::Limit;
+use explore_options::{Denial, Denials, Limit};
 use std::alloc::{AllocError, Global};
 use std::process::Abort;
 
@@ -166,6 +166,10 @@ fn mistakes_are_refused(rt: HostRuntime) {
         "stm explore a --states 16777217",
         "stm explore a --to 0",
         "stm explore a --to 16777217",
+        "stm explore a --deny",
+        "stm explore a --deny parks",
+        "stm explore a --deny parked threw",
+        "stm explore a --deny parked --to 1",
         "stm print",
         "stm print a b",
         "stm print a --from",
@@ -312,6 +316,18 @@ fn usages_are_told(rt: HostRuntime) {
             "stm print --form b",
             "error: unexpected argument '--form' found\n\n  tip: a similar argument exists: '--from'\n",
         ),
+        (
+            "stm explore a --dney parked",
+            "error: unexpected argument '--dney' found\n\n  tip: a similar argument exists: '--deny'\n",
+        ),
+        (
+            "stm explore a --deny prked",
+            "error: invalid value 'prked' for '--deny <WHAT>'\n  [possible values: parked, threw, broke, overflow, zerodiv]\n\n  tip: a similar value exists: 'parked'\n",
+        ),
+        (
+            "stm explore a --deny",
+            "error: a value is required for '--deny <WHAT>' but none was supplied\n  [possible values: parked, threw, broke, overflow, zerodiv]\n",
+        ),
     ] {
         expect_told(&rt, rt.alloc(), line, told);
     }
@@ -357,6 +373,40 @@ fn orders_are_asked_for(rt: HostRuntime) {
         alloc,
         "stm explore --to=16777216 --states=16777216 a.stm",
         (16777216, Some(16777215)),
+    );
+}
+
+/// A command line asks to see the orders of `a.stm`, where these are denied.
+fn expect_denied(rt: &impl Abort, alloc: Global, line: &str, denied: Denials) {
+    let words = words(rt, alloc, line);
+    match asked(&Shown::new(alloc), words.as_slice()) {
+        Ok(Request::Explore(request)) => assert!(rt; request.denied == denied),
+        _ => panic!(rt; "no orders are asked for"),
+    }
+}
+
+#[test]
+fn what_is_denied_is_asked_for(rt: HostRuntime) {
+    let alloc = rt.alloc();
+    let none = Denials::none();
+    expect_denied(&rt, alloc, "stm explore a.stm", none);
+    expect_denied(
+        &rt,
+        alloc,
+        "stm explore a.stm --deny parked",
+        none.with(Denial::Parked),
+    );
+    expect_denied(
+        &rt,
+        alloc,
+        "stm explore --deny threw --deny=broke a.stm --deny threw",
+        none.with(Denial::Threw).with(Denial::Broke),
+    );
+    expect_denied(
+        &rt,
+        alloc,
+        "stm explore --deny overflow --deny zerodiv a.stm",
+        none.with(Denial::Overflow).with(Denial::ZeroDiv),
     );
 }
 

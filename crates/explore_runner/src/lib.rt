@@ -2,13 +2,16 @@
 #![tactic(auto)]
 
 mod bytes;
+mod denied;
+mod judge;
 mod printer;
 mod sight;
 mod witness;
 mod words;
 
 pub use bytes::explore_bytes;
-pub use explore_options::Limit;
+pub use explore_options::{Denial, Denials, Limit};
+pub use judge::judge_bytes;
 pub use printer::print_found;
-pub use sight::{Sight, Witnessed};
+pub use sight::{Judged, Sight, Witnessed};
 pub use witness::witness_bytes;

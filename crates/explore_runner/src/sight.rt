@@ -9,6 +9,17 @@ pub enum Sight {
     More,
 }
 
+/// Whether all orders were seen, and whether they come to what is denied.
+#[derive(Debug, PartialEq, Eq, Drop)]
+pub enum Judged {
+    /// All were, and none comes to anything that is denied.
+    Clear,
+    /// All were, and some order comes to what is denied. The line says to what first, without its newline.
+    Denied(String),
+    /// More places are reached than were asked for, so nothing is said of them.
+    More,
+}
+
 /// What came of asking for a report that comes to an end.
 #[derive(Clone, Copy, Debug, PartialEq, Eq)]
 pub enum Witnessed {

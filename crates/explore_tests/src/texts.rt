@@ -1,6 +1,8 @@
 //! What is printed of all orders of small files.
 
-use explore_runner::{Limit, Sight, Witnessed, explore_bytes, witness_bytes};
+use explore_runner::{
+    Denial, Denials, Judged, Limit, Sight, Witnessed, explore_bytes, judge_bytes, witness_bytes,
+};
 use runner::{Out, RunFault};
 use std::alloc::Global;
 use std::process::Abort;
@@ -121,4 +123,114 @@ fn the_report_that_comes_to_an_end_is_printed(rt: HostRuntime) {
     );
     let (bytes, answer) = witnessed(&rt, rt.alloc(), file, 2);
     assert!(rt; answer == Ok(Witnessed::NoEnd) && bytes.is_empty());
+}
+
+/// What is said of the file where these are denied, which is its first line, and what is written.
+fn judged(
+    rt: &impl Abort,
+    alloc: Global,
+    file: &str,
+    denied: &[Denial],
+) -> (Vec<u8>, Result<Judged, RunFault>) {
+    let Some(limit) = Limit::new(100) else {
+        panic!(rt; "no limit");
+    };
+    let mut denials = Denials::none();
+    for denial in denied {
+        denials = denials.with(*denial);
+    }
+    let mut out = Out::new(Vec::new(alloc));
+    let answer = judge_bytes(alloc, file.as_bytes(), limit, denials, &mut out);
+    (out.into_inner(), answer)
+}
+
+/// Where these are denied, the line says so of the file; no line where none is said.
+fn expect_line(
+    rt: &impl Abort,
+    alloc: Global,
+    file: &str,
+    denied: &[Denial],
+    wanted: Option<&str>,
+) {
+    let (bytes, answer) = judged(rt, alloc, file, denied);
+    match (answer, wanted) {
+        (Ok(Judged::Denied(line)), Some(wanted)) => assert!(rt; line.as_str() == wanted),
+        (Ok(Judged::Clear), None) => {}
+        _ => panic!(rt; "another answer"),
+    }
+    let (text, _) = written(rt, alloc, file, 100);
+    assert!(rt; bytes.as_slice() == text.as_slice());
+}
+
+/// A transaction for each way to end, and one that may wait.
+const ALL_WAYS: &str = "(stm 2)(var x 0)(always low (lt x 2))(always pos (le 0 x))\
+    (tx z (set x (div 1 0)) x)(tx o (set x (mul 9223372036854775807 2)) x)(tx u (throw 4) x)\
+    (tx d (set x (sub x 9)) x)(tx w (if (eq x 1) (skip) (retry)) x)(tx t (set x (sub 1 x)) x)\
+    (run z 1)(run o 1)(run u 1)(run d 1)(run w 1)(run t 2)";
+
+#[test]
+fn what_is_denied_is_told(rt: HostRuntime) {
+    let alloc = rt.alloc();
+    let cases = [
+        (Denial::Parked, "stm: denied: parked: see --to 2"),
+        (Denial::Threw, "stm: denied: u threw"),
+        (Denial::Broke, "stm: denied: d broke pos"),
+        (Denial::Overflow, "stm: denied: o overflow"),
+        (Denial::ZeroDiv, "stm: denied: z zerodiv"),
+    ];
+    for (denial, line) in cases {
+        expect_line(&rt, alloc, ALL_WAYS, &[denial], Some(line));
+    }
+    expect_line(&rt, alloc, ALL_WAYS, &[], None);
+}
+
+#[test]
+fn the_first_that_is_denied_is_told(rt: HostRuntime) {
+    let alloc = rt.alloc();
+    let both = [Denial::Overflow, Denial::ZeroDiv];
+    expect_line(&rt, alloc, ALL_WAYS, &both, Some("stm: denied: o overflow"));
+    let file =
+        "(var x 0)(tx a (set x 1) x)(tx b (if (eq x 0) (set x 2) (retry)) x)(run a 1)(run b 1)";
+    let all = [
+        Denial::Threw,
+        Denial::Broke,
+        Denial::Overflow,
+        Denial::ZeroDiv,
+    ];
+    expect_line(&rt, alloc, file, &all, None);
+    let parked = [Denial::Threw, Denial::Parked];
+    expect_line(
+        &rt,
+        alloc,
+        file,
+        &parked,
+        Some("stm: denied: parked: see --to 2"),
+    );
+}
+
+#[test]
+fn more_places_than_may_be_seen_are_not_judged(rt: HostRuntime) {
+    let file = "(tx t (throw 1) 0)(run t 100)";
+    let (bytes, answer) = judged(&rt, rt.alloc(), file, &[Denial::Threw]);
+    assert!(rt; answer == Ok(Judged::More));
+    assert!(rt; bytes.as_slice() == b"more than 100 states\n".as_slice());
+}
+
+#[test]
+fn what_can_be_denied_has_a_word(rt: HostRuntime) {
+    let words = [
+        ("parked", Denial::Parked),
+        ("threw", Denial::Threw),
+        ("broke", Denial::Broke),
+        ("overflow", Denial::Overflow),
+        ("zerodiv", Denial::ZeroDiv),
+    ];
+    for (word, denial) in words {
+        assert!(rt; Denial::named(word) == Some(denial));
+        assert!(rt; Denials::none().with(denial).has(denial));
+        assert!(rt; !Denials::none().has(denial));
+    }
+    for word in ["", "park", "parks", "parked ", "Threw", "returned"] {
+        assert!(rt; Denial::named(word) == None);
+    }
 }

@@ -1,0 +1,87 @@
+-- Whether some order comes to what is denied, by what is found.
+use Rattle.std.proofs.Common.{◌≡◌, ◌≢◌, ℕ, ◌+◌, ◌-◌, ◌<◌, ◌≤◌, Bool, true, false, List, [], ◌∷◌, length, map, set, get_or, Some, refl, sym, ◌∙◌, ap, subst, ⊎_elim, arith}
+use Rattle.std.specs.Prelude.{All, slice_get}
+use Rattle.std.proofs.lemmas.List.{length-set, get_or_past}
+use Rattle.std.proofs.lemmas.List.Elements.{All-map, All-contains}
+use Rattle.std.proofs.lemmas.Option.{same_Some, slice_get-get_or}
+use Rattle.std.proofs.lemmas.Bool.{cases_lt}
+use Rattle.txn_programs.specs.declared.ast.TxId.{TxId}
+use Rattle.txn_programs.specs.Listing.{Listing, tasks}
+use Rattle.explore_options.specs.declared.denial.Denial.{Denial}
+use Rattle.explore_options.specs.declared.denial.Denial.TheVariants as denial
+use Rattle.explore_law.specs.declared.found.End.{End}
+use Rattle.explore_law.specs.declared.found.Kinds.{Kinds}
+use Rattle.explore_law.specs.declared.found.Found.{Found}
+use Rattle.explore_law.specs.Orders.{Place, first_place, turned, Leads, count_at}
+use Rattle.explore_law.specs.Explored.{Kind, Returning, Throwing, Overflowing, DividingByZero, Breaking, shows, Explored, Somewhere, end_place, end_places}
+use Rattle.explore.proofs.Counting.{length-counted}
+use Rattle.explore.proofs.Whole.{turn_known}
+use Rattle.explore_runner.specs.FoundText.{found_text, some_wait}
+use Rattle.explore_runner.specs.Judging.{IsSaid, IsJudged}
+use Rattle.explore_runner.specs.declared.sight.Judged.{Judged}
+use Rattle.explore_runner.specs.declared.sight.Judged.TheVariants.{Clear, Denied, More}
+use Rattle.explore_options.specs.declared.denial.Denials.{Denials}
+use Rattle.txn_text.specs.Spelling.{Spells}
+use Rattle.explore_runner.specs.declared.denied.Ending.{Ending}
+use Rattle.explore_runner.specs.Denying.{denial_of, IsPossible, WaitsSomewhere, TurnsSomewhere, NoneEnds, kind_of_ending, Ends}
+
+none_flagged : (bs : List Bool) (i : ℕ) → All (λ (b : Bool). b ≡ false) bs → get_or bs i false ≡ true → ⊥
+none_flagged bs i none is =
+    ⊎_elim (λ (low : i < length bs). let no : get_or bs i false ≡ false = none i false low in absurd (cc))
+    (λ (high : length bs ≤ i). let no : get_or bs i false ≡ false = get_or_past bs i false high in absurd (cc))
+    (cases_lt i (length bs))
+
+none_shown : (ks : Kinds) (d : Denial) (kind : Kind) → NoneEnds ks d → denial_of kind ≡ Some d → shows ks kind ≡ true → ⊥
+none_shown ks d Returning none is s = absurd (cc)
+none_shown ks d Throwing none is s = let no : ks.threw ≡ false = subst (NoneEnds ks) (sym (same_Some denial.Threw d is)) none in absurd (cc)
+none_shown ks d Overflowing none is s = let no : ks.overflow ≡ false = subst (NoneEnds ks) (sym (same_Some denial.Overflow d is)) none in absurd (cc)
+none_shown ks d DividingByZero none is s = let no : ks.zerodiv ≡ false = subst (NoneEnds ks) (sym (same_Some denial.ZeroDiv d is)) none in absurd (cc)
+none_shown ks d (Breaking id) none is s = none_flagged ks.broke id.0 (subst (NoneEnds ks) (sym (same_Some denial.Broke d is)) none) s
+
+-- at each place there is a count for each transaction
+counts_stay : (l : Listing) (p : Place) (turns : List TxId) (q : Place) → Leads l p turns q → length q.left ≡ length p.left
+counts_stay l p [] q h = ap (λ (r : Place). length r.left) h
+counts_stay l p (tx ∷ rest) q h = counts_stay l (turned l p tx) rest q h.1 ∙ length-set p.left tx.0 (count_at p.left tx - 1)
+
+-- where no kind that is found is one that is denied, no turn is
+pub no_turn : (l : Listing) (f : Found) (d : Denial) → Explored l f → All (λ (ks : Kinds). NoneEnds ks d) f.kinds.items → TurnsSomewhere l d → ⊥
+no_turn l f d found none w =
+    let s = w.somewhere in
+    let p = s.place in
+    let counts : length p.left ≡ length l.transactions = counts_stay l (first_place l) s.reached.turns p s.reached.leads ∙ length-counted (length l.transactions) (tasks l) in
+    let low : w.tx.0 < length f.kinds.items = omega (arith, turn_known l p w.tx s.turn, counts, found.each) in
+    let ks : Kinds = get_or f.kinds.items w.tx.0 (found_any f w.tx.0 low) in
+    let at : slice_get f.kinds.items w.tx.0 ≡ Some ks = slice_get-get_or f.kinds.items w.tx.0 (found_any f w.tx.0 low) low in
+    none_shown ks d w.kind (none w.tx.0 (found_any f w.tx.0 low) low) w.denied ((found.kinds w.tx ks w.kind at).1 s)
+  where
+    first_of : (xs : List Kinds) (i : ℕ) → i < length xs → Kinds
+    first_of [] i low = absurd (omega (arith, low))
+    first_of (x ∷ xs) i low = x
+
+    found_any : (f : Found) (i : ℕ) → i < length f.kinds.items → Kinds
+    found_any f i low = first_of f.kinds.items i low
+
+-- where no task waits at an end that is found, none does at any
+pub no_wait : (l : Listing) (f : Found) → Explored l f → All (λ (e : End). some_wait e.waiting.items ≡ false) f.ends.items → WaitsSomewhere l → ⊥
+no_wait l f found none w =
+    let all : All (λ (p : Place). some_wait p.left ≡ false) (end_places f) = All-map (λ (p : Place). some_wait p.left ≡ false) end_place f.ends.items none in
+    let no : some_wait w.place.left ≡ false = All-contains (λ (p : Place). some_wait p.left ≡ false) (end_places f) w.place all ((found.ends w.place).1 (w.reached, w.last)) in
+    absurd (cc)
+
+-- a kind that is found is that of some turn
+pub some_turn : (l : Listing) (f : Found) (d : Denial) (tx : TxId) (how : Ending) → Explored l f → Ends f.kinds.items d tx how → Somewhere l tx (kind_of_ending how)
+some_turn l f d tx how found e = (found.kinds tx e.ks (kind_of_ending how) e.at).0 e.shows
+
+pub no_turn_possible : (l : Listing) (f : Found) (d : Denial) → Explored l f → All (λ (ks : Kinds). NoneEnds ks d) f.kinds.items → d ≢ denial.Parked → IsPossible l d → ⊥
+no_turn_possible l f denial.Parked found none other w = other refl
+no_turn_possible l f denial.Threw found none other w = no_turn l f denial.Threw found none w
+no_turn_possible l f denial.Broke found none other w = no_turn l f denial.Broke found none w
+no_turn_possible l f denial.Overflow found none other w = no_turn l f denial.Overflow found none w
+no_turn_possible l f denial.ZeroDiv found none other w = no_turn l f denial.ZeroDiv found none w
+
+-- the text of what is found, and what is said of it
+pub judged_is : (l : Listing) (f : Found) (limit : ℕ) (ds : Denials) (file : List ℕ) → Spells file l → Explored l f → (judged : Judged) (text : List ℕ) → text ≡ found_text l f → IsSaid l f ds judged
+    → IsJudged file limit ds judged text
+judged_is l f limit ds file spelled found Clear text printed said = (record { file = l; spelled = spelled; found = f; explored = found; printed = printed }, said)
+judged_is l f limit ds file spelled found (Denied line) text printed said = (record { file = l; spelled = spelled; found = f; explored = found; printed = printed }, said)
+judged_is l f limit ds file spelled found More text printed said = absurd said
