@@ -47,7 +47,7 @@ pub struct Played<'a> {
     pub schedule: &'a str,
 }
 
-const VERSION: &str = "0.1.0";
+const VERSION: &str = "0.2.0";
 
 const ABOUT: &str =
     "Software transactional memory with retry and orElse: runs the transactions of a file, reports what they did, checks such reports, plays schedules on the stepped world, sees every order of a file's tasks, prints files in their one form, and tells what is wrong with a file, a report or a schedule.";
