@@ -4,3 +4,4 @@ pub mod Crew
 pub mod Few
 pub mod Ended
 pub mod Standing
+pub mod Sparing

@@ -4,19 +4,22 @@
 //! how short its journal is kept: a run picks a name, and the name has the run's catalogue and after
 //! how many entries a checkpoint is made.
 
-ghost use Rattle.std.specs.Prelude.{◌≡◌, ◌<◌, ◌≤◌, ℕ, [], ◌∷◌, length, All, IfOk, IfSome, IsTrue, None, Some};
+ghost use Rattle.std.specs.Prelude.{◌≡◌, ◌≢◌, ◌<◌, ◌≤◌, ℕ, [], ◌∷◌, length, All, IfOk, IfSome, IsTrue, None, Some};
 ghost use Rattle.std.specs.Coded.{codes};
 ghost use Rattle.std.proofs.Props.{props};
 ghost use Rattle.txn.specs.Codes.{coded_listing};
 ghost use Rattle.txn_programs.specs.declared.limits.TheConstants.{MAX_VARIABLES};
-ghost use Rattle.txn_programs.specs.Listing.{Listing, tasks};
+ghost use Rattle.txn_programs.specs.Listing.{Listing, tasks, task_tx};
 ghost use Rattle.journal.specs.Lines.{told_run};
 ghost use Rattle.txn_programs.specs.LawfulReport.{LawfulReport, BaseReached};
+ghost use Rattle.attempt.specs.Room.{TakesMemory};
+ghost use Rattle.book.specs.GivingUp.{GivesUpForMemory};
 ghost use Rattle.book.specs.Turns.{IsEndOf, IsIdle, ReportIs};
+ghost use Rattle.run_workers.specs.GivingUp.{GaveUpForMemory};
 ghost use Rattle.run_workers.specs.Journals.{IsShort, KeepsShort};
 ghost use Rattle.run_workers.specs.Standing.{IsOver, NoneReady, ArePresent};
 ghost use Rattle.run_workers.specs.declared.held.TheConstants.{HELD};
-ghost use Rattle.run_workers.specs.declared.shared.Tried.TheVariants.{Over};
+ghost use Rattle.run_workers.specs.declared.shared.Tried.TheVariants.{Over, Memory as ShortOfMemory};
 
 use crate::held::HELD;
 use crate::waiting::lock;
@@ -45,7 +48,8 @@ impl Naming for Brand {
     ghost every = { 0 };
 }
 
-/// A book of the run's catalogue, with a journal as short as the run keeps it.
+/// A book of the run's catalogue, with a journal as short as the run keeps it. It has given no task up whose
+/// transaction takes no memory.
 #[derive(Drop)]
 pub(crate) struct Named<'a, N: Naming> {
     book: Book<'a>,
@@ -54,6 +58,7 @@ pub(crate) struct Named<'a, N: Naming> {
     of: PhantomData<N>,
     ghost of_catalogue: { book.catalogue ≡ N.catalogue } by { Prim.hlevel (codes, coded_listing) },
     ghost short: { IsShort N.every book.base.number (length book.journal) },
+    ghost given_up: { GivesUpForMemory book },
     ghost exist: { All (λ t. t.0 < length (tasks N.catalogue)) held.items } by { Prim.hlevel props },
     ghost room: { length held.items < HELD },
 }
@@ -114,14 +119,15 @@ fn next_at_once<N: Naming>(named: &mut Named<'_, N>, at_once: bool) -> Option<Ta
     if at_once { next(named) } else { None }
 }
 
-/// Gives a task up. The next one, where it is to be taken at once.
+/// Gives a task up whose transaction takes memory. The next one, where it is to be taken at once.
 pub(crate) fn give_up<R: Wait, N: Naming>(
     rt: &R,
     shared: &Mutex<Named<'_, N>>,
     task: TaskId,
     at_once: bool,
 ) -> Option<TaskId>
-    requires { task.0 < length (tasks N.catalogue) }
+    requires exists { task.0 < length (tasks N.catalogue) }
+    requires memory { TakesMemory N.catalogue (task_tx N.catalogue task) }
     ensures { IfSome result (λ t. t.0 < length (tasks N.catalogue)) }
 {
     let mut named = lock(rt, shared);
@@ -129,9 +135,10 @@ pub(crate) fn give_up<R: Wait, N: Naming>(
     next_at_once(&mut named, at_once)
 }
 
-/// A task is given up, so that it is over.
+/// A task is given up, so that it is over. Its transaction has to be one that takes memory.
 pub(crate) fn drop_task<N: Naming>(named: &mut Named<'_, N>, task: TaskId)
-    requires { task.0 < length (tasks N.catalogue) }
+    requires exists { task.0 < length (tasks N.catalogue) }
+    requires memory { TakesMemory N.catalogue (task_tx N.catalogue task) }
     ensures { IsOver named.new.book task }
 {
     let book = &mut named.book;
@@ -153,6 +160,7 @@ pub(crate) fn finish<R: Wait, N: Naming>(
     requires exists { task.0 < length (tasks N.catalogue) }
     requires ended { IsEndOf N.catalogue task attempt.old }
     ensures next { (t : TaskId) → result ≡ Over (Some t) → t.0 < length (tasks N.catalogue) }
+    ensures memory { result ≢ ShortOfMemory }
 {
     let mut named = lock(rt, shared);
     if end(&mut named, every, task, attempt) {
@@ -254,6 +262,7 @@ pub(crate) fn settle<N: Naming>(
     ensures lawful { IfOk result (λ r. LawfulReport N.catalogue (told_run r)) }
     ensures reached { IfOk result (λ r. BaseReached N.catalogue (told_run r)) }
     ensures short { IfOk result (λ r. KeepsShort N.every (told_run r)) }
+    ensures memory { IfOk result (λ r. GaveUpForMemory N.catalogue (told_run r)) }
 {
     let Named {
         mut book,

@@ -5,6 +5,7 @@ ghost use Rattle.txn_programs.specs.Told.{told, base_of, now_of};
 ghost use Rattle.txn_programs.specs.LawfulReport.{LawfulReport, BaseReached};
 ghost use Rattle.txn_programs.specs.Standing.{Upholds};
 ghost use Rattle.journal.specs.Lines.{told_run};
+ghost use Rattle.run_workers.specs.GivingUp.{GaveUpForMemory, RunsInPlace};
 ghost use Rattle.run_workers.specs.Journals.{KeepsShort};
 
 use crate::gate::Gate;
@@ -30,6 +31,10 @@ use txn::{Catalogue, Memory, Report};
 /// goes by what tasks weigh (`Weights::LEAST_TIME`), and one worker tries none. Each standing
 /// condition is true of the values that it reports. With a checkpoint after each N entries the journal
 /// has fewer than N, and the base is a multiple of N; with none the base is 0.
+///
+/// A task is given up only for want of memory, and only where its transaction takes some: where it has an
+/// `orelse`, or there are more than eight variables. So a catalogue with no `orelse` and at most eight variables
+/// has none given up, however much memory is refused.
 pub fn run_tasks<R: Threads + Wait + Sync, G: Gate>(
     rt: &R,
     alloc: Global,
@@ -39,8 +44,11 @@ pub fn run_tasks<R: Threads + Wait + Sync, G: Gate>(
 ) -> Result<Report, Memory>
     ensures lawful { IfOk result (λ r. LawfulReport catalogue.now (told r)) }
     ensures reached { IfOk result (λ r. BaseReached catalogue.now (told r)) }
-    ensures upheld { IfOk result (λ r. Upholds catalogue.now (base_of (told r)).state × Upholds catalogue.now (now_of (told r)).state) }
+    ensures upheld { IfOk result
+        (λ r. Upholds catalogue.now (base_of (told r)).state × Upholds catalogue.now (now_of (told r)).state) }
     ensures short { IfOk result (λ r. KeepsShort options.checkpoint (told r)) }
+    ensures memory { IfOk result (λ r. GaveUpForMemory catalogue.now (told r)) }
+    ensures kept { RunsInPlace catalogue.now → IfOk result (λ r. (told r).memory ≡ []) }
 {
     run_in_lines(rt, alloc, catalogue, options, gate)?.report(alloc)
 }
@@ -56,8 +64,12 @@ pub fn run_in_lines<R: Threads + Wait + Sync, G: Gate>(
 ) -> Result<RunReport, Memory>
     ensures lawful { IfOk result (λ r. LawfulReport catalogue.now (told_run r)) }
     ensures reached { IfOk result (λ r. BaseReached catalogue.now (told_run r)) }
-    ensures upheld { IfOk result (λ r. Upholds catalogue.now (base_of (told_run r)).state × Upholds catalogue.now (now_of (told_run r)).state) }
+    ensures upheld { IfOk result
+        (λ r. Upholds catalogue.now (base_of (told_run r)).state
+        × Upholds catalogue.now (now_of (told_run r)).state) }
     ensures short { IfOk result (λ r. KeepsShort options.checkpoint (told_run r)) }
+    ensures memory { IfOk result (λ r. GaveUpForMemory catalogue.now (told_run r)) }
+    ensures kept { RunsInPlace catalogue.now → IfOk result (λ r. (told_run r).memory ≡ []) }
 {
     let weights = weights_under::<G>(options);
     run_weighed(rt, alloc, catalogue, options, weights, gate)
@@ -90,8 +102,12 @@ pub fn run_weighed<R: Threads + Wait + Sync, G: Gate>(
 ) -> Result<RunReport, Memory>
     ensures lawful { IfOk result (λ r. LawfulReport catalogue.now (told_run r)) }
     ensures reached { IfOk result (λ r. BaseReached catalogue.now (told_run r)) }
-    ensures upheld { IfOk result (λ r. Upholds catalogue.now (base_of (told_run r)).state × Upholds catalogue.now (now_of (told_run r)).state) }
+    ensures upheld { IfOk result
+        (λ r. Upholds catalogue.now (base_of (told_run r)).state
+        × Upholds catalogue.now (now_of (told_run r)).state) }
     ensures short { IfOk result (λ r. KeepsShort options.checkpoint (told_run r)) }
+    ensures memory { IfOk result (λ r. GaveUpForMemory catalogue.now (told_run r)) }
+    ensures kept { RunsInPlace catalogue.now → IfOk result (λ r. (told_run r).memory ≡ []) }
 {
     let sizes = sizes_of(alloc, catalogue, weights)?;
     if are_short(&sizes, catalogue.runs()) {
@@ -123,6 +139,7 @@ fn drain_named<'b, N: Naming>(
     ensures lawful { IfOk result (λ r. LawfulReport catalogue.now (told_run r)) }
     ensures reached { IfOk result (λ r. BaseReached catalogue.now (told_run r)) }
     ensures short { IfOk result (λ r. KeepsShort options.checkpoint (told_run r)) }
+    ensures memory { IfOk result (λ r. GaveUpForMemory catalogue.now (told_run r)) }
 {
     let named = open::<N>(alloc, catalogue, cells, publisher)?;
     settle(alloc, options.checkpoint(), named)
@@ -149,6 +166,7 @@ fn run_named<'b, R: Threads + Wait + Sync, G: Gate, N: Naming>(
     ensures lawful { IfOk result (λ r. LawfulReport catalogue.now (told_run r)) }
     ensures reached { IfOk result (λ r. BaseReached catalogue.now (told_run r)) }
     ensures short { IfOk result (λ r. KeepsShort options.checkpoint (told_run r)) }
+    ensures memory { IfOk result (λ r. GaveUpForMemory catalogue.now (told_run r)) }
 {
     let shared = Mutex::new(open::<N>(alloc, catalogue, cells, publisher)?);
     run_beside(

@@ -6,8 +6,9 @@
 
 ghost use Rattle.std.specs.Prelude.{◌≡◌, ◌≢◌, ◌<◌, length, true, All, IsTrue};
 ghost use Rattle.std.specs.Coded.{codes};
-ghost use Rattle.txn_programs.specs.Listing.{tasks, task_program};
+ghost use Rattle.txn_programs.specs.Listing.{tasks, task_tx, task_program};
 ghost use Rattle.attempt.specs.CodedProgram.{coded_program};
+ghost use Rattle.attempt.specs.Room.{TakesMemory};
 ghost use Rattle.run_workers.specs.Over.{is_over};
 ghost use Rattle.run_workers.specs.Standing.{ArePresent};
 ghost use Rattle.run_workers.specs.declared.trials.How.{How};
@@ -31,7 +32,7 @@ pub(crate) enum How {
     Begun,
     /// Its attempt is an end of its task.
     Ended,
-    /// A growth was refused.
+    /// A growth was refused: its task's transaction takes memory.
     Memory,
 }
 
@@ -48,6 +49,7 @@ pub(crate) struct Trial<'b, N: Naming> {
     ghost own: { how ≡ How.Ended → attempt.program ≡ task_program N.catalogue task } by { Prim.hlevel (codes, coded_program) },
     ghost known: { how ≡ How.Ended → attempt.variables ≡ length N.catalogue.initial },
     ghost over: { how ≡ How.Ended → is_over attempt.stand ≡ true },
+    ghost short: { how ≡ How.Memory → TakesMemory N.catalogue (task_tx N.catalogue task) },
 }
 
 impl<'b, N: Naming> Trial<'b, N> {

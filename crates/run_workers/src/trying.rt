@@ -49,7 +49,8 @@ pub(crate) fn attempt_on<'c, G: Gate>(
     ensures observes { ObservesBy pass.old pass.new }
     ensures ended { IfOk result (λ how. EvaluatesTo catalogue.now tx (at pass.new) how attempt.new) }
     ensures stale { IfErr result (λ why. why ≡ Cut.Stale → IsStaleFrom pass.old pass.new) }
-    ensures memory { IfErr result (λ why. why ≡ Cut.Memory → (pass.new.open_now ≡ true) × LacksMemory catalogue.now tx attempt.new) }
+    ensures memory { IfErr result
+        (λ why. why ≡ Cut.Memory → (pass.new.open_now ≡ true) × LacksMemory catalogue.now tx attempt.new) }
 {
     let watch = AtNeeds { gate, task };
     let ended = evaluate_by(attempt, catalogue, tx, cells, pass, &watch);

@@ -9,8 +9,9 @@ ghost use Rattle.std.specs.Prelude.{◌≡◌, ◌<◌, [], length, false, All, 
 ghost use Rattle.std.specs.List.{list_any};
 ghost use Rattle.std.specs.Coded.{codes};
 ghost use Rattle.txn.specs.Codes.{coded_listing};
-ghost use Rattle.txn_programs.specs.Listing.{tasks};
-ghost use Rattle.run_workers.specs.declared.shared.Tried.TheVariants.{Over};
+ghost use Rattle.txn_programs.specs.Listing.{tasks, task_tx};
+ghost use Rattle.attempt.specs.Room.{TakesMemory};
+ghost use Rattle.run_workers.specs.declared.shared.Tried.TheVariants.{Over, Memory};
 ghost use Rattle.run_workers.specs.declared.trials.How.{How};
 ghost use Rattle.run_workers.specs.Weighing.{is_light};
 
@@ -244,7 +245,7 @@ fn try_often<'b, R: Wait, G: Gate, N: Naming>(
     serial(rt, crew.shared, crew.every, attempt, task, G::IS_OPEN)
 }
 
-/// One try: the attempt outside the lock, and its end.
+/// One try: the attempt outside the lock, and its end. `Memory` only of a task whose transaction takes some.
 fn try_task<'b, R: Wait, G: Gate, N: Naming>(
     rt: &R,
     crew: &Crew<'_, 'b, G, N>,
@@ -256,6 +257,7 @@ fn try_task<'b, R: Wait, G: Gate, N: Naming>(
     requires own { pass.old.cells ≡ crew.now.cells.now }
     ensures own { pass.new.cells ≡ pass.old.cells }
     ensures next { (t : TaskId) → result ≡ Over (Some t) → t.0 < length (tasks N.catalogue) }
+    ensures memory { result ≡ Memory → TakesMemory N.catalogue (task_tx N.catalogue task) }
 {
     let catalogue = crew.catalogue;
     let tx = catalogue.task_tx(task);

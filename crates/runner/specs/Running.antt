@@ -1,5 +1,5 @@
 -- What a run of the bytes of a file leaves.
-use Rattle.std.specs.Prelude.{◌≡◌, ℕ, List, take, Option, Some, Result, Ok, Err}
+use Rattle.std.specs.Prelude.{◌≡◌, ℕ, List, [], take, Option, Some, Result, Ok, Err}
 use Rattle.std.specs.Io.KnownBytes.{Appends, Keeps}
 use Rattle.txn_programs.specs.Listing.{Listing}
 use Rattle.txn_programs.specs.Told.{Told}
@@ -7,6 +7,7 @@ use Rattle.txn_programs.specs.LawfulReport.{LawfulReport, BaseReached}
 use Rattle.txn_text.specs.Spelling.{Spells, first_fault}
 use Rattle.txn_text.specs.ReportText.{report_text}
 use Rattle.txn_text.specs.ReportFits.{ReportFits}
+use Rattle.run_workers.specs.GivingUp.{GaveUpForMemory, RunsInPlace}
 use Rattle.run_workers.specs.Journals.{KeepsShort}
 use Rattle.run_faults.specs.declared.fault.RunFault.{RunFault}
 use Rattle.run_faults.specs.declared.fault.RunFault.TheVariants.{Input, Memory, Output, Schedule}
@@ -21,10 +22,13 @@ pub record IsReportOf (input text : List ℕ) : Type 0 where
   pub values : ReportFits report
   pub printed : text ≡ report_text file report
 
--- and the journal of the report is as short as a run keeps it whose base moves after each `every` entries, 0 for never
+-- And the journal of the report is as short as a run keeps it whose base moves after each `every` entries, 0 for never; and
+-- each task that it tells as given up is of a transaction that takes memory, so there is none where none does.
 pub record IsReportBy (every : ℕ) (input text : List ℕ) : Type 0 where
   pub of : IsReportOf input text
   pub short : KeepsShort every of.report
+  pub memory : GaveUpForMemory of.file of.report
+  pub kept : RunsInPlace of.file → of.report.memory ≡ []
 
 -- such a text was written
 pub record WroteReport (every : ℕ) (input : List ℕ) (old new : Option (List ℕ)) : Type 0 where

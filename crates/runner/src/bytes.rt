@@ -54,7 +54,8 @@ fn run_on<R: Threads + Wait + Sync, G: Gate, S: Sink>(
     sink: &mut S,
 ) -> Result<(), RunFault>
     requires { S.failed sink.old < 2 ^ 63 }
-    ensures ran { (file : List ℕ) → Spells file catalogue.now → Ran options.checkpoint file (S.bytes sink.old) (S.bytes sink.new) result }
+    ensures ran { (file : List ℕ) → Spells file catalogue.now
+        → Ran options.checkpoint file (S.bytes sink.old) (S.bytes sink.new) result }
     ensures flushed { OnOk result (S.flushed sink.new ≡ true) }
     ensures failures { S.failed sink.new ≡ S.failed sink.old + output_failures result }
 {

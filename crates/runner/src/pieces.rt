@@ -40,7 +40,8 @@ const ROOM: usize = LONGEST + 2 * HALF;
 /// Lets the text go out where not half of its room is left.
 fn make_room<S: Sink>(sink: &mut S, text: &mut String) -> Result<(), SinkFault>
     requires failed { S.failed sink.old < 2 ^ 63 }
-    ensures gathers { OnOk result (Gathers (S.bytes sink.old) (string_bytes text.old) (S.bytes sink.new) (string_bytes text.new) []) }
+    ensures gathers { OnOk result
+        (Gathers (S.bytes sink.old) (string_bytes text.old) (S.bytes sink.new) (string_bytes text.new) []) }
     ensures none_failed { OnOk result (S.failed sink.new ≡ S.failed sink.old) }
     ensures breaks { OnErr result (Breaks (S.bytes sink.old) (string_bytes text.old) (S.bytes sink.new) []) }
     ensures one_failed { OnErr result (S.failed sink.new ≡ S.failed sink.old + 1) }
@@ -68,9 +69,13 @@ fn put_values<S: Sink>(
     requires short { length word.now ≤ 32 }
     requires few { length vars.now ≤ MAX_VARIABLES }
     requires named { length vars.now ≡ length catalogue.now.names }
-    ensures gathers { OnOk result (Gathers (S.bytes sink.old) (string_bytes text.old) (S.bytes sink.new) (string_bytes text.new) (line (word.now ∷ decimal number ∷ []) ++ variable_lines catalogue.now.names vars.now)) }
+    ensures gathers { OnOk result
+        (Gathers (S.bytes sink.old) (string_bytes text.old) (S.bytes sink.new) (string_bytes text.new)
+        (line (word.now ∷ decimal number ∷ []) ++ variable_lines catalogue.now.names vars.now)) }
     ensures none_failed { OnOk result (S.failed sink.new ≡ S.failed sink.old) }
-    ensures breaks { OnErr result (Breaks (S.bytes sink.old) (string_bytes text.old) (S.bytes sink.new) (line (word.now ∷ decimal number ∷ []) ++ variable_lines catalogue.now.names vars.now)) }
+    ensures breaks { OnErr result
+        (Breaks (S.bytes sink.old) (string_bytes text.old) (S.bytes sink.new)
+        (line (word.now ∷ decimal number ∷ []) ++ variable_lines catalogue.now.names vars.now)) }
     ensures one_failed { OnErr result (S.failed sink.new ≡ S.failed sink.old + 1) }
     ensures capacity { string_capacity text.old ≤ string_capacity text.new }
 {
@@ -87,7 +92,8 @@ fn put_values<S: Sink>(
 /// Puts a line for each of so few lines that the text has room for them.
 fn put_lines(text: &mut String, catalogue: &Catalogue, lines: &[Line]) -> Result<(), AllocError>
     requires { All (λ e. e.tx.0 < length catalogue.now.transactions) lines.now }
-    ensures text { OnOk result (string_bytes text.new ≡ string_bytes text.old ++ flat_map (entry_line catalogue.now) lines.now) }
+    ensures text { OnOk result
+        (string_bytes text.new ≡ string_bytes text.old ++ flat_map (entry_line catalogue.now) lines.now) }
     ensures room { string_len text.old + LONGEST * length lines.now ≤ string_capacity text.old → IsOk result }
     ensures capacity { string_capacity text.old ≤ string_capacity text.new }
 {
@@ -107,9 +113,13 @@ fn put_journal<S: Sink>(
     requires failed { S.failed sink.old < 2 ^ 63 }
     requires room { 65664 ≤ string_capacity text.old }
     requires known { All (λ e. e.tx.0 < length catalogue.now.transactions) lines.now }
-    ensures gathers { OnOk result (Gathers (S.bytes sink.old) (string_bytes text.old) (S.bytes sink.new) (string_bytes text.new) (flat_map (entry_line catalogue.now) lines.now)) }
+    ensures gathers { OnOk result
+        (Gathers (S.bytes sink.old) (string_bytes text.old) (S.bytes sink.new) (string_bytes text.new)
+        (flat_map (entry_line catalogue.now) lines.now)) }
     ensures none_failed { OnOk result (S.failed sink.new ≡ S.failed sink.old) }
-    ensures breaks { OnErr result (Breaks (S.bytes sink.old) (string_bytes text.old) (S.bytes sink.new) (flat_map (entry_line catalogue.now) lines.now)) }
+    ensures breaks { OnErr result
+        (Breaks (S.bytes sink.old) (string_bytes text.old) (S.bytes sink.new)
+        (flat_map (entry_line catalogue.now) lines.now)) }
     ensures one_failed { OnErr result (S.failed sink.new ≡ S.failed sink.old + 1) }
     ensures capacity { string_capacity text.old ≤ string_capacity text.new }
 {
@@ -137,9 +147,13 @@ fn put_all_tasks<S: Sink>(
     requires room { 65664 ≤ string_capacity text.old }
     requires short { length kind.now ≤ 32 }
     requires known { All (λ p. p.1.0 < length catalogue.now.transactions) tasks.now }
-    ensures gathers { OnOk result (Gathers (S.bytes sink.old) (string_bytes text.old) (S.bytes sink.new) (string_bytes text.new) (flat_map (task_line catalogue.now kind.now) tasks.now)) }
+    ensures gathers { OnOk result
+        (Gathers (S.bytes sink.old) (string_bytes text.old) (S.bytes sink.new) (string_bytes text.new)
+        (flat_map (task_line catalogue.now kind.now) tasks.now)) }
     ensures none_failed { OnOk result (S.failed sink.new ≡ S.failed sink.old) }
-    ensures breaks { OnErr result (Breaks (S.bytes sink.old) (string_bytes text.old) (S.bytes sink.new) (flat_map (task_line catalogue.now kind.now) tasks.now)) }
+    ensures breaks { OnErr result
+        (Breaks (S.bytes sink.old) (string_bytes text.old) (S.bytes sink.new)
+        (flat_map (task_line catalogue.now kind.now) tasks.now)) }
     ensures one_failed { OnErr result (S.failed sink.new ≡ S.failed sink.old + 1) }
     ensures capacity { string_capacity text.old ≤ string_capacity text.new }
 {
@@ -159,10 +173,12 @@ fn put_all_tasks<S: Sink>(
 fn put_end<S: Sink>(sink: &mut S, text: &mut String) -> Result<(), SinkFault>
     requires failed { S.failed sink.old < 2 ^ 63 }
     requires room { 65664 ≤ string_capacity text.old }
-    ensures gathers { OnOk result (Gathers (S.bytes sink.old) (string_bytes text.old) (S.bytes sink.new) [] (line (codes "end" ∷ []))) }
+    ensures gathers { OnOk result
+        (Gathers (S.bytes sink.old) (string_bytes text.old) (S.bytes sink.new) [] (line (codes "end" ∷ []))) }
     ensures flushed { OnOk result (S.flushed sink.new ≡ true) }
     ensures none_failed { OnOk result (S.failed sink.new ≡ S.failed sink.old) }
-    ensures breaks { OnErr result (Breaks (S.bytes sink.old) (string_bytes text.old) (S.bytes sink.new) (line (codes "end" ∷ []))) }
+    ensures breaks { OnErr result
+        (Breaks (S.bytes sink.old) (string_bytes text.old) (S.bytes sink.new) (line (codes "end" ∷ []))) }
     ensures one_failed { OnErr result (S.failed sink.new ≡ S.failed sink.old + 1) }
 {
     make_room(sink, text)?;
@@ -182,10 +198,14 @@ fn put_report<S: Sink>(
     requires failed { S.failed sink.old < 2 ^ 63 }
     requires room { 65664 ≤ string_capacity text.old }
     requires fits { FitsCatalogue catalogue.now (told_run report.now) }
-    ensures gathers { OnOk result (Gathers (S.bytes sink.old) (string_bytes text.old) (S.bytes sink.new) [] (report_text catalogue.now (told_run report.entry.now))) }
+    ensures gathers { OnOk result
+        (Gathers (S.bytes sink.old) (string_bytes text.old) (S.bytes sink.new) []
+        (report_text catalogue.now (told_run report.entry.now))) }
     ensures flushed { OnOk result (S.flushed sink.new ≡ true) }
     ensures none_failed { OnOk result (S.failed sink.new ≡ S.failed sink.old) }
-    ensures breaks { OnErr result (Breaks (S.bytes sink.old) (string_bytes text.old) (S.bytes sink.new) (report_text catalogue.now (told_run report.entry.now))) }
+    ensures breaks { OnErr result
+        (Breaks (S.bytes sink.old) (string_bytes text.old) (S.bytes sink.new)
+        (report_text catalogue.now (told_run report.entry.now))) }
     ensures one_failed { OnErr result (S.failed sink.new ≡ S.failed sink.old + 1) }
 {
     catalogue.rules();
@@ -208,7 +228,8 @@ pub(crate) fn write_report<S: Sink>(
 ) -> Result<(), RunFault>
     requires failed { S.failed sink.old < 2 ^ 63 }
     requires fits { FitsCatalogue catalogue.now (told_run report.now) }
-    ensures wrote { Wrote (report_text catalogue.now (told_run report.entry.now)) (S.bytes sink.old) (S.bytes sink.new) result }
+    ensures wrote { Wrote (report_text catalogue.now (told_run report.entry.now)) (S.bytes sink.old)
+        (S.bytes sink.new) result }
     ensures flushed { OnOk result (S.flushed sink.new ≡ true) }
     ensures failures { S.failed sink.new ≡ S.failed sink.old + output_failures result }
 {

@@ -83,7 +83,8 @@ pub extern "C" fn stm_explore_to(
         (λ text. IsWitness file.now (end - 1) text ⊎ IsMoreText file.now states text) room.old room.new wanted.new }
     ensures states { result ≡ STATES ↔ ¬ (IsAllowed states) }
     ensures refused { IsFileFault result → IsRefused file.now result }
-    ensures answers { (result ≡ pos 0) ⊎ (result ≡ pos 9) ⊎ (result ≡ pos 10) ⊎ (result ≡ SHORT) ⊎ (result ≡ STATES) ⊎ IsFileFault result }
+    ensures answers { (result ≡ pos 0) ⊎ (result ≡ pos 9) ⊎ (result ≡ pos 10) ⊎ (result ≡ SHORT) ⊎ (result ≡ STATES)
+        ⊎ IsFileFault result }
     ensures none { result ≢ pos 0 → result ≢ pos 9 → result ≢ SHORT → wanted.new ≡ 0 }
     ensures kept { result ≢ pos 0 → result ≢ pos 9 → room.new ≡ room.old }
 {

@@ -70,7 +70,9 @@ pub extern "C" fn stm_value(
 
 fn tell_value(store: &Store, name: &[u8], value: &mut i64, version: &mut u64) -> i32
     ensures done { result ≡ pos 0 → ValueIs store.now.book name.now value.new version.new }
-    ensures unknown { result ≢ pos 0 → (result ≡ UNKNOWN) × NoValue store.now.book name.now × (value.new ≡ value.old) × (version.new ≡ version.old) }
+    ensures unknown { result ≢ pos 0
+        → (result ≡ UNKNOWN) × NoValue store.now.book name.now × (value.new ≡ value.old)
+        × (version.new ≡ version.old) }
 {
     let Ok(name) = str::from_utf8(name) else {
         return UNKNOWN;

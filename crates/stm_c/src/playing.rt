@@ -25,7 +25,8 @@ pub extern "C" fn stm_world(
 ) -> i32
     ensures done { result ≡ pos 0 → Holds (IsShowing file.now schedule.now) room.old room.new wanted.new }
     ensures short { result ≡ SHORT → TooShort (IsShowing file.now schedule.now) room.old room.new wanted.new }
-    ensures refused { result ≢ pos 0 → result ≢ SHORT → IsRefused file.now result ⊎ IsNotPlayed file.now schedule.now result }
+    ensures refused { result ≢ pos 0 → result ≢ SHORT
+        → IsRefused file.now result ⊎ IsNotPlayed file.now schedule.now result }
     ensures none { result ≢ pos 0 → result ≢ SHORT → wanted.new ≡ 0 }
     ensures kept { result ≢ pos 0 → room.new ≡ room.old }
 {

@@ -6,6 +6,7 @@ ghost use Rattle.txn_programs.specs.LawfulReport.{LawfulReport, BaseReached};
 ghost use Rattle.text_grammar.specs.Spelling.{Spells, first_fault};
 ghost use Rattle.text_words.specs.declared.fault.ReadFault.TheVariants as ReadFault;
 ghost use Rattle.book.specs.Turns.{IsIdle, ReportIs};
+ghost use Rattle.run_workers.specs.GivingUp.{GaveUpForMemory};
 ghost use Rattle.run_workers.specs.Journals.{KeepsShort};
 ghost use Rattle.runner.specs.Running.{IsReportBy};
 ghost use Rattle.stm_c.specs.Rooms.{Holds, TooShort};
@@ -80,6 +81,7 @@ fn run_alone(alloc: Global, catalogue: &Catalogue, checkpoint: u32) -> Result<Re
     ensures lawful { IfOk result (λ r. LawfulReport catalogue.now (told r)) }
     ensures reached { IfOk result (λ r. BaseReached catalogue.now (told r)) }
     ensures short { IfOk result (λ r. KeepsShort checkpoint (told r)) }
+    ensures memory { IfOk result (λ r. GaveUpForMemory catalogue.now (told r)) }
 {
     let (cells, publisher) = Cells::unread(alloc, catalogue.initial())?;
     let mut book = Book::open(alloc, catalogue, &cells, publisher)?;

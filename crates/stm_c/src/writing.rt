@@ -25,7 +25,8 @@ pub(crate) fn copy(text: &[u8], room: &mut [u8], wanted: &mut usize) -> i32
 /// As `copy`, but for the answer where the text was copied, which is this one.
 pub(crate) fn copied_as(done: i32, text: &[u8], room: &mut [u8], wanted: &mut usize) -> i32
     ensures wanted { wanted.new ≡ length text.now }
-    ensures fits { length text.now ≤ length room.old → (result ≡ done) × (room.new ≡ text.now ++ drop (length text.now) room.old) }
+    ensures fits { length text.now ≤ length room.old
+        → (result ≡ done) × (room.new ≡ text.now ++ drop (length text.now) room.old) }
     ensures short { length room.old < length text.now → (result ≡ SHORT) × (room.new ≡ room.old) }
     ensures why { result ≢ done → (result ≡ SHORT) × (length room.old < length text.now) × (room.new ≡ room.old) }
 {

@@ -1,5 +1,6 @@
 use Rattle.std.proofs.Common.{◌∙◌}
 use Rattle.run_workers.proofs.Journals.{serial_short}
+use Rattle.run_workers.proofs.Sparing.{turned_gives}
 use Rattle.run_workers.proofs.Standing.{kept_over, served_over}
 use Rattle.run_workers.proofs.shared.turn.Goals as goal
 
@@ -9,6 +10,7 @@ invariant_of-named g c =
     record {
       of_catalogue = c.keep_short.ensures.catalogue ∙ (c.serial_lent-how.ensures.catalogue ∙ named.of_catalogue);
       short = serial_short c.args.every g.N.Naming.every c.requires.every named.book c.law.ensures.lawful named.short _ _ c.args.task c.serial_lent-how.result c.serial_lent-how.ensures.served c.keep_short.ensures.kept_short;
+      given_up = turned_gives c.args.every named.book c.args.task c.serial_lent-how.result _ _ c.serial_lent-how.ensures.served c.serial_lent-how.ensures.memory c.keep_short.ensures.kept_short named.given_up;
       exist = named.exist;
       room = named.room;
     }

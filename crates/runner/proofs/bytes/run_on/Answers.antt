@@ -1,6 +1,7 @@
 use Rattle.std.proofs.Common.{refl}
 use Rattle.journal.specs.Lines.{told_run}
 use Rattle.text_report_printer.specs.ReportText.{report_text}
+use Rattle.run_workers.proofs.Sparing.{none_told}
 use Rattle.runner.proofs.Answering.{ran_of}
 use Rattle.runner.proofs.bytes.run_on.Goals as goal
 
@@ -18,4 +19,6 @@ returns-clause-ran g c file spelled =
         printed = refl;
       };
       short = c.in-Ok.ensures.short;
+      memory = c.in-Ok.ensures.memory;
+      kept = λ place. none_told c.args.catalogue.now (told_run c.in-Ok.report) place c.in-Ok.ensures.memory;
     }) c.write_report.ensures.wrote

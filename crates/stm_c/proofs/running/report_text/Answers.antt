@@ -1,4 +1,5 @@
 use Rattle.txn_programs.specs.Told.{told}
+use Rattle.run_workers.proofs.Sparing.{none_told}
 use Rattle.stm_c.proofs.running.report_text.Goals as goal
 
 pub returns-in-Ok-print_report-clause-report : goal.returns-in-Ok-print_report-clause-report
@@ -13,4 +14,6 @@ returns-in-Ok-print_report-clause-report c = record {
     printed = c.in-Ok-print_report.ensures.text;
   };
   short = c.in-Ok.ensures.short;
+  memory = c.in-Ok.ensures.memory;
+  kept = λ place. none_told c.args.catalogue.now (told c.in-Ok.report) place c.in-Ok.ensures.memory;
 }

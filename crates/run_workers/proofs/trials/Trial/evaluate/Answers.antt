@@ -11,4 +11,5 @@ invariant_of-self g c =
       own = λ _. e.program ∙ (ap (λ a. a.program) c.restart.ensures ∙ (ap (program_at l) c.task_tx.ensures.value ∙ ap (λ l. task_program l t) c.requires.named));
       known = λ _. e.variables ∙ (ap (λ a. a.variables) c.restart.ensures ∙ ap (λ l. length l.initial) c.requires.named);
       over = λ _. ap is_over e.ended;
+      short = λ e. absurd (cc);
     }
