@@ -1,4 +1,5 @@
-"""Input that is cut, oversized and tampered with: each ends as it has to, or, tampered with at random, with some answer.
+"""Tries input that is cut, oversized and tampered with: each ends as it has to, or, tampered with at random, with some
+answer.
 
 What is read runs with status 0, and its report is good; what is not ends with status 2, nothing on standard output
 and the line with the kind of its first fault. A text that is no report of a file is `bad 1`. What `explain` says of
@@ -9,8 +10,8 @@ import os
 import random
 import re
 
-from parts import TOP, run, shown
-from refusals import BROKEN_REPORTS, FILES as RUNS, INCREMENTS, REPORTS
+from refused_memory import BROKEN_REPORTS, FILES as RUNS, INCREMENTS, REPORTS
+from trials import TOP, run, shown
 
 SHAPE, NAME, LIMIT, LONG, BYTE, BROKEN = "F3 Shape", "F4 Name", "F5 Limit", "F1 TooLong", "F2 BadByte", "F7 Broken"
 EMPTY = "base 0\nnow 0\nend\n"

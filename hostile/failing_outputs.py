@@ -1,4 +1,4 @@
-"""Outputs that can't be written, and inputs that are no plain files, by the built program and the system's own.
+"""Tries outputs that can't be written, and inputs that are no plain files, by the built program and the system's own.
 
 Where standard output takes nothing the status is 4 and the line is `stm: cannot write`; where standard error takes
 nothing the status is what it is.
@@ -6,8 +6,8 @@ nothing the status is what it is.
 
 import os
 
-from parts import run, shown
-from refusals import INCREMENTS
+from refused_memory import INCREMENTS
+from trials import run, shown
 
 UNWRITTEN = (4, b"stm: cannot write\n")
 UNREAD = (4, b"stm: cannot read\n")
