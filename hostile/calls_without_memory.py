@@ -1,5 +1,5 @@
-"""Tries the calls that take no memory: the tests of a `counted` module do the same, but that `moves` makes such calls and
-`stays` does not. So both make as many requests.
+"""Tries the calls that take no memory: the tests of a `counted` module do the same, but that `moves` makes such calls
+and `stays` does not. So both make as many requests.
 """
 
 import os

@@ -1,5 +1,6 @@
-"""What the launcher's scripts share of the sources: which crates there are and what they stand on, the kit that is there,
-and what users have of them: the program and the library for hosts, each with what was written down when it was built.
+"""What the launcher's scripts share of the sources: which crates there are and what they stand on, the kit that is
+there, and what users have of them: the program and the library for hosts, each with what was written down when it was
+built.
 """
 
 import hashlib
