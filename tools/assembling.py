@@ -5,7 +5,7 @@ import shutil
 import subprocess
 import tempfile
 
-from proving import HEADERS, LIBRARY_FILES, PARTS, SONAME, Failed
+from sources import HEADERS, LIBRARY_FILES, PARTS, SONAME, Failed
 
 SYMBOLS = "{ global: stm_*; local: *; };\n"
 VERSION_HEADER = """/* The version of the library: STM_VERSION is that of this header, and stm_version() that of the

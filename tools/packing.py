@@ -12,7 +12,7 @@ import tempfile
 import time
 
 from pages import pages
-from proving import HEADERS, ROOT, SONAME, Failed, files_of, say, version
+from sources import HEADERS, ROOT, SONAME, Failed, files_of, say, version
 
 MANIFEST = os.path.join("share", "stm", "manifest")
 COMPLETIONS = {

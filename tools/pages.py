@@ -5,7 +5,7 @@ import re
 import subprocess
 import tempfile
 
-from proving import ROOT, Failed, version
+from sources import ROOT, Failed, version
 
 
 def told(program, *words):

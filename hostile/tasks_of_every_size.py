@@ -1,4 +1,4 @@
-"""Tasks of every size side by side: short ones, which have their turn under the lock, light ones, which only read and are
+"""Tries tasks of every size side by side: short ones, which have their turn under the lock, light ones, which only read and are
 tried some at a time, and long ones; some retry until another has written, and some throw. Files are drawn by a fixed seed.
 Each run ends with a report that `stm check` finds good, in which no task lacked memory.
 """
@@ -6,7 +6,7 @@ Each run ends with a report that `stm check` finds good, in which no task lacked
 import os
 import random
 
-from parts import run, shown
+from trials import run, shown
 
 FILES = 40
 WORKERS = (2, 4, 8)
@@ -58,7 +58,7 @@ def faults_of(trials, program, text, options):
     return [] if is_so else [f"{text} with {' '.join(options)}: {shown(ended)}; {shown(verdict)}"]
 
 
-def try_mixed(trials, program):
+def try_every_size(trials, program):
     by = os.path.basename(program)
     for workers in WORKERS:
         draw, faults = random.Random(workers), []

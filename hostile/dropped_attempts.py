@@ -1,5 +1,5 @@
-"""What is not kept: a finished attempt of the world keeps its log alone, so a world in which as many attempts begin
-and are dropped as the longest schedule has room for takes less than MOST.
+"""Tries that dropped attempts are let go: a finished attempt of the world keeps its log alone, so a world in which as
+many attempts begin and are dropped as the longest schedule has room for takes less than MOST.
 """
 
 import os
@@ -11,7 +11,7 @@ MOST = 98304
 SCHEDULE = "begin 0\ndrop 0\n" * 69905
 
 
-def try_room(trials, program):
+def try_dropped(trials, program):
     by = os.path.basename(program)
     file, schedule = trials.write("one", "(tx t (skip) 0)(run t 1)"), trials.write("long-schedule", SCHEDULE)
     played = subprocess.Popen([program, "world", file, schedule], cwd=trials.folder, stdin=subprocess.DEVNULL, stdout=subprocess.PIPE)

@@ -1,4 +1,4 @@
-"""The deepest and the widest input that the limits allow, under a small stack.
+"""Tries the deepest and the widest input that the limits allow, under a small stack.
 
 A program's main thread grows to the limit of its stack, and each thread of a worker gets as much: so under
 `ulimit -s N` all threads have N KB. No thread is given less than that limit, which is 8,192 KB where nobody changed
@@ -7,8 +7,8 @@ it, and 2,048 KB for a worker where there is none.
 
 import os
 
-from inputs import conditions, nested, transactions, variables
-from parts import run, shown
+from bad_input import conditions, nested, transactions, variables
+from trials import run, shown
 
 # In KB. All of it runs in half as much.
 STACK = 256

@@ -1,4 +1,4 @@
-"""Outputs that can't be written, and inputs that are no plain files, by the built program and the system's own.
+"""Tries outputs that can't be written, and inputs that are no plain files, by the built program and the system's own.
 
 Where standard output takes nothing the status is 4 and the line is `stm: cannot write`; where standard error takes
 nothing the status is what it is.
@@ -6,8 +6,8 @@ nothing the status is what it is.
 
 import os
 
-from parts import run, shown
-from refusals import INCREMENTS
+from refused_memory import INCREMENTS
+from trials import run, shown
 
 UNWRITTEN = (4, b"stm: cannot write\n")
 UNREAD = (4, b"stm: cannot read\n")
@@ -19,20 +19,30 @@ UNHEARD = ["2>/dev/full", "2>&-"]
 
 
 def try_outputs(trials, program):
-    by = os.path.basename(program)
     file = trials.write("increments", INCREMENTS)
     report = trials.write("increments-report", run([program, "run", file, "--workers", "1"], trials.folder).out)
     schedule = trials.write("increments-schedule", "begin 0\nread 0 x\ncommit 0\n")
-    many = trials.write("many", "(tx t (skip) 0)(run t 65536)")
-    long_word = "a" * 100000
+    expect = expecting(trials, program)
+    try_unwritten(expect, trials, file, report, schedule)
+    try_unread(expect, file)
 
+
+def expecting(trials, program):
     def expect(what, words, wanted, redirect="", after=""):
         """The shell runs the program with its outputs sent away."""
         line = f'"$@" {redirect} {after}'
         ended = run(["sh", "-c", line, "sh", program, *words], trials.folder, {"PATH": "/usr/bin:/bin"})
-        ok = ended.status == wanted[0] and (wanted[1] is None or ended.err == wanted[1]) and ended.out in (b"", b"base 0\n")
-        trials.tell(f"{by} {what} {redirect}".rstrip(), [] if ok else [shown(ended)], f"status {wanted[0]}")
+        told = wanted[1] is None or ended.err == wanted[1]
+        ok = ended.status == wanted[0] and told and ended.out in (b"", b"base 0\n")
+        what = f"{os.path.basename(program)} {what} {redirect}".rstrip()
+        trials.tell(what, [] if ok else [shown(ended)], f"status {wanted[0]}")
 
+    return expect
+
+
+def try_unwritten(expect, trials, file, report, schedule):
+    """Outputs that take nothing, or no more."""
+    many = trials.write("many", "(tx t (skip) 0)(run t 65536)")
     writing = [
         ["run", file], ["check", file, report], ["world", file, schedule], ["explore", file], ["explore", file, "--to", "1"],
         ["print", file], ["print", file, "--from", report],
@@ -47,7 +57,12 @@ def try_outputs(trials, program):
         expect("bogus", ["bogus"], (3, b""), redirect)
         expect("run no-such-file", ["run", "no-such-file"], (4, b""), redirect)
         expect("run, refused", ["run", report], (2, b""), redirect)
-    for what, path in (("no file", "no-such-file"), ("a folder", "."), ("no name", ""), ("a name of 100,000 letters", long_word)):
+
+
+def try_unread(expect, file):
+    """Inputs that are no files, or have no end."""
+    places = [("no file", "no-such-file"), ("a folder", "."), ("no name", ""), ("a name of 100,000 letters", "a" * 100000)]
+    for what, path in places:
         expect(f"run, {what}", ["run", path], UNREAD)
         expect(f"check, {what}", ["check", file, path], UNREAD)
         expect(f"world, {what}", ["world", file, path], UNREAD)

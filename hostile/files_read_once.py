@@ -1,12 +1,12 @@
-"""A file without a fault is read once: whatever form stands in it, it takes hardly more requests for memory than without
-that form. A reader that gave up on the form would begin again, make a tree of the whole file first, and answer the same;
+"""Tries that a file without a fault is read once: whatever form stands in it, it takes hardly more requests for memory
+than without that form. A reader that gave up on the form would begin again, make a tree of the whole file first, and answer the same;
 so it is told by its requests.
 """
 
 import os
 
-from parts import run, shown
-from refusals import allocator
+from refused_memory import allocator
+from trials import run, shown
 
 # What else stands in the file: 256 boxes, which a second reading asks for twice more.
 BODY = "(set x (add x 1))" * 128

@@ -1,11 +1,11 @@
-"""Calls that take no memory: the tests of a `counted` module do the same, but that `moves` makes such calls and `stays`
-does not. So both make as many requests.
+"""Tries the calls that take no memory: the tests of a `counted` module do the same, but that `moves` makes such calls
+and `stays` does not. So both make as many requests.
 """
 
 import os
 
-from parts import TOP, run, shown, stop
-from refusals import allocator
+from refused_memory import allocator
+from trials import TOP, run, shown, stop
 
 COUNTED = ("attempt_tests", "cells_tests", "world_tests")
 

@@ -4,28 +4,11 @@ no stamp by which `rt` would take them."""
 import os
 import subprocess
 
-ROOT = os.path.dirname(os.path.dirname(os.path.realpath(__file__)))
-
-
-def read_crates():
-    """Each crate of crates.txt with the libraries that it names, the kit's too."""
-    crates = {}
-    with open(os.path.join(ROOT, "crates.txt"), encoding="utf-8") as lines:
-        for line in lines:
-            head, colon, names = line.split("#")[0].partition(":")
-            if colon:
-                crates[head.split()[0]] = names.split()
-    return crates
-
-
-def is_static(crate):
-    """Whether crates.txt has it as a static library."""
-    with open(os.path.join(ROOT, "crates.txt"), encoding="utf-8") as lines:
-        return any(line.split(":")[0].split() == [crate, "staticlib"] for line in lines)
+from sources import ROOT, is_static
 
 
 def below(crates, crate):
-    """The repository's crates that this one stands on, lowest first."""
+    """The repository's crates that this one stands on, lowest first; `crates` as crates.txt lists them."""
     found = []
 
     def visit(name):

@@ -1,4 +1,5 @@
-"""Input that is cut, oversized and tampered with: each ends as it has to, or, tampered with at random, with some answer.
+"""Tries input that is cut, oversized and tampered with: each ends as it has to, or, tampered with at random, with some
+answer.
 
 What is read runs with status 0, and its report is good; what is not ends with status 2, nothing on standard output
 and the line with the kind of its first fault. A text that is no report of a file is `bad 1`. What `explain` says of
@@ -9,8 +10,8 @@ import os
 import random
 import re
 
-from parts import TOP, run, shown
-from refusals import BROKEN_REPORTS, FILES as RUNS, INCREMENTS, REPORTS
+from refused_memory import BROKEN_REPORTS, FILES as RUNS, INCREMENTS, REPORTS
+from trials import TOP, run, shown
 
 SHAPE, NAME, LIMIT, LONG, BYTE, BROKEN = "F3 Shape", "F4 Name", "F5 Limit", "F1 TooLong", "F2 BadByte", "F7 Broken"
 EMPTY = "base 0\nnow 0\nend\n"
@@ -190,47 +191,59 @@ def tampered(text, chance):
     return bytes(bytes_)
 
 
-def try_tampered(trials, program, count):
-    """The repository's examples, tampered with: always an answer, and always one of those that there are."""
-    chance, faults, ends = random.Random(18), [], {}
-    folder = f"{TOP}/examples"
+def tampered_cases(trials, count):
+    """Texts made of the repository's examples: the kind of each, its name, and the words of the command that reads it."""
+    chance, folder = random.Random(18), f"{TOP}/examples"
     read = lambda name: open(f"{folder}/{name}", "rb").read()
     names = sorted(it[:-4] for it in os.listdir(folder) if it.endswith(".stm"))
     for name in names:
         trials.write(f"{name}.stm", read(f"{name}.stm"))
-    cases = []
     for i in range(count):
         name = chance.choice(names)
-        kind = chance.choice(["stm", *(it for it in ("report", "schedule") if os.path.exists(f"{folder}/{name}.{it}"))])
+        others = (it for it in ("report", "schedule") if os.path.exists(f"{folder}/{name}.{it}"))
+        kind = chance.choice(["stm", *others])
         text = trials.write(f"tampered-{i}", tampered(read(f"{name}.{kind}"), chance))
-        command = {"stm": ["run", text], "report": ["check", f"{name}.stm", text], "schedule": ["world", f"{name}.stm", text]}
-        cases.append((kind, text, command[kind]))
+        file = f"{name}.stm"
+        words = {"stm": ["run", text], "report": ["check", file, text], "schedule": ["world", file, text]}
+        yield kind, text, words[kind]
+
+
+def is_answered(trials, program, case, ended):
+    """Whether a text that was tampered with has an answer, and one of those that there are."""
+    kind, text, words = case
+    if kind == "report" and ended.status in (0, 1):
+        told = is_judged(program, trials.folder, words[1], text, ended)
+        verdict = ended.out == b"good\n" if ended.status == 0 else ended.out[:4] == b"bad "
+        return told and ended.err == b"" and verdict
+    if kind == "stm" and not is_explained(program, trials.folder, text, ended):
+        return False
+    if kind == "schedule" and not is_schedule_explained(program, trials.folder, words[1], text, ended):
+        return False
+    if kind == "stm" and ended.status == 0:
+        judged = run([program, "check", text, trials.write(f"{text}-output", ended.out)], trials.folder)
+        return judged[:3] == (0, b"good\n", b"") and ended.err == b""
+    if kind == "schedule" and ended.status == 0:
+        return ended.err == b"" and ended.out.endswith(b"end\n")
+    what = b"schedule" if kind == "schedule" else b"file"
+    faults = [b"stm: %s: %s" % (what, it.encode()) for it in (LONG, BYTE, SHAPE, NAME, LIMIT, BROKEN)]
+    return (ended.status, ended.out) == (2, b"") and ended.err[:-1] in faults
+
+
+def try_tampered(trials, program, count):
+    """The repository's examples, tampered with: always an answer, and always one of those that there are."""
+    cases, faults, ends = list(tampered_cases(trials, count)), [], {}
 
     def one(case):
-        kind, text, words = case
-        ended = run([program, *words], trials.folder)
-        if kind == "stm" and ended.status == 0:
-            output = trials.write(f"{text}-output", ended.out)
-            judged = run([program, "check", text, output], trials.folder)
-            return ended, judged[:3] == (0, b"good\n", b"") and ended.err == b"" and is_explained(program, trials.folder, text, ended)
-        if kind == "report" and ended.status in (0, 1):
-            told = is_judged(program, trials.folder, words[1], text, ended)
-            return ended, told and ended.err == b"" and (ended.out == b"good\n" if ended.status == 0 else ended.out[:4] == b"bad ")
-        if kind == "schedule" and not is_schedule_explained(program, trials.folder, words[1], text, ended):
-            return ended, False
-        if kind == "schedule" and ended.status == 0:
-            return ended, ended.err == b"" and ended.out.endswith(b"end\n")
-        what = b"schedule" if kind == "schedule" else b"file"
-        if kind == "stm" and not is_explained(program, trials.folder, text, ended):
-            return ended, False
-        return ended, (ended.status, ended.out) == (2, b"") and ended.err[:-1] in [b"stm: %s: %s" % (what, it.encode()) for it in (LONG, BYTE, SHAPE, NAME, LIMIT, BROKEN)]
+        ended = run([program, *case[2]], trials.folder)
+        return ended, is_answered(trials, program, case, ended)
 
-    for (kind, text, words), (ended, ok) in zip(cases, trials.pool.map(one, cases)):
+    for (_, _, words), (ended, ok) in zip(cases, trials.pool.map(one, cases)):
         ends[ended.status] = ends.get(ended.status, 0) + 1
         if not ok:
             faults.append(f"{' '.join(words)}: {shown(ended)}")
     told = ", ".join(f"{n} with status {status}" for status, n in sorted(ends.items()))
-    trials.tell(f"{os.path.basename(program)}, {count} texts tampered with at random", faults, f"{told}; each report good, each explained as it ended")
+    by = os.path.basename(program)
+    trials.tell(f"{by}, {count} texts tampered with at random", faults, f"{told}; each report good, each explained as it ended")
 
 
 def try_inputs(trials, program):

@@ -1,4 +1,4 @@
-"""Each request for memory refused in turn: number k, for each k from 1 until a run meets none.
+"""Tries each request for memory refused in turn: number k, for each k from 1 until a run meets none.
 
 A run ends with status 5, nothing on standard output and the line `stm: out of memory`, or else as it has to: `run`
 with a report that `stm check` finds good, `world` with what is seen up to the first `memory`, all else as with
@@ -8,7 +8,7 @@ ample memory. With one worker each block is given back, whatever was refused.
 import os
 import subprocess
 
-from parts import OUT_OF_MEMORY, TESTS, TOP, run, shown, stop
+from trials import OUT_OF_MEMORY, TESTS, TOP, run, shown, stop
 
 INCREMENTS = "(var x 5)(tx inc (set x (add x 1)) x)(run inc 2)"
 
@@ -115,7 +115,7 @@ def allocator(folder):
     page = subprocess.run(["rt", "doc"], capture_output=True, text=True)
     tools = f"{os.path.dirname(page.stdout.strip())}/toolchain/bin"
     code, made = f"{folder}/refuse.o", f"{folder}/refuse.so"
-    compile_it = [f"{tools}/clang", "--target=x86_64-unknown-linux-gnu", "--no-default-config", "-O1", "-fPIC", "-c", f"{TOP}/hostile/refuse.c", "-o", code]
+    compile_it = [f"{tools}/clang", "--target=x86_64-unknown-linux-gnu", "--no-default-config", "-O1", "-fPIC", "-c", f"{TOP}/hostile/refusing_allocator.c", "-o", code]
     for words in (compile_it, [f"{tools}/ld.lld", "-shared", "-o", made, code]):
         ran = subprocess.run(words, capture_output=True, text=True)
         if ran.returncode:

@@ -1,12 +1,12 @@
-"""Workers side by side, by the program, whose gate is open: long tasks are run by as many threads as there are workers.
-What is short is left to one thread, as is what one worker is to do.
+"""Tries that workers run side by side: long tasks are run by as many threads as there are workers. Short tasks are left
+to one thread, as is all that one worker is to do.
 """
 
 import os
 import subprocess
 
-from parts import SECONDS, run, shown
-from refusals import allocator
+from refused_memory import allocator
+from trials import SECONDS, run, shown
 
 # How often a run is watched that had too few threads at a time.
 TRIES = 20
@@ -40,7 +40,7 @@ def faults_of(words, folder, preload, threads):
     return faults
 
 
-def try_beside(trials, program):
+def try_threads(trials, program):
     by, preload = os.path.basename(program), allocator(trials.folder)
     for what, text, workers in [("long tasks", LONG, 1), ("long tasks", LONG, 2), ("long tasks", LONG, 4), ("long tasks", LONG, 16), ("short tasks", SHORT, 16)]:
         file = trials.write(what.replace(" ", "-"), text)

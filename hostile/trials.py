@@ -1,4 +1,4 @@
-"""What the trials share: the program, one run of it, and how what was found is told."""
+"""What all trials share: the program, one run of it, and how what was found is told."""
 
 import os
 import subprocess

@@ -1,7 +1,7 @@
 /* One store for a whole life: tasks come in by calls and by submits, chapter after chapter, while others sleep through
  * hundreds of chapters until a bell wakes them.
  *
- *     soak FOLDER TASKS THREADS
+ *     store_for_life FOLDER TASKS THREADS
  *
  * It brings its own memory, and counts its bytes. The file and the report of chapter K are left as FOLDER/K.stm and
  * FOLDER/K.report. Prints how many chapters there were, how many sleepers were woken, the bytes and the resident pages at the

@@ -1,9 +1,9 @@
 #!/usr/bin/env python3
-"""One store for a whole life: hundreds of chapters of tasks that come in from C, and tasks that sleep through them.
+"""Tries one store for a whole life: hundreds of chapters of tasks that come in from C, and tasks that sleep through them.
 
-    hostile/soak.py [TASKS]
+    hostile/store_for_life.py [TASKS]
 
-Builds hostile/soak.c over the archive (STM_ARCHIVE, else crates/stm_c/out/libstm_c.a), runs so many tasks (10,000,000) with 1
+Builds hostile/store_for_life.c over the archive (STM_ARCHIVE, else crates/stm_c/out/libstm_c.a), runs so many tasks (10,000,000) with 1
 and with 4 threads, and has `stm check` judge the file and the report of each chapter, and that each goes on where the one
 before ended, where the program knows `--after`. `bindings/check` runs 1,000,000. STM names the program, else the launcher.
 """
@@ -24,8 +24,8 @@ MORE_PAGES = 128
 
 
 def built(work, archive, compiler="cc"):
-    out = os.path.join(work, "soak")
-    words = [compiler, "-std=gnu11", "-O2", "-Wall", "-Wextra", "-Werror", "-I", f"{ROOT}/bindings/c", "-I", f"{ROOT}/bindings/tests", f"{HERE}/soak.c"]
+    out = os.path.join(work, "store_for_life")
+    words = [compiler, "-std=gnu11", "-O2", "-Wall", "-Wextra", "-Werror", "-I", f"{ROOT}/bindings/c", "-I", f"{ROOT}/bindings/tests", f"{HERE}/store_for_life.c"]
     subprocess.run([*words, f"{ROOT}/bindings/c/words.c", archive, "-pthread", "-o", out], check=True)
     return out
 
@@ -53,7 +53,7 @@ def bad_chapters(folder, count):
     return bad
 
 
-def soak(work, program, tasks, threads):
+def faults_of(work, program, tasks, threads):
     """What is wrong with a life of so many tasks; nothing where all is well."""
     with tempfile.TemporaryDirectory(dir=work) as folder:
         ran = subprocess.run([program, folder, str(tasks), str(threads)], capture_output=True, text=True)
@@ -61,22 +61,25 @@ def soak(work, program, tasks, threads):
         if ran.returncode or not told:
             return [f"status {ran.returncode}: {ran.stdout}{ran.stderr}"]
         chapters, woken, *_, first, last = map(int, told.groups())
-        print(f"soak: {tasks:,} tasks, {threads} threads: {ran.stdout.splitlines()[0]}", flush=True)
+        print(f"store for life: {tasks:,} tasks, {threads} threads: {ran.stdout.splitlines()[0]}", flush=True)
         wrong = [] if last <= first + MORE_PAGES else [f"{first} pages at first, {last} in the end"]
         wrong += [] if chapters >= tasks // 4096 and woken >= chapters // 100 else [f"{chapters} chapters, {woken} woken"]
         return wrong + bad_chapters(folder, chapters)[:5]
 
 
 def main():
+    if sys.argv[1:2] in (["-h"], ["--help"]):
+        print(__doc__.strip())
+        return 0
     tasks = int(sys.argv[1]) if len(sys.argv) > 1 else 10_000_000
     failed = 0
     with tempfile.TemporaryDirectory() as work:
         program = built(work, ARCHIVE)
         for threads in THREADS:
-            for line in soak(work, program, tasks, threads):
+            for line in faults_of(work, program, tasks, threads):
                 print(f"failed: {line}")
                 failed += 1
-    print("soak: " + ("good" if not failed else f"{failed} failed"))
+    print("store for life: " + ("good" if not failed else f"{failed} failed"))
     return 1 if failed else 0
 
 
