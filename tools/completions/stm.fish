@@ -19,4 +19,5 @@ complete -c stm -n "__fish_seen_subcommand_from print" -l from -r -F -d 'a repor
 complete -c stm -n "__fish_seen_subcommand_from print" -l after -r -F -d 'a report where the next chapter begins'
 complete -c stm -n "__fish_seen_subcommand_from explore" -l states -x -d 'how many places are looked at, at most'
 complete -c stm -n "__fish_seen_subcommand_from explore" -l to -x -d 'a report of a run that comes to this end'
+complete -c stm -n "__fish_seen_subcommand_from explore" -l deny -x -a 'parked threw broke overflow zerodiv' -d 'status 1 where some order comes to it'
 complete -c stm -n "__fish_seen_subcommand_from explain" -l schedule -r -F -d 'a schedule of the file, which is explained in its place'
