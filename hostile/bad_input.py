@@ -111,24 +111,23 @@ NO_REPORTS = {
 }
 
 
-def is_explained(program, folder, file, ended):
-    """Whether `explain` says of a file what `run` ended with: `good`, or a place and the same kind."""
-    told = run([program, "explain", file], folder)
+def tells_the_fault(told, ended, what):
+    """Whether `explain` said what the command ended with: `good`, or a place and the same kind."""
     if ended.status == 0:
         return told[:3] == (0, b"good\n", b"")
-    kind = re.escape(ended.err[len(b"stm: file: ") : -1])
+    kind = re.escape(ended.err[len(f"stm: {what}: ") : -1])
     line = rb"line [1-9][0-9]*, column [1-9][0-9]*: " + kind + rb": [ -~]+\n"
     return (told.status, told.err) == (2, ended.err) and re.fullmatch(line, told.out) is not None
+
+
+def is_explained(program, folder, file, ended):
+    """Whether `explain` says of a file what `run` ended with."""
+    return tells_the_fault(run([program, "explain", file], folder), ended, "file")
 
 
 def is_schedule_explained(program, folder, file, schedule, ended):
-    """Whether `explain --schedule` says of a schedule what `world` ended with: `good`, or a place and the same kind."""
-    told = run([program, "explain", file, "--schedule", schedule], folder)
-    if ended.status == 0:
-        return told[:3] == (0, b"good\n", b"")
-    kind = re.escape(ended.err[len(b"stm: schedule: ") : -1])
-    line = rb"line [1-9][0-9]*, column [1-9][0-9]*: " + kind + rb": [ -~]+\n"
-    return (told.status, told.err) == (2, ended.err) and re.fullmatch(line, told.out) is not None
+    """Whether `explain --schedule` says of a schedule what `world` ended with."""
+    return tells_the_fault(run([program, "explain", file, "--schedule", schedule], folder), ended, "schedule")
 
 
 def is_judged(program, folder, file, report, ended):
