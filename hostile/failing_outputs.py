@@ -45,7 +45,7 @@ def try_unwritten(expect, trials, file, report, schedule):
     many = trials.write("many", "(tx t (skip) 0)(run t 65536)")
     writing = [
         ["run", file], ["check", file, report], ["world", file, schedule], ["explore", file], ["explore", file, "--to", "1"],
-        ["print", file], ["print", file, "--from", report],
+        ["explore", file, "--dot"], ["print", file], ["print", file, "--from", report],
         ["explain", file], ["explain", file, report], ["explain", file, "--schedule", schedule],
         ["--help"], ["run", "--help"], ["--version"],
     ]
@@ -68,6 +68,7 @@ def try_unread(expect, file):
         expect(f"world, {what}", ["world", file, path], UNREAD)
         expect(f"explore, {what}", ["explore", path], UNREAD)
         expect(f"explore --to, {what}", ["explore", path, "--to", "1"], UNREAD)
+        expect(f"explore --dot, {what}", ["explore", path, "--dot"], UNREAD)
         expect(f"print, {what}", ["print", path], UNREAD)
         expect(f"print --from, {what}", ["print", file, "--from", path], UNREAD)
         expect(f"explain, {what}", ["explain", path], UNREAD)

@@ -147,7 +147,7 @@ class Refusals:
 
     def try_all(self, what, words, is_right, keeps_nothing=True, ways=(False, True)):
         """A trial with one request refused, and one with each later one too. `is_right(ended, ample)`: whether a run
-        that did not end in want of memory ended well."""
+        that did not end out of memory ended well."""
         for each_later in ways:
             ample, refused, others = self.each(words, each_later)
             faults = [f"with ample memory: {shown(ample)}"] * (not is_right(ample, ample))
@@ -159,7 +159,7 @@ class Refusals:
                 if it[:3] != OUT_OF_MEMORY and not is_right(it, ample) or keeps_nothing and it.kept != 0:
                     faults.append(f"number {k} refused: {shown(it)}")
             how = "from each on" if each_later else "each in turn"
-            self.trials.tell(f"{what}, {how}", faults, f"{len(refused)} requests refused, {ends} times the end was want of memory")
+            self.trials.tell(f"{what}, {how}", faults, f"{len(refused)} requests refused, {ends} times the end was out of memory")
 
     def is_good(self, program, file, report):
         """Whether the program finds the report good for the file."""
@@ -219,6 +219,7 @@ def try_refusals(trials, program):
         file = name.replace(" ", "-")
         refusals.try_all(f"{by} explore, {name}", [program, "explore", file, "--states", "2000"], same)
         refusals.try_all(f"{by} explore, {name}, to an end", [program, "explore", file, "--states", "2000", "--to", "1"], same)
+        refusals.try_all(f"{by} explore, {name}, as a graph", [program, "explore", file, "--states", "100", "--dot"], same)
         refusals.try_all(f"{by} explore, {name}, of one state", [program, "explore", file, "--states", "1"], same)
     for words in COMMAND_LINES:
         refusals.try_all(" ".join([by, *words]), [program, *words], same)

@@ -13,7 +13,7 @@ from trials import run, shown
 # In KB. All of it runs in half as much.
 STACK = 256
 
-# How many places of every order are looked at.
+# How many states of every order are looked at.
 STATES = "300"
 
 FILES = {
@@ -45,12 +45,13 @@ SCHEDULES = {
 
 def looked_at(trials, small, file):
     """The other commands on the file, with the report of its last run: how each ended, and whether that is right. Of all
-    orders few places are looked at, for there may be many: more is the status 1."""
+    orders few states are looked at, for there may be many: more is the status 1."""
     schedule = trials.write("deep-schedule", "begin 0\ncommit 0\n")
     calls = [
         (["world", file, schedule], (0,)),
         (["explore", file, "--states", STATES], (0, 1)),
         (["explore", file, "--states", STATES, "--to", "1"], (0, 1)),
+        (["explore", file, "--states", STATES, "--dot"], (0, 1)),
         (["explain", file], (0,)),
         (["explain", file, "deep-report"], (0,)),
         (["explain", file, "--schedule", schedule], (0,)),
@@ -74,7 +75,7 @@ def try_stacks(trials, program):
                 faults.append(f"workers {workers}: {shown(ended)}; its check: {shown(good)}")
             # There is memory enough: what waits is parked, and nothing is given up for want of it.
             if any(line.startswith(b"memory ") for line in ended.out.splitlines()):
-                faults.append(f"workers {workers}: a task was given up for want of memory")
+                faults.append(f"workers {workers}: a task was given up as memory ran out")
         faults += [f"{words[0]}: {shown(ended)}" for words, ended, is_right in looked_at(trials, small, file) if not is_right]
         trials.tell(f"{by} in {STACK} KB, {what}", faults, "run by 1 and by 16 workers, checked, begun in a world, explored, explained, printed")
     file = trials.write("deep", FILES["a sum on the right"])

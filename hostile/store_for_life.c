@@ -46,7 +46,7 @@ static long resident_pages(void) {
 static const char FILE_TEXT[] = "(stm 2)(var n 0)(var bell 0)(always heard (le 0 bell))(tx inc (set n (add n 1)) n)"
                                 "(tx sleep (if (lt bell 1) (retry) (set bell (sub bell 1))) bell)"
                                 "(tx ring (set bell (add bell 1)) bell)";
-enum { INC, SLEEP, RING, ROOM = 4096, SLEEPERS = 16, RINGS_EVERY = 100, MOST = 32 };
+enum { INC, SLEEP, RING, TASK_ROOM = 4096, SLEEPERS = 16, RINGS_EVERY = 100, MOST = 32 };
 
 static pthread_mutex_t lock = PTHREAD_MUTEX_INITIALIZER;
 static stm_store store;
@@ -80,11 +80,11 @@ static void turned(stm_turned turn) {
 /* Those that still sleep have their tickets; in the place of one that was woken another lies down. */
 static void look_at_sleepers(void) {
     for (int i = 0; i < SLEEPERS; i++) {
-        stm_told how = stm_standing(&store, sleepers[i]);
+        stm_answer how = stm_standing(&store, sleepers[i]);
         if (how.code == STM_RETRIES) continue;
         wants(how.code == STM_UNKNOWN);
         woken++;
-        stm_turned turn = stm_call(&store, &lender, SLEEP);
+        stm_turned turn = stm_call(&store, &lender, SLEEP, NULL, 0);
         wants(turn.code == STM_RETRIES);
         sleepers[i] = turn.ticket;
     }
@@ -106,9 +106,9 @@ static void next_chapter(void) {
     if (chapters == 1) first_bytes = last_bytes, first_pages = last_pages;
     wants(last_bytes == first_bytes);
     look_at_sleepers();
-    wants(stm_store_spare(&store) == ROOM - SLEEPERS);
+    wants(stm_store_spare(&store) == TASK_ROOM - SLEEPERS);
     if (chapters % RINGS_EVERY == 0) {
-        turned(stm_call(&store, &lender, RING));
+        turned(stm_call(&store, &lender, RING, NULL, 0));
         rings++;
     }
 }
@@ -118,7 +118,7 @@ static void brings(stm_worker *worker, stm_job job) {
     pthread_mutex_unlock(&lock);
     int32_t tried = stm_try_job(worker, job);
     pthread_mutex_lock(&lock);
-    stm_told end = tried == STM_DONE ? stm_finish(&store, worker) : (stm_told){tried, 0, 0};
+    stm_answer end = tried == STM_DONE ? stm_finish(&store, worker) : (stm_answer){tried, 0, 0};
     if (end.code == STM_STALE) end = stm_serial(&store, job.ticket);
     switch (end.code) {
     case STM_DONE:
@@ -137,11 +137,11 @@ static void brings(stm_worker *worker, stm_job job) {
 static void one_more(stm_worker *worker, long way) {
     asked++;
     if (way == 0) {
-        turned(stm_call(&store, &lender, INC));
+        turned(stm_call(&store, &lender, INC, NULL, 0));
     } else if (way == 1) {
-        turned(stm_try_call(&store, &lender, INC));
+        turned(stm_try_call(&store, &lender, INC, NULL, 0));
     } else {
-        int64_t ticket = stm_submit(&store, INC);
+        int64_t ticket = stm_submit(&store, INC, NULL, 0);
         wants(ticket >= 0);
         stm_job job = way == 2 ? stm_claim(&store, ticket) : stm_take_job(&store);
         wants(job.ticket >= 0 && job.chapter == chapters);
@@ -170,7 +170,7 @@ static void all_wake(void) {
     for (next_chapter();; rings++) {
         for (stm_turned turn; (turn = stm_turn(&store, &lender)).code != STM_IDLE;) turned(turn);
         if (!sleeping()) break;
-        turned(stm_call(&store, &lender, RING));
+        turned(stm_call(&store, &lender, RING, NULL, 0));
     }
     wants(woken + SLEEPERS == rings && entered == asked);
 }
@@ -186,16 +186,17 @@ int main(int count, char **words) {
     /* One arena for all threads, so that pages are as many as bytes want. */
     wants(0 < threads && threads <= MOST && mallopt(M_ARENA_MAX, 1) == 1);
     wants(stm_read((const uint8_t *)FILE_TEXT, strlen(FILE_TEXT), &program) == STM_DONE);
-    wants(stm_open_with_room(&program, (size_t)threads, 0, ROOM, &store) == STM_DONE && stm_lend(&store, &lender) == STM_DONE);
+    wants(stm_open_with_room(&program, (size_t)threads, 0, TASK_ROOM, &store) == STM_DONE && stm_open_lender(&store, &lender) == STM_DONE);
     for (int i = 0; i < SLEEPERS; i++) {
-        stm_turned turn = stm_call(&store, &lender, SLEEP);
+        stm_turned turn = stm_call(&store, &lender, SLEEP, NULL, 0);
         wants(turn.code == STM_RETRIES && turn.ticket == i);
         sleepers[i] = turn.ticket;
     }
     /* Each worker's attempt has its memory from the first chapter on. */
     for (int i = 0; i < threads; i++) {
-        wants(stm_hire(&store, &workers[i]) == STM_DONE);
-        wants(stm_observe(&workers[i], INC).code == STM_DONE && stm_observe(&workers[i], SLEEP).code == STM_RETRIES);
+        wants(stm_open_worker(&store, &workers[i]) == STM_DONE);
+        wants(stm_observe(&workers[i], INC, NULL, 0).code == STM_DONE);
+        wants(stm_observe(&workers[i], SLEEP, NULL, 0).code == STM_RETRIES);
     }
     for (int i = 0; i < threads; i++) wants(pthread_create(&pool[i], NULL, work, &workers[i]) == 0);
     for (int i = 0; i < threads; i++) wants(pthread_join(pool[i], NULL) == 0);

@@ -13,7 +13,7 @@ TRIES = 20
 
 # Tasks that only read, of some 500,000 nodes each, so that none makes another one stale.
 LONG = "(var x 0)(tx long (repeat 1000 (repeat 100 (if (eq x 1) (throw 1) (skip)))) x)(run long 1024)"
-SHORT = "(var x 0)(tx inc (set x (add x 1)) x)(run inc 64)"
+SHORT_TASKS = "(var x 0)(tx inc (set x (add x 1)) x)(run inc 64)"
 
 
 def most_threads(words, folder):
@@ -42,7 +42,7 @@ def faults_of(words, folder, preload, threads):
 
 def try_threads(trials, program):
     by, preload = os.path.basename(program), allocator(trials.folder)
-    for what, text, workers in [("long tasks", LONG, 1), ("long tasks", LONG, 2), ("long tasks", LONG, 4), ("long tasks", LONG, 16), ("short tasks", SHORT, 16)]:
+    for what, text, workers in [("long tasks", LONG, 1), ("long tasks", LONG, 2), ("long tasks", LONG, 4), ("long tasks", LONG, 16), ("short tasks", SHORT_TASKS, 16)]:
         file = trials.write(what.replace(" ", "-"), text)
         threads = 1 if what == "short tasks" else workers
         faults = faults_of([program, "run", file, "--workers", str(workers)], trials.folder, preload, threads)

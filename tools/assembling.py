@@ -48,15 +48,15 @@ def assemble(place, in_c, number, archive=None, object_file=None, more_c=(), mor
         def at(name):
             return os.path.join(work, name)
 
-        for name in HEADERS:
-            shutil.copy(os.path.join(in_c, name), at(name))
+        for name, folder in HEADERS.items():
+            shutil.copy(os.path.join(in_c, os.pardir, folder, name), at(name))
         for name, text in (("stm_version.h", VERSION_HEADER), ("version.c", VERSION_CODE), ("symbols", SYMBOLS)):
             with open(at(name), "w") as file:
                 file.write(text if name == "symbols" else text.format(version=number, more=more))
         objects = [object_file] if object_file else []
         for source in [*(os.path.join(in_c, name) for name in PARTS), at("version.c"), *more_c]:
             objects.append(at(os.path.basename(source)[:-2] + ".o"))
-            call("cc", "-std=c99", "-O2", "-fPIC", "-I", work, "-c", source, "-o", objects[-1])
+            call("cc", "-std=c99", "-O2", "-fPIC", "-pthread", "-I", work, "-c", source, "-o", objects[-1])
         if archive:
             shutil.copy(archive, at("libstm.a"))
             os.chmod(at("libstm.a"), 0o644)
@@ -69,7 +69,7 @@ def assemble(place, in_c, number, archive=None, object_file=None, more_c=(), mor
             "-Wl,--gc-sections",
             "-Wl,-s",
         ]
-        call("cc", "-shared", *flags, *whole, "-o", at(SONAME))
+        call("cc", "-shared", "-pthread", *flags, *whole, "-o", at(SONAME))
         os.makedirs(place, exist_ok=True)
         for name in LIBRARY_FILES:
             shutil.copy(at(name), os.path.join(place, name + ".new"))

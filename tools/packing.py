@@ -27,8 +27,8 @@ includedir=${{prefix}}/include
 Name: stm
 Description: Software transactional memory with retry and orElse, proved
 Version: {version}
-Cflags: -I${{includedir}}
-Libs: -L${{libdir}}{rpath} -lstm
+Cflags: -I${{includedir}} -pthread
+Libs: -L${{libdir}}{rpath} -lstm -pthread
 """
 PROVED = """stm {version} for x86_64-linux, made {made}
 
@@ -42,8 +42,8 @@ To check it again, on a machine with that kit and in a fresh clone of sources wi
 tells: `./stm --build` and `./stm --library` prove every crate below from nothing and build the program and the library;
 `rt ci` proves them and all others, with their tests.
 
-Proved is what README.md says of it. Not proved are the parts in C (the library's memory, its words and its version),
-the crate for Rust, the compilers and the linkers that made these files, and the C library that they run on.
+Proved is what README.md says of it. Not proved are the parts in C (the service, the library's memory, its words and its
+version), the crate for Rust, the compilers and the linkers that made these files, and the C library that they run on.
 
 When each crate was proved (UTC):
 
@@ -66,7 +66,7 @@ Section: libs
 Priority: optional
 Description: software transactional memory with retry and orElse, proved
  The program stm, which runs files of transactions and checks reports of such
- runs, and the library for hosts in C, C++ and Rust.
+ runs, and the library for hosts in C, C++, Rust and Python.
 """
 
 
@@ -144,6 +144,8 @@ def tree(parts, proved_at, prefix="${pcfiledir}/../..", rpath=True):
     crate = ["Cargo.toml", "Cargo.lock", "build.rs", *(f"src/{path}" for path in below("bindings/rust/src", ".rs"))]
     for path in crate:
         found[f"share/stm/rust/{path}"] = (read(ROOT, "bindings", "rust", path), 0o644)
+    for path in ("pyproject.toml", "stm/py.typed", *(f"stm/{path}" for path in below("bindings/python/stm", ".py"))):
+        found[f"share/stm/python/{path}"] = (read(ROOT, "bindings", "python", path), 0o644)
     for path in below("bindings/examples"):
         found[f"share/stm/examples/{path}"] = (read(ROOT, "bindings", "examples", path), 0o644)
     found[proved_at] = (proved_text(parts).encode(), 0o644)

@@ -30,15 +30,15 @@ def kit():
     return os.path.dirname(told.stdout.strip())
 
 
-def command(crates, crate, verb):
-    """`rattle VERB` of the crate's sources in the folder where it is called, over the libraries below it."""
+def command(crates, crate, verb, place_of=library_of):
+    """`rattle VERB` of the crate's sources in the folder where it is called, over the libraries below it, which lie there."""
     place, main = kit(), os.path.join(ROOT, "crates", crate, "src", "main.rt")
     words = [f"{place}/bin/rattle", verb, "--crate-name", crate, "src/main.rt" if os.path.exists(main) else "src/lib.rt"]
     words += ["-L", f"dependency={place}/rlibs"]
     for name in dict.fromkeys(["std", *crates[crate]]):
-        library = library_of(name) if name in crates else f"{place}/rlibs/{name}.rlib"
+        library = place_of(name) if name in crates else f"{place}/rlibs/{name}.rlib"
         words += ["--extern", f"{name}={library}"]
     for name in below(crates, crate):
-        words += ["-L", f"dependency={os.path.dirname(library_of(name))}"]
+        words += ["-L", f"dependency={os.path.dirname(place_of(name))}"]
     words += ["--crate-type", "staticlib"] if is_static(crate) else []
     return [*words, "--antt-project", f"{place}/rattle/logic/antt-project.json", "--logic-built", f"{place}/logic_built"]

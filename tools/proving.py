@@ -172,7 +172,7 @@ class Proofs:
             log.write(f"== {name}\n{told}")
             log.flush()
             if run.child.returncode == -signal.SIGKILL and run.jobs > 1:
-                log.write(f"{name} was killed, most likely for want of memory: once more, alone\n")
+                log.write(f"{name} was killed, most likely as memory ran out: once more, alone\n")
                 self.lanes = 1
                 continue
             if run.child.returncode == 0 and is_proved(told):

@@ -17,8 +17,10 @@ SOURCES = ("src", "specs", "proofs")
 # Where the version of all of it stands.
 VERSION_SOURCE, NUMBER = "crates/command_line/src/words.rt", r"\d+\.\d+\.\d+"
 
-# The parts of the library that are in C, the headers that a host includes, and what is made of all of it.
-PARTS, HEADERS, SONAME = ("heap.c", "words.c"), ("stm.h",), "libstm.so.0"
+# The parts of the library that are in C, the headers that a host includes, each with its folder of bindings/, and what is
+# made of all of it.
+PARTS, SONAME = ("heap.c", "service.c", "words.c"), "libstm.so.0"
+HEADERS = {"service.h": "c", "stm.h": "c", "stm.hpp": "cpp"}
 LIBRARY_FILES = ("libstm.a", SONAME, *HEADERS, "stm_version.h")
 
 
@@ -49,9 +51,10 @@ class Product:
 
 def library_in(folder):
     """The library for hosts, in this folder."""
-    in_c = [os.path.join(ROOT, "bindings", "c", name) for name in (*PARTS, *HEADERS)]
+    places = {**dict.fromkeys(PARTS, "c"), **HEADERS}
+    more = [os.path.join(ROOT, "bindings", place, name) for name, place in places.items()]
     made = [os.path.join(folder, name) for name in LIBRARY_FILES]
-    return Product("stm_c", os.path.join(folder, "stamp"), made, [*in_c, os.path.join(ROOT, VERSION_SOURCE)])
+    return Product("stm_c", os.path.join(folder, "stamp"), made, [*more, os.path.join(ROOT, VERSION_SOURCE)])
 
 
 class Failed(Exception):

@@ -3,10 +3,11 @@
  *     bench stm THREADS      a store: milliseconds to read, open, run and report; with one thread nanoseconds of each call,
  *                            of a task by turns and by calls, and microseconds of a chapter's begin after all of them
  *     bench turns THREADS    a store whose tasks have their turns under the lock, up to 1,000 at a time
+ *     bench service THREADS  a service that the threads call
  *     bench mutex THREADS    the same sum under a mutex
  *     bench itm THREADS      the same sum by the compiler's transactions, where it was built with them
  */
-#include "stm.h"
+#include "service.h"
 
 #include <pthread.h>
 #include <stdio.h>
@@ -124,7 +125,7 @@ static void each_call(stm_worker *worker) {
     }
     observed = now();
     for (int i = 0; i < TASKS; i++) {
-        if (stm_observe(worker, 0).code != STM_DONE) fails("no answer");
+        if (stm_observe(worker, 0, NULL, 0).code != STM_DONE) fails("no answer");
     }
     observed = (now() - observed) / TASKS;
     printf(" take_ns %.0f try_ns %.0f finish_ns %.0f observe_ns %.0f", taken / TASKS, tried / TASKS, finished / TASKS, observed);
@@ -135,17 +136,17 @@ static void calls_and_turns(const stm_program *program) {
     stm_program bare = {0};
     stm_worker worker = {0};
     stm_lender lender = {0};
-    if (stm_open(program, 1, 0, &store) != STM_DONE || stm_hire(&store, &worker) != STM_DONE) fails("no store");
+    if (stm_open(program, 1, 0, &store) != STM_DONE || stm_open_worker(&store, &worker) != STM_DONE) fails("no store");
     double turns = now();
     if (stm_turns(&store, &worker, TASKS) != TASKS) fails("not all turns were given");
     turns = (now() - turns) / TASKS;
     stm_worker_free(&worker);
     stm_store_free(&store);
     if (stm_read((const uint8_t *)NO_RUNS, strlen(NO_RUNS), &bare) != STM_DONE) fails("no program");
-    if (stm_open_with_room(&bare, 1, 0, TASKS, &store) != STM_DONE || stm_lend(&store, &lender) != STM_DONE) fails("no store");
+    if (stm_open_with_room(&bare, 1, 0, TASKS, &store) != STM_DONE || stm_open_lender(&store, &lender) != STM_DONE) fails("no store");
     double calls = now();
     for (int64_t i = 0; i < TASKS; i++) {
-        if (stm_call(&store, &lender, 0).value != i + 1) fails("a call answers another number");
+        if (stm_call(&store, &lender, 0, NULL, 0).value != i + 1) fails("a call answers another number");
     }
     calls = (now() - calls) / TASKS;
     double chapter = now();
@@ -174,7 +175,7 @@ static void by_store(int threads, void *(*life)(void *)) {
     at = now();
     if (stm_open(&program, (size_t)threads, 0, &store) != STM_DONE) fails("no store");
     for (int i = 0; i < threads; i++) {
-        if (stm_hire(&store, &workers[i]) != STM_DONE) fails("no worker");
+        if (stm_open_worker(&store, &workers[i]) != STM_DONE) fails("no worker");
     }
     double open = now() - at, ran = by_threads(threads, life, workers);
     uint8_t *text = report(&told, &wanted);
@@ -183,7 +184,7 @@ static void by_store(int threads, void *(*life)(void *)) {
     for (int i = 0; i < threads; i++) stm_worker_free(&workers[i]);
     stm_store_free(&store);
     if (threads == 1 && life == work) {
-        if (stm_open(&program, 1, 0, &store) != STM_DONE || stm_hire(&store, workers) != STM_DONE) fails("no store");
+        if (stm_open(&program, 1, 0, &store) != STM_DONE || stm_open_worker(&store, workers) != STM_DONE) fails("no store");
         each_call(workers);
         stm_worker_free(workers);
         stm_store_free(&store);
@@ -208,6 +209,14 @@ static void *by_mutex(void *unused) {
     return NULL;
 }
 
+static stm_service *service;
+
+static void *by_service(void *unused) {
+    (void)unused;
+    for (int i; (i = number()) < TASKS;) returned[i] = stm_atomically(service, 0, NULL, 0).value;
+    return NULL;
+}
+
 #ifdef ITM
 static void *by_itm(void *unused) {
     (void)unused;
@@ -223,17 +232,23 @@ static void *by_itm(void *unused) {
 static void by_peer(int threads, void *(*life)(void *)) {
     static stm_worker none[MOST];
     double ran = by_threads(threads, life, none);
+    for (int i = 0; i < TASKS; i++) {
+        if (returned[i] > sum) sum = returned[i];
+    }
     if (sum != TASKS) fails("the sum is wrong");
     printf("run_ms %.3f\n", ran / 1e6);
 }
 
 int main(int count, char **words) {
     int threads = count > 2 ? atoi(words[2]) : 0;
-    if (threads < 1 || threads > MOST) fails("bench stm|turns|mutex|itm THREADS");
+    if (threads < 1 || threads > MOST) fails("bench stm|turns|service|mutex|itm THREADS");
     if (strcmp(words[1], "stm") == 0) {
         by_store(threads, work);
     } else if (strcmp(words[1], "turns") == 0) {
         by_store(threads, turn);
+    } else if (strcmp(words[1], "service") == 0) {
+        if (stm_service_open((const uint8_t *)NO_RUNS, strlen(NO_RUNS), NULL, &service) != STM_DONE) fails("no service");
+        by_peer(threads, by_service);
     } else if (strcmp(words[1], "mutex") == 0) {
         by_peer(threads, by_mutex);
 #ifdef ITM
@@ -241,7 +256,7 @@ int main(int count, char **words) {
         by_peer(threads, by_itm);
 #endif
     } else {
-        fails("bench stm|turns|mutex|itm THREADS");
+        fails("bench stm|turns|service|mutex|itm THREADS");
     }
     return 0;
 }

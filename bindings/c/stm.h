@@ -8,16 +8,17 @@
  *      others use the store and other workers.
  *   2. A new handle is `{0}`. One is copied only to move it: only one copy is used on. What it holds is
  *      never written.
- *   3. No pointer is null (`out`, `wanted`, `value` and `version` neither), but one that goes with a length
- *      of 0: `NULL, 0` for the room asks how much is wanted. A pointer that goes with a length is to that
- *      many bytes.
+ *   3. No pointer is null (`out`, `wanted`, `value` and `version` neither), but one that goes with a length or
+ *      a count of 0: `NULL, 0` for the room asks how much is wanted, for the arguments gives none. A pointer that
+ *      goes with a length is to that many bytes, one that goes with a count to that many numbers.
  *   4. What a call may write (a handle that is not `const`, a room, `out`, `wanted`, `value`, `version`)
  *      overlaps nothing else that it is given.
  *   5. A call has 64 KB of stack, whatever the file: the deepest that the limits allow take less than two thirds.
  *   6. No call is made from a signal handler, nor from the forked child of a process with threads.
  *
- * What stays in memory until the process ends: what a program says, once for each `stm_read`,
- * and the cells of each store (two words a variable). All else goes with its handle.
+ * What stays in memory until the process ends: what a program says, once for each `stm_read`. All else goes
+ * with its handle, and what a store and its workers share (two words a variable) with the last of them: they
+ * may be let go in any order, and a worker may outlive its store.
  */
 #ifndef STM_H
 #define STM_H
@@ -39,7 +40,7 @@ enum stm_code {
     STM_STALE = 2,
     /* The task was not running, and nothing changed. */
     STM_NOT_RUNNING = 3,
-    /* The task was given up: for want of memory, or (`standing`) by the host. */
+    /* The task was given up: as memory ran out, or (`standing`) by its host. */
     STM_GIVEN_UP = 4,
     /* How a transaction ended that did not return: thrown by the program, with the value; a result outside 64
        bits; a division by 0; a standing condition that would not be true, with its number. The task is done. */
@@ -47,7 +48,7 @@ enum stm_code {
     STM_OVERFLOW = 6,
     STM_DIVIDE_BY_ZERO = 7,
     STM_BROKEN = 8,
-    /* `stm_explore`, `stm_explore_to`: more places are reached than were asked for, and the text says so. */
+    /* `stm_explore`, `stm_explore_to`: more states are reached than were asked for, and the text says so. */
     STM_MORE = 9,
     /* `stm_explore_to`: there is no end of that number, and no text. */
     STM_NO_END = 10,
@@ -79,8 +80,9 @@ enum stm_code {
     STM_FILE_BROKEN = -7,
     /* The room is too short; how long it has to be was written. */
     STM_SHORT = -8,
-    /* There is no such transaction or variable, or no task of this ticket (any more); or (`finish`) the store has
-       no such task, or runs another transaction as it. */
+    /* There is no such transaction or variable, or no task of this ticket (any more); the transaction has another
+       number of parameters than it is given arguments; or (`finish`) the store has no such task, or makes another
+       call as it. */
     STM_UNKNOWN = -9,
     /* `open`: more than 32 workers. `hire`: no worker is left. `hire`, `lend`: the program has no transaction. */
     STM_NO_WORKER = -10,
@@ -93,7 +95,7 @@ enum stm_code {
     STM_NO_ROOM = -14,
     /* A task is ready or running, and the report could not account for it. */
     STM_WORK_LEFT = -15,
-    /* The number of places to look at is not from 1 to 16777216. */
+    /* The number of states to look at is not from 1 to 16777216. */
     STM_STATES = -16,
     /* `finish`: the worker is of a program that says otherwise of the transaction, of the standing conditions, or
        of how many variables there are. Nothing changed. */
@@ -101,6 +103,9 @@ enum stm_code {
     /* `finish`: the job was taken in another chapter. Its task became ready when that one ended, if it was not
        over. Nothing changed. */
     STM_OTHER_CHAPTER = -18,
+    /* Of a service (service.h): it was closed before there was an outcome; the time was up before. */
+    STM_CLOSED = -19,
+    STM_TIMED_OUT = -20,
     /* The schedule is refused, for the reasons of a file. */
     STM_SCHEDULE_TOO_LONG = -21,
     STM_SCHEDULE_BAD_BYTE = -22,
@@ -111,19 +116,22 @@ enum stm_code {
 
 /* A code; what was returned (STM_DONE), what was thrown (STM_THROWN) or the number of a condition (STM_BROKEN),
  * else 0; and the number of the task's entry, 0 where there is none. */
-typedef struct stm_told {
+typedef struct stm_answer {
     int32_t code;
     int64_t value;
     uint64_t entry;
-} stm_told;
+} stm_answer;
 
-/* A task that was taken: its ticket; the chapter in which it was taken, and its number there; and its
- * transaction. The ticket is -1, STM_UNKNOWN or STM_EMPTY where there is none. */
+/* A task that was taken: its ticket; the chapter in which it was taken, and its number there; and its call: the
+ * transaction, and its arguments, of which there are `count`, with 0 behind them. The ticket is -1, STM_UNKNOWN or
+ * STM_EMPTY where there is no task. */
 typedef struct stm_job {
     int64_t ticket;
     uint64_t chapter;
     uint32_t task;
     uint32_t transaction;
+    size_t count;
+    int64_t arguments[8];
 } stm_job;
 
 /* A turn: the ticket of the task that had it, -1 where none had; its transaction; and how it ended. */
@@ -161,7 +169,7 @@ int32_t stm_world(const uint8_t *file, size_t file_length, const uint8_t *schedu
                   uint8_t *room, size_t room_length, size_t *wanted);
 
 /* Sees every order of the file's tasks, and copies what is found into the room: STM_DONE. At most `states`
- * places are looked at: STM_MORE where more are reached. What is found may be long, so call first with
+ * states are looked at: STM_MORE where more are reached. What is found may be long, so call first with
  * `NULL, 0` for the room where there is no good guess. */
 int32_t stm_explore(const uint8_t *file, size_t file_length, uint32_t states, uint8_t *room, size_t room_length,
                     size_t *wanted);
@@ -190,6 +198,13 @@ size_t stm_program_transactions(const stm_program *program);
 int64_t stm_program_variable(const stm_program *program, const uint8_t *name, size_t name_length);
 int64_t stm_program_transaction(const stm_program *program, const uint8_t *name, size_t name_length);
 
+/* How many parameters the transaction has, at most 8; STM_UNKNOWN. */
+int64_t stm_program_parameters(const stm_program *program, uint32_t transaction);
+
+/* Which transactions are long, so that evaluating one costs more than to give the lock back and to come for it again:
+ * copies a byte for each into the room, in their order, 1 for a long one and 0 for another. STM_SHORT, STM_MEMORY. */
+int32_t stm_program_long(const stm_program *program, uint8_t *room, size_t room_length, size_t *wanted);
+
 /* Opens a store of the program for at most 32 workers. `checkpoint` is as for `stm_run_one`. */
 int32_t stm_open(const stm_program *program, size_t workers, uint32_t checkpoint, stm_store *out);
 
@@ -202,16 +217,19 @@ int32_t stm_open_with_room(const stm_program *program, size_t workers, uint32_t 
  * submitted or called has the next one. A task that was done or given up when its chapter ended is gone, and
  * its ticket is no task's any more: STM_UNKNOWN. */
 
-/* A ready task of the transaction more: its ticket, STM_NO_ROOM or STM_UNKNOWN. It takes no memory.
- * Under the lock. */
-int64_t stm_submit(stm_store *store, uint32_t transaction);
+/* Arguments. A call gives its transaction a number for each of its parameters, in their order; they are copied. With
+ * more or fewer of them it is refused, and nothing changes: STM_UNKNOWN. A transaction without parameters takes
+ * `NULL, 0`. A task keeps its arguments for as long as it is there. */
+
+/* A ready task of the call more: its ticket, STM_NO_ROOM or STM_UNKNOWN. It takes no memory. Under the lock. */
+int64_t stm_submit(stm_store *store, uint32_t transaction, const int64_t *arguments, size_t count);
 
 /* How many tasks more the chapter has room for, and how many it has. 0 of an empty handle. Under the lock. */
 size_t stm_store_spare(stm_store *store);
 size_t stm_store_tasks(stm_store *store);
 
 /* How many tasks of the chapter stand how. Under the lock. */
-int32_t stm_counted(stm_store *store, stm_counts *out);
+int32_t stm_get_counts(stm_store *store, stm_counts *out);
 
 /* The present value of the variable of this name, and the number of the last entry that changed it:
  * STM_DONE, and both were written; STM_UNKNOWN. Under the lock. */
@@ -219,19 +237,20 @@ int32_t stm_value(stm_store *store, const uint8_t *name, size_t name_length, int
 
 /* A worker of the store, for one thread; STM_NO_WORKER where all were hired, or there is no transaction.
  * Where it answers STM_MEMORY, the store can make one worker less. Under the lock. */
-int32_t stm_hire(stm_store *store, stm_worker *out);
+int32_t stm_open_worker(stm_store *store, stm_worker *out);
 
 /* The lowest ready task, which is then running: its ticket; -1 where none is ready. Under the lock. */
 int64_t stm_take(stm_store *store);
 
-/* As `stm_take`, with all that a worker has to be told of the task. Under the lock. */
+/* As `stm_take`, with all that a worker has to be told of the task: its arguments too. Under the lock. */
 stm_job stm_take_job(stm_store *store);
 
 /* The task with the ticket, where it is ready, which is then running; -1 where it is not ready; STM_UNKNOWN.
  * Under the lock. */
 stm_job stm_claim(stm_store *store, int64_t ticket);
 
-/* Evaluates a job that was taken on one state, with no lock: STM_DONE, STM_STALE, STM_MEMORY, STM_UNKNOWN. */
+/* Evaluates a job that was taken, with its arguments, on one state, with no lock: STM_DONE, STM_STALE, STM_MEMORY,
+ * STM_UNKNOWN. */
 int32_t stm_try_job(stm_worker *worker, stm_job job);
 
 /* As `stm_try_job`, of a task of the program by its bare number, which is of the first chapter: so it serves
@@ -242,25 +261,27 @@ int32_t stm_try(stm_worker *worker, uint32_t task);
  * STM_THROWN .. STM_BROKEN) with the number of the entry; STM_RETRIES (the task is parked), STM_STALE,
  * STM_NOT_RUNNING, STM_NOT_ENDED, STM_UNKNOWN, STM_OTHER_PROGRAM, STM_OTHER_CHAPTER. The worker may be of any
  * store: where its program says otherwise the attempt is refused. Its time grows with the transaction. */
-stm_told stm_finish(stm_store *store, stm_worker *worker);
+stm_answer stm_finish(stm_store *store, stm_worker *worker);
 
 /* A turn of a running task on the present values, under the lock: as `stm_finish`, never stale;
  * STM_GIVEN_UP; STM_UNKNOWN. */
-stm_told stm_serial(stm_store *store, int64_t ticket);
+stm_answer stm_serial(stm_store *store, int64_t ticket);
 
 /* An attempt to lend to the calls below: STM_NO_WORKER where there is no transaction. It is no worker of the
  * store, and may be lent to any. Under the lock. */
-int32_t stm_lend(stm_store *store, stm_lender *out);
+int32_t stm_open_lender(stm_store *store, stm_lender *out);
 
-/* A task of the transaction more, which has its turn at once, whatever else is ready: its ticket, and the code
+/* A task of the call more, which has its turn at once, whatever else is ready: its ticket, and the code
  * STM_DONE or STM_THROWN .. STM_BROKEN with the value and the number of the entry; STM_RETRIES (it is parked),
  * STM_GIVEN_UP. The ticket -1 and no change: STM_NO_ROOM, STM_UNKNOWN, STM_EMPTY. What it woke is ready.
  * Under the lock. */
-stm_turned stm_call(stm_store *store, stm_lender *lender, uint32_t transaction);
+stm_turned stm_call(stm_store *store, stm_lender *lender, uint32_t transaction, const int64_t *arguments,
+                    size_t count);
 
 /* As `stm_call`, but nothing changes where the transaction retries on the present values: the ticket -1 and
  * STM_RETRIES. Under the lock. */
-stm_turned stm_try_call(stm_store *store, stm_lender *lender, uint32_t transaction);
+stm_turned stm_try_call(stm_store *store, stm_lender *lender, uint32_t transaction, const int64_t *arguments,
+                        size_t count);
 
 /* Gives the lowest ready task a turn: as `stm_call`; the ticket -1 and STM_IDLE where none is ready. Under the
  * lock. */
@@ -269,7 +290,7 @@ stm_turned stm_turn(stm_store *store, stm_lender *lender);
 /* Gives the lowest ready task a turn, and then the next one, until so many turns were given or none is
  * ready: how many turns were given, or STM_EMPTY. For short tasks: it costs less than to take, try and
  * finish each, but the lock is held meanwhile. The worker lends its attempt, and has no ended one to
- * bring afterwards; it may be of any store. What meets want of memory is given up. Under the lock. */
+ * bring afterwards; it may be of any store. What runs out of memory is given up. Under the lock. */
 int64_t stm_turns(stm_store *store, stm_worker *worker, uint32_t most);
 
 /* A running task is given up: STM_DONE, STM_NOT_RUNNING, STM_UNKNOWN. Under the lock. */
@@ -280,11 +301,11 @@ int32_t stm_withdraw(stm_store *store, int64_t ticket);
 
 /* How the task stands: STM_READY, STM_RUNNING, STM_RETRIES (it is parked), STM_DONE with the number of its entry,
  * STM_GIVEN_UP; STM_UNKNOWN. Under the lock. */
-stm_told stm_standing(stm_store *store, int64_t ticket);
+stm_answer stm_standing(stm_store *store, int64_t ticket);
 
 /* What the task's entry records: as `stm_call`; STM_NO_ENTRY, STM_UNKNOWN. A checkpoint takes the entries away,
  * so who wants an outcome asks before. Under the lock. */
-stm_told stm_outcome(stm_store *store, int64_t ticket);
+stm_answer stm_outcome(stm_store *store, int64_t ticket);
 
 /* A new chapter begins where the present one is: the tasks that are ready, running or parked come over with
  * their tickets, in their order, and are numbered anew. One that was running is ready, and a job of it that was
@@ -312,9 +333,9 @@ int32_t stm_report_now(stm_store *store, uint8_t *room, size_t room_length, size
  * report of the same moment a pair that `stm_check` finds good. STM_FILE_TOO_LONG. Under the lock. */
 int32_t stm_file(stm_store *store, uint8_t *room, size_t room_length, size_t *wanted);
 
-/* How the transaction would end on one state, with no lock: STM_DONE with the value that it returns,
- * STM_RETRIES, STM_STALE, STM_THROWN .. STM_BROKEN, STM_MEMORY, STM_UNKNOWN. It has no entry. */
-stm_told stm_observe(stm_worker *worker, uint32_t transaction);
+/* How the call would end on one state, with no lock: STM_DONE with the value that it returns, STM_RETRIES,
+ * STM_STALE, STM_THROWN .. STM_BROKEN, STM_MEMORY, STM_UNKNOWN. It has no entry. */
+stm_answer stm_observe(stm_worker *worker, uint32_t transaction, const int64_t *arguments, size_t count);
 
 /* Let go, and leave the handle empty. An empty one stays so. */
 void stm_program_free(stm_program *program);

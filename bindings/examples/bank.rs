@@ -1,126 +1,80 @@
-//! An in-memory store: accounts, transfers by several threads, and audits meanwhile.
-//!
-//! Two standing conditions hold in every state: no account is below zero, and the sum stays. An
-//! audit is read beside the commits, without a lock, and is of one state: it never sees half of a
-//! transfer. A transfer that its payer cannot pay throws the amount, and the tellers count what they are
-//! answered. In the end the report is judged, and says the same.
+//! A bank: four threads transfer money through one service, and an auditor looks on beside them. Two standing
+//! conditions hold in every state. In the end the journals of all chapters are judged, and say what the threads were
+//! answered.
 
+use std::error::Error;
 use std::sync::atomic::{AtomicBool, Ordering};
-use stm::{
-    and, eq, le, lt, seq, set, skip, sum, throw, var, when, Brought, Declare, Job, Observed, Outcome,
-    Program, Store, Tried, Var, Worker,
-};
+use std::sync::mpsc;
+use stm::{and, eq, int, le, lt, seq, set, skip, sum, throw, var, when};
+use stm::{Declare, Fault, Service, ServiceOptions, Var, Verdict};
 
 const ACCOUNTS: usize = 8;
 const EACH: i64 = 100;
-const TRANSFERS: u32 = 500;
 const THREADS: usize = 4;
+const TRANSFERS: u32 = 1000;
 
-fn bank() -> Result<Program, stm::Error> {
+/// A transfer from each account; its payer has the amount, or it throws what is missing.
+fn declared() -> Declare {
     let mut bank = Declare::new();
     let accounts: Vec<Var> = (0..ACCOUNTS).map(|i| bank.var(&format!("account{i}"), EACH)).collect();
-    let total = ACCOUNTS as i64 * EACH;
-    bank.always("total", eq(sum(&accounts), total));
+    bank.always("total", eq(sum(&accounts), ACCOUNTS as i64 * EACH));
     let solvent = accounts[1..].iter().fold(le(0, &accounts[0]), |all, one| and(all, le(0, one)));
     bank.always("solvent", solvent);
-    let mut transfers = Vec::new();
-    for from in 0..ACCOUNTS {
-        let (payer, payee) = (&accounts[from], &accounts[(from + 3) % ACCOUNTS]);
-        let amount = 7 + from as i64;
-        let move_money = seq([set(payer, var(payer) - amount), set(payee, var(payee) + amount)]);
-        let body = when(lt(var(payer), amount), throw(amount), move_money);
-        transfers.push(bank.tx(&format!("transfer{from}"), body, var(payer)));
+    for (from, payer) in accounts.iter().enumerate() {
+        let (payee, amount) = (&accounts[(from + 3) % ACCOUNTS], 7 + from as i64);
+        let pay = seq([set(payer, var(payer) - amount), set(payee, var(payee) + amount)]);
+        let missing = throw(int(amount) - var(payer));
+        bank.tx(&format!("transfer{from}"), when(lt(payer, amount), missing, pay), payer);
     }
     bank.tx("audit", skip(), sum(&accounts));
-    for transfer in &transfers {
-        bank.run(transfer, TRANSFERS);
-    }
-    bank.program()
+    bank
 }
 
-/// While this is there the bank is open. It closes where a teller fails, too: else the auditor would never end.
-struct Opened<'a>(&'a AtomicBool);
-
-impl Drop for Opened<'_> {
-    fn drop(&mut self) {
-        self.0.store(false, Ordering::SeqCst);
-    }
-}
-
-/// How many transfers were paid, and how many refused.
-#[derive(Clone, Copy, Debug, Default, PartialEq, Eq)]
-struct Answered {
-    paid: u32,
-    refused: u32,
-}
-
-/// The life of a teller: the lowest transfer that is ready, until none is. What it was answered.
-fn serve(store: &Store, teller: &mut Worker) -> Result<Answered, stm::Error> {
-    let mut answered = Answered::default();
-    while let Some(job) = store.take_job() {
-        match transfer(store, teller, job)? {
-            Outcome::Returned(_) => answered.paid += 1,
-            Outcome::Thrown(_) => answered.refused += 1,
-            other => panic!("a transfer answers {other:?}"),
+/// Transfers from one account after the other: how many were paid.
+fn teller(bank: &Service, first: usize) -> Result<usize, Fault> {
+    let mut paid = 0;
+    for turn in 0..TRANSFERS as usize {
+        let from = (first + turn) % ACCOUNTS;
+        let transfer = bank.transaction(&format!("transfer{from}")).expect("it is declared");
+        match bank.atomically(transfer, &[]) {
+            Ok(_left) => paid += 1,
+            Err(Fault::Thrown(missing)) => assert!(missing > 0),
+            Err(fault) => return Err(fault),
         }
     }
-    Ok(answered)
+    Ok(paid)
 }
 
-/// All tries of a transfer: how it ended.
-fn transfer(store: &Store, teller: &mut Worker, job: Job) -> Result<Outcome, stm::Error> {
-    loop {
-        match teller.try_job(job)? {
-            Tried::Ended => match store.finish(teller)? {
-                Brought::Committed(entered) => return Ok(entered.outcome),
-                Brought::Stale => continue,
-                other => panic!("a transfer that runs is {other:?}"),
-            },
-            Tried::Stale => continue,
-            Tried::Memory => return Err(stm::Error::Memory),
-        }
-    }
-}
-
-fn main() -> Result<(), stm::Error> {
-    let program = bank()?;
-    let audit = program.transaction("audit").expect("it is declared");
-    let store = Store::open(&program, THREADS + 1, 0)?;
-    let mut auditor = store.worker()?;
-    let mut tellers = Vec::new();
-    for _ in 0..THREADS {
-        tellers.push(store.worker()?);
-    }
+fn main() -> Result<(), Box<dyn Error>> {
+    let (keep, kept) = mpsc::channel();
+    let options = ServiceOptions::new()
+        .room(1500)
+        .on_chapter(move |file, report| keep.send((file.to_string(), report.to_string())));
+    let bank = Service::open_with(&declared().text()?, options)?;
+    let audit = bank.transaction("audit").expect("it is declared");
     let is_open = AtomicBool::new(true);
-    let (audits, answered) = std::thread::scope(|scope| {
-        let watching = scope.spawn(|| {
-            let mut audits = 0u32;
-            while is_open.load(Ordering::SeqCst) || audits == 0 {
-                match auditor.observe(audit)? {
-                    Observed::Returned(sum) => assert_eq!(sum, ACCOUNTS as i64 * EACH),
-                    Observed::Stale => continue,
-                    other => panic!("an audit answers {other:?}"),
-                }
-                audits += 1;
+    let paid: Result<Vec<usize>, Fault> = std::thread::scope(|scope| {
+        let bank = &bank;
+        let tellers: Vec<_> = (0..THREADS).map(|first| scope.spawn(move || teller(bank, first))).collect();
+        scope.spawn(|| {
+            while is_open.load(Ordering::SeqCst) {
+                assert_eq!(bank.observe(audit, &[]), Ok(ACCOUNTS as i64 * EACH));
             }
-            Ok::<u32, stm::Error>(audits)
         });
-        let opened = Opened(&is_open);
-        let working: Vec<_> =
-            tellers.iter_mut().map(|teller| scope.spawn(|| serve(&store, teller))).collect();
-        let mut answered = Answered::default();
-        for teller in working {
-            let Answered { paid, refused } = teller.join().expect("a teller ends")?;
-            answered = Answered { paid: answered.paid + paid, refused: answered.refused + refused };
-        }
-        drop(opened);
-        Ok::<_, stm::Error>((watching.join().expect("the auditor ends")?, answered))
-    })?;
-    let report = store.report()?;
-    assert!(audits > 0);
-    let told = |word| report.lines().filter(|line| line.split(' ').nth(4) == Some(word)).count() as u32;
-    assert_eq!(answered, Answered { paid: told("returned"), refused: told("threw") });
-    println!("{} transfers, each paid or refused", answered.paid + answered.refused);
-    println!("{:?}", stm::check(program.text(), &report)?);
+        let ended: Vec<_> = tellers.into_iter().map(|teller| teller.join()).collect();
+        is_open.store(false, Ordering::SeqCst);
+        ended.into_iter().map(|paid| paid.expect("a teller ends")).collect()
+    });
+    bank.close();
+    let last = (bank.file()?, bank.report()?);
+    let mut told = [0, 0];
+    for (file, report) in kept.try_iter().chain([last]) {
+        assert_eq!(stm::check(&file, &report)?, Verdict::Good);
+        told[0] += report.matches(" returned ").count();
+        told[1] += report.matches(" threw ").count();
+    }
+    assert_eq!(told[0], paid?.iter().sum());
+    println!("{} transfers, each paid or refused", told[0] + told[1]);
+    println!("the journals of {} chapters are good", bank.chapter() + 1);
     Ok(())
 }

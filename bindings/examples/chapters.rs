@@ -73,7 +73,7 @@ fn main() -> Result<(), stm::Error> {
     let mut good = 0;
     for _ in 0..CHAPTERS {
         for _ in 0..MINUTES {
-            store.call(minute)?;
+            store.call(minute, &[])?;
         }
         state = plainly(state);
         assert_eq!(present(&store), state);

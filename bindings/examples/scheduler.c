@@ -32,26 +32,26 @@ static pthread_mutex_t lock = PTHREAD_MUTEX_INITIALIZER;
 static stm_store store;
 static uint64_t entry[TASKS];
 
-static stm_told finish(stm_worker *worker) {
+static stm_answer finish(stm_worker *worker) {
     pthread_mutex_lock(&lock);
-    stm_told told = stm_finish(&store, worker);
+    stm_answer told = stm_finish(&store, worker);
     pthread_mutex_unlock(&lock);
     return told;
 }
 
 /* All tries of a task, and then a turn under the lock. */
-static stm_told run(stm_worker *worker, uint32_t task) {
+static stm_answer run(stm_worker *worker, uint32_t task) {
     for (int tries = 0; tries < STALE_TRIES; tries++) {
         int32_t tried = stm_try(worker, task);
         if (tried == STM_DONE) {
-            stm_told told = finish(worker);
+            stm_answer told = finish(worker);
             if (told.code != STM_STALE) return told;
         } else if (tried != STM_STALE) {
             break;
         }
     }
     pthread_mutex_lock(&lock);
-    stm_told told = stm_serial(&store, task);
+    stm_answer told = stm_serial(&store, task);
     pthread_mutex_unlock(&lock);
     return told;
 }
@@ -63,7 +63,7 @@ static void *work(void *argument) {
         int64_t task = stm_take(&store);
         pthread_mutex_unlock(&lock);
         if (task < 0) return NULL;
-        stm_told told = run(worker, (uint32_t)task);
+        stm_answer told = run(worker, (uint32_t)task);
         if (told.code == STM_DONE) {
             pthread_mutex_lock(&lock);
             entry[task] = told.entry;
@@ -89,7 +89,7 @@ int main(int count, char **words) {
     static stm_worker workers[MOST_THREADS];
     static pthread_t pool[MOST_THREADS];
     for (int i = 0; i < threads; i++) {
-        code = stm_hire(&store, &workers[i]);
+        code = stm_open_worker(&store, &workers[i]);
         if (code != STM_DONE) return fail("worker", code);
     }
     for (int i = 0; i < threads; i++) {

@@ -1,6 +1,6 @@
 //! Links the static library. `STM_LIB_DIR` names a folder of `libstm.a` (as `./stm --library` builds it, or a package has
-//! it), or else of `libstm_c.a` (as `rt lib` builds it) and of `libstm_heap.a` (made of `bindings/c/heap.c`). Where it is
-//! not set, `pkg-config` is asked where the library lies.
+//! it), or else of `libstm_c.a` (as `rt lib` builds it) and of `libstm_heap.a` (made of `heap.c` and `service.c` in
+//! `bindings/c`). Where it is not set, `pkg-config` is asked where the library lies.
 use std::path::Path;
 use std::process::Command;
 

@@ -1,4 +1,5 @@
-/* Each code's word; what `wanted` is after each answer; rooms and inputs of no length; each verdict. Prints `good`. */
+/* Each code's word; what `wanted` is after each answer; rooms and inputs of no length; each verdict; which transactions
+ * are long. Prints `good`. */
 #include "stm.h"
 #include "wants.h"
 
@@ -19,7 +20,7 @@ static const struct {
     {6, "overflow"},
     {7, "divide by zero"},
     {8, "broken condition"},
-    {9, "more places are reached"},
+    {9, "more states are reached"},
     {10, "no such end"},
     {11, "no task is ready"},
     {12, "no entry in the journal"},
@@ -40,16 +41,18 @@ static const struct {
     {-6, "out of memory"},
     {-7, "file: broken condition"},
     {-8, "room too short"},
-    {-9, "unknown task, transaction or variable"},
+    {-9, "unknown task, transaction or variable, or a wrong number of arguments"},
     {-10, "no worker"},
     {-11, "no ended attempt"},
     {-12, "empty handle"},
     {-13, "full handle"},
     {-14, "no room for another task"},
     {-15, "work left"},
-    {-16, "number of places out of range"},
+    {-16, "number of states out of range"},
     {-17, "other program"},
     {-18, "other chapter"},
+    {-19, "closed"},
+    {-20, "timed out"},
     {-21, "schedule: too long"},
     {-22, "schedule: bad byte"},
     {-23, "schedule: shape"},
@@ -105,6 +108,22 @@ static void rooms(void) {
     }
 }
 
+/* Which transactions are long: a byte for each, in their order. */
+static void long_ones(void) {
+    static const char text[] = "(var x 0)(tx short (repeat 10 (set x 1)) x)(tx long (repeat 100 (repeat 100 (set x 1))) x)(tx none (skip) 0)";
+    stm_program three = {0}, none = {0};
+    size_t wanted = 99;
+    wants(stm_read(bytes(text), strlen(text), &three) == STM_DONE);
+    wants(stm_program_long(&three, NULL, 0, &wanted) == STM_SHORT && wanted == 3);
+    memset(room, '?', 4), wanted = 99;
+    wants(stm_program_long(&three, room, 2, &wanted) == STM_SHORT && wanted == 3 && room[0] == '?');
+    wants(stm_program_long(&three, room, 3, &wanted) == STM_DONE && wanted == 3 && memcmp(room, "\0\1\0?", 4) == 0);
+    wants(stm_program_long(&none, room, 3, &wanted) == STM_EMPTY && wanted == 0 && room[1] == 1);
+    wants(stm_read(NULL, 0, &none) == STM_DONE && stm_program_long(&none, NULL, 0, &wanted) == STM_DONE && wanted == 0);
+    stm_program_free(&three);
+    stm_program_free(&none);
+}
+
 /* Where there is no text, `wanted` is 0, whatever it was. */
 static void no_texts(void) {
     size_t wanted;
@@ -141,12 +160,14 @@ static void nothing(void) {
     int64_t value = 9;
     uint64_t version = 9;
     size_t wanted = 99;
-    wants(stm_read(NULL, 0, &empty) == STM_DONE && stm_program_tasks(&empty) == 0 && stm_program_variables(&empty) == 0);
+    wants(stm_read(NULL, 0, &empty) == STM_DONE && stm_program_tasks(&empty) == 0);
+    wants(stm_program_variables(&empty) == 0);
     wants(stm_run_one(NULL, 0, 0, room, sizeof room, &wanted) == STM_DONE && wanted > 0);
     wants(stm_check(NULL, 0, room, wanted) == STM_DONE && stm_check(NULL, 0, NULL, 0) == STM_BAD_TEXT);
     wants(stm_world(NULL, 0, NULL, 0, room, sizeof room, &wanted) == STM_DONE);
     wants(stm_explore(NULL, 0, 1, room, sizeof room, &wanted) == STM_DONE);
-    wants(stm_program_variable(&program, NULL, 0) == STM_UNKNOWN && stm_program_transaction(&program, NULL, 0) == STM_UNKNOWN);
+    wants(stm_program_variable(&program, NULL, 0) == STM_UNKNOWN);
+    wants(stm_program_transaction(&program, NULL, 0) == STM_UNKNOWN);
     wants(stm_value(&store, NULL, 0, &value, &version) == STM_UNKNOWN && value == 9 && version == 9);
     stm_program_free(&empty);
 }
@@ -171,19 +192,28 @@ static void verdicts(void) {
     wants(judged(file, "end", "end") == STM_BAD_PARKED);
 }
 
-/* A job's ticket is from 0 on, and its transaction one of the program; whether it is a task is judged by the store. */
+static stm_job job(int64_t ticket, uint64_t chapter, uint32_t task, uint32_t transaction) {
+    return (stm_job){ticket, chapter, task, transaction, 0, {0}};
+}
+
+/* A job's ticket is from 0 on, its transaction one of the program, and its arguments are as many as that has
+   parameters; whether it is a task is judged by the store. */
 static void jobs(void) {
     stm_worker worker = {0};
-    wants(stm_try_job(&worker, (stm_job){.ticket = 0}) == STM_EMPTY && stm_hire(&store, &worker) == STM_DONE);
+    wants(stm_try_job(&worker, (stm_job){.ticket = 0}) == STM_EMPTY && stm_open_worker(&store, &worker) == STM_DONE);
     wants(stm_try_job(&worker, (stm_job){.ticket = -1, .transaction = 1}) == STM_UNKNOWN);
     wants(stm_try_job(&worker, (stm_job){.ticket = INT64_MIN, .transaction = 1}) == STM_UNKNOWN);
     wants(stm_try_job(&worker, (stm_job){.ticket = 1, .task = 1, .transaction = 2}) == STM_UNKNOWN);
     const stm_job strange[] = {
-        {1, 0, 2, 1}, {1, 0, 0, 1}, {2, 0, 1, 1}, {1, 0, 1, 0}, {1, 0, 65536, 1}, {1, 0, UINT32_MAX, 1}, {INT64_MAX, 0, 1, 1}};
+        job(1, 0, 2, 1), job(1, 0, 0, 1), job(2, 0, 1, 1), job(1, 0, 1, 0), job(1, 0, 65536, 1), job(1, 0, UINT32_MAX, 1),
+        job(INT64_MAX, 0, 1, 1)};
     for (size_t i = 0; i < sizeof strange / sizeof *strange; i++)
         wants(stm_try_job(&worker, strange[i]) == STM_DONE && stm_finish(&store, &worker).code == STM_UNKNOWN);
-    wants(stm_try_job(&worker, (stm_job){1, 1, 1, 1}) == STM_DONE && stm_finish(&store, &worker).code == STM_OTHER_CHAPTER);
-    wants(stm_try_job(&worker, (stm_job){1, 0, 1, 1}) == STM_DONE && stm_finish(&store, &worker).code == STM_NOT_RUNNING);
+    wants(stm_try_job(&worker, job(1, 1, 1, 1)) == STM_DONE && stm_finish(&store, &worker).code == STM_OTHER_CHAPTER);
+    wants(stm_try_job(&worker, job(1, 0, 1, 1)) == STM_DONE && stm_finish(&store, &worker).code == STM_NOT_RUNNING);
+    const size_t counts[] = {1, 8, 9, SIZE_MAX};
+    for (size_t i = 0; i < sizeof counts / sizeof *counts; i++)
+        wants(stm_try_job(&worker, (stm_job){.ticket = 1, .task = 1, .transaction = 1, .count = counts[i]}) == STM_UNKNOWN);
     stm_worker_free(&worker);
 }
 
@@ -196,6 +226,7 @@ int main(void) {
     jobs();
     no_texts();
     rooms();
+    long_ones();
     stm_store_free(&store);
     stm_program_free(&program);
     printf("good\n");

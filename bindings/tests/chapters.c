@@ -16,7 +16,7 @@ static const uint8_t *bytes(const char *text) { return (const uint8_t *)text; }
 static void opens(const char *file, size_t spare) {
     wants(stm_read(bytes(file), strlen(file), &program) == STM_DONE);
     wants(stm_open_with_room(&program, 1, 0, spare, &store) == STM_DONE);
-    wants(stm_hire(&store, &worker) == STM_DONE && stm_lend(&store, &lender) == STM_DONE);
+    wants(stm_open_worker(&store, &worker) == STM_DONE && stm_open_lender(&store, &lender) == STM_DONE);
 }
 
 static void ends(void) {
@@ -38,7 +38,7 @@ static void is(const char *file, const char *report) {
 
 static int stands(size_t ready, size_t running, size_t parked, size_t done, size_t given_up) {
     stm_counts c;
-    wants(stm_counted(&store, &c) == STM_DONE);
+    wants(stm_get_counts(&store, &c) == STM_DONE);
     return c.ready == ready && c.running == running && c.parked == parked && c.done == done && c.given_up == given_up;
 }
 
@@ -49,7 +49,7 @@ static const char WAITS[] = "(var n 0)\n(tx inc (set n (add n 7)) n)\n(tx wait (
 static void a_chapter_begins(void) {
     opens(WAITS, 0);
     wants(stm_turns(&store, &worker, UINT32_MAX) == 5 && stands(0, 0, 1, 2, 0));
-    wants(stm_call(&store, &lender, 0).code == STM_NO_ROOM && stm_chapter(&store) == 0);
+    wants(stm_call(&store, &lender, 0, NULL, 0).code == STM_NO_ROOM && stm_chapter(&store) == 0);
     wants(stm_begin_chapter(&store) == STM_DONE && stm_chapter(&store) == 1 && stm_entered(&store) == 2);
     wants(stands(0, 0, 1, 0, 0) && stm_store_spare(&store) == 2 && stm_store_tasks(&store) == 1);
     is("(var n 7)\n(tx inc (set n (add n 7)) n)\n(tx wait (if (eq n 0) (retry) (skip)) n)\n"
@@ -57,7 +57,7 @@ static void a_chapter_begins(void) {
        "base 0\nn 7 0\nnow 0\nn 7 0\nparked 0 hold\nend\n");
     wants(stm_standing(&store, 0).code == STM_UNKNOWN && stm_standing(&store, 2).code == STM_UNKNOWN);
     wants(stm_standing(&store, 1).code == STM_RETRIES && stm_outcome(&store, 0).code == STM_UNKNOWN);
-    stm_turned turn = stm_call(&store, &lender, 0);
+    stm_turned turn = stm_call(&store, &lender, 0, NULL, 0);
     wants(turn.ticket == 3 && turn.code == STM_DONE && turn.value == 14 && turn.entry == 1);
     wants(stm_turn(&store, &lender).code == STM_RETRIES && stm_entered(&store) == 3);
     ends();
@@ -68,12 +68,12 @@ static void a_task_waits_for_long(void) {
     opens("(var n 0)(tx get (if (lt n 201) (retry) (set n 0)) n)(tx put (set n (add n 1)) n)(run get 1)", 1);
     wants(stm_turn(&store, &lender).code == STM_RETRIES);
     for (uint64_t chapter = 1; chapter <= 200; chapter++) {
-        stm_turned put = stm_call(&store, &lender, 1), again = stm_turn(&store, &lender);
+        stm_turned put = stm_call(&store, &lender, 1, NULL, 0), again = stm_turn(&store, &lender);
         wants(put.ticket == (int64_t)chapter && put.value == (int64_t)chapter && put.entry == 1);
         wants(again.ticket == 0 && again.code == STM_RETRIES && stm_turn(&store, &lender).code == STM_IDLE);
         wants(stm_begin_chapter(&store) == STM_DONE && stm_chapter(&store) == chapter && stm_entered(&store) == chapter);
     }
-    stm_turned put = stm_call(&store, &lender, 1), got = stm_turn(&store, &lender);
+    stm_turned put = stm_call(&store, &lender, 1, NULL, 0), got = stm_turn(&store, &lender);
     wants(put.ticket == 201 && got.ticket == 0 && got.code == STM_DONE && got.value == 0 && got.entry == 2);
     ends();
 }
@@ -84,7 +84,7 @@ static void jobs_of_a_chapter(void) {
     stm_job first = stm_take_job(&store), second = stm_take_job(&store);
     wants(first.chapter == 0 && stm_serial(&store, first.ticket).value == 1 && second.ticket == 1 && second.task == 1);
     wants(stm_try_job(&worker, second) == STM_DONE && stm_begin_chapter(&store) == STM_DONE);
-    stm_told told = stm_finish(&store, &worker);
+    stm_answer told = stm_finish(&store, &worker);
     wants(told.code == STM_OTHER_CHAPTER && told.value == 0 && told.entry == 0);
     wants(stands(2, 0, 0, 0, 0) && stm_standing(&store, 1).code == STM_READY);
     wants(stm_finish(&store, &worker).code == STM_NOT_ENDED);
@@ -118,12 +118,12 @@ static void other_programs(void) {
     for (int i = 0; i < 2; i++) {
         const char *file = of_variables(i == 0 ? 1 : 256);
         wants(stm_read(bytes(file), strlen(file), &programs[i]) == STM_DONE);
-        wants(stm_open(&programs[i], 1, 0, &stores[i]) == STM_DONE && stm_hire(&stores[i], &workers[i]) == STM_DONE);
+        wants(stm_open(&programs[i], 1, 0, &stores[i]) == STM_DONE && stm_open_worker(&stores[i], &workers[i]) == STM_DONE);
     }
     for (int i = 0; i < 2; i++) {
         stm_job job = stm_take_job(&stores[i]);
         wants(stm_try_job(&workers[1 - i], job) == STM_DONE);
-        stm_told told = stm_finish(&stores[i], &workers[1 - i]);
+        stm_answer told = stm_finish(&stores[i], &workers[1 - i]);
         wants(told.code == STM_OTHER_PROGRAM && told.value == 0 && told.entry == 0);
         wants(stm_finish(&stores[i], &workers[1 - i]).code == STM_NOT_ENDED && stm_entered(&stores[i]) == 0);
         wants(stm_standing(&stores[i], 0).code == STM_RUNNING && stm_try_job(&workers[i], job) == STM_DONE);
@@ -149,7 +149,7 @@ static void the_same_program(void) {
         stm_store second = {0};
         stm_worker hired = {0};
         wants(stm_read(bytes(files[i]), strlen(files[i]), &other) == STM_DONE && stm_open(&other, 1, 0, &second) == STM_DONE);
-        wants(stm_hire(&second, &hired) == STM_DONE && stm_try_job(&hired, stm_take_job(&store)) == STM_DONE);
+        wants(stm_open_worker(&second, &hired) == STM_DONE && stm_try_job(&hired, stm_take_job(&store)) == STM_DONE);
         /* It has read 9, which is not what the store has; of the stricter one nothing is brought. */
         wants(stm_finish(&store, &hired).code == (i == 0 ? STM_STALE : STM_OTHER_PROGRAM));
         stm_worker_free(&hired);

@@ -42,9 +42,10 @@ static int host(long *kept) {
     stm_lender lender = {0};
     told_of |= stm_read(file, length, &program) == STM_MEMORY;
     *kept = blocks;
+    told_of |= stm_program_long(&program, room, sizeof room, &wanted) == STM_MEMORY;
     told_of |= stm_open(&program, 2, 0, &store) == STM_MEMORY;
-    told_of |= stm_hire(&store, &worker) == STM_MEMORY;
-    told_of |= stm_lend(&store, &lender) == STM_MEMORY;
+    told_of |= stm_open_worker(&store, &worker) == STM_MEMORY;
+    told_of |= stm_open_lender(&store, &lender) == STM_MEMORY;
     int32_t turned = stm_turn(&store, &lender).code;
     if (turned == STM_EMPTY ? store.at && lender.at : turned < 0) exit(6);
     told_of |= turned == STM_GIVEN_UP;
@@ -79,15 +80,15 @@ static int takes_none(void) {
     stm_store store = {0};
     stm_lender lender = {0};
     if (stm_read((const uint8_t *)text, sizeof text - 1, &program) != STM_DONE) return 0;
-    if (stm_open_with_room(&program, 0, 0, 6, &store) != STM_DONE || stm_lend(&store, &lender) != STM_DONE) return 0;
+    if (stm_open_with_room(&program, 0, 0, 6, &store) != STM_DONE || stm_open_lender(&store, &lender) != STM_DONE) return 0;
     long before = requests;
     for (int chapter = 0; chapter < 50; chapter++) {
-        int64_t ticket = stm_submit(&store, 0), other = stm_submit(&store, 1);
+        int64_t ticket = stm_submit(&store, 0, NULL, 0), other = stm_submit(&store, 1, NULL, 0);
         if (ticket < 0 || stm_claim(&store, ticket).ticket != ticket || stm_serial(&store, ticket).code != STM_DONE) return 0;
         if (stm_outcome(&store, ticket).code != STM_DONE || stm_standing(&store, ticket).code != STM_DONE) return 0;
         int32_t waits = stm_turn(&store, &lender).code;
         if (waits != STM_RETRIES && waits != STM_DONE) return 0;
-        if (stm_call(&store, &lender, 0).code != STM_DONE || stm_try_call(&store, &lender, 0).code != STM_DONE) return 0;
+        if (stm_call(&store, &lender, 0, NULL, 0).code != STM_DONE || stm_try_call(&store, &lender, 0, NULL, 0).code != STM_DONE) return 0;
         stm_withdraw(&store, other);
         if (stm_begin_chapter(&store) != STM_DONE) return 0;
     }
@@ -98,44 +99,46 @@ static int takes_none(void) {
     return none;
 }
 
+/* Whether this answers a run: with a good report, or with running out of memory. */
+static int is_answer(int32_t code) {
+    if (code != STM_DONE) return code == STM_MEMORY;
+    long turn = refused;
+    refused = 0;
+    int32_t verdict = stm_check(file, length, room, wanted);
+    refused = turn;
+    return verdict == STM_DONE;
+}
+
 int main(int count, char **words) {
     if (count < 2) return 9;
     FILE *input = fopen(words[1], "rb");
     if (!input) return 9;
     length = fread(file, 1, sizeof file, input);
     fclose(input);
-    /* Whole files: without a refusal nothing is left; with one the answer is want of memory, and nothing is left. */
+    /* Whole files: without a refusal nothing is left; with one the answer is out of memory, and nothing is left. */
     long all;
     if (stm_run_one(file, length, 0, room, sizeof room, &wanted) != STM_DONE || blocks != 0) return 2;
     for (all = requests, refused = 1; refused <= all; refused++) {
         requests = 0;
         int32_t code = stm_run_one(file, length, 0, room, sizeof room, &wanted);
-        if (blocks != 0) return 3;
-        if (code == STM_DONE) {
-            long turn = refused;
-            refused = 0;
-            if (stm_check(file, length, room, wanted) != STM_DONE) return 3;
-            refused = turn;
-        } else if (code != STM_MEMORY) {
-            return 3;
-        }
+        if (blocks != 0 || !is_answer(code)) return 3;
     }
     refused = 0;
     if (!takes_none()) return 8;
-    /* A store: what stays is what the program says, and the cells; a refusal changes nothing of that. */
+    /* A store: what stays is what the program says, and nothing else; a refusal changes nothing of that. */
     long kept, before = blocks;
     refused = 0;
     requests = 0;
     host(&kept);
     long stays = blocks - before;
-    if (stays < 1) return 4;
+    if (stays < 1 || blocks != kept) return 4;
     all = requests;
     for (long turn = 1; turn <= all; turn++) {
         before = blocks;
         requests = 0;
         refused = turn;
         host(&kept);
-        if (blocks - before > stays) return 5;
+        if (blocks != kept || blocks - before > stays) return 5;
     }
     printf("%ld requests refused, %ld blocks stay\n", all, stays);
     return 0;

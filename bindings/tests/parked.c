@@ -28,7 +28,7 @@ static void ends(int64_t ticket, uint32_t transaction, int32_t code) {
 
 static void stand(size_t ready, size_t running, size_t parked, size_t done) {
     stm_counts counts = {9, 9, 9, 9, 9};
-    wants(stm_counted(&store, &counts) == STM_DONE);
+    wants(stm_get_counts(&store, &counts) == STM_DONE);
     wants(counts.ready == ready && counts.running == running && counts.parked == parked);
     wants(counts.done == done && counts.given_up == 0);
 }
@@ -59,14 +59,14 @@ static void empty_handles(void) {
     uint64_t version;
     stm_program program = {0};
     wants(stm_open_with_room(&program, 1, 0, 1, &store) == STM_EMPTY);
-    wants(stm_submit(&store, 0) == STM_EMPTY && stm_take_job(&store).ticket == STM_EMPTY);
-    wants(stm_counted(&store, &counts) == STM_EMPTY);
+    wants(stm_submit(&store, 0, NULL, 0) == STM_EMPTY && stm_take_job(&store).ticket == STM_EMPTY);
+    wants(stm_get_counts(&store, &counts) == STM_EMPTY);
     wants(stm_value(&store, bytes("full"), 4, &value, &version) == STM_EMPTY);
     wants(stm_file(&store, &none, 0, &unused) == STM_EMPTY && stm_report_now(&store, &none, 0, &unused) == STM_EMPTY);
     wants(stm_try_job(&worker, (stm_job){.ticket = 0}) == STM_EMPTY);
     wants(stm_try(&worker, 0) == STM_EMPTY);
-    wants(stm_observe(&worker, 0).code == STM_EMPTY && stm_finish(&store, &worker).code == STM_EMPTY);
-    wants(stm_open(&program, 1, 0, &store) == STM_EMPTY && stm_hire(&store, &worker) == STM_EMPTY);
+    wants(stm_observe(&worker, 0, NULL, 0).code == STM_EMPTY && stm_finish(&store, &worker).code == STM_EMPTY);
+    wants(stm_open(&program, 1, 0, &store) == STM_EMPTY && stm_open_worker(&store, &worker) == STM_EMPTY);
     wants(stm_take(&store) == STM_EMPTY && stm_serial(&store, 0).code == STM_EMPTY);
     wants(stm_give_up(&store, 0) == STM_EMPTY && stm_checkpoint(&store) == STM_EMPTY);
     wants(stm_report(&store, &none, 0, &unused) == STM_EMPTY);
@@ -82,9 +82,9 @@ static void empty_handles(void) {
 /* What is full is not filled again, and what is let go is empty. */
 static void full_handles(stm_program *program) {
     wants(stm_read(bytes(WAITING), strlen(WAITING), program) == STM_FULL);
-    wants(stm_open(program, 1, 0, &store) == STM_FULL && stm_hire(&store, &worker) == STM_FULL);
+    wants(stm_open(program, 1, 0, &store) == STM_FULL && stm_open_worker(&store, &worker) == STM_FULL);
     stm_worker none_hired = {0};
-    wants(stm_hire(&store, &none_hired) == STM_NO_WORKER && stm_finish(&store, &none_hired).code == STM_EMPTY);
+    wants(stm_open_worker(&store, &none_hired) == STM_NO_WORKER && stm_finish(&store, &none_hired).code == STM_EMPTY);
     wants(stm_finish(&store, &worker).code == STM_NOT_ENDED && stm_program_tasks(program) == 2);
 }
 
@@ -93,7 +93,7 @@ static void turns(stm_program *program) {
     stm_worker none_hired = {0};
     wants(stm_turns(&store, &none_hired, 9) == STM_EMPTY);
     wants(stm_open_with_room(program, 1, 0, 2, &store) == STM_DONE);
-    wants(stm_turns(&store, &none_hired, 9) == STM_EMPTY && stm_hire(&store, &worker) == STM_DONE);
+    wants(stm_turns(&store, &none_hired, 9) == STM_EMPTY && stm_open_worker(&store, &worker) == STM_DONE);
     wants(stm_turns(&store, &worker, 0) == 0);
     stand(2, 0, 0, 0);
     wants(stm_turns(&store, &worker, 1) == 1);
@@ -102,12 +102,12 @@ static void turns(stm_program *program) {
     stand(0, 0, 2, 0);
 
     /* One that comes in wakes both: one of them ends, and the other waits again. */
-    wants(stm_submit(&store, 1) == 2 && stm_turns(&store, &worker, UINT32_MAX) == 3);
+    wants(stm_submit(&store, 1, NULL, 0) == 2 && stm_turns(&store, &worker, UINT32_MAX) == 3);
     stand(0, 0, 1, 2);
     is(0, 2);
     agree(2);
 
-    wants(stm_submit(&store, 1) == 3);
+    wants(stm_submit(&store, 1, NULL, 0) == 3);
     stm_job job = stm_take_job(&store);
     wants(job.ticket == 3 && stm_try_job(&worker, job) == STM_DONE);
     wants(stm_turns(&store, &worker, UINT32_MAX) == 0 && stm_finish(&store, &worker).code == STM_NOT_ENDED);
@@ -117,19 +117,8 @@ static void turns(stm_program *program) {
     stm_store_free(&store);
 }
 
-int main(void) {
-    stm_program program = {0};
-    empty_handles();
-    wants(stm_read(bytes(WAITING), strlen(WAITING), &program) == STM_DONE);
-    wants(stm_open_with_room(&program, 1, 0, 65535, &store) == STM_NO_ROOM);
-    wants(stm_open_with_room(&program, 1, 0, 3, &store) == STM_DONE);
-    wants(stm_open_with_room(&program, 1, 0, 3, &store) == STM_FULL);
-    wants(stm_hire(&store, &worker) == STM_DONE);
-    full_handles(&program);
-    wants(stm_try_job(&worker, (stm_job){.ticket = -1}) == STM_UNKNOWN);
-    wants(stm_try_job(&worker, (stm_job){.transaction = 2}) == STM_UNKNOWN);
-
-    /* Both wait, and nothing is ready. */
+/* Both wait, and nothing is ready. */
+static void waiting(void) {
     ends(0, 0, STM_RETRIES);
     ends(1, 0, STM_RETRIES);
     wants(stm_take_job(&store).ticket == -1);
@@ -139,8 +128,8 @@ int main(void) {
 
     /* A task that comes in wakes both; one of them waits again. */
     wants(stm_store_spare(&store) == 3 && stm_store_tasks(&store) == 2);
-    wants(stm_submit(&store, 2) == STM_UNKNOWN && stm_store_spare(&store) == 3);
-    wants(stm_submit(&store, 1) == 2);
+    wants(stm_submit(&store, 2, NULL, 0) == STM_UNKNOWN && stm_store_spare(&store) == 3);
+    wants(stm_submit(&store, 1, NULL, 0) == 2);
     stand(1, 0, 2, 0);
     ends(2, 1, STM_DONE);
     stand(2, 0, 0, 1);
@@ -150,17 +139,35 @@ int main(void) {
     stand(0, 0, 1, 2);
     is(0, 2);
     agree(2);
+}
 
-    /* Up to the room: the second waits until the one before was got. */
-    wants(stm_submit(&store, 1) == 3 && stm_submit(&store, 1) == 4);
-    wants(stm_submit(&store, 1) == STM_NO_ROOM && stm_store_spare(&store) == 0 && stm_store_tasks(&store) == 5);
+/* Up to the room: the second waits until the one before was got. */
+static void up_to_the_room(void) {
+    wants(stm_submit(&store, 1, NULL, 0) == 3 && stm_submit(&store, 1, NULL, 0) == 4);
+    wants(stm_submit(&store, 1, NULL, 0) == STM_NO_ROOM && stm_store_spare(&store) == 0);
+    wants(stm_store_tasks(&store) == 5);
     ends(3, 1, STM_DONE);
     ends(1, 0, STM_DONE);
     ends(4, 1, STM_DONE);
     stand(0, 0, 0, 5);
     is(1, 5);
     agree(4);
+}
 
+int main(void) {
+    stm_program program = {0};
+    empty_handles();
+    wants(stm_read(bytes(WAITING), strlen(WAITING), &program) == STM_DONE);
+    wants(stm_open_with_room(&program, 1, 0, 65535, &store) == STM_NO_ROOM);
+    wants(stm_open_with_room(&program, 1, 0, 3, &store) == STM_DONE);
+    wants(stm_open_with_room(&program, 1, 0, 3, &store) == STM_FULL);
+    wants(stm_open_worker(&store, &worker) == STM_DONE);
+    full_handles(&program);
+    wants(stm_try_job(&worker, (stm_job){.ticket = -1}) == STM_UNKNOWN);
+    wants(stm_try_job(&worker, (stm_job){.transaction = 2}) == STM_UNKNOWN);
+
+    waiting();
+    up_to_the_room();
     stm_worker_free(&worker);
     stm_store_free(&store);
     turns(&program);

@@ -16,8 +16,8 @@ static const uint8_t *bytes(const char *text) { return (const uint8_t *)text; }
 static void begins(const char *file, size_t workers, uint32_t checkpoint, size_t spare) {
     wants(stm_read(bytes(file), strlen(file), &program) == STM_DONE);
     wants(stm_open_with_room(&program, workers, checkpoint, spare, &store) == STM_DONE);
-    wants(stm_lend(&store, &lender) == STM_DONE && stm_lend(&store, &lender) == STM_FULL);
-    if (workers) wants(stm_hire(&store, &worker) == STM_DONE);
+    wants(stm_open_lender(&store, &lender) == STM_DONE && stm_open_lender(&store, &lender) == STM_FULL);
+    if (workers) wants(stm_open_worker(&store, &worker) == STM_DONE);
 }
 
 static void ends(void) {
@@ -28,7 +28,7 @@ static void ends(void) {
     wants(!worker.at && !lender.at && !store.at && !program.at);
 }
 
-static int tells(stm_told told, int32_t code, int64_t value, uint64_t entry) {
+static int tells(stm_answer told, int32_t code, int64_t value, uint64_t entry) {
     return told.code == code && told.value == value && told.entry == entry;
 }
 
@@ -43,7 +43,7 @@ static int none(stm_turned turn, int32_t code) { return turned(turn, -1, 0, code
 static void increments(void) {
     begins("(var x 5)(tx inc (set x (add x 1)) x)(run inc 2)", 0, 0, 3);
     wants(stm_standing(&store, 0).code == STM_READY && stm_outcome(&store, 0).code == STM_NO_ENTRY);
-    wants(turned(stm_call(&store, &lender, 0), 2, 0, STM_DONE, 6, 1));
+    wants(turned(stm_call(&store, &lender, 0, NULL, 0), 2, 0, STM_DONE, 6, 1));
     wants(turned(stm_turn(&store, &lender), 0, 0, STM_DONE, 7, 2));
     wants(tells(stm_outcome(&store, 2), STM_DONE, 6, 1) && tells(stm_outcome(&store, 0), STM_DONE, 7, 2));
     wants(tells(stm_outcome(&store, 1), STM_NO_ENTRY, 0, 0) && tells(stm_standing(&store, 2), STM_DONE, 0, 1));
@@ -58,10 +58,12 @@ static void increments(void) {
     wants(tells(stm_serial(&store, 1), STM_DONE, 8, 3) && tells(stm_serial(&store, 1), STM_NOT_RUNNING, 0, 0));
     wants(stm_give_up(&store, 1) == STM_NOT_RUNNING && stm_withdraw(&store, 1) == STM_NOT_WAITING);
 
-    wants(turned(stm_try_call(&store, &lender, 0), 3, 0, STM_DONE, 9, 4));
-    wants(turned(stm_call(&store, &lender, 0), 4, 0, STM_DONE, 10, 5));
-    wants(none(stm_call(&store, &lender, 0), STM_NO_ROOM) && none(stm_try_call(&store, &lender, 0), STM_NO_ROOM));
-    wants(none(stm_call(&store, &lender, 1), STM_UNKNOWN) && none(stm_try_call(&store, &lender, UINT32_MAX), STM_UNKNOWN));
+    wants(turned(stm_try_call(&store, &lender, 0, NULL, 0), 3, 0, STM_DONE, 9, 4));
+    wants(turned(stm_call(&store, &lender, 0, NULL, 0), 4, 0, STM_DONE, 10, 5));
+    wants(none(stm_call(&store, &lender, 0, NULL, 0), STM_NO_ROOM));
+    wants(none(stm_try_call(&store, &lender, 0, NULL, 0), STM_NO_ROOM));
+    wants(none(stm_call(&store, &lender, 1, NULL, 0), STM_UNKNOWN));
+    wants(none(stm_try_call(&store, &lender, UINT32_MAX, NULL, 0), STM_UNKNOWN));
     ends();
 }
 
@@ -75,7 +77,7 @@ static void strangers(void) {
         wants(stm_standing(&store, strange[i]).code == STM_UNKNOWN && stm_outcome(&store, strange[i]).code == STM_UNKNOWN);
     }
     stm_counts counts;
-    wants(stm_counted(&store, &counts) == STM_DONE && counts.ready == 2);
+    wants(stm_get_counts(&store, &counts) == STM_DONE && counts.ready == 2);
     ends();
 }
 
@@ -89,11 +91,11 @@ static void parked(void) {
     wants(turned(stm_turn(&store, &lender), 0, 0, STM_RETRIES, 0, 0) && stm_standing(&store, 0).code == STM_RETRIES);
     wants(stm_claim(&store, 0).ticket == -1 && stm_withdraw(&store, 0) == STM_DONE);
     wants(stm_withdraw(&store, 0) == STM_NOT_WAITING && stm_standing(&store, 0).code == STM_GIVEN_UP);
-    wants(none(stm_try_call(&store, &lender, 0), STM_RETRIES) && stm_store_spare(&store) == 1);
+    wants(none(stm_try_call(&store, &lender, 0, NULL, 0), STM_RETRIES) && stm_store_spare(&store) == 1);
     wants(stm_report_now(&store, room, sizeof room, &length) == STM_DONE && length == strlen(report));
     wants(memcmp(room, report, length) == 0 && stm_check(bytes(file), strlen(file), room, length) == STM_DONE);
-    wants(turned(stm_call(&store, &lender, 0), 1, 0, STM_RETRIES, 0, 0) && stm_store_spare(&store) == 0);
-    wants(none(stm_try_call(&store, &lender, 0), STM_RETRIES));
+    wants(turned(stm_call(&store, &lender, 0, NULL, 0), 1, 0, STM_RETRIES, 0, 0) && stm_store_spare(&store) == 0);
+    wants(none(stm_try_call(&store, &lender, 0, NULL, 0), STM_RETRIES));
     ends();
 }
 
@@ -114,14 +116,14 @@ static void each_end(uint32_t checkpoint) {
         int32_t code = faults[tx].code;
         int64_t value = faults[tx].value;
         stm_job job = stm_take_job(&store);
-        wants(tells(stm_observe(&worker, tx), code, value, 0));
+        wants(tells(stm_observe(&worker, tx, NULL, 0), code, value, 0));
         wants(job.ticket == (int64_t)tx && stm_try_job(&worker, job) == STM_DONE);
         wants(tells(stm_finish(&store, &worker), code, value, ++entry));
-        wants(turned(stm_call(&store, &lender, tx), FAULTS_OF + 2 * (int64_t)tx, tx, code, value, entry + 1));
+        wants(turned(stm_call(&store, &lender, tx, NULL, 0), FAULTS_OF + 2 * (int64_t)tx, tx, code, value, entry + 1));
         entry++;
-        int64_t ticket = stm_submit(&store, tx);
+        int64_t ticket = stm_submit(&store, tx, NULL, 0);
         wants(stm_claim(&store, ticket).ticket == ticket && tells(stm_serial(&store, ticket), code, value, ++entry));
-        stm_told told = stm_outcome(&store, ticket);
+        stm_answer told = stm_outcome(&store, ticket);
         wants(checkpoint ? tells(told, STM_NO_ENTRY, 0, 0) : tells(told, code, value, entry));
     }
     wants(stm_entered(&store) == entry && stm_chapter(&store) == 0);
@@ -132,14 +134,16 @@ static void empty_handles(void) {
     begins("(var x 5)(tx inc (set x (add x 1)) x)", 0, 0, 1);
     stm_store no_store = {0};
     stm_lender no_lender = {0};
-    wants(stm_lend(&no_store, &no_lender) == STM_EMPTY);
+    wants(stm_open_lender(&no_store, &no_lender) == STM_EMPTY);
     wants(none(stm_turn(&no_store, &lender), STM_EMPTY) && none(stm_turn(&store, &no_lender), STM_EMPTY));
-    wants(none(stm_call(&no_store, &lender, 0), STM_EMPTY) && none(stm_call(&store, &no_lender, 0), STM_EMPTY));
-    wants(none(stm_try_call(&no_store, &lender, 0), STM_EMPTY) && none(stm_try_call(&store, &no_lender, 0), STM_EMPTY));
+    wants(none(stm_call(&no_store, &lender, 0, NULL, 0), STM_EMPTY));
+    wants(none(stm_call(&store, &no_lender, 0, NULL, 0), STM_EMPTY));
+    wants(none(stm_try_call(&no_store, &lender, 0, NULL, 0), STM_EMPTY));
+    wants(none(stm_try_call(&store, &no_lender, 0, NULL, 0), STM_EMPTY));
     wants(stm_claim(&no_store, 0).ticket == STM_EMPTY && stm_withdraw(&no_store, 0) == STM_EMPTY);
     wants(stm_standing(&no_store, 0).code == STM_EMPTY && stm_outcome(&no_store, 0).code == STM_EMPTY);
     wants(stm_begin_chapter(&no_store) == STM_EMPTY && stm_chapter(&no_store) == 0 && stm_entered(&no_store) == 0);
-    wants(turned(stm_call(&store, &lender, 0), 0, 0, STM_DONE, 6, 1));
+    wants(turned(stm_call(&store, &lender, 0, NULL, 0), 0, 0, STM_DONE, 6, 1));
     ends();
 }
 
@@ -150,12 +154,13 @@ static void lenders(void) {
     stm_store second = {0};
     static const char file[] = "(var y 1)(var z 2)(tx sum (skip) (add y z))";
     wants(stm_read(bytes(file), strlen(file), &other) == STM_DONE && stm_open_with_room(&other, 0, 0, 1, &second) == STM_DONE);
-    wants(turned(stm_call(&second, &lender, 0), 0, 0, STM_DONE, 3, 1) && turned(stm_call(&store, &lender, 0), 0, 0, STM_DONE, 6, 1));
+    wants(turned(stm_call(&second, &lender, 0, NULL, 0), 0, 0, STM_DONE, 3, 1));
+    wants(turned(stm_call(&store, &lender, 0, NULL, 0), 0, 0, STM_DONE, 6, 1));
     stm_store_free(&second);
     stm_program_free(&other);
     ends();
     wants(stm_read(bytes("(var x 5)"), 9, &program) == STM_DONE && stm_open(&program, 0, 0, &store) == STM_DONE);
-    wants(stm_lend(&store, &lender) == STM_NO_WORKER && !lender.at);
+    wants(stm_open_lender(&store, &lender) == STM_NO_WORKER && !lender.at);
     ends();
 }
 

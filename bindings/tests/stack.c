@@ -21,9 +21,9 @@ static void host(void) {
     stm_store store = {0};
     stm_worker worker = {0};
     if (stm_read(file, length, &program) != STM_DONE || stm_open(&program, 1, 3, &store) != STM_DONE) exit(2);
-    if (stm_hire(&store, &worker) == STM_DONE) {
+    if (stm_open_worker(&store, &worker) == STM_DONE) {
         for (stm_job job; (job = stm_take_job(&store)).ticket >= 0;) {
-            stm_observe(&worker, job.transaction);
+            stm_observe(&worker, job.transaction, NULL, 0);
             if (stm_try_job(&worker, job) == STM_DONE) stm_finish(&store, &worker);
             stm_serial(&store, job.ticket);
         }

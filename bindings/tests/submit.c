@@ -32,7 +32,7 @@ static void run(stm_worker *worker, stm_job job) {
         if (tried == STM_STALE) continue;
         if (tried != STM_DONE) break;
         pthread_mutex_lock(&lock);
-        stm_told told = stm_finish(&store, worker);
+        stm_answer told = stm_finish(&store, worker);
         pthread_mutex_unlock(&lock);
         if (told.code == STM_UNKNOWN) exit(7);
         if (told.code != STM_STALE) return;
@@ -51,13 +51,13 @@ static void *work(void *argument) {
 static int submit_all(uint32_t transaction, size_t count, size_t before) {
     for (size_t i = 0; i < count; i++) {
         pthread_mutex_lock(&lock);
-        int64_t ticket = stm_submit(&store, transaction);
+        int64_t ticket = stm_submit(&store, transaction, NULL, 0);
         pthread_cond_signal(&more);
         pthread_mutex_unlock(&lock);
         if (ticket != (int64_t)(before + i)) return 0;
     }
     pthread_mutex_lock(&lock);
-    int refused = stm_submit(&store, transaction) == STM_NO_ROOM && stm_submit(&store, UINT32_MAX) == STM_UNKNOWN;
+    int refused = stm_submit(&store, transaction, NULL, 0) == STM_NO_ROOM && stm_submit(&store, UINT32_MAX, NULL, 0) == STM_UNKNOWN;
     closed = 1;
     pthread_cond_broadcast(&more);
     pthread_mutex_unlock(&lock);
@@ -72,7 +72,7 @@ static int told(size_t tasks) {
     if (stm_report_now(&store, report, sizeof report, &report_length) != STM_DONE) return 0;
     if (stm_file(&store, file, 1, &file_length) != STM_SHORT) return 0;
     if (stm_file(&store, file, sizeof file, &file_length) != STM_DONE) return 0;
-    if (stm_counted(&store, &counts) != STM_DONE || counts.ready != 0 || counts.running != 0) return 0;
+    if (stm_get_counts(&store, &counts) != STM_DONE || counts.ready != 0 || counts.running != 0) return 0;
     if (counts.parked + counts.done + counts.given_up != tasks || stm_store_tasks(&store) != tasks) return 0;
     return stm_check(file, file_length, report, report_length) == STM_DONE;
 }
@@ -90,7 +90,7 @@ int main(int count, char **words) {
     int threads = atoi(words[4]);
     stm_program program = {0};
     stm_job none = stm_take_job(&store);
-    if (none.ticket != STM_EMPTY || stm_submit(&store, 0) != STM_EMPTY) return 2;
+    if (none.ticket != STM_EMPTY || stm_submit(&store, 0, NULL, 0) != STM_EMPTY) return 2;
     if (stm_read(file, length, &program) != STM_DONE) return 2;
     size_t tasks = stm_program_tasks(&program);
     int64_t transaction = stm_program_transaction(&program, (const uint8_t *)words[2], strlen(words[2]));
@@ -101,7 +101,7 @@ int main(int count, char **words) {
     uint64_t version = 0;
     if (stm_value(&store, (const uint8_t *)"?", 1, &value, &version) != STM_UNKNOWN) return 3;
     for (int i = 0; i < threads; i++)
-        if (stm_hire(&store, &workers[i]) != STM_DONE) return 3;
+        if (stm_open_worker(&store, &workers[i]) != STM_DONE) return 3;
     for (int i = 0; i < threads; i++)
         if (pthread_create(&pool[i], NULL, work, &workers[i])) return 4;
     int submitted = submit_all((uint32_t)transaction, room, tasks);

@@ -29,7 +29,7 @@ static void run(stm_worker *worker, uint32_t task) {
         if (tried != STM_DONE && tried != STM_STALE) break;
         if (tried == STM_STALE) continue;
         pthread_mutex_lock(&lock);
-        stm_told told = stm_finish(&store, worker);
+        stm_answer told = stm_finish(&store, worker);
         pthread_mutex_unlock(&lock);
         if (told.code != STM_STALE) return;
     }
@@ -51,7 +51,7 @@ static void *work(void *argument) {
 static void *watch(void *argument) {
     while (!is_ended()) {
         for (size_t tx = 0; tx < transactions; tx++) {
-            if (stm_observe(argument, (uint32_t)tx).code < 0) exit(8);
+            if (stm_observe(argument, (uint32_t)tx, NULL, 0).code < 0) exit(8);
         }
     }
     return NULL;
@@ -63,39 +63,14 @@ static double seconds(void) {
     return (double)now.tv_sec + (double)now.tv_nsec / 1e9;
 }
 
-int main(int count, char **words) {
-    static uint8_t file[1 << 20], report[8388608];
-    static stm_worker workers[MOST];
+/* All tasks, and the observer beside them: how many seconds it took, and below 0 where a thread did not begin. */
+static double run_all(stm_worker *workers, int threads, stm_worker *observer) {
     static pthread_t pool[MOST];
-    if (count < 3) return 9;
-    FILE *input = fopen(words[1], "rb");
-    if (!input) return 9;
-    size_t length = fread(file, 1, sizeof file, input), wanted = 0;
-    fclose(input);
-    int threads = atoi(words[2]);
-    stm_program program = {0};
-    stm_worker observer = {0};
-    if (stm_read(file, length, &program) != STM_DONE) return 2;
-    if (stm_read(file, length, &program) != STM_FULL) return 2;
-    transactions = stm_program_transactions(&program);
-    if (stm_open(&program, 33, 0, &store) != STM_NO_WORKER) return 2;
-    uint32_t checkpoint = count > 3 ? (uint32_t)atoi(words[3]) : 0;
-    if (stm_open(&program, (size_t)threads + 1, checkpoint, &store) != STM_DONE) return 2;
-    for (int i = 0; i < threads; i++) {
-        if (stm_hire(&store, &workers[i]) != STM_DONE) return 3;
-    }
-    if (stm_hire(&store, &observer) != STM_DONE) return 3;
-    stm_worker none = {0};
-    if (stm_hire(&store, &none) != STM_NO_WORKER || none.at) return 3;
-    uint32_t tasks = (uint32_t)stm_program_tasks(&program);
-    if (stm_try(&observer, tasks) != STM_UNKNOWN || stm_try(&none, 0) != STM_EMPTY) return 3;
-    if (stm_finish(&store, &observer).code != STM_NOT_ENDED) return 3;
-    if (stm_serial(&store, tasks).code != STM_UNKNOWN || stm_give_up(&store, tasks) != STM_UNKNOWN) return 3;
     pthread_t watching;
     double begin = seconds();
-    if (pthread_create(&watching, NULL, watch, &observer)) return 4;
+    if (pthread_create(&watching, NULL, watch, observer)) return -1;
     for (int i = 0; i < threads; i++) {
-        if (pthread_create(&pool[i], NULL, work, &workers[i])) return 4;
+        if (pthread_create(&pool[i], NULL, work, &workers[i])) return -1;
     }
     for (int i = 0; i < threads; i++) pthread_join(pool[i], NULL);
     double end = seconds();
@@ -103,6 +78,36 @@ int main(int count, char **words) {
     ended = 1;
     pthread_mutex_unlock(&lock);
     pthread_join(watching, NULL);
+    return end - begin;
+}
+
+int main(int count, char **words) {
+    static uint8_t file[1 << 20], report[8388608];
+    static stm_worker workers[MOST];
+    FILE *input = count < 3 ? NULL : fopen(words[1], "rb");
+    if (!input) return 9;
+    size_t length = fread(file, 1, sizeof file, input), wanted = 0;
+    fclose(input);
+    int threads = atoi(words[2]);
+    stm_program program = {0};
+    stm_worker observer = {0};
+    if (stm_read(file, length, &program) != STM_DONE || stm_read(file, length, &program) != STM_FULL) return 2;
+    transactions = stm_program_transactions(&program);
+    if (stm_open(&program, 33, 0, &store) != STM_NO_WORKER) return 2;
+    uint32_t checkpoint = count > 3 ? (uint32_t)atoi(words[3]) : 0;
+    if (stm_open(&program, (size_t)threads + 1, checkpoint, &store) != STM_DONE) return 2;
+    for (int i = 0; i < threads; i++) {
+        if (stm_open_worker(&store, &workers[i]) != STM_DONE) return 3;
+    }
+    if (stm_open_worker(&store, &observer) != STM_DONE) return 3;
+    stm_worker none = {0};
+    if (stm_open_worker(&store, &none) != STM_NO_WORKER || none.at) return 3;
+    uint32_t tasks = (uint32_t)stm_program_tasks(&program);
+    if (stm_try(&observer, tasks) != STM_UNKNOWN || stm_try(&none, 0) != STM_EMPTY) return 3;
+    if (stm_finish(&store, &observer).code != STM_NOT_ENDED) return 3;
+    if (stm_serial(&store, tasks).code != STM_UNKNOWN || stm_give_up(&store, tasks) != STM_UNKNOWN) return 3;
+    double took = run_all(workers, threads, &observer);
+    if (took < 0) return 4;
     if (stm_report(&store, report, 3, &wanted) != STM_SHORT) return 5;
     if (stm_report(&store, report, sizeof report, &wanted) != STM_DONE) return 5;
     int32_t verdict = stm_check(file, length, report, wanted);
@@ -111,7 +116,7 @@ int main(int count, char **words) {
     for (int i = 0; i < threads; i++) stm_worker_free(&workers[i]);
     stm_worker_free(&observer);
     stm_program_free(&program);
-    fprintf(stderr, "%d threads: %.1f ms\n", threads, (end - begin) * 1e3);
+    fprintf(stderr, "%d threads: %.1f ms\n", threads, took * 1e3);
     printf("%s\n", verdict == STM_DONE ? "good" : "bad");
     return verdict == STM_DONE ? 0 : 1;
 }

@@ -4,10 +4,10 @@ _stm() {
     local commands="run check world explore print explain help"
     local options="--help"
     case $command in
-    run) options="--workers --tries --checkpoint --help" ;;
+    run) options="--workers --tries --checkpoint --seed --help" ;;
     check) options="--after --help" ;;
     print) options="--from --after --help" ;;
-    explore) options="--states --to --deny --help" ;;
+    explore) options="--states --to --find --deny --dot --help" ;;
     explain) options="--schedule --after --help" ;;
     esac
     if [ "$COMP_CWORD" -eq 1 ]; then

@@ -5,7 +5,44 @@
 #[derive(Clone, Copy, Debug, PartialEq, Eq, PartialOrd, Ord, Hash)]
 pub struct Ticket(pub u64);
 
-/// A task that was taken, and the transaction that it runs.
+/// The arguments of a call, of which there are at most 8: a slice of them, which is copied with its owner.
+///
+/// ```
+/// use stm::Arguments;
+///
+/// let given = Arguments::new(&[3, 5, 20]).expect("they are few");
+/// assert_eq!((given.len(), given[2]), (3, 20));
+/// assert_eq!(Arguments::new(&[0; 9]), None);
+/// ```
+#[derive(Clone, Copy, Debug, Default, PartialEq, Eq)]
+pub struct Arguments {
+    // 0 behind the last.
+    places: [i64; 8],
+    count: usize,
+}
+
+impl Arguments {
+    /// These numbers; `None` where they are more than 8.
+    pub fn new(numbers: &[i64]) -> Option<Arguments> {
+        let mut places = [0; 8];
+        places.get_mut(..numbers.len())?.copy_from_slice(numbers);
+        Some(Arguments { places, count: numbers.len() })
+    }
+
+    pub(crate) fn in_places(&self) -> (usize, [i64; 8]) {
+        (self.count, self.places)
+    }
+}
+
+impl std::ops::Deref for Arguments {
+    type Target = [i64];
+
+    fn deref(&self) -> &[i64] {
+        &self.places[..self.count]
+    }
+}
+
+/// A task that was taken, and the call that it makes.
 #[derive(Clone, Copy, Debug, PartialEq, Eq)]
 pub struct Job {
     /// Which task it is, through all chapters.
@@ -15,6 +52,7 @@ pub struct Job {
     /// The task's number in that chapter.
     pub task: u32,
     pub transaction: u32,
+    pub arguments: Arguments,
 }
 
 /// How a transaction ended.
@@ -42,7 +80,7 @@ pub enum End {
     Entered(Entered),
     /// Its program retries: it waits for a change of what it read.
     Parked,
-    /// Want of memory: it was given up.
+    /// Out of memory: it was given up.
     GivenUp,
 }
 
@@ -65,7 +103,7 @@ pub enum Standing {
     Parked,
     /// It is done, with the entry of this number.
     Done(u64),
-    /// It was given up, for want of memory or by the host.
+    /// It was given up, as memory ran out or by its host.
     GivenUp,
 }
 
@@ -91,11 +129,11 @@ pub enum Brought {
     Stale,
     /// It was not running, and nothing changed.
     NotRunning,
-    /// Want of memory: it was given up.
+    /// Out of memory: it was given up.
     GivenUp,
     /// The worker has no ended attempt.
     NotEnded,
-    /// The store has no such task, or runs another transaction as it: nothing changed.
+    /// The store has no such task, or makes another call as it: nothing changed.
     OtherTask,
     /// The job was taken in another chapter. Its task became ready when that one ended, if it was not over.
     /// Nothing changed.

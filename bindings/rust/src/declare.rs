@@ -1,6 +1,7 @@
 //! A program declared in Rust: its parts make the text of a file, which the library reads.
 
 use crate::error::Error;
+use crate::service::Service;
 use crate::store::Program;
 use std::fmt::Write;
 use std::ops::{Add, Div, Mul, Rem, Sub};
@@ -11,7 +12,14 @@ pub struct Var(String);
 
 /// A declared transaction.
 #[derive(Clone, Debug)]
-pub struct Tx(String);
+pub struct Tx {
+    name: String,
+    parameters: usize,
+}
+
+/// A parameter of a transaction.
+#[derive(Clone, Debug)]
+pub struct Param(String);
 
 /// An expression: a number of 64 signed bits, or a fault.
 #[derive(Clone, Debug)]
@@ -30,6 +38,11 @@ pub fn var(var: &Var) -> Expr {
     Expr(var.0.clone())
 }
 
+/// The argument that a call gives for a parameter.
+pub fn param(param: &Param) -> Expr {
+    Expr(param.0.clone())
+}
+
 /// A number.
 pub fn int(value: i64) -> Expr {
     Expr(value.to_string())
@@ -44,6 +57,12 @@ impl From<i64> for Expr {
 impl From<&Var> for Expr {
     fn from(name: &Var) -> Expr {
         var(name)
+    }
+}
+
+impl From<&Param> for Expr {
+    fn from(name: &Param) -> Expr {
+        param(name)
     }
 }
 
@@ -88,7 +107,7 @@ pub fn rem(left: impl Into<Expr>, right: impl Into<Expr>) -> Expr {
 /// let accounts: Vec<_> = (0..200).map(|i| bank.var(&format!("account{i}"), i)).collect();
 /// bank.tx("audit", skip(), sum(&accounts));
 /// let store = stm::Store::open(&bank.program()?, 1, 0)?;
-/// assert_eq!(store.worker()?.observe(0), Ok(stm::Observed::Returned(19_900)));
+/// assert_eq!(store.worker()?.observe(0, &[]), Ok(stm::Observed::Returned(19_900)));
 /// # Ok::<(), stm::Error>(())
 /// ```
 pub fn sum<E: Into<Expr>>(parts: impl IntoIterator<Item = E>) -> Expr {
@@ -213,9 +232,17 @@ pub fn throw(value: impl Into<Expr>) -> Stmt {
 pub struct Declare {
     vars: String,
     always: String,
-    txs: String,
+    txs: Vec<Declared>,
     runs: String,
     has_wrong_name: bool,
+}
+
+/// A transaction's name and parameters; and its body and result, as they are spelled.
+#[derive(Clone, Debug)]
+struct Declared {
+    name: String,
+    parameters: Vec<String>,
+    program: String,
 }
 
 /// A letter, and then letters, digits and `_`.
@@ -255,26 +282,98 @@ impl Declare {
 
     /// A transaction: a body, and a result that sees what the body wrote.
     pub fn tx(&mut self, name: &str, body: Stmt, result: impl Into<Expr>) -> Tx {
+        self.tx_with(name, [], |[]| (body, result))
+    }
+
+    /// A transaction with parameters, at most 8, of these names: its body and its result, in which they are as
+    /// numbers. A call gives an argument for each.
+    ///
+    /// ```
+    /// use stm::{lt, seq, set, skip, throw, var, when, Declare, Fault};
+    ///
+    /// let mut bank = Declare::new();
+    /// let (alice, bob) = (bank.var("alice", 100), bank.var("bob", 20));
+    /// let pay = bank.tx_with("pay", ["n", "fee"], |[n, fee]| {
+    ///     let price = stm::param(&n) + &fee;
+    ///     let short = when(lt(&alice, price.clone()), throw(&alice), skip());
+    ///     (seq([short, set(&alice, var(&alice) - price), set(&bob, var(&bob) + &n)]), &alice)
+    /// });
+    /// bank.run_with(&pay, 1, &[60, 1]);
+    /// let bank = bank.service()?;
+    /// assert_eq!(bank.value("alice"), Some((39, 1)));
+    /// assert_eq!(bank.atomically(0, &[20, 1]), Ok(18));
+    /// assert_eq!(bank.atomically(0, &[20, 1]), Err(Fault::Thrown(18)));
+    /// # Ok::<(), stm::Error>(())
+    /// ```
+    pub fn tx_with<const N: usize, R: Into<Expr>>(
+        &mut self,
+        name: &str,
+        parameters: [&str; N],
+        make: impl FnOnce([Param; N]) -> (Stmt, R),
+    ) -> Tx {
         let name = self.named(name);
-        let _ = writeln!(self.txs, "(tx {name} {} {})", body.0, result.into().0);
-        Tx(name)
+        let parameters = parameters.map(|parameter| self.named(parameter));
+        let (body, result) = make(parameters.clone().map(Param));
+        let program = format!("{} {}", body.0, result.into().0);
+        self.txs.push(Declared { name: name.clone(), parameters: parameters.to_vec(), program });
+        Tx { name, parameters: N }
     }
 
-    /// So many tasks that run the transaction.
+    /// So many tasks that run the transaction, which has no parameters.
     pub fn run(&mut self, tx: &Tx, times: u32) {
-        let _ = writeln!(self.runs, "(run {} {times})", tx.0);
+        self.run_with(tx, times, &[]);
     }
 
-    /// The text of a file of form 2; `Name` where a word was to be declared that is no name.
+    /// So many tasks that run the transaction, each with these arguments: `Name` where it has another number of
+    /// parameters.
+    pub fn run_with(&mut self, tx: &Tx, times: u32, arguments: &[i64]) {
+        self.has_wrong_name |= arguments.len() != tx.parameters;
+        let given: String = arguments.iter().map(|argument| format!(" {argument}")).collect();
+        let _ = writeln!(self.runs, "(run {} {times}{given})", tx.name);
+    }
+
+    /// The text of a file, of form 3 where a transaction has parameters, else of form 2; `Name` where a word was to
+    /// be declared that is no name.
     pub fn text(&self) -> Result<String, Error> {
         if self.has_wrong_name {
             return Err(Error::Name);
         }
-        Ok(format!("(stm 2)\n{}{}{}{}", self.vars, self.always, self.txs, self.runs))
+        let lists = self.txs.iter().any(|tx| !tx.parameters.is_empty());
+        let mut txs = String::new();
+        for Declared { name, parameters, program } in &self.txs {
+            let list = if lists { format!("({}) ", parameters.join(" ")) } else { String::new() };
+            let _ = writeln!(txs, "(tx {name} {list}{program})");
+        }
+        let form = if lists { 3 } else { 2 };
+        Ok(format!("(stm {form})\n{}{}{txs}{}", self.vars, self.always, self.runs))
     }
 
     /// The program, or why the file is refused.
     pub fn program(&self) -> Result<Program, Error> {
         Program::read(&self.text()?)
+    }
+
+    /// A service of the program, or why the file is refused.
+    ///
+    /// ```
+    /// use stm::{retry, set, var, when, Declare};
+    ///
+    /// let mut queue = Declare::new();
+    /// let length = queue.var("length", 0);
+    /// queue.tx("put", set(&length, var(&length) + 1), &length);
+    /// let get = when(stm::lt(&length, 1), retry(), set(&length, var(&length) - 1));
+    /// queue.tx("get", get, &length);
+    /// let queue = queue.service()?;
+    /// let number = |name| queue.transaction(name).expect("it is declared");
+    /// let (put, get) = (number("put"), number("get"));
+    /// std::thread::scope(|scope| {
+    ///     let waits = scope.spawn(|| queue.atomically(get, &[]));
+    ///     assert!(queue.atomically(put, &[]).is_ok());
+    ///     assert_eq!(waits.join().unwrap(), Ok(0));
+    /// });
+    /// # Ok::<(), stm::Error>(())
+    /// ```
+    pub fn service(&self) -> Result<Service, Error> {
+        Service::open(&self.text()?)
     }
 }

@@ -1,4 +1,4 @@
-//! Why a call answered nothing.
+//! Why a call answered nothing, or a transaction returned nothing.
 
 use crate::answers::Ticket;
 use std::fmt;
@@ -23,6 +23,8 @@ pub enum Error {
     Memory,
     /// The program has no transaction of this number.
     UnknownTransaction(u32),
+    /// The transaction has another number of parameters than it was given arguments.
+    WrongArguments { transaction: u32, parameters: usize, given: usize },
     /// The program has no task of this number.
     UnknownTask(u32),
     /// The store has no task of this ticket, or not any more: it was over when its chapter ended.
@@ -35,9 +37,9 @@ pub enum Error {
     NoRoom,
     /// A task is ready or running, and the report could not account for it.
     WorkLeft,
-    /// The number of places to look at is not from 1 to 16,777,216.
+    /// The number of states to look at is not from 1 to 16,777,216.
     States,
-    /// More places are reached than were asked for.
+    /// More states are reached than were asked for.
     MoreStates,
     /// There is no end of that number.
     NoEnd,
@@ -58,10 +60,22 @@ pub enum ScheduleFault {
     Limit,
 }
 
+fn wrong_arguments(
+    out: &mut fmt::Formatter<'_>,
+    transaction: u32,
+    parameters: usize,
+    given: usize,
+) -> fmt::Result {
+    write!(out, "arguments of transaction {transaction}: {parameters} wanted, {given} given")
+}
+
 impl fmt::Display for Error {
     fn fmt(&self, out: &mut fmt::Formatter<'_>) -> fmt::Result {
         let text = match self {
             Error::UnknownTransaction(number) => return write!(out, "there is no transaction {number}"),
+            Error::WrongArguments { transaction, parameters, given } => {
+                return wrong_arguments(out, *transaction, *parameters, *given)
+            }
             Error::UnknownTask(number) => return write!(out, "the program has no task {number}"),
             Error::UnknownTicket(Ticket(number)) => {
                 return write!(out, "there is no task with the ticket {number}")
@@ -77,8 +91,8 @@ impl fmt::Display for Error {
             Error::NoWorker => "the store has no worker left",
             Error::NoRoom => "there is no room for another task",
             Error::WorkLeft => "a task is ready or running",
-            Error::States => "the number of places is out of range",
-            Error::MoreStates => "more places are reached",
+            Error::States => "the number of states is out of range",
+            Error::MoreStates => "more states are reached",
             Error::NoEnd => "there is no such end",
             Error::Schedule(ScheduleFault::TooLong) => "the schedule is too long",
             Error::Schedule(ScheduleFault::BadByte) => "the schedule has a byte that is not allowed",
@@ -92,3 +106,57 @@ impl fmt::Display for Error {
 }
 
 impl std::error::Error for Error {}
+
+/// Why a call on a service returned nothing. With the first four a call was entered, but that of `observe`, and had no
+/// effect on the variables; with the others it was not entered, and never will be.
+#[derive(Clone, Copy, Debug, PartialEq, Eq)]
+pub enum Fault {
+    Thrown(i64),
+    Overflow,
+    DivideByZero,
+    /// It would have broken the standing condition of this number.
+    Broken(u32),
+    /// It retries: of `try_atomically` and `observe`.
+    Retries,
+    /// It still waited when its time was up.
+    TimedOut,
+    /// The service was closed.
+    Closed,
+    /// All room is taken by calls that wait, or the chapter could not be ended.
+    NoRoom,
+    /// A growth was refused.
+    Memory,
+    /// The program has no transaction of this number.
+    UnknownTransaction(u32),
+    /// The transaction has another number of parameters than it was given arguments.
+    WrongArguments {
+        transaction: u32,
+        parameters: usize,
+        given: usize,
+    },
+}
+
+impl fmt::Display for Fault {
+    fn fmt(&self, out: &mut fmt::Formatter<'_>) -> fmt::Result {
+        let text = match self {
+            Fault::Thrown(value) => return write!(out, "the transaction threw {value}"),
+            Fault::Broken(number) => {
+                return write!(out, "it would have broken the standing condition {number}")
+            }
+            Fault::UnknownTransaction(number) => return write!(out, "there is no transaction {number}"),
+            Fault::WrongArguments { transaction, parameters, given } => {
+                return wrong_arguments(out, *transaction, *parameters, *given)
+            }
+            Fault::Overflow => "a result is outside 64 bits",
+            Fault::DivideByZero => "a division by 0",
+            Fault::Retries => "the transaction retries",
+            Fault::TimedOut => "the time is up",
+            Fault::Closed => "the service is closed",
+            Fault::NoRoom => "there is no room for another call",
+            Fault::Memory => "out of memory",
+        };
+        out.write_str(text)
+    }
+}
+
+impl std::error::Error for Fault {}

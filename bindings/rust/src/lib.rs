@@ -1,7 +1,8 @@
 //! Transactions over named variables: what the library proved in Rattle does, for Rust.
 //!
-//! A [`Program`] declares variables, standing conditions, transactions and tasks. A [`Store`] has
-//! its tasks, its journal and its present values; threads share it by a reference. A [`Worker`] is
+//! A [`Service`] is called from any thread: a call runs a transaction as one atomic step, and waits while it retries.
+//! What it is made of can be had too. A [`Program`] declares variables, standing conditions, transactions and tasks. A
+//! [`Store`] has its tasks, its journal and its present values; threads share it by a reference. A [`Worker`] is
 //! what one thread has: it evaluates a task without a lock, and brings the end to the store. [`Store::call`] runs
 //! a transaction at once, and answers how it ended.
 //!
@@ -26,16 +27,20 @@ mod answers;
 mod declare;
 mod error;
 mod raw;
+mod service;
 mod store;
 
-pub use answers::{Brought, End, Entered, Job, Observed, Outcome, Standing, Ticket, Tried, Turned};
-pub use declare::{
-    and, div, eq, int, le, lt, not, or, or_else, rem, repeat, retry, seq, set, skip, sum, throw, var, when,
-    Cond, Declare, Expr, Stmt, Tx, Var,
+pub use answers::{
+    Arguments, Brought, End, Entered, Job, Observed, Outcome, Standing, Ticket, Tried, Turned,
 };
-pub use error::{Error, ScheduleFault};
+pub use declare::{
+    and, div, eq, int, le, lt, not, or, or_else, param, rem, repeat, retry, seq, set, skip, sum, throw, var,
+    when, Cond, Declare, Expr, Param, Stmt, Tx, Var,
+};
+pub use error::{Error, Fault, ScheduleFault};
 pub use raw::{Counts, Part, Verdict};
-pub use store::{run, run_with, Program, Retry, Store, Worker};
+pub use service::{Service, ServiceOptions};
+pub use store::{run, run_with, Program, RunOptions, Store, Worker};
 
 /// All tasks of a file, one after another on this thread: its report. A journal of `checkpoint`
 /// entries is followed by a checkpoint; 0: never.
@@ -59,7 +64,7 @@ pub fn world(file: &str, schedule: &str) -> Result<String, Error> {
     raw::world(file.as_bytes(), schedule.as_bytes())
 }
 
-/// What is found when every order of a file's tasks is seen, of at most so many places:
+/// What is found when every order of a file's tasks is seen, of at most so many states:
 /// `MoreStates` where more are reached.
 ///
 /// ```

@@ -1,11 +1,18 @@
-//! The calls of the static library. This is the one file with `unsafe`: what a call owes is said where it is
-//! made. `bindings/declarations` compares codes, structs and calls with those of `bindings/c/stm.h`.
+//! The calls of the static library. This module is the one with `unsafe`: what a call owes is said where it is
+//! made. `bindings/declarations` compares codes, structs and calls with those of the headers in `bindings/c`.
 
 #![allow(unsafe_code)]
 
-use crate::answers::{Brought, End, Entered, Job, Observed, Outcome, Standing, Ticket, Tried, Turned};
+mod service;
+
+pub use service::{Keep, RawService};
+
+use crate::answers::{
+    Arguments, Brought, End, Entered, Job, Observed, Outcome, Standing, Ticket, Tried, Turned,
+};
 use crate::error::{Error, ScheduleFault};
 use std::ffi::c_void;
+use std::sync::Arc;
 
 /// What the calls answer, by the names of the header.
 mod code {
@@ -47,6 +54,8 @@ mod code {
     pub const STATES: i32 = -16;
     pub const OTHER_PROGRAM: i32 = -17;
     pub const OTHER_CHAPTER: i32 = -18;
+    pub const CLOSED: i32 = -19;
+    pub const TIMED_OUT: i32 = -20;
     pub const SCHEDULE_TOO_LONG: i32 = -21;
     pub const SCHEDULE_BAD_BYTE: i32 = -22;
     pub const SCHEDULE_SHAPE: i32 = -23;
@@ -72,6 +81,8 @@ struct Taken {
     chapter: u64,
     task: u32,
     transaction: u32,
+    count: usize,
+    arguments: [i64; 8],
 }
 
 #[repr(C)]
@@ -95,7 +106,7 @@ pub struct Counts {
     pub parked: usize,
     /// They committed.
     pub done: usize,
-    /// They were given up, for want of memory or by the host.
+    /// They were given up, as memory ran out or by its host.
     pub given_up: usize,
 }
 
@@ -138,8 +149,10 @@ extern "C" {
     fn stm_read(file: *const u8, file_length: usize, out: *mut Handle) -> i32;
     fn stm_program_free(program: *mut Handle);
     fn stm_program_tasks(program: *const Handle) -> usize;
+    fn stm_program_transactions(program: *const Handle) -> usize;
     fn stm_program_variable(program: *const Handle, name: *const u8, name_length: usize) -> i64;
     fn stm_program_transaction(program: *const Handle, name: *const u8, name_length: usize) -> i64;
+    fn stm_program_parameters(program: *const Handle, transaction: u32) -> i64;
     fn stm_open_with_room(
         program: *const Handle,
         workers: usize,
@@ -148,12 +161,12 @@ extern "C" {
         out: *mut Handle,
     ) -> i32;
     fn stm_store_free(store: *mut Handle);
-    fn stm_hire(store: *mut Handle, out: *mut Handle) -> i32;
+    fn stm_open_worker(store: *mut Handle, out: *mut Handle) -> i32;
     fn stm_take_job(store: *mut Handle) -> Taken;
-    fn stm_submit(store: *mut Handle, transaction: u32) -> i64;
+    fn stm_submit(store: *mut Handle, transaction: u32, arguments: *const i64, count: usize) -> i64;
     fn stm_store_spare(store: *mut Handle) -> usize;
     fn stm_store_tasks(store: *mut Handle) -> usize;
-    fn stm_counted(store: *mut Handle, out: *mut Counts) -> i32;
+    fn stm_get_counts(store: *mut Handle, out: *mut Counts) -> i32;
     fn stm_value(
         store: *mut Handle,
         name: *const u8,
@@ -164,10 +177,22 @@ extern "C" {
     fn stm_finish(store: *mut Handle, worker: *mut Handle) -> Told;
     fn stm_serial(store: *mut Handle, ticket: i64) -> Told;
     fn stm_claim(store: *mut Handle, ticket: i64) -> Taken;
-    fn stm_lend(store: *mut Handle, out: *mut Handle) -> i32;
+    fn stm_open_lender(store: *mut Handle, out: *mut Handle) -> i32;
     fn stm_lender_free(lender: *mut Handle);
-    fn stm_call(store: *mut Handle, lender: *mut Handle, transaction: u32) -> TurnTold;
-    fn stm_try_call(store: *mut Handle, lender: *mut Handle, transaction: u32) -> TurnTold;
+    fn stm_call(
+        store: *mut Handle,
+        lender: *mut Handle,
+        transaction: u32,
+        arguments: *const i64,
+        count: usize,
+    ) -> TurnTold;
+    fn stm_try_call(
+        store: *mut Handle,
+        lender: *mut Handle,
+        transaction: u32,
+        arguments: *const i64,
+        count: usize,
+    ) -> TurnTold;
     fn stm_turn(store: *mut Handle, lender: *mut Handle) -> TurnTold;
     fn stm_turns(store: *mut Handle, worker: *mut Handle, most: u32) -> i64;
     fn stm_give_up(store: *mut Handle, ticket: i64) -> i32;
@@ -183,7 +208,7 @@ extern "C" {
     fn stm_file(store: *mut Handle, room: *mut u8, room_length: usize, wanted: *mut usize) -> i32;
     fn stm_try(worker: *mut Handle, task: u32) -> i32;
     fn stm_try_job(worker: *mut Handle, job: Taken) -> i32;
-    fn stm_observe(worker: *mut Handle, transaction: u32) -> Told;
+    fn stm_observe(worker: *mut Handle, transaction: u32, arguments: *const i64, count: usize) -> Told;
     fn stm_worker_free(worker: *mut Handle);
 }
 
@@ -355,7 +380,24 @@ fn turned(told: TurnTold) -> Result<Turned, i32> {
 /// A job, where there is one; else the code.
 fn job(taken: Taken) -> Result<Job, i32> {
     let ticket = Ticket(u64::try_from(taken.ticket).map_err(|_| taken.ticket as i32)?);
-    Ok(Job { ticket, chapter: taken.chapter, task: taken.task, transaction: taken.transaction })
+    let Taken { chapter, task, transaction, count, arguments, .. } = taken;
+    let arguments =
+        Arguments::new(&arguments[..count]).expect("the library tells as many as there are places for");
+    Ok(Job { ticket, chapter, task, transaction, arguments })
+}
+
+/// How many parameters each transaction has.
+#[derive(Clone)]
+struct Parameters(Arc<[usize]>);
+
+impl Parameters {
+    /// Why the library makes no such call.
+    fn refusal(&self, transaction: u32, arguments: &[i64]) -> Error {
+        match self.0.get(transaction as usize) {
+            Some(&parameters) => Error::WrongArguments { transaction, parameters, given: arguments.len() },
+            None => Error::UnknownTransaction(transaction),
+        }
+    }
 }
 
 /// A ticket as the library takes it. One that no store gives is negative, which is none's.
@@ -365,10 +407,11 @@ fn number(ticket: Ticket) -> i64 {
 
 /// A program's handle. Never empty.
 pub struct RawProgram(Handle);
-/// A store's handle, never empty, and what is lent to its turns: none where there is no transaction.
-pub struct RawStore(Handle, Option<RawLender>);
-/// A worker's handle. Never empty.
-pub struct RawWorker(Handle);
+/// A store's handle, never empty; what is lent to its turns: none where there is no transaction; and what the program
+/// says of the transactions.
+pub struct RawStore(Handle, Option<RawLender>, Parameters);
+/// A worker's handle, never empty, and what its program says of the transactions.
+pub struct RawWorker(Handle, Parameters);
 /// A lender's handle. Never empty.
 struct RawLender(Handle);
 
@@ -412,11 +455,22 @@ impl RawProgram {
         u32::try_from(unsafe { stm_program_transaction(&self.0, name.as_ptr(), name.len()) }).ok()
     }
 
+    pub fn parameters(&self, transaction: u32) -> Option<usize> {
+        // SAFETY: as `tasks`. The library tests the number.
+        usize::try_from(unsafe { stm_program_parameters(&self.0, transaction) }).ok()
+    }
+
+    fn all_parameters(&self) -> Parameters {
+        // SAFETY: as `tasks`.
+        let count = unsafe { stm_program_transactions(&self.0) };
+        Parameters((0..count as u32).map_while(|transaction| self.parameters(transaction)).collect())
+    }
+
     pub fn open(&self, workers: usize, checkpoint: u32, spare: usize) -> Result<RawStore, Error> {
         let mut out = empty();
         // SAFETY: as `tasks`; `out` is an empty handle, and holds a store where the answer is 0.
         match unsafe { stm_open_with_room(&self.0, workers, checkpoint, spare, &mut out) } {
-            code::DONE => RawStore(out, None).with_lender(),
+            code::DONE => RawStore(out, None, self.all_parameters()).with_lender(),
             code::NO_WORKER => Err(Error::TooManyWorkers),
             code => Err(error_of(code)),
         }
@@ -427,8 +481,8 @@ impl RawStore {
     pub fn worker(&mut self) -> Result<RawWorker, Error> {
         let mut out = empty();
         // SAFETY: `&mut self`; `out` is an empty handle, and holds a worker where the answer is 0.
-        match unsafe { stm_hire(&mut self.0, &mut out) } {
-            code::DONE => Ok(RawWorker(out)),
+        match unsafe { stm_open_worker(&mut self.0, &mut out) } {
+            code::DONE => Ok(RawWorker(out, self.2.clone())),
             code => Err(error_of(code)),
         }
     }
@@ -436,7 +490,7 @@ impl RawStore {
     fn with_lender(mut self) -> Result<RawStore, Error> {
         let mut out = empty();
         // SAFETY: as `worker`.
-        match unsafe { stm_lend(&mut self.0, &mut out) } {
+        match unsafe { stm_open_lender(&mut self.0, &mut out) } {
             code::DONE => self.1 = Some(RawLender(out)),
             code::NO_WORKER => {}
             code => return Err(error_of(code)),
@@ -458,31 +512,38 @@ impl RawStore {
         }
     }
 
-    pub fn submit(&mut self, transaction: u32) -> Result<Ticket, Error> {
-        // SAFETY: `&mut self`. The library tests the number.
-        let ticket = unsafe { stm_submit(&mut self.0, transaction) };
+    pub fn submit(&mut self, transaction: u32, arguments: &[i64]) -> Result<Ticket, Error> {
+        // SAFETY: `&mut self`; a slice that is borrowed for the call. The library tests the number, and how many
+        // arguments there are.
+        let ticket = unsafe { stm_submit(&mut self.0, transaction, arguments.as_ptr(), arguments.len()) };
         u64::try_from(ticket).map(Ticket).map_err(|_| match ticket as i32 {
-            code::UNKNOWN => Error::UnknownTransaction(transaction),
+            code::UNKNOWN => self.2.refusal(transaction, arguments),
             code => error_of(code),
         })
     }
 
-    pub fn call(&mut self, transaction: u32) -> Result<Turned, Error> {
-        let lender = self.1.as_mut().ok_or(Error::UnknownTransaction(transaction))?;
-        // SAFETY: two `&mut`. The library tests the number.
-        turned(unsafe { stm_call(&mut self.0, &mut lender.0, transaction) }).map_err(|code| match code {
-            code::UNKNOWN => Error::UnknownTransaction(transaction),
+    pub fn call(&mut self, transaction: u32, arguments: &[i64]) -> Result<Turned, Error> {
+        let RawStore(store, lender, parameters) = self;
+        let lender = lender.as_mut().ok_or(Error::UnknownTransaction(transaction))?;
+        // SAFETY: two `&mut`; the rest as `submit`.
+        let told =
+            unsafe { stm_call(store, &mut lender.0, transaction, arguments.as_ptr(), arguments.len()) };
+        turned(told).map_err(|code| match code {
+            code::UNKNOWN => parameters.refusal(transaction, arguments),
             code => error_of(code),
         })
     }
 
-    pub fn try_call(&mut self, transaction: u32) -> Result<Option<Turned>, Error> {
-        let lender = self.1.as_mut().ok_or(Error::UnknownTransaction(transaction))?;
+    pub fn try_call(&mut self, transaction: u32, arguments: &[i64]) -> Result<Option<Turned>, Error> {
+        let RawStore(store, lender, parameters) = self;
+        let lender = lender.as_mut().ok_or(Error::UnknownTransaction(transaction))?;
         // SAFETY: as `call`.
-        match turned(unsafe { stm_try_call(&mut self.0, &mut lender.0, transaction) }) {
+        let told =
+            unsafe { stm_try_call(store, &mut lender.0, transaction, arguments.as_ptr(), arguments.len()) };
+        match turned(told) {
             Ok(turned) => Ok(Some(turned)),
             Err(code::RETRIES) => Ok(None),
-            Err(code::UNKNOWN) => Err(Error::UnknownTransaction(transaction)),
+            Err(code::UNKNOWN) => Err(parameters.refusal(transaction, arguments)),
             Err(code) => Err(error_of(code)),
         }
     }
@@ -509,7 +570,7 @@ impl RawStore {
     pub fn counts(&mut self) -> Counts {
         let mut out = Counts::default();
         // SAFETY: `&mut self`; `out` is only written.
-        unsafe { stm_counted(&mut self.0, &mut out) };
+        unsafe { stm_get_counts(&mut self.0, &mut out) };
         out
     }
 
@@ -650,20 +711,22 @@ impl RawWorker {
     }
 
     pub fn try_job(&mut self, job: Job) -> Result<Tried, Error> {
-        let Job { ticket, chapter, task, transaction } = job;
-        let taken = Taken { ticket: number(ticket), chapter, task, transaction };
+        let Job { ticket, chapter, task, transaction, arguments } = job;
+        let (count, arguments) = arguments.in_places();
+        let taken = Taken { ticket: number(ticket), chapter, task, transaction, count, arguments };
         let unknown = if taken.ticket < 0 {
             Error::UnknownTicket(ticket)
         } else {
-            Error::UnknownTransaction(transaction)
+            self.1.refusal(transaction, &job.arguments)
         };
-        // SAFETY: `&mut self`. The library tests the transaction, and the store whether the job is one of its tasks.
+        // SAFETY: `&mut self`. The library tests the call, and the store whether the job is one of its tasks.
         tried(unsafe { stm_try_job(&mut self.0, taken) }, unknown)
     }
 
-    pub fn observe(&mut self, transaction: u32) -> Result<Observed, Error> {
-        // SAFETY: `&mut self`. The library tests the number.
-        let told = unsafe { stm_observe(&mut self.0, transaction) };
+    pub fn observe(&mut self, transaction: u32, arguments: &[i64]) -> Result<Observed, Error> {
+        // SAFETY: `&mut self`; a slice that is borrowed for the call. The library tests the number, and how many
+        // arguments there are.
+        let told = unsafe { stm_observe(&mut self.0, transaction, arguments.as_ptr(), arguments.len()) };
         if let Some(outcome) = outcome(&told) {
             return Ok(outcome.into());
         }
@@ -671,7 +734,7 @@ impl RawWorker {
             code::RETRIES => Ok(Observed::Retries),
             code::STALE => Ok(Observed::Stale),
             code::MEMORY => Ok(Observed::Memory),
-            code::UNKNOWN => Err(Error::UnknownTransaction(transaction)),
+            code::UNKNOWN => Err(self.1.refusal(transaction, arguments)),
             other => unreachable!("the library answers {other}"),
         }
     }

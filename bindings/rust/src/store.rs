@@ -37,6 +37,11 @@ impl Program {
     pub fn transaction(&self, name: &str) -> Option<u32> {
         self.raw.transaction(name)
     }
+
+    /// How many parameters a transaction has, at most 8.
+    pub fn parameters(&self, transaction: u32) -> Option<usize> {
+        self.raw.parameters(transaction)
+    }
 }
 
 /// The tasks of a program, their journal and the present values. Threads share it by a reference:
@@ -45,7 +50,7 @@ pub struct Store {
     raw: Mutex<RawStore>,
 }
 
-/// What one thread has. It may outlive its store.
+/// What one thread has. It may outlive its store: what both share goes with the last of a store and its workers.
 pub struct Worker {
     raw: RawWorker,
 }
@@ -69,7 +74,7 @@ impl Store {
     ///
     /// let program = Program::read("(var x 1) (tx two (set x (add x x)) x)")?;
     /// let store = Store::open_with_room(&program, 0, 0, 1)?;
-    /// assert_eq!(store.submit(0), Ok(stm::Ticket(0)));
+    /// assert_eq!(store.submit(0, &[]), Ok(stm::Ticket(0)));
     /// let report = store.report()?;
     /// assert_eq!(store.value("x"), Some((2, 1)));
     /// assert_eq!(stm::check(&store.file()?, &report)?, Verdict::Good);
@@ -85,13 +90,14 @@ impl Store {
         Ok(Store { raw: Mutex::new(raw) })
     }
 
-    /// A ready task of the transaction more: its ticket. It takes no memory.
-    pub fn submit(&self, transaction: u32) -> Result<Ticket, Error> {
-        held(&self.raw).submit(transaction)
+    /// A ready task more of the transaction, which is given an argument for each of its parameters, in their order:
+    /// its ticket. It takes no memory.
+    pub fn submit(&self, transaction: u32, arguments: &[i64]) -> Result<Ticket, Error> {
+        held(&self.raw).submit(transaction, arguments)
     }
 
-    /// Runs the transaction as a task more, which has its turn at once, whatever else is ready: how it ended. What
-    /// it woke is ready. `NoRoom` where the chapter has no room for a task more.
+    /// Runs the transaction with these arguments as a task more, which has its turn at once, whatever else is ready:
+    /// how it ended. What it woke is ready. `NoRoom` where the chapter has no room for a task more.
     ///
     /// ```
     /// use stm::{End, Entered, Outcome, Program, Store};
@@ -99,17 +105,17 @@ impl Store {
     /// let program = Program::read("(var x 1) (tx two (set x (add x x)) x) (tx no (throw 7) x)")?;
     /// let store = Store::open_with_room(&program, 0, 0, 3)?;
     /// let ended = |number, outcome| End::Entered(Entered { number, outcome });
-    /// assert_eq!(store.call(0)?.end, ended(1, Outcome::Returned(2)));
-    /// assert_eq!(store.call(1)?.end, ended(2, Outcome::Thrown(7)));
-    /// assert_eq!(store.call(2), Err(stm::Error::UnknownTransaction(2)));
-    /// assert_eq!(store.call(0)?.end, ended(3, Outcome::Returned(4)));
-    /// assert_eq!(store.call(0), Err(stm::Error::NoRoom));
+    /// assert_eq!(store.call(0, &[])?.end, ended(1, Outcome::Returned(2)));
+    /// assert_eq!(store.call(1, &[])?.end, ended(2, Outcome::Thrown(7)));
+    /// assert_eq!(store.call(2, &[]), Err(stm::Error::UnknownTransaction(2)));
+    /// assert_eq!(store.call(0, &[])?.end, ended(3, Outcome::Returned(4)));
+    /// assert_eq!(store.call(0, &[]), Err(stm::Error::NoRoom));
     /// store.begin_chapter();
-    /// assert_eq!(store.call(0)?.end, ended(1, Outcome::Returned(8)));
+    /// assert_eq!(store.call(0, &[])?.end, ended(1, Outcome::Returned(8)));
     /// # Ok::<(), stm::Error>(())
     /// ```
-    pub fn call(&self, transaction: u32) -> Result<Turned, Error> {
-        held(&self.raw).call(transaction)
+    pub fn call(&self, transaction: u32, arguments: &[i64]) -> Result<Turned, Error> {
+        held(&self.raw).call(transaction, arguments)
     }
 
     /// As `call`; `None`, and nothing changed, where the transaction retries on the present values.
@@ -117,13 +123,13 @@ impl Store {
     /// ```
     /// let program = stm::Program::read("(var n 0) (tx get (if (lt n 1) (retry) (set n (sub n 1))) n) (tx put (set n (add n 1)) n)")?;
     /// let store = stm::Store::open_with_room(&program, 0, 0, 2)?;
-    /// assert_eq!(store.try_call(0)?, None);
-    /// store.call(1)?;
-    /// assert!(store.try_call(0)?.is_some());
+    /// assert_eq!(store.try_call(0, &[])?, None);
+    /// store.call(1, &[])?;
+    /// assert!(store.try_call(0, &[])?.is_some());
     /// # Ok::<(), stm::Error>(())
     /// ```
-    pub fn try_call(&self, transaction: u32) -> Result<Option<Turned>, Error> {
-        held(&self.raw).try_call(transaction)
+    pub fn try_call(&self, transaction: u32, arguments: &[i64]) -> Result<Option<Turned>, Error> {
+        held(&self.raw).try_call(transaction, arguments)
     }
 
     /// Gives the lowest ready task a turn: which task, and how it ended. `None` where none is ready.
@@ -189,7 +195,7 @@ impl Store {
         self.take_job().map(|job| job.ticket)
     }
 
-    /// As `take`, with all that a worker has to be told of the task.
+    /// As `take`, with all that a worker has to be told of the task: its arguments too.
     pub fn take_job(&self) -> Option<Job> {
         held(&self.raw).take()
     }
@@ -241,7 +247,7 @@ impl Store {
     ///
     /// let program = Program::read("(var x 5) (tx inc (set x (add x 1)) x)")?;
     /// let store = Store::open_with_room(&program, 0, 0, 1)?;
-    /// let ticket = store.call(0)?.ticket;
+    /// let ticket = store.call(0, &[])?.ticket;
     /// assert_eq!(store.outcome(ticket), Ok(Some(Entered { number: 1, outcome: Outcome::Returned(6) })));
     /// store.checkpoint();
     /// assert_eq!(store.outcome(ticket), Ok(None));
@@ -254,7 +260,7 @@ impl Store {
     /// Gives the lowest ready task a turn, and then the next one, until so many turns were given or
     /// none is ready: how many turns were given. The lock is held meanwhile, so it is for short tasks,
     /// which cost less so than where each is taken, tried and brought. The worker lends its attempt, and
-    /// has no ended one to bring afterwards. What meets want of memory is given up.
+    /// has no ended one to bring afterwards. What runs out of memory is given up.
     ///
     /// ```
     /// let program = stm::Program::read("(var x 0) (tx inc (set x (add x 1)) x) (run inc 5)")?;
@@ -296,9 +302,9 @@ impl Store {
     /// ```
     /// let program = stm::Program::read("(var n 0) (tx get (if (lt n 1) (retry) (set n (sub n 1))) n) (tx put (set n (add n 1)) n)")?;
     /// let store = stm::Store::open_with_room(&program, 0, 0, 2)?;
-    /// let waits = store.call(0)?.ticket;
+    /// let waits = store.call(0, &[])?.ticket;
     /// store.begin_chapter();
-    /// store.call(1)?;
+    /// store.call(1, &[])?;
     /// assert_eq!(store.turn().map(|turned| turned.ticket), Some(waits));
     /// assert_eq!((store.chapter(), store.entered()), (1, 2));
     /// # Ok::<(), stm::Error>(())
@@ -340,34 +346,34 @@ impl Worker {
         self.raw.try_job(job)
     }
 
-    /// How the transaction would end on one state, without a lock.
-    pub fn observe(&mut self, transaction: u32) -> Result<Observed, Error> {
-        self.raw.observe(transaction)
+    /// How the transaction would end with these arguments on one state, without a lock.
+    pub fn observe(&mut self, transaction: u32, arguments: &[i64]) -> Result<Observed, Error> {
+        self.raw.observe(transaction, arguments)
     }
 }
 
 /// When a task that was stale is given a turn under the lock, and when a checkpoint is made.
 #[derive(Clone, Copy, Debug)]
-pub struct Retry {
+pub struct RunOptions {
     /// After so many stale tries.
     pub tries: u32,
     /// After so many entries; 0: never.
     pub checkpoint: u32,
 }
 
-impl Default for Retry {
-    fn default() -> Retry {
-        Retry { tries: 8, checkpoint: 0 }
+impl Default for RunOptions {
+    fn default() -> RunOptions {
+        RunOptions { tries: 8, checkpoint: 0 }
     }
 }
 
 /// Runs all tasks by so many workers, each a thread, and reports.
 pub fn run(program: &Program, workers: usize) -> Result<String, Error> {
-    run_with(program, workers, Retry::default())
+    run_with(program, workers, RunOptions::default())
 }
 
 /// As `run`, by a policy of one's own.
-pub fn run_with(program: &Program, workers: usize, retry: Retry) -> Result<String, Error> {
+pub fn run_with(program: &Program, workers: usize, retry: RunOptions) -> Result<String, Error> {
     let store = Store::open(program, workers, retry.checkpoint)?;
     let mut crew = Vec::new();
     for _ in 0..workers {

@@ -1,8 +1,8 @@
 //! Each call once where it does what it is for, and at its limits.
 
 use stm::{
-    Brought, Counts, Declare, Entered, Error, Job, Observed, Outcome, Part, Program, Retry, Store, Ticket,
-    Tried, Verdict,
+    Arguments, Brought, Counts, Declare, Entered, Error, Job, Observed, Outcome, Part, Program, RunOptions,
+    Store, Ticket, Tried, Verdict,
 };
 
 const FILE: &str = "(var x 5)\n(tx inc (set x (add x 1)) x)\n(tx wait (if (lt x 100) (retry) (skip)) x)\n(run inc 2)\n(run wait 1)\n";
@@ -56,7 +56,7 @@ fn a_store_turn_by_turn() {
     assert_eq!(store.finish(&mut worker), Ok(Brought::NotEnded));
     assert_eq!(worker.try_task(3), Err(Error::UnknownTask(3)));
     assert_eq!(store.serial(Ticket(3)), Err(Error::UnknownTicket(Ticket(3))));
-    assert_eq!(worker.observe(2), Err(Error::UnknownTransaction(2)));
+    assert_eq!(worker.observe(2, &[]), Err(Error::UnknownTransaction(2)));
 
     assert_eq!((store.take(), store.take()), (Some(Ticket(0)), Some(Ticket(1))));
     assert_eq!(worker.try_task(0), Ok(Tried::Ended));
@@ -65,8 +65,8 @@ fn a_store_turn_by_turn() {
     assert_eq!(store.finish(&mut other), Ok(Brought::Stale));
     assert_eq!(store.serial(Ticket(1)), Ok(returned(2, 7)));
     assert_eq!(store.serial(Ticket(1)), Ok(Brought::NotRunning));
-    assert_eq!(other.observe(inc), Ok(Observed::Returned(8)));
-    assert_eq!(other.observe(wait), Ok(Observed::Retries));
+    assert_eq!(other.observe(inc, &[]), Ok(Observed::Returned(8)));
+    assert_eq!(other.observe(wait, &[]), Ok(Observed::Retries));
 
     assert_eq!(store.take(), Some(Ticket(2)));
     assert_eq!(worker.try_task(2), Ok(Tried::Ended));
@@ -79,7 +79,7 @@ fn a_store_turn_by_turn() {
     assert_eq!(report, "base 2\nx 7 2\nnow 2\nx 7 2\nparked 2 wait\nend\n");
     assert_eq!(stm::check(FILE, &report), Ok(Verdict::Good));
     drop(store);
-    assert_eq!(other.observe(inc), Ok(Observed::Returned(8)));
+    assert_eq!(other.observe(inc, &[]), Ok(Observed::Returned(8)));
 }
 
 #[test]
@@ -100,10 +100,10 @@ fn what_an_observer_sees_of_faults() {
     let program = Program::read(file).unwrap();
     let store = Store::open(&program, 1, 0).unwrap();
     let mut worker = store.worker().unwrap();
-    assert_eq!(worker.observe(0), Ok(Observed::Thrown(7)));
-    assert_eq!(worker.observe(1), Ok(Observed::Overflow));
-    assert_eq!(worker.observe(2), Ok(Observed::DivideByZero));
-    assert_eq!(worker.observe(3), Ok(Observed::Broken(0)));
+    assert_eq!(worker.observe(0, &[]), Ok(Observed::Thrown(7)));
+    assert_eq!(worker.observe(1, &[]), Ok(Observed::Overflow));
+    assert_eq!(worker.observe(2, &[]), Ok(Observed::DivideByZero));
+    assert_eq!(worker.observe(3, &[]), Ok(Observed::Broken(0)));
 }
 
 #[test]
@@ -112,7 +112,7 @@ fn threads_share_a_store() {
     for workers in [0, 1, 2, 4, 8] {
         for checkpoint in [0, 7] {
             let program = Program::read(file).unwrap();
-            let report = stm::run_with(&program, workers, Retry { tries: 8, checkpoint }).unwrap();
+            let report = stm::run_with(&program, workers, RunOptions { tries: 8, checkpoint }).unwrap();
             assert_eq!(stm::present(&report, "x"), Some(20005));
             assert_eq!(stm::check(file, &report), Ok(Verdict::Good));
         }
@@ -137,13 +137,13 @@ fn an_observer_sees_one_state() {
         });
         let mut last = 0;
         for _ in 0..10_000 {
-            if let Observed::Returned(value) = watcher.observe(get).unwrap() {
+            if let Observed::Returned(value) = watcher.observe(get, &[]).unwrap() {
                 assert!(value >= last);
                 last = value;
             }
         }
     });
-    assert_eq!(watcher.observe(get), Ok(Observed::Returned(20000)));
+    assert_eq!(watcher.observe(get, &[]), Ok(Observed::Returned(20000)));
 }
 
 #[test]
@@ -172,7 +172,7 @@ fn a_program_without_tasks_is_observed() {
     declare.tx("get", stm::skip(), &x);
     let program = declare.program().unwrap();
     let store = Store::open(&program, 1, 0).unwrap();
-    assert_eq!(store.worker().unwrap().observe(0), Ok(Observed::Returned(3)));
+    assert_eq!(store.worker().unwrap().observe(0, &[]), Ok(Observed::Returned(3)));
     assert_eq!(store.take(), None);
     assert!(matches!(Declare::new().program().map(|p| p.tasks()), Ok(0)));
     assert!(stm::run(&Declare::new().program().unwrap(), 2).is_ok());
@@ -187,16 +187,17 @@ fn tasks_are_submitted_while_all_wait() {
     let mut worker = store.worker().unwrap();
     assert!(matches!(Store::open_with_room(&program, 1, 0, 65536), Err(Error::NoRoom)));
     let get = store.take_job().unwrap();
-    assert_eq!(get, Job { ticket: Ticket(0), chapter: 0, task: 0, transaction: 0 });
+    let arguments = Arguments::default();
+    assert_eq!(get, Job { ticket: Ticket(0), chapter: 0, task: 0, transaction: 0, arguments });
     assert_eq!(store.report_now(), Err(Error::WorkLeft));
     assert_eq!(worker.try_job(get), Ok(Tried::Ended));
     assert_eq!(store.finish(&mut worker), Ok(Brought::Parked));
     assert!(store.report_now().unwrap().ends_with("parked 0 get\nend\n"));
 
     let put = program.transaction("put").unwrap();
-    assert_eq!(store.submit(2), Err(Error::UnknownTransaction(2)));
-    assert_eq!((store.submit(put), store.submit(put)), (Ok(Ticket(1)), Ok(Ticket(2))));
-    assert_eq!((store.submit(put), store.spare(), store.tasks()), (Err(Error::NoRoom), 0, 3));
+    assert_eq!(store.submit(2, &[]), Err(Error::UnknownTransaction(2)));
+    assert_eq!((store.submit(put, &[]), store.submit(put, &[])), (Ok(Ticket(1)), Ok(Ticket(2))));
+    assert_eq!((store.submit(put, &[]), store.spare(), store.tasks()), (Err(Error::NoRoom), 0, 3));
     let job = store.take_job().unwrap();
     assert_eq!(worker.try_task(1), Err(Error::UnknownTask(1)));
     assert_eq!(worker.try_job(Job { transaction: 0, ..job }), Ok(Tried::Ended));
@@ -234,7 +235,7 @@ fn tasks_are_submitted_while_threads_run() {
             });
         }
         for task in 0..2000 {
-            assert_eq!(store.submit(0), Ok(Ticket(task)));
+            assert_eq!(store.submit(0, &[]), Ok(Ticket(task)));
         }
     });
     let (report, file) = store.report_and_file().unwrap();

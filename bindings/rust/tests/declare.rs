@@ -10,7 +10,7 @@ fn ends(make: impl Fn(&Var, &Var) -> (Stmt, Expr)) -> Observed {
     declare.tx("t", body, result);
     let store = Store::open(&declare.program().unwrap(), 1, 0).unwrap();
     let mut worker = store.worker().unwrap();
-    worker.observe(0).unwrap()
+    worker.observe(0, &[]).unwrap()
 }
 
 fn value(make: impl Fn(&Var, &Var) -> Expr) -> Observed {

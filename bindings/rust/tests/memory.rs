@@ -1,11 +1,12 @@
-//! Memory of the test's own behind the library: what is let go gives its blocks back, and want of memory is told.
+//! Memory of the test's own behind the library: what is let go gives its blocks back, and running out of memory is told.
 //!
 //! It has one test, since what it counts is the whole process's.
 
 use std::ffi::c_void;
 use std::sync::atomic::{AtomicI64, Ordering};
 use stm::{
-    run_with, Brought, End, Entered, Error, Observed, Outcome, Program, Retry, Store, Ticket, Tried, Verdict,
+    run_with, Brought, End, Entered, Error, Fault, Observed, Outcome, Program, RunOptions, Service,
+    ServiceOptions, Store, Ticket, Tried, Verdict,
 };
 
 #[repr(C)]
@@ -86,7 +87,18 @@ const FILE: &str = "(var x 0)\n(tx t (orelse (seq (set x 9) (retry)) (set x (add
 
 #[test]
 fn memory() {
-    // What is let go gives back what it alone had.
+    what_is_let_go();
+    texts_leave_nothing();
+    reads_are_refused();
+    let program = Program::read(FILE).unwrap();
+    calls_are_refused(&program);
+    runs_are_refused(&program);
+    services_are_let_go();
+    services_are_refused();
+}
+
+/// What is let go gives back what it alone had.
+fn what_is_let_go() {
     let program = Program::read(FILE).unwrap();
     let store = Store::open(&program, 1, 0).unwrap();
     let worker = store.worker().unwrap();
@@ -96,8 +108,10 @@ fn memory() {
     assert!(without_worker < all, "a worker is let go");
     drop(store);
     assert!(blocks() < without_worker, "a store is let go");
+}
 
-    // Texts and refused files leave nothing.
+/// Texts and refused files leave nothing.
+fn texts_leave_nothing() {
     let before = blocks();
     assert!(
         stm::run_one(FILE, 0).is_ok()
@@ -106,8 +120,10 @@ fn memory() {
     );
     assert_eq!(Program::read("(var x").map(|_| ()), Err(Error::Shape));
     assert_eq!(blocks(), before);
+}
 
-    // Each request is refused in turn: a read, an opening, a hiring and a report say so, and a task is given up.
+/// Each request of a read is refused in turn, and it says so.
+fn reads_are_refused() {
     let all = refusing(0, || assert!(Program::read(FILE).is_ok()));
     // What is refused in a first reading is read again, so that not each refusal is told.
     let mut told = 0;
@@ -121,12 +137,15 @@ fn memory() {
         });
     }
     assert!(told > 0, "{told} reads of {all} were refused");
-    let program = Program::read(FILE).unwrap();
-    let store = Store::open(&program, 2, 0).unwrap();
+}
+
+/// A request of each call is refused: the call says so, or a task is given up.
+fn calls_are_refused(program: &Program) {
+    let store = Store::open(program, 2, 0).unwrap();
     let (mut worker, mut watcher) = (store.worker().unwrap(), store.worker().unwrap());
     assert_eq!((store.take(), store.take()), (Some(Ticket(0)), Some(Ticket(1))));
     refusing(1, || assert_eq!(worker.try_task(0), Ok(Tried::Memory)));
-    refusing(1, || assert_eq!(watcher.observe(0), Ok(Observed::Memory)));
+    refusing(1, || assert_eq!(watcher.observe(0, &[]), Ok(Observed::Memory)));
     refusing(1, || assert_eq!(store.serial(Ticket(1)), Ok(Brought::GivenUp)));
     refusing(1, || assert_eq!(store.file(), Err(Error::Memory)));
     let done = Brought::Committed(Entered { number: 1, outcome: Outcome::Returned(1) });
@@ -137,7 +156,11 @@ fn memory() {
         assert_eq!((store.standing(Ticket(0)), store.entered()), (Err(Error::UnknownTicket(Ticket(0))), 1));
     });
     assert_eq!(taken, 0, "a chapter begins in no memory");
-    let run = || run_with(&program, 1, Retry::default());
+}
+
+/// Each request of a run is refused in turn: it says so, or its report is good and tasks are given up.
+fn runs_are_refused(program: &Program) {
+    let run = || run_with(program, 1, RunOptions::default());
     let all = refusing(0, || assert!(run().is_ok()));
     let (mut refused, mut given_up) = (0, 0);
     for number in 1..=all {
@@ -154,4 +177,52 @@ fn memory() {
         });
     }
     assert!(refused > 0 && given_up > 0, "{refused} runs were refused, {given_up} tasks given up");
+}
+
+/// A service with room for some calls, whose chapters are told.
+fn service() -> Result<Service, Error> {
+    Service::open_with(FILE, ServiceOptions::new().room(10).on_chapter(|_, _| Ok::<(), Error>(())))
+}
+
+/// How many blocks stay of it.
+fn left_of(work: impl FnOnce()) -> i64 {
+    let before = blocks();
+    work();
+    blocks() - before
+}
+
+/// A service gives back all but what its file says, whether it could be opened or not.
+fn services_are_let_go() {
+    let of_a_program = left_of(|| drop(Program::read(FILE).unwrap()));
+    let of_a_service = left_of(|| {
+        let service = service().unwrap();
+        (0..50).for_each(|_| assert!(service.atomically(0, &[]).is_ok()));
+        assert!(service.observe(0, &[]).is_ok() && service.chapter() > 3 && service.file().is_ok());
+    });
+    assert_eq!(of_a_service, of_a_program);
+    let all = refusing(0, || drop(service().unwrap()));
+    let mut told = 0;
+    for number in 1..=all {
+        let left = left_of(|| {
+            refusing(number, || match service() {
+                Ok(_) => {}
+                Err(error) => {
+                    assert_eq!(error, Error::Memory, "request {number}");
+                    told += 1;
+                }
+            });
+        });
+        assert!(left <= of_a_program, "request {number}");
+    }
+    assert!(told > 0, "{told} openings of {all} were refused");
+}
+
+/// A call of a service is refused memory: it says so, and was not entered.
+fn services_are_refused() {
+    let service = Service::open(FILE.trim_end().trim_end_matches("(run t 3)")).unwrap();
+    refusing(1, || assert_eq!(service.atomically(0, &[]), Err(Fault::Memory)));
+    refusing(1, || assert_eq!(service.observe(0, &[]), Err(Fault::Memory)));
+    refusing(1, || assert_eq!(service.file(), Err(Error::Memory)));
+    assert_eq!((service.value("x"), service.entered()), (Some((0, 0)), 0));
+    assert_eq!((service.atomically(0, &[]), service.observe(0, &[])), (Ok(1), Ok(2)));
 }

@@ -2,6 +2,7 @@
 
 use stm::{
     Brought, Entered, Error, Job, Outcome, Part, Program, ScheduleFault, Store, Ticket, Tried, Verdict,
+    Worker,
 };
 
 fn read(text: &str) -> Result<(), Error> {
@@ -62,7 +63,7 @@ fn stores() {
     let mut worker = store.worker().unwrap();
     assert!(matches!(store.worker(), Err(Error::NoWorker)));
     assert_eq!(
-        (store.submit(2), store.submit(0), store.submit(0)),
+        (store.submit(2, &[]), store.submit(0, &[]), store.submit(0, &[])),
         (Err(Error::UnknownTransaction(2)), Ok(Ticket(4)), Err(Error::NoRoom))
     );
     assert_eq!(store.report_now(), Err(Error::WorkLeft));
@@ -73,10 +74,14 @@ fn stores() {
         assert_eq!((store.standing(ticket), store.outcome(ticket)), (Err(unknown), Err(unknown)));
     }
     let unknown = Error::UnknownTransaction(2);
-    assert_eq!((worker.observe(2), worker.try_task(9)), (Err(unknown), Err(Error::UnknownTask(9))));
-    assert_eq!((store.call(2), store.try_call(2)), (Err(unknown), Err(unknown)));
-    assert_eq!((store.call(0), store.try_call(0)), (Err(Error::NoRoom), Err(Error::NoRoom)));
+    assert_eq!((worker.observe(2, &[]), worker.try_task(9)), (Err(unknown), Err(Error::UnknownTask(9))));
+    assert_eq!((store.call(2, &[]), store.try_call(2, &[])), (Err(unknown), Err(unknown)));
+    assert_eq!((store.call(0, &[]), store.try_call(0, &[])), (Err(Error::NoRoom), Err(Error::NoRoom)));
+    jobs(store, worker);
+}
 
+/// Strange jobs, tasks that are not running, and what becomes of three tasks and of one that waits.
+fn jobs(store: Store, mut worker: Worker) {
     assert_eq!((store.give_up(Ticket(0)), store.serial(Ticket(0))), (Ok(false), Ok(Brought::NotRunning)));
     let job = store.take_job().unwrap();
     let unknown = Error::UnknownTicket(Ticket(u64::MAX));

@@ -10,7 +10,7 @@ fn ended(ticket: u64, transaction: u32, number: u64, outcome: Outcome) -> Turned
 fn a_call_has_its_turn_before_all_that_is_ready() {
     let program = Program::read("(var x 5)(tx inc (set x (add x 1)) x)(run inc 2)").unwrap();
     let store = Store::open_with_room(&program, 0, 0, 3).unwrap();
-    assert_eq!(store.call(0), Ok(ended(2, 0, 1, Outcome::Returned(6))));
+    assert_eq!(store.call(0, &[]), Ok(ended(2, 0, 1, Outcome::Returned(6))));
     assert_eq!(store.counts().ready, 2);
     assert_eq!(store.turn(), Some(ended(0, 0, 2, Outcome::Returned(7))));
     let entry = Entered { number: 1, outcome: Outcome::Returned(6) };
@@ -30,11 +30,11 @@ fn a_parked_task_is_withdrawn() {
     assert_eq!((turned.end, store.standing(Ticket(0))), (End::Parked, Ok(Standing::Parked)));
     assert_eq!((store.withdraw(Ticket(0)), store.withdraw(Ticket(0))), (Ok(true), Ok(false)));
     assert_eq!(store.standing(Ticket(0)), Ok(Standing::GivenUp));
-    assert_eq!((store.try_call(0), store.spare()), (Ok(None), 1));
+    assert_eq!((store.try_call(0, &[]), store.spare()), (Ok(None), 1));
     let report = store.report_now().unwrap();
     assert_eq!(report, "base 0\nnow 0\nmemory 0 t\nend\n");
     assert_eq!(stm::check(file, &report), Ok(Verdict::Good));
-    assert_eq!(store.call(0).map(|turned| turned.end), Ok(End::Parked));
+    assert_eq!(store.call(0, &[]).map(|turned| turned.end), Ok(End::Parked));
 }
 
 #[test]
@@ -56,13 +56,13 @@ fn each_way_to_end_is_told() {
             number += 1;
             Entered { number, outcome }
         };
-        assert_eq!(store.call(transaction).map(|turned| turned.end), Ok(End::Entered(entered())));
-        let ticket = store.submit(transaction).unwrap();
+        assert_eq!(store.call(transaction, &[]).map(|turned| turned.end), Ok(End::Entered(entered())));
+        let ticket = store.submit(transaction, &[]).unwrap();
         let job = store.claim(ticket).unwrap().unwrap();
         assert_eq!(worker.try_job(job), Ok(Tried::Ended));
         assert_eq!(store.finish(&mut worker), Ok(Brought::Committed(entered())));
         assert_eq!(
-            store.try_call(transaction).map(|turned| turned.map(|turned| turned.end)),
+            store.try_call(transaction, &[]).map(|turned| turned.map(|turned| turned.end)),
             Ok(Some(End::Entered(entered())))
         );
     }
@@ -86,10 +86,10 @@ fn a_task_waits_across_chapters() {
     assert_eq!(store.turn(), Some(ended(1, 1, 1, Outcome::Returned(1))));
     store.begin_chapter();
     assert_eq!(store.standing(Ticket(1)), Err(Error::UnknownTicket(Ticket(1))));
-    assert_eq!(store.call(1), Ok(ended(2, 1, 1, Outcome::Returned(2))));
-    assert_eq!(store.call(1), Err(Error::NoRoom));
+    assert_eq!(store.call(1, &[]), Ok(ended(2, 1, 1, Outcome::Returned(2))));
+    assert_eq!(store.call(1, &[]), Err(Error::NoRoom));
     store.begin_chapter();
-    assert_eq!(store.call(1), Ok(ended(3, 1, 1, Outcome::Returned(3))));
+    assert_eq!(store.call(1, &[]), Ok(ended(3, 1, 1, Outcome::Returned(3))));
     assert_eq!(store.turn(), Some(ended(0, 0, 2, Outcome::Returned(0))));
     assert_eq!((store.chapter(), store.entered()), (3, 4));
     let (report, file) = store.report_and_file().unwrap();
@@ -99,8 +99,8 @@ fn a_task_waits_across_chapters() {
 #[test]
 fn a_program_without_transactions_has_no_calls() {
     let store = Store::open_with_room(&Program::read("(var x 1)").unwrap(), 0, 0, 1).unwrap();
-    assert_eq!((store.call(0), store.turn()), (Err(Error::UnknownTransaction(0)), None));
-    assert_eq!(store.try_call(0), Err(Error::UnknownTransaction(0)));
+    assert_eq!((store.call(0, &[]), store.turn()), (Err(Error::UnknownTransaction(0)), None));
+    assert_eq!(store.try_call(0, &[]), Err(Error::UnknownTransaction(0)));
 }
 
 #[test]
@@ -108,7 +108,7 @@ fn threads_call_one_store() {
     let program = Program::read("(var x 0)(tx inc (set x (add x 1)) x)").unwrap();
     let store = Store::open_with_room(&program, 0, 0, 100).unwrap();
     let call = || loop {
-        match store.call(0).map(|turned| turned.end) {
+        match store.call(0, &[]).map(|turned| turned.end) {
             Ok(End::Entered(Entered { outcome: Outcome::Returned(value), .. })) => return value,
             Err(Error::NoRoom) => store.begin_chapter(),
             other => panic!("an increment answers {other:?}"),

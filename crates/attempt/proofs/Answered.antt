@@ -10,7 +10,7 @@ use Rattle.txn_programs.specs.declared.ast.Fault.{Fault}
 use Rattle.txn_programs.specs.declared.ast.Fault.TheVariants.{User, Broken}
 use Rattle.txn_programs.specs.declared.ast.AlwaysId.{AlwaysId}
 use Rattle.txn_programs.specs.declared.ast.Outcome.{Outcome}
-use Rattle.txn_programs.specs.Tree.{Expression, Int, Var, Add, Sub, Mul, Div, Rem, Condition, Eq, Lt, Le, Not, And, Or, Statement, Skip, Set, Seq, If, Repeat, Retry, OrElse, Throw, Statements, End, More, Program}
+use Rattle.txn_programs.specs.Tree.{Expression, Int, Var, Param, Add, Sub, Mul, Div, Rem, Condition, Eq, Lt, Le, Not, And, Or, Statement, Skip, Set, Seq, If, Repeat, Retry, OrElse, Throw, Statements, End, More, Program}
 use Rattle.attempt_machine.specs.declared.found.Halt.{Halt}
 use Rattle.attempt_machine.specs.declared.found.Halt.TheVariants.{Need, Fails}
 use Rattle.attempt.specs.declared.next.Stand.TheVariants as stand
@@ -50,6 +50,7 @@ halting_asks n log (Err f) = tt
 
 value_asks : (n : ℕ) (log w : Known) (e : Expression) → ExpressionKnown n e → Asks n log (see_value e log w)
 value_asks n log w (Int v) k = tt
+value_asks n log w (Param p) k = tt
 value_asks n log w (Var x) k = see_asks n log w x k
 value_asks n log w (Add a b) k = both_asks n log (λ x y. halting (sum_of x y)) (λ x y. halting_asks n log (sum_of x y)) _ _ (value_asks n log w a k.0) (value_asks n log w b k.1)
 value_asks n log w (Sub a b) k = both_asks n log (λ x y. halting (difference_of x y)) (λ x y. halting_asks n log (difference_of x y)) _ _ (value_asks n log w a k.0) (value_asks n log w b k.1)

@@ -3,7 +3,6 @@ use Rattle.std.proofs.Common.{◌≡◌, ◌≢◌, ◌<◌, ◌≤◌, length, 
 use Rattle.txn_programs.specs.declared.ast.VarId.{VarId}
 use Rattle.txn_programs.specs.declared.ast.Outcome.{Outcome}
 use Rattle.attempt_writes.specs.Order.{AllKnown, Apart}
-use Rattle.attempt_machine.specs.Room.{NeedsNoMemory}
 use Rattle.attempt.specs.AttemptInside.{StandsAt}
 use Rattle.attempt.specs.View.{AttemptView}
 use Rattle.attempt.specs.declared.next.Stand.{Stand}

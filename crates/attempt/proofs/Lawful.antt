@@ -1,12 +1,12 @@
 -- An attempt stays lawful: where it waits, where it is over, and where it is told a variable.
-use Rattle.std.proofs.Common.{◌≡◌, ◌≤◌, ◌+◌, ◌-◌, ◌∷◌, ◌++◌, ℕ, length, arith, ℤ, [], subst, sym, refl, length-append}
+use Rattle.std.proofs.Common.{◌≡◌, ◌≤◌, ◌+◌, ◌-◌, ◌∷◌, ◌++◌, ℕ, length, arith, ℤ, List, [], subst, sym, refl, length-append}
 use Rattle.txn_programs.specs.Cost.{cost}
 use Rattle.txn_programs.specs.declared.ast.VarId.{VarId}
 use Rattle.txn_programs.specs.declared.ast.Outcome.{Outcome}
 use Rattle.attempt.specs.declared.attempt.Attempt.TheInside.{Inside}
 use Rattle.attempt.specs.declared.next.Stand.{Stand}
 use Rattle.attempt.specs.declared.next.Stand.TheVariants as stand
-use Rattle.txn_programs.specs.Listing.{program_at}
+use Rattle.txn_programs.specs.Listing.{call_program}
 use Rattle.attempt_machine.specs.Asking.{Known, ask, Needs, Ends}
 use Rattle.attempt.specs.AttemptInside.{viewed, IsKept, IsLawful, StandsAt, IsGoing, GoesOn}
 use Rattle.attempt_machine.specs.Place.{place_of}
@@ -122,29 +122,31 @@ longer a log kept fresh known apart le =
       total = omega (arith, kept.total, le);
     }
 
--- an attempt whose machine went on, and read what the log has more
-pub went_on : (i : Inside) (s : Stand) (m after : Machine) (count : Count) (log : Known) (n read : ℕ) → IsKept i → i.stand ≡ stand.Fresh →
+-- an attempt whose machine went on with its arguments, and read what the log has more
+pub went_on : (i : Inside) (given : List ℤ) (s : Stand) (m after : Machine) (count : Count) (log : Known) (n read : ℕ) → given ≡ i.arguments → IsKept i → i.stand ≡ stand.Fresh →
     n ≡ count.entered + count.ahead - i.count.entered - i.count.ahead + i.again → length i.log + read ≡ length log → AllKnown (length i.catalogue.now.initial) log → Apart log →
-    Stops (program_at i.catalogue.now i.id) log s (place_of m) count.entered count.ahead → count.entered + count.ahead ≤ cost (program_at i.catalogue.now i.id) → i.count.entered + i.count.ahead ≤ count.entered + count.ahead → Settles s m after →
-    IsKept (record { catalogue = i.catalogue; id = i.id; machine = after; count = count; log = log; stand = s; steps = n; total = i.total + (n + read); again = 0 })
-went_on i s m after count log n read kept fresh same grown known apart stops few more settles =
-    let going = subst (GoesOn (program_at i.catalogue.now i.id) i.log i.machine i.count i.total i.again) fresh kept.going in
+    Stops (call_program i.catalogue.now i.id given) log s (place_of m) count.entered count.ahead → count.entered + count.ahead ≤ cost (call_program i.catalogue.now i.id given) → i.count.entered + i.count.ahead ≤ count.entered + count.ahead → Settles s m after →
+    IsKept (record { catalogue = i.catalogue; id = i.id; arguments = i.arguments; machine = after; count = count; log = log; stand = s; steps = n; total = i.total + (n + read); again = 0 })
+went_on i given s m after count log n read own kept fresh same grown known apart stops few more settles =
+    let with_its = λ (g : List ℤ). Stops (call_program i.catalogue.now i.id g) log s (place_of m) count.entered count.ahead × (count.entered + count.ahead ≤ cost (call_program i.catalogue.now i.id g)) in
+    let both : with_its i.arguments = subst with_its own (stops, few) in
+    let going = subst (GoesOn (call_program i.catalogue.now i.id i.arguments) i.log i.machine i.count i.total i.again) fresh kept.going in
     let lawful = longer (viewed i) log kept.lawful fresh known apart (omega (arith, grown)) in
-    at lawful s stops settles (omega (arith, few, more, same, going.waited)) (omega (arith, more, same, grown, going.counted)) (omega (arith, few, more, same, grown, going.counted))
+    at lawful s both.0 settles (omega (arith, both.1, more, same, going.waited)) (omega (arith, more, same, grown, going.counted)) (omega (arith, both.1, more, same, grown, going.counted))
   where
-    at : IsLawful (record { program = program_at i.catalogue.now i.id; variables = length i.catalogue.now.initial; log = log; writes = (viewed i).writes; stand = i.stand; steps = i.steps; total = i.total }) →
-        (s : Stand) → Stops (program_at i.catalogue.now i.id) log s (place_of m) count.entered count.ahead → Settles s m after →
-        n ≤ cost (program_at i.catalogue.now i.id) → i.total + (n + read) ≡ count.entered + count.ahead + length log → i.total + (n + read) ≤ cost (program_at i.catalogue.now i.id) + length log →
-        IsKept (record { catalogue = i.catalogue; id = i.id; machine = after; count = count; log = log; stand = s; steps = n; total = i.total + (n + read); again = 0 })
+    at : IsLawful (record { program = call_program i.catalogue.now i.id i.arguments; variables = length i.catalogue.now.initial; log = log; writes = (viewed i).writes; stand = i.stand; steps = i.steps; total = i.total }) →
+        (s : Stand) → Stops (call_program i.catalogue.now i.id i.arguments) log s (place_of m) count.entered count.ahead → Settles s m after →
+        n ≤ cost (call_program i.catalogue.now i.id i.arguments) → i.total + (n + read) ≡ count.entered + count.ahead + length log → i.total + (n + read) ≤ cost (call_program i.catalogue.now i.id i.arguments) + length log →
+        IsKept (record { catalogue = i.catalogue; id = i.id; arguments = i.arguments; machine = after; count = count; log = log; stand = s; steps = n; total = i.total + (n + read); again = 0 })
     at lawful stand.Fresh h same_machine le counted few = absurd h
     at lawful (stand.Needs x) h same_machine le counted few =
         record {
-          declared = kept.declared;
+          callable = kept.callable;
           lawful = waiting _ x _ _ lawful h.0 le few;
-          going = subst (λ m. IsGoing (program_at i.catalogue.now i.id) log m count (i.total + (n + read)) 0 1) (sym same_machine) (record { reached = h.1; ahead = omega (arith, h.2); counted = omega (arith, counted); waited = h.3 });
+          going = subst (λ m. IsGoing (call_program i.catalogue.now i.id i.arguments) log m count (i.total + (n + read)) 0 1) (sym same_machine) (record { reached = h.1; ahead = omega (arith, h.2); counted = omega (arith, counted); waited = h.3 });
           once = omega arith;
         }
     at lawful (stand.Over o) h pairs le counted few =
-        let ends = subst (λ w. ask (program_at i.catalogue.now i.id) log ≡ Ends o w) (sym pairs) h in
-        record { declared = kept.declared; lawful = over _ o after.own.pairs _ _ lawful ends le few; going = tt; once = omega arith }
-    at lawful stand.Spent h settles le counted few = record { declared = kept.declared; lawful = spent _ _ _ lawful le few; going = tt; once = omega arith }
+        let ends = subst (λ w. ask (call_program i.catalogue.now i.id i.arguments) log ≡ Ends o w) (sym pairs) h in
+        record { callable = kept.callable; lawful = over _ o after.own.pairs _ _ lawful ends le few; going = tt; once = omega arith }
+    at lawful stand.Spent h settles le counted few = record { callable = kept.callable; lawful = spent _ _ _ lawful le few; going = tt; once = omega arith }

@@ -1,11 +1,11 @@
 -- Logs that name each variable at most once.
-use Rattle.std.proofs.Common.{◌≡◌, ◌≢◌, ℕ, zero, suc, ◌<◌, ◌≤◌, ℤ, Bool, true, false, cond, [], ◌∷◌, ◌++◌, length, Option, Some, None, refl, sym, ◌∙◌, subst, arith}
+use Rattle.std.proofs.Common.{◌≡◌, ◌≢◌, ℕ, zero, suc, ◌<◌, ◌≤◌, ℤ, List, Bool, true, false, cond, [], ◌∷◌, ◌++◌, length, Option, Some, None, refl, sym, ◌∙◌, subst, arith}
 use Rattle.std.specs.Prelude.{nat_eq}
 use Rattle.std.proofs.lemmas.Bool.{cond-false, false_from_ne_true, true≢false, eq-eqb, eqb-true}
 use Rattle.std.proofs.lemmas.List.{length_push}
 use Rattle.txn_programs.specs.declared.ast.TxId.{TxId}
 use Rattle.txn_programs.specs.declared.ast.VarId.{VarId}
-use Rattle.txn_programs.specs.Listing.{Listing, program_at}
+use Rattle.txn_programs.specs.Listing.{Listing, call_program}
 use Rattle.txn_programs.specs.Meaning.{State, value_at}
 use Rattle.attempt_machine.specs.Asking.{Known, known_at}
 use Rattle.attempt_machine.specs.Frame.{Agrees}
@@ -101,16 +101,16 @@ few_more n log x v a k new low =
     let few = few_apart n (log ++ (x, v) ∷ []) (apart_more log x v a new) (known_more n log x v k low) in
     omega (arith, few, length_push log (x, v))
 
--- an attempt of the transaction whose log names known variables once each, with their values in the state m
-pub record Going (l : Listing) (tx : TxId) (m : State) (a : AttemptView) : Type 0 where
-  pub program : a.program ≡ program_at l tx
+-- an attempt of the transaction with these arguments whose log names known variables once each, with their values in the state m
+pub record Going (l : Listing) (tx : TxId) (given : List ℤ) (m : State) (a : AttemptView) : Type 0 where
+  pub program : a.program ≡ call_program l tx given
   pub variables : a.variables ≡ length l.initial
   pub agrees : Agrees a.log m
   pub apart : Apart a.log
   pub known : AllKnown (length l.initial) a.log
 
-pub going_advanced : (l : Listing) (tx : TxId) (m : State) (a b : AttemptView) → b.program ≡ a.program → b.variables ≡ a.variables → b.log ≡ a.log → Going l tx m a → Going l tx m b
-going_advanced l tx m a b p v e h =
+pub going_advanced : (l : Listing) (tx : TxId) (given : List ℤ) (m : State) (a b : AttemptView) → b.program ≡ a.program → b.variables ≡ a.variables → b.log ≡ a.log → Going l tx given m a → Going l tx given m b
+going_advanced l tx given m a b p v e h =
     record {
       program = p ∙ h.program;
       variables = v ∙ h.variables;
@@ -119,8 +119,8 @@ going_advanced l tx m a b p v e h =
       known = subst (AllKnown (length l.initial)) (sym e) h.known;
     }
 
-pub going_supplied : (l : Listing) (tx : TxId) (m : State) (b : AttemptView) (x : VarId) (v : ℤ) → x.0 < length l.initial → known_at b.log x ≡ None → value_at m x ≡ v → Going l tx m b → Going l tx m (supplied b x v)
-going_supplied l tx m b x v low new is h =
+pub going_supplied : (l : Listing) (tx : TxId) (given : List ℤ) (m : State) (b : AttemptView) (x : VarId) (v : ℤ) → x.0 < length l.initial → known_at b.log x ≡ None → value_at m x ≡ v → Going l tx given m b → Going l tx given m (supplied b x v)
+going_supplied l tx given m b x v low new is h =
     record {
       program = h.program;
       variables = h.variables;

@@ -2,7 +2,7 @@
 use Rattle.std.specs.Prelude.{◌≡◌, ℕ, ◌+◌, ◌<◌, ◌≤◌, [], length, None}
 use Rattle.txn_programs.specs.Code.{program_code}
 use Rattle.txn_programs.specs.Cost.{cost}
-use Rattle.txn_programs.specs.Listing.{program_at}
+use Rattle.txn_programs.specs.Listing.{call_program, IsCallable}
 use Rattle.txn_programs.specs.Scope.{ProgramKnown}
 use Rattle.txn_programs.specs.Tree.{Program}
 use Rattle.txn_programs.specs.declared.limits.TheConstants.{MAX_COST}
@@ -28,7 +28,7 @@ remaining stand.Spent w = []
 abbrev pub viewed : Inside → AttemptView
 viewed a =
     record {
-      program = program_at a.catalogue.now a.id;
+      program = call_program a.catalogue.now a.id a.arguments;
       variables = length a.catalogue.now.initial;
       log = a.log;
       writes = remaining a.stand a.machine.own.pairs;
@@ -71,8 +71,8 @@ GoesOn t log m count total again (stand.Over o) = Unit {0}
 GoesOn t log m count total again stand.Spent = Unit {0}
 
 pub record IsKept (a : Inside) : Type 0 where
-  pub declared : a.id.0 < length a.catalogue.now.transactions
+  pub callable : IsCallable a.catalogue.now a.id a.arguments
   pub lawful : IsLawful (viewed a)
-  pub going : GoesOn (program_at a.catalogue.now a.id) a.log a.machine a.count a.total a.again a.stand
+  pub going : GoesOn (call_program a.catalogue.now a.id a.arguments) a.log a.machine a.count a.total a.again a.stand
   -- the load that waited is one instruction
   pub once : a.again ≤ 1

@@ -1,7 +1,7 @@
 -- What a contract sees of an attempt, and what an answer says.
-use Rattle.std.specs.Prelude.{◌≡◌, ◌<◌, ℕ, ℤ, None, [], ◌∷◌, ◌++◌, length}
+use Rattle.std.specs.Prelude.{◌≡◌, ◌<◌, ℕ, ℤ, List, None, [], ◌∷◌, ◌++◌, length}
 use Rattle.txn_programs.specs.Tree.{Program}
-use Rattle.txn_programs.specs.Listing.{Listing, program_at}
+use Rattle.txn_programs.specs.Listing.{Listing, call_program}
 use Rattle.txn_programs.specs.Meaning.{State, outcome, after}
 use Rattle.txn_programs.specs.declared.ast.VarId.{VarId}
 use Rattle.txn_programs.specs.declared.ast.TxId.{TxId}
@@ -29,10 +29,10 @@ pub record AttemptView : Type 0 where
   -- how many nodes all advances entered
   pub total : ℕ
 
--- an attempt of a transaction that was not advanced yet
-abbrev pub fresh_attempt : Listing → TxId → AttemptView
-fresh_attempt l id =
-    record { program = program_at l id; variables = length l.initial; log = []; writes = []; stand = stand.Fresh; steps = 0; total = 0 }
+-- an attempt of a transaction with these arguments that was not advanced yet
+abbrev pub fresh_attempt : Listing → TxId → List ℤ → AttemptView
+fresh_attempt l id given =
+    record { program = call_program l id given; variables = length l.initial; log = []; writes = []; stand = stand.Fresh; steps = 0; total = 0 }
 
 -- the attempt as it began
 abbrev pub begun_anew : AttemptView → AttemptView
@@ -70,7 +70,7 @@ HoldsAt (next.Thrown f) a m = (outcome a.program m ≡ Thrown f) × (after a.pro
 HoldsAt next.Retry a m = (outcome a.program m ≡ Retries) × (after a.program m ≡ store a.writes m)
 HoldsAt next.Memory a m = Unit {0}
 
--- no end was reached for want of memory: it waits for a variable that it was not told, or is spent
+-- no end was reached as memory ran out: it waits for a variable that it was not told, or is spent
 abbrev pub IsHeldUp : Stand → AttemptView → Type 0
 IsHeldUp stand.Fresh a = ⊥
 IsHeldUp (stand.Needs x) a = (ask a.program a.log ≡ Needs x) × (x.0 < a.variables) × (known_at a.log x ≡ None)

@@ -1,16 +1,20 @@
 //! An attempt: a transaction, what it was told, and where it stands.
 
-ghost use Rattle.std.specs.Prelude.{◌≡◌, ◌≢◌, ◌<◌, ◌≤◌, ◌+◌, ◌++◌, ◌∷◌, [], None, true, length, IsOk, IfOk, IfSome, IfNone, OnOk, OnErr};
+ghost use Rattle.std.specs.Prelude.{◌≡◌, ◌≢◌, ◌<◌, ◌≤◌, ◌+◌, ◌++◌, ◌∷◌, [], None, true};
+ghost use Rattle.std.specs.Prelude.{length, IsOk, IfOk, IfSome, IfNone, OnOk, OnErr};
 ghost use Rattle.txn_programs.specs.Cost.{cost};
+ghost use Rattle.txn_programs.specs.Listing.{IsCallable};
 ghost use Rattle.txn_programs.specs.Meaning.{State, outcome, after};
 ghost use Rattle.txn_programs.specs.Scope.{ProgramKnown};
+ghost use Rattle.txn_programs.specs.declared.limits.TheConstants.{MAX_PARAMETERS};
 ghost use Rattle.attempt_machine.specs.Asking.{known_at, ask, Ends};
 ghost use Rattle.attempt_machine.specs.Frame.{Agrees, store};
 ghost use Rattle.attempt_writes.specs.Order.{AllKnown, Apart, Ascending};
 ghost use Rattle.attempt_machine.specs.Room.{NeedsNoMemory};
 ghost use Rattle.attempt_machine.specs.Reading.{ReadsOn};
 ghost use Rattle.attempt.specs.AttemptInside.{StandsAt};
-ghost use Rattle.attempt.specs.View.{fresh_attempt, begun_anew, supplied, idle, next_of, Answers, HoldsAt, IsHeldUp, OnlyOfReturned};
+ghost use Rattle.attempt.specs.View.{fresh_attempt, begun_anew, supplied, idle, next_of};
+ghost use Rattle.attempt.specs.View.{Answers, HoldsAt, IsHeldUp, OnlyOfReturned};
 
 use crate::log::Log;
 use crate::next::{Next, Stand, answer_of};
@@ -20,13 +24,16 @@ use attempt_writes::LogTable;
 use std::alloc::Global;
 use std::marker::Model;
 use txn::{Catalogue, Memory, Outcome, TxId, VarId};
+use txn_programs::Arguments;
 use txn_programs::limits::MAX_VARIABLES;
 
-/// One evaluation of a transaction over what it was told, as far as it has come. A clause sees an `AttemptView`.
+/// One evaluation of a transaction with its arguments over what it was told, as far as it has come. A clause
+/// sees an `AttemptView`.
 #[derive(Drop)]
 pub struct Attempt<'a> {
     catalogue: &'a Catalogue,
     id: TxId,
+    arguments: Arguments,
     machine: Machine,
     count: Count,
     log: LogTable,
@@ -54,16 +61,30 @@ impl<'a> Model for Attempt<'a> {
     ghost invariant = { IsKept };
 }
 
+/// Puts these arguments, of which there are at most `MAX_PARAMETERS`, in the place of those before. Where there
+/// are none, and were none, the place is left as it is.
+#[inline(always)]
+fn replace(kept: &mut Arguments, arguments: &[i64])
+    requires { length arguments.now ≤ MAX_PARAMETERS }
+    ensures { kept.new ≡ arguments.now }
+{
+    if !arguments.is_empty() || !kept.as_slice().is_empty() {
+        kept.set(arguments);
+    }
+}
+
 impl<'a> Attempt<'a> {
-    /// An attempt of a transaction of the catalogue, with an empty log. It takes no memory.
-    pub fn new(alloc: Global, catalogue: &'a Catalogue, id: TxId) -> Attempt<'a>
-        requires { id.0 < length catalogue.now.transactions }
-        ensures { result ≡ fresh_attempt catalogue.now id }
+    /// An attempt of a transaction of the catalogue with these arguments, as many as it has parameters, and
+    /// with an empty log. It takes no memory.
+    pub fn new(alloc: Global, catalogue: &'a Catalogue, id: TxId, arguments: &[i64]) -> Attempt<'a>
+        requires { IsCallable catalogue.now id arguments.now }
+        ensures { result ≡ fresh_attempt catalogue.now id arguments.now }
     {
         catalogue.rules();
         Attempt {
             catalogue,
             id,
+            arguments: Arguments::of(arguments),
             machine: Machine::new(alloc),
             count: Count::none(),
             log: LogTable::new(alloc),
@@ -74,15 +95,16 @@ impl<'a> Attempt<'a> {
         }
     }
 
-    /// Makes it a fresh attempt of a transaction of the catalogue, in the room that it has. It
-    /// takes no memory.
-    pub fn restart(&mut self, catalogue: &'a Catalogue, id: TxId)
-        requires { id.0 < length catalogue.now.transactions }
-        ensures { self.new ≡ fresh_attempt catalogue.now id }
+    /// Makes it a fresh attempt of a transaction of the catalogue with these arguments, as many as it has
+    /// parameters, in the room that it has. It takes no memory.
+    pub fn restart(&mut self, catalogue: &'a Catalogue, id: TxId, arguments: &[i64])
+        requires { IsCallable catalogue.now id arguments.now }
+        ensures { self.new ≡ fresh_attempt catalogue.now id arguments.now }
     {
         catalogue.rules();
         self.catalogue = catalogue;
         self.id = id;
+        replace(&mut self.arguments, arguments);
         self.machine.restart();
         self.count = Count::none();
         self.log.clear();
@@ -177,7 +199,7 @@ impl<'a> Attempt<'a> {
         requires needed { self.old.stand ≡ Stand.Needs x }
         ensures ok { OnOk result (self.new ≡ supplied self.old x v) }
         ensures refused { OnErr result (self.new ≡ self.old) }
-        ensures short { length self.old.log < 8 → IsOk result }
+        ensures in_place { length self.old.log < 8 → IsOk result }
     {
         self.catalogue.rules();
         self.log.push(x, v)?;
@@ -212,7 +234,7 @@ impl<'a> Attempt<'a> {
         ensures steps { self.new.steps ≤ cost self.old.program }
         ensures adds { self.new.total ≡ self.old.total + self.new.steps }
         ensures total { self.new.total ≤ cost self.old.program + length self.old.log }
-        ensures short { NeedsNoMemory self.old.program → self.old.stand ≢ Stand.Spent → result ≢ Next.Memory }
+        ensures in_place { NeedsNoMemory self.old.program → self.old.stand ≢ Stand.Spent → result ≢ Next.Memory }
         ensures needed { (x : VarId) → result ≡ Next.Need x
             → (x.0 < self.new.variables) × (known_at self.new.log x ≡ None) }
         ensures frame { (m : State) → length m ≡ self.new.variables → Agrees self.new.log m
@@ -257,7 +279,7 @@ impl<'a> Attempt<'a> {
         ensures spent { self.old.stand ≡ Stand.Spent → (result ≡ Next.Memory) × (self.new ≡ idle self.old) }
         ensures steps { self.new.steps ≤ cost self.old.program }
         ensures total { self.new.total ≤ cost self.old.program + length self.new.log }
-        ensures short { NeedsNoMemory self.old.program → self.old.stand ≢ Stand.Spent → result ≢ Next.Memory }
+        ensures in_place { NeedsNoMemory self.old.program → self.old.stand ≢ Stand.Spent → result ≢ Next.Memory }
         ensures needed { (x : VarId) → result ≡ Next.Need x
             → (x.0 < self.new.variables) × (known_at self.new.log x ≡ None) }
         ensures frame { (m : State) → length m ≡ self.new.variables → Agrees self.new.log m
@@ -299,7 +321,7 @@ impl<'a> Attempt<'a> {
         ensures outcome { IfOk result (λ o. outcome self.old.program values.now ≡ o) }
         ensures after { OnOk result (after self.old.program values.now ≡ store self.new.writes values.now) }
         ensures refused { OnErr result (IsHeldUp self.new.stand self.new) }
-        ensures short { NeedsNoMemory self.old.program → self.new.stand ≢ Stand.Spent }
+        ensures in_place { NeedsNoMemory self.old.program → self.new.stand ≢ Stand.Spent }
         ensures memory { OnErr result (NeedsNoMemory self.old.program → 8 < self.old.variables) }
         ensures steps { self.new.steps ≤ cost self.old.program }
     {
@@ -349,7 +371,7 @@ impl<'a> Attempt<'a> {
         ensures steps { self.new.steps ≤ cost self.old.program }
         ensures adds { R.values reader.old ≡ [] → self.new.total ≡ self.old.total + self.new.steps }
         ensures total { self.new.total ≤ cost self.old.program + length self.new.log }
-        ensures short { NeedsNoMemory self.old.program → self.new.stand ≢ Stand.Spent }
+        ensures in_place { NeedsNoMemory self.old.program → self.new.stand ≢ Stand.Spent }
         ensures room { R.reads_all ≡ true → (x : VarId) → self.new.stand ≡ Stand.Needs x
             → x.0 < length (R.values reader.old)
             → 8 ≤ length self.new.log }
@@ -362,6 +384,7 @@ impl<'a> Attempt<'a> {
             &mut self.count,
             self.catalogue,
             self.id,
+            self.arguments.as_slice(),
             &mut self.log,
             reader,
         );

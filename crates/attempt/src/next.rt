@@ -27,7 +27,7 @@ pub enum Stand {
     Needs(VarId),
     /// It ended.
     Over(Outcome),
-    /// It met want of memory.
+    /// It ran out of memory.
     Spent,
 }
 

@@ -27,12 +27,12 @@ fn first_wrong_steps(
     alloc: Global,
     catalogue: &Catalogue,
 ) -> Option<(Option<usize>, Option<usize>)> {
-    if catalogue.tx_count() != 2 {
+    if !catalogue.is_callable(TxId(0), &[]) || !catalogue.is_callable(TxId(1), &[]) {
         return None;
     }
-    let mut attempt = Attempt::new(alloc, catalogue, TxId(0));
+    let mut attempt = Attempt::new(alloc, catalogue, TxId(0), &[]);
     let before = first_wrong(&mut attempt, &BEFORE);
-    attempt.restart(catalogue, TxId(1));
+    attempt.restart(catalogue, TxId(1), &[]);
     Some((before, first_wrong(&mut attempt, &AFTER)))
 }
 

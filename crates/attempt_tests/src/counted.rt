@@ -1,5 +1,5 @@
 //! Writes that take no memory. Both tests do the same, but that one of them writes two variables in turn
-//! 50,949 times in a first branch, and the other once: `hostile/gate` counts that they make as many
+//! 50,949 times in a first branch, and the other once: `hostile/all` counts that they make as many
 //! requests for memory.
 
 use crate::parts::{X, Y};

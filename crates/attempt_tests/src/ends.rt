@@ -2,10 +2,12 @@
 
 use crate::parts::{catalogue, repeated};
 use attempt::{Attempt, Next};
+use checker::evaluating::execute;
 use std::alloc::Global;
 use std::process::Abort;
-use txn::evaluate::execute;
-use txn::{Catalogue, Outcome, TxId};
+use txn::{Catalogue, Outcome, TaskId};
+
+const FIRST: TaskId = TaskId(0);
 
 /// The answer that tells an outcome.
 fn told(outcome: Outcome) -> Next {
@@ -43,13 +45,13 @@ fn with_writes(state: &mut [i64], attempt: &Attempt<'_>) {
     }
 }
 
-/// How an attempt of the first of the transactions ends in a state, where its writes are stored
-/// then.
+/// How an attempt of the first task ends in a state, where its writes are stored then.
 fn attempt_ends(alloc: Global, catalogue: &Catalogue, state: &mut [i64]) -> Option<Next> {
-    if catalogue.tx_count() == 0 {
+    if catalogue.tasks() == 0 {
         return None;
     }
-    let mut attempt = Attempt::new(alloc, catalogue, TxId(0));
+    let tx = catalogue.task_tx(FIRST);
+    let mut attempt = Attempt::new(alloc, catalogue, tx, catalogue.task_arguments(FIRST));
     let next = driven(&mut attempt, state);
     with_writes(state, &attempt);
     Some(next)
@@ -57,15 +59,17 @@ fn attempt_ends(alloc: Global, catalogue: &Catalogue, state: &mut [i64]) -> Opti
 
 /// How the plain evaluation of it ends in a state of two variables, and the state after it.
 fn plain_ends(alloc: Global, catalogue: &Catalogue, x: i64, y: i64) -> Option<(Next, Vec<i64>)> {
-    if catalogue.tx_count() == 0 || catalogue.initial().len() != 2 {
+    if catalogue.tasks() == 0 || catalogue.initial().len() != 2 {
         return None;
     }
     let mut state = vec![in alloc; x, y].ok()?;
-    let plain = execute(catalogue.tx(TxId(0)), catalogue.always(), &mut state).ok()?;
+    let mut notes = Vec::new(alloc);
+    let tx = catalogue.task_tx(FIRST);
+    let plain = execute(catalogue, FIRST, tx, &mut state, &mut notes).ok()?;
     Some((told(plain), state))
 }
 
-/// Whether an attempt of the first transaction ends as the plain evaluation, in the state after it.
+/// Whether an attempt of the first task ends as the plain evaluation, in the state after it.
 fn is_alike(alloc: Global, catalogue: &Catalogue, x: i64, y: i64) -> bool {
     let mut stored = [x, y];
     let next = attempt_ends(alloc, catalogue, &mut stored);
@@ -95,7 +99,7 @@ fn first_unlike(alloc: Global, catalogue: &Catalogue) -> Option<(i64, i64)> {
     None
 }
 
-/// Of the first transaction of the text it is so from each.
+/// Of the first task of the text it is so from each.
 fn expect_alike_in(rt: &(impl Abort + Eprint), alloc: Global, text: &str) {
     match catalogue(alloc, text) {
         Some(catalogue) => expect_none(rt, first_unlike(alloc, &catalogue), text),
@@ -112,7 +116,11 @@ fn expect_none(rt: &(impl Abort + Eprint), unlike: Option<(i64, i64)>, text: &st
 fn expect_alike(rt: &(impl Abort + Eprint), alloc: Global, rest: &str) {
     match repeated(
         alloc,
-        &[(1, "(var x 0)(var y 0)(tx t "), (1, rest), (1, ")")],
+        &[
+            (1, "(var x 0)(var y 0)(tx t "),
+            (1, rest),
+            (1, ")(run t 1)"),
+        ],
     ) {
         Ok(text) => expect_alike_in(rt, alloc, text.as_str()),
         Err(_) => panic!(rt; "no text"),
@@ -120,9 +128,9 @@ fn expect_alike(rt: &(impl Abort + Eprint), alloc: Global, rest: &str) {
 }
 
 const CONDITIONS_ARE_TESTED_AS_IN_THE_PLAIN_EVALUATION: &[&str] = &[
-    "(stm 2)(var x 0)(var y 0)(always a (le x 3))(tx t (set x (add x 1)) x)",
-    "(stm 2)(var x 1)(var y 0)(always a (eq 0 (rem y x)))(tx t (skip) 4)",
-    "(stm 2)(var x 0)(var y 0)(always a (le x 0))(always b (le 0 (add x y)))(tx t (set y 1) y)",
+    "(stm 2)(var x 0)(var y 0)(always a (le x 3))(tx t (set x (add x 1)) x)(run t 1)",
+    "(stm 2)(var x 1)(var y 0)(always a (eq 0 (rem y x)))(tx t (skip) 4)(run t 1)",
+    "(stm 2)(var x 0)(var y 0)(always a (le x 0))(always b (le 0 (add x y)))(tx t (set y 1) y)(run t 1)",
 ];
 
 #[test]
@@ -199,10 +207,10 @@ fn fused_instructions_end_as_in_the_plain_evaluation(rt: HostRuntime) {
 
 /// A fault of a fused instruction in a condition is named as any other.
 const FUSED_INSTRUCTIONS_ARE_BLAMED_ON_THEIR_CONDITION: &[&str] = &[
-    "(stm 2)(var x 0)(var y 0)(always a (le 0 (add (mul x 1) 1)))(tx t (skip) 4)",
-    "(stm 2)(var x 0)(var y 0)(always a (le (sub (mul x 1) 1) 8))(tx t (skip) 4)",
-    "(stm 2)(var x 0)(var y 0)(always b (eq y y))(always a (le 0 (add (mul x 1) y)))(tx t (skip) 4)",
-    "(stm 2)(var x 0)(var y 0)(always b (eq y y))(always a (le 0 (sub (mul x 1) y)))(tx t (skip) 4)",
+    "(stm 2)(var x 0)(var y 0)(always a (le 0 (add (mul x 1) 1)))(tx t (skip) 4)(run t 1)",
+    "(stm 2)(var x 0)(var y 0)(always a (le (sub (mul x 1) 1) 8))(tx t (skip) 4)(run t 1)",
+    "(stm 2)(var x 0)(var y 0)(always b (eq y y))(always a (le 0 (add (mul x 1) y)))(tx t (skip) 4)(run t 1)",
+    "(stm 2)(var x 0)(var y 0)(always b (eq y y))(always a (le 0 (sub (mul x 1) y)))(tx t (skip) 4)(run t 1)",
 ];
 
 #[test]

@@ -10,6 +10,8 @@ mod counted;
 #[cfg(test)]
 mod ends;
 #[cfg(test)]
+mod indexed;
+#[cfg(test)]
 mod many;
 #[cfg(test)]
 mod one;

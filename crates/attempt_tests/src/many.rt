@@ -120,10 +120,10 @@ fn keeps_its_word(attempt: &mut Attempt<'_>) -> bool {
 }
 
 fn first_keeps_its_word(alloc: Global, catalogue: &Catalogue) -> bool {
-    if catalogue.tx_count() == 0 {
+    if !catalogue.is_callable(TxId(0), &[]) {
         return false;
     }
-    let mut attempt = Attempt::new(alloc, catalogue, TxId(0));
+    let mut attempt = Attempt::new(alloc, catalogue, TxId(0), &[]);
     keeps_its_word(&mut attempt)
 }
 

@@ -117,10 +117,10 @@ pub(crate) fn first_wrong(attempt: &mut Attempt<'_>, steps: &[Step<'_>]) -> Opti
 
 /// So it is of an attempt of the catalogue's first transaction.
 fn first_wrong_of(alloc: Global, catalogue: &Catalogue, steps: &[Step<'_>]) -> Option<usize> {
-    if catalogue.tx_count() == 0 {
+    if !catalogue.is_callable(TxId(0), &[]) {
         return Some(0);
     }
-    let mut attempt = Attempt::new(alloc, catalogue, TxId(0));
+    let mut attempt = Attempt::new(alloc, catalogue, TxId(0), &[]);
     first_wrong(&mut attempt, steps)
 }
 

@@ -66,10 +66,10 @@ const ROWS: &[Row] = &[
 /// Whether the catalogue's first transaction goes so.
 fn goes(alloc: Global, catalogue: &Catalogue, row: &Row) -> bool {
     let values = [5, 9];
-    if catalogue.tx_count() == 0 || catalogue.initial().len() != values.len() {
+    if !catalogue.is_callable(TxId(0), &[]) || catalogue.initial().len() != values.len() {
         return false;
     }
-    let mut attempt = Attempt::new(alloc, catalogue, TxId(0));
+    let mut attempt = Attempt::new(alloc, catalogue, TxId(0), &[]);
     match attempt.evaluate_on(&values) {
         Ok(outcome) => {
             outcome == row.outcome
@@ -85,10 +85,10 @@ fn goes(alloc: Global, catalogue: &Catalogue, row: &Row) -> bool {
 /// Whether it goes so by a reader, and then answers the same end again with no node entered.
 fn goes_by_reader(alloc: Global, catalogue: &Catalogue, row: &Row) -> bool {
     let values = [5, 9];
-    if catalogue.tx_count() == 0 || catalogue.initial().len() != values.len() {
+    if !catalogue.is_callable(TxId(0), &[]) || catalogue.initial().len() != values.len() {
         return false;
     }
-    let mut attempt = Attempt::new(alloc, catalogue, TxId(0));
+    let mut attempt = Attempt::new(alloc, catalogue, TxId(0), &[]);
     let mut reader = values.as_slice();
     let next = attempt.advance_by(&mut reader);
     let entered = attempt.steps();
@@ -132,10 +132,10 @@ fn values_are_read_where_they_are_needed(rt: HostRuntime) {
 /// Whether an attempt that needs `y` asks for it again, and reads only what it was not told.
 fn reads_the_rest(alloc: Global, catalogue: &Catalogue) -> bool {
     let values = [5, 9];
-    if catalogue.tx_count() == 0 || catalogue.initial().len() != values.len() {
+    if !catalogue.is_callable(TxId(0), &[]) || catalogue.initial().len() != values.len() {
         return false;
     }
-    let mut attempt = Attempt::new(alloc, catalogue, TxId(0));
+    let mut attempt = Attempt::new(alloc, catalogue, TxId(0), &[]);
     let mut reader = values.as_slice();
     attempt.advance() == Next::Need(Y)
         && attempt.advance_by(&mut reader) == Next::Need(Y)

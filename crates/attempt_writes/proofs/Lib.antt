@@ -1,6 +1,7 @@
 pub mod Putting
 pub mod Pairs
 pub mod Placed
+pub mod Indexed
 pub mod InOrder
 pub mod OwnTable
 pub mod OwnNotes

@@ -14,7 +14,7 @@ use Rattle.attempt_writes.specs.Places.{ArePlaced, pair_value, placed_value}
 same_number : (n : ℕ) → (n == n) ≡ true
 same_number n = ⊎_elim (λ (t : ((n == n) ≡ true) × (n ≡ n)). t.0) (λ (t : ((n == n) ≡ false) × (n ≢ n)). absurd (t.1 refl)) (eqb_tells n n)
 
-key_of : (m n : ℕ) → (m == n) ≡ true → m ≡ n
+pub key_of : (m n : ℕ) → (m == n) ≡ true → m ≡ n
 key_of m n e = ⊎_elim (λ (t : ((m == n) ≡ true) × (m ≡ n)). t.1) (λ (t : ((m == n) ≡ false) × (m ≢ n)). absurd (cc)) (eqb_tells m n)
 
 other_of : (m n : ℕ) → (m == n) ≡ false → m ≢ n

@@ -1,4 +1,4 @@
--- How the pairs of a log and of writes lie, and which variables they name.
+-- How logs and writes lie, and which variables they name.
 use Rattle.std.specs.Prelude.{◌≡◌, ℕ, ◌<◌, [], ◌∷◌, None}
 use Rattle.txn_programs.specs.declared.ast.VarId.{VarId}
 use Rattle.attempt_writes.specs.Known.{Known, known_at}

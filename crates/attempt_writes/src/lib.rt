@@ -8,8 +8,10 @@
 
 pub mod layer;
 pub mod log_table;
+pub mod number_index;
 pub mod written;
 
 pub use layer::Layer;
 pub use log_table::LogTable;
+pub use number_index::NumberIndex;
 pub use written::{Loops, Second, Writes};

@@ -1,6 +1,7 @@
 //! What an attempt was told, found in constant time.
 
-ghost use Rattle.std.specs.Prelude.{◌≡◌, ◌<◌, ◌≤◌, ◌+◌, ◌*◌, ◌++◌, ◌∷◌, [], None, length, take, slice_get, slice_set, IsOk, IfOk, OnOk, OnErr};
+ghost use Rattle.std.specs.Prelude.{◌≡◌, ◌<◌, ◌≤◌, ◌+◌, ◌*◌, ◌++◌, ◌∷◌, [], None, length};
+ghost use Rattle.std.specs.Prelude.{take, slice_get, slice_set, IsOk, IfOk, OnOk, OnErr};
 ghost use Rattle.attempt_writes.specs.Known.{known_at};
 ghost use Rattle.attempt_writes.specs.Places.{placed_value};
 
@@ -188,7 +189,7 @@ impl LogTable {
         requires new { known_at self.old x ≡ None }
         ensures ok { OnOk result (self.new ≡ self.old ++ (x, v) ∷ []) }
         ensures refused { OnErr result (self.new ≡ self.old) }
-        ensures short { length self.old < 8 → IsOk result }
+        ensures in_place { length self.old < 8 → IsOk result }
     {
         let place = self.count;
         append(&mut self.lines, place, &mut self.room, (x, v))?;

@@ -3,9 +3,13 @@
 //! A table has at each variable's number the value of its own write. In a live first branch each
 //! variable is noted at its first write, with what it was before; a retry goes back by the notes.
 
-ghost use Rattle.std.specs.Prelude.{◌≡◌, ◌<◌, ◌≤◌, ◌+◌, ◌++◌, ◌∷◌, [], None, true, false, ℕ, ℤ, List, Option, drop, length, reverse, Some, take, insert, slice_get, slice_set, IsOk, IfOk, IfErr, IfSome, OnOk, OnErr};
+ghost use Rattle.std.specs.Prelude.{◌≡◌, ◌<◌, ◌≤◌, ◌+◌, ◌++◌, ◌∷◌, [], None, true, false, ℕ, ℤ};
+ghost use Rattle.std.specs.Prelude.{List, Option, drop, length, reverse, Some, take, insert};
+ghost use Rattle.std.specs.Prelude.{slice_get, slice_set, IsOk, IfOk, IfErr, IfSome, OnOk, OnErr};
 ghost use Rattle.attempt_writes.specs.Known.{Known, known_at, write};
-ghost use Rattle.attempt_writes.specs.Own.{Marked, marks_of, value_in, valued, undone, AreApart, AreHinted, AreInside, AreListed, AreNested, AreNotedListed, AreOnce, GoesBack, HasNote, IsChangedInner, IsListed, IsNoted, IsNotedInner, IsOther, LeavesInner};
+ghost use Rattle.attempt_writes.specs.Own.{Marked, marks_of, value_in, valued, undone, AreApart, AreHinted, AreInside};
+ghost use Rattle.attempt_writes.specs.Own.{AreListed, AreNested, AreNotedListed, AreOnce, GoesBack, HasNote};
+ghost use Rattle.attempt_writes.specs.Own.{IsChangedInner, IsListed, IsNoted, IsNotedInner, IsOther, LeavesInner};
 ghost use Rattle.attempt_writes.specs.Order.{AllBefore, AllKnown, Ascending};
 
 use arrayvec::ArrayVec;
@@ -36,9 +40,12 @@ fn front(pairs: &[(VarId, i64)], x: VarId) -> usize
 /// Where a variable is, or where it would come: most often that is at the end.
 fn place(pairs: &[(VarId, i64)], x: VarId) -> Result<usize, usize>
     requires { Ascending pairs.now }
-    ensures taken { IfOk result (λ i. (i < length pairs.now) × ((v : ℤ) → slice_set pairs.now i (x, v) ≡ write pairs.now x v)) }
-    ensures free { IfErr result (λ i. (i ≤ length pairs.now) × ((v : ℤ) → insert pairs.now i (x, v) ≡ write pairs.now x v)) }
-    ensures known { IfOk result (λ i. (p : VarId × ℤ) → slice_get pairs.now i ≡ Some p → known_at pairs.now x ≡ Some p.1) }
+    ensures taken { IfOk result
+        (λ i. (i < length pairs.now) × ((v : ℤ) → slice_set pairs.now i (x, v) ≡ write pairs.now x v)) }
+    ensures free { IfErr result
+        (λ i. (i ≤ length pairs.now) × ((v : ℤ) → insert pairs.now i (x, v) ≡ write pairs.now x v)) }
+    ensures known { IfOk result
+        (λ i. (p : VarId × ℤ) → slice_get pairs.now i ≡ Some p → known_at pairs.now x ≡ Some p.1) }
     ensures unknown { OnErr result (known_at pairs.now x ≡ None) }
 {
     let len = pairs.len();
@@ -160,10 +167,10 @@ fn forget(table: &mut [Option<i64>], pairs: &mut Pairs)
 }
 
 /// How many loops there is room for.
-pub const ROOM: usize = 32;
+pub const LOOP_ROOM: usize = 32;
 
 /// The turns that are left of each loop.
-pub type Loops = ArrayVec<u32, ROOM>;
+pub type Loops = ArrayVec<u32, LOOP_ROOM>;
 
 /// A variable that a live first branch wrote, its own write before, and the hint before.
 #[derive(Clone, Copy)]
@@ -198,7 +205,7 @@ fn keep_loops(loops: &mut Loops, kept: &mut Vec<u32>) -> Result<(), AllocError>
     ensures loops { OnOk result (loops.new.items ≡ []) }
     ensures err { OnErr result (kept.new.items ≡ kept.old.items) }
     ensures more { length kept.old.items ≤ length kept.new.items }
-    ensures room { length kept.new.items ≤ length kept.old.items + ROOM }
+    ensures room { length kept.new.items ≤ length kept.old.items + LOOP_ROOM }
 {
     kept.extend_from_slice(loops.as_slice())?;
     loops.clear();
@@ -210,7 +217,7 @@ fn keep_loops(loops: &mut Loops, kept: &mut Vec<u32>) -> Result<(), AllocError>
 #[inline(always)]
 fn take_up(loops: &mut Loops, kept: &mut Vec<u32>, floor: usize)
     requires within { floor ≤ length kept.old.items }
-    requires room { length kept.old.items ≤ floor + ROOM }
+    requires room { length kept.old.items ≤ floor + LOOP_ROOM }
     ensures loops { loops.new.items ≡ drop floor kept.old.items }
     ensures kept { kept.new.items ≡ take floor kept.old.items }
 {
@@ -225,7 +232,7 @@ fn take_up(loops: &mut Loops, kept: &mut Vec<u32>, floor: usize)
 #[inline(never)]
 fn take_up_some(loops: &mut Loops, kept: &mut Vec<u32>, floor: usize)
     requires within { floor ≤ length kept.old.items }
-    requires room { length kept.old.items ≤ floor + ROOM }
+    requires room { length kept.old.items ≤ floor + LOOP_ROOM }
     ensures loops { loops.new.items ≡ drop floor kept.old.items }
     ensures kept { kept.new.items ≡ take floor kept.old.items }
 {
@@ -273,8 +280,9 @@ fn note_in_branch(
     ensures few { length notes.new.items ≤ MAX_NOTES }
     ensures hinted { AreHinted 0 notes.new.items noted.new }
     ensures once { AreOnce notes.new.items (reverse branches.now) }
-    ensures short { branches.now ≡ [] → IsOk result }
-    ensures again { IsNotedInner (reverse branches.now) notes.old.items x → IsOk result × (notes.new.items ≡ notes.old.items) }
+    ensures in_place { branches.now ≡ [] → IsOk result }
+    ensures again { IsNotedInner (reverse branches.now) notes.old.items x
+        → IsOk result × (notes.new.items ≡ notes.old.items) }
 {
     let height = match branches.last() {
         Some(branch) => branch.height,
@@ -305,9 +313,11 @@ fn undo(table: &mut [Option<i64>], notes: &mut Vec<Note>, noted: &mut [u16], hei
     ensures height { length notes.new.items ≡ height }
     ensures front { notes.new.items ≡ take height notes.old.items }
     ensures hinted { AreHinted 0 notes.new.items noted.new }
-    ensures undone { (h : ℕ) → h ≤ height → undone (drop h notes.new.items) table.new ≡ undone (drop h notes.old.items) table.old }
+    ensures undone { (h : ℕ) → h ≤ height
+        → undone (drop h notes.new.items) table.new ≡ undone (drop h notes.old.items) table.old }
     ensures noted { (pairs : Known) → AreNotedListed pairs notes.old.items → AreNotedListed pairs notes.new.items }
-    ensures listed { (pairs : Known) → AreNotedListed pairs notes.old.items → AreListed pairs table.old → AreListed pairs table.new }
+    ensures listed { (pairs : Known) → AreNotedListed pairs notes.old.items → AreListed pairs table.old
+        → AreListed pairs table.new }
 {
     while notes.len() > height {
         match notes.pop() {
@@ -337,7 +347,8 @@ fn join(notes: &mut [Note], noted: &mut [u16], low: usize, height: usize) -> usi
     ensures front { take height notes.new ≡ take height notes.old }
     ensures hinted { AreHinted 0 (take result notes.new) noted.new }
     ensures apart { AreApart (drop low (take result notes.new)) }
-    ensures undone { (h : ℕ) → h ≤ low → (table : List (Option ℤ)) → undone (drop h (take result notes.new)) table ≡ undone (drop h notes.old) table }
+    ensures undone { (h : ℕ) → h ≤ low → (table : List (Option ℤ))
+        → undone (drop h (take result notes.new)) table ≡ undone (drop h notes.old) table }
     ensures noted { (pairs : Known) → AreNotedListed pairs notes.old → AreNotedListed pairs (take result notes.new) }
 {
     let mut kept = height;
@@ -369,7 +380,9 @@ fn merge(branches: &[Branch], notes: &mut Vec<Note>, noted: &mut [u16], height: 
     ensures few { length notes.new.items ≤ MAX_NOTES }
     ensures hinted { AreHinted 0 notes.new.items noted.new }
     ensures once { AreOnce notes.new.items (reverse branches.now) }
-    ensures marks { (kept : List ℕ) (table : List (Option ℤ)) → marks_of (reverse branches.now) notes.new.items kept table ≡ marks_of (reverse branches.now) notes.old.items kept table }
+    ensures marks { (kept : List ℕ) (table : List (Option ℤ))
+        → marks_of (reverse branches.now) notes.new.items kept table
+        ≡ marks_of (reverse branches.now) notes.old.items kept table }
     ensures nested { AreNested (length notes.new.items) (reverse branches.now) }
     ensures noted { (pairs : Known) → AreNotedListed pairs notes.old.items → AreNotedListed pairs notes.new.items }
 {
@@ -450,7 +463,7 @@ impl Writes {
         requires { x.0 < MAX_VARIABLES }
         ensures value { OnOk result (self.new.writes ≡ write self.old.writes x v) }
         ensures marks { OnOk result (self.new.marks ≡ self.old.marks) }
-        ensures short { self.old.marks ≡ [] → IsOk result }
+        ensures in_place { self.old.marks ≡ [] → IsOk result }
         ensures again { IsChangedInner self.old.marks self.old.writes x → IsOk result }
     {
         let old = self.table[x.0 as usize];
@@ -474,7 +487,8 @@ impl Writes {
         passed: usize,
         loops: &mut Loops,
     ) -> Result<(), AllocError>
-        ensures marks { OnOk result (self.new.marks ≡ Marked (begin + passed) (reverse loops.old.items) self.old.writes ∷ self.old.marks) }
+        ensures marks { OnOk result
+            (self.new.marks ≡ Marked (begin + passed) (reverse loops.old.items) self.old.writes ∷ self.old.marks) }
         ensures writes { OnOk result (self.new.writes ≡ self.old.writes) }
         ensures loops { OnOk result (loops.new.items ≡ []) }
     {
@@ -517,7 +531,8 @@ impl Writes {
     /// those to go on with. None where no branch is live.
     #[inline(always)]
     pub fn back(&mut self, loops: &mut Loops) -> Option<Second>
-        ensures some { IfSome result (λ s. GoesBack self.old.marks (s.begin + s.passed) (reverse loops.new.items) self.new.writes self.new.marks) }
+        ensures some { IfSome result (λ s. GoesBack self.old.marks (s.begin + s.passed)
+            (reverse loops.new.items) self.new.writes self.new.marks) }
         ensures none { result ≡ None → (self.old.marks ≡ []) × (self.new ≡ self.old) }
     {
         let branch = self.branches.pop()?;

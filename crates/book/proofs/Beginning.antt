@@ -2,16 +2,17 @@
 use Rattle.std.proofs.Common.{◌≡◌, ℕ, zero, suc, ◌+◌, ◌-◌, ◌<◌, ◌≤◌, Bool, true, false, cond, List, [], ◌∷◌, length, map, Some, get_or, replicate, refl, sym, ◌∙◌, ap, subst, arith}
 use Rattle.std.specs.List.{slice_get, All}
 use Rattle.std.proofs.lemmas.Bool.{cond_both}
-use Rattle.std.proofs.lemmas.List.{length-replicate}
+use Rattle.std.proofs.lemmas.List.{length-map, length-replicate}
 use Rattle.std.proofs.lemmas.List.Elements.{All-nil, All-replicate}
 use Rattle.std.proofs.lemmas.Option.{same_Some, slice_get_within, slice_get-get_or, get_or_from_slice_get}
 use Rattle.txn_programs.specs.declared.ast.TxId.{TxId}
+use Rattle.txn_programs.specs.declared.arguments.Call.{Call}
 use Rattle.txn_programs.specs.declared.report.Entry.{Entry}
 use Rattle.txn_programs.specs.Meaning.{State, outcome}
 use Rattle.txn_programs.specs.Tree.{Program}
 use Rattle.txn_programs.specs.Scope.{ProgramKnown}
-use Rattle.txn_programs.specs.Listing.{Listing, tasks, task_tx, task_program, program_at}
-use Rattle.txn_values.specs.Values.{begun}
+use Rattle.txn_programs.specs.Listing.{Listing, calls, tasks, task_tx, task_arguments, task_program, call_program}
+use Rattle.txn.specs.Values.{begun}
 use Rattle.txn_words.specs.Words.{last_state}
 use Rattle.attempt.specs.Asking.{Known, ask}
 use Rattle.attempt.specs.Order.{AllKnown}
@@ -25,7 +26,8 @@ use Rattle.book.specs.Standings.{unlogged}
 use Rattle.book.specs.Carrying.{stays, carried, staying}
 use Rattle.book.specs.Chapters.{chapter_of, next_catalogue}
 use Rattle.book.proofs.Staying.{staying_length}
-use Rattle.book.proofs.Listings.{tasks_begun}
+use Rattle.book.proofs.Lists.{map_get}
+use Rattle.book.proofs.TaskCalls.{calls_begun, length-calls, txs_in, given_in}
 
 -- a task of the new chapter is one that came over, and what stands beside it came over with it
 pub record CameOver {X : Type 0} (xs : List X) (ts : List Task) (j : ℕ) (now : Task) : Type 0 where
@@ -86,12 +88,18 @@ readied_done (Parked l) n s e = cc
 readied_done (Done m) n s e = cc
 readied_done GivenUp n s e = cc
 
--- each task that came over has its program
-pub begun_tx : (l : Listing) (values : State) (ts : List Task) (j place : ℕ) (tx : TxId) → slice_get (staying (tasks l) ts) j ≡ slice_get (tasks l) place → slice_get (tasks l) place ≡ Some tx → task_tx (begun l values (staying (tasks l) ts)) (record { 0 = j }) ≡ task_tx l (record { 0 = place })
-begun_tx l values ts j place tx beside at =
-    ap (λ (txs : List TxId). get_or txs j (record { 0 = 0 })) (tasks_begun l values (staying (tasks l) ts))
-    ∙ (get_or_from_slice_get (staying (tasks l) ts) j tx (record { 0 = 0 }) (beside ∙ at)
-    ∙ sym (get_or_from_slice_get (tasks l) place tx (record { 0 = 0 }) at))
+-- each task that came over makes the call that it made
+begun_tx : (l : Listing) (values : State) (ts : List Task) (j place : ℕ) (c : Call) → slice_get (staying (calls l) ts) j ≡ Some c → slice_get (calls l) place ≡ Some c → task_tx (begun l values (staying (calls l) ts)) (record { 0 = j }) ≡ task_tx l (record { 0 = place })
+begun_tx l values ts j place c now at =
+    ap (λ (cs : List Call). get_or (txs_in cs) j (record { 0 = 0 })) (calls_begun l values (staying (calls l) ts))
+    ∙ (get_or_from_slice_get (txs_in (staying (calls l) ts)) j c.tx (record { 0 = 0 }) (map_get (λ (x : Call). x.tx) (staying (calls l) ts) j c now)
+    ∙ sym (get_or_from_slice_get (tasks l) place c.tx (record { 0 = 0 }) (map_get (λ (x : Call). x.tx) (calls l) place c at)))
+
+begun_arguments : (l : Listing) (values : State) (ts : List Task) (j place : ℕ) (c : Call) → slice_get (staying (calls l) ts) j ≡ Some c → slice_get (calls l) place ≡ Some c → task_arguments (begun l values (staying (calls l) ts)) (record { 0 = j }) ≡ task_arguments l (record { 0 = place })
+begun_arguments l values ts j place c now at =
+    ap (λ (cs : List Call). get_or (given_in cs) j []) (calls_begun l values (staying (calls l) ts))
+    ∙ (get_or_from_slice_get (given_in (staying (calls l) ts)) j c.arguments [] (map_get (λ (x : Call). x.arguments) (staying (calls l) ts) j c now)
+    ∙ sym (get_or_from_slice_get (given_in (calls l)) place c.arguments [] (map_get (λ (x : Call). x.arguments) (calls l) place c at)))
 
 -- the last state that was published stands there
 last_stands : (states : List State) (n : ℕ) (m : State) → length states ≡ n + 1 → last_state states ≡ m → slice_get states n ≡ Some m
@@ -103,13 +111,18 @@ module _ (b : BookView) (h : LawfulBook b) (f : BookFits b) where
   abbrev new : Listing
   new = next_catalogue b
 
-  own_program : (j : ℕ) (now : Task) (c : CameOver (tasks b.catalogue) b.tasks j now) → task_program new (record { 0 = j }) ≡ task_program b.catalogue (record { 0 = c.place })
+  own_program : (j : ℕ) (now : Task) (c : CameOver (calls b.catalogue) b.tasks j now) → task_program new (record { 0 = j }) ≡ task_program b.catalogue (record { 0 = c.place })
   own_program j now c =
-      let low : c.place < length (tasks b.catalogue) = omega (arith, slice_get_within b.tasks c.place c.was c.stood, f.tasks) in
-      ap (program_at b.catalogue) (begun_tx b.catalogue b.present.state b.tasks j c.place (get_or (tasks b.catalogue) c.place (record { 0 = 0 })) c.beside (slice_get-get_or (tasks b.catalogue) c.place (record { 0 = 0 }) low))
+      let l = b.catalogue in
+      let none : Call = record { tx = record { 0 = 0 }; arguments = [] } in
+      let low : c.place < length (calls l) = omega (arith, slice_get_within b.tasks c.place c.was c.stood, f.tasks, length-calls l) in
+      let at : slice_get (calls l) c.place ≡ Some (get_or (calls l) c.place none) = slice_get-get_or (calls l) c.place none low in
+      let over = c.beside ∙ at in
+      ap (λ (x : TxId). call_program l x (task_arguments new (record { 0 = j }))) (begun_tx l b.present.state b.tasks j c.place (get_or (calls l) c.place none) over at)
+      ∙ ap (call_program l (task_tx l (record { 0 = c.place }))) (begun_arguments l b.present.state b.tasks j c.place (get_or (calls l) c.place none) over at)
 
-  over : (j : ℕ) (now : Task) → slice_get (carried b.tasks) j ≡ Some now → CameOver (tasks b.catalogue) b.tasks j now
-  over j now e = came_over (tasks b.catalogue) b.tasks j now (sym f.tasks) e
+  over : (j : ℕ) (now : Task) → slice_get (carried b.tasks) j ≡ Some now → CameOver (calls b.catalogue) b.tasks j now
+  over j now e = came_over (calls b.catalogue) b.tasks j now (length-calls b.catalogue ∙ sym f.tasks) e
 
   pub chapter_parked : AreParked new b.present.state (carried b.tasks)
   chapter_parked j log e =
@@ -189,7 +202,8 @@ chapter_fits b h f =
     let zeros : length (replicate (length b.present.state) 0) ≡ length b.present.state = length-replicate {A = ℕ} (length b.present.state) 0 in
     let none : All (λ (v : ℕ). v ≤ 0) (replicate (length b.present.state) 0) = All-replicate (λ (v : ℕ). v ≤ 0) (length b.present.state) 0 (omega arith) in
     record {
-      tasks = sym (staying_length (tasks b.catalogue) b.tasks (sym f.tasks)) ∙ sym (ap length (tasks_begun b.catalogue b.present.state (staying (tasks b.catalogue) b.tasks)));
+      tasks = sym (staying_length (calls b.catalogue) b.tasks (length-calls b.catalogue ∙ sym f.tasks))
+          ∙ (sym (ap length (calls_begun b.catalogue b.present.state (staying (calls b.catalogue) b.tasks))) ∙ length-calls (next_catalogue b));
       few = omega (arith, f.few, carried_shorter b.tasks);
       few_variables = omega (arith, f.few_variables, f.values);
       values = refl;
@@ -256,3 +270,9 @@ flags_unlogged (t ∷ ts) = ap (λ (b : Bool). b ∷ map stays (map unlogged ts)
 pub flags_valued : (m : State) (ts : List Task) → map stays (map (with_values m) ts) ≡ map stays ts
 flags_valued m [] = refl
 flags_valued m (t ∷ ts) = ap (λ (b : Bool). b ∷ map stays (map (with_values m) ts)) (stays_valued m t) ∙ ap (λ bs. stays t ∷ bs) (flags_valued m ts)
+
+-- and so is how many of them do
+pub carried_same : (ts us : List Task) → map stays ts ≡ map stays us → length (carried ts) ≡ length (carried us)
+carried_same ts us e =
+    let size : length ts ≡ length us = omega (arith, ap length e, length-map ts stays, length-map us stays) in
+    sym (staying_length ts ts refl) ∙ (ap length (staying_same ts ts us e) ∙ staying_length ts us size)

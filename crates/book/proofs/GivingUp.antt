@@ -1,4 +1,4 @@
--- No task is given up but for want of memory: what the calls of a book keep of that, and what its report tells.
+-- No task is given up but where memory ran out: what the calls of a book keep of that, and what its report tells.
 use Rattle.std.proofs.Common.{◌≡◌, ◌≢◌, inl, inr, ℕ, zero, suc, ◌+◌, Bool, true, false, List, [], ◌∷◌, length, map, Option, Some, None, set, replicate, refl, sym, ◌∙◌, ap, subst, arith}
 use Rattle.std.specs.List.{slice_get, All}
 use Rattle.std.specs.Prelude.{MatchBool}
@@ -7,7 +7,7 @@ use Rattle.std.proofs.lemmas.List.Elements.{All-cons, All-nil}
 use Rattle.std.proofs.lemmas.Option.{same_Some}
 use Rattle.txn_programs.specs.declared.ast.TaskId.{TaskId}
 use Rattle.txn_programs.specs.declared.ast.TxId.{TxId}
-use Rattle.txn_programs.specs.Meaning.{State, after}
+use Rattle.txn_programs.specs.Meaning.{after}
 use Rattle.txn_programs.specs.Listing.{Listing, tasks, task_tx, task_program}
 use Rattle.attempt.specs.Room.{TakesMemory}
 use Rattle.attempt.specs.View.{AttemptView}
@@ -83,7 +83,7 @@ gives_finished b task a finish.Stale c f h = subst GivesUpForMemory (sym f.2) h
 gives_finished b task a finish.Parked c f h = subst GivesUpForMemory (sym f.3) (gives_stands b task Running (Parked a.log) f.0 (λ e. absurd (cc)) h)
 gives_finished b task a (finish.Committed n) c f h = subst GivesUpForMemory (sym f.4) (gives_committed b task f.0 h)
 
--- a turn that gives the task up for want of memory alone
+-- a turn that gives the task up only where memory ran out
 pub gives_served : (b : BookView) (task : TaskId) (how : Serial) (c : BookView) → Served b task how c → (how ≡ serial.Abandoned → TakesMemory b.catalogue (task_tx b.catalogue task)) → GivesUpForMemory b → GivesUpForMemory c
 gives_served b task serial.NotRunning c s takes h = subst GivesUpForMemory (sym s.1) h
 gives_served b task serial.Parked c s takes h = subst GivesUpForMemory (sym s.2.2) (gives_stands b task Running (Parked s.2.0) s.0 (λ e. absurd (cc)) h)

@@ -8,7 +8,7 @@ use Rattle.txn_programs.specs.declared.report.Entry.{Entry}
 use Rattle.txn_programs.specs.declared.limits.TheConstants.{MAX_TASKS, MAX_VARIABLES}
 use Rattle.txn_programs.specs.Meaning.{State}
 use Rattle.txn_programs.specs.Scope.{ProgramKnown}
-use Rattle.txn_programs.specs.Listing.{Listing, tasks, task_program, program_at}
+use Rattle.txn_programs.specs.Listing.{Listing, tasks, task_program, call_program}
 use Rattle.txn_programs.specs.Standing.{Upholds}
 use Rattle.txn_programs.specs.Replay.{Snapshot, opening}
 use Rattle.book.specs.Tasks.{Task}
@@ -17,15 +17,15 @@ use Rattle.book.specs.declared.book.Book.TheInside.{Inside}
 use Rattle.cells.specs.Cells.{CellsId}
 use Rattle.attempt.specs.Frame.{Agrees}
 use Rattle.book.specs.View.{BookView, stands, opened, checkpointed}
-use Rattle.book.specs.Turns.{readied_one, readied, Taken}
-use Rattle.book.specs.Table.{TableView, IsTaken, placed, with_tasks, with_one_more, unvalued}
+use Rattle.book.specs.Turns.{readied_one, readied, Taken, TakenFrom}
+use Rattle.book.specs.Table.{TableView, IsTaken, IsTakenFrom, placed, with_tasks, with_one_more, unvalued}
 use Rattle.book.specs.LawfulBook.{LawfulBook, BookFits, Waits, open_one, open_count}
 use Rattle.book.specs.BookInside.{book_of, tasks_of, snapshot_of, with_values, IsKept}
 use Rattle.book.proofs.Lists.{map_set, map_get}
 use Rattle.book.proofs.Filling.{told_again, ready_without, running_with, all_readied, all_ready, one_more_ready}
 use Rattle.attempt.specs.Asking.{Known}
 use Rattle.book.specs.declared.stored.Stored.{Stored}
-use Rattle.txn_programs.specs.declared.ast.TxId.{TxId}
+use Rattle.txn_programs.specs.declared.arguments.Call.{Call}
 use Rattle.txn.specs.Grown.{grown}
 use Rattle.book.specs.Submitted.{submitted}
 use Rattle.book.specs.Chapters.{ChapterView}
@@ -106,7 +106,7 @@ fits_checkpoint b h =
 
 -- what the fields of a new book of this listing are
 pub record IsNew (l : Listing) (b : Inside) : Type 0 where
-  pub own : b.publisher.cells ≡ b.cells.now
+  pub own : b.publisher.cells ≡ b.cells
   pub unused : b.publisher.history ≡ l.initial ∷ []
   pub base : snapshot_of b.base ≡ opening l
   pub present : snapshot_of b.present ≡ opening l
@@ -122,17 +122,17 @@ view_placed b task is =
     let v = book_of b in
     ap (λ (ts : List Task). let r : BookView = record v { tasks = ts } in r) (map_set (with_values b.present.values.items) b.table.tasks task.0 is)
 
-pub new_is : (l : Listing) (b : Inside) → IsNew l b → book_of b ≡ opened l b.cells.now b.spare
+pub new_is : (l : Listing) (b : Inside) → IsNew l b → book_of b ≡ opened l b.cells b.spare
 new_is l b n =
-    let made : Listing → CellsId → List State → Snapshot → List Entry → Snapshot → List Task → BookView = λ m c h x j y t. record { catalogue = m; cells = b.cells.now; published_to = c; history = h; base = x; journal = j; present = y; tasks = t; spare = b.spare; room = b.room; before = b.before } in
-    let ended : ℕ → ℕ → BookView = λ r k. record (made l b.cells.now (l.initial ∷ []) (opening l) [] (opening l) (replicate (length (tasks l)) Ready)) { room = r; before = k } in
+    let made : Listing → CellsId → List State → Snapshot → List Entry → Snapshot → List Task → BookView = λ m c h x j y t. record { catalogue = m; cells = b.cells; published_to = c; history = h; base = x; journal = j; present = y; tasks = t; spare = b.spare; room = b.room; before = b.before } in
+    let ended : ℕ → ℕ → BookView = λ r k. record (made l b.cells (l.initial ∷ []) (opening l) [] (opening l) (replicate (length (tasks l)) Ready)) { room = r; before = k } in
     ap (λ (m : Listing). made m b.publisher.cells b.publisher.history (snapshot_of b.base) b.journal.items (snapshot_of b.present) (tasks_of b)) n.listing
     ∙ (ap (λ (c : CellsId). made l c b.publisher.history (snapshot_of b.base) b.journal.items (snapshot_of b.present) (tasks_of b)) n.own
-    ∙ (ap (λ (h : List State). made l b.cells.now h (snapshot_of b.base) b.journal.items (snapshot_of b.present) (tasks_of b)) n.unused
-    ∙ (ap (λ (x : Snapshot). made l b.cells.now (l.initial ∷ []) x b.journal.items (snapshot_of b.present) (tasks_of b)) n.base
-    ∙ (ap (λ (j : List Entry). made l b.cells.now (l.initial ∷ []) (opening l) j (snapshot_of b.present) (tasks_of b)) n.journal
-    ∙ (ap (λ (y : Snapshot). made l b.cells.now (l.initial ∷ []) (opening l) [] y (tasks_of b)) n.present
-    ∙ (ap (λ (t : List Task). made l b.cells.now (l.initial ∷ []) (opening l) [] (opening l) t) (ap (map (with_values b.present.values.items)) n.tasks ∙ all_ready b.present.values.items (length (tasks l)))
+    ∙ (ap (λ (h : List State). made l b.cells h (snapshot_of b.base) b.journal.items (snapshot_of b.present) (tasks_of b)) n.unused
+    ∙ (ap (λ (x : Snapshot). made l b.cells (l.initial ∷ []) x b.journal.items (snapshot_of b.present) (tasks_of b)) n.base
+    ∙ (ap (λ (j : List Entry). made l b.cells (l.initial ∷ []) (opening l) j (snapshot_of b.present) (tasks_of b)) n.journal
+    ∙ (ap (λ (y : Snapshot). made l b.cells (l.initial ∷ []) (opening l) [] y (tasks_of b)) n.present
+    ∙ (ap (λ (t : List Task). made l b.cells (l.initial ∷ []) (opening l) [] (opening l) t) (ap (map (with_values b.present.values.items)) n.tasks ∙ all_ready b.present.values.items (length (tasks l)))
     ∙ (ap (λ (r : ℕ). ended r b.before) n.room ∙ ap (ended (length (tasks l) + b.spare)) n.before)))))))
 
 pub kept_opened : (l : Listing) (b : Inside) → IsNew l b → length (tasks l) + b.spare ≤ MAX_TASKS → length l.initial ≤ MAX_VARIABLES → AllKnow l → Upholds l l.initial → b.room ≤ vec_capacity b.journal → b.room ≤ b.chapter.room → length l.initial ≤ vec_capacity b.changes → b.table.spare ≡ b.spare → b.table.variables ≡ length l.initial → IsKept b
@@ -140,8 +140,8 @@ kept_opened l b n few few_variables known stands room submit_room changes_room s
     let is = new_is l b n in
     let size : length b.table.tasks ≡ length (tasks l) = ap length n.tasks ∙ length-replicate (length (tasks l)) Ready in
     record {
-      lawful = subst LawfulBook (sym is) (lawful_opened l b.cells.now b.spare stands);
-      fits = subst BookFits (sym is) (fits_opened l b.cells.now b.spare (omega (arith, few)) few_variables known);
+      lawful = subst LawfulBook (sym is) (lawful_opened l b.cells b.spare stands);
+      fits = subst BookFits (sym is) (fits_opened l b.cells b.spare (omega (arith, few)) few_variables known);
       room = room;
       submit_room = submit_room;
       changes_room = omega (arith, changes_room, ap (λ (m : Listing). length m.initial) n.listing);
@@ -186,6 +186,23 @@ taken_view b table (Some task) h = (
   map_get (with_values b.present.values.items) b.table.tasks task.0 Ready h.0,
   λ n less e. h.1 n less (ready_without b.present.values.items b.table.tasks n e),
   ap (λ (x : TableView). book_of (record b { table = x })) h.2 ∙ view_placed b task Running,
+)
+
+-- the same of a first ready task from a number on
+pub kept_taken_from : (b : Inside) (table : TableView) (number : ℕ) (o : Option TaskId) → IsKept b → IsTakenFrom number b.table o table → IsKept (record b { table = table })
+kept_taken_from b table number None k h = subst (λ (x : TableView). IsKept (record b { table = x })) (sym h.1) k
+kept_taken_from b table number (Some task) k h = kept_stand b table task Ready Running k h.1 h.0.here (λ n e. cc) (λ n e. cc) (λ log e. cc) refl
+
+pub taken_from_view : (b : Inside) (table : TableView) (number : ℕ) (o : Option TaskId) → IsTakenFrom number b.table o table → TakenFrom number (book_of b) o (book_of (record b { table = table }))
+taken_from_view b table number None h =
+    (λ n e. h.0 n (ready_without b.present.values.items b.table.tasks n e), ap (λ (x : TableView). book_of (record b { table = x })) h.1)
+taken_from_view b table number (Some task) h = (
+  record {
+    here = map_get (with_values b.present.values.items) b.table.tasks task.0 Ready h.0.here;
+    behind = λ at n from less e. h.0.behind at n from less (ready_without b.present.values.items b.table.tasks n e);
+    round = λ less n o e. h.0.round less n o (ready_without b.present.values.items b.table.tasks n e);
+  },
+  ap (λ (x : TableView). book_of (record b { table = x })) h.1 ∙ view_placed b task Running,
 )
 
 -- a parked task's log is told by the present values
@@ -263,25 +280,25 @@ same_snapshot n values state versions vs e f =
     ∙ ap (λ (x : List ℕ). let r : Snapshot = record { number = n; state = state; versions = x } in r) f
 
 -- a task is submitted
-pub view_submitted : (b : Inside) (chapter : ChapterView) (table : TableView) (tx : TxId) → table ≡ with_one_more b.table → chapter.listing ≡ grown b.chapter.listing (tx ∷ []) → book_of (record b { chapter = chapter; table = table; spare = b.spare - 1 }) ≡ submitted (book_of b) tx
-view_submitted b chapter table tx e more =
+pub view_submitted : (b : Inside) (chapter : ChapterView) (table : TableView) (c : Call) → table ≡ with_one_more b.table → chapter.listing ≡ grown b.chapter.listing (c ∷ []) → book_of (record b { chapter = chapter; table = table; spare = b.spare - 1 }) ≡ submitted (book_of b) c
+view_submitted b chapter table c e more =
     let v = book_of b in
     let m = b.present.values.items in
     let made : Listing → List Task → BookView = λ l ts. record v { catalogue = l; tasks = ts; spare = b.spare - 1 } in
     ap (λ (x : TableView). made chapter.listing (map (with_values m) x.tasks)) e
     ∙ (ap (λ (l : Listing). made l (map (with_values m) (b.table.tasks ++ Ready ∷ []))) more
-    ∙ ap (made (grown b.chapter.listing (tx ∷ []))) (one_more_ready m b.table.tasks))
+    ∙ ap (made (grown b.chapter.listing (c ∷ []))) (one_more_ready m b.table.tasks))
 
-pub kept_submitted : (b : Inside) (chapter : ChapterView) (table : TableView) (tx : TxId) → IsKept b → table ≡ with_one_more b.table → 0 < b.spare → chapter.listing ≡ grown b.chapter.listing (tx ∷ []) → chapter.room ≡ b.chapter.room → ProgramKnown (length b.chapter.listing.initial) (program_at b.chapter.listing tx) → IsKept (record b { chapter = chapter; table = table; spare = b.spare - 1 })
-kept_submitted b chapter table tx k e spare more same program =
+pub kept_submitted : (b : Inside) (chapter : ChapterView) (table : TableView) (c : Call) → IsKept b → table ≡ with_one_more b.table → 0 < b.spare → chapter.listing ≡ grown b.chapter.listing (c ∷ []) → chapter.room ≡ b.chapter.room → ProgramKnown (length b.chapter.listing.initial) (call_program b.chapter.listing c.tx c.arguments) → IsKept (record b { chapter = chapter; table = table; spare = b.spare - 1 })
+kept_submitted b chapter table c k e spare more same program =
     let v = book_of b in
-    let view = view_submitted b chapter table tx e more in
+    let view = view_submitted b chapter table c e more in
     let size : length table.tasks ≡ length b.table.tasks + 1 = ap (λ (x : TableView). length x.tasks) e ∙ length-append b.table.tasks (Ready ∷ []) in
     let left : table.spare ≡ b.table.spare - 1 = ap (λ (x : TableView). x.spare) e in
     let wide = ap (λ (l : Listing). length l.initial) more in
     record {
-      lawful = subst LawfulBook (sym view) (lawful_submitted v tx k.lawful k.fits.tasks);
-      fits = subst BookFits (sym view) (fits_submitted v tx k.fits (omega (arith, k.whole, k.spared, k.few, spare, length-map b.table.tasks (with_values b.present.values.items))) program);
+      lawful = subst LawfulBook (sym view) (lawful_submitted v c k.lawful k.fits.tasks);
+      fits = subst BookFits (sym view) (fits_submitted v c k.fits (omega (arith, k.whole, k.spared, k.few, spare, length-map b.table.tasks (with_values b.present.values.items))) program);
       room = k.room;
       submit_room = omega (arith, k.submit_room, same);
       changes_room = omega (arith, k.changes_room, wide);

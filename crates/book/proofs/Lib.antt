@@ -9,9 +9,11 @@ pub mod GivingUp
 mod Submitting
 mod Kept
 mod Sleeping
+mod Among
 mod Rows
 mod Filling
 mod Sets
+mod Found
 mod Waking
 mod Writes
 mod Storing
@@ -27,7 +29,10 @@ mod Carrying
 mod Parking
 pub mod Staying
 mod Programs
+mod Given
+mod TaskCalls
 mod Listings
 mod Beginning
 mod Begins
 pub mod Recording
+pub mod Crossing

@@ -1,55 +1,109 @@
 -- What a chapter lists keeps the rules of a catalogue.
-use Rattle.std.proofs.Common.{◌≡◌, ◌+◌, ◌<◌, ◌≤◌, Bool, true, false, List, [], ◌++◌, length, drop, sym, ◌∙◌, ap, arith, length-append}
-use Rattle.std.specs.List.{All}
-use Rattle.std.proofs.lemmas.List.{drop_all, append-nil}
-use Rattle.std.proofs.lemmas.List.Elements.{All-drop, All-from_get_or}
-use Rattle.std.proofs.lemmas.Option.{slice_get-get_or}
+use Rattle.std.proofs.Common.{◌≡◌, ℕ, ℤ, ◌+◌, ◌≤◌, Bool, true, false, List, [], ◌∷◌, ◌++◌, length, map, drop, Some, sym, ◌∙◌, ap, subst, arith, length-append, append_assoc}
+use Rattle.std.proofs.lemmas.List.{drop_all, append-nil, map-append}
+use Rattle.std.proofs.lemmas.List.Elements.{All-drop}
+use Rattle.std.proofs.lemmas.Option.{slice_get_within, get_or_from_slice_get}
+use Rattle.std.specs.List.{slice_get}
+use Rattle.txn_programs.specs.declared.arguments.Call.{Call}
 use Rattle.txn_programs.specs.declared.ast.TxId.{TxId}
 use Rattle.txn_programs.specs.Meaning.{State}
-use Rattle.txn_programs.specs.Listing.{Listing, tasks}
+use Rattle.txn_programs.specs.declared.ast.TaskId.{TaskId}
+use Rattle.txn_programs.specs.Listing.{Listing, calls, tasks, task_arguments, IsCallable}
+use Rattle.txn_programs.proofs.Lawful.{task_calls}
 use Rattle.txn_programs.specs.Names.{names_hold}
 use Rattle.txn_programs.specs.Limits.{limits_hold, most_tasks}
-use Rattle.txn_programs.proofs.Lawful.{known_task}
 use Rattle.txn.specs.Grown.{grown}
-use Rattle.txn.proofs.Growing.{tasks_grown, names_grown, limits_grown}
-use Rattle.txn_values.specs.Values.{begun}
-use Rattle.txn_values.proofs.Beginning.{names_begun, limits_begun}
-use Rattle.txn_values.proofs.Standing.{names_stay, limits_stay}
-use Rattle.book.specs.ChapterInside.{runs_of}
+use Rattle.txn.proofs.Growing.{calls_grown, names_grown, limits_grown}
+use Rattle.txn.proofs.Beginning.{names_begun, limits_begun}
+use Rattle.txn.proofs.Standing.{names_stay, limits_stay}
+use Rattle.book.specs.ChapterInside.{runs_of, one_each, listing_of, chapter_view}
+use Rattle.book.specs.Chapters.{ChapterView}
+use Rattle.book.specs.declared.chapter.Chapter.TheInside.{Inside}
+use Rattle.book.proofs.TaskCalls.{AreKnown, length-calls, drop_before}
 
-abbrev pub listed : Bool → Listing → State → List TxId → Listing
-listed is_first l values txs = record l { initial = values; runs = runs_of is_first l txs }
+abbrev pub listed : Bool → Listing → State → List Call → Listing
+listed is_first l values cs = record l { initial = values; runs = runs_of is_first l cs }
 
-abbrev pub AreKnown : Listing → List TxId → Type 0
-AreKnown l txs = All (λ (tx : TxId). tx.0 < length l.transactions) txs
+pub calls_first : (l : Listing) (values : State) → calls (listed true l values (calls l)) ≡ calls l
+calls_first l values =
+    calls_grown (record l { initial = values }) (drop (length (tasks l)) (calls l))
+    ∙ (ap (λ (cs : List Call). calls l ++ cs) (drop_all (length (tasks l)) (calls l) (omega (arith, length-calls l))) ∙ append-nil (calls l))
 
--- the tasks of listing that begins
-pub tasks_begun : (l : Listing) (values : State) (txs : List TxId) → tasks (begun l values txs) ≡ txs
-tasks_begun l values txs = tasks_grown (record l { initial = values; runs = [] }) txs
+-- the rest of the first chapter's calls are those that were submitted
+rest_length : (l : Listing) (values : State) (cs : List Call) → calls (listed true l values cs) ≡ cs → length (tasks l) + length (drop (length (tasks l)) cs) ≡ length cs
+rest_length l values cs e =
+    ap (λ n. n + length (drop (length (tasks l)) cs)) (sym (length-calls l))
+    ∙ (sym (length-append (calls l) (drop (length (tasks l)) cs)) ∙ ap length (sym (calls_grown (record l { initial = values }) (drop (length (tasks l)) cs)) ∙ e))
 
-pub tasks_first : (l : Listing) (values : State) → tasks (listed true l values (tasks l)) ≡ tasks l
-tasks_first l values =
-    tasks_grown (record l { initial = values }) (drop (length (tasks l)) (tasks l))
-    ∙ (ap (λ (txs : List TxId). tasks l ++ txs) (drop_all (length (tasks l)) (tasks l) (omega arith)) ∙ append-nil (tasks l))
+pub names_listed : (is_first : Bool) (l : Listing) (values : State) (cs : List Call) → names_hold l ≡ true → AreKnown l cs → names_hold (listed is_first l values cs) ≡ true
+names_listed true l values cs h known =
+    let more = drop (length (tasks l)) cs in
+    names_stay (grown l more) values ∙ names_grown l more h (All-drop (λ (c : Call). IsCallable l c.tx c.arguments) (length (tasks l)) cs known)
+names_listed false l values cs h known = names_begun l values cs h known
 
--- the rest of the first chapter's tasks are those that were submitted
-rest_length : (l : Listing) (values : State) (txs : List TxId) → tasks (listed true l values txs) ≡ txs → length (tasks l) + length (drop (length (tasks l)) txs) ≡ length txs
-rest_length l values txs e =
-    sym (length-append (tasks l) (drop (length (tasks l)) txs)) ∙ ap length (sym (tasks_grown (record l { initial = values }) (drop (length (tasks l)) txs)) ∙ e)
+pub limits_listed : (is_first : Bool) (l : Listing) (values : State) (cs : List Call) → limits_hold l ≡ true → calls (listed is_first l values cs) ≡ cs → length cs ≤ most_tasks → limits_hold (listed is_first l values cs) ≡ true
+limits_listed true l values cs h e few =
+    let more = drop (length (tasks l)) cs in
+    limits_stay (grown l more) values ∙ limits_grown l more h (omega (arith, few, rest_length l values cs e))
+limits_listed false l values cs h e few = limits_begun l values cs h few
 
-pub names_listed : (is_first : Bool) (l : Listing) (values : State) (txs : List TxId) → names_hold l ≡ true → AreKnown l txs → names_hold (listed is_first l values txs) ≡ true
-names_listed true l values txs h known =
-    let more = drop (length (tasks l)) txs in
-    names_stay (grown l more) values ∙ names_grown l more h (All-drop (λ (tx : TxId). tx.0 < length l.transactions) (length (tasks l)) txs known)
-names_listed false l values txs h known = names_begun l values txs h known
+-- a task more is a run more
+one_more : (cs : List Call) (c : Call) → one_each (cs ++ c ∷ []) ≡ one_each cs ++ (c, 1) ∷ []
+one_more cs c = map-append (λ (x : Call). (x, 1)) cs (c ∷ [])
 
-pub limits_listed : (is_first : Bool) (l : Listing) (values : State) (txs : List TxId) → limits_hold l ≡ true → tasks (listed is_first l values txs) ≡ txs → length txs ≤ most_tasks → limits_hold (listed is_first l values txs) ≡ true
-limits_listed true l values txs h e few =
-    let more = drop (length (tasks l)) txs in
-    limits_stay (grown l more) values ∙ limits_grown l more h (omega (arith, few, rest_length l values txs e))
-limits_listed false l values txs h e few = limits_begun l values txs h few
+pub listed_more : (is_first : Bool) (l : Listing) (values : State) (cs : List Call) (c : Call) → calls (listed is_first l values cs) ≡ cs → listed is_first l values (cs ++ c ∷ []) ≡ grown (listed is_first l values cs) (c ∷ [])
+listed_more true l values cs c e =
+    let n = length (tasks l) in
+    let rest = drop n cs in
+    let low : n ≤ length cs = omega (arith, rest_length l values cs e) in
+    ap (λ (more : List Call). let r : Listing = record l { initial = values; runs = l.runs ++ one_each more } in r) (drop_before n cs (c ∷ []) low)
+    ∙ (ap (λ (runs : List (Call × ℕ)). let r : Listing = record l { initial = values; runs = l.runs ++ runs } in r) (one_more rest c)
+    ∙ ap (λ (runs : List (Call × ℕ)). let r : Listing = record l { initial = values; runs = runs } in r) (sym (append_assoc l.runs (one_each rest) ((c, 1) ∷ []))))
+listed_more false l values cs c e = ap (λ (runs : List (Call × ℕ)). let r : Listing = record l { initial = values; runs = runs } in r) (one_more cs c)
 
--- each task of a catalogue is of one of its transactions
-pub tasks_known : (l : Listing) → names_hold l ≡ true → AreKnown l (tasks l)
-tasks_known l names =
-    All-from_get_or (λ (tx : TxId). tx.0 < length l.transactions) (tasks l) (record { 0 = 0 }) (λ i low. known_task l i _ names (slice_get-get_or (tasks l) i (record { 0 = 0 }) low))
+-- there is a task of a chapter for each call
+pub length_in : (c : Inside) → calls (listing_of c) ≡ c.calls.calls → length (tasks (listing_of c)) ≡ length c.calls.calls
+length_in c h = sym (length-calls (listing_of c)) ∙ ap length h
+
+-- the tasks of the catalogue that was opened are the first chapter's, and it has no fewer
+pub opened_within : (c : Inside) → c.is_first ≡ true → calls (listing_of c) ≡ c.calls.calls → length (tasks c.opened.now) ≤ length c.calls.calls
+opened_within c first h =
+    let l = c.opened.now in
+    let cs = c.calls.calls in
+    let e : calls (listed true l c.initial.items cs) ≡ cs = subst (λ (b : Bool). calls (listed b l c.initial.items cs) ≡ cs) first h in
+    omega (arith, rest_length l c.initial.items cs e)
+
+-- the runs of the first chapter, and of a later one
+pub first_runs : (c : Inside) → c.is_first ≡ true → (listing_of c).runs ≡ c.opened.now.runs ++ one_each (drop (length (tasks c.opened.now)) c.calls.calls)
+first_runs c first = ap (λ (b : Bool). runs_of b c.opened.now c.calls.calls) first
+
+pub later_runs : (c : Inside) → c.is_first ≡ false → (listing_of c).runs ≡ one_each c.calls.calls
+later_runs c later = ap (λ (b : Bool). runs_of b c.opened.now c.calls.calls) later
+
+-- what the first chapter lists
+pub first_is : (c : Inside) → c.is_first ≡ true → c.initial.items ≡ c.opened.now.initial → grown c.opened.now (drop (length (tasks c.opened.now)) c.calls.calls) ≡ listing_of c
+first_is c first from =
+    let l = c.opened.now in
+    let runs = l.runs ++ one_each (drop (length (tasks l)) c.calls.calls) in
+    ap (λ (m : State). let r : Listing = record l { initial = m; runs = runs } in r) (sym from)
+    ∙ ap (λ (rs : List (Call × ℕ)). let r : Listing = record l { initial = c.initial.items; runs = rs } in r) (sym (first_runs c first))
+
+-- what is read of the calls is the task's
+pub tx_own : (c : Inside) (v : ChapterView) (k : ℕ) (tx : TxId) → chapter_view c ≡ v → calls (listing_of c) ≡ c.calls.calls → slice_get (map (λ (x : Call). x.tx) c.calls.calls) k ≡ Some tx → slice_get (tasks v.listing) k ≡ Some tx
+tx_own c v k tx view all read =
+    ap (λ (x : ChapterView). slice_get (tasks x.listing) k) (sym view) ∙ (ap (λ (cs : List Call). slice_get (map (λ (x : Call). x.tx) cs) k) all ∙ read)
+
+pub given_own : (c : Inside) (v : ChapterView) (k : ℕ) (given : List ℤ) → chapter_view c ≡ v → calls (listing_of c) ≡ c.calls.calls → slice_get (map (λ (x : Call). x.arguments) c.calls.calls) k ≡ Some given → slice_get (map (λ (x : Call). x.arguments) (calls v.listing)) k ≡ Some given
+given_own c v k given view all read =
+    ap (λ (x : ChapterView). slice_get (map (λ (y : Call). y.arguments) (calls x.listing)) k) (sym view) ∙ (ap (λ (cs : List Call). slice_get (map (λ (x : Call). x.arguments) cs) k) all ∙ read)
+
+-- each task of a chapter makes a call of its listing
+pub known_own : (c : Inside) (v : ChapterView) (t : TaskId) (tx : TxId) → chapter_view c ≡ v → calls (listing_of c) ≡ c.calls.calls → AreKnown c.opened.now c.calls.calls → slice_get (tasks v.listing) t.0 ≡ Some tx → IsCallable v.listing tx (task_arguments v.listing t)
+known_own c v t tx view all known own =
+    let l = v.listing in
+    let here : AreKnown (listing_of c) c.calls.calls = λ k d low. let h = known k d low in record { declared = h.declared; each = h.each } in
+    let there : AreKnown l (calls l) =
+    subst (λ (x : ChapterView). AreKnown x.listing (calls x.listing)) view (subst (AreKnown (listing_of c)) (sym all) here) in
+    let call : Call = record { tx = tx; arguments = task_arguments l t } in
+    let at : slice_get (calls l) t.0 ≡ Some call = task_calls l t tx own in
+    subst (λ (x : Call). IsCallable l x.tx x.arguments) (get_or_from_slice_get (calls l) t.0 call call at) (there t.0 call (slice_get_within (calls l) t.0 call at))

@@ -12,7 +12,7 @@ use Rattle.std.specs.Prelude.{nat_eq}
 use Rattle.book.specs.Tasks.{Task, Ready, Running, Parked}
 use Rattle.book.specs.declared.task.Slot.{Slot}
 use Rattle.book.specs.declared.task.Slot.TheVariants as standing
-use Rattle.book.specs.Table.{unvalued, names, flagged}
+use Rattle.book.specs.Table.{unvalued, low_bits, names_low, flagged}
 use Rattle.book.specs.Standings.{row, named_by, naming, shown, shown_from, HaveRows, bare, unlogged}
 use Rattle.book.proofs.Lists.{get_set_same, get_set_other, get_replicate, get_append_last}
 use Rattle.book.proofs.Sleeping.{no_pair}
@@ -58,9 +58,9 @@ pub known_byte : (n : ℕ) (log : Known) → n ≤ MAX_VARIABLES → AllKnown n 
 known_byte n [] few h = tt
 known_byte n (p ∷ rest) few h = (omega (arith, h.0, few), known_byte n rest few h.1)
 
-names_unvalued : (x : ℕ) (log : Known) → names x (unvalued log) ≡ names x log
+names_unvalued : (x : ℕ) (log : Known) → names_low x (unvalued log) ≡ names_low x log
 names_unvalued x [] = refl
-names_unvalued x (p ∷ rest) = ap (λ (b : Bool). nat_eq p.0.0 x || b) (names_unvalued x rest)
+names_unvalued x (p ∷ rest) = ap (λ (b : Bool). nat_eq (low_bits p.0.0) x || b) (names_unvalued x rest)
 
 pub flagged_unvalued : (flag : Bool) (log : Known) (t x : ℕ) (s : List Bool) → flagged flag log t x s ≡ flagged flag (unvalued log) t x s
 flagged_unvalued flag log t x s = ap (λ (b : Bool). cond b (set s t flag) s) (sym (names_unvalued x log))

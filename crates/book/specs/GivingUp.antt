@@ -1,4 +1,4 @@
--- Which tasks are given up where that is done for want of memory alone: none whose transaction takes no memory.
+-- Which tasks are given up when out of memory: none whose transaction takes no memory.
 use Rattle.std.specs.Prelude.{◌≡◌, ℕ, Some, slice_get}
 use Rattle.txn_programs.specs.Listing.{task_tx}
 use Rattle.attempt.specs.Room.{TakesMemory}

@@ -12,6 +12,8 @@ pub mod GivingUp
 pub mod Submitted
 pub mod Table
 pub mod TableInside
+pub mod Calls
+pub mod CallsInside
 pub mod Carrying
 pub mod Agreeing
 pub mod Counting

@@ -1,30 +1,33 @@
 //! The book: how each task stands, the journal, and the present values.
 
-ghost use Rattle.std.specs.Prelude.{◌≡◌, ◌≢◌, ◌<◌, ◌≤◌, ◌+◌, ◌++◌, ◌∷◌, [], ℕ, length, map, IfOk, IsTrue, ◌↔◌, MatchBool, vec_len, vec_capacity, All, Some, slice_get, min, replicate, ◌-◌, OnErr};
-ghost use Rattle.txn_programs.specs.declared.limits.TheConstants.{MAX_TASKS, MAX_TRANSACTIONS, MAX_VARIABLES};
+ghost use Rattle.std.specs.Prelude.{◌≡◌, ◌≢◌, ◌<◌, ◌≤◌, ◌+◌, ◌∷◌, [], ℕ, length, map, IfOk, IsTrue, ◌↔◌};
+ghost use Rattle.std.specs.Prelude.{MatchBool, vec_capacity, Some, slice_get, replicate};
+ghost use Rattle.std.specs.Prelude.{OnErr};
+ghost use Rattle.txn_programs.specs.declared.limits.TheConstants.{MAX_TASKS, MAX_VARIABLES};
 ghost use Rattle.txn_words.specs.Stores.{with_changes};
 ghost use Rattle.attempt.specs.Asking.{Known};
 ghost use Rattle.attempt.specs.Frame.{Agrees};
 ghost use Rattle.attempt.specs.Order.{Ascending, AllKnown};
 ghost use Rattle.cells.specs.Passing.{MeetsBy};
 ghost use Rattle.book.specs.Turns.{is_committed};
-ghost use Rattle.book.specs.Chapters.{most_entries};
 ghost use Rattle.book.specs.Openings.{IsOpening};
 
 use crate::changing::{note_changes, store_changes};
 use crate::chapter::Chapter;
+use crate::clock::reach;
 use crate::counting::Counts;
 use crate::ending::bring_to_end;
+use crate::journal::enter;
 use crate::listing::{given_up, parked};
 use crate::standing::Standing;
-use crate::stored::{Stored, opening, pairs};
+use crate::stored::{Stored, openings, pairs, start_anew};
 use crate::table::TaskTable;
 use crate::task::{Finish, Serial};
 use crate::validate::agrees;
 use attempt::{Attempt, Next, frame};
-use cells::{Cells, Pass, Publisher};
-use journal::{Line, RunReport, entries_of};
-use std::alloc::{AllocError, Global};
+use book_storage::{PackedEntry, RunReport, entries_of};
+use cells::{Cells, Pass, Publisher, SharedCells};
+use std::alloc::Global;
 use std::marker::Model;
 use txn::{Catalogue, Entry, Memory, Outcome, Report, TaskId, TxId, VarId};
 
@@ -37,10 +40,10 @@ use txn::{Catalogue, Entry, Memory, Outcome, Report, TaskId, TxId, VarId};
 pub struct Book<'a> {
     /// The catalogue of the present chapter.
     chapter: Chapter<'a>,
-    cells: &'a Cells,
+    cells: SharedCells<'a>,
     publisher: Publisher,
     base: Stored,
-    journal: Vec<Line>,
+    journal: Vec<PackedEntry>,
     present: Stored,
     /// What the last commit changed. Its room is for one change a variable.
     changes: Vec<(VarId, i64)>,
@@ -72,17 +75,19 @@ impl<'a> Model for Book<'a> {
 
 impl<'a> Book<'a> {
     ghost use Rattle.txn_programs.specs.Meaning.{outcome, after};
-    ghost use Rattle.txn_programs.specs.Listing.{tasks, task_tx, task_program};
+    ghost use Rattle.txn_programs.specs.Listing.{tasks, task_tx, task_arguments, task_program, IsCallable};
     ghost use Rattle.txn.specs.Grown.{SameProgram};
+    ghost use Rattle.book.specs.Carrying.{carried};
     ghost use Rattle.book.specs.Chapters.{chapter_of, entered_in_all};
     ghost use Rattle.book.specs.Submitted.{Submits, SubmitsRunning};
     ghost use Rattle.book.specs.Counting.{AreCounts, IsPresent};
     ghost use Rattle.txn_programs.specs.declared.ast.Outcome as Outcome;
     ghost use Rattle.book.specs.Tasks as Task;
     ghost use Rattle.txn_programs.specs.Told.{told};
-    ghost use Rattle.journal.specs.Lines.{told_run};
+    ghost use Rattle.book_storage.specs.PackedEntries.{told_run};
     ghost use Rattle.book.specs.View.{opened, IsRunning, stands, committed, checkpointed};
-    ghost use Rattle.book.specs.Turns.{Taken, IsEndOf, EndsOn, EndsAs, Finished, IsLeft, Served, Turn, Drains, kept_short, readied, IsIdle, without_journal, ReportIs};
+    ghost use Rattle.book.specs.Turns.{Taken, TakenFrom, IsEndOf, EndsOn, EndsAs, Finished, IsLeft, Served, Turn, Drains};
+    ghost use Rattle.book.specs.Turns.{kept_short, readied, IsIdle, without_journal, ReportIs};
     ghost use Rattle.book.specs.LawfulBook.{LawfulBook, BookFits, KeepsConditions, Waits};
     ghost use Rattle.book.specs.Waiting.{ParkedWait};
     ghost use Rattle.attempt.specs.Room.{TakesMemory};
@@ -125,6 +130,22 @@ impl<'a> Book<'a> {
         requires few { length (tasks catalogue.now) + spare ≤ MAX_TASKS }
         ensures { IfOk result (λ b. b ≡ opened catalogue.now cells.now spare) }
     {
+        Book::open_shared(alloc, catalogue, SharedCells::lent(cells), publisher, spare)
+    }
+
+    /// As `open_with_room`, over cells that may be counted: then they stay at least as long as the book.
+    pub fn open_shared(
+        alloc: Global,
+        catalogue: &'a Catalogue,
+        cells: SharedCells<'a>,
+        publisher: Publisher,
+        spare: usize,
+    ) -> Result<Book<'a>, Memory>
+        requires own { publisher.cells ≡ cells }
+        requires unused { publisher.history ≡ catalogue.now.initial ∷ [] }
+        requires few { length (tasks catalogue.now) + spare ≤ MAX_TASKS }
+        ensures { IfOk result (λ b. b ≡ opened catalogue.now cells.entry spare) }
+    {
         let count = catalogue.tasks();
         let variables = catalogue.initial().len();
         let room = count + spare;
@@ -141,16 +162,16 @@ impl<'a> Book<'a> {
     /// The book of these parts, at the beginning of its first chapter.
     fn of_parts(
         chapter: Chapter<'a>,
-        cells: &'a Cells,
+        cells: SharedCells<'a>,
         publisher: Publisher,
         base: Stored,
         present: Stored,
-        journal: Vec<Line>,
+        journal: Vec<PackedEntry>,
         changes: Vec<(VarId, i64)>,
         table: TaskTable,
         spare: usize,
     ) -> Book<'a>
-        requires own { publisher.cells ≡ cells.now }
+        requires own { publisher.cells ≡ cells }
         requires unused { publisher.history ≡ chapter.listing.initial ∷ [] }
         requires base { IsOpening chapter.listing base }
         requires present { IsOpening chapter.listing present }
@@ -163,7 +184,7 @@ impl<'a> Book<'a> {
         requires tasks { table.tasks ≡ replicate (length (tasks chapter.listing)) Task.Ready }
         requires spare { table.spare ≡ spare }
         requires variables { table.variables ≡ length chapter.listing.initial }
-        ensures { result ≡ opened chapter.entry.listing cells.now spare }
+        ensures { result ≡ opened chapter.entry.listing cells.entry spare }
     {
         chapter.rules();
         let room = table.len() + spare;
@@ -182,26 +203,26 @@ impl<'a> Book<'a> {
         }
     }
 
-    /// A ready task of the transaction more, with the next number. `None` and no change exactly if
-    /// there is no room for it. It takes no memory.
-    pub fn submit(&mut self, tx: TxId) -> Option<TaskId>
-        requires { tx.0 < length self.old.catalogue.transactions }
-        ensures { Submits self.old tx result self.new }
+    /// A ready task of the transaction with these arguments more, with the next number. `None` and no change
+    /// exactly if there is no room for it. It takes no memory.
+    pub fn submit(&mut self, tx: TxId, arguments: &[i64]) -> Option<TaskId>
+        requires { IsCallable self.old.catalogue tx arguments.now }
+        ensures { Submits self.old (record { tx = tx; arguments = arguments.now }) result self.new }
     {
         if self.spare == 0 {
             return None;
         }
         self.chapter.rules();
         self.spare -= 1;
-        self.chapter.add(tx);
+        self.chapter.add(tx, arguments);
         Some(self.table.add())
     }
 
     /// As `submit`, but the task is running: as if it had been claimed at once.
     #[inline(always)]
-    pub fn submit_running(&mut self, tx: TxId) -> Option<TaskId>
-        requires { tx.0 < length self.old.catalogue.transactions }
-        ensures { SubmitsRunning self.old tx result self.new }
+    pub fn submit_running(&mut self, tx: TxId, arguments: &[i64]) -> Option<TaskId>
+        requires { IsCallable self.old.catalogue tx arguments.now }
+        ensures { SubmitsRunning self.old (record { tx = tx; arguments = arguments.now }) result self.new }
     {
         let spare = self.spare;
         if spare == 0 {
@@ -210,7 +231,7 @@ impl<'a> Book<'a> {
         self.spare = spare - 1;
         let chapter = &mut self.chapter;
         chapter.rules();
-        chapter.add(tx);
+        chapter.add(tx, arguments);
         Some(self.table.add_running())
     }
 
@@ -229,6 +250,15 @@ impl<'a> Book<'a> {
         ensures known { result.0 < length self.now.catalogue.transactions }
     {
         self.chapter.transaction(task)
+    }
+
+    /// The arguments of a task, in the order of its transaction's parameters.
+    pub fn task_arguments(&self, task: TaskId) -> &[i64]
+        requires { task.0 < length self.now.tasks }
+        ensures value { result.now ≡ task_arguments self.now.catalogue task }
+        ensures each { IsCallable self.now.catalogue (task_tx self.now.catalogue task) result.now }
+    {
+        self.chapter.arguments(task)
     }
 
     /// Whether there is such a task, and it runs this transaction.
@@ -263,6 +293,16 @@ impl<'a> Book<'a> {
             done,
             given_up,
         }
+    }
+
+    /// How many tasks stay in the next chapter. It looks at no task.
+    pub fn staying(&self) -> usize
+        ensures { result ≡ length (carried self.now.tasks) }
+    {
+        // To look at a field is to be told what the type keeps: that there are not too many tasks.
+        let _all = self.table.len();
+        let counts = self.counts();
+        counts.ready + counts.running + counts.parked
     }
 
     /// Whether no task is ready or running.
@@ -308,6 +348,15 @@ impl<'a> Book<'a> {
         ensures catalogue { self.new.catalogue ≡ self.old.catalogue }
     {
         self.table.take()
+    }
+
+    /// The first ready task at or behind a number, or else the lowest, which is then running. `None` exactly if
+    /// none is ready. It takes no memory.
+    pub fn take_from(&mut self, number: usize) -> Option<TaskId>
+        ensures taken { TakenFrom number self.old result self.new }
+        ensures catalogue { self.new.catalogue ≡ self.old.catalogue }
+    {
+        self.table.take_from(number)
     }
 
     /// A ready task is running. `false` and no change where it was not ready. It takes no memory.
@@ -361,6 +410,9 @@ impl<'a> Book<'a> {
     /// The end of an attempt of the task: it commits or is parked where all that it read is still
     /// so, and else the answer is `Stale` and nothing changed. It takes no memory.
     ///
+    /// A commit adds one entry and one state, raises the versions of exactly the variables that it
+    /// changes, and makes ready exactly the parked tasks whose log names one of them.
+    ///
     /// Each attempt is validated by value: every logged value has to be the present one. The
     /// task has to exist, and the attempt to be of its transaction and to have ended.
     pub fn finish(&mut self, task: TaskId, mut attempt: Attempt<'_>) -> Finish
@@ -401,14 +453,16 @@ impl<'a> Book<'a> {
     }
 
     /// A turn of the task on the present values: it commits, or is parked where its program
-    /// retries. After want of memory the task is given up, which one whose transaction takes none never is.
+    /// retries. If memory runs out, the task is given up, which one whose transaction takes none never is.
     pub fn serial(&mut self, alloc: Global, task: TaskId) -> Serial
         requires exists { task.0 < length self.old.tasks }
         ensures served { Served self.old task result self.new }
         ensures memory { result ≡ Serial.Abandoned → TakesMemory self.old.catalogue (task_tx self.old.catalogue task) }
         ensures catalogue { self.new.catalogue ≡ self.old.catalogue }
     {
-        let mut attempt = Attempt::new(alloc, self.chapter.opened(), self.task_tx(task));
+        let chapter = &self.chapter;
+        let tx = chapter.transaction(task);
+        let mut attempt = Attempt::new(alloc, chapter.opened(), tx, chapter.arguments(task));
         self.serial_lent(&mut attempt, task)
     }
 
@@ -426,7 +480,9 @@ impl<'a> Book<'a> {
             return Serial::NotRunning;
         }
         let tx = self.chapter.transaction(task);
-        let Ok(how) = bring_to_end(attempt, &self.chapter, tx, &self.present.values) else {
+        let arguments = self.chapter.arguments(task);
+        let Ok(how) = bring_to_end(attempt, &self.chapter, tx, arguments, &self.present.values)
+        else {
             // It runs, so it is given up.
             let _ = self.give_up(task);
             return Serial::Abandoned;
@@ -440,15 +496,21 @@ impl<'a> Book<'a> {
         Serial::Committed(self.commit(task, how, writes))
     }
 
-    /// How the transaction ends on the present values, by an attempt that the caller keeps, which is
-    /// restarted for it and ends so. The book stays as it is. `Memory` only where a growth was refused,
+    /// How the transaction with these arguments ends on the present values, by an attempt that the caller
+    /// keeps, which is restarted for it and ends so. The book stays as it is. `Memory` only where a growth was refused,
     /// which a transaction that takes none never meets.
-    pub fn outcome_now(&self, attempt: &mut Attempt<'a>, tx: TxId) -> Result<Outcome, Memory>
-        requires { tx.0 < length self.now.catalogue.transactions }
-        ensures ends { IfOk result (λ how. EndsOn self.now.catalogue tx self.now.present.state how attempt.new) }
+    pub fn outcome_now(
+        &self,
+        attempt: &mut Attempt<'a>,
+        tx: TxId,
+        arguments: &[i64],
+    ) -> Result<Outcome, Memory>
+        requires { IsCallable self.now.catalogue tx arguments.now }
+        ensures ends { IfOk result
+            (λ how. EndsOn self.now.catalogue tx arguments.now self.now.present.state how attempt.new) }
         ensures memory { OnErr result (TakesMemory self.now.catalogue tx) }
     {
-        bring_to_end(attempt, &self.chapter, tx, &self.present.values)
+        bring_to_end(attempt, &self.chapter, tx, arguments, &self.present.values)
     }
 
     /// A running task is given up: it will not be entered. `false` and no change where it was not
@@ -485,9 +547,10 @@ impl<'a> Book<'a> {
     pub fn begin_chapter(&mut self)
         ensures { self.new ≡ chapter_of self.old }
     {
+        let count = self.staying();
         self.chapter
-            .begin(&self.present.values, self.table.standings());
-        self.table.carry_on();
+            .begin(&self.present.values, self.table.standings(), count);
+        self.table.carry_on(count);
         self.before += self.present.number;
         self.spare = reach(self.before, self.room) - self.table.len();
         start_anew(&mut self.present);
@@ -518,7 +581,7 @@ impl<'a> Book<'a> {
     /// values until none is ready. One attempt, which is restarted, serves them all.
     ///
     /// Where `every` is not 0, a commit that makes the journal at least `every` entries long is
-    /// followed by a checkpoint. A turn that meets want of memory gives its task up, and that of a task whose
+    /// followed by a checkpoint. A turn that runs out of memory gives its task up, and that of a task whose
     /// transaction takes none never does.
     pub fn drain(&mut self, alloc: Global, every: u32)
         ensures turns { Drains every (readied self.old) self.new }
@@ -530,7 +593,9 @@ impl<'a> Book<'a> {
         let Some(first) = self.take() else {
             return;
         };
-        let mut attempt = Attempt::new(alloc, self.chapter.opened(), self.task_tx(first));
+        let chapter = &self.chapter;
+        let tx = chapter.transaction(first);
+        let mut attempt = Attempt::new(alloc, chapter.opened(), tx, chapter.arguments(first));
         self.turn(&mut attempt, every, first);
         self.turns(&mut attempt, every);
     }
@@ -585,8 +650,7 @@ impl<'a> Book<'a> {
         ensures same { self.new ≡ self.old }
         ensures met { MeetsBy pass.old pass.new self.old.history }
     {
-        let cells = self.cells;
-        self.publisher.meet(cells, pass);
+        self.publisher.meet(self.cells.get(), pass);
     }
 
     /// Whether the catalogue is the book's present one: the tasks that were submitted and the values at
@@ -700,8 +764,7 @@ impl<'a> Book<'a> {
         let number = self.present.number + 1;
         let tx = self.chapter.transaction(task);
         note_changes(&mut self.changes, writes, &self.present.values);
-        let cells = self.cells;
-        self.publisher.publish(cells, &self.changes);
+        self.publisher.publish(self.cells.get(), &self.changes);
         let present = &mut self.present;
         store_changes(
             &mut present.values,
@@ -723,58 +786,6 @@ impl<'a> Book<'a> {
         );
         number
     }
-}
-
-/// Adds an entry, for which there is room.
-#[inline(always)]
-fn enter(journal: &mut Vec<Line>, entry: Entry)
-    requires room { vec_len journal.old < vec_capacity journal.old }
-    requires number { entry.number ≤ MAX_TASKS }
-    requires task { entry.task.0 < MAX_TASKS }
-    requires tx { entry.tx.0 < MAX_TRANSACTIONS }
-    ensures items { journal.new.items ≡ journal.old.items ++ entry ∷ [] }
-    ensures capacity { vec_capacity journal.old ≤ vec_capacity journal.new }
-{
-    match journal.push(Line::new(entry)) {
-        Ok(()) => {}
-        Err(_) => unreachable!(),
-    }
-}
-
-/// What is stored at the opening, twice.
-fn openings(alloc: Global, catalogue: &Catalogue) -> Result<(Stored, Stored), AllocError>
-    ensures base { IfOk result (λ p. IsOpening catalogue.now p.0) }
-    ensures present { IfOk result (λ p. IsOpening catalogue.now p.1) }
-{
-    let base = opening(alloc, catalogue.initial())?;
-    let present = opening(alloc, catalogue.initial())?;
-    Ok((base, present))
-}
-
-/// How many entries a life of a book can have: so far the clock of its cells counts.
-const MOST_ENTRIES: u64 = 1 << 62;
-
-/// The room of a chapter, as far as the clock reaches after so many entries.
-fn reach(entered: u64, room: usize) -> usize
-    requires { entered ≤ most_entries }
-    ensures { result ≡ min room (most_entries - entered) }
-{
-    let left = MOST_ENTRIES - entered;
-    if (room as u64) < left {
-        room
-    } else {
-        left as usize
-    }
-}
-
-/// Number 0, and all versions 0, at the same values.
-fn start_anew(stored: &mut Stored)
-    ensures number { stored.new.number ≡ 0 }
-    ensures values { stored.new.values.items ≡ stored.old.values.items }
-    ensures versions { stored.new.versions.items ≡ replicate (length stored.old.versions.items) 0 }
-{
-    stored.number = 0;
-    stored.versions.fill(0);
 }
 
 fn is_committed(how: Serial) -> bool

@@ -1,24 +1,25 @@
 //! The catalogue of a chapter: what the catalogue that the book was opened on declares, the values at
-//! which the chapter begins, and the transactions of its tasks.
+//! which the chapter begins, and the calls of its tasks.
 
-ghost use Rattle.std.specs.Prelude.{true, IsTrue, ◌↔◌, ◌≡◌, ◌<◌, ◌≤◌, ◌++◌, ◌∷◌, [], length, map, IfOk, slice_get, slice_set, Some, All, vec_len, vec_capacity};
+ghost use Rattle.std.specs.Prelude.{true, IsTrue, ◌↔◌, ◌≡◌, ◌<◌, ◌≤◌, ◌++◌, ◌∷◌, [], length, map, drop, IfOk};
+ghost use Rattle.std.specs.Prelude.{Some, slice_get};
 ghost use Rattle.txn_programs.specs.declared.limits.TheConstants.{MAX_TASKS};
-ghost use Rattle.txn_programs.specs.Listing.{tasks, task_tx};
+ghost use Rattle.txn_programs.specs.Listing.{calls, tasks, task_tx, task_arguments, IsCallable};
 ghost use Rattle.txn_programs.specs.Standing.{Upholds};
 ghost use Rattle.txn_programs.specs.Names.{names_hold};
 ghost use Rattle.txn_programs.specs.Limits.{limits_hold};
 ghost use Rattle.txn.specs.Grown.{grown, SameProgram};
 ghost use Rattle.book.specs.Standings.{bare};
-ghost use Rattle.book.specs.Carrying.{staying};
-ghost use Rattle.book.specs.ChapterInside.{one_each};
-ghost use Rattle.txn_values.specs.Values.{begun};
+ghost use Rattle.book.specs.Carrying.{carried, staying};
+ghost use Rattle.book.specs.ChapterInside.{one_each, HoldsEach};
+ghost use Rattle.txn.specs.Values.{begun};
 
-use crate::task::{Slot, stays};
+use crate::calls::Calls;
+use crate::task::Slot;
 use std::alloc::{AllocError, Global};
 use std::marker::Model;
-use txn::{Catalogue, Memory, TaskId, TxId};
-use txn_copies::same::{same_runs, same_values};
-use txn_values::begun;
+use txn::{Call, Catalogue, Memory, TaskId, TxId, begun};
+use txn_declarations::same::{same_runs, same_values};
 
 /// The catalogue of a chapter. A clause sees what it lists, and for how many tasks there is room.
 #[derive(Drop)]
@@ -29,9 +30,8 @@ pub struct Chapter<'a> {
     is_first: bool,
     /// The values at which the chapter begins.
     initial: Vec<i64>,
-    /// The transaction of each task.
-    transactions: Vec<TxId>,
-    room: usize,
+    /// What each task calls.
+    calls: Calls,
 }
 
 impl<'a> Model for Chapter<'a> {
@@ -67,8 +67,7 @@ impl<'a> Chapter<'a> {
             opened,
             is_first: true,
             initial: copied(alloc, opened.initial())?,
-            transactions: transactions_of(alloc, opened, room)?,
-            room,
+            calls: calls_of(alloc, opened, room)?,
         })
     }
 
@@ -89,7 +88,7 @@ impl<'a> Chapter<'a> {
         ensures few { length (tasks self.now.listing) ≤ MAX_TASKS }
     {
         self.opened.rules();
-        let _count = self.transactions.len();
+        let _count = self.calls.len();
     }
 
     /// The transaction of a task.
@@ -99,31 +98,43 @@ impl<'a> Chapter<'a> {
         ensures own { slice_get (tasks self.now.listing) task.0 ≡ Some result }
         ensures known { result.0 < length self.now.listing.transactions }
     {
-        self.transactions[task.0 as usize]
+        self.calls.transaction(task.0 as usize)
     }
 
-    /// A task of the transaction more, for which there is room.
-    pub fn add(&mut self, tx: TxId)
-        requires known { tx.0 < length self.old.listing.transactions }
+    /// The arguments of a task.
+    pub fn arguments(&self, task: TaskId) -> &[i64]
+        requires { task.0 < length (tasks self.now.listing) }
+        ensures value { result.now ≡ task_arguments self.now.listing task }
+        ensures each { IsCallable self.now.listing (task_tx self.now.listing task) result.now }
+    {
+        self.calls.arguments(task.0 as usize)
+    }
+
+    /// A task of the transaction with these arguments more, for which there is room.
+    pub fn add(&mut self, tx: TxId, arguments: &[i64])
+        requires known { IsCallable self.old.listing tx arguments.now }
         requires room { length (tasks self.old.listing) < self.old.room }
-        ensures listing { self.new.listing ≡ grown self.old.listing (tx ∷ []) }
+        ensures listing { self.new.listing
+            ≡ grown self.old.listing (record { tx = tx; arguments = arguments.now } ∷ []) }
         ensures room { self.new.room ≡ self.old.room }
     {
-        note(&mut self.transactions, tx);
+        self.calls.add(tx, arguments);
     }
 
-    /// The next chapter begins, at these values, with those tasks that stay. It takes no memory.
-    pub fn begin(&mut self, values: &[i64], standings: &[Slot])
+    /// The next chapter begins, at these values, with those tasks that stay, which are so many. It takes
+    /// no memory.
+    pub fn begin(&mut self, values: &[i64], standings: &[Slot], count: usize)
         requires each { length standings.now ≡ length (tasks self.old.listing) }
+        requires count { count ≡ length (carried (map bare standings.now)) }
         requires wide { length values.now ≡ length self.old.listing.initial }
         requires upheld { Upholds self.old.listing values.now }
         ensures listing { self.new.listing
-            ≡ begun self.old.listing values.now (staying (tasks self.old.listing) (map bare standings.now)) }
+            ≡ begun self.old.listing values.now (staying (calls self.old.listing) (map bare standings.now)) }
         ensures room { self.new.room ≡ self.old.room }
     {
         self.is_first = false;
         self.initial.copy_from_slice(values);
-        keep_staying(&mut self.transactions, standings);
+        self.calls.keep_staying(standings, count);
     }
 
     /// Whether the catalogue says the same.
@@ -140,17 +151,13 @@ impl<'a> Chapter<'a> {
     }
 
     /// Whether its runs are these.
-    fn has_runs(&self, runs: &[(TxId, u32)]) -> bool
+    fn has_runs(&self, runs: &[(Call, u32)]) -> bool
         ensures { IsTrue result ↔ (self.now.listing.runs ≡ runs.now) }
     {
         if self.is_first {
-            return are_declared_and(
-                runs,
-                self.opened.runs(),
-                &self.transactions[self.opened.tasks()..],
-            );
+            return are_declared_and(runs, self.opened.runs(), &self.calls, self.opened.tasks());
         }
-        are_one_each(runs, &self.transactions)
+        are_one_each(runs, &self.calls, 0)
     }
 
     /// A catalogue that says the same. `Memory` only where a growth was refused.
@@ -158,17 +165,23 @@ impl<'a> Chapter<'a> {
         ensures { IfOk result (λ c. c ≡ self.now.listing) }
     {
         if self.is_first {
-            return self
-                .opened
-                .grown(alloc, &self.transactions[self.opened.tasks()..]);
+            let more = behind(alloc, &self.calls, self.opened.tasks())?;
+            return self.opened.grown(alloc, &more);
         }
-        begun(alloc, self.opened, &self.initial, &self.transactions)
+        let calls = behind(alloc, &self.calls, 0)?;
+        begun(alloc, self.opened, &self.initial, &calls)
     }
 }
 
-/// Whether the runs are those that were declared, and then one of one task for each transaction.
-fn are_declared_and(runs: &[(TxId, u32)], declared: &[(TxId, u32)], more: &[TxId]) -> bool
-    ensures { IsTrue result ↔ (runs.now ≡ declared.now ++ one_each more.now) }
+/// Whether the runs are those that were declared, and then one of one task for each call behind so many.
+fn are_declared_and(
+    runs: &[(Call, u32)],
+    declared: &[(Call, u32)],
+    calls: &Calls,
+    from: usize,
+) -> bool
+    requires { from ≤ length calls.now.calls }
+    ensures { IsTrue result ↔ (runs.now ≡ declared.now ++ one_each (drop from calls.now.calls)) }
 {
     let count = declared.len();
     if runs.len() < count {
@@ -177,22 +190,45 @@ fn are_declared_and(runs: &[(TxId, u32)], declared: &[(TxId, u32)], more: &[TxId
     if !same_runs(&runs[..count], declared) {
         return false;
     }
-    are_one_each(&runs[count..], more)
+    are_one_each(&runs[count..], calls, from)
 }
 
-/// Whether the runs are one of one task for each transaction.
-fn are_one_each(runs: &[(TxId, u32)], transactions: &[TxId]) -> bool
-    ensures { IsTrue result ↔ (runs.now ≡ one_each transactions.now) }
+/// Whether the runs are one of one task for each call behind so many.
+fn are_one_each(runs: &[(Call, u32)], calls: &Calls, from: usize) -> bool
+    requires { from ≤ length calls.now.calls }
+    ensures { IsTrue result ↔ (runs.now ≡ one_each (drop from calls.now.calls)) }
 {
-    if runs.len() != transactions.len() {
+    if runs.len() != calls.len() - from {
         return false;
     }
     for i in 0..runs.len() {
-        if runs[i] != (transactions[i], 1) {
+        if !is_one(&runs[i], calls, from + i) {
             return false;
         }
     }
     true
+}
+
+/// Whether the run is one of one task for this task's call.
+fn is_one(run: &(Call, u32), calls: &Calls, task: usize) -> bool
+    requires { task < length calls.now.calls }
+    ensures { IsTrue result ↔ ((slice_get calls.now.calls task ≡ Some run.now.0) × (run.now.1 ≡ 1)) }
+{
+    run.1 == 1
+        && run.0.tx.0 == calls.transaction(task).0
+        && same_values(run.0.arguments.as_slice(), calls.arguments(task))
+}
+
+/// The calls behind so many.
+fn behind(alloc: Global, calls: &Calls, from: usize) -> Result<Vec<Call>, AllocError>
+    requires { from ≤ length calls.now.calls }
+    ensures { IfOk result (λ v. v.items ≡ drop from calls.now.calls) }
+{
+    let mut more = Vec::with_capacity(alloc, calls.len() - from)?;
+    for task in from..calls.len() {
+        more.push(calls.call(task))?;
+    }
+    Ok(more)
 }
 
 fn copied(alloc: Global, values: &[i64]) -> Result<Vec<i64>, AllocError>
@@ -201,56 +237,18 @@ fn copied(alloc: Global, values: &[i64]) -> Result<Vec<i64>, AllocError>
     values.to_vec(alloc)
 }
 
-/// The transaction of each task of the catalogue, with room for so many.
-fn transactions_of(
-    alloc: Global,
-    catalogue: &Catalogue,
-    room: usize,
-) -> Result<Vec<TxId>, AllocError>
-    ensures items { IfOk result (λ v. v.items ≡ tasks catalogue.now) }
-    ensures room { IfOk result (λ v. room ≤ vec_capacity v) }
+/// The calls of the catalogue's tasks, with room for so many. There is room for the arguments of any call of it.
+fn calls_of(alloc: Global, catalogue: &Catalogue, room: usize) -> Result<Calls, AllocError>
+    requires fits { length (tasks catalogue.now) ≤ room }
+    requires few { room ≤ MAX_TASKS }
+    ensures calls { IfOk result (λ c. c.calls ≡ calls catalogue.now) }
+    ensures room { IfOk result (λ c. c.room ≡ room) }
+    ensures row_room { IfOk result (λ c. HoldsEach catalogue.now c.width) }
 {
-    let mut transactions = Vec::with_capacity(alloc, room)?;
+    let mut calls = Calls::with_room(alloc, catalogue.most_parameters(), room)?;
     for i in 0..catalogue.tasks() {
-        transactions.push(catalogue.task_tx(TaskId(i as u32)))?;
+        let task = TaskId(i as u32);
+        calls.add(catalogue.task_tx(task), catalogue.task_arguments(task));
     }
-    Ok(transactions)
-}
-
-/// Adds a transaction, for which there is room.
-fn note(transactions: &mut Vec<TxId>, tx: TxId)
-    requires { vec_len transactions.old < vec_capacity transactions.old }
-    ensures items { transactions.new.items ≡ transactions.old.items ++ tx ∷ [] }
-    ensures capacity { vec_capacity transactions.old ≤ vec_capacity transactions.new }
-{
-    match transactions.push(tx) {
-        Ok(()) => {}
-        Err(_) => unreachable!(),
-    }
-}
-
-/// The transactions of the tasks that stay, in their order.
-fn keep_staying(transactions: &mut Vec<TxId>, standings: &[Slot])
-    requires { length standings.now ≡ length transactions.old.items }
-    ensures items { transactions.new.items ≡ staying transactions.old.items (map bare standings.now) }
-    ensures capacity { vec_capacity transactions.new ≡ vec_capacity transactions.old }
-{
-    let mut kept = 0;
-    for i in 0..standings.len() {
-        if stays(&standings[i]) {
-            let tx = transactions[i];
-            put(transactions, kept, tx);
-            kept += 1;
-        }
-    }
-    transactions.truncate(kept);
-}
-
-/// The transaction stands there.
-fn put(transactions: &mut Vec<TxId>, at: usize, tx: TxId)
-    requires { at < length transactions.old.items }
-    ensures items { transactions.new.items ≡ slice_set transactions.old.items at tx }
-    ensures capacity { vec_capacity transactions.new ≡ vec_capacity transactions.old }
-{
-    transactions[at] = tx;
+    Ok(calls)
 }

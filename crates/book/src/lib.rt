@@ -6,10 +6,13 @@
 
 mod bits;
 mod book;
+mod calls;
 mod changing;
 mod chapter;
+mod clock;
 mod counting;
 mod ending;
+mod journal;
 mod listing;
 mod names;
 mod sleepers;

@@ -17,7 +17,7 @@ pub enum Standing {
     Parked,
     /// It committed, and its journal entry has this number.
     Done(u64),
-    /// It was given up, for want of memory or by the host: it enters nothing.
+    /// It was given up, as memory ran out or by its host: it enters nothing.
     GivenUp,
 }
 

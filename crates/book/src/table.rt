@@ -4,30 +4,35 @@
 //! read lies in a row of bytes: the numbers of the variables, in the order of reading. Their values are
 //! not kept: while it is parked they are the present ones, since a commit that changes one wakes it.
 
-ghost use Rattle.std.specs.Prelude.{◌≡◌, ◌≢◌, ◌<◌, ◌≤◌, ◌^◌, ℕ, length, map, replicate, IfOk, IfSome, IfNone, MatchBool, MatchOption, Some, true, false, slice_get, slice_set, slice_index_or, cond, drop, take, ◌-◌, ◌+◌, ◌++◌, ◌∷◌, [], vec_len, vec_capacity};
+ghost use Rattle.std.specs.Prelude.{◌≡◌, ◌≢◌, ◌<◌, ◌≤◌, ◌^◌, ℕ, length, map, replicate, IfOk, IfSome, IfNone};
+ghost use Rattle.std.specs.Prelude.{MatchBool, MatchOption, Some, All, true, false, slice_get, slice_set};
+ghost use Rattle.std.specs.Prelude.{slice_index_or, cond, drop, take, ◌-◌, ◌+◌, ◌++◌, ◌∷◌, [], vec_len, vec_capacity};
 ghost use Rattle.txn_programs.specs.declared.limits.TheConstants.{MAX_TASKS, MAX_VARIABLES};
 ghost use Rattle.txn_words.specs.Stores.{id_of};
+ghost use Rattle.book.specs.declared.sleepers.TheConstants.{MAX_SETS};
 ghost use Rattle.attempt.specs.Order.{AllKnown, Apart};
 ghost use Rattle.book.specs.Tasks as Task;
 ghost use Rattle.book.specs.Standings.{bare, unlogged};
 ghost use Rattle.book.specs.Turns.{readied_one};
-ghost use Rattle.book.specs.Carrying.{stays, carried_on, settled};
+ghost use Rattle.book.specs.Carrying.{stays, carried, carried_on, settled};
 ghost use Rattle.book.specs.Recorded.{told_as};
 ghost use Rattle.book.specs.Counting.{IsTally};
-ghost use Rattle.book.specs.Table.{AreWaiting, IsParked, IsWaiting, IsTaken, placed, with_tasks, with_one_more, waits_for, woken_for, woken_by, unvalued};
+ghost use Rattle.book.specs.Table.{AreWaiting, IsParked, IsWaiting, IsTaken, placed, with_tasks, with_one_more};
+ghost use Rattle.book.specs.Table.{IsFirstFrom, IsTakenFrom};
+ghost use Rattle.book.specs.Table.{waits_for, woken_for, woken_by, unvalued};
 
 use crate::bits::lowest_bit;
 use crate::counting::Tally;
-use crate::names::{keep_names, move_row, row_of};
-use crate::sleepers::{enter, enter_row, leave, none_asleep};
+use crate::names::{has_name, keep_names, move_row, row_of};
+use crate::sleepers::{MAX_SETS, enter, enter_row, leave, none_asleep};
 use crate::standing::{Standing, told};
-use crate::task::{Slot, ended, stand, stays};
-use book_task_set::TaskSet;
+use crate::task::{Slot, ended, stand, stays, trade};
+use book_storage::TaskSet;
 use std::alloc::{AllocError, Global};
 use std::marker::Model;
 use txn::{TaskId, VarId};
 
-/// How each task stands. A clause sees the tasks, and for how many variables there are sets; the log
+/// How each task stands. A clause sees the tasks, and for how many variables they can wait; the log
 /// of a parked task names its variables, and tells 0 of each.
 #[derive(Drop)]
 pub struct TaskTable {
@@ -38,7 +43,9 @@ pub struct TaskTable {
     spare: usize,
     /// The ready tasks.
     ready: TaskSet,
-    /// For each variable the parked tasks whose log names it.
+    /// How many variables a task can wait for.
+    variables: usize,
+    /// For the low eight bits of a variable's number the parked tasks whose log names such a variable.
     sleepers: Vec<TaskSet>,
     /// A row for each task, as far up as tasks have been parked: a byte for each variable.
     names: Vec<u8>,
@@ -60,7 +67,7 @@ impl Model for TaskTable {
 }
 
 impl TaskTable {
-    /// All tasks ready, and a set for each variable; room for so many tasks more. It is the one call
+    /// All tasks ready, and none waits for a variable; room for so many tasks more. It is the one call
     /// that takes memory.
     pub fn open(
         alloc: Global,
@@ -84,6 +91,7 @@ impl TaskTable {
             },
             spare,
             ready: TaskSet::of_first(alloc, count, room)?,
+            variables,
             sleepers: none_asleep(alloc, variables, room)?,
             names: Vec::with_capacity(alloc, room * variables)?,
         })
@@ -141,6 +149,27 @@ impl TaskTable {
             Slot::Running,
         );
         Some(task)
+    }
+
+    /// The first ready task at or behind a number, or else the lowest, which is then running.
+    pub fn take_from(&mut self, number: usize) -> Option<TaskId>
+        ensures { IsTakenFrom number self.old result self.new }
+    {
+        let task = self.first_ready(number)?;
+        self.claim(task);
+        Some(task)
+    }
+
+    /// The first ready task at or behind a number, or else the lowest.
+    fn first_ready(&self, number: usize) -> Option<TaskId>
+        ensures { MatchOption result ((k : ℕ) → slice_get self.now.tasks k ≢ Some Task.Ready)
+            (λ task. IsFirstFrom number self.now.tasks task.0) }
+    {
+        if let Some(found) = self.ready.first_from(number) {
+            return Some(TaskId(found as u32));
+        }
+        let lowest = self.ready.lowest()?;
+        Some(TaskId(lowest as u32))
     }
 
     /// A ready task is running.
@@ -297,7 +326,7 @@ impl TaskTable {
         ensures { self.new ≡ placed self.old task (Task.Parked (unvalued log.now)) }
     {
         let at = task.0 as usize;
-        let width = self.sleepers.len();
+        let width = self.variables;
         keep_names(&mut self.names, width, at, log);
         enter(&mut self.sleepers, log, at);
         let count = log.len() as u32;
@@ -323,33 +352,64 @@ impl TaskTable {
     }
 
     /// What has ended goes, and every other task has the next number in the order of these: a running one
-    /// is ready, and a parked one waits as it did. What the others leave is room again. It takes no memory.
-    pub fn carry_on(&mut self)
+    /// is ready, and a parked one waits as it did. They are so many, and behind the last of them it looks at
+    /// no task. What the others leave is room again. It takes no memory.
+    pub fn carry_on(&mut self, count: usize)
+        requires { count ≡ length (carried self.old.tasks) }
         ensures { self.new ≡ carried_on self.old }
     {
+        // To look at a field is to be told what the type keeps: that there are not too many tasks.
+        let _all = self.standings.len();
         let mut kept = 0;
-        for i in 0..self.standings.len() {
+        let mut i = 0;
+        'tasks: while kept < count {
             kept = self.settle(i, kept);
+            i += 1;
         }
         self.cut(kept);
     }
 
-    /// Where the task `from` stays it has the number `to`, at which nobody stands. The next number at
-    /// which nobody stands.
+    /// Where the task `from` stays it has the number `to`, its own or a lower one that no ready or parked
+    /// task has. The number for the next that stays.
     fn settle(&mut self, from: usize, to: usize) -> usize
         requires from { from < length self.old.tasks }
         requires to { to ≤ from }
-        requires free { to < from → slice_get self.old.tasks to ≡ Some Task.Running }
+        requires free { to < from → ¬ (IsWaiting (slice_get self.old.tasks to)) }
         ensures next { result ≡ to + cond (stays (slice_index_or self.old.tasks from Task.Running)) 1 0 }
         ensures settled { self.new
             ≡ with_tasks self.old (settled (slice_index_or self.old.tasks from Task.Running) from to self.old.tasks) }
     {
         if !stays(&self.standings[from]) {
-            self.clear(TaskId(from as u32));
             return to;
         }
-        self.lower(from, to);
+        if to < from {
+            self.vacate(TaskId(to as u32));
+            self.lower(from, to);
+            return to + 1;
+        }
+        self.make_running_ready(TaskId(from as u32));
         to + 1
+    }
+
+    /// A running task is ready, and any other stands as it did.
+    fn make_running_ready(&mut self, task: TaskId)
+        requires { task.0 < length self.old.tasks }
+        ensures { self.new ≡ placed self.old task (readied_one (slice_index_or self.old.tasks task.0 Task.Running)) }
+    {
+        if self.is_running(task) {
+            self.make_ready(task);
+        }
+    }
+
+    /// What has ended leaves its place, where it has not left it yet.
+    fn vacate(&mut self, task: TaskId)
+        requires within { task.0 < length self.old.tasks }
+        requires free { ¬ (IsWaiting (slice_get self.old.tasks task.0)) }
+        ensures { self.new ≡ placed self.old task Task.Running }
+    {
+        if !stays(&self.standings[task.0 as usize]) {
+            self.clear(task);
+        }
     }
 
     /// A task that stays has the number `to`, at which nobody stands.
@@ -408,38 +468,26 @@ impl TaskTable {
             unreachable!()
         };
         let count = *count;
-        let width = self.sleepers.len();
+        let width = self.variables;
         move_row(&mut self.names, width, from, to, count as usize);
         let row = row_of(&self.names, width, to, count as usize);
         leave(&mut self.sleepers, row, from);
         enter_row(&mut self.sleepers, row, to);
-        stand(
-            &mut self.standings,
-            &mut self.tally,
-            TaskId(from as u32),
-            &Slot::Parked(count),
-            Slot::Running,
-        );
-        stand(
-            &mut self.standings,
-            &mut self.tally,
-            TaskId(to as u32),
-            &Slot::Running,
-            Slot::Parked(count),
-        );
+        trade(&mut self.standings, from, to, count);
     }
 
-    /// There are so many tasks: at the numbers from there on nobody stands.
+    /// There are so many tasks, all of them ready or parked: what stands behind them is in no set.
     fn cut(&mut self, count: usize)
         requires within { count ≤ length self.old.tasks }
-        requires free { drop count self.old.tasks ≡ replicate (length self.old.tasks - count) Task.Running }
+        requires waiting { All (λ t. IsWaiting (Some t)) (take count self.old.tasks) }
+        requires free { All (λ t. ¬ (IsWaiting (Some t))) (drop count self.old.tasks) }
         ensures tasks { self.new.tasks ≡ take count self.old.tasks }
         ensures variables { self.new.variables ≡ self.old.variables }
         ensures spare { self.new.spare ≡ self.old.spare + (length self.old.tasks - count) }
     {
-        let free = self.standings.len() - count;
-        self.tally.running -= free as u32;
-        self.spare += free;
+        self.spare += self.standings.len() - count;
+        self.tally.running = 0;
+        self.tally.given_up = 0;
         self.standings.truncate(count);
     }
 
@@ -448,14 +496,31 @@ impl TaskTable {
         requires { (i : ℕ) → i < length changes.now → id_of changes.now i < self.old.variables }
         ensures { self.new ≡ with_tasks self.old (map (woken_by changes.now) self.old.tasks) }
     {
+        if self.variables > MAX_SETS {
+            self.wake_each_among(changes);
+            return;
+        }
         for change in changes {
             self.wake_for(change.0.0 as usize);
         }
     }
 
-    /// The parked tasks whose log names the variable are ready.
+    /// As `wake`, where variables share sets.
+    #[cold]
+    #[inline(never)]
+    fn wake_each_among(&mut self, changes: &[(VarId, i64)])
+        requires { (i : ℕ) → i < length changes.now → id_of changes.now i < self.old.variables }
+        ensures { self.new ≡ with_tasks self.old (map (woken_by changes.now) self.old.tasks) }
+    {
+        for change in changes {
+            self.wake_among(change.0.0 as usize);
+        }
+    }
+
+    /// The parked tasks whose log names the variable are ready. Each variable has a set of its own.
     fn wake_for(&mut self, variable: usize)
-        requires { variable < self.old.variables }
+        requires known { variable < self.old.variables }
+        requires narrow { self.old.variables ≤ MAX_SETS }
         ensures { self.new ≡ with_tasks self.old (map (woken_for variable) self.old.tasks) }
     {
         let mut first = 0;
@@ -468,10 +533,65 @@ impl TaskTable {
         }
     }
 
+    /// As `wake_for`, where variables share a set: a task of the set is passed by where it waits for others of
+    /// them alone.
+    fn wake_among(&mut self, variable: usize)
+        requires { variable < self.old.variables }
+        ensures { self.new ≡ with_tasks self.old (map (woken_for variable) self.old.tasks) }
+    {
+        let mut from = 0;
+        while let Some(at) = self.next_among(variable, from) {
+            self.rouse_for(TaskId(at as u32), variable);
+            from = at + 1;
+        }
+    }
+
+    /// A parked task is ready where its log names the variable, and else stays as it is.
+    fn rouse_for(&mut self, task: TaskId, variable: usize)
+        requires { IsParked (slice_get self.old.tasks task.0) }
+        ensures { self.new
+            ≡ placed self.old task (woken_for variable (slice_index_or self.old.tasks task.0 Task.Running)) }
+    {
+        if self.is_waiting_for(task, variable) {
+            self.rouse(task);
+        }
+    }
+
+    /// The lowest task, from a number on, that waits for this variable or another one of its set. `None` where
+    /// no task from there on waits for the variable.
+    fn next_among(&self, variable: usize, from: usize) -> Option<usize>
+        requires { variable < self.now.variables }
+        ensures parked { IfSome result (λ k. IsParked (slice_get self.now.tasks k)) }
+        ensures behind { IfSome result (λ k. from ≤ k) }
+        ensures before { IfSome result (λ k. (j : ℕ) → from ≤ j → j < k
+            → slice_get (map (waits_for variable) self.now.tasks) j ≢ Some true) }
+        ensures none { IfNone result ((j : ℕ) → from ≤ j
+            → slice_get (map (waits_for variable) self.now.tasks) j ≢ Some true) }
+        ensures few { length self.now.tasks ≤ MAX_TASKS }
+    {
+        self.sleepers[variable % MAX_SETS].first_from(from)
+    }
+
+    /// Whether the log of a parked task names the variable.
+    fn is_waiting_for(&self, task: TaskId, variable: usize) -> bool
+        requires { IsParked (slice_get self.now.tasks task.0) }
+        ensures { slice_get (map (waits_for variable) self.now.tasks) task.0 ≡ Some result }
+    {
+        let at = task.0 as usize;
+        let Slot::Parked(count) = &self.standings[at] else {
+            unreachable!()
+        };
+        has_name(
+            row_of(&self.names, self.variables, at, *count as usize),
+            variable,
+        )
+    }
+
     /// Of the tasks that wait for the variable 64 numbers: those of this word where one is left in it,
     /// else the lowest. `None` where no task waits for it.
     fn next_waiting(&self, variable: usize, first: usize, left: u64) -> Option<(usize, u64)>
         requires known { variable < self.now.variables }
+        requires narrow { self.now.variables ≤ MAX_SETS }
         requires left { AreWaiting self.now.tasks variable first left }
         ensures some { IfSome result (λ p. p.1 ≢ 0) }
         ensures waiting { IfSome result (λ p. AreWaiting self.now.tasks variable p.0 p.1) }
@@ -495,7 +615,7 @@ impl TaskTable {
             unreachable!()
         };
         let count = *count;
-        let width = self.sleepers.len();
+        let width = self.variables;
         let row = row_of(&self.names, width, at, count as usize);
         leave(&mut self.sleepers, row, at);
         stand(

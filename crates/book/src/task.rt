@@ -20,7 +20,7 @@ pub enum Slot {
     Parked(u32),
     /// It committed, and its journal entry has this number.
     Done(u32),
-    /// It was given up, for want of memory or by the host: it enters nothing.
+    /// It was given up, as memory ran out or by its host: it enters nothing.
     GivenUp,
 }
 
@@ -46,7 +46,7 @@ pub enum Serial {
     Parked,
     /// The task is done, with the journal entry of this number.
     Committed(u64),
-    /// Want of memory: the task is given up, and nothing else changed.
+    /// Out of memory: the task is given up, and nothing else changed.
     Abandoned,
 }
 
@@ -62,6 +62,19 @@ pub fn stand(standings: &mut Vec<Slot>, tally: &mut Tally, task: TaskId, was: &S
 {
     *tally = with_one_more(without_one(*tally, was), &how);
     standings[task.0 as usize] = how;
+}
+
+/// What is parked with so many variables and what runs stand in one another's places.
+#[inline(always)]
+pub fn trade(standings: &mut Vec<Slot>, from: usize, to: usize, count: u32)
+    requires from { slice_get standings.old.items from ≡ Some (Slot.Parked count) }
+    requires to { slice_get standings.old.items to ≡ Some Slot.Running }
+    ensures items { standings.new.items
+        ≡ slice_set (slice_set standings.old.items from Slot.Running) to (Slot.Parked count) }
+    ensures capacity { vec_capacity standings.new ≡ vec_capacity standings.old }
+{
+    standings[from] = Slot::Running;
+    standings[to] = Slot::Parked(count);
 }
 
 /// A task that has ended is kept so.

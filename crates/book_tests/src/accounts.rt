@@ -13,8 +13,8 @@ use cells::Cells;
 use std::alloc::{AllocError, Global};
 use std::process::Abort;
 use txn::{
-    AlwaysId, BuildFault, Catalogue, Cond, Entry, Expr, Fault, Outcome, Stmt, TaskId, Tx, TxId,
-    VarId,
+    AlwaysId, Arguments, BuildFault, Call, Catalogue, Cond, Entry, Expr, Fault, Outcome, Stmt,
+    TaskId, Tx, TxId, VarId,
 };
 
 const A: VarId = VarId(0);
@@ -38,6 +38,7 @@ fn setting(alloc: Global, name: &str, a: i64, b: i64) -> Result<Tx, AllocError> 
     parts.push(Stmt::Set(B, Expr::Int(b)))?;
     Ok(Tx {
         name,
+        params: Vec::new(alloc),
         body: Stmt::Seq(parts),
         result: Expr::Var(A),
     })
@@ -69,11 +70,19 @@ fn transactions(alloc: Global) -> Result<Vec<Tx>, AllocError> {
     Ok(all)
 }
 
+/// A call of the transaction without arguments.
+fn plain(tx: TxId) -> Call {
+    Call {
+        tx,
+        arguments: Arguments::none(),
+    }
+}
+
 /// The catalogue of all that.
 fn accounts(alloc: Global) -> Result<Catalogue, BuildFault>
     ensures { IfOk result (λ c. conditions c ≡ sum_stays ∷ []) }
 {
-    let runs = [(TxId(0), 1), (TxId(1), 1)].to_vec(alloc)?;
+    let runs = [(plain(TxId(0)), 1), (plain(TxId(1)), 1)].to_vec(alloc)?;
     let variables = variables(alloc)?;
     let always = standing(alloc)?;
     Catalogue::build(alloc, variables, always, transactions(alloc)?, runs)

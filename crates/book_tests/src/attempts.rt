@@ -65,7 +65,7 @@ pub(crate) fn ends_anew<'c>(
     }
     catalogue.rules();
     book.law();
-    attempt.restart(catalogue, book.task_tx(task));
+    attempt.restart(catalogue, book.task_tx(task), book.task_arguments(task));
     is_over(attempt, values)
 }
 
@@ -84,7 +84,8 @@ fn ended<'c>(
         return None;
     }
     book.law();
-    let mut attempt = Attempt::new(alloc, catalogue, book.task_tx(task));
+    let arguments = book.task_arguments(task);
+    let mut attempt = Attempt::new(alloc, catalogue, book.task_tx(task), arguments);
     if ends_anew(book, &mut attempt, catalogue, task, values) {
         return Some(attempt);
     }

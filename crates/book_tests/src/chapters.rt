@@ -2,7 +2,7 @@
 
 use crate::looks::{Look, Said};
 use crate::rows::{Step, What, expect};
-use crate::texts::{ALL_TASKS, HOLDING, MIXED};
+use crate::texts::{ALL_TASKS, FAR_APART, HOLDING, MIXED};
 use book::{Serial, Standing};
 use txn::{Outcome, TaskId, TxId, VarId};
 
@@ -36,6 +36,7 @@ const COMES_OVER: &[Step] = &[
     Step::Shows(Look::EnteredInAll(3)),
     Step::Shows(Look::Runs(TaskId(0), TxId(3), true)),
     Step::Shows(Look::Runs(TaskId(1), TxId(0), true)),
+    Step::Shows(Look::Given(TaskId(1), &[])),
     Step::Takes(Some(TaskId(0))),
     Step::Turns(TaskId(0), Serial::Committed(1)),
     Step::Takes(Some(TaskId(1))),
@@ -98,4 +99,54 @@ const ROOM_AGAIN: &[Step] = &[
 #[test]
 fn a_full_book_has_room_in_its_next_chapter(rt: HostRuntime) {
     expect(&rt, rt.alloc(), ALL_TASKS, None, &What::Steps(ROOM_AGAIN));
+}
+
+/// Those that wait in the first, the 64th, the 65th and the last place come over, and nothing else does.
+const FAR_ONES: &[Step] = &[
+    Step::Drains(65536),
+    Step::Shows(Look::Stand([0, 0, 4, 65532, 0])),
+    Step::Says(Said::Parked(&[
+        (TaskId(0), TxId(0)),
+        (TaskId(63), TxId(0)),
+        (TaskId(64), TxId(0)),
+        (TaskId(65535), TxId(0)),
+    ])),
+    Step::BeginsChapter,
+    Step::Shows(Look::Stand([0, 0, 4, 0, 0])),
+    Step::Shows(Look::Spare(65532)),
+    Step::Says(Said::Parked(&[
+        (TaskId(0), TxId(0)),
+        (TaskId(1), TxId(0)),
+        (TaskId(2), TxId(0)),
+        (TaskId(3), TxId(0)),
+    ])),
+    // One that is ready, one that runs and one that is given up, behind those that wait.
+    Step::Submits(TxId(1), Some(TaskId(4))),
+    Step::SubmitsRunning(TxId(1), Some(TaskId(5))),
+    Step::Submits(TxId(1), Some(TaskId(6))),
+    Step::Withdraws(TaskId(6), true),
+    Step::Withdraws(TaskId(1), true),
+    Step::BeginsChapter,
+    Step::Shows(Look::Stand([2, 0, 3, 0, 0])),
+    Step::Shows(Look::Task(TaskId(2), Standing::Parked, None)),
+    Step::Shows(Look::Runs(TaskId(3), TxId(1), true)),
+    Step::Shows(Look::Task(TaskId(4), Standing::Ready, None)),
+    Step::Submits(TxId(2), Some(TaskId(5))),
+    Step::Drains(0),
+    Step::Says(Said::Entered(&[
+        TaskId(3),
+        TaskId(4),
+        TaskId(5),
+        TaskId(0),
+        TaskId(1),
+        TaskId(2),
+    ])),
+    Step::BeginsChapter,
+    Step::Shows(Look::Stand([0, 0, 0, 0, 0])),
+    Step::Shows(Look::Spare(65536)),
+];
+
+#[test]
+fn those_far_apart_come_over(rt: HostRuntime) {
+    expect(&rt, rt.alloc(), FAR_APART, None, &What::Steps(FAR_ONES));
 }

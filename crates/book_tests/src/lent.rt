@@ -86,8 +86,8 @@ pub(crate) fn lends(
     catalogue: &Catalogue,
     rows: &[Lent],
 ) {
-    assert!(rt; catalogue.tx_count() > 0);
-    let mut attempt = Attempt::new(alloc, catalogue, TxId(0));
+    assert!(rt; catalogue.is_callable(TxId(0), &[]));
+    let mut attempt = Attempt::new(alloc, catalogue, TxId(0), &[]);
     for place in 0..rows.len() {
         assert!(rt;
             is_lent(book, catalogue, &mut attempt, &rows[place]),

@@ -6,6 +6,8 @@ mod accounts;
 #[cfg(test)]
 mod ample;
 #[cfg(test)]
+mod arguments;
+#[cfg(test)]
 mod attempts;
 #[cfg(test)]
 mod beside;

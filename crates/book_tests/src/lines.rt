@@ -3,8 +3,8 @@
 ghost use Rattle.std.specs.Prelude.{◌≡◌};
 
 use book::Book;
+use book_storage::{PackedEntry, RunReport, entries_of};
 use cells::Cells;
-use journal::{Line, RunReport, entries_of};
 use std::alloc::Global;
 use std::mem::size_of;
 use txn::{AlwaysId, Entry, Fault, Memory, Outcome, Report, TaskId, TxId};
@@ -34,12 +34,12 @@ fn ends(outcome: Outcome) -> Entry
 
 /// Whether a line of an entry with this outcome tells it.
 fn is_told(outcome: Outcome) -> bool {
-    Line::new(ends(outcome)).entry() == ends(outcome)
+    PackedEntry::new(ends(outcome)).entry() == ends(outcome)
 }
 
 #[test]
 fn a_line_has_16_bytes(rt: HostRuntime) {
-    assert_eq!(rt; size_of::<Line>(), 16);
+    assert_eq!(rt; size_of::<PackedEntry>(), 16);
 }
 
 #[test]
@@ -55,14 +55,14 @@ fn a_line_tells_each_outcome(rt: HostRuntime) {
 
 #[test]
 fn a_line_tells_the_last_entry_of_the_most(rt: HostRuntime) {
-    assert_eq!(rt; Line::new(LAST).entry(), LAST);
+    assert_eq!(rt; PackedEntry::new(LAST).entry(), LAST);
 }
 
 /// A report of two entries and of no variable, with its journal in lines.
 fn in_lines(alloc: Global) -> Result<RunReport, Memory> {
     let mut journal = Vec::new(alloc);
-    journal.push(Line::new(ends(Outcome::Returned(5))))?;
-    journal.push(Line::new(LAST))?;
+    journal.push(PackedEntry::new(ends(Outcome::Returned(5))))?;
+    journal.push(PackedEntry::new(LAST))?;
     let rest = Report {
         base: 1,
         base_vars: Vec::new(alloc),

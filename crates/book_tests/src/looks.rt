@@ -2,7 +2,7 @@
 
 use book::{Book, Counts, Standing};
 use std::alloc::Global;
-use txn::{Catalogue, Entry, Outcome, Report, TaskId, TxId, VarId};
+use txn::{Arguments, Call, Catalogue, Entry, Outcome, Report, TaskId, TxId, VarId};
 use txn_text::read_file;
 
 /// Something that a book shows.
@@ -15,6 +15,8 @@ pub(crate) enum Look {
     Spare(usize),
     /// Whether the task runs the transaction.
     Runs(TaskId, TxId, bool),
+    /// The arguments of the task, which there has to be.
+    Given(TaskId, &'static [i64]),
     /// How many tasks are ready, running, parked, done and given up.
     Stand([usize; 5]),
     /// The present value of a variable, by itself and among all, and its version.
@@ -25,8 +27,10 @@ pub(crate) enum Look {
     Task(TaskId, Standing, Option<Outcome>),
     /// How many entries there were in all chapters.
     EnteredInAll(u64),
-    /// How many tasks its catalogue has, and the last run there.
+    /// How many tasks its catalogue has, and the last run there, which gives no arguments.
     Grown(usize, (TxId, u32)),
+    /// The last run of its catalogue: one task of the transaction with these arguments.
+    GrownBy(TxId, &'static [i64]),
 }
 
 /// Something that the report of a book says.
@@ -83,10 +87,30 @@ fn is_present(book: &Book<'_>, variable: VarId, wanted: &Option<(i64, u64)>) -> 
 }
 
 fn is_grown(alloc: Global, book: &Book<'_>, tasks: usize, last: (TxId, u32)) -> bool {
+    let call = Call {
+        tx: last.0,
+        arguments: Arguments::none(),
+    };
     match book.catalogue(alloc) {
-        Ok(grown) => grown.tasks() == tasks && grown.runs().last() == Some(&last),
+        Ok(grown) => grown.tasks() == tasks && grown.runs().last() == Some(&(call, last.1)),
         Err(_) => false,
     }
+}
+
+/// Whether the last run of its catalogue is one task of the transaction with these arguments.
+fn is_grown_by(alloc: Global, book: &Book<'_>, tx: TxId, arguments: &[i64]) -> bool {
+    let Ok(grown) = book.catalogue(alloc) else {
+        return false;
+    };
+    match grown.runs().last() {
+        Some(run) => run.1 == 1 && run.0.tx == tx && run.0.arguments.as_slice() == arguments,
+        None => false,
+    }
+}
+
+/// Whether there is the task, and it has these arguments.
+fn is_given(book: &Book<'_>, task: TaskId, arguments: &[i64]) -> bool {
+    (task.0 as usize) < book.tasks() && book.task_arguments(task) == arguments
 }
 
 /// Whether the book shows this.
@@ -96,12 +120,14 @@ pub(crate) fn shows(alloc: Global, book: &Book<'_>, look: &Look) -> bool {
         Look::Tasks(count) => book.tasks() == *count,
         Look::Spare(count) => book.spare() == *count,
         Look::Runs(task, tx, is_so) => book.runs(*task, *tx) == *is_so,
+        Look::Given(task, arguments) => is_given(book, *task, arguments),
         Look::Stand(wanted) => stand(book, wanted),
         Look::Present(variable, wanted) => is_present(book, *variable, wanted),
         Look::IsFor(text, is_so, declares) => is_for(alloc, book, text, *is_so, *declares),
         Look::Task(task, standing, outcome) => stands(book, *task, *standing, *outcome),
         Look::EnteredInAll(count) => book.entered() == *count,
         Look::Grown(tasks, last) => is_grown(alloc, book, *tasks, *last),
+        Look::GrownBy(tx, arguments) => is_grown_by(alloc, book, *tx, arguments),
     }
 }
 

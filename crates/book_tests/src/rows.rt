@@ -17,6 +17,8 @@ use txn_text::read_file;
 pub(crate) enum Step {
     /// The next task is this one, or none is ready.
     Takes(Option<TaskId>),
+    /// The first task from this number on, or else the lowest, is this one, or none is ready.
+    TakesFrom(usize, Option<TaskId>),
     /// A turn of the task answers so.
     Turns(TaskId, Serial),
     /// To give the task up answers so.
@@ -37,6 +39,10 @@ pub(crate) enum Step {
     Submits(TxId, Option<TaskId>),
     /// To submit the transaction as a running task answers so.
     SubmitsRunning(TxId, Option<TaskId>),
+    /// To submit the transaction with these arguments answers so.
+    Calls(TxId, &'static [i64], Option<TaskId>),
+    /// To submit it with these as a running task answers so.
+    CallsRunning(TxId, &'static [i64], Option<TaskId>),
     /// The transaction is submitted until there are so many tasks.
     Fills(TxId, u32),
     /// The book shows this.
@@ -45,31 +51,38 @@ pub(crate) enum Step {
     Says(Said),
 }
 
-/// Whether to submit the transaction answers so.
-fn submits(book: &mut Book<'_>, catalogue: &Catalogue, tx: TxId, task: Option<TaskId>) -> bool {
-    if !book.declares(catalogue) || (tx.0 as usize) >= catalogue.tx_count() {
+/// Whether to submit the transaction with these arguments answers so.
+fn submits(
+    book: &mut Book<'_>,
+    catalogue: &Catalogue,
+    tx: TxId,
+    arguments: &[i64],
+    task: Option<TaskId>,
+) -> bool {
+    if !book.declares(catalogue) || !catalogue.is_callable(tx, arguments) {
         return false;
     }
-    book.submit(tx) == task
+    book.submit(tx, arguments) == task
 }
 
-/// Whether to submit the transaction as a running task answers so.
+/// Whether to submit the transaction with these arguments as a running task answers so.
 fn submits_running(
     book: &mut Book<'_>,
     catalogue: &Catalogue,
     tx: TxId,
+    arguments: &[i64],
     task: Option<TaskId>,
 ) -> bool {
-    if !book.declares(catalogue) || (tx.0 as usize) >= catalogue.tx_count() {
+    if !book.declares(catalogue) || !catalogue.is_callable(tx, arguments) {
         return false;
     }
-    book.submit_running(tx) == task
+    book.submit_running(tx, arguments) == task
 }
 
 /// Whether the transaction can be submitted until there are so many tasks, the first of these is 1.
 fn fills(book: &mut Book<'_>, catalogue: &Catalogue, tx: TxId, tasks: u32) -> bool {
     for task in 1..tasks {
-        if !submits(book, catalogue, tx, Some(TaskId(task))) {
+        if !submits(book, catalogue, tx, &[], Some(TaskId(task))) {
             return false;
         }
     }
@@ -106,6 +119,7 @@ fn withdraws(book: &mut Book<'_>, catalogue: &Catalogue, task: TaskId, how: bool
 fn goes(alloc: Global, book: &mut Book<'_>, catalogue: &Catalogue, step: &Step) -> bool {
     match step {
         Step::Takes(task) => book.take() == *task,
+        Step::TakesFrom(number, task) => book.take_from(*number) == *task,
         Step::Turns(task, how) => turns(alloc, book, catalogue, *task, *how),
         Step::GivesUp(task, how) => gives_up(book, catalogue, *task, *how),
         Step::Claims(task, how) => claims(book, catalogue, *task, *how),
@@ -125,8 +139,12 @@ fn goes(alloc: Global, book: &mut Book<'_>, catalogue: &Catalogue, step: &Step) 
             book.checkpoint();
             true
         }
-        Step::Submits(tx, task) => submits(book, catalogue, *tx, *task),
-        Step::SubmitsRunning(tx, task) => submits_running(book, catalogue, *tx, *task),
+        Step::Submits(tx, task) => submits(book, catalogue, *tx, &[], *task),
+        Step::SubmitsRunning(tx, task) => submits_running(book, catalogue, *tx, &[], *task),
+        Step::Calls(tx, arguments, task) => submits(book, catalogue, *tx, arguments, *task),
+        Step::CallsRunning(tx, arguments, task) => {
+            submits_running(book, catalogue, *tx, arguments, *task)
+        }
         Step::Fills(tx, tasks) => fills(book, catalogue, *tx, *tasks),
         Step::Shows(look) => shows(alloc, book, look),
         Step::Says(said) => says(alloc, book, said),

@@ -53,6 +53,58 @@ fn a_commit_wakes_by_what_it_changes(rt: HostRuntime) {
     expect(&rt, rt.alloc(), WAITING, None, &What::Steps(WAKES));
 }
 
+/// Three increments.
+const TAKES_FROM: &[Step] = &[
+    Step::TakesFrom(1, Some(TaskId(1))),
+    Step::TakesFrom(1, Some(TaskId(2))),
+    Step::TakesFrom(1, Some(TaskId(0))),
+    Step::TakesFrom(1, None),
+    Step::TakesFrom(0, None),
+];
+
+/// The number may be that of no task.
+const TAKES_PAST_THE_LAST: &[Step] = &[
+    Step::TakesFrom(3, Some(TaskId(0))),
+    Step::TakesFrom(2, Some(TaskId(2))),
+    Step::TakesFrom(usize::MAX, Some(TaskId(1))),
+];
+
+#[test]
+fn a_task_is_taken_from_a_number_on(rt: HostRuntime) {
+    expect(&rt, rt.alloc(), THREE, None, &What::Steps(TAKES_FROM));
+    expect(
+        &rt,
+        rt.alloc(),
+        THREE,
+        None,
+        &What::Steps(TAKES_PAST_THE_LAST),
+    );
+}
+
+/// Task 0 waits, so it is not taken, whatever the number, until it is woken.
+const PASSES_OVER_THE_PARKED: &[Step] = &[
+    Step::TakesFrom(0, Some(TaskId(0))),
+    Step::Turns(TaskId(0), Serial::Parked),
+    Step::TakesFrom(0, Some(TaskId(1))),
+    Step::TakesFrom(0, Some(TaskId(2))),
+    Step::TakesFrom(0, Some(TaskId(3))),
+    Step::TakesFrom(0, None),
+    Step::Turns(TaskId(1), Serial::Committed(1)),
+    Step::Turns(TaskId(2), Serial::Committed(2)),
+    Step::TakesFrom(2, Some(TaskId(0))),
+];
+
+#[test]
+fn a_parked_task_is_not_taken_by_its_number(rt: HostRuntime) {
+    expect(
+        &rt,
+        rt.alloc(),
+        WAITING,
+        None,
+        &What::Steps(PASSES_OVER_THE_PARKED),
+    );
+}
+
 /// x is 5, then 6, then 5. The attempt of task 0 is one on the first state.
 const COMES_BACK: &[Step] = &[
     Step::Takes(Some(TaskId(0))),

@@ -18,6 +18,8 @@ const WHILE_OTHERS_RUN: &[Step] = &[
     Step::Shows(Look::Tasks(3)),
     Step::Shows(Look::Runs(TaskId(2), TxId(0), true)),
     Step::Shows(Look::Runs(TaskId(2), TxId(1), false)),
+    Step::Shows(Look::Given(TaskId(0), &[])),
+    Step::Shows(Look::Given(TaskId(2), &[])),
     Step::Shows(Look::Runs(TaskId(3), TxId(0), false)),
     Step::Takes(Some(TaskId(1))),
     Step::Ends(TaskId(1), &[5], (1, 1), Finish::Committed(1)),

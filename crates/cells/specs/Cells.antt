@@ -1,4 +1,4 @@
--- Which cells a publisher or a pass belongs to.
+-- Whose cells these are.
 use Rattle.std.specs.Prelude.{ℕ, Bool}
 use Rattle.atomic_table.specs.Seated.{TableId}
 

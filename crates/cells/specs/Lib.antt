@@ -5,6 +5,7 @@ pub mod Cells
 pub mod Publishing
 pub mod History
 pub mod Publishers
+pub mod Sharing
 pub mod Passing
 pub mod Answers
 pub mod Private

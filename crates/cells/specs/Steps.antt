@@ -1,4 +1,4 @@
--- What each load and each store tells the thread that does it: kinds 1 to 4 are the loads of a reader, 5 to 8 the
+-- What each load and store tells its thread: kinds 1 to 4 are the loads of a reader, 5 to 8 the
 -- stores of the publisher. In each, s is the step, n the word that was loaded or stored, and m and m' the seat before
 -- and after.
 use Rattle.std.specs.Prelude.{◌≡◌, ℕ, ◌+◌, ◌-◌, ◌*◌, ◌%◌, ◌/◌, ◌<◌, ◌≤◌, List, [], ◌∷◌, length, ℤ}

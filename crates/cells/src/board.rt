@@ -7,10 +7,12 @@
 //! 7 `StoreClock`, 8 `ReleaseVersion`.
 ghost use Rattle.std.specs.Prelude.{◌≡◌, ◌+◌, ◌^◌, ◌<◌, ◌≤◌, true, length, slice_index, IfOk};
 ghost use Rattle.txn_words.specs.Words.{StartsWith};
-ghost use Rattle.txn_words.specs.Stores.{opened, MayLock, MayStore, MayRelease, after_lock, after_value, after_clock, after_release};
+ghost use Rattle.txn_words.specs.Stores.{opened, MayLock, MayStore, MayRelease, after_lock, after_value, after_clock};
+ghost use Rattle.txn_words.specs.Stores.{after_release};
 ghost use Rattle.txn_words.specs.Loads.{enrolled, sampled, loaded, met};
 ghost use Rattle.cells.specs.Sight.{publishing, reading, commit_of, record_of};
-ghost use Rattle.cells.specs.Private.{AreFirstWords, IsPublisher, IsReader, IsSameSeat, HasBegun, HasSampled, HasVersion, HasValue, reader_cells};
+ghost use Rattle.cells.specs.Private.{AreFirstWords, IsPublisher, IsReader, IsSameSeat, HasBegun, HasSampled};
+ghost use Rattle.cells.specs.Private.{HasVersion, HasValue, reader_cells};
 
 use crate::rule::{
     Enroll, Leave, LoadClock, LoadClockTogether, LoadValue, LoadVersion, LoadVersionAgain,

@@ -1,9 +1,11 @@
 //! The stores of a publish, kind by kind. In each contract `c` is what was stored before the call.
-ghost use Rattle.std.specs.Prelude.{◌≡◌, ◌≢◌, ℕ, ◌+◌, ◌-◌, ◌^◌, ◌<◌, ◌≤◌, false, Bool, length, slice_index, slice_index_or};
+ghost use Rattle.std.specs.Prelude.{◌≡◌, ◌≢◌, ℕ, ◌+◌, ◌-◌, ◌^◌, ◌<◌, ◌≤◌, false, Bool, length, slice_index};
+ghost use Rattle.std.specs.Prelude.{slice_index_or};
 ghost use Rattle.txn_words.specs.Words.{state_value, state_of, last_state};
 ghost use Rattle.txn_words.specs.Stores.{AreChanges, id_of};
 ghost use Rattle.cells.specs.Sight.{publishing, commit_of};
-ghost use Rattle.cells.specs.Private.{IsSeated, IsSameSeat, AreLocked, all_locked, all_stored, all_released, numbered_by};
+ghost use Rattle.cells.specs.Private.{IsSeated, IsSameSeat, AreLocked, all_locked, all_stored, all_released};
+ghost use Rattle.cells.specs.Private.{numbered_by};
 
 use crate::board::Board;
 use crate::sight::Sight;

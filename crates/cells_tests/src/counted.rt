@@ -1,5 +1,5 @@
 //! Calls of cells that take no memory. Both tests do the same, but that such calls are made in one of
-//! them: `hostile/gate` counts that they make as many requests for memory.
+//! them: `hostile/all` counts that they make as many requests for memory.
 
 ghost use Rattle.std.specs.Prelude.{◌≡◌, [], ◌∷◌, pos};
 

@@ -1,6 +1,7 @@
 //! Extends a pass by what was read, one after another with publishing.
 
 ghost use Rattle.std.specs.Prelude.{◌≡◌, ℕ, ◌<◌, ◌≤◌, [], ◌∷◌, pos, length};
+ghost use Rattle.txn.specs.Listing.{IsCallable};
 ghost use Rattle.txn_words.specs.Stores.{id_of};
 
 use crate::observing::{catalogue, told};
@@ -110,13 +111,13 @@ fn is_told_beside(
 
 /// It is so of cells that were just opened, and of an attempt of this transaction.
 fn is_told_of_new_cells(rt: &impl Abort, alloc: Global, catalogue: &Catalogue, both: bool)
-    requires some { 0 < length catalogue.now.transactions }
+    requires some { IsCallable catalogue.now (record { 0 = 0 }) [] }
     requires two { length catalogue.now.initial ≡ 2 }
 {
     let Ok((cells, mut publisher, mut passes)) = Cells::open(alloc, &[3, 4], 1) else {
         panic!(rt; "no cells")
     };
-    let mut attempt = Attempt::new(alloc, catalogue, TxId(0));
+    let mut attempt = Attempt::new(alloc, catalogue, TxId(0), &[]);
     let pass = &mut passes[0];
     is_told_beside(rt, &cells, &mut publisher, pass, &mut attempt, both);
 }
@@ -126,7 +127,7 @@ fn a_stale_read_moves_an_attempt_unless_its_reads_have_changed(rt: HostRuntime) 
     let text = "(var x 3)(var y 4)(tx sum (skip) (add x y))(run sum 1)";
     let catalogue = catalogue(&rt, rt.alloc(), text);
     assert!(rt; catalogue.initial().len() == 2);
-    assert!(rt; catalogue.tx_count() == 1);
+    assert!(rt; catalogue.is_callable(TxId(0), &[]));
     is_told_of_new_cells(&rt, rt.alloc(), &catalogue, false);
     is_told_of_new_cells(&rt, rt.alloc(), &catalogue, true);
 }

@@ -1,4 +1,4 @@
-//! Tests of the public calls of `cells`, `run_observer` and `book_task_set`.
+//! Tests of the public calls of `cells`, `run_observer` and `book_storage`.
 #![tactic(auto)]
 
 #[cfg(test)]
@@ -19,6 +19,8 @@ mod observed_beside;
 mod observing;
 #[cfg(test)]
 mod parts;
+#[cfg(test)]
+mod shared;
 #[cfg(test)]
 mod unread;
 #[cfg(test)]

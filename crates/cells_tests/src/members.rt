@@ -1,8 +1,8 @@
-//! Which numbers are in a `book_task_set`, and which is the lowest, by values worked out by hand.
+//! Which numbers are in a `book_storage`, and which is the lowest, by values worked out by hand.
 
 ghost use Rattle.std.specs.Prelude.{◌≡◌, ◌≤◌, ◌-◌, ◌++◌, replicate, true, false};
 
-use book_task_set::{MAX_ROOM, TaskSet};
+use book_storage::{MAX_ROOM, TaskSet};
 use std::alloc::Global;
 use std::process::Abort;
 
@@ -121,4 +121,24 @@ fn tells_the_lowest_word(rt: HostRuntime) {
     assert!(rt; set.lowest_word() == Some((64, 2)));
     set.insert(0);
     assert!(rt; set.lowest_word() == Some((0, 1)));
+}
+
+#[test]
+fn finds_the_lowest_from_a_number_on(rt: HostRuntime) {
+    let mut set = with_room(&rt, rt.alloc(), 5_000);
+    assert!(rt; set.first_from(0).is_none());
+    set.insert(4_096);
+    set.insert(64);
+    set.insert(3);
+    assert!(rt; set.first_from(0) == Some(3) && set.first_from(3) == Some(3));
+    assert!(rt; set.first_from(4) == Some(64) && set.first_from(64) == Some(64));
+    assert!(rt; set.first_from(65) == Some(4_096) && set.first_from(4_096) == Some(4_096));
+    assert!(rt; set.first_from(4_097).is_none() && set.first_from(usize::MAX).is_none());
+}
+
+#[test]
+fn finds_the_last_number_from_one_on(rt: HostRuntime) {
+    let mut set = with_room(&rt, rt.alloc(), MAX_ROOM);
+    set.insert(262_143);
+    assert!(rt; set.first_from(64) == Some(262_143) && set.first_from(262_144).is_none());
 }

@@ -1,6 +1,7 @@
 //! An observer of nine variables that are always equal, beside their publisher.
 
-ghost use Rattle.std.specs.Prelude.{◌≡◌, ◌<◌, [], ◌∷◌, pos, length};
+ghost use Rattle.std.specs.Prelude.{◌≡◌, [], ◌∷◌, pos, length};
+ghost use Rattle.txn.specs.Listing.{IsCallable};
 ghost use Rattle.cells_tests.specs.Nine.{nine};
 
 use crate::observing::catalogue;
@@ -55,11 +56,11 @@ fn observe_some(
 ) -> bool
     requires own { pass.cells ≡ cells.now }
     requires variables { cells.now.variables ≡ length catalogue.now.initial }
-    requires known { 0 < length catalogue.now.transactions }
+    requires known { IsCallable catalogue.now (record { 0 = 0 }) [] }
 {
     let mut last = 0;
     'times: for _ in 0..count {
-        match observe(alloc, cells, &mut pass, catalogue, SUM) {
+        match observe(alloc, cells, &mut pass, catalogue, SUM, &[]) {
             Observed::Outcome(Outcome::Returned(v)) if v % 9 == 0 && v >= last => last = v,
             Observed::Stale => {}
             _ => return false,
@@ -81,7 +82,7 @@ fn both(
     requires start { publisher.history ≡ nine (pos 0) ∷ [] }
     requires pass { pass.cells ≡ cells.now }
     requires variables { cells.now.variables ≡ length catalogue.now.initial }
-    requires known { 0 < length catalogue.now.transactions }
+    requires known { IsCallable catalogue.now (record { 0 = 0 }) [] }
 {
     let (_, fine) = join(
         rt,
@@ -89,7 +90,8 @@ fn both(
             requires { (publisher.cells ≡ cells.now) × (publisher.history ≡ nine (pos 0) ∷ []) }
         { publish_some(cells, publisher, 1000) },
         move || -> bool
-            requires { (pass.cells ≡ cells.now) × (cells.now.variables ≡ length catalogue.now.initial) × (0 < length catalogue.now.transactions) }
+            requires { (pass.cells ≡ cells.now) × (cells.now.variables ≡ length catalogue.now.initial)
+                × IsCallable catalogue.now (record { 0 = 0 }) [] }
         { observe_some(alloc, cells, pass, catalogue, 1000) },
     );
     fine
@@ -97,7 +99,7 @@ fn both(
 
 /// Opens the cells of that.
 fn opens(rt: &(impl Abort + Threads), alloc: Global, catalogue: &Catalogue) {
-    assert!(rt; catalogue.initial().len() == 9 && catalogue.tx_count() == 1);
+    assert!(rt; catalogue.initial().len() == 9 && catalogue.is_callable(SUM, &[]));
     let Ok((cells, publisher, mut passes)) = Cells::open(alloc, &[0; 9], 1) else {
         panic!(rt; "no cells")
     };

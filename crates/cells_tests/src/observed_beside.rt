@@ -1,6 +1,7 @@
 //! An observer beside a publisher, in two threads.
 
-ghost use Rattle.std.specs.Prelude.{◌≡◌, ◌<◌, [], ◌∷◌, pos, length};
+ghost use Rattle.std.specs.Prelude.{◌≡◌, [], ◌∷◌, pos, length};
+ghost use Rattle.txn.specs.Listing.{IsCallable};
 
 use crate::beside::publish_some;
 use crate::observing::{catalogue, sees};
@@ -27,13 +28,13 @@ fn observe_some(
 ) -> (Pass, bool)
     requires own { pass.cells ≡ cells.now }
     requires variables { cells.now.variables ≡ length catalogue.now.initial }
-    requires known { 0 < length catalogue.now.transactions }
+    requires known { IsCallable catalogue.now (record { 0 = 0 }) [] }
     ensures own { result.0.cells ≡ pass.cells }
 {
     let mut fine = true;
     let mut last = 0;
     'times: for _ in 0..count {
-        match observe(alloc, cells, &mut pass, catalogue, SUM) {
+        match observe(alloc, cells, &mut pass, catalogue, SUM, &[]) {
             Observed::Outcome(Outcome::Returned(v)) if v % 2 == 0 && v >= last => last = v,
             Observed::Stale => {}
             _ => fine = false,
@@ -55,7 +56,7 @@ fn both(
     requires start { publisher.history ≡ (pos 1 ∷ pos 1 ∷ []) ∷ [] }
     requires pass { pass.cells ≡ cells.now }
     requires variables { cells.now.variables ≡ length catalogue.now.initial }
-    requires known { 0 < length catalogue.now.transactions }
+    requires known { IsCallable catalogue.now (record { 0 = 0 }) [] }
     ensures publisher { result.0.cells ≡ publisher.cells }
     ensures pass { result.1.0.cells ≡ pass.cells }
 {
@@ -66,7 +67,8 @@ fn both(
             ensures { result.cells ≡ cells.entry.now }
         { publish_some(cells, publisher, 1000) },
         move || -> (Pass, bool)
-            requires { (pass.cells ≡ cells.now) × (cells.now.variables ≡ length catalogue.now.initial) × (0 < length catalogue.now.transactions) }
+            requires { (pass.cells ≡ cells.now) × (cells.now.variables ≡ length catalogue.now.initial)
+                × IsCallable catalogue.now (record { 0 = 0 }) [] }
             ensures { result.0.cells ≡ cells.entry.now }
         { observe_some(alloc, cells, pass, catalogue, 1000) },
     )
@@ -86,7 +88,7 @@ fn sums_are_of_one_state(
     requires start { publisher.history ≡ (pos 1 ∷ pos 1 ∷ []) ∷ [] }
     requires pass { pass.cells ≡ cells.now }
     requires variables { cells.now.variables ≡ length catalogue.now.initial }
-    requires known { 0 < length catalogue.now.transactions }
+    requires known { IsCallable catalogue.now (record { 0 = 0 }) [] }
 {
     let (mut publisher, (mut pass, fine)) = both(rt, alloc, cells, publisher, pass, catalogue);
     assert!(rt; fine);
@@ -97,7 +99,7 @@ fn sums_are_of_one_state(
 
 /// Opens the cells of that.
 fn opens(rt: &(impl Abort + Threads), alloc: Global, catalogue: &Catalogue) {
-    assert!(rt; catalogue.initial().len() == 2 && catalogue.tx_count() == 1);
+    assert!(rt; catalogue.initial().len() == 2 && catalogue.is_callable(SUM, &[]));
     let Ok((cells, publisher, mut passes)) = Cells::open(alloc, &[1, 1], 1) else {
         panic!(rt; "no cells")
     };

@@ -1,6 +1,7 @@
 //! Observing one after another with publishing.
 
 ghost use Rattle.std.specs.Prelude.{◌≡◌, ◌<◌, ◌≤◌, [], ◌∷◌, pos, length};
+ghost use Rattle.txn.specs.Listing.{IsCallable};
 
 use crate::parts::{X, begins, publish_six, sees as shows};
 use attempt::{Attempt, Next};
@@ -45,8 +46,8 @@ pub(crate) fn sees(
     requires variables { cells.now.variables ≡ length catalogue.now.initial }
     ensures own { pass.new.cells ≡ pass.old.cells }
 {
-    assert!(rt; (tx.0 as usize) < catalogue.tx_count());
-    let seen = observe(alloc, cells, pass, catalogue, tx);
+    assert!(rt; catalogue.is_callable(tx, &[]));
+    let seen = observe(alloc, cells, pass, catalogue, tx, &[]);
     assert!(rt; seen == Observed::Outcome(end));
 }
 
@@ -155,15 +156,15 @@ fn first_is_told(
     requires published { publisher.old.cells ≡ cells.now }
     requires start { publisher.old.history ≡ (pos 5 ∷ []) ∷ [] }
     requires variables { length catalogue.now.initial ≤ cells.now.variables }
-    requires known { 0 < length catalogue.now.transactions }
+    requires known { IsCallable catalogue.now (record { 0 = 0 }) [] }
 {
-    let mut attempt = Attempt::new(alloc, catalogue, TxId(0));
+    let mut attempt = Attempt::new(alloc, catalogue, TxId(0), &[]);
     is_told_six(rt, cells, publisher, pass, &mut attempt);
 }
 
 /// Opens cells whose one variable is 5, and follows the script.
 fn over(rt: &impl Abort, alloc: Global, catalogue: &Catalogue, script: Script) {
-    assert!(rt; catalogue.initial().len() == 1 && catalogue.tx_count() == 3);
+    assert!(rt; catalogue.initial().len() == 1 && catalogue.is_callable(TxId(0), &[]));
     let Ok((cells, mut publisher, mut passes)) = Cells::open(alloc, &[5], 1) else {
         panic!(rt; "no cells")
     };

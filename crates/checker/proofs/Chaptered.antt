@@ -1,53 +1,56 @@
--- The tasks of chapters, and when two listings are one.
+-- The calls of chapters, and when two listings are one.
 use Rattle.std.proofs.Common.{◌≡◌, ◌∙◌, ◌↔◌, ℕ, List, [], ◌∷◌, ◌++◌, length, take, map, replicate, get_or, true, ◌<◌, refl, sym, ap, subst, arith}
 use Rattle.std.specs.List.{All}
+use Rattle.std.proofs.lemmas.List.Elements.{All-map, All-weaker}
 use Rattle.std.proofs.lemmas.Option.{slice_get-get_or}
 use Rattle.std.proofs.lemmas.List.{length-map, length-take, get_or-take, take_all, take-append-le}
 use Rattle.std.proofs.lemmas.Grind.{flat_map-append}
+use Rattle.txn_programs.specs.declared.arguments.Call.{Call}
 use Rattle.txn_programs.specs.declared.ast.TaskId.{TaskId}
 use Rattle.txn_programs.specs.declared.ast.TxId.{TxId}
-use Rattle.txn_programs.specs.Listing.{Listing, tasks, tasks_of}
+use Rattle.txn_programs.specs.Listing.{Listing, IsCallable, tasks, calls, calls_of}
 use Rattle.txn_programs.specs.Meaning.{State}
 use Rattle.txn_programs.specs.Tree.{Condition, Transaction}
 use Rattle.txn_programs.specs.Names.{names_hold}
+use Rattle.txn_programs.specs.LawfulReport.{HasOwn}
 use Rattle.txn_programs.specs.Told.{Told, now_of}
-use Rattle.txn_programs.proofs.Lawful.{known_task}
+use Rattle.txn_programs.proofs.Lawful.{callable_task, callable_as}
 use Rattle.txn.specs.Grown.{grown}
-use Rattle.checker.specs.Chapters.{waiting, next_chapter, beginning, GoesOnAfter}
+use Rattle.checker.specs.Chapters.{line_call, waiting, next_chapter, beginning, GoesOnAfter}
 
--- a task for each transaction
-abbrev one : TxId → TxId × ℕ
-one tx = (tx, 1)
+-- a task for each call
+abbrev one : Call → Call × ℕ
+one c = (c, 1)
 
-one_each : (txs : List TxId) → tasks_of (map one txs) ≡ txs
+one_each : (cs : List Call) → calls_of (map one cs) ≡ cs
 one_each [] = refl
-one_each (tx ∷ txs) = ap (λ (more : List TxId). tx ∷ more) (one_each txs)
+one_each (c ∷ cs) = ap (λ (more : List Call). c ∷ more) (one_each cs)
 
-tasks_behind : (runs more : List (TxId × ℕ)) → tasks_of (runs ++ more) ≡ tasks_of runs ++ tasks_of more
-tasks_behind runs more = flat_map-append (λ (run : TxId × ℕ). replicate run.1 run.0) runs more
+calls_behind : (runs more : List (Call × ℕ)) → calls_of (runs ++ more) ≡ calls_of runs ++ calls_of more
+calls_behind runs more = flat_map-append (λ (run : Call × ℕ). replicate run.1 run.0) runs more
 
-length_waiting : (ps : List (TaskId × TxId)) → length (map (λ (p : TaskId × TxId). p.1) ps) ≡ length ps
-length_waiting ps = length-map ps (λ (p : TaskId × TxId). p.1)
+length_waiting : (l : Listing) (ps : List (TaskId × TxId)) → length (map (line_call l) ps) ≡ length ps
+length_waiting l ps = length-map ps (line_call l)
 
-first_of_next : (l : Listing) (r : Told) → take (length r.parked) (tasks (next_chapter l r)) ≡ waiting r
-first_of_next l r = ap (take (length r.parked)) (one_each (waiting r)) ∙ take_all (length r.parked) (waiting r) (let e = length_waiting r.parked in omega (arith, e))
+first_of_next : (l : Listing) (r : Told) → take (length r.parked) (calls (next_chapter l r)) ≡ waiting l r
+first_of_next l r = ap (take (length r.parked)) (one_each (waiting l r)) ∙ take_all (length r.parked) (waiting l r) (let e = length_waiting l r.parked in omega (arith, e))
 
 pub next_goes_on : (l : Listing) (r : Told) → GoesOnAfter l r (next_chapter l r)
 next_goes_on l r = record { program = record { names = refl; always = refl; transactions = refl }; begins = refl; first = first_of_next l r }
 
-pub grown_goes_on : (l : Listing) (r : Told) (next : Listing) (txs : List TxId) → GoesOnAfter l r next → GoesOnAfter l r (grown next txs)
-grown_goes_on l r next txs g =
-    let all : length (take (length r.parked) (tasks next)) ≡ length r.parked = ap length g.first ∙ length_waiting r.parked in
+pub grown_goes_on : (l : Listing) (r : Told) (next : Listing) (more : List Call) → GoesOnAfter l r next → GoesOnAfter l r (grown next more)
+grown_goes_on l r next more g =
+    let all : length (take (length r.parked) (calls next)) ≡ length r.parked = ap length g.first ∙ length_waiting l r.parked in
     record {
       program = record { names = g.program.names; always = g.program.always; transactions = g.program.transactions };
       begins = g.begins;
-      first = ap (take (length r.parked)) (tasks_behind next.runs (map one txs)) ∙ (take-append-le (length r.parked) (tasks next) (tasks_of (map one txs)) (omega (arith, all, length-take (length r.parked) (tasks next))) ∙ g.first);
+      first = ap (take (length r.parked)) (calls_behind next.runs (map one more)) ∙ (take-append-le (length r.parked) (calls next) (calls_of (map one more)) (omega (arith, all, length-take (length r.parked) (calls next))) ∙ g.first);
     }
 
-abbrev made : List (List ℕ) → State → List (List ℕ × Condition) → List Transaction → List (TxId × ℕ) → Listing
+abbrev made : List (List ℕ) → State → List (List ℕ × Condition) → List Transaction → List (Call × ℕ) → Listing
 made n i w t r = record { names = n; initial = i; always = w; transactions = t; runs = r }
 
-same_made : (n m : List (List ℕ)) (i j : State) (w v : List (List ℕ × Condition)) (t u : List Transaction) (r s : List (TxId × ℕ))
+same_made : (n m : List (List ℕ)) (i j : State) (w v : List (List ℕ × Condition)) (t u : List Transaction) (r s : List (Call × ℕ))
     → n ≡ m → i ≡ j → w ≡ v → t ≡ u → r ≡ s → made n i w t r ≡ made m j v u s
 same_made n m i j w v t u r s a b c d e = rw (a, b, c, d, e) refl
 
@@ -58,14 +61,26 @@ begins_as_told l r next = (
   λ e. record {
     program = record { names = sym (ap (λ (m : Listing). m.names) e); always = sym (ap (λ (m : Listing). m.always) e); transactions = sym (ap (λ (m : Listing). m.transactions) e) };
     begins = ap (λ (m : Listing). m.initial) e;
-    first = sym (one_each (take (length r.parked) (tasks next))) ∙ (ap (λ (m : Listing). tasks_of m.runs) e ∙ one_each (waiting r));
+    first = sym (one_each (take (length r.parked) (calls next))) ∙ (ap (λ (m : Listing). calls_of m.runs) e ∙ one_each (waiting l r));
   },
 )
 
--- the first tasks are of known transactions
-pub first_known : (l : Listing) (n : ℕ) → names_hold l ≡ true → All (λ (tx : TxId). tx.0 < length l.transactions) (take n (tasks l))
-first_known l n h k d lt =
-    let sized = length-take n (tasks l) in
+abbrev pub Callable : Listing → Call → Type 0
+Callable l c = IsCallable l c.tx c.arguments
+
+-- the first calls are calls of the listing
+pub first_callable : (l : Listing) (n : ℕ) → names_hold l ≡ true → All (Callable l) (take n (calls l))
+first_callable l n h k d lt =
+    let sized = length-take n (calls l) in
     let few : k < n = omega (arith, sized, lt) in
-    let within : k < length (tasks l) = omega (arith, sized, lt) in
-    subst (λ (tx : TxId). tx.0 < length l.transactions) (sym (get_or-take n (tasks l) k d few)) (known_task l k (get_or (tasks l) k d) h (slice_get-get_or (tasks l) k d within))
+    let within : k < length (calls l) = omega (arith, sized, lt) in
+    subst (Callable l) (sym (get_or-take n (calls l) k d few)) (callable_task l k (get_or (calls l) k d) h (slice_get-get_or (calls l) k d within))
+
+-- and so are those of tasks that are named with their own transactions
+pub own_callable : (l : Listing) (ps : List (TaskId × TxId)) → names_hold l ≡ true → All (λ (p : TaskId × TxId). HasOwn l p.0 p.1) ps → All (Callable l) (map (line_call l) ps)
+own_callable l ps h own =
+    All-map (Callable l) (line_call l) ps (All-weaker (λ (p : TaskId × TxId). HasOwn l p.0 p.1) (λ (p : TaskId × TxId). Callable l (line_call l p)) (λ p is. callable_as l p.0 p.1 h is) ps own)
+
+-- there are as many calls as tasks
+pub calls_count : (l : Listing) → length (calls l) ≡ length (tasks l)
+calls_count l = sym (length-map (calls l) (λ (c : Call). c.tx))

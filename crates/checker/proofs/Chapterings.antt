@@ -3,7 +3,7 @@ use Rattle.std.proofs.Common.{◌≡◌, ℕ, List, refl, sym, subst}
 use Rattle.txn_programs.specs.Listing.{Listing}
 use Rattle.txn_programs.specs.Told.{Told}
 use Rattle.txn_text.specs.Spelling.{Spells}
-use Rattle.text_report_reader.specs.Reports.{IsReport}
+use Rattle.text_line_reader.specs.Reports.{IsReport}
 use Rattle.checker.specs.declared.verdict.Part.{Part}
 use Rattle.checker.specs.declared.verdict.Verdict.{Verdict}
 use Rattle.checker.specs.declared.verdict.Verdict.TheVariants as verdict

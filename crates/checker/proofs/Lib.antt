@@ -1,9 +1,10 @@
-mod Raising
+pub mod Noted
 mod Opens
-mod Lists
-mod Named
+pub mod Lists
+pub mod Named
 mod Whole
 mod Only
-mod Firsts
+pub mod Firsts
 mod Chaptered
-mod Chapterings
+pub mod Chapterings
+mod OneMore

@@ -71,7 +71,7 @@ ascends_yes least i lines h same =
 
 -- ---- what is seen
 
-set_here : (xs : List Bool) (t : ℕ) → get_or (set xs t true) t true ≡ true
+pub set_here : (xs : List Bool) (t : ℕ) → get_or (set xs t true) t true ≡ true
 set_here [] zero = refl
 set_here [] (suc t) = refl
 set_here (x ∷ xs) zero = refl

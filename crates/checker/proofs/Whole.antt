@@ -1,12 +1,13 @@
 -- All parts together, and the lawful report.
-use Rattle.std.proofs.Common.{◌≡◌, ◌≢◌, List, [], ◌∷◌, ◌++◌, map}
-use Rattle.std.specs.List.{All}
+use Rattle.std.proofs.Common.{◌≡◌, ◌≢◌, ℕ, zero, suc, Some, ap, sym, List, [], ◌∷◌, ◌++◌, map}
+use Rattle.std.specs.List.{All, slice_get, slice_index_or}
+use Rattle.std.proofs.lemmas.Option.{same_Some}
 use Rattle.std.proofs.lemmas.List.Elements.{All-nil, All-cons, All-head, All-tail, All-append}
 use Rattle.txn_programs.specs.declared.ast.TaskId.{TaskId}
 use Rattle.txn_programs.specs.declared.ast.TxId.{TxId}
 use Rattle.txn_programs.specs.declared.ast.Outcome.TheVariants.{Retries}
 use Rattle.txn_programs.specs.declared.report.Entry.{Entry}
-use Rattle.txn_programs.specs.Listing.{Listing}
+use Rattle.txn_programs.specs.Listing.{Listing, arity, task_tx, tasks, transaction_at}
 use Rattle.txn_programs.specs.Replay.{Snapshot, Replays, applied}
 use Rattle.txn_programs.specs.Told.{Told, base_of, now_of}
 use Rattle.txn_programs.specs.LawfulReport.{FitsCatalogue, LawfulReport, HasOwn}
@@ -36,9 +37,19 @@ replays l s (x ∷ es) now g e own ends = (
   replays l (applied l x s) es now g.1 e (All-tail (Own l) (on_line x) (map on_line es) own) (All-tail (λ (y : Entry). y.outcome ≢ Retries) x es ends),
 )
 
+-- what is at a place is read there
+at_place : {X : Type 0} (xs : List X) (i : ℕ) (x d : X) → slice_get xs i ≡ Some x → x ≡ slice_index_or xs i d
+at_place [] i x d e = absurd (cc)
+at_place (y ∷ xs) zero x d e = sym (same_Some _ _ e)
+at_place (y ∷ xs) (suc i) x d e = at_place xs i x d e
+
 go_on : (l : Listing) (s : Snapshot) (es : List Entry) (now : Snapshot) → Replays l s es now → AllGoOn l s es
 go_on l s [] now r = tt
-go_on l s (x ∷ es) now r = (record { number = r.0.number; outcome_is = r.0.outcome_is }, go_on l (applied l x s) es now r.1)
+go_on l s (x ∷ es) now r =
+    let own : x.tx ≡ task_tx l x.task = at_place (tasks l) x.task.0 x.tx _ r.0.tx in (
+      record { number = r.0.number; takes = ap (λ (tx : TxId). arity (transaction_at l tx)) own; outcome_is = r.0.outcome_is },
+      go_on l (applied l x s) es now r.1,
+    )
 
 leads : (l : Listing) (s : Snapshot) (es : List Entry) (now : Snapshot) → Replays l s es now → now ≡ led_to l s es
 leads l s [] now r = r

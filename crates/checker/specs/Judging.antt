@@ -1,9 +1,9 @@
--- What came of judging the bytes of a report.
+-- What came of judging a report.
 use Rattle.std.specs.Prelude.{◌≡◌, ℕ, List}
 use Rattle.txn_programs.specs.Listing.{Listing}
 use Rattle.txn_programs.specs.Told.{Told, told}
 use Rattle.txn_programs.specs.LawfulReport.{LawfulReport}
-use Rattle.text_report_reader.specs.Reports.{IsReport}
+use Rattle.text_line_reader.specs.Reports.{IsReport}
 use Rattle.checker.specs.declared.verdict.Verdict.{Verdict}
 use Rattle.checker.specs.declared.verdict.Verdict.TheVariants as verdict
 use Rattle.checker.specs.declared.judging.Judgement.{Judgement}

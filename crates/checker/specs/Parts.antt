@@ -5,22 +5,26 @@ use Rattle.txn_programs.specs.declared.ast.TxId.{TxId}
 use Rattle.txn_programs.specs.declared.ast.Outcome.TheVariants.{Retries}
 use Rattle.txn_programs.specs.declared.report.Entry.{Entry}
 use Rattle.txn_programs.specs.Meaning.{outcome}
-use Rattle.txn_programs.specs.Listing.{Listing, tasks, program_at}
+use Rattle.txn_programs.specs.Listing.{Listing, tasks, task_tx, transaction_at, arity, program_as}
 use Rattle.txn_programs.specs.Replay.{Snapshot, applied, opening, Once}
 use Rattle.txn_programs.specs.Standing.{Upholds}
 use Rattle.txn_programs.specs.Told.{Told, base_of, now_of}
 use Rattle.txn_programs.specs.LawfulReport.{on_lines, Ascends, HasOwn}
 
--- a base of number 0 is the opening snapshot, no version of a base is above its number, and each standing condition is true on its values
+-- a base of number 0 is the opening snapshot, no version of a base is above its number, and each standing condition
+-- is true on its values
 pub record BaseHolds (l : Listing) (r : Told) : Type 0 where
   pub from_opening : r.base ≡ 0 → base_of r ≡ opening l
   pub versions : All (λ v. v.1 ≤ r.base) r.base_vars
   pub upheld : Upholds l (base_of r).state
 
--- an entry goes on from a snapshot: with the next number, and as the transaction that it names ends there
+-- an entry goes on from a snapshot: it has the next number, the transaction that it names takes as many arguments as
+-- its task has, and with these it ends so there
 pub record GoesOn (l : Listing) (e : Entry) (s : Snapshot) : Type 0 where
   pub number : e.number ≡ s.number + 1
-  pub outcome_is : e.outcome ≡ outcome (program_at l e.tx) s.state
+  -- a task has as many arguments as its own transaction takes
+  pub takes : arity (transaction_at l e.tx) ≡ arity (transaction_at l (task_tx l e.task))
+  pub outcome_is : e.outcome ≡ outcome (program_as l e.task e.tx) s.state
 
 -- each entry goes on from where those before it lead
 abbrev pub AllGoOn : Listing → Snapshot → List Entry → Type 0
@@ -56,4 +60,4 @@ pub record TasksHold (l : Listing) (r : Told) : Type 0 where
 
 -- each parked task waits for a change
 abbrev pub ParkedHold : Listing → Told → Type 0
-ParkedHold l r = All (λ p. outcome (program_at l p.1) (now_of r).state ≡ Retries) r.parked
+ParkedHold l r = All (λ p. outcome (program_as l p.0 p.1) (now_of r).state ≡ Retries) r.parked

@@ -4,7 +4,7 @@ use Rattle.txn_programs.specs.Listing.{Listing}
 use Rattle.txn_programs.specs.Told.{Told}
 use Rattle.txn_programs.specs.LawfulReport.{LawfulReport}
 use Rattle.txn_text.specs.Spelling.{Spells}
-use Rattle.text_report_reader.specs.Reports.{IsReport}
+use Rattle.text_line_reader.specs.Reports.{IsReport}
 use Rattle.checker.specs.declared.verdict.Part.{Part}
 use Rattle.checker.specs.declared.verdict.Part.TheVariants.{Text, Base, Entries, Present, Tasks, Parked}
 use Rattle.checker.specs.declared.verdict.Verdict.{Verdict}

@@ -1,19 +1,21 @@
 //! Chapters checked: whether a file and its report go on where an earlier file and its report ended.
 
 ghost use Rattle.std.specs.Prelude.{◌≡◌, ◌↔◌, IsTrue, IfOk, IfErr, length, map, take, slice_get, Some};
-ghost use Rattle.txn_programs.specs.Listing.{tasks as listed_tasks};
+ghost use Rattle.txn_programs.specs.Listing.{calls};
 ghost use Rattle.txn_programs.specs.Told.{told, now_of};
 ghost use Rattle.txn_text.specs.Spelling.{Spells};
 ghost use Rattle.checker.specs.declared.chapter.ChapterVerdict.{ChapterVerdict as VerdictOf};
 ghost use Rattle.checker.specs.Chapters.{GoesOnAfter, IsVerdictAfter, IsEarlierRefused, JudgesAfter, IsUnjudged};
+ghost use Rattle.checker.specs.Chapters.{line_call};
 ghost use Rattle.checker.specs.Lines.{before_line, chapter_line};
 
+use crate::calls::{line_call, same_call, task_call};
 use crate::judging::{Judgement, judged};
 use crate::reading::verdict_of;
 use crate::stage::{same_values, values_of};
 use crate::verdict::{Part, Verdict};
 use std::alloc::{AllocError, Global};
-use txn::{Catalogue, Memory, Report, TaskId, TxId};
+use txn::{Call, Catalogue, Memory, Report, TaskId, TxId};
 use txn_text::laws::spells_one;
 use txn_text::{ReadFault, read_file};
 
@@ -71,19 +73,19 @@ fn before_line(part: Part) -> &'static str
     }
 }
 
-/// Whether the task of this number runs this transaction.
-fn is_task(catalogue: &Catalogue, number: usize, tx: TxId) -> bool
-    ensures { IsTrue result ↔ (slice_get (listed_tasks catalogue.now) number ≡ Some tx) }
+/// Whether the task of this number makes this call.
+fn is_task(catalogue: &Catalogue, number: usize, call: Call) -> bool
+    ensures { IsTrue result ↔ (slice_get (calls catalogue.now) number ≡ Some call) }
 {
-    number < catalogue.tasks() && catalogue.task_tx(TaskId(number as u32)).0 == tx.0
+    number < catalogue.tasks() && same_call(task_call(catalogue, TaskId(number as u32)), call)
 }
 
-/// Whether the first tasks are these, by their transactions.
-fn are_first(catalogue: &Catalogue, parked: &[(TaskId, TxId)]) -> bool
-    ensures { IsTrue result ↔ (take (length parked.now) (listed_tasks catalogue.now) ≡ map (λ p. p.1) parked.now) }
+/// Whether the first tasks of the next catalogue make the calls of these tasks of the earlier one.
+fn are_first(earlier: &Catalogue, next: &Catalogue, parked: &[(TaskId, TxId)]) -> bool
+    ensures { IsTrue result ↔ (take (length parked.now) (calls next.now) ≡ map (line_call earlier.now) parked.now) }
 {
-    'parked: for (i, (_, tx)) in parked.iter().enumerate() {
-        if !is_task(catalogue, i, *tx) {
+    'parked: for (i, (task, tx)) in parked.iter().enumerate() {
+        if !is_task(next, i, line_call(earlier, *task, *tx)) {
             return false;
         }
     }
@@ -100,8 +102,8 @@ fn begins_at(alloc: Global, values: &[i64], vars: &[(i64, u64)]) -> Result<bool,
 
 /// Whether a catalogue goes on where a report of an earlier one ended: it declares the same variables,
 /// standing conditions and transactions, each variable begins at the value that it has at the report's
-/// present, and its first tasks are the parked ones, in their order. More tasks may follow. `Memory` only
-/// where a growth was refused.
+/// present, and its first tasks make the calls of the parked ones, in their order. More tasks may follow.
+/// `Memory` only where a growth was refused.
 pub fn goes_on_after(
     alloc: Global,
     earlier: &Catalogue,
@@ -116,7 +118,7 @@ pub fn goes_on_after(
     if !begins_at(alloc, next.initial(), &report.now_vars)? {
         return Ok(false);
     }
-    Ok(are_first(next, &report.parked))
+    Ok(are_first(earlier, next, &report.parked))
 }
 
 /// The verdict on a chapter of this catalogue, whose own report is lawful.
@@ -177,7 +179,8 @@ fn verdict_on_chapter(
 ) -> Result<ChapterVerdict, ChapterFault>
     requires { Spells file.now next.now }
     ensures verdict { IfOk result (JudgesAfter file.now report.now earlier.now earlier_report.now) }
-    ensures alone { (v : VerdictOf) → JudgesAfter file.now report.now earlier.now earlier_report.now v → IfOk result (λ w. w ≡ v) }
+    ensures alone { (v : VerdictOf) → JudgesAfter file.now report.now earlier.now earlier_report.now v
+        → IfOk result (λ w. w ≡ v) }
     ensures unjudged { IfErr result (IsUnjudged file.now report.now earlier.now) }
 {
     spells_one();
@@ -204,7 +207,8 @@ pub fn check_after(
 ) -> Result<ChapterVerdict, ChapterFault>
     ensures verdict { IfOk result (JudgesAfter file.now report.now earlier.now earlier_report.now) }
     // There is no other.
-    ensures alone { (v : VerdictOf) → JudgesAfter file.now report.now earlier.now earlier_report.now v → IfOk result (λ w. w ≡ v) }
+    ensures alone { (v : VerdictOf) → JudgesAfter file.now report.now earlier.now earlier_report.now v
+        → IfOk result (λ w. w ≡ v) }
     // Which fault it is.
     ensures unjudged { IfErr result (IsUnjudged file.now report.now earlier.now) }
 {

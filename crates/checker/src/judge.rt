@@ -30,14 +30,14 @@ pub(crate) fn verdict_on(
     let Some(reached) = replay(catalogue, base, &report.entries)? else {
         return Ok(Verdict::Bad(Part::Entries));
     };
-    let now = stage_at(alloc, report.now, &report.now_vars)?;
+    let mut now = stage_at(alloc, report.now, &report.now_vars)?;
     if !are_same(&now, &reached) {
         return Ok(Verdict::Bad(Part::Present));
     }
     if !tasks_hold(alloc, catalogue, report)? {
         return Ok(Verdict::Bad(Part::Tasks));
     }
-    if !all_retry(catalogue, &now.values, &report.parked)? {
+    if !all_retry(catalogue, &mut now.values, &report.parked)? {
         return Ok(Verdict::Bad(Part::Parked));
     }
     Ok(Verdict::Good)

@@ -3,7 +3,7 @@
 ghost use Rattle.std.specs.Prelude.{◌≡◌, IfOk};
 ghost use Rattle.txn_programs.specs.Told.{Told, told};
 ghost use Rattle.txn_programs.specs.LawfulReport.{FitsCatalogue};
-ghost use Rattle.text_report_reader.specs.Reports.{IsReport};
+ghost use Rattle.text_line_reader.specs.Reports.{IsReport};
 ghost use Rattle.checker.specs.declared.verdict.Verdict.{Verdict as VerdictOf};
 ghost use Rattle.checker.specs.Judging.{IsJudged, IsOf, verdict_of};
 ghost use Rattle.checker.specs.Verdicts.{IsVerdictOn};
@@ -11,7 +11,7 @@ ghost use Rattle.checker.specs.Verdicts.{IsVerdictOn};
 use crate::judge::verdict_on;
 use crate::verdict::{Part, Verdict};
 use std::alloc::Global;
-use text_report_reader::read_report;
+use text_line_reader::read_report;
 use txn::{Catalogue, Memory, Report};
 use txn_text::ReadFault;
 

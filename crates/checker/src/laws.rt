@@ -1,7 +1,7 @@
 //! What is so of every verdict, whatever was checked.
 
 ghost use Rattle.std.specs.Prelude.{◌≡◌, ◌↔◌, ℕ, List, length};
-ghost use Rattle.txn_programs.specs.declared.ast.TxId.{TxId};
+ghost use Rattle.txn_programs.specs.declared.arguments.Call.{Call};
 ghost use Rattle.txn_programs.specs.Listing.{Listing};
 ghost use Rattle.txn.specs.Grown.{grown};
 ghost use Rattle.checker.specs.Chapters.{GoesOnAfter, beginning, next_chapter};
@@ -27,7 +27,8 @@ pub fn lawful_where_all_parts_hold()
 
 /// The text of a lawful report of a file is judged good: it is never too long to be read.
 pub fn lawful_texts_are_good()
-    ensures { (file : List ℕ) (l : Listing) (r : Told) → Spells file l → LawfulReport l r → ReportFits r → Judges file (report_text l r) Good }
+    ensures { (file : List ℕ) (l : Listing) (r : Told) → Spells file l → LawfulReport l r → ReportFits r
+        → Judges file (report_text l r) Good }
 {}
 
 /// A lawful report breaks no standing condition: each is true of its base, and of its present.
@@ -42,10 +43,12 @@ pub fn next_chapters_go_on()
 
 /// A chapter to which tasks are submitted goes on where it began.
 pub fn grown_chapters_go_on()
-    ensures { (l : Listing) (r : Told) (next : Listing) (txs : List TxId) → GoesOnAfter l r next → GoesOnAfter l r (grown next txs) }
+    ensures { (l : Listing) (r : Told) (next : Listing) (more : List Call) → GoesOnAfter l r next
+        → GoesOnAfter l r (grown next more) }
 {}
 
 /// A file goes on exactly where its beginning, with as many tasks as are parked, is the next chapter.
 pub fn chapters_begin_as_told()
-    ensures { (l : Listing) (r : Told) (next : Listing) → (GoesOnAfter l r next ↔ (beginning (length r.parked) next ≡ next_chapter l r)) }
+    ensures { (l : Listing) (r : Told) (next : Listing)
+        → (GoesOnAfter l r next ↔ (beginning (length r.parked) next ≡ next_chapter l r)) }
 {}

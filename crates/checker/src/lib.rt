@@ -6,20 +6,25 @@
 //!
 //! `check_after` judges a chapter: a report of a file, and whether the file goes on where an earlier file
 //! and its report ended. `next_chapter` makes the catalogue with which a chapter begins.
+//!
+//! Whoever explains a report makes use of `evaluating`, `raise`, `stage` and `tasks`, too: so the one replays
+//! as the other does.
 #![tactic(auto)]
 
+mod calls;
 mod chapter;
+pub mod evaluating;
 mod judge;
 mod judging;
 pub mod laws;
 mod next;
 mod opening;
 mod parked;
-mod raise;
+pub mod raise;
 mod reading;
 mod replay;
-mod stage;
-mod tasks;
+pub mod stage;
+pub mod tasks;
 mod verdict;
 
 pub use chapter::{ChapterFault, ChapterVerdict, check_after, goes_on_after};

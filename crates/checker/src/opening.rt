@@ -9,7 +9,7 @@ ghost use Rattle.checker.specs.View.{view};
 ghost use Rattle.checker.specs.Parts.{BaseHolds};
 
 use crate::stage::{Stage, same_values};
-use txn::evaluate::truth;
+use txn::evaluate::standing_truth;
 use txn::{Catalogue, Cond, Report};
 
 /// Whether no version is above the number.
@@ -25,7 +25,7 @@ fn are_true(always: &[(String, Cond)], values: &[i64]) -> bool
     ensures { IsTrue result ↔ AllTrue (conditions_of always.now) values.now }
 {
     'conditions: for (_, condition) in always {
-        match truth(condition, values) {
+        match standing_truth(condition, values) {
             Ok(true) => {}
             _ => return false,
         }

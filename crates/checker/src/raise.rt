@@ -1,17 +1,61 @@
 //! The versions after an entry.
 
-ghost use Rattle.std.specs.Prelude.{◌≡◌, length};
+ghost use Rattle.std.specs.Prelude.{◌≡◌, ◌<◌, length, map, get_or, set, if◌then◌else◌, IfOk, OnOk};
+ghost use Rattle.std.specs.Ordering.{int_eq};
+ghost use Rattle.txn_programs.specs.Meaning.{value_at};
 ghost use Rattle.txn_programs.specs.Replay.{versions_after};
+ghost use Rattle.txn_evaluator.specs.Notes.{AreInside, undone};
 
-/// Sets the version of each variable whose value differs to the number.
-pub(crate) fn raise(number: u64, olds: &[i64], news: &[i64], versions: &mut Vec<u64>)
-    requires values { length news.now ≡ length olds.now }
-    requires sizes { length versions.old.items ≡ length olds.now }
-    ensures { versions.new.items ≡ versions_after number olds.now news.now versions.old.items }
+use std::alloc::{AllocError, Global};
+use txn_evaluator::notes::Note;
+
+/// The version of each variable that was noted.
+fn versions_of(alloc: Global, notes: &[Note], versions: &[u64]) -> Result<Vec<u64>, AllocError>
+    requires { AreInside (length versions.now) notes.now }
+    ensures { IfOk result (λ v. v.items ≡ map (λ n. get_or versions.now n.x.0 0) notes.now) }
 {
-    'vars: for (i, old) in olds.iter().enumerate() {
-        if *old != news[i] {
-            versions[i] = number;
-        }
+    let mut found = Vec::new(alloc);
+    'notes: for note in notes {
+        found.push(versions[note.x.0 as usize])?;
     }
+    Ok(found)
+}
+
+/// Sets the version of a variable that was noted: to that from before where the value is the one from before too, else
+/// to the number.
+fn settle(number: u64, note: Note, before: u64, values: &[i64], versions: &mut Vec<u64>)
+    requires inside { note.x.0 < length values.now }
+    requires sizes { length versions.old.items ≡ length values.now }
+    ensures { versions.new.items
+        ≡ set versions.old.items note.x.0 (if int_eq note.old (value_at values.now note.x) then before else number) }
+{
+    let place = note.x.0 as usize;
+    if note.old == values[place] {
+        versions[place] = before;
+    } else {
+        versions[place] = number;
+    }
+}
+
+/// Sets the version of each variable to the number that has another value than before, where these are the values
+/// that were reached and the notes tell what was written. It takes the time of the notes.
+pub fn raise(
+    number: u64,
+    notes: &[Note],
+    values: &[i64],
+    versions: &mut Vec<u64>,
+) -> Result<(), AllocError>
+    requires inside { AreInside (length values.now) notes.now }
+    requires sizes { length versions.old.items ≡ length values.now }
+    ensures raised { OnOk result (versions.new.items
+        ≡ versions_after number (undone notes.now values.now) values.now versions.old.items) }
+    ensures sized { length versions.new.items ≡ length versions.old.items }
+{
+    let before = versions_of(*versions.allocator(), notes, versions)?;
+    let mut left = notes.len();
+    'notes: while left > 0 {
+        left -= 1;
+        settle(number, notes[left], before[left], values, versions);
+    }
+    Ok(())
 }

@@ -11,7 +11,7 @@ ghost use Rattle.checker.specs.Verdicts.{IsVerdictOn, Judges};
 use crate::judge::verdict_on;
 use crate::verdict::{Part, Verdict};
 use std::alloc::Global;
-use text_report_reader::read_report;
+use text_line_reader::read_report;
 use txn::{Catalogue, Memory};
 use txn_text::{ReadFault, read_file};
 
@@ -37,8 +37,8 @@ pub(crate) fn verdict_of(
 /// `Bad(Part::Text)`; `Err` is a fault of the file, the first that applies. `Memory` may come in
 /// place of any answer, where a growth was refused.
 ///
-/// Entries are replayed each by the transaction that its line names; whether that is the task's
-/// own is judged with the tasks. It takes time linear in the bytes and in the work of the entries
+/// Entries are replayed each by the transaction that its line names, with the arguments of its task; whether
+/// that is the task's own is judged with the tasks. It takes time linear in the bytes and in the work of the entries
 /// and the parked tasks.
 pub fn check(alloc: Global, file: &[u8], report: &[u8]) -> Result<Verdict, ReadFault>
     // It is the verdict on the report, for the file that is spelled.

@@ -8,13 +8,14 @@ use std::alloc::{AllocError, Global};
 
 /// A number, with the values and versions that stand at it.
 #[derive(Debug, Drop)]
-pub(crate) struct Stage {
-    pub(crate) number: u64,
-    pub(crate) values: Vec<i64>,
-    pub(crate) versions: Vec<u64>,
+pub struct Stage {
+    pub number: u64,
+    pub values: Vec<i64>,
+    pub versions: Vec<u64>,
 }
 
-pub(crate) fn values_of(alloc: Global, vars: &[(i64, u64)]) -> Result<Vec<i64>, AllocError>
+/// The values that a report's lines tell of the variables.
+pub fn values_of(alloc: Global, vars: &[(i64, u64)]) -> Result<Vec<i64>, AllocError>
     ensures { IfOk result (λ v. v.items ≡ map (λ x. x.0) vars.now) }
 {
     vars.iter().map(|v| v.0).collect(alloc)
@@ -27,7 +28,7 @@ fn versions_of(alloc: Global, vars: &[(i64, u64)]) -> Result<Vec<u64>, AllocErro
 }
 
 /// The stage of this number that a report's lines tell.
-pub(crate) fn stage_at(alloc: Global, number: u64, vars: &[(i64, u64)]) -> Result<Stage, AllocError>
+pub fn stage_at(alloc: Global, number: u64, vars: &[(i64, u64)]) -> Result<Stage, AllocError>
     ensures { IfOk result (λ s. view s ≡ snapshot_at number vars.now) }
 {
     let values = values_of(alloc, vars)?;

@@ -17,7 +17,7 @@ fn entered(alloc: Global, entries: &[Entry]) -> Result<Vec<(TaskId, TxId)>, Allo
 }
 
 /// The tasks on the lines, entries first, each with the transaction named there.
-fn lines_of(alloc: Global, report: &Report) -> Result<Vec<(TaskId, TxId)>, AllocError>
+pub fn lines_of(alloc: Global, report: &Report) -> Result<Vec<(TaskId, TxId)>, AllocError>
     ensures { IfOk result (λ v. v.items ≡ named (told report.entry.now)) }
 {
     let mut lines = entered(alloc, &report.entries)?;
@@ -27,7 +27,7 @@ fn lines_of(alloc: Global, report: &Report) -> Result<Vec<(TaskId, TxId)>, Alloc
 }
 
 /// Whether the task runs this transaction.
-fn is_own(catalogue: &Catalogue, task: TaskId, tx: TxId) -> bool
+pub fn is_own(catalogue: &Catalogue, task: TaskId, tx: TxId) -> bool
     requires { task.0 < length (listed_tasks catalogue.now) }
     ensures { IsTrue result ↔ HasOwn catalogue.now task tx }
 {
@@ -63,7 +63,7 @@ fn ascend(lines: &[(TaskId, TxId)]) -> bool
 }
 
 /// Whether so many lines account for the tasks that had not committed at the base.
-fn are_accounted(tasks: usize, base: u64, lines: usize) -> bool
+pub fn are_accounted(tasks: usize, base: u64, lines: usize) -> bool
     ensures { IsTrue result ↔ (base + lines ≡ tasks) }
 {
     lines <= tasks && base == (tasks - lines) as u64

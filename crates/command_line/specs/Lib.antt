@@ -1,1 +1,3 @@
 pub mod NoCommand
+pub mod Statuses
+pub mod Errors

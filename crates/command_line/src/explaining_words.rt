@@ -30,8 +30,34 @@ pub enum Explained<'a> {
 const EXPLAIN: &str =
     "Tells where and why a file or a schedule is refused, or which line of a report is not as replay has it.";
 
-const EXPLAINED: &str =
-    "Prints `good`, or of a file that is refused a line:\n\n    line 3, column 12: F3 Shape: an expression is wanted: INT, NAME, ..; here stands )\n\n    F1 TooLong  the place of the first byte that no file has room for\n    F2 BadByte  the first byte that no file has\n    F3 Shape    the first token with which the file is no longer the beginning of one\n    F4 Name     the first name that is declared twice or not at all\n    F5 Limit    a name, a number or a declaration that goes over a limit\n    F7 Broken   the first standing condition that is not true of the initial values\n\nWith --schedule it says the same of a schedule of the file, which has to be read:\n\n    line 2, column 8: F4 Name: no variable of this name is declared; here stands y\n\n    F3 Shape    the first word that is none of a schedule's there, or a missing newline\n    F4 Name     the first name of a variable that is not declared\n    F5 Limit    the first number of a task that the file does not have\n\nOf a report that is not good it prints the verdict of stm check, the first line on which\nthat shows, and what replay has in its place:\n\n    bad 3\n    line 4: entry 2 1 inc returned 8\n    replay has entry 2 1 inc returned 7\n\nWith --after it says the same of the earlier report, behind `before`, and of a file that\ndoes not go on where that one ended what is wanted and what stands there:\n\n    bad 7\n    x 7 is wanted; here stands x 5\n\nLines and columns are counted from 1, columns in bytes.\n\nStatus: 0 good, 1 the report is not good, 2 a file or the schedule is refused,\n3 the command line is refused, 4 a file cannot be read or the output cannot be written,\n5 out of memory.\n\nExample: stm explain a.stm; stm explain a.stm a.report;\n    stm explain a.stm --schedule a.schedule";
+const EXPLAINED: &str = "Prints `good`, or of a file that is refused a line:\n\n    \
+     line 3, column 12: F3 Shape: an expression is wanted: INT, NAME, ..; here stands )\n\n    \
+     F1 TooLong  the place of the first byte that no file has room for\n    \
+     F2 BadByte  the first byte that no file has\n    \
+     F3 Shape    the first token with which the file is no longer the beginning of one\n    \
+     F4 Name     the first name that is declared twice or not at all\n    \
+     F5 Limit    a name, a number or a declaration that goes over a limit\n    \
+     F7 Broken   the first standing condition that is not true of the initial values\n\n\
+     With --schedule it says the same of a schedule of the file, which has to be read:\n\n    \
+     line 2, column 8: F4 Name: no variable of this name is declared; here stands y\n\n    \
+     F3 Shape    the first word that is none of a schedule's there, or a missing newline\n    \
+     F4 Name     the first name of a variable that is not declared\n    \
+     F5 Limit    the first number of a task that the file does not have\n\n\
+     Of a report that is not good it prints the verdict of stm check, the first line on which\n\
+     that shows, and what replay has in its place:\n\n    \
+     bad 3\n    \
+     line 4: entry 2 1 inc returned 8\n    \
+     replay has entry 2 1 inc returned 7\n\n\
+     With --after it says the same of the earlier report, behind `before`, and of a file that\n\
+     does not go on where that one ended what is wanted and what stands there:\n\n    \
+     bad 7\n    \
+     x 7 is wanted; here stands x 5\n\n\
+     Lines and columns are counted from 1, columns in bytes.\n\n\
+     Status: 0 good, 1 the report is not good, 2 a file or the schedule is refused,\n\
+     3 the command line is refused, 4 a file cannot be read or the output cannot be written,\n\
+     5 out of memory.\n\n\
+     Example: stm explain a.stm; stm explain a.stm a.report;\n    \
+     stm explain a.stm --schedule a.schedule";
 
 const AFTER: &str =
     "The paths of the file and the report of the chapter before, where the report's file is to go on";

@@ -2,7 +2,7 @@
 
 use crate::words::{Request, of_file, with_number};
 use clap::{Arg, ArgAction, ArgMatches, Command, value_parser};
-use explore_options::{Denial, Denials, Limit};
+use run_interface::{Denial, Denials, Limit};
 use std::alloc::{AllocError, Global};
 
 /// A file of which all orders are to be seen.
@@ -10,30 +10,77 @@ use std::alloc::{AllocError, Global};
 pub struct Orders<'a> {
     /// Its path.
     pub file: &'a str,
-    /// How many places are looked at, at most.
+    /// How many states are looked at, at most.
     pub limit: Limit,
     /// The number of the end to which a report is wanted, counted from 0, if one is.
     pub to: Option<usize>,
+    /// What is sought, if something is.
+    pub find: Option<Find<'a>>,
     /// What no order is to come to.
     pub denied: Denials,
+    /// Whether the graph of all orders is wanted in place of what is found.
+    pub graph: bool,
+}
+
+/// What is sought of a transaction.
+#[derive(Clone, Copy, Debug, PartialEq, Eq)]
+pub struct Find<'a> {
+    /// The transaction's name.
+    pub transaction: &'a str,
+    /// How its turn is to end, or that it parks, in words.
+    pub outcome: &'a str,
 }
 
 const EXPLORE: &str =
-    "Sees every order in which the tasks of a file can take their turns, and prints which results are possible and which tasks can wait for ever.";
+    "Sees every order in which the tasks of a file can take their turns, and prints which results are \
+     possible and which tasks can wait for ever.";
 
 const FOUND: &str =
-    "A place is the present values, and how many tasks of each transaction are done. Prints how\nmany places are reached, and then:\n\n    tx NAME ..      in which ways turns of it end somewhere: returned, threw, overflow,\n                    zerodiv, broke CONDITION; parks where it waits at some end\n    ends N          how many places have no turn left, each on a line of its own:\n    1 x 7           the first, with its values: all tasks are done\n    2 x 0 parked t 3    the second, where three tasks of t wait for ever\n\nWhere more places are reached than --states allows it prints `more than N states`.\n--to 2 prints a report, as stm run does, of a run that comes to the second end.\n\nWith --deny the text is the same. Where some order comes to what is denied the status is 1,\nand the standard error names the first, in the order parked, threw, broke, overflow, zerodiv:\n\n    stm: denied: parked: see --to 2\n\nStatus: 0 done, 1 more states or denied, 2 the file is refused, 3 the command line is refused,\n4 a file cannot be read or the output cannot be written, 5 out of memory.\n\nExample: stm explore examples/forks.stm; stm explore examples/forks.stm --to 1";
+    "A state is the present values, and how many tasks of each transaction are done. Prints how\n\
+     many states are reached, and then:\n\n    \
+     tx NAME ..      in which ways turns of it end somewhere: returned, threw, overflow,\n                    \
+     zerodiv, broke CONDITION; parks where it waits at some end\n    \
+     ends N          how many states have no turn left, each on a line of its own:\n    \
+     1 x 7           the first, with its values: all tasks are done\n    \
+     2 x 0 parked t 3    the second, where three tasks of t wait for ever\n\n\
+     Where more states are reached than --states allows it prints `more than N states`.\n\
+     --to 2 prints a report, as stm run does, of a run that comes to the second end.\n\n\
+     --find pay 'threw 1' prints that of a run which stops at a turn of pay that ends so, or\n\
+     `never`. An OUTCOME is returned V, threw V, overflow, zerodiv, broke CONDITION, or its first\n\
+     word alone; or parks, which is to come to where a task of it would wait. In the report the\n\
+     tasks that are left are parked where they would wait, else on lines `memory`.\n\n\
+     With --deny the text is the same. Where some order comes to what is denied the status is 1,\n\
+     and the standard error names the first, in the order parked, threw, broke, overflow, zerodiv:\n\n    \
+     stm: denied: parked: see --to 2\n\n\
+     --dot prints the graph of the states for Graphviz: a line for each state with its values, and\n\
+     one for each turn. An end has a double border, and is filled where a task waits for ever.\n\n\
+     Status: 0 done, 1 more states, never or denied, 2 the file is refused, 3 the command line is\n\
+     refused, 4 a file cannot be read or the output cannot be written, 5 out of memory.\n\n\
+     Example: stm explore examples/forks.stm; stm explore examples/forks.stm --to 1\n    \
+     stm explore examples/forks.stm --dot | dot -Tsvg > forks.svg";
 
 const TO: &str =
     "Prints the report of a run that comes to the end of this number, by as few turns as any order";
 
+const FIND: &str =
+    "Prints the report of a run that comes by as few turns as any order to a turn of the transaction TX \
+     that ends so, its last entry";
+
+/// The names of the two words.
+const SOUGHT: [&str; 2] = ["TX", "OUTCOME"];
+
 const DENY: &str =
-    "Ends with status 1 where some order comes to it: parked, an end at which a task waits, or a turn that ends so; may be given more than once";
+    "Ends with status 1 where some order comes to it: parked, an end at which a task waits, or a turn that \
+     ends so; may be given more than once";
+
+const DOT: &str =
+    "Prints the graph of the states and turns in DOT, the language of Graphviz, where no more than 2000 states \
+     are reached";
 
 /// What can be denied.
 const DENIALS: [&str; 5] = ["parked", "threw", "broke", "overflow", "zerodiv"];
 
-const STATES: &str = "How many places are looked at, at most, 1 to 16777216";
+const STATES: &str = "How many states are looked at, at most, 1 to 16777216";
 
 /// The command `stm explore`.
 #[inline(never)]
@@ -42,7 +89,9 @@ pub(crate) fn explore_command<'a>(alloc: Global) -> Result<Command<'a>, AllocErr
     let explore = of_file(alloc, "explore", EXPLORE, FOUND, file)?;
     let explore = with_number(alloc, explore, "states", (1, 16_777_216), "1000000", STATES)?;
     let explore = explore.arg(to(alloc))?;
-    explore.arg(deny(alloc)?)
+    let explore = explore.arg(finding(alloc)?)?;
+    let explore = explore.arg(deny(alloc)?)?;
+    explore.arg(dot(alloc)?)
 }
 
 /// The option `--to K`.
@@ -54,7 +103,16 @@ fn to<'a>(alloc: Global) -> Arg<'a> {
         .help(TO)
 }
 
-/// The option `--deny WHAT`, which no end goes with.
+/// The option `--find TX OUTCOME`, which no end goes with.
+fn finding<'a>(alloc: Global) -> Result<Arg<'a>, AllocError> {
+    Arg::new(alloc, "find")
+        .long("find")
+        .value_names(&SOUGHT)
+        .help(FIND)
+        .conflicts_with("to")
+}
+
+/// The option `--deny WHAT`, which neither goes with.
 fn deny<'a>(alloc: Global) -> Result<Arg<'a>, AllocError> {
     Arg::new(alloc, "deny")
         .long("deny")
@@ -62,7 +120,19 @@ fn deny<'a>(alloc: Global) -> Result<Arg<'a>, AllocError> {
         .value_parser(DENIALS.as_slice())
         .action(ArgAction::Append)
         .help(DENY)
-        .conflicts_with("to")
+        .conflicts_with("to")?
+        .conflicts_with("find")
+}
+
+/// The option `--dot`, which no other of these goes with.
+fn dot<'a>(alloc: Global) -> Result<Arg<'a>, AllocError> {
+    Arg::new(alloc, "dot")
+        .long("dot")
+        .action(ArgAction::SetTrue)
+        .help(DOT)
+        .conflicts_with("to")?
+        .conflicts_with("find")?
+        .conflicts_with("deny")
 }
 
 /// What is denied by these words.
@@ -76,6 +146,17 @@ fn denied_by(words: &[&str]) -> Denials {
     denied
 }
 
+/// What is sought by these words, if something is.
+fn sought_by<'a>(matches: &ArgMatches<'a>) -> Option<Find<'a>> {
+    let words = matches.get_strs("find")?;
+    let transaction = words.first().copied()?;
+    let outcome = words.get(1).copied()?;
+    Some(Find {
+        transaction,
+        outcome,
+    })
+}
+
 /// What the words ask for.
 pub(crate) fn wanted_orders<'a>(matches: &ArgMatches<'a>) -> Option<Request<'a>> {
     let file = matches.get_str("FILE")?;
@@ -85,10 +166,13 @@ pub(crate) fn wanted_orders<'a>(matches: &ArgMatches<'a>) -> Option<Request<'a>>
         .get_one::<u32>("to")
         .map(|number| (number as usize).saturating_sub(1));
     let denied = denied_by(matches.get_strs("deny").unwrap_or(&[]));
+    let graph = matches.get_flag("dot");
     Some(Request::Explore(Orders {
         file,
         limit,
         to,
+        find: sought_by(matches),
         denied,
+        graph,
     }))
 }

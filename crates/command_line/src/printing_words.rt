@@ -28,7 +28,16 @@ const PRINT: &str =
     "Prints the one text of a file that says what it says: one form a line, one space between two tokens, no comments.";
 
 const PRINTED: &str =
-    "Printing what was printed changes nothing. Comments are no part of it: they are left out.\n\nWith --from each variable begins at the value that it has at the report's present, so\nthat work goes on where the report ended. With --after it does so too, and the runs are\none of one task for each task that the report says is parked: the next chapter, as it\nbegins. The report has to be lawful for the file, else `bad` and the first part that\nfails are printed, as `stm check` does.\n\nStatus: 0 done, 1 the report is not good, 2 the file is refused, 3 the command line is\nrefused, 4 a file cannot be read or the output cannot be written, 5 out of memory.\n\nExample: stm run a.stm > a.report; stm print a.stm --from a.report > b.stm\n    stm print a.stm --after a.report > next.stm";
+    "Printing what was printed changes nothing. Comments are no part of it: they are left out.\n\n\
+     With --from each variable begins at the value that it has at the report's present, so\n\
+     that work goes on where the report ended. With --after it does so too, and the runs are\n\
+     one of one task for each task that the report says is parked: the next chapter, as it\n\
+     begins. The report has to be lawful for the file, else `bad` and the first part that\n\
+     fails are printed, as `stm check` does.\n\n\
+     Status: 0 done, 1 the report is not good, 2 the file is refused, 3 the command line is\n\
+     refused, 4 a file cannot be read or the output cannot be written, 5 out of memory.\n\n\
+     Example: stm run a.stm > a.report; stm print a.stm --from a.report > b.stm\n    \
+     stm print a.stm --after a.report > next.stm";
 
 /// The command `stm print`.
 #[inline(never)]

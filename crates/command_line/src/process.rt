@@ -5,15 +5,15 @@ ghost use Rattle.clap.specs.Values.{kind_of};
 ghost use Rattle.command_line.specs.NoCommand.{IsNoCommand};
 
 use crate::words::{Request, parse};
+use crate::{Answer, wordless};
 use clap::error::ErrorKind;
-use command_answers::{Answer, wordless};
-use run_faults::RunFault;
+use run_interface::RunFault;
 use std::rt::Env;
 use std::{env, io};
 
 /// The words of the command line. A word that is not UTF-8 is refused: the standard library takes
 /// paths as UTF-8 alone, so a file of such a name could not be opened. `Err`: it was said why there
-/// are none, unless for want of memory.
+/// are none, unless memory ran out.
 pub fn words_given<R: Env + Eprint + AllocGlobal>(rt: &R) -> Result<Vec<String>, Answer>
     ensures { IfErr result IsNoCommand }
 {
@@ -46,9 +46,12 @@ pub fn asked<'a, R: Print + Eprint + AllocGlobal>(
 /// Shows help or the version, or what is wrong with the command line.
 fn shown<R: Print + Eprint>(rt: &R, error: &clap::Error) -> Answer
     ensures memory { kind_of error.now ≡ ErrorKind.OutOfMemory → result ≡ Answer.Failed RunFault.Memory }
-    ensures help { kind_of error.now ≡ ErrorKind.DisplayHelp → (result ≡ Answer.Done) ⊎ (result ≡ Answer.Failed RunFault.Output) }
-    ensures version { kind_of error.now ≡ ErrorKind.DisplayVersion → (result ≡ Answer.Done) ⊎ (result ≡ Answer.Failed RunFault.Output) }
-    ensures refused { kind_of error.now ≢ ErrorKind.OutOfMemory → kind_of error.now ≢ ErrorKind.DisplayHelp → kind_of error.now ≢ ErrorKind.DisplayVersion → result ≡ Answer.Refused }
+    ensures help { kind_of error.now ≡ ErrorKind.DisplayHelp
+        → (result ≡ Answer.Done) ⊎ (result ≡ Answer.Failed RunFault.Output) }
+    ensures version { kind_of error.now ≡ ErrorKind.DisplayVersion
+        → (result ≡ Answer.Done) ⊎ (result ≡ Answer.Failed RunFault.Output) }
+    ensures refused { kind_of error.now ≢ ErrorKind.OutOfMemory → kind_of error.now ≢ ErrorKind.DisplayHelp
+        → kind_of error.now ≢ ErrorKind.DisplayVersion → result ≡ Answer.Refused }
     ensures command { IsNoCommand result }
 {
     if error.kind() == ErrorKind::OutOfMemory {

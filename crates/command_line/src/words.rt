@@ -8,8 +8,9 @@ use crate::explaining_words::{Explain, explain_command, wanted_explanation};
 use crate::exploring_words::{Orders, explore_command, wanted_orders};
 use crate::printing_words::{Print, print_command, wanted_print};
 use clap::error::ErrorKind;
+use clap::parser::ValueSource;
 use clap::{Arg, ArgMatches, Command, Error, value_parser};
-use run_options::Options;
+use run_interface::{MAX_CHECKPOINT, MAX_TRIES, MAX_WORKERS, Options};
 use std::alloc::{AllocError, Global};
 
 /// What the command line asks for.
@@ -50,25 +51,70 @@ pub struct Played<'a> {
 const VERSION: &str = "0.2.0";
 
 const ABOUT: &str =
-    "Software transactional memory with retry and orElse: runs the transactions of a file, reports what they did, checks such reports, plays schedules on the stepped world, sees every order of a file's tasks, prints files in their one form, and tells what is wrong with a file, a report or a schedule.";
+    "Software transactional memory with retry and orElse: runs the transactions of a file, reports what they \
+     did, checks such reports, plays schedules on the stepped world, sees every order of a file's tasks, \
+     prints files in their one form, and tells what is wrong with a file, a report or a schedule.";
 
 const STATUSES: &str =
-    "Status: 0 done, the report is good; 1 the report is not good, more places are reached\nthan may be looked at, or some order comes to what is denied; 2 the file or the schedule\nis refused; 3 the command line is refused; 4 a file cannot be read or the output cannot\nbe written; 5 out of memory.\n\nA file or a schedule is refused by the first kind of fault that applies to it, and the\nstandard error names it, as in `stm: file: F3 Shape`:\n\n    F1 TooLong    more than 1048576 bytes\n    F2 BadByte    a byte that is neither a newline nor printable ASCII\n    F3 Shape      not of the form of a file, or a line that is none of a schedule's\n    F4 Name       a name that is declared twice, or not declared\n    F5 Limit      a number, a count, a name or a cost past its limit\n    F7 Broken     a standing condition that is not true of the initial values";
+    "Status: 0 done, the report is good; 1 the report is not good, more states are reached\n\
+     than may be looked at, no order comes to what is sought, or some order comes to what is\n\
+     denied; 2 the file or the schedule is refused; 3 the command line is refused; 4 a file\n\
+     cannot be read or the output cannot be written; 5 out of memory.\n\n\
+     A file or a schedule is refused by the first kind of fault that applies to it, and the\n\
+     standard error names it, as in `stm: file: F3 Shape`:\n\n    \
+     F1 TooLong    more than 1048576 bytes\n    \
+     F2 BadByte    a byte that is neither a newline nor printable ASCII\n    \
+     F3 Shape      not of the form of a file, or a line that is none of a schedule's\n    \
+     F4 Name       a name that is declared twice, or not declared; a wrong number of arguments\n    \
+     F5 Limit      a number, a count, a name or a cost past its limit\n    \
+     F7 Broken     a standing condition that is not true of the initial values";
 
 const RUN: &str =
-    "Runs the tasks of a file and prints a report: the base, the journal, the present values and versions, and the tasks that wait.";
+    "Runs the tasks of a file and prints a report: the base, the journal, the present values and versions, \
+     and the tasks that wait.";
 
-const EXAMPLE: &str =
-    "A file declares variables, transactions and runs:\n\n    (var x 5)\n    (tx inc (set x (add x 1)) x)\n    (run inc 2)\n\nIn a file that begins with (stm 2) standing conditions may follow the variables. A\ntransaction that would leave one of them untrue has no effect:\n\n    (always small (lt x 7))\n\nThe statements are skip, set, seq, if, repeat, retry, orelse and throw.\n\nStatus: 0 done, 2 the file is refused, 3 the command line is refused,\n4 a file cannot be read or the output cannot be written, 5 out of memory.";
+const EXAMPLE: &str = "A file declares variables, transactions and runs:\n\n    \
+     (var x 5)\n    \
+     (tx inc (set x (add x 1)) x)\n    \
+     (run inc 2)\n\n\
+     In a file that begins with (stm 2) standing conditions may follow the variables. A\n\
+     transaction that would leave one of them untrue has no effect:\n\n    \
+     (always small (lt x 7))\n\n\
+     In one that begins with (stm 3) each transaction also has a list of parameters, and each\n\
+     run gives their values behind its count:\n\n    \
+     (tx grow (n) (set x (add x n)) x)\n    \
+     (run grow 1 5)\n\n\
+     The statements are skip, set, seq, if, repeat, retry, orelse and throw.\n\n\
+     Status: 0 done, 2 the file is refused, 3 the command line is refused,\n\
+     4 a file cannot be read or the output cannot be written, 5 out of memory.";
 
 const WORLD: &str =
-    "Plays a schedule on the stepped world of a file: one load and one store at a time, in the order that you name, with no threads.";
+    "Plays a schedule on the stepped world of a file: one load and one store at a time, in the order that \
+     you name, with no threads.";
 
 const SCHEDULE: &str =
-    "The path of the schedule to play: a line for each move. A is the number of a task,\ncounted from 0, and X a variable:\n\n    begin A       an attempt of the task begins: it loads the clock\n    read A X      it reads the variable: first, value and second\n    commit A      it asks, and all its words are stored\n    drop A        its attempt is dropped\n    first A X     it loads the version of the variable\n    value A       it loads the value\n    second A      it loads the version again\n    ask A         it has ended, and asks to commit\n    word          the one that commits stores its next word\n    again A       its stale attempt runs again: it loads the clock\n    move A        again, and what it then checks is read";
+    "The path of the schedule to play: a line for each move. A is the number of a task,\n\
+     counted from 0, and X a variable:\n\n    \
+     begin A       an attempt of the task begins: it loads the clock\n    \
+     read A X      it reads the variable: first, value and second\n    \
+     commit A      it asks, and all its words are stored\n    \
+     drop A        its attempt is dropped\n    \
+     first A X     it loads the version of the variable\n    \
+     value A       it loads the value\n    \
+     second A      it loads the version again\n    \
+     ask A         it has ended, and asks to commit\n    \
+     word          the one that commits stores its next word\n    \
+     again A       its stale attempt runs again: it loads the clock\n    \
+     move A        again, and what it then checks is read";
 
 const SEEN: &str =
-    "Prints for each line its number and what is seen: idle, needs X, ended OUTCOME,\nloaded, stale, parked, commits N, stored, committed N, dropped, memory, checks X or\nchanged.\nThen the present number, values and versions, and each attempt with its task,\nthe number of the state that it reads, its fate, and what it has read.\n\nStatus: 0 done, 2 the file or the schedule is refused, 3 the command line is refused,\n4 a file cannot be read or the output cannot be written, 5 out of memory.";
+    "Prints for each line its number and what is seen: idle, needs X, ended OUTCOME,\n\
+     loaded, stale, parked, commits N, stored, committed N, dropped, memory, checks X or\n\
+     changed.\n\
+     Then the present number, values and versions, and each attempt with its task,\n\
+     the number of the state that it reads, its fate, and what it has read.\n\n\
+     Status: 0 done, 2 the file or the schedule is refused, 3 the command line is refused,\n\
+     4 a file cannot be read or the output cannot be written, 5 out of memory.";
 
 const WORKERS: &str = "How many workers run the tasks, 1 to 16";
 
@@ -76,6 +122,18 @@ const TRIES: &str = "After how many stale tries a task is run alone, 1 to 64";
 
 const CHECKPOINT: &str =
     "After this many journal entries the report begins anew from the values reached; at most 65536, and 0 for never";
+
+const SEED: &str =
+    "Draws the order of the tasks, for one worker: the same number, 0 to 2^64 - 1, draws the same order";
+
+/// What is said of a seed with more than one worker.
+const SEED_FOR_MANY: &str =
+    "a seed draws the order for one worker: give --workers 1 with it, or none";
+
+/// What is said where a number is out of its range.
+const OUT_OF_RANGE: &str =
+    "the number of workers must be 1 to 16, that of tries 1 to 64, that of the checkpoint at most 65536, and \
+     that of states 1 to 16777216";
 
 /// The names of the subcommands, in the order in which help lists them.
 const NAMES: [&str; 6] = ["run", "check", "world", "explore", "print", "explain"];
@@ -146,9 +204,26 @@ pub(crate) fn required<'a>(alloc: Global, name: &'a str, help: &'a str) -> Arg<'
 #[inline(never)]
 fn run_command<'a>(alloc: Global) -> Result<Command<'a>, AllocError> {
     let run = of_file(alloc, "run", RUN, EXAMPLE, "The path of the file to run")?;
-    let run = with_number(alloc, run, "workers", (1, 16), "4", WORKERS)?;
-    let run = with_number(alloc, run, "tries", (1, 64), "8", TRIES)?;
-    with_number(alloc, run, "checkpoint", (0, 65536), "0", CHECKPOINT)
+    let run = with_number(alloc, run, "workers", (1, MAX_WORKERS), "4", WORKERS)?;
+    let run = with_number(alloc, run, "tries", (1, MAX_TRIES), "8", TRIES)?;
+    let run = with_number(
+        alloc,
+        run,
+        "checkpoint",
+        (0, MAX_CHECKPOINT),
+        "0",
+        CHECKPOINT,
+    )?;
+    run.arg(seed(alloc))
+}
+
+/// The option `--seed N`.
+fn seed<'a>(alloc: Global) -> Arg<'a> {
+    Arg::new(alloc, "seed")
+        .long("seed")
+        .value_name("N")
+        .value_parser(value_parser!(u64))
+        .help(SEED)
 }
 
 /// The command with the option `--NAME N` of a number in this range, ends included, with this one where it
@@ -158,7 +233,7 @@ pub(crate) fn with_number<'a>(
     alloc: Global,
     command: Command<'a>,
     name: &'a str,
-    range: (i64, i64),
+    range: (u32, u32),
     default: &'a str,
     help: &'a str,
 ) -> Result<Command<'a>, AllocError> {
@@ -166,7 +241,7 @@ pub(crate) fn with_number<'a>(
         Arg::new(alloc, name)
             .long(name)
             .value_name("N")
-            .value_parser(value_parser!(u32).range(range.0..=range.1))
+            .value_parser(value_parser!(u32).range(i64::from(range.0)..=i64::from(range.1)))
             .default_value(default)
             .help(help),
     )
@@ -190,24 +265,27 @@ pub(crate) fn parse<'a>(alloc: Global, words: &'a [String]) -> Result<Request<'a
 /// What the words ask of this command.
 fn request_by<'a>(command: &mut Command<'a>, words: &'a [String]) -> Result<Request<'a>, Error> {
     match request_in_range(command, words)? {
-        Some(request) => Ok(request),
-        None => Err(command.error(
-            ErrorKind::ValueValidation,
-            "the number of workers must be 1 to 16, that of tries 1 to 64, that of the checkpoint at most 65536, and that of states 1 to 16777216",
-        )?),
+        Ok(request) => Ok(request),
+        Err(why) => Err(command.error(ErrorKind::ValueValidation, why)?),
     }
 }
 
-/// What the words ask of this command. `None`: a number is out of its range.
+/// What the words ask of this command, or what is wrong with their numbers.
 fn request_in_range<'a>(
     command: &mut Command<'a>,
     words: &'a [String],
-) -> Result<Option<Request<'a>>, Error> {
+) -> Result<Result<Request<'a>, &'static str>, Error> {
     let matches = command.try_get_matches_from_mut(words)?;
-    Ok(request_of(&matches))
+    if draws_for_many(&matches) {
+        return Ok(Err(SEED_FOR_MANY));
+    }
+    match request_of(&matches) {
+        Some(request) => Ok(Ok(request)),
+        None => Ok(Err(OUT_OF_RANGE)),
+    }
 }
 
-/// What the subcommand that was given asks for.
+/// What the subcommand that was given asks for. `None`: a number is out of its range.
 fn request_of<'a>(matches: &ArgMatches<'a>) -> Option<Request<'a>> {
     let (name, words) = matches.subcommand()?;
     match name {
@@ -221,12 +299,32 @@ fn request_of<'a>(matches: &ArgMatches<'a>) -> Option<Request<'a>> {
     }
 }
 
+/// Whether a run is asked for whose order is drawn, by more than one worker.
+fn draws_for_many<'a>(matches: &ArgMatches<'a>) -> bool {
+    let Some(("run", words)) = matches.subcommand() else {
+        return false;
+    };
+    words.get_one::<u64>("seed").is_some() && workers_of(words) != Some(1)
+}
+
+/// How many workers are asked for: one, where the order is drawn and the words give no number.
+fn workers_of<'a>(matches: &ArgMatches<'a>) -> Option<u32> {
+    let given = matches.value_source("workers") == Some(ValueSource::CommandLine);
+    if !given && matches.get_one::<u64>("seed").is_some() {
+        return Some(1);
+    }
+    matches.get_one::<u32>("workers")
+}
+
 fn wanted_run<'a>(matches: &ArgMatches<'a>) -> Option<Request<'a>> {
     let file = matches.get_str("FILE")?;
-    let workers = matches.get_one::<u32>("workers")?;
+    let workers = workers_of(matches)?;
     let tries = matches.get_one::<u32>("tries")?;
     let checkpoint = matches.get_one::<u32>("checkpoint")?;
-    let options = Options::new(workers, tries, checkpoint)?;
+    let mut options = Options::new(workers, tries, checkpoint)?;
+    if let Some(seed) = matches.get_one::<u64>("seed") {
+        options = options.with_seed(seed)?;
+    }
     Some(Request::Run(Run { file, options }))
 }
 

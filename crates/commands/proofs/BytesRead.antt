@@ -1,7 +1,7 @@
 -- What is left where a file is read first.
 use Rattle.std.proofs.Common.{◌≡◌, inl, inr, ℕ, List, Option, None, Some, refl, sym, ap, subst, ◌∙◌}
 use Rattle.std.specs.Io.KnownBytes.{Keeps}
-use Rattle.command_answers.specs.declared.answer.Answer.{Answer}
+use Rattle.command_line.specs.declared.answer.Answer.{Answer}
 use Rattle.commands.specs.Files.{IsRead, IsUnread, failed_calls}
 
 -- bytes that stay

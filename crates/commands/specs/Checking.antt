@@ -1,9 +1,9 @@
--- What a check of a file and a report leaves.
+-- What a check leaves.
 use Rattle.std.specs.Prelude.{◌≡◌, ℕ, List, take, Option, None, Some}
 use Rattle.std.specs.Io.KnownBytes.{Appends, Keeps}
 use Rattle.txn_text.specs.Faults.{IsFirst}
 use Rattle.commands.specs.Files.{AfterReadingBoth, AfterReadingChapter, report_limit}
-use Rattle.run_faults.specs.declared.fault.RunFault.TheVariants.{Input, Memory, Output, Schedule}
+use Rattle.run_interface.specs.declared.fault.RunFault.TheVariants.{Input, Memory, Output, Schedule}
 use Rattle.checker.specs.declared.verdict.Verdict.{Verdict}
 use Rattle.checker.specs.declared.verdict.Verdict.TheVariants.{Good, Bad}
 use Rattle.checker.specs.declared.chapter.ChapterVerdict.{ChapterVerdict}
@@ -14,8 +14,8 @@ use Rattle.checker.specs.Lines.{line_of, chapter_line}
 use Rattle.checker.specs.Chapters.{JudgesAfter}
 use Rattle.command_line.specs.declared.checking_words.Earlier.{Earlier as Pair}
 use Rattle.checker.specs.Verdicts.{Judges}
-use Rattle.command_answers.specs.declared.answer.Answer.{Answer}
-use Rattle.command_answers.specs.declared.answer.Answer.TheVariants.{Done, Unlawful, Refused, Unreadable, Failed, Earlier}
+use Rattle.command_line.specs.declared.answer.Answer.{Answer}
+use Rattle.command_line.specs.declared.answer.Answer.TheVariants.{Done, Unlawful, Refused, Unreadable, Failed, Earlier}
 
 -- what comes of a verdict that was told
 abbrev pub verdict_answer : Verdict → Answer

@@ -5,11 +5,11 @@ use Rattle.checker.specs.declared.verdict.Verdict.TheVariants.{Good, Bad}
 use Rattle.checker.specs.declared.verdict.Part.{Part}
 use Rattle.checker.specs.declared.chapter.ChapterVerdict.{ChapterVerdict}
 use Rattle.checker.specs.declared.chapter.ChapterFault.TheVariants as fault
-use Rattle.run_faults.specs.declared.fault.RunFault.{RunFault}
-use Rattle.run_faults.specs.declared.fault.RunFault.TheVariants.{Input, Memory, Output, Schedule}
-use Rattle.explain_runner.specs.Telling.{Telling}
-use Rattle.explain_runner.specs.declared.bytes.Judgement.{Judgement}
-use Rattle.explain_runner.specs.declared.bytes.Judgement.TheVariants as file
+use Rattle.run_interface.specs.declared.fault.RunFault.{RunFault}
+use Rattle.run_interface.specs.declared.fault.RunFault.TheVariants.{Input, Memory, Output, Schedule}
+use Rattle.explain_files.specs.Telling.{Telling}
+use Rattle.explain_files.specs.declared.bytes.Judgement.{Judgement}
+use Rattle.explain_files.specs.declared.bytes.Judgement.TheVariants as file
 use Rattle.explain_reports.specs.Writing.{Written}
 use Rattle.explain_reports.specs.declared.chapters.ChapterUntold.{ChapterUntold}
 use Rattle.explain_reports.specs.declared.chapters.ChapterUntold.TheVariants as untold_by
@@ -18,8 +18,8 @@ use Rattle.commands.specs.Checking.{chapter_answer}
 use Rattle.explain_schedules.specs.Telling as schedules
 use Rattle.command_line.specs.declared.explaining_words.Explained.{Explained}
 use Rattle.command_line.specs.declared.explaining_words.Explained.TheVariants as what
-use Rattle.command_answers.specs.declared.answer.Answer.{Answer}
-use Rattle.command_answers.specs.declared.answer.Answer.TheVariants.{Done, Unlawful, Refused, Unreadable, Failed, Earlier}
+use Rattle.command_line.specs.declared.answer.Answer.{Answer}
+use Rattle.command_line.specs.declared.answer.Answer.TheVariants.{Done, Unlawful, Refused, Unreadable, Failed, Earlier}
 
 -- the answers of explaining bytes
 abbrev pub told : Judgement → Result Judgement RunFault

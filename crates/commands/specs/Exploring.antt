@@ -2,7 +2,7 @@
 use Rattle.std.specs.Prelude.{◌⊎◌, ℕ, List, Option, Result, Ok, Err}
 use Rattle.std.specs.declared.alloc.Global.{Global}
 use Rattle.std.specs.declared.string.String.{String}
-use Rattle.explore_options.specs.declared.denial.Denials.{Denials}
+use Rattle.run_interface.specs.declared.denial.Denials.{Denials}
 use Rattle.explore_runner.specs.Judging.{Judges}
 use Rattle.explore_runner.specs.Witness.{Answered}
 use Rattle.explore_runner.specs.declared.sight.Judged.{Judged}
@@ -10,9 +10,9 @@ use Rattle.explore_runner.specs.declared.sight.Judged.TheVariants as judged
 use Rattle.explore_runner.specs.declared.sight.Witnessed.{Witnessed}
 use Rattle.explore_runner.specs.declared.sight.Witnessed.TheVariants.{Report, NoEnd, Beyond}
 use Rattle.commands.specs.Files.{AfterReading, file_limit}
-use Rattle.run_faults.specs.declared.fault.RunFault.{RunFault}
-use Rattle.command_answers.specs.declared.answer.Answer.{Answer}
-use Rattle.command_answers.specs.declared.answer.Answer.TheVariants.{Done, Unlawful, Refused, Unreadable, Failed, Earlier}
+use Rattle.run_interface.specs.declared.fault.RunFault.{RunFault}
+use Rattle.command_line.specs.declared.answer.Answer.{Answer}
+use Rattle.command_line.specs.declared.answer.Answer.TheVariants.{Done, Unlawful, Refused, Unreadable, Failed, Earlier}
 
 -- the answers of exploring bytes
 abbrev pub seen : Judged → Result Judged RunFault
@@ -24,7 +24,7 @@ unseen fault = Err fault
 -- by the answer: what exploring these bytes leaves that ends so
 abbrev pub ExploredBytes : ℕ → Denials → List ℕ → Option (List ℕ) → Option (List ℕ) → Answer → Type 0
 ExploredBytes limit ds file old new Done = Judges file limit ds old new (seen judged.Clear)
--- more places are reached, or some order comes to what is denied
+-- more states are reached, or some order comes to what is denied
 ExploredBytes limit ds file old new Unlawful = Judges file limit ds old new (seen judged.More) ⊎ ((line : String Global) × Judges file limit ds old new (seen (judged.Denied line)))
 ExploredBytes limit ds file old new Refused = ⊥
 ExploredBytes limit ds file old new Unreadable = ⊥

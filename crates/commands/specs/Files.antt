@@ -1,12 +1,12 @@
 -- What of a file is read, and what a run of a file leaves.
 use Rattle.std.specs.Prelude.{◌≡◌, ◌⊎◌, ℕ, ◌+◌, List, take, Option, Result, Ok, Err, IfSome}
 use Rattle.std.specs.Io.KnownBytes.{Keeps}
-use Rattle.run_faults.specs.Failures.{output_failures}
+use Rattle.run_interface.specs.Failures.{output_failures}
 use Rattle.runner.specs.Running.{Ran}
-use Rattle.run_faults.specs.declared.fault.RunFault.{RunFault}
-use Rattle.run_faults.specs.declared.fault.RunFault.TheVariants.{Memory}
-use Rattle.command_answers.specs.declared.answer.Answer.{Answer}
-use Rattle.command_answers.specs.declared.answer.Answer.TheVariants.{Done, Unlawful, Refused, Unreadable, Failed, Earlier}
+use Rattle.run_interface.specs.declared.fault.RunFault.{RunFault}
+use Rattle.run_interface.specs.declared.fault.RunFault.TheVariants.{Memory}
+use Rattle.command_line.specs.declared.answer.Answer.{Answer}
+use Rattle.command_line.specs.declared.answer.Answer.TheVariants.{Done, Unlawful, Refused, Unreadable, Failed, Earlier}
 
 -- how many bytes a file, a report and a schedule have at most
 abbrev pub file_limit : ℕ

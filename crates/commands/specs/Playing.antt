@@ -2,8 +2,8 @@
 use Rattle.std.specs.Prelude.{ℕ, List, Option}
 use Rattle.world_runner.specs.Showing.{Showed}
 use Rattle.commands.specs.Files.{AfterReadingBoth, schedule_limit, done, ended}
-use Rattle.command_answers.specs.declared.answer.Answer.{Answer}
-use Rattle.command_answers.specs.declared.answer.Answer.TheVariants.{Done, Unlawful, Refused, Unreadable, Failed, Earlier}
+use Rattle.command_line.specs.declared.answer.Answer.{Answer}
+use Rattle.command_line.specs.declared.answer.Answer.TheVariants.{Done, Unlawful, Refused, Unreadable, Failed, Earlier}
 
 -- by the answer: what playing this schedule of this file leaves that ends so
 abbrev pub Played : List ℕ → List ℕ → Option (List ℕ) → Option (List ℕ) → Answer → Type 0

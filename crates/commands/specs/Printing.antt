@@ -2,14 +2,14 @@
 use Rattle.std.specs.Prelude.{ℕ, List, Option, None, Ok, Err}
 use Rattle.checker.specs.declared.verdict.Verdict.TheVariants.{Good, Bad}
 use Rattle.checker.specs.declared.verdict.Part.{Part}
-use Rattle.print_files.specs.Printing.{Printed, PrintedOn}
-use Rattle.print_files.specs.declared.next.Next.{Next}
-use Rattle.print_files.specs.declared.next.Next.TheVariants.{Again, Chapter}
+use Rattle.file_chains.specs.Printing.{Printed, PrintedOn}
+use Rattle.file_chains.specs.declared.next.Next.{Next}
+use Rattle.file_chains.specs.declared.next.Next.TheVariants.{Again, Chapter}
 use Rattle.command_line.specs.declared.printing_words.Printed.{Printed as Wanted}
 use Rattle.command_line.specs.declared.printing_words.Printed.TheVariants as what
 use Rattle.commands.specs.Files.{AfterReading, AfterReadingBoth, file_limit, report_limit, done, ended}
-use Rattle.command_answers.specs.declared.answer.Answer.{Answer}
-use Rattle.command_answers.specs.declared.answer.Answer.TheVariants.{Done, Unlawful, Refused, Unreadable, Failed, Earlier}
+use Rattle.command_line.specs.declared.answer.Answer.{Answer}
+use Rattle.command_line.specs.declared.answer.Answer.TheVariants.{Done, Unlawful, Refused, Unreadable, Failed, Earlier}
 
 -- by the answer: what printing these bytes leaves that ends so
 abbrev pub PrintedBytes : List ℕ → Option (List ℕ) → Option (List ℕ) → Answer → Type 0

@@ -1,19 +1,18 @@
 //! `stm check` and `stm explain` with an earlier pair: the bytes of two files and of a report of each in,
 //! the verdict on a chapter, or what is said of it, and a status out.
 
-ghost use Rattle.std.specs.Prelude.{◌≡◌, ◌<◌, ◌+◌, ◌^◌, true, None};
+ghost use Rattle.std.specs.Prelude.{◌≡◌, ◌+◌, true, None};
 ghost use Rattle.checker.specs.Lines.{chapter_line};
+ghost use Rattle.run_interface.specs.Counts.{FewFailed};
 ghost use Rattle.commands.specs.Files.{failed_calls};
 ghost use Rattle.commands.specs.Checking.{Tells, CheckedAfter, CheckedChapter, chapter_answer, fault_answer};
 ghost use Rattle.commands.specs.Explaining.{ExplainedAfter, ExplainedChapter};
 
 use crate::reading::{ChapterBytes, chapter_of, chapter_opened};
 use checker::{ChapterFault, ChapterVerdict, check_after};
-use command_answers::Answer;
-use command_line::Earlier;
+use command_line::{Answer, Earlier};
 use explain_reports::{ChapterUntold, explain_chapter_bytes};
-use run_faults::RunFault;
-use run_sink::{Sink, put_all};
+use run_interface::{RunFault, Sink, put_all};
 use std::alloc::Global;
 use std::io::Read;
 use std::rt::Files;
@@ -27,7 +26,7 @@ pub fn check_chapter<R: Files + AllocGlobal, S: Sink>(
     earlier: Earlier<'_>,
     sink: &mut S,
 ) -> Answer
-    requires { S.failed sink.old < 2 ^ 63 }
+    requires { FewFailed (S.failed sink.old) }
     ensures checked { CheckedChapter None None None None (S.bytes sink.old) (S.bytes sink.new) result }
     ensures good { result ≡ Answer.Done → S.flushed sink.new ≡ true }
     ensures bad { result ≡ Answer.Unlawful → S.flushed sink.new ≡ true }
@@ -49,7 +48,7 @@ pub fn check_chapter_inputs<
     L: Read + Drop,
     S: Sink,
 >(alloc: Global, file: I, report: J, earlier: K, earlier_report: L, sink: &mut S) -> Answer
-    requires { S.failed sink.old < 2 ^ 63 }
+    requires { FewFailed (S.failed sink.old) }
     ensures checked { CheckedChapter (I.remaining file) (J.remaining report)
         (K.remaining earlier) (L.remaining earlier_report)
         (S.bytes sink.old) (S.bytes sink.new) result }
@@ -65,7 +64,7 @@ pub fn check_chapter_inputs<
 
 /// The same of the bytes of all four.
 fn check_chapter_bytes<S: Sink>(alloc: Global, bytes: &ChapterBytes, sink: &mut S) -> Answer
-    requires { S.failed sink.old < 2 ^ 63 }
+    requires { FewFailed (S.failed sink.old) }
     ensures checked { CheckedAfter bytes.now.file.items bytes.now.report.items
         bytes.now.earlier.items bytes.now.earlier_report.items
         (S.bytes sink.old) (S.bytes sink.new) result }
@@ -87,7 +86,7 @@ fn check_chapter_bytes<S: Sink>(alloc: Global, bytes: &ChapterBytes, sink: &mut 
 
 /// Writes the line of the verdict on a chapter.
 fn tell<S: Sink>(verdict: ChapterVerdict, sink: &mut S) -> Answer
-    requires { S.failed sink.old < 2 ^ 63 }
+    requires { FewFailed (S.failed sink.old) }
     ensures told { Tells (chapter_answer verdict) (chapter_line verdict) (S.bytes sink.old) (S.bytes sink.new) result }
     ensures good { result ≡ Answer.Done → S.flushed sink.new ≡ true }
     ensures bad { result ≡ Answer.Unlawful → S.flushed sink.new ≡ true }
@@ -120,7 +119,7 @@ pub(crate) fn explain_chapter_at<R: Files + AllocGlobal, S: Sink>(
     earlier: Earlier<'_>,
     sink: &mut S,
 ) -> Answer
-    requires { S.failed sink.old < 2 ^ 63 }
+    requires { FewFailed (S.failed sink.old) }
     ensures explained { ExplainedChapter None None None None (S.bytes sink.old) (S.bytes sink.new) result }
     ensures done { result ≡ Answer.Done → S.flushed sink.new ≡ true }
     ensures bad { result ≡ Answer.Unlawful → S.flushed sink.new ≡ true }
@@ -142,7 +141,7 @@ pub fn explain_chapter_inputs<
     L: Read + Drop,
     S: Sink,
 >(alloc: Global, file: I, report: J, earlier: K, earlier_report: L, sink: &mut S) -> Answer
-    requires { S.failed sink.old < 2 ^ 63 }
+    requires { FewFailed (S.failed sink.old) }
     ensures explained { ExplainedChapter (I.remaining file) (J.remaining report)
         (K.remaining earlier) (L.remaining earlier_report)
         (S.bytes sink.old) (S.bytes sink.new) result }
@@ -158,7 +157,7 @@ pub fn explain_chapter_inputs<
 
 /// The same of the bytes of all four.
 fn explain_chapter<S: Sink>(alloc: Global, bytes: &ChapterBytes, sink: &mut S) -> Answer
-    requires { S.failed sink.old < 2 ^ 63 }
+    requires { FewFailed (S.failed sink.old) }
     ensures explained { ExplainedAfter bytes.now.file.items bytes.now.report.items
         bytes.now.earlier.items bytes.now.earlier_report.items
         (S.bytes sink.old) (S.bytes sink.new) result }

@@ -1,6 +1,7 @@
 //! `stm check`: the bytes of a file and of a report in, the line of a verdict and a status out.
 
-ghost use Rattle.std.specs.Prelude.{◌≡◌, ◌<◌, ◌+◌, ◌^◌, true, None};
+ghost use Rattle.std.specs.Prelude.{◌≡◌, ◌+◌, true, None};
+ghost use Rattle.run_interface.specs.Counts.{FewFailed};
 ghost use Rattle.commands.specs.Files.{failed_calls};
 ghost use Rattle.checker.specs.Lines.{line_of};
 ghost use Rattle.commands.specs.Checking.{Tells, Checked, CheckedAs, CheckedFiles, verdict_answer};
@@ -8,14 +9,12 @@ ghost use Rattle.commands.specs.Checking.{Tells, Checked, CheckedAs, CheckedFile
 use crate::chapters::check_chapter;
 use crate::reading::{both_of, both_opened};
 use checker::{Verdict, check};
-use command_answers::Answer;
-use command_line::Check;
-use run_faults::RunFault;
-use run_sink::{Sink, put_all};
+use command_line::{Answer, Check};
+use run_interface::{RunFault, Sink, put_all};
 use std::alloc::Global;
 use std::io::Read;
 use std::rt::Files;
-use text_report_reader::MAX_REPORT;
+use text_line_reader::MAX_REPORT;
 use txn_text::ReadFault;
 
 /// Checks what the command line asks for.
@@ -25,7 +24,7 @@ pub fn check_as<R: Files + AllocGlobal, S: Sink>(
     request: &Check<'_>,
     sink: &mut S,
 ) -> Answer
-    requires { S.failed sink.old < 2 ^ 63 }
+    requires { FewFailed (S.failed sink.old) }
     ensures checked { CheckedAs request.now.after (S.bytes sink.old) (S.bytes sink.new) result }
     ensures good { result ≡ Answer.Done → S.flushed sink.new ≡ true }
     ensures bad { result ≡ Answer.Unlawful → S.flushed sink.new ≡ true }
@@ -45,7 +44,7 @@ pub fn check_files<R: Files + AllocGlobal, S: Sink>(
     report: &str,
     sink: &mut S,
 ) -> Answer
-    requires { S.failed sink.old < 2 ^ 63 }
+    requires { FewFailed (S.failed sink.old) }
     ensures checked { CheckedFiles None None (S.bytes sink.old) (S.bytes sink.new) result }
     ensures good { result ≡ Answer.Done → S.flushed sink.new ≡ true }
     ensures bad { result ≡ Answer.Unlawful → S.flushed sink.new ≡ true }
@@ -64,8 +63,9 @@ pub fn check_inputs<I: Read + Drop, J: Read + Drop, S: Sink>(
     report: J,
     sink: &mut S,
 ) -> Answer
-    requires { S.failed sink.old < 2 ^ 63 }
-    ensures checked { CheckedFiles (I.remaining file) (J.remaining report) (S.bytes sink.old) (S.bytes sink.new) result }
+    requires { FewFailed (S.failed sink.old) }
+    ensures checked { CheckedFiles (I.remaining file) (J.remaining report) (S.bytes sink.old)
+        (S.bytes sink.new) result }
     ensures good { result ≡ Answer.Done → S.flushed sink.new ≡ true }
     ensures bad { result ≡ Answer.Unlawful → S.flushed sink.new ≡ true }
     ensures failures { S.failed sink.new ≡ S.failed sink.old + failed_calls result }
@@ -78,7 +78,7 @@ pub fn check_inputs<I: Read + Drop, J: Read + Drop, S: Sink>(
 
 /// Checks the bytes of a report of a file, and writes the verdict's line to the sink.
 fn check_bytes<S: Sink>(alloc: Global, file: &[u8], report: &[u8], sink: &mut S) -> Answer
-    requires { S.failed sink.old < 2 ^ 63 }
+    requires { FewFailed (S.failed sink.old) }
     ensures checked { Checked file.now report.now (S.bytes sink.old) (S.bytes sink.new) result }
     ensures good { result ≡ Answer.Done → S.flushed sink.new ≡ true }
     ensures bad { result ≡ Answer.Unlawful → S.flushed sink.new ≡ true }
@@ -93,7 +93,7 @@ fn check_bytes<S: Sink>(alloc: Global, file: &[u8], report: &[u8], sink: &mut S)
 
 /// Writes the verdict's line.
 fn tell<S: Sink>(verdict: Verdict, sink: &mut S) -> Answer
-    requires { S.failed sink.old < 2 ^ 63 }
+    requires { FewFailed (S.failed sink.old) }
     ensures told { Tells (verdict_answer verdict) (line_of verdict) (S.bytes sink.old) (S.bytes sink.new) result }
     ensures good { result ≡ Answer.Done → S.flushed sink.new ≡ true }
     ensures bad { result ≡ Answer.Unlawful → S.flushed sink.new ≡ true }

@@ -1,33 +1,32 @@
 //! `stm explain`: the bytes of a file in, or of a file and of a report or a schedule, and out where and
 //! why the file or the schedule is refused, or what of the report does not hold, with a status.
 
-ghost use Rattle.std.specs.Prelude.{◌≡◌, ◌<◌, ◌+◌, ◌^◌, true, None};
+ghost use Rattle.std.specs.Prelude.{◌≡◌, ◌+◌, true, None};
+ghost use Rattle.run_interface.specs.Counts.{FewFailed};
 ghost use Rattle.commands.specs.Files.{failed_calls};
-ghost use Rattle.commands.specs.Explaining.{ExplainedAs, ExplainedBytes, ExplainedFile, ExplainedMoves, ExplainedOnBytes, ExplainedOnFiles, ExplainedSchedule};
+ghost use Rattle.commands.specs.Explaining.{ExplainedAs, ExplainedBytes, ExplainedFile, ExplainedMoves};
+ghost use Rattle.commands.specs.Explaining.{ExplainedOnBytes, ExplainedOnFiles, ExplainedSchedule};
 
 use crate::chapters::explain_chapter_at;
 use crate::checking::answer_of;
 use crate::reading::{both_of, both_opened, bytes_of, opened};
-use command_answers::Answer;
-use command_line::{Explain, Explained};
-use explain_runner::{Judgement, explain_bytes};
-use run_faults::RunFault;
-use run_sink::Sink;
+use command_line::{Answer, Explain, Explained};
+use explain_files::{Judgement, explain_bytes};
+use run_interface::{RunFault, Sink};
 use std::alloc::Global;
 use std::io::Read;
 use std::rt::Files;
-use text_report_reader::MAX_REPORT;
-use text_schedule_reader::MAX_SCHEDULE;
+use text_line_reader::{MAX_REPORT, MAX_SCHEDULE};
 use txn_text::MAX_FILE;
 
 /// Explains what the command line asks for.
 #[inline(never)]
-pub fn explain_files<R: Files + AllocGlobal, S: Sink>(
+pub fn explain_as<R: Files + AllocGlobal, S: Sink>(
     rt: &R,
     request: &Explain<'_>,
     sink: &mut S,
 ) -> Answer
-    requires { S.failed sink.old < 2 ^ 63 }
+    requires { FewFailed (S.failed sink.old) }
     ensures explained { ExplainedAs request.now.what (S.bytes sink.old) (S.bytes sink.new) result }
     ensures done { result ≡ Answer.Done → S.flushed sink.new ≡ true }
     ensures failures { S.failed sink.new ≡ S.failed sink.old + failed_calls result }
@@ -45,7 +44,7 @@ pub fn explain_files<R: Files + AllocGlobal, S: Sink>(
 /// Writes to the sink that the file at the path is read, or where and why it is refused. A file that is
 /// refused is answered as it is where it is run, with what was written beside.
 fn explain_file_at<R: Files + AllocGlobal, S: Sink>(rt: &R, path: &str, sink: &mut S) -> Answer
-    requires { S.failed sink.old < 2 ^ 63 }
+    requires { FewFailed (S.failed sink.old) }
     ensures explained { ExplainedFile None (S.bytes sink.old) (S.bytes sink.new) result }
     ensures flushed { result ≡ Answer.Done → S.flushed sink.new ≡ true }
     ensures failures { S.failed sink.new ≡ S.failed sink.old + failed_calls result }
@@ -58,7 +57,7 @@ fn explain_file_at<R: Files + AllocGlobal, S: Sink>(rt: &R, path: &str, sink: &m
 
 /// The same of the file that a reader has.
 pub fn explain_input<I: Read + Drop, S: Sink>(alloc: Global, input: I, sink: &mut S) -> Answer
-    requires { S.failed sink.old < 2 ^ 63 }
+    requires { FewFailed (S.failed sink.old) }
     ensures explained { ExplainedFile (I.remaining input) (S.bytes sink.old) (S.bytes sink.new) result }
     ensures flushed { result ≡ Answer.Done → S.flushed sink.new ≡ true }
     ensures failures { S.failed sink.new ≡ S.failed sink.old + failed_calls result }
@@ -71,7 +70,7 @@ pub fn explain_input<I: Read + Drop, S: Sink>(alloc: Global, input: I, sink: &mu
 
 /// The same of the file of these bytes.
 fn explained<S: Sink>(alloc: Global, bytes: &[u8], sink: &mut S) -> Answer
-    requires { S.failed sink.old < 2 ^ 63 }
+    requires { FewFailed (S.failed sink.old) }
     ensures explained { ExplainedBytes bytes.now (S.bytes sink.old) (S.bytes sink.new) result }
     ensures flushed { result ≡ Answer.Done → S.flushed sink.new ≡ true }
     ensures failures { S.failed sink.new ≡ S.failed sink.old + failed_calls result }
@@ -91,7 +90,7 @@ fn explain_report_at<R: Files + AllocGlobal, S: Sink>(
     report: &str,
     sink: &mut S,
 ) -> Answer
-    requires { S.failed sink.old < 2 ^ 63 }
+    requires { FewFailed (S.failed sink.old) }
     ensures explained { ExplainedOnFiles None None (S.bytes sink.old) (S.bytes sink.new) result }
     ensures done { result ≡ Answer.Done → S.flushed sink.new ≡ true }
     ensures bad { result ≡ Answer.Unlawful → S.flushed sink.new ≡ true }
@@ -110,8 +109,9 @@ pub fn explain_on_inputs<I: Read + Drop, J: Read + Drop, S: Sink>(
     report: J,
     sink: &mut S,
 ) -> Answer
-    requires { S.failed sink.old < 2 ^ 63 }
-    ensures explained { ExplainedOnFiles (I.remaining file) (J.remaining report) (S.bytes sink.old) (S.bytes sink.new) result }
+    requires { FewFailed (S.failed sink.old) }
+    ensures explained { ExplainedOnFiles (I.remaining file) (J.remaining report) (S.bytes sink.old)
+        (S.bytes sink.new) result }
     ensures done { result ≡ Answer.Done → S.flushed sink.new ≡ true }
     ensures bad { result ≡ Answer.Unlawful → S.flushed sink.new ≡ true }
     ensures failures { S.failed sink.new ≡ S.failed sink.old + failed_calls result }
@@ -124,7 +124,7 @@ pub fn explain_on_inputs<I: Read + Drop, J: Read + Drop, S: Sink>(
 
 /// The same of the bytes of both.
 fn explained_on<S: Sink>(alloc: Global, file: &[u8], report: &[u8], sink: &mut S) -> Answer
-    requires { S.failed sink.old < 2 ^ 63 }
+    requires { FewFailed (S.failed sink.old) }
     ensures explained { ExplainedOnBytes file.now report.now (S.bytes sink.old) (S.bytes sink.new) result }
     ensures done { result ≡ Answer.Done → S.flushed sink.new ≡ true }
     ensures bad { result ≡ Answer.Unlawful → S.flushed sink.new ≡ true }
@@ -145,7 +145,7 @@ fn explain_schedule_at<R: Files + AllocGlobal, S: Sink>(
     schedule: &str,
     sink: &mut S,
 ) -> Answer
-    requires { S.failed sink.old < 2 ^ 63 }
+    requires { FewFailed (S.failed sink.old) }
     ensures explained { ExplainedSchedule None None (S.bytes sink.old) (S.bytes sink.new) result }
     ensures flushed { result ≡ Answer.Done → S.flushed sink.new ≡ true }
     ensures failures { S.failed sink.new ≡ S.failed sink.old + failed_calls result }
@@ -163,8 +163,9 @@ pub fn explain_schedule_inputs<I: Read + Drop, J: Read + Drop, S: Sink>(
     schedule: J,
     sink: &mut S,
 ) -> Answer
-    requires { S.failed sink.old < 2 ^ 63 }
-    ensures explained { ExplainedSchedule (I.remaining file) (J.remaining schedule) (S.bytes sink.old) (S.bytes sink.new) result }
+    requires { FewFailed (S.failed sink.old) }
+    ensures explained { ExplainedSchedule (I.remaining file) (J.remaining schedule) (S.bytes sink.old)
+        (S.bytes sink.new) result }
     ensures flushed { result ≡ Answer.Done → S.flushed sink.new ≡ true }
     ensures failures { S.failed sink.new ≡ S.failed sink.old + failed_calls result }
 {
@@ -176,7 +177,7 @@ pub fn explain_schedule_inputs<I: Read + Drop, J: Read + Drop, S: Sink>(
 
 /// The same of the bytes of both.
 fn explained_moves<S: Sink>(alloc: Global, file: &[u8], schedule: &[u8], sink: &mut S) -> Answer
-    requires { S.failed sink.old < 2 ^ 63 }
+    requires { FewFailed (S.failed sink.old) }
     ensures explained { ExplainedMoves file.now schedule.now (S.bytes sink.old) (S.bytes sink.new) result }
     ensures flushed { result ≡ Answer.Done → S.flushed sink.new ≡ true }
     ensures failures { S.failed sink.new ≡ S.failed sink.old + failed_calls result }

@@ -1,14 +1,14 @@
 //! `stm explore`: the bytes of a file in, the text of what is found of all orders and a status out.
 
-ghost use Rattle.std.specs.Prelude.{◌≡◌, ◌<◌, ◌+◌, ◌^◌, true, None};
+ghost use Rattle.std.specs.Prelude.{◌≡◌, ◌+◌, true, None};
+ghost use Rattle.run_interface.specs.Counts.{FewFailed};
 ghost use Rattle.commands.specs.Files.{failed_calls};
 ghost use Rattle.commands.specs.Exploring.{ExploredBytes, ExploredFile, WitnessedBytes, WitnessedFile};
 
 use crate::reading::{bytes_of, opened};
-use command_answers::Answer;
-use explore_options::{Denials, Limit};
+use command_line::Answer;
 use explore_runner::{Judged, Witnessed, judge_bytes, witness_bytes};
-use run_sink::Sink;
+use run_interface::{Denials, Limit, Sink};
 use std::io::Read;
 use std::rt::Files;
 use txn_text::MAX_FILE;
@@ -22,7 +22,7 @@ pub fn explore_file<R: Files + Eprint + AllocGlobal, S: Sink>(
     denied: Denials,
     sink: &mut S,
 ) -> Answer
-    requires { S.failed sink.old < 2 ^ 63 }
+    requires { FewFailed (S.failed sink.old) }
     ensures explored { ExploredFile None limit denied (S.bytes sink.old) (S.bytes sink.new) result }
     ensures whole { result ≡ Answer.Done → S.flushed sink.new ≡ true }
     ensures more { result ≡ Answer.Unlawful → S.flushed sink.new ≡ true }
@@ -43,7 +43,7 @@ pub fn explore_input<R: Eprint + AllocGlobal, I: Read + Drop, S: Sink>(
     denied: Denials,
     sink: &mut S,
 ) -> Answer
-    requires { S.failed sink.old < 2 ^ 63 }
+    requires { FewFailed (S.failed sink.old) }
     ensures explored { ExploredFile (I.remaining input) limit denied (S.bytes sink.old) (S.bytes sink.new) result }
     ensures whole { result ≡ Answer.Done → S.flushed sink.new ≡ true }
     ensures more { result ≡ Answer.Unlawful → S.flushed sink.new ≡ true }
@@ -64,7 +64,7 @@ fn explored<R: Eprint + AllocGlobal, S: Sink>(
     denied: Denials,
     sink: &mut S,
 ) -> Answer
-    requires { S.failed sink.old < 2 ^ 63 }
+    requires { FewFailed (S.failed sink.old) }
     ensures explored { ExploredBytes limit denied bytes.now (S.bytes sink.old) (S.bytes sink.new) result }
     ensures whole { result ≡ Answer.Done → S.flushed sink.new ≡ true }
     ensures more { result ≡ Answer.Unlawful → S.flushed sink.new ≡ true }
@@ -96,7 +96,7 @@ pub fn witness_file<R: Files + Eprint + AllocGlobal, S: Sink>(
     end: usize,
     sink: &mut S,
 ) -> Answer
-    requires { S.failed sink.old < 2 ^ 63 }
+    requires { FewFailed (S.failed sink.old) }
     ensures witnessed { WitnessedFile None limit end (S.bytes sink.old) (S.bytes sink.new) result }
     ensures report { result ≡ Answer.Done → S.flushed sink.new ≡ true }
     ensures more { result ≡ Answer.Unlawful → S.flushed sink.new ≡ true }
@@ -116,7 +116,7 @@ pub fn witness_input<R: Eprint + AllocGlobal, I: Read + Drop, S: Sink>(
     end: usize,
     sink: &mut S,
 ) -> Answer
-    requires { S.failed sink.old < 2 ^ 63 }
+    requires { FewFailed (S.failed sink.old) }
     ensures witnessed { WitnessedFile (I.remaining input) limit end (S.bytes sink.old) (S.bytes sink.new) result }
     ensures report { result ≡ Answer.Done → S.flushed sink.new ≡ true }
     ensures more { result ≡ Answer.Unlawful → S.flushed sink.new ≡ true }
@@ -136,7 +136,7 @@ fn witnessed<R: Eprint + AllocGlobal, S: Sink>(
     end: usize,
     sink: &mut S,
 ) -> Answer
-    requires { S.failed sink.old < 2 ^ 63 }
+    requires { FewFailed (S.failed sink.old) }
     ensures witnessed { WitnessedBytes limit end bytes.now (S.bytes sink.old) (S.bytes sink.new) result }
     ensures report { result ≡ Answer.Done → S.flushed sink.new ≡ true }
     ensures more { result ≡ Answer.Unlawful → S.flushed sink.new ≡ true }

@@ -1,16 +1,17 @@
 //! `stm world`: the bytes of a file and of a schedule in, the text of its world and a status out.
 
-ghost use Rattle.std.specs.Prelude.{◌≡◌, ◌<◌, ◌+◌, ◌^◌, true, None};
+ghost use Rattle.std.specs.Prelude.{◌≡◌, ◌+◌, true, None};
+ghost use Rattle.run_interface.specs.Counts.{FewFailed};
 ghost use Rattle.commands.specs.Files.{failed_calls};
 ghost use Rattle.commands.specs.Playing.{Played, PlayedFiles};
 
 use crate::reading::{both_of, both_opened};
-use command_answers::Answer;
-use run_sink::Sink;
+use command_line::Answer;
+use run_interface::Sink;
 use std::alloc::Global;
 use std::io::Read;
 use std::rt::Files;
-use text_schedule_reader::MAX_SCHEDULE;
+use text_line_reader::MAX_SCHEDULE;
 use world_runner::world_bytes;
 
 /// Plays the schedule of the file at these paths, and writes the text of the world that it leads to
@@ -22,7 +23,7 @@ pub fn play_files<R: Files + AllocGlobal, S: Sink>(
     schedule: &str,
     sink: &mut S,
 ) -> Answer
-    requires { S.failed sink.old < 2 ^ 63 }
+    requires { FewFailed (S.failed sink.old) }
     ensures played { PlayedFiles None None (S.bytes sink.old) (S.bytes sink.new) result }
     ensures flushed { result ≡ Answer.Done → S.flushed sink.new ≡ true }
     ensures failures { S.failed sink.new ≡ S.failed sink.old + failed_calls result }
@@ -40,8 +41,9 @@ pub fn play_inputs<I: Read + Drop, J: Read + Drop, S: Sink>(
     schedule: J,
     sink: &mut S,
 ) -> Answer
-    requires { S.failed sink.old < 2 ^ 63 }
-    ensures played { PlayedFiles (I.remaining file) (J.remaining schedule) (S.bytes sink.old) (S.bytes sink.new) result }
+    requires { FewFailed (S.failed sink.old) }
+    ensures played { PlayedFiles (I.remaining file) (J.remaining schedule) (S.bytes sink.old)
+        (S.bytes sink.new) result }
     ensures flushed { result ≡ Answer.Done → S.flushed sink.new ≡ true }
     ensures failures { S.failed sink.new ≡ S.failed sink.old + failed_calls result }
 {
@@ -53,7 +55,7 @@ pub fn play_inputs<I: Read + Drop, J: Read + Drop, S: Sink>(
 
 /// Plays the schedule of these bytes of the file of these.
 fn answered<S: Sink>(alloc: Global, file: &[u8], schedule: &[u8], sink: &mut S) -> Answer
-    requires { S.failed sink.old < 2 ^ 63 }
+    requires { FewFailed (S.failed sink.old) }
     ensures played { Played file.now schedule.now (S.bytes sink.old) (S.bytes sink.new) result }
     ensures flushed { result ≡ Answer.Done → S.flushed sink.new ≡ true }
     ensures failures { S.failed sink.new ≡ S.failed sink.old + failed_calls result }

@@ -1,30 +1,30 @@
 //! `stm print`: the bytes of a file in, or of a file and of a report, the canonical text of a file
 //! and a status out.
 
-ghost use Rattle.std.specs.Prelude.{◌≡◌, ◌<◌, ◌+◌, ◌^◌, true, None};
+ghost use Rattle.std.specs.Prelude.{◌≡◌, ◌+◌, true, None};
+ghost use Rattle.run_interface.specs.Counts.{FewFailed};
 ghost use Rattle.commands.specs.Files.{failed_calls};
 ghost use Rattle.commands.specs.Printing.{PrintedAs, PrintedBytes, PrintedFile, PrintedOnBytes, PrintedOnFiles};
 
 use crate::checking::answer_of;
 use crate::reading::{both_of, both_opened, bytes_of, opened};
-use command_answers::Answer;
-use command_line::{Print, Printed};
-use print_files::{Next, print_bytes, print_on_bytes};
-use run_sink::Sink;
+use command_line::{Answer, Print, Printed};
+use file_chains::{Next, print_bytes, print_on_bytes};
+use run_interface::Sink;
 use std::alloc::Global;
 use std::io::Read;
 use std::rt::Files;
-use text_report_reader::MAX_REPORT;
+use text_line_reader::MAX_REPORT;
 use txn_text::MAX_FILE;
 
 /// Prints what the command line asks for.
 #[inline(never)]
-pub fn print_files<R: Files + AllocGlobal, S: Sink>(
+pub fn print_as<R: Files + AllocGlobal, S: Sink>(
     rt: &R,
     request: &Print<'_>,
     sink: &mut S,
 ) -> Answer
-    requires { S.failed sink.old < 2 ^ 63 }
+    requires { FewFailed (S.failed sink.old) }
     ensures printed { PrintedAs request.now.what (S.bytes sink.old) (S.bytes sink.new) result }
     ensures done { result ≡ Answer.Done → S.flushed sink.new ≡ true }
     ensures failures { S.failed sink.new ≡ S.failed sink.old + failed_calls result }
@@ -38,7 +38,7 @@ pub fn print_files<R: Files + AllocGlobal, S: Sink>(
 
 /// Writes the canonical text of the file at the path to the sink.
 pub fn print_file_at<R: Files + AllocGlobal, S: Sink>(rt: &R, path: &str, sink: &mut S) -> Answer
-    requires { S.failed sink.old < 2 ^ 63 }
+    requires { FewFailed (S.failed sink.old) }
     ensures printed { PrintedFile None (S.bytes sink.old) (S.bytes sink.new) result }
     ensures flushed { result ≡ Answer.Done → S.flushed sink.new ≡ true }
     ensures failures { S.failed sink.new ≡ S.failed sink.old + failed_calls result }
@@ -51,7 +51,7 @@ pub fn print_file_at<R: Files + AllocGlobal, S: Sink>(rt: &R, path: &str, sink: 
 
 /// Writes the canonical text of the file that a reader has to the sink.
 pub fn print_input<I: Read + Drop, S: Sink>(alloc: Global, input: I, sink: &mut S) -> Answer
-    requires { S.failed sink.old < 2 ^ 63 }
+    requires { FewFailed (S.failed sink.old) }
     ensures printed { PrintedFile (I.remaining input) (S.bytes sink.old) (S.bytes sink.new) result }
     ensures flushed { result ≡ Answer.Done → S.flushed sink.new ≡ true }
     ensures failures { S.failed sink.new ≡ S.failed sink.old + failed_calls result }
@@ -64,7 +64,7 @@ pub fn print_input<I: Read + Drop, S: Sink>(alloc: Global, input: I, sink: &mut 
 
 /// Writes the canonical text of the file of these bytes to the sink.
 fn printed<S: Sink>(alloc: Global, bytes: &[u8], sink: &mut S) -> Answer
-    requires { S.failed sink.old < 2 ^ 63 }
+    requires { FewFailed (S.failed sink.old) }
     ensures printed { PrintedBytes bytes.now (S.bytes sink.old) (S.bytes sink.new) result }
     ensures flushed { result ≡ Answer.Done → S.flushed sink.new ≡ true }
     ensures failures { S.failed sink.new ≡ S.failed sink.old + failed_calls result }
@@ -84,7 +84,7 @@ pub fn print_on_files<R: Files + AllocGlobal, S: Sink>(
     next: Next,
     sink: &mut S,
 ) -> Answer
-    requires { S.failed sink.old < 2 ^ 63 }
+    requires { FewFailed (S.failed sink.old) }
     ensures printed { PrintedOnFiles next None None (S.bytes sink.old) (S.bytes sink.new) result }
     ensures done { result ≡ Answer.Done → S.flushed sink.new ≡ true }
     ensures bad { result ≡ Answer.Unlawful → S.flushed sink.new ≡ true }
@@ -104,8 +104,9 @@ pub fn print_on_inputs<I: Read + Drop, J: Read + Drop, S: Sink>(
     next: Next,
     sink: &mut S,
 ) -> Answer
-    requires { S.failed sink.old < 2 ^ 63 }
-    ensures printed { PrintedOnFiles next (I.remaining file) (J.remaining report) (S.bytes sink.old) (S.bytes sink.new) result }
+    requires { FewFailed (S.failed sink.old) }
+    ensures printed { PrintedOnFiles next (I.remaining file) (J.remaining report) (S.bytes sink.old)
+        (S.bytes sink.new) result }
     ensures done { result ≡ Answer.Done → S.flushed sink.new ≡ true }
     ensures bad { result ≡ Answer.Unlawful → S.flushed sink.new ≡ true }
     ensures failures { S.failed sink.new ≡ S.failed sink.old + failed_calls result }
@@ -124,7 +125,7 @@ fn printed_on<S: Sink>(
     next: Next,
     sink: &mut S,
 ) -> Answer
-    requires { S.failed sink.old < 2 ^ 63 }
+    requires { FewFailed (S.failed sink.old) }
     ensures printed { PrintedOnBytes next file.now report.now (S.bytes sink.old) (S.bytes sink.new) result }
     ensures done { result ≡ Answer.Done → S.flushed sink.new ≡ true }
     ensures bad { result ≡ Answer.Unlawful → S.flushed sink.new ≡ true }

@@ -1,16 +1,17 @@
 //! The program: words and files in, a report and a status out.
 
-ghost use Rattle.std.specs.Prelude.{◌<◌, ◌^◌};
+ghost use Rattle.run_interface.specs.Counts.{FewFailed};
 
 use crate::checking::check_as;
-use crate::explaining::explain_files;
+use crate::explaining::explain_as;
 use crate::exploring::{explore_file, witness_file};
+use crate::finding::find_as;
+use crate::graphing::graph_file;
 use crate::playing::play_files;
-use crate::printing::print_files;
+use crate::printing::print_as;
 use crate::running::run_file;
-use command_answers::{Answer, told};
-use command_line::{Orders, Request, asked, words_given};
-use run_sink::{Out, Sink};
+use command_line::{Answer, Orders, Request, asked, told, words_given};
+use run_interface::{Out, Sink};
 use runner::{Gate, OpenGate};
 use std::io;
 use std::rt::{Env, Files};
@@ -64,23 +65,27 @@ fn answered<T: Threads + Wait + Sync, R: Files + Print + Eprint + AllocGlobal, G
         Request::Run(run) => run_file(threads, rt, run.file, run.options, gate, &mut out),
         Request::Check(check) => check_as(rt, check, &mut out),
         Request::World(played) => play_files(rt, played.file, played.schedule, &mut out),
-        Request::Print(print) => print_files(rt, print, &mut out),
+        Request::Print(print) => print_as(rt, print, &mut out),
         Request::Explore(orders) => orders_of(rt, orders, &mut out),
-        Request::Explain(explain) => explain_files(rt, explain, &mut out),
+        Request::Explain(explain) => explain_as(rt, explain, &mut out),
     }
 }
 
-/// All orders of a file's tasks, or the one that was asked for.
+/// All orders of a file's tasks, their graph, or the one that was asked for.
 #[inline(never)]
 fn orders_of<R: Files + Eprint + AllocGlobal, S: Sink>(
     rt: &R,
     orders: &Orders<'_>,
     sink: &mut S,
 ) -> Answer
-    requires { S.failed sink.old < 2 ^ 63 }
+    requires { FewFailed (S.failed sink.old) }
 {
-    match orders.to {
-        Some(end) => witness_file(rt, orders.file, orders.limit, end, sink),
-        None => explore_file(rt, orders.file, orders.limit, orders.denied, sink),
+    if orders.graph {
+        return graph_file(rt, orders.file, orders.limit, sink);
+    }
+    match (orders.to, orders.find) {
+        (Some(end), _) => witness_file(rt, orders.file, orders.limit, end, sink),
+        (None, Some(find)) => find_as(rt, orders.file, orders.limit, find, sink),
+        (None, None) => explore_file(rt, orders.file, orders.limit, orders.denied, sink),
     }
 }

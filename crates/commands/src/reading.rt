@@ -3,17 +3,16 @@
 ghost use Rattle.std.specs.Prelude.{◌<◌, ◌^◌, IfOk, IfErr};
 ghost use Rattle.commands.specs.Files.{IsRead, IsUnread, file_limit, report_limit};
 
-use command_answers::{Answer, unread};
-use command_line::Earlier;
+use command_line::{Answer, Earlier, unread};
 use std::alloc::Global;
 use std::io::Read;
 use std::rt::Files;
 use std::{fs, io};
-use text_report_reader::MAX_REPORT;
+use text_line_reader::MAX_REPORT;
 use txn_text::MAX_FILE;
 
 /// What the reader has left, of which at most one byte past the limit is read: with it, what has more
-/// bytes than the limit is known to be too long. `Err` is the reader's, or want of memory.
+/// bytes than the limit is known to be too long. `Err` is the reader's, or out of memory.
 pub fn read_up_to<I: Read + Drop>(alloc: Global, input: I, limit: usize) -> io::Result<Vec<u8>>
     requires { limit < 2 ^ 32 }
     ensures { IfOk result (λ bytes. IsRead limit (I.remaining input) bytes.items) }
@@ -99,7 +98,8 @@ pub(crate) fn chapter_of<I: Read + Drop, J: Read + Drop, K: Read + Drop, L: Read
     ensures file { IfOk result (λ all. IsRead file_limit (I.remaining file) all.file.items) }
     ensures report { IfOk result (λ all. IsRead report_limit (J.remaining report) all.report.items) }
     ensures earlier { IfOk result (λ all. IsRead file_limit (K.remaining earlier) all.earlier.items) }
-    ensures earlier_report { IfOk result (λ all. IsRead report_limit (L.remaining earlier_report) all.earlier_report.items) }
+    ensures earlier_report { IfOk result
+        (λ all. IsRead report_limit (L.remaining earlier_report) all.earlier_report.items) }
     ensures unread { IfErr result IsUnread }
 {
     let (file, report) = both_of(alloc, file, report, MAX_REPORT)?;

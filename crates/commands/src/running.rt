@@ -1,12 +1,12 @@
 //! `stm run`: the bytes of a file in, its report and a status out.
 
-ghost use Rattle.std.specs.Prelude.{◌≡◌, ◌<◌, ◌+◌, ◌^◌, true, None};
+ghost use Rattle.std.specs.Prelude.{◌≡◌, ◌+◌, true, None};
+ghost use Rattle.run_interface.specs.Counts.{FewFailed};
 ghost use Rattle.commands.specs.Files.{RanBytes, RanFile, failed_calls};
 
 use crate::reading::{bytes_of, opened};
-use command_answers::Answer;
-use run_options::Options;
-use run_sink::Sink;
+use command_line::Answer;
+use run_interface::{Options, Sink};
 use runner::{Gate, run_bytes};
 use std::alloc::Global;
 use std::io::Read;
@@ -25,7 +25,7 @@ pub(crate) fn run_file<T: Threads + Wait + Sync, R: Files + AllocGlobal, G: Gate
     gate: &G,
     sink: &mut S,
 ) -> Answer
-    requires { S.failed sink.old < 2 ^ 63 }
+    requires { FewFailed (S.failed sink.old) }
     ensures ran { RanFile None options.checkpoint (S.bytes sink.old) (S.bytes sink.new) result }
     ensures flushed { result ≡ Answer.Done → S.flushed sink.new ≡ true }
     ensures failures { S.failed sink.new ≡ S.failed sink.old + failed_calls result }
@@ -46,7 +46,7 @@ pub fn run_input<T: Threads + Wait + Sync, I: Read + Drop, G: Gate, S: Sink>(
     gate: &G,
     sink: &mut S,
 ) -> Answer
-    requires { S.failed sink.old < 2 ^ 63 }
+    requires { FewFailed (S.failed sink.old) }
     ensures ran { RanFile (I.remaining input) options.checkpoint (S.bytes sink.old) (S.bytes sink.new) result }
     ensures flushed { result ≡ Answer.Done → S.flushed sink.new ≡ true }
     ensures failures { S.failed sink.new ≡ S.failed sink.old + failed_calls result }
@@ -66,7 +66,7 @@ fn answered<T: Threads + Wait + Sync, G: Gate, S: Sink>(
     gate: &G,
     sink: &mut S,
 ) -> Answer
-    requires { S.failed sink.old < 2 ^ 63 }
+    requires { FewFailed (S.failed sink.old) }
     ensures ran { RanBytes options.checkpoint bytes.now (S.bytes sink.old) (S.bytes sink.new) result }
     ensures flushed { result ≡ Answer.Done → S.flushed sink.new ≡ true }
     ensures failures { S.failed sink.new ≡ S.failed sink.old + failed_calls result }

@@ -1,18 +1,18 @@
 //! Each command of what readers have, on its happy path. The texts are those that the pages of the commands
 //! show.
 
-use command_answers::Answer;
+use crate::exploring::GRAPH;
+use command_line::Answer;
 use commands::chapters::{check_chapter_inputs, explain_chapter_inputs};
 use commands::checking::check_inputs;
 use commands::explaining::{explain_input, explain_on_inputs, explain_schedule_inputs};
 use commands::exploring::{explore_input, witness_input};
+use commands::graphing::graph_input;
 use commands::playing::play_inputs;
 use commands::printing::{print_input, print_on_inputs};
 use commands::running::run_input;
-use explore_options::{Denials, Limit};
-use print_files::Next;
-use run_options::Options;
-use run_sink::Out;
+use file_chains::Next;
+use run_interface::{Denials, Limit, Options, Out};
 use runner::OpenGate;
 use std::process::Abort;
 
@@ -113,6 +113,9 @@ fn all_orders_are_seen(rt: HostRuntime) {
     let mut out = Out::new(Vec::new(rt.alloc()));
     let answer = witness_input(&rt, FILE, limit, 0, &mut out);
     expect(&rt, answer, out, REPORT);
+    let mut out = Out::new(Vec::new(rt.alloc()));
+    let answer = graph_input(rt.alloc(), FILE, limit, &mut out);
+    expect(&rt, answer, out, GRAPH);
 }
 
 #[test]

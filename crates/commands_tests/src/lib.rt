@@ -1,5 +1,5 @@
-//! Tests of the public calls of `command_line`, what the words ask for, help, and refusals; and of `commands`, each status,
-//! and what is read and written on the way.
+//! Tests of the public calls of `command_line`, what the words ask for, help, and refusals; and of `commands`, each
+//! status, and what is read and written on the way.
 #![tactic(auto)]
 
 #[cfg(test)]

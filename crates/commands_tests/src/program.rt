@@ -43,7 +43,7 @@ fn a_report_is_0(rt: HostRuntime) {
 }
 
 /// Two more words of `stm run`, and where the report of three increments then begins.
-const OPTIONS: [(&[u8], &[u8], &[u8]); 9] = [
+const OPTIONS: [(&[u8], &[u8], &[u8]); 12] = [
     (b"--workers", b"1", b"base 0\nx 5 0\nentry 1 "),
     (b"--workers", b"2", b"base 0\nx 5 0\nentry 1 "),
     (b"--workers", b"16", b"base 0\nx 5 0\nentry 1 "),
@@ -53,6 +53,9 @@ const OPTIONS: [(&[u8], &[u8], &[u8]); 9] = [
     (b"--checkpoint", b"2", b"base 2\nx 7 2\nentry 3 "),
     (b"--checkpoint", b"3", b"base 3\nx 8 3\nnow 3\n"),
     (b"--checkpoint", b"65536", b"base 0\nx 5 0\nentry 1 "),
+    (b"--seed", b"0", b"base 0\nx 5 0\nentry 1 1 "),
+    (b"--seed", b"1", b"base 0\nx 5 0\nentry 1 2 "),
+    (b"--seed", b"3", b"base 0\nx 5 0\nentry 1 0 "),
 ];
 
 /// Each option comes through to the run: the base is that of the checkpoint, and the end is the same.

@@ -1,9 +1,8 @@
 //! The command line: what is asked for, help, and refusals.
 
 use crate::shown::Shown;
-use command_answers::Answer;
-use command_line::{Earlier, Explained, Printed, Request, asked};
-use explore_options::{Denial, Denials, Limit};
+use command_line::{Answer, Earlier, Explained, Find, Printed, Request, asked};
+use run_interface::{Denial, Denials, Limit};
 use std::alloc::{AllocError, Global};
 use std::process::Abort;
 
@@ -76,6 +75,31 @@ fn a_checkpoint_is_asked_for(rt: HostRuntime) {
     );
 }
 
+/// A command line asks to run `a.stm` by one worker in the order that this seed draws.
+fn expect_seed(rt: &impl Abort, alloc: Global, line: &str, seed: u64) {
+    let words = words(rt, alloc, line);
+    match asked(&Shown::new(alloc), words.as_slice()) {
+        Ok(Request::Run(request)) => {
+            assert!(rt; request.options.workers() == 1);
+            assert!(rt; request.options.seed() == Some(seed));
+        }
+        _ => panic!(rt; "no run is asked for"),
+    }
+}
+
+#[test]
+fn a_seed_is_asked_for(rt: HostRuntime) {
+    let alloc = rt.alloc();
+    expect_seed(&rt, alloc, "stm run a.stm --seed 0", 0);
+    expect_seed(&rt, alloc, "stm run a.stm --workers 1 --seed=7", 7);
+    expect_seed(
+        &rt,
+        alloc,
+        "stm run --seed 18446744073709551615 a.stm",
+        u64::MAX,
+    );
+}
+
 /// A command line asks for a check of `a.report`, or to play `a.schedule`, of `a.stm`.
 fn asks_for(rt: &impl Abort, alloc: Global, line: &str, other: &str) -> bool {
     let words = words(rt, alloc, line);
@@ -131,55 +155,76 @@ fn expect_mistake(rt: &(impl Abort + Eprint), alloc: Global, line: &str) {
     assert!(rt; answer == Some(Answer::Refused), "of {line}");
 }
 
+const MISTAKES: &[&str] = &[
+    "stm",
+    "stm walk",
+    "stm run",
+    "stm run a b",
+    "stm run a --workers 17",
+    "stm run a --workers 0",
+    "stm run a --workers x",
+    "stm run a --workers 99999999999",
+    "stm run a --workers 1 --workers 1",
+    "stm run a --tries 0",
+    "stm run a --tries 65",
+    "stm run a --checkpoint 65537",
+    "stm run a --checkpoint x",
+    "stm run a --checkpoint",
+    "stm run a --seed",
+    "stm run a --seed x",
+    "stm run a --seed=-1",
+    "stm run a --seed 18446744073709551616",
+    "stm run a --seed 1 --seed 1",
+    "stm run a --seed 1 --workers 2",
+    "stm run a --seed 1 --workers 4",
+    "stm run a --seed 1 --schedule b",
+    "stm check",
+    "stm check a",
+    "stm check a b c",
+    "stm check a b --workers 1",
+    "stm check a b --after",
+    "stm check a b --after c",
+    "stm check a b --after c d e",
+    "stm check a --after c d",
+    "stm world",
+    "stm world a",
+    "stm world a b c",
+    "stm world a b --workers 1",
+    "stm explore",
+    "stm explore a b",
+    "stm explore a --states 0",
+    "stm explore a --states 16777217",
+    "stm explore a --to 0",
+    "stm explore a --to 16777217",
+    "stm explore a --deny",
+    "stm explore a --deny parks",
+    "stm explore a --deny parked threw",
+    "stm explore a --deny parked --to 1",
+    "stm explore a --dot --to 1",
+    "stm explore a --deny parked --dot",
+    "stm explore a --dot=b",
+    "stm explore a --dot --dot",
+    "stm explore a --dot --find t threw",
+    "stm explore a --find",
+    "stm explore a --find t",
+    "stm explore a --find t threw 1",
+    "stm explore a --find t threw --to 1",
+    "stm explore a --find t threw --deny parked",
+    "stm explore a --find t threw --find u threw",
+    "stm print",
+    "stm print a b",
+    "stm print a --from",
+    "stm print a --after",
+    "stm print a --after b c",
+    "stm print a --after b --from b",
+    "stm explain a --after c d",
+    "stm explain a b --after c",
+    "stm explain a --after c d --schedule e",
+];
+
 #[test]
 fn mistakes_are_refused(rt: HostRuntime) {
-    for line in [
-        "stm",
-        "stm walk",
-        "stm run",
-        "stm run a b",
-        "stm run a --workers 17",
-        "stm run a --workers 0",
-        "stm run a --workers x",
-        "stm run a --workers 99999999999",
-        "stm run a --workers 1 --workers 1",
-        "stm run a --tries 0",
-        "stm run a --tries 65",
-        "stm run a --checkpoint 65537",
-        "stm run a --checkpoint x",
-        "stm run a --checkpoint",
-        "stm check",
-        "stm check a",
-        "stm check a b c",
-        "stm check a b --workers 1",
-        "stm check a b --after",
-        "stm check a b --after c",
-        "stm check a b --after c d e",
-        "stm check a --after c d",
-        "stm world",
-        "stm world a",
-        "stm world a b c",
-        "stm world a b --workers 1",
-        "stm explore",
-        "stm explore a b",
-        "stm explore a --states 0",
-        "stm explore a --states 16777217",
-        "stm explore a --to 0",
-        "stm explore a --to 16777217",
-        "stm explore a --deny",
-        "stm explore a --deny parks",
-        "stm explore a --deny parked threw",
-        "stm explore a --deny parked --to 1",
-        "stm print",
-        "stm print a b",
-        "stm print a --from",
-        "stm print a --after",
-        "stm print a --after b c",
-        "stm print a --after b --from b",
-        "stm explain a --after c d",
-        "stm explain a b --after c",
-        "stm explain a --after c d --schedule e",
-    ] {
+    for &line in MISTAKES {
         expect_mistake(&rt, rt.alloc(), line);
     }
 }
@@ -213,6 +258,16 @@ fn ranges_are_told(rt: HostRuntime) {
         alloc,
         "stm run a --checkpoint 65537",
         "error: invalid value '65537' for '--checkpoint <N>': 65537 is not in 0..=65536\n",
+    );
+}
+
+#[test]
+fn a_seed_for_many_is_told(rt: HostRuntime) {
+    expect_told(
+        &rt,
+        rt.alloc(),
+        "stm run a --seed 1 --workers 2",
+        "error: a seed draws the order for one worker: give --workers 1 with it, or none\n",
     );
 }
 
@@ -277,7 +332,8 @@ fn close_names_are_told(rt: HostRuntime) {
     for (line, told) in [
         (
             "stm chekc a b",
-            "error: unrecognized subcommand 'chekc'\n\n  tip: a similar subcommand exists: 'check'\n\nUsage: stm <COMMAND>\n",
+            "error: unrecognized subcommand 'chekc'\n\n  tip: a similar subcommand exists: 'check'\n\nUsage: stm \
+                <COMMAND>\n",
         ),
         (
             "stm wrold run",
@@ -306,11 +362,13 @@ fn usages_are_told(rt: HostRuntime) {
         ),
         (
             "stm check a",
-            "error: the following required arguments were not provided:\n  <REPORT>\n\nUsage: stm check <FILE> <REPORT>\n",
+            "error: the following required arguments were not provided:\n  <REPORT>\n\nUsage: stm check <FILE> \
+                <REPORT>\n",
         ),
         (
             "stm run a --wrokers 3",
-            "error: unexpected argument '--wrokers' found\n\n  tip: a similar argument exists: '--workers'\n\nUsage: stm run --workers <N> <FILE>\n",
+            "error: unexpected argument '--wrokers' found\n\n  tip: a similar argument exists: \
+                '--workers'\n\nUsage: stm run --workers <N> <FILE>\n",
         ),
         (
             "stm print --form b",
@@ -322,11 +380,13 @@ fn usages_are_told(rt: HostRuntime) {
         ),
         (
             "stm explore a --deny prked",
-            "error: invalid value 'prked' for '--deny <WHAT>'\n  [possible values: parked, threw, broke, overflow, zerodiv]\n\n  tip: a similar value exists: 'parked'\n",
+            "error: invalid value 'prked' for '--deny <WHAT>'\n  [possible values: parked, threw, broke, overflow, \
+                zerodiv]\n\n  tip: a similar value exists: 'parked'\n",
         ),
         (
             "stm explore a --deny",
-            "error: a value is required for '--deny <WHAT>' but none was supplied\n  [possible values: parked, threw, broke, overflow, zerodiv]\n",
+            "error: a value is required for '--deny <WHAT>' but none was supplied\n  [possible values: parked, \
+                threw, broke, overflow, zerodiv]\n",
         ),
     ] {
         expect_told(&rt, rt.alloc(), line, told);
@@ -345,7 +405,7 @@ fn the_version_is_shown(rt: HostRuntime) {
     expect_version(&rt, rt.alloc(), "stm --version", "stm 0.2.0\n");
 }
 
-/// A command line asks to see the orders of `a.stm`, of so many places, or for a report to this end.
+/// A command line asks to see the orders of `a.stm`, of so many states, or for a report to this end.
 fn expect_orders(rt: &impl Abort, alloc: Global, line: &str, wanted: (u32, Option<usize>)) {
     let words = words(rt, alloc, line);
     match asked(&Shown::new(alloc), words.as_slice()) {
@@ -373,6 +433,37 @@ fn orders_are_asked_for(rt: HostRuntime) {
         alloc,
         "stm explore --to=16777216 --states=16777216 a.stm",
         (16777216, Some(16777215)),
+    );
+}
+
+/// A command line asks for a report of `a.stm` that comes to this.
+fn expect_find(rt: &impl Abort, alloc: Global, line: &str, wanted: Option<Find<'_>>) {
+    let words = words(rt, alloc, line);
+    match asked(&Shown::new(alloc), words.as_slice()) {
+        Ok(Request::Explore(request)) => assert!(rt; request.find == wanted),
+        _ => panic!(rt; "no orders are asked for"),
+    }
+}
+
+#[test]
+fn what_is_sought_is_asked_for(rt: HostRuntime) {
+    let alloc = rt.alloc();
+    let sought = Find {
+        transaction: "pay",
+        outcome: "threw",
+    };
+    expect_find(&rt, alloc, "stm explore a.stm", None);
+    expect_find(
+        &rt,
+        alloc,
+        "stm explore a.stm --find pay threw",
+        Some(sought),
+    );
+    expect_find(
+        &rt,
+        alloc,
+        "stm explore --states 2 --find pay threw a.stm",
+        Some(sought),
     );
 }
 
@@ -408,6 +499,44 @@ fn what_is_denied_is_asked_for(rt: HostRuntime) {
         "stm explore --deny overflow --deny zerodiv a.stm",
         none.with(Denial::Overflow).with(Denial::ZeroDiv),
     );
+}
+
+/// A command line asks to see the orders of `a.stm`, of so many states, as a graph or not.
+fn expect_drawn(rt: &impl Abort, alloc: Global, line: &str, wanted: (u32, bool)) {
+    let words = words(rt, alloc, line);
+    match asked(&Shown::new(alloc), words.as_slice()) {
+        Ok(Request::Explore(request)) => {
+            assert!(rt; request.file == "a.stm");
+            assert!(rt; request.limit.states() == wanted.0);
+            assert!(rt; request.graph == wanted.1);
+        }
+        _ => panic!(rt; "no orders are asked for"),
+    }
+}
+
+#[test]
+fn a_graph_is_asked_for(rt: HostRuntime) {
+    let alloc = rt.alloc();
+    expect_drawn(&rt, alloc, "stm explore a.stm", (1000000, false));
+    expect_drawn(&rt, alloc, "stm explore a.stm --dot", (1000000, true));
+    let few = "stm explore --dot --states 7 a.stm";
+    expect_drawn(&rt, alloc, few, (7, true));
+}
+
+#[test]
+fn neither_an_end_nor_a_denial_goes_with_a_graph(rt: HostRuntime) {
+    for (line, told) in [
+        (
+            "stm explore a --dot --to 1",
+            "error: the argument '--dot' cannot be used with '--to <K>'\n",
+        ),
+        (
+            "stm explore a --deny parked --dot",
+            "error: the argument '--deny <WHAT>' cannot be used with '--dot'\n",
+        ),
+    ] {
+        expect_told(&rt, rt.alloc(), line, told);
+    }
 }
 
 /// A command line asks to print this of `a.stm`.

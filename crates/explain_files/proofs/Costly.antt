@@ -9,18 +9,18 @@ use Rattle.txn_programs.specs.declared.ast.Cond.{Cond}
 use Rattle.txn_programs.specs.declared.ast.Tx.{Tx}
 use Rattle.txn_programs.specs.Tree.{Condition, condition_of, transaction_of}
 use Rattle.txn_programs.specs.Meaning.{State, truth}
-use Rattle.txn_programs.specs.Names.{knows_condition}
+use Rattle.txn_programs.specs.Names.{knows_standing}
+use Rattle.txn_programs.proofs.Lawful.{all_standing}
 use Rattle.txn_programs.specs.Standing.{is_true}
 use Rattle.txn_programs.specs.Scope.{ConditionsKnown}
 use Rattle.txn_programs.specs.Cost.{conditions_cost}
 use Rattle.txn_programs.specs.Limits.{conditions_fit}
 use Rattle.txn_evaluator.specs.Always.{conditions_of}
-use Rattle.txn_rules.specs.Beside.{fits_beside}
+use Rattle.txn_declarations.specs.Beside.{fits_beside}
 use Rattle.text_resolver.specs.Parts.{view_condition}
-use Rattle.text_laws.proofs.Declared.{both}
-use Rattle.text_laws.proofs.Back.{both_true}
+use Rattle.text_file_reader.proofs.Declared.{both}
+use Rattle.text_file_reader.proofs.Back.{both_true}
 use Rattle.explain_files.specs.Declarations.{IsOver, IsOverBeside, IsFalse}
-use Rattle.explain_files.proofs.Known.{all_known}
 
 abbrev Standing : Type 0
 Standing = String Global × Cond
@@ -153,9 +153,8 @@ is_false always values i x y text lt e g t b h =
     }
 
 -- they name only variables that there are
-pub known_conditions : (n : ℕ) (always : List Standing) → list_all (knows_condition n) (standing_conditions (map view_condition always)) ≡ true → ConditionsKnown n (conditions_of always)
-known_conditions n always h =
-    all_known n always (sym (list_all-map (knows_condition n) (λ (a : Standing). condition_of a.1) always) ∙ sym (ap (list_all (knows_condition n)) (same_always always)) ∙ h)
+pub known_conditions : (n : ℕ) (always : List Standing) → list_all (knows_standing n) (standing_conditions (map view_condition always)) ≡ true → ConditionsKnown n (conditions_of always)
+known_conditions n always h = all_standing n (conditions_of always) (sym (ap (list_all (knows_standing n)) (same_always always)) ∙ h)
 
 pub untrue_conditions : (values : State) (always : List (List ℕ × Condition)) → list_all (λ c. is_true (truth c values)) (standing_conditions always) ≡ false → list_all (true_of values) always ≡ false
 untrue_conditions values always h = sym (list_all-map (λ (c : Condition). is_true (truth c values)) (λ (a : List ℕ × Condition). a.1) always) ∙ h

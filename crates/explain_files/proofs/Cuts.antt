@@ -1,5 +1,5 @@
 -- Where bytes may be cut: between two pieces, each a token, a blank or a comment.
-use Rattle.std.proofs.Common.{◌≡◌, ◌∙◌, ℕ, zero, suc, ◌+◌, ◌-◌, ◌<◌, ◌≤◌, ◌||◌, Bool, true, false, eqb, List, [], ◌∷◌, ◌++◌, length, take, drop, get_or, refl, sym, ap, subst, arith, add-one, add_assoc, zero-add, append_assoc}
+use Rattle.std.proofs.Common.{◌≡◌, ◌∙◌, ℕ, zero, suc, ◌+◌, ◌-◌, ◌<◌, ◌≤◌, Bool, true, false, eqb, List, [], ◌∷◌, ◌++◌, length, take, drop, get_or, refl, sym, ap, subst, arith, add-one, add_assoc, append_assoc}
 use Rattle.std.specs.List.{prefix_len, list_all}
 use Rattle.std.proofs.Common.{inl, inr}
 use Rattle.std.proofs.Math.Seq.{take-add, take-length}
@@ -10,7 +10,7 @@ use Rattle.text_words.specs.Bytes.{is_in_line, is_blank, is_atom_byte}
 use Rattle.text_words.specs.Tokens.{Lexeme, Opens, Closes, atom, tokens}
 use Rattle.text_words.proofs.Lexing.{stops, tokens-gap, tokens-comment, tokens-nil, tokens-open, tokens-close, tokens-text}
 use Rattle.explain_files.specs.Tokens.{BeginsToken, IsApart, is_parenthesis}
-use Rattle.explain_files.proofs.Gaps.{neither}
+use Rattle.explain_files.proofs.Gaps.{neither, behind_blank, behind_comment, begins, next_none, next_parenthesis, next_atom}
 use Rattle.explain_files.proofs.Prefixes.{before}
 
 -- ---- runs of bytes
@@ -157,6 +157,12 @@ atom_apart n bytes lt begins h e = one_apart bytes n (atom_of n bytes lt begins 
 
 pub atom_alone : (n : ℕ) (bytes : List ℕ) → 0 < length bytes → BeginsToken bytes → is_parenthesis (get_or bytes 0 0) ≡ false → n ≡ prefix_len is_atom_byte bytes → tokens (take n bytes) ≡ take 1 (tokens bytes)
 atom_alone n bytes lt begins h e = one_alone bytes n (atom_of n bytes lt begins h e)
+
+-- of a blank or a comment that stands first, or none
+pub ruleset gaps = (behind_blank, behind_comment, begins, nothing_apart, blank_apart, blank_nothing)
+
+-- of the first token, or none
+pub ruleset first_tokens = (next_none, next_parenthesis, next_atom, nothing_apart, none_alone, parenthesis_apart, parenthesis_alone, atom_apart, atom_alone)
 
 -- ---- pieces in a row
 

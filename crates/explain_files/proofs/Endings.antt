@@ -7,27 +7,28 @@ use Rattle.text_words.specs.Answers.{◌>>=◌}
 use Rattle.text_words.specs.TokenReading.{close_at, name_at, int_at, is_open, open_at, word_at, form_at, begins, all_of}
 use Rattle.text_words.specs.declared.fault.ReadFault.{ReadFault}
 use Rattle.text_words.proofs.Many.{all-stop}
-use Rattle.text_grammar.specs.Tree.{File, Pair, Always, Declaration}
+use Rattle.text_grammar.specs.Tree.{File, Pair, Always, Declaration, Run}
 use Rattle.text_grammar.specs.Tree as tree
-use Rattle.text_grammar.specs.Reading.{binary_with, expr_at, cond_at, stmt_at, pair_at, always_at, conditions_at, tx_at, end_at, heading_at, file_of}
+use Rattle.text_grammar.specs.Reading.{binary_with, expr_at, cond_at, stmt_at, pair_at, always_at, conditions_at, tx_at, run_at, end_at, heading_at, file_of}
 use Rattle.text_grammar.specs.declared.words.Operator.TheVariants as operator
 use Rattle.text_grammar.specs.declared.words.Comparison.TheVariants as comparison
 use Rattle.text_grammar.specs.declared.file.FileForm.{FileForm}
-use Rattle.text_grammar.specs.declared.file.FileForm.TheVariants.{One, Two}
+use Rattle.text_grammar.specs.declared.file.FileForm.TheVariants.{One, Two, Three}
 use Rattle.text_grammar.proofs.Exprs.{expr_again}
 use Rattle.text_grammar.proofs.Conds.{cond_again}
 use Rattle.text_grammar.proofs.Stmts.{stmt_again}
+use Rattle.text_grammar.proofs.Lists.{list_again, names_stop, ints_stop}
 use Rattle.text_grammar.proofs.Files.{file_takes, file_again}
 use Rattle.explain_files.specs.declared.wanted.Section.{Section}
 use Rattle.explain_files.specs.declared.wanted.Section.TheVariants as section
 use Rattle.explain_files.specs.declared.wanted.Kind.TheVariants as kind
 use Rattle.explain_files.specs.declared.wanted.Wanted.{Wanted}
 use Rattle.explain_files.specs.declared.wanted.Wanted.TheVariants as want
-use Rattle.explain_files.specs.Forms.{part_behind}
+use Rattle.explain_files.specs.Forms.{form_in, part_behind}
 use Rattle.explain_files.specs.Walking.{IsFileOf}
-use Rattle.explain_files.specs.Wanting.{Left, Whole, left_of, kept, none_left, ◌▷◌, from_runs, from_txs, from_conditions, behind_variables, from_variables, from_start, from_part, read_test, read_keyword, read_number, read_one}
-use Rattle.explain_files.proofs.Forms.{parts_end}
-use Rattle.explain_files.proofs.Declared.{found, kind_found}
+use Rattle.explain_files.specs.Wanting.{Left, Whole, left_of, kept, none_left, ◌▷◌, from_runs, from_txs, from_conditions, behind_variables, from_variables, from_start, from_part, read_test, read_keyword, read_one}
+use Rattle.explain_files.proofs.Forms.{parts_end, parameters_end, arguments_end}
+use Rattle.explain_files.proofs.Declared.{found, kind_found, start_item}
 
 -- ---- a file is read to the end exactly where the tokens are those of one
 
@@ -47,10 +48,10 @@ last (Err d) f = refl
 
 abbrev of_runs : FileForm → List Pair → List Always → List Declaration → List Lexeme → Result File ReadFault
 of_runs form vars always txs ts =
-    all_of (begins (codes "run")) (pair_at (codes "run")) ts >>= λ runs. end_at runs.1 >>= λ u. made (record { form = form; vars = vars; always = always; txs = txs; runs = runs.0 })
+    all_of (begins (codes "run")) (run_at form) ts >>= λ runs. end_at runs.1 >>= λ u. made (record { form = form; vars = vars; always = always; txs = txs; runs = runs.0 })
 
 abbrev of_txs : FileForm → List Pair → List Always → List Lexeme → Result File ReadFault
-of_txs form vars always ts = all_of (begins (codes "tx")) tx_at ts >>= λ txs. of_runs form vars always txs.0 txs.1
+of_txs form vars always ts = all_of (begins (codes "tx")) (tx_at form) ts >>= λ txs. of_runs form vars always txs.0 txs.1
 
 abbrev of_conditions : FileForm → List Pair → List Lexeme → Result File ReadFault
 of_conditions form vars ts = conditions_at form ts >>= λ always. of_txs form vars always.0 always.1
@@ -58,18 +59,19 @@ of_conditions form vars ts = conditions_at form ts >>= λ always. of_txs form va
 abbrev of_variables : FileForm → List Lexeme → Result File ReadFault
 of_variables form ts = all_of (begins (codes "var")) (pair_at (codes "var")) ts >>= λ vars. of_conditions form vars.0 vars.1
 
-runs_whole : (form : FileForm) (vars : List Pair) (always : List Always) (txs : List Declaration) (ts : List Lexeme) → (of_runs form vars always txs ts >>= ended) ≡ from_runs ts
+runs_whole : (form : FileForm) (vars : List Pair) (always : List Always) (txs : List Declaration) (ts : List Lexeme) → (of_runs form vars always txs ts >>= ended) ≡ from_runs form ts
 unfolding from_runs
-runs_whole form vars always txs ts = bind_to (all_of (begins (codes "run")) (pair_at (codes "run")) ts) _ ended _ (λ runs. last (end_at runs.1) _)
+runs_whole form vars always txs ts = bind_to (all_of (begins (codes "run")) (run_at form) ts) _ ended _ (λ runs. last (end_at runs.1) _)
 
-txs_whole : (form : FileForm) (vars : List Pair) (always : List Always) (ts : List Lexeme) → (of_txs form vars always ts >>= ended) ≡ from_txs ts
+txs_whole : (form : FileForm) (vars : List Pair) (always : List Always) (ts : List Lexeme) → (of_txs form vars always ts >>= ended) ≡ from_txs form ts
 unfolding from_txs
-txs_whole form vars always ts = bind_to (all_of (begins (codes "tx")) tx_at ts) _ ended _ (λ txs. runs_whole form vars always txs.0 txs.1)
+txs_whole form vars always ts = bind_to (all_of (begins (codes "tx")) (tx_at form) ts) _ ended _ (λ txs. runs_whole form vars always txs.0 txs.1)
 
 conditions_whole : (form : FileForm) (vars : List Pair) (ts : List Lexeme) → (of_conditions form vars ts >>= ended) ≡ behind_variables form ts
 unfolding conditions_at from_conditions
 conditions_whole One vars ts = txs_whole One vars [] ts
 conditions_whole Two vars ts = bind_to (all_of (begins (codes "always")) always_at ts) _ ended _ (λ always. txs_whole Two vars always.0 always.1)
+conditions_whole Three vars ts = bind_to (all_of (begins (codes "always")) always_at ts) _ ended _ (λ always. txs_whole Three vars always.0 always.1)
 
 variables_whole : (form : FileForm) (ts : List Lexeme) → (of_variables form ts >>= ended) ≡ from_variables form ts
 unfolding from_variables
@@ -109,7 +111,7 @@ equal_is = tree.Compare comparison.Eq zero_is zero_is
 abbrev pub finish : Wanted → List Lexeme
 finish (want.Declarations part) = []
 finish (want.Word part) = token.Name (codes "run") ∷ token.Name (codes "a") ∷ token.Int (pos 0) ∷ Closes ∷ []
-finish want.FormNumber = token.Int (pos 2) ∷ []
+finish want.FormNumber = token.Int (pos 2) ∷ Closes ∷ []
 finish want.Close = Closes ∷ []
 finish (want.Name used) = token.Name (codes "a") ∷ []
 finish (want.Number used) = token.Int (pos 0) ∷ []
@@ -120,6 +122,9 @@ finish (want.Test depth) = token.Name (codes "eq") ∷ token.Int (pos 0) ∷ tok
 finish (want.Stmt depth) = Opens ∷ token.Name (codes "skip") ∷ Closes ∷ []
 finish (want.Keyword depth) = token.Name (codes "skip") ∷ Closes ∷ []
 finish (want.Parts depth) = Closes ∷ []
+finish want.List = Opens ∷ Closes ∷ []
+finish want.Parameters = Closes ∷ []
+finish want.Arguments = Closes ∷ []
 
 pub expr_ends : (depth : ℕ) (ts : List Lexeme) → read_one (want.Expr depth) (finish (want.Expr depth) ++ ts) ≡ Some ts
 expr_ends depth ts = ap left_of (expr_again depth zero_is ts (omega arith))
@@ -157,45 +162,60 @@ some_left None = refl
 
 pub parts_ends : (depth : ℕ) (ts : List Lexeme) → read_one (want.Parts depth) (finish (want.Parts depth) ++ ts) ≡ Some ts
 unfolding is_open open_at close_at
-parts_ends depth ts = sym (some_left (read_one (want.Parts depth) (Closes ∷ ts))) ∙ parts_end (stmt_at depth) (Closes ∷ ts) (λ us. Some us) refl
+parts_ends depth ts = sym (some_left (read_one (want.Parts depth) (Closes ∷ ts))) ∙ parts_end depth (Closes ∷ ts) (λ us. Some us) refl
 
 pub simple_ends : (ts : List Lexeme) → (kept (close_at (Closes ∷ ts)) ≡ Some ts) × (left_of (name_at (token.Name (codes "a") ∷ ts)) ≡ Some ts) × (left_of (int_at (token.Int (pos 0) ∷ ts)) ≡ Some ts)
 unfolding close_at name_at int_at
 simple_ends ts = (refl, refl, refl)
 
-pub number_ends : (ts : List Lexeme) → left_of (read_number (token.Int (pos 2) ∷ ts)) ≡ Some ts
-unfolding read_number int_at
-number_ends ts = refl
+pub list_ends : (ts : List Lexeme) → read_one want.List (finish want.List ++ ts) ≡ Some ts
+list_ends ts = ap left_of (list_again [] ts)
+
+pub parameters_ends : (ts : List Lexeme) → read_one want.Parameters (finish want.Parameters ++ ts) ≡ Some ts
+unfolding close_at
+parameters_ends ts = sym (some_left (read_one want.Parameters (Closes ∷ ts))) ∙ parameters_end (Closes ∷ ts) (λ us. Some us) (names_stop ts)
+
+pub arguments_ends : (ts : List Lexeme) → read_one want.Arguments (finish want.Arguments ++ ts) ≡ Some ts
+unfolding close_at
+arguments_ends ts = sym (some_left (read_one want.Arguments (Closes ∷ ts))) ∙ arguments_end (Closes ∷ ts) (λ us. Some us) (ints_stop ts)
 
 -- ---- the parts of a file, where nothing more stands
 
-runs_end : none_left (from_runs []) ≡ Some []
+runs_end : (form : FileForm) → none_left (from_runs form []) ≡ Some []
 unfolding from_runs begins form_at word_at open_at end_at
-runs_end = rw (all-stop (begins (codes "run")) (pair_at (codes "run")) [] refl) refl
+runs_end form = rw (all-stop (begins (codes "run")) (run_at form) [] refl) refl
 
-txs_end : none_left (from_txs []) ≡ Some []
+txs_end : (form : FileForm) → none_left (from_txs form []) ≡ Some []
 unfolding from_txs begins form_at word_at open_at
-txs_end = rw (all-stop (begins (codes "tx")) tx_at [] refl) runs_end
+txs_end form = rw (all-stop (begins (codes "tx")) (tx_at form) [] refl) (runs_end form)
 
-conditions_end : none_left (from_conditions []) ≡ Some []
+conditions_end : (form : FileForm) → none_left (from_conditions form []) ≡ Some []
 unfolding from_conditions begins form_at word_at open_at
-conditions_end = rw (all-stop (begins (codes "always")) always_at [] refl) txs_end
+conditions_end form = rw (all-stop (begins (codes "always")) always_at [] refl) (txs_end form)
 
-variables_end : (form : FileForm) → none_left (behind_variables form []) ≡ Some [] → none_left (from_variables form []) ≡ Some []
+behind_end : (form : FileForm) → none_left (behind_variables form []) ≡ Some []
+behind_end One = txs_end One
+behind_end Two = conditions_end Two
+behind_end Three = conditions_end Three
+
+variables_end : (form : FileForm) → none_left (from_variables form []) ≡ Some []
 unfolding from_variables begins form_at word_at open_at
-variables_end form h = rw (all-stop (begins (codes "var")) (pair_at (codes "var")) [] refl) h
+variables_end form = rw (all-stop (begins (codes "var")) (pair_at (codes "var")) [] refl) (behind_end form)
 
 start_end : none_left (from_start []) ≡ Some []
 unfolding from_start heading_at begins form_at word_at open_at
-start_end = variables_end One txs_end
+start_end = variables_end One
 
 pub part_end : (part : Section) → none_left (from_part part []) ≡ Some []
 part_end section.Start = start_end
-part_end section.Variables = variables_end One txs_end
-part_end section.VariablesOfTwo = variables_end Two conditions_end
-part_end section.Conditions = conditions_end
-part_end section.Transactions = txs_end
-part_end section.Runs = runs_end
+part_end (section.Variables form) = variables_end form
+part_end (section.Conditions form) = conditions_end form
+part_end (section.Transactions form) = txs_end form
+part_end (section.Runs form) = runs_end form
+
+pub number_ends : read_one want.FormNumber (finish want.FormNumber) ≡ Some []
+unfolding int_at close_at
+number_ends = start_item (finish want.FormNumber) ∙ variables_end Two
 
 abbrev one_run : List Lexeme
 one_run = token.Name (codes "a") ∷ token.Int (pos 0) ∷ Closes ∷ []
@@ -203,17 +223,18 @@ one_run = token.Name (codes "a") ∷ token.Int (pos 0) ∷ Closes ∷ []
 abbrev some_part : Section → Option Section
 some_part part = Some part
 
-run_stands : (part : Section) → part_behind part kind.Run ≡ some_part section.Runs
+run_stands : (part : Section) → part_behind part kind.Run ≡ some_part (section.Runs (form_in part))
 run_stands section.Start = refl
-run_stands section.Variables = refl
-run_stands section.VariablesOfTwo = refl
-run_stands section.Conditions = refl
-run_stands section.Transactions = refl
-run_stands section.Runs = refl
+run_stands (section.Variables form) = refl
+run_stands (section.Conditions form) = refl
+run_stands (section.Transactions form) = refl
+run_stands (section.Runs form) = refl
 
-run_ends : found kind.Run one_run (some_part section.Runs) ≡ Some []
+run_ends : (form : FileForm) → found kind.Run one_run (some_part (section.Runs form)) ≡ Some []
 unfolding name_at int_at close_at
-run_ends = runs_end
+run_ends One = runs_end One
+run_ends Two = runs_end Two
+run_ends Three = arguments_end (Closes ∷ []) (λ us. none_left (from_runs Three us)) (ints_stop []) ∙ runs_end Three
 
 pub word_ends : (part : Section) → none_left (from_part part (Opens ∷ finish (want.Word part))) ≡ Some []
-word_ends part = kind_found part kind.Run one_run ∙ ap (found kind.Run one_run) (run_stands part) ∙ run_ends
+word_ends part = kind_found part kind.Run one_run ∙ ap (found kind.Run one_run) (run_stands part) ∙ run_ends (form_in part)

@@ -1,42 +1,43 @@
 -- Where no name and no number of a file goes over a limit, and its names are known, it declares something that is within them, but for costs.
-use Rattle.std.proofs.Common.{◌≡◌, ℕ, ◌+◌, ◌^◌, ◌<◌, ◌≤◌, Bool, true, ◌&&◌, List, [], ◌∷◌, ◌++◌, length, map, Option, Some, None, Result, Ok, Err, refl, sym, ap, ◌∙◌, arith, inl, inr}
-use Rattle.std.specs.Prelude.{ℤ, codes, nat_lt, nat_le, is_some, position, bytes_eq}
-use Rattle.std.specs.List.{flat_map, list_all, sum_by}
-use Rattle.std.proofs.lemmas.Bool.{lt-ltb, le-leb, leb-true, leb-false}
+use Rattle.std.proofs.Common.{◌≡◌, ℕ, zero, suc, ◌+◌, ◌^◌, ◌<◌, ◌≤◌, Bool, true, false, cond, ◌&&◌, ◌||◌, List, [], ◌∷◌, ◌++◌, length, map, Option, Some, None, Result, Ok, Err, refl, sym, ap, subst, ◌∙◌, arith, inl, inr}
+use Rattle.std.specs.Prelude.{ℤ, codes, nat_lt, nat_le, is_some, position, slice_index_or, bytes_eq}
+use Rattle.std.specs.List.{flat_map, list_all, sum_by, AllByRecursion}
+use Rattle.std.proofs.lemmas.Bool.{lt-ltb, le-leb, leb-true, leb-false, eqb-true}
 use Rattle.std.proofs.lemmas.List.{length-map}
-use Rattle.std.proofs.lemmas.List.Folds.{list_all-map}
 use Rattle.std.proofs.lemmas.List.Sums.{sum_by-cons}
 use Rattle.std.proofs.lemmas.List.Quantifiers.{position-Some}
-use Rattle.txn_programs.specs.declared.ast.TxId.{TxId}
+use Rattle.txn_programs.specs.declared.arguments.Call.{Call}
 use Rattle.txn_programs.specs.Tree.{Expression, Condition, Statement, Statements, Transaction}
 use Rattle.txn_programs.specs.Tree as t
 use Rattle.txn_programs.specs.Listing.{Listing, conditions, always_names}
-use Rattle.txn_programs.specs.Names.{are_distinct}
-use Rattle.txn_programs.specs.Limits.{most_variables, most_conditions, most_transactions, most_tasks, longest_name, limits_hold}
+use Rattle.txn_programs.specs.Names.{are_new, are_distinct}
+use Rattle.txn_programs.specs.Limits.{most_variables, most_conditions, most_transactions, most_parameters, most_tasks, longest_name, is_short, names_fit, limits_hold}
 use Rattle.text_words.specs.Tokens.{Lexeme, Closes}
 use Rattle.text_words.specs.Answers.{◌>>=◌}
 use Rattle.text_words.specs.Numbers.{number_of, count_of}
 use Rattle.text_words.specs.declared.fault.ReadFault.{ReadFault}
-use Rattle.text_grammar.specs.Tree.{Expr, Cond, Stmt, Stmts, NoStmts, MoreStmts, Pair, Always, Declaration, File, operator_word, comparison_word, connective_word, expr_tokens, cond_tokens, stmt_tokens, stmts_tokens, pair_tokens, always_tokens, tx_tokens}
+use Rattle.text_grammar.specs.Tree.{Expr, Cond, Stmt, Stmts, NoStmts, MoreStmts, Pair, Always, Declaration, Run, File, operator_word, comparison_word, connective_word, expr_tokens, cond_tokens, stmt_tokens, stmts_tokens, pair_tokens, always_tokens, tx_tokens, run_tokens, IsOfForm}
 use Rattle.text_grammar.specs.Tree as f
 use Rattle.text_grammar.specs.Written.{written_in}
-use Rattle.text_grammar.specs.Resolving.{is_known, expr_known, cond_known, stmt_known, stmts_known, always_known, tx_known, run_known, uses_known, placed, place_in, variable_in, binary, compare, connect, expression_in, condition_in, statement_in, statements_in, each, variable_of, always_in, transaction_in, run_in, listing, converted, resolved, pair_name, condition_name, tx_name}
-use Rattle.text_laws.specs.Faults.{names_known}
-use Rattle.text_laws.proofs.Declared.{both, declared_again}
-use Rattle.text_laws.proofs.Back.{both_true, resolved_back, names_of_conditions, names_of_txs}
-use Rattle.text_laws.proofs.Again.{var_names}
+use Rattle.text_grammar.specs.Scope.{Scope, standing, inside}
+use Rattle.text_grammar.specs.declared.file.FileForm.{FileForm}
+use Rattle.text_grammar.specs.Resolving.{is_known, expr_known, cond_known, stmt_known, stmts_known, always_known, tx_known, has_parameters, run_known, uses_known, placed, place_in, variable_in, parameter_in, named_in, binary, compare, connect, expression_in, condition_in, statement_in, statements_in, each, variable_of, always_in, transaction_in, arguments_in, call_at, run_in, listing, converted, resolved, pair_name, condition_name, tx_name}
+use Rattle.text_file_reader.specs.Faults.{names_known}
+use Rattle.text_file_reader.proofs.Declared.{both, declared_again}
+use Rattle.text_file_reader.proofs.Back.{both_true, resolved_back, names_of_conditions, names_of_txs}
+use Rattle.text_file_reader.proofs.Again.{var_names}
 use Rattle.text_words.proofs.Steps.{chosen}
 use Rattle.explain_files.specs.declared.limits.LimitFault.{LimitFault}
 use Rattle.explain_files.specs.declared.limits.LimitFault.TheVariants as over
 use Rattle.explain_files.specs.declared.wanted.Role.TheVariants as role
 use Rattle.explain_files.specs.Limiting.{too_long, too_many, value_fault, turns_fault, tasks_fault, tasks_of, limit_fault}
 use Rattle.explain_files.specs.Declarations.{CostsHold}
-use Rattle.explain_files.proofs.Passed.{Seen, seen_in, Fact, Along, within, within_two, within_three, operator_role, comparison_role, connective_role, pass_expr, pass_cond, pass_stmt, in_set, in_repeat, in_more, with_variable, with_condition, with_transaction, onward, in_var, in_always, in_tx, with_tasks, in_run, behind_always, behind_tx, InFile, at_always, at_txs, at_runs}
-use Rattle.explain_files.proofs.Named.{said_unless, kept_by_variables, kept_by_conditions, kept_by_transactions}
+use Rattle.explain_files.proofs.Passed.{Seen, seen_in, Fact, Along, within, within_two, within_three, operator_role, comparison_role, connective_role, pass_expr, pass_cond, pass_stmt, in_set, in_repeat, in_more, with_variable, with_condition, with_name, with_parameter, listed, with_transaction, OfParameters, onward, in_var, in_always, in_tx, with_tasks, OfArguments, in_run, behind_always, behind_tx, InFile, at_always, at_txs, at_runs}
+use Rattle.explain_files.proofs.Named.{said_unless, IsListed, all_listed, kept_by_parameters, kept_by_variables, kept_by_conditions, kept_by_transactions}
 
 -- nothing goes over a limit
 abbrev pub LimitRight : Fact
-LimitRight s used t = limit_fault s.many used t ≡ None
+LimitRight s used t behind = limit_fault s.many used t ≡ None
 
 -- a step that does not fail
 abbrev Good : {A : Type 0} → Result A ReadFault → Type 0
@@ -94,88 +95,102 @@ variable_good : (names : List (List ℕ)) (text : List ℕ) → length names ≤
 unfolding variable_in
 variable_good names text few h = good_bind (place_in names text) _ (place_good names text few h) (λ place. (record { 0 = place }, refl))
 
+-- the names have places that an id has room for
+record HasPlaces (sc : Scope) : Type 0 where
+  variables : length sc.variables ≤ 256
+  parameters : length sc.parameters ≤ 256
+
+parameter_good : (names : List (List ℕ)) (text : List ℕ) → length names ≤ 256 → is_known names text ≡ true → Good (parameter_in names text)
+unfolding parameter_in
+parameter_good names text few h = good_bind (place_in names text) _ (place_good names text few h) (λ place. (record { 0 = place }, refl))
+
+named_by : (sc : Scope) (text : List ℕ) (b : Bool) → HasPlaces sc → is_known sc.parameters text ≡ b → (b || is_known sc.variables text) ≡ true
+    → Good (cond b (parameter_in sc.parameters text >>= λ p. Ok (t.Param p)) (variable_in sc.variables text >>= λ x. Ok (t.Var x)))
+named_by sc text true few e k = good_bind (parameter_in sc.parameters text) _ (parameter_good sc.parameters text few.parameters e) (λ p. (t.Param p, refl))
+named_by sc text false few e k = good_bind (variable_in sc.variables text) _ (variable_good sc.variables text few.variables k) (λ x. (t.Var x, refl))
+
+named_good : (sc : Scope) (text : List ℕ) → HasPlaces sc → (is_known sc.parameters text || is_known sc.variables text) ≡ true → Good (named_in sc text)
+named_good sc text few k = named_by sc text (is_known sc.parameters text) few refl k
+
 -- ---- expressions, conditions and statements
 
-expr_good : (names : List (List ℕ)) → length names ≤ 256 → (s : Seen) (e : Expr) (ts : List Lexeme) → expr_known names e ≡ true → Along LimitRight s role.Value (expr_tokens e ++ ts) → Good (expression_in names e)
-expr_good names few s (f.Int value) ts k h = good_bind (number_of value) _ (value_good (number_of value) h.0) (λ n. (t.Int n, refl))
-expr_good names few s (f.Name text) ts k h = good_bind (variable_in names text) _ (variable_good names text few k) (λ x. (t.Var x, refl))
-expr_good names few s (f.Binary op left right) ts k h =
-    let w = within_two LimitRight s (operator_word op) (expr_tokens left) (expr_tokens right) ts (operator_role op) h in
-    let b = both (expr_known names left) (expr_known names right) k in
-    good_bind (expression_in names left) _ (expr_good names few s left (expr_tokens right ++ (Closes ∷ ts)) b.0 w)
-    (λ x. good_bind (expression_in names right) _ (expr_good names few s right (Closes ∷ ts) b.1 (pass_expr LimitRight s left (expr_tokens right ++ (Closes ∷ ts)) w)) (λ y. (binary op x y, refl)))
+expr_good : (sc : Scope) → HasPlaces sc → (announced : FileForm) (s : Seen) (e : Expr) (ts : List Lexeme) → expr_known sc e ≡ true → Along LimitRight announced s role.Value (expr_tokens e ++ ts) → Good (expression_in sc e)
+expr_good sc few announced s (f.Int value) ts k h = good_bind (number_of value) _ (value_good (number_of value) h.0) (λ n. (t.Int n, refl))
+expr_good sc few announced s (f.Name text) ts k h = named_good sc text few k
+expr_good sc few announced s (f.Binary op left right) ts k h =
+    let w = within_two LimitRight announced s (operator_word op) (expr_tokens left) (expr_tokens right) ts (operator_role op) h in
+    let b = both (expr_known sc left) (expr_known sc right) k in
+    good_bind (expression_in sc left) _ (expr_good sc few announced s left (expr_tokens right ++ (Closes ∷ ts)) b.0 w)
+    (λ x. good_bind (expression_in sc right) _ (expr_good sc few announced s right (Closes ∷ ts) b.1 (pass_expr LimitRight announced s left (expr_tokens right ++ (Closes ∷ ts)) w)) (λ y. (binary op x y, refl)))
 
-cond_good : (names : List (List ℕ)) → length names ≤ 256 → (s : Seen) (e : Cond) (ts : List Lexeme) → cond_known names e ≡ true → Along LimitRight s role.Value (cond_tokens e ++ ts) → Good (condition_in names e)
-cond_good names few s (f.Compare op left right) ts k h =
-    let w = within_two LimitRight s (comparison_word op) (expr_tokens left) (expr_tokens right) ts (comparison_role op) h in
-    let b = both (expr_known names left) (expr_known names right) k in
-    good_bind (expression_in names left) _ (expr_good names few s left (expr_tokens right ++ (Closes ∷ ts)) b.0 w)
-    (λ x. good_bind (expression_in names right) _ (expr_good names few s right (Closes ∷ ts) b.1 (pass_expr LimitRight s left (expr_tokens right ++ (Closes ∷ ts)) w)) (λ y. (compare op x y, refl)))
-cond_good names few s (f.Not inner) ts k h =
-    good_bind (condition_in names inner) _ (cond_good names few s inner (Closes ∷ ts) k (within LimitRight s (codes "not") role.Value (cond_tokens inner) ts refl h)) (λ c. (t.Not c, refl))
-cond_good names few s (f.Connect op left right) ts k h =
-    let w = within_two LimitRight s (connective_word op) (cond_tokens left) (cond_tokens right) ts (connective_role op) h in
-    let b = both (cond_known names left) (cond_known names right) k in
-    good_bind (condition_in names left) _ (cond_good names few s left (cond_tokens right ++ (Closes ∷ ts)) b.0 w)
-    (λ x. good_bind (condition_in names right) _ (cond_good names few s right (Closes ∷ ts) b.1 (pass_cond LimitRight s left (cond_tokens right ++ (Closes ∷ ts)) w)) (λ y. (connect op x y, refl)))
+cond_good : (sc : Scope) → HasPlaces sc → (announced : FileForm) (s : Seen) (e : Cond) (ts : List Lexeme) → cond_known sc e ≡ true → Along LimitRight announced s role.Value (cond_tokens e ++ ts) → Good (condition_in sc e)
+cond_good sc few announced s (f.Compare op left right) ts k h =
+    let w = within_two LimitRight announced s (comparison_word op) (expr_tokens left) (expr_tokens right) ts (comparison_role op) h in
+    let b = both (expr_known sc left) (expr_known sc right) k in
+    good_bind (expression_in sc left) _ (expr_good sc few announced s left (expr_tokens right ++ (Closes ∷ ts)) b.0 w)
+    (λ x. good_bind (expression_in sc right) _ (expr_good sc few announced s right (Closes ∷ ts) b.1 (pass_expr LimitRight announced s left (expr_tokens right ++ (Closes ∷ ts)) w)) (λ y. (compare op x y, refl)))
+cond_good sc few announced s (f.Not inner) ts k h =
+    good_bind (condition_in sc inner) _ (cond_good sc few announced s inner (Closes ∷ ts) k (within LimitRight announced s (codes "not") role.Value (cond_tokens inner) ts refl h)) (λ c. (t.Not c, refl))
+cond_good sc few announced s (f.Connect op left right) ts k h =
+    let w = within_two LimitRight announced s (connective_word op) (cond_tokens left) (cond_tokens right) ts (connective_role op) h in
+    let b = both (cond_known sc left) (cond_known sc right) k in
+    good_bind (condition_in sc left) _ (cond_good sc few announced s left (cond_tokens right ++ (Closes ∷ ts)) b.0 w)
+    (λ x. good_bind (condition_in sc right) _ (cond_good sc few announced s right (Closes ∷ ts) b.1 (pass_cond LimitRight announced s left (cond_tokens right ++ (Closes ∷ ts)) w)) (λ y. (connect op x y, refl)))
 
 mutual
-  stmt_good : (names : List (List ℕ)) → length names ≤ 256 → (s : Seen) (e : Stmt) (ts : List Lexeme) → stmt_known names e ≡ true → Along LimitRight s role.Value (stmt_tokens e ++ ts) → Good (statement_in names e)
-  stmt_good names few s f.Skip ts k h = (t.Skip, refl)
-  stmt_good names few s (f.Set text value) ts k h =
-      let w = in_set LimitRight s text value ts h in
-      let b = both (is_known names text) (expr_known names value) k in
-      good_bind (variable_in names text) _ (variable_good names text few b.0) (λ x. good_bind (expression_in names value) _ (expr_good names few s value (Closes ∷ ts) b.1 w.1) (λ y. (t.Set x y, refl)))
-  stmt_good names few s (f.Seq parts) ts k h =
-      good_bind (statements_in names parts) _ (stmts_good names few s parts (Closes ∷ ts) k (within LimitRight s (codes "seq") role.Value (stmts_tokens parts) ts refl h)) (λ ps. (t.Seq ps, refl))
-  stmt_good names few s (f.If test first second) ts k h =
-      let w = within_three LimitRight s (codes "if") (cond_tokens test) (stmt_tokens first) (stmt_tokens second) ts refl h in
-      let a = pass_cond LimitRight s test (stmt_tokens first ++ (stmt_tokens second ++ (Closes ∷ ts))) w in
-      let d = pass_stmt LimitRight s first (stmt_tokens second ++ (Closes ∷ ts)) a in
-      let b = both (cond_known names test) _ k in
-      let b1 = both (stmt_known names first) (stmt_known names second) b.1 in
-      good_bind (condition_in names test) _ (cond_good names few s test (stmt_tokens first ++ (stmt_tokens second ++ (Closes ∷ ts))) b.0 w)
-      (λ c. good_bind (statement_in names first) _ (stmt_good names few s first (stmt_tokens second ++ (Closes ∷ ts)) b1.0 a)
-      (λ x. good_bind (statement_in names second) _ (stmt_good names few s second (Closes ∷ ts) b1.1 d) (λ y. (t.If c x y, refl))))
-  stmt_good names few s (f.Repeat count body) ts k h =
-      let w = in_repeat LimitRight s body ts count h in
-      good_bind (count_of count) _ (turns_good (count_of count) w.0) (λ n. good_bind (statement_in names body) _ (stmt_good names few s body (Closes ∷ ts) k w.1) (λ x. (t.Repeat n x, refl)))
-  stmt_good names few s f.Retry ts k h = (t.Retry, refl)
-  stmt_good names few s (f.OrElse first second) ts k h =
-      let w = within_two LimitRight s (codes "orelse") (stmt_tokens first) (stmt_tokens second) ts refl h in
-      let b = both (stmt_known names first) (stmt_known names second) k in
-      good_bind (statement_in names first) _ (stmt_good names few s first (stmt_tokens second ++ (Closes ∷ ts)) b.0 w)
-      (λ x. good_bind (statement_in names second) _ (stmt_good names few s second (Closes ∷ ts) b.1 (pass_stmt LimitRight s first (stmt_tokens second ++ (Closes ∷ ts)) w)) (λ y. (t.OrElse x y, refl)))
-  stmt_good names few s (f.Throw value) ts k h =
-      good_bind (expression_in names value) _ (expr_good names few s value (Closes ∷ ts) k (within LimitRight s (codes "throw") role.Value (expr_tokens value) ts refl h)) (λ x. (t.Throw x, refl))
+  stmt_good : (sc : Scope) → HasPlaces sc → (announced : FileForm) (s : Seen) (e : Stmt) (ts : List Lexeme) → stmt_known sc e ≡ true → Along LimitRight announced s role.Value (stmt_tokens e ++ ts) → Good (statement_in sc e)
+  stmt_good sc few announced s f.Skip ts k h = (t.Skip, refl)
+  stmt_good sc few announced s (f.Set text value) ts k h =
+      let w = in_set LimitRight announced s text value ts h in
+      let b = both (is_known sc.variables text) (expr_known sc value) k in
+      good_bind (variable_in sc.variables text) _ (variable_good sc.variables text few.variables b.0) (λ x. good_bind (expression_in sc value) _ (expr_good sc few announced s value (Closes ∷ ts) b.1 w.1) (λ y. (t.Set x y, refl)))
+  stmt_good sc few announced s (f.Seq parts) ts k h =
+      good_bind (statements_in sc parts) _ (stmts_good sc few announced s parts (Closes ∷ ts) k (within LimitRight announced s (codes "seq") role.Value (stmts_tokens parts) ts refl h)) (λ ps. (t.Seq ps, refl))
+  stmt_good sc few announced s (f.If test first second) ts k h =
+      let w = within_three LimitRight announced s (codes "if") (cond_tokens test) (stmt_tokens first) (stmt_tokens second) ts refl h in
+      let a = pass_cond LimitRight announced s test (stmt_tokens first ++ (stmt_tokens second ++ (Closes ∷ ts))) w in
+      let d = pass_stmt LimitRight announced s first (stmt_tokens second ++ (Closes ∷ ts)) a in
+      let b = both (cond_known sc test) _ k in
+      let b1 = both (stmt_known sc first) (stmt_known sc second) b.1 in
+      good_bind (condition_in sc test) _ (cond_good sc few announced s test (stmt_tokens first ++ (stmt_tokens second ++ (Closes ∷ ts))) b.0 w)
+      (λ c. good_bind (statement_in sc first) _ (stmt_good sc few announced s first (stmt_tokens second ++ (Closes ∷ ts)) b1.0 a)
+      (λ x. good_bind (statement_in sc second) _ (stmt_good sc few announced s second (Closes ∷ ts) b1.1 d) (λ y. (t.If c x y, refl))))
+  stmt_good sc few announced s (f.Repeat count body) ts k h =
+      let w = in_repeat LimitRight announced s body ts count h in
+      good_bind (count_of count) _ (turns_good (count_of count) w.0) (λ n. good_bind (statement_in sc body) _ (stmt_good sc few announced s body (Closes ∷ ts) k w.1) (λ x. (t.Repeat n x, refl)))
+  stmt_good sc few announced s f.Retry ts k h = (t.Retry, refl)
+  stmt_good sc few announced s (f.OrElse first second) ts k h =
+      let w = within_two LimitRight announced s (codes "orelse") (stmt_tokens first) (stmt_tokens second) ts refl h in
+      let b = both (stmt_known sc first) (stmt_known sc second) k in
+      good_bind (statement_in sc first) _ (stmt_good sc few announced s first (stmt_tokens second ++ (Closes ∷ ts)) b.0 w)
+      (λ x. good_bind (statement_in sc second) _ (stmt_good sc few announced s second (Closes ∷ ts) b.1 (pass_stmt LimitRight announced s first (stmt_tokens second ++ (Closes ∷ ts)) w)) (λ y. (t.OrElse x y, refl)))
+  stmt_good sc few announced s (f.Throw value) ts k h =
+      good_bind (expression_in sc value) _ (expr_good sc few announced s value (Closes ∷ ts) k (within LimitRight announced s (codes "throw") role.Value (expr_tokens value) ts refl h)) (λ x. (t.Throw x, refl))
 
-  stmts_good : (names : List (List ℕ)) → length names ≤ 256 → (s : Seen) (e : Stmts) (ts : List Lexeme) → stmts_known names e ≡ true → Along LimitRight s role.Value (stmts_tokens e ++ ts) → Good (statements_in names e)
-  stmts_good names few s NoStmts ts k h = (t.End, refl)
-  stmts_good names few s (MoreStmts first others) ts k h =
-      let w = in_more LimitRight s first others ts h in
-      let b = both (stmt_known names first) (stmts_known names others) k in
-      good_bind (statement_in names first) _ (stmt_good names few s first (stmts_tokens others ++ ts) b.0 w)
-      (λ x. good_bind (statements_in names others) _ (stmts_good names few s others ts b.1 (pass_stmt LimitRight s first (stmts_tokens others ++ ts) w)) (λ y. (t.More x y, refl)))
+  stmts_good : (sc : Scope) → HasPlaces sc → (announced : FileForm) (s : Seen) (e : Stmts) (ts : List Lexeme) → stmts_known sc e ≡ true → Along LimitRight announced s role.Value (stmts_tokens e ++ ts) → Good (statements_in sc e)
+  stmts_good sc few announced s NoStmts ts k h = (t.End, refl)
+  stmts_good sc few announced s (MoreStmts first others) ts k h =
+      let w = in_more LimitRight announced s first others ts h in
+      let b = both (stmt_known sc first) (stmts_known sc others) k in
+      good_bind (statement_in sc first) _ (stmt_good sc few announced s first (stmts_tokens others ++ ts) b.0 w)
+      (λ x. good_bind (statements_in sc others) _ (stmts_good sc few announced s others ts b.1 (pass_stmt LimitRight announced s first (stmts_tokens others ++ ts) w)) (λ y. (t.More x y, refl)))
 
 -- ---- rows of declarations
 
 each_good : {A B : Type 0} (one : A → Result B ReadFault) (x : A) (xs : List A) → Good (one x) → Good (each one xs) → Good (each one (x ∷ xs))
 each_good one x xs p q = good_bind (one x) _ p (λ y. good_bind (each one xs) _ q (λ ys. (y ∷ ys, refl)))
 
-abbrev is_short : List ℕ → Bool
-is_short text = nat_le (length text) longest_name
-
 record VarsFit (many : ℕ) (ps : List Pair) : Type 0 where
   few : many + length ps ≤ most_variables
   short : list_all is_short (map pair_name ps) ≡ true
   good : Good (each variable_of ps)
 
-vars_fit : (ps : List Pair) (s : Seen) (ts : List Lexeme) → s.many.variables ≤ most_variables → Along LimitRight s role.Value (flat_map (pair_tokens (codes "var")) ps ++ ts) → VarsFit s.many.variables ps
-vars_fit [] s ts m h = record { few = omega arith; short = refl; good = ([], refl) }
-vars_fit (p ∷ ps) s ts m h =
-    let w = in_var LimitRight s p (flat_map (pair_tokens (codes "var")) ps ++ ts) (onward LimitRight s (pair_tokens (codes "var")) p ps ts h) in
+vars_fit : (announced : FileForm) (ps : List Pair) (s : Seen) (ts : List Lexeme) → s.many.variables ≤ most_variables → Along LimitRight announced s role.Value (flat_map (pair_tokens (codes "var")) ps ++ ts) → VarsFit s.many.variables ps
+vars_fit announced [] s ts m h = record { few = omega arith; short = refl; good = ([], refl) }
+vars_fit announced (p ∷ ps) s ts m h =
+    let w = in_var LimitRight announced s p (flat_map (pair_tokens (codes "var")) ps ++ ts) (onward LimitRight announced s (pair_tokens (codes "var")) p ps ts h) in
     let one = name_fits s.many.variables most_variables over.Variables p.name w.0 in
-    let more = vars_fit ps (with_variable s p.name) ts (let few : s.many.variables < most_variables = one.few in omega arith) w.2 in
+    let more = vars_fit announced ps (with_variable s p.name) ts (let few : s.many.variables < most_variables = one.few in omega arith) w.2 in
     record {
       few = let few : s.many.variables + 1 + length ps ≤ most_variables = more.few in omega arith;
       short = both_true _ _ one.short more.short;
@@ -187,79 +202,141 @@ record AlwaysFit (names : List (List ℕ)) (many : ℕ) (all : List Always) : Ty
   short : list_all is_short (map condition_name all) ≡ true
   good : Good (each (always_in names) all)
 
-always_fit : (names : List (List ℕ)) → length names ≤ 256 → (all : List Always) (s : Seen) (ts : List Lexeme) → s.many.conditions ≤ most_conditions → list_all (always_known names) all ≡ true
-    → Along LimitRight s role.Value (flat_map always_tokens all ++ ts) → AlwaysFit names s.many.conditions all
-always_fit names few [] s ts m k h = record { few = omega arith; short = refl; good = ([], refl) }
-always_fit names few (a ∷ all) s ts m k h =
+always_fit : (announced : FileForm) (names : List (List ℕ)) → length names ≤ 256 → (all : List Always) (s : Seen) (ts : List Lexeme) → s.many.conditions ≤ most_conditions → list_all (always_known names) all ≡ true
+    → Along LimitRight announced s role.Value (flat_map always_tokens all ++ ts) → AlwaysFit names s.many.conditions all
+always_fit announced names few [] s ts m k h = record { few = omega arith; short = refl; good = ([], refl) }
+always_fit announced names few (a ∷ all) s ts m k h =
     let rest = flat_map always_tokens all ++ ts in
-    let o = onward LimitRight s always_tokens a all ts h in
-    let w = in_always LimitRight s a rest o in
+    let o = onward LimitRight announced s always_tokens a all ts h in
+    let w = in_always LimitRight announced s a rest o in
     let b = both (always_known names a) (list_all (always_known names) all) k in
     let one = name_fits s.many.conditions most_conditions over.Conditions a.name w.0 in
-    let more = always_fit names few all (with_condition s a.name) ts (let lt : s.many.conditions < most_conditions = one.few in omega arith) b.1 (behind_always LimitRight s a rest o) in
+    let more = always_fit announced names few all (with_condition s a.name) ts (let lt : s.many.conditions < most_conditions = one.few in omega arith) b.1 (behind_always LimitRight announced s a rest o) in
     record {
       few = let le : s.many.conditions + 1 + length all ≤ most_conditions = more.few in omega arith;
       short = both_true _ _ one.short more.short;
-      good = each_good (always_in names) a all (good_bind (condition_in names a.condition) _ (cond_good names few (with_condition s a.name) a.condition (Closes ∷ rest) b.0 w.1) (λ c. ((a.name, c), refl))) more.good;
+      good = each_good (always_in names) a all (good_bind (condition_in (standing names) a.condition) _ (cond_good (standing names) (record { variables = few; parameters = omega arith }) announced (with_condition s a.name) a.condition (Closes ∷ rest) b.0 w.1) (λ c. ((a.name, c), refl))) more.good;
     }
+
+-- the parameters of a transaction
+record ParametersFit (many : ℕ) (ps : List (List ℕ)) : Type 0 where
+  few : many + length ps ≤ most_parameters
+  short : list_all is_short ps ≡ true
+
+parameters_fit : (ps : List (List ℕ)) (s : Seen) (ts : List Lexeme) → s.many.parameters ≤ most_parameters → OfParameters LimitRight s ps ts → ParametersFit s.many.parameters ps
+parameters_fit [] s ts m h = record { few = omega arith; short = refl }
+parameters_fit (p ∷ ps) s ts m h =
+    let one = name_fits s.many.parameters most_parameters over.Parameters p h.0 in
+    let more = parameters_fit ps (with_parameter s p) ts (let lt : s.many.parameters < most_parameters = one.few in omega arith) h.1 in
+    record {
+      few = let le : s.many.parameters + 1 + length ps ≤ most_parameters = more.few in omega arith;
+      short = both_true _ _ one.short more.short;
+    }
+
+-- a transaction has few parameters
+abbrev few_of : Declaration → Bool
+few_of d = nat_le (length d.parameters) most_parameters
 
 record TxsFit (names : List (List ℕ)) (many : ℕ) (all : List Declaration) : Type 0 where
   few : many + length all ≤ most_transactions
-  short : list_all is_short (map tx_name all) ≡ true
-  good : Good (each (transaction_in names) all)
-
-txs_fit : (names : List (List ℕ)) → length names ≤ 256 → (all : List Declaration) (s : Seen) (ts : List Lexeme) → s.many.transactions ≤ most_transactions → list_all (tx_known names) all ≡ true
-    → Along LimitRight s role.Value (flat_map tx_tokens all ++ ts) → TxsFit names s.many.transactions all
-txs_fit names few [] s ts m k h = record { few = omega arith; short = refl; good = ([], refl) }
-txs_fit names few (d ∷ all) s ts m k h =
-    let rest = flat_map tx_tokens all ++ ts in
-    let o = onward LimitRight s tx_tokens d all ts h in
-    let w = in_tx LimitRight s d rest o in
-    let u = with_transaction s d.name in
-    let b = both (tx_known names d) (list_all (tx_known names) all) k in
-    let b0 = both (stmt_known names d.body) (expr_known names d.value) b.0 in
-    let one = name_fits s.many.transactions most_transactions over.Transactions d.name w.0 in
-    let more = txs_fit names few all u ts (let lt : s.many.transactions < most_transactions = one.few in omega arith) b.1 (behind_tx LimitRight s d rest o) in
-    let body = stmt_good names few u d.body (expr_tokens d.value ++ (Closes ∷ rest)) b0.0 w.1 in
-    let value = expr_good names few u d.value (Closes ∷ rest) b0.1 (pass_stmt LimitRight u d.body (expr_tokens d.value ++ (Closes ∷ rest)) w.1) in
-    record {
-      few = let le : s.many.transactions + 1 + length all ≤ most_transactions = more.few in omega arith;
-      short = both_true _ _ one.short more.short;
-      good = each_good (transaction_in names) d all (good_bind (statement_in names d.body) _ body (λ x. good_bind (expression_in names d.value) _ value (λ y. (record { name = d.name; body = x; result = y }, refl)))) more.good;
-    }
-
-abbrev tasks_in_all : List (TxId × ℕ) → ℕ
-tasks_in_all runs = sum_by (λ run. run.1) runs
-
-record RunsFit (names : List (List ℕ)) (many : ℕ) (ps : List Pair) : Type 0 where
-  runs : List (TxId × ℕ)
-  are : each (run_in names) ps ≡ Ok runs
-  one : list_all (λ run. nat_le run.1 most_tasks) runs ≡ true
-  all : many + tasks_in_all runs ≤ most_tasks
-
-run_is : (names : List (List ℕ)) (p : Pair) (place n : ℕ) → place_in names p.name ≡ Ok place → count_of p.value ≡ Ok n → run_in names p ≡ Ok (record { 0 = place }, n)
-run_is names p place n a b = rw (a, b) refl
+  transactions : List Transaction
+  are : each (transaction_in names) all ≡ Ok transactions
+  fit : list_all names_fit transactions ≡ true
+  parameters : list_all few_of all ≡ true
 
 each_is : {A B : Type 0} (one : A → Result B ReadFault) (x : A) (xs : List A) (y : B) (ys : List B) → one x ≡ Ok y → each one xs ≡ Ok ys → each one (x ∷ xs) ≡ Ok (y ∷ ys)
 each_is one x xs y ys a b = rw (a, b) refl
 
-runs_fit : (names : List (List ℕ)) → length names ≤ 256 → (ps : List Pair) (s : Seen) (ts : List Lexeme) → s.many.tasks ≤ most_tasks → list_all (run_known names) ps ≡ true
-    → Along LimitRight s role.Value (flat_map (pair_tokens (codes "run")) ps ++ ts) → RunsFit names s.many.tasks ps
-runs_fit names few [] s ts m k h = record { runs = []; are = refl; one = refl; all = omega arith }
-runs_fit names few (p ∷ ps) s ts m k h =
-    let w = in_run LimitRight s p (flat_map (pair_tokens (codes "run")) ps ++ ts) (onward LimitRight s (pair_tokens (codes "run")) p ps ts h) in
-    let b = both (run_known names p) (list_all (run_known names) ps) k in
-    let fits = run_fits s.many.tasks (count_of p.value) w.1 in
-    let counted : tasks_of (count_of p.value) ≡ fits.tasks = ap tasks_of fits.is in
-    let place = place_good names p.name few b.0 in
+tx_is : (names : List (List ℕ)) (d : Declaration) (x : Statement) (y : Expression) → statement_in (inside names d.parameters) d.body ≡ Ok x → expression_in (inside names d.parameters) d.value ≡ Ok y
+    → transaction_in names d ≡ Ok (record { name = d.name; parameters = d.parameters; body = x; result = y })
+tx_is names d x y a b = rw (a, b) refl
+
+txs_fit : (announced : FileForm) (names : List (List ℕ)) → length names ≤ 256 → (all : List Declaration) (s : Seen) (ts : List Lexeme) → s.many.transactions ≤ most_transactions
+    → AllByRecursion (IsListed announced) all → list_all (tx_known names) all ≡ true → Along LimitRight announced s role.Value (flat_map (tx_tokens announced) all ++ ts) → TxsFit names s.many.transactions all
+txs_fit announced names few [] s ts m lists k h = record { few = omega arith; transactions = []; are = refl; fit = refl; parameters = refl }
+txs_fit announced names few (d ∷ all) s ts m lists k h =
+    let rest = flat_map (tx_tokens announced) all ++ ts in
+    let o = onward LimitRight announced s (tx_tokens announced) d all ts h in
+    let w = in_tx LimitRight announced s d rest o in
+    let u = with_transaction announced s d in
+    let sc = inside names d.parameters in
+    let b = both (tx_known names d) (list_all (tx_known names) all) k in
+    let b0 = both (are_new names d.parameters) (stmt_known sc d.body && expr_known sc d.value) b.0 in
+    let b1 = both (stmt_known sc d.body) (expr_known sc d.value) b0.1 in
+    let one = name_fits s.many.transactions most_transactions over.Transactions d.name w.named in
+    let own : ParametersFit 0 (listed announced d.parameters) = parameters_fit (listed announced d.parameters) (with_name s d.name) _ (omega arith) w.parameters in
+    let these : ParametersFit 0 d.parameters = subst (ParametersFit 0) lists.0 own in
+    let at_most : length d.parameters ≤ most_parameters = let le : 0 + length d.parameters ≤ most_parameters = these.few in omega arith in
+    let few_here : nat_le (length d.parameters) most_parameters ≡ true = le-leb (length d.parameters) most_parameters at_most in
+    let places : HasPlaces sc = record { variables = few; parameters = omega arith } in
+    let counted : u.many.transactions ≡ s.many.transactions + 1 = kept_by_parameters (λ (v : Seen). v.many.transactions) (λ v text. refl) (listed announced d.parameters) (with_name s d.name) in
+    let more = txs_fit announced names few all u ts (let lt : s.many.transactions < most_transactions = one.few in omega arith) lists.1 b.1 (behind_tx LimitRight announced s d rest o) in
+    let body = stmt_good sc places announced u d.body (expr_tokens d.value ++ (Closes ∷ rest)) b1.0 w.body in
+    let value = expr_good sc places announced u d.value (Closes ∷ rest) b1.1 (pass_stmt LimitRight announced u d.body (expr_tokens d.value ++ (Closes ∷ rest)) w.body) in
+    let made : Transaction = record { name = d.name; parameters = d.parameters; body = body.0; result = value.0 } in
+    record {
+      few = let le : u.many.transactions + length all ≤ most_transactions = more.few in omega arith;
+      transactions = made ∷ more.transactions;
+      are = each_is (transaction_in names) d all made more.transactions (tx_is names d body.0 value.0 body.1 value.1) more.are;
+      fit = both_true _ _ (both_true _ _ one.short (both_true _ _ few_here these.short)) more.fit;
+      parameters = both_true _ _ few_here more.parameters;
+    }
+
+abbrev tasks_in_all : List (Call × ℕ) → ℕ
+tasks_in_all runs = sum_by (λ run. run.1) runs
+
+record RunsFit (names : List (List ℕ)) (many : ℕ) (rs : List Run) : Type 0 where
+  runs : List (Call × ℕ)
+  are : each (run_in names) rs ≡ Ok runs
+  one : list_all (λ run. nat_le run.1 most_tasks) runs ≡ true
+  all : many + tasks_in_all runs ≤ most_tasks
+
+-- a run gives as many arguments as some transaction has parameters
+has_place : (txs : List Declaration) (n : ℕ) (o : Option ℕ) → has_parameters txs n o ≡ true → is_some o ≡ true
+has_place txs n None h = absurd cc
+has_place txs n (Some place) h = refl
+
+few_there : (txs : List Declaration) (place : ℕ) → list_all few_of txs ≡ true → length (slice_index_or (map (λ (t : Declaration). t.parameters) txs) place []) ≤ most_parameters
+few_there [] place h = omega arith
+few_there (d ∷ txs) zero h = leb-true (length d.parameters) most_parameters (both (few_of d) (list_all few_of txs) h).0
+few_there (d ∷ txs) (suc place) h = few_there txs place (both (few_of d) (list_all few_of txs) h).1
+
+few_given : (txs : List Declaration) (n : ℕ) (o : Option ℕ) → list_all few_of txs ≡ true → has_parameters txs n o ≡ true → nat_le n most_parameters ≡ true
+few_given txs n None few h = absurd cc
+few_given txs n (Some place) few h =
+    let same : length (slice_index_or (map (λ (t : Declaration). t.parameters) txs) place []) ≡ n = eqb-true (length (slice_index_or (map (λ (t : Declaration). t.parameters) txs) place [])) n h in
+    let le : length (slice_index_or (map (λ (t : Declaration). t.parameters) txs) place []) ≤ most_parameters = few_there txs place few in
+    le-leb n most_parameters (omega arith)
+
+given_good : (given : List ℤ) (s : Seen) (ts : List Lexeme) → OfArguments LimitRight s given ts → Good (each number_of given)
+given_good [] s ts h = ([], refl)
+given_good (a ∷ given) s ts h = each_good number_of a given (value_good (number_of a) h.0) (given_good given s ts h.1)
+
+arguments_good : (given : List ℤ) → nat_le (length given) most_parameters ≡ true → Good (each number_of given) → Good (arguments_in given)
+arguments_good given few g = (g.0, rw few g.1)
+
+run_is : (names : List (List ℕ)) (r : Run) (place n : ℕ) (given : List ℤ) → place_in names r.name ≡ Ok place → count_of r.count ≡ Ok n → arguments_in r.arguments ≡ Ok given → run_in names r ≡ Ok (call_at place given, n)
+run_is names r place n given a b c = rw (a, b, c) refl
+
+runs_fit : (announced : FileForm) (txs : List Declaration) → length (map tx_name txs) ≤ 256 → list_all few_of txs ≡ true → (rs : List Run) (s : Seen) (ts : List Lexeme) → s.many.tasks ≤ most_tasks → list_all (run_known txs) rs ≡ true
+    → Along LimitRight announced s role.Value (flat_map run_tokens rs ++ ts) → RunsFit (map tx_name txs) s.many.tasks rs
+runs_fit announced txs few parameters [] s ts m k h = record { runs = []; are = refl; one = refl; all = omega arith }
+runs_fit announced txs few parameters (r ∷ rs) s ts m k h =
+    let names = map tx_name txs in
+    let w = in_run LimitRight announced s r (flat_map run_tokens rs ++ ts) (onward LimitRight announced s run_tokens r rs ts h) in
+    let b = both (run_known txs r) (list_all (run_known txs) rs) k in
+    let fits = run_fits s.many.tasks (count_of r.count) w.counted in
+    let counted : tasks_of (count_of r.count) ≡ fits.tasks = ap tasks_of fits.is in
+    let place = place_good names r.name few (has_place txs (length r.arguments) (position (bytes_eq r.name) names) b.0) in
+    let given = arguments_good r.arguments (few_given txs (length r.arguments) (position (bytes_eq r.name) names) parameters b.0) (given_good r.arguments (with_tasks s r) _ w.given) in
     let le : s.many.tasks + fits.tasks ≤ most_tasks = fits.all in
-    let more = runs_fit names few ps (with_tasks s p) ts (omega arith) b.1 w.2 in
-    let all : s.many.tasks + tasks_of (count_of p.value) + tasks_in_all more.runs ≤ most_tasks = more.all in
-    let run : TxId × ℕ = (record { 0 = place.0 }, fits.tasks) in
-    let total : tasks_in_all (run ∷ more.runs) ≡ fits.tasks + tasks_in_all more.runs = sum_by-cons (λ (r : TxId × ℕ). r.1) run more.runs in
+    let more = runs_fit announced txs few parameters rs (with_tasks s r) ts (omega arith) b.1 w.rest in
+    let all : s.many.tasks + tasks_of (count_of r.count) + tasks_in_all more.runs ≤ most_tasks = more.all in
+    let run : Call × ℕ = (call_at place.0 given.0, fits.tasks) in
+    let total : tasks_in_all (run ∷ more.runs) ≡ fits.tasks + tasks_in_all more.runs = sum_by-cons (λ (q : Call × ℕ). q.1) run more.runs in
     record {
       runs = run ∷ more.runs;
-      are = each_is (run_in names) p ps run more.runs (run_is names p place.0 fits.tasks place.1 fits.is) more.are;
+      are = each_is (run_in names) r rs run more.runs (run_is names r place.0 fits.tasks given.0 place.1 fits.is given.1) more.are;
       one = both_true _ _ fits.one more.one;
       all = omega arith;
     }
@@ -288,7 +365,7 @@ pub record Fits (file : File) : Type 0 where
   pub is : resolved file ≡ Ok listing
   pub holds : CostsHold listing → limits_hold listing ≡ true
 
-resolved_is : (file : File) (vars : List (List ℕ × ℤ)) (always : List (List ℕ × Condition)) (txs : List Transaction) (runs : List (TxId × ℕ)) → names_known file ≡ true
+resolved_is : (file : File) (vars : List (List ℕ × ℤ)) (always : List (List ℕ × Condition)) (txs : List Transaction) (runs : List (Call × ℕ)) → names_known file ≡ true
     → each variable_of file.vars ≡ Ok vars → each (always_in (map pair_name file.vars)) file.always ≡ Ok always → each (transaction_in (map pair_name file.vars)) file.txs ≡ Ok txs
     → each (run_in (map tx_name file.txs)) file.runs ≡ Ok runs → resolved file ≡ Ok (listing vars always txs runs)
 unfolding resolved converted
@@ -299,7 +376,7 @@ resolved_is file vars always txs runs k a b c d =
     rw (declared_again [] (map pair_name file.vars) k0.0, declared_again [] (map condition_name file.always) k1.0, declared_again [] (map tx_name file.txs) k2.0, k2.1, a, b, c, d) refl
 
 limits_are : (l : Listing) → length l.names ≤ most_variables → list_all is_short l.names ≡ true → length l.always ≤ most_conditions → list_all is_short (always_names l) ≡ true
-    → length l.transactions ≤ most_transactions → list_all is_short (map (λ (x : Transaction). x.name) l.transactions) ≡ true → list_all (λ run. nat_le run.1 most_tasks) l.runs ≡ true → tasks_in_all l.runs ≤ most_tasks
+    → length l.transactions ≤ most_transactions → list_all names_fit l.transactions ≡ true → list_all (λ run. nat_le run.1 most_tasks) l.runs ≡ true → tasks_in_all l.runs ≤ most_tasks
     → CostsHold l → limits_hold l ≡ true
 unfolding limits_hold
 limits_are l variables names conditions always transactions txs one all costs =
@@ -307,44 +384,46 @@ limits_are l variables names conditions always transactions txs one all costs =
     let p2 = le-leb (length l.always) most_conditions conditions in
     let p3 = le-leb (length l.transactions) most_transactions transactions in
     let p4 = le-leb (tasks_in_all l.runs) most_tasks all in
-    let short : list_all (λ (x : Transaction). is_short x.name) l.transactions ≡ true = sym (list_all-map is_short (λ (x : Transaction). x.name) l.transactions) ∙ txs in
-    both_true _ _ p1 (both_true _ _ names (both_true _ _ p2 (both_true _ _ always (both_true _ _ costs.0 (both_true _ _ p3 (both_true _ _ short (both_true _ _ costs.1 (both_true _ _ one p4))))))))
+    both_true _ _ p1 (both_true _ _ names (both_true _ _ p2 (both_true _ _ always (both_true _ _ costs.0 (both_true _ _ p3 (both_true _ _ txs (both_true _ _ costs.1 (both_true _ _ one p4))))))))
 
-uses_parts : (vars txs : List (List ℕ)) (file : File) → uses_known vars txs file ≡ true
-    → (list_all (always_known vars) file.always ≡ true) × (list_all (tx_known vars) file.txs ≡ true) × (list_all (run_known txs) file.runs ≡ true)
+uses_parts : (vars : List (List ℕ)) (file : File) → uses_known vars file ≡ true
+    → (list_all (always_known vars) file.always ≡ true) × (list_all (tx_known vars) file.txs ≡ true) × (list_all (run_known file.txs) file.runs ≡ true)
 unfolding uses_known
-uses_parts vars txs file h =
-    let a = both (list_all (always_known vars) file.always) (list_all (tx_known vars) file.txs && list_all (run_known txs) file.runs) h in
-    let b = both (list_all (tx_known vars) file.txs) (list_all (run_known txs) file.runs) a.1 in
+uses_parts vars file h =
+    let a = both (list_all (always_known vars) file.always) (list_all (tx_known vars) file.txs && list_all (run_known file.txs) file.runs) h in
+    let b = both (list_all (tx_known vars) file.txs) (list_all (run_known file.txs) file.runs) a.1 in
     (a.0, b.0, b.1)
 
-pub file_fits : (file : File) → names_known file ≡ true → InFile LimitRight file (at_always file) (at_txs file) (at_runs file) → Fits file
-file_fits file k h =
+pub file_fits : (file : File) → IsOfForm file.form file → names_known file ≡ true → InFile LimitRight file (at_always file) (at_txs file) (at_runs file) → Fits file
+file_fits file formed k h =
+    let announced = file.form in
+    let lists = all_listed file formed in
+    let s0 = seen_in announced [] in
     let s1 = at_always file in
     let s2 = at_txs file in
     let s3 = at_runs file in
     let names = map pair_name file.vars in
     let txs = map tx_name file.txs in
     let conditions_named = map condition_name file.always in
-    let k0 = both (are_distinct names) (are_distinct conditions_named && (are_distinct txs && uses_known names txs file)) k in
-    let k1 = both (are_distinct conditions_named) (are_distinct txs && uses_known names txs file) k0.1 in
-    let k2 = both (are_distinct txs) (uses_known names txs file) k1.1 in
-    let used = uses_parts names txs file k2.1 in
-    let none1 : s1.many.conditions ≡ 0 = kept_by_variables (λ (s : Seen). s.many.conditions) (λ s text. refl) file.vars (seen_in []) in
+    let k0 = both (are_distinct names) (are_distinct conditions_named && (are_distinct txs && uses_known names file)) k in
+    let k1 = both (are_distinct conditions_named) (are_distinct txs && uses_known names file) k0.1 in
+    let k2 = both (are_distinct txs) (uses_known names file) k1.1 in
+    let used = uses_parts names file k2.1 in
+    let none1 : s1.many.conditions ≡ 0 = kept_by_variables (λ (s : Seen). s.many.conditions) (λ s text. refl) file.vars s0 in
     let none2 : s2.many.transactions ≡ 0 =
-    kept_by_conditions (λ (s : Seen). s.many.transactions) (λ s text. refl) file.always s1 ∙ kept_by_variables (λ (s : Seen). s.many.transactions) (λ s text. refl) file.vars (seen_in []) in
+    kept_by_conditions (λ (s : Seen). s.many.transactions) (λ s text. refl) file.always s1 ∙ kept_by_variables (λ (s : Seen). s.many.transactions) (λ s text. refl) file.vars s0 in
     let none3 : s3.many.tasks ≡ 0 =
-    kept_by_transactions (λ (s : Seen). s.many.tasks) (λ s text. refl) file.txs s2 ∙ kept_by_conditions (λ (s : Seen). s.many.tasks) (λ s text. refl) file.always s1
-    ∙ kept_by_variables (λ (s : Seen). s.many.tasks) (λ s text. refl) file.vars (seen_in []) in
-    let vars_are = vars_fit file.vars (seen_in []) _ (omega arith) h.vars in
+    kept_by_transactions (λ (s : Seen). s.many.tasks) (λ s text. refl) (λ s text. refl) announced file.txs s2 ∙ kept_by_conditions (λ (s : Seen). s.many.tasks) (λ s text. refl) file.always s1
+    ∙ kept_by_variables (λ (s : Seen). s.many.tasks) (λ s text. refl) file.vars s0 in
+    let vars_are = vars_fit announced file.vars s0 _ (omega arith) h.vars in
     let few_vars : length file.vars ≤ 256 = let le : 0 + length file.vars ≤ most_variables = vars_are.few in omega arith in
     let few : length names ≤ 256 = let e : length names ≡ length file.vars = length-map file.vars pair_name in omega arith in
-    let always_are = always_fit names few file.always s1 _ (omega arith) used.0 h.always in
-    let txs_are = txs_fit names few file.txs s2 _ (omega arith) used.1 h.txs in
+    let always_are = always_fit announced names few file.always s1 _ (omega arith) used.0 h.always in
+    let txs_are = txs_fit announced names few file.txs s2 _ (omega arith) lists used.1 h.txs in
     let few_txs : length txs ≤ 256 = let e : length txs ≡ length file.txs = length-map file.txs tx_name in let le : s2.many.transactions + length file.txs ≤ most_transactions = txs_are.few in omega arith in
-    let runs_are = runs_fit txs few_txs file.runs s3 [] (omega arith) used.2 h.runs in
-    let l : Listing = listing vars_are.good.0 always_are.good.0 txs_are.good.0 runs_are.runs in
-    let is : resolved file ≡ Ok l = resolved_is file vars_are.good.0 always_are.good.0 txs_are.good.0 runs_are.runs k vars_are.good.1 always_are.good.1 txs_are.good.1 runs_are.are in
+    let runs_are = runs_fit announced file.txs few_txs txs_are.parameters file.runs s3 [] (omega arith) used.2 h.runs in
+    let l : Listing = listing vars_are.good.0 always_are.good.0 txs_are.transactions runs_are.runs in
+    let is : resolved file ≡ Ok l = resolved_is file vars_are.good.0 always_are.good.0 txs_are.transactions runs_are.runs k vars_are.good.1 always_are.good.1 txs_are.are runs_are.are in
     let of = names_of file l is in
     let many1 : length l.names ≡ length names = ap length of.variables in
     let many2 : length l.always ≡ length file.always = sym (length-map l.always (λ (a : List ℕ × Condition). a.0)) ∙ ap length of.conditions ∙ length-map file.always condition_name in
@@ -355,5 +434,5 @@ file_fits file k h =
       listing = l;
       is = is;
       holds = limits_are l (omega arith) (ap (list_all is_short) of.variables ∙ vars_are.short) (omega arith) (ap (list_all is_short) of.conditions ∙ always_are.short)
-          (omega arith) (ap (list_all is_short) of.transactions ∙ txs_are.short) runs_are.one (omega arith);
+          (omega arith) txs_are.fit runs_are.one (omega arith);
     }

@@ -1,25 +1,27 @@
 -- What is read behind a token is what is wanted there.
-use Rattle.std.proofs.Common.{◌≡◌, ℕ, zero, suc, ◌-◌, true, false, List, [], ◌∷◌, Some, None, Result, Ok, Err, refl, sym, ap, ◌∙◌}
+use Rattle.std.proofs.Common.{◌≡◌, ℕ, zero, suc, ◌-◌, Bool, true, false, List, [], ◌∷◌, Some, None, Result, Ok, Err, refl, sym, ap, ◌∙◌}
+use Rattle.std.specs.Prelude.{ℤ}
 use Rattle.std.specs.Result.{result_ok}
 use Rattle.text_words.specs.Tokens.{Lexeme, Opens, Closes}
 use Rattle.text_words.specs.Tokens as token
 use Rattle.text_words.specs.Answers.{◌>>=◌}
-use Rattle.text_words.specs.TokenReading.{Read, close_at, name_at, int_at, is_open, with_first, all_of}
+use Rattle.text_words.specs.TokenReading.{Read, close_at, name_at, int_at, is_open, is_name, is_int, with_first, all_of}
 use Rattle.text_words.specs.declared.fault.ReadFault.{ReadFault}
-use Rattle.text_words.proofs.Many.{all-stop, all-more}
-use Rattle.text_grammar.specs.Tree.{Stmt, Seq}
+use Rattle.text_words.proofs.Many.{Shortens, all-stop, all-more}
+use Rattle.text_grammar.specs.Tree.{Seq}
 use Rattle.text_grammar.specs.Reading.{operator_of, test_of, keyword_of, expr_at, cond_at, stmt_at, row, set_with, seq_with, if_with, repeat_with, orelse_with, throw_with}
 use Rattle.text_grammar.specs.declared.words.Operator.{Operator}
 use Rattle.text_grammar.specs.declared.words.Test.{Test}
 use Rattle.text_grammar.specs.declared.words.Test.TheVariants as test
 use Rattle.text_grammar.specs.declared.words.Keyword.{Keyword}
 use Rattle.text_grammar.specs.declared.words.Keyword.TheVariants as keyword
-use Rattle.text_grammar.proofs.Stmts.{stmt_shortens, seq_ends}
+use Rattle.text_grammar.proofs.Stmts.{stmt_shortens}
+use Rattle.text_grammar.proofs.Lists.{name_shortens, int_shortens}
 use Rattle.explain_files.specs.declared.wanted.NumberUse.TheVariants as number
 use Rattle.explain_files.specs.declared.wanted.Wanted.{Wanted}
 use Rattle.explain_files.specs.declared.wanted.Wanted.TheVariants as want
 use Rattle.explain_files.specs.Forms.{Wants, deeper, behind_operator, behind_test, behind_keyword}
-use Rattle.explain_files.specs.Wanting.{Left, left_of, kept, ◌▷◌, read_test, read_keyword, read_all, onto}
+use Rattle.explain_files.specs.Wanting.{Left, left_of, kept, ◌▷◌, read_test, read_keyword, read_parameters, read_arguments, read_all, onto}
 use Rattle.explain_files.proofs.Chains.{left_to, close_to, none_to, deeper_suc}
 
 -- what is read, where this is wanted now on top of what was wanted before
@@ -102,23 +104,57 @@ keyword_reads (suc depth) word ts below (Ok keyword.OrElse) e =
 keyword_reads depth word ts below (Ok keyword.Throw) e = rw e (left_to (expr_at depth ts) _ _ _ (λ v. close_to (close_at v.1) _ _))
 keyword_reads depth word ts below (Err d) e = rw e refl
 
--- ---- the statements of a sequence
+-- ---- items one behind the other, and a closing parenthesis
 
-first_part : (s : Stmt) (r : Read (List Stmt)) (k : List Lexeme → Left)
-    → (left_of (with_first s r >>= λ parts. close_at parts.1 >>= λ rest. Ok (Seq (row parts.0), rest)) ▷ k) ≡ (left_of (r >>= λ parts. close_at parts.1 >>= λ rest. Ok (Seq (row parts.0), rest)) ▷ k)
-first_part s (Ok others) k = close_to (close_at others.1) _ k ∙ sym (close_to (close_at others.1) _ k)
-first_part s (Err d) k = refl
+-- what is made of them is not looked at
+pub ends_alike : {A B C : Type 0} (r : Read A) (f : A → B) (g : A → C) (k : List Lexeme → Left)
+    → (left_of (r >>= λ x. close_at x.1 >>= λ rest. Ok (f x.0, rest)) ▷ k) ≡ (left_of (r >>= λ x. close_at x.1 >>= λ rest. Ok (g x.0, rest)) ▷ k)
+ends_alike (Ok x) f g k = close_to (close_at x.1) _ k ∙ sym (close_to (close_at x.1) _ k)
+ends_alike (Err d) f g k = refl
 
-all_parts : (r : Read Stmt) (others : List Lexeme → Read (List Stmt)) (k : List Lexeme → Left)
-    → (left_of ((r >>= λ first. with_first first.0 (others first.1)) >>= λ parts. close_at parts.1 >>= λ rest. Ok (Seq (row parts.0), rest)) ▷ k)
-    ≡ (left_of r ▷ λ us. left_of (others us >>= λ parts. close_at parts.1 >>= λ rest. Ok (Seq (row parts.0), rest)) ▷ k)
-all_parts (Ok first) others k = first_part first.0 (others first.1) k
-all_parts (Err d) others k = refl
+first_item : {A B : Type 0} (f : List A → B) (x : A) (r : Read (List A)) (k : List Lexeme → Left)
+    → (left_of (with_first x r >>= λ items. close_at items.1 >>= λ rest. Ok (f items.0, rest)) ▷ k) ≡ (left_of (r >>= λ items. close_at items.1 >>= λ rest. Ok (f items.0, rest)) ▷ k)
+first_item f x (Ok others) k = close_to (close_at others.1) _ k ∙ sym (close_to (close_at others.1) _ k)
+first_item f x (Err d) k = refl
 
+all_items : {A B : Type 0} (f : List A → B) (r : Read A) (others : List Lexeme → Read (List A)) (k : List Lexeme → Left)
+    → (left_of ((r >>= λ first. with_first first.0 (others first.1)) >>= λ items. close_at items.1 >>= λ rest. Ok (f items.0, rest)) ▷ k)
+    ≡ (left_of r ▷ λ us. left_of (others us >>= λ items. close_at items.1 >>= λ rest. Ok (f items.0, rest)) ▷ k)
+all_items f (Ok first) others k = first_item f first.0 (others first.1) k
+all_items f (Err d) others k = refl
+
+items_go_on : {A B : Type 0} (f : List A → B) (goes : List Lexeme → Bool) (one : List Lexeme → Read A) → Shortens one → (ts : List Lexeme) (k : List Lexeme → Left) → goes ts ≡ true
+    → (left_of (all_of goes one ts >>= λ items. close_at items.1 >>= λ rest. Ok (f items.0, rest)) ▷ k)
+    ≡ (left_of (one ts) ▷ λ us. left_of (all_of goes one us >>= λ items. close_at items.1 >>= λ rest. Ok (f items.0, rest)) ▷ k)
+items_go_on f goes one short ts k h = rw (all-more goes one short ts h) (all_items f (one ts) (all_of goes one) k)
+
+items_end : {A B : Type 0} (f : List A → B) (goes : List Lexeme → Bool) (one : List Lexeme → Read A) (ts : List Lexeme) (k : List Lexeme → Left) → goes ts ≡ false
+    → (left_of (all_of goes one ts >>= λ items. close_at items.1 >>= λ rest. Ok (f items.0, rest)) ▷ k) ≡ (kept (close_at ts) ▷ k)
+items_end f goes one ts k h = rw (all-stop goes one ts h) (close_to (close_at ts) _ k)
+
+-- the statements of a sequence
 pub parts_go_on : (depth : ℕ) (ts : List Lexeme) (k : List Lexeme → Left) → is_open ts ≡ true → (left_of (seq_with (stmt_at depth) ts) ▷ k) ≡ (left_of (stmt_at depth ts) ▷ λ us. left_of (seq_with (stmt_at depth) us) ▷ k)
 unfolding seq_with
-parts_go_on depth ts k h =
-    rw (all-more is_open (stmt_at depth) (stmt_shortens depth) ts h) (all_parts (stmt_at depth ts) (all_of is_open (stmt_at depth)) k)
+parts_go_on depth ts k h = items_go_on (λ parts. Seq (row parts)) is_open (stmt_at depth) (stmt_shortens depth) ts k h
 
-pub parts_end : (part : List Lexeme → Read Stmt) (ts : List Lexeme) (k : List Lexeme → Left) → is_open ts ≡ false → (left_of (seq_with part ts) ▷ k) ≡ (kept (close_at ts) ▷ k)
-parts_end part ts k h = ap (λ (r : Read Stmt). left_of r ▷ k) (seq_ends part ts ts [] (all-stop is_open part ts h)) ∙ close_to (close_at ts) _ k
+pub parts_end : (depth : ℕ) (ts : List Lexeme) (k : List Lexeme → Left) → is_open ts ≡ false → (left_of (seq_with (stmt_at depth) ts) ▷ k) ≡ (kept (close_at ts) ▷ k)
+unfolding seq_with
+parts_end depth ts k h = items_end (λ parts. Seq (row parts)) is_open (stmt_at depth) ts k h
+
+-- the names of a list
+pub parameters_go_on : (word : List ℕ) (ts : List Lexeme) (k : List Lexeme → Left) → (left_of (read_parameters (token.Name word ∷ ts)) ▷ k) ≡ (left_of (read_parameters ts) ▷ k)
+unfolding read_parameters is_name name_at
+parameters_go_on word ts k = items_go_on (λ (names : List (List ℕ)). names) is_name name_at name_shortens (token.Name word ∷ ts) k refl
+
+pub parameters_end : (ts : List Lexeme) (k : List Lexeme → Left) → is_name ts ≡ false → (left_of (read_parameters ts) ▷ k) ≡ (kept (close_at ts) ▷ k)
+unfolding read_parameters
+parameters_end ts k h = items_end (λ (names : List (List ℕ)). names) is_name name_at ts k h
+
+-- the arguments of a run
+pub arguments_go_on : (value : ℤ) (ts : List Lexeme) (k : List Lexeme → Left) → (left_of (read_arguments (token.Int value ∷ ts)) ▷ k) ≡ (left_of (read_arguments ts) ▷ k)
+unfolding read_arguments is_int int_at
+arguments_go_on value ts k = items_go_on (λ (arguments : List ℤ). arguments) is_int int_at int_shortens (token.Int value ∷ ts) k refl
+
+pub arguments_end : (ts : List Lexeme) (k : List Lexeme → Left) → is_int ts ≡ false → (left_of (read_arguments ts) ▷ k) ≡ (kept (close_at ts) ▷ k)
+unfolding read_arguments
+arguments_end ts k h = items_end (λ (arguments : List ℤ). arguments) is_int int_at ts k h

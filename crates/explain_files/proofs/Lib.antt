@@ -8,12 +8,14 @@ pub mod Advances
 pub mod Endings
 pub mod Stacks
 pub mod Walked
-pub mod Known
 pub mod Keys
 pub mod Judged
 pub mod Counted
 pub mod Costly
+pub mod Announced
 pub mod Passed
 pub mod Named
 pub mod Fitting
 pub mod Placing
+pub mod Heads
+pub mod InLine

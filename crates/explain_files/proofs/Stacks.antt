@@ -1,6 +1,8 @@
 -- What is wanted on a stack: it can always be ended, and declarations stand at the bottom alone.
 use Rattle.std.proofs.Common.{◌≡◌, ℕ, ◌-◌, Bool, true, false, cond, eqb, List, [], ◌∷◌, ◌++◌, Option, Some, None, refl, sym, ap, subst, ◌∙◌}
-use Rattle.std.specs.Prelude.{ℤ}
+use Rattle.std.specs.Prelude.{ℤ, codes}
+use Rattle.std.specs.Result.{result_ok}
+use Rattle.std.specs.Str.{bytes_eq}
 use Rattle.text_words.specs.Tokens.{Lexeme, Opens, Closes}
 use Rattle.text_words.specs.Tokens as token
 use Rattle.text_grammar.specs.declared.words.Operator.{Operator}
@@ -8,21 +10,25 @@ use Rattle.text_grammar.specs.declared.words.Test.{Test}
 use Rattle.text_grammar.specs.declared.words.Test.TheVariants as test
 use Rattle.text_grammar.specs.declared.words.Keyword.{Keyword}
 use Rattle.text_grammar.specs.declared.words.Keyword.TheVariants as keyword
+use Rattle.text_grammar.specs.Reading.{form_numbered}
+use Rattle.text_grammar.specs.declared.file.FileForm.{FileForm}
+use Rattle.text_grammar.specs.declared.file.FileForm.TheVariants.{One, Two, Three}
 use Rattle.explain_files.specs.declared.wanted.Kind.{Kind}
 use Rattle.explain_files.specs.declared.wanted.Kind.TheVariants as kind
 use Rattle.explain_files.specs.declared.wanted.Section.{Section}
+use Rattle.explain_files.specs.declared.wanted.Section.TheVariants as section
 use Rattle.explain_files.specs.declared.wanted.Wanted.{Wanted}
 use Rattle.explain_files.specs.declared.wanted.Wanted.TheVariants as want
-use Rattle.explain_files.specs.Forms.{Wants, deeper, behind_operator, behind_test, behind_keyword, behind_kind, behind_part, part_behind, kind_of, behind_open, behind_close, behind_word, behind_int, is_two, behind}
+use Rattle.explain_files.specs.Forms.{Wants, deeper, behind_operator, behind_test, behind_keyword, tx_wants, run_end, form_in, behind_kind, behind_part, part_behind, kind_of, behind_stm, behind_declared, behind_form, behind_open, behind_close, behind_word, behind_int, behind}
 use Rattle.explain_files.specs.Wanting.{Left, ◌▷◌, none_left, from_part, read_one, read_all, onto}
-use Rattle.explain_files.proofs.Endings.{finish, part_end, word_ends, number_ends, simple_ends, expr_ends, operator_ends, cond_ends, test_ends, stmt_ends, keyword_ends, parts_ends}
+use Rattle.explain_files.proofs.Endings.{finish, part_end, word_ends, number_ends, simple_ends, expr_ends, operator_ends, cond_ends, test_ends, stmt_ends, keyword_ends, parts_ends, list_ends, parameters_ends, arguments_ends}
 
 -- declarations are wanted at the bottom, and nowhere else
 abbrev pub IsBottomed : List Wanted → Type 0
 IsBottomed [] = ⊥
 IsBottomed (want.Declarations part ∷ below) = below ≡ []
 IsBottomed (want.Word part ∷ below) = below ≡ []
-IsBottomed (want.FormNumber ∷ below) = IsBottomed below
+IsBottomed (want.FormNumber ∷ below) = below ≡ []
 IsBottomed (want.Close ∷ below) = IsBottomed below
 IsBottomed (want.Name used ∷ below) = IsBottomed below
 IsBottomed (want.Number used ∷ below) = IsBottomed below
@@ -33,6 +39,9 @@ IsBottomed (want.Test depth ∷ below) = IsBottomed below
 IsBottomed (want.Stmt depth ∷ below) = IsBottomed below
 IsBottomed (want.Keyword depth ∷ below) = IsBottomed below
 IsBottomed (want.Parts depth ∷ below) = IsBottomed below
+IsBottomed (want.List ∷ below) = IsBottomed below
+IsBottomed (want.Parameters ∷ below) = IsBottomed below
+IsBottomed (want.Arguments ∷ below) = IsBottomed below
 
 -- what is put on a stack keeps that
 abbrev KeepsBottom : List Wanted → Wants → Type 0
@@ -67,21 +76,44 @@ keyword_keeps depth below (Some keyword.Retry) h = h
 keyword_keeps depth below (Some keyword.OrElse) h = deeper_keeps depth below _ h
 keyword_keeps depth below (Some keyword.Throw) h = h
 
+tx_keeps : (form : FileForm) (part : Section) → IsBottomed (onto (want.Declarations part ∷ want.Close ∷ tx_wants form) [])
+tx_keeps One part = refl
+tx_keeps Two part = refl
+tx_keeps Three part = refl
+
+run_keeps : (form : FileForm) (part : Section) → IsBottomed (run_end form ∷ want.Declarations part ∷ [])
+run_keeps One part = refl
+run_keeps Two part = refl
+run_keeps Three part = refl
+
 part_keeps : (k : Kind) (o : Option Section) → KeepsBottom [] (behind_part k o)
 part_keeps k None = tt
-part_keeps kind.Form (Some part) = refl
 part_keeps kind.Variable (Some part) = refl
 part_keeps kind.Condition (Some part) = refl
-part_keeps kind.Transaction (Some part) = refl
-part_keeps kind.Run (Some part) = refl
+part_keeps kind.Transaction (Some part) = tx_keeps (form_in part) part
+part_keeps kind.Run (Some part) = run_keeps (form_in part) part
 
 kind_keeps : (part : Section) (o : Option Kind) → KeepsBottom [] (behind_kind part o)
 kind_keeps part None = tt
 kind_keeps part (Some k) = part_keeps k (part_behind part k)
 
-number_keeps : (below : List Wanted) (b : Bool) → IsBottomed below → KeepsBottom below (cond b (Some []) None)
-number_keeps below true h = h
-number_keeps below false h = tt
+stm_keeps : (part : Section) → KeepsBottom [] (behind_stm part)
+stm_keeps section.Start = refl
+stm_keeps (section.Variables form) = tt
+stm_keeps (section.Conditions form) = tt
+stm_keeps (section.Transactions form) = tt
+stm_keeps (section.Runs form) = tt
+
+declared_keeps : (part : Section) (word : List ℕ) → KeepsBottom [] (behind_declared part word)
+declared_keeps part word = chosen (bytes_eq word (codes "stm"))
+  where
+    chosen : (b : Bool) → KeepsBottom [] (cond b (behind_stm part) (behind_kind part (kind_of word)))
+    chosen true = stm_keeps part
+    chosen false = kind_keeps part (kind_of word)
+
+form_keeps : (o : Option FileForm) → KeepsBottom [] (behind_form o)
+form_keeps None = tt
+form_keeps (Some form) = refl
 
 open_keeps : (wanted : Wanted) (below : List Wanted) → IsBottomed (wanted ∷ below) → KeepsBottom below (behind_open wanted)
 open_keeps (want.Declarations part) below h = h
@@ -97,6 +129,9 @@ open_keeps (want.Test depth) below h = tt
 open_keeps (want.Stmt depth) below h = h
 open_keeps (want.Keyword depth) below h = tt
 open_keeps (want.Parts depth) below h = deeper_keeps depth below (want.Parts depth ∷ want.Keyword (depth - 1) ∷ []) h
+open_keeps want.List below h = h
+open_keeps want.Parameters below h = tt
+open_keeps want.Arguments below h = tt
 
 close_keeps : (wanted : Wanted) (below : List Wanted) → IsBottomed (wanted ∷ below) → KeepsBottom below (behind_close wanted)
 close_keeps (want.Declarations part) below h = tt
@@ -112,11 +147,14 @@ close_keeps (want.Test depth) below h = tt
 close_keeps (want.Stmt depth) below h = tt
 close_keeps (want.Keyword depth) below h = tt
 close_keeps (want.Parts depth) below h = h
+close_keeps want.List below h = tt
+close_keeps want.Parameters below h = h
+close_keeps want.Arguments below h = h
 
 int_keeps : (wanted : Wanted) (below : List Wanted) (value : ℤ) → IsBottomed (wanted ∷ below) → KeepsBottom below (behind_int wanted value)
 int_keeps (want.Declarations part) below value h = tt
 int_keeps (want.Word part) below value h = tt
-int_keeps want.FormNumber below value h = number_keeps below (is_two value) h
+int_keeps want.FormNumber below value h = subst (λ (b : List Wanted). KeepsBottom b (behind_form (result_ok (form_numbered value)))) (sym h) (form_keeps (result_ok (form_numbered value)))
 int_keeps want.Close below value h = tt
 int_keeps (want.Name used) below value h = tt
 int_keeps (want.Number used) below value h = h
@@ -127,10 +165,13 @@ int_keeps (want.Test depth) below value h = tt
 int_keeps (want.Stmt depth) below value h = tt
 int_keeps (want.Keyword depth) below value h = tt
 int_keeps (want.Parts depth) below value h = tt
+int_keeps want.List below value h = tt
+int_keeps want.Parameters below value h = tt
+int_keeps want.Arguments below value h = h
 
 word_keeps : (wanted : Wanted) (below : List Wanted) (word : List ℕ) → IsBottomed (wanted ∷ below) → KeepsBottom below (behind_word wanted word)
 word_keeps (want.Declarations part) below word h = tt
-word_keeps (want.Word part) below word h = subst (λ (b : List Wanted). KeepsBottom b (behind_kind part (kind_of word))) (sym h) (kind_keeps part (kind_of word))
+word_keeps (want.Word part) below word h = subst (λ (b : List Wanted). KeepsBottom b (behind_declared part word)) (sym h) (declared_keeps part word)
 word_keeps want.FormNumber below word h = tt
 word_keeps want.Close below word h = tt
 word_keeps (want.Name used) below word h = h
@@ -142,6 +183,9 @@ word_keeps (want.Test depth) below word h = test_keeps depth below _ h
 word_keeps (want.Stmt depth) below word h = tt
 word_keeps (want.Keyword depth) below word h = keyword_keeps depth below _ h
 word_keeps (want.Parts depth) below word h = tt
+word_keeps want.List below word h = tt
+word_keeps want.Parameters below word h = h
+word_keeps want.Arguments below word h = tt
 
 token_keeps : (wanted : Wanted) (below : List Wanted) (t : Lexeme) → IsBottomed (wanted ∷ below) → KeepsBottom below (behind wanted t)
 unfolding behind
@@ -170,7 +214,7 @@ pub all_ends : (stack : List Wanted) → IsBottomed stack → read_all stack (fi
 all_ends [] h = absurd h
 all_ends (want.Declarations part ∷ below) h = rw h (at_bottom (none_left (from_part part [])) [] refl (part_end part))
 all_ends (want.Word part ∷ below) h = rw h (at_bottom (none_left (from_part part (Opens ∷ finish (want.Word part)))) [] refl (word_ends part))
-all_ends (want.FormNumber ∷ below) h = goes_on want.FormNumber below (number_ends (finish_all below)) (all_ends below h)
+all_ends (want.FormNumber ∷ below) h = rw h (at_bottom (read_one want.FormNumber (finish want.FormNumber)) [] refl number_ends)
 all_ends (want.Close ∷ below) h = goes_on want.Close below (simple_ends (finish_all below)).0 (all_ends below h)
 all_ends (want.Name used ∷ below) h = goes_on (want.Name used) below (simple_ends (finish_all below)).1 (all_ends below h)
 all_ends (want.Number used ∷ below) h = goes_on (want.Number used) below (simple_ends (finish_all below)).2 (all_ends below h)
@@ -181,6 +225,9 @@ all_ends (want.Test depth ∷ below) h = goes_on (want.Test depth) below (test_e
 all_ends (want.Stmt depth ∷ below) h = goes_on (want.Stmt depth) below (stmt_ends depth (finish_all below)) (all_ends below h)
 all_ends (want.Keyword depth ∷ below) h = goes_on (want.Keyword depth) below (keyword_ends depth (finish_all below)) (all_ends below h)
 all_ends (want.Parts depth ∷ below) h = goes_on (want.Parts depth) below (parts_ends depth (finish_all below)) (all_ends below h)
+all_ends (want.List ∷ below) h = goes_on want.List below (list_ends (finish_all below)) (all_ends below h)
+all_ends (want.Parameters ∷ below) h = goes_on want.Parameters below (parameters_ends (finish_all below)) (all_ends below h)
+all_ends (want.Arguments ∷ below) h = goes_on want.Arguments below (arguments_ends (finish_all below)) (all_ends below h)
 
 -- ---- stacks whose top is the last
 

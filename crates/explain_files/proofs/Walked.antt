@@ -3,7 +3,7 @@ use Rattle.std.proofs.Common.{◌≡◌, ℕ, ◌<◌, Bool, true, false, List, 
 use Rattle.std.proofs.lemmas.List.{append-nil}
 use Rattle.text_words.specs.Tokens.{Lexeme, tokens}
 use Rattle.text_words.specs.declared.fault.ReadFault.TheVariants.{Shape}
-use Rattle.text_laws.specs.Faults.{IsFirst}
+use Rattle.text_file_reader.specs.Faults.{IsFirst}
 use Rattle.explain_files.specs.declared.wanted.Section.TheVariants as section
 use Rattle.explain_files.specs.declared.wanted.Wanted.{Wanted}
 use Rattle.explain_files.specs.declared.wanted.Wanted.TheVariants as want

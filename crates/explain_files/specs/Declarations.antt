@@ -1,26 +1,27 @@
 -- Declarations that cost too much or are not true, and where their names stand.
-use Rattle.std.specs.Prelude.{◌≡◌, ℕ, ◌+◌, true, false, Some, List, ◌∷◌, ◌++◌, length, map, take, drop, reverse, Ok, Result}
+use Rattle.std.specs.Prelude.{◌≡◌, ℕ, ◌+◌, true, false, Some, List, ◌∷◌, length, map, take, drop, reverse, Ok, Result}
 use Rattle.std.specs.List.{slice_get, list_all}
 use Rattle.txn_programs.specs.Tree.{Condition, Transaction}
 use Rattle.txn_programs.specs.Listing.{Listing, conditions}
 use Rattle.txn_programs.specs.Meaning.{State, truth}
-use Rattle.txn_programs.specs.Names.{knows_condition}
+use Rattle.txn_programs.specs.Names.{knows_standing}
 use Rattle.txn_programs.specs.Standing.{is_true, upholds}
 use Rattle.txn_programs.specs.Cost.{conditions_cost}
 use Rattle.txn_programs.specs.Limits.{conditions_fit}
-use Rattle.txn_rules.specs.Beside.{fits_beside}
+use Rattle.txn_declarations.specs.Beside.{fits_beside}
 use Rattle.text_words.specs.Answers.{◌>>=◌}
 use Rattle.text_words.specs.Tokens.{Lexeme, tokens}
 use Rattle.text_words.specs.Tokens as token
 use Rattle.text_words.specs.declared.fault.ReadFault.{ReadFault}
 use Rattle.text_grammar.specs.Reading.{tree_of}
 use Rattle.text_grammar.specs.Resolving.{resolved}
+use Rattle.text_grammar.specs.declared.file.FileForm.{FileForm}
 use Rattle.explain_files.specs.declared.wanted.NameUse.{NameUse}
 use Rattle.explain_files.specs.declared.wanted.NameUse.TheVariants as name
 use Rattle.explain_files.specs.declared.wanted.Role.TheVariants as role
 use Rattle.explain_files.specs.Walking.{IsTokenPlace}
-use Rattle.explain_files.specs.Roles.{role_at}
-use Rattle.explain_files.specs.Judging.{EachToken}
+use Rattle.explain_files.specs.Roles.{role_at, form_of}
+use Rattle.explain_files.specs.Judging.{OfToken, EachToken}
 
 -- what the bytes declare, where their names are known and their numbers are in range
 abbrev pub declared_by : List ℕ → Result Listing ReadFault
@@ -30,9 +31,9 @@ declared_by bytes = tree_of bytes >>= λ file. resolved file
 abbrev pub IsListed : List ℕ → Type 0
 IsListed bytes = (l : Listing) × (declared_by bytes ≡ Ok l)
 
--- a token is not this name where it declares something of this kind
-abbrev pub DoesNotDeclare : NameUse → List ℕ → List Lexeme → Lexeme → Type 0
-DoesNotDeclare used text before t = role_at before ≡ role.Name used → t ≡ token.Name text → ⊥
+-- a token of a file of this form is not this name where it declares something of this kind
+abbrev pub DoesNotDeclare : FileForm → NameUse → List ℕ → OfToken
+DoesNotDeclare form used text before t behind = role_at form before ≡ role.Name used → t ≡ token.Name text → ⊥
 
 -- at the place stands the first token that declares this name
 pub record IsDeclared (bytes : List ℕ) (place : ℕ) (used : NameUse) (text : List ℕ) : Type 0 where
@@ -42,8 +43,8 @@ pub record IsDeclared (bytes : List ℕ) (place : ℕ) (used : NameUse) (text : 
   pub behind : List Lexeme
   pub front : tokens (take place bytes) ≡ reverse before
   pub at : tokens (drop place bytes) ≡ token.Name text ∷ behind
-  pub for : role_at before ≡ role.Name used
-  pub first : EachToken (DoesNotDeclare used text) before
+  pub for : role_at (form_of (tokens bytes)) before ≡ role.Name used
+  pub first : EachToken (DoesNotDeclare (form_of (tokens bytes)) used text) before (token.Name text ∷ behind)
 
 -- the first standing condition with which those up to it are over the limits has this name
 pub record IsOver (always : List (List ℕ × Condition)) (text : List ℕ) : Type 0 where
@@ -67,6 +68,7 @@ abbrev pub IsCostly : Listing → NameUse → List ℕ → Type 0
 IsCostly l name.Condition text = IsOver l.always text
 IsCostly l name.Transaction text = (conditions_fit (conditions l) ≡ true) × IsOverBeside (conditions_cost (conditions l)) l.transactions text
 IsCostly l name.Variable text = ⊥
+IsCostly l name.Parameter text = ⊥
 IsCostly l name.Target text = ⊥
 IsCostly l name.Called text = ⊥
 
@@ -76,7 +78,7 @@ CostsHold l = (conditions_fit (conditions l) ≡ true) × (list_all (fits_beside
 
 -- only declared variables are named in the conditions, and one of them is not true of the initial values
 pub record IsUntrue (l : Listing) : Type 0 where
-  pub known : list_all (knows_condition (length l.initial)) (conditions l) ≡ true
+  pub known : list_all (knows_standing (length l.initial)) (conditions l) ≡ true
   pub untrue : upholds l l.initial ≡ false
 
 -- the first standing condition that is not true of these values has this name

@@ -9,4 +9,11 @@ abbrev pub texts : List (Bor (List ℕ)) → List (List ℕ)
 texts names = map (λ name. name.now) names
 
 abbrev pub view_declared : Declared → Names
-view_declared d = record { variables = texts d.variables.keys; conditions = texts d.conditions.keys; transactions = texts d.transactions.keys }
+view_declared d =
+    record {
+      variables = texts d.variables.keys;
+      conditions = texts d.conditions.keys;
+      transactions = texts d.transactions.keys;
+      arities = d.arities.items;
+      parameters = texts d.parameters.keys;
+    }

@@ -1,14 +1,16 @@
--- What an explanation says of the bytes of a file.
+-- What an explanation says of a file.
 use Rattle.std.specs.Prelude.{◌≡◌, ◌<◌, ◌≤◌, ℕ, true, false, List, length, take, slice_index, Some}
 use Rattle.std.specs.List.{list_all}
 use Rattle.txn_programs.specs.Listing.{Listing}
 use Rattle.text_words.specs.Bytes.{is_allowed}
+use Rattle.text_words.specs.Tokens.{tokens}
 use Rattle.text_grammar.specs.Tree.{max_len}
 use Rattle.text_grammar.specs.Spelling.{Spells, first_fault}
-use Rattle.text_laws.specs.Faults.{IsFirst}
+use Rattle.text_file_reader.specs.Faults.{IsFirst}
 use Rattle.text_words.specs.declared.fault.ReadFault.{ReadFault}
 use Rattle.text_words.specs.declared.fault.ReadFault.TheVariants.{TooLong, BadByte, Shape, Name, Limit, Broken}
 use Rattle.explain_files.specs.Walking.{IsStop}
+use Rattle.explain_files.specs.Roles.{form_of}
 use Rattle.explain_files.specs.Judging.{AllTokens, IsRight, IsFirstSaid, name_fault_at}
 use Rattle.explain_files.specs.Limiting.{limit_fault_at}
 use Rattle.explain_files.specs.Declarations.{IsCostlyAt, IsFalseAt}
@@ -29,12 +31,12 @@ abbrev pub IsPlaced : ReadFault → List ℕ → ℕ → Finding → Type 0
 IsPlaced TooLong bytes place found.TooLong = (place ≡ max_len) × (place < length bytes)
 IsPlaced BadByte bytes place found.BadByte = IsBadByte bytes place
 IsPlaced Shape bytes place (found.Unwanted wanted) = IsStop bytes place
--- the first name that is declared a second time, or used and not declared
-IsPlaced Name bytes place (found.Name fault) = IsFirstSaid name_fault_at bytes place fault
+-- the first name that is declared a second time, or used and not declared, or run with another number of arguments
+IsPlaced Name bytes place (found.Name fault) = IsFirstSaid (name_fault_at (form_of (tokens bytes))) bytes place fault
 -- the first name or number that goes over a limit
-IsPlaced Limit bytes place (found.Limit fault) = IsFirstSaid limit_fault_at bytes place fault
+IsPlaced Limit bytes place (found.Limit fault) = IsFirstSaid (limit_fault_at (form_of (tokens bytes))) bytes place fault
 -- where there is none: the name of the first declaration that costs too much
-IsPlaced Limit bytes place found.Cost = AllTokens (IsRight limit_fault_at) bytes × IsCostlyAt bytes place
+IsPlaced Limit bytes place found.Cost = AllTokens (IsRight (limit_fault_at (form_of (tokens bytes)))) bytes × IsCostlyAt bytes place
 -- the name of the first standing condition that is not true of the initial values
 IsPlaced Broken bytes place found.Untrue = IsFalseAt bytes place
 -- nothing else is found

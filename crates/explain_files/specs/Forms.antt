@@ -1,16 +1,17 @@
 -- What is wanted behind a token, where the token may stand there: what is put on the stack, the next of it last.
-use Rattle.std.specs.Prelude.{ℕ, ℤ, pos, ◌-◌, ◌==◌, Bool, true, false, if◌then◌else◌, ◌≡◌, ◌++◌, Option, Some, None, List, [], ◌∷◌, codes}
-use Rattle.std.specs.Ordering.{int_eq}
+use Rattle.std.specs.Prelude.{ℕ, ℤ, ◌-◌, ◌==◌, Bool, true, false, if◌then◌else◌, ◌≡◌, ◌++◌, Option, Some, None, List, [], ◌∷◌, codes}
 use Rattle.std.specs.Result.{result_ok}
 use Rattle.std.specs.Str.{bytes_eq}
 use Rattle.text_words.specs.Tokens.{Lexeme, Opens, Closes}
 use Rattle.text_words.specs.Tokens as token
-use Rattle.text_grammar.specs.Reading.{operator_of, test_of, keyword_of}
+use Rattle.text_grammar.specs.Reading.{operator_of, test_of, keyword_of, form_numbered}
 use Rattle.text_grammar.specs.declared.words.Operator.{Operator}
 use Rattle.text_grammar.specs.declared.words.Test.{Test}
 use Rattle.text_grammar.specs.declared.words.Test.TheVariants as test
 use Rattle.text_grammar.specs.declared.words.Keyword.{Keyword}
 use Rattle.text_grammar.specs.declared.words.Keyword.TheVariants as keyword
+use Rattle.text_grammar.specs.declared.file.FileForm.{FileForm}
+use Rattle.text_grammar.specs.declared.file.FileForm.TheVariants.{One, Two, Three}
 use Rattle.explain_files.specs.declared.wanted.NameUse.TheVariants as name
 use Rattle.explain_files.specs.declared.wanted.NumberUse.TheVariants as number
 use Rattle.explain_files.specs.declared.wanted.Kind.{Kind}
@@ -54,43 +55,59 @@ behind_keyword depth None = None
 
 abbrev pub kind_of : List ℕ → Option Kind
 kind_of word =
-    if bytes_eq word (codes "stm") then Some kind.Form
-    else (if bytes_eq word (codes "var") then Some kind.Variable
+    if bytes_eq word (codes "var") then Some kind.Variable
     else (if bytes_eq word (codes "always") then Some kind.Condition
     else (if bytes_eq word (codes "tx") then Some kind.Transaction
     else (if bytes_eq word (codes "run") then Some kind.Run
-    else None))))
+    else None)))
+
+-- the form of the file, as far as it is known there
+abbrev pub form_in : Section → FileForm
+form_in section.Start = One
+form_in (section.Variables form) = form
+form_in (section.Conditions form) = form
+form_in (section.Transactions form) = form
+form_in (section.Runs form) = form
+
+-- conditions stand behind variables, but not in form 1
+abbrev pub conditions_in : FileForm → Option Section
+conditions_in One = None
+conditions_in Two = Some (section.Conditions Two)
+conditions_in Three = Some (section.Conditions Three)
 
 -- where one of this kind may stand, the part of the file behind it
 abbrev pub part_behind : Section → Kind → Option Section
-part_behind section.Start kind.Form = Some section.VariablesOfTwo
-part_behind section.Start kind.Variable = Some section.Variables
+part_behind section.Start kind.Variable = Some (section.Variables One)
 part_behind section.Start kind.Condition = None
-part_behind section.Variables kind.Form = None
-part_behind section.Variables kind.Variable = Some section.Variables
-part_behind section.Variables kind.Condition = None
-part_behind section.VariablesOfTwo kind.Form = None
-part_behind section.VariablesOfTwo kind.Variable = Some section.VariablesOfTwo
-part_behind section.VariablesOfTwo kind.Condition = Some section.Conditions
-part_behind section.Conditions kind.Form = None
-part_behind section.Conditions kind.Variable = None
-part_behind section.Conditions kind.Condition = Some section.Conditions
-part_behind section.Transactions kind.Form = None
-part_behind section.Transactions kind.Variable = None
-part_behind section.Transactions kind.Condition = None
-part_behind section.Runs kind.Form = None
-part_behind section.Runs kind.Variable = None
-part_behind section.Runs kind.Condition = None
-part_behind section.Runs kind.Transaction = None
-part_behind part kind.Transaction = Some section.Transactions
-part_behind part kind.Run = Some section.Runs
+part_behind (section.Variables form) kind.Variable = Some (section.Variables form)
+part_behind (section.Variables form) kind.Condition = conditions_in form
+part_behind (section.Conditions form) kind.Variable = None
+part_behind (section.Conditions form) kind.Condition = Some (section.Conditions form)
+part_behind (section.Transactions form) kind.Variable = None
+part_behind (section.Transactions form) kind.Condition = None
+part_behind (section.Runs form) kind.Variable = None
+part_behind (section.Runs form) kind.Condition = None
+part_behind (section.Runs form) kind.Transaction = None
+part_behind part kind.Transaction = Some (section.Transactions (form_in part))
+part_behind part kind.Run = Some (section.Runs (form_in part))
+
+-- a transaction behind its word
+abbrev pub tx_wants : FileForm → List Wanted
+tx_wants One = want.Expr 31 ∷ want.Stmt 30 ∷ want.Name name.Transaction ∷ []
+tx_wants Two = want.Expr 31 ∷ want.Stmt 30 ∷ want.Name name.Transaction ∷ []
+tx_wants Three = want.Expr 31 ∷ want.Stmt 30 ∷ want.List ∷ want.Name name.Transaction ∷ []
+
+-- behind the count of a run
+abbrev pub run_end : FileForm → Wanted
+run_end One = want.Close
+run_end Two = want.Close
+run_end Three = want.Arguments
 
 abbrev pub within : Section → Kind → List Wanted
-within part kind.Form = want.Declarations part ∷ want.Close ∷ want.FormNumber ∷ []
 within part kind.Variable = want.Declarations part ∷ want.Close ∷ want.Number number.Initial ∷ want.Name name.Variable ∷ []
 within part kind.Condition = want.Declarations part ∷ want.Close ∷ want.Cond 30 ∷ want.Name name.Condition ∷ []
-within part kind.Transaction = want.Declarations part ∷ want.Close ∷ want.Expr 31 ∷ want.Stmt 30 ∷ want.Name name.Transaction ∷ []
-within part kind.Run = want.Declarations part ∷ want.Close ∷ want.Number number.Tasks ∷ want.Name name.Called ∷ []
+within part kind.Transaction = want.Declarations part ∷ want.Close ∷ tx_wants (form_in part)
+within part kind.Run = want.Declarations part ∷ run_end (form_in part) ∷ want.Number number.Tasks ∷ want.Name name.Called ∷ []
 
 abbrev pub behind_part : Kind → Option Section → Wants
 behind_part k None = None
@@ -100,13 +117,30 @@ abbrev pub behind_kind : Section → Option Kind → Wants
 behind_kind part None = None
 behind_kind part (Some k) = behind_part k (part_behind part k)
 
+-- a form is announced first of all
+abbrev pub behind_stm : Section → Wants
+behind_stm section.Start = Some (want.FormNumber ∷ [])
+behind_stm (section.Variables form) = None
+behind_stm (section.Conditions form) = None
+behind_stm (section.Transactions form) = None
+behind_stm (section.Runs form) = None
+
+abbrev pub behind_declared : Section → List ℕ → Wants
+behind_declared part word = if bytes_eq word (codes "stm") then behind_stm part else behind_kind part (kind_of word)
+
+-- behind the number of a form
+abbrev pub behind_form : Option FileForm → Wants
+behind_form (Some form) = Some (want.Declarations (section.Variables form) ∷ want.Close ∷ [])
+behind_form None = None
+
 -- ---- tokens
 
 -- what is wanted in place of this, behind a word
 abbrev pub behind_word : Wanted → List ℕ → Wants
-behind_word (want.Word part) word = behind_kind part (kind_of word)
+behind_word (want.Word part) word = behind_declared part word
 behind_word (want.Name used) word = Some []
 behind_word (want.Expr depth) word = Some []
+behind_word want.Parameters word = Some (want.Parameters ∷ [])
 behind_word (want.Operator depth) word = behind_operator depth (result_ok (operator_of word))
 behind_word (want.Test depth) word = behind_test depth (result_ok (test_of word))
 behind_word (want.Keyword depth) word = behind_keyword depth (result_ok (keyword_of word))
@@ -117,16 +151,15 @@ behind_word (want.Number used) word = None
 behind_word (want.Cond depth) word = None
 behind_word (want.Stmt depth) word = None
 behind_word (want.Parts depth) word = None
-
--- the number of the form that is announced
-abbrev pub is_two : ℤ → Bool
-is_two value = int_eq value (pos 2)
+behind_word want.List word = None
+behind_word want.Arguments word = None
 
 -- behind an integer
 abbrev pub behind_int : Wanted → ℤ → Wants
-behind_int want.FormNumber value = if is_two value then Some [] else None
+behind_int want.FormNumber value = behind_form (result_ok (form_numbered value))
 behind_int (want.Number used) value = Some []
 behind_int (want.Expr depth) value = Some []
+behind_int want.Arguments value = Some (want.Arguments ∷ [])
 behind_int (want.Word part) value = None
 behind_int (want.Name used) value = None
 behind_int (want.Operator depth) value = None
@@ -137,6 +170,8 @@ behind_int want.Close value = None
 behind_int (want.Cond depth) value = None
 behind_int (want.Stmt depth) value = None
 behind_int (want.Parts depth) value = None
+behind_int want.List value = None
+behind_int want.Parameters value = None
 
 -- behind an opening parenthesis
 abbrev pub behind_open : Wanted → Wants
@@ -145,6 +180,7 @@ behind_open (want.Expr depth) = deeper depth (want.Operator (depth - 1) ∷ [])
 behind_open (want.Cond depth) = Some (want.Test depth ∷ [])
 behind_open (want.Stmt depth) = Some (want.Keyword depth ∷ [])
 behind_open (want.Parts depth) = deeper depth (want.Parts depth ∷ want.Keyword (depth - 1) ∷ [])
+behind_open want.List = Some (want.Parameters ∷ [])
 behind_open want.FormNumber = None
 behind_open (want.Number used) = None
 behind_open (want.Word part) = None
@@ -153,11 +189,15 @@ behind_open (want.Operator depth) = None
 behind_open (want.Test depth) = None
 behind_open (want.Keyword depth) = None
 behind_open want.Close = None
+behind_open want.Parameters = None
+behind_open want.Arguments = None
 
 -- behind a closing one
 abbrev pub behind_close : Wanted → Wants
 behind_close want.Close = Some []
 behind_close (want.Parts depth) = Some []
+behind_close want.Parameters = Some []
+behind_close want.Arguments = Some []
 behind_close (want.Declarations part) = None
 behind_close (want.Expr depth) = None
 behind_close (want.Cond depth) = None
@@ -169,6 +209,7 @@ behind_close (want.Name used) = None
 behind_close (want.Operator depth) = None
 behind_close (want.Test depth) = None
 behind_close (want.Keyword depth) = None
+behind_close want.List = None
 
 unfoldable pub behind : Wanted → Lexeme → Wants
 behind wanted Opens = behind_open wanted

@@ -10,3 +10,4 @@ pub mod Limiting
 pub mod Counting
 pub mod Declarations
 pub mod Explaining
+pub mod Telling

@@ -1,10 +1,11 @@
--- Which names and numbers of a file go over a limit.
+-- Names and numbers over a limit.
 use Rattle.std.specs.Prelude.{ℕ, ℤ, ◌+◌, if◌then◌else◌, nat_le, Option, Some, None, Result, Ok, Err, List, [], ◌∷◌, length}
-use Rattle.txn_programs.specs.Limits.{most_variables, most_conditions, most_transactions, most_tasks, most_turns, longest_name}
+use Rattle.txn_programs.specs.Limits.{most_variables, most_conditions, most_transactions, most_parameters, most_tasks, most_times, longest_name}
 use Rattle.text_words.specs.Tokens.{Lexeme, Opens, Closes}
 use Rattle.text_words.specs.Tokens as token
 use Rattle.text_words.specs.Numbers.{number_of, count_of}
 use Rattle.text_words.specs.declared.fault.ReadFault.{ReadFault}
+use Rattle.text_grammar.specs.declared.file.FileForm.{FileForm}
 use Rattle.explain_files.specs.declared.wanted.NameUse.TheVariants as name
 use Rattle.explain_files.specs.declared.wanted.NumberUse.TheVariants as number
 use Rattle.explain_files.specs.declared.wanted.Role.{Role}
@@ -12,12 +13,14 @@ use Rattle.explain_files.specs.declared.wanted.Role.TheVariants as role
 use Rattle.explain_files.specs.declared.limits.LimitFault.{LimitFault}
 use Rattle.explain_files.specs.declared.limits.LimitFault.TheVariants as over
 use Rattle.explain_files.specs.Roles.{role_at}
+use Rattle.explain_files.specs.Judging.{Saying}
 
--- how many names are declared of each kind, and how many tasks are run
+-- how many names are declared of each kind, the parameters of the last transaction alone, and how many tasks are run
 pub record Many : Type 0 where
   pub variables : ℕ
   pub conditions : ℕ
   pub transactions : ℕ
+  pub parameters : ℕ
   pub tasks : ℕ
 
 -- the tasks of a run, where they can be counted
@@ -27,15 +30,16 @@ tasks_of (Err e) = 0
 
 -- and one token more, which is for this
 abbrev pub many_with : Many → Role → Lexeme → Many
-many_with many (role.Name name.Variable) (token.Name text) = record { variables = many.variables + 1; conditions = many.conditions; transactions = many.transactions; tasks = many.tasks }
-many_with many (role.Name name.Condition) (token.Name text) = record { variables = many.variables; conditions = many.conditions + 1; transactions = many.transactions; tasks = many.tasks }
-many_with many (role.Name name.Transaction) (token.Name text) = record { variables = many.variables; conditions = many.conditions; transactions = many.transactions + 1; tasks = many.tasks }
-many_with many (role.Number number.Tasks) (token.Int value) = record { variables = many.variables; conditions = many.conditions; transactions = many.transactions; tasks = many.tasks + tasks_of (count_of value) }
+many_with many (role.Name name.Variable) (token.Name text) = record many { variables = many.variables + 1 }
+many_with many (role.Name name.Condition) (token.Name text) = record many { conditions = many.conditions + 1 }
+many_with many (role.Name name.Transaction) (token.Name text) = record many { transactions = many.transactions + 1; parameters = 0 }
+many_with many (role.Name name.Parameter) (token.Name text) = record many { parameters = many.parameters + 1 }
+many_with many (role.Number number.Tasks) (token.Int value) = record many { tasks = many.tasks + tasks_of (count_of value) }
 many_with many used t = many
 
-abbrev pub many_in : List Lexeme → Many
-many_in [] = record { variables = 0; conditions = 0; transactions = 0; tasks = 0 }
-many_in (t ∷ before) = many_with (many_in before) (role_at before) t
+abbrev pub many_in : FileForm → List Lexeme → Many
+many_in form [] = record { variables = 0; conditions = 0; transactions = 0; parameters = 0; tasks = 0 }
+many_in form (t ∷ before) = many_with (many_in form before) (role_at form before) t
 
 abbrev pub too_long : List ℕ → Option LimitFault
 too_long text = if nat_le (length text) longest_name then None else Some over.Name
@@ -49,7 +53,7 @@ value_fault (Ok n) = None
 value_fault (Err e) = Some over.Number
 
 abbrev pub turns_fault : Result ℕ ReadFault → Option LimitFault
-turns_fault (Ok n) = if nat_le n most_turns then None else Some over.Turns
+turns_fault (Ok n) = if nat_le n most_times then None else Some over.Turns
 turns_fault (Err e) = Some over.Turns
 
 -- of a run, where those before it have so many
@@ -62,11 +66,13 @@ abbrev pub limit_fault : Many → Role → Lexeme → Option LimitFault
 limit_fault many (role.Name name.Variable) (token.Name text) = too_many many.variables most_variables over.Variables text
 limit_fault many (role.Name name.Condition) (token.Name text) = too_many many.conditions most_conditions over.Conditions text
 limit_fault many (role.Name name.Transaction) (token.Name text) = too_many many.transactions most_transactions over.Transactions text
+limit_fault many (role.Name name.Parameter) (token.Name text) = too_many many.parameters most_parameters over.Parameters text
 limit_fault many (role.Number number.Initial) (token.Int value) = value_fault (number_of value)
 limit_fault many (role.Number number.Turns) (token.Int value) = turns_fault (count_of value)
 limit_fault many (role.Number number.Tasks) (token.Int value) = tasks_fault many.tasks (count_of value)
+limit_fault many (role.Number number.Argument) (token.Int value) = value_fault (number_of value)
 limit_fault many role.Value (token.Int value) = value_fault (number_of value)
 limit_fault many used t = None
 
-abbrev pub limit_fault_at : List Lexeme → Lexeme → Option LimitFault
-limit_fault_at before t = limit_fault (many_in before) (role_at before) t
+abbrev pub limit_fault_at : FileForm → Saying LimitFault
+limit_fault_at form before t behind = limit_fault (many_in form before) (role_at form before) t

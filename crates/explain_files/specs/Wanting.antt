@@ -1,13 +1,14 @@
 -- What is read of a file from a token on, by what is wanted there.
-use Rattle.std.specs.Prelude.{ℕ, suc, Option, None, Some, Result, Ok, Err, List, [], ◌∷◌, codes}
+use Rattle.std.specs.Prelude.{ℕ, suc, ℤ, Option, None, Some, Result, Ok, Err, List, [], ◌∷◌, codes}
 use Rattle.text_words.specs.Answers.{◌>>=◌}
 use Rattle.text_words.specs.Tokens.{Lexeme, Opens}
-use Rattle.text_words.specs.TokenReading.{Read, close_at, name_at, int_at, begins, all_of}
+use Rattle.text_words.specs.Tokens as token
+use Rattle.text_words.specs.TokenReading.{Read, close_at, name_at, int_at, is_name, is_int, begins, all_of}
 use Rattle.text_words.specs.declared.fault.ReadFault.{ReadFault}
 use Rattle.text_grammar.specs.Tree.{Stmt, Cond}
-use Rattle.text_grammar.specs.Reading.{test_of, keyword_of, binary_with, expr_at, cond_with, cond_at, stmt_with, stmt_at, seq_with, pair_at, always_at, tx_at, end_at, form_numbered, heading_at}
+use Rattle.text_grammar.specs.Reading.{test_of, keyword_of, binary_with, expr_at, cond_with, cond_at, stmt_with, stmt_at, seq_with, pair_at, always_at, list_at, tx_at, run_at, end_at, heading_at}
 use Rattle.text_grammar.specs.declared.file.FileForm.{FileForm}
-use Rattle.text_grammar.specs.declared.file.FileForm.TheVariants.{One, Two}
+use Rattle.text_grammar.specs.declared.file.FileForm.TheVariants.{One, Two, Three}
 use Rattle.explain_files.specs.declared.wanted.Section.{Section}
 use Rattle.explain_files.specs.declared.wanted.Section.TheVariants as section
 use Rattle.explain_files.specs.declared.wanted.Wanted.{Wanted}
@@ -40,19 +41,20 @@ none_left (Err e) = None
 
 -- ---- declarations, from one part of the file on to the end
 
-unfoldable pub from_runs : List Lexeme → Whole
-from_runs ts = all_of (begins (codes "run")) (pair_at (codes "run")) ts >>= λ runs. end_at runs.1
+unfoldable pub from_runs : FileForm → List Lexeme → Whole
+from_runs form ts = all_of (begins (codes "run")) (run_at form) ts >>= λ runs. end_at runs.1
 
-unfoldable pub from_txs : List Lexeme → Whole
-from_txs ts = all_of (begins (codes "tx")) tx_at ts >>= λ txs. from_runs txs.1
+unfoldable pub from_txs : FileForm → List Lexeme → Whole
+from_txs form ts = all_of (begins (codes "tx")) (tx_at form) ts >>= λ txs. from_runs form txs.1
 
-unfoldable pub from_conditions : List Lexeme → Whole
-from_conditions ts = all_of (begins (codes "always")) always_at ts >>= λ always. from_txs always.1
+unfoldable pub from_conditions : FileForm → List Lexeme → Whole
+from_conditions form ts = all_of (begins (codes "always")) always_at ts >>= λ always. from_txs form always.1
 
 -- form 1 has no conditions
 abbrev pub behind_variables : FileForm → List Lexeme → Whole
-behind_variables One ts = from_txs ts
-behind_variables Two ts = from_conditions ts
+behind_variables One ts = from_txs One ts
+behind_variables Two ts = from_conditions Two ts
+behind_variables Three ts = from_conditions Three ts
 
 unfoldable pub from_variables : FileForm → List Lexeme → Whole
 from_variables form ts = all_of (begins (codes "var")) (pair_at (codes "var")) ts >>= λ vars. behind_variables form vars.1
@@ -62,11 +64,10 @@ from_start ts = heading_at ts >>= λ heading. from_variables heading.0 heading.1
 
 abbrev pub from_part : Section → List Lexeme → Whole
 from_part section.Start ts = from_start ts
-from_part section.Variables ts = from_variables One ts
-from_part section.VariablesOfTwo ts = from_variables Two ts
-from_part section.Conditions ts = from_conditions ts
-from_part section.Transactions ts = from_txs ts
-from_part section.Runs ts = from_runs ts
+from_part (section.Variables form) ts = from_variables form ts
+from_part (section.Conditions form) ts = from_conditions form ts
+from_part (section.Transactions form) ts = from_txs form ts
+from_part (section.Runs form) ts = from_runs form ts
 
 -- ---- what is wanted
 
@@ -82,16 +83,24 @@ read_keyword depth ts = do
   kind ← keyword_of word.0
   stmt_with (expr_at depth) (cond_at depth) (stmt_at depth) kind word.1
 
-unfoldable pub read_number : List Lexeme → Read FileForm
-read_number ts = do
-  number ← int_at ts
-  form ← form_numbered number.0
-  Ok (form, number.1)
+-- the names of a list, and its closing parenthesis
+unfoldable pub read_parameters : List Lexeme → Read (List (List ℕ))
+read_parameters ts = do
+  names ← all_of is_name name_at ts
+  rest ← close_at names.1
+  Ok (names.0, rest)
+
+-- the arguments of a run, and its closing parenthesis
+unfoldable pub read_arguments : List Lexeme → Read (List ℤ)
+read_arguments ts = do
+  arguments ← all_of is_int int_at ts
+  rest ← close_at arguments.1
+  Ok (arguments.0, rest)
 
 abbrev pub read_one : Wanted → List Lexeme → Left
 read_one (want.Declarations part) ts = none_left (from_part part ts)
 read_one (want.Word part) ts = none_left (from_part part (Opens ∷ ts))
-read_one want.FormNumber ts = left_of (read_number ts)
+read_one want.FormNumber ts = none_left (from_start (Opens ∷ token.Name (codes "stm") ∷ ts))
 read_one want.Close ts = kept (close_at ts)
 read_one (want.Name used) ts = left_of (name_at ts)
 read_one (want.Number used) ts = left_of (int_at ts)
@@ -102,6 +111,9 @@ read_one (want.Test depth) ts = left_of (read_test depth ts)
 read_one (want.Stmt depth) ts = left_of (stmt_at (suc depth) ts)
 read_one (want.Keyword depth) ts = left_of (read_keyword depth ts)
 read_one (want.Parts depth) ts = left_of (seq_with (stmt_at depth) ts)
+read_one want.List ts = left_of (list_at ts)
+read_one want.Parameters ts = left_of (read_parameters ts)
+read_one want.Arguments ts = left_of (read_arguments ts)
 
 -- what is wanted in turn, the next of it first
 abbrev pub read_all : List Wanted → List Lexeme → Left

@@ -8,20 +8,23 @@ ghost use Rattle.txn_programs.specs.Limits.{conditions_fit};
 ghost use Rattle.txn_programs.specs.Scope.{ConditionKnown, ConditionsKnown};
 ghost use Rattle.txn_programs.specs.Standing.{is_true};
 ghost use Rattle.txn_evaluator.specs.Always.{conditions_of};
-ghost use Rattle.txn_rules.specs.Beside.{fits_beside};
+ghost use Rattle.txn_declarations.specs.Beside.{fits_beside};
 ghost use Rattle.text_words.specs.TokenView.{view};
-ghost use Rattle.text_words.specs.Tokens.{Name};
+ghost use Rattle.text_words.specs.Tokens.{Name, tokens};
 ghost use Rattle.text_words.specs.Answers.{Gives};
 ghost use Rattle.text_words.specs.declared.fault.ReadFault.TheVariants.{Limit, Broken};
 ghost use Rattle.text_grammar.specs.Spelling.{first_fault};
-ghost use Rattle.text_laws.specs.Faults.{IsFirst};
+ghost use Rattle.text_file_reader.specs.Faults.{IsFirst};
 ghost use Rattle.text_resolver.specs.Parts.{view_condition, view_parts};
+ghost use Rattle.explain_files.specs.Roles.{form_of};
 ghost use Rattle.explain_files.specs.Judging.{AllTokens, IsRight};
 ghost use Rattle.explain_files.specs.Limiting.{limit_fault_at};
-ghost use Rattle.explain_files.specs.Declarations.{IsListed, DoesNotDeclare, IsDeclared, IsOver, IsOverBeside, IsCostly, CostsHold, IsUntrue, IsFalse, IsCostlyAt, IsFalseAt, declared_by};
+ghost use Rattle.explain_files.specs.Declarations.{IsListed, DoesNotDeclare, IsDeclared, IsOver, IsOverBeside};
+ghost use Rattle.explain_files.specs.Declarations.{IsCostly, CostsHold, IsUntrue, IsFalse, IsCostlyAt, IsFalseAt};
+ghost use Rattle.explain_files.specs.Declarations.{declared_by};
 
 use crate::found::token_from;
-use crate::roles::role_behind;
+use crate::roles::{form_of, role_behind};
 use crate::wanted::{NameUse, Role};
 use std::alloc::{AllocError, Global};
 use text_parser::file::tree_of;
@@ -29,10 +32,10 @@ use text_resolver::resolve::{Parts, resolve};
 use text_words::ReadFault;
 use text_words::lexer::Token;
 use txn::Memory;
-use txn_evaluator::evaluate::truth;
+use txn_declarations::limits::{always_cost, transactions_fit};
+use txn_evaluator::evaluate::standing_truth;
 use txn_programs::limits::MAX_COST;
 use txn_programs::{Cond, Tx};
-use txn_rules::limits::{always_cost, transactions_fit};
 
 /// Whether the token is this name, and declares something of this kind.
 fn declares(role: Role, token: Token<'_>, used: NameUse, name: &str) -> bool
@@ -48,15 +51,17 @@ fn declares(role: Role, token: Token<'_>, used: NameUse, name: &str) -> bool
 /// The place of the first name that declares this.
 fn declaration_place(bytes: &[u8], used: NameUse, name: &str) -> Option<usize>
     ensures some { IfSome result (λ place. IsDeclared bytes.now place used name.now) }
-    ensures none { IfNone result (AllTokens (DoesNotDeclare used name.now) bytes.now) }
+    ensures none { IfNone result
+        (AllTokens (DoesNotDeclare (form_of (tokens bytes.now)) used name.now) bytes.now) }
 {
+    let form = form_of(bytes);
     let mut role = Role::Value;
     let mut at = 0;
     'tokens: while let Some(found) = token_from(bytes, at) {
         if declares(role, found.token, used, name) {
             return Some(found.place);
         }
-        role = role_behind(role, found.token);
+        role = role_behind(form, role, found.token);
         at = found.next;
     }
     None
@@ -150,7 +155,7 @@ fn costly(parts: &Parts) -> Option<(NameUse, &str)>
 /// The place of the name of the first declaration that is over the limits, where no name and no number is.
 pub(crate) fn costly_place(alloc: Global, bytes: &[u8]) -> Result<usize, Memory>
     requires fault { first_fault bytes.now ≡ Some Limit }
-    requires right { AllTokens (IsRight limit_fault_at) bytes.now }
+    requires right { AllTokens (IsRight (limit_fault_at (form_of (tokens bytes.now)))) bytes.now }
     ensures { IfOk result (IsCostlyAt bytes.now) }
 {
     let parts = parts_of(alloc, bytes)?;
@@ -168,7 +173,7 @@ fn holds(condition: &Cond, state: &[i64]) -> bool
     requires { ConditionKnown (length state.now) (condition_of condition.now) }
     ensures { result ≡ is_true (truth (condition_of condition.now) state.now) }
 {
-    match truth(condition, state) {
+    match standing_truth(condition, state) {
         Ok(is_true) => is_true,
         Err(_) => false,
     }

@@ -2,7 +2,7 @@
 
 ghost use Rattle.std.specs.Prelude.{◌≡◌, Some, IfOk};
 ghost use Rattle.text_grammar.specs.Spelling.{first_fault};
-ghost use Rattle.text_laws.specs.Faults.{IsFirst};
+ghost use Rattle.text_file_reader.specs.Faults.{IsFirst};
 ghost use Rattle.explain_files.specs.Explaining.{IsPlaced, IsExplained};
 ghost use Rattle.text_words.specs.declared.fault.ReadFault.TheVariants.{Shape, Name, Limit, Broken};
 
@@ -26,7 +26,7 @@ pub enum Finding {
     BadByte,
     /// What stands here is not what is wanted, or nothing more is wanted.
     Unwanted(Option<Wanted>),
-    /// This name is declared twice or not at all.
+    /// This name is declared twice or not at all, or run with another number of arguments than parameters.
     Name(NameFault),
     /// This goes over a limit.
     Limit(LimitFault),
@@ -66,7 +66,7 @@ fn shape_place(alloc: Global, bytes: &[u8]) -> Result<(usize, Finding), Memory>
     Ok((stop.place, Finding::Unwanted(stop.wanted)))
 }
 
-/// The name that is declared twice or not at all.
+/// The name that is declared twice or not at all, or run with another number of arguments than parameters.
 fn name_place(alloc: Global, bytes: &[u8]) -> Result<(usize, Finding), Memory>
     requires { IsFirst bytes.now Name }
     ensures { IfOk result (λ x. IsPlaced Name bytes.now x.0 x.1) }

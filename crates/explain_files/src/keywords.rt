@@ -59,7 +59,6 @@ pub(crate) fn kind_of(word: &str) -> Option<Kind>
     ensures { result ≡ kind_of word.now }
 {
     match word {
-        "stm" => Some(Kind::Form),
         "var" => Some(Kind::Variable),
         "always" => Some(Kind::Condition),
         "tx" => Some(Kind::Transaction),

@@ -2,15 +2,17 @@
 
 ghost use Rattle.std.specs.Prelude.{◌≡◌, ◌+◌, None, IfSome, IfNone};
 ghost use Rattle.text_words.specs.TokenView.{view};
-ghost use Rattle.text_words.specs.Tokens.{Name, Int};
+ghost use Rattle.text_words.specs.Tokens.{Name, Int, tokens};
 ghost use Rattle.text_words.specs.Bytes.{int_value};
 ghost use Rattle.text_words.specs.Numbers.{number_of, count_of};
+ghost use Rattle.explain_files.specs.Roles.{form_of};
 ghost use Rattle.explain_files.specs.Judging.{AllTokens, IsRight, IsFirstSaid};
-ghost use Rattle.explain_files.specs.Limiting.{too_long, value_fault, turns_fault, tasks_fault, tasks_of, many_with, limit_fault, limit_fault_at};
+ghost use Rattle.explain_files.specs.Limiting.{too_long, value_fault, turns_fault, tasks_fault, tasks_of, many_with};
+ghost use Rattle.explain_files.specs.Limiting.{limit_fault, limit_fault_at};
 ghost use Rattle.explain_files.specs.Counting.{view_counts};
 
 use crate::found::token_from;
-use crate::roles::role_behind;
+use crate::roles::{form_of, role_behind};
 use crate::wanted::{NameUse, NumberUse, Role};
 use text_words::lexer::Token;
 use text_words::numeral::Numeral;
@@ -34,6 +36,8 @@ pub enum LimitFault {
     Conditions,
     /// This is the 257th transaction.
     Transactions,
+    /// This is the ninth parameter of its transaction.
+    Parameters,
 }
 
 /// How many of each kind there were so far.
@@ -42,6 +46,8 @@ struct Counts {
     variables: usize,
     conditions: usize,
     transactions: usize,
+    /// Those of the last transaction.
+    parameters: usize,
     tasks: u32,
 }
 
@@ -98,7 +104,8 @@ fn name_fault(name: &str) -> Option<LimitFault>
 /// What is wrong with a name that is used so, which is counted where it declares something.
 fn declared_fault(counts: &mut Counts, used: NameUse, name: &str) -> Option<LimitFault>
     ensures fault { result ≡ limit_fault (view_counts counts.old) (Role.Name used) (Name name.now) }
-    ensures counts { result ≡ None → view_counts counts.new ≡ many_with (view_counts counts.old) (Role.Name used) (Name name.now) }
+    ensures counts { result ≡ None
+        → view_counts counts.new ≡ many_with (view_counts counts.old) (Role.Name used) (Name name.now) }
 {
     match used {
         NameUse::Variable => {
@@ -118,6 +125,13 @@ fn declared_fault(counts: &mut Counts, used: NameUse, name: &str) -> Option<Limi
                 return Some(LimitFault::Transactions);
             }
             counts.transactions += 1;
+            counts.parameters = 0;
+        }
+        NameUse::Parameter => {
+            if counts.parameters >= 8 {
+                return Some(LimitFault::Parameters);
+            }
+            counts.parameters += 1;
         }
         NameUse::Target | NameUse::Called => return None,
     }
@@ -126,11 +140,14 @@ fn declared_fault(counts: &mut Counts, used: NameUse, name: &str) -> Option<Limi
 
 /// What is wrong with a number that is used so, of which the tasks are counted.
 fn number_fault(counts: &mut Counts, used: NumberUse, number: Numeral<'_>) -> Option<LimitFault>
-    ensures fault { result ≡ limit_fault (view_counts counts.old) (Role.Number used) (Int (int_value number.entry.text.now)) }
-    ensures counts { result ≡ None → view_counts counts.new ≡ many_with (view_counts counts.old) (Role.Number used) (Int (int_value number.entry.text.now)) }
+    ensures fault { result ≡ limit_fault (view_counts counts.old) (Role.Number used)
+        (Int (int_value number.entry.text.now)) }
+    ensures counts { result ≡ None
+        → view_counts counts.new
+        ≡ many_with (view_counts counts.old) (Role.Number used) (Int (int_value number.entry.text.now)) }
 {
     match used {
-        NumberUse::Initial => value_fault(number),
+        NumberUse::Initial | NumberUse::Argument => value_fault(number),
         NumberUse::Turns => turns_fault(number),
         NumberUse::Tasks => tasks_fault(&mut counts.tasks, number),
     }
@@ -139,7 +156,8 @@ fn number_fault(counts: &mut Counts, used: NumberUse, number: Numeral<'_>) -> Op
 /// What is wrong with a token that is for this.
 fn judged(counts: &mut Counts, role: Role, token: Token<'_>) -> Option<LimitFault>
     ensures fault { result ≡ limit_fault (view_counts counts.old) role (view token.entry) }
-    ensures counts { result ≡ None → view_counts counts.new ≡ many_with (view_counts counts.old) role (view token.entry) }
+    ensures counts { result ≡ None
+        → view_counts counts.new ≡ many_with (view_counts counts.old) role (view token.entry) }
 {
     match (role, token) {
         (Role::Name(used), Token::Name(name)) => declared_fault(counts, used, name),
@@ -158,13 +176,16 @@ pub(crate) struct Excess {
 
 /// The first name or number from the left that goes over a limit.
 pub(crate) fn first_excess(bytes: &[u8]) -> Option<Excess>
-    ensures some { IfSome result (λ w. IsFirstSaid limit_fault_at bytes.now w.place w.fault) }
-    ensures none { IfNone result (AllTokens (IsRight limit_fault_at) bytes.now) }
+    ensures some { IfSome result
+        (λ w. IsFirstSaid (limit_fault_at (form_of (tokens bytes.now))) bytes.now w.place w.fault) }
+    ensures none { IfNone result (AllTokens (IsRight (limit_fault_at (form_of (tokens bytes.now)))) bytes.now) }
 {
+    let form = form_of(bytes);
     let mut counts = Counts {
         variables: 0,
         conditions: 0,
         transactions: 0,
+        parameters: 0,
         tasks: 0,
     };
     let mut role = Role::Value;
@@ -176,7 +197,7 @@ pub(crate) fn first_excess(bytes: &[u8]) -> Option<Excess>
                 fault,
             });
         }
-        role = role_behind(role, found.token);
+        role = role_behind(form, role, found.token);
         at = found.next;
     }
     None

@@ -24,7 +24,8 @@ fn is_atom_byte(b: u8) -> bool
     !matches!(b, b'\n' | b' ' | b'(' | b')' | b';')
 }
 
-fn atom_len(bytes: &[u8]) -> usize
+/// How many bytes at the front an atom may have.
+pub(crate) fn atom_len(bytes: &[u8]) -> usize
     ensures value { result ≡ prefix_len is_atom_byte bytes.now }
     ensures bound { result ≤ length bytes.now }
 {
@@ -39,7 +40,7 @@ fn line_len(bytes: &[u8]) -> usize
 }
 
 /// How many bytes of a blank or of a comment stand first; none where a token begins or nothing is left.
-#[tactic(auto, using(crate::proofs::Gaps::behind_blank, crate::proofs::Gaps::behind_comment, crate::proofs::Gaps::begins, crate::proofs::Cuts::nothing_apart, crate::proofs::Cuts::blank_apart, crate::proofs::Cuts::blank_nothing))]
+#[tactic(auto, using(crate::proofs::Cuts::gaps))]
 fn gap_piece(bytes: &[u8]) -> usize
     ensures bound { result ≤ length bytes.now }
     ensures same { tokens (drop result bytes.now) ≡ tokens bytes.now }
@@ -77,7 +78,7 @@ pub(crate) fn token_place(bytes: &[u8], from: usize) -> usize
 }
 
 /// How many bytes the first token has, where one begins.
-#[tactic(auto, using(crate::proofs::Gaps::next_none, crate::proofs::Gaps::next_parenthesis, crate::proofs::Gaps::next_atom, crate::proofs::Cuts::nothing_apart, crate::proofs::Cuts::none_alone, crate::proofs::Cuts::parenthesis_apart, crate::proofs::Cuts::parenthesis_alone, crate::proofs::Cuts::atom_apart, crate::proofs::Cuts::atom_alone))]
+#[tactic(auto, using(crate::proofs::Cuts::first_tokens))]
 pub(crate) fn token_len(bytes: &[u8]) -> usize
     requires { BeginsToken bytes.now }
     ensures bound { result ≤ length bytes.now }

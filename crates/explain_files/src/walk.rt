@@ -3,7 +3,7 @@
 ghost use Rattle.std.specs.Prelude.{◌≡◌, ◌<◌, ◌≤◌, [], ◌∷◌, IfOk, length, drop, true};
 ghost use Rattle.explain_files.specs.Tokens.{BeginsToken, IsApart};
 ghost use Rattle.explain_files.specs.Walking.{IsStep, IsStop, StepMoves};
-ghost use Rattle.text_laws.specs.Faults.{IsFirst};
+ghost use Rattle.text_file_reader.specs.Faults.{IsFirst};
 ghost use Rattle.text_words.specs.declared.fault.ReadFault.TheVariants.{Shape};
 
 use crate::advance::advance;

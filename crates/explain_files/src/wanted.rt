@@ -1,5 +1,7 @@
 //! What may stand at a place of a file.
 
+use text_grammar::file::FileForm;
+
 /// What a name is for.
 #[derive(Clone, Copy, Debug, PartialEq, Eq)]
 pub enum NameUse {
@@ -9,6 +11,8 @@ pub enum NameUse {
     Condition,
     /// It declares a transaction.
     Transaction,
+    /// It declares a parameter of a transaction.
+    Parameter,
     /// It is the variable that a statement sets.
     Target,
     /// It is the transaction that a run is of.
@@ -24,13 +28,13 @@ pub enum NumberUse {
     Turns,
     /// How many tasks a run is.
     Tasks,
+    /// An argument of a run.
+    Argument,
 }
 
 /// What a declaration declares, by its word.
 #[derive(Clone, Copy, Debug, PartialEq, Eq)]
 pub enum Kind {
-    /// `stm`: form 2.
-    Form,
     /// `var`
     Variable,
     /// `always`
@@ -44,18 +48,17 @@ pub enum Kind {
 /// The part of a file in which a declaration stands: what may come there and behind it.
 #[derive(Clone, Copy, Debug, PartialEq, Eq)]
 pub enum Section {
-    /// The beginning: all but standing conditions, or the announcement of form 2.
+    /// The beginning: all but standing conditions, or the announcement of form 2 or 3.
     Start,
-    /// Behind a variable of form 1: all but standing conditions.
-    Variables,
-    /// Behind the announcement of form 2, or a variable of it: all declarations.
-    VariablesOfTwo,
+    /// Behind a variable, or behind the announcement of this form: all declarations, in form 1 all but standing
+    /// conditions.
+    Variables(FileForm),
     /// Behind a standing condition: all but variables.
-    Conditions,
+    Conditions(FileForm),
     /// Behind a transaction: transactions and runs.
-    Transactions,
+    Transactions(FileForm),
     /// Behind a run: runs.
-    Runs,
+    Runs(FileForm),
 }
 
 /// What is wanted at a place. A number of parentheses is how many more of them may be open inside.
@@ -65,7 +68,7 @@ pub enum Wanted {
     Declarations(Section),
     /// The word of a declaration.
     Word(Section),
-    /// The number of the form that is announced.
+    /// The number of the form that is announced, its closing parenthesis, and all the declarations behind it.
     FormNumber,
     /// A closing parenthesis.
     Close,
@@ -82,6 +85,12 @@ pub enum Wanted {
     Keyword(u32),
     /// The statements of a sequence, and its closing parenthesis.
     Parts(u32),
+    /// The list of parameters of a transaction.
+    List,
+    /// The names of a list, and its closing parenthesis.
+    Parameters,
+    /// The arguments of a run, and its closing parenthesis.
+    Arguments,
 }
 
 /// What a token is for, as those before it say.
@@ -91,8 +100,10 @@ pub enum Role {
     Word,
     /// A name that declares something, that is set, or that is run.
     Name(NameUse),
-    /// A number that is an initial value, or a count.
+    /// A number that is an initial value, a count, or an argument.
     Number(NumberUse),
-    /// A part of an expression, or a parenthesis.
+    /// The parenthesis that opens a list of parameters.
+    List,
+    /// A part of an expression, or another parenthesis.
     Value,
 }

@@ -1,7 +1,7 @@
 -- Two texts, line by line.
 use Rattle.std.proofs.Common.{◌≡◌, ◌≢◌, ◌∙◌, ℕ, zero, suc, ◌<◌, List, [], ◌∷◌, ◌++◌, Option, Some, None, refl, sym, ap, arith, append_assoc}
 use Rattle.std.proofs.lemmas.Option.{same_Some}
-use Rattle.text_report_reader.specs.Lines.{Line, Whole, Cut, lines, first_line}
+use Rattle.text_line_reader.specs.Lines.{Line, Whole, Cut, lines, first_line}
 use Rattle.explain_reports.specs.declared.gaps.Difference.{Difference}
 use Rattle.explain_reports.specs.declared.gaps.Difference.TheVariants as difference
 use Rattle.explain_reports.specs.Explaining.{whole_at}

@@ -1,20 +1,12 @@
 -- Lists that are searched for the first that is wrong.
-use Rattle.std.proofs.Common.{◌≡◌, ◌∙◌, ℕ, zero, suc, ◌+◌, ◌<◌, ◌≤◌, List, length, get_or, Some, refl, sym, ap, subst, arith, ◌⊎◌, inl, inr}
+use Rattle.std.proofs.Common.{◌≡◌, ◌∙◌, ℕ, ◌+◌, ◌≤◌, List, length, get_or, Some, sym, ap, subst, arith, inl, inr}
 use Rattle.std.specs.List.{slice_get, All}
 use Rattle.std.proofs.lemmas.Option.{same_Some, slice_get_within, slice_get-get_or, get_or_from_slice_get}
+use Rattle.checker.proofs.Firsts.{less_or_same}
 use Rattle.explain_reports.specs.First.{RightBefore, AllRight, IsFirstWrong}
 
 pub none_before : {A : Type 0} (R : ℕ → A → Type 0) (xs : List A) → RightBefore R xs 0
 none_before R xs j x lt e = absurd (omega arith)
-
-less_or_same : (j i : ℕ) → j < i + 1 → (j < i) ⊎ (j ≡ i)
-less_or_same zero zero lt = inr refl
-less_or_same zero (suc i) lt = inl (omega arith)
-less_or_same (suc j) zero lt = absurd (omega arith)
-less_or_same (suc j) (suc i) lt = elim (less_or_same j i (omega arith)) [
-  | inl h ↦ inl (omega arith)
-  | inr h ↦ inr (ap suc h)
-]
 
 -- what stands at one place
 same_at : {A : Type 0} (xs : List A) (i j : ℕ) (x y : A) → j ≡ i → slice_get xs i ≡ Some x → slice_get xs j ≡ Some y → x ≡ y

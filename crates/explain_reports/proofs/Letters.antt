@@ -11,11 +11,11 @@ use Rattle.txn_programs.specs.Names.{names_hold}
 use Rattle.txn_programs.specs.Told.{Told}
 use Rattle.txn_programs.proofs.Lawful.{few_tasks}
 use Rattle.text_words.specs.Bytes.{is_allowed}
-use Rattle.text_report_reader.specs.Lines.{Line, Whole, Cut, lines}
-use Rattle.text_report_reader.specs.Reports.{IsReport, IsWritten}
-use Rattle.text_report_reader.proofs.Parting.{bytes_of, bytes_lines}
-use Rattle.text_report_reader.proofs.Agains.{report_again, written_report}
-use Rattle.text_report_reader.proofs.Allowed.{raw_allowed}
+use Rattle.text_line_reader.specs.Lines.{Line, Whole, Cut, lines}
+use Rattle.text_line_reader.specs.Reports.{IsReport, IsWritten}
+use Rattle.text_line_reader.proofs.Parting.{bytes_of, bytes_lines}
+use Rattle.text_line_reader.proofs.ReportAgains.{report_again, written_report}
+use Rattle.text_line_reader.proofs.ReportAllowed.{raw_allowed}
 
 none : IsAscii []
 none i = omega arith

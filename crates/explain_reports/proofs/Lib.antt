@@ -1,10 +1,8 @@
 mod First
-mod Raising
 mod Replaying
 mod Bases
 mod Presents
 mod Seen
-mod Named
 mod Order
 mod Judging
 mod Lined
@@ -14,3 +12,4 @@ mod Verdicts
 mod Letters
 mod Apart
 mod Sayings
+mod Due

@@ -18,7 +18,7 @@ use Rattle.txn_programs.specs.declared.ast.Outcome.TheVariants as outcome
 use Rattle.txn_programs.specs.declared.report.Entry.{Entry}
 use Rattle.txn_programs.specs.LawfulReport.{OutcomeKnown, FitsCatalogue}
 use Rattle.txn_programs.specs.Listing.{Listing, always_name, always_names, tasks, program_at}
-use Rattle.txn_programs.specs.Names.{is_name, names_hold}
+use Rattle.txn_programs.specs.Names.{is_name, are_formed, names_hold}
 use Rattle.txn_programs.specs.Limits.{most_tasks}
 use Rattle.txn_programs.specs.Told.{Told}
 use Rattle.txn_programs.specs.Tree.{Transaction, Skip, Int}
@@ -26,11 +26,11 @@ use Rattle.txn_programs.proofs.Lawful.{names_parts, passes_at}
 use Rattle.text_words.specs.Words.{line}
 use Rattle.text_report_printer.specs.ReportFits.{OutcomeFits, ReportFits}
 use Rattle.text_report_printer.specs.ReportText.{variable_line, variable_lines, outcome_text, entry_line, task_line, report_text}
-use Rattle.text_report_reader.specs.Lines.{Line, Whole, lines}
-use Rattle.text_report_reader.proofs.Parting.{lacks, lines_nil}
-use Rattle.text_report_reader.proofs.Numbers.{decimal_number, int_printed, name_lacks, int_lacks, number_lacks}
-use Rattle.text_report_reader.proofs.Steps.{text_of}
-use Rattle.text_report_reader.proofs.Texts.{Makes, one_line, two_parts, no_lines, three}
+use Rattle.text_line_reader.specs.Lines.{Line, Whole, lines}
+use Rattle.text_line_reader.proofs.Parting.{lacks, lines_nil}
+use Rattle.text_line_reader.proofs.Numbers.{decimal_number, int_printed, name_lacks, int_lacks, number_lacks}
+use Rattle.text_line_reader.proofs.ReportSteps.{text_of}
+use Rattle.text_line_reader.proofs.ReportTexts.{Makes, one_line, two_parts, no_lines, three}
 
 -- ---- words without a newline
 
@@ -41,12 +41,13 @@ value_lacks : (v : ℤ) → FitsSigned w64 v → lacks 10 (signed_decimal v) ≡
 value_lacks v h = int_lacks 10 refl (signed_decimal v) (int_printed v h)
 
 abbrev nothing : Transaction
-nothing = record { name = []; body = Skip; result = Int (pos 0) }
+nothing = record { name = []; parameters = []; body = Skip; result = Int (pos 0) }
 
 tx_lacks : (l : Listing) (tx : TxId) → names_hold l ≡ true → tx.0 < length l.transactions → lacks 10 (program_at l tx).name ≡ true
 tx_lacks l tx h lt =
-    name_lacks 10 refl (program_at l tx).name
-    (passes_at (λ (t : Transaction). is_name t.name) l.transactions tx.0 (get_or l.transactions tx.0 nothing) (names_parts l h).tx_forms (slice_get-get_or l.transactions tx.0 nothing lt))
+    let t = get_or l.transactions tx.0 nothing in
+    let formed = passes_at are_formed l.transactions tx.0 t (names_parts l h).tx_forms (slice_get-get_or l.transactions tx.0 nothing lt) in
+    name_lacks 10 refl (program_at l tx).name (and_parts (is_name t.name) _ formed).0
 
 condition_lacks : (l : Listing) (id : AlwaysId) → names_hold l ≡ true → id.0 < length l.always → lacks 10 (always_name l id) ≡ true
 condition_lacks l id h lt =

@@ -8,8 +8,8 @@ use Rattle.txn_programs.specs.Limits.{limits_hold}
 use Rattle.txn_programs.specs.Names.{names_hold}
 use Rattle.txn_programs.specs.Told.{Told}
 use Rattle.txn_programs.proofs.Lawful.{few_tasks}
-use Rattle.text_report_reader.specs.Lines.{Line, Whole, Cut, with_byte, lines, first_line}
-use Rattle.text_report_reader.specs.Reports.{IsReport}
+use Rattle.text_line_reader.specs.Lines.{Line, Whole, Cut, with_byte, lines, first_line}
+use Rattle.text_line_reader.specs.Reports.{IsReport}
 use Rattle.explain_reports.specs.declared.flaw.Flaw.{Flaw}
 use Rattle.explain_reports.specs.Flaws.{IsFlaw}
 use Rattle.explain_reports.specs.Rows.{place_of_flaw, IsRow}

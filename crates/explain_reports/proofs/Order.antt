@@ -15,7 +15,8 @@ use Rattle.explain_reports.specs.Flaws.{IsFirstFall}
 use Rattle.explain_reports.specs.First.{AllRight, IsFirstWrong}
 use Rattle.explain_reports.specs.Parts.{IsOwn, IsNew, Climbs}
 use Rattle.explain_reports.proofs.First.{as_all, from_all, not_all}
-use Rattle.explain_reports.proofs.Named.{numbers, numbers_named, length_named}
+use Rattle.checker.proofs.Lists.{numbers}
+use Rattle.checker.proofs.Named.{numbers_named, length_named}
 
 -- ---- lines and the numbers of their tasks
 

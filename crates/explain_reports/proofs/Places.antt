@@ -11,8 +11,8 @@ use Rattle.txn_programs.specs.Listing.{Listing, program_at}
 use Rattle.txn_programs.specs.Told.{Told}
 use Rattle.text_words.specs.Words.{line as line_of}
 use Rattle.text_report_printer.specs.ReportText.{outcome_text}
-use Rattle.text_report_reader.specs.Lines.{Line, Whole}
-use Rattle.text_report_reader.proofs.Steps.{text_of}
+use Rattle.text_line_reader.specs.Lines.{Line, Whole}
+use Rattle.text_line_reader.proofs.ReportSteps.{text_of}
 use Rattle.explain_reports.specs.declared.flaw.TaskLine.{TaskLine}
 use Rattle.explain_reports.specs.declared.flaw.TaskLine.TheVariants as line
 use Rattle.explain_reports.specs.declared.flaw.Flaw.{Flaw}

@@ -2,7 +2,7 @@
 use Rattle.std.proofs.Common.{◌≡◌, ℕ, List, sym, subst}
 use Rattle.txn_programs.specs.Listing.{Listing}
 use Rattle.txn_text.specs.Spelling.{Spells}
-use Rattle.text_report_reader.proofs.Reading.{Rules}
+use Rattle.text_line_reader.proofs.ReportReading.{Rules}
 use Rattle.checker.specs.declared.verdict.Verdict.{Verdict}
 use Rattle.checker.specs.declared.verdict.Verdict.TheVariants as verdict
 use Rattle.checker.specs.declared.chapter.ChapterVerdict.{ChapterVerdict}

@@ -5,6 +5,8 @@ use Rattle.std.proofs.lemmas.Option.{same_Some}
 use Rattle.txn_programs.specs.declared.ast.TaskId.{TaskId}
 use Rattle.txn_programs.specs.declared.ast.TxId.{TxId}
 use Rattle.explain_reports.specs.Parts.{IsNew}
+use Rattle.checker.proofs.Firsts.{less_or_same}
+use Rattle.checker.proofs.Lists.{set_here}
 
 -- a task stands on a line before this place
 abbrev pub Stood : List (TaskId × TxId) → ℕ → ℕ → Type 0
@@ -23,12 +25,6 @@ unmarked (suc n) (suc t) e = unmarked n t e
 pub none_seen : (lines : List (TaskId × TxId)) (n : ℕ) → SeenBefore lines 0 (replicate n false)
 none_seen lines n = record { stood = λ t e. absurd (unmarked n t e); marked = λ j q lt e. absurd (omega arith) }
 
-set_here : (xs : List Bool) (t : ℕ) → get_or (set xs t true) t true ≡ true
-set_here [] zero = refl
-set_here [] (suc t) = refl
-set_here (x ∷ xs) zero = refl
-set_here (x ∷ xs) (suc t) = set_here xs t
-
 kept : (xs : List Bool) (t u : ℕ) → get_or xs u true ≡ true → get_or (set xs t true) u true ≡ true
 kept [] zero u e = e
 kept [] (suc t) u e = e
@@ -45,12 +41,6 @@ set_or_was (x ∷ xs) zero (suc u) e = inr e
 set_or_was (x ∷ xs) (suc t) zero e = inr e
 set_or_was (x ∷ xs) (suc t) (suc u) e = elim (set_or_was xs t u e) [ inl h ↦ inl (ap suc h) | inr h ↦ inr h ]
 
-last_or_before : (j i : ℕ) → j < i + 1 → (j < i) ⊎ (j ≡ i)
-last_or_before zero zero lt = inr refl
-last_or_before zero (suc i) lt = inl (omega arith)
-last_or_before (suc j) zero lt = absurd (omega arith)
-last_or_before (suc j) (suc i) lt = elim (last_or_before j i (omega arith)) [ inl h ↦ inl (omega arith) | inr h ↦ inr (ap suc h) ]
-
 later : (lines : List (TaskId × TxId)) (i t : ℕ) → Stood lines i t → Stood lines (i + 1) t
 later lines i t s = (s.0, s.1, omega (arith, s.2), s.3, s.4)
 
@@ -61,7 +51,7 @@ one_seen lines i seen p at h =
         | inl same ↦ (i, p, omega arith, at, same)
         | inr was ↦ later lines i t (h.stood t was)
       ];
-      marked = λ j q lt e. elim (last_or_before j i lt) [
+      marked = λ j q lt e. elim (less_or_same j i lt) [
         | inl less ↦ kept seen p.0.0 q.0.0 (h.marked j q less e)
         | inr same ↦
             let here : p ≡ q = same_Some p q (sym at ∙ (ap (slice_get lines) (sym same) ∙ e)) in

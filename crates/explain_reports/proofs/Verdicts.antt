@@ -3,15 +3,15 @@ use Rattle.std.proofs.Common.{◌≡◌, ◌∙◌, ℕ, List, Result, Ok, refl,
 use Rattle.txn_programs.specs.Listing.{Listing}
 use Rattle.txn_programs.specs.Told.{Told}
 use Rattle.text_words.specs.declared.fault.ReadFault.{ReadFault}
-use Rattle.text_report_reader.specs.Reports.{IsReport}
-use Rattle.text_report_reader.proofs.Reading.{Rules, report_read}
+use Rattle.text_line_reader.specs.Reports.{IsReport}
+use Rattle.text_line_reader.proofs.ReportReading.{Rules, report_read}
 use Rattle.checker.specs.declared.verdict.Part.{Part}
 use Rattle.checker.specs.declared.verdict.Part.TheVariants.{Text, Base, Entries, Present, Tasks, Parked}
 use Rattle.checker.specs.declared.verdict.Verdict.{Verdict}
 use Rattle.checker.specs.declared.verdict.Verdict.TheVariants as verdict
 use Rattle.checker.specs.Verdicts.{IsVerdict, ReadAs, FailsFirst, IsVerdictOn}
-use Rattle.explain_reports.specs.declared.explaining.Explanation.{Explanation}
-use Rattle.explain_reports.specs.declared.explaining.Explanation.TheVariants.{Good, Unread, Bad}
+use Rattle.explain_reports.specs.declared.explaining.ReportExplanation.{ReportExplanation}
+use Rattle.explain_reports.specs.declared.explaining.ReportExplanation.TheVariants.{Good, Unread, Bad}
 use Rattle.explain_reports.specs.Flaws.{part_of}
 use Rattle.explain_reports.specs.Explaining.{IsExplained, verdict_of}
 
@@ -23,7 +23,7 @@ bad_on l bytes r Present is h = record { report = r; read = is; verdict = h }
 bad_on l bytes r Tasks is h = record { report = r; read = is; verdict = h }
 bad_on l bytes r Parked is h = record { report = r; read = is; verdict = h }
 
-pub verdict_is : (l : Listing) (bytes : List ℕ) (x : Explanation) → IsExplained l bytes x → IsVerdictOn l bytes (verdict_of x)
+pub verdict_is : (l : Listing) (bytes : List ℕ) (x : ReportExplanation) → IsExplained l bytes x → IsVerdictOn l bytes (verdict_of x)
 verdict_is l bytes Good h = h
 verdict_is l bytes (Unread kind) h = h.1
 verdict_is l bytes (Bad line flaw) h = bad_on l bytes h.report (part_of flaw) h.read h.fails

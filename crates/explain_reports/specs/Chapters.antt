@@ -16,7 +16,8 @@ use Rattle.explain_reports.specs.Gaps.{IsGap}
 
 -- `before`, and what is said of the earlier report, in which this part fails first
 abbrev pub IsSaidBefore : List ℕ → List ℕ → Part → List ℕ → Type 0
-IsSaidBefore earlier report part text = (said : List ℕ) × IsAnswer earlier report (verdict.Bad part) said × (text ≡ codes "before " ++ said)
+IsSaidBefore earlier report part text = (said : List ℕ) × IsAnswer earlier report (verdict.Bad part) said
+    × (text ≡ codes "before " ++ said)
 
 -- what is said of a chapter of this listing whose own report is lawful
 abbrev pub SaysAfter : List ℕ → List ℕ → Listing → ChapterVerdict → List ℕ → Type 0
@@ -63,10 +64,14 @@ pub record WroteChapterBeginning (file report earlier earlier_report : List ℕ)
   pub written : Appends old new (take count text)
 
 -- by the answer: the whole text; or nothing, and why there is no verdict; or a beginning
-abbrev pub ChapterWritten : List ℕ → List ℕ → List ℕ → List ℕ → Option (List ℕ) → Option (List ℕ) → Result ChapterVerdict ChapterUntold → Type 0
-ChapterWritten file report earlier earlier_report old new (Ok v) = WroteChapter file report earlier earlier_report v old new
-ChapterWritten file report earlier earlier_report old new (Err (Unjudged fault)) = IsUnjudged file report earlier fault × Keeps old new
-ChapterWritten file report earlier earlier_report old new (Err Output) = WroteChapterBeginning file report earlier earlier_report old new
+abbrev pub ChapterWritten : List ℕ → List ℕ → List ℕ → List ℕ → Option (List ℕ) → Option (List ℕ)
+    → Result ChapterVerdict ChapterUntold → Type 0
+ChapterWritten file report earlier earlier_report old new (Ok v) =
+    WroteChapter file report earlier earlier_report v old new
+ChapterWritten file report earlier earlier_report old new (Err (Unjudged fault)) = IsUnjudged file report earlier fault
+    × Keeps old new
+ChapterWritten file report earlier earlier_report old new (Err Output) =
+    WroteChapterBeginning file report earlier earlier_report old new
 
 -- how many calls of the sink failed
 abbrev pub untold_failures : Result ChapterVerdict ChapterUntold → ℕ

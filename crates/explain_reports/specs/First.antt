@@ -1,4 +1,4 @@
--- The first of a list that is not right at its place.
+-- The first of a list that is wrong.
 use Rattle.std.specs.Prelude.{◌≡◌, ◌<◌, ℕ, List, Option, Some, None, slice_get}
 
 -- what stands before place n is right

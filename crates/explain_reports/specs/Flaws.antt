@@ -4,7 +4,7 @@ use Rattle.txn_programs.specs.declared.ast.TaskId.{TaskId}
 use Rattle.txn_programs.specs.declared.ast.TxId.{TxId}
 use Rattle.txn_programs.specs.declared.report.Entry as entry
 use Rattle.txn_programs.specs.Meaning.{outcome}
-use Rattle.txn_programs.specs.Listing.{Listing, conditions, tasks, program_at}
+use Rattle.txn_programs.specs.Listing.{Listing, conditions, tasks, program_as}
 use Rattle.txn_programs.specs.Replay.{Snapshot}
 use Rattle.txn_programs.specs.LawfulReport.{LawfulReport}
 use Rattle.txn_programs.specs.Told.{Told, base_of, now_of}
@@ -15,9 +15,11 @@ use Rattle.checker.specs.Verdicts.{FailsFirst}
 use Rattle.explain_reports.specs.declared.flaw.TaskLine.{TaskLine}
 use Rattle.explain_reports.specs.declared.flaw.TaskLine.TheVariants as line
 use Rattle.explain_reports.specs.declared.flaw.Flaw.{Flaw}
-use Rattle.explain_reports.specs.declared.flaw.Flaw.TheVariants.{Untrue, Opening, Late, Entry, Number, Present, NotOwn, Again, Falls, Count, Ends}
+use Rattle.explain_reports.specs.declared.flaw.Flaw.TheVariants.{Untrue, Opening, Late, Entry, Number, Present, NotOwn}
+use Rattle.explain_reports.specs.declared.flaw.Flaw.TheVariants.{Again, Falls, Count, Ends}
 use Rattle.explain_reports.specs.First.{AllRight, IsFirstWrong}
-use Rattle.explain_reports.specs.Parts.{Opens, IsRecent, IsTrueOf, GoesOnThere, due_at, StandsAt, IsOwn, IsNew, Climbs, Waits}
+use Rattle.explain_reports.specs.Parts.{Opens, IsRecent, IsTrueOf, GoesOnThere, due_at, StandsAt, IsOwn, IsNew, Climbs}
+use Rattle.explain_reports.specs.Parts.{Waits}
 
 -- the part that it is in
 abbrev pub part_of : Flaw → Part
@@ -66,8 +68,10 @@ IsFallSearched r (Some at) = IsFirstFall r at
 -- it is what first does not hold in its part, and it tells what is so in its place
 abbrev pub IsFlaw : Listing → Told → Flaw → Type 0
 IsFlaw l r (Untrue id) = (r.base ≢ 0) × IsFirstWrong (IsTrueOf (base_of r).state) (conditions l) id.0
-IsFlaw l r (Opening i value) = (r.base ≡ 0) × IsFirstWrong (Opens l.initial) r.base_vars i × (slice_get l.initial i ≡ Some value)
-IsFlaw l r (Late i) = (r.base ≢ 0) × AllRight (IsTrueOf (base_of r).state) (conditions l) × IsFirstWrong (IsRecent r.base) r.base_vars i
+IsFlaw l r (Opening i value) = (r.base ≡ 0) × IsFirstWrong (Opens l.initial) r.base_vars i
+    × (slice_get l.initial i ≡ Some value)
+IsFlaw l r (Late i) = (r.base ≢ 0) × AllRight (IsTrueOf (base_of r).state) (conditions l)
+    × IsFirstWrong (IsRecent r.base) r.base_vars i
 IsFlaw l r (Entry i due) =
     IsFirstWrong (GoesOnThere l (base_of r) r.entries) r.entries i
     × ((e : entry.Entry) → slice_get r.entries i ≡ Some e → due ≡ due_at l (led_to l (base_of r) (take i r.entries)) e)
@@ -90,7 +94,7 @@ IsFlaw l r Count =
     × (r.base + length (named r) ≢ length (tasks l))
 IsFlaw l r (Ends i ending) =
     IsFirstWrong (Waits l (now_of r).state) r.parked i
-    × ((p : TaskId × TxId) → slice_get r.parked i ≡ Some p → ending ≡ outcome (program_at l p.1) (now_of r).state)
+    × ((p : TaskId × TxId) → slice_get r.parked i ≡ Some p → ending ≡ outcome (program_as l p.0 p.1) (now_of r).state)
 
 -- the part holds
 abbrev pub Holds : Listing → Told → Part → Type 0

@@ -1,9 +1,9 @@
--- In what a file does not go on where an earlier report ended.
+-- Why a file does not go on where an earlier report ended.
 use Rattle.std.specs.Prelude.{◌≡◌, ◌≢◌, ◌<◌, ℕ, List, [], ◌++◌, Option, Some, None, length, codes}
 use Rattle.txn_programs.specs.Listing.{Listing}
 use Rattle.txn_programs.specs.Told.{Told}
-use Rattle.text_report_reader.specs.Lines.{lines}
-use Rattle.text_report_reader.specs.View.{view_text}
+use Rattle.text_line_reader.specs.Lines.{lines}
+use Rattle.text_line_reader.specs.ReportView.{view_text}
 use Rattle.txn_text.specs.Canonical.{file_text}
 use Rattle.checker.specs.Chapters.{beginning, next_chapter}
 use Rattle.explain_reports.specs.Explaining.{whole_at}
@@ -36,10 +36,12 @@ IsDifference wanted stands (difference.Lines due here) = DifferAt wanted stands 
 
 -- the line that says at which lines two texts differ first; nothing where they have the same lines
 pub data IsGapLine (wanted stands : List ℕ) (line : List ℕ) : Type 0 where
-  Differ : (due here : Option (List ℕ)) → DifferAt wanted stands due here → line ≡ gap_line due here → IsGapLine wanted stands line
+  Differ : (due here : Option (List ℕ)) → DifferAt wanted stands due here → line ≡ gap_line due here
+      → IsGapLine wanted stands line
   Same : SameLines wanted stands → line ≡ [] → IsGapLine wanted stands line
 
--- what is said where a file goes elsewhere: the verdict, and at which lines the one texts of the next chapter and of the file's beginning differ first
+-- what is said where a file goes elsewhere: the verdict, and at which lines the one texts of the next chapter and of
+-- the file's beginning differ first
 pub record IsGap (l : Listing) (r : Told) (next : Listing) (text : List ℕ) : Type 0 where
   pub line : List ℕ
   pub tells : IsGapLine (file_text (next_chapter l r)) (file_text (beginning (length r.parked) next)) line

@@ -1,4 +1,3 @@
-pub mod View
 pub mod First
 pub mod Parts
 pub mod Flaws

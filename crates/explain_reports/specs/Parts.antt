@@ -1,12 +1,12 @@
--- What is right at each place of a report's parts.
-use Rattle.std.specs.Prelude.{◌≡◌, ◌≢◌, ◌+◌, ◌<◌, ◌≤◌, true, ℕ, ℤ, List, take, Ok, Some, slice_get}
+-- What is right in a report's parts.
+use Rattle.std.specs.Prelude.{◌≡◌, ◌≢◌, ◌+◌, ◌<◌, ◌≤◌, ◌==◌, if◌then◌else◌, true, ℕ, ℤ, List, take, Ok, Some, slice_get}
 use Rattle.txn_programs.specs.declared.ast.TaskId.{TaskId}
 use Rattle.txn_programs.specs.declared.ast.TxId.{TxId}
 use Rattle.txn_programs.specs.declared.ast.Outcome.TheVariants.{Retries}
 use Rattle.txn_programs.specs.declared.report.Entry.{Entry}
 use Rattle.txn_programs.specs.Tree.{Condition}
 use Rattle.txn_programs.specs.Meaning.{State, truth, outcome}
-use Rattle.txn_programs.specs.Listing.{Listing, program_at}
+use Rattle.txn_programs.specs.Listing.{Listing, arity, program_as, task_tx, transaction_at}
 use Rattle.txn_programs.specs.Replay.{Snapshot}
 use Rattle.txn_programs.specs.LawfulReport.{HasOwn}
 use Rattle.checker.specs.Parts.{GoesOn, led_to}
@@ -27,9 +27,15 @@ IsTrueOf m i c = truth c m ≡ Ok true
 abbrev pub GoesOnThere : Listing → Snapshot → List Entry → ℕ → Entry → Type 0
 GoesOnThere l s es i e = GoesOn l e (led_to l s (take i es))
 
--- the entry as replay has it: with the next number, and as its transaction ends there
+-- the transaction of an entry as replay has it: the one that it names, or its task's own where that one takes more or
+-- fewer arguments than the task has
+abbrev pub due_tx : Listing → Entry → TxId
+due_tx l e = if arity (transaction_at l e.tx) == arity (transaction_at l (task_tx l e.task)) then e.tx else task_tx l e.task
+
+-- the entry as replay has it: with the next number, and as its transaction ends there with the arguments of its task
 abbrev pub due_at : Listing → Snapshot → Entry → Entry
-due_at l s e = record { number = s.number + 1; task = e.task; tx = e.tx; outcome = outcome (program_at l e.tx) s.state }
+due_at l s e =
+    record { number = s.number + 1; task = e.task; tx = due_tx l e; outcome = outcome (program_as l e.task (due_tx l e)) s.state }
 
 -- a variable has the snapshot's value and version
 abbrev pub StandsAt : Snapshot → ℕ → ℤ × ℕ → Type 0
@@ -49,4 +55,4 @@ Climbs lines i p = (j : ℕ) (q : TaskId × TxId) → i ≡ j + 1 → slice_get 
 
 -- a task waits for a change
 abbrev pub Waits : Listing → State → ℕ → TaskId × TxId → Type 0
-Waits l m i p = outcome (program_at l p.1) m ≡ Retries
+Waits l m i p = outcome (program_as l p.0 p.1) m ≡ Retries

@@ -1,4 +1,4 @@
--- The line of a report on which a flaw shows.
+-- The line on which a flaw shows.
 use Rattle.std.specs.Prelude.{◌≡◌, ℕ, ◌+◌, ℤ, List, [], ◌∷◌, Some, length, slice_get, codes}
 use Rattle.std.specs.Fmt.{decimal}
 use Rattle.txn_programs.specs.declared.ast.TaskId.{TaskId}
@@ -11,9 +11,11 @@ use Rattle.text_report_printer.specs.ReportText.{variable_line, entry_line, task
 use Rattle.explain_reports.specs.declared.flaw.TaskLine.{TaskLine}
 use Rattle.explain_reports.specs.declared.flaw.TaskLine.TheVariants as line
 use Rattle.explain_reports.specs.declared.flaw.Flaw.{Flaw}
-use Rattle.explain_reports.specs.declared.flaw.Flaw.TheVariants.{Untrue, Opening, Late, Entry, Number, Present, NotOwn, Again, Falls, Count, Ends}
+use Rattle.explain_reports.specs.declared.flaw.Flaw.TheVariants.{Untrue, Opening, Late, Entry, Number, Present, NotOwn}
+use Rattle.explain_reports.specs.declared.flaw.Flaw.TheVariants.{Again, Falls, Count, Ends}
 
--- ---- which line it is, counted from 0: `base`, its variables, the entries, `now`, its variables, parked tasks, tasks given up, `end`
+-- ---- which line it is, counted from 0: `base`, its variables, the entries, `now`, its variables, parked tasks,
+-- tasks given up, `end`
 
 abbrev pub place_of_entry : Told → ℕ → ℕ
 place_of_entry r i = 1 + (length r.base_vars + i)
@@ -54,7 +56,8 @@ place_of_flaw r (Ends i ending) = place_of_parked r i
 -- ---- what it says, its newline with it
 
 abbrev pub IsVariableRow : List (List ℕ) → List (ℤ × ℕ) → ℕ → List ℕ → Type 0
-IsVariableRow names vars i row = (name : List ℕ) × (v : ℤ × ℕ) × (slice_get names i ≡ Some name) × (slice_get vars i ≡ Some v) × (row ≡ variable_line name v)
+IsVariableRow names vars i row = (name : List ℕ) × (v : ℤ × ℕ) × (slice_get names i ≡ Some name)
+    × (slice_get vars i ≡ Some v) × (row ≡ variable_line name v)
 
 abbrev pub IsEntryRow : Listing → List entry.Entry → ℕ → List ℕ → Type 0
 IsEntryRow l entries i row = (e : entry.Entry) × (slice_get entries i ≡ Some e) × (row ≡ entry_line l e)

@@ -6,7 +6,7 @@ use Rattle.txn_programs.specs.Replay.{Snapshot}
 use Rattle.checker.specs.Parts.{GoesOn, led_to}
 use Rattle.explain_reports.specs.declared.entries.Replayed.{Replayed}
 use Rattle.explain_reports.specs.declared.entries.Replayed.TheVariants.{Reached, Stopped}
-use Rattle.explain_reports.specs.View.{view}
+use Rattle.checker.specs.View.{view}
 use Rattle.explain_reports.specs.First.{AllRight, IsFirstWrong}
 use Rattle.explain_reports.specs.Parts.{GoesOnThere, due_at}
 

@@ -1,4 +1,4 @@
--- What is written of what is said of a report.
+-- How an explanation is written.
 use Rattle.std.specs.Prelude.{ℕ, List, [], ◌∷◌, ◌++◌, codes}
 use Rattle.std.specs.Fmt.{decimal}
 use Rattle.txn_programs.specs.Listing.{Listing, always_name}
@@ -11,9 +11,10 @@ use Rattle.checker.specs.declared.verdict.Part.TheVariants.{Text}
 use Rattle.checker.specs.Lines.{bad_line, line_of as verdict_line}
 use Rattle.checker.specs.declared.verdict.Verdict.TheVariants as verdict
 use Rattle.explain_reports.specs.declared.flaw.Flaw.{Flaw}
-use Rattle.explain_reports.specs.declared.flaw.Flaw.TheVariants.{Untrue, Opening, Late, Entry, Number, Present, NotOwn, Again, Falls, Count, Ends}
-use Rattle.explain_reports.specs.declared.explaining.Explanation.{Explanation}
-use Rattle.explain_reports.specs.declared.explaining.Explanation.TheVariants.{Good, Unread, Bad}
+use Rattle.explain_reports.specs.declared.flaw.Flaw.TheVariants.{Untrue, Opening, Late, Entry, Number, Present, NotOwn}
+use Rattle.explain_reports.specs.declared.flaw.Flaw.TheVariants.{Again, Falls, Count, Ends}
+use Rattle.explain_reports.specs.declared.explaining.ReportExplanation.{ReportExplanation}
+use Rattle.explain_reports.specs.declared.explaining.ReportExplanation.TheVariants.{Good, Unread, Bad}
 use Rattle.explain_reports.specs.Flaws.{part_of}
 
 -- why bytes are the text of no report
@@ -71,7 +72,8 @@ abbrev pub flaw_text : Listing → Flaw → List ℕ
 flaw_text l flaw = front_text flaw ++ (what_text l flaw ++ back_text flaw)
 
 -- the verdict; why the bytes are no report, or the line with its number and its text; and what is so in its place
-abbrev pub explanation_text : Listing → Explanation → List ℕ
+abbrev pub explanation_text : Listing → ReportExplanation → List ℕ
 explanation_text l Good = verdict_line verdict.Good
 explanation_text l (Unread kind) = bad_line Text ++ kind_text kind
-explanation_text l (Bad line flaw) = bad_line (part_of flaw) ++ (codes "line " ++ (decimal line.number ++ (codes ": " ++ (line.text.now ++ (codes "\n" ++ flaw_text l flaw)))))
+explanation_text l (Bad line flaw) = bad_line (part_of flaw)
+    ++ (codes "line " ++ (decimal line.number ++ (codes ": " ++ (line.text.now ++ (codes "\n" ++ flaw_text l flaw)))))

@@ -3,10 +3,10 @@ use Rattle.std.specs.Prelude.{◌≡◌, ℕ, List, take, Option, Some, Result, 
 use Rattle.std.specs.Io.KnownBytes.{Appends, Keeps}
 use Rattle.txn_programs.specs.Listing.{Listing}
 use Rattle.txn_text.specs.Spelling.{Spells, first_fault}
-use Rattle.run_faults.specs.declared.fault.RunFault.{RunFault}
-use Rattle.run_faults.specs.declared.fault.RunFault.TheVariants.{Input, Memory, Output, Schedule}
+use Rattle.run_interface.specs.declared.fault.RunFault.{RunFault}
+use Rattle.run_interface.specs.declared.fault.RunFault.TheVariants.{Input, Memory, Output, Schedule}
 use Rattle.checker.specs.declared.verdict.Verdict.{Verdict}
-use Rattle.explain_reports.specs.declared.explaining.Explanation.{Explanation}
+use Rattle.explain_reports.specs.declared.explaining.ReportExplanation.{ReportExplanation}
 use Rattle.explain_reports.specs.Explaining.{IsExplained, verdict_of}
 use Rattle.explain_reports.specs.Texts.{explanation_text}
 
@@ -14,7 +14,7 @@ use Rattle.explain_reports.specs.Texts.{explanation_text}
 pub record IsAnswer (input report : List ℕ) (verdict : Verdict) (text : List ℕ) : Type 0 where
   pub file : Listing
   pub spelled : Spells input file
-  pub said : Explanation
+  pub said : ReportExplanation
   pub so : IsExplained file report said
   pub verdict_is : verdict ≡ verdict_of said
   pub text_is : text ≡ explanation_text file said
@@ -41,10 +41,3 @@ Written input report old new (Err Memory) = Keeps old new
 Written input report old new (Err Output) = WroteBeginning input report old new
 -- there is no schedule
 Written input report old new (Err (Schedule kind)) = ⊥
-
--- why there is no text
-abbrev pub IsRefused : List ℕ → RunFault → Type 0
-IsRefused input (Input kind) = first_fault input ≡ Some kind
-IsRefused input Memory = Unit {0}
-IsRefused input Output = ⊥
-IsRefused input (Schedule kind) = ⊥

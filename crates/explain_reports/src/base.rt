@@ -8,11 +8,11 @@ ghost use Rattle.checker.specs.declared.verdict.Part.TheVariants.{Base};
 ghost use Rattle.explain_reports.specs.First.{IsSearched};
 ghost use Rattle.explain_reports.specs.Parts.{Opens, IsRecent, IsTrueOf};
 ghost use Rattle.explain_reports.specs.Flaws.{IsPartJudged};
-ghost use Rattle.explain_reports.specs.View.{view};
+ghost use Rattle.checker.specs.View.{view};
 
 use crate::flaw::Flaw;
-use crate::stage::Stage;
-use txn::evaluate::truth;
+use checker::stage::Stage;
+use txn::evaluate::standing_truth;
 use txn::{AlwaysId, Catalogue, Cond, Report};
 
 /// Whether a variable begins with this value.
@@ -53,7 +53,7 @@ fn first_untrue(always: &[(String, Cond)], values: &[i64]) -> Option<usize>
     ensures { IsSearched (IsTrueOf values.now) (conditions_of always.now) result }
 {
     'conditions: for (i, (_, condition)) in always.iter().enumerate() {
-        match truth(condition, values) {
+        match standing_truth(condition, values) {
             Ok(true) => {}
             _ => return Some(i),
         }

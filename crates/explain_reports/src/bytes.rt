@@ -1,20 +1,20 @@
 //! From the bytes of a file and of a report to the bytes of what is said of the report.
 
-ghost use Rattle.std.specs.Prelude.{◌≡◌, ◌+◌, ◌<◌, ◌^◌, true, IfOk, OnOk, IfErr, string_bytes};
+ghost use Rattle.std.specs.Prelude.{◌≡◌, ◌+◌, true, IfOk, OnOk, IfErr, string_bytes};
 ghost use Rattle.txn_text.specs.Spelling.{Spells};
-ghost use Rattle.run_faults.specs.Failures.{output_failures};
+ghost use Rattle.run_interface.specs.Counts.{FewFailed};
+ghost use Rattle.run_interface.specs.Failures.{output_failures};
+ghost use Rattle.run_interface.specs.Refused.{IsRefused};
 ghost use Rattle.explain_reports.specs.Explaining.{IsExplained, verdict_of};
 ghost use Rattle.explain_reports.specs.Texts.{explanation_text};
-ghost use Rattle.explain_reports.specs.Writing.{IsAnswer, IsRefused, Written};
+ghost use Rattle.explain_reports.specs.Writing.{IsAnswer, Written};
 
-use crate::explaining::{Explanation, explain};
+use crate::explaining::{ReportExplanation, explain};
 use crate::text::put_explanation;
 use checker::Verdict;
-use run_faults::RunFault;
-use run_sink::{Sink, put_all};
+use run_interface::{RunFault, Sink, catalogue_of, put_text};
 use std::alloc::{AllocError, Global};
 use txn::Catalogue;
-use txn_text::{ReadFault, read_file};
 
 /// Writes what is said of a report of the file that the bytes spell to the sink: `good`; or `bad`
 /// and the number of the part that fails first, then the line on which that shows, with its number
@@ -30,37 +30,21 @@ pub fn explain_bytes<S: Sink>(
     report: &[u8],
     sink: &mut S,
 ) -> Result<Verdict, RunFault>
-    requires { S.failed sink.old < 2 ^ 63 }
+    requires { FewFailed (S.failed sink.old) }
     ensures written { Written bytes.now report.now (S.bytes sink.old) (S.bytes sink.new) result }
     ensures flushed { OnOk result (S.flushed sink.new ≡ true) }
     ensures failures { S.failed sink.new ≡ S.failed sink.old + output_failures result }
 {
-    match answered(alloc, bytes, report) {
-        Ok((verdict, text)) => match put_all(sink, text.as_bytes()) {
-            Ok(()) => Ok(verdict),
-            Err(_) => Err(RunFault::Output),
-        },
-        Err(fault) => Err(fault),
-    }
-}
-
-/// The catalogue that the bytes spell.
-fn catalogue_of(alloc: Global, bytes: &[u8]) -> Result<Catalogue, RunFault>
-    ensures spelled { IfOk result (λ c. Spells bytes.now c) }
-    ensures refused { IfErr result (IsRefused bytes.now) }
-{
-    match read_file(alloc, bytes) {
-        Ok(catalogue) => Ok(catalogue),
-        Err(ReadFault::Memory) => Err(RunFault::Memory),
-        Err(kind) => Err(RunFault::Input(kind)),
-    }
+    let (verdict, text) = answered(alloc, bytes, report)?;
+    put_text(sink, &text)?;
+    Ok(verdict)
 }
 
 /// What is said of a report, as text.
 fn text_of(
     alloc: Global,
     catalogue: &Catalogue,
-    explanation: Explanation<'_>,
+    explanation: ReportExplanation<'_>,
 ) -> Result<String, AllocError>
     ensures { IfOk result (λ s. string_bytes s ≡ explanation_text catalogue.now explanation.entry) }
 {

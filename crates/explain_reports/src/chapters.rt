@@ -1,22 +1,23 @@
 //! From the bytes of a chapter and of the one before it to the bytes of what is said of it.
 
-ghost use Rattle.std.specs.Prelude.{◌≡◌, ◌+◌, ◌<◌, ◌^◌, ◌++◌, true, IfOk, OnOk, IfErr, string_bytes};
+ghost use Rattle.std.specs.Prelude.{◌≡◌, ◌+◌, ◌++◌, true, IfOk, OnOk, IfErr, string_bytes};
 ghost use Rattle.txn_programs.specs.Told.{told};
 ghost use Rattle.txn_programs.specs.LawfulReport.{LawfulReport};
 ghost use Rattle.txn_text.specs.Spelling.{Spells};
-ghost use Rattle.text_report_reader.specs.Reports.{IsReport};
+ghost use Rattle.text_line_reader.specs.Reports.{IsReport};
 ghost use Rattle.checker.specs.declared.verdict.Verdict.TheVariants.{Bad};
 ghost use Rattle.checker.specs.declared.chapter.ChapterVerdict.TheVariants as VerdictOf;
 ghost use Rattle.checker.specs.Verdicts.{IsVerdictOn};
 ghost use Rattle.checker.specs.Lines.{chapter_line};
 ghost use Rattle.checker.specs.Chapters.{IsEarlierRefused, IsUnjudged};
+ghost use Rattle.run_interface.specs.Counts.{FewFailed};
 ghost use Rattle.explain_reports.specs.Chapters.{IsSaid, IsSaidAfter, IsSaidBefore, ChapterWritten, untold_failures};
 
 use crate::bytes::answered_of;
 use crate::gaps::gap_text;
 use checker::laws::one_verdict;
 use checker::{ChapterFault, ChapterVerdict, Judgement, Part, Verdict, goes_on_after, judged};
-use run_sink::{Sink, put_all};
+use run_interface::{Sink, put_all};
 use std::alloc::{AllocError, Global};
 use txn::{Catalogue, Memory, Report};
 use txn_text::laws::spells_one;
@@ -55,7 +56,7 @@ pub fn explain_chapter_bytes<S: Sink>(
     earlier_report: &[u8],
     sink: &mut S,
 ) -> Result<ChapterVerdict, ChapterUntold>
-    requires { S.failed sink.old < 2 ^ 63 }
+    requires { FewFailed (S.failed sink.old) }
     ensures written { ChapterWritten file.now report.now earlier.now earlier_report.now
         (S.bytes sink.old) (S.bytes sink.new) result }
     ensures flushed { OnOk result (S.flushed sink.new ≡ true) }

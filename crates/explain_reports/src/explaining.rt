@@ -2,8 +2,8 @@
 
 ghost use Rattle.std.specs.Prelude.{◌≡◌, ◌+◌, ◌<◌, ◌^◌, ◌++◌, IfOk, Some, codes, slice_get};
 ghost use Rattle.txn_programs.specs.Told.{told};
-ghost use Rattle.text_report_reader.specs.Lines.{Whole, lines};
-ghost use Rattle.text_report_reader.specs.Reports.{IsReport};
+ghost use Rattle.text_line_reader.specs.Lines.{Whole, lines};
+ghost use Rattle.text_line_reader.specs.Reports.{IsReport};
 ghost use Rattle.checker.specs.Verdicts.{IsVerdictOn};
 ghost use Rattle.checker.specs.declared.verdict.Verdict.{Verdict as VerdictOf};
 ghost use Rattle.explain_reports.specs.Flaws.{IsFlaw};
@@ -16,7 +16,7 @@ use crate::lines::line_at;
 use checker::laws::one_verdict;
 use checker::{Part, Verdict};
 use std::alloc::Global;
-use text_report_reader::read_report;
+use text_line_reader::read_report;
 use text_words::ReadFault;
 use text_words::bytes::as_text;
 use txn::{Catalogue, Memory, Report};
@@ -30,7 +30,7 @@ pub struct Line<'a> {
 
 /// What is said of the bytes of a report.
 #[derive(Clone, Copy, Debug)]
-pub enum Explanation<'a> {
+pub enum ReportExplanation<'a> {
     /// The report is lawful.
     Good,
     /// The bytes are the text of no report of the file: this is the first kind of fault that they
@@ -40,15 +40,15 @@ pub enum Explanation<'a> {
     Bad(Line<'a>, Flaw),
 }
 
-impl Explanation<'_> {
+impl ReportExplanation<'_> {
     /// The checker's verdict.
     pub fn verdict(self) -> Verdict
         ensures { result ≡ verdict_of self.entry }
     {
         match self {
-            Explanation::Good => Verdict::Good,
-            Explanation::Unread(_) => Verdict::Bad(Part::Text),
-            Explanation::Bad(_, flaw) => Verdict::Bad(flaw.part()),
+            ReportExplanation::Good => Verdict::Good,
+            ReportExplanation::Unread(_) => Verdict::Bad(Part::Text),
+            ReportExplanation::Bad(_, flaw) => Verdict::Bad(flaw.part()),
         }
     }
 }
@@ -97,7 +97,8 @@ fn line_of<'a>(catalogue: &Catalogue, bytes: &'a [u8], report: &Report, flaw: Fl
     requires read { IsReport catalogue.now bytes.now (told report.now) }
     requires flaw { IsFlaw catalogue.now (told report.now) flaw }
     ensures numbered { result.number ≡ place_of_flaw (told report.entry.now) flaw + 1 }
-    ensures stands { slice_get (lines bytes.now) (place_of_flaw (told report.entry.now) flaw) ≡ Some (Whole result.text.now) }
+    ensures stands { slice_get (lines bytes.now) (place_of_flaw (told report.entry.now) flaw)
+        ≡ Some (Whole result.text.now) }
     ensures row { IsRow catalogue.now (told report.entry.now) flaw (result.text.now ++ codes "\n") }
 {
     catalogue.rules();
@@ -115,19 +116,19 @@ fn explained<'a>(
     alloc: Global,
     catalogue: &Catalogue,
     bytes: &'a [u8],
-) -> Result<Explanation<'a>, Memory>
+) -> Result<ReportExplanation<'a>, Memory>
     ensures { IfOk result (IsExplained catalogue.now bytes.now) }
 {
     match read_report(alloc, bytes, catalogue) {
         Ok(report) => match flaw_of(alloc, catalogue, &report)? {
-            None => Ok(Explanation::Good),
+            None => Ok(ReportExplanation::Good),
             Some(flaw) => {
                 let line = line_of(catalogue, bytes, &report, flaw);
-                Ok(Explanation::Bad(line, flaw))
+                Ok(ReportExplanation::Bad(line, flaw))
             }
         },
         Err(ReadFault::Memory) => Err(Memory),
-        Err(kind) => Ok(Explanation::Unread(kind)),
+        Err(kind) => Ok(ReportExplanation::Unread(kind)),
     }
 }
 
@@ -141,7 +142,7 @@ pub fn explain<'a>(
     alloc: Global,
     catalogue: &Catalogue,
     bytes: &'a [u8],
-) -> Result<Explanation<'a>, Memory>
+) -> Result<ReportExplanation<'a>, Memory>
     // What is said is so.
     ensures explained { IfOk result (IsExplained catalogue.now bytes.now) }
     // Its verdict is the checker's, and there is no other.

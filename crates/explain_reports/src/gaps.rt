@@ -4,12 +4,12 @@ ghost use Rattle.std.specs.Prelude.{◌≡◌, ◌++◌, ◌↔◌, IfOk, IsTrue
 ghost use Rattle.txn_programs.specs.Told.{told};
 ghost use Rattle.txn_programs.specs.LawfulReport.{LawfulReport};
 ghost use Rattle.txn_text.specs.Canonical.{file_text};
-ghost use Rattle.text_report_reader.specs.View.{view_text};
+ghost use Rattle.text_line_reader.specs.ReportView.{view_text};
 ghost use Rattle.explain_reports.specs.Gaps.{IsDifference, IsGap, IsGapLine, gap_line, side_text};
 
 use checker::{ChapterVerdict, beginning, next_chapter};
 use std::alloc::{AllocError, Global};
-use text_report_reader::next_line;
+use text_line_reader::next_line;
 use txn::{Catalogue, Memory, Report};
 use txn_text::print_file;
 

@@ -10,9 +10,9 @@ use crate::entries::{Replayed, replay};
 use crate::flaw::Flaw;
 use crate::parked::parked_flaw;
 use crate::present::present_flaw;
-use crate::stage::stage_at;
 use crate::tasks::tasks_flaw;
 use checker::laws::lawful_where_all_parts_hold;
+use checker::stage::stage_at;
 use std::alloc::{AllocError, Global};
 use txn::{Catalogue, Report};
 
@@ -31,7 +31,7 @@ pub(crate) fn flaw_of(
     if let Some(flaw) = base_flaw(catalogue, report, &base) {
         return Ok(Some(flaw));
     }
-    let stage = match replay(catalogue, base, &report.entries)? {
+    let mut stage = match replay(catalogue, base, &report.entries)? {
         Replayed::Reached(stage) => stage,
         Replayed::Stopped(i, due) => return Ok(Some(Flaw::Entry(i, due))),
     };
@@ -41,5 +41,5 @@ pub(crate) fn flaw_of(
     if let Some(flaw) = tasks_flaw(alloc, catalogue, report)? {
         return Ok(Some(flaw));
     }
-    parked_flaw(catalogue, report, &stage.values)
+    parked_flaw(catalogue, report, &mut stage.values)
 }

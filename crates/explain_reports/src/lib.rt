@@ -18,13 +18,11 @@ mod judge;
 mod lines;
 mod parked;
 mod present;
-mod raise;
-mod stage;
 mod tasks;
 mod text;
 
 pub use bytes::explain_bytes;
 pub use chapters::{ChapterUntold, explain_chapter_bytes};
-pub use explaining::{Explanation, Line, explain};
+pub use explaining::{Line, ReportExplanation, explain};
 pub use flaw::{Flaw, TaskLine};
 pub use text::put_explanation;

@@ -1,11 +1,11 @@
 //! The lines of bytes, by their place.
 
 ghost use Rattle.std.specs.Prelude.{◌≡◌};
-ghost use Rattle.text_report_reader.specs.Lines.{lines};
-ghost use Rattle.text_report_reader.specs.View.{view_text};
+ghost use Rattle.text_line_reader.specs.Lines.{lines};
+ghost use Rattle.text_line_reader.specs.ReportView.{view_text};
 ghost use Rattle.explain_reports.specs.Explaining.{whole_at};
 
-use text_report_reader::next_line;
+use text_line_reader::next_line;
 
 /// The line at a place counted from 0, without its newline.
 pub(crate) fn line_at(bytes: &[u8], place: usize) -> Option<&[u8]>

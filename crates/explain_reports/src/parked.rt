@@ -2,8 +2,7 @@
 
 ghost use Rattle.std.specs.Prelude.{◌≡◌, ◌<◌, ◌↔◌, IfOk, IsTrue, All, length};
 ghost use Rattle.txn_programs.specs.declared.ast.Outcome.TheVariants.{Retries};
-ghost use Rattle.txn_programs.specs.Listing.{program_at};
-ghost use Rattle.txn_programs.specs.Meaning.{outcome};
+ghost use Rattle.txn_programs.specs.Listing.{tasks as listed_tasks};
 ghost use Rattle.txn_programs.specs.Told.{told, now_of};
 ghost use Rattle.checker.specs.declared.verdict.Part.TheVariants.{Parked};
 ghost use Rattle.explain_reports.specs.First.{IsSearched};
@@ -11,19 +10,10 @@ ghost use Rattle.explain_reports.specs.Parts.{Waits};
 ghost use Rattle.explain_reports.specs.Flaws.{IsPartJudged};
 
 use crate::flaw::Flaw;
+use checker::evaluating::ending;
 use std::alloc::AllocError;
-use txn::evaluate::execute;
 use txn::{Catalogue, Outcome, Report, TaskId, TxId};
-
-/// How a transaction ends on the values.
-fn ending(catalogue: &Catalogue, tx: TxId, values: &Vec<i64>) -> Result<Outcome, AllocError>
-    requires known { tx.0 < length catalogue.now.transactions }
-    requires values { length values.now.items ≡ length catalogue.now.initial }
-    ensures { IfOk result (λ o. o ≡ outcome (program_at catalogue.now tx) values.now.items) }
-{
-    let mut state = values.clone()?;
-    execute(catalogue.tx(tx), catalogue.always(), &mut state)
-}
+use txn_evaluator::notes::Note;
 
 fn retries(outcome: Outcome) -> bool
     ensures { IsTrue result ↔ (outcome ≡ Retries) }
@@ -34,18 +24,21 @@ fn retries(outcome: Outcome) -> bool
     }
 }
 
-/// The first task whose transaction does not retry.
+/// The first task whose transaction does not retry. The values are as they were.
 fn first_ended(
     catalogue: &Catalogue,
     parked: &[(TaskId, TxId)],
-    values: &Vec<i64>,
+    values: &mut Vec<i64>,
+    notes: &mut Vec<Note>,
 ) -> Result<Option<usize>, AllocError>
-    requires known { All (λ p. p.1.0 < length catalogue.now.transactions) parked.now }
-    requires values { length values.now.items ≡ length catalogue.now.initial }
-    ensures { IfOk result (IsSearched (Waits catalogue.now values.now.items) parked.now) }
+    requires known { All (λ p. (p.0.0 < length (listed_tasks catalogue.now))
+        × (p.1.0 < length catalogue.now.transactions)) parked.now }
+    requires values { length values.old.items ≡ length catalogue.now.initial }
+    ensures first { IfOk result (IsSearched (Waits catalogue.now values.old.items) parked.now) }
+    ensures kept { values.new.items ≡ values.old.items }
 {
-    'parked: for (i, (_, tx)) in parked.iter().enumerate() {
-        if !retries(ending(catalogue, *tx, values)?) {
+    'parked: for (i, (task, tx)) in parked.iter().enumerate() {
+        if !retries(ending(catalogue, *task, *tx, values, notes)?) {
             return Ok(Some(i));
         }
     }
@@ -57,16 +50,19 @@ fn first_ended(
 pub(crate) fn parked_flaw(
     catalogue: &Catalogue,
     report: &Report,
-    values: &Vec<i64>,
+    values: &mut Vec<i64>,
 ) -> Result<Option<Flaw>, AllocError>
-    requires known { All (λ p. p.1.0 < length catalogue.now.transactions) report.now.parked.items }
-    requires present { values.now.items ≡ (now_of (told report.now)).state }
-    requires values { length values.now.items ≡ length catalogue.now.initial }
+    requires known { All (λ p. (p.0.0 < length (listed_tasks catalogue.now))
+        × (p.1.0 < length catalogue.now.transactions)) report.now.parked.items }
+    requires present { values.old.items ≡ (now_of (told report.now)).state }
+    requires values { length values.old.items ≡ length catalogue.now.initial }
     ensures { IfOk result (IsPartJudged catalogue.now (told report.entry.now) Parked) }
 {
-    match first_ended(catalogue, &report.parked, values)? {
+    let mut notes = Vec::new(*values.allocator());
+    match first_ended(catalogue, &report.parked, values, &mut notes)? {
         Some(i) => {
-            let ending = ending(catalogue, report.parked[i].1, values)?;
+            let (task, tx) = report.parked[i];
+            let ending = ending(catalogue, task, tx, values, &mut notes)?;
             Ok(Some(Flaw::Ends(i, ending)))
         }
         None => Ok(None),

@@ -6,10 +6,10 @@ ghost use Rattle.checker.specs.declared.verdict.Part.TheVariants.{Present};
 ghost use Rattle.explain_reports.specs.First.{IsSearched};
 ghost use Rattle.explain_reports.specs.Parts.{StandsAt};
 ghost use Rattle.explain_reports.specs.Flaws.{IsPartJudged, reached};
-ghost use Rattle.explain_reports.specs.View.{view};
+ghost use Rattle.checker.specs.View.{view};
 
 use crate::flaw::Flaw;
-use crate::stage::Stage;
+use checker::stage::Stage;
 use txn::{Catalogue, Report};
 
 /// Whether a variable has this value and version.

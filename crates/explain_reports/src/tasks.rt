@@ -1,34 +1,19 @@
 //! The tasks on a report's lines.
 
-ghost use Rattle.std.specs.Prelude.{◌≡◌, ◌+◌, ◌<◌, ◌↔◌, IfOk, IsTrue, All, length, map, slice_get, Some};
+ghost use Rattle.std.specs.Prelude.{◌≡◌, ◌<◌, IfOk, All, length};
 ghost use Rattle.txn_programs.specs.Listing.{tasks as listed_tasks};
 ghost use Rattle.txn_programs.specs.Told.{told};
-ghost use Rattle.txn_programs.specs.LawfulReport.{FitsCatalogue, HasOwn};
-ghost use Rattle.checker.specs.Parts.{named, on_line};
+ghost use Rattle.txn_programs.specs.LawfulReport.{FitsCatalogue};
+ghost use Rattle.checker.specs.Parts.{named};
 ghost use Rattle.checker.specs.declared.verdict.Part.TheVariants.{Tasks};
 ghost use Rattle.explain_reports.specs.First.{AllRight, IsSearched};
 ghost use Rattle.explain_reports.specs.Parts.{IsOwn, IsNew, Climbs};
 ghost use Rattle.explain_reports.specs.Flaws.{IsFallSearched, IsPartJudged, IsThere, place_of};
 
 use crate::flaw::{Flaw, TaskLine};
+use checker::tasks::{are_accounted, is_own, lines_of};
 use std::alloc::{AllocError, Global};
-use txn::{Catalogue, Entry, Report, TaskId, TxId};
-
-fn entered(alloc: Global, entries: &[Entry]) -> Result<Vec<(TaskId, TxId)>, AllocError>
-    ensures { IfOk result (λ v. v.items ≡ map on_line entries.now) }
-{
-    entries.iter().map(|e| (e.task, e.tx)).collect(alloc)
-}
-
-/// The tasks on the lines, entries first, each with the transaction named there.
-fn lines_of(alloc: Global, report: &Report) -> Result<Vec<(TaskId, TxId)>, AllocError>
-    ensures { IfOk result (λ v. v.items ≡ named (told report.entry.now)) }
-{
-    let mut lines = entered(alloc, &report.entries)?;
-    lines.extend_from_slice(&report.parked)?;
-    lines.extend_from_slice(&report.memory)?;
-    Ok(lines)
-}
+use txn::{Catalogue, Report, TaskId, TxId};
 
 /// The line at this place among all of them.
 fn line_at(report: &Report, place: usize) -> TaskLine
@@ -46,14 +31,6 @@ fn line_at(report: &Report, place: usize) -> TaskLine
         return TaskLine::Parked(place);
     }
     TaskLine::Memory(place - parked)
-}
-
-/// Whether the task runs this transaction.
-fn is_own(catalogue: &Catalogue, task: TaskId, tx: TxId) -> bool
-    requires { task.0 < length (listed_tasks catalogue.now) }
-    ensures { IsTrue result ↔ HasOwn catalogue.now task tx }
-{
-    catalogue.task_tx(task).0 == tx.0
 }
 
 /// The first line whose task is not named with its own transaction.
@@ -113,13 +90,6 @@ fn first_fall_of(report: &Report) -> Option<TaskLine>
         Some(i) => Some(TaskLine::Memory(i)),
         None => None,
     }
-}
-
-/// Whether so many lines account for the tasks that had not committed at the base.
-fn are_accounted(tasks: usize, base: u64, lines: usize) -> bool
-    ensures { IsTrue result ↔ (base + lines ≡ tasks) }
-{
-    lines <= tasks && base == (tasks - lines) as u64
 }
 
 /// What is not so of the order and the number of a report's tasks.

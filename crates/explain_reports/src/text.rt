@@ -5,7 +5,7 @@ ghost use Rattle.text_report_printer.specs.Names.{variable_name};
 ghost use Rattle.text_report_printer.specs.ReportText.{entry_line, variable_line};
 ghost use Rattle.explain_reports.specs.Texts.{back_text, explanation_text, flaw_text, front_text, kind_text, what_text};
 
-use crate::explaining::Explanation;
+use crate::explaining::ReportExplanation;
 use crate::flaw::Flaw;
 use std::alloc::AllocError;
 use std::fmt::Write;
@@ -35,7 +35,8 @@ fn put_variable(
     value: i64,
     version: u64,
 ) -> Result<(), AllocError>
-    ensures { OnOk result (string_bytes out.new ≡ string_bytes out.old ++ variable_line (variable_name catalogue.now i) (value, version)) }
+    ensures { OnOk result (string_bytes out.new
+        ≡ string_bytes out.old ++ variable_line (variable_name catalogue.now i) (value, version)) }
 {
     out.push_str(variable_name(catalogue, i))?;
     writeln!(out, " {value} {version}")?;
@@ -126,15 +127,16 @@ fn put_flaw(out: &mut String, catalogue: &Catalogue, flaw: Flaw) -> Result<(), A
 pub fn put_explanation(
     out: &mut String,
     catalogue: &Catalogue,
-    explanation: Explanation<'_>,
+    explanation: ReportExplanation<'_>,
 ) -> Result<(), AllocError>
-    ensures { OnOk result (string_bytes out.new ≡ string_bytes out.old ++ explanation_text catalogue.now explanation.entry) }
+    ensures { OnOk result (string_bytes out.new
+        ≡ string_bytes out.old ++ explanation_text catalogue.now explanation.entry) }
 {
     out.push_str(explanation.verdict().line())?;
     match explanation {
-        Explanation::Good => Ok(()),
-        Explanation::Unread(kind) => out.push_str(kind_text(kind)),
-        Explanation::Bad(line, flaw) => {
+        ReportExplanation::Good => Ok(()),
+        ReportExplanation::Unread(kind) => out.push_str(kind_text(kind)),
+        ReportExplanation::Bad(line, flaw) => {
             let number = line.number;
             write!(out, "line {number}: ")?;
             out.push_str(line.text)?;

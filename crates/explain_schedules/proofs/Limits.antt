@@ -12,11 +12,11 @@ use Rattle.txn_programs.specs.Listing.{Listing, tasks, variable_named}
 use Rattle.txn_programs.specs.Limits.{limits_hold}
 use Rattle.txn_programs.proofs.Lawful.{few_tasks}
 use Rattle.text_words.specs.declared.fault.ReadFault.TheVariants.{Name, Limit}
-use Rattle.text_lines.specs.Counts.{task_id, below}
-use Rattle.text_schedule_reader.specs.Raw.{Raw, OfTask, OfVariable, Word}
-use Rattle.text_schedule_reader.specs.Resolving.{is_known, names_known, variable_id, found, task_move, variable_move, move_told, moves_told}
-use Rattle.text_schedule_reader.specs.Schedules.{IsSchedule, IsWritten, IsFirst}
-use Rattle.text_schedule_reader.proofs.Backs.{told_back}
+use Rattle.text_line_reader.specs.Counts.{task_id, below}
+use Rattle.text_line_reader.specs.ScheduleRaw.{Raw, OfTask, OfVariable, Word}
+use Rattle.text_line_reader.specs.ScheduleResolving.{is_known, names_known, variable_id, found, task_move, variable_move, move_told, moves_told}
+use Rattle.text_line_reader.specs.Schedules.{IsSchedule, IsWritten, IsFirst}
+use Rattle.text_line_reader.proofs.ScheduleBacks.{told_back}
 use Rattle.explain_schedules.specs.Places.{names_a_task}
 use Rattle.explain_schedules.specs.Walking.{IsUneven}
 

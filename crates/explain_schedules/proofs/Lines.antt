@@ -8,15 +8,15 @@ use Rattle.text_words.specs.Bytes.{is_int}
 use Rattle.text_words.specs.declared.fault.ReadFault.{ReadFault}
 use Rattle.text_words.specs.declared.fault.ReadFault.TheVariants.{Shape}
 use Rattle.text_words.specs.Answers.{Fails}
-use Rattle.text_lines.specs.Lines.{parted}
-use Rattle.text_lines.specs.Words.{is_number}
-use Rattle.text_lines.specs.Words.{first_word, number_in, name_in}
-use Rattle.text_lines.proofs.Parting.{parted_takes, parted_again}
-use Rattle.text_lines.proofs.Numbers.{number_lacks, name_lacks}
-use Rattle.text_lines.proofs.Steps.{text_of, number_takes}
-use Rattle.text_schedule_reader.specs.Raw.{Raw, OfTask, OfVariable, Word, task_word, variable_word, raw_words}
-use Rattle.text_schedule_reader.specs.Reading.{task_verb, variable_verb, alone, of_task, of_variable, of_verb, move_in}
-use Rattle.text_schedule_reader.proofs.Steps.{task_word_is, variable_word_is, move_takes}
+use Rattle.text_line_reader.specs.Lines.{parted}
+use Rattle.text_line_reader.specs.Words.{is_number}
+use Rattle.text_line_reader.specs.Words.{first_word, number_in, name_in}
+use Rattle.text_line_reader.proofs.Parting.{parted_takes, parted_again}
+use Rattle.text_line_reader.proofs.Numbers.{number_lacks, name_lacks}
+use Rattle.text_line_reader.proofs.Steps.{text_of, number_takes}
+use Rattle.text_line_reader.specs.ScheduleRaw.{Raw, OfTask, OfVariable, Word, task_word, variable_word, raw_words}
+use Rattle.text_line_reader.specs.ScheduleReading.{task_verb, variable_verb, alone, of_task, of_variable, of_verb, move_in}
+use Rattle.text_line_reader.proofs.ScheduleSteps.{task_word_is, variable_word_is, move_takes}
 use Rattle.explain_schedules.specs.Words.{behind, behind_len, lacks, task_place, name_place}
 use Rattle.explain_schedules.specs.Lines.{Opens, Closes, StopsAt}
 use Rattle.explain_schedules.specs.declared.line.Wanted.{Wanted}

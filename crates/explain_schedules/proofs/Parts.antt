@@ -6,9 +6,9 @@ use Rattle.std.proofs.lemmas.Bool.Decides.{eqb_tells}
 use Rattle.std.specs.Prelude.{◌==◌}
 use Rattle.std.proofs.lemmas.List.Folds.{list_all-append}
 use Rattle.std.proofs.lemmas.Option.{same_Some}
-use Rattle.text_lines.specs.Lines.{parted, behind_byte}
-use Rattle.text_lines.specs.View.{view_parts}
-use Rattle.text_lines.proofs.Parting.{parted_takes, parted_again}
+use Rattle.text_line_reader.specs.Lines.{parted, behind_byte}
+use Rattle.text_line_reader.specs.View.{view_parts}
+use Rattle.text_line_reader.proofs.Parting.{parted_takes, parted_again}
 use Rattle.explain_schedules.specs.Words.{behind, behind_len, lacks, IsParted, is_word_byte}
 
 -- ---- round the first such byte

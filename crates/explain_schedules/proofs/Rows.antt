@@ -7,16 +7,16 @@ use Rattle.std.proofs.lemmas.List.{append-nil}
 use Rattle.std.proofs.lemmas.Grind.{flat_map-append}
 use Rattle.text_words.specs.Words.{line}
 use Rattle.text_words.proofs.Steps.{bind_ok}
-use Rattle.text_lines.specs.Lines.{Line, Whole, Cut, lines, parted}
-use Rattle.text_lines.proofs.Parting.{lines_nil, lines_text, parted_takes}
-use Rattle.text_lines.proofs.Numbers.{name_lacks, number_lacks}
-use Rattle.text_lines.proofs.Rows.{line_of}
-use Rattle.text_lines.proofs.Steps.{text_of}
-use Rattle.text_lines.proofs.Texts.{Makes, one_line, each_line, three}
-use Rattle.text_schedule_reader.specs.Raw.{Raw, OfTask, OfVariable, Word, task_word, variable_word, raw_words, raw_text, IsRaw}
-use Rattle.text_schedule_reader.specs.Reading.{move_in, raw_in, raws_at}
-use Rattle.text_schedule_reader.proofs.Rows.{raws_again}
-use Rattle.text_schedule_reader.proofs.Steps.{task_word_is, variable_word_is, move_takes}
+use Rattle.text_line_reader.specs.Lines.{Line, Whole, Cut, lines, parted}
+use Rattle.text_line_reader.proofs.Parting.{lines_nil, lines_text, parted_takes}
+use Rattle.text_line_reader.proofs.Numbers.{name_lacks, number_lacks}
+use Rattle.text_line_reader.proofs.Rows.{line_of}
+use Rattle.text_line_reader.proofs.Steps.{text_of}
+use Rattle.text_line_reader.proofs.Texts.{Makes, one_line, each_line, three}
+use Rattle.text_line_reader.specs.ScheduleRaw.{Raw, OfTask, OfVariable, Word, task_word, variable_word, raw_words, raw_text, IsRaw}
+use Rattle.text_line_reader.specs.ScheduleReading.{move_in, raw_in, raws_at}
+use Rattle.text_line_reader.proofs.ScheduleRows.{raws_again}
+use Rattle.text_line_reader.proofs.ScheduleSteps.{task_word_is, variable_word_is, move_takes}
 use Rattle.explain_schedules.specs.Words.{lacks}
 use Rattle.explain_schedules.proofs.Parts.{parted_lacks, unparted_lacks, lacks_both}
 

@@ -5,10 +5,10 @@ use Rattle.std.proofs.lemmas.List.{append-nil}
 use Rattle.text_words.specs.Bytes.{is_blank}
 use Rattle.text_words.specs.Words.{line}
 use Rattle.text_words.specs.declared.fault.ReadFault.TheVariants.{Shape}
-use Rattle.text_lines.specs.Lines.{lines}
-use Rattle.text_schedule_reader.specs.Raw.{Raw, raw_text, IsRaw}
-use Rattle.text_schedule_reader.specs.Reading.{move_in, raws_at}
-use Rattle.text_schedule_reader.proofs.Steps.{move_takes}
+use Rattle.text_line_reader.specs.Lines.{lines}
+use Rattle.text_line_reader.specs.ScheduleRaw.{Raw, raw_text, IsRaw}
+use Rattle.text_line_reader.specs.ScheduleReading.{move_in, raws_at}
+use Rattle.text_line_reader.proofs.ScheduleSteps.{move_takes}
 use Rattle.explain_schedules.specs.Words.{behind, lacks, EndsWord, ending, IsParted}
 use Rattle.explain_schedules.specs.Lines.{Opens, Closes, StopsAt}
 use Rattle.explain_schedules.specs.Places.{Begins, IsWrongWord, IsStop}

@@ -4,13 +4,13 @@ use Rattle.std.specs.List.{list_all}
 use Rattle.std.proofs.lemmas.Bool.{and_from}
 use Rattle.std.proofs.lemmas.List.Folds.{list_all-append}
 use Rattle.text_words.proofs.Steps.{bind_ok, ok_is}
-use Rattle.text_lines.specs.Lines.{Whole, lines}
-use Rattle.text_lines.proofs.Parting.{lines_text}
-use Rattle.text_schedule_reader.specs.Raw.{Raw, raw_text}
-use Rattle.text_schedule_reader.specs.Reading.{move_in, raws_at}
-use Rattle.text_schedule_reader.specs.Schedules.{IsWritten}
-use Rattle.text_schedule_reader.proofs.Steps.{move_takes}
-use Rattle.text_schedule_reader.proofs.Written.{written_is_read}
+use Rattle.text_line_reader.specs.Lines.{Whole, lines}
+use Rattle.text_line_reader.proofs.Parting.{lines_text}
+use Rattle.text_line_reader.specs.ScheduleRaw.{Raw, raw_text}
+use Rattle.text_line_reader.specs.ScheduleReading.{move_in, raws_at}
+use Rattle.text_line_reader.specs.Schedules.{IsWritten}
+use Rattle.text_line_reader.proofs.ScheduleSteps.{move_takes}
+use Rattle.text_line_reader.proofs.Written.{written_is_read}
 use Rattle.explain_schedules.specs.Words.{lacks, IsParted, name_place, task_place}
 use Rattle.explain_schedules.specs.Lines.{StopsAt}
 use Rattle.explain_schedules.specs.declared.line.Wanted.{Wanted}

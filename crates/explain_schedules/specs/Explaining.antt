@@ -1,21 +1,21 @@
--- What an explanation says of the bytes of a schedule.
+-- What an explanation says of a schedule.
 use Rattle.std.specs.Prelude.{◌≡◌, ◌<◌, ◌≤◌, ℕ, Bool, List, length}
 use Rattle.std.specs.List.{list_all}
 use Rattle.txn_programs.specs.declared.moves.Move.{Move}
 use Rattle.txn_programs.specs.Listing.{Listing}
 use Rattle.text_words.specs.declared.fault.ReadFault.{ReadFault}
 use Rattle.text_words.specs.declared.fault.ReadFault.TheVariants.{TooLong, BadByte, Shape, Name, Limit}
-use Rattle.text_schedule_reader.specs.Raw.{Raw}
-use Rattle.text_schedule_reader.specs.Resolving.{is_known}
-use Rattle.text_schedule_reader.specs.Schedules.{IsSchedule, IsFirst, max_len}
+use Rattle.text_line_reader.specs.ScheduleRaw.{Raw}
+use Rattle.text_line_reader.specs.ScheduleResolving.{is_known}
+use Rattle.text_line_reader.specs.Schedules.{IsSchedule, IsFirst, max_len}
 use Rattle.explain_files.specs.Explaining.{IsBadByte}
 use Rattle.explain_schedules.specs.Words.{name_place, task_place}
 use Rattle.explain_schedules.specs.Places.{IsStop, IsFirstLine, names_a_task}
 use Rattle.explain_schedules.specs.declared.explaining.Finding.{Finding}
 use Rattle.explain_schedules.specs.declared.explaining.Finding.TheVariants as found
 use Rattle.explain_schedules.specs.declared.explaining.Refusal.{Refusal}
-use Rattle.explain_schedules.specs.declared.explaining.Explanation.{Explanation}
-use Rattle.explain_schedules.specs.declared.explaining.Explanation.TheVariants.{Good, Refused}
+use Rattle.explain_schedules.specs.declared.explaining.ScheduleExplanation.{ScheduleExplanation}
+use Rattle.explain_schedules.specs.declared.explaining.ScheduleExplanation.TheVariants.{Good, Refused}
 
 -- by the kind of fault and by what is found at the place: what is so there
 abbrev pub IsPlaced : Listing → ReadFault → List ℕ → ℕ → Finding → Type 0
@@ -38,6 +38,6 @@ pub record IsRefused (l : Listing) (bytes : List ℕ) (refusal : Refusal) : Type
   pub bound : refusal.place ≤ length bytes
 
 -- these are the text of moves, or this is why they are of none
-abbrev pub IsExplained : Listing → List ℕ → Explanation → Type 0
+abbrev pub IsExplained : Listing → List ℕ → ScheduleExplanation → Type 0
 IsExplained l bytes Good = (moves : List Move) × IsSchedule l bytes moves
 IsExplained l bytes (Refused refusal) = IsRefused l bytes refusal

@@ -2,9 +2,9 @@
 use Rattle.std.specs.Prelude.{◌≡◌, ℕ, true, List, [], ◌∷◌, ◌++◌, Ok, Err}
 use Rattle.text_words.specs.Words.{line}
 use Rattle.text_words.specs.declared.fault.ReadFault.TheVariants.{Shape}
-use Rattle.text_schedule_reader.specs.Raw.{Raw, raw_words, IsRaw}
-use Rattle.text_schedule_reader.specs.Raw as raw
-use Rattle.text_schedule_reader.specs.Reading.{move_in}
+use Rattle.text_line_reader.specs.ScheduleRaw.{Raw, raw_words, IsRaw}
+use Rattle.text_line_reader.specs.ScheduleRaw as raw
+use Rattle.text_line_reader.specs.ScheduleReading.{move_in}
 use Rattle.explain_schedules.specs.Words.{behind, behind_len, lacks, task_place, name_place, wanted_behind}
 use Rattle.explain_schedules.specs.declared.line.Line.{Line}
 use Rattle.explain_schedules.specs.declared.line.Wanted.{Wanted}
@@ -12,12 +12,14 @@ use Rattle.explain_schedules.specs.declared.line.Line.TheVariants as code
 
 -- the code's line says what the line of a schedule says, and where its words stand
 abbrev pub Says : Raw → Line → Type 0
-Says (raw.OfTask verb task) (code.OfTask at number) = (at ≡ task_place (raw.OfTask verb task)) × (number.text.now ≡ task)
+Says (raw.OfTask verb task) (code.OfTask at number) = (at ≡ task_place (raw.OfTask verb task))
+    × (number.text.now ≡ task)
 Says (raw.OfTask verb task) (code.OfVariable at number named_at named) = ⊥
 Says (raw.OfTask verb task) code.Word = ⊥
 Says (raw.OfVariable verb task name) (code.OfTask at number) = ⊥
 Says (raw.OfVariable verb task name) (code.OfVariable at number named_at named) =
-    (at ≡ task_place (raw.OfVariable verb task name)) × (number.text.now ≡ task) × (named_at ≡ name_place (raw.OfVariable verb task name)) × (named.now ≡ name)
+    (at ≡ task_place (raw.OfVariable verb task name)) × (number.text.now ≡ task)
+    × (named_at ≡ name_place (raw.OfVariable verb task name)) × (named.now ≡ name)
 Says (raw.OfVariable verb task name) code.Word = ⊥
 Says raw.Word (code.OfTask at number) = ⊥
 Says raw.Word (code.OfVariable at number named_at named) = ⊥

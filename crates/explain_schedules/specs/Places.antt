@@ -3,8 +3,8 @@ use Rattle.std.specs.Prelude.{◌≡◌, ◌<◌, ◌⊎◌, ℕ, ◌+◌, Bool,
 use Rattle.std.specs.List.{list_all, AllByRecursion}
 use Rattle.std.specs.Str.Parse.{digits_value}
 use Rattle.txn_programs.specs.Listing.{Listing, tasks}
-use Rattle.text_schedule_reader.specs.Raw.{Raw, OfTask, OfVariable, Word, raw_text, IsRaw}
-use Rattle.text_schedule_reader.specs.Schedules.{IsWritten}
+use Rattle.text_line_reader.specs.ScheduleRaw.{Raw, OfTask, OfVariable, Word, raw_text, IsRaw}
+use Rattle.text_line_reader.specs.Schedules.{IsWritten}
 use Rattle.explain_schedules.specs.Words.{behind, behind_len, is_word_byte, EndsWord, ending, wanted_behind}
 use Rattle.explain_schedules.specs.declared.line.Wanted.{Wanted}
 use Rattle.explain_schedules.specs.declared.line.Wanted.TheVariants as want

@@ -1,17 +1,17 @@
--- What is told of the bytes of a schedule.
+-- What is told of a schedule.
 use Rattle.std.specs.Prelude.{◌≡◌, ℕ, List, take, codes, Option, Some, Result, Ok, Err}
 use Rattle.std.specs.Io.KnownBytes.{Appends, Keeps}
 use Rattle.txn_programs.specs.declared.moves.Move.{Move}
 use Rattle.txn_programs.specs.Listing.{Listing}
 use Rattle.txn_text.specs.Spelling.{Spells, first_fault}
 use Rattle.text_words.specs.declared.fault.ReadFault.{ReadFault}
-use Rattle.text_schedule_reader.specs.Schedules.{IsSchedule}
-use Rattle.run_faults.specs.declared.fault.RunFault.{RunFault}
-use Rattle.run_faults.specs.declared.fault.RunFault.TheVariants.{Input, Memory, Output, Schedule}
+use Rattle.text_line_reader.specs.Schedules.{IsSchedule}
+use Rattle.run_interface.specs.declared.fault.RunFault.{RunFault}
+use Rattle.run_interface.specs.declared.fault.RunFault.TheVariants.{Input, Memory, Output, Schedule}
 use Rattle.explain_files.specs.Places.{line_at, column_at}
-use Rattle.explain_runner.specs.Telling.{IsLineWith, head, kind_name}
-use Rattle.explain_runner.specs.declared.bytes.Judgement.{Judgement}
-use Rattle.explain_runner.specs.declared.bytes.Judgement.TheVariants.{Good, Refused}
+use Rattle.explain_files.specs.Telling.{IsLineWith, head, kind_name}
+use Rattle.explain_files.specs.declared.bytes.Judgement.{Judgement}
+use Rattle.explain_files.specs.declared.bytes.Judgement.TheVariants.{Good, Refused}
 use Rattle.explain_schedules.specs.Explaining.{IsRefused}
 use Rattle.explain_schedules.specs.declared.explaining.Refusal.{Refusal}
 
@@ -56,10 +56,3 @@ Telling file schedule old new (Err Memory) = Keeps old new
 Telling file schedule old new (Err Output) = WroteBeginning file schedule old new
 -- a schedule that is refused is told of
 Telling file schedule old new (Err (Schedule kind)) = ⊥
-
--- why there is no text
-abbrev pub IsUntold : List ℕ → RunFault → Type 0
-IsUntold file (Input kind) = first_fault file ≡ Some kind
-IsUntold file Memory = Unit {0}
-IsUntold file Output = ⊥
-IsUntold file (Schedule kind) = ⊥

@@ -2,11 +2,11 @@
 use Rattle.std.specs.Prelude.{◌≡◌, ℕ, Bool, true, false, if◌then◌else◌, Option, Some, None, List, ◌++◌, Ok}
 use Rattle.std.specs.List.{list_all, AllByRecursion}
 use Rattle.txn_programs.specs.Listing.{Listing}
-use Rattle.text_lines.specs.Lines.{lines}
-use Rattle.text_schedule_reader.specs.Raw.{Raw, raw_text, IsRaw}
-use Rattle.text_schedule_reader.specs.Reading.{raws_at}
-use Rattle.text_schedule_reader.specs.Resolving.{is_known}
-use Rattle.text_schedule_reader.specs.Schedules.{IsWritten}
+use Rattle.text_line_reader.specs.Lines.{lines}
+use Rattle.text_line_reader.specs.ScheduleRaw.{Raw, raw_text, IsRaw}
+use Rattle.text_line_reader.specs.ScheduleReading.{raws_at}
+use Rattle.text_line_reader.specs.ScheduleResolving.{is_known}
+use Rattle.text_line_reader.specs.Schedules.{IsWritten}
 use Rattle.explain_schedules.specs.Words.{name_place, task_place}
 use Rattle.explain_schedules.specs.Places.{names_a_task}
 use Rattle.explain_schedules.specs.declared.judging.Judged.{Judged}

@@ -2,8 +2,8 @@
 use Rattle.std.specs.Prelude.{◌≡◌, ◌==◌, ℕ, Bool, true, not, is_some, if◌then◌else◌, List, [], ◌∷◌, ◌++◌, length, codes}
 use Rattle.std.specs.List.{list_all}
 use Rattle.text_words.specs.Bytes.{is_blank}
-use Rattle.text_schedule_reader.specs.Raw.{Raw, OfTask, OfVariable, Word, task_word, variable_word}
-use Rattle.text_schedule_reader.specs.Reading.{task_verb}
+use Rattle.text_line_reader.specs.ScheduleRaw.{Raw, OfTask, OfVariable, Word, task_word, variable_word}
+use Rattle.text_line_reader.specs.ScheduleReading.{task_verb}
 use Rattle.explain_schedules.specs.declared.line.Wanted.{Wanted}
 use Rattle.explain_schedules.specs.declared.line.Wanted.TheVariants as want
 

@@ -1,7 +1,7 @@
 //! Whether a schedule is read, and where and why it is not.
 
 ghost use Rattle.std.specs.Prelude.{◌≡◌, ◌≤◌, IfOk, length};
-ghost use Rattle.text_schedule_reader.specs.Schedules.{IsFirst};
+ghost use Rattle.text_line_reader.specs.Schedules.{IsFirst};
 ghost use Rattle.explain_schedules.specs.Explaining.{IsPlaced, IsExplained};
 
 use crate::form::first_stop;
@@ -9,7 +9,7 @@ use crate::judging::{Judged, first_wrong};
 use crate::line::Wanted;
 use explain_files::bad_byte_place;
 use std::alloc::Global;
-use text_schedule_reader::{MAX_SCHEDULE, read_schedule};
+use text_line_reader::{MAX_SCHEDULE, read_schedule};
 use text_words::ReadFault;
 use txn::{Catalogue, Memory};
 
@@ -40,7 +40,7 @@ pub struct Refusal {
 
 /// Whether a schedule is read, or why it is refused.
 #[derive(Clone, Copy, Debug, PartialEq, Eq)]
-pub enum Explanation {
+pub enum ScheduleExplanation {
     Good,
     Refused(Refusal),
 }
@@ -82,16 +82,20 @@ fn place_of(catalogue: &Catalogue, bytes: &[u8], kind: ReadFault) -> (usize, Fin
 /// it; or it is the end of the text, where a newline is missing and nothing else. Of an unknown
 /// variable it is that of its name, and of a task that there is not that of its number, in the first
 /// line that names one.
-pub fn explain(alloc: Global, catalogue: &Catalogue, bytes: &[u8]) -> Result<Explanation, Memory>
+pub fn explain(
+    alloc: Global,
+    catalogue: &Catalogue,
+    bytes: &[u8],
+) -> Result<ScheduleExplanation, Memory>
     ensures { IfOk result (IsExplained catalogue.now bytes.now) }
 {
     let kind = match read_schedule(alloc, bytes, catalogue) {
-        Ok(_) => return Ok(Explanation::Good),
+        Ok(_) => return Ok(ScheduleExplanation::Good),
         Err(ReadFault::Memory) => return Err(Memory),
         Err(kind) => kind,
     };
     let (place, finding) = place_of(catalogue, bytes, kind);
-    Ok(Explanation::Refused(Refusal {
+    Ok(ScheduleExplanation::Refused(Refusal {
         kind,
         place,
         finding,

@@ -3,14 +3,14 @@
 ghost use Rattle.std.specs.Prelude.{◌≡◌, ◌≤◌, length, is_some, ◌<◌, nat_lt};
 ghost use Rattle.std.specs.Str.Parse.{digits_value};
 ghost use Rattle.txn_programs.specs.Listing.{tasks, variable_named};
-ghost use Rattle.text_schedule_reader.specs.Raw.{Raw};
+ghost use Rattle.text_line_reader.specs.ScheduleRaw.{Raw};
 ghost use Rattle.explain_schedules.specs.Lines.{Says};
 ghost use Rattle.explain_schedules.specs.Places.{IsFirstLine};
 ghost use Rattle.explain_schedules.specs.Walking.{IsUneven, right_of, place_of, wrong_at};
 
 use crate::form::gone;
 use crate::line::{Line, line_of, split_once};
-use text_lines::{Count, task_id};
+use text_line_reader::{Count, task_id};
 use txn::Catalogue;
 
 /// Which words are judged.
@@ -23,7 +23,7 @@ pub(crate) enum Judged {
 }
 
 /// Whether there is a task of this number.
-#[tactic(auto, unfolding(text_lines::specs::Counts::task_id, text_lines::specs::Counts::below))]
+#[tactic(auto, unfolding(text_line_reader::specs::Counts::task_id, text_line_reader::specs::Counts::below))]
 fn has_task(catalogue: &Catalogue, task: Count<'_>) -> bool
     ensures { result ≡ nat_lt (digits_value 10 task.entry.text.now) (length (tasks catalogue.now)) }
 {
@@ -54,7 +54,8 @@ fn wrong_name(catalogue: &Catalogue, at: usize, name: &str) -> Option<usize>
 
 /// Where a line is wrong, if it is.
 fn wrong_in(catalogue: &Catalogue, judged: Judged, line: Line<'_>) -> Option<usize>
-    ensures { (raw : Raw) → Says raw line.entry → result ≡ wrong_at (right_of catalogue.now judged raw) (place_of judged raw) }
+    ensures { (raw : Raw) → Says raw line.entry
+        → result ≡ wrong_at (right_of catalogue.now judged raw) (place_of judged raw) }
 {
     match (judged, line) {
         (Judged::Tasks, Line::OfTask(at, task)) => wrong_task(catalogue, at, task),

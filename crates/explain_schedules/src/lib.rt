@@ -13,5 +13,5 @@ mod text;
 mod words;
 
 pub use bytes::explain_bytes;
-pub use explaining::{Explanation, Finding, Refusal, explain};
+pub use explaining::{Finding, Refusal, ScheduleExplanation, explain};
 pub use line::Wanted;

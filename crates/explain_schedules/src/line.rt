@@ -1,11 +1,11 @@
 //! One line of a schedule: what it says, or where it stops being a line.
 
 ghost use Rattle.std.specs.Prelude.{◌≡◌, ◌≤◌, ◌+◌, IfOk, IfErr, IfSome, is_some, true, false, length, ◌++◌, ◌∷◌};
-ghost use Rattle.text_schedule_reader.specs.Reading.{task_verb, variable_verb};
+ghost use Rattle.text_line_reader.specs.ScheduleReading.{task_verb, variable_verb};
 ghost use Rattle.explain_schedules.specs.Words.{lacks, IsParted};
 ghost use Rattle.explain_schedules.specs.Lines.{IsLine, StopsAt};
 
-use text_lines::{Count, is_word, name_in, number_in, part};
+use text_line_reader::{Count, is_word, name_in, number_in, part};
 
 /// What is wanted where a line stops being one.
 #[derive(Clone, Copy, Debug, PartialEq, Eq)]
@@ -42,7 +42,7 @@ pub(crate) struct WrongWord {
 }
 
 /// Whether the word is one that a task alone stands behind.
-#[tactic(auto, unfolding(text_schedule_reader::specs::Reading::task_verb))]
+#[tactic(auto, unfolding(text_line_reader::specs::ScheduleReading::task_verb))]
 fn is_task_verb(word: &[u8]) -> bool
     ensures { result ≡ is_some (task_verb word.now) }
 {
@@ -66,7 +66,7 @@ fn is_task_verb(word: &[u8]) -> bool
 }
 
 /// Whether the word is one that a task and a variable stand behind.
-#[tactic(auto, unfolding(text_schedule_reader::specs::Reading::variable_verb))]
+#[tactic(auto, unfolding(text_line_reader::specs::ScheduleReading::variable_verb))]
 fn is_variable_verb(word: &[u8]) -> bool
     ensures { result ≡ is_some (variable_verb word.now) }
 {
@@ -155,7 +155,8 @@ fn named<'a>(
     requires first { lacks 32 first.now ≡ true }
     requires room { at + (length first.now + (1 + length second.now)) ≤ usize.MAX }
     ensures line { IfOk result (λ said. IsLine (verb.now ++ (32 ∷ (first.now ++ (32 ∷ second.now)))) said) }
-    ensures stop { IfErr result (λ wrong. StopsAt (verb.now ++ (32 ∷ (first.now ++ (32 ∷ second.now)))) wrong.at wrong.wanted) }
+    ensures stop { IfErr result (λ wrong.
+        StopsAt (verb.now ++ (32 ∷ (first.now ++ (32 ∷ second.now)))) wrong.at wrong.wanted) }
     ensures bound { IfErr result (λ wrong. wrong.at ≤ at + (length first.now + 1)) }
 {
     let Ok(task) = number_in(first) else {

@@ -1,37 +1,39 @@
 //! The line that tells where and why a schedule is refused.
 
 ghost use Rattle.std.specs.Prelude.{◌≡◌, ◌≤◌, length, IfOk, string_bytes};
-ghost use Rattle.std.specs.List.{prefix_len};
-ghost use Rattle.text_words.specs.Bytes.{is_in_line};
-ghost use Rattle.explain_runner.specs.Telling.{IsInLine, IsLineWith};
+ghost use Rattle.explain_files.specs.Telling.{IsInLine, IsLineWith};
 ghost use Rattle.explain_schedules.specs.Telling.{head_of};
 
 use crate::explaining::{Finding, Refusal};
+use crate::line::split_once;
 use crate::words::words;
-use explain_files::position_of;
-use explain_runner::{kind_name, line_of};
+use explain_files::{kind_name, line_of, position_of};
 use std::alloc::{AllocError, Global};
 use std::str;
 use txn::Catalogue;
 
-fn line_len(bytes: &[u8]) -> usize
-    ensures value { result ≡ prefix_len is_in_line bytes.now }
-    ensures bound { result ≤ length bytes.now }
+/// The first line of these bytes, without its newline.
+fn first_line(bytes: &[u8]) -> &[u8]
+    ensures { IsInLine result.now }
 {
-    bytes.iter().take_while(|b| **b != b'\n').count()
+    match split_once(bytes, b'\n') {
+        Some((line, _)) => line,
+        None => bytes,
+    }
 }
 
 /// What stands first in these bytes, up to the end of the line, as far as it is short.
-#[tactic(auto, using(explain_runner::proofs::InLine::line_in_line))]
+#[tactic(auto, using(crate::proofs::Shown::beginning_in_line))]
 fn standing(bytes: &[u8]) -> &str
     ensures { IsInLine result.now }
 {
-    let front = &bytes[..line_len(bytes).min(40)];
+    let line = first_line(bytes);
+    let front = &line[..line.len().min(40)];
     str::from_utf8(front).unwrap_or("")
 }
 
 /// What is said of what stands at a place.
-#[tactic(auto, using(explain_runner::proofs::InLine::in_line_append, crate::proofs::Shown::decimal_in_line))]
+#[tactic(auto, using(explain_files::proofs::InLine::in_line_append, crate::proofs::Shown::decimal_in_line))]
 fn found(
     alloc: Global,
     catalogue: &Catalogue,

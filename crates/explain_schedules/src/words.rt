@@ -1,6 +1,6 @@
 //! What is wrong with a schedule, in words.
 
-ghost use Rattle.explain_runner.specs.Telling.{IsInLine};
+ghost use Rattle.explain_files.specs.Telling.{IsInLine};
 
 use crate::explaining::Finding;
 use crate::line::Wanted;
@@ -24,7 +24,8 @@ fn wanted_words(wanted: Wanted) -> &'static str
 {
     match wanted {
         Wanted::Line =>
-            "a line is wanted: begin A, read A X, commit A, drop A, first A X, value A, second A, ask A, word, again A or move A",
+            "a line is wanted: begin A, read A X, commit A, drop A, first A X, value A, second A, ask A, word, \
+                again A or move A",
         Wanted::Task => "the number of a task is wanted, and then the end of the line",
         Wanted::TaskAndVariable =>
             "the number of a task is wanted, and then the name of a variable",

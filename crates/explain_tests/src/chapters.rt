@@ -2,7 +2,7 @@
 
 use checker::{ChapterFault, ChapterVerdict, Part};
 use explain_reports::{ChapterUntold, explain_chapter_bytes};
-use run_sink::Out;
+use run_interface::Out;
 use std::alloc::Global;
 use std::process::Abort;
 use txn_text::ReadFault;
@@ -114,7 +114,8 @@ fn what_is_wanted_is_told_with_what_stands_there(rt: HostRuntime) {
     expect_gap(
         &rt,
         alloc,
-        "(stm 2)(var n 7)(always less (lt n 200))(tx inc (set n (add n 7)) n)(tx hold (if (lt n 100) (retry) (skip)) n)(run hold 2)",
+        "(stm 2)(var n 7)(always less (lt n 200))(tx inc (set n (add n 7)) n)(tx hold (if (lt n 100) (retry) \
+            (skip)) n)(run hold 2)",
         TWO_WAIT,
         "bad 7\n(var n 7) is wanted; here stands (stm 2)\n",
     );
@@ -141,7 +142,8 @@ fn tasks_are_told(rt: HostRuntime) {
     expect_gap(
         &rt,
         alloc,
-        "(var n 7)(tx inc (set n (add n 7)) n)(tx hold (if (lt n 100) (retry) (skip)) n)(run hold 1)(run inc 1)(run hold 1)",
+        "(var n 7)(tx inc (set n (add n 7)) n)(tx hold (if (lt n 100) (retry) (skip)) n)(run hold 1)(run inc 1)(run \
+            hold 1)",
         "base 0\nn 7 0\nentry 1 1 inc returned 14\nnow 1\nn 14 1\nparked 0 hold\nparked 2 hold\nend\n",
         "bad 7\n(run hold 1) is wanted; here stands (run inc 1)\n",
     );

@@ -1,7 +1,7 @@
 //! What is told where 32 parentheses are open, of one declaration too many, and of a file that is too long.
 
 use crate::file_lines::expect_line;
-use explain_runner::Judgement;
+use explain_files::Judgement;
 use std::alloc::{AllocError, Global};
 use std::fmt::Write;
 use std::test::Fail;
@@ -22,7 +22,7 @@ const OPEN: &[Case] = &[
         "(add ",
         31,
         "(",
-        "line 1, column 169: F3 Shape: a number or a variable is wanted: 32 parentheses are open; here stands (\n",
+        "line 1, column 169: F3 Shape: a number or a name is wanted: 32 parentheses are open; here stands (\n",
     ),
     (
         "(tx t (if ",
@@ -36,77 +36,104 @@ const OPEN: &[Case] = &[
         "(not ",
         29,
         "(eqq",
-        "line 1, column 157: F3 Shape: eq, lt or le is wanted: 32 parentheses are open; here stands eqq; did you mean eq?\n",
+        "line 1, column 157: F3 Shape: eq, lt or le is wanted: 32 parentheses are open; here stands eqq; did you \
+            mean eq?\n",
     ),
     (
         "(tx t (if ",
         "(not ",
         29,
         "(ltt",
-        "line 1, column 157: F3 Shape: eq, lt or le is wanted: 32 parentheses are open; here stands ltt; did you mean lt?\n",
+        "line 1, column 157: F3 Shape: eq, lt or le is wanted: 32 parentheses are open; here stands ltt; did you \
+            mean lt?\n",
     ),
     (
         "(tx t (if ",
         "(not ",
         29,
         "(lee",
-        "line 1, column 157: F3 Shape: eq, lt or le is wanted: 32 parentheses are open; here stands lee; did you mean le?\n",
+        "line 1, column 157: F3 Shape: eq, lt or le is wanted: 32 parentheses are open; here stands lee; did you \
+            mean le?\n",
+    ),
+    (
+        "(tx t (if ",
+        "(not ",
+        29,
+        "(l",
+        "line 1, column 157: F3 Shape: eq, lt or le is wanted: 32 parentheses are open; here stands l; did you mean \
+            lt?\n",
     ),
     (
         "(tx t ",
         "(seq ",
         30,
         "(if",
-        "line 1, column 158: F3 Shape: skip, set, seq, retry or throw is wanted: 32 parentheses are open; here stands if\n",
+        "line 1, column 158: F3 Shape: skip, set, seq, retry or throw is wanted: 32 parentheses are open; here \
+            stands if\n",
     ),
     (
         "(tx t ",
         "(seq ",
         30,
         "(repeet",
-        "line 1, column 158: F3 Shape: skip, set, seq, retry or throw is wanted: 32 parentheses are open; here stands repeet\n",
+        "line 1, column 158: F3 Shape: skip, set, seq, retry or throw is wanted: 32 parentheses are open; here \
+            stands repeet\n",
     ),
     (
         "(tx t ",
         "(seq ",
         30,
         "(orels",
-        "line 1, column 158: F3 Shape: skip, set, seq, retry or throw is wanted: 32 parentheses are open; here stands orels\n",
+        "line 1, column 158: F3 Shape: skip, set, seq, retry or throw is wanted: 32 parentheses are open; here \
+            stands orels\n",
     ),
     (
         "(tx t ",
         "(seq ",
         30,
         "(skpi",
-        "line 1, column 158: F3 Shape: skip, set, seq, retry or throw is wanted: 32 parentheses are open; here stands skpi; did you mean skip?\n",
+        "line 1, column 158: F3 Shape: skip, set, seq, retry or throw is wanted: 32 parentheses are open; here \
+            stands skpi; did you mean skip?\n",
     ),
     (
         "(tx t ",
         "(seq ",
         30,
         "(st",
-        "line 1, column 158: F3 Shape: skip, set, seq, retry or throw is wanted: 32 parentheses are open; here stands st; did you mean set?\n",
+        "line 1, column 158: F3 Shape: skip, set, seq, retry or throw is wanted: 32 parentheses are open; here \
+            stands st; did you mean set?\n",
     ),
     (
         "(tx t ",
         "(seq ",
         30,
         "(seqq",
-        "line 1, column 158: F3 Shape: skip, set, seq, retry or throw is wanted: 32 parentheses are open; here stands seqq; did you mean seq?\n",
+        "line 1, column 158: F3 Shape: skip, set, seq, retry or throw is wanted: 32 parentheses are open; here \
+            stands seqq; did you mean seq?\n",
+    ),
+    (
+        "(tx t ",
+        "(seq ",
+        30,
+        "(se",
+        "line 1, column 158: F3 Shape: skip, set, seq, retry or throw is wanted: 32 parentheses are open; here \
+            stands se; did you mean set?\n",
     ),
     (
         "(tx t ",
         "(seq ",
         30,
         "(retr",
-        "line 1, column 158: F3 Shape: skip, set, seq, retry or throw is wanted: 32 parentheses are open; here stands retr; did you mean retry?\n",
+        "line 1, column 158: F3 Shape: skip, set, seq, retry or throw is wanted: 32 parentheses are open; here \
+            stands retr; did you mean retry?\n",
     ),
     (
         "(tx t ",
         "(seq ",
         30,
         "(trow",
-        "line 1, column 158: F3 Shape: skip, set, seq, retry or throw is wanted: 32 parentheses are open; here stands trow; did you mean throw?\n",
+        "line 1, column 158: F3 Shape: skip, set, seq, retry or throw is wanted: 32 parentheses are open; here \
+            stands trow; did you mean throw?\n",
     ),
     (
         "(tx t ",

@@ -1,7 +1,7 @@
 //! The lines that tell where and why a file is refused.
 
-use explain_runner::{Judgement, explain_bytes};
-use run_sink::Out;
+use explain_files::{Judgement, explain_bytes};
+use run_interface::Out;
 use std::alloc::Global;
 use std::process::Abort;
 use text_words::ReadFault;
@@ -32,7 +32,8 @@ fn shapes(rt: HostRuntime) {
         &rt,
         rt.alloc(),
         "(var x 1)\n(tx t (set x (plus x 1)) x)\n(run t 1)\n",
-        "line 2, column 15: F3 Shape: the word of an expression is wanted: add, sub, mul, div or rem; here stands plus\n",
+        "line 2, column 15: F3 Shape: the word of an expression is wanted: add, sub, mul, div or rem; here stands \
+            plus\n",
         shape,
     );
     expect_line(
@@ -102,22 +103,26 @@ const NEAR_NAMES: &[Case] = &[
 const NEAR_WORDS: &[Case] = &[
     (
         "(var x 1)(tx t (sett x 1) x)",
-        "line 1, column 17: F3 Shape: the word of a statement is wanted: skip, set, seq, if, repeat, retry, orelse or throw; here stands sett; did you mean set?\n",
+        "line 1, column 17: F3 Shape: the word of a statement is wanted: skip, set, seq, if, repeat, retry, orelse \
+            or throw; here stands sett; did you mean set?\n",
     ),
     (
         "(vra x 1)",
-        "line 1, column 2: F3 Shape: var, tx, run or stm is wanted; always only in a file that begins with (stm 2); here stands vra; did you mean var?\n",
+        "line 1, column 2: F3 Shape: var, tx, run or stm is wanted; always only in a file that begins with (stm 2) or \
+            (stm 3); here stands vra; did you mean var?\n",
     ),
     (
         "(tx t (if (lessthan 1 2) (skip) (skip)) 0)",
-        "line 1, column 12: F3 Shape: the word of a condition is wanted: eq, lt, le, not, and or or; here stands lessthan\n",
+        "line 1, column 12: F3 Shape: the word of a condition is wanted: eq, lt, le, not, and or or; here stands \
+            lessthan\n",
     ),
 ];
 
 const LIMITS: &[Case] = &[
     (
         "(var x 1)\n(tx t (set x 9223372036854775808) x)",
-        "line 2, column 14: F5 Limit: a number is one of -9223372036854775808 to 9223372036854775807; here stands 9223372036854775808\n",
+        "line 2, column 14: F5 Limit: a number is one of -9223372036854775808 to 9223372036854775807; here stands \
+            9223372036854775808\n",
     ),
     (
         "(tx t (repeat 1001 (skip)) 0)",

@@ -7,19 +7,23 @@ use text_words::ReadFault;
 const DECLARATIONS: &[Case] = &[
     (
         ")",
-        "line 1, column 1: F3 Shape: a declaration is wanted: (var NAME INT), (tx NAME STMT EXPR), (run NAME INT), or first of all (stm 2); here stands )\n",
+        "line 1, column 1: F3 Shape: a declaration is wanted: (var NAME INT), (tx NAME STMT EXPR), (run NAME INT), \
+            or first of all (stm 2) or (stm 3); here stands )\n",
     ),
     (
         "(var x 1) x",
-        "line 1, column 11: F3 Shape: a declaration is wanted: (var NAME INT), (tx NAME STMT EXPR) or (run NAME INT); here stands x\n",
+        "line 1, column 11: F3 Shape: a declaration is wanted: (var NAME INT), (tx NAME STMT EXPR) or (run NAME \
+            INT); here stands x\n",
     ),
     (
         "(stm 2) x",
-        "line 1, column 9: F3 Shape: a declaration is wanted: (var NAME INT), (always NAME COND), (tx NAME STMT EXPR) or (run NAME INT); here stands x\n",
+        "line 1, column 9: F3 Shape: a declaration is wanted: (var NAME INT), (always NAME COND), (tx NAME STMT \
+            EXPR) or (run NAME INT); here stands x\n",
     ),
     (
         "(stm 2)(always a (eq 0 0)) x",
-        "line 1, column 28: F3 Shape: a declaration is wanted: (always NAME COND), (tx NAME STMT EXPR) or (run NAME INT); here stands x\n",
+        "line 1, column 28: F3 Shape: a declaration is wanted: (always NAME COND), (tx NAME STMT EXPR) or (run NAME \
+            INT); here stands x\n",
     ),
     (
         "(tx t (skip) 0) x",
@@ -34,43 +38,73 @@ const DECLARATIONS: &[Case] = &[
 const WORDS: &[Case] = &[
     (
         "(vr x 1)",
-        "line 1, column 2: F3 Shape: var, tx, run or stm is wanted; always only in a file that begins with (stm 2); here stands vr; did you mean var?\n",
+        "line 1, column 2: F3 Shape: var, tx, run or stm is wanted; always only in a file that begins with (stm 2) or \
+            (stm 3); here stands vr; did you mean var?\n",
     ),
     (
         "(xt t (skip) 0)",
-        "line 1, column 2: F3 Shape: var, tx, run or stm is wanted; always only in a file that begins with (stm 2); here stands xt; did you mean tx?\n",
+        "line 1, column 2: F3 Shape: var, tx, run or stm is wanted; always only in a file that begins with (stm 2) or \
+            (stm 3); here stands xt; did you mean tx?\n",
     ),
     (
         "(rnu t 1)",
-        "line 1, column 2: F3 Shape: var, tx, run or stm is wanted; always only in a file that begins with (stm 2); here stands rnu; did you mean run?\n",
+        "line 1, column 2: F3 Shape: var, tx, run or stm is wanted; always only in a file that begins with (stm 2) or \
+            (stm 3); here stands rnu; did you mean run?\n",
     ),
     (
         "(stn 2)",
-        "line 1, column 2: F3 Shape: var, tx, run or stm is wanted; always only in a file that begins with (stm 2); here stands stn; did you mean stm?\n",
+        "line 1, column 2: F3 Shape: var, tx, run or stm is wanted; always only in a file that begins with (stm 2) or \
+            (stm 3); here stands stn; did you mean stm?\n",
+    ),
+    (
+        "(tm t (skip) 0)",
+        "line 1, column 2: F3 Shape: var, tx, run or stm is wanted; always only in a file that begins with (stm 2) or \
+            (stm 3); here stands tm; did you mean tx?\n",
+    ),
+    (
+        "(xvr x 1)",
+        "line 1, column 2: F3 Shape: var, tx, run or stm is wanted; always only in a file that begins with (stm 2) or \
+            (stm 3); here stands xvr\n",
+    ),
+    (
+        "(axr x 1)",
+        "line 1, column 2: F3 Shape: var, tx, run or stm is wanted; always only in a file that begins with (stm 2) or \
+            (stm 3); here stands axr\n",
+    ),
+    (
+        "(av x 1)",
+        "line 1, column 2: F3 Shape: var, tx, run or stm is wanted; always only in a file that begins with (stm 2) or \
+            (stm 3); here stands av\n",
     ),
     (
         "(alway a (eq 0 0))",
-        "line 1, column 2: F3 Shape: var, tx, run or stm is wanted; always only in a file that begins with (stm 2); here stands alway\n",
+        "line 1, column 2: F3 Shape: var, tx, run or stm is wanted; always only in a file that begins with (stm 2) or \
+            (stm 3); here stands alway\n",
     ),
     (
         "(var x 1)(vat y 1)",
-        "line 1, column 11: F3 Shape: var, tx or run is wanted; always only in a file that begins with (stm 2); here stands vat; did you mean var?\n",
+        "line 1, column 11: F3 Shape: var, tx or run is wanted; always only in a file that begins with (stm 2) or \
+            (stm 3); here stands vat; did you mean var?\n",
     ),
     (
         "(var x 1)(txx t (skip) 0)",
-        "line 1, column 11: F3 Shape: var, tx or run is wanted; always only in a file that begins with (stm 2); here stands txx; did you mean tx?\n",
+        "line 1, column 11: F3 Shape: var, tx or run is wanted; always only in a file that begins with (stm 2) or \
+            (stm 3); here stands txx; did you mean tx?\n",
     ),
     (
         "(var x 1)(RUN t 1)",
-        "line 1, column 11: F3 Shape: var, tx or run is wanted; always only in a file that begins with (stm 2); here stands RUN; did you mean run?\n",
+        "line 1, column 11: F3 Shape: var, tx or run is wanted; always only in a file that begins with (stm 2) or \
+            (stm 3); here stands RUN; did you mean run?\n",
     ),
     (
         "(var x 1)(smt 2)",
-        "line 1, column 11: F3 Shape: var, tx or run is wanted; always only in a file that begins with (stm 2); here stands smt\n",
+        "line 1, column 11: F3 Shape: var, tx or run is wanted; always only in a file that begins with (stm 2) or \
+            (stm 3); here stands smt\n",
     ),
     (
         "(var x 1)(alway a (eq 0 0))",
-        "line 1, column 11: F3 Shape: var, tx or run is wanted; always only in a file that begins with (stm 2); here stands alway\n",
+        "line 1, column 11: F3 Shape: var, tx or run is wanted; always only in a file that begins with (stm 2) or \
+            (stm 3); here stands alway\n",
     ),
     (
         "(stm 2)(vra x 1)",
@@ -94,54 +128,64 @@ const WORDS: &[Case] = &[
     ),
     (
         "(stm 2)(always a (eq 0 0))(alwas b (eq 0 0))",
-        "line 1, column 28: F3 Shape: always, tx or run is wanted: variables stand before standing conditions; here stands alwas; did you mean always?\n",
+        "line 1, column 28: F3 Shape: always, tx or run is wanted: variables stand before standing conditions; here \
+            stands alwas; did you mean always?\n",
     ),
     (
         "(stm 2)(always a (eq 0 0))(tx1 t (skip) 0)",
-        "line 1, column 28: F3 Shape: always, tx or run is wanted: variables stand before standing conditions; here stands tx1; did you mean tx?\n",
+        "line 1, column 28: F3 Shape: always, tx or run is wanted: variables stand before standing conditions; here \
+            stands tx1; did you mean tx?\n",
     ),
     (
         "(stm 2)(always a (eq 0 0))(rn t 1)",
-        "line 1, column 28: F3 Shape: always, tx or run is wanted: variables stand before standing conditions; here stands rn; did you mean run?\n",
+        "line 1, column 28: F3 Shape: always, tx or run is wanted: variables stand before standing conditions; here \
+            stands rn; did you mean run?\n",
     ),
     (
         "(stm 2)(always a (eq 0 0))(var x 1)",
-        "line 1, column 28: F3 Shape: always, tx or run is wanted: variables stand before standing conditions; here stands var\n",
+        "line 1, column 28: F3 Shape: always, tx or run is wanted: variables stand before standing conditions; here \
+            stands var\n",
     ),
     (
         "(tx t (skip) 0)(xt u (skip) 0)",
-        "line 1, column 17: F3 Shape: tx or run is wanted: variables and standing conditions stand before transactions; here stands xt; did you mean tx?\n",
+        "line 1, column 17: F3 Shape: tx or run is wanted: variables and standing conditions stand before \
+            transactions; here stands xt; did you mean tx?\n",
     ),
     (
         "(tx t (skip) 0)(urn t 1)",
-        "line 1, column 17: F3 Shape: tx or run is wanted: variables and standing conditions stand before transactions; here stands urn; did you mean run?\n",
+        "line 1, column 17: F3 Shape: tx or run is wanted: variables and standing conditions stand before \
+            transactions; here stands urn; did you mean run?\n",
     ),
     (
         "(tx t (skip) 0)(always a (eq 0 0))",
-        "line 1, column 17: F3 Shape: tx or run is wanted: variables and standing conditions stand before transactions; here stands always\n",
+        "line 1, column 17: F3 Shape: tx or run is wanted: variables and standing conditions stand before \
+            transactions; here stands always\n",
     ),
     (
         "(tx t (skip) 0)(var x 1)",
-        "line 1, column 17: F3 Shape: tx or run is wanted: variables and standing conditions stand before transactions; here stands var\n",
+        "line 1, column 17: F3 Shape: tx or run is wanted: variables and standing conditions stand before \
+            transactions; here stands var\n",
     ),
     (
         "(tx t (skip) 0)(run t 1)(rum t 1)",
-        "line 1, column 26: F3 Shape: run is wanted: variables, standing conditions and transactions stand before runs; here stands rum; did you mean run?\n",
+        "line 1, column 26: F3 Shape: run is wanted: variables, standing conditions and transactions stand before \
+            runs; here stands rum; did you mean run?\n",
     ),
     (
         "(tx t (skip) 0)(run t 1)(tx u (skip) 0)",
-        "line 1, column 26: F3 Shape: run is wanted: variables, standing conditions and transactions stand before runs; here stands tx\n",
+        "line 1, column 26: F3 Shape: run is wanted: variables, standing conditions and transactions stand before \
+            runs; here stands tx\n",
     ),
 ];
 
 const NAMES_AND_NUMBERS: &[Case] = &[
     (
         "(stm 1)",
-        "line 1, column 6: F3 Shape: the number of the form is wanted, which is 2; here stands 1\n",
+        "line 1, column 6: F3 Shape: the number of the form is wanted, which is 2 or 3; here stands 1\n",
     ),
     (
         "(stm",
-        "line 1, column 5: F3 Shape: the number of the form is wanted, which is 2; here the file ends\n",
+        "line 1, column 5: F3 Shape: the number of the form is wanted, which is 2 or 3; here the file ends\n",
     ),
     (
         "(stm 2",
@@ -184,15 +228,18 @@ const NAMES_AND_NUMBERS: &[Case] = &[
 const PARTS: &[Case] = &[
     (
         "(tx t (throw ))",
-        "line 1, column 14: F3 Shape: an expression is wanted: INT, NAME, (add EXPR EXPR), (sub ..), (mul ..), (div ..) or (rem ..); here stands )\n",
+        "line 1, column 14: F3 Shape: an expression is wanted: INT, NAME, (add EXPR EXPR), (sub ..), (mul ..), (div \
+            ..) or (rem ..); here stands )\n",
     ),
     (
         "(tx t (if x (skip) (skip)) 0)",
-        "line 1, column 11: F3 Shape: a condition is wanted: (eq EXPR EXPR), (lt ..), (le ..), (not COND), (and COND COND) or (or COND COND); here stands x\n",
+        "line 1, column 11: F3 Shape: a condition is wanted: (eq EXPR EXPR), (lt ..), (le ..), (not COND), (and \
+            COND COND) or (or COND COND); here stands x\n",
     ),
     (
         "(tx t x 0)",
-        "line 1, column 7: F3 Shape: a statement is wanted: (skip), (set NAME EXPR), (seq STMT ..), (if COND STMT STMT), (repeat INT STMT), (retry), (orelse STMT STMT) or (throw EXPR); here stands x\n",
+        "line 1, column 7: F3 Shape: a statement is wanted: (skip), (set NAME EXPR), (seq STMT ..), (if COND STMT \
+            STMT), (repeat INT STMT), (retry), (orelse STMT STMT) or (throw EXPR); here stands x\n",
     ),
     (
         "(tx t (seq x) 0)",
@@ -203,54 +250,81 @@ const PARTS: &[Case] = &[
 const OPERATORS: &[Case] = &[
     (
         "(tx t (skip) (ad 1 2))",
-        "line 1, column 15: F3 Shape: the word of an expression is wanted: add, sub, mul, div or rem; here stands ad; did you mean add?\n",
+        "line 1, column 15: F3 Shape: the word of an expression is wanted: add, sub, mul, div or rem; here stands \
+            ad; did you mean add?\n",
     ),
     (
         "(tx t (skip) (sbu 1 2))",
-        "line 1, column 15: F3 Shape: the word of an expression is wanted: add, sub, mul, div or rem; here stands sbu; did you mean sub?\n",
+        "line 1, column 15: F3 Shape: the word of an expression is wanted: add, sub, mul, div or rem; here stands \
+            sbu; did you mean sub?\n",
     ),
     (
         "(tx t (skip) (mull 1 2))",
-        "line 1, column 15: F3 Shape: the word of an expression is wanted: add, sub, mul, div or rem; here stands mull; did you mean mul?\n",
+        "line 1, column 15: F3 Shape: the word of an expression is wanted: add, sub, mul, div or rem; here stands \
+            mull; did you mean mul?\n",
     ),
     (
         "(tx t (skip) (dib 1 2))",
-        "line 1, column 15: F3 Shape: the word of an expression is wanted: add, sub, mul, div or rem; here stands dib; did you mean div?\n",
+        "line 1, column 15: F3 Shape: the word of an expression is wanted: add, sub, mul, div or rem; here stands \
+            dib; did you mean div?\n",
     ),
     (
         "(tx t (skip) (rme 1 2))",
-        "line 1, column 15: F3 Shape: the word of an expression is wanted: add, sub, mul, div or rem; here stands rme; did you mean rem?\n",
+        "line 1, column 15: F3 Shape: the word of an expression is wanted: add, sub, mul, div or rem; here stands \
+            rme; did you mean rem?\n",
+    ),
+    (
+        "(tx t (skip) (sul 1 2))",
+        "line 1, column 15: F3 Shape: the word of an expression is wanted: add, sub, mul, div or rem; here stands \
+            sul; did you mean sub?\n",
     ),
     (
         "(tx t (skip) (mod 1 2))",
-        "line 1, column 15: F3 Shape: the word of an expression is wanted: add, sub, mul, div or rem; here stands mod\n",
+        "line 1, column 15: F3 Shape: the word of an expression is wanted: add, sub, mul, div or rem; here stands \
+            mod\n",
     ),
 ];
 
 const CONDITIONS: &[Case] = &[
     (
         "(tx t (if (eqq 1 2) (skip) (skip)) 0)",
-        "line 1, column 12: F3 Shape: the word of a condition is wanted: eq, lt, le, not, and or or; here stands eqq; did you mean eq?\n",
+        "line 1, column 12: F3 Shape: the word of a condition is wanted: eq, lt, le, not, and or or; here stands \
+            eqq; did you mean eq?\n",
     ),
     (
         "(tx t (if (ltt 1 2) (skip) (skip)) 0)",
-        "line 1, column 12: F3 Shape: the word of a condition is wanted: eq, lt, le, not, and or or; here stands ltt; did you mean lt?\n",
+        "line 1, column 12: F3 Shape: the word of a condition is wanted: eq, lt, le, not, and or or; here stands \
+            ltt; did you mean lt?\n",
     ),
     (
         "(tx t (if (lee 1 2) (skip) (skip)) 0)",
-        "line 1, column 12: F3 Shape: the word of a condition is wanted: eq, lt, le, not, and or or; here stands lee; did you mean le?\n",
+        "line 1, column 12: F3 Shape: the word of a condition is wanted: eq, lt, le, not, and or or; here stands \
+            lee; did you mean le?\n",
     ),
     (
         "(tx t (if (nto 1 2) (skip) (skip)) 0)",
-        "line 1, column 12: F3 Shape: the word of a condition is wanted: eq, lt, le, not, and or or; here stands nto; did you mean not?\n",
+        "line 1, column 12: F3 Shape: the word of a condition is wanted: eq, lt, le, not, and or or; here stands \
+            nto; did you mean not?\n",
     ),
     (
         "(tx t (if (adn 1 2) (skip) (skip)) 0)",
-        "line 1, column 12: F3 Shape: the word of a condition is wanted: eq, lt, le, not, and or or; here stands adn; did you mean and?\n",
+        "line 1, column 12: F3 Shape: the word of a condition is wanted: eq, lt, le, not, and or or; here stands \
+            adn; did you mean and?\n",
     ),
     (
         "(tx t (if (ro 1 2) (skip) (skip)) 0)",
-        "line 1, column 12: F3 Shape: the word of a condition is wanted: eq, lt, le, not, and or or; here stands ro; did you mean or?\n",
+        "line 1, column 12: F3 Shape: the word of a condition is wanted: eq, lt, le, not, and or or; here stands \
+            ro; did you mean or?\n",
+    ),
+    (
+        "(tx t (if (l 1 2) (skip) (skip)) 0)",
+        "line 1, column 12: F3 Shape: the word of a condition is wanted: eq, lt, le, not, and or or; here stands l; \
+            did you mean lt?\n",
+    ),
+    (
+        "(tx t (if (nor 1 2) (skip) (skip)) 0)",
+        "line 1, column 12: F3 Shape: the word of a condition is wanted: eq, lt, le, not, and or or; here stands \
+            nor; did you mean not?\n",
     ),
     (
         "(tx t (if (gt3 1 2) (skip) (skip)) 0)",
@@ -261,39 +335,53 @@ const CONDITIONS: &[Case] = &[
 const STATEMENTS: &[Case] = &[
     (
         "(tx t (skpi) 0)",
-        "line 1, column 8: F3 Shape: the word of a statement is wanted: skip, set, seq, if, repeat, retry, orelse or throw; here stands skpi; did you mean skip?\n",
+        "line 1, column 8: F3 Shape: the word of a statement is wanted: skip, set, seq, if, repeat, retry, orelse \
+            or throw; here stands skpi; did you mean skip?\n",
     ),
     (
         "(tx t (st) 0)",
-        "line 1, column 8: F3 Shape: the word of a statement is wanted: skip, set, seq, if, repeat, retry, orelse or throw; here stands st; did you mean set?\n",
+        "line 1, column 8: F3 Shape: the word of a statement is wanted: skip, set, seq, if, repeat, retry, orelse \
+            or throw; here stands st; did you mean set?\n",
     ),
     (
         "(tx t (seqq) 0)",
-        "line 1, column 8: F3 Shape: the word of a statement is wanted: skip, set, seq, if, repeat, retry, orelse or throw; here stands seqq; did you mean seq?\n",
+        "line 1, column 8: F3 Shape: the word of a statement is wanted: skip, set, seq, if, repeat, retry, orelse \
+            or throw; here stands seqq; did you mean seq?\n",
     ),
     (
         "(tx t (fi) 0)",
-        "line 1, column 8: F3 Shape: the word of a statement is wanted: skip, set, seq, if, repeat, retry, orelse or throw; here stands fi; did you mean if?\n",
+        "line 1, column 8: F3 Shape: the word of a statement is wanted: skip, set, seq, if, repeat, retry, orelse \
+            or throw; here stands fi; did you mean if?\n",
     ),
     (
         "(tx t (repet) 0)",
-        "line 1, column 8: F3 Shape: the word of a statement is wanted: skip, set, seq, if, repeat, retry, orelse or throw; here stands repet; did you mean repeat?\n",
+        "line 1, column 8: F3 Shape: the word of a statement is wanted: skip, set, seq, if, repeat, retry, orelse \
+            or throw; here stands repet; did you mean repeat?\n",
     ),
     (
         "(tx t (retr) 0)",
-        "line 1, column 8: F3 Shape: the word of a statement is wanted: skip, set, seq, if, repeat, retry, orelse or throw; here stands retr; did you mean retry?\n",
+        "line 1, column 8: F3 Shape: the word of a statement is wanted: skip, set, seq, if, repeat, retry, orelse \
+            or throw; here stands retr; did you mean retry?\n",
     ),
     (
         "(tx t (orels) 0)",
-        "line 1, column 8: F3 Shape: the word of a statement is wanted: skip, set, seq, if, repeat, retry, orelse or throw; here stands orels; did you mean orelse?\n",
+        "line 1, column 8: F3 Shape: the word of a statement is wanted: skip, set, seq, if, repeat, retry, orelse \
+            or throw; here stands orels; did you mean orelse?\n",
     ),
     (
         "(tx t (trow) 0)",
-        "line 1, column 8: F3 Shape: the word of a statement is wanted: skip, set, seq, if, repeat, retry, orelse or throw; here stands trow; did you mean throw?\n",
+        "line 1, column 8: F3 Shape: the word of a statement is wanted: skip, set, seq, if, repeat, retry, orelse \
+            or throw; here stands trow; did you mean throw?\n",
+    ),
+    (
+        "(tx t (se) 0)",
+        "line 1, column 8: F3 Shape: the word of a statement is wanted: skip, set, seq, if, repeat, retry, orelse \
+            or throw; here stands se; did you mean set?\n",
     ),
     (
         "(tx t (while) 0)",
-        "line 1, column 8: F3 Shape: the word of a statement is wanted: skip, set, seq, if, repeat, retry, orelse or throw; here stands while\n",
+        "line 1, column 8: F3 Shape: the word of a statement is wanted: skip, set, seq, if, repeat, retry, orelse \
+            or throw; here stands while\n",
     ),
 ];
 
@@ -317,6 +405,14 @@ const NAMES: &[Case] = &[
     (
         "(var Total 1)(var tOtal 1)(tx t (set total 1) 0)",
         "line 1, column 38: F4 Name: no variable of this name is declared; here stands total; did you mean Total?\n",
+    ),
+    (
+        "(var var 1)(tx t (set vat 1) 0)",
+        "line 1, column 23: F4 Name: no variable of this name is declared; here stands vat; did you mean var?\n",
+    ),
+    (
+        "(var var 1)(tx t (set var x) 0)",
+        "line 1, column 27: F4 Name: no variable of this name is declared; here stands x\n",
     ),
     (
         "(tx total (skip) 0)(tx t (set total 1) 0)",
@@ -343,11 +439,13 @@ const LIMITS: &[Case] = &[
     ),
     (
         "(var a2345678901234567890123456789012345678901234567890 1)",
-        "line 1, column 6: F5 Limit: a name has at most 32 bytes; here stands a234567890123456789012345678901234567890\n",
+        "line 1, column 6: F5 Limit: a name has at most 32 bytes; here stands \
+            a234567890123456789012345678901234567890\n",
     ),
     (
         "(tx t (repeat 1000 (repeat 1000 (skip))) 0)",
-        "line 1, column 5: F5 Limit: the cost of this is more than 1000000, with that of the standing conditions; here stands t\n",
+        "line 1, column 5: F5 Limit: the cost of this is more than 1000000, with that of the standing conditions; \
+            here stands t\n",
     ),
 ];
 

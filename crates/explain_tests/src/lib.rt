@@ -12,6 +12,8 @@ mod file_lines;
 #[cfg(test)]
 mod file_long;
 #[cfg(test)]
+mod file_parameters;
+#[cfg(test)]
 mod file_places;
 #[cfg(test)]
 mod file_shapes;

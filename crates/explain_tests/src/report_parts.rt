@@ -2,17 +2,19 @@
 
 use checker::check;
 use explain_reports::explain_bytes;
-use run_sink::Out;
+use run_interface::Out;
 use std::alloc::Global;
 use std::process::Abort;
 
 /// Two increments, and a task that waits for more of them.
 pub(crate) const FILE: &str =
-    "(stm 2)(var x 5)(var y -1)(always low (le x 9))(tx inc (set x (add x 1)) x)(tx gate (if (lt x 100) (retry) (skip)) x)(run inc 2)(run gate 1)";
+    "(stm 2)(var x 5)(var y -1)(always low (le x 9))(tx inc (set x (add x 1)) x)(tx gate (if (lt x 100) (retry) \
+        (skip)) x)(run inc 2)(run gate 1)";
 
 /// The report of a run of it.
 pub(crate) const REPORT: &str =
-    "base 0\nx 5 0\ny -1 0\nentry 1 0 inc returned 6\nentry 2 1 inc returned 7\nnow 2\nx 7 2\ny -1 0\nparked 2 gate\nend\n";
+    "base 0\nx 5 0\ny -1 0\nentry 1 0 inc returned 6\nentry 2 1 inc returned 7\nnow 2\nx 7 2\ny -1 0\nparked 2 \
+        gate\nend\n";
 
 /// This is said of the report, and the verdict is the checker's.
 pub(crate) fn expect_said(

@@ -2,8 +2,7 @@
 
 use crate::report_parts::{FILE, REPORT, expect_said};
 use explain_reports::explain_bytes;
-use run_faults::RunFault;
-use run_sink::Out;
+use run_interface::{Out, RunFault};
 use txn_text::ReadFault;
 
 #[test]

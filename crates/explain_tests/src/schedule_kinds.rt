@@ -1,19 +1,19 @@
 //! Each kind of fault at its place, and the line that tells it.
 
-use explain_runner::Judgement;
+use explain_files::Judgement;
 use explain_schedules::explain_bytes;
-use run_faults::RunFault;
-use run_sink::Out;
+use run_interface::{Out, RunFault};
 use std::alloc::Global;
 use std::process::Abort;
-use text_schedule_reader::read_schedule;
+use text_line_reader::read_schedule;
 use txn_text::{ReadFault, read_file};
 
 /// A file of two tasks.
 const FILE: &str = "(var x 5)(tx inc (set x (add x 1)) x)(run inc 2)";
 
 const LINE: &str =
-    "a line is wanted: begin A, read A X, commit A, drop A, first A X, value A, second A, ask A, word, again A or move A";
+    "a line is wanted: begin A, read A X, commit A, drop A, first A X, value A, second A, ask A, word, again A or \
+        move A";
 
 const TASK: &str = "the number of a task is wanted, and then the end of the line";
 

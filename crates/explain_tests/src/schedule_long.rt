@@ -1,9 +1,8 @@
 //! Schedules of the greatest length, and longer ones.
 
-use explain_files::position_of;
-use explain_runner::Judgement;
-use explain_schedules::{Explanation, explain, explain_bytes};
-use run_sink::Out;
+use explain_files::{Judgement, position_of};
+use explain_schedules::{ScheduleExplanation, explain, explain_bytes};
+use run_interface::Out;
 use std::alloc::{AllocError, Global};
 use std::test::Fail;
 use txn_text::{ReadFault, read_file};
@@ -24,7 +23,7 @@ fn place_of(alloc: Global, bytes: &[u8]) -> Option<(ReadFault, usize, usize)> {
         return None;
     };
     match explain(alloc, &catalogue, bytes) {
-        Ok(Explanation::Refused(refusal)) => {
+        Ok(ScheduleExplanation::Refused(refusal)) => {
             if refusal.place > bytes.len() {
                 return None;
             }

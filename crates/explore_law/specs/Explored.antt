@@ -10,12 +10,14 @@ use Rattle.txn_programs.specs.declared.ast.TxId.{TxId}
 use Rattle.txn_programs.specs.declared.ast.Outcome.{Outcome}
 use Rattle.txn_programs.specs.declared.ast.Outcome.TheVariants.{Returned, Thrown, Retries}
 use Rattle.txn_programs.specs.declared.ast.Fault.TheVariants.{User, Overflow, DivideByZero, Broken}
-use Rattle.txn_programs.specs.Listing.{Listing, program_at}
+use Rattle.txn_programs.specs.Listing.{Listing}
 use Rattle.txn_programs.specs.Meaning.{outcome}
 use Rattle.explore_law.specs.declared.found.End.{End}
 use Rattle.explore_law.specs.declared.found.Kinds.{Kinds}
 use Rattle.explore_law.specs.declared.found.Found.{Found}
-use Rattle.explore_law.specs.Orders.{Place, HasTurn, Reached, IsEnd}
+use Rattle.explore_law.specs.declared.instance.InstanceId.{InstanceId}
+use Rattle.explore_law.specs.Instances.{instance_at, instance_program}
+use Rattle.explore_law.specs.Orders.{Config, HasTurn, Reached, IsEnd}
 
 -- how a turn can end
 pub data Kind : Type 0 where
@@ -41,50 +43,52 @@ shows ks Overflowing = ks.overflow
 shows ks DividingByZero = ks.zerodiv
 shows ks (Breaking id) = slice_index_or ks.broke id.0 false
 
--- some turn of the transaction, at a reached place, ends so
+-- some turn of the transaction, at a reached configuration, ends so
 pub record Somewhere (l : Listing) (tx : TxId) (kind : Kind) : Type 0 where
-  pub place : Place
-  pub reached : Reached l place
-  pub turn : HasTurn l place tx
-  pub ends : kind_of (outcome (program_at l tx) place.state) ≡ Some kind
+  pub instance : InstanceId
+  pub own : (instance_at l instance).tx ≡ tx
+  pub config : Config
+  pub reached : Reached l config
+  pub turn : HasTurn l config instance
+  pub ends : kind_of (outcome (instance_program l instance) config.state) ≡ Some kind
 
--- the place of an end
-abbrev pub end_place : End → Place
-end_place e = record { state = e.values.items; left = e.waiting.items }
+-- the configuration of an end
+abbrev pub end_config : End → Config
+end_config e = record { state = e.values.items; left = e.waiting.items }
 
-abbrev pub end_places : Found → List Place
-end_places f = map end_place f.ends.items
+abbrev pub end_configs : Found → List Config
+end_configs f = map end_config f.ends.items
 
--- nothing stands at two places of the list
-abbrev pub IsOnce : List Place → Type 0
-IsOnce ps = (i j : ℕ) (p : Place) → slice_get ps i ≡ Some p → slice_get ps j ≡ Some p → i ≡ j
+-- nothing stands at two configurations of the list
+abbrev pub IsOnce : List Config → Type 0
+IsOnce ps = (i j : ℕ) (p : Config) → slice_get ps i ≡ Some p → slice_get ps j ≡ Some p → i ≡ j
 
--- the reached places are listed, each once
-pub record ListsReached (l : Listing) (ps : List Place) : Type 0 where
+-- the reached configurations are listed, each once
+pub record ListsReached (l : Listing) (ps : List Config) : Type 0 where
   pub once : IsOnce ps
-  pub all : (p : Place) → (Contains ps p ↔ Reached l p)
+  pub all : (p : Config) → (Contains ps p ↔ Reached l p)
 
 -- by the values as numbers, the first variable first, then by the counts left
-abbrev pub place_cmp : Place → Place → Ordering
-place_cmp p q = ordering_then (slice_cmp int_cmp p.state q.state) (slice_cmp nat_cmp p.left q.left)
+abbrev pub config_cmp : Config → Config → Ordering
+config_cmp p q = ordering_then (slice_cmp int_cmp p.state q.state) (slice_cmp nat_cmp p.left q.left)
 
 -- the answer is exact
 pub record Explored (l : Listing) (f : Found) : Type 0 where
-  -- it counts the reached places
-  pub places : List Place
-  pub reached : ListsReached l places
-  pub states : f.states ≡ length places
+  -- it counts the reached configurations
+  pub configs : List Config
+  pub reached : ListsReached l configs
+  pub states : f.states ≡ length configs
   -- a transaction is said to end so exactly where some turn of it does
   pub each : length f.kinds.items ≡ length l.transactions
   pub kinds : (tx : TxId) (ks : Kinds) (kind : Kind) → slice_get f.kinds.items tx.0 ≡ Some ks → (shows ks kind ≡ true ↔ Somewhere l tx kind)
-  -- the ends are the reached places without a turn, each once and in order
-  pub ends : (p : Place) → (Contains (end_places f) p ↔ (Reached l p × IsEnd l p))
-  pub ends_once : IsOnce (end_places f)
-  pub ends_ascend : IsSorted place_cmp (end_places f)
+  -- the ends are the reached configurations without a turn, each once and in order
+  pub ends : (p : Config) → (Contains (end_configs f) p ↔ (Reached l p × IsEnd l p))
+  pub ends_once : IsOnce (end_configs f)
+  pub ends_ascend : IsSorted config_cmp (end_configs f)
 
--- more than n places are reached
+-- more than n configurations are reached
 pub record ReachesMore (l : Listing) (n : ℕ) : Type 0 where
-  pub places : List Place
-  pub once : IsOnce places
-  pub reached : (p : Place) → Contains places p → Reached l p
-  pub more : n < length places
+  pub configs : List Config
+  pub once : IsOnce configs
+  pub reached : (p : Config) → Contains configs p → Reached l p
+  pub more : n < length configs

@@ -2,7 +2,7 @@
 
 use txn_programs::limits::MAX_CONDITIONS;
 
-/// A place without a turn: the values, and for each transaction how many of its tasks wait.
+/// A configuration without a turn: the values, and for each instance how many of its tasks wait.
 #[derive(Debug, PartialEq, Eq, PartialOrd, Ord, Drop)]
 pub struct End {
     pub values: Vec<i64>,
@@ -23,10 +23,10 @@ pub struct Kinds {
 /// What is found of all orders of a file's tasks.
 #[derive(Debug, PartialEq, Eq, Drop)]
 pub struct Found {
-    /// How many places are reached.
+    /// How many configurations are reached.
     pub states: usize,
     /// For each transaction, which outcomes its turns have somewhere.
     pub kinds: Vec<Kinds>,
-    /// The reached places without a turn, ascending by values and then by the counts that wait.
+    /// The reached configurations without a turn, ascending by values and then by the counts that wait.
     pub ends: Vec<End>,
 }

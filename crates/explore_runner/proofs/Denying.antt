@@ -1,26 +1,29 @@
 -- Whether some order comes to what is denied, by what is found.
-use Rattle.std.proofs.Common.{◌≡◌, ◌≢◌, ℕ, ◌+◌, ◌-◌, ◌<◌, ◌≤◌, Bool, true, false, List, [], ◌∷◌, length, map, set, get_or, Some, refl, sym, ◌∙◌, ap, subst, ⊎_elim, arith}
+use Rattle.std.proofs.Common.{◌≡◌, ◌≢◌, ℕ, ◌-◌, ◌<◌, ◌≤◌, Bool, true, false, List, [], ◌∷◌, length, get_or, Some, refl, sym, ◌∙◌, ap, subst, ⊎_elim, arith}
 use Rattle.std.specs.Prelude.{All, slice_get}
 use Rattle.std.proofs.lemmas.List.{length-set, get_or_past}
 use Rattle.std.proofs.lemmas.List.Elements.{All-map, All-contains}
 use Rattle.std.proofs.lemmas.Option.{same_Some, slice_get-get_or}
 use Rattle.std.proofs.lemmas.Bool.{cases_lt}
 use Rattle.txn_programs.specs.declared.ast.TxId.{TxId}
-use Rattle.txn_programs.specs.Listing.{Listing, tasks}
-use Rattle.explore_options.specs.declared.denial.Denial.{Denial}
-use Rattle.explore_options.specs.declared.denial.Denial.TheVariants as denial
+use Rattle.txn_programs.specs.Names.{names_hold}
+use Rattle.txn_programs.specs.Listing.{Listing, calls}
+use Rattle.run_interface.specs.declared.denial.Denial.{Denial}
+use Rattle.run_interface.specs.declared.denial.Denial.TheVariants as denial
 use Rattle.explore_law.specs.declared.found.End.{End}
 use Rattle.explore_law.specs.declared.found.Kinds.{Kinds}
 use Rattle.explore_law.specs.declared.found.Found.{Found}
-use Rattle.explore_law.specs.Orders.{Place, first_place, turned, Leads, count_at}
-use Rattle.explore_law.specs.Explored.{Kind, Returning, Throwing, Overflowing, DividingByZero, Breaking, shows, Explored, Somewhere, end_place, end_places}
-use Rattle.explore.proofs.Counting.{length-counted}
-use Rattle.explore.proofs.Whole.{turn_known}
+use Rattle.explore_law.specs.declared.instance.InstanceId.{InstanceId}
+use Rattle.explore_law.specs.Instances.{instances, instance_at}
+use Rattle.explore_law.specs.Orders.{Config, first_config, turned, Leads, count_at}
+use Rattle.explore_law.specs.Explored.{Kind, Returning, Throwing, Overflowing, DividingByZero, Breaking, shows, Explored, Somewhere, end_config, end_configs}
+use Rattle.explore_law.proofs.Instances.{instance_callable, length-counted}
+use Rattle.explore_search.proofs.Whole.{turn_known}
 use Rattle.explore_runner.specs.FoundText.{found_text, some_wait}
 use Rattle.explore_runner.specs.Judging.{IsSaid, IsJudged}
 use Rattle.explore_runner.specs.declared.sight.Judged.{Judged}
 use Rattle.explore_runner.specs.declared.sight.Judged.TheVariants.{Clear, Denied, More}
-use Rattle.explore_options.specs.declared.denial.Denials.{Denials}
+use Rattle.run_interface.specs.declared.denial.Denials.{Denials}
 use Rattle.txn_text.specs.Spelling.{Spells}
 use Rattle.explore_runner.specs.declared.denied.Ending.{Ending}
 use Rattle.explore_runner.specs.Denying.{denial_of, IsPossible, WaitsSomewhere, TurnsSomewhere, NoneEnds, kind_of_ending, Ends}
@@ -38,18 +41,22 @@ none_shown ks d Overflowing none is s = let no : ks.overflow ≡ false = subst (
 none_shown ks d DividingByZero none is s = let no : ks.zerodiv ≡ false = subst (NoneEnds ks) (sym (same_Some denial.ZeroDiv d is)) none in absurd (cc)
 none_shown ks d (Breaking id) none is s = none_flagged ks.broke id.0 (subst (NoneEnds ks) (sym (same_Some denial.Broke d is)) none) s
 
--- at each place there is a count for each transaction
-counts_stay : (l : Listing) (p : Place) (turns : List TxId) (q : Place) → Leads l p turns q → length q.left ≡ length p.left
-counts_stay l p [] q h = ap (λ (r : Place). length r.left) h
-counts_stay l p (tx ∷ rest) q h = counts_stay l (turned l p tx) rest q h.1 ∙ length-set p.left tx.0 (count_at p.left tx - 1)
+-- at each configuration there is a count for each instance
+counts_stay : (l : Listing) (p : Config) (turns : List InstanceId) (q : Config) → Leads l p turns q → length q.left ≡ length p.left
+counts_stay l p [] q h = ap (λ (r : Config). length r.left) h
+counts_stay l p (k ∷ rest) q h = counts_stay l (turned l p k) rest q h.1 ∙ length-set p.left k.0 (count_at p.left k - 1)
 
 -- where no kind that is found is one that is denied, no turn is
-pub no_turn : (l : Listing) (f : Found) (d : Denial) → Explored l f → All (λ (ks : Kinds). NoneEnds ks d) f.kinds.items → TurnsSomewhere l d → ⊥
-no_turn l f d found none w =
+pub no_turn : (l : Listing) (f : Found) (d : Denial) → names_hold l ≡ true → Explored l f → All (λ (ks : Kinds). NoneEnds ks d) f.kinds.items → TurnsSomewhere l d → ⊥
+no_turn l f d names found none w =
     let s = w.somewhere in
-    let p = s.place in
-    let counts : length p.left ≡ length l.transactions = counts_stay l (first_place l) s.reached.turns p s.reached.leads ∙ length-counted (length l.transactions) (tasks l) in
-    let low : w.tx.0 < length f.kinds.items = omega (arith, turn_known l p w.tx s.turn, counts, found.each) in
+    let p = s.config in
+    let counts : length p.left ≡ length (instances l) = counts_stay l (first_config l) s.reached.turns p s.reached.leads ∙ length-counted l (calls l) in
+    let k = s.instance in
+    let at_place : slice_get (instances l) k.0 ≡ Some (instance_at l k) =
+    slice_get-get_or (instances l) k.0 (record { tx = record { 0 = 0 }; arguments = [] }) (omega (arith, turn_known l p k s.turn, counts)) in
+    let declared : (instance_at l k).tx.0 < length l.transactions = (instance_callable l k.0 (instance_at l k) names at_place).declared in
+    let low : w.tx.0 < length f.kinds.items = omega (arith, declared, ap (λ (x : TxId). x.0) s.own, found.each) in
     let ks : Kinds = get_or f.kinds.items w.tx.0 (found_any f w.tx.0 low) in
     let at : slice_get f.kinds.items w.tx.0 ≡ Some ks = slice_get-get_or f.kinds.items w.tx.0 (found_any f w.tx.0 low) low in
     none_shown ks d w.kind (none w.tx.0 (found_any f w.tx.0 low) low) w.denied ((found.kinds w.tx ks w.kind at).1 s)
@@ -64,20 +71,20 @@ no_turn l f d found none w =
 -- where no task waits at an end that is found, none does at any
 pub no_wait : (l : Listing) (f : Found) → Explored l f → All (λ (e : End). some_wait e.waiting.items ≡ false) f.ends.items → WaitsSomewhere l → ⊥
 no_wait l f found none w =
-    let all : All (λ (p : Place). some_wait p.left ≡ false) (end_places f) = All-map (λ (p : Place). some_wait p.left ≡ false) end_place f.ends.items none in
-    let no : some_wait w.place.left ≡ false = All-contains (λ (p : Place). some_wait p.left ≡ false) (end_places f) w.place all ((found.ends w.place).1 (w.reached, w.last)) in
+    let all : All (λ (p : Config). some_wait p.left ≡ false) (end_configs f) = All-map (λ (p : Config). some_wait p.left ≡ false) end_config f.ends.items none in
+    let no : some_wait w.config.left ≡ false = All-contains (λ (p : Config). some_wait p.left ≡ false) (end_configs f) w.config all ((found.ends w.config).1 (w.reached, w.last)) in
     absurd (cc)
 
 -- a kind that is found is that of some turn
 pub some_turn : (l : Listing) (f : Found) (d : Denial) (tx : TxId) (how : Ending) → Explored l f → Ends f.kinds.items d tx how → Somewhere l tx (kind_of_ending how)
 some_turn l f d tx how found e = (found.kinds tx e.ks (kind_of_ending how) e.at).0 e.shows
 
-pub no_turn_possible : (l : Listing) (f : Found) (d : Denial) → Explored l f → All (λ (ks : Kinds). NoneEnds ks d) f.kinds.items → d ≢ denial.Parked → IsPossible l d → ⊥
-no_turn_possible l f denial.Parked found none other w = other refl
-no_turn_possible l f denial.Threw found none other w = no_turn l f denial.Threw found none w
-no_turn_possible l f denial.Broke found none other w = no_turn l f denial.Broke found none w
-no_turn_possible l f denial.Overflow found none other w = no_turn l f denial.Overflow found none w
-no_turn_possible l f denial.ZeroDiv found none other w = no_turn l f denial.ZeroDiv found none w
+pub no_turn_possible : (l : Listing) (f : Found) (d : Denial) → names_hold l ≡ true → Explored l f → All (λ (ks : Kinds). NoneEnds ks d) f.kinds.items → d ≢ denial.Parked → IsPossible l d → ⊥
+no_turn_possible l f denial.Parked names found none other w = other refl
+no_turn_possible l f denial.Threw names found none other w = no_turn l f denial.Threw names found none w
+no_turn_possible l f denial.Broke names found none other w = no_turn l f denial.Broke names found none w
+no_turn_possible l f denial.Overflow names found none other w = no_turn l f denial.Overflow names found none w
+no_turn_possible l f denial.ZeroDiv names found none other w = no_turn l f denial.ZeroDiv names found none w
 
 -- the text of what is found, and what is said of it
 pub judged_is : (l : Listing) (f : Found) (limit : ℕ) (ds : Denials) (file : List ℕ) → Spells file l → Explored l f → (judged : Judged) (text : List ℕ) → text ≡ found_text l f → IsSaid l f ds judged

@@ -1,17 +1,17 @@
 -- Whether some order comes to what is denied, and what is said of it.
-use Rattle.std.specs.Prelude.{◌≡◌, ℕ, ◌+◌, Bool, true, false, List, ◌++◌, codes, Option, Some, None, All, slice_get}
+use Rattle.std.specs.Prelude.{◌≡◌, ℕ, ◌+◌, true, false, List, ◌++◌, codes, Option, Some, None, All, slice_get}
 use Rattle.std.specs.Fmt.{decimal}
 use Rattle.txn_programs.specs.declared.ast.TxId.{TxId}
 use Rattle.txn_programs.specs.Listing.{Listing, always_name}
 use Rattle.text_report_printer.specs.Names.{transaction_name}
-use Rattle.explore_options.specs.declared.denial.Denial.{Denial}
-use Rattle.explore_options.specs.declared.denial.Denial.TheVariants as denial
-use Rattle.explore_options.specs.declared.denial.Denials.{Denials}
-use Rattle.explore_options.specs.Denied.{denies}
+use Rattle.run_interface.specs.declared.denial.Denial.{Denial}
+use Rattle.run_interface.specs.declared.denial.Denial.TheVariants as denial
+use Rattle.run_interface.specs.declared.denial.Denials.{Denials}
+use Rattle.run_interface.specs.Denied.{denies}
 use Rattle.explore_law.specs.declared.found.End.{End}
 use Rattle.explore_law.specs.declared.found.Kinds.{Kinds}
 use Rattle.explore_law.specs.declared.found.Found.{Found}
-use Rattle.explore_law.specs.Orders.{Place, Reached, IsEnd}
+use Rattle.explore_law.specs.Orders.{Config, Reached, IsEnd}
 use Rattle.explore_law.specs.Explored.{Kind, Returning, Throwing, Overflowing, DividingByZero, Breaking, shows, Somewhere}
 use Rattle.explore_runner.specs.FoundText.{some_wait}
 use Rattle.explore_runner.specs.declared.denied.Ending.{Ending}
@@ -29,10 +29,10 @@ denial_of (Breaking id) = Some denial.Broke
 
 -- some order comes to an end at which a task waits
 pub record WaitsSomewhere (l : Listing) : Type 0 where
-  pub place : Place
-  pub reached : Reached l place
-  pub last : IsEnd l place
-  pub waits : some_wait place.left ≡ true
+  pub config : Config
+  pub reached : Reached l config
+  pub last : IsEnd l config
+  pub waits : some_wait config.left ≡ true
 
 -- some order comes to a turn of which this is denied
 pub record TurnsSomewhere (l : Listing) (d : Denial) : Type 0 where
@@ -103,10 +103,23 @@ ending_words l (ending.Broke id) = codes " broke " ++ always_name l id
 ending_words l ending.Overflow = codes " overflow"
 ending_words l ending.ZeroDiv = codes " zerodiv"
 
+-- a space, and the same as one word of a command line
+abbrev pub ending_word : Listing → Ending → List ℕ
+ending_word l ending.Threw = codes " threw"
+ending_word l (ending.Broke id) = codes " 'broke " ++ (always_name l id ++ codes "'")
+ending_word l ending.Overflow = codes " overflow"
+ending_word l ending.ZeroDiv = codes " zerodiv"
+
+abbrev pub find_words : Listing → TxId → Ending → List ℕ
+find_words l tx how = codes ": see --find " ++ (transaction_name l tx.0 ++ ending_word l how)
+
+abbrev pub turn_words : Listing → TxId → Ending → List ℕ
+turn_words l tx how = transaction_name l tx.0 ++ (ending_words l how ++ find_words l tx how)
+
 -- what is denied, and what shows it
 abbrev pub offence_words : Listing → Offence → List ℕ
 offence_words l (Parked n) = codes "parked: see --to " ++ decimal n
-offence_words l (Turn tx how) = transaction_name l tx.0 ++ ending_words l how
+offence_words l (Turn tx how) = turn_words l tx how
 
 abbrev pub denied_line : Listing → Offence → List ℕ
 denied_line l o = codes "stm: denied: " ++ offence_words l o

@@ -3,9 +3,9 @@ use Rattle.std.specs.Prelude.{◌≡◌, ℕ, List, string_bytes, take, Option, 
 use Rattle.std.specs.Io.KnownBytes.{Appends, Keeps}
 use Rattle.txn_programs.specs.Listing.{Listing}
 use Rattle.txn_text.specs.Spelling.{first_fault}
-use Rattle.run_faults.specs.declared.fault.RunFault.{RunFault}
-use Rattle.run_faults.specs.declared.fault.RunFault.TheVariants.{Input, Memory, Output, Schedule}
-use Rattle.explore_options.specs.declared.denial.Denials.{Denials}
+use Rattle.run_interface.specs.declared.fault.RunFault.{RunFault}
+use Rattle.run_interface.specs.declared.fault.RunFault.TheVariants.{Input, Memory, Output, Schedule}
+use Rattle.run_interface.specs.declared.denial.Denials.{Denials}
 use Rattle.explore_law.specs.declared.found.Found.{Found}
 use Rattle.explore_runner.specs.Denying.{NothingDenied, IsFirst, denied_line}
 use Rattle.explore_runner.specs.Showing.{IsFoundText, IsMoreText}
@@ -19,7 +19,7 @@ pub record Says (l : Listing) (f : Found) (ds : Denials) (line : List ℕ) : Typ
   pub first : IsFirst l f ds offence
   pub said : line ≡ denied_line l offence
 
--- what is said of what is found: nothing of more places
+-- what is said of what is found: nothing of more configurations
 abbrev pub IsSaid : Listing → Found → Denials → Judged → Type 0
 IsSaid l f ds Clear = NothingDenied l ds
 IsSaid l f ds (Denied line) = Says l f ds (string_bytes line)

@@ -3,3 +3,11 @@ pub mod FoundText
 pub mod Judging
 pub mod Showing
 pub mod Witness
+pub mod Ends
+pub mod Giving
+pub mod GraphText
+pub mod Graphing
+pub mod PuttingBy
+pub mod Wording
+pub mod Stopping
+pub mod Finding

@@ -3,8 +3,8 @@ use Rattle.std.specs.Prelude.{◌≡◌, ℕ, List, take, Option, Some, Result, 
 use Rattle.std.specs.Io.KnownBytes.{Appends, Keeps}
 use Rattle.txn_programs.specs.Listing.{Listing}
 use Rattle.txn_text.specs.Spelling.{Spells, first_fault}
-use Rattle.run_faults.specs.declared.fault.RunFault.{RunFault}
-use Rattle.run_faults.specs.declared.fault.RunFault.TheVariants.{Input, Memory, Output, Schedule}
+use Rattle.run_interface.specs.declared.fault.RunFault.{RunFault}
+use Rattle.run_interface.specs.declared.fault.RunFault.TheVariants.{Input, Memory, Output, Schedule}
 use Rattle.explore_law.specs.declared.found.Found.{Found}
 use Rattle.explore_law.specs.Explored.{Explored, ReachesMore}
 use Rattle.explore_runner.specs.FoundText.{found_text, more_text}
@@ -19,7 +19,7 @@ pub record IsFoundText (input text : List ℕ) : Type 0 where
   pub explored : Explored file found
   pub printed : text ≡ found_text file found
 
--- the text says that more places are reached than so many, and more are
+-- the text says that more configurations are reached than so many, and more are
 pub record IsMoreText (input : List ℕ) (limit : ℕ) (text : List ℕ) : Type 0 where
   pub file : Listing
   pub spelled : Spells input file

@@ -1,29 +1,29 @@
--- A report of a run that comes to an end.
-use Rattle.std.specs.Prelude.{◌≡◌, ℕ, ◌≤◌, List, [], length, take, Option, Some, Result, Ok, Err}
+-- A run that comes to an end.
+use Rattle.std.specs.Prelude.{◌≡◌, ℕ, ◌≤◌, List, [], length, map, take, Option, Some, Result, Ok, Err}
 use Rattle.std.specs.Io.KnownBytes.{Appends, Keeps}
-use Rattle.txn_programs.specs.declared.ast.TxId.{TxId}
 use Rattle.txn_programs.specs.Listing.{Listing}
 use Rattle.txn_programs.specs.Told.{Told}
 use Rattle.text_report_printer.specs.ReportText.{report_text}
 use Rattle.txn_text.specs.Spelling.{Spells, first_fault}
-use Rattle.run_faults.specs.declared.fault.RunFault.{RunFault}
-use Rattle.run_faults.specs.declared.fault.RunFault.TheVariants.{Input, Memory, Output, Schedule}
+use Rattle.run_interface.specs.declared.fault.RunFault.{RunFault}
+use Rattle.run_interface.specs.declared.fault.RunFault.TheVariants.{Input, Memory, Output, Schedule}
 use Rattle.explore_law.specs.declared.found.Found.{Found}
-use Rattle.explore_law.specs.Orders.{Place}
-use Rattle.explore_law.specs.Explored.{Explored, ReachesMore, end_place}
+use Rattle.explore_law.specs.declared.instance.InstanceId.{InstanceId}
+use Rattle.explore_law.specs.Instances.{instance_at}
+use Rattle.explore_law.specs.Orders.{Config}
+use Rattle.explore_law.specs.Explored.{Explored, end_config}
 use Rattle.explore_law.specs.Ways.{IsWayToEnd}
-use Rattle.explore_reports.specs.Ends.{EndsAt}
-use Rattle.explore_reports.specs.Giving.{entered_by}
-use Rattle.explore_runner.specs.FoundText.{more_text}
+use Rattle.explore_runner.specs.Ends.{EndsAt}
+use Rattle.explore_runner.specs.Giving.{entered_by}
 use Rattle.explore_runner.specs.Showing.{IsMoreText}
 use Rattle.explore_runner.specs.declared.sight.Witnessed.{Witnessed}
 use Rattle.explore_runner.specs.declared.sight.Witnessed.TheVariants.{Report, NoEnd, Beyond}
 
--- the text is that of one lawful report that ends at the place, whose entries are of these transactions
-pub record IsReportTo (l : Listing) (turns : List TxId) (p : Place) (text : List ℕ) : Type 0 where
+-- the text is that of one lawful report that ends at the configuration, whose entries are of these instances
+pub record IsReportTo (l : Listing) (turns : List InstanceId) (p : Config) (text : List ℕ) : Type 0 where
   pub report : Told
   pub ends : EndsAt l report p
-  pub entered : entered_by report.entries ≡ turns
+  pub entered : entered_by l report.entries ≡ map (instance_at l) turns
   pub printed : text ≡ report_text l report
 
 -- the text is such a report of exactly the file that the input spells; it comes to the end of number k, counted from 0, by as few turns as any order
@@ -32,9 +32,9 @@ pub record IsWitness (input : List ℕ) (k : ℕ) (text : List ℕ) : Type 0 whe
   pub spelled : Spells input file
   pub found : Found
   pub explored : Explored file found
-  pub turns : List TxId
+  pub turns : List InstanceId
   pub way : IsWayToEnd file found k turns
-  pub report : IsReportTo file turns (end_place way.end) text
+  pub report : IsReportTo file turns (end_config way.end) text
 
 -- there are no more than k ends, and no text
 pub record IsPast (input : List ℕ) (k : ℕ) (text : List ℕ) : Type 0 where

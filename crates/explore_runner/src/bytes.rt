@@ -1,26 +1,25 @@
 //! From the bytes of a file to the bytes of what is found of all orders of its tasks.
 
-ghost use Rattle.std.specs.Prelude.{◌≡◌, ◌+◌, ◌<◌, ◌≤◌, ◌^◌, ℕ, List, true, IfOk, OnOk, IfErr, string_bytes};
-ghost use Rattle.run_faults.specs.Failures.{output_failures};
-ghost use Rattle.run_faults.specs.declared.fault.RunFault.TheVariants as RunFault;
+ghost use Rattle.std.specs.Prelude.{◌≡◌, ◌+◌, ◌≤◌, ℕ, List, true, IfOk, OnOk, IfErr, string_bytes};
+ghost use Rattle.run_interface.specs.Counts.{FewFailed};
+ghost use Rattle.run_interface.specs.Failures.{output_failures};
+ghost use Rattle.run_interface.specs.declared.fault.RunFault.TheVariants as RunFault;
 ghost use Rattle.txn_text.specs.Spelling.{Spells};
 ghost use Rattle.explore_runner.specs.Showing.{IsShown, IsRefused, Showed};
 
 use crate::printer::{print_found, print_more};
 use crate::sight::Sight;
-use explore::{MAX_STATES, Unexplored, explore};
-use explore_options::Limit;
-use run_faults::RunFault;
-use run_sink::{Sink, put_all};
+use explore_search::{MAX_STATES, Unexplored, explore};
+use run_interface::{Limit, RunFault, Sink, put_text};
 use std::alloc::Global;
 use txn::Catalogue;
 use txn_text::{ReadFault, read_file};
 
-/// Sees every order of the tasks of the file that the bytes spell, of at most as many places as the limit says, and
-/// writes what is found to the sink.
+/// Sees every order of the tasks of the file that the bytes spell, of at most as many configurations as the limit
+/// says, and writes what is found to the sink.
 ///
 /// `Whole`: exactly the text of what is found when all orders are seen was written, and then
-/// flushed. `More`: so was the line that says that more places are reached. `Input`: the bytes spell
+/// flushed. `More`: so was the line that says that more configurations are reached. `Input`: the bytes spell
 /// no file, and this is the first kind of fault that they have; nothing was written. `Memory`: a
 /// growth was refused; nothing was written. `Output`: a call of the sink failed, the only one, and
 /// a beginning of one such text was written.
@@ -30,18 +29,14 @@ pub fn explore_bytes<S: Sink>(
     limit: Limit,
     sink: &mut S,
 ) -> Result<Sight, RunFault>
-    requires { S.failed sink.old < 2 ^ 63 }
+    requires { FewFailed (S.failed sink.old) }
     ensures showed { Showed file.now limit (S.bytes sink.old) (S.bytes sink.new) result }
     ensures flushed { OnOk result (S.flushed sink.new ≡ true) }
     ensures failures { S.failed sink.new ≡ S.failed sink.old + output_failures result }
 {
-    match shown(alloc, file, limit.states()) {
-        Ok((sight, text)) => match put_all(sink, text.as_bytes()) {
-            Ok(()) => Ok(sight),
-            Err(_) => Err(RunFault::Output),
-        },
-        Err(fault) => Err(fault),
-    }
+    let (sight, text) = shown(alloc, file, limit.states())?;
+    put_text(sink, &text)?;
+    Ok(sight)
 }
 
 /// The text of what is found of the file that the bytes spell.
@@ -59,7 +54,8 @@ fn shown(alloc: Global, file: &[u8], limit: u32) -> Result<(Sight, String), RunF
 /// The text of what is found of the catalogue, which is that of each file that spells it.
 fn shown_of(alloc: Global, catalogue: &Catalogue, limit: u32) -> Result<(Sight, String), RunFault>
     requires { limit ≤ MAX_STATES }
-    ensures shown { IfOk result (λ s. (file : List ℕ) → Spells file catalogue.now → IsShown file limit s.0 (string_bytes s.1)) }
+    ensures shown { IfOk result
+        (λ s. (file : List ℕ) → Spells file catalogue.now → IsShown file limit s.0 (string_bytes s.1)) }
     ensures refused { IfErr result (λ fault. fault ≡ RunFault.Memory) }
 {
     match explore(alloc, catalogue, limit) {

@@ -1,14 +1,17 @@
 //! Whether what is found of all orders is denied.
 
-ghost use Rattle.std.specs.Prelude.{◌≡◌, ◌<◌, ◌++◌, ◌^◌, All, IfNone, IfOk, IfSome, OnOk, Some, false, length, slice_index_or, string_bytes, true};
+ghost use Rattle.std.specs.Prelude.{◌≡◌, ◌<◌, ◌++◌, ◌^◌, All, IfNone, IfOk, IfSome, OnOk};
+ghost use Rattle.std.specs.Prelude.{Some, false, length, slice_index_or, string_bytes, true};
 ghost use Rattle.explore_law.specs.Explored.{Explored, shows};
-ghost use Rattle.explore_options.specs.Denied.{denies};
-ghost use Rattle.explore_runner.specs.Denying.{Ends, IsClear, IsFirst, IsPossible, IsSeen, NoneEnds, NothingDenied, Waits, denial_by, denied_line, ending_words, kind_of_ending, what};
+ghost use Rattle.run_interface.specs.Denied.{denies};
+ghost use Rattle.explore_runner.specs.Denying.{Ends, IsClear, IsFirst, IsPossible, IsSeen, NoneEnds, NothingDenied};
+ghost use Rattle.explore_runner.specs.Denying.{Waits, denial_by, denied_line, ending_word, ending_words};
+ghost use Rattle.explore_runner.specs.Denying.{find_words, kind_of_ending, turn_words, what};
 ghost use Rattle.explore_runner.specs.FoundText.{some_wait};
 
 use crate::words::some_wait;
 use explore_law::{End, Found, Kinds};
-use explore_options::{Denial, Denials};
+use run_interface::{Denial, Denials};
 use std::alloc::{AllocError, Global};
 use std::fmt::Write;
 use text_report_printer::{always_name, transaction_name};
@@ -65,7 +68,8 @@ fn sighted_denied(
     denial: Denial,
 ) -> Option<Offence>
     requires { Explored catalogue.now found.now }
-    ensures some { IfSome result (λ o. (denies denied denial ≡ true) × (what o ≡ denial) × IsSeen catalogue.now found.now o) }
+    ensures some { IfSome result
+        (λ o. (denies denied denial ≡ true) × (what o ≡ denial) × IsSeen catalogue.now found.now o) }
     ensures none { IfNone result (IsClear catalogue.now denied denial) }
 {
     if !denied.has(denial) {
@@ -80,6 +84,7 @@ fn sighted(catalogue: &Catalogue, found: &Found, denial: Denial) -> Option<Offen
     ensures some { IfSome result (λ o. (what o ≡ denial) × IsSeen catalogue.now found.now o) }
     ensures none { IfNone result (IsPossible catalogue.now denial → ⊥) }
 {
+    catalogue.rules();
     if let Denial::Parked = denial {
         return match first_waiting(found.ends.as_slice()) {
             Some(number) => Some(Offence::Parked(number)),
@@ -163,12 +168,37 @@ pub(crate) fn line_of(
     out.push_str("stm: denied: ")?;
     match offence {
         Offence::Parked(number) => write!(&mut out, "parked: see --to {number}")?,
-        Offence::Turn(tx, ending) => {
-            out.push_str(transaction_name(catalogue, tx.0 as usize))?;
-            put_ending(&mut out, catalogue, ending)?;
-        }
+        Offence::Turn(tx, ending) => put_turn(&mut out, catalogue, tx, ending)?,
     }
     Ok(out)
+}
+
+/// Puts which turn it is, and what shows it.
+fn put_turn(
+    out: &mut String,
+    catalogue: &Catalogue,
+    tx: TxId,
+    ending: Ending,
+) -> Result<(), AllocError>
+    ensures { OnOk result (string_bytes out.new ≡ string_bytes out.old ++ turn_words catalogue.now tx ending) }
+{
+    out.push_str(transaction_name(catalogue, tx.0 as usize))?;
+    put_ending(out, catalogue, ending)?;
+    put_find(out, catalogue, tx, ending)
+}
+
+/// Puts what shows the turn.
+fn put_find(
+    out: &mut String,
+    catalogue: &Catalogue,
+    tx: TxId,
+    ending: Ending,
+) -> Result<(), AllocError>
+    ensures { OnOk result (string_bytes out.new ≡ string_bytes out.old ++ find_words catalogue.now tx ending) }
+{
+    out.push_str(": see --find ")?;
+    out.push_str(transaction_name(catalogue, tx.0 as usize))?;
+    put_word(out, catalogue, ending)
 }
 
 fn put_ending(out: &mut String, catalogue: &Catalogue, ending: Ending) -> Result<(), AllocError>
@@ -181,6 +211,22 @@ fn put_ending(out: &mut String, catalogue: &Catalogue, ending: Ending) -> Result
         Ending::Broke(id) => {
             out.push_str(" broke ")?;
             out.push_str(always_name(catalogue, id))
+        }
+    }
+}
+
+/// Puts a space, and how the turn ends as one word of a command line.
+fn put_word(out: &mut String, catalogue: &Catalogue, ending: Ending) -> Result<(), AllocError>
+    ensures { OnOk result (string_bytes out.new ≡ string_bytes out.old ++ ending_word catalogue.now ending) }
+{
+    match ending {
+        Ending::Threw => out.push_str(" threw"),
+        Ending::Overflow => out.push_str(" overflow"),
+        Ending::ZeroDiv => out.push_str(" zerodiv"),
+        Ending::Broke(id) => {
+            out.push_str(" 'broke ")?;
+            out.push_str(always_name(catalogue, id))?;
+            out.push_str("'")
         }
     }
 }

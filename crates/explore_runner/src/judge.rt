@@ -1,8 +1,9 @@
 //! From the bytes of a file to the bytes of what is found, and to whether that is denied.
 
-ghost use Rattle.std.specs.Prelude.{◌≡◌, ◌+◌, ◌<◌, ◌≤◌, ◌^◌, ℕ, List, true, IfOk, OnOk, IfErr, string_bytes};
-ghost use Rattle.run_faults.specs.Failures.{output_failures};
-ghost use Rattle.run_faults.specs.declared.fault.RunFault.TheVariants as RunFault;
+ghost use Rattle.std.specs.Prelude.{◌≡◌, ◌+◌, ◌≤◌, ℕ, List, true, IfOk, OnOk, IfErr, string_bytes};
+ghost use Rattle.run_interface.specs.Counts.{FewFailed};
+ghost use Rattle.run_interface.specs.Failures.{output_failures};
+ghost use Rattle.run_interface.specs.declared.fault.RunFault.TheVariants as RunFault;
 ghost use Rattle.txn_text.specs.Spelling.{Spells};
 ghost use Rattle.explore_law.specs.Explored.{Explored};
 ghost use Rattle.explore_runner.specs.FoundText.{found_text};
@@ -13,18 +14,16 @@ use crate::bytes::catalogue_of;
 use crate::denied::{first_denied, line_of};
 use crate::printer::{print_found, print_more};
 use crate::sight::Judged;
-use explore::{MAX_STATES, Unexplored, explore};
 use explore_law::Found;
-use explore_options::{Denials, Limit};
-use run_faults::RunFault;
-use run_sink::{Sink, put_all};
+use explore_search::{MAX_STATES, Unexplored, explore};
+use run_interface::{Denials, Limit, RunFault, Sink, put_text};
 use std::alloc::{AllocError, Global};
 use txn::Catalogue;
 
 /// As `explore_bytes`, and says whether some order comes to what is denied. What is written is the same.
 ///
 /// `Clear`: no order does. `Denied`: some order does, and the line says to what: the first that is denied, in
-/// the order parked, threw, broke, overflow, zerodiv, and where it shows. `More`: more places are
+/// the order parked, threw, broke, overflow, zerodiv, and where it shows. `More`: more configurations are
 /// reached, and nothing is said. An `Err` is as that of `explore_bytes`.
 pub fn judge_bytes<S: Sink>(
     alloc: Global,
@@ -33,18 +32,14 @@ pub fn judge_bytes<S: Sink>(
     denied: Denials,
     sink: &mut S,
 ) -> Result<Judged, RunFault>
-    requires { S.failed sink.old < 2 ^ 63 }
+    requires { FewFailed (S.failed sink.old) }
     ensures judges { Judges file.now limit denied (S.bytes sink.old) (S.bytes sink.new) result }
     ensures flushed { OnOk result (S.flushed sink.new ≡ true) }
     ensures failures { S.failed sink.new ≡ S.failed sink.old + output_failures result }
 {
-    match judged(alloc, file, limit.states(), denied) {
-        Ok((judged, text)) => match put_all(sink, text.as_bytes()) {
-            Ok(()) => Ok(judged),
-            Err(_) => Err(RunFault::Output),
-        },
-        Err(fault) => Err(fault),
-    }
+    let (judged, text) = judged(alloc, file, limit.states(), denied)?;
+    put_text(sink, &text)?;
+    Ok(judged)
 }
 
 /// The text of what is found of the file that the bytes spell, and whether it is denied.
@@ -72,7 +67,8 @@ fn judged_of(
     denied: Denials,
 ) -> Result<(Judged, String), RunFault>
     requires { limit ≤ MAX_STATES }
-    ensures judged { IfOk result (λ s. (file : List ℕ) → Spells file catalogue.now → IsJudged file limit denied s.0 (string_bytes s.1)) }
+    ensures judged { IfOk result
+        (λ s. (file : List ℕ) → Spells file catalogue.now → IsJudged file limit denied s.0 (string_bytes s.1)) }
     ensures refused { IfErr result (λ fault. fault ≡ RunFault.Memory) }
 {
     match explore(alloc, catalogue, limit) {

@@ -1,22 +1,26 @@
 //! The text of what is found.
 
-ghost use Rattle.std.specs.Prelude.{◌≡◌, ◌+◌, ◌<◌, ◌^◌, ◌++◌, IfOk, OnOk, codes, length, slice_get, slice_index_or, Some, string_bytes};
+ghost use Rattle.std.specs.Prelude.{◌≡◌, ◌+◌, ◌<◌, ◌^◌, ◌++◌, IfOk, OnOk, codes, length};
+ghost use Rattle.std.specs.Prelude.{slice_get, slice_index_or, Some, string_bytes};
 ghost use Rattle.std.specs.Fmt.{decimal};
-ghost use Rattle.txn_programs.specs.Listing.{tasks};
-ghost use Rattle.explore_law.specs.Orders.{counted};
-ghost use Rattle.explore_runner.specs.FoundText.{broke_word, each_below, end_line, flag_words, found_text, more_text, parked_words, tx_line, tx_part, value_words, waiting_words};
+ghost use Rattle.explore_law.specs.Instances.{instances};
+ghost use Rattle.explore_runner.specs.FoundText.{broke_word, each_below, end_line, flag_words, found_text, more_text};
+ghost use Rattle.explore_runner.specs.FoundText.{parked_words, tx_line, tx_part, value_words, waiting_words};
 
-use crate::words::{count_at, is_parked, put_only, some_wait, value_or_zero};
-use explore::task_counts;
+use crate::words::{
+    call_at, count_at, has_calls, parks, put_only, put_run, some_wait, value_or_zero,
+};
 use explore_law::{End, Found, Kinds};
+use explore_search::instances_of;
 use std::alloc::{AllocError, Global};
 use std::fmt::Write;
 use text_report_printer::{put_number, transaction_name, variable_name};
-use txn::{AlwaysId, Catalogue};
+use txn::{AlwaysId, Call, Catalogue};
 
-/// The text of what is found of a catalogue: how many places are reached, a line for each
+/// The text of what is found of a catalogue: how many configurations are reached, a line for each
 /// transaction with tasks, which tells in which ways its turns end and whether it waits at an end,
-/// and a line for each end. `Err` means that memory was refused.
+/// and a line for each end, with the instances that wait there: as in a run, by transaction, how many
+/// tasks, and the arguments. `Err` means that memory was refused.
 pub fn print_found(
     alloc: Global,
     catalogue: &Catalogue,
@@ -24,17 +28,18 @@ pub fn print_found(
 ) -> Result<String, AllocError>
     ensures { IfOk result (λ text. string_bytes text ≡ found_text catalogue.now found.now) }
 {
-    let counts = task_counts(alloc, catalogue)?;
+    let instances = instances_of(alloc, catalogue)?;
+    let calls = instances.calls.as_slice();
     let mut out = String::new(alloc);
     put_number(&mut out, "states", found.states as u64)?;
-    put_transactions(&mut out, catalogue, counts.as_slice(), found)?;
+    put_transactions(&mut out, catalogue, calls, found)?;
     put_number(&mut out, "ends", found.ends.len() as u64)?;
-    put_ends(&mut out, catalogue, found.ends.as_slice())?;
+    put_ends(&mut out, catalogue, calls, found.ends.as_slice())?;
     out.push_str("end\n")?;
     Ok(out)
 }
 
-/// The line where more places are reached than this. `Err` means that memory was refused.
+/// The line where more configurations are reached than this. `Err` means that memory was refused.
 pub(crate) fn print_more(alloc: Global, limit: u32) -> Result<String, AllocError>
     ensures { IfOk result (λ text. string_bytes text ≡ more_text limit) }
 {
@@ -46,29 +51,32 @@ pub(crate) fn print_more(alloc: Global, limit: u32) -> Result<String, AllocError
 fn put_transactions(
     out: &mut String,
     catalogue: &Catalogue,
-    counts: &[u32],
+    calls: &[Call],
     found: &Found,
 ) -> Result<(), AllocError>
-    ensures { OnOk result (string_bytes out.new ≡ string_bytes out.old ++ each_below (tx_part catalogue.now counts.now found.now) (length catalogue.now.transactions)) }
+    ensures { OnOk result (string_bytes out.new
+        ≡ string_bytes out.old
+        ++ each_below (tx_part catalogue.now calls.now found.now) (length catalogue.now.transactions)) }
 {
     'transactions: for k in 0..catalogue.tx_count() {
-        put_transaction(out, catalogue, counts, found, k)?;
+        put_transaction(out, catalogue, calls, found, k)?;
     }
     Ok(())
 }
 
-/// Puts the line of the transaction of this number, where a task runs it.
+/// Puts the line of the transaction of this number, where one of these instances is of it.
 fn put_transaction(
     out: &mut String,
     catalogue: &Catalogue,
-    counts: &[u32],
+    calls: &[Call],
     found: &Found,
     k: usize,
 ) -> Result<(), AllocError>
-    ensures { OnOk result (string_bytes out.new ≡ string_bytes out.old ++ tx_part catalogue.now counts.now found.now k) }
+    ensures { OnOk result
+        (string_bytes out.new ≡ string_bytes out.old ++ tx_part catalogue.now calls.now found.now k) }
 {
-    if count_at(counts, k) > 0 {
-        let parks = is_parked(found.ends.as_slice(), k);
+    if has_calls(calls, k) {
+        let parks = parks(calls, found.ends.as_slice(), k);
         if let Some(kinds) = found.kinds.get(k) {
             put_kinds(out, catalogue, k, parks, kinds)?;
         }
@@ -83,7 +91,8 @@ fn put_kinds(
     parks: bool,
     kinds: &Kinds,
 ) -> Result<(), AllocError>
-    ensures { OnOk result (string_bytes out.new ≡ string_bytes out.old ++ tx_line catalogue.now k parks (Some kinds.now)) }
+    ensures { OnOk result
+        (string_bytes out.new ≡ string_bytes out.old ++ tx_line catalogue.now k parks (Some kinds.now)) }
 {
     out.push_str("tx ")?;
     out.push_str(transaction_name(catalogue, k))?;
@@ -105,7 +114,8 @@ fn put_flags(out: &mut String, kinds: &Kinds) -> Result<(), AllocError>
 }
 
 fn put_broken(out: &mut String, catalogue: &Catalogue, kinds: &Kinds) -> Result<(), AllocError>
-    ensures { OnOk result (string_bytes out.new ≡ string_bytes out.old ++ each_below (broke_word catalogue.now kinds.now) (length catalogue.now.always)) }
+    ensures { OnOk result (string_bytes out.new
+        ≡ string_bytes out.old ++ each_below (broke_word catalogue.now kinds.now) (length catalogue.now.always)) }
 {
     'conditions: for k in 0..catalogue.always().len() {
         if kinds.broke[k] {
@@ -116,28 +126,43 @@ fn put_broken(out: &mut String, catalogue: &Catalogue, kinds: &Kinds) -> Result<
     Ok(())
 }
 
-fn put_ends(out: &mut String, catalogue: &Catalogue, ends: &[End]) -> Result<(), AllocError>
-    ensures { OnOk result (string_bytes out.new ≡ string_bytes out.old ++ each_below (λ k. end_line catalogue.now k (slice_get ends.now k)) (length ends.now)) }
+fn put_ends(
+    out: &mut String,
+    catalogue: &Catalogue,
+    calls: &[Call],
+    ends: &[End],
+) -> Result<(), AllocError>
+    ensures { OnOk result (string_bytes out.new
+        ≡ string_bytes out.old
+        ++ each_below (λ k. end_line catalogue.now calls.now k (slice_get ends.now k)) (length ends.now)) }
 {
     'ends: for k in 0..ends.len() {
-        put_end(out, catalogue, k, &ends[k])?;
+        put_end(out, catalogue, calls, k, &ends[k])?;
     }
     Ok(())
 }
 
-fn put_end(out: &mut String, catalogue: &Catalogue, k: usize, end: &End) -> Result<(), AllocError>
+fn put_end(
+    out: &mut String,
+    catalogue: &Catalogue,
+    calls: &[Call],
+    k: usize,
+    end: &End,
+) -> Result<(), AllocError>
     requires { k + 1 < 2 ^ 64 }
-    ensures { OnOk result (string_bytes out.new ≡ string_bytes out.old ++ end_line catalogue.now k (Some end.now)) }
+    ensures { OnOk result
+        (string_bytes out.new ≡ string_bytes out.old ++ end_line catalogue.now calls.now k (Some end.now)) }
 {
     write!(out, "{}", k as u64 + 1)?;
     put_values(out, catalogue, end.values.as_slice())?;
-    put_parked(out, catalogue, end.waiting.as_slice())?;
+    put_parked(out, catalogue, calls, end.waiting.as_slice())?;
     out.push_str("\n")?;
     Ok(())
 }
 
 fn put_values(out: &mut String, catalogue: &Catalogue, values: &[i64]) -> Result<(), AllocError>
-    ensures { OnOk result (string_bytes out.new ≡ string_bytes out.old ++ each_below (value_words catalogue.now values.now) (length values.now)) }
+    ensures { OnOk result (string_bytes out.new
+        ≡ string_bytes out.old ++ each_below (value_words catalogue.now values.now) (length values.now)) }
 {
     'values: for k in 0..values.len() {
         put_value(out, catalogue, values, k)?;
@@ -160,21 +185,33 @@ fn put_value(
     Ok(())
 }
 
-fn put_parked(out: &mut String, catalogue: &Catalogue, waiting: &[u32]) -> Result<(), AllocError>
-    ensures { OnOk result (string_bytes out.new ≡ string_bytes out.old ++ parked_words catalogue.now waiting.now) }
+fn put_parked(
+    out: &mut String,
+    catalogue: &Catalogue,
+    calls: &[Call],
+    waiting: &[u32],
+) -> Result<(), AllocError>
+    ensures { OnOk result
+        (string_bytes out.new ≡ string_bytes out.old ++ parked_words catalogue.now calls.now waiting.now) }
 {
     if some_wait(waiting) {
         out.push_str(" parked")?;
-        put_waiting(out, catalogue, waiting)?;
+        put_waiting(out, catalogue, calls, waiting)?;
     }
     Ok(())
 }
 
-fn put_waiting(out: &mut String, catalogue: &Catalogue, waiting: &[u32]) -> Result<(), AllocError>
-    ensures { OnOk result (string_bytes out.new ≡ string_bytes out.old ++ each_below (waiting_words catalogue.now waiting.now) (length waiting.now)) }
+fn put_waiting(
+    out: &mut String,
+    catalogue: &Catalogue,
+    calls: &[Call],
+    waiting: &[u32],
+) -> Result<(), AllocError>
+    ensures { OnOk result (string_bytes out.new
+        ≡ string_bytes out.old ++ each_below (waiting_words catalogue.now calls.now waiting.now) (length waiting.now)) }
 {
     'waiting: for k in 0..waiting.len() {
-        put_count(out, catalogue, waiting, k)?;
+        put_count(out, catalogue, calls, waiting, k)?;
     }
     Ok(())
 }
@@ -182,16 +219,17 @@ fn put_waiting(out: &mut String, catalogue: &Catalogue, waiting: &[u32]) -> Resu
 fn put_count(
     out: &mut String,
     catalogue: &Catalogue,
+    calls: &[Call],
     waiting: &[u32],
     k: usize,
 ) -> Result<(), AllocError>
-    ensures { OnOk result (string_bytes out.new ≡ string_bytes out.old ++ waiting_words catalogue.now waiting.now k) }
+    ensures { OnOk result
+        (string_bytes out.new ≡ string_bytes out.old ++ waiting_words catalogue.now calls.now waiting.now k) }
 {
     let count = count_at(waiting, k);
     if count > 0 {
         out.push_str(" ")?;
-        out.push_str(transaction_name(catalogue, k))?;
-        write!(out, " {count}")?;
+        put_run(out, catalogue, &call_at(calls, k), count)?;
     }
     Ok(())
 }

@@ -5,7 +5,7 @@
 pub enum Sight {
     /// All were.
     Whole,
-    /// More places are reached than were asked for, so nothing is said of them.
+    /// More configurations are reached than were asked for, so nothing is said of them.
     More,
 }
 
@@ -16,7 +16,7 @@ pub enum Judged {
     Clear,
     /// All were, and some order comes to what is denied. The line says to what first, without its newline.
     Denied(String),
-    /// More places are reached than were asked for, so nothing is said of them.
+    /// More configurations are reached than were asked for, so nothing is said of them.
     More,
 }
 
@@ -27,6 +27,6 @@ pub enum Witnessed {
     Report,
     /// There is no end of that number.
     NoEnd,
-    /// More places are reached than were asked for, so nothing is said of them.
+    /// More configurations are reached than were asked for, so nothing is said of them.
     Beyond,
 }

@@ -2,18 +2,20 @@
 
 ghost use Rattle.std.specs.Prelude.{All, IsTrue};
 ghost use Rattle.txn_programs.specs.Told.{told};
-ghost use Rattle.explore_law.specs.Explored.{Explored, end_places};
-ghost use Rattle.explore_reports.specs.Ends.{IsWhole, NobodyWaits};
+ghost use Rattle.explore_law.specs.Explored.{Explored, end_configs};
+ghost use Rattle.explore_runner.specs.Ends.{IsWhole, NobodyWaits};
 
 use checker::{Verdict, check};
-use explore::{Found, way_to_end};
-use explore_reports::laws::{
+use explore_runner::laws::{
     ends_have_reports, nobody_waits_for_ever, reports_come_to_ends, ways_lead_to_ends,
 };
-use explore_reports::witness;
+use explore_runner::{Limit, Witnessed, witness_bytes};
+use explore_search::Found;
+use runner::Out;
 use std::alloc::Global;
+use std::str;
 use txn::{Catalogue, Report};
-use txn_text::{print_report, read_file};
+use txn_text::read_file;
 
 /// Two tasks that each take one of what one task puts there.
 const TAKERS: &str = "(var x 0)(tx take (if (eq x 0) (retry) (set x (sub x 1))) 0)\
@@ -22,30 +24,19 @@ const TAKERS: &str = "(var x 0)(tx take (if (eq x 0) (retry) (set x (sub x 1))) 
 /// Three tasks that wait for ever.
 const WAITERS: &str = "(tx t (retry) 0)(run t 3)";
 
-/// The text of the report of a run that comes to the end of this number.
-fn text_to_end(alloc: Global, catalogue: &Catalogue, end: usize) -> Option<String> {
-    let Ok(found) = way_to_end(alloc, catalogue, 1_000_000, end) else {
+/// The text of the report of a run of the file of this text that comes to the end of this number.
+pub(crate) fn report_to_end(alloc: Global, file: &str, end: usize) -> Option<String> {
+    let limit = Limit::new(1_000_000)?;
+    let mut out = Out::new(Vec::new(alloc));
+    if witness_bytes(alloc, file.as_bytes(), limit, end, &mut out) != Ok(Witnessed::Report) {
         return None;
-    };
-    let Some(way) = found else {
-        return None;
-    };
-    ways_lead_to_ends(catalogue);
-    let Ok(report) = witness(alloc, catalogue, way.as_slice()) else {
-        return None;
-    };
-    print_report(alloc, catalogue, &report).ok()
-}
-
-/// The same of the file of this text.
-fn report_to_end(alloc: Global, file: &str, end: usize) -> Option<String> {
-    match read_file(alloc, file.as_bytes()) {
-        Ok(catalogue) => text_to_end(alloc, &catalogue, end),
-        Err(_) => None,
     }
+    let bytes = out.into_inner();
+    let text = str::from_utf8(bytes.as_slice()).ok()?;
+    String::from_str(alloc, text).ok()
 }
 
-fn is_good(alloc: Global, file: &str, report: &str) -> bool {
+pub(crate) fn is_good(alloc: Global, file: &str, report: &str) -> bool {
     match check(alloc, file.as_bytes(), report.as_bytes()) {
         Ok(verdict) => verdict == Verdict::Good,
         Err(_) => false,
@@ -77,7 +68,7 @@ fn the_report_of_the_way_to_an_end_is_good(rt: HostRuntime) {
 /// Where nobody waits at any end, a report names no parked task.
 fn nobody_is_parked(catalogue: &Catalogue, found: &Found, report: &Report) -> bool
     requires explored { Explored catalogue.now found.now }
-    requires nobody { All NobodyWaits (end_places found.now) }
+    requires nobody { All NobodyWaits (end_configs found.now) }
     requires whole { IsWhole catalogue.now (told report.now) }
     ensures { IsTrue result }
 {

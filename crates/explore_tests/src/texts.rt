@@ -23,7 +23,7 @@ fn written(
 }
 
 /// All orders of the file are seen, and this is printed.
-fn expect_found(rt: &impl Abort, alloc: Global, file: &str, text: &str) {
+pub(crate) fn expect_found(rt: &impl Abort, alloc: Global, file: &str, text: &str) {
     let (bytes, answer) = written(rt, alloc, file, 1_000_000);
     assert!(rt; answer == Ok(Sight::Whole));
     assert!(rt; bytes.as_slice() == text.as_bytes());
@@ -52,15 +52,24 @@ fn each_way_to_end_is_printed(rt: HostRuntime) {
     expect_found(
         &rt,
         rt.alloc(),
-        "(stm 2)(var x 0)(always low (lt x 2))(always pos (le 0 x))(tx t (if (eq x 0) (set x 1) (if (eq x 1) (set x 2) (skip))) x)\
-        (tx z (set x (div 1 0)) x)(tx o (set x (mul 9223372036854775807 2)) x)(tx u (throw 4) x)(tx d (set x (sub x 9)) x)\
-        (run t 2)(run z 1)(run o 1)(run u 1)(run d 1)",
-        "states 48\ntx t returned broke low\ntx z zerodiv\ntx o overflow\ntx u threw\ntx d broke pos\nends 1\n1 x 1\nend\n",
+        "(stm 2)(var x 0)(always low (lt x 2))(always pos (le 0 x))\
+         (tx t (if (eq x 0) (set x 1) (if (eq x 1) (set x 2) (skip))) x)(tx z (set x (div 1 0)) x)\
+         (tx o (set x (mul 9223372036854775807 2)) x)(tx u (throw 4) x)(tx d (set x (sub x 9)) x)\
+         (run t 2)(run z 1)(run o 1)(run u 1)(run d 1)",
+        "states 48\n\
+         tx t returned broke low\n\
+         tx z zerodiv\n\
+         tx o overflow\n\
+         tx u threw\n\
+         tx d broke pos\n\
+         ends 1\n\
+         1 x 1\n\
+         end\n",
     );
 }
 
 #[test]
-fn more_places_are_one_line(rt: HostRuntime) {
+fn more_configs_are_one_line(rt: HostRuntime) {
     let file = "(var x 5)(tx inc (set x (add x 1)) x)(run inc 2)";
     let (bytes, answer) = written(&rt, rt.alloc(), file, 2);
     assert!(rt; answer == Ok(Sight::More));
@@ -119,7 +128,9 @@ fn the_report_that_comes_to_an_end_is_printed(rt: HostRuntime) {
     assert!(rt; answer == Ok(Witnessed::Report));
     assert!(rt;
         bytes.as_slice()
-            == b"base 0\nx 0 0\nentry 1 1 one returned 1\nentry 2 2 one returned 2\nnow 2\nx 2 2\nparked 0 two\nend\n".as_slice()
+            == b"base 0\nx 0 0\nentry 1 1 one returned 1\nentry 2 2 one returned 2\n\
+                now 2\nx 2 2\nparked 0 two\nend\n"
+                .as_slice()
     );
     let (bytes, answer) = witnessed(&rt, rt.alloc(), file, 2);
     assert!(rt; answer == Ok(Witnessed::NoEnd) && bytes.is_empty());
@@ -173,10 +184,19 @@ fn what_is_denied_is_told(rt: HostRuntime) {
     let alloc = rt.alloc();
     let cases = [
         (Denial::Parked, "stm: denied: parked: see --to 2"),
-        (Denial::Threw, "stm: denied: u threw"),
-        (Denial::Broke, "stm: denied: d broke pos"),
-        (Denial::Overflow, "stm: denied: o overflow"),
-        (Denial::ZeroDiv, "stm: denied: z zerodiv"),
+        (Denial::Threw, "stm: denied: u threw: see --find u threw"),
+        (
+            Denial::Broke,
+            "stm: denied: d broke pos: see --find d 'broke pos'",
+        ),
+        (
+            Denial::Overflow,
+            "stm: denied: o overflow: see --find o overflow",
+        ),
+        (
+            Denial::ZeroDiv,
+            "stm: denied: z zerodiv: see --find z zerodiv",
+        ),
     ];
     for (denial, line) in cases {
         expect_line(&rt, alloc, ALL_WAYS, &[denial], Some(line));
@@ -188,7 +208,13 @@ fn what_is_denied_is_told(rt: HostRuntime) {
 fn the_first_that_is_denied_is_told(rt: HostRuntime) {
     let alloc = rt.alloc();
     let both = [Denial::Overflow, Denial::ZeroDiv];
-    expect_line(&rt, alloc, ALL_WAYS, &both, Some("stm: denied: o overflow"));
+    expect_line(
+        &rt,
+        alloc,
+        ALL_WAYS,
+        &both,
+        Some("stm: denied: o overflow: see --find o overflow"),
+    );
     let file =
         "(var x 0)(tx a (set x 1) x)(tx b (if (eq x 0) (set x 2) (retry)) x)(run a 1)(run b 1)";
     let all = [
@@ -209,7 +235,7 @@ fn the_first_that_is_denied_is_told(rt: HostRuntime) {
 }
 
 #[test]
-fn more_places_than_may_be_seen_are_not_judged(rt: HostRuntime) {
+fn more_configs_than_may_be_seen_are_not_judged(rt: HostRuntime) {
     let file = "(tx t (throw 1) 0)(run t 100)";
     let (bytes, answer) = judged(&rt, rt.alloc(), file, &[Denial::Threw]);
     assert!(rt; answer == Ok(Judged::More));

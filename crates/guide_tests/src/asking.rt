@@ -1,6 +1,7 @@
 //! A host that asks a store for transactions, and prints what each of them answers.
 
-ghost use Rattle.std.specs.Prelude.{◌<◌, length};
+ghost use Rattle.std.specs.Prelude.{[]};
+ghost use Rattle.txn_programs.specs.Listing.{IsCallable};
 
 use crate::hosting::told;
 use std::alloc::{AllocError, Global};
@@ -23,9 +24,9 @@ fn ask(
     lender: &mut Lender,
     tx: TxId,
 ) -> Result<String, AllocError>
-    requires { tx.0 < length store.old.catalogue.now.transactions }
+    requires { IsCallable store.old.catalogue.now tx [] }
 {
-    match store.call_lent(lender, tx) {
+    match store.call_lent(lender, tx, &[]) {
         Called::Ran(turned) => line(alloc, turned),
         Called::NoRoom => String::from_str(alloc, "no room"),
         Called::Retries => String::from_str(alloc, "not now"),
@@ -59,7 +60,7 @@ fn answers(
     let Some(tx) = store.catalogue().tx_id(name) else {
         panic!(rt; "no transaction")
     };
-    assert!(rt; (tx.0 as usize) < store.catalogue().tx_count());
+    assert!(rt; store.catalogue().is_callable(tx, &[]));
     match ask(alloc, store, lender, tx) {
         Ok(text) => assert!(rt; text.as_str() == wanted, "{text}"),
         Err(_) => panic!(rt; "no memory"),

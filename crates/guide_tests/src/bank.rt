@@ -1,13 +1,13 @@
 //! A day with three accounts.
 
 ghost use Rattle.std.specs.Prelude.{IfOk};
-ghost use Rattle.host_bank.specs.Balances.{IsBank};
+ghost use Rattle.example_bank.specs.Balances.{IsBank};
 
-use host_bank::{BankFault, day, declared, transfer};
+use example_bank::{BankFault, day, declared, transfer};
 use std::alloc::{AllocError, Global};
 use std::process::Abort;
 use stm_store::Program;
-use txn::{BuildFault, Expr, Stmt, Tx, TxId, VarId};
+use txn::{Arguments, BuildFault, Call, Expr, Stmt, Tx, TxId, VarId};
 
 const RENT: VarId = VarId(0);
 
@@ -31,6 +31,7 @@ fn accounts(alloc: Global, rent: i64) -> Result<Vec<(String, i64)>, AllocError> 
 fn forge(alloc: Global) -> Result<Tx, AllocError> {
     Ok(Tx {
         name: String::from_str(alloc, "forge")?,
+        params: Vec::new(alloc),
         body: Stmt::Set(RENT, Expr::Int(1_000_000)),
         result: Expr::Int(0),
     })
@@ -44,8 +45,16 @@ fn transactions(alloc: Global) -> Result<Vec<Tx>, AllocError> {
 }
 
 /// Forty payments, of which most wait for the loan, and thirty savings, which wait for payments.
-fn runs(alloc: Global) -> Result<Vec<(TxId, u32)>, AllocError> {
-    Ok(vec![in alloc; (TxId(1), 30), (TxId(0), 40), (TxId(3), 1), (TxId(2), 1)]?)
+fn runs(alloc: Global) -> Result<Vec<(Call, u32)>, AllocError> {
+    Ok(vec![in alloc; (call(1), 30), (call(0), 40), (call(3), 1), (call(2), 1)]?)
+}
+
+/// The call of a transaction without arguments.
+fn call(tx: u32) -> Call {
+    Call {
+        tx: TxId(tx),
+        arguments: Arguments::none(),
+    }
 }
 
 /// The bank of all that, whose first account has so much.

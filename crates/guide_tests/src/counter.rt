@@ -2,7 +2,8 @@
 
 use std::alloc::{AllocError, Global};
 use stm_library::{
-    BuildFault, Catalogue, Expr, OpenGate, Options, Stmt, Tx, TxId, VarId, run_tasks,
+    Arguments, BuildFault, Call, Catalogue, Expr, OpenGate, Options, Stmt, Tx, TxId, VarId,
+    run_tasks,
 };
 
 const X: VarId = VarId(0);
@@ -15,6 +16,7 @@ fn increment(alloc: Global) -> Result<Tx, AllocError> {
     );
     Ok(Tx {
         name: String::from_str(alloc, "inc")?,
+        params: Vec::new(alloc),
         body: Stmt::Set(X, one_more),
         result: Expr::Var(X),
     })
@@ -27,9 +29,13 @@ fn variables(alloc: Global) -> Result<Vec<(String, i64)>, AllocError> {
 }
 
 /// The transaction, and `(run inc 1000)`.
-fn tasks(alloc: Global) -> Result<(Vec<Tx>, Vec<(TxId, u32)>), AllocError> {
+fn tasks(alloc: Global) -> Result<(Vec<Tx>, Vec<(Call, u32)>), AllocError> {
     let transactions = vec![in alloc; increment(alloc)?]?;
-    let runs = vec![in alloc; (TxId(0), 1000)]?;
+    let increment = Call {
+        tx: TxId(0),
+        arguments: Arguments::none(),
+    };
+    let runs = vec![in alloc; (increment, 1000)]?;
     Ok((transactions, runs))
 }
 

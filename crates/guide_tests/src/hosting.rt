@@ -1,6 +1,8 @@
-//! A store of one's own: a worker tries a task with no lock, and the store, which a lock would guard, is brought the end.
+//! A store of one's own: a worker tries a task with no lock, and the store, which a lock would guard, is brought the
+//! end.
 
-ghost use Rattle.std.specs.Prelude.{◌≡◌, ◌<◌, ◌≤◌, length};
+ghost use Rattle.std.specs.Prelude.{◌≡◌, ◌≤◌};
+ghost use Rattle.txn_programs.specs.Listing.{IsCallable};
 
 use std::alloc::{AllocError, Global};
 use std::process::Abort;
@@ -16,11 +18,12 @@ const TRIES: u32 = 8;
 /// meanwhile what it read it is tried again, and after some tries it has its turn under the lock.
 fn serve(store: &mut Store, worker: &mut Worker, job: Job) -> Served
     requires same { worker.old.catalogue.now ≡ store.old.catalogue.now }
-    requires known { job.tx.0 < length worker.old.catalogue.now.transactions }
+    requires known { IsCallable worker.old.catalogue.now job.tx job.arguments }
     ensures { worker.new.catalogue.now ≡ store.new.catalogue.now }
 {
+    let job = &job;
     for _ in 0..TRIES {
-        if worker.try_job(job) != Tried::Ended {
+        if worker.try_job(*job) != Tried::Ended {
             continue;
         }
         match store.finish(worker) {
@@ -48,7 +51,7 @@ fn line(alloc: Global, served: Served) -> Result<String, AllocError> {
     match served {
         Served::Committed(entered) => told(alloc, entered),
         Served::Parked => String::from_str(alloc, "waits"),
-        Served::Abandoned => String::from_str(alloc, "given up for want of memory"),
+        Served::Abandoned => String::from_str(alloc, "given up as memory ran out"),
         Served::NotRunning => String::from_str(alloc, "not ours"),
     }
 }
@@ -109,10 +112,10 @@ fn prints(
 
 /// A look at the first transaction answers this.
 fn looks(rt: &impl Abort, worker: &mut Worker, seen: Observed) {
-    if worker.catalogue().tx_count() == 0 {
+    if !worker.catalogue().is_callable(TxId(0), &[]) {
         panic!(rt; "no transaction");
     }
-    assert!(rt; worker.observe(TxId(0)) == seen);
+    assert!(rt; worker.observe(TxId(0), &[]) == seen);
 }
 
 /// The store's report is this text.

@@ -1,5 +1,5 @@
-//! The code of docs/EMBEDDING.md and of README, compiled, proved and run by the gate: each block of code there stands
-//! here, line by line. And tests of the public calls of `host_bank` and `host_scheduler`, the hosts that EMBEDDING shows.
+//! The code in Rattle that docs/EMBEDDING.md shows or names, compiled, proved and run by the gate: each block there
+//! stands here, line by line. And tests of the public calls of `example_bank` and `example_scheduler`.
 #![tactic(auto)]
 
 #[cfg(test)]

@@ -2,7 +2,7 @@
 
 ghost use Rattle.std.specs.Prelude.{true};
 
-use host_scheduler::{PlanFault, Step, Work, run};
+use example_scheduler::{PlanFault, Step, Work, run};
 use std::alloc::{AllocError, Global};
 use std::sync::atomic::{AtomicU64, Ordering};
 use std::thread;

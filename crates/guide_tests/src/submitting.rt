@@ -5,8 +5,8 @@ ghost use Rattle.std.specs.Prelude.{◌≡◌};
 use std::alloc::Global;
 use std::process::Abort;
 use stm_library::{
-    Brought, Counts, Entered, Job, Outcome, Program, ReportFault, Store, TaskId, Ticket, Tried,
-    TxId, Verdict, Worker, check,
+    Arguments, Brought, Counts, Entered, Job, Outcome, Program, ReportFault, Store, TaskId, Ticket,
+    Tried, TxId, Verdict, Worker, check,
 };
 
 const FILE: &str =
@@ -18,10 +18,10 @@ fn comes_in(store: &mut Store, name: &str) -> Option<Ticket>
     ensures { store.new.catalogue.now ≡ store.old.catalogue.now }
 {
     let tx = store.catalogue().tx_id(name)?;
-    if tx.0 as usize >= store.catalogue().tx_count() {
+    if !store.catalogue().is_callable(tx, &[]) {
         return None;
     }
-    store.submit(tx)
+    store.submit(tx, &[])
 }
 
 /// A store of the file with room for so many tasks more, and its worker.
@@ -65,6 +65,7 @@ fn job(task: u32, tx: TxId) -> Job {
         chapter: 0,
         task: TaskId(task),
         tx,
+        arguments: Arguments::none(),
     }
 }
 
@@ -143,15 +144,25 @@ fn tasks_come_in_while_others_run(rt: HostRuntime) {
 fn a_task_that_comes_in_wakes_those_that_wait(rt: HostRuntime) {
     let alloc = rt.alloc();
     let (mut store, mut worker) = opened(&rt, alloc, 1);
-    let get = job(0, GET);
-    let put = job(1, PUT);
-    ends(&rt, &mut store, &mut worker, get, Brought::Parked);
+    ends(&rt, &mut store, &mut worker, job(0, GET), Brought::Parked);
     assert_eq!(rt; store.take(), None);
     assert!(rt; store.report_now().is_ok());
     assert_eq!(rt; comes_in(&mut store, "put"), Some(Ticket(1)));
-    ends(&rt, &mut store, &mut worker, put, committed(1, 1));
-    ends(&rt, &mut store, &mut worker, get, committed(2, 0));
+    ends(&rt, &mut store, &mut worker, job(1, PUT), committed(1, 1));
+    ends(&rt, &mut store, &mut worker, job(0, GET), committed(2, 0));
     agree(&rt, alloc, &mut store);
+}
+
+/// The worker tries this job to its end.
+fn tries(rt: &impl Abort, worker: &mut Worker, job: Job)
+    ensures { worker.new.catalogue.now ≡ worker.old.catalogue.now }
+{
+    assert!(rt;
+        worker
+            .catalogue()
+            .is_callable(job.tx, job.arguments.as_slice())
+    );
+    assert!(rt; worker.try_job(job) == Tried::Ended);
 }
 
 #[test]
@@ -159,12 +170,10 @@ fn a_task_of_another_store_is_not_brought(rt: HostRuntime) {
     let alloc = rt.alloc();
     let (mut store, mut worker) = opened(&rt, alloc, 1);
     assert_eq!(rt; store.finish(&mut worker), Brought::NotEnded);
-    let stranger = job(1, PUT);
-    assert!(rt; (stranger.tx.0 as usize) < worker.catalogue().tx_count());
-    assert_eq!(rt; worker.try_job(stranger), Tried::Ended);
+    tries(&rt, &mut worker, job(1, PUT));
     assert_eq!(rt; store.finish(&mut worker), Brought::OtherTask);
     assert_eq!(rt; comes_in(&mut store, "get"), Some(Ticket(1)));
-    assert_eq!(rt; worker.try_job(stranger), Tried::Ended);
+    tries(&rt, &mut worker, job(1, PUT));
     assert_eq!(rt; store.finish(&mut worker), Brought::OtherTask);
     assert_eq!(rt; store.finish(&mut worker), Brought::NotEnded);
 }

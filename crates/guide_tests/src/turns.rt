@@ -1,4 +1,5 @@
-//! A book of one's own, turn by turn, with no other thread: take a task, let it have its turn, look at what became of it.
+//! A book of one's own, turn by turn, with no other thread: take a task, let it have its turn, look at what became of
+//! it.
 
 use std::alloc::Global;
 use stm_library::{Book, Catalogue, Cells, Memory, Report, Serial, TxId, read_file};
@@ -24,13 +25,13 @@ fn each_in_turn(alloc: Global, catalogue: &Catalogue) -> Result<Report, Memory> 
 /// All tasks have their turns, and then one task more of the transaction, which may wake others.
 /// `None` where there is no such transaction, or there are as many tasks as there may be.
 fn and_one_more(alloc: Global, catalogue: &Catalogue, tx: TxId) -> Result<Option<Report>, Memory> {
-    if catalogue.tasks() == 65536 || tx.0 as usize >= catalogue.tx_count() {
+    if catalogue.tasks() == 65536 || !catalogue.is_callable(tx, &[]) {
         return Ok(None);
     }
     let (cells, publisher) = Cells::unread(alloc, catalogue.initial())?;
     let mut book = Book::open_with_room(alloc, catalogue, &cells, publisher, 1)?;
     book.drain(alloc, 0);
-    let _task = book.submit(tx);
+    let _task = book.submit(tx, &[]);
     book.drain(alloc, 0);
     Ok(Some(book.into_report(alloc)?))
 }

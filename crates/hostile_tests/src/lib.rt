@@ -1,8 +1,8 @@
 //! Tests of hostile use: each request for memory refused in turn, writers that fail at each call, and the limits with
-//! ample memory, where nothing answers want of memory, since none was refused.
+//! ample memory, where nothing answers that memory ran out, since none was refused.
 //!
 //! A test of a `refused` module holds with ample memory, and also where any one request for memory is
-//! refused: `hostile/gate` runs each of them so, for each request that it makes.
+//! refused: `hostile/all` runs each of them so, for each request that it makes.
 #![tactic(auto)]
 
 #[cfg(test)]
@@ -33,6 +33,8 @@ mod refused_book;
 mod refused_bytes;
 #[cfg(test)]
 mod refused_cells;
+#[cfg(test)]
+mod refused_index;
 #[cfg(test)]
 mod refused_workers;
 #[cfg(test)]

@@ -196,7 +196,8 @@ const MANY_WRITES_AND_INSTRUCTIONS_HAVE_ROOM: &[Part<'static>] = &[
         first: 0,
         times: 1,
         words: &[
-            "(var x 5)(var y 5)(tx turns (orelse (repeat 999 (repeat 51 (seq (set x 1) (set y 2)))) (skip)) x)(tx sums (seq",
+            "(var x 5)(var y 5)(tx turns (orelse (repeat 999 (repeat 51 (seq (set x 1) (set y 2)))) (skip)) x)(tx \
+                sums (seq",
         ],
     },
     Part {

@@ -1,6 +1,6 @@
 //! Observers and passes at their limits.
 
-ghost use Rattle.std.specs.Prelude.{◌≡◌, ◌<◌, length};
+ghost use Rattle.std.specs.Prelude.{◌≡◌, length};
 
 use crate::limit_texts::{Part, text_of};
 use cells::{Cells, Pass};
@@ -38,9 +38,11 @@ pub(crate) const READS_ALL: &[Part<'static>] = &[
 fn sees_five(alloc: Global, cells: &Cells, pass: &mut Pass, catalogue: &Catalogue) -> bool
     requires own { pass.old.cells ≡ cells.now }
     requires variables { cells.now.variables ≡ length catalogue.now.initial }
-    requires some { 0 < length catalogue.now.transactions }
 {
-    observe(alloc, cells, pass, catalogue, TxId(0)) == Observed::Outcome(Outcome::Returned(5))
+    if !catalogue.is_callable(TxId(0), &[]) {
+        return false;
+    }
+    observe(alloc, cells, pass, catalogue, TxId(0), &[]) == Observed::Outcome(Outcome::Returned(5))
 }
 
 /// The first and the last of 32 readers observe the transaction.

@@ -33,7 +33,7 @@ fn report_of(
     }
 }
 
-/// How many lines the text has, and whether one of them tells want of memory: that of a task in a
+/// How many lines the text has, and whether one of them tells that memory ran out: that of a task in a
 /// report, or that of a move of a schedule.
 pub(crate) fn lines_of(text: &[u8]) -> (usize, bool) {
     let mut lines = 0usize;
@@ -45,14 +45,14 @@ pub(crate) fn lines_of(text: &[u8]) -> (usize, bool) {
     (lines, wants)
 }
 
-/// Whether nothing is stopped by want of memory in the report, and it is lawful.
+/// Whether nothing is given up as memory ran out in the report, and it is lawful.
 fn is_whole(alloc: Global, file: &[u8], report: &[u8], wanted: &Wanted) -> bool {
     lines_of(report) == (wanted.lines, false)
         && report.ends_with(wanted.end.as_bytes())
         && check(alloc, file, report) == Ok(Verdict::Good)
 }
 
-/// The file is run and reported with nothing stopped by want of memory, and the report is lawful.
+/// The file is run and reported with nothing given up as memory ran out, and the report is lawful.
 fn runs_file(
     rt: &(impl Abort + Threads + Wait + Sync),
     alloc: Global,

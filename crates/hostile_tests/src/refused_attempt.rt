@@ -48,8 +48,8 @@ fn is_driven(attempt: &mut Attempt<'_>) -> bool {
 
 /// An attempt of the first transaction is driven so.
 pub(crate) fn drives(rt: &impl Abort, alloc: Global, catalogue: &Catalogue) {
-    assert!(rt; catalogue.tx_count() > 0);
-    let mut attempt = Attempt::new(alloc, catalogue, TxId(0));
+    assert!(rt; catalogue.is_callable(TxId(0), &[]));
+    let mut attempt = Attempt::new(alloc, catalogue, TxId(0), &[]);
     assert!(rt; is_driven(&mut attempt));
 }
 

@@ -59,7 +59,12 @@ fn exists(rt: &impl Abort, book: &Book<'_>, catalogue: &Catalogue)
 /// Whether memory is refused to an attempt of task 0.
 fn is_refused(rt: &impl Abort, alloc: Global, catalogue: &Catalogue) -> bool {
     assert!(rt; catalogue.tasks() > 0);
-    let mut attempt = Attempt::new(alloc, catalogue, catalogue.task_tx(A));
+    let mut attempt = Attempt::new(
+        alloc,
+        catalogue,
+        catalogue.task_tx(A),
+        catalogue.task_arguments(A),
+    );
     'needs: for _variable in 0..u8::MAX {
         match attempt.advance() {
             Next::Need(x) => {

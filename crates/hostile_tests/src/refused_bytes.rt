@@ -10,7 +10,7 @@ use txn_text::ReadFault;
 use world_runner::world_bytes;
 
 /// More than any text here is long.
-const ROOM: usize = 512;
+const SINK_ROOM: usize = 512;
 
 const INCREMENTS: &str = "(var x 5)(tx inc (set x (add x 1)) x)(run inc 2)";
 
@@ -76,9 +76,9 @@ fn expect_good(rt: &(impl Threads + Wait + Sync + Abort), alloc: Global, file: &
     let Some(options) = Options::new(1, 8, 0) else {
         panic!(rt; "options");
     };
-    let mut room = [0u8; ROOM];
+    let mut room = [0u8; SINK_ROOM];
     let (fault, count) = run(rt, alloc, file, options, room.as_mut_slice());
-    assert!(rt; count < ROOM);
+    assert!(rt; count < SINK_ROOM);
     match fault {
         Some(fault) => assert!(rt; fault == RunFault::Memory && count == 0),
         None => {
@@ -88,7 +88,7 @@ fn expect_good(rt: &(impl Threads + Wait + Sync + Abort), alloc: Global, file: &
     }
 }
 
-/// Whether the lines are those of the whole text, up to the first that tells want of memory.
+/// Whether the lines are those of the whole text, up to the first that tells that memory ran out.
 fn is_seen(lines: &[u8]) -> bool {
     let mut wanted = SEEN.as_bytes().split(|byte| *byte == b'\n');
     for line in lines.split(|byte| *byte == b'\n') {
@@ -181,9 +181,9 @@ fn a_check_has_its_verdict_or_none(rt: HostRuntime) {
 
 #[test]
 fn a_schedule_shows_nothing_or_what_is_seen(rt: HostRuntime) {
-    let mut room = [0u8; ROOM];
+    let mut room = [0u8; SINK_ROOM];
     let (fault, count) = play(rt.alloc(), room.as_mut_slice());
-    assert!(rt; count < ROOM);
+    assert!(rt; count < SINK_ROOM);
     match fault {
         Some(fault) => assert!(rt; fault == RunFault::Memory && count == 0),
         None => assert!(rt; is_seen(&room[..count])),

@@ -22,7 +22,7 @@ const EIGHT: &str =
 const EIGHT_END: &[u8] = b"\nnow 3\na 17 3\nb 2 0\nc 3 0\nd 4 0\ne 5 0\nf 6 0\ng 7 0\nh 8 0\nend\n";
 
 /// More than its report is long.
-const ROOM: usize = 256;
+const SINK_ROOM: usize = 256;
 
 /// How often an attempt ended, and how often a task was over.
 #[derive(Drop)]
@@ -54,15 +54,15 @@ fn a_task_is_given_up_where_its_attempt_is_refused(rt: HostRuntime) {
         ended: AtomicU64::new(0),
         over: AtomicU64::new(0),
     };
-    let mut room = [0u8; ROOM];
+    let mut room = [0u8; SINK_ROOM];
     let mut out = Out::new(room.as_mut_slice());
     let ran = run_bytes(&rt, rt.alloc(), BRANCH.as_bytes(), options, &gate, &mut out);
     let left = out.into_inner().len();
     match ran {
-        Err(fault) => assert!(rt; fault == RunFault::Memory && left == ROOM),
+        Err(fault) => assert!(rt; fault == RunFault::Memory && left == SINK_ROOM),
         Ok(()) => {
-            assert!(rt; left <= ROOM);
-            let report = &room[..ROOM - left];
+            assert!(rt; left <= SINK_ROOM);
+            let report = &room[..SINK_ROOM - left];
             let is_given_up = report.ends_with(b"\nmemory 0 t\nend\n");
             let ended = gate.ended.load(Ordering::SeqCst);
             assert!(rt; is_given_up || report.ends_with(b"\nnow 1\nx 7 1\nend\n"));
@@ -77,15 +77,15 @@ fn expect_all<G: Gate>(rt: &(impl Threads + Wait + Sync + Abort), alloc: Global,
     let Some(options) = Options::new(1, 1, 0) else {
         panic!(rt; "options")
     };
-    let mut room = [0u8; ROOM];
+    let mut room = [0u8; SINK_ROOM];
     let mut out = Out::new(room.as_mut_slice());
     let ran = run_bytes(rt, alloc, EIGHT.as_bytes(), options, gate, &mut out);
     let left = out.into_inner().len();
     match ran {
-        Err(fault) => assert!(rt; fault == RunFault::Memory && left == ROOM),
+        Err(fault) => assert!(rt; fault == RunFault::Memory && left == SINK_ROOM),
         Ok(()) => {
-            assert!(rt; left <= ROOM);
-            assert!(rt; room[..ROOM - left].ends_with(EIGHT_END));
+            assert!(rt; left <= SINK_ROOM);
+            assert!(rt; room[..SINK_ROOM - left].ends_with(EIGHT_END));
         }
     }
 }

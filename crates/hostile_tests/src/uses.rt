@@ -56,7 +56,8 @@ pub(crate) fn lines_after_refusal(
     world: &mut World<'_>,
     event: Event,
 ) -> Option<()>
-    ensures { IfSome result (λ u. PutsWorld world.old.listing world.old.world (string_bytes out.old) (string_bytes out.new)) }
+    ensures { IfSome result
+        (λ u. PutsWorld world.old.listing world.old.world (string_bytes out.old) (string_bytes out.new)) }
 {
     match world.step(event) {
         Ok(_) => None,

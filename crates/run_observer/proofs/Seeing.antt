@@ -4,7 +4,7 @@ use Rattle.txn_programs.specs.declared.ast.Outcome.{Outcome}
 use Rattle.txn_programs.specs.declared.ast.Outcome.TheVariants.{Returned, Thrown, Retries}
 use Rattle.txn_programs.specs.declared.ast.TxId.{TxId}
 use Rattle.txn_programs.specs.declared.ast.VarId.{VarId}
-use Rattle.txn_programs.specs.Listing.{Listing, program_at}
+use Rattle.txn_programs.specs.Listing.{Listing, call_program, program_at}
 use Rattle.txn_programs.specs.Meaning.{State, value_at, outcome}
 use Rattle.txn_programs.specs.Tree.{Program}
 use Rattle.txn_words.specs.Words.{state_value, state_of, StartsWith}
@@ -21,6 +21,7 @@ use Rattle.attempt.specs.declared.next.Stand.TheVariants.{Over, Needs, Fresh, Sp
 use Rattle.cells.specs.Cells.{CellsId}
 use Rattle.cells.specs.Passing.{Passing, at, BeginsBy}
 use Rattle.cells.specs.Answers.{AgreesUpTo}
+use Rattle.attempt.proofs.Calls.{call_small}
 use Rattle.attempt.proofs.Logs.{Going, agrees_more, known_more, apart_more, few_more, few_apart}
 use Rattle.run_observer.specs.Observing.{ObservesBy, ShowsChange, IsStaleFrom, Moment, moment, StaysAt, TellsBy, MovesOn, ShowsOther, IsCutFrom, EvaluatesTo, LacksMemory}
 
@@ -41,8 +42,8 @@ pub stays_at : (p q : Passing) → moment q ≡ moment p → StaysAt p q
 stays_at p q e = (ap (λ (k : Moment). k.clock_loads) e, ap (λ (k : Moment). k.seen) e, ap (λ (k : Moment). k.rv) e)
 
 -- the outcome of an attempt's program is that of the transaction
-pub ends : (l : Listing) (tx : TxId) (t : Program) (m : State) (o : Outcome) → t ≡ program_at l tx → outcome t m ≡ o → outcome (program_at l tx) m ≡ o
-ends l tx t m o own h = ap (λ (u : Program). outcome u m) (sym own) ∙ h
+pub ends : (l : Listing) (tx : TxId) (given : List ℤ) (t : Program) (m : State) (o : Outcome) → t ≡ call_program l tx given → outcome t m ≡ o → outcome (call_program l tx given) m ≡ o
+ends l tx given t m o own h = ap (λ (u : Program). outcome u m) (sym own) ∙ h
 
 -- a log's variables, by their places
 pub known_each : (n : ℕ) (log : Known) → AllKnown n log → (i : ℕ) → i < length log → id_of log i < n
@@ -116,8 +117,8 @@ cut_stale p q r n log h g t (moves, closed, why) = (
 )
 
 -- an attempt that was told one more variable goes on in the state to which the pass moved
-pub going_told : (l : Listing) (tx : TxId) (m m' : State) (b b' : AttemptView) (x : VarId) (v : ℤ) → x.0 < length l.initial → known_at b.log x ≡ None → b' ≡ supplied b x v → (Agrees b.log m → Agrees b'.log m') → Going l tx m b → Going l tx m' b'
-going_told l tx m m' b b' x v low new is agrees h =
+pub going_told : (l : Listing) (tx : TxId) (given : List ℤ) (m m' : State) (b b' : AttemptView) (x : VarId) (v : ℤ) → x.0 < length l.initial → known_at b.log x ≡ None → b' ≡ supplied b x v → (Agrees b.log m → Agrees b'.log m') → Going l tx given m b → Going l tx given m' b'
+going_told l tx given m m' b b' x v low new is agrees h =
     record {
       program = ap (λ (s : AttemptView). s.program) is ∙ h.program;
       variables = ap (λ (s : AttemptView). s.variables) is ∙ h.variables;
@@ -131,19 +132,19 @@ pub agrees_told : (b b' : AttemptView) (m : State) (x : VarId) → b' ≡ suppli
 agrees_told b b' m x is h = subst (λ (s : AttemptView). Agrees s.log m) (sym is) (agrees_more b.log m x (value_at m x) h refl)
 
 -- what an attempt needs is not in its log, so the log has room for it
-pub room_for : (l : Listing) (tx : TxId) (m : State) (b : AttemptView) (x : VarId) → Going l tx m b → x.0 < b.variables → known_at b.log x ≡ None → (x.0 < length l.initial) × (length b.log < length l.initial)
-room_for l tx m b x h low new =
+pub room_for : (l : Listing) (tx : TxId) (given : List ℤ) (m : State) (b : AttemptView) (x : VarId) → Going l tx given m b → x.0 < b.variables → known_at b.log x ≡ None → (x.0 < length l.initial) × (length b.log < length l.initial)
+room_for l tx given m b x h low new =
     let known : x.0 < length l.initial = omega (arith, low, h.variables) in
     (known, few_more (length l.initial) b.log x (value_at m x) h.apart h.known new known)
 
 -- so a pass that moved at most once for each variable of the log did so for each variable at most
-pub observes : (l : Listing) (tx : TxId) (m : State) (a : AttemptView) (p q : Passing) → Going l tx m a → Moving p q (length a.log) → q.cells.variables ≡ length l.initial → ObservesBy p q
-observes l tx m a p q g h wide = moving_few p q (length a.log) h (omega (arith, few_apart (length l.initial) a.log g.apart g.known, wide))
+pub observes : (l : Listing) (tx : TxId) (given : List ℤ) (m : State) (a : AttemptView) (p q : Passing) → Going l tx given m a → Moving p q (length a.log) → q.cells.variables ≡ length l.initial → ObservesBy p q
+observes l tx given m a p q g h wide = moving_few p q (length a.log) h (omega (arith, few_apart (length l.initial) a.log g.apart g.known, wide))
 
 -- an attempt that read in place goes on in the state at which the pass stays
-pub read_on : (l : Listing) (tx : TxId) (p q r : Passing) (a b : AttemptView) → r.cells ≡ q.cells → StaysAt q r → length a.log ≤ length b.log → b.program ≡ a.program → b.variables ≡ a.variables →
-    (Agrees a.log (at q) → Agrees b.log (at q)) → AllKnown b.variables b.log → Apart b.log → Going l tx (at q) a → Moving p q (length a.log) → Going l tx (at r) b × Moving p r (length b.log)
-read_on l tx p q r a b cells stays grows program variables agrees known apart g h = (
+pub read_on : (l : Listing) (tx : TxId) (given : List ℤ) (p q r : Passing) (a b : AttemptView) → r.cells ≡ q.cells → StaysAt q r → length a.log ≤ length b.log → b.program ≡ a.program → b.variables ≡ a.variables →
+    (Agrees a.log (at q) → Agrees b.log (at q)) → AllKnown b.variables b.log → Apart b.log → Going l tx given (at q) a → Moving p q (length a.log) → Going l tx given (at r) b × Moving p r (length b.log)
+read_on l tx given p q r a b cells stays grows program variables agrees known apart g h = (
   record {
     program = program ∙ g.program;
     variables = variables ∙ g.variables;
@@ -169,10 +170,10 @@ end_needs_none Retries n x e f = cc
 pub memory_needs_none : (n : Next) (x : VarId) → n ≡ next.Memory → n ≢ next.Need x
 memory_needs_none n x e f = cc
 
--- an answer of want of memory has spent the attempt, whose program may take some
-pub lacks_more : (l : Listing) (tx : TxId) (m : State) (n : Next) (a b : AttemptView) → n ≡ next.Memory → Answers n b → Going l tx m a → a.stand ≡ Fresh → (NeedsNoMemory a.program → a.stand ≢ Spent → n ≢ next.Memory) → LacksMemory l tx b
-lacks_more l tx m n a b e says g fresh short = (
-  λ small. absurd (short (subst NeedsNoMemory (sym g.program) small) (λ spent. fresh_stays (sym fresh ∙ spent)) e),
+-- an answer that memory ran out has spent the attempt, whose program may take some
+pub lacks_more : (l : Listing) (tx : TxId) (given : List ℤ) (m : State) (n : Next) (a b : AttemptView) → n ≡ next.Memory → Answers n b → Going l tx given m a → a.stand ≡ Fresh → (NeedsNoMemory a.program → a.stand ≢ Spent → n ≢ next.Memory) → LacksMemory l tx b
+lacks_more l tx given m n a b e says g fresh short = (
+  λ small. absurd (short (subst NeedsNoMemory (sym g.program) (call_small given (program_at l tx) small)) (λ spent. fresh_stays (sym fresh ∙ spent)) e),
   inl (subst (λ (k : Next). Answers k b) e says),
 )
   where
@@ -180,17 +181,17 @@ lacks_more l tx m n a b e says g fresh short = (
     fresh_stays e = cc
 
 -- an attempt that needs a variable, and was told nothing for want of room
-pub lacks_room : (l : Listing) (tx : TxId) (m : State) (n : Next) (x : VarId) (b d : AttemptView) → n ≡ next.Need x → Answers n b → Going l tx m b → (x.0 < b.variables) × (known_at b.log x ≡ None) → d ≡ b → 8 ≤ length b.log → LacksMemory l tx d
-lacks_room l tx m n x b d e says g needed same many = (
-  λ small. omega (arith, (room_for l tx m b x g needed.0 needed.1).1, many),
+pub lacks_room : (l : Listing) (tx : TxId) (given : List ℤ) (m : State) (n : Next) (x : VarId) (b d : AttemptView) → n ≡ next.Need x → Answers n b → Going l tx given m b → (x.0 < b.variables) × (known_at b.log x ≡ None) → d ≡ b → 8 ≤ length b.log → LacksMemory l tx d
+lacks_room l tx given m n x b d e says g needed same many = (
+  λ small. omega (arith, (room_for l tx given m b x g needed.0 needed.1).1, many),
   subst (λ (k : AttemptView). (k.stand ≡ Spent) ⊎ ((y : VarId) × (k.stand ≡ Needs y) × (8 ≤ length k.log))) (sym same) (inr (x, (subst (λ (k : Next). Answers k b) e says).1, many)),
 )
 
 -- an attempt that has ended has done so on each state that agrees with its log
-pub evaluates_to : (l : Listing) (tx : TxId) (m : State) (o : Outcome) (n : Next) (a : AttemptView) → n ≡ next_of o → Answers n a → ((s : State) → length s ≡ a.variables → Agrees a.log s → HoldsAt n a s) → length m ≡ length l.initial → Going l tx m a → EvaluatesTo l tx m o a
-evaluates_to l tx m o n a e ans holds wide g =
-    let frame : (s : State) → length s ≡ length l.initial → Agrees a.log s → outcome (program_at l tx) s ≡ o =
-    λ s len h. ends l tx a.program s o g.program (outcome_held o n a s e (holds s (len ∙ sym g.variables) h)) in
+pub evaluates_to : (l : Listing) (tx : TxId) (given : List ℤ) (m : State) (o : Outcome) (n : Next) (a : AttemptView) → n ≡ next_of o → Answers n a → ((s : State) → length s ≡ a.variables → Agrees a.log s → HoldsAt n a s) → length m ≡ length l.initial → Going l tx given m a → EvaluatesTo l tx given m o a
+evaluates_to l tx given m o n a e ans holds wide g =
+    let frame : (s : State) → length s ≡ length l.initial → Agrees a.log s → outcome (call_program l tx given) s ≡ o =
+    λ s len h. ends l tx given a.program s o g.program (outcome_held o n a s e (holds s (len ∙ sym g.variables) h)) in
     record { program = g.program; variables = g.variables; ended = stand_held o n a e ans; agrees = g.agrees; outcome_is = frame m wide g.agrees; frame = frame }
   where
     stand_held : (o : Outcome) (n : Next) (a : AttemptView) → n ≡ next_of o → Answers n a → a.stand ≡ Over o

@@ -2,7 +2,7 @@
 use Rattle.std.specs.Prelude.{◌≡◌, ◌≢◌, ◌⊎◌, ℕ, ℤ, ◌+◌, ◌*◌, ◌<◌, ◌≤◌, true, false, List, length}
 use Rattle.txn_programs.specs.declared.ast.TxId.{TxId}
 use Rattle.txn_programs.specs.declared.ast.VarId.{VarId}
-use Rattle.txn_programs.specs.Listing.{Listing, program_at}
+use Rattle.txn_programs.specs.Listing.{Listing, call_program}
 use Rattle.txn_programs.specs.Meaning.{State, outcome}
 use Rattle.txn_words.specs.Words.{state_value, state_of, StartsWith}
 use Rattle.txn_words.specs.Stores.{id_of, new_of}
@@ -38,11 +38,11 @@ ShowsChange p q = (n : ℕ) × (length p.seen ≤ n + 1) × (n < q.rv)
 abbrev pub IsStaleFrom : Passing → Passing → Type 0
 IsStaleFrom p q = (q.open_now ≡ false) × (p.clock_loads + 2 ≤ q.clock_loads) × (ShowsStale q.rv q.loads ⊎ ShowsChange p q)
 
--- An outcome is that of the transaction on the state at which the pass is in the end.
-abbrev pub IsObserved : Listing → TxId → Passing → Passing → Observed → Type 0
-IsObserved l tx p q (observed.Outcome o) = (outcome (program_at l tx) (at q) ≡ o) × (q.open_now ≡ true)
-IsObserved l tx p q observed.Stale = IsStaleFrom p q
-IsObserved l tx p q observed.Memory = (q.open_now ≡ true) × TakesMemory l tx
+-- An outcome is that of the transaction with these arguments on the state at which the pass is in the end.
+abbrev pub IsObserved : Listing → TxId → List ℤ → Passing → Passing → Observed → Type 0
+IsObserved l tx given p q (observed.Outcome o) = (outcome (call_program l tx given) (at q) ≡ o) × (q.open_now ≡ true)
+IsObserved l tx given p q observed.Stale = IsStaleFrom p q
+IsObserved l tx given p q observed.Memory = (q.open_now ≡ true) × TakesMemory l tx
 
 -- where a pass is: what reading leaves
 pub record Moment : Type 0 where
@@ -78,19 +78,19 @@ ShowsOther q log = (i : ℕ) × (i < length log) × (q.variable ≡ id_of log i)
 abbrev pub IsCutFrom : Passing → Passing → Known → Type 0
 IsCutFrom p q log = MovesOn p q × (q.open_now ≡ false) × (ShowsStale q.rv q.loads ⊎ ShowsOther q log)
 
--- An attempt of the transaction that has ended as the transaction does on the state m, and on each state that agrees
--- with its log.
-pub record EvaluatesTo (l : Listing) (tx : TxId) (m : State) (how : Outcome) (a : AttemptView) : Type 0 where
-  pub program : a.program ≡ program_at l tx
+-- An attempt of the transaction with these arguments that has ended as the transaction does on the state m, and on each
+-- state that agrees with its log.
+pub record EvaluatesTo (l : Listing) (tx : TxId) (given : List ℤ) (m : State) (how : Outcome) (a : AttemptView) : Type 0 where
+  pub program : a.program ≡ call_program l tx given
   pub variables : a.variables ≡ length l.initial
   pub ended : a.stand ≡ Over how
   pub agrees : Agrees a.log m
-  pub outcome_is : outcome (program_at l tx) m ≡ how
-  pub frame : (s : State) → length s ≡ length l.initial → Agrees a.log s → outcome (program_at l tx) s ≡ how
+  pub outcome_is : outcome (call_program l tx given) m ≡ how
+  pub frame : (s : State) → length s ≡ length l.initial → Agrees a.log s → outcome (call_program l tx given) s ≡ how
 
 -- the same, however it ended
-abbrev pub Evaluates : Listing → TxId → State → AttemptView → Type 0
-Evaluates l tx m a = (how : Outcome) × EvaluatesTo l tx m how a
+abbrev pub Evaluates : Listing → TxId → List ℤ → State → AttemptView → Type 0
+Evaluates l tx given m a = (how : Outcome) × EvaluatesTo l tx given m how a
 
 -- An attempt of a transaction that takes memory: going on spent it, or it needs a variable, beside eight or more that it
 -- was told.

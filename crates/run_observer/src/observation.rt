@@ -1,6 +1,7 @@
 //! What a transaction would end as, read beside the commits.
 
 ghost use Rattle.std.specs.Prelude.{◌≡◌, ℕ, ◌+◌, ◌*◌, ◌<◌, ◌≤◌, length, true, false, OnOk, OnErr, IfOk, IfErr};
+ghost use Rattle.txn_programs.specs.Listing.{IsCallable};
 ghost use Rattle.txn_words.specs.Words.{StartsWith};
 ghost use Rattle.txn_words.specs.Stores.{id_of};
 ghost use Rattle.txn_programs.specs.Meaning.{value_at};
@@ -30,7 +31,8 @@ pub enum Observed {
     Memory,
 }
 
-/// How the transaction ends on one state of the cells, which others may be changing meanwhile.
+/// How the transaction with these arguments ends on one state of the cells, which others may be changing
+/// meanwhile.
 ///
 /// It begins the pass, by one load of the clock, and makes an attempt on what the pass then reads.
 /// Where a read is stale, it moves the pass by what the attempt has read, and reads once more.
@@ -41,22 +43,23 @@ pub enum Observed {
 /// pass is open. Nothing is written, no lock is taken, and it waits for nobody.
 ///
 /// The pass has to be one of these cells, the cells have to have a variable for each of the
-/// catalogue's, and the transaction has to exist.
+/// catalogue's, and the transaction has to exist and to have as many parameters as there are arguments.
 pub fn observe(
     alloc: Global,
     cells: &Cells,
     pass: &mut Pass,
     catalogue: &Catalogue,
     tx: TxId,
+    arguments: &[i64],
 ) -> Observed
-    requires known { tx.0 < length catalogue.now.transactions }
+    requires known { IsCallable catalogue.now tx arguments.now }
     requires own { pass.old.cells ≡ cells.now }
     requires variables { cells.now.variables ≡ length catalogue.now.initial }
     ensures observes { ObservesBy pass.old pass.new }
-    ensures answer { IsObserved catalogue.now tx pass.old pass.new result }
+    ensures answer { IsObserved catalogue.now tx arguments.now pass.old pass.new result }
 {
-    let mut attempt = Attempt::new(alloc, catalogue, tx);
-    match evaluate(&mut attempt, catalogue, tx, cells, pass) {
+    let mut attempt = Attempt::new(alloc, catalogue, tx, arguments);
+    match evaluate(&mut attempt, catalogue, tx, arguments, cells, pass) {
         Ok(outcome) => Observed::Outcome(outcome),
         Err(Cut::Stale) => Observed::Stale,
         Err(Cut::Memory) => Observed::Memory,

@@ -96,7 +96,7 @@ pub(crate) fn advance_on<W: Watch>(
     ensures agrees { Agrees attempt.old.log (at pass.old) → Agrees attempt.new.log (at pass.old) }
     ensures logged { AllKnown attempt.new.variables attempt.new.log }
     ensures apart { Apart attempt.new.log }
-    ensures short { NeedsNoMemory attempt.old.program → attempt.old.stand ≢ Spent → result ≢ Next.Memory }
+    ensures in_place { NeedsNoMemory attempt.old.program → attempt.old.stand ≢ Spent → result ≢ Next.Memory }
     ensures needed { (x : VarId) → result ≡ Next.Need x
         → (x.0 < attempt.new.variables) × (known_at attempt.new.log x ≡ None) }
     ensures frame { (m : State) → length m ≡ attempt.new.variables → Agrees attempt.new.log m

@@ -15,7 +15,7 @@ use Rattle.cells.proofs.cells.Cells.TheSendSync as crossing
 use Rattle.run_workers.specs.declared.shared.Naming.{Ghosts}
 use Rattle.run_workers.specs.contracts.shared.Named as named
 use Rattle.run_workers.specs.contracts.worker.Crew as crew
-use Rattle.run_workers.proofs.Crossing.{catalogue_sync, book_send}
+use Rattle.book.proofs.Crossing.{catalogue_sync, book_send}
 
 -- a reference to what may be shared
 shared_field : (k : NamedLft) (R : RattleType) (one : One R.mir) → IsSync R → IsSync (as_row (shr_ref_field k R one))

@@ -1,7 +1,6 @@
 pub mod Journals
-pub mod Crossing
 pub mod Crew
-pub mod Few
 pub mod Ended
 pub mod Standing
 pub mod Sparing
+pub mod Drawing

@@ -6,7 +6,7 @@ use Rattle.std.proofs.lemmas.List.Elements.{All-head}
 use Rattle.txn_programs.specs.declared.ast.TaskId.{TaskId}
 use Rattle.txn_programs.specs.declared.ast.TxId.{TxId}
 use Rattle.txn_programs.specs.Tree.{Transaction, Skip, Int}
-use Rattle.txn_programs.specs.Listing.{Listing, program_at, task_tx}
+use Rattle.txn_programs.specs.Listing.{Listing, task_tx}
 use Rattle.txn_programs.specs.Told.{Told}
 use Rattle.attempt.specs.Room.{StaysSmall, NeedsNoMemory, TakesMemory, RunsInPlace}
 use Rattle.attempt.specs.View.{AttemptView}
@@ -50,7 +50,7 @@ pub report_gives : (b : BookView) (r : Told) → ReportIs b r → GivesUpForMemo
 report_gives b r is h = subst (All (λ (p : TaskId × TxId). TakesMemory b.catalogue p.1)) (sym is.memory) (listed_takes b h)
 
 -- of a catalogue none of whose transactions has an `orelse`
-small_at : (ts : List Transaction) (k : ℕ) → All (λ (t : Transaction). StaysSmall t.body) ts → StaysSmall (get_or ts k (record { name = []; body = Skip; result = Int (pos 0) })).body
+small_at : (ts : List Transaction) (k : ℕ) → All (λ (t : Transaction). StaysSmall t.body) ts → StaysSmall (get_or ts k (record { name = []; parameters = []; body = Skip; result = Int (pos 0) })).body
 small_at [] k h = tt
 small_at (t ∷ ts) zero h = All-head (λ (t : Transaction). StaysSmall t.body) t ts h
 small_at (t ∷ ts) (suc k) h = small_at ts k (λ i d lt. h (suc i) d (omega (arith, lt)))

@@ -1,11 +1,15 @@
 -- How the tasks of a run stand, and what its light tasks are tried on.
-use Rattle.std.specs.Prelude.{◌≡◌, ◌≢◌, ℕ, Some, slice_get}
+use Rattle.std.specs.Prelude.{◌≡◌, ◌≢◌, ◌<◌, ℕ, Some, length, slice_get}
 use Rattle.txn_programs.specs.declared.ast.TaskId.{TaskId}
 use Rattle.txn_programs.specs.Meaning.{State}
-use Rattle.txn_programs.specs.Listing.{Listing}
+use Rattle.txn_programs.specs.Listing.{Listing, tasks}
 use Rattle.book.specs.Tasks.{Ready}
 use Rattle.book.specs.View.{BookView, IsRunning}
 use Rattle.book.specs.LawfulBook.{LawfulBook}
+
+-- the catalogue has a task of this number
+abbrev pub HasTask : Listing → TaskId → Type 0
+HasTask l task = task.0 < length (tasks l)
 
 -- no worker has the task: it is committed, parked or given up, or can be taken once more
 abbrev pub IsOver : BookView → TaskId → Type 0

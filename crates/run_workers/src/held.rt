@@ -5,8 +5,8 @@
 //! some of them have their turns together: the tries beside them are stale once for all these, and not once
 //! for each. Those that are held when no task is ready any more have their turns when the workers have ended.
 
-ghost use Rattle.std.specs.Prelude.{◌≡◌, ◌<◌, length, All};
-ghost use Rattle.txn_programs.specs.Listing.{tasks};
+ghost use Rattle.std.specs.Prelude.{◌≡◌, All};
+ghost use Rattle.run_workers.specs.Standing.{HasTask};
 
 use crate::shared::{Named, Naming, turn};
 use arrayvec::ArrayVec;
@@ -26,7 +26,7 @@ pub(crate) fn hold<'b, N: Naming>(
     task: TaskId,
 )
     requires every { every ≡ N.every }
-    requires exists { task.0 < length (tasks N.catalogue) }
+    requires exists { HasTask N.catalogue task }
 {
     named.held.push(task);
     if named.held.len() >= HELD {
@@ -43,7 +43,7 @@ fn serve<'b, N: Naming>(
     held: &[TaskId],
 )
     requires every { every ≡ N.every }
-    requires exist { All (λ t. t.0 < length (tasks N.catalogue)) held.now }
+    requires exist { All (HasTask N.catalogue) held.now }
 {
     for task in held {
         turn(named, every, attempt, *task);

@@ -1,27 +1,28 @@
 //! The times under the lock of a worker that tries light tasks together.
 
 ghost use Rattle.std.specs.Prelude.{◌≡◌, ◌≢◌, ◌⊎◌, ◌<◌, ◌≤◌, length, All, IfSome, None};
-ghost use Rattle.txn_programs.specs.Listing.{tasks};
 ghost use Rattle.txn_programs.specs.declared.limits.TheConstants.{MAX_VARIABLES};
-ghost use Rattle.run_workers.specs.Standing.{IsOver, NoneReady, ArePresent};
+ghost use Rattle.run_workers.specs.Standing.{HasTask, IsOver, NoneReady, ArePresent};
 ghost use Rattle.run_workers.specs.declared.trials.How.{How};
 
+use crate::gate::Gate;
 use crate::held::hold;
 use crate::shared::{Named, Naming, drop_task, end, next, present, size, turn};
 use crate::trials::{How, Trial, are_busy, give_one};
 use crate::waiting::lock;
-use crate::weights::Size;
+use crate::worker::Crew;
 use arrayvec::ArrayVec;
 use attempt::Attempt;
-use std::sync::{Mutex, Wait};
+use std::sync::Wait;
 use txn::TaskId;
+use txn::weights::Size;
 use txn_programs::limits::MAX_VARIABLES;
 
 /// How many tasks are taken in one time under the lock at most.
 const TAKES: u32 = 1_000;
 
 /// How much the tasks that have their turns in it weigh together at most, but for the last one.
-const ROOM: u32 = 40_000;
+const ROUND_WEIGHT: u32 = 40_000;
 
 /// The present values, as they were at some time under the lock.
 pub(crate) type Values = ArrayVec<i64, MAX_VARIABLES>;
@@ -41,66 +42,59 @@ fn copy(from: &[i64], values: &mut Values)
 /// Begins with a task that was taken, and takes the next ones, all in one time under the lock: a short one
 /// has its turn at once or is held, a light one is given to a trial, and before any other one no more is
 /// taken. What is left is a task that was taken and is still to be run, `None` if there is none.
-pub(crate) fn begin<'b, R: Wait, N: Naming>(
+pub(crate) fn begin<'b, R: Wait, G: Gate, N: Naming>(
     rt: &R,
-    shared: &Mutex<Named<'b, N>>,
-    every: u32,
-    sizes: &[Size],
+    crew: &Crew<'_, 'b, G, N>,
     attempt: &mut Attempt<'b>,
     trials: &mut [Trial<'b, N>],
     values: &mut Values,
     first: TaskId,
 ) -> Option<TaskId>
-    requires every { every ≡ N.every }
-    requires exists { first.0 < length (tasks N.catalogue) }
-    ensures left { IfSome result (λ t. t.0 < length (tasks N.catalogue)) }
+    requires exists { HasTask N.catalogue first }
+    ensures left { IfSome result (HasTask N.catalogue) }
     ensures values { ArePresent N.catalogue values.new.items }
     ensures wide { length values.new.items ≡ length N.catalogue.initial }
 {
-    let mut named = lock(rt, shared);
-    let left = fill(&mut named, every, sizes, attempt, trials, first);
+    let sizes = crew.sizes.as_slice();
+    let mut named = lock(rt, crew.shared);
+    let left = fill(&mut named, crew.every, sizes, attempt, trials, first);
     copy(present(&named), values);
     left
 }
 
 /// Brings what was tried to the book, and takes the next tasks as `begin` does, all in one time under the
 /// lock.
-pub(crate) fn round<'b, R: Wait, N: Naming>(
+pub(crate) fn round<'b, R: Wait, G: Gate, N: Naming>(
     rt: &R,
-    shared: &Mutex<Named<'b, N>>,
-    every: u32,
-    tries: u32,
-    sizes: &[Size],
+    crew: &Crew<'_, 'b, G, N>,
     attempt: &mut Attempt<'b>,
     trials: &mut [Trial<'b, N>],
     values: &mut Values,
 ) -> Option<TaskId>
-    requires every { every ≡ N.every }
-    ensures left { IfSome result (λ t. t.0 < length (tasks N.catalogue)) }
+    ensures left { IfSome result (HasTask N.catalogue) }
     ensures values { ArePresent N.catalogue values.new.items }
     ensures wide { length values.new.items ≡ length N.catalogue.initial }
 {
-    let mut named = lock(rt, shared);
-    bring_all(&mut named, every, tries, attempt, trials);
-    let left = refill(&mut named, every, sizes, attempt, trials);
+    let sizes = crew.sizes.as_slice();
+    let mut named = lock(rt, crew.shared);
+    bring_all(&mut named, crew.every, crew.tries, attempt, trials);
+    let left = refill(&mut named, crew.every, sizes, attempt, trials);
     copy(present(&named), values);
     left
 }
 
 /// Brings what was tried to the book, so that no trial has a task any more. A task that is to be tried has
 /// its turn at once.
-pub(crate) fn close<'b, R: Wait, N: Naming>(
+pub(crate) fn close<'b, R: Wait, G: Gate, N: Naming>(
     rt: &R,
-    shared: &Mutex<Named<'b, N>>,
-    every: u32,
+    crew: &Crew<'_, 'b, G, N>,
     attempt: &mut Attempt<'b>,
     trials: &mut [Trial<'b, N>],
 )
-    requires every { every ≡ N.every }
     ensures { All (λ t. t.how ≡ How.Idle) trials.new }
 {
-    let mut named = lock(rt, shared);
-    bring_all(&mut named, every, 0, attempt, trials);
+    let mut named = lock(rt, crew.shared);
+    bring_all(&mut named, crew.every, 0, attempt, trials);
 }
 
 /// Brings what each trial came to to the book.
@@ -166,7 +160,7 @@ fn refill<'b, N: Naming>(
     trials: &mut [Trial<'b, N>],
 ) -> Option<TaskId>
     requires every { every ≡ N.every }
-    ensures left { IfSome result (λ t. t.0 < length (tasks N.catalogue)) }
+    ensures left { IfSome result (HasTask N.catalogue) }
     ensures none { result ≡ None → NoneReady named.new.book ⊎ All (λ t. t.how ≢ How.Idle) trials.new }
 {
     if are_busy(trials) {
@@ -187,12 +181,12 @@ fn fill<'b, N: Naming>(
     first: TaskId,
 ) -> Option<TaskId>
     requires every { every ≡ N.every }
-    requires exists { first.0 < length (tasks N.catalogue) }
-    ensures left { IfSome result (λ t. t.0 < length (tasks N.catalogue)) }
+    requires exists { HasTask N.catalogue first }
+    ensures left { IfSome result (HasTask N.catalogue) }
     ensures none { result ≡ None → NoneReady named.new.book ⊎ All (λ t. t.how ≢ How.Idle) trials.new }
 {
     let mut task = first;
-    let mut room = ROOM;
+    let mut room = ROUND_WEIGHT;
     'takes: for _ in 0..TAKES {
         match size(named, sizes, task) {
             Size::Light(_) => {

@@ -10,28 +10,28 @@ ghost use Rattle.std.proofs.Props.{props};
 ghost use Rattle.txn.specs.Codes.{coded_listing};
 ghost use Rattle.txn_programs.specs.declared.limits.TheConstants.{MAX_VARIABLES};
 ghost use Rattle.txn_programs.specs.Listing.{Listing, tasks, task_tx};
-ghost use Rattle.journal.specs.Lines.{told_run};
+ghost use Rattle.book_storage.specs.PackedEntries.{told_run};
 ghost use Rattle.txn_programs.specs.LawfulReport.{LawfulReport, BaseReached};
 ghost use Rattle.attempt.specs.Room.{TakesMemory};
 ghost use Rattle.book.specs.GivingUp.{GivesUpForMemory};
 ghost use Rattle.book.specs.Turns.{IsEndOf, IsIdle, ReportIs};
 ghost use Rattle.run_workers.specs.GivingUp.{GaveUpForMemory};
 ghost use Rattle.run_workers.specs.Journals.{IsShort, KeepsShort};
-ghost use Rattle.run_workers.specs.Standing.{IsOver, NoneReady, ArePresent};
+ghost use Rattle.run_workers.specs.Standing.{HasTask, IsOver, NoneReady, ArePresent};
 ghost use Rattle.run_workers.specs.declared.held.TheConstants.{HELD};
-ghost use Rattle.run_workers.specs.declared.shared.Tried.TheVariants.{Over, Memory as ShortOfMemory};
+ghost use Rattle.run_workers.specs.declared.shared.TryEnd.TheVariants.{Over, Memory as ShortOfMemory};
 
 use crate::held::HELD;
 use crate::waiting::lock;
-use crate::weights::{Size, size_in};
 use arrayvec::ArrayVec;
 use attempt::Attempt;
 use book::{Book, Finish, Serial};
+use book_storage::RunReport;
 use cells::{Cells, Publisher};
-use journal::RunReport;
 use std::alloc::Global;
 use std::marker::{Brand, PhantomData};
 use std::sync::{Mutex, Wait};
+use txn::weights::{Size, size_in};
 use txn::{Catalogue, Memory, TaskId};
 
 /// Which catalogue a run is of, and after how many entries a checkpoint is made, 0 for never. Each
@@ -65,7 +65,7 @@ pub(crate) struct Named<'a, N: Naming> {
 
 /// How a try ended.
 #[derive(Clone, Copy, Debug, PartialEq, Eq)]
-pub(crate) enum Tried {
+pub(crate) enum TryEnd {
     /// The task is over: no worker has it any more. The next one, where it was taken at the same time under
     /// the lock.
     Over(Option<TaskId>),
@@ -96,7 +96,7 @@ pub(crate) fn open<'a, N: Naming>(
 
 /// Takes a task of the run's catalogue, the lowest ready one. `None` if none is ready.
 pub(crate) fn take<R: Wait, N: Naming>(rt: &R, shared: &Mutex<Named<'_, N>>) -> Option<TaskId>
-    ensures { IfSome result (λ t. t.0 < length (tasks N.catalogue)) }
+    ensures { IfSome result (HasTask N.catalogue) }
 {
     let mut named = lock(rt, shared);
     next(&mut named)
@@ -104,7 +104,7 @@ pub(crate) fn take<R: Wait, N: Naming>(rt: &R, shared: &Mutex<Named<'_, N>>) -> 
 
 /// The lowest ready task, which is then running. `None` only if none is ready.
 pub(crate) fn next<N: Naming>(named: &mut Named<'_, N>) -> Option<TaskId>
-    ensures exists { IfSome result (λ t. t.0 < length (tasks N.catalogue)) }
+    ensures exists { IfSome result (HasTask N.catalogue) }
     ensures none { result ≡ None → NoneReady named.new.book }
 {
     let book = &mut named.book;
@@ -114,7 +114,7 @@ pub(crate) fn next<N: Naming>(named: &mut Named<'_, N>) -> Option<TaskId>
 
 /// The next task, where it is to be taken at the same time under the lock.
 fn next_at_once<N: Naming>(named: &mut Named<'_, N>, at_once: bool) -> Option<TaskId>
-    ensures { IfSome result (λ t. t.0 < length (tasks N.catalogue)) }
+    ensures { IfSome result (HasTask N.catalogue) }
 {
     if at_once { next(named) } else { None }
 }
@@ -126,9 +126,9 @@ pub(crate) fn give_up<R: Wait, N: Naming>(
     task: TaskId,
     at_once: bool,
 ) -> Option<TaskId>
-    requires exists { task.0 < length (tasks N.catalogue) }
+    requires exists { HasTask N.catalogue task }
     requires memory { TakesMemory N.catalogue (task_tx N.catalogue task) }
-    ensures { IfSome result (λ t. t.0 < length (tasks N.catalogue)) }
+    ensures { IfSome result (HasTask N.catalogue) }
 {
     let mut named = lock(rt, shared);
     drop_task(&mut named, task);
@@ -137,7 +137,7 @@ pub(crate) fn give_up<R: Wait, N: Naming>(
 
 /// A task is given up, so that it is over. Its transaction has to be one that takes memory.
 pub(crate) fn drop_task<N: Naming>(named: &mut Named<'_, N>, task: TaskId)
-    requires exists { task.0 < length (tasks N.catalogue) }
+    requires exists { HasTask N.catalogue task }
     requires memory { TakesMemory N.catalogue (task_tx N.catalogue task) }
     ensures { IsOver named.new.book task }
 {
@@ -155,18 +155,18 @@ pub(crate) fn finish<R: Wait, N: Naming>(
     task: TaskId,
     attempt: &mut Attempt<'_>,
     at_once: bool,
-) -> Tried
+) -> TryEnd
     requires every { every ≡ N.every }
-    requires exists { task.0 < length (tasks N.catalogue) }
+    requires exists { HasTask N.catalogue task }
     requires ended { IsEndOf N.catalogue task attempt.old }
-    ensures next { (t : TaskId) → result ≡ Over (Some t) → t.0 < length (tasks N.catalogue) }
+    ensures next { (t : TaskId) → result ≡ Over (Some t) → HasTask N.catalogue t }
     ensures memory { result ≢ ShortOfMemory }
 {
     let mut named = lock(rt, shared);
     if end(&mut named, every, task, attempt) {
-        Tried::Over(next_at_once(&mut named, at_once))
+        TryEnd::Over(next_at_once(&mut named, at_once))
     } else {
-        Tried::Stale
+        TryEnd::Stale
     }
 }
 
@@ -179,7 +179,7 @@ pub(crate) fn end<N: Naming>(
     attempt: &mut Attempt<'_>,
 ) -> bool
     requires every { every ≡ N.every }
-    requires exists { task.0 < length (tasks N.catalogue) }
+    requires exists { HasTask N.catalogue task }
     requires ended { IsEndOf N.catalogue task attempt.old }
     ensures { IsTrue result → IsOver named.new.book task }
 {
@@ -207,8 +207,8 @@ pub(crate) fn serial<'b, R: Wait, N: Naming>(
     at_once: bool,
 ) -> Option<TaskId>
     requires every { every ≡ N.every }
-    requires exists { task.0 < length (tasks N.catalogue) }
-    ensures { IfSome result (λ t. t.0 < length (tasks N.catalogue)) }
+    requires exists { HasTask N.catalogue task }
+    ensures { IfSome result (HasTask N.catalogue) }
 {
     let mut named = lock(rt, shared);
     turn(&mut named, every, attempt, task);
@@ -228,7 +228,7 @@ pub(crate) fn present<'n, N: Naming>(named: &'n Named<'_, N>) -> &'n [i64]
 
 /// How a task is run, by these.
 pub(crate) fn size<N: Naming>(named: &Named<'_, N>, sizes: &[Size], task: TaskId) -> Size
-    requires { task.0 < length (tasks N.catalogue) }
+    requires { HasTask N.catalogue task }
 {
     let book = &named.book;
     book.law();
@@ -243,7 +243,7 @@ pub(crate) fn turn<'b, N: Naming>(
     task: TaskId,
 )
     requires every { every ≡ N.every }
-    requires exists { task.0 < length (tasks N.catalogue) }
+    requires exists { HasTask N.catalogue task }
     ensures { IsOver named.new.book task }
 {
     let book = &mut named.book;
@@ -275,7 +275,7 @@ pub(crate) fn settle<N: Naming>(
 }
 
 /// The report of a book with no task ready or running, which takes its journal over.
-fn report(alloc: Global, book: Book<'_>) -> Result<RunReport, Memory>
+pub(crate) fn report(alloc: Global, book: Book<'_>) -> Result<RunReport, Memory>
     requires { IsIdle book }
     ensures lawful { IfOk result (λ r. LawfulReport book.entry.catalogue (told_run r)) }
     ensures reached { IfOk result (λ r. BaseReached book.entry.catalogue (told_run r)) }

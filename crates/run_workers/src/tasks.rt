@@ -4,23 +4,34 @@ ghost use Rattle.std.specs.Prelude.{◌≡◌, ◌∷◌, [], length, All, IfOk}
 ghost use Rattle.txn_programs.specs.Told.{told, base_of, now_of};
 ghost use Rattle.txn_programs.specs.LawfulReport.{LawfulReport, BaseReached};
 ghost use Rattle.txn_programs.specs.Standing.{Upholds};
-ghost use Rattle.journal.specs.Lines.{told_run};
+ghost use Rattle.book_storage.specs.PackedEntries.{told_run};
+ghost use Rattle.run_workers.specs.Drawing.{KeepsOrder};
 ghost use Rattle.run_workers.specs.GivingUp.{GaveUpForMemory, RunsInPlace};
 ghost use Rattle.run_workers.specs.Journals.{KeepsShort};
 
+use crate::drawn::run_drawn;
 use crate::gate::Gate;
 use crate::shared::{Named, Naming, open, settle};
 use crate::threads::start;
-use crate::weights::{Size, Weights, are_short, sizes_of};
 use crate::worker::{Crew, work};
+use book_storage::RunReport;
 use cells::{Cells, Pass, Publisher};
-use journal::RunReport;
-use run_options::Options;
+use run_interface::Options;
 use std::alloc::Global;
 use std::marker::Brand;
 use std::sync::{Mutex, Wait};
 use std::thread::Threads;
+use txn::weights::{Size, Weights, are_short, sizes_of};
 use txn::{Catalogue, Memory, Report};
+
+/// How the workers of a run go about its tasks.
+#[derive(Drop)]
+struct Ways<'g, G: Gate> {
+    /// How tasks of each transaction are run.
+    sizes: Vec<Size>,
+    options: Options,
+    gate: &'g G,
+}
 
 /// Runs the tasks by as many workers as the options say, and reports. `Memory` comes only where a
 /// growth was refused.
@@ -32,9 +43,12 @@ use txn::{Catalogue, Memory, Report};
 /// condition is true of the values that it reports. With a checkpoint after each N entries the journal
 /// has fewer than N, and the base is a multiple of N; with none the base is 0.
 ///
-/// A task is given up only for want of memory, and only where its transaction takes some: where it has an
+/// A task is given up only where memory ran out, and only where its transaction takes some: where it has an
 /// `orelse`, or there are more than eight variables. So a catalogue with no `orelse` and at most eight variables
 /// has none given up, however much memory is refused.
+///
+/// Where the options have a seed, there are no workers, whatever the gate is, and none calls it: one task after another
+/// has its turn, in an order that a generator draws, which begins at the seed.
 pub fn run_tasks<R: Threads + Wait + Sync, G: Gate>(
     rt: &R,
     alloc: Global,
@@ -49,13 +63,14 @@ pub fn run_tasks<R: Threads + Wait + Sync, G: Gate>(
     ensures short { IfOk result (λ r. KeepsShort options.checkpoint (told r)) }
     ensures memory { IfOk result (λ r. GaveUpForMemory catalogue.now (told r)) }
     ensures kept { RunsInPlace catalogue.now → IfOk result (λ r. (told r).memory ≡ []) }
+    ensures order { IfOk result (λ r. KeepsOrder catalogue.now options.checkpoint options.seed (told r)) }
 {
-    run_in_lines(rt, alloc, catalogue, options, gate)?.report(alloc)
+    run_packed(rt, alloc, catalogue, options, gate)?.report(alloc)
 }
 
 /// As `run_tasks`, with the journal in the lines in which the book kept it, for a caller that goes through
 /// it once.
-pub fn run_in_lines<R: Threads + Wait + Sync, G: Gate>(
+pub fn run_packed<R: Threads + Wait + Sync, G: Gate>(
     rt: &R,
     alloc: Global,
     catalogue: &Catalogue,
@@ -70,6 +85,7 @@ pub fn run_in_lines<R: Threads + Wait + Sync, G: Gate>(
     ensures short { IfOk result (λ r. KeepsShort options.checkpoint (told_run r)) }
     ensures memory { IfOk result (λ r. GaveUpForMemory catalogue.now (told_run r)) }
     ensures kept { RunsInPlace catalogue.now → IfOk result (λ r. (told_run r).memory ≡ []) }
+    ensures order { IfOk result (λ r. KeepsOrder catalogue.now options.checkpoint options.seed (told_run r)) }
 {
     let weights = weights_under::<G>(options);
     run_weighed(rt, alloc, catalogue, options, weights, gate)
@@ -86,12 +102,13 @@ fn weights_under<G: Gate>(options: Options) -> Weights {
     Weights::LEAST_TIME
 }
 
-/// As `run_in_lines`, where tasks are tried from these weights on, whatever the gate is: that call gives it
+/// As `run_packed`, where tasks are tried from these weights on, whatever the gate is: that call gives it
 /// those which it says.
 ///
 /// A task that is tried by itself is evaluated on what its worker's pass reads; one that is tried with others, on a
 /// copy of the present values; one that is not tried has its turn under the lock. Where none is tried there are no
-/// workers: all is left to the turns behind them, over cells that nobody reads.
+/// workers: all is left to the turns behind them, over cells that nobody reads. Where the options have a seed, none is
+/// tried, whatever the weights are.
 pub fn run_weighed<R: Threads + Wait + Sync, G: Gate>(
     rt: &R,
     alloc: Global,
@@ -108,7 +125,11 @@ pub fn run_weighed<R: Threads + Wait + Sync, G: Gate>(
     ensures short { IfOk result (λ r. KeepsShort options.checkpoint (told_run r)) }
     ensures memory { IfOk result (λ r. GaveUpForMemory catalogue.now (told_run r)) }
     ensures kept { RunsInPlace catalogue.now → IfOk result (λ r. (told_run r).memory ≡ []) }
+    ensures order { IfOk result (λ r. KeepsOrder catalogue.now options.checkpoint options.seed (told_run r)) }
 {
+    if let Some(seed) = options.seed() {
+        return run_drawn(alloc, catalogue, options.checkpoint(), seed);
+    }
     let sizes = sizes_of(alloc, catalogue, weights)?;
     if are_short(&sizes, catalogue.runs()) {
         let (cells, publisher) = Cells::unread(alloc, catalogue.initial())?;
@@ -119,9 +140,12 @@ pub fn run_weighed<R: Threads + Wait + Sync, G: Gate>(
         catalogue.initial(),
         options.workers() as usize,
     )?;
-    run_named::<R, G, Brand>(
-        rt, alloc, catalogue, sizes, &cells, publisher, passes, options, gate,
-    )
+    let ways = Ways {
+        sizes,
+        options,
+        gate,
+    };
+    run_named::<R, G, Brand>(rt, alloc, catalogue, &cells, publisher, passes, ways)
 }
 
 /// Gives the tasks of the catalogue of this name their turns, with no worker.
@@ -150,29 +174,26 @@ fn run_named<'b, R: Threads + Wait + Sync, G: Gate, N: Naming>(
     rt: &R,
     alloc: Global,
     catalogue: &'b Catalogue,
-    sizes: Vec<Size>,
     cells: &'b Cells,
     publisher: Publisher,
     passes: Vec<Pass>,
-    options: Options,
-    gate: &G,
+    ways: Ways<'_, G>,
 ) -> Result<RunReport, Memory>
     requires named { catalogue.now ≡ N.catalogue }
     requires own { publisher.cells ≡ cells.now }
     requires unused { publisher.history ≡ catalogue.now.initial ∷ [] }
     requires passes { All (λ p. p.cells ≡ cells.now) passes.items }
     requires variables { cells.now.variables ≡ length catalogue.now.initial }
-    requires every { options.checkpoint ≡ N.every }
+    requires every { ways.options.checkpoint ≡ N.every }
     ensures lawful { IfOk result (λ r. LawfulReport catalogue.now (told_run r)) }
     ensures reached { IfOk result (λ r. BaseReached catalogue.now (told_run r)) }
-    ensures short { IfOk result (λ r. KeepsShort options.checkpoint (told_run r)) }
+    ensures short { IfOk result (λ r. KeepsShort ways.entry.options.checkpoint (told_run r)) }
     ensures memory { IfOk result (λ r. GaveUpForMemory catalogue.now (told_run r)) }
 {
+    let every = ways.options.checkpoint();
     let shared = Mutex::new(open::<N>(alloc, catalogue, cells, publisher)?);
-    run_beside(
-        rt, alloc, catalogue, sizes, cells, &shared, passes, options, gate,
-    );
-    settle(alloc, options.checkpoint(), shared.into_inner())
+    run_beside(rt, alloc, catalogue, cells, &shared, passes, ways);
+    settle(alloc, every, shared.into_inner())
 }
 
 /// Runs a worker for each pass, side by side, and waits for them.
@@ -180,18 +201,21 @@ fn run_beside<'b, R: Threads + Wait + Sync, G: Gate, N: Naming>(
     rt: &R,
     alloc: Global,
     catalogue: &'b Catalogue,
-    sizes: Vec<Size>,
     cells: &'b Cells,
     shared: &Mutex<Named<'b, N>>,
     passes: Vec<Pass>,
-    options: Options,
-    gate: &G,
+    ways: Ways<'_, G>,
 )
     requires named { catalogue.now ≡ N.catalogue }
     requires passes { All (λ p. p.cells ≡ cells.now) passes.items }
     requires variables { cells.now.variables ≡ length catalogue.now.initial }
-    requires every { options.checkpoint ≡ N.every }
+    requires every { ways.options.checkpoint ≡ N.every }
 {
+    let Ways {
+        sizes,
+        options,
+        gate,
+    } = ways;
     let crew = Crew {
         alloc,
         catalogue,

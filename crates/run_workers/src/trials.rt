@@ -4,13 +4,13 @@
 //! is the lock. So a worker takes some of them in one time under the lock, tries each with no lock held,
 //! and brings their ends to the book in the next.
 
-ghost use Rattle.std.specs.Prelude.{◌≡◌, ◌≢◌, ◌<◌, length, true, All, IsTrue};
+ghost use Rattle.std.specs.Prelude.{◌≡◌, ◌≢◌, length, true, All, IsTrue};
 ghost use Rattle.std.specs.Coded.{codes};
-ghost use Rattle.txn_programs.specs.Listing.{tasks, task_tx, task_program};
+ghost use Rattle.txn_programs.specs.Listing.{task_tx, task_program};
 ghost use Rattle.attempt.specs.CodedProgram.{coded_program};
 ghost use Rattle.attempt.specs.Room.{TakesMemory};
 ghost use Rattle.run_workers.specs.Over.{is_over};
-ghost use Rattle.run_workers.specs.Standing.{ArePresent};
+ghost use Rattle.run_workers.specs.Standing.{HasTask, ArePresent};
 ghost use Rattle.run_workers.specs.declared.trials.How.{How};
 
 use crate::gate::{Gate, Point, stop_at};
@@ -45,8 +45,9 @@ pub(crate) struct Trial<'b, N: Naming> {
     /// How many tries of the task were stale.
     pub(crate) stale: u32,
     of: PhantomData<N>,
-    ghost exists: { task.0 < length (tasks N.catalogue) },
-    ghost own: { how ≡ How.Ended → attempt.program ≡ task_program N.catalogue task } by { Prim.hlevel (codes, coded_program) },
+    ghost exists: { HasTask N.catalogue task },
+    ghost own: { how ≡ How.Ended
+        → attempt.program ≡ task_program N.catalogue task } by { Prim.hlevel (codes, coded_program) },
     ghost known: { how ≡ How.Ended → attempt.variables ≡ length N.catalogue.initial },
     ghost over: { how ≡ How.Ended → is_over attempt.stand ≡ true },
     ghost short: { how ≡ How.Memory → TakesMemory N.catalogue (task_tx N.catalogue task) },
@@ -56,11 +57,12 @@ impl<'b, N: Naming> Trial<'b, N> {
     /// A trial with no task. The task that is named stands in for one.
     fn idle(alloc: Global, catalogue: &'b Catalogue, task: TaskId) -> Trial<'b, N>
         requires named { catalogue.now ≡ N.catalogue }
-        requires exists { task.0 < length (tasks N.catalogue) }
+        requires exists { HasTask N.catalogue task }
     {
+        let arguments = catalogue.task_arguments(task);
         Trial {
             task,
-            attempt: Attempt::new(alloc, catalogue, catalogue.task_tx(task)),
+            attempt: Attempt::new(alloc, catalogue, catalogue.task_tx(task), arguments),
             how: How::Idle,
             stale: 0,
             of: PhantomData,
@@ -69,7 +71,7 @@ impl<'b, N: Naming> Trial<'b, N> {
 
     /// It has this task from now on, which was taken.
     pub(crate) fn give(&mut self, task: TaskId)
-        requires exists { task.0 < length (tasks N.catalogue) }
+        requires exists { HasTask N.catalogue task }
         ensures task { self.new.task ≡ task }
         ensures begun { self.new.how ≡ How.Begun }
         ensures untried { self.new.stale ≡ 0 }
@@ -88,8 +90,10 @@ impl<'b, N: Naming> Trial<'b, N> {
             return;
         }
         self.how = How::Begun;
+        let task = self.task;
+        let arguments = catalogue.task_arguments(task);
         self.attempt
-            .restart(catalogue, catalogue.task_tx(self.task));
+            .restart(catalogue, catalogue.task_tx(task), arguments);
         match self.attempt.evaluate_on(values) {
             Ok(_) => self.how = How::Ended,
             Err(_) => self.how = How::Memory,
@@ -104,7 +108,7 @@ pub(crate) fn idle_trials<'b, N: Naming>(
     task: TaskId,
 ) -> Vec<Trial<'b, N>>
     requires named { catalogue.now ≡ N.catalogue }
-    requires exists { task.0 < length (tasks N.catalogue) }
+    requires exists { HasTask N.catalogue task }
 {
     let Ok(mut trials) = Vec::with_capacity(alloc, TOGETHER) else {
         return Vec::new(alloc);
@@ -132,7 +136,7 @@ pub(crate) fn are_busy<N: Naming>(trials: &[Trial<'_, N>]) -> bool
 
 /// Gives the task to a trial that has none: whether there was one.
 pub(crate) fn give_one<N: Naming>(trials: &mut [Trial<'_, N>], task: TaskId) -> bool
-    requires exists { task.0 < length (tasks N.catalogue) }
+    requires exists { HasTask N.catalogue task }
 {
     for trial in trials.iter_mut() {
         if trial.how == How::Idle {

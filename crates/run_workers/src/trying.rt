@@ -1,14 +1,16 @@
-//! An attempt of a transaction on what a pass reads.
+//! An attempt of a task on what a pass reads.
 
-ghost use Rattle.std.specs.Prelude.{◌≡◌, ◌<◌, length, true, IfErr, IfOk};
+ghost use Rattle.std.specs.Prelude.{◌≡◌, length, true, IfErr, IfOk};
 ghost use Rattle.cells.specs.Passing.{at};
+ghost use Rattle.txn_programs.specs.Listing.{task_tx, task_arguments};
+ghost use Rattle.run_workers.specs.Standing.{HasTask};
 ghost use Rattle.run_observer.specs.Observing.{ObservesBy, IsStaleFrom, EvaluatesTo, LacksMemory};
 
 use crate::gate::{Gate, Point, stop_at};
 use attempt::Attempt;
 use cells::{Cells, Pass};
 use run_observer::{Cut, Watch, evaluate_by};
-use txn::{Catalogue, Outcome, TaskId, TxId, VarId};
+use txn::{Catalogue, Outcome, TaskId, VarId};
 
 /// The gate, which is told of what the attempt of a task needs.
 #[derive(Drop)]
@@ -26,7 +28,7 @@ impl<'g, G: Gate> Watch for AtNeeds<'g, G> {
     }
 }
 
-/// Restarts the attempt as one of the task's transaction, and brings it to its end on one state of
+/// Restarts the attempt as one of the task's call, and brings it to its end on one state of
 /// the cells: that of the begin of the pass, or the last to which the pass moved. A gate that is not
 /// open is told of each need before it is read, and of the end.
 ///
@@ -37,23 +39,27 @@ impl<'g, G: Gate> Watch for AtNeeds<'g, G> {
 pub(crate) fn attempt_on<'c, G: Gate>(
     attempt: &mut Attempt<'c>,
     catalogue: &'c Catalogue,
-    tx: TxId,
+    task: TaskId,
     cells: &Cells,
     pass: &mut Pass,
     gate: &G,
-    task: TaskId,
 ) -> Result<Outcome, Cut>
-    requires known { tx.0 < length catalogue.now.transactions }
+    requires known { HasTask catalogue.now task }
     requires own { pass.old.cells ≡ cells.now }
     requires variables { cells.now.variables ≡ length catalogue.now.initial }
     ensures observes { ObservesBy pass.old pass.new }
-    ensures ended { IfOk result (λ how. EvaluatesTo catalogue.now tx (at pass.new) how attempt.new) }
+    ensures ended { IfOk result
+        (λ how. EvaluatesTo catalogue.now (task_tx catalogue.now task) (task_arguments catalogue.now task)
+        (at pass.new) how attempt.new) }
     ensures stale { IfErr result (λ why. why ≡ Cut.Stale → IsStaleFrom pass.old pass.new) }
     ensures memory { IfErr result
-        (λ why. why ≡ Cut.Memory → (pass.new.open_now ≡ true) × LacksMemory catalogue.now tx attempt.new) }
+        (λ why. why ≡ Cut.Memory
+        → (pass.new.open_now ≡ true) × LacksMemory catalogue.now (task_tx catalogue.now task) attempt.new) }
 {
     let watch = AtNeeds { gate, task };
-    let ended = evaluate_by(attempt, catalogue, tx, cells, pass, &watch);
+    let tx = catalogue.task_tx(task);
+    let arguments = catalogue.task_arguments(task);
+    let ended = evaluate_by(attempt, catalogue, tx, arguments, cells, pass, &watch);
     if ended.is_ok() {
         stop_at(gate, Point::Ended, task);
     }

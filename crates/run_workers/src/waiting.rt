@@ -14,7 +14,7 @@ use std::sync::{Mutex, MutexGuard, Wait};
 use std::thread;
 
 /// How long the first rest is, in loads of a word that no one else has.
-const SHORT: u32 = 250;
+const FIRST_REST: u32 = 250;
 
 /// How long a rest is at most.
 const LONG: u32 = 8_000;
@@ -27,7 +27,7 @@ const YIELDS: u32 = 50;
 
 /// Does nothing for a while, which is so many loads.
 fn rest(length: u32)
-    requires { length ≤ 8000 }
+    requires { length ≤ LONG }
 {
     let word = AtomicU64::new(0);
     for _ in 0..length {
@@ -38,7 +38,7 @@ fn rest(length: u32)
 
 /// Twice the length, as far as rests go.
 fn longer(length: u32) -> u32
-    ensures { result ≤ 8000 }
+    ensures { result ≤ LONG }
 {
     length.saturating_mul(2).min(LONG)
 }
@@ -52,7 +52,7 @@ pub(crate) fn rest_after(stale: u32, tries: u32)
 {
     // The clause alone speaks of them.
     let _tries = tries;
-    let mut length = SHORT;
+    let mut length = FIRST_REST;
     'longer: for _ in 0..stale.min(16) {
         length = longer(length);
     }
@@ -64,7 +64,7 @@ pub(crate) fn rest_after(stale: u32, tries: u32)
 fn try_some<'b, 'a, N: Naming>(
     shared: &'b Mutex<Named<'a, N>>,
 ) -> Option<MutexGuard<'b, Named<'a, N>>> {
-    let mut length = SHORT;
+    let mut length = FIRST_REST;
     'rests: for _ in 0..RESTS {
         if let Some(guard) = shared.try_lock() {
             return Some(guard);

@@ -5,28 +5,29 @@
 //! are each one stale try; after so many of them the task has its turn under the lock. A try that moved
 //! is none.
 
-ghost use Rattle.std.specs.Prelude.{◌≡◌, ◌<◌, [], length, false, All, IfSome, Some};
+ghost use Rattle.std.specs.Prelude.{◌≡◌, [], length, false, All, IfSome, Some};
 ghost use Rattle.std.specs.List.{list_any};
 ghost use Rattle.std.specs.Coded.{codes};
 ghost use Rattle.txn.specs.Codes.{coded_listing};
-ghost use Rattle.txn_programs.specs.Listing.{tasks, task_tx};
+ghost use Rattle.txn_programs.specs.Listing.{task_tx};
 ghost use Rattle.attempt.specs.Room.{TakesMemory};
-ghost use Rattle.run_workers.specs.declared.shared.Tried.TheVariants.{Over, Memory};
+ghost use Rattle.run_workers.specs.Standing.{HasTask};
+ghost use Rattle.run_workers.specs.declared.shared.TryEnd.TheVariants.{Over, Memory};
 ghost use Rattle.run_workers.specs.declared.trials.How.{How};
-ghost use Rattle.run_workers.specs.Weighing.{is_light};
+ghost use Rattle.txn.specs.Weighing.{is_light};
 
 use crate::gate::{Gate, Point, stop_at};
 use crate::rounds::{Values, begin, close, round};
-use crate::shared::{Named, Naming, Tried, finish, give_up, serial, take};
+use crate::shared::{Named, Naming, TryEnd, finish, give_up, serial, take};
 use crate::trials::{Trial, are_idle, evaluate_all, idle_trials};
 use crate::trying::attempt_on;
 use crate::waiting::rest_after;
-use crate::weights::{Size, have_light, size_in};
 use attempt::Attempt;
 use cells::{Cells, Pass};
 use run_observer::Cut;
 use std::alloc::Global;
 use std::sync::{Mutex, Wait};
+use txn::weights::{Size, have_light, size_in};
 use txn::{Catalogue, TaskId};
 
 /// After how many rounds a worker goes on as with a new task, so that the loop over them ends.
@@ -81,7 +82,7 @@ fn serve<'b, R: Wait, G: Gate, N: Naming>(
     trials: &mut [Trial<'b, N>],
     first: TaskId,
 )
-    requires exists { first.0 < length (tasks N.catalogue) }
+    requires exists { HasTask N.catalogue first }
     requires own { pass.old.cells ≡ crew.now.cells.now }
 {
     let mut task = first;
@@ -102,10 +103,10 @@ fn pass_on<'b, R: Wait, G: Gate, N: Naming>(
     trials: &mut [Trial<'b, N>],
     task: TaskId,
 ) -> Option<TaskId>
-    requires exists { task.0 < length (tasks N.catalogue) }
+    requires exists { HasTask N.catalogue task }
     requires own { pass.old.cells ≡ crew.now.cells.now }
     ensures own { pass.new.cells ≡ pass.old.cells }
-    ensures next { IfSome result (λ t. t.0 < length (tasks N.catalogue)) }
+    ensures next { IfSome result (HasTask N.catalogue) }
 {
     let tx = crew.catalogue.task_tx(task);
     match size_in(crew.sizes.as_slice(), tx) {
@@ -127,47 +128,27 @@ fn run_rounds<'b, R: Wait, G: Gate, N: Naming>(
     trials: &mut [Trial<'b, N>],
     first: TaskId,
 ) -> Option<TaskId>
-    requires exists { first.0 < length (tasks N.catalogue) }
-    ensures next { IfSome result (λ t. t.0 < length (tasks N.catalogue)) }
+    requires exists { HasTask N.catalogue first }
+    ensures next { IfSome result (HasTask N.catalogue) }
     ensures idle { All (λ t. t.how ≡ How.Idle) trials.new }
 {
-    let (shared, every) = (crew.shared, crew.every);
-    let sizes = crew.sizes.as_slice();
     let mut values = Values::new();
-    let mut left = begin(
-        rt,
-        shared,
-        every,
-        sizes,
-        attempt,
-        trials,
-        &mut values,
-        first,
-    );
+    let mut left = begin(rt, crew, attempt, trials, &mut values, first);
     'rounds: for _ in 0..ROUNDS {
         if are_idle(trials) {
             return left;
         }
         evaluate_all(crew.gate, trials, crew.catalogue, values.as_slice());
         if left.is_some() {
-            close(rt, shared, every, attempt, trials);
+            close(rt, crew, attempt, trials);
             return left;
         }
-        left = round(
-            rt,
-            shared,
-            every,
-            crew.tries,
-            sizes,
-            attempt,
-            trials,
-            &mut values,
-        );
+        left = round(rt, crew, attempt, trials, &mut values);
     }
-    close(rt, shared, every, attempt, trials);
+    close(rt, crew, attempt, trials);
     match left {
         Some(task) => Some(task),
-        None => take(rt, shared),
+        None => take(rt, crew.shared),
     }
 }
 
@@ -176,7 +157,7 @@ fn first_trials<'b, G: Gate, N: Naming>(
     crew: &Crew<'_, 'b, G, N>,
     task: TaskId,
 ) -> Vec<Trial<'b, N>>
-    requires { task.0 < length (tasks N.catalogue) }
+    requires { HasTask N.catalogue task }
     ensures { list_any is_light crew.now.sizes.items ≡ false → result.items ≡ [] }
 {
     if have_light(crew.sizes.as_slice()) {
@@ -185,12 +166,13 @@ fn first_trials<'b, G: Gate, N: Naming>(
     Vec::new(crew.alloc)
 }
 
-/// An attempt of the task's transaction.
+/// An attempt of the task's call.
 fn first_attempt<'b, G: Gate, N: Naming>(crew: &Crew<'_, 'b, G, N>, task: TaskId) -> Attempt<'b>
-    requires { task.0 < length (tasks N.catalogue) }
+    requires { HasTask N.catalogue task }
 {
     let catalogue = crew.catalogue;
-    Attempt::new(crew.alloc, catalogue, catalogue.task_tx(task))
+    let arguments = catalogue.task_arguments(task);
+    Attempt::new(crew.alloc, catalogue, catalogue.task_tx(task), arguments)
 }
 
 /// Runs a task that was taken by tries of its own. The next task, `None` if none is ready.
@@ -201,10 +183,10 @@ fn run_task<'b, R: Wait, G: Gate, N: Naming>(
     attempt: &mut Attempt<'b>,
     task: TaskId,
 ) -> Option<TaskId>
-    requires exists { task.0 < length (tasks N.catalogue) }
+    requires exists { HasTask N.catalogue task }
     requires own { pass.old.cells ≡ crew.now.cells.now }
     ensures own { pass.new.cells ≡ pass.old.cells }
-    ensures next { IfSome result (λ t. t.0 < length (tasks N.catalogue)) }
+    ensures next { IfSome result (HasTask N.catalogue) }
 {
     stop_at(crew.gate, Point::Taken, task);
     let next = try_often(rt, crew, pass, attempt, task);
@@ -226,20 +208,20 @@ fn try_often<'b, R: Wait, G: Gate, N: Naming>(
     attempt: &mut Attempt<'b>,
     task: TaskId,
 ) -> Option<TaskId>
-    requires exists { task.0 < length (tasks N.catalogue) }
+    requires exists { HasTask N.catalogue task }
     requires own { pass.old.cells ≡ crew.now.cells.now }
     ensures own { pass.new.cells ≡ pass.old.cells }
-    ensures next { IfSome result (λ t. t.0 < length (tasks N.catalogue)) }
+    ensures next { IfSome result (HasTask N.catalogue) }
 {
     for stale in 0..crew.tries {
         match try_task(rt, crew, pass, attempt, task) {
-            Tried::Over(next) => return next,
-            Tried::Stale => {
+            TryEnd::Over(next) => return next,
+            TryEnd::Stale => {
                 if stale + 1 < crew.tries {
                     rest_after(stale, crew.tries);
                 }
             }
-            Tried::Memory => return give_up(rt, crew.shared, task, G::IS_OPEN),
+            TryEnd::Memory => return give_up(rt, crew.shared, task, G::IS_OPEN),
         }
     }
     serial(rt, crew.shared, crew.every, attempt, task, G::IS_OPEN)
@@ -252,18 +234,17 @@ fn try_task<'b, R: Wait, G: Gate, N: Naming>(
     pass: &mut Pass,
     attempt: &mut Attempt<'b>,
     task: TaskId,
-) -> Tried
-    requires exists { task.0 < length (tasks N.catalogue) }
+) -> TryEnd
+    requires exists { HasTask N.catalogue task }
     requires own { pass.old.cells ≡ crew.now.cells.now }
     ensures own { pass.new.cells ≡ pass.old.cells }
-    ensures next { (t : TaskId) → result ≡ Over (Some t) → t.0 < length (tasks N.catalogue) }
+    ensures next { (t : TaskId) → result ≡ Over (Some t) → HasTask N.catalogue t }
     ensures memory { result ≡ Memory → TakesMemory N.catalogue (task_tx N.catalogue task) }
 {
     let catalogue = crew.catalogue;
-    let tx = catalogue.task_tx(task);
-    match attempt_on(attempt, catalogue, tx, crew.cells, pass, crew.gate, task) {
+    match attempt_on(attempt, catalogue, task, crew.cells, pass, crew.gate) {
         Ok(_) => finish(rt, crew.shared, crew.every, task, attempt, G::IS_OPEN),
-        Err(Cut::Stale) => Tried::Stale,
-        Err(Cut::Memory) => Tried::Memory,
+        Err(Cut::Stale) => TryEnd::Stale,
+        Err(Cut::Memory) => TryEnd::Memory,
     }
 }

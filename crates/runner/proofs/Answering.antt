@@ -1,7 +1,7 @@
 -- What a run of a file leaves, by what was written of its report.
 use Rattle.std.proofs.Common.{ℕ, List, Option, Result, Ok, Err}
-use Rattle.run_faults.specs.declared.fault.RunFault.{RunFault}
-use Rattle.run_faults.specs.declared.fault.RunFault.TheVariants.{Input, Memory, Output, Schedule}
+use Rattle.run_interface.specs.declared.fault.RunFault.{RunFault}
+use Rattle.run_interface.specs.declared.fault.RunFault.TheVariants.{Input, Memory, Output, Schedule}
 use Rattle.runner.specs.Running.{IsReportBy, Ran, Wrote}
 
 pub ran_of : {U : Type 0} (every : ℕ) (file text : List ℕ) (old new : Option (List ℕ)) (result : Result U RunFault) → IsReportBy every file text → Wrote text old new result → Ran every file old new result

@@ -1,4 +1,4 @@
--- What goes to a sink by way of a text that gathers it.
+-- What goes to a sink by way of a text.
 use Rattle.std.specs.Prelude.{◌≡◌, ℕ, List, ◌++◌, Option, take, drop}
 use Rattle.std.specs.List.{flat_map}
 use Rattle.std.specs.Io.KnownBytes.{Appends}

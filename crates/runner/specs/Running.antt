@@ -1,4 +1,4 @@
--- What a run of the bytes of a file leaves.
+-- What a run of a file leaves.
 use Rattle.std.specs.Prelude.{◌≡◌, ℕ, List, [], take, Option, Some, Result, Ok, Err}
 use Rattle.std.specs.Io.KnownBytes.{Appends, Keeps}
 use Rattle.txn_programs.specs.Listing.{Listing}
@@ -9,8 +9,8 @@ use Rattle.txn_text.specs.ReportText.{report_text}
 use Rattle.txn_text.specs.ReportFits.{ReportFits}
 use Rattle.run_workers.specs.GivingUp.{GaveUpForMemory, RunsInPlace}
 use Rattle.run_workers.specs.Journals.{KeepsShort}
-use Rattle.run_faults.specs.declared.fault.RunFault.{RunFault}
-use Rattle.run_faults.specs.declared.fault.RunFault.TheVariants.{Input, Memory, Output, Schedule}
+use Rattle.run_interface.specs.declared.fault.RunFault.{RunFault}
+use Rattle.run_interface.specs.declared.fault.RunFault.TheVariants.{Input, Memory, Output, Schedule}
 
 -- the text is that of one lawful report of exactly the file that the input spells, whose values are of 64 signed bits
 pub record IsReportOf (input text : List ℕ) : Type 0 where

@@ -1,15 +1,14 @@
 //! From the bytes of a file to the bytes of its report.
 
-ghost use Rattle.std.specs.Prelude.{◌≡◌, ◌+◌, ◌<◌, ◌^◌, ℕ, List, true, OnOk};
+ghost use Rattle.std.specs.Prelude.{◌≡◌, ◌+◌, ℕ, List, true, OnOk};
 ghost use Rattle.txn_text.specs.Spelling.{Spells};
-ghost use Rattle.run_faults.specs.Failures.{output_failures};
+ghost use Rattle.run_interface.specs.Counts.{FewFailed};
+ghost use Rattle.run_interface.specs.Failures.{output_failures};
 ghost use Rattle.runner.specs.Running.{Ran};
 
 use crate::pieces::{run_values_fit, write_report};
-use run_faults::RunFault;
-use run_options::Options;
-use run_sink::Sink;
-use run_workers::{Gate, run_in_lines};
+use run_interface::{Options, RunFault, Sink};
+use run_workers::{Gate, run_packed};
 use std::alloc::Global;
 use std::sync::Wait;
 use std::thread::Threads;
@@ -32,7 +31,7 @@ pub fn run_bytes<R: Threads + Wait + Sync, G: Gate, S: Sink>(
     gate: &G,
     sink: &mut S,
 ) -> Result<(), RunFault>
-    requires { S.failed sink.old < 2 ^ 63 }
+    requires { FewFailed (S.failed sink.old) }
     ensures ran { Ran options.checkpoint bytes.now (S.bytes sink.old) (S.bytes sink.new) result }
     ensures flushed { OnOk result (S.flushed sink.new ≡ true) }
     ensures failures { S.failed sink.new ≡ S.failed sink.old + output_failures result }
@@ -53,13 +52,13 @@ fn run_on<R: Threads + Wait + Sync, G: Gate, S: Sink>(
     gate: &G,
     sink: &mut S,
 ) -> Result<(), RunFault>
-    requires { S.failed sink.old < 2 ^ 63 }
+    requires { FewFailed (S.failed sink.old) }
     ensures ran { (file : List ℕ) → Spells file catalogue.now
         → Ran options.checkpoint file (S.bytes sink.old) (S.bytes sink.new) result }
     ensures flushed { OnOk result (S.flushed sink.new ≡ true) }
     ensures failures { S.failed sink.new ≡ S.failed sink.old + output_failures result }
 {
-    let Ok(report) = run_in_lines(rt, alloc, catalogue, options, gate) else {
+    let Ok(report) = run_packed(rt, alloc, catalogue, options, gate) else {
         return Err(RunFault::Memory);
     };
     run_values_fit(&report);

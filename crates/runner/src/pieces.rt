@@ -1,51 +1,53 @@
 //! A report on its way to a sink, a piece at a time.
 //!
 //! Its lines gather in a text whose room is taken before the first byte goes out, and which goes out
-//! whenever less than half of that room is left. So want of memory writes nothing, and a long report
+//! whenever less than half of that room is left. So running out of memory writes nothing, and a long report
 //! takes no more memory on its way than a short one.
 
-ghost use Rattle.std.specs.Prelude.{◌≡◌, ◌≤◌, ◌<◌, ◌+◌, ◌*◌, ◌^◌, [], ◌∷◌, ◌++◌, All, codes, length, string_bytes, string_capacity, string_len, true, IfErr, IsOk, OnOk, OnErr};
+ghost use Rattle.std.specs.Prelude.{◌≡◌, ◌≤◌, ◌<◌, ◌+◌, ◌*◌, [], ◌∷◌, ◌++◌, All, codes, length, string_bytes};
+ghost use Rattle.std.specs.Prelude.{string_capacity, string_len, true, IfErr, IsOk, OnOk, OnErr};
 ghost use Rattle.std.specs.Fmt.{decimal};
 ghost use Rattle.std.specs.Io.KnownBytes.{Appends, Keeps};
 ghost use Rattle.std.specs.List.{flat_map};
-ghost use Rattle.txn_programs.specs.declared.limits.TheConstants.{MAX_VARIABLES};
+ghost use Rattle.txn_programs.specs.declared.limits.TheConstants.{MAX_NAME};
 ghost use Rattle.txn_programs.specs.LawfulReport.{FitsCatalogue};
-ghost use Rattle.journal.specs.Lines.{told_run};
+ghost use Rattle.book_storage.specs.PackedEntries.{told_run};
 ghost use Rattle.text_words.specs.Words.{line};
 ghost use Rattle.text_report_printer.specs.declared.report.TheConstants.{LONGEST};
 ghost use Rattle.text_report_printer.specs.ReportFits.{OutcomesFit, ReportFits};
 ghost use Rattle.text_report_printer.specs.ReportText.{variable_lines, entry_line, task_line, report_text};
-ghost use Rattle.run_faults.specs.Failures.{output_failures};
+ghost use Rattle.run_interface.specs.Counts.{FewFailed};
+ghost use Rattle.run_interface.specs.Failures.{output_failures};
 ghost use Rattle.runner.specs.Pieces.{Gathers, Breaks};
 ghost use Rattle.runner.specs.Running.{Wrote};
 
-use journal::{Line, RunReport};
-use run_faults::RunFault;
-use run_sink::{Sink, SinkFault, put_all, put_bytes};
+use book_storage::{PackedEntry, RunReport};
+use run_interface::{RunFault, Sink, SinkFault, put_all, put_bytes};
 use std::alloc::{AllocError, Global};
 use text_report_printer::{
     LONGEST, put_entry, put_number, put_tasks, put_variables, value_fits, values_fit,
 };
+use txn::limits::MAX_VARIABLES;
 use txn::{Catalogue, TaskId, TxId};
 
 /// How many lines are put at once, at most: there are no more variables.
-const AT_ONCE: usize = 256;
+const AT_ONCE: usize = MAX_VARIABLES;
 
 /// The room that so many lines want.
 const HALF: usize = AT_ONCE * LONGEST;
 
 /// The room of the text: a line, and twice what is put at once.
-const ROOM: usize = LONGEST + 2 * HALF;
+const TEXT_ROOM: usize = LONGEST + 2 * HALF;
 
 /// Lets the text go out where not half of its room is left.
 fn make_room<S: Sink>(sink: &mut S, text: &mut String) -> Result<(), SinkFault>
-    requires failed { S.failed sink.old < 2 ^ 63 }
+    requires failed { FewFailed (S.failed sink.old) }
     ensures gathers { OnOk result
         (Gathers (S.bytes sink.old) (string_bytes text.old) (S.bytes sink.new) (string_bytes text.new) []) }
     ensures none_failed { OnOk result (S.failed sink.new ≡ S.failed sink.old) }
     ensures breaks { OnErr result (Breaks (S.bytes sink.old) (string_bytes text.old) (S.bytes sink.new) []) }
     ensures one_failed { OnErr result (S.failed sink.new ≡ S.failed sink.old + 1) }
-    ensures room { OnOk result (string_len text.new ≤ 32768) }
+    ensures room { OnOk result (string_len text.new ≤ HALF) }
     ensures capacity { string_capacity text.old ≤ string_capacity text.new }
 {
     if text.len() > HALF {
@@ -64,9 +66,9 @@ fn put_values<S: Sink>(
     number: u64,
     vars: &[(i64, u64)],
 ) -> Result<(), SinkFault>
-    requires failed { S.failed sink.old < 2 ^ 63 }
-    requires room { 65664 ≤ string_capacity text.old }
-    requires short { length word.now ≤ 32 }
+    requires failed { FewFailed (S.failed sink.old) }
+    requires room { TEXT_ROOM ≤ string_capacity text.old }
+    requires short { length word.now ≤ MAX_NAME }
     requires few { length vars.now ≤ MAX_VARIABLES }
     requires named { length vars.now ≡ length catalogue.now.names }
     ensures gathers { OnOk result
@@ -90,7 +92,11 @@ fn put_values<S: Sink>(
 }
 
 /// Puts a line for each of so few lines that the text has room for them.
-fn put_lines(text: &mut String, catalogue: &Catalogue, lines: &[Line]) -> Result<(), AllocError>
+fn put_lines(
+    text: &mut String,
+    catalogue: &Catalogue,
+    lines: &[PackedEntry],
+) -> Result<(), AllocError>
     requires { All (λ e. e.tx.0 < length catalogue.now.transactions) lines.now }
     ensures text { OnOk result
         (string_bytes text.new ≡ string_bytes text.old ++ flat_map (entry_line catalogue.now) lines.now) }
@@ -108,10 +114,10 @@ fn put_journal<S: Sink>(
     sink: &mut S,
     text: &mut String,
     catalogue: &Catalogue,
-    lines: &[Line],
+    lines: &[PackedEntry],
 ) -> Result<(), SinkFault>
-    requires failed { S.failed sink.old < 2 ^ 63 }
-    requires room { 65664 ≤ string_capacity text.old }
+    requires failed { FewFailed (S.failed sink.old) }
+    requires room { TEXT_ROOM ≤ string_capacity text.old }
     requires known { All (λ e. e.tx.0 < length catalogue.now.transactions) lines.now }
     ensures gathers { OnOk result
         (Gathers (S.bytes sink.old) (string_bytes text.old) (S.bytes sink.new) (string_bytes text.new)
@@ -143,9 +149,9 @@ fn put_all_tasks<S: Sink>(
     kind: &str,
     tasks: &[(TaskId, TxId)],
 ) -> Result<(), SinkFault>
-    requires failed { S.failed sink.old < 2 ^ 63 }
-    requires room { 65664 ≤ string_capacity text.old }
-    requires short { length kind.now ≤ 32 }
+    requires failed { FewFailed (S.failed sink.old) }
+    requires room { TEXT_ROOM ≤ string_capacity text.old }
+    requires short { length kind.now ≤ MAX_NAME }
     requires known { All (λ p. p.1.0 < length catalogue.now.transactions) tasks.now }
     ensures gathers { OnOk result
         (Gathers (S.bytes sink.old) (string_bytes text.old) (S.bytes sink.new) (string_bytes text.new)
@@ -171,8 +177,8 @@ fn put_all_tasks<S: Sink>(
 
 /// Puts the last line, and sends it all on.
 fn put_end<S: Sink>(sink: &mut S, text: &mut String) -> Result<(), SinkFault>
-    requires failed { S.failed sink.old < 2 ^ 63 }
-    requires room { 65664 ≤ string_capacity text.old }
+    requires failed { FewFailed (S.failed sink.old) }
+    requires room { TEXT_ROOM ≤ string_capacity text.old }
     ensures gathers { OnOk result
         (Gathers (S.bytes sink.old) (string_bytes text.old) (S.bytes sink.new) [] (line (codes "end" ∷ []))) }
     ensures flushed { OnOk result (S.flushed sink.new ≡ true) }
@@ -195,8 +201,8 @@ fn put_report<S: Sink>(
     catalogue: &Catalogue,
     report: &RunReport,
 ) -> Result<(), SinkFault>
-    requires failed { S.failed sink.old < 2 ^ 63 }
-    requires room { 65664 ≤ string_capacity text.old }
+    requires failed { FewFailed (S.failed sink.old) }
+    requires room { TEXT_ROOM ≤ string_capacity text.old }
     requires fits { FitsCatalogue catalogue.now (told_run report.now) }
     ensures gathers { OnOk result
         (Gathers (S.bytes sink.old) (string_bytes text.old) (S.bytes sink.new) []
@@ -226,14 +232,14 @@ pub(crate) fn write_report<S: Sink>(
     report: &RunReport,
     sink: &mut S,
 ) -> Result<(), RunFault>
-    requires failed { S.failed sink.old < 2 ^ 63 }
+    requires failed { FewFailed (S.failed sink.old) }
     requires fits { FitsCatalogue catalogue.now (told_run report.now) }
     ensures wrote { Wrote (report_text catalogue.now (told_run report.entry.now)) (S.bytes sink.old)
         (S.bytes sink.new) result }
     ensures flushed { OnOk result (S.flushed sink.new ≡ true) }
     ensures failures { S.failed sink.new ≡ S.failed sink.old + output_failures result }
 {
-    let Ok(mut text) = String::with_capacity(alloc, ROOM) else {
+    let Ok(mut text) = String::with_capacity(alloc, TEXT_ROOM) else {
         return Err(RunFault::Memory);
     };
     match put_report(sink, &mut text, catalogue, report) {
@@ -242,7 +248,7 @@ pub(crate) fn write_report<S: Sink>(
     }
 }
 
-fn lines_fit(lines: &[Line])
+fn lines_fit(lines: &[PackedEntry])
     ensures { OutcomesFit lines.now }
 {
     'lines: for line in lines {

@@ -1,9 +1,12 @@
-//! Tests of the public calls of `runner` and `world_runner`: what is printed of runs and schedules, refusals, and writers
-//! that fail; of those of `run_sink`, by writers of its own; and of those of `print_files`.
+//! Tests of the public calls of `runner` and `world_runner`: what is printed of runs and schedules, refusals, and
+//! writers that fail; of those of `run_interface`, by writers of its own; of those of `file_chains`, and of
+//! those of `txn::weights`.
 #![tactic(auto)]
 
 #[cfg(test)]
 mod ample;
+#[cfg(test)]
+mod drawn;
 #[cfg(test)]
 mod gates;
 #[cfg(test)]
@@ -40,6 +43,8 @@ mod schedules;
 mod settings;
 #[cfg(test)]
 mod sinks;
+#[cfg(test)]
+mod sizes;
 #[cfg(test)]
 mod texts;
 #[cfg(test)]

@@ -9,20 +9,24 @@ use std::thread::Threads;
 
 /// 200 tasks that read in some 250 instructions each, and four that write what they read.
 const BESIDE_SHORT: &str =
-    "(var x 5)(tx look (repeat 50 (if (lt x 0) (throw 1) (skip))) x)(tx inc (set x (add x 1)) 0)(run look 100)(run inc 2)(run look 100)(run inc 2)";
+    "(var x 5)(tx look (repeat 50 (if (lt x 0) (throw 1) (skip))) x)(tx inc (set x (add x 1)) 0)(run look 100)(run \
+        inc 2)(run look 100)(run inc 2)";
 
 /// 72 of them, and 24 that write what they read, three runs each: more of these than wait together for their
 /// turns, and at the end fewer.
 const BESIDE_MANY: &str =
-    "(var x 5)(tx look (repeat 50 (if (lt x 0) (throw 1) (skip))) x)(tx inc (set x (add x 1)) 0)(run look 24)(run inc 10)(run look 24)(run inc 9)(run look 24)(run inc 5)";
+    "(var x 5)(tx look (repeat 50 (if (lt x 0) (throw 1) (skip))) x)(tx inc (set x (add x 1)) 0)(run look 24)(run \
+        inc 10)(run look 24)(run inc 9)(run look 24)(run inc 5)";
 
 /// 60 of them, and two of some 5,000 instructions between them.
 const BESIDE_LONG: &str =
-    "(var x 5)(tx look (repeat 50 (if (lt x 0) (throw 1) (skip))) x)(tx long (seq (repeat 1000 (if (lt x 0) (throw 1) (skip))) (set x (add x 1))) 0)(run look 30)(run long 2)(run look 30)";
+    "(var x 5)(tx look (repeat 50 (if (lt x 0) (throw 1) (skip))) x)(tx long (seq (repeat 1000 (if (lt x 0) (throw \
+        1) (skip))) (set x (add x 1))) 0)(run look 30)(run long 2)(run look 30)";
 
 /// 24 that retry until a short one was there.
 const WOKEN: &str =
-    "(var x 5)(tx wait (seq (repeat 50 (if (lt x 0) (throw 1) (skip))) (if (eq x 5) (retry) (skip))) x)(tx inc (set x (add x 1)) 0)(run wait 24)(run inc 1)";
+    "(var x 5)(tx wait (seq (repeat 50 (if (lt x 0) (throw 1) (skip))) (if (eq x 5) (retry) (skip))) x)(tx inc (set \
+        x (add x 1)) 0)(run wait 24)(run inc 1)";
 
 /// Whether the text has this part.
 fn has(text: &[u8], part: &str) -> bool {

@@ -1,7 +1,7 @@
 //! Runs whose journal stays in lines.
 
 use crate::parts::options;
-use runner::{Line, OpenGate, RunReport, run_in_lines, run_tasks};
+use runner::{OpenGate, PackedEntry, RunReport, run_packed, run_tasks};
 use std::alloc::Global;
 use std::process::Abort;
 use std::sync::Wait;
@@ -11,7 +11,9 @@ use txn_text::read_file;
 
 /// A task of each end, and one that is woken.
 const ENDS: &str =
-    "(stm 2)(var x 5)(always small (le x 7))(tx wait (if (eq x 5) (retry) (skip)) x)(tx up (set x (add x 2)) x)(tx no (throw 3) 0)(tx over (skip) (mul 9223372036854775807 2))(tx zero (skip) (div 1 0))(tx asleep (retry) 0)(run wait 1)(run up 2)(run no 1)(run over 1)(run zero 1)(run asleep 1)";
+    "(stm 2)(var x 5)(always small (le x 7))(tx wait (if (eq x 5) (retry) (skip)) x)(tx up (set x (add x 2)) x)(tx \
+        no (throw 3) 0)(tx over (skip) (mul 9223372036854775807 2))(tx zero (skip) (div 1 0))(tx asleep (retry) \
+        0)(run wait 1)(run up 2)(run no 1)(run over 1)(run zero 1)(run asleep 1)";
 
 /// As many tasks as there may be.
 const MOST: &str = "(var x 5)(tx inc (set x (add x 1)) x)(run inc 65536)";
@@ -26,7 +28,7 @@ fn left(
     let Ok(catalogue) = read_file(alloc, text.as_bytes()) else {
         panic!(rt; "no file")
     };
-    match run_in_lines(rt, alloc, &catalogue, options(rt, workers, 8, 0), &OpenGate) {
+    match run_packed(rt, alloc, &catalogue, options(rt, workers, 8, 0), &OpenGate) {
         Ok(left) => left,
         Err(_) => panic!(rt; "no report"),
     }
@@ -68,5 +70,5 @@ fn lines_are_of_as_many_tasks_as_there_may_be(rt: HostRuntime) {
         tx: TxId(0),
         outcome: Outcome::Returned(65_541),
     };
-    assert!(rt; left.journal.last().map(Line::entry) == Some(wanted));
+    assert!(rt; left.journal.last().map(PackedEntry::entry) == Some(wanted));
 }

@@ -13,11 +13,13 @@ const LONG: &str =
 
 /// 60 long tasks and 60 short ones, each of which counts.
 const MIXED: &str =
-    "(var x 5)(tx long (seq (repeat 1000 (if (lt x 0) (throw 1) (skip))) (set x (add x 1))) 0)(tx inc (set x (add x 1)) 0)(run long 60)(run inc 60)";
+    "(var x 5)(tx long (seq (repeat 1000 (if (lt x 0) (throw 1) (skip))) (set x (add x 1))) 0)(tx inc (set x (add x \
+        1)) 0)(run long 60)(run inc 60)";
 
 /// A long task that retries until a short one was there.
 const WOKEN: &str =
-    "(var x 5)(var y 0)(tx long (seq (repeat 1000 (set y (add y 1))) (if (eq x 5) (retry) (skip))) y)(tx inc (set x (add x 1)) 0)(run long 1)(run inc 1)";
+    "(var x 5)(var y 0)(tx long (seq (repeat 1000 (set y (add y 1))) (if (eq x 5) (retry) (skip))) y)(tx inc (set x \
+        (add x 1)) 0)(run long 1)(run inc 1)";
 
 /// Any number of workers leaves a report of the file that ends so.
 fn expect_end(

@@ -11,13 +11,17 @@ use txn::{Catalogue, TaskId};
 use txn_text::read_file;
 
 const BUFFER: &str =
-    "(var full 0)(var cell 0)(tx get (seq (if (eq full 0) (retry) (skip)) (set full 0)) cell)(tx put (seq (if (eq full 1) (retry) (skip)) (set cell 42) (set full 1)) 0)(run get 1)(run put 1)";
+    "(var full 0)(var cell 0)(tx get (seq (if (eq full 0) (retry) (skip)) (set full 0)) cell)(tx put (seq (if (eq \
+        full 1) (retry) (skip)) (set cell 42) (set full 1)) 0)(run get 1)(run put 1)";
 
 const PASSED_ON: &str =
-    "base 0\nfull 0 0\ncell 0 0\nentry 1 1 put returned 0\nentry 2 0 get returned 42\nnow 2\nfull 0 2\ncell 42 1\nend\n";
+    "base 0\nfull 0 0\ncell 0 0\nentry 1 1 put returned 0\nentry 2 0 get returned 42\nnow 2\nfull 0 2\ncell 42 \
+        1\nend\n";
 
 const MOVES: &str =
-    "(stm 2)(var a 100)(var b 0)(always sum (eq (add a b) 100))(always pos (le 0 a))(tx again (seq (if (eq a 100) (retry) (skip)) (set a (sub a 60)) (set b (add b 60))) a)(tx move (seq (set a (sub a 60)) (set b (add b 60))) a)(run again 1)(run move 1)";
+    "(stm 2)(var a 100)(var b 0)(always sum (eq (add a b) 100))(always pos (le 0 a))(tx again (seq (if (eq a 100) \
+        (retry) (skip)) (set a (sub a 60)) (set b (add b 60))) a)(tx move (seq (set a (sub a 60)) (set b (add b \
+        60))) a)(run again 1)(run move 1)";
 
 const MOVED_ONCE: &str =
     "base 0\na 100 0\nb 0 0\nentry 1 1 move returned 40\nentry 2 0 again broke pos\nnow 2\na 40 1\nb 60 1\nend\n";

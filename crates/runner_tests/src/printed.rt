@@ -1,7 +1,7 @@
 //! Files printed anew: as they are, and going on from a report.
 
 use checker::{Part, Verdict};
-use print_files::{Next, print_bytes, print_on_bytes};
+use file_chains::{Next, print_bytes, print_on_bytes};
 use runner::{Out, RunFault};
 use std::alloc::Global;
 use std::process::Abort;
@@ -71,7 +71,8 @@ fn goes_on_from_a_report(rt: HostRuntime) {
 
 /// One task waits for n to be another value than 0, one for 100 or more, one adds 7.
 const WAITING: &str =
-    "(var n 0)(tx inc (set n (add n 7)) n)(tx hold (if (lt n 100) (retry) (skip)) n)(tx wait (if (eq n 0) (retry) (skip)) n)(run hold 2)(run inc 1)(run wait 1)";
+    "(var n 0)(tx inc (set n (add n 7)) n)(tx hold (if (lt n 100) (retry) (skip)) n)(tx wait (if (eq n 0) (retry) \
+        (skip)) n)(run hold 2)(run inc 1)(run wait 1)";
 
 /// What is printed of the chapter behind a report of that file.
 fn expect_chapter(
@@ -96,7 +97,8 @@ fn the_next_chapter_has_the_parked_tasks(rt: HostRuntime) {
         &rt,
         alloc,
         "base 0\nn 0 0\nentry 1 2 inc returned 7\nnow 1\nn 7 1\nparked 0 hold\nparked 1 hold\nmemory 3 wait\nend\n",
-        "(var n 7)\n(tx inc (set n (add n 7)) n)\n(tx hold (if (lt n 100) (retry) (skip)) n)\n(tx wait (if (eq n 0) (retry) (skip)) n)\n(run hold 1)\n(run hold 1)\n",
+        "(var n 7)\n(tx inc (set n (add n 7)) n)\n(tx hold (if (lt n 100) (retry) (skip)) n)\n(tx wait (if (eq n 0) \
+            (retry) (skip)) n)\n(run hold 1)\n(run hold 1)\n",
         Verdict::Good,
     );
     // Which one waits is told by its line.
@@ -104,7 +106,8 @@ fn the_next_chapter_has_the_parked_tasks(rt: HostRuntime) {
         &rt,
         alloc,
         "base 0\nn 0 0\nnow 0\nn 0 0\nparked 1 hold\nparked 3 wait\nmemory 0 hold\nmemory 2 inc\nend\n",
-        "(var n 0)\n(tx inc (set n (add n 7)) n)\n(tx hold (if (lt n 100) (retry) (skip)) n)\n(tx wait (if (eq n 0) (retry) (skip)) n)\n(run hold 1)\n(run wait 1)\n",
+        "(var n 0)\n(tx inc (set n (add n 7)) n)\n(tx hold (if (lt n 100) (retry) (skip)) n)\n(tx wait (if (eq n 0) \
+            (retry) (skip)) n)\n(run hold 1)\n(run wait 1)\n",
         Verdict::Good,
     );
     expect_chapter(&rt, alloc, "", "bad 1\n", Verdict::Bad(Part::Text));

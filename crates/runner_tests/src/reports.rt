@@ -43,8 +43,10 @@ fn retries_and_alternatives(rt: HostRuntime) {
             "base 0\nnow 0\nparked 0 t\nend\n",
         ),
         (
-            "(var full 0)(var cell 0)(tx get (seq (if (eq full 0) (retry) (skip)) (set full 0)) cell)(tx put (seq (if (eq full 1) (retry) (skip)) (set cell 42) (set full 1)) 0)(run get 1)(run put 1)",
-            "base 0\nfull 0 0\ncell 0 0\nentry 1 1 put returned 0\nentry 2 0 get returned 42\nnow 2\nfull 0 2\ncell 42 1\nend\n",
+            "(var full 0)(var cell 0)(tx get (seq (if (eq full 0) (retry) (skip)) (set full 0)) cell)(tx put (seq \
+                (if (eq full 1) (retry) (skip)) (set cell 42) (set full 1)) 0)(run get 1)(run put 1)",
+            "base 0\nfull 0 0\ncell 0 0\nentry 1 1 put returned 0\nentry 2 0 get returned 42\nnow 2\nfull 0 2\ncell \
+                42 1\nend\n",
         ),
         (
             "(var entry 1)(var now 2)(var end 3)(tx t (set end (add entry now)) end)(run t 1)",
@@ -60,11 +62,14 @@ fn faults_of_numbers(rt: HostRuntime) {
     let alloc = rt.alloc();
     for (input, report) in [
         (
-            "(tx a (skip) (div 1 0))(tx b (skip) (div -9223372036854775808 -1))(tx c (skip) (div -7 2))(tx d (skip) (rem -7 2))(run a 1)(run b 1)(run c 1)(run d 1)",
-            "base 0\nentry 1 0 a zerodiv\nentry 2 1 b overflow\nentry 3 2 c returned -3\nentry 4 3 d returned -1\nnow 4\nend\n",
+            "(tx a (skip) (div 1 0))(tx b (skip) (div -9223372036854775808 -1))(tx c (skip) (div -7 2))(tx d (skip) \
+                (rem -7 2))(run a 1)(run b 1)(run c 1)(run d 1)",
+            "base 0\nentry 1 0 a zerodiv\nentry 2 1 b overflow\nentry 3 2 c returned -3\nentry 4 3 d returned \
+                -1\nnow 4\nend\n",
         ),
         (
-            "(var x 1)(tx t (set x 2) (div x 0))(tx p (if (and (eq 1 2) (eq (div 1 0) 0)) (throw 1) (skip)) 0)(run t 1)(run p 1)",
+            "(var x 1)(tx t (set x 2) (div x 0))(tx p (if (and (eq 1 2) (eq (div 1 0) 0)) (throw 1) (skip)) 0)(run \
+                t 1)(run p 1)",
             "base 0\nx 1 0\nentry 1 0 t zerodiv\nentry 2 1 p returned 0\nnow 2\nx 1 0\nend\n",
         ),
         (
@@ -85,8 +90,10 @@ fn standing_conditions(rt: HostRuntime) {
     let alloc = rt.alloc();
     for (input, report) in [
         (
-            "(stm 2)(var a 100)(var b 0)(always sum (eq (add a b) 100))(always pos (le 0 a))(tx move (seq (set a (sub a 60)) (set b (add b 60))) a)(tx leak (set a 0) a)(run move 2)(run leak 1)",
-            "base 0\na 100 0\nb 0 0\nentry 1 0 move returned 40\nentry 2 1 move broke pos\nentry 3 2 leak broke sum\nnow 3\na 40 1\nb 60 1\nend\n",
+            "(stm 2)(var a 100)(var b 0)(always sum (eq (add a b) 100))(always pos (le 0 a))(tx move (seq (set a \
+                (sub a 60)) (set b (add b 60))) a)(tx leak (set a 0) a)(run move 2)(run leak 1)",
+            "base 0\na 100 0\nb 0 0\nentry 1 0 move returned 40\nentry 2 1 move broke pos\nentry 3 2 leak broke \
+                sum\nnow 3\na 40 1\nb 60 1\nend\n",
         ),
         (
             "(stm 2)(var x 1)(always ok (le 0 (div 1 x)))(tx z (set x 0) x)(run z 1)",
@@ -94,7 +101,8 @@ fn standing_conditions(rt: HostRuntime) {
         ),
         ("(stm 2)", "base 0\nnow 0\nend\n"),
         (
-            "(stm 2)(var x 1)(always ok (eq x 1))(tx f (seq (set x 2) (throw 7)) x)(tx d (set x 2) (div 1 0))(tx w (set x 1) x)(run f 1)(run d 1)(run w 1)",
+            "(stm 2)(var x 1)(always ok (eq x 1))(tx f (seq (set x 2) (throw 7)) x)(tx d (set x 2) (div 1 0))(tx w \
+                (set x 1) x)(run f 1)(run d 1)(run w 1)",
             "base 0\nx 1 0\nentry 1 0 f threw 7\nentry 2 1 d zerodiv\nentry 3 2 w returned 1\nnow 3\nx 1 0\nend\n",
         ),
     ] {

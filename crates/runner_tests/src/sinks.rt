@@ -1,7 +1,7 @@
-//! Writers that fail once, are interrupted, or take little, and what a `run_sink` makes of them: nothing
+//! Writers that fail once, are interrupted, or take little, and what a `run_interface` makes of them: nothing
 //! is tried again after a failure.
 
-use run_sink::{Out, Sink, SinkFault, put_all};
+use run_interface::{Out, RunFault, Sink, SinkFault, put_all, put_text};
 use std::alloc::Global;
 use std::io;
 use std::io::{ErrorKind, Write};
@@ -121,4 +121,17 @@ fn are_put_so(room: usize, put: Result<(), SinkFault>, calls: u32, failures: u64
 fn what_was_taken_is_not_written_again(rt: HostRuntime) {
     assert!(rt; are_put_so(4, Ok(()), 4, 0));
     assert!(rt; are_put_so(3, Err(SinkFault), 4, 1));
+}
+
+/// Whether a text of four bytes where there is room for this many is put so.
+fn is_text_put(room: usize, put: Result<(), RunFault>) -> bool {
+    let mut out = Out::new(Short { room, calls: 0 });
+    let found = put_text(&mut out, "text");
+    found == put && out.is_flushed() == put.is_ok()
+}
+
+#[test]
+fn a_text_that_is_not_put_whole_is_a_failed_output(rt: HostRuntime) {
+    assert!(rt; is_text_put(4, Ok(())));
+    assert!(rt; is_text_put(3, Err(RunFault::Output)));
 }

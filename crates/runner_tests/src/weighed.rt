@@ -250,17 +250,20 @@ fn each_task_is_tried_under_an_open_gate(rt: HostRuntime) {
 }
 
 /// A light task that is held at its end, until another worker has let a writer commit, is tried as often as
-/// the options say, and then has its turn. Each task that its trial has later is untried.
+/// the options say, and then has its turn. Each task that its trial has later is untried. Each of the two
+/// workers has six of the first twelve tasks, in whichever order they begin: who has the second one waits until
+/// the other has its six.
 #[test]
 fn tries_of_light_tasks_are_counted(rt: HostRuntime) {
     for tries in [1, 2] {
-        let hold = Hold::new((Point::Ended, TaskId(0)), (Point::Taken, TaskId(7)));
+        let until_committed = Hold::new((Point::Ended, TaskId(0)), (Point::Taken, TaskId(13)));
+        let until_begun = Hold::new((Point::Taken, TaskId(1)), (Point::Taken, TaskId(0)));
         let gate = Both {
-            script: Script::new([hold, Hold::none(), Hold::none()]),
+            script: Script::new([until_committed, until_begun, Hold::none()]),
             counts: Counts::new(),
         };
         let options = options(&rt, 2, tries, 0);
-        let runs = "(run look 6)(run inc 1)(run look 66)";
+        let runs = "(run look 12)(run inc 1)(run look 60)";
         let run = run_text(
             &rt,
             rt.alloc(),
@@ -272,7 +275,7 @@ fn tries_of_light_tasks_are_counted(rt: HostRuntime) {
         );
         assert!(rt; !gate.script.is_late());
         assert_eq!(rt; run.journal.len(), 73);
-        assert!(rt; have(&run, 0, 6, 7, 6));
+        assert!(rt; have(&run, 6, 12, 13, 6));
         assert!(rt;
             are(&gate.counts.first, [1, 0, u64::from(tries), 0]),
             "of {tries}"

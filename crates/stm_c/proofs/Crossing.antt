@@ -1,7 +1,7 @@
 -- A program may be read by several threads at once: by its one field.
 use denote.Param.Send.{IsSync, sendable, shr_sync}
 use Rattle.std.proofs.Crossing.{crosses}
-use Rattle.run_workers.proofs.Crossing.{catalogue_sync}
+use Rattle.book.proofs.Crossing.{catalogue_sync}
 use Rattle.stm_store.specs.contracts.program.Program as Home
 
 pub program_sync : IsSync Home.the_row

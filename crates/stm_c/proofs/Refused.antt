@@ -1,4 +1,4 @@
--- Want of memory has its number among those of a file that is refused.
+-- Out of memory has its number among those of a file that is refused.
 use Rattle.std.proofs.Common.{ℕ, List, inl, refl, negsuc}
 use Rattle.text_words.specs.declared.fault.ReadFault.TheVariants as refused
 use Rattle.stm_c.specs.Files.{IsRefused}

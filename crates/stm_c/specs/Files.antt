@@ -1,4 +1,4 @@
--- What the calls on whole files answer in numbers.
+-- Calls on whole files.
 use Rattle.std.specs.Prelude.{◌≡◌, ◌-◌, ℕ, ℤ, List, Some, Result, Ok, Err, ◌⊎◌}
 use Rattle.text_grammar.specs.Spelling.{first_fault}
 use Rattle.txn_text.specs.Faults.{IsFirst}
@@ -10,7 +10,7 @@ use Rattle.explore_runner.specs.Witness.{IsPast}
 use Rattle.world_runner.specs.Showing.{IsNoSchedule}
 use Rattle.stm_c.specs.Numbers.{number_of_fault, number_of_schedule_fault, number_of_verdict}
 
--- the verdict on the report; or want of memory, or the first fault of the file
+-- the verdict on the report; or out of memory, or the first fault of the file
 abbrev pub IsJudged : List ℕ → List ℕ → Result Verdict ReadFault → Type 0
 IsJudged file report (Ok v) = Judges file report v
 IsJudged file report (Err e) = (e ≡ refused.Memory) ⊎ IsFirst file e
@@ -21,7 +21,7 @@ pub record Judged (file report : List ℕ) (n : ℤ) : Type 0 where
   pub is : IsJudged file report answer
   pub answered : n ≡ number_of_verdict answer
 
--- the number of the fault of the file that reading comes to first, or of want of memory
+-- the number of the fault of the file that reading comes to first, or of running out of memory
 pub record IsRefused (file : List ℕ) (n : ℤ) : Type 0 where
   pub fault : ReadFault
   pub is : (fault ≡ refused.Memory) ⊎ (first_fault file ≡ Some fault)

@@ -1,4 +1,4 @@
--- What a call does where a handle that it is given may be empty.
+-- What a call does if a handle may be empty.
 use Rattle.std.specs.Prelude.{◌≡◌, Option, Some, None}
 use Rattle.stm_store.specs.declared.store.Store.{Store}
 

@@ -2,7 +2,9 @@ pub mod ByTicket
 pub mod Calls
 pub mod Files
 pub mod Held
+pub mod Holding
 pub mod LenderHandle
+pub mod Long
 pub mod Looking
 pub mod Made
 pub mod Named

@@ -1,5 +1,6 @@
--- What a host is told of a store in numbers.
-use Rattle.std.specs.Prelude.{◌≡◌, ℕ, ℤ, negsuc, ◌<◌, ◌≤◌, List, length, Option, Some, None, IsUtf8}
+-- What a host is told of a store.
+use Rattle.std.specs.Prelude.{◌≡◌, ℕ, ℤ, List, Option, Some, None, IsUtf8}
+use Rattle.txn_programs.specs.Listing.{IsCallable}
 use Rattle.book.specs.View.{BookView}
 use Rattle.book.specs.declared.counting.Counts.{Counts}
 use Rattle.stm_store.specs.declared.job.Ticket.{Ticket}
@@ -7,14 +8,14 @@ use Rattle.stm_store.specs.declared.store.Store.{Store}
 use Rattle.stm_store.specs.Asking.{Submits}
 use Rattle.stm_store.specs.Keeping.{KeepsStore}
 use Rattle.stm_store.specs.Telling.{IsValueOf}
-use Rattle.stm_c.specs.Numbers.{ticket_told}
+use Rattle.stm_c.specs.Numbers.{not_there, ticket_told}
 use Rattle.stm_c.specs.declared.codes.Counted.{Counted}
 
--- `stm_submit`: -9 and nothing changed where there is no such transaction
-pub record SubmitsBy (old : Store) (tx : ℕ) (answer : ℤ) (new : Store) : Type 0 where
-  pub unknown : length old.catalogue.now.transactions ≤ tx → (answer ≡ negsuc 8) × (new ≡ old)
-  pub submitted : tx < length old.catalogue.now.transactions
-      → (ticket : Option Ticket) × Submits old (record { 0 = tx }) ticket new × (answer ≡ ticket_told ticket)
+-- `stm_submit`: -9 and nothing changed where the transaction cannot be called with these arguments
+pub record SubmitsBy (old : Store) (tx : ℕ) (arguments : List ℤ) (answer : ℤ) (new : Store) : Type 0 where
+  pub unknown : (IsCallable old.catalogue.now (record { 0 = tx }) arguments → ⊥) → (answer ≡ not_there) × (new ≡ old)
+  pub submitted : IsCallable old.catalogue.now (record { 0 = tx }) arguments
+      → (ticket : Option Ticket) × Submits old (record { 0 = tx }) arguments ticket new × (answer ≡ ticket_told ticket)
   pub kept : KeepsStore old new
 
 -- the counts that were written

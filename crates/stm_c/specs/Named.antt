@@ -1,15 +1,22 @@
--- The numbers of names, where a program declares them.
-use Rattle.std.specs.Prelude.{◌≡◌, ℕ, ℤ, pos, negsuc, List, Option, Some, None, ◌⊎◌, IsUtf8}
+-- The numbers of names, where a program declares them, and how many parameters a transaction has.
+use Rattle.std.specs.Prelude.{◌≡◌, ◌<◌, ◌≤◌, ℕ, ℤ, pos, List, length, Option, Some, None, ◌⊎◌, IsUtf8}
 use Rattle.txn_programs.specs.declared.ast.TxId.{TxId}
 use Rattle.txn_programs.specs.declared.ast.VarId.{VarId}
-use Rattle.txn_programs.specs.Listing.{Listing, variable_named, transaction_named}
+use Rattle.txn_programs.specs.Listing.{Listing, arity, transaction_at, variable_named, transaction_named}
+use Rattle.stm_c.specs.Numbers.{not_there}
 
 -- the number of the variable of this name; else -9, where there is none; a name that is no text is none's
 abbrev pub IsVariable : Listing → List ℕ → ℤ → Type 0
 IsVariable l name n =
-    ((x : VarId) × (variable_named l name ≡ Some x) × (n ≡ pos x.0)) ⊎ ((n ≡ negsuc 8) × (IsUtf8 name → variable_named l name ≡ None))
+    ((x : VarId) × (variable_named l name ≡ Some x) × (n ≡ pos x.0)) ⊎ ((n ≡ not_there) × (IsUtf8 name → variable_named l name ≡ None))
 
 -- the number of the transaction of this name; else -9, where there is none; a name that is no text is none's
 abbrev pub IsTransaction : Listing → List ℕ → ℤ → Type 0
 IsTransaction l name n =
-    ((t : TxId) × (transaction_named l name ≡ Some t) × (n ≡ pos t.0)) ⊎ ((n ≡ negsuc 8) × (IsUtf8 name → transaction_named l name ≡ None))
+    ((t : TxId) × (transaction_named l name ≡ Some t) × (n ≡ pos t.0)) ⊎ ((n ≡ not_there) × (IsUtf8 name → transaction_named l name ≡ None))
+
+-- how many parameters the transaction has; else -9, where there is none
+abbrev pub AreParameters : Listing → ℕ → ℤ → Type 0
+AreParameters l tx n =
+    ((tx < length l.transactions) × (n ≡ pos (arity (transaction_at l (record { 0 = tx })))))
+    ⊎ ((length l.transactions ≤ tx) × (n ≡ not_there))

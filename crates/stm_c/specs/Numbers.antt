@@ -1,5 +1,6 @@
 -- What the calls answer, in the numbers of the header.
-use Rattle.std.specs.Prelude.{ℕ, ℤ, pos, negsuc, ◌<◌, Option, Some, None, Result, Ok, Err}
+use Rattle.std.specs.Prelude.{ℕ, ℤ, pos, negsuc, ◌<◌, ◌-◌, ◌++◌, List, [], length, replicate, Option, Some, None, Result, Ok, Err}
+use Rattle.txn_programs.specs.declared.limits.TheConstants.{MAX_PARAMETERS}
 use Rattle.txn_programs.specs.declared.ast.Fault.{Fault}
 use Rattle.txn_programs.specs.declared.ast.Fault.TheVariants as fault
 use Rattle.txn_programs.specs.declared.ast.Outcome.{Outcome}
@@ -32,7 +33,31 @@ use Rattle.stm_c.specs.declared.codes.Taken.{Taken}
 use Rattle.stm_c.specs.declared.codes.Told.{Told}
 use Rattle.stm_c.specs.declared.codes.TurnTold.{TurnTold}
 
--- -1 to -7: why a file is refused, or want of memory
+-- -6: out of memory
+abbrev pub out_of_memory : ℤ
+out_of_memory = negsuc 5
+
+-- -9: there is no such task, transaction or variable, or no task of this ticket any more
+abbrev pub not_there : ℤ
+not_there = negsuc 8
+
+-- -10: more workers than a store can have, or than it was opened for; or no transaction to work on
+abbrev pub no_worker : ℤ
+no_worker = negsuc 9
+
+-- -12: the handle is empty
+abbrev pub empty_handle : ℤ
+empty_handle = negsuc 11
+
+-- -13: the handle that is to hold what is made holds something
+abbrev pub full_handle : ℤ
+full_handle = negsuc 12
+
+-- -14: there is no room for another task; or there would be more tasks than there may be
+abbrev pub no_room : ℤ
+no_room = negsuc 13
+
+-- -1 to -7: why a file is refused, or out of memory
 abbrev pub IsFileFault : ℤ → Type 0
 IsFileFault (pos n) = ⊥
 IsFileFault (negsuc n) = n < 7
@@ -44,7 +69,7 @@ number_of_fault refused.BadByte = negsuc 1
 number_of_fault refused.Shape = negsuc 2
 number_of_fault refused.Name = negsuc 3
 number_of_fault refused.Limit = negsuc 4
-number_of_fault refused.Memory = negsuc 5
+number_of_fault refused.Memory = out_of_memory
 number_of_fault refused.Broken = negsuc 6
 
 -- why a schedule is refused; its reader has no rules that a file could break
@@ -54,7 +79,7 @@ number_of_schedule_fault refused.BadByte = negsuc 21
 number_of_schedule_fault refused.Shape = negsuc 22
 number_of_schedule_fault refused.Name = negsuc 23
 number_of_schedule_fault refused.Limit = negsuc 24
-number_of_schedule_fault refused.Memory = negsuc 5
+number_of_schedule_fault refused.Memory = out_of_memory
 number_of_schedule_fault refused.Broken = negsuc 26
 
 -- the part of a report that does not hold
@@ -76,16 +101,20 @@ number_of_ticket t = pos t.0
 
 -- a ticket's number; where no task was submitted, that there is no room (-14)
 abbrev pub ticket_told : Option Ticket → ℤ
-ticket_told None = negsuc 13
+ticket_told None = no_room
 ticket_told (Some t) = number_of_ticket t
+
+-- arguments in the places that a host has for them: 0 behind the last
+abbrev pub in_places : List ℤ → List ℤ
+in_places xs = xs ++ replicate (MAX_PARAMETERS - length xs) (pos 0)
 
 -- no job, and why
 abbrev pub no_task_of : ℤ → Taken
-no_task_of why = record { ticket = why; chapter = 0; task = 0; tx = 0 }
+no_task_of why = record { ticket = why; chapter = 0; task = 0; tx = 0; count = 0; arguments = in_places [] }
 
 -- the handle is empty
 abbrev pub nothing_taken : Taken
-nothing_taken = no_task_of (negsuc 11)
+nothing_taken = no_task_of empty_handle
 
 -- a job, or the ticket -1
 abbrev pub taken_as : Option Job → Taken
@@ -95,6 +124,8 @@ taken_as (Some job) = record {
   chapter = job.chapter;
   task = job.task.0;
   tx = job.tx.0;
+  count = length job.arguments;
+  arguments = in_places job.arguments;
 }
 
 -- a code with no number
@@ -103,11 +134,11 @@ bare n = record { code = n; value = pos 0; entry = 0 }
 
 -- no such task or transaction
 abbrev pub no_such : Told
-no_such = bare (negsuc 8)
+no_such = bare not_there
 
 -- the handle is empty
 abbrev pub nothing_held : Told
-nothing_held = bare (negsuc 11)
+nothing_held = bare empty_handle
 
 abbrev pub told_thrown : Fault → Told
 told_thrown (fault.User value) = record { code = pos 5; value = value; entry = 0 }
@@ -172,7 +203,7 @@ told_given (Some t) = turn_told t
 -- the turn that a call had; or that there is no room (-14), or that it retries and was not made (1)
 abbrev pub told_called : Called → TurnTold
 told_called (called.Ran t) = turn_told t
-told_called called.NoRoom = no_turn (negsuc 13)
+told_called called.NoRoom = no_turn no_room
 told_called called.Retries = no_turn (pos 1)
 
 -- how a task stands; a done one with the number of its entry
@@ -195,9 +226,9 @@ told_recorded standing.GivenUp o = bare (pos 12)
 abbrev pub number_of_try : Tried → ℤ
 number_of_try tried.Ended = pos 0
 number_of_try tried.Stale = pos 2
-number_of_try tried.Memory = negsuc 5
+number_of_try tried.Memory = out_of_memory
 
 abbrev pub told_observed : Observed → Told
 told_observed (observed.Outcome o) = told_outcome o
 told_observed observed.Stale = bare (pos 2)
-told_observed observed.Memory = bare (negsuc 5)
+told_observed observed.Memory = bare out_of_memory

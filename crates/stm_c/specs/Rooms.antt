@@ -1,4 +1,4 @@
--- What a call leaves in the room that the host lends.
+-- What a call leaves in the host's buffer.
 use Rattle.std.specs.Prelude.{◌≡◌, ◌<◌, ℕ, List, ◌++◌, length, drop}
 
 -- such a text stands at the begin of the room, what is behind it stayed, and its length was told

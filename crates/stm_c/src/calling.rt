@@ -13,22 +13,24 @@ use std::alloc::Global;
 use stm_store::{Lender, Store};
 use txn::TxId;
 
-/// An attempt to lend to this store, or to another. 0, and `out` holds it; -6, -10: want of memory, the
+/// An attempt to lend to this store, or to another. 0, and `out` holds it; -6, -10: out of memory, the
 /// program has no transaction; -12, -13: the store's handle is empty, or `out` is not. Else than with 0,
 /// `out` is as it was.
 #[unsafe(no_mangle)]
-pub extern "C" fn stm_lend(alloc: Global, store: &mut StoreHandle, out: &mut LenderHandle) -> i32
+pub extern "C" fn stm_open_lender(
+    alloc: Global,
+    store: &mut StoreHandle,
+    out: &mut LenderHandle,
+) -> i32
     ensures answer { Asked store.old.value EMPTY result (λ held n. AnswersLend held out.old.value n) }
     ensures done { result ≡ pos 0 → out.new.value ≢ None }
     ensures kept { result ≢ pos 0 → out.new.value ≡ out.old.value }
     ensures stays { store.new.value ≡ store.old.value }
 {
-    let Some(held) = store.take(alloc) else {
+    let Some(held) = store.get_mut() else {
         return EMPTY;
     };
-    let answer = lend(alloc, &held, out);
-    *store = StoreHandle::of(held);
-    answer
+    lend(alloc, held, out)
 }
 
 fn lend(alloc: Global, store: &Store, out: &mut LenderHandle) -> i32
@@ -36,7 +38,7 @@ fn lend(alloc: Global, store: &Store, out: &mut LenderHandle) -> i32
     ensures done { result ≡ pos 0 → out.new.value ≢ None }
     ensures kept { result ≢ pos 0 → out.new.value ≡ out.old.value }
 {
-    if out.is_full(alloc) {
+    if out.is_full() {
         return FULL;
     }
     let Some(lender) = store.lender() else {
@@ -60,25 +62,17 @@ pub extern "C" fn stm_lender_free(alloc: Global, lender: &mut LenderHandle)
 /// Gives the lowest ready task a turn: which task, and how it ended. 11: none is ready; -12: one of the
 /// handles is empty.
 #[unsafe(no_mangle)]
-pub extern "C" fn stm_turn(
-    alloc: Global,
-    store: &mut StoreHandle,
-    lender: &mut LenderHandle,
-) -> TurnTold
+pub extern "C" fn stm_turn(store: &mut StoreHandle, lender: &mut LenderHandle) -> TurnTold
     ensures { OnBoth store.old.value lender.old.value store.new.value lender.new.value (no_turn EMPTY) result
         (λ old _ told new _. GivesOne old told new) }
 {
-    let Some(mut held) = store.take(alloc) else {
+    let Some(held) = store.get_mut() else {
         return no_turn(EMPTY);
     };
-    let Some(mut lent) = lender.take(alloc) else {
-        *store = StoreHandle::of(held);
+    let Some(lent) = lender.get_mut() else {
         return no_turn(EMPTY);
     };
-    let told = turn(&mut held, &mut lent);
-    *store = StoreHandle::of(held);
-    *lender = LenderHandle::of(lent);
-    told
+    turn(held, lent)
 }
 
 fn turn(store: &mut Store, lender: &mut Lender) -> TurnTold
@@ -88,70 +82,62 @@ fn turn(store: &mut Store, lender: &mut Lender) -> TurnTold
     given(store.turn_lent(lender))
 }
 
-/// A task of the transaction more, which has its turn at once: which task, and how it ended. -9, -12,
-/// -14: there is no such transaction, one of the handles is empty, no room for another task; then nothing
-/// changed.
+/// A task of the call more, which has its turn at once: which task, and how it ended. -9: there is no such
+/// transaction, or it wants another number of arguments; -12: one of the handles is empty; -14: no room for
+/// another task; then nothing changed.
 #[unsafe(no_mangle)]
 pub extern "C" fn stm_call(
-    alloc: Global,
     store: &mut StoreHandle,
     lender: &mut LenderHandle,
     tx: u32,
+    arguments: &[i64],
 ) -> TurnTold
     ensures { OnBoth store.old.value lender.old.value store.new.value lender.new.value (no_turn EMPTY) result
-        (λ old _ told new _. CallsAny old tx told new) }
+        (λ old _ told new _. CallsAny old tx arguments.now told new) }
 {
-    let Some(mut held) = store.take(alloc) else {
+    let Some(held) = store.get_mut() else {
         return no_turn(EMPTY);
     };
-    let Some(mut lent) = lender.take(alloc) else {
-        *store = StoreHandle::of(held);
+    let Some(lent) = lender.get_mut() else {
         return no_turn(EMPTY);
     };
-    let told = call(&mut held, &mut lent, tx);
-    *store = StoreHandle::of(held);
-    *lender = LenderHandle::of(lent);
-    told
+    call(held, lent, tx, arguments)
 }
 
-fn call(store: &mut Store, lender: &mut Lender, tx: u32) -> TurnTold
-    ensures { CallsAny store.old tx result store.new }
+fn call(store: &mut Store, lender: &mut Lender, tx: u32, arguments: &[i64]) -> TurnTold
+    ensures { CallsAny store.old tx arguments.now result store.new }
 {
-    if tx as usize >= store.catalogue().tx_count() {
+    if !store.catalogue().is_callable(TxId(tx), arguments) {
         return no_turn(UNKNOWN);
     }
-    called(store.call_lent(lender, TxId(tx)))
+    called(store.call_lent(lender, TxId(tx), arguments))
 }
 
 /// As `stm_call`; 1, and nothing changed, where the transaction retries on the present values.
 #[unsafe(no_mangle)]
 pub extern "C" fn stm_try_call(
-    alloc: Global,
     store: &mut StoreHandle,
     lender: &mut LenderHandle,
     tx: u32,
+    arguments: &[i64],
 ) -> TurnTold
     ensures { OnBoth store.old.value lender.old.value store.new.value lender.new.value (no_turn EMPTY) result
-        (λ old _ told new _. TriesCallAny old tx told new) }
+        (λ old _ told new _. TriesCallAny old tx arguments.now told new) }
 {
-    let Some(mut held) = store.take(alloc) else {
+    let Some(held) = store.get_mut() else {
         return no_turn(EMPTY);
     };
-    let Some(mut lent) = lender.take(alloc) else {
-        *store = StoreHandle::of(held);
+    let Some(lent) = lender.get_mut() else {
         return no_turn(EMPTY);
     };
-    let told = try_call(&mut held, &mut lent, tx);
-    *store = StoreHandle::of(held);
-    *lender = LenderHandle::of(lent);
-    told
+    try_call(held, lent, tx, arguments)
 }
 
-fn try_call(store: &mut Store, lender: &mut Lender, tx: u32) -> TurnTold
-    ensures { TriesCallAny store.old tx result store.new }
+fn try_call(store: &mut Store, lender: &mut Lender, tx: u32, arguments: &[i64]) -> TurnTold
+    ensures { TriesCallAny store.old tx arguments.now result store.new }
 {
-    if tx as usize >= store.catalogue().tx_count() {
+    if !store.catalogue().is_callable(TxId(tx), arguments) {
         return no_turn(UNKNOWN);
     }
-    called(store.try_call_lent(lender, TxId(tx)))
+    called(store.try_call_lent(lender, TxId(tx), arguments))
 }

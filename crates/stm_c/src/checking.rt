@@ -10,7 +10,7 @@ use checker::{Verdict, check};
 use std::alloc::Global;
 
 /// 0 where the report is lawful for the file; 101 to 106 the first part that does not hold; -1 to -7
-/// where the file is refused, by the kind of fault, and for want of memory.
+/// where the file is refused, by the kind of fault, and where memory ran out.
 #[unsafe(no_mangle)]
 pub extern "C" fn stm_check(alloc: Global, file: &[u8], report: &[u8]) -> i32
     ensures good { result ≡ pos 0 → Judges file.now report.now Verdict.Good }

@@ -1,18 +1,25 @@
 //! What the calls answer in numbers: 0 or more where they did what they are for, else why not.
 
-ghost use Rattle.std.specs.Prelude.{◌≡◌, ◌≢◌, ◌<◌, ◌^◌, IfSome, pos, negsuc};
-ghost use Rattle.stm_c.specs.Numbers.{IsFileFault, bare, no_such, no_task_of, no_turn, nothing_held, number_of_fault, number_of_part, number_of_schedule_fault, number_of_ticket, number_of_try, taken_as, ticket_told, told_brought, told_called, told_end, told_entered, told_given, told_observed, told_outcome, told_recorded, told_served, told_standing, told_thrown, turn_told};
+ghost use Rattle.std.specs.Prelude.{◌≡◌, ◌≢◌, ◌<◌, ◌≤◌, ◌^◌, IfSome, Some, length, pos, negsuc};
+ghost use Rattle.txn_programs.specs.declared.limits.TheConstants.{MAX_PARAMETERS};
+ghost use Rattle.stm_c.specs.Numbers.{IsFileFault, bare, in_places, no_such, no_task_of, no_turn, nothing_held};
+ghost use Rattle.stm_c.specs.Numbers.{number_of_fault, number_of_part, number_of_schedule_fault, number_of_ticket};
+ghost use Rattle.stm_c.specs.Numbers.{number_of_try};
+ghost use Rattle.stm_c.specs.Numbers.{taken_as, ticket_told, told_brought, told_called, told_end, told_entered};
+ghost use Rattle.stm_c.specs.Numbers.{told_given, told_observed, told_outcome, told_recorded, told_served};
+ghost use Rattle.stm_c.specs.Numbers.{told_standing, told_thrown, turn_told};
 
 use book::Standing;
 use checker::Part;
 use run_observer::Observed;
 use stm_store::{Brought, Called, End, Entered, Job, Served, Ticket, Tried, Turned};
+use txn::limits::MAX_PARAMETERS;
 use txn::{Fault, Outcome};
 use txn_text::ReadFault;
 
 /// The file would be longer than a file may be.
 pub(crate) const FILE_TOO_LONG: i32 = -1;
-/// Want of memory.
+/// Out of memory.
 pub(crate) const MEMORY: i32 = -6;
 /// The room is too short; how long it has to be was written.
 pub(crate) const SHORT: i32 = -8;
@@ -30,7 +37,7 @@ pub(crate) const FULL: i32 = -13;
 pub(crate) const NO_ROOM: i32 = -14;
 /// A task is ready or running, and the report could not account for it.
 pub(crate) const WORK_LEFT: i32 = -15;
-/// The number of places to look at is not from 1 to 16,777,216.
+/// The number of states to look at is not from 1 to 16,777,216.
 pub(crate) const STATES: i32 = -16;
 /// The worker is of a program that says otherwise of the transaction.
 pub(crate) const OTHER_PROGRAM: i32 = -17;
@@ -40,7 +47,7 @@ pub(crate) const OTHER_CHAPTER: i32 = -18;
 pub(crate) const RETRIES: i32 = 1;
 /// The task is not running.
 pub(crate) const NOT_RUNNING: i32 = 3;
-/// More places are reached than were asked for.
+/// More states are reached than were asked for.
 pub(crate) const MORE: i32 = 9;
 /// There is no end of that number.
 pub(crate) const NO_END: i32 = 10;
@@ -64,8 +71,8 @@ pub struct Told {
     pub entry: u64,
 }
 
-/// A task that was taken: its ticket, or why there is none; in which chapter, its number there, and its
-/// transaction.
+/// A task that was taken: its ticket, or why there is none; in which chapter, its number there, and the call that
+/// it makes: its transaction, and so many arguments, with 0 behind them.
 #[repr(C)]
 #[derive(Clone, Copy)]
 pub struct Taken {
@@ -73,6 +80,8 @@ pub struct Taken {
     pub chapter: u64,
     pub task: u32,
     pub tx: u32,
+    pub count: usize,
+    pub arguments: [i64; MAX_PARAMETERS],
 }
 
 /// A turn: the ticket of the task that had it, -1 where none had; its transaction; and how it ended.
@@ -130,6 +139,8 @@ pub(crate) fn no_job(why: i32) -> Taken
         chapter: 0,
         task: 0,
         tx: 0,
+        count: 0,
+        arguments: [0; MAX_PARAMETERS],
     }
 }
 
@@ -220,14 +231,33 @@ pub(crate) fn job_of(job: Option<Job>) -> Taken
     ensures { result ≡ taken_as job }
 {
     match job {
-        Some(job) => Taken {
-            ticket: number(job.ticket),
-            chapter: job.chapter,
-            task: job.task.0,
-            tx: job.tx.0,
-        },
+        Some(job) => told_job(job),
         None => no_job(-1),
     }
+}
+
+/// A job, with its arguments at the begin of their places.
+fn told_job(job: Job) -> Taken
+    requires { job.ticket.0 < 2 ^ 63 }
+    ensures { result ≡ taken_as (Some job) }
+{
+    Taken {
+        ticket: number(job.ticket),
+        chapter: job.chapter,
+        task: job.task.0,
+        tx: job.tx.0,
+        count: job.arguments.as_slice().len(),
+        arguments: in_places(job.arguments.as_slice()),
+    }
+}
+
+fn in_places(given: &[i64]) -> [i64; MAX_PARAMETERS]
+    requires { length given.now ≤ MAX_PARAMETERS }
+    ensures { result ≡ in_places given.now }
+{
+    let mut places = [0; MAX_PARAMETERS];
+    places[..given.len()].copy_from_slice(given);
+    places
 }
 
 /// 0 returned, with the value; 1 retries; 5 thrown by the program, with the value; 6 overflow; 7
@@ -294,7 +324,7 @@ pub(crate) fn brought(how: Brought) -> Told
     }
 }
 
-/// As `brought`; 4 given up for want of memory.
+/// As `brought`; 4 given up as memory ran out.
 pub(crate) fn served(how: Served) -> Told
     ensures { result ≡ told_served how }
 {
@@ -393,7 +423,7 @@ pub(crate) fn tried(how: Tried) -> i32
     }
 }
 
-/// As a transaction ends; 2 stale, -6 want of memory.
+/// As a transaction ends; 2 stale, -6 out of memory.
 pub(crate) fn observed(how: Observed) -> Told
     ensures { result ≡ told_observed how }
 {

@@ -1,7 +1,7 @@
 //! Every order of a file's tasks.
 
 ghost use Rattle.std.specs.Prelude.{◌≡◌, ◌≢◌, ◌↔◌, ◌-◌, ◌⊎◌, IfErr, IfOk, pos};
-ghost use Rattle.explore_options.specs.Bounds.{IsAllowed};
+ghost use Rattle.run_interface.specs.Bounds.{IsAllowed};
 ghost use Rattle.explore_runner.specs.Showing.{IsFoundText, IsMoreText, IsShown};
 ghost use Rattle.explore_runner.specs.Witness.{IsAnswer, IsWitness};
 ghost use Rattle.stm_c.specs.Files.{IsNoEnd, IsRefused};
@@ -10,16 +10,14 @@ ghost use Rattle.stm_c.specs.Rooms.{Holds, TooShort};
 
 use crate::codes::{MEMORY, MORE, NO_END, SHORT, STATES, file_fault};
 use crate::writing::{copied_as, copy};
-use explore_options::Limit;
 use explore_runner::{Sight, Witnessed, explore_bytes, witness_bytes};
-use run_faults::RunFault;
-use run_sink::Out;
+use run_interface::{Limit, Out, RunFault};
 use std::alloc::Global;
 
-/// Sees every order of the file's tasks, of at most so many places, and copies what is found into
-/// the room: 0, and `wanted` is how long it is. 9: more places are reached, and the text says so. -1
-/// to -7: the file is refused, or want of memory. -8: the room is too short, and `wanted` is how
-/// much is needed. -16: the number of places is not from 1 to 16777216.
+/// Sees every order of the file's tasks, of at most so many states, and copies what is found into
+/// the room: 0, and `wanted` is how long it is. 9: more states are reached, and the text says so. -1
+/// to -7: the file is refused, or out of memory. -8: the room is too short, and `wanted` is how
+/// much is needed. -16: the number of states is not from 1 to 16777216.
 #[unsafe(no_mangle)]
 pub extern "C" fn stm_explore(
     alloc: Global,
@@ -30,7 +28,7 @@ pub extern "C" fn stm_explore(
 ) -> i32
     ensures whole { result ≡ pos 0 → Holds (IsFoundText file.now) room.old room.new wanted.new }
     ensures more { result ≡ pos 9 → Holds (IsMoreText file.now states) room.old room.new wanted.new }
-    ensures short { result ≡ SHORT → TooShort
+    ensures too_short { result ≡ SHORT → TooShort
         (λ text. IsFoundText file.now text ⊎ IsMoreText file.now states text) room.old room.new wanted.new }
     ensures states { result ≡ STATES ↔ ¬ (IsAllowed states) }
     ensures refused { IsFileFault result → IsRefused file.now result }
@@ -79,7 +77,7 @@ pub extern "C" fn stm_explore_to(
     ensures report { result ≡ pos 0 → Holds (IsWitness file.now (end - 1)) room.old room.new wanted.new }
     ensures more { result ≡ pos 9 → Holds (IsMoreText file.now states) room.old room.new wanted.new }
     ensures no_end { result ≡ pos 10 → IsNoEnd file.now end }
-    ensures short { result ≡ SHORT → TooShort
+    ensures too_short { result ≡ SHORT → TooShort
         (λ text. IsWitness file.now (end - 1) text ⊎ IsMoreText file.now states text) room.old room.new wanted.new }
     ensures states { result ≡ STATES ↔ ¬ (IsAllowed states) }
     ensures refused { IsFileFault result → IsRefused file.now result }

@@ -6,7 +6,8 @@ ghost use Rattle.txn_programs.specs.Listing.{tasks};
 ghost use Rattle.stm_store.specs.Telling.{IsTextOf};
 ghost use Rattle.stm_c.specs.Calls.{Takes, Finishes, ServesReady, Reports, LeavesChecked};
 ghost use Rattle.stm_c.specs.Held.{Asked, HoldsSome, On, OnBoth};
-ghost use Rattle.stm_c.specs.Made.{AnswersHire, AnswersOpen, IsHiredBy, IsOpened, IsOpenedOf, IsStillOf, IsWorkerOf, LeavesWorkers};
+ghost use Rattle.stm_c.specs.Made.{AnswersHire, AnswersOpen, IsHiredBy, IsOpened, IsOpenedOf, IsStillOf, IsWorkerOf};
+ghost use Rattle.stm_c.specs.Made.{LeavesWorkers};
 ghost use Rattle.stm_c.specs.Numbers.{nothing_held, nothing_taken};
 ghost use Rattle.stm_c.specs.Rooms.{Holds, TooShort};
 ghost use Rattle.stm_c.specs.declared.codes.Taken.{Taken};
@@ -92,7 +93,7 @@ fn open(
     ensures full { out.old.value ≢ None → result ≡ FULL }
     ensures answer { AnswersOpen program workers spare out.old.value result }
 {
-    if out.is_full(alloc) {
+    if out.is_full() {
         return FULL;
     }
     if workers > 32 {
@@ -120,10 +121,14 @@ pub extern "C" fn stm_store_free(alloc: Global, store: &mut StoreHandle)
     drop(store.take(alloc));
 }
 
-/// A worker of the store. 0, and `out` holds it; -6, -10: want of memory, no worker left; -12, -13:
+/// A worker of the store. 0, and `out` holds it; -6, -10: out of memory, no worker left; -12, -13:
 /// the store's handle is empty, or `out` is not. Else than with 0, `out` is as it was.
 #[unsafe(no_mangle)]
-pub extern "C" fn stm_hire(alloc: Global, store: &mut StoreHandle, out: &mut WorkerHandle) -> i32
+pub extern "C" fn stm_open_worker(
+    alloc: Global,
+    store: &mut StoreHandle,
+    out: &mut WorkerHandle,
+) -> i32
     ensures store { On store.old.value store.new.value EMPTY result
         (λ old answer new. IsStillOf old new × LeavesWorkers old answer new) }
     ensures done { result ≡ pos 0 → HoldsSome (IsHiredBy store.old.value) out.new.value }
@@ -131,12 +136,10 @@ pub extern "C" fn stm_hire(alloc: Global, store: &mut StoreHandle, out: &mut Wor
     ensures full { store.old.value ≢ None → out.old.value ≢ None → result ≡ FULL }
     ensures answer { Asked store.old.value EMPTY result (λ held n. AnswersHire held out.old.value n) }
 {
-    let Some(mut held) = store.take(alloc) else {
+    let Some(held) = store.get_mut() else {
         return EMPTY;
     };
-    let answer = hire(alloc, &mut held, out);
-    *store = StoreHandle::of(held);
-    answer
+    hire(alloc, held, out)
 }
 
 fn hire(alloc: Global, store: &mut Store, out: &mut WorkerHandle) -> i32
@@ -147,7 +150,7 @@ fn hire(alloc: Global, store: &mut Store, out: &mut WorkerHandle) -> i32
     ensures full { out.old.value ≢ None → result ≡ FULL }
     ensures answer { AnswersHire store.old out.old.value result }
 {
-    if out.is_full(alloc) {
+    if out.is_full() {
         return FULL;
     }
     let Some(worker) = store.worker() else {
@@ -172,12 +175,10 @@ pub extern "C" fn stm_take_job(alloc: Global, store: &mut StoreHandle) -> Taken
 fn take(alloc: Global, store: &mut StoreHandle) -> Taken
     ensures { On store.old.value store.new.value nothing_taken result (λ old taken new. Takes old taken new) }
 {
-    let Some(mut held) = store.take(alloc) else {
+    let Some(held) = store.get_mut() else {
         return no_job(EMPTY);
     };
-    let taken = taken_from(&mut held);
-    *store = StoreHandle::of(held);
-    taken
+    taken_from(held)
 }
 
 fn taken_from(store: &mut Store) -> Taken
@@ -200,25 +201,17 @@ pub extern "C" fn stm_take(alloc: Global, store: &mut StoreHandle) -> i64
 /// Brings a worker's ended attempt to the store. The code -12 where one of the handles is empty; -9, -17,
 /// -18 where the attempt is none of a task of this store, of this program, of this chapter.
 #[unsafe(no_mangle)]
-pub extern "C" fn stm_finish(
-    alloc: Global,
-    store: &mut StoreHandle,
-    worker: &mut WorkerHandle,
-) -> Told
+pub extern "C" fn stm_finish(store: &mut StoreHandle, worker: &mut WorkerHandle) -> Told
     ensures { OnBoth store.old.value worker.old.value store.new.value worker.new.value nothing_held result
         (λ old before how new after. Finishes old before how new after) }
 {
-    let Some(mut held) = store.take(alloc) else {
+    let Some(held) = store.get_mut() else {
         return empty();
     };
-    let Some(mut hired) = worker.take(alloc) else {
-        *store = StoreHandle::of(held);
+    let Some(hired) = worker.get_mut() else {
         return empty();
     };
-    let how = ended(&mut held, &mut hired);
-    *store = StoreHandle::of(held);
-    *worker = WorkerHandle::of(hired);
-    how
+    ended(held, hired)
 }
 
 /// The worker's end is brought to the store.
@@ -232,26 +225,17 @@ fn ended(store: &mut Store, worker: &mut Worker) -> Told
 /// is ready: how many were given. The worker has no end to bring afterwards. -12: one of the handles
 /// is empty.
 #[unsafe(no_mangle)]
-pub extern "C" fn stm_turns(
-    alloc: Global,
-    store: &mut StoreHandle,
-    worker: &mut WorkerHandle,
-    most: u32,
-) -> i64
+pub extern "C" fn stm_turns(store: &mut StoreHandle, worker: &mut WorkerHandle, most: u32) -> i64
     ensures { OnBoth store.old.value worker.old.value store.new.value worker.new.value EMPTY result
         (λ old before given new after. ServesReady old before most given new after) }
 {
-    let Some(mut held) = store.take(alloc) else {
+    let Some(held) = store.get_mut() else {
         return i64::from(EMPTY);
     };
-    let Some(mut lender) = worker.take(alloc) else {
-        *store = StoreHandle::of(held);
+    let Some(lender) = worker.get_mut() else {
         return i64::from(EMPTY);
     };
-    let given = turns(&mut held, &mut lender, most);
-    *store = StoreHandle::of(held);
-    *worker = WorkerHandle::of(lender);
-    given
+    turns(held, lender, most)
 }
 
 fn turns(store: &mut Store, worker: &mut Worker, most: u32) -> i64
@@ -262,28 +246,22 @@ fn turns(store: &mut Store, worker: &mut Worker, most: u32) -> i64
 
 /// The base becomes the present, and the journal is empty: 0. -12: the handle is empty.
 #[unsafe(no_mangle)]
-pub extern "C" fn stm_checkpoint(alloc: Global, store: &mut StoreHandle) -> i32
+pub extern "C" fn stm_checkpoint(store: &mut StoreHandle) -> i32
     ensures { On store.old.value store.new.value EMPTY result
         (λ old answer new. (answer ≡ pos 0) × LeavesChecked old new) }
 {
-    let Some(mut held) = store.take(alloc) else {
+    let Some(held) = store.get_mut() else {
         return EMPTY;
     };
     held.checkpoint();
-    *store = StoreHandle::of(held);
     0
 }
 
 /// Gives what is left a turn, and copies the report's text into the room: 0, and `wanted` is how
-/// long it is. -6: want of memory. -8: the room is too short, and `wanted` is how much is needed.
+/// long it is. -6: out of memory. -8: the room is too short, and `wanted` is how much is needed.
 /// -12: the handle is empty.
 #[unsafe(no_mangle)]
-pub extern "C" fn stm_report(
-    alloc: Global,
-    store: &mut StoreHandle,
-    room: &mut [u8],
-    wanted: &mut usize,
-) -> i32
+pub extern "C" fn stm_report(store: &mut StoreHandle, room: &mut [u8], wanted: &mut usize) -> i32
     ensures report { On store.old.value store.new.value EMPTY result
         (λ old answer new. Reports old new
         × (answer ≡ pos 0 → Holds (IsTextOf new.book) room.old room.new wanted.new)
@@ -293,18 +271,16 @@ pub extern "C" fn stm_report(
     ensures kept { result ≢ pos 0 → room.new ≡ room.old }
 {
     *wanted = 0;
-    let Some(mut held) = store.take(alloc) else {
+    let Some(held) = store.get_mut() else {
         return EMPTY;
     };
-    let answer = reported(&mut held, room, wanted);
-    *store = StoreHandle::of(held);
-    answer
+    reported(held, room, wanted)
 }
 
 fn reported(store: &mut Store, room: &mut [u8], wanted: &mut usize) -> i32
     ensures turns { Reports store.old store.new }
     ensures done { result ≡ pos 0 → Holds (IsTextOf store.new.book) room.old room.new wanted.new }
-    ensures short { result ≡ SHORT → TooShort (IsTextOf store.new.book) room.old room.new wanted.new }
+    ensures too_short { result ≡ SHORT → TooShort (IsTextOf store.new.book) room.old room.new wanted.new }
     ensures answers { (result ≡ pos 0) ⊎ (result ≡ SHORT) ⊎ (result ≡ MEMORY) }
     ensures none { result ≢ pos 0 → result ≢ SHORT → wanted.new ≡ wanted.old }
     ensures kept { result ≢ pos 0 → room.new ≡ room.old }

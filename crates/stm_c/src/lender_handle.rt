@@ -23,6 +23,11 @@ impl Model for LenderHandle {
 }
 
 impl LenderHandle {
+    ghost use Rattle.std.specs.Borrow.{LendsIf, sem};
+    ghost use Rattle.stm_store.specs.contracts.lender.Lender.{the_row as held_row};
+    ghost use Rattle.stm_c.specs.Holding.{lender_in};
+    ghost use Rattle.stm_c.specs.contracts.lender_handle.LenderHandle.{the_row};
+
     fn empty(alloc: Global) -> LenderHandle
         ensures { result.value ≡ None }
     {
@@ -72,15 +77,26 @@ impl LenderHandle {
         Some(parts.into_box())
     }
 
+    /// What it holds, if anything, to be changed where it lies.
+    pub fn get_mut(&mut self) -> Option<&mut Lender>
+        ensures* writes_back { sem 𝓛 (LendsIf the_row held_row self.entry result (lender_in self.old) self.old) }
+        ensures held { MatchOption result (self.old.value ≡ None) (λ held. self.old.value ≡ Some held.now) }
+    {
+        let ptr = self.ptr;
+        if ptr.is_null() {
+            return None;
+        }
+        unsafe { Some(&mut *(ptr as *mut Lender)) }
+    }
+
     /// Whether it holds anything, which it keeps.
-    pub fn is_full(&mut self, alloc: Global) -> bool
+    pub fn is_full(&mut self) -> bool
         ensures full { MatchBool result (self.old.value ≢ None) (self.old.value ≡ None) }
         ensures stays { self.new.value ≡ self.old.value }
     {
-        let Some(held) = self.take(alloc) else {
+        let Some(_held) = self.get_mut() else {
             return false;
         };
-        *self = LenderHandle::of(held);
         true
     }
 }

@@ -13,22 +13,20 @@ use crate::codes::{Counted, EMPTY, FILE_TOO_LONG, MEMORY, SHORT, UNKNOWN, WORK_L
 use crate::store_handle::StoreHandle;
 use crate::writing::copy;
 use book::Counts;
-use std::alloc::Global;
 use stm_store::{FileFault, ReportFault, Store};
 
 /// How many tasks stand how: 0, and they were written. -12: the handle is empty.
 #[unsafe(no_mangle)]
-pub extern "C" fn stm_counted(alloc: Global, store: &mut StoreHandle, out: &mut Counted) -> i32
+pub extern "C" fn stm_get_counts(store: &mut StoreHandle, out: &mut Counted) -> i32
     ensures counts { Asked store.old.value EMPTY result
         (λ held answer. (answer ≡ pos 0) × AreCounts held.book.tasks (counts_in out.new)) }
     ensures kept { result ≢ pos 0 → out.new ≡ out.old }
     ensures stays { store.new.value ≡ store.old.value }
 {
-    let Some(held) = store.take(alloc) else {
+    let Some(held) = store.get_mut() else {
         return EMPTY;
     };
     *out = standing(held.counts());
-    *store = StoreHandle::of(held);
     0
 }
 
@@ -48,7 +46,6 @@ fn standing(counts: Counts) -> Counted
 /// there is no such variable. -12: the handle is empty.
 #[unsafe(no_mangle)]
 pub extern "C" fn stm_value(
-    alloc: Global,
     store: &mut StoreHandle,
     name: &[u8],
     value: &mut i64,
@@ -60,12 +57,10 @@ pub extern "C" fn stm_value(
     ensures kept { result ≢ pos 0 → (value.new ≡ value.old) × (version.new ≡ version.old) }
     ensures stays { store.new.value ≡ store.old.value }
 {
-    let Some(held) = store.take(alloc) else {
+    let Some(held) = store.get_mut() else {
         return EMPTY;
     };
-    let answer = tell_value(&held, name, value, version);
-    *store = StoreHandle::of(held);
-    answer
+    tell_value(held, name, value, version)
 }
 
 fn tell_value(store: &Store, name: &[u8], value: &mut i64, version: &mut u64) -> i32
@@ -86,18 +81,13 @@ fn tell_value(store: &Store, name: &[u8], value: &mut i64, version: &mut u64) ->
 }
 
 /// Copies the file of the program as it has become into the room: 0, and `wanted` is how long it
-/// is. -1: it would be longer than a file may be. -6: want of memory. -8: the room is too short, and
+/// is. -1: it would be longer than a file may be. -6: out of memory. -8: the room is too short, and
 /// `wanted` is how much is needed. -12: the handle is empty.
 #[unsafe(no_mangle)]
-pub extern "C" fn stm_file(
-    alloc: Global,
-    store: &mut StoreHandle,
-    room: &mut [u8],
-    wanted: &mut usize,
-) -> i32
+pub extern "C" fn stm_file(store: &mut StoreHandle, room: &mut [u8], wanted: &mut usize) -> i32
     ensures done { Asked store.old.value EMPTY result
         (λ held answer. answer ≡ pos 0 → Holds (IsFileOf held.book) room.old room.new wanted.new) }
-    ensures short { Asked store.old.value EMPTY result
+    ensures too_short { Asked store.old.value EMPTY result
         (λ held answer. answer ≡ SHORT → TooShort (IsFileOf held.book) room.old room.new wanted.new) }
     ensures long { Asked store.old.value EMPTY result
         (λ held answer. answer ≡ FILE_TOO_LONG → 1048576 < length (file_text held.book.catalogue)) }
@@ -108,17 +98,15 @@ pub extern "C" fn stm_file(
     ensures stays { store.new.value ≡ store.old.value }
 {
     *wanted = 0;
-    let Some(held) = store.take(alloc) else {
+    let Some(held) = store.get_mut() else {
         return EMPTY;
     };
-    let answer = file_of(&held, room, wanted);
-    *store = StoreHandle::of(held);
-    answer
+    file_of(held, room, wanted)
 }
 
 fn file_of(store: &Store, room: &mut [u8], wanted: &mut usize) -> i32
     ensures done { result ≡ pos 0 → Holds (IsFileOf store.now.book) room.old room.new wanted.new }
-    ensures short { result ≡ SHORT → TooShort (IsFileOf store.now.book) room.old room.new wanted.new }
+    ensures too_short { result ≡ SHORT → TooShort (IsFileOf store.now.book) room.old room.new wanted.new }
     ensures long { result ≡ FILE_TOO_LONG → 1048576 < length (file_text store.now.book.catalogue) }
     ensures answers { (result ≡ pos 0) ⊎ (result ≡ SHORT) ⊎ (result ≡ FILE_TOO_LONG) ⊎ (result ≡ MEMORY) }
     ensures none { result ≢ pos 0 → result ≢ SHORT → wanted.new ≡ wanted.old }
@@ -135,14 +123,13 @@ fn file_of(store: &Store, room: &mut [u8], wanted: &mut usize) -> i32
 /// one is, whatever memory there is.
 #[unsafe(no_mangle)]
 pub extern "C" fn stm_report_now(
-    alloc: Global,
     store: &mut StoreHandle,
     room: &mut [u8],
     wanted: &mut usize,
 ) -> i32
     ensures done { Asked store.old.value EMPTY result
         (λ held answer. answer ≡ pos 0 → Holds (IsTextOf held.book) room.old room.new wanted.new) }
-    ensures short { Asked store.old.value EMPTY result
+    ensures too_short { Asked store.old.value EMPTY result
         (λ held answer. answer ≡ SHORT → TooShort (IsTextOf held.book) room.old room.new wanted.new) }
     ensures left { Asked store.old.value EMPTY result
         (λ held answer. answer ≡ WORK_LEFT → ¬ (IsIdle held.book)) }
@@ -155,17 +142,15 @@ pub extern "C" fn stm_report_now(
     ensures stays { store.new.value ≡ store.old.value }
 {
     *wanted = 0;
-    let Some(held) = store.take(alloc) else {
+    let Some(held) = store.get_mut() else {
         return EMPTY;
     };
-    let answer = report_of(&held, room, wanted);
-    *store = StoreHandle::of(held);
-    answer
+    report_of(held, room, wanted)
 }
 
 fn report_of(store: &Store, room: &mut [u8], wanted: &mut usize) -> i32
     ensures done { result ≡ pos 0 → Holds (IsTextOf store.now.book) room.old room.new wanted.new }
-    ensures short { result ≡ SHORT → TooShort (IsTextOf store.now.book) room.old room.new wanted.new }
+    ensures too_short { result ≡ SHORT → TooShort (IsTextOf store.now.book) room.old room.new wanted.new }
     ensures left { result ≡ WORK_LEFT → ¬ (IsIdle store.now.book) }
     ensures always_left { ¬ (IsIdle store.now.book) → result ≡ WORK_LEFT }
     ensures answers { (result ≡ pos 0) ⊎ (result ≡ SHORT) ⊎ (result ≡ WORK_LEFT) ⊎ (result ≡ MEMORY) }

@@ -7,13 +7,12 @@ ghost use Rattle.stm_c.specs.Rooms.{Holds, TooShort};
 
 use crate::codes::{MEMORY, SHORT, file_fault, schedule_fault};
 use crate::writing::copy;
-use run_faults::RunFault;
-use run_sink::Out;
+use run_interface::{Out, RunFault};
 use std::alloc::Global;
 use world_runner::world_bytes;
 
 /// Plays the schedule, and copies what is seen into the room: 0, and `wanted` is how long it is.
-/// -1 to -7: the file is refused, or want of memory. -8: the room is too short, and `wanted` is how
+/// -1 to -7: the file is refused, or out of memory. -8: the room is too short, and `wanted` is how
 /// much is needed. -21 to -27: the schedule is refused.
 #[unsafe(no_mangle)]
 pub extern "C" fn stm_world(
@@ -24,7 +23,7 @@ pub extern "C" fn stm_world(
     wanted: &mut usize,
 ) -> i32
     ensures done { result ≡ pos 0 → Holds (IsShowing file.now schedule.now) room.old room.new wanted.new }
-    ensures short { result ≡ SHORT → TooShort (IsShowing file.now schedule.now) room.old room.new wanted.new }
+    ensures too_short { result ≡ SHORT → TooShort (IsShowing file.now schedule.now) room.old room.new wanted.new }
     ensures refused { result ≢ pos 0 → result ≢ SHORT
         → IsRefused file.now result ⊎ IsNotPlayed file.now schedule.now result }
     ensures none { result ≢ pos 0 → result ≢ SHORT → wanted.new ≡ 0 }

@@ -22,7 +22,7 @@ use txn_text::{ReadFault, print_report, read_file};
 
 /// Runs all tasks of the file, and copies the report's text into the room: 0, and `wanted` is how
 /// long it is. With a checkpoint after each N entries its journal has fewer than N, and its base is a
-/// multiple of N; with 0, for none, its base is 0. -1 to -7: the file is refused, or want of memory.
+/// multiple of N; with 0, for none, its base is 0. -1 to -7: the file is refused, or out of memory.
 /// -8: the room is too short, and `wanted` is how much is needed. Where there is no text, it is 0.
 #[unsafe(no_mangle)]
 pub extern "C" fn stm_run_one(
@@ -33,7 +33,7 @@ pub extern "C" fn stm_run_one(
     wanted: &mut usize,
 ) -> i32
     ensures done { result ≡ pos 0 → Holds (IsReportBy checkpoint file.now) room.old room.new wanted.new }
-    ensures short { result ≡ SHORT → TooShort (IsReportBy checkpoint file.now) room.old room.new wanted.new }
+    ensures too_short { result ≡ SHORT → TooShort (IsReportBy checkpoint file.now) room.old room.new wanted.new }
     ensures refused { result ≢ pos 0 → result ≢ SHORT → IsRefused file.now result }
     ensures none { result ≢ pos 0 → result ≢ SHORT → wanted.new ≡ 0 }
     ensures kept { result ≢ pos 0 → room.new ≡ room.old }

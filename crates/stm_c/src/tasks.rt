@@ -2,7 +2,8 @@
 
 ghost use Rattle.std.specs.Prelude.{◌≡◌};
 ghost use Rattle.stm_store.specs.Keeping.{KeepsTasks};
-ghost use Rattle.stm_c.specs.ByTicket.{ClaimsTicket, GivesUpTicket, IsTicket, OnTask, ServesTicket, TellsEntry, TellsHow, WithdrawsTicket};
+ghost use Rattle.stm_c.specs.ByTicket.{ClaimsTicket, GivesUpTicket, IsTicket, OnTask, ServesTicket, TellsEntry};
+ghost use Rattle.stm_c.specs.ByTicket.{TellsHow, WithdrawsTicket};
 ghost use Rattle.stm_c.specs.Held.{Asked, On};
 ghost use Rattle.stm_c.specs.Numbers.{no_such, no_task_of, nothing_held, nothing_taken};
 
@@ -11,7 +12,6 @@ use crate::codes::{
     stands, unknown,
 };
 use crate::store_handle::StoreHandle;
-use std::alloc::Global;
 use stm_store::{Store, Ticket};
 
 /// The ticket of this number, where the store has a task of it.
@@ -29,16 +29,14 @@ fn known(store: &Store, number: i64) -> Option<Ticket>
 /// A turn of a running task on the present values. -9: there is no such task. -12: the handle is
 /// empty.
 #[unsafe(no_mangle)]
-pub extern "C" fn stm_serial(alloc: Global, store: &mut StoreHandle, ticket: i64) -> Told
+pub extern "C" fn stm_serial(store: &mut StoreHandle, ticket: i64) -> Told
     ensures { On store.old.value store.new.value nothing_held result
         (λ old how new. OnTask old ticket no_such how new (ServesTicket old how new) × KeepsTasks old new) }
 {
-    let Some(mut held) = store.take(alloc) else {
+    let Some(held) = store.get_mut() else {
         return empty();
     };
-    let how = serial(&mut held, ticket);
-    *store = StoreHandle::of(held);
-    how
+    serial(held, ticket)
 }
 
 fn serial(store: &mut Store, ticket: i64) -> Told
@@ -54,17 +52,15 @@ fn serial(store: &mut Store, ticket: i64) -> Told
 /// The task with the ticket, where it is ready: it is then running. The ticket -1 where it is not ready,
 /// -9 where there is no such task, -12 where the handle is empty.
 #[unsafe(no_mangle)]
-pub extern "C" fn stm_claim(alloc: Global, store: &mut StoreHandle, ticket: i64) -> Taken
+pub extern "C" fn stm_claim(store: &mut StoreHandle, ticket: i64) -> Taken
     ensures { On store.old.value store.new.value nothing_taken result
         (λ old job new. OnTask old ticket (no_task_of UNKNOWN) job new (ClaimsTicket old job new)
         × KeepsTasks old new) }
 {
-    let Some(mut held) = store.take(alloc) else {
+    let Some(held) = store.get_mut() else {
         return no_job(EMPTY);
     };
-    let job = claim(&mut held, ticket);
-    *store = StoreHandle::of(held);
-    job
+    claim(held, ticket)
 }
 
 fn claim(store: &mut Store, ticket: i64) -> Taken
@@ -80,17 +76,15 @@ fn claim(store: &mut Store, ticket: i64) -> Taken
 /// A running task is given up: 0. 3: it was not running; -9: there is no such task; -12: the handle is
 /// empty.
 #[unsafe(no_mangle)]
-pub extern "C" fn stm_give_up(alloc: Global, store: &mut StoreHandle, ticket: i64) -> i32
+pub extern "C" fn stm_give_up(store: &mut StoreHandle, ticket: i64) -> i32
     ensures { On store.old.value store.new.value EMPTY result
         (λ old answer new. OnTask old ticket UNKNOWN answer new (GivesUpTicket old answer new)
         × KeepsTasks old new) }
 {
-    let Some(mut held) = store.take(alloc) else {
+    let Some(held) = store.get_mut() else {
         return EMPTY;
     };
-    let answer = give_up(&mut held, ticket);
-    *store = StoreHandle::of(held);
-    answer
+    give_up(held, ticket)
 }
 
 fn give_up(store: &mut Store, ticket: i64) -> i32
@@ -107,17 +101,15 @@ fn give_up(store: &mut Store, ticket: i64) -> i32
 /// A task that is ready or parked is given up: 0. 15: it was neither; -9: there is no such task; -12: the
 /// handle is empty.
 #[unsafe(no_mangle)]
-pub extern "C" fn stm_withdraw(alloc: Global, store: &mut StoreHandle, ticket: i64) -> i32
+pub extern "C" fn stm_withdraw(store: &mut StoreHandle, ticket: i64) -> i32
     ensures { On store.old.value store.new.value EMPTY result
         (λ old answer new. OnTask old ticket UNKNOWN answer new (WithdrawsTicket old answer new)
         × KeepsTasks old new) }
 {
-    let Some(mut held) = store.take(alloc) else {
+    let Some(held) = store.get_mut() else {
         return EMPTY;
     };
-    let answer = withdraw(&mut held, ticket);
-    *store = StoreHandle::of(held);
-    answer
+    withdraw(held, ticket)
 }
 
 fn withdraw(store: &mut Store, ticket: i64) -> i32
@@ -134,17 +126,15 @@ fn withdraw(store: &mut Store, ticket: i64) -> i32
 /// How the task stands: 0 done, with the number of its entry; 1 parked; 4 given up; 13 ready; 14 running.
 /// -9: there is no such task. -12: the handle is empty.
 #[unsafe(no_mangle)]
-pub extern "C" fn stm_standing(alloc: Global, store: &mut StoreHandle, ticket: i64) -> Told
+pub extern "C" fn stm_standing(store: &mut StoreHandle, ticket: i64) -> Told
     ensures answer { Asked store.old.value nothing_held result
         (λ held how. OnTask held ticket no_such how held (TellsHow held how)) }
     ensures stays { store.new.value ≡ store.old.value }
 {
-    let Some(held) = store.take(alloc) else {
+    let Some(held) = store.get_mut() else {
         return empty();
     };
-    let how = standing(&held, ticket);
-    *store = StoreHandle::of(held);
-    how
+    standing(held, ticket)
 }
 
 fn standing(store: &Store, ticket: i64) -> Told
@@ -162,17 +152,15 @@ fn standing(store: &Store, ticket: i64) -> Told
 /// What the entry of the task records, with its number: as a turn ends. 12: the journal has none, for the
 /// task is not done, or a checkpoint was made since. -9: there is no such task. -12: the handle is empty.
 #[unsafe(no_mangle)]
-pub extern "C" fn stm_outcome(alloc: Global, store: &mut StoreHandle, ticket: i64) -> Told
+pub extern "C" fn stm_outcome(store: &mut StoreHandle, ticket: i64) -> Told
     ensures answer { Asked store.old.value nothing_held result
         (λ held told. OnTask held ticket no_such told held (TellsEntry held told)) }
     ensures stays { store.new.value ≡ store.old.value }
 {
-    let Some(held) = store.take(alloc) else {
+    let Some(held) = store.get_mut() else {
         return empty();
     };
-    let told = outcome(&held, ticket);
-    *store = StoreHandle::of(held);
-    told
+    outcome(held, ticket)
 }
 
 fn outcome(store: &Store, ticket: i64) -> Told

@@ -9,27 +9,27 @@ use crate::codes::{EMPTY, Taken, Told, UNKNOWN, empty, observed, tried, unknown}
 use crate::worker_handle::WorkerHandle;
 use std::alloc::Global;
 use stm_store::{Job, Ticket, Worker};
-use txn::{TaskId, TxId};
+use txn::limits::MAX_PARAMETERS;
+use txn::{Arguments, TaskId, TxId};
 
 /// Evaluates a job that was taken on one state: 0 it has ended, 2 a read was stale, -6 want of
-/// memory, -9 there is no such task or no such transaction, -12 the handle is empty.
+/// memory, -9 there is no such task or no such transaction, or it wants another number of arguments, -12 the
+/// handle is empty.
 #[unsafe(no_mangle)]
-pub extern "C" fn stm_try_job(alloc: Global, worker: &mut WorkerHandle, job: Taken) -> i32
+pub extern "C" fn stm_try_job(worker: &mut WorkerHandle, job: Taken) -> i32
     ensures { On worker.old.value worker.new.value EMPTY result
-        (λ old how new. TriesTaken old job.ticket job.chapter job.task job.tx how new) }
+        (λ old how new. TriesTaken old job how new) }
 {
-    let Some(mut held) = worker.take(alloc) else {
+    let Some(held) = worker.get_mut() else {
         return EMPTY;
     };
-    let how = try_taken(&mut held, job);
-    *worker = WorkerHandle::of(held);
-    how
+    try_taken(held, job)
 }
 
 fn try_taken(worker: &mut Worker, job: Taken) -> i32
-    ensures { TriesTaken worker.old job.ticket job.chapter job.task job.tx result worker.new }
+    ensures { TriesTaken worker.old job result worker.new }
 {
-    if job.ticket < 0 {
+    if job.ticket < 0 || job.count > MAX_PARAMETERS {
         return UNKNOWN;
     }
     let job = Job {
@@ -37,6 +37,7 @@ fn try_taken(worker: &mut Worker, job: Taken) -> i32
         chapter: job.chapter,
         task: TaskId(job.task),
         tx: TxId(job.tx),
+        arguments: Arguments::of(&job.arguments[..job.count]),
     };
     try_job(worker, job)
 }
@@ -44,62 +45,67 @@ fn try_taken(worker: &mut Worker, job: Taken) -> i32
 fn try_job(worker: &mut Worker, job: Job) -> i32
     ensures { TriesAny worker.old job result worker.new }
 {
-    if job.tx.0 as usize >= worker.catalogue().tx_count() {
+    if !worker
+        .catalogue()
+        .is_callable(job.tx, job.arguments.as_slice())
+    {
         return UNKNOWN;
     }
     tried(worker.try_job(job))
 }
 
 /// Evaluates a task of the program, as the first chapter has it, on one state: 0 it has ended, 2 a read
-/// was stale, -6 want of memory, -9 the program has no such task, -12 the handle is empty.
+/// was stale, -6 out of memory, -9 the program has no such task, -12 the handle is empty.
 #[unsafe(no_mangle)]
-pub extern "C" fn stm_try(alloc: Global, worker: &mut WorkerHandle, task: u32) -> i32
+pub extern "C" fn stm_try(worker: &mut WorkerHandle, task: u32) -> i32
     ensures { On worker.old.value worker.new.value EMPTY result (λ old how new. TriesTask old task how new) }
 {
-    let Some(mut held) = worker.take(alloc) else {
+    let Some(held) = worker.get_mut() else {
         return EMPTY;
     };
-    let how = try_task(&mut held, task);
-    *worker = WorkerHandle::of(held);
-    how
+    try_task(held, task)
 }
 
+#[tactic(auto, using(txn_programs::proofs::Lawful::few_arguments))]
 fn try_task(worker: &mut Worker, task: u32) -> i32
     ensures { TriesTask worker.old task result worker.new }
 {
-    if task as usize >= worker.catalogue().tasks() {
+    let catalogue = worker.catalogue();
+    catalogue.rules();
+    if task as usize >= catalogue.tasks() {
         return UNKNOWN;
     }
-    let tx = worker.catalogue().task_tx(TaskId(task));
+    let tx = catalogue.task_tx(TaskId(task));
+    let arguments = Arguments::of(catalogue.task_arguments(TaskId(task)));
     tried(worker.try_job(Job {
         ticket: Ticket(u64::from(task)),
         chapter: 0,
         task: TaskId(task),
         tx,
+        arguments,
     }))
 }
 
-/// How the transaction would end on one state.
+/// How a call of the transaction would end on one state. -9: there is no such transaction, or it wants another
+/// number of arguments.
 #[unsafe(no_mangle)]
-pub extern "C" fn stm_observe(alloc: Global, worker: &mut WorkerHandle, tx: u32) -> Told
+pub extern "C" fn stm_observe(worker: &mut WorkerHandle, tx: u32, arguments: &[i64]) -> Told
     ensures { On worker.old.value worker.new.value nothing_held result
-        (λ old how new. ObservesAny old tx how new) }
+        (λ old how new. ObservesAny old tx arguments.now how new) }
 {
-    let Some(mut held) = worker.take(alloc) else {
+    let Some(held) = worker.get_mut() else {
         return empty();
     };
-    let how = observe(&mut held, tx);
-    *worker = WorkerHandle::of(held);
-    how
+    observe(held, tx, arguments)
 }
 
-fn observe(worker: &mut Worker, tx: u32) -> Told
-    ensures { ObservesAny worker.old tx result worker.new }
+fn observe(worker: &mut Worker, tx: u32, arguments: &[i64]) -> Told
+    ensures { ObservesAny worker.old tx arguments.now result worker.new }
 {
-    if tx as usize >= worker.catalogue().tx_count() {
+    if !worker.catalogue().is_callable(TxId(tx), arguments) {
         return unknown();
     }
-    observed(worker.observe(TxId(tx)))
+    observed(worker.observe(TxId(tx), arguments))
 }
 
 /// Lets a worker go; its handle is empty afterwards. An empty one stays so.

@@ -10,7 +10,7 @@ pub(crate) fn copy(text: &[u8], room: &mut [u8], wanted: &mut usize) -> i32
     ensures wanted { wanted.new ≡ length text.now }
     ensures fits { length text.now ≤ length room.old → result ≡ pos 0 }
     ensures done { result ≡ pos 0 → room.new ≡ text.now ++ drop (length text.now) room.old }
-    ensures short { length room.old < length text.now → (result ≡ SHORT) × (room.new ≡ room.old) }
+    ensures too_short { length room.old < length text.now → (result ≡ SHORT) × (room.new ≡ room.old) }
     ensures answers { (result ≡ pos 0) ⊎ (result ≡ SHORT) }
     ensures why { result ≡ SHORT → (length room.old < length text.now) × (room.new ≡ room.old) }
 {
@@ -27,7 +27,7 @@ pub(crate) fn copied_as(done: i32, text: &[u8], room: &mut [u8], wanted: &mut us
     ensures wanted { wanted.new ≡ length text.now }
     ensures fits { length text.now ≤ length room.old
         → (result ≡ done) × (room.new ≡ text.now ++ drop (length text.now) room.old) }
-    ensures short { length room.old < length text.now → (result ≡ SHORT) × (room.new ≡ room.old) }
+    ensures too_short { length room.old < length text.now → (result ≡ SHORT) × (room.new ≡ room.old) }
     ensures why { result ≢ done → (result ≡ SHORT) × (length room.old < length text.now) × (room.new ≡ room.old) }
 {
     match copy(text, room, wanted) {

@@ -25,5 +25,9 @@ pub use Rattle.stm_store.specs.Asking
 pub use Rattle.stm_store.specs.Bringing
 pub use Rattle.stm_store.specs.Turning
 pub use Rattle.stm_store.specs.Telling
+-- services
+pub use Rattle.stm_service.specs.Answering
+pub use Rattle.stm_service.specs.Observations
+pub use Rattle.stm_service.specs.Seeing
 -- journals in lines
-pub use Rattle.journal.specs.Lines
+pub use Rattle.book_storage.specs.PackedEntries

@@ -7,12 +7,12 @@
 
 // What a file declares, and what a report tells.
 pub use txn::{
-    AlwaysId, BuildFault, Catalogue, Cond, Entry, Expr, Fault, Memory, Outcome, Report, Stmt,
-    TaskId, Tx, TxId, VarId, evaluate, laws, limits,
+    AlwaysId, Arguments, BuildFault, Call, Catalogue, Cond, Entry, Expr, Fault, Memory, Outcome,
+    Report, Stmt, TaskId, Tx, TxId, VarId, evaluate, laws, limits,
 };
 // Transactions copied, and compared.
-pub use txn_copies::copy::copied_transaction;
-pub use txn_copies::same::same_transactions;
+pub use txn_declarations::copy::copied_transaction;
+pub use txn_declarations::same::same_transactions;
 // Files, reports and schedules as text.
 pub use txn_text::{
     MAX_FILE, MAX_REPORT, MAX_SCHEDULE, ReadFault, print_file, print_report, read_file,
@@ -20,8 +20,8 @@ pub use txn_text::{
 };
 // All tasks of a file, by workers side by side; and what a transaction would end as, meanwhile.
 pub use runner::{
-    Gate, Line, Observed, OpenGate, Options, Out, Point, RunFault, RunReport, Sink, SinkFault,
-    observe, run_bytes, run_in_lines, run_tasks,
+    Gate, Observed, OpenGate, Options, Out, PackedEntry, Point, RunFault, RunReport, Sink,
+    SinkFault, observe, run_bytes, run_packed, run_tasks,
 };
 // Whether a report is lawful.
 pub use checker::{Part, Verdict, check};
@@ -30,10 +30,12 @@ pub use stm_store::{
     Brought, Called, End, Entered, FileFault, Job, Lender, NextFault, Program, ReportFault, Served,
     Store, Ticket, Tried, Turned, Worker,
 };
+// Calls of a store from any thread.
+pub use stm_service::{Archive, CallFault, Client, Naming, NoArchive, Service};
 // What stands under a store: cells that are read with no lock, attempts, and the book.
 pub use attempt::{Attempt, Next, Stand};
 pub use book::{Book, Counts, Finish, Serial, Standing};
-pub use cells::{Cells, Extend, Pass, Publisher, Read};
+pub use cells::{Cells, Extend, Pass, Publisher, Read, SharedCells};
 // Schedules of single loads and stores.
 pub use world::{Event, Fate, Seen, World};
 pub use world_runner::world_bytes;

@@ -1,9 +1,9 @@
--- What the calls of a store on one task do.
-use Rattle.std.specs.Prelude.{◌≡◌, ◌⊎◌, ◌<◌, ◌+◌, ℕ, Bool, true, false, length, map, Option, Some, None, slice_get}
+-- Calls on one task.
+use Rattle.std.specs.Prelude.{◌≡◌, ◌⊎◌, ◌<◌, ◌+◌, ℕ, ℤ, List, Bool, true, false, length, map, Option, Some, None, slice_get}
 use Rattle.txn_programs.specs.declared.ast.TaskId.{TaskId}
 use Rattle.txn_programs.specs.declared.ast.TxId.{TxId}
 use Rattle.txn_programs.specs.declared.ast.Outcome.{Outcome}
-use Rattle.txn_programs.specs.Listing.{tasks}
+use Rattle.txn_programs.specs.Listing.{tasks, task_arguments}
 use Rattle.book.specs.View.{BookView, IsRunning, stands}
 use Rattle.book.specs.Tasks.{Running, GivenUp}
 use Rattle.book.specs.Table.{IsWaiting}
@@ -27,19 +27,20 @@ IsFull s = (s.book.spare ≡ 0) ⊎ (s.tickets.given ≡ most_tickets)
 abbrev pub IsUnchanged : Store → Store → Type 0
 IsUnchanged old new = (new.book ≡ old.book) × (new.tickets ≡ old.tickets)
 
--- `submit`: where there is room a ready task of the transaction more, with the next ticket; else nothing changed
-abbrev pub Submits : Store → TxId → Option Ticket → Store → Type 0
-Submits old tx None new = IsFull old × IsUnchanged old new
-Submits old tx (Some ticket) new =
+-- `submit`: where there is room a ready task of the call more, with the next ticket; else nothing changed
+abbrev pub Submits : Store → TxId → List ℤ → Option Ticket → Store → Type 0
+Submits old tx arguments None new = IsFull old × IsUnchanged old new
+Submits old tx arguments (Some ticket) new =
     HasRoom old
     × (ticket.0 ≡ old.tickets.given)
     × (new.tickets ≡ with_next old.tickets)
-    × (new.book ≡ submitted old.book tx)
+    × (new.book ≡ submitted old.book (record { tx = tx; arguments = arguments }))
 
--- the job is a task of the store: of this transaction, and with this ticket
+-- the job is a task of the store: of this transaction, with these arguments, and with this ticket
 pub record IsJob (s : Store) (job : Job) : Type 0 where
   pub ticket : HasTicket s.tickets job.task job.ticket
   pub runs : slice_get (tasks s.book.catalogue) job.task.0 ≡ Some job.tx
+  pub given : task_arguments s.book.catalogue job.task ≡ job.arguments
 
 -- and of its present chapter
 abbrev pub IsPresentJob : Store → Job → Type 0

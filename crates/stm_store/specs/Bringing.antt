@@ -1,4 +1,4 @@
--- What becomes of an attempt that is brought to a store.
+-- What becomes of a brought attempt.
 use Rattle.std.specs.Prelude.{◌≡◌, ◌≢◌, ℕ, length, Some, None}
 use Rattle.txn_programs.specs.declared.ast.TaskId.{TaskId}
 use Rattle.txn_programs.specs.declared.ast.TxId.{TxId}

@@ -1,4 +1,4 @@
--- What is told of a task that is entered.
+-- What is told of an entered task.
 use Rattle.std.specs.Prelude.{◌≡◌, ◌≢◌, ℕ}
 use Rattle.txn_programs.specs.declared.ast.TaskId.{TaskId}
 use Rattle.txn_programs.specs.declared.ast.Outcome.{Outcome}

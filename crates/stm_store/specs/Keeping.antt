@@ -6,7 +6,7 @@ use Rattle.stm_store.specs.declared.worker.Worker.{Worker}
 -- its program, its cells, the passes for workers to come, how often a checkpoint is made, and the chapter
 pub record KeepsStore (old new : Store) : Type 0 where
   pub catalogue : new.catalogue.now ≡ old.catalogue.now
-  pub cells : new.cells.now ≡ old.cells.now
+  pub cells : new.cells ≡ old.cells
   pub workers : new.passes.items ≡ old.passes.items
   pub every : new.every ≡ old.every
   pub chapter : new.chapter ≡ old.chapter
@@ -21,5 +21,5 @@ pub record KeepsTasks (old new : Store) : Type 0 where
 pub record IsLent (old new : Worker) : Type 0 where
   pub ended : new.ended ≡ None
   pub catalogue : new.catalogue.now ≡ old.catalogue.now
-  pub cells : new.cells.now ≡ old.cells.now
+  pub cells : new.cells ≡ old.cells
   pub pass : new.pass ≡ old.pass

@@ -1,4 +1,4 @@
--- What stays of a book whatever turns it gives.
+-- What turns leave of a book.
 use Rattle.std.specs.Prelude.{◌≡◌, length}
 use Rattle.book.specs.View.{BookView}
 

@@ -1,11 +1,11 @@
 -- What turns leave, and calls of a transaction.
-use Rattle.std.specs.Prelude.{◌≡◌, ◌≢◌, ◌+◌, ◌<◌, ◌≤◌, ℕ, length, Option, Some, None, slice_get}
+use Rattle.std.specs.Prelude.{◌≡◌, ◌≢◌, ◌+◌, ◌<◌, ◌≤◌, ℕ, ℤ, List, length, Option, Some, None, slice_get}
 use Rattle.txn_programs.specs.declared.ast.TaskId.{TaskId}
 use Rattle.txn_programs.specs.declared.ast.TxId.{TxId}
 use Rattle.txn_programs.specs.declared.ast.Outcome.{Outcome}
 use Rattle.txn_programs.specs.declared.ast.Outcome.TheVariants.{Retries}
 use Rattle.txn_programs.specs.Meaning.{outcome}
-use Rattle.txn_programs.specs.Listing.{program_at}
+use Rattle.txn_programs.specs.Listing.{call_program}
 use Rattle.attempt.specs.View.{AttemptView}
 use Rattle.book.specs.View.{BookView, IsRunning, stands}
 use Rattle.book.specs.Tasks.{Ready, Running}
@@ -72,47 +72,48 @@ pub record GivesTurns (every most : ℕ) (old : BookView) (n : ℕ) (new : BookV
   pub rest : n < most → (k : ℕ) → slice_get new.tasks k ≢ Some Ready
 
 -- the book with the task that a call makes, which is running
-abbrev pub called_book : BookView → TxId → TaskId → BookView
-called_book b tx task = stands (submitted b tx) task Running
+abbrev pub called_book : BookView → TxId → List ℤ → TaskId → BookView
+called_book b tx arguments task = stands (submitted b (record { tx = tx; arguments = arguments })) task Running
 
 -- the job of a task more: it has the next number, and the next ticket
-pub record IsNewJob (old : Store) (tx : TxId) (job : Job) : Type 0 where
+pub record IsNewJob (old : Store) (tx : TxId) (arguments : List ℤ) (job : Job) : Type 0 where
   pub task : job.task.0 ≡ length old.book.tasks
   pub ticket : job.ticket.0 ≡ old.tickets.given
   pub chapter : job.chapter ≡ old.chapter
   pub runs : job.tx ≡ tx
+  pub given : job.arguments ≡ arguments
 
--- where there is room a running task of the transaction more; else nothing changed
-abbrev pub BeginsCall : Store → TxId → Option Job → Store → Type 0
-BeginsCall old tx None new = IsFull old × IsUnchanged old new
-BeginsCall old tx (Some job) new =
+-- where there is room a running task of the call more; else nothing changed
+abbrev pub BeginsCall : Store → TxId → List ℤ → Option Job → Store → Type 0
+BeginsCall old tx arguments None new = IsFull old × IsUnchanged old new
+BeginsCall old tx arguments (Some job) new =
     HasRoom old
-    × IsNewJob old tx job
+    × IsNewJob old tx arguments job
     × (new.tickets ≡ with_next old.tickets)
-    × (new.book ≡ called_book old.book tx job.task)
+    × (new.book ≡ called_book old.book tx arguments job.task)
 
--- a task of the transaction more was made, and had its turn
-pub record Runs (old : Store) (tx : TxId) (t : Turned) (new : Store) : Type 0 where
+-- a task of the call more was made, and had its turn
+pub record Runs (old : Store) (tx : TxId) (arguments : List ℤ) (t : Turned) (new : Store) : Type 0 where
   pub room : HasRoom old
-  pub job : IsNewJob old tx t.job
+  pub job : IsNewJob old tx arguments t.job
   pub tickets : new.tickets ≡ with_next old.tickets
-  pub ends : Ends old.every (called_book old.book tx t.job.task) t.job.task t.end new.book
+  pub ends : Ends old.every (called_book old.book tx arguments t.job.task) t.job.task t.end new.book
 
--- `call`: where there is room the transaction is submitted, and has its turn at once; else nothing changed
-abbrev pub Calls : Store → TxId → Called → Store → Type 0
-Calls old tx called.Retries new = ⊥
-Calls old tx called.NoRoom new = IsFull old × IsUnchanged old new
-Calls old tx (called.Ran t) new = Runs old tx t new
+-- `call`: where there is room the call is submitted, and has its turn at once; else nothing changed
+abbrev pub Calls : Store → TxId → List ℤ → Called → Store → Type 0
+Calls old tx arguments called.Retries new = ⊥
+Calls old tx arguments called.NoRoom new = IsFull old × IsUnchanged old new
+Calls old tx arguments (called.Ran t) new = Runs old tx arguments t new
 
--- the attempt has ended as the transaction does on the present values, and does not retry
-pub record EndsHere (b : BookView) (tx : TxId) (a : AttemptView) : Type 0 where
+-- the attempt has ended as the call does on the present values, and does not retry
+pub record EndsHere (b : BookView) (tx : TxId) (arguments : List ℤ) (a : AttemptView) : Type 0 where
   pub how : Outcome
-  pub ends : EndsOn b.catalogue tx b.present.state how a
+  pub ends : EndsOn b.catalogue tx arguments b.present.state how a
   pub enters : how ≢ Retries
 
--- `try_call`: where the transaction retries on the present values nothing changed; else as `call`, and it is not parked
-abbrev pub TriesCall : Store → TxId → Called → Store → Type 0
-TriesCall old tx called.Retries new =
-    (outcome (program_at old.book.catalogue tx) old.book.present.state ≡ Retries) × IsUnchanged old new
-TriesCall old tx called.NoRoom new = IsFull old × IsUnchanged old new
-TriesCall old tx (called.Ran t) new = Runs old tx t new × (t.end ≢ end.Parked)
+-- `try_call`: where the call retries on the present values nothing changed; else as `call`, and it is not parked
+abbrev pub TriesCall : Store → TxId → List ℤ → Called → Store → Type 0
+TriesCall old tx arguments called.Retries new =
+    (outcome (call_program old.book.catalogue tx arguments) old.book.present.state ≡ Retries) × IsUnchanged old new
+TriesCall old tx arguments called.NoRoom new = IsFull old × IsUnchanged old new
+TriesCall old tx arguments (called.Ran t) new = Runs old tx arguments t new × (t.end ≢ end.Parked)

@@ -1,6 +1,6 @@
 -- What a worker's try leaves, and what a program declares.
 use Rattle.std.specs.Prelude.{◌≡◌, ℕ, ◌+◌, ◌%◌, ◌^◌, Bool, true, false, [], Option, Some, None}
-use Rattle.txn_programs.specs.Listing.{Listing}
+use Rattle.txn_programs.specs.Listing.{Listing, call_program}
 use Rattle.attempt.specs.View.{AttemptView}
 use Rattle.attempt.specs.declared.next.Stand.{Stand}
 use Rattle.attempt.specs.declared.next.Stand.TheVariants as stand
@@ -17,10 +17,14 @@ is_over (stand.Needs x) = false
 is_over (stand.Over o) = true
 is_over stand.Spent = false
 
+-- the attempt's program is that of the job's call
+abbrev pub IsProgramOf : Listing → AttemptView → Job → Type 0
+IsProgramOf l a job = a.program ≡ call_program l job.tx job.arguments
+
 -- `try_job`, from the pass p to q: where it ended, the attempt is for the job and ended on the state at which the pass is
 abbrev pub TriedBy : Listing → Job → Passing → Tried → Passing → AttemptView → Option Job → Type 0
 TriedBy l job p tried.Ended q a ended =
-    ObservesBy p q × (ended ≡ Some job) × Evaluates l job.tx (at q) a
+    ObservesBy p q × (ended ≡ Some job) × Evaluates l job.tx job.arguments (at q) a
 TriedBy l job p tried.Stale q a ended = ObservesBy p q × (ended ≡ None) × IsStaleFrom p q
 TriedBy l job p tried.Memory q a ended =
     ObservesBy p q × (ended ≡ None) × (q.open_now ≡ true) × LacksMemory l job.tx a

@@ -42,7 +42,7 @@ pub enum Served {
     NotRunning,
     /// The program retries on the present values: the task waits for a change of what it read.
     Parked,
-    /// Want of memory: the task is given up, and nothing else changed.
+    /// Out of memory: the task is given up, and nothing else changed.
     Abandoned,
     /// The task is done.
     Committed(Entered),
@@ -55,7 +55,7 @@ pub enum End {
     Entered(Entered),
     /// The program retries: the task waits for a change of what it read.
     Parked,
-    /// Want of memory: the task is given up.
+    /// Out of memory: the task is given up.
     Abandoned,
 }
 

@@ -31,23 +31,24 @@ impl Store {
         if job.chapter != self.chapter {
             return Brought::OtherChapter;
         }
+        let task = job.task;
         if !self.has(job) {
             return Brought::OtherTask;
         }
         self.book.law();
-        bring(&mut self.book, &mut worker.attempt, self.every, job.task)
+        bring(&mut self.book, &mut worker.attempt, self.every, task)
     }
 
     /// Tells a worker of this store all states that were published, by one load of the clock.
     pub fn meet(&mut self, worker: &mut Worker)
-        requires own { worker.old.cells.now ≡ self.old.cells.now }
+        requires own { worker.old.cells ≡ self.old.cells }
         ensures met { MeetsBy worker.old.pass worker.new.pass self.old.book.history }
         ensures same { self.new.book ≡ self.old.book }
         ensures kept { KeepsTasks self.old self.new }
         ensures ended { worker.new.ended ≡ worker.old.ended }
         ensures attempt { worker.new.attempt ≡ worker.old.attempt }
         ensures catalogue { worker.new.catalogue.now ≡ worker.old.catalogue.now }
-        ensures cells { worker.new.cells.now ≡ worker.old.cells.now }
+        ensures cells { worker.new.cells ≡ worker.old.cells }
     {
         self.book.meet(&mut worker.pass);
     }

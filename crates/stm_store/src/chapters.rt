@@ -28,7 +28,7 @@ impl Store {
         ensures tickets { self.new.tickets ≡ kept_tickets self.old.tickets self.old.book }
         ensures chapter { self.new.chapter ≡ next_number self.old.chapter }
         ensures catalogue { self.new.catalogue.now ≡ self.old.catalogue.now }
-        ensures cells { self.new.cells.now ≡ self.old.cells.now }
+        ensures cells { self.new.cells ≡ self.old.cells }
         ensures workers { self.new.passes.items ≡ self.old.passes.items }
         ensures every { self.new.every ≡ self.old.every }
     {

@@ -10,7 +10,7 @@ use crate::store::Store;
 use crate::worker::Worker;
 use std::slice;
 use txn::{Catalogue, TxId};
-use txn_copies::same::{same_always, same_transactions};
+use txn_declarations::same::{same_always, same_transactions};
 
 impl Store {
     /// As `finish`, of a worker of any store. `OtherProgram` exactly where the worker's program says otherwise
@@ -28,15 +28,16 @@ impl Store {
         if job.chapter != self.chapter {
             return Brought::OtherChapter;
         }
+        let task = job.task;
         if !self.has(job) {
             return Brought::OtherTask;
         }
         self.book.law();
-        let tx = self.book.task_tx(job.task);
+        let tx = self.book.task_tx(task);
         if !agree_on(worker.catalogue, self.catalogue, tx) {
             return Brought::OtherProgram;
         }
-        bring(&mut self.book, &mut worker.attempt, self.every, job.task)
+        bring(&mut self.book, &mut worker.attempt, self.every, task)
     }
 }
 

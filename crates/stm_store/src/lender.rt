@@ -3,9 +3,10 @@
 ghost use Rattle.std.specs.Prelude.{◌≡◌, ◌<◌, [], None, IfSome, length};
 
 use crate::store::Store;
+use crate::worker::idle;
 use attempt::Attempt;
 use std::alloc::Global;
-use txn::{Catalogue, TxId};
+use txn::Catalogue;
 
 /// An attempt for the turns of a store, and no pass of its cells: so that the cells of a store that
 /// was opened for no worker stay as nobody reads them. It may outlive its store, and serve others.
@@ -20,7 +21,7 @@ impl Lender {
         requires { 0 < length catalogue.now.transactions }
     {
         Lender {
-            attempt: Attempt::new(alloc, catalogue, TxId(0)),
+            attempt: idle(alloc, catalogue),
         }
     }
 }

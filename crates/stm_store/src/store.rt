@@ -7,25 +7,26 @@ ghost use Rattle.txn_programs.specs.declared.limits.TheConstants.{MAX_TASKS};
 ghost use Rattle.txn_programs.specs.Listing.{tasks};
 ghost use Rattle.stm_store.specs.Working.{declaring};
 
-use crate::opening::cells_for;
+use crate::opening::{HeldPass, cells_for};
 use crate::program::Program;
 use crate::tickets::Tickets;
 use crate::worker::Worker;
 use book::Book;
-use cells::{Cells, Pass};
+use cells::SharedCells;
 use std::alloc::Global;
 use txn::{Catalogue, Memory};
 
-/// The tasks of a program, their journal, and the present values, over cells that are never let go.
-/// All calls are for one thread at a time: they stand under the host's lock.
+/// The tasks of a program, their journal, and the present values, over cells that are let go with the
+/// last of the store and its workers. All calls are for one thread at a time: they stand under the host's
+/// lock.
 #[derive(Drop)]
 pub struct Store {
     pub(crate) alloc: Global,
     pub(crate) catalogue: &'static Catalogue,
-    cells: &'static Cells,
+    cells: SharedCells<'static>,
     pub(crate) book: Book<'static>,
     /// For the workers that are still to be made.
-    passes: Vec<Pass>,
+    passes: Vec<HeldPass>,
     /// After how many entries a checkpoint is made, 0 for never.
     pub(crate) every: u32,
     /// The number of the chapter.
@@ -34,9 +35,9 @@ pub struct Store {
     pub(crate) tickets: Tickets,
     ghost declared: { declaring book.catalogue ≡ declaring catalogue.now } by { Prim.hlevel (codes, coded_listing) },
     ghost wide: { length book.catalogue.initial ≡ length catalogue.now.initial },
-    ghost shared: { book.cells ≡ cells.now },
-    ghost own: { All (λ p. p.cells ≡ cells.now) passes.items },
-    ghost counted: { cells.now.variables ≡ length catalogue.now.initial },
+    ghost shared: { book.cells ≡ cells },
+    ghost own: { All (λ p. p.cells ≡ cells) passes.items },
+    ghost counted: { cells.variables ≡ length catalogue.now.initial },
     ghost each: { length tickets.held ≡ length book.tasks },
     ghost fits: { length book.tasks + book.spare ≤ tickets.room },
     ghost room: { book.room ≤ tickets.room },
@@ -52,7 +53,7 @@ impl Store {
     /// 32. Where `every` is not 0, a commit that makes the journal at least so many entries long is
     /// followed by a checkpoint. `Memory` only where a growth was refused.
     ///
-    /// The cells' memory is kept until the process ends, as the program's is. A store with no worker has
+    /// The cells' memory is kept until the store and all its workers are let go. A store with no worker has
     /// cells that nobody reads, so that its commits store no word in them.
     pub fn open(
         alloc: Global,
@@ -61,7 +62,7 @@ impl Store {
         every: u32,
     ) -> Result<Store, Memory>
         requires { workers ≤ 32 }
-        ensures opened { IfOk result (λ s. s.book ≡ opened program.catalogue.now s.cells.now 0) }
+        ensures opened { IfOk result (λ s. s.book ≡ opened program.catalogue.now s.cells 0) }
         ensures numbers { IfOk result (λ s. AreNumbers s.tickets.held (length (tasks program.catalogue.now))) }
         ensures given { IfOk result (λ s. s.tickets.given ≡ length (tasks program.catalogue.now)) }
         ensures catalogue { IfOk result (λ s. s.catalogue.now ≡ program.catalogue.now) }
@@ -84,7 +85,7 @@ impl Store {
     ) -> Result<Store, Memory>
         requires workers { workers ≤ 32 }
         requires few { length (tasks program.catalogue.now) + spare ≤ MAX_TASKS }
-        ensures opened { IfOk result (λ s. s.book ≡ opened program.catalogue.now s.cells.now spare) }
+        ensures opened { IfOk result (λ s. s.book ≡ opened program.catalogue.now s.cells spare) }
         ensures numbers { IfOk result (λ s. AreNumbers s.tickets.held (length (tasks program.catalogue.now))) }
         ensures given { IfOk result (λ s. s.tickets.given ≡ length (tasks program.catalogue.now)) }
         ensures catalogue { IfOk result (λ s. s.catalogue.now ≡ program.catalogue.now) }
@@ -96,11 +97,7 @@ impl Store {
         let count = catalogue.tasks();
         let tickets = Tickets::first(alloc, count, count + spare)?;
         let (cells, publisher, passes) = cells_for(alloc, catalogue, workers)?;
-        let Ok(held) = Box::new(alloc, cells) else {
-            return Err(Memory);
-        };
-        let cells: &'static Cells = Box::leak(held);
-        let book = Book::open_with_room(alloc, catalogue, cells, publisher, spare)?;
+        let book = Book::open_shared(alloc, catalogue, cells.again()?, publisher, spare)?;
         Ok(Store {
             alloc,
             catalogue,
@@ -117,7 +114,7 @@ impl Store {
     /// program has no transaction; then nothing changed.
     pub fn worker(&mut self) -> Option<Worker>
         ensures of { IfSome result (λ w. w.catalogue.now ≡ self.old.catalogue.now) }
-        ensures own { IfSome result (λ w. w.cells.now ≡ self.old.cells.now) }
+        ensures own { IfSome result (λ w. w.cells ≡ self.old.cells) }
         ensures ended { IfSome result (λ w. w.ended ≡ None) }
         ensures fewer { IfSome result (λ w. length self.new.passes.items + 1 ≡ length self.old.passes.items) }
         ensures some { IfSome result (λ w. 0 < length self.old.catalogue.now.transactions) }
@@ -126,15 +123,15 @@ impl Store {
         ensures book { self.new.book ≡ self.old.book }
         ensures tickets { self.new.tickets ≡ self.old.tickets }
         ensures catalogue { self.new.catalogue.now ≡ self.old.catalogue.now }
-        ensures cells { self.new.cells.now ≡ self.old.cells.now }
+        ensures cells { self.new.cells ≡ self.old.cells }
         ensures every { self.new.every ≡ self.old.every }
         ensures chapter { self.new.chapter ≡ self.old.chapter }
     {
         if self.catalogue.tx_count() == 0 {
             return None;
         }
-        let pass = self.passes.pop()?;
-        Some(Worker::open(self.alloc, self.catalogue, self.cells, pass))
+        let held = self.passes.pop()?;
+        Some(Worker::open(self.alloc, self.catalogue, held))
     }
 
     /// The number of the chapter, from 0 on. After 2^64 chapters they are counted anew.

@@ -1,30 +1,32 @@
 //! Tasks of a store: submitted, taken, claimed, given up, and told of.
 
-ghost use Rattle.std.specs.Prelude.{◌≡◌, ◌<◌, ◌↔◌, IfSome, IsTrue, length};
-ghost use Rattle.txn_programs.specs.Listing.{tasks};
+ghost use Rattle.std.specs.Prelude.{◌≡◌, ◌<◌, ◌↔◌, IfSome, IsTrue, Some, length, slice_get};
+ghost use Rattle.txn_programs.specs.Listing.{IsCallable, task_arguments, tasks};
 ghost use Rattle.book.specs.Counting.{AreCounts};
-ghost use Rattle.stm_store.specs.Asking.{IsJob, Submits, TakesJob, Claims, Withdraws, GivesUp, TellsOutcome, TellsStanding};
+ghost use Rattle.stm_store.specs.Asking.{IsJob, Submits, TakesJob, Claims, Withdraws, GivesUp, TellsOutcome};
+ghost use Rattle.stm_store.specs.Asking.{TellsStanding};
 ghost use Rattle.stm_store.specs.Keeping.{KeepsStore, KeepsTasks};
 ghost use Rattle.stm_store.specs.Tickets.{HasTicket};
 
 use crate::job::{Job, Ticket};
 use crate::store::Store;
 use book::{Counts, Standing};
-use txn::{Outcome, TaskId, TxId};
+use txn::{Arguments, Outcome, TaskId, TxId};
+use txn_declarations::same::same_values;
 
 impl Store {
-    /// A ready task of the transaction more, with the next ticket. `None` and no change exactly
-    /// where there is no room for it, or 2^62 tickets were given. It takes no memory. The transaction has
-    /// to exist.
-    pub fn submit(&mut self, tx: TxId) -> Option<Ticket>
-        requires known { tx.0 < length self.old.catalogue.now.transactions }
-        ensures submitted { Submits self.old tx result self.new }
+    /// A ready task of the call more, with the next ticket. `None` and no change exactly where there is no
+    /// room for it, or 2^62 tickets were given. It takes no memory. The transaction has to exist, and to have
+    /// as many parameters as there are arguments.
+    pub fn submit(&mut self, tx: TxId, arguments: &[i64]) -> Option<Ticket>
+        requires known { IsCallable self.old.catalogue.now tx arguments.now }
+        ensures submitted { Submits self.old tx arguments.now result self.new }
         ensures kept { KeepsStore self.old self.new }
     {
         if self.tickets.are_used_up() {
             return None;
         }
-        let _task = self.book.submit(tx)?;
+        let _task = self.book.submit(tx, arguments)?;
         Some(self.tickets.give())
     }
 
@@ -49,12 +51,12 @@ impl Store {
         self.book.counts()
     }
 
-    /// The lowest ready task, which is then running, with the transaction that it runs. `None`
+    /// The lowest ready task, which is then running, with the call that it makes. `None`
     /// exactly if none is ready. It takes no memory.
     pub fn take(&mut self) -> Option<Job>
         ensures taken { TakesJob self.old result self.new }
         ensures exists { IfSome result (λ job. job.task.0 < length (tasks self.old.book.catalogue)) }
-        ensures known { IfSome result (λ job. job.tx.0 < length self.old.catalogue.now.transactions) }
+        ensures known { IfSome result (λ job. IsCallable self.old.catalogue.now job.tx job.arguments) }
         ensures kept { KeepsTasks self.old self.new }
     {
         let task = self.book.take()?;
@@ -65,7 +67,7 @@ impl Store {
     /// it was not ready, or is gone. It takes no memory.
     pub fn claim(&mut self, ticket: Ticket) -> Option<Job>
         ensures claimed { Claims self.old ticket result self.new }
-        ensures known { IfSome result (λ job. job.tx.0 < length self.old.catalogue.now.transactions) }
+        ensures known { IfSome result (λ job. IsCallable self.old.catalogue.now job.tx job.arguments) }
         ensures kept { KeepsTasks self.old self.new }
     {
         let task = self.tickets.task(ticket)?;
@@ -81,13 +83,15 @@ impl Store {
         ensures own { IsJob self.now result }
         ensures task { result.task ≡ task }
         ensures chapter { result.chapter ≡ self.now.chapter }
-        ensures known { result.tx.0 < length self.now.catalogue.now.transactions }
+        ensures known { IsCallable self.now.catalogue.now result.tx result.arguments }
     {
+        self.catalogue.rules();
         Job {
             ticket: self.tickets.of(task),
             chapter: self.chapter,
             task,
             tx: self.book.task_tx(task),
+            arguments: Arguments::of(self.book.task_arguments(task)),
         }
     }
 
@@ -134,10 +138,20 @@ impl Store {
         Some(self.book.standing(task))
     }
 
-    /// Whether the job is a task of this store: of its transaction, and with its ticket.
+    /// Whether the job is a task of this store: of its call, and with its ticket.
     pub(crate) fn has(&self, job: Job) -> bool
         ensures { IsTrue result ↔ IsJob self.now job }
     {
-        self.tickets.has(job.task, job.ticket) && self.book.runs(job.task, job.tx)
+        self.tickets.has(job.task, job.ticket) && self.makes_call(job)
+    }
+
+    /// Whether the job's task makes its call.
+    fn makes_call(&self, job: Job) -> bool
+        requires { job.task.0 < length self.now.book.tasks }
+        ensures { IsTrue result ↔ (slice_get (tasks self.now.book.catalogue) job.task.0 ≡ Some job.tx)
+            × (task_arguments self.now.book.catalogue job.task ≡ job.arguments) }
+    {
+        self.book.runs(job.task, job.tx)
+            && same_values(self.book.task_arguments(job.task), job.arguments.as_slice())
     }
 }

@@ -1,6 +1,7 @@
 //! The tickets of the tasks of a chapter.
 
-ghost use Rattle.std.specs.Prelude.{◌≡◌, ◌<◌, ◌≤◌, ◌+◌, ◌++◌, ◌∷◌, [], length, IfOk, IsTrue, ◌↔◌, Some, slice_get, slice_set, vec_len, vec_capacity};
+ghost use Rattle.std.specs.Prelude.{◌≡◌, ◌<◌, ◌≤◌, ◌+◌, ◌++◌, ◌∷◌, [], length, IfOk, IsTrue, ◌↔◌, Some, slice_get};
+ghost use Rattle.std.specs.Prelude.{slice_set, vec_len, vec_capacity};
 ghost use Rattle.std.specs.Bool.{OnFalse};
 ghost use Rattle.txn_programs.specs.declared.limits.TheConstants.{MAX_TASKS};
 ghost use Rattle.book.specs.Tasks.{Task};
@@ -39,7 +40,8 @@ impl Model for Tickets {
 }
 
 impl Tickets {
-    ghost use Rattle.stm_store.specs.Tickets.{HasTicket, IsTaskOf, AreNumbers, AreTickets, most_tickets, with_next, kept_tickets};
+    ghost use Rattle.stm_store.specs.Tickets.{HasTicket, IsTaskOf, AreNumbers, AreTickets, most_tickets, with_next};
+    ghost use Rattle.stm_store.specs.Tickets.{kept_tickets};
 
     /// The first chapter's: of so many tasks, each with its number, and with room for so many in all.
     pub(crate) fn first(alloc: Global, count: usize, room: usize) -> Result<Tickets, AllocError>
@@ -138,20 +140,27 @@ fn note(held: &mut Vec<u64>, ticket: u64)
     }
 }
 
-/// The tickets of the tasks of the book that stay in its next chapter, in their order.
+/// The tickets of the tasks of the book that stay in its next chapter, in their order. Behind the last of
+/// them it looks at no task.
 fn keep_staying(held: &mut Vec<u64>, book: &Book<'_>)
     requires each { length held.old.items ≡ length book.now.tasks }
     requires few { length held.old.items ≤ MAX_TASKS }
     ensures items { held.new.items ≡ staying held.old.items book.now.tasks }
     ensures capacity { vec_capacity held.new ≡ vec_capacity held.old }
 {
+    let count = book.staying();
+    if count == held.len() {
+        return;
+    }
     let mut kept = 0;
-    'tasks: for i in 0..held.len() {
+    let mut i = 0;
+    'tasks: while kept < count {
         if stays(book, TaskId(i as u32)) {
             let ticket = held[i];
             put(held, kept, ticket);
             kept += 1;
         }
+        i += 1;
     }
     held.truncate(kept);
 }

@@ -33,7 +33,8 @@ const COMES_OVER: &[Step] = &[
     Step::Withdraws(2, false),
     Step::Claims(0, None),
     Step::Shows(Look::File(
-        "(var n 7)\n(tx inc (set n (add n 7)) n)\n(tx more (set n (add n 93)) n)\n(tx wait (if (eq n 0) (retry) (skip)) n)\n(tx hold (if (lt n 100) (retry) (skip)) n)\n(run hold 1)\n",
+        "(var n 7)\n(tx inc (set n (add n 7)) n)\n(tx more (set n (add n 93)) n)\n(tx wait (if (eq n 0) (retry) \
+            (skip)) n)\n(tx hold (if (lt n 100) (retry) (skip)) n)\n(run hold 1)\n",
     )),
     Step::Shows(Look::Report("base 0\nn 7 0\nnow 0\nn 7 0\nparked 0 hold\nend\n")),
     Step::Shows(Look::Good),

@@ -1,6 +1,7 @@
 //! Whose attempt a store is lent.
 
-ghost use Rattle.std.specs.Prelude.{◌<◌, ◌↔◌, IsTrue, length};
+ghost use Rattle.std.specs.Prelude.{◌↔◌, [], IsTrue};
+ghost use Rattle.txn_programs.specs.Listing.{IsCallable};
 
 use stm_store::{Called, Lender, Store, Turned, Worker};
 use txn::TxId;
@@ -20,11 +21,11 @@ pub(crate) fn lending(store: &mut Store, worker: bool) -> Option<By> {
     Some(By::Lender(store.lender()?))
 }
 
-/// Whether there is such a transaction.
+/// Whether the transaction can be called without arguments.
 pub(crate) fn has(store: &Store, tx: TxId) -> bool
-    ensures { IsTrue result ↔ (tx.0 < length store.now.catalogue.now.transactions) }
+    ensures { IsTrue result ↔ IsCallable store.now.catalogue.now tx [] }
 {
-    (tx.0 as usize) < store.catalogue().tx_count()
+    store.catalogue().is_callable(tx, &[])
 }
 
 pub(crate) fn turn(store: &mut Store, by: &mut By) -> Option<Turned> {
@@ -47,8 +48,8 @@ pub(crate) fn call(store: &mut Store, by: &mut By, tx: TxId) -> Option<Called> {
         return None;
     }
     match by {
-        By::Worker(worker) => Some(store.call(worker, tx)),
-        By::Lender(lender) => Some(store.call_lent(lender, tx)),
+        By::Worker(worker) => Some(store.call(worker, tx, &[])),
+        By::Lender(lender) => Some(store.call_lent(lender, tx, &[])),
     }
 }
 
@@ -58,7 +59,7 @@ pub(crate) fn try_call(store: &mut Store, by: &mut By, tx: TxId) -> Option<Calle
         return None;
     }
     match by {
-        By::Worker(worker) => Some(store.try_call(worker, tx)),
-        By::Lender(lender) => Some(store.try_call_lent(lender, tx)),
+        By::Worker(worker) => Some(store.try_call(worker, tx, &[])),
+        By::Lender(lender) => Some(store.try_call_lent(lender, tx, &[])),
     }
 }

@@ -8,7 +8,7 @@ use stm_store::{Called, End, Served, Store, Ticket};
 use txn::TxId;
 
 /// How many calls a chapter has room for.
-const ROOM: usize = 1000;
+const TASK_ROOM: usize = 1000;
 
 /// Whether so many calls of the first transaction are entered one after another, and then there is no room.
 fn fills(store: &mut Store, by: &mut By, count: usize) -> bool {
@@ -23,8 +23,8 @@ fn fills(store: &mut Store, by: &mut By, count: usize) -> bool {
 
 /// The next task has this ticket, and is entered by it.
 fn opens(rt: &impl Abort, store: &mut Store, ticket: Ticket) {
-    assert!(rt; store.catalogue().tx_count() == 3);
-    assert!(rt; store.submit(TxId(1)) == Some(ticket));
+    assert!(rt; store.catalogue().is_callable(TxId(1), &[]));
+    assert!(rt; store.submit(TxId(1), &[]) == Some(ticket));
     assert!(rt; store.claim(ticket).is_some());
     assert!(rt; matches!(store.serial(ticket), Served::Committed(_)));
 }
@@ -36,15 +36,15 @@ fn what_waits_stays_through_many_chapters(rt: HostRuntime) {
         file: MANY,
         workers: 0,
         every: 0,
-        spare: ROOM,
+        spare: TASK_ROOM,
     };
     let Host { mut store, mut by } = opened(&rt, rt.alloc(), opening, false);
     assert!(rt; turns(&mut store, &mut by, 40) == 40);
     for chapter in 0..100 {
         assert!(rt; store.chapter() == chapter);
-        assert!(rt; fills(&mut store, &mut by, ROOM));
+        assert!(rt; fills(&mut store, &mut by, TASK_ROOM));
         store.begin_chapter();
-        assert!(rt; store.spare() == ROOM);
+        assert!(rt; store.spare() == TASK_ROOM);
         assert!(rt; store.tasks() == 40);
     }
     assert!(rt; store.entered() == 100000);

@@ -22,9 +22,23 @@ fn opened(rt: &impl Abort, alloc: Global, file: &str) -> (Store, Worker) {
     }
 }
 
+/// The job of the first task that was declared.
+fn first() -> Job {
+    job(At(0, 0, 0, 0))
+}
+
+/// The job of the second task that was declared, of the second transaction.
+fn second() -> Job {
+    job(At(1, 0, 1, 0))
+}
+
 /// The worker tries this job to its end.
 fn tries(rt: &impl Abort, worker: &mut Worker, job: Job) {
-    assert!(rt; (job.tx.0 as usize) < worker.catalogue().tx_count());
+    assert!(rt;
+        worker
+            .catalogue()
+            .is_callable(job.tx, job.arguments.as_slice())
+    );
     assert!(rt; worker.try_job(job) == Tried::Ended);
 }
 
@@ -38,36 +52,35 @@ fn brought(rt: &impl Abort, store: &mut Store, worker: &mut Worker, job: Job) ->
 fn an_attempt_is_brought_once(rt: HostRuntime) {
     let (mut store, mut worker) = opened(&rt, rt.alloc(), TWO);
     assert!(rt; store.finish_of_any(&mut worker) == Brought::NotEnded);
-    let first = job(At(0, 0, 0, 0));
     // It was not taken.
-    assert!(rt; brought(&rt, &mut store, &mut worker, first) == Brought::NotRunning);
-    assert!(rt; store.take() == Some(first));
-    assert!(rt; brought(&rt, &mut store, &mut worker, first) == Brought::Committed(returned(1, 6)));
+    assert!(rt; brought(&rt, &mut store, &mut worker, first()) == Brought::NotRunning);
+    assert!(rt; store.take() == Some(first()));
+    assert!(rt;
+        brought(&rt, &mut store, &mut worker, first()) == Brought::Committed(returned(1, 6))
+    );
     assert!(rt; store.finish_of_any(&mut worker) == Brought::NotEnded);
-    assert!(rt; brought(&rt, &mut store, &mut worker, first) == Brought::NotRunning);
+    assert!(rt; brought(&rt, &mut store, &mut worker, first()) == Brought::NotRunning);
 }
 
 #[test]
 fn what_was_changed_meanwhile_is_stale(rt: HostRuntime) {
     let (mut store, mut worker) = opened(&rt, rt.alloc(), TWO);
-    let (first, second) = (job(At(0, 0, 0, 0)), job(At(1, 0, 1, 0)));
-    assert!(rt; store.take() == Some(first));
-    assert!(rt; store.take() == Some(second));
-    tries(&rt, &mut worker, second);
-    assert!(rt; matches!(store.serial(first.ticket), Served::Committed(_)));
+    assert!(rt; store.take() == Some(first()));
+    assert!(rt; store.take() == Some(second()));
+    tries(&rt, &mut worker, second());
+    assert!(rt; matches!(store.serial(first().ticket), Served::Committed(_)));
     assert!(rt; store.finish_of_any(&mut worker) == Brought::Stale);
     assert!(rt;
-        brought(&rt, &mut store, &mut worker, second) == Brought::Committed(returned(2, 7))
+        brought(&rt, &mut store, &mut worker, second()) == Brought::Committed(returned(2, 7))
     );
 }
 
 #[test]
 fn an_attempt_that_retries_is_parked(rt: HostRuntime) {
     let (mut store, mut worker) = opened(&rt, rt.alloc(), WAITS);
-    let first = job(At(0, 0, 0, 0));
-    assert!(rt; store.take() == Some(first));
-    assert!(rt; brought(&rt, &mut store, &mut worker, first) == Brought::Parked);
-    assert!(rt; brought(&rt, &mut store, &mut worker, first) == Brought::NotRunning);
+    assert!(rt; store.take() == Some(first()));
+    assert!(rt; brought(&rt, &mut store, &mut worker, first()) == Brought::Parked);
+    assert!(rt; brought(&rt, &mut store, &mut worker, first()) == Brought::NotRunning);
 }
 
 #[test]
@@ -87,11 +100,10 @@ fn a_job_is_of_its_task_and_its_ticket(rt: HostRuntime) {
 #[test]
 fn a_job_of_an_earlier_chapter_is_refused(rt: HostRuntime) {
     let (mut store, mut worker) = opened(&rt, rt.alloc(), TWO);
-    let first = job(At(0, 0, 0, 0));
-    assert!(rt; store.take() == Some(first));
+    assert!(rt; store.take() == Some(first()));
     store.begin_chapter();
     assert!(rt; store.take() == Some(job(At(0, 1, 0, 0))));
-    assert!(rt; brought(&rt, &mut store, &mut worker, first) == Brought::OtherChapter);
+    assert!(rt; brought(&rt, &mut store, &mut worker, first()) == Brought::OtherChapter);
     assert!(rt;
         brought(&rt, &mut store, &mut worker, job(At(0, 1, 0, 0)))
             == Brought::Committed(returned(1, 6))

@@ -5,7 +5,7 @@ use crate::looks::{Look, shows};
 use std::alloc::Global;
 use std::process::Abort;
 use stm_store::{Called, End, Entered, Job, Program, Served, Store, Ticket, Turned};
-use txn::{Fault, Outcome, TaskId, TxId};
+use txn::{Arguments, Fault, Outcome, TaskId, TxId};
 
 /// A job: its ticket, its chapter, the number of its task there, and its transaction.
 #[derive(Clone, Copy)]
@@ -54,6 +54,7 @@ pub(crate) fn job(at: At) -> Job {
         chapter: at.1,
         task: TaskId(at.2),
         tx: TxId(at.3),
+        arguments: Arguments::none(),
     }
 }
 
@@ -112,7 +113,7 @@ pub(crate) struct Host {
 
 /// Whether to submit the transaction answers so.
 fn submits(store: &mut Store, tx: TxId, ticket: Option<u64>) -> bool {
-    has(store, tx) && store.submit(tx) == ticket.map(Ticket)
+    has(store, tx) && store.submit(tx, &[]) == ticket.map(Ticket)
 }
 
 /// Whether the call on one task is answered so.

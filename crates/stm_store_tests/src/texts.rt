@@ -10,20 +10,26 @@ pub(crate) const WAITS: &str =
 /// One task waits for n to be another value than 0, one for 100 or more, one adds 7. The transactions,
 /// from 0 on: add 7, add 93, the first that waits, the second.
 pub(crate) const HOLDS: &str =
-    "(var n 0)(tx inc (set n (add n 7)) n)(tx more (set n (add n 93)) n)(tx wait (if (eq n 0) (retry) (skip)) n)(tx hold (if (lt n 100) (retry) (skip)) n)(run wait 1)(run hold 1)(run inc 1)";
+    "(var n 0)(tx inc (set n (add n 7)) n)(tx more (set n (add n 93)) n)(tx wait (if (eq n 0) (retry) (skip)) n)(tx \
+        hold (if (lt n 100) (retry) (skip)) n)(run wait 1)(run hold 1)(run inc 1)";
 
 /// A counter, a gate, and 40 tasks that wait for it. The transactions: count, open the gate, wait.
 pub(crate) const MANY: &str =
-    "(var n 0)(var gate 0)(var out 0)(tx inc (set n (add n 1)) n)(tx open (set gate 1) 0)(tx wait (if (eq gate 0) (retry) (set out (add out n))) out)(run wait 40)";
+    "(var n 0)(var gate 0)(var out 0)(tx inc (set n (add n 1)) n)(tx open (set gate 1) 0)(tx wait (if (eq gate 0) \
+        (retry) (set out (add out n))) out)(run wait 40)";
 
 /// Tasks that wait for different variables stand between others that end. The transactions: the three that
 /// wait, none, set a, set b.
 pub(crate) const MIXED: &str =
-    "(var a 0)(var b 0)(tx wait_a (if (eq a 0) (retry) (skip)) a)(tx wait_b (if (eq b 0) (retry) (skip)) b)(tx wait_ab (if (eq a 0) (if (eq b 0) (retry) (skip)) (skip)) (add a b))(tx none (skip) 0)(tx set_a (set a 1) 1)(tx set_b (set b 2) 2)(run none 3)(run wait_a 2)(run none 1)(run wait_b 2)(run none 70)(run wait_ab 2)(run none 2)(run wait_a 1)";
+    "(var a 0)(var b 0)(tx wait_a (if (eq a 0) (retry) (skip)) a)(tx wait_b (if (eq b 0) (retry) (skip)) b)(tx \
+        wait_ab (if (eq a 0) (if (eq b 0) (retry) (skip)) (skip)) (add a b))(tx none (skip) 0)(tx set_a (set a 1) \
+        1)(tx set_b (set b 2) 2)(run none 3)(run wait_a 2)(run none 1)(run wait_b 2)(run none 70)(run wait_ab \
+        2)(run none 2)(run wait_a 1)";
 
 /// What throws, what breaks a condition, and what goes out of range.
 pub(crate) const FAULTS: &str =
-    "(stm 2)(var n 7)(always low (lt n 10))(tx throws (seq (set n 8) (throw n)) 0)(tx breaks (set n 10) n)(tx over (skip) (add 9223372036854775807 n))(tx fine (set n 9) n)";
+    "(stm 2)(var n 7)(always low (lt n 10))(tx throws (seq (set n 8) (throw n)) 0)(tx breaks (set n 10) n)(tx over \
+        (skip) (add 9223372036854775807 n))(tx fine (set n 9) n)";
 
 /// A program that declares nothing.
 pub(crate) const NOTHING: &str = "";

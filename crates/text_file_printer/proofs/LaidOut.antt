@@ -1,19 +1,19 @@
 -- The canonical text of a tree is its tokens, laid out.
-use Rattle.std.proofs.Common.{◌≡◌, ◌∙◌, ℕ, suc, List, [], ◌∷◌, ◌++◌, refl, sym, ap, subst, append_assoc}
+use Rattle.std.proofs.Common.{◌≡◌, ◌∙◌, ℕ, suc, List, [], ◌∷◌, ◌++◌, map, refl, sym, ap, subst, append_assoc}
 use Rattle.std.specs.Prelude.{ℤ, pos, codes}
 use Rattle.std.specs.Fmt.{signed_decimal}
 use Rattle.std.specs.List.{flat_map}
 use Rattle.std.proofs.lemmas.List.{append-nil}
 use Rattle.text_words.specs.Tokens.{Lexeme, Opens, Closes}
 use Rattle.text_words.specs.Tokens as token
-use Rattle.text_grammar.specs.Tree.{Expr, Cond, Stmt, Stmts, NoStmts, MoreStmts, Pair, Always, Declaration, File, form, expr_tokens, cond_tokens, stmt_tokens, stmts_tokens, pair_tokens, always_tokens, tx_tokens, heading_tokens, file_tokens, operator_word, comparison_word, connective_word, keyword_word}
+use Rattle.text_grammar.specs.Tree.{Expr, Cond, Stmt, Stmts, NoStmts, MoreStmts, Pair, Always, Declaration, Run, File, form, expr_tokens, cond_tokens, stmt_tokens, stmts_tokens, pair_tokens, always_tokens, list_tokens, tx_tokens, run_tokens, heading_tokens, file_tokens, operator_word, comparison_word, connective_word, keyword_word}
 use Rattle.text_grammar.specs.Tree as f
 use Rattle.text_grammar.specs.declared.words.Keyword.TheVariants as keyword
 use Rattle.text_grammar.specs.declared.file.FileForm.{FileForm}
-use Rattle.text_grammar.specs.declared.file.FileForm.TheVariants.{One, Two}
-use Rattle.text_file_printer.specs.Canonical.{form_text, spaced, expr_text, cond_text, stmt_text, stmts_text, pair_line, always_line, tx_line, heading_text, text_of}
+use Rattle.text_grammar.specs.declared.file.FileForm.TheVariants.{One, Two, Three}
+use Rattle.text_file_printer.specs.Canonical.{form_text, spaced, expr_text, cond_text, stmt_text, stmts_text, pair_line, always_line, list_text, tx_line, spaced_integer, run_line, heading_text, text_of}
 use Rattle.text_file_printer.specs.Layout.{space_before, laid_out_in, laid_out}
-use Rattle.text_file_printer.proofs.Spellings.{two_printed}
+use Rattle.text_file_printer.proofs.Spellings.{two_printed, three_printed}
 
 -- tokens laid out behind a token that is no parenthesis, or behind one that closes
 abbrev rest_of : ℕ → List Lexeme → List ℕ
@@ -116,25 +116,51 @@ pair_laid word p = line_laid word (token.Name p.name ∷ token.Int p.value ∷ [
 always_laid : (a : Always) → Lines (always_tokens a) (always_line a)
 always_laid a = line_laid (codes "always") (token.Name a.name ∷ cond_tokens a.condition) _ (both (token.Name a.name ∷ []) (cond_tokens a.condition) _ _ (name a.name) (cond_laid a.condition))
 
-tx_laid : (t : Declaration) → Lines (tx_tokens t) (tx_line t)
-tx_laid t =
-    line_laid (codes "tx") (token.Name t.name ∷ (stmt_tokens t.body ++ expr_tokens t.value)) _
-    (both (token.Name t.name ∷ []) (stmt_tokens t.body ++ expr_tokens t.value) _ _ (name t.name)
-    (both (stmt_tokens t.body) (expr_tokens t.value) _ _ (stmt_laid t.body) (expr_laid t.value)))
+-- names and integers, each behind a space
+names_laid : (names : List (List ℕ)) → Laid (map token.Name names) (flat_map spaced names)
+names_laid [] = none
+names_laid (text ∷ names) = both (token.Name text ∷ []) (map token.Name names) _ _ (name text) (names_laid names)
+
+integers_laid : (values : List ℤ) → Laid (map token.Int values) (flat_map spaced_integer values)
+integers_laid [] = none
+integers_laid (value ∷ values) = both (token.Int value ∷ []) (map token.Int values) _ _ (int value) (integers_laid values)
+
+list_laid : (announced : FileForm) (names : List (List ℕ)) → Laid (list_tokens announced names) (list_text announced names)
+list_laid One names = none
+list_laid Two names = none
+list_laid Three [] = record { within = λ n rest. refl }
+list_laid Three (text ∷ names) = form_laid text (map token.Name names) (flat_map spaced names) (names_laid names)
+
+tx_laid : (announced : FileForm) (t : Declaration) → Lines (tx_tokens announced t) (tx_line announced t)
+tx_laid announced t =
+    line_laid (codes "tx") (token.Name t.name ∷ (list_tokens announced t.parameters ++ (stmt_tokens t.body ++ expr_tokens t.value))) _
+    (both (token.Name t.name ∷ []) (list_tokens announced t.parameters ++ (stmt_tokens t.body ++ expr_tokens t.value)) _ _ (name t.name)
+    (both (list_tokens announced t.parameters) (stmt_tokens t.body ++ expr_tokens t.value) _ _ (list_laid announced t.parameters)
+    (both (stmt_tokens t.body) (expr_tokens t.value) _ _ (stmt_laid t.body) (expr_laid t.value))))
+
+run_laid : (r : Run) → Lines (run_tokens r) (run_line r)
+run_laid r =
+    line_laid (codes "run") (token.Name r.name ∷ token.Int r.count ∷ map token.Int r.arguments) _
+    (both (token.Name r.name ∷ []) (token.Int r.count ∷ map token.Int r.arguments) _ _ (name r.name)
+    (both (token.Int r.count ∷ []) (map token.Int r.arguments) _ _ (int r.count) (integers_laid r.arguments)))
 
 heading_laid : (form : FileForm) → Lines (heading_tokens form) (heading_text form)
 heading_laid One = no_lines
 heading_laid Two =
     subst (λ (digits : List ℕ). Lines (heading_tokens Two) (form_text (codes "stm") (spaced digits) ++ codes "\n")) two_printed
     (line_laid (codes "stm") (token.Int (pos 2) ∷ []) (spaced (signed_decimal (pos 2))) (int (pos 2)))
+heading_laid Three =
+    subst (λ (digits : List ℕ). Lines (heading_tokens Three) (form_text (codes "stm") (spaced digits) ++ codes "\n")) three_printed
+    (line_laid (codes "stm") (token.Int (pos 3) ∷ []) (spaced (signed_decimal (pos 3))) (int (pos 3)))
 
 file_laid : (file : File) → Lines (file_tokens file) (text_of file)
 file_laid file =
     both_lines (heading_tokens file.form) _ (heading_text file.form) _ (heading_laid file.form)
     (both_lines (flat_map (pair_tokens (codes "var")) file.vars) _ (flat_map (pair_line (codes "var")) file.vars) _ (lines_of (pair_line (codes "var")) (pair_tokens (codes "var")) (pair_laid (codes "var")) file.vars)
     (both_lines (flat_map always_tokens file.always) _ (flat_map always_line file.always) _ (lines_of always_line always_tokens always_laid file.always)
-    (both_lines (flat_map tx_tokens file.txs) (flat_map (pair_tokens (codes "run")) file.runs) (flat_map tx_line file.txs) (flat_map (pair_line (codes "run")) file.runs) (lines_of tx_line tx_tokens tx_laid file.txs)
-    (lines_of (pair_line (codes "run")) (pair_tokens (codes "run")) (pair_laid (codes "run")) file.runs))))
+    (both_lines (flat_map (tx_tokens file.form) file.txs) (flat_map run_tokens file.runs) (flat_map (tx_line file.form) file.txs) (flat_map run_line file.runs)
+    (lines_of (tx_line file.form) (tx_tokens file.form) (tx_laid file.form) file.txs)
+    (lines_of run_line run_tokens run_laid file.runs))))
 
 pub text_is_laid_out : (file : File) → text_of file ≡ laid_out (file_tokens file)
 text_is_laid_out file = sym (ap laid_out (sym (append-nil (file_tokens file))) ∙ (file_laid file).by [] ∙ append-nil (text_of file))

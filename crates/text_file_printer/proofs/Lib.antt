@@ -1,5 +1,6 @@
 pub mod Variables
 pub mod Known
+pub mod Listed
 pub mod Spelled
 pub mod WordForms
 pub mod Spellings

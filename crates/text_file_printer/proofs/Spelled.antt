@@ -49,6 +49,10 @@ word_read (b ∷ bs) rest t w e = tokens-text b bs rest w.bytes e ∙ ap (λ (u 
 pub word_reads : (text : List ℕ) (t : Lexeme) → IsWord text t → Reads text (t ∷ [])
 word_reads text t w = record { allowed = w.allowed; read = λ rest e. word_read text rest t w e }
 
+-- an empty list
+pub empty_reads : Reads (codes "()") (Opens ∷ Closes ∷ [])
+empty_reads = record { allowed = refl; read = λ rest e. tokens-open (41 ∷ rest) ∙ ap (λ (x : List Lexeme). Opens ∷ x) (tokens-close rest) }
+
 pub spaced_follows : (text : List ℕ) (ts : List Lexeme) → Reads text ts → Follows (spaced text) ts
 spaced_follows text ts r =
     record {

@@ -1,14 +1,16 @@
 -- The canonical text of each form is read as the form's tokens.
-use Rattle.std.proofs.Common.{◌≡◌, ℕ, ◌<◌, true, List, [], ◌∷◌, ◌++◌, length, get_or, refl, subst, lit<, arith}
+use Rattle.std.proofs.Common.{◌≡◌, ℕ, ◌<◌, true, List, [], ◌∷◌, ◌++◌, length, get_or, map, refl, subst, lit<, arith}
 use Rattle.std.specs.Prelude.{ℤ, pos, codes, FitsSigned}
 use Rattle.std.specs.Int.{w64}
 use Rattle.std.specs.Fmt.{signed_decimal}
-use Rattle.std.specs.List.{list_all}
+use Rattle.std.specs.List.{list_all, flat_map, AllByRecursion}
 use Rattle.std.proofs.lemmas.Fmt.{decimal_digit}
 use Rattle.std.proofs.lemmas.Option.{slice_get-get_or}
 use Rattle.txn_programs.specs.Tree.{Expression, Condition, Statement, Statements, Transaction}
 use Rattle.txn_programs.specs.Tree as t
-use Rattle.txn_programs.specs.Scope.{ExpressionKnown, ConditionKnown, StatementKnown, StatementsKnown}
+use Rattle.std.proofs.lemmas.Bool.{and_parts}
+use Rattle.text_grammar.specs.Scope.{Scope, standing, inside}
+use Rattle.text_file_printer.specs.Named.{ExpressionNamed, ConditionNamed, StatementNamed, StatementsNamed}
 use Rattle.txn_programs.specs.Names.{is_name}
 use Rattle.txn_programs.proofs.Lawful.{passes_at}
 use Rattle.text_grammar.specs.declared.words.Operator.{Operator}
@@ -20,15 +22,15 @@ use Rattle.text_grammar.specs.declared.words.Connective.TheVariants as connectiv
 use Rattle.text_grammar.specs.declared.words.Keyword.{Keyword}
 use Rattle.text_grammar.specs.declared.words.Keyword.TheVariants as keyword
 use Rattle.text_grammar.specs.declared.file.FileForm.{FileForm}
-use Rattle.text_grammar.specs.declared.file.FileForm.TheVariants.{One, Two}
-use Rattle.text_words.specs.Tokens.{Lexeme}
+use Rattle.text_grammar.specs.declared.file.FileForm.TheVariants.{One, Two, Three}
+use Rattle.text_words.specs.Tokens.{Lexeme, Opens, Closes}
 use Rattle.text_words.specs.Tokens as token
-use Rattle.text_grammar.specs.Tree.{Expr, Cond, Stmt, Stmts, Pair, Always, Declaration, form, operator_word, comparison_word, connective_word, keyword_word, expr_tokens, cond_tokens, stmt_tokens, stmts_tokens, pair_tokens, always_tokens, tx_tokens, heading_tokens}
+use Rattle.text_grammar.specs.Tree.{Expr, Cond, Stmt, Stmts, Pair, Always, Declaration, Run, form, operator_word, comparison_word, connective_word, keyword_word, expr_tokens, cond_tokens, stmt_tokens, stmts_tokens, pair_tokens, always_tokens, list_tokens, tx_tokens, run_tokens, heading_tokens}
 use Rattle.text_grammar.specs.Tree as f
 use Rattle.text_grammar.specs.Written.{name_at, written_expression, written_condition, written_statement, written_statements, written_always, written_transaction}
-use Rattle.text_file_printer.specs.Canonical.{form_text, spaced, expr_text, cond_text, stmt_text, stmts_text, heading_text, pair_line, always_line, tx_line}
-use Rattle.text_file_printer.specs.Fits.{ExprFits, CondFits, StmtFits, StmtsFit, PairFits, AlwaysFits, DeclarationFits}
-use Rattle.text_file_printer.proofs.Spelled.{IsWord, Reads, Follows, Lines, word_reads, spaced_follows, none_follows, both_follow, form_reads, line_of, none_lines}
+use Rattle.text_file_printer.specs.Canonical.{form_text, spaced, expr_text, cond_text, stmt_text, stmts_text, heading_text, pair_line, always_line, list_text, tx_line, spaced_integer, run_line}
+use Rattle.text_file_printer.specs.Fits.{ExprFits, CondFits, StmtFits, StmtsFit, PairFits, AlwaysFits, DeclarationFits, RunFits}
+use Rattle.text_file_printer.proofs.Spelled.{IsWord, Reads, Follows, Lines, word_reads, empty_reads, spaced_follows, none_follows, both_follow, form_reads, line_of, none_lines}
 use Rattle.text_file_printer.proofs.WordForms.{name_word, int_word}
 
 -- ---- words
@@ -107,19 +109,25 @@ three a b c ts us vs p q r = both_follow (spaced a) (spaced b ++ spaced c) ts (u
 
 -- ---- expressions
 
+-- each name of a scope has the form of one
+pub record AreNames (names : Scope) : Type 0 where
+  pub variables : list_all is_name names.variables ≡ true
+  pub parameters : list_all is_name names.parameters ≡ true
+
 binary : (op : Operator) (l r : Expr) → Reads (expr_text l) (expr_tokens l) → Reads (expr_text r) (expr_tokens r) → Reads (expr_text (f.Binary op l r)) (expr_tokens (f.Binary op l r))
 binary op l r p q =
     form_reads (operator_word op) (spaced (expr_text l) ++ spaced (expr_text r)) (expr_tokens l ++ expr_tokens r) (operator_is_word op)
     (two (expr_text l) (expr_text r) (expr_tokens l) (expr_tokens r) p q)
 
-pub expr_reads : (ns : List (List ℕ)) → list_all is_name ns ≡ true → (e : Expression) → ExpressionKnown (length ns) e → ExprFits (written_expression ns e) → Reads (expr_text (written_expression ns e)) (expr_tokens (written_expression ns e))
-expr_reads ns forms (t.Int n) k h = number n h
-expr_reads ns forms (t.Var x) k h = named ns x.0 forms k
-expr_reads ns forms (t.Add a b) k h = binary operator.Add (written_expression ns a) (written_expression ns b) (expr_reads ns forms a k.0 h.0) (expr_reads ns forms b k.1 h.1)
-expr_reads ns forms (t.Sub a b) k h = binary operator.Sub (written_expression ns a) (written_expression ns b) (expr_reads ns forms a k.0 h.0) (expr_reads ns forms b k.1 h.1)
-expr_reads ns forms (t.Mul a b) k h = binary operator.Mul (written_expression ns a) (written_expression ns b) (expr_reads ns forms a k.0 h.0) (expr_reads ns forms b k.1 h.1)
-expr_reads ns forms (t.Div a b) k h = binary operator.Div (written_expression ns a) (written_expression ns b) (expr_reads ns forms a k.0 h.0) (expr_reads ns forms b k.1 h.1)
-expr_reads ns forms (t.Rem a b) k h = binary operator.Rem (written_expression ns a) (written_expression ns b) (expr_reads ns forms a k.0 h.0) (expr_reads ns forms b k.1 h.1)
+pub expr_reads : (names : Scope) → AreNames names → (e : Expression) → ExpressionNamed names e → ExprFits (written_expression names e) → Reads (expr_text (written_expression names e)) (expr_tokens (written_expression names e))
+expr_reads names forms (t.Int n) k h = number n h
+expr_reads names forms (t.Var x) k h = named names.variables x.0 forms.variables k
+expr_reads names forms (t.Param p) k h = named names.parameters p.0 forms.parameters k
+expr_reads names forms (t.Add a b) k h = binary operator.Add (written_expression names a) (written_expression names b) (expr_reads names forms a k.0 h.0) (expr_reads names forms b k.1 h.1)
+expr_reads names forms (t.Sub a b) k h = binary operator.Sub (written_expression names a) (written_expression names b) (expr_reads names forms a k.0 h.0) (expr_reads names forms b k.1 h.1)
+expr_reads names forms (t.Mul a b) k h = binary operator.Mul (written_expression names a) (written_expression names b) (expr_reads names forms a k.0 h.0) (expr_reads names forms b k.1 h.1)
+expr_reads names forms (t.Div a b) k h = binary operator.Div (written_expression names a) (written_expression names b) (expr_reads names forms a k.0 h.0) (expr_reads names forms b k.1 h.1)
+expr_reads names forms (t.Rem a b) k h = binary operator.Rem (written_expression names a) (written_expression names b) (expr_reads names forms a k.0 h.0) (expr_reads names forms b k.1 h.1)
 
 -- ---- conditions
 
@@ -133,15 +141,15 @@ connect op l r p q =
     form_reads (connective_word op) (spaced (cond_text l) ++ spaced (cond_text r)) (cond_tokens l ++ cond_tokens r) (connective_is_word op)
     (two (cond_text l) (cond_text r) (cond_tokens l) (cond_tokens r) p q)
 
-pub cond_reads : (ns : List (List ℕ)) → list_all is_name ns ≡ true → (c : Condition) → ConditionKnown (length ns) c → CondFits (written_condition ns c) → Reads (cond_text (written_condition ns c)) (cond_tokens (written_condition ns c))
-cond_reads ns forms (t.Eq a b) k h = compare comparison.Eq (written_expression ns a) (written_expression ns b) (expr_reads ns forms a k.0 h.0) (expr_reads ns forms b k.1 h.1)
-cond_reads ns forms (t.Lt a b) k h = compare comparison.Lt (written_expression ns a) (written_expression ns b) (expr_reads ns forms a k.0 h.0) (expr_reads ns forms b k.1 h.1)
-cond_reads ns forms (t.Le a b) k h = compare comparison.Le (written_expression ns a) (written_expression ns b) (expr_reads ns forms a k.0 h.0) (expr_reads ns forms b k.1 h.1)
-cond_reads ns forms (t.Not c) k h =
-    form_reads (codes "not") (spaced (cond_text (written_condition ns c))) (cond_tokens (written_condition ns c)) not_is_word
-    (spaced_follows (cond_text (written_condition ns c)) (cond_tokens (written_condition ns c)) (cond_reads ns forms c k h))
-cond_reads ns forms (t.And c d) k h = connect connective.And (written_condition ns c) (written_condition ns d) (cond_reads ns forms c k.0 h.0) (cond_reads ns forms d k.1 h.1)
-cond_reads ns forms (t.Or c d) k h = connect connective.Or (written_condition ns c) (written_condition ns d) (cond_reads ns forms c k.0 h.0) (cond_reads ns forms d k.1 h.1)
+pub cond_reads : (names : Scope) → AreNames names → (c : Condition) → ConditionNamed names c → CondFits (written_condition names c) → Reads (cond_text (written_condition names c)) (cond_tokens (written_condition names c))
+cond_reads names forms (t.Eq a b) k h = compare comparison.Eq (written_expression names a) (written_expression names b) (expr_reads names forms a k.0 h.0) (expr_reads names forms b k.1 h.1)
+cond_reads names forms (t.Lt a b) k h = compare comparison.Lt (written_expression names a) (written_expression names b) (expr_reads names forms a k.0 h.0) (expr_reads names forms b k.1 h.1)
+cond_reads names forms (t.Le a b) k h = compare comparison.Le (written_expression names a) (written_expression names b) (expr_reads names forms a k.0 h.0) (expr_reads names forms b k.1 h.1)
+cond_reads names forms (t.Not c) k h =
+    form_reads (codes "not") (spaced (cond_text (written_condition names c))) (cond_tokens (written_condition names c)) not_is_word
+    (spaced_follows (cond_text (written_condition names c)) (cond_tokens (written_condition names c)) (cond_reads names forms c k h))
+cond_reads names forms (t.And c d) k h = connect connective.And (written_condition names c) (written_condition names d) (cond_reads names forms c k.0 h.0) (cond_reads names forms d k.1 h.1)
+cond_reads names forms (t.Or c d) k h = connect connective.Or (written_condition names c) (written_condition names d) (cond_reads names forms c k.0 h.0) (cond_reads names forms d k.1 h.1)
 
 -- ---- statements
 
@@ -169,24 +177,24 @@ throw_reads : (e : Expr) → Reads (expr_text e) (expr_tokens e) → Reads (stmt
 throw_reads e p = form_reads (codes "throw") (spaced (expr_text e)) (expr_tokens e) (keyword_is_word keyword.Throw) (spaced_follows (expr_text e) (expr_tokens e) p)
 
 mutual
-  pub stmt_reads : (ns : List (List ℕ)) → list_all is_name ns ≡ true → (s : Statement) → StatementKnown (length ns) s → StmtFits (written_statement ns s) → Reads (stmt_text (written_statement ns s)) (stmt_tokens (written_statement ns s))
-  stmt_reads ns forms t.Skip k h = form_reads (codes "skip") [] [] (keyword_is_word keyword.Skip) none_follows
-  stmt_reads ns forms (t.Set x e) k h = set_reads (name_at ns x.0) (written_expression ns e) (named ns x.0 forms k.0) (expr_reads ns forms e k.1 h)
-  stmt_reads ns forms (t.Seq parts) k h =
-      form_reads (codes "seq") (stmts_text (written_statements ns parts)) (stmts_tokens (written_statements ns parts)) (keyword_is_word keyword.Seq) (stmts_follow ns forms parts k h)
-  stmt_reads ns forms (t.If c a b) k h =
-      if_reads (written_condition ns c) (written_statement ns a) (written_statement ns b) (cond_reads ns forms c k.0 h.0) (stmt_reads ns forms a k.1 h.1) (stmt_reads ns forms b k.2 h.2)
-  stmt_reads ns forms (t.Repeat n s) k h = repeat_reads (pos n) (written_statement ns s) (number (pos n) h.0) (stmt_reads ns forms s k h.1)
-  stmt_reads ns forms t.Retry k h = form_reads (codes "retry") [] [] (keyword_is_word keyword.Retry) none_follows
-  stmt_reads ns forms (t.OrElse a b) k h = orelse_reads (written_statement ns a) (written_statement ns b) (stmt_reads ns forms a k.0 h.0) (stmt_reads ns forms b k.1 h.1)
-  stmt_reads ns forms (t.Throw e) k h = throw_reads (written_expression ns e) (expr_reads ns forms e k h)
+  pub stmt_reads : (names : Scope) → AreNames names → (s : Statement) → StatementNamed names s → StmtFits (written_statement names s) → Reads (stmt_text (written_statement names s)) (stmt_tokens (written_statement names s))
+  stmt_reads names forms t.Skip k h = form_reads (codes "skip") [] [] (keyword_is_word keyword.Skip) none_follows
+  stmt_reads names forms (t.Set x e) k h = set_reads (name_at names.variables x.0) (written_expression names e) (named names.variables x.0 forms.variables k.0) (expr_reads names forms e k.1 h)
+  stmt_reads names forms (t.Seq parts) k h =
+      form_reads (codes "seq") (stmts_text (written_statements names parts)) (stmts_tokens (written_statements names parts)) (keyword_is_word keyword.Seq) (stmts_follow names forms parts k h)
+  stmt_reads names forms (t.If c a b) k h =
+      if_reads (written_condition names c) (written_statement names a) (written_statement names b) (cond_reads names forms c k.0 h.0) (stmt_reads names forms a k.1 h.1) (stmt_reads names forms b k.2 h.2)
+  stmt_reads names forms (t.Repeat n s) k h = repeat_reads (pos n) (written_statement names s) (number (pos n) h.0) (stmt_reads names forms s k h.1)
+  stmt_reads names forms t.Retry k h = form_reads (codes "retry") [] [] (keyword_is_word keyword.Retry) none_follows
+  stmt_reads names forms (t.OrElse a b) k h = orelse_reads (written_statement names a) (written_statement names b) (stmt_reads names forms a k.0 h.0) (stmt_reads names forms b k.1 h.1)
+  stmt_reads names forms (t.Throw e) k h = throw_reads (written_expression names e) (expr_reads names forms e k h)
 
-  pub stmts_follow : (ns : List (List ℕ)) → list_all is_name ns ≡ true → (s : Statements) → StatementsKnown (length ns) s → StmtsFit (written_statements ns s) → Follows (stmts_text (written_statements ns s)) (stmts_tokens (written_statements ns s))
-  stmts_follow ns forms t.End k h = none_follows
-  stmts_follow ns forms (t.More s rest) k h =
-      both_follow (spaced (stmt_text (written_statement ns s))) (stmts_text (written_statements ns rest)) (stmt_tokens (written_statement ns s)) (stmts_tokens (written_statements ns rest))
-      (spaced_follows (stmt_text (written_statement ns s)) (stmt_tokens (written_statement ns s)) (stmt_reads ns forms s k.0 h.0))
-      (stmts_follow ns forms rest k.1 h.1)
+  pub stmts_follow : (names : Scope) → AreNames names → (s : Statements) → StatementsNamed names s → StmtsFit (written_statements names s) → Follows (stmts_text (written_statements names s)) (stmts_tokens (written_statements names s))
+  stmts_follow names forms t.End k h = none_follows
+  stmts_follow names forms (t.More s rest) k h =
+      both_follow (spaced (stmt_text (written_statement names s))) (stmts_text (written_statements names rest)) (stmt_tokens (written_statement names s)) (stmts_tokens (written_statements names rest))
+      (spaced_follows (stmt_text (written_statement names s)) (stmt_tokens (written_statement names s)) (stmt_reads names forms s k.0 h.0))
+      (stmts_follow names forms rest k.1 h.1)
 
 -- ---- lines
 
@@ -200,28 +208,73 @@ pair_lines word p w name h =
 pub two_printed : signed_decimal (pos 2) ≡ codes "2"
 two_printed = decimal_digit 2 (lit< tt)
 
+pub three_printed : signed_decimal (pos 3) ≡ codes "3"
+three_printed = decimal_digit 3 (lit< tt)
+
+number_line : (value : ℤ) → FitsSigned w64 value → Lines (form_text (codes "stm") (spaced (signed_decimal value)) ++ codes "\n") (f.form (codes "stm") (token.Int value ∷ []))
+number_line value h =
+    line_of (form_text (codes "stm") (spaced (signed_decimal value))) (f.form (codes "stm") (token.Int value ∷ []))
+    (form_reads (codes "stm") (spaced (signed_decimal value)) (token.Int value ∷ []) stm_is_word (spaced_follows (signed_decimal value) (token.Int value ∷ []) (number value h)))
+
 pub heading_lines : (form : FileForm) → Lines (heading_text form) (heading_tokens form)
 heading_lines One = none_lines
-heading_lines Two =
-    subst (λ (digits : List ℕ). Lines (form_text (codes "stm") (spaced digits) ++ codes "\n") (f.form (codes "stm") (token.Int (pos 2) ∷ []))) two_printed
-    (line_of (form_text (codes "stm") (spaced (signed_decimal (pos 2)))) (f.form (codes "stm") (token.Int (pos 2) ∷ []))
-    (form_reads (codes "stm") (spaced (signed_decimal (pos 2))) (token.Int (pos 2) ∷ []) stm_is_word
-    (spaced_follows (signed_decimal (pos 2)) (token.Int (pos 2) ∷ []) (number (pos 2) (omega arith)))))
+heading_lines Two = subst (λ (digits : List ℕ). Lines (form_text (codes "stm") (spaced digits) ++ codes "\n") (f.form (codes "stm") (token.Int (pos 2) ∷ []))) two_printed (number_line (pos 2) (omega arith))
+heading_lines Three = subst (λ (digits : List ℕ). Lines (form_text (codes "stm") (spaced digits) ++ codes "\n") (f.form (codes "stm") (token.Int (pos 3) ∷ []))) three_printed (number_line (pos 3) (omega arith))
 
-pub always_lines : (ns : List (List ℕ)) → list_all is_name ns ≡ true → (a : List ℕ × Condition) → is_name a.0 ≡ true → ConditionKnown (length ns) a.1 → AlwaysFits (written_always ns a) → Lines (always_line (written_always ns a)) (always_tokens (written_always ns a))
+pub always_lines : (ns : List (List ℕ)) → list_all is_name ns ≡ true → (a : List ℕ × Condition) → is_name a.0 ≡ true → ConditionNamed (standing ns) a.1 → AlwaysFits (written_always ns a) → Lines (always_line (written_always ns a)) (always_tokens (written_always ns a))
 always_lines ns forms a name k h =
-    let c = written_condition ns a.1 in
+    let c = written_condition (standing ns) a.1 in
     line_of (form_text (codes "always") (spaced a.0 ++ spaced (cond_text c))) (always_tokens (written_always ns a))
     (form_reads (codes "always") (spaced a.0 ++ spaced (cond_text c)) (token.Name a.0 ∷ cond_tokens c) always_is_word
-    (two a.0 (cond_text c) (token.Name a.0 ∷ []) (cond_tokens c) (word_reads a.0 (token.Name a.0) (name_word a.0 name)) (cond_reads ns forms a.1 k h)))
+    (two a.0 (cond_text c) (token.Name a.0 ∷ []) (cond_tokens c) (word_reads a.0 (token.Name a.0) (name_word a.0 name))
+    (cond_reads (standing ns) (record { variables = forms; parameters = refl }) a.1 k h)))
 
-pub tx_lines : (ns : List (List ℕ)) → list_all is_name ns ≡ true → (t : Transaction) → is_name t.name ≡ true → StatementKnown (length ns) t.body → ExpressionKnown (length ns) t.result
-    → DeclarationFits (written_transaction ns t) → Lines (tx_line (written_transaction ns t)) (tx_tokens (written_transaction ns t))
-tx_lines ns forms p name known valued h =
-    let body = written_statement ns p.body in
-    let value = written_expression ns p.result in
-    line_of (form_text (codes "tx") (spaced p.name ++ (spaced (stmt_text body) ++ spaced (expr_text value)))) (tx_tokens (written_transaction ns p))
-    (form_reads (codes "tx") (spaced p.name ++ (spaced (stmt_text body) ++ spaced (expr_text value))) (token.Name p.name ∷ (stmt_tokens body ++ expr_tokens value)) tx_is_word
-    (three p.name (stmt_text body) (expr_text value) (token.Name p.name ∷ []) (stmt_tokens body) (expr_tokens value)
-    (word_reads p.name (token.Name p.name) (name_word p.name name))
-    (stmt_reads ns forms p.body known h.0) (expr_reads ns forms p.result valued h.1)))
+one_name : (name : List ℕ) → is_name name ≡ true → Follows (spaced name) (token.Name name ∷ [])
+one_name name h = spaced_follows name (token.Name name ∷ []) (word_reads name (token.Name name) (name_word name h))
+
+names_follow : (names : List (List ℕ)) → list_all is_name names ≡ true → Follows (flat_map spaced names) (map token.Name names)
+names_follow [] h = none_follows
+names_follow (name ∷ names) h =
+    let parts = and_parts (is_name name) (list_all is_name names) h in
+    both_follow (spaced name) (flat_map spaced names) (token.Name name ∷ []) (map token.Name names) (one_name name parts.0) (names_follow names parts.1)
+
+-- a list of parameters, in a form that has one
+list_follows : (announced : FileForm) (names : List (List ℕ)) → list_all is_name names ≡ true → Follows (list_text announced names) (list_tokens announced names)
+list_follows One names h = none_follows
+list_follows Two names h = none_follows
+list_follows Three [] h = spaced_follows (codes "()") (Opens ∷ Closes ∷ []) empty_reads
+list_follows Three (name ∷ names) h =
+    let parts = and_parts (is_name name) (list_all is_name names) h in
+    spaced_follows (form_text name (flat_map spaced names)) (f.form name (map token.Name names)) (form_reads name (flat_map spaced names) (map token.Name names) (name_word name parts.0) (names_follow names parts.1))
+
+pub tx_lines : (announced : FileForm) (ns : List (List ℕ)) → list_all is_name ns ≡ true → (t : Transaction) → is_name t.name ≡ true → list_all is_name t.parameters ≡ true
+    → StatementNamed (inside ns t.parameters) t.body → ExpressionNamed (inside ns t.parameters) t.result
+    → DeclarationFits (written_transaction ns t) → Lines (tx_line announced (written_transaction ns t)) (tx_tokens announced (written_transaction ns t))
+tx_lines announced ns forms p name named known valued h =
+    let names = inside ns p.parameters in
+    let all : AreNames names = record { variables = forms; parameters = named } in
+    let body = written_statement names p.body in
+    let value = written_expression names p.result in
+    let list = list_text announced p.parameters in
+    let listed = list_tokens announced p.parameters in
+    line_of (form_text (codes "tx") (spaced p.name ++ (list ++ (spaced (stmt_text body) ++ spaced (expr_text value))))) (tx_tokens announced (written_transaction ns p))
+    (form_reads (codes "tx") (spaced p.name ++ (list ++ (spaced (stmt_text body) ++ spaced (expr_text value)))) (token.Name p.name ∷ (listed ++ (stmt_tokens body ++ expr_tokens value))) tx_is_word
+    (both_follow (spaced p.name) (list ++ (spaced (stmt_text body) ++ spaced (expr_text value))) (token.Name p.name ∷ []) (listed ++ (stmt_tokens body ++ expr_tokens value)) (one_name p.name name)
+    (both_follow list (spaced (stmt_text body) ++ spaced (expr_text value)) listed (stmt_tokens body ++ expr_tokens value) (list_follows announced p.parameters named)
+    (two (stmt_text body) (expr_text value) (stmt_tokens body) (expr_tokens value) (stmt_reads names all p.body known h.0) (expr_reads names all p.result valued h.1)))))
+
+one_integer : (value : ℤ) → FitsSigned w64 value → Follows (spaced_integer value) (token.Int value ∷ [])
+one_integer value h = spaced_follows (signed_decimal value) (token.Int value ∷ []) (number value h)
+
+integers_follow : (values : List ℤ) → AllByRecursion (FitsSigned w64) values → Follows (flat_map spaced_integer values) (map token.Int values)
+integers_follow [] h = none_follows
+integers_follow (value ∷ values) h =
+    both_follow (spaced_integer value) (flat_map spaced_integer values) (token.Int value ∷ []) (map token.Int values) (one_integer value h.0) (integers_follow values h.1)
+
+pub run_lines : (r : Run) → is_name r.name ≡ true → RunFits r → Lines (run_line r) (run_tokens r)
+run_lines r name h =
+    let behind = spaced_integer r.count ++ flat_map spaced_integer r.arguments in
+    line_of (form_text (codes "run") (spaced r.name ++ behind)) (run_tokens r)
+    (form_reads (codes "run") (spaced r.name ++ behind) (token.Name r.name ∷ token.Int r.count ∷ map token.Int r.arguments) run_is_word
+    (both_follow (spaced r.name) behind (token.Name r.name ∷ []) (token.Int r.count ∷ map token.Int r.arguments) (one_name r.name name)
+    (both_follow (spaced_integer r.count) (flat_map spaced_integer r.arguments) (token.Int r.count ∷ []) (map token.Int r.arguments) (one_integer r.count h.0) (integers_follow r.arguments h.1))))

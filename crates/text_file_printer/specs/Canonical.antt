@@ -1,12 +1,12 @@
 -- The canonical text: one form a line, one space between two tokens, but none after ( and none before ).
-use Rattle.std.specs.Prelude.{ℕ, List, [], ◌++◌, codes}
+use Rattle.std.specs.Prelude.{ℕ, ℤ, List, [], ◌∷◌, ◌++◌, codes}
 use Rattle.std.specs.Fmt.{signed_decimal}
 use Rattle.std.specs.List.{flat_map}
 use Rattle.txn_programs.specs.Listing.{Listing}
-use Rattle.text_grammar.specs.Tree.{Expr, Int, Name, Binary, Cond, Compare, Not, Connect, Stmt, Skip, Set, Seq, If, Repeat, Retry, OrElse, Throw, Stmts, NoStmts, MoreStmts, Pair, Always, Declaration, File, operator_word, comparison_word, connective_word, keyword_word}
+use Rattle.text_grammar.specs.Tree.{Expr, Int, Name, Binary, Cond, Compare, Not, Connect, Stmt, Skip, Set, Seq, If, Repeat, Retry, OrElse, Throw, Stmts, NoStmts, MoreStmts, Pair, Always, Declaration, Run, File, operator_word, comparison_word, connective_word, keyword_word}
 use Rattle.text_grammar.specs.declared.words.Keyword.TheVariants as keyword
 use Rattle.text_grammar.specs.declared.file.FileForm.{FileForm}
-use Rattle.text_grammar.specs.declared.file.FileForm.TheVariants.{One, Two}
+use Rattle.text_grammar.specs.declared.file.FileForm.TheVariants.{One, Two, Three}
 use Rattle.text_grammar.specs.Written.{written}
 
 -- a word in parentheses, with its parts behind it
@@ -43,7 +43,7 @@ abbrev mutual
   stmts_text NoStmts = []
   stmts_text (MoreStmts first others) = spaced (stmt_text first) ++ stmts_text others
 
--- a variable, or a run, on a line
+-- a variable on a line
 abbrev pub pair_line : List ℕ → Pair → List ℕ
 pair_line word p = form_text word (spaced p.name ++ spaced (signed_decimal p.value)) ++ codes "\n"
 
@@ -51,20 +51,41 @@ pair_line word p = form_text word (spaced p.name ++ spaced (signed_decimal p.val
 abbrev pub always_line : Always → List ℕ
 always_line a = form_text (codes "always") (spaced a.name ++ spaced (cond_text a.condition)) ++ codes "\n"
 
--- a transaction, on a line
-abbrev pub tx_line : Declaration → List ℕ
-tx_line t = form_text (codes "tx") (spaced t.name ++ (spaced (stmt_text t.body) ++ spaced (expr_text t.value))) ++ codes "\n"
+-- names in parentheses
+abbrev pub names_text : List (List ℕ) → List ℕ
+names_text [] = codes "()"
+names_text (name ∷ names) = form_text name (flat_map spaced names)
 
--- form 2 says so on a line, form 1 says nothing
+-- parameters, of which only form 3 has a list
+abbrev pub list_text : FileForm → List (List ℕ) → List ℕ
+list_text One names = []
+list_text Two names = []
+list_text Three names = spaced (names_text names)
+
+-- a transaction, on a line
+abbrev pub tx_line : FileForm → Declaration → List ℕ
+tx_line announced t =
+    form_text (codes "tx") (spaced t.name ++ (list_text announced t.parameters ++ (spaced (stmt_text t.body) ++ spaced (expr_text t.value)))) ++ codes "\n"
+
+-- an integer behind a space
+abbrev pub spaced_integer : ℤ → List ℕ
+spaced_integer value = spaced (signed_decimal value)
+
+-- a run, on a line
+abbrev pub run_line : Run → List ℕ
+run_line r = form_text (codes "run") (spaced r.name ++ (spaced_integer r.count ++ flat_map spaced_integer r.arguments)) ++ codes "\n"
+
+-- forms 2 and 3 say so on a line, form 1 says nothing
 abbrev pub heading_text : FileForm → List ℕ
 heading_text One = []
 heading_text Two = codes "(stm 2)\n"
+heading_text Three = codes "(stm 3)\n"
 
 -- the form, then the variables, then the conditions, then the transactions, then the runs
 abbrev pub text_of : File → List ℕ
 text_of f =
     heading_text f.form ++ (flat_map (pair_line (codes "var")) f.vars ++ (flat_map always_line f.always
-    ++ (flat_map tx_line f.txs ++ flat_map (pair_line (codes "run")) f.runs)))
+    ++ (flat_map (tx_line f.form) f.txs ++ flat_map run_line f.runs)))
 
 abbrev pub file_text : Listing → List ℕ
 file_text l = text_of (written l)

@@ -1,8 +1,8 @@
--- Each integer of a tree is one of 64 signed bits.
+-- Integers of a tree fit 64 signed bits.
 use Rattle.std.specs.Prelude.{FitsSigned}
 use Rattle.std.specs.Int.{w64}
 use Rattle.std.specs.List.{AllByRecursion}
-use Rattle.text_grammar.specs.Tree.{Expr, Int, Name, Binary, Cond, Compare, Not, Connect, Stmt, Skip, Set, Seq, If, Repeat, Retry, OrElse, Throw, Stmts, NoStmts, MoreStmts, Pair, Always, Declaration, File}
+use Rattle.text_grammar.specs.Tree.{Expr, Int, Name, Binary, Cond, Compare, Not, Connect, Stmt, Skip, Set, Seq, If, Repeat, Retry, OrElse, Throw, Stmts, NoStmts, MoreStmts, Pair, Always, Declaration, Run, File}
 
 abbrev pub ExprFits : Expr → Type 0
 ExprFits (Int value) = FitsSigned w64 value
@@ -38,8 +38,11 @@ AlwaysFits a = CondFits a.condition
 abbrev pub DeclarationFits : Declaration → Type 0
 DeclarationFits t = StmtFits t.body × ExprFits t.value
 
+abbrev pub RunFits : Run → Type 0
+RunFits r = FitsSigned w64 r.count × AllByRecursion (FitsSigned w64) r.arguments
+
 pub record FileFits (f : File) : Type 0 where
   pub vars : AllByRecursion PairFits f.vars
   pub always : AllByRecursion AlwaysFits f.always
   pub txs : AllByRecursion DeclarationFits f.txs
-  pub runs : AllByRecursion PairFits f.runs
+  pub runs : AllByRecursion RunFits f.runs

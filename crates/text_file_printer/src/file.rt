@@ -3,25 +3,29 @@
 ghost use Rattle.std.specs.Prelude.{◌≡◌, ◌<◌, ◌≤◌, ◌++◌, FitsSigned, IfOk, OnOk, codes, length, map, pos, string_bytes};
 ghost use Rattle.std.specs.Int.{w64};
 ghost use Rattle.std.specs.List.{AllByRecursion, flat_map};
-ghost use Rattle.txn_programs.specs.Scope.{ConditionKnown, ProgramKnown};
-ghost use Rattle.txn_programs.specs.Tree.{condition_of, transaction_of, under};
-ghost use Rattle.txn_programs.specs.Listing.{conditions};
-ghost use Rattle.txn_copies.specs.Conditions.{standing_of};
-ghost use Rattle.text_grammar.specs.Written.{form_for, written_vars, written_always, written_transaction, written_run, written_in, written};
+ghost use Rattle.txn_programs.specs.Tree.{condition_of, transaction_of};
+ghost use Rattle.txn_declarations.specs.Conditions.{standing_of};
+ghost use Rattle.text_grammar.specs.Scope.{standing, inside};
+ghost use Rattle.text_grammar.specs.Written.{form_for, written_vars, written_always, written_transaction, written_run};
+ghost use Rattle.text_grammar.specs.Written.{written_in, written};
 ghost use Rattle.text_grammar.specs.Spelling.{Spells};
 ghost use Rattle.text_grammar.specs.Tree.{file_tokens};
-ghost use Rattle.text_file_printer.specs.Canonical.{heading_text, pair_line, always_line, tx_line, file_text};
+ghost use Rattle.text_file_printer.specs.Canonical.{spaced, heading_text, pair_line, always_line, names_text};
+ghost use Rattle.text_file_printer.specs.Canonical.{list_text, tx_line, spaced_integer, run_line, file_text};
 ghost use Rattle.text_file_printer.specs.Layout.{laid_out};
-ghost use Rattle.text_file_printer.specs.Fits.{PairFits, AlwaysFits, DeclarationFits, FileFits};
+ghost use Rattle.text_file_printer.specs.Named.{ExpressionNamed, ConditionNamed, StatementNamed};
+ghost use Rattle.text_file_printer.specs.Fits.{PairFits, AlwaysFits, DeclarationFits, RunFits, FileFits};
 
-use crate::forms::{put_last_condition, put_last_expression, put_part};
+use crate::forms::{Scope, put_last_condition, put_last_expression, put_part};
 use std::alloc::{AllocError, Global};
 use std::fmt::Write;
-use txn::{Catalogue, Cond, Memory, Tx, TxId, VarId};
+use text_grammar::file::FileForm;
+use txn::{Call, Catalogue, Cond, Memory, Tx, TxId, VarId};
 
 /// The canonical text of a catalogue: one form a line, each line ended by a newline, the
-/// variables first, then the standing conditions, then the transactions, then the runs. Where there
-/// are conditions, the line `(stm 2)` stands before all others. One space stands between two tokens,
+/// variables first, then the standing conditions, then the transactions, then the runs. Where a transaction
+/// has parameters, the line `(stm 3)` stands before all others and each transaction has its list of
+/// parameters, else where there are conditions, the line `(stm 2)`. One space stands between two tokens,
 /// none after `(` and none before `)`. `Err` means that memory was refused.
 pub fn print_file(alloc: Global, catalogue: &Catalogue) -> Result<String, Memory>
     ensures text { IfOk result (λ s. string_bytes s ≡ file_text catalogue.now) }
@@ -40,25 +44,41 @@ fn put_file(out: &mut String, catalogue: &Catalogue) -> Result<(), AllocError>
     ensures text { OnOk result (string_bytes out.new ≡ string_bytes out.old ++ file_text catalogue.now) }
     ensures fits { OnOk result (FileFits (written catalogue.now)) }
 {
-    put_heading(out, catalogue)?;
+    let form = form_of(catalogue);
+    put_heading(out, form)?;
     put_vars(out, catalogue)?;
     put_conditions(out, catalogue)?;
-    put_txs(out, catalogue)?;
+    put_txs(out, catalogue, form)?;
     put_runs(out, catalogue)
 }
 
-/// The form, which is told only where there are conditions.
-fn put_heading(out: &mut String, catalogue: &Catalogue) -> Result<(), AllocError>
-    ensures { OnOk result (string_bytes out.new ≡ string_bytes out.old ++ heading_text (form_for catalogue.now.always)) }
+/// The first form that has room for the conditions and the parameters.
+fn form_of(catalogue: &Catalogue) -> FileForm
+    ensures { result ≡ form_for catalogue.now }
 {
-    if catalogue.always().is_empty() {
-        return Ok(());
+    if catalogue.most_parameters() > 0 {
+        FileForm::Three
+    } else if catalogue.always().is_empty() {
+        FileForm::One
+    } else {
+        FileForm::Two
     }
-    out.push_str("(stm 2)\n")
+}
+
+/// The form, which form 1 does not tell.
+fn put_heading(out: &mut String, form: FileForm) -> Result<(), AllocError>
+    ensures { OnOk result (string_bytes out.new ≡ string_bytes out.old ++ heading_text form) }
+{
+    match form {
+        FileForm::One => Ok(()),
+        FileForm::Two => out.push_str("(stm 2)\n"),
+        FileForm::Three => out.push_str("(stm 3)\n"),
+    }
 }
 
 fn put_var(out: &mut String, name: &str, value: &i64) -> Result<(), AllocError>
-    ensures text { OnOk result (string_bytes out.new ≡ string_bytes out.old ++ pair_line (codes "var") (record { name = name.now; value = value.now })) }
+    ensures text { OnOk result (string_bytes out.new
+        ≡ string_bytes out.old ++ pair_line (codes "var") (record { name = name.now; value = value.now })) }
     ensures fits { FitsSigned w64 value.now }
 {
     let value = *value;
@@ -66,7 +86,9 @@ fn put_var(out: &mut String, name: &str, value: &i64) -> Result<(), AllocError>
 }
 
 fn put_vars(out: &mut String, catalogue: &Catalogue) -> Result<(), AllocError>
-    ensures text { OnOk result (string_bytes out.new ≡ string_bytes out.old ++ flat_map (pair_line (codes "var")) (written_vars catalogue.now.names catalogue.now.initial)) }
+    ensures text { OnOk result (string_bytes out.new
+        ≡ string_bytes out.old
+        ++ flat_map (pair_line (codes "var")) (written_vars catalogue.now.names catalogue.now.initial)) }
     ensures fits { OnOk result (AllByRecursion PairFits (written_vars catalogue.now.names catalogue.now.initial)) }
 {
     catalogue.rules();
@@ -81,20 +103,28 @@ fn put_condition(
     catalogue: &Catalogue,
     condition: &(String, Cond),
 ) -> Result<(), AllocError>
-    requires { ConditionKnown (length catalogue.now.names) (condition_of condition.now.1) }
-    ensures text { OnOk result (string_bytes out.new ≡ string_bytes out.old ++ always_line (written_always catalogue.now.names (standing_of condition.now))) }
+    requires { ConditionNamed (standing catalogue.now.names) (condition_of condition.now.1) }
+    ensures text { OnOk result (string_bytes out.new
+        ≡ string_bytes out.old ++ always_line (written_always catalogue.now.names (standing_of condition.now))) }
     ensures fits { OnOk result (AlwaysFits (written_always catalogue.now.names (standing_of condition.now))) }
 {
     let (name, condition) = condition;
+    let scope = Scope {
+        catalogue,
+        params: &[],
+    };
     out.push_str("(always ")?;
     out.push_str(name.as_str())?;
-    put_last_condition(out, catalogue, condition)?;
+    put_last_condition(out, &scope, condition)?;
     out.push_str("\n")
 }
 
 fn put_conditions(out: &mut String, catalogue: &Catalogue) -> Result<(), AllocError>
-    ensures text { OnOk result (string_bytes out.new ≡ string_bytes out.old ++ flat_map always_line (map (written_always catalogue.now.names) catalogue.now.always)) }
-    ensures fits { OnOk result (AllByRecursion AlwaysFits (map (written_always catalogue.now.names) catalogue.now.always)) }
+    ensures text { OnOk result (string_bytes out.new
+        ≡ string_bytes out.old
+        ++ flat_map always_line (map (written_always catalogue.now.names) catalogue.now.always)) }
+    ensures fits { OnOk result
+        (AllByRecursion AlwaysFits (map (written_always catalogue.now.names) catalogue.now.always)) }
 {
     catalogue.rules();
     'conditions: for condition in catalogue.always() {
@@ -103,42 +133,128 @@ fn put_conditions(out: &mut String, catalogue: &Catalogue) -> Result<(), AllocEr
     Ok(())
 }
 
-fn put_tx(out: &mut String, catalogue: &Catalogue, tx: &Tx) -> Result<(), AllocError>
-    requires { ProgramKnown (length catalogue.now.names) (under (conditions catalogue.now) (transaction_of tx.now)) }
-    ensures text { OnOk result (string_bytes out.new ≡ string_bytes out.old ++ tx_line (written_transaction catalogue.now.names (transaction_of tx.now))) }
-    ensures fits { OnOk result (DeclarationFits (written_transaction catalogue.now.names (transaction_of tx.now))) }
+/// Names in parentheses, behind a space.
+fn put_names(out: &mut String, names: &[String]) -> Result<(), AllocError>
+    ensures { OnOk result (string_bytes out.new
+        ≡ string_bytes out.old ++ spaced (names_text (map string_bytes names.now))) }
 {
-    out.push_str("(tx ")?;
-    out.push_str(tx.name.as_str())?;
-    put_part(out, catalogue, &tx.body)?;
-    put_last_expression(out, catalogue, &tx.result)?;
-    out.push_str("\n")
+    match names.split_first() {
+        Some((first, others)) => {
+            out.push_str(" (")?;
+            out.push_str(first.as_str())?;
+            put_others(out, others)?;
+            out.push_str(")")
+        }
+        None => out.push_str(" ()"),
+    }
 }
 
-fn put_txs(out: &mut String, catalogue: &Catalogue) -> Result<(), AllocError>
-    ensures text { OnOk result (string_bytes out.new ≡ string_bytes out.old ++ flat_map tx_line (map (written_transaction catalogue.now.names) catalogue.now.transactions)) }
-    ensures fits { OnOk result (AllByRecursion DeclarationFits (map (written_transaction catalogue.now.names) catalogue.now.transactions)) }
+/// Names, each behind a space.
+fn put_others(out: &mut String, names: &[String]) -> Result<(), AllocError>
+    ensures { OnOk result (string_bytes out.new
+        ≡ string_bytes out.old ++ flat_map spaced (map string_bytes names.now)) }
 {
-    catalogue.rules();
-    'txs: for i in 0..catalogue.tx_count() {
-        put_tx(out, catalogue, catalogue.tx(TxId(i as u32)))?;
+    'names: for name in names {
+        out.push_str(" ")?;
+        out.push_str(name.as_str())?;
     }
     Ok(())
 }
 
-fn put_run(out: &mut String, catalogue: &Catalogue, run: &(TxId, u32)) -> Result<(), AllocError>
-    requires { run.now.0.0 < length catalogue.now.transactions }
-    ensures text { OnOk result (string_bytes out.new ≡ string_bytes out.old ++ pair_line (codes "run") (written_run catalogue.now.transactions run.now)) }
-    ensures fits { PairFits (written_run catalogue.now.transactions run.now) }
+/// The parameters of a transaction, of which only form 3 has a list.
+fn put_list(out: &mut String, form: FileForm, params: &[String]) -> Result<(), AllocError>
+    ensures { OnOk result (string_bytes out.new
+        ≡ string_bytes out.old ++ list_text form (map string_bytes params.now)) }
 {
-    let (tx, count) = *run;
-    let name = catalogue.tx_name(tx);
-    writeln!(out, "(run {name} {count})")
+    match form {
+        FileForm::One | FileForm::Two => Ok(()),
+        FileForm::Three => put_names(out, params),
+    }
+}
+
+fn put_tx(
+    out: &mut String,
+    catalogue: &Catalogue,
+    form: FileForm,
+    tx: &Tx,
+) -> Result<(), AllocError>
+    requires body { StatementNamed (inside catalogue.now.names (transaction_of tx.now).parameters)
+        (transaction_of tx.now).body }
+    requires value { ExpressionNamed (inside catalogue.now.names (transaction_of tx.now).parameters)
+        (transaction_of tx.now).result }
+    ensures text { OnOk result (string_bytes out.new
+        ≡ string_bytes out.old ++ tx_line form (written_transaction catalogue.now.names (transaction_of tx.now))) }
+    ensures fits { OnOk result (DeclarationFits (written_transaction catalogue.now.names (transaction_of tx.now))) }
+{
+    let params = tx.params.as_slice();
+    let scope = Scope { catalogue, params };
+    out.push_str("(tx ")?;
+    out.push_str(tx.name.as_str())?;
+    put_list(out, form, params)?;
+    put_part(out, &scope, &tx.body)?;
+    put_last_expression(out, &scope, &tx.result)?;
+    out.push_str("\n")
+}
+
+fn put_txs(out: &mut String, catalogue: &Catalogue, form: FileForm) -> Result<(), AllocError>
+    ensures text { OnOk result (string_bytes out.new
+        ≡ string_bytes out.old
+        ++ flat_map (tx_line form) (map (written_transaction catalogue.now.names) catalogue.now.transactions)) }
+    ensures fits { OnOk result
+        (AllByRecursion DeclarationFits (map (written_transaction catalogue.now.names) catalogue.now.transactions)) }
+{
+    catalogue.rules();
+    'txs: for i in 0..catalogue.tx_count() {
+        put_tx(out, catalogue, form, catalogue.tx(TxId(i as u32)))?;
+    }
+    Ok(())
+}
+
+/// An integer behind a space.
+fn put_integer(out: &mut String, n: i64) -> Result<(), AllocError>
+    ensures text { OnOk result (string_bytes out.new ≡ string_bytes out.old ++ spaced_integer n) }
+    ensures fits { FitsSigned w64 n }
+{
+    write!(out, " {n}")
+}
+
+fn put_integers(out: &mut String, numbers: &[i64]) -> Result<(), AllocError>
+    ensures text { OnOk result (string_bytes out.new
+        ≡ string_bytes out.old ++ flat_map spaced_integer numbers.now) }
+    ensures fits { OnOk result (AllByRecursion (FitsSigned w64) numbers.now) }
+{
+    'numbers: for n in numbers {
+        put_integer(out, *n)?;
+    }
+    Ok(())
+}
+
+/// The beginning of a run, to its count.
+fn put_task_count(out: &mut String, name: &str, count: u32) -> Result<(), AllocError>
+    ensures text { OnOk result (string_bytes out.new
+        ≡ string_bytes out.old ++ (codes "(run " ++ (name.now ++ spaced_integer (pos count)))) }
+    ensures fits { FitsSigned w64 (pos count) }
+{
+    write!(out, "(run {name} {count}")
+}
+
+fn put_run(out: &mut String, catalogue: &Catalogue, run: &(Call, u32)) -> Result<(), AllocError>
+    requires { run.now.0.tx.0 < length catalogue.now.transactions }
+    ensures text { OnOk result (string_bytes out.new
+        ≡ string_bytes out.old ++ run_line (written_run catalogue.now.transactions run.now)) }
+    ensures fits { OnOk result (RunFits (written_run catalogue.now.transactions run.now)) }
+{
+    let (call, count) = run;
+    put_task_count(out, catalogue.tx_name(call.tx), *count)?;
+    put_integers(out, call.arguments.as_slice())?;
+    out.push_str(")\n")
 }
 
 fn put_runs(out: &mut String, catalogue: &Catalogue) -> Result<(), AllocError>
-    ensures text { OnOk result (string_bytes out.new ≡ string_bytes out.old ++ flat_map (pair_line (codes "run")) (map (written_run catalogue.now.transactions) catalogue.now.runs)) }
-    ensures fits { OnOk result (AllByRecursion PairFits (map (written_run catalogue.now.transactions) catalogue.now.runs)) }
+    ensures text { OnOk result (string_bytes out.new
+        ≡ string_bytes out.old ++ flat_map run_line (map (written_run catalogue.now.transactions) catalogue.now.runs)) }
+    ensures fits { OnOk result
+        (AllByRecursion RunFits (map (written_run catalogue.now.transactions) catalogue.now.runs)) }
 {
     catalogue.rules();
     'runs: for run in catalogue.runs() {

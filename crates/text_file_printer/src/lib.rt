@@ -1,4 +1,4 @@
-//! The one text of a catalogue.
+//! The canonical form of a catalogue.
 #![tactic(auto)]
 
 mod file;

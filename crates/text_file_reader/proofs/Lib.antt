@@ -2,3 +2,12 @@ mod Ids
 pub mod Known
 pub mod Made
 pub mod AtOnce
+pub mod Gaps
+pub mod SameTokens
+pub mod Declared
+pub mod Back
+pub mod Calls
+pub mod Again
+pub mod Spelt
+pub mod Blame
+pub mod FirstFault

@@ -1,1 +1,3 @@
 pub mod Resolved
+pub mod Faults
+pub mod Gaps

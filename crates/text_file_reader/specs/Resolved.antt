@@ -1,9 +1,18 @@
--- Items that are made as they are read: one, the last before a parenthesis, two, one with its name, and all that stand next.
-use Rattle.std.specs.Prelude.{◌≡◌, ℕ, Result, Ok, List, [], map}
+-- Items that are made as they are read: one, the last before a parenthesis, two, one with its name, and all that stand next;
+-- and what is judged of transactions and calls that are made so.
+use Rattle.std.specs.Prelude.{◌≡◌, ℕ, Bool, true, ◌&&◌, ◌==◌, nat_lt, length, slice_index_or, if◌then◌else◌, Result, Ok, Err, List, [], map}
+use Rattle.std.specs.List.{list_all}
+use Rattle.txn_programs.specs.declared.arguments.Call.{Call}
+use Rattle.txn_programs.specs.Names.{are_new}
+use Rattle.txn_programs.specs.Tree.{Expression, Statement, Transaction}
 use Rattle.text_words.specs.Tokens.{Lexeme}
 use Rattle.text_words.specs.TokenReading.{Read, close_at}
 use Rattle.text_words.specs.declared.fault.ReadFault.{ReadFault}
-use Rattle.text_grammar.specs.Resolving.{each, declared_after}
+use Rattle.text_words.specs.declared.fault.ReadFault.TheVariants.{Name}
+use Rattle.text_grammar.specs.Tree.{Declaration, Run}
+use Rattle.text_grammar.specs.Scope.{Scope}
+use Rattle.text_grammar.specs.Reading.{expr_at, stmt_at}
+use Rattle.text_grammar.specs.Resolving.{each, declared_after, expression_in, statement_in, transaction_in, run_in}
 
 -- what was read is made into these, each name is declared once, and these tokens are left
 pub record Resolves {A B : Type 0} (read : Read (List A)) (one : A → Result B ReadFault) (name : A → List ℕ) (made : List B) (names : List (List ℕ)) (rest : List Lexeme) : Type 0 where
@@ -30,9 +39,33 @@ pub record MakesTwo {A B : Type 0} (part : List Lexeme → Read A) (one : A → 
   pub makes_first : Makes (part ts) one first between
   pub makes_second : MakesLast (part between) one second rest
 
+-- a body was read and a result behind it, which is the last, and they are made into these
+pub record MakesBody (s : Scope) (ts : List Lexeme) (body : Statement) (result : Expression) (rest : List Lexeme) : Type 0 where
+  pub between : List Lexeme
+  pub makes_body : Makes (stmt_at 31 ts) (statement_in s) body between
+  pub makes_result : MakesLast (expr_at 31 between) (expression_in s) result rest
+
 -- the same of an item with this name
 pub record MakesNamed {A B : Type 0} (read : Read A) (one : A → Result B ReadFault) (name : A → List ℕ) (made : B) (named : List ℕ) (rest : List Lexeme) : Type 0 where
   pub item : A
   pub is_read : read ≡ Ok (item, rest)
   pub is_made : one item ≡ Ok made
   pub is_named : name item ≡ named
+
+-- a transaction, where no parameter has the name of a variable or of one before it
+abbrev pub own_transaction_in : List (List ℕ) → Declaration → Result Transaction ReadFault
+own_transaction_in vars d = if are_new vars d.parameters then transaction_in vars d else Err Name
+
+abbrev pub parameters_of : Transaction → List (List ℕ)
+parameters_of t = t.parameters
+
+-- a call of one of the transactions with these parameters, with as many arguments as that has
+abbrev pub is_wanted : List (List (List ℕ)) → Call → Bool
+is_wanted parameters c = nat_lt c.tx.0 (length parameters) && (length c.arguments == length (slice_index_or parameters c.tx.0 []))
+
+-- what was read is made into these runs of the transactions with these names and parameters, and these tokens are left
+pub record MakesRuns (read : Read (List Run)) (names : List (List ℕ)) (parameters : List (List (List ℕ))) (made : List (Call × ℕ)) (rest : List Lexeme) : Type 0 where
+  pub items : List Run
+  pub are_read : read ≡ Ok (items, rest)
+  pub are_made : each (run_in names) items ≡ Ok made
+  pub are_wanted : list_all (λ (run : Call × ℕ). is_wanted parameters run.0) made ≡ true

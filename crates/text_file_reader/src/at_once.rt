@@ -2,15 +2,19 @@
 //! and no tree of texts stands beside them.
 
 ghost use Rattle.std.specs.Prelude.{◌≡◌, ℕ, List, Ok, IfOk, map, codes};
-ghost use Rattle.txn_programs.specs.Tree.{transaction_of};
+ghost use Rattle.std.specs.List.{list_all};
+ghost use Rattle.txn_programs.specs.Tree.{expression_of, statement_of, transaction_of};
 ghost use Rattle.text_words.specs.Tokens.{tokens};
 ghost use Rattle.text_words.specs.TokenReading.{begins, all_of};
 ghost use Rattle.text_words.specs.Answers.{◌>>=◌ as ◌>>=ᴿ◌};
-ghost use Rattle.text_grammar.specs.Reading.{pair_at, always_at, conditions_at, tx_at, file_of, tree_of};
-ghost use Rattle.text_grammar.specs.Resolving.{variable_of, always_in, transaction_in, pair_name, condition_name, tx_name, resolved};
+ghost use Rattle.text_grammar.specs.Reading.{pair_at, always_at, conditions_at, tx_at, run_at, file_of, tree_of};
+ghost use Rattle.text_grammar.specs.Resolving.{variable_of, always_in, pair_name, condition_name};
+ghost use Rattle.text_grammar.specs.Resolving.{tx_name, resolved};
 ghost use Rattle.text_resolver.specs.Texts.{texts};
+ghost use Rattle.text_resolver.specs.Scopes.{view_scope};
 ghost use Rattle.text_resolver.specs.Parts.{view_variable, view_condition, view_parts};
-ghost use Rattle.text_file_reader.specs.Resolved.{MakesNamed, Resolves};
+ghost use Rattle.text_file_reader.specs.Resolved.{MakesBody, MakesNamed, MakesRuns, Resolves};
+ghost use Rattle.text_file_reader.specs.Resolved.{own_transaction_in, parameters_of, is_wanted};
 
 use crate::conditions::condition_at_once;
 use crate::expressions::last_expression_at_once;
@@ -18,20 +22,22 @@ use crate::statements::statement_at_once;
 use indexmap::IndexSet;
 use std::alloc::Global;
 use text_grammar::file::FileForm;
-use text_parser::file::{INNER_DEPTH, MAX_FILE, end, heading_of, pairs_of};
-use text_resolver::names::{declare, var_names};
-use text_resolver::resolve::{Parts, runs, variables};
+use text_parser::file::{INNER_DEPTH, MAX_FILE, end, heading_of, pairs_of, parameters_of, runs_of};
+use text_resolver::names::{Scope, declare, param_names, var_names};
+use text_resolver::resolve::{Parts, owned, runs, variables};
 use text_words::ReadFault;
 use text_words::bytes::are_allowed;
 use text_words::tokens::{begins, close, form, name_of};
-use txn_programs::{Cond, Tx};
+use txn_programs::{Call, Cond, Expr, Stmt, Tx};
 
 /// The variables that stand next: their names, their first values, and the bytes behind them.
 fn variables_at_once<'a>(
     alloc: Global,
     bytes: &'a [u8],
 ) -> Result<(IndexSet<&'a str>, Vec<(String, i64)>, &'a [u8]), ReadFault>
-    ensures { IfOk result (λ x. Resolves (all_of (begins (codes "var")) (pair_at (codes "var")) (tokens bytes.now)) variable_of pair_name (map view_variable x.1.items) (texts x.0.keys) (tokens x.2.now)) }
+    ensures { IfOk result
+        (λ x. Resolves (all_of (begins (codes "var")) (pair_at (codes "var")) (tokens bytes.now)) variable_of pair_name
+        (map view_variable x.1.items) (texts x.0.keys) (tokens x.2.now)) }
 {
     let (pairs, rest) = pairs_of(alloc, bytes, "var")?;
     let names = var_names(alloc, &pairs)?;
@@ -45,12 +51,19 @@ fn always_at_once<'a>(
     vars: &IndexSet<&str>,
     bytes: &'a [u8],
 ) -> Result<(&'a str, (String, Cond), &'a [u8]), ReadFault>
-    ensures { IfOk result (λ x. MakesNamed (always_at (tokens bytes.now)) (always_in (texts vars.now.keys)) condition_name (view_condition x.1) x.0.now (tokens x.2.now)) }
+    ensures { IfOk result
+        (λ x. MakesNamed (always_at (tokens bytes.now)) (always_in (texts vars.now.keys)) condition_name
+        (view_condition x.1) x.0.now (tokens x.2.now)) }
 {
     let rest = form(bytes, "always")?;
     let (name, rest) = name_of(rest)?;
     let held = String::from_str(alloc, name)?;
-    let (condition, rest) = condition_at_once(alloc, vars, INNER_DEPTH, rest)?;
+    let params = IndexSet::new(alloc);
+    let scope = Scope {
+        vars,
+        params: &params,
+    };
+    let (condition, rest) = condition_at_once(alloc, &scope, INNER_DEPTH, rest)?;
     match close(rest) {
         Ok(rest) => Ok((name, (held, condition), rest)),
         Err(fault) => {
@@ -66,7 +79,9 @@ fn standing_at_once<'a>(
     vars: &IndexSet<&str>,
     bytes: &'a [u8],
 ) -> Result<(Vec<(String, Cond)>, &'a [u8]), ReadFault>
-    ensures { IfOk result (λ x. (names : List (List ℕ)) × Resolves (all_of (begins (codes "always")) always_at (tokens bytes.now)) (always_in (texts vars.now.keys)) condition_name (map view_condition x.0.items) names (tokens x.1.now)) }
+    ensures { IfOk result (λ x. (names : List (List ℕ))
+        × Resolves (all_of (begins (codes "always")) always_at (tokens bytes.now))
+        (always_in (texts vars.now.keys)) condition_name (map view_condition x.0.items) names (tokens x.1.now)) }
 {
     let mut made = Vec::new(alloc);
     let mut names = IndexSet::new(alloc);
@@ -84,40 +99,33 @@ fn standing_at_once<'a>(
 #[tactic(auto, unfolding(text_grammar::specs::Reading::conditions_at))]
 fn conditions_at_once<'a>(
     alloc: Global,
-    form: FileForm,
+    file_form: FileForm,
     vars: &IndexSet<&str>,
     bytes: &'a [u8],
 ) -> Result<(Vec<(String, Cond)>, &'a [u8]), ReadFault>
-    ensures { IfOk result (λ x. (names : List (List ℕ)) × Resolves (conditions_at form (tokens bytes.now)) (always_in (texts vars.now.keys)) condition_name (map view_condition x.0.items) names (tokens x.1.now)) }
+    ensures { IfOk result (λ x. (names : List (List ℕ))
+        × Resolves (conditions_at file_form (tokens bytes.now)) (always_in (texts vars.now.keys)) condition_name
+        (map view_condition x.0.items) names (tokens x.1.now)) }
 {
-    match form {
+    match file_form {
         FileForm::One => Ok((Vec::new(alloc), bytes)),
-        FileForm::Two => standing_at_once(alloc, vars, bytes),
+        FileForm::Two | FileForm::Three => standing_at_once(alloc, vars, bytes),
     }
 }
 
-/// A transaction: its name, what it is, and the bytes behind it.
-fn tx_at_once<'a>(
+/// The body and the result of a transaction, and the bytes behind it.
+fn body_at_once<'a>(
     alloc: Global,
-    vars: &IndexSet<&str>,
+    scope: &Scope<'_, '_>,
     bytes: &'a [u8],
-) -> Result<(&'a str, Tx, &'a [u8]), ReadFault>
-    ensures { IfOk result (λ x. MakesNamed (tx_at (tokens bytes.now)) (transaction_in (texts vars.now.keys)) tx_name (transaction_of x.1) x.0.now (tokens x.2.now)) }
+) -> Result<(Stmt, Expr, &'a [u8]), ReadFault>
+    ensures { IfOk result
+        (λ x. MakesBody (view_scope scope.now) (tokens bytes.now) (statement_of x.0) (expression_of x.1)
+        (tokens x.2.now)) }
 {
-    let rest = form(bytes, "tx")?;
-    let (name, rest) = name_of(rest)?;
-    let held = String::from_str(alloc, name)?;
-    let (body, rest) = statement_at_once(alloc, vars, INNER_DEPTH, rest)?;
-    match last_expression_at_once(alloc, vars, INNER_DEPTH, rest) {
-        Ok((result, rest)) => Ok((
-            name,
-            Tx {
-                name: held,
-                body,
-                result,
-            },
-            rest,
-        )),
+    let (body, rest) = statement_at_once(alloc, scope, INNER_DEPTH, bytes)?;
+    match last_expression_at_once(alloc, scope, INNER_DEPTH, rest) {
+        Ok((result, rest)) => Ok((body, result, rest)),
         Err(fault) => {
             drop(body);
             Err(fault)
@@ -125,19 +133,55 @@ fn tx_at_once<'a>(
     }
 }
 
+/// A transaction of a file of this form: its name, what it is, and the bytes behind it. No parameter of it has
+/// the name of a variable or of one before it.
+fn tx_at_once<'a>(
+    alloc: Global,
+    file_form: FileForm,
+    vars: &IndexSet<&str>,
+    bytes: &'a [u8],
+) -> Result<(&'a str, Tx, &'a [u8]), ReadFault>
+    ensures { IfOk result
+        (λ x. MakesNamed (tx_at file_form (tokens bytes.now)) (own_transaction_in (texts vars.now.keys)) tx_name
+        (transaction_of x.1) x.0.now (tokens x.2.now)) }
+{
+    let rest = form(bytes, "tx")?;
+    let (name, rest) = name_of(rest)?;
+    let held = String::from_str(alloc, name)?;
+    let (raw, rest) = parameters_of(alloc, file_form, rest)?;
+    let names = param_names(alloc, vars, &raw)?;
+    let params = owned(alloc, &raw)?;
+    let scope = Scope {
+        vars,
+        params: &names,
+    };
+    let (body, result, rest) = body_at_once(alloc, &scope, rest)?;
+    let tx = Tx {
+        name: held,
+        params,
+        body,
+        result,
+    };
+    Ok((name, tx, rest))
+}
+
 /// The transactions that stand next: their names, what they are, and the bytes behind them.
 fn transactions_at_once<'a>(
     alloc: Global,
+    file_form: FileForm,
     vars: &IndexSet<&str>,
     bytes: &'a [u8],
 ) -> Result<(IndexSet<&'a str>, Vec<Tx>, &'a [u8]), ReadFault>
-    ensures { IfOk result (λ x. Resolves (all_of (begins (codes "tx")) tx_at (tokens bytes.now)) (transaction_in (texts vars.now.keys)) tx_name (map transaction_of x.1.items) (texts x.0.keys) (tokens x.2.now)) }
+    ensures { IfOk result
+        (λ x. Resolves (all_of (begins (codes "tx")) (tx_at file_form) (tokens bytes.now))
+        (own_transaction_in (texts vars.now.keys)) tx_name (map transaction_of x.1.items) (texts x.0.keys)
+        (tokens x.2.now)) }
 {
     let mut made = Vec::new(alloc);
     let mut names = IndexSet::new(alloc);
     let mut rest = bytes;
     'txs: while begins(rest, "tx") {
-        let (name, tx, after) = tx_at_once(alloc, vars, rest)?;
+        let (name, tx, after) = tx_at_once(alloc, file_form, vars, rest)?;
         made.push(tx)?;
         declare(&mut names, name)?;
         rest = after;
@@ -145,17 +189,54 @@ fn transactions_at_once<'a>(
     Ok((names, made, rest))
 }
 
+/// Whether a call is of one of these transactions, with as many arguments as that has parameters.
+fn is_wanted(txs: &[Tx], call: &Call) -> bool
+    ensures { result ≡ is_wanted (map parameters_of (map transaction_of txs.now)) call.now }
+{
+    match txs.get(call.tx.0 as usize) {
+        Some(tx) => call.arguments.as_slice().len() == tx.params.len(),
+        None => false,
+    }
+}
+
+/// The same of the call of each run.
+fn are_wanted(txs: &[Tx], runs: &[(Call, u32)]) -> bool
+    ensures { result ≡ list_all (λ run. is_wanted (map parameters_of (map transaction_of txs.now)) run.0) runs.now }
+{
+    runs.iter().all(|run| is_wanted(txs, &run.0))
+}
+
+/// The runs that stand next, each with as many arguments as its transaction has parameters, and the bytes behind
+/// them. The names are those of the transactions.
+fn runs_at_once<'a>(
+    alloc: Global,
+    file_form: FileForm,
+    names: &IndexSet<&str>,
+    txs: &[Tx],
+    bytes: &'a [u8],
+) -> Result<(Vec<(Call, u32)>, &'a [u8]), ReadFault>
+    ensures { IfOk result
+        (λ x. MakesRuns (all_of (begins (codes "run")) (run_at file_form) (tokens bytes.now)) (texts names.now.keys)
+        (map parameters_of (map transaction_of txs.now)) x.0.items (tokens x.1.now)) }
+{
+    let (raw, rest) = runs_of(alloc, file_form, bytes)?;
+    let made = runs(alloc, names, &raw)?;
+    if !are_wanted(txs, &made) {
+        return Err(ReadFault::Name);
+    }
+    Ok((made, rest))
+}
+
 /// What the bytes declare.
 fn file_at_once(alloc: Global, bytes: &[u8]) -> Result<Parts, ReadFault>
     ensures { IfOk result (λ parts. (file_of (tokens bytes.now) >>=ᴿ λ file. resolved file) ≡ Ok (view_parts parts)) }
 {
-    let (form, rest) = heading_of(bytes)?;
+    let (file_form, rest) = heading_of(bytes)?;
     let (var_names, vars, rest) = variables_at_once(alloc, rest)?;
-    let (always, rest) = conditions_at_once(alloc, form, &var_names, rest)?;
-    let (tx_names, txs, rest) = transactions_at_once(alloc, &var_names, rest)?;
-    let (pairs, rest) = pairs_of(alloc, rest, "run")?;
+    let (always, rest) = conditions_at_once(alloc, file_form, &var_names, rest)?;
+    let (tx_names, txs, rest) = transactions_at_once(alloc, file_form, &var_names, rest)?;
+    let (runs, rest) = runs_at_once(alloc, file_form, &tx_names, &txs, rest)?;
     end(rest)?;
-    let runs = runs(alloc, &tx_names, &pairs)?;
     Ok(Parts {
         vars,
         always,

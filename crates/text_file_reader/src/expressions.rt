@@ -5,13 +5,13 @@ ghost use Rattle.txn_programs.specs.Tree.{expression_of};
 ghost use Rattle.text_words.specs.Tokens.{tokens};
 ghost use Rattle.text_grammar.specs.Reading.{expr_at, binary_with};
 ghost use Rattle.text_grammar.specs.Resolving.{expression_in};
-ghost use Rattle.text_resolver.specs.Texts.{texts};
+ghost use Rattle.text_resolver.specs.Scopes.{view_scope};
 ghost use Rattle.text_file_reader.specs.Resolved.{Makes, MakesLast};
 
-use indexmap::IndexSet;
 use std::alloc::Global;
 use text_grammar::words::operator_of;
-use text_resolver::resolve::{binary, variable};
+use text_resolver::names::Scope;
+use text_resolver::resolve::{binary, named};
 use text_words::ReadFault;
 use text_words::lexer::Token;
 use text_words::tokens::{close, name_of, token_of};
@@ -21,11 +21,13 @@ use txn_programs::Expr;
 #[cycle(expressions)]
 pub(crate) fn expression_at_once<'a>(
     alloc: Global,
-    names: &IndexSet<&str>,
+    scope: &Scope<'_, '_>,
     depth: u32,
     bytes: &'a [u8],
 ) -> Result<(Expr, &'a [u8]), ReadFault>
-    ensures { IfOk result (λ x. Makes (expr_at depth (tokens bytes.now)) (expression_in (texts names.now.keys)) (expression_of x.0) (tokens x.1.now)) }
+    ensures { IfOk result
+        (λ x. Makes (expr_at depth (tokens bytes.now)) (expression_in (view_scope scope.now)) (expression_of x.0)
+        (tokens x.1.now)) }
 {
     let (token, rest) = token_of(bytes)?;
     match token {
@@ -34,14 +36,14 @@ pub(crate) fn expression_at_once<'a>(
             Ok((Expr::Int(number), rest))
         }
         Token::Name(name) => {
-            let id = variable(names, name)?;
-            Ok((Expr::Var(id), rest))
+            let made = named(scope, name)?;
+            Ok((made, rest))
         }
         Token::Open => {
             if depth == 0 {
                 return Err(ReadFault::Shape);
             }
-            binary_at_once(alloc, names, depth - 1, rest)
+            binary_at_once(alloc, scope, depth - 1, rest)
         }
         Token::Close | Token::Other => Err(ReadFault::Shape),
     }
@@ -50,13 +52,15 @@ pub(crate) fn expression_at_once<'a>(
 /// An expression, and the parenthesis that closes behind it.
 pub(crate) fn last_expression_at_once<'a>(
     alloc: Global,
-    names: &IndexSet<&str>,
+    scope: &Scope<'_, '_>,
     depth: u32,
     bytes: &'a [u8],
 ) -> Result<(Expr, &'a [u8]), ReadFault>
-    ensures { IfOk result (λ x. MakesLast (expr_at depth (tokens bytes.now)) (expression_in (texts names.now.keys)) (expression_of x.0) (tokens x.1.now)) }
+    ensures { IfOk result
+        (λ x. MakesLast (expr_at depth (tokens bytes.now)) (expression_in (view_scope scope.now)) (expression_of x.0)
+        (tokens x.1.now)) }
 {
-    let (made, rest) = expression_at_once(alloc, names, depth, bytes)?;
+    let (made, rest) = expression_at_once(alloc, scope, depth, bytes)?;
     match close(rest) {
         Ok(rest) => Ok((made, rest)),
         Err(fault) => {
@@ -70,16 +74,18 @@ pub(crate) fn last_expression_at_once<'a>(
 #[cycle(expressions)]
 fn binary_at_once<'a>(
     alloc: Global,
-    names: &IndexSet<&str>,
+    scope: &Scope<'_, '_>,
     depth: u32,
     bytes: &'a [u8],
 ) -> Result<(Expr, &'a [u8]), ReadFault>
-    ensures { IfOk result (λ x. Makes (binary_with (expr_at depth) (tokens bytes.now)) (expression_in (texts names.now.keys)) (expression_of x.0) (tokens x.1.now)) }
+    ensures { IfOk result
+        (λ x. Makes (binary_with (expr_at depth) (tokens bytes.now)) (expression_in (view_scope scope.now))
+        (expression_of x.0) (tokens x.1.now)) }
 {
     let (word, rest) = name_of(bytes)?;
     let operator = operator_of(word)?;
-    let (left, rest) = boxed(alloc, names, depth, rest)?;
-    let (right, rest) = boxed(alloc, names, depth, rest)?;
+    let (left, rest) = boxed(alloc, scope, depth, rest)?;
+    let (right, rest) = boxed(alloc, scope, depth, rest)?;
     let rest = close(rest)?;
     Ok((binary(operator, left, right), rest))
 }
@@ -89,13 +95,15 @@ fn binary_at_once<'a>(
 #[cycle(expressions)]
 fn boxed<'a>(
     alloc: Global,
-    names: &IndexSet<&str>,
+    scope: &Scope<'_, '_>,
     depth: u32,
     bytes: &'a [u8],
 ) -> Result<(Box<Expr>, &'a [u8]), ReadFault>
-    ensures { IfOk result (λ x. Makes (expr_at depth (tokens bytes.now)) (expression_in (texts names.now.keys)) (expression_of x.0.value) (tokens x.1.now)) }
+    ensures { IfOk result
+        (λ x. Makes (expr_at depth (tokens bytes.now)) (expression_in (view_scope scope.now)) (expression_of x.0.value)
+        (tokens x.1.now)) }
 {
-    let (made, rest) = expression_at_once(alloc, names, depth, bytes)?;
+    let (made, rest) = expression_at_once(alloc, scope, depth, bytes)?;
     let held = Box::new(alloc, made)?;
     Ok((held, rest))
 }

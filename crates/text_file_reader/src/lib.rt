@@ -1,9 +1,10 @@
-//! Files read as catalogues.
+//! Files read as catalogues, and what is so of each file, whoever reads or prints it (`laws`).
 #![tactic(auto)]
 
 mod at_once;
 mod conditions;
 mod expressions;
+pub mod laws;
 mod read;
 mod statements;
 

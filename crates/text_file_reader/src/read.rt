@@ -5,7 +5,7 @@ ghost use Rattle.txn_programs.specs.Listing.{Listing};
 ghost use Rattle.txn.specs.Ids.{ids_hold};
 ghost use Rattle.text_words.specs.Answers.{Gives};
 ghost use Rattle.text_grammar.specs.Spelling.{Spells, listing_at, lawful, first_fault};
-ghost use Rattle.text_laws.specs.Faults.{IsFirst};
+ghost use Rattle.text_file_reader.specs.Faults.{IsFirst};
 ghost use Rattle.text_resolver.specs.Parts.{view_parts};
 ghost use Rattle.text_words.specs.declared.fault.ReadFault.TheVariants.{Memory};
 
@@ -53,13 +53,18 @@ fn read(alloc: Global, bytes: &[u8]) -> Result<Catalogue, ReadFault>
     }
 }
 
-/// Reads a file. It is `Ok` exactly where the bytes spell a catalogue by the rules of the
-/// language: at most 1,048,576 bytes, a reading by the grammar with at most 32 parentheses open at
-/// a time, names declared once and before nothing else is asked of them, all limits kept, and each
-/// standing condition true of the initial values. Otherwise the fault is the first of `TooLong`,
-/// `BadByte`, `Shape`, `Name`, `Limit` and `Broken` that applies, each judged over all the bytes
-/// before the next is. `Memory` may come in place of any answer, where a growth was refused. It
-/// takes time and memory linear in the input.
+/// Reads a file. It is `Ok` exactly where the bytes spell a catalogue by the rules of the language: at
+/// most 1,048,576 bytes; a reading by the grammar of its form with at most 32 parentheses open at a
+/// time; only declared names used, none declared twice among variables, among conditions or among
+/// transactions; all limits kept; and each standing condition true of the initial values. A file of
+/// form 2 may have standing conditions. One of form 3 may have parameters as well: none with the name
+/// of a variable or of one before it, and each run with as many arguments as its transaction has
+/// parameters.
+///
+/// Otherwise the fault is the first of `TooLong`, `BadByte`, `Shape`, `Name`, `Limit` and `Broken`
+/// that applies, each judged over all the bytes before the next is; a wrong number of arguments is a
+/// fault of `Name`. `Memory` may come in place of any answer, where a growth was refused. It takes
+/// time and memory linear in the input.
 pub fn read_file(alloc: Global, bytes: &[u8]) -> Result<Catalogue, ReadFault>
     // What is read is spelled so.
     ensures found { IfOk result (λ c. Spells bytes.now c) }

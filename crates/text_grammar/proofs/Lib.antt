@@ -2,5 +2,6 @@ pub mod WordSteps
 pub mod Exprs
 pub mod Conds
 pub mod Stmts
+pub mod Lists
 pub mod Files
 pub mod Views

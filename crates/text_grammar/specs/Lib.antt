@@ -1,4 +1,5 @@
 pub mod Tree
+pub mod Scope
 pub mod Reading
 pub mod View
 pub mod Written

@@ -4,11 +4,11 @@ use Rattle.std.specs.Ordering.{int_eq}
 use Rattle.std.specs.Str.{bytes_eq}
 use Rattle.std.specs.List.{list_all}
 use Rattle.text_words.specs.Answers.{◌>>=◌}
-use Rattle.text_words.specs.TokenReading.{Read, close_at, name_at, int_at, is_open, word_at, form_at, begins, next_at, all_of}
+use Rattle.text_words.specs.TokenReading.{Read, open_at, close_at, name_at, int_at, is_open, is_name, is_int, word_at, form_at, begins, next_at, all_of}
 use Rattle.text_words.specs.Bytes.{is_allowed}
 use Rattle.text_words.specs.Tokens.{Lexeme, Opens, Closes, tokens}
 use Rattle.text_words.specs.Tokens as token
-use Rattle.text_grammar.specs.Tree.{Expr, Cond, Stmt, Stmts, NoStmts, MoreStmts, Pair, Always, Declaration, File}
+use Rattle.text_grammar.specs.Tree.{Expr, Cond, Stmt, Stmts, NoStmts, MoreStmts, Pair, Always, Declaration, Run, File}
 use Rattle.text_grammar.specs.Tree as tree
 use Rattle.text_grammar.specs.declared.words.Operator.{Operator}
 use Rattle.text_grammar.specs.declared.words.Operator.TheVariants as operator
@@ -19,7 +19,7 @@ use Rattle.text_grammar.specs.declared.words.Test.TheVariants as test
 use Rattle.text_grammar.specs.declared.words.Keyword.{Keyword}
 use Rattle.text_grammar.specs.declared.words.Keyword.TheVariants as keyword
 use Rattle.text_grammar.specs.declared.file.FileForm.{FileForm}
-use Rattle.text_grammar.specs.declared.file.FileForm.TheVariants.{One, Two}
+use Rattle.text_grammar.specs.declared.file.FileForm.TheVariants.{One, Two, Three}
 use Rattle.text_words.specs.declared.fault.ReadFault.{ReadFault}
 use Rattle.text_words.specs.declared.fault.ReadFault.TheVariants.{TooLong, BadByte, Shape}
 
@@ -207,25 +207,66 @@ always_at ts = do
 unfoldable pub conditions_at : FileForm → List Lexeme → Read (List Always)
 conditions_at One ts = Ok ([], ts)
 conditions_at Two ts = all_of (begins (codes "always")) always_at ts
+conditions_at Three ts = all_of (begins (codes "always")) always_at ts
 
-unfoldable pub tx_at : List Lexeme → Read Declaration
-tx_at ts = do
+-- ( NAME .. )
+unfoldable pub list_at : List Lexeme → Read (List (List ℕ))
+list_at ts = do
+  inside ← open_at ts
+  names ← all_of is_name name_at inside
+  rest ← close_at names.1
+  Ok (names.0, rest)
+
+-- parameters, of which only form 3 has a list
+unfoldable pub parameters_at : FileForm → List Lexeme → Read (List (List ℕ))
+parameters_at One ts = Ok ([], ts)
+parameters_at Two ts = Ok ([], ts)
+parameters_at Three ts = list_at ts
+
+-- ( tx NAME STMT EXPR ), in form 3 ( tx NAME ( NAME .. ) STMT EXPR )
+unfoldable pub tx_at : FileForm → List Lexeme → Read Declaration
+tx_at announced ts = do
   inside ← form_at (codes "tx") ts
   name ← name_at inside
-  body ← stmt_at 31 name.1
+  parameters ← parameters_at announced name.1
+  body ← stmt_at 31 parameters.1
   value ← expr_at 31 body.1
   rest ← close_at value.1
-  Ok (record { name = name.0; body = body.0; value = value.0 }, rest)
+  Ok (record { name = name.0; parameters = parameters.0; body = body.0; value = value.0 }, rest)
+
+-- arguments, which only form 3 has
+unfoldable pub arguments_at : FileForm → List Lexeme → Read (List ℤ)
+arguments_at One ts = Ok ([], ts)
+arguments_at Two ts = Ok ([], ts)
+arguments_at Three ts = all_of is_int int_at ts
+
+-- NAME INT ), in form 3 NAME INT INT .. )
+abbrev pub run_behind : FileForm → List Lexeme → Read Run
+run_behind announced inside = do
+  name ← name_at inside
+  count ← int_at name.1
+  arguments ← arguments_at announced count.1
+  rest ← close_at arguments.1
+  Ok (record { name = name.0; count = count.0; arguments = arguments.0 }, rest)
+
+-- ( run NAME INT ), in form 3 ( run NAME INT INT .. )
+unfoldable pub run_at : FileForm → List Lexeme → Read Run
+run_at announced ts = do
+  inside ← form_at (codes "run") ts
+  run_behind announced inside
 
 unfoldable pub end_at : List Lexeme → Result Unit ReadFault
 end_at [] = Ok tt
 end_at (t ∷ ts) = Err Shape
 
--- the only form that is announced
+-- the forms that are announced
 abbrev pub form_numbered : ℤ → Result FileForm ReadFault
-form_numbered number = if int_eq number (pos 2) then Ok Two else Err Shape
+form_numbered number =
+    if int_eq number (pos 2) then Ok Two
+    else (if int_eq number (pos 3) then Ok Three
+    else Err Shape)
 
--- ( stm 2 )
+-- ( stm 2 ) or ( stm 3 )
 unfoldable pub announced_at : List Lexeme → Read FileForm
 announced_at ts = do
   inside ← form_at (codes "stm") ts
@@ -244,8 +285,8 @@ file_of ts = do
   heading ← heading_at ts
   vars ← all_of (begins (codes "var")) (pair_at (codes "var")) heading.1
   always ← conditions_at heading.0 vars.1
-  txs ← all_of (begins (codes "tx")) tx_at always.1
-  runs ← all_of (begins (codes "run")) (pair_at (codes "run")) txs.1
+  txs ← all_of (begins (codes "tx")) (tx_at heading.0) always.1
+  runs ← all_of (begins (codes "run")) (run_at heading.0) txs.1
   ended ← end_at runs.1
   Ok (record { form = heading.0; vars = vars.0; always = always.0; txs = txs.0; runs = runs.0 })
 

@@ -1,12 +1,16 @@
 -- From the tree of a file to its listing: names as ids, and integers as numbers of the machine.
-use Rattle.std.specs.Prelude.{ℕ, ℤ, Bool, true, is_some, ◌&&◌, nat_lt, if◌then◌else◌, Option, Some, None, position, Result, Ok, Err, List, [], ◌∷◌, ◌++◌, map, ◌^◌, bytes_eq}
+use Rattle.std.specs.Prelude.{ℕ, ℤ, Bool, true, false, is_some, ◌&&◌, ◌||◌, ◌==◌, nat_lt, nat_le, length, slice_index_or, if◌then◌else◌, Option, Some, None, position, Result, Ok, Err, List, [], ◌∷◌, ◌++◌, map, ◌^◌, bytes_eq}
 use Rattle.std.specs.List.{list_all, list_any}
 use Rattle.txn_programs.specs.declared.ast.VarId.{VarId}
-use Rattle.txn_programs.specs.declared.ast.TxId.{TxId}
+use Rattle.txn_programs.specs.declared.ast.ParamId.{ParamId}
+use Rattle.txn_programs.specs.Limits.{most_parameters}
+use Rattle.txn_programs.specs.Names.{are_new}
+use Rattle.txn_programs.specs.declared.arguments.Call.{Call}
 use Rattle.txn_programs.specs.Tree.{Expression, Condition, Statement, Statements, Transaction}
 use Rattle.txn_programs.specs.Tree as t
 use Rattle.txn_programs.specs.Listing.{Listing}
-use Rattle.text_grammar.specs.Tree.{Expr, Cond, Stmt, Stmts, NoStmts, MoreStmts, Pair, Always, Declaration, File}
+use Rattle.text_grammar.specs.Tree.{Expr, Cond, Stmt, Stmts, NoStmts, MoreStmts, Pair, Always, Declaration, Run, File}
+use Rattle.text_grammar.specs.Scope.{Scope, standing, inside}
 use Rattle.text_grammar.specs.Tree as f
 use Rattle.text_words.specs.Answers.{◌>>=◌}
 use Rattle.text_words.specs.Numbers.{number_of, count_of}
@@ -34,43 +38,54 @@ declared_after earlier (name ∷ rest) = declared_one earlier name >>= λ more. 
 abbrev pub is_known : List (List ℕ) → List ℕ → Bool
 is_known names name = is_some (position (bytes_eq name) names)
 
-abbrev pub expr_known : List (List ℕ) → Expr → Bool
-expr_known names (f.Int value) = true
-expr_known names (f.Name name) = is_known names name
-expr_known names (f.Binary op left right) = expr_known names left && expr_known names right
+abbrev pub expr_known : Scope → Expr → Bool
+expr_known s (f.Int value) = true
+expr_known s (f.Name name) = is_known s.parameters name || is_known s.variables name
+expr_known s (f.Binary op left right) = expr_known s left && expr_known s right
 
-abbrev pub cond_known : List (List ℕ) → Cond → Bool
-cond_known names (f.Compare op left right) = expr_known names left && expr_known names right
-cond_known names (f.Not inner) = cond_known names inner
-cond_known names (f.Connect op left right) = cond_known names left && cond_known names right
+abbrev pub cond_known : Scope → Cond → Bool
+cond_known s (f.Compare op left right) = expr_known s left && expr_known s right
+cond_known s (f.Not inner) = cond_known s inner
+cond_known s (f.Connect op left right) = cond_known s left && cond_known s right
 
+-- what is set is a variable
 abbrev mutual
-  pub stmt_known : List (List ℕ) → Stmt → Bool
-  stmt_known names f.Skip = true
-  stmt_known names (f.Set name value) = is_known names name && expr_known names value
-  stmt_known names (f.Seq parts) = stmts_known names parts
-  stmt_known names (f.If test first second) = cond_known names test && (stmt_known names first && stmt_known names second)
-  stmt_known names (f.Repeat count body) = stmt_known names body
-  stmt_known names f.Retry = true
-  stmt_known names (f.OrElse first second) = stmt_known names first && stmt_known names second
-  stmt_known names (f.Throw value) = expr_known names value
+  pub stmt_known : Scope → Stmt → Bool
+  stmt_known s f.Skip = true
+  stmt_known s (f.Set name value) = is_known s.variables name && expr_known s value
+  stmt_known s (f.Seq parts) = stmts_known s parts
+  stmt_known s (f.If test first second) = cond_known s test && (stmt_known s first && stmt_known s second)
+  stmt_known s (f.Repeat count body) = stmt_known s body
+  stmt_known s f.Retry = true
+  stmt_known s (f.OrElse first second) = stmt_known s first && stmt_known s second
+  stmt_known s (f.Throw value) = expr_known s value
 
-  pub stmts_known : List (List ℕ) → Stmts → Bool
-  stmts_known names NoStmts = true
-  stmts_known names (MoreStmts first others) = stmt_known names first && stmts_known names others
+  pub stmts_known : Scope → Stmts → Bool
+  stmts_known s NoStmts = true
+  stmts_known s (MoreStmts first others) = stmt_known s first && stmts_known s others
 
 abbrev pub always_known : List (List ℕ) → Always → Bool
-always_known names a = cond_known names a.condition
+always_known vars a = cond_known (standing vars) a.condition
 
+-- no parameter has the name of a variable or of one before it, and all names that are used are known
 abbrev pub tx_known : List (List ℕ) → Declaration → Bool
-tx_known names t = stmt_known names t.body && expr_known names t.value
+tx_known vars t = are_new vars t.parameters && (stmt_known (inside vars t.parameters) t.body && expr_known (inside vars t.parameters) t.value)
 
-abbrev pub run_known : List (List ℕ) → Pair → Bool
-run_known names run = is_known names run.name
+abbrev pub tx_name : Declaration → List ℕ
+tx_name d = d.name
 
--- only declared variables and transactions are used
-unfoldable pub uses_known : List (List ℕ) → List (List ℕ) → File → Bool
-uses_known vars txs file = list_all (always_known vars) file.always && (list_all (tx_known vars) file.txs && list_all (run_known txs) file.runs)
+-- at the place, where it is one, stands a transaction with so many parameters
+abbrev pub has_parameters : List Declaration → ℕ → Option ℕ → Bool
+has_parameters txs n None = false
+has_parameters txs n (Some place) = length (slice_index_or (map (λ (t : Declaration). t.parameters) txs) place []) == n
+
+-- a run names a transaction, and gives as many arguments as that has parameters
+abbrev pub run_known : List Declaration → Run → Bool
+run_known txs run = has_parameters txs (length run.arguments) (position (bytes_eq run.name) (map tx_name txs))
+
+-- only names that are declared are used, and each as it is declared
+unfoldable pub uses_known : List (List ℕ) → File → Bool
+uses_known vars file = list_all (always_known vars) file.always && (list_all (tx_known vars) file.txs && list_all (run_known file.txs) file.runs)
 
 -- ---- ids
 
@@ -85,6 +100,15 @@ place_in names name = placed (position (bytes_eq name) names)
 
 unfoldable pub variable_in : List (List ℕ) → List ℕ → Result VarId ReadFault
 variable_in names name = place_in names name >>= λ place. Ok (record { 0 = place })
+
+unfoldable pub parameter_in : List (List ℕ) → List ℕ → Result ParamId ReadFault
+parameter_in names name = place_in names name >>= λ place. Ok (record { 0 = place })
+
+-- a parameter, where one has the name, else a variable
+abbrev pub named_in : Scope → List ℕ → Result Expression ReadFault
+named_in s name =
+    if is_known s.parameters name then (parameter_in s.parameters name >>= λ p. Ok (t.Param p))
+    else (variable_in s.variables name >>= λ x. Ok (t.Var x))
 
 -- ---- conditions and transactions
 
@@ -104,30 +128,30 @@ abbrev pub connect : Connective → Condition → Condition → Condition
 connect connective.And = t.And
 connect connective.Or = t.Or
 
-abbrev pub expression_in : List (List ℕ) → Expr → Result Expression ReadFault
-expression_in names (f.Int value) = number_of value >>= λ n. Ok (t.Int n)
-expression_in names (f.Name name) = variable_in names name >>= λ x. Ok (t.Var x)
-expression_in names (f.Binary op left right) = expression_in names left >>= λ a. expression_in names right >>= λ b. Ok (binary op a b)
+abbrev pub expression_in : Scope → Expr → Result Expression ReadFault
+expression_in s (f.Int value) = number_of value >>= λ n. Ok (t.Int n)
+expression_in s (f.Name name) = named_in s name
+expression_in s (f.Binary op left right) = expression_in s left >>= λ a. expression_in s right >>= λ b. Ok (binary op a b)
 
-abbrev pub condition_in : List (List ℕ) → Cond → Result Condition ReadFault
-condition_in names (f.Compare op left right) = expression_in names left >>= λ a. expression_in names right >>= λ b. Ok (compare op a b)
-condition_in names (f.Not inner) = condition_in names inner >>= λ c. Ok (t.Not c)
-condition_in names (f.Connect op left right) = condition_in names left >>= λ c. condition_in names right >>= λ d. Ok (connect op c d)
+abbrev pub condition_in : Scope → Cond → Result Condition ReadFault
+condition_in s (f.Compare op left right) = expression_in s left >>= λ a. expression_in s right >>= λ b. Ok (compare op a b)
+condition_in s (f.Not inner) = condition_in s inner >>= λ c. Ok (t.Not c)
+condition_in s (f.Connect op left right) = condition_in s left >>= λ c. condition_in s right >>= λ d. Ok (connect op c d)
 
 abbrev mutual
-  pub statement_in : List (List ℕ) → Stmt → Result Statement ReadFault
-  statement_in names f.Skip = Ok t.Skip
-  statement_in names (f.Set name value) = variable_in names name >>= λ x. expression_in names value >>= λ a. Ok (t.Set x a)
-  statement_in names (f.Seq parts) = statements_in names parts >>= λ ps. Ok (t.Seq ps)
-  statement_in names (f.If test first second) = condition_in names test >>= λ c. statement_in names first >>= λ p. statement_in names second >>= λ q. Ok (t.If c p q)
-  statement_in names (f.Repeat count body) = count_of count >>= λ n. statement_in names body >>= λ p. Ok (t.Repeat n p)
-  statement_in names f.Retry = Ok t.Retry
-  statement_in names (f.OrElse first second) = statement_in names first >>= λ p. statement_in names second >>= λ q. Ok (t.OrElse p q)
-  statement_in names (f.Throw value) = expression_in names value >>= λ a. Ok (t.Throw a)
+  pub statement_in : Scope → Stmt → Result Statement ReadFault
+  statement_in s f.Skip = Ok t.Skip
+  statement_in s (f.Set name value) = variable_in s.variables name >>= λ x. expression_in s value >>= λ a. Ok (t.Set x a)
+  statement_in s (f.Seq parts) = statements_in s parts >>= λ ps. Ok (t.Seq ps)
+  statement_in s (f.If test first second) = condition_in s test >>= λ c. statement_in s first >>= λ p. statement_in s second >>= λ q. Ok (t.If c p q)
+  statement_in s (f.Repeat count body) = count_of count >>= λ n. statement_in s body >>= λ p. Ok (t.Repeat n p)
+  statement_in s f.Retry = Ok t.Retry
+  statement_in s (f.OrElse first second) = statement_in s first >>= λ p. statement_in s second >>= λ q. Ok (t.OrElse p q)
+  statement_in s (f.Throw value) = expression_in s value >>= λ a. Ok (t.Throw a)
 
-  pub statements_in : List (List ℕ) → Stmts → Result Statements ReadFault
-  statements_in names NoStmts = Ok t.End
-  statements_in names (MoreStmts first others) = statement_in names first >>= λ p. statements_in names others >>= λ ps. Ok (t.More p ps)
+  pub statements_in : Scope → Stmts → Result Statements ReadFault
+  statements_in s NoStmts = Ok t.End
+  statements_in s (MoreStmts first others) = statement_in s first >>= λ p. statements_in s others >>= λ ps. Ok (t.More p ps)
 
 -- ---- files
 
@@ -140,15 +164,25 @@ abbrev pub variable_of : Pair → Result (List ℕ × ℤ) ReadFault
 variable_of p = number_of p.value >>= λ n. Ok (p.name, n)
 
 abbrev pub always_in : List (List ℕ) → Always → Result (List ℕ × Condition) ReadFault
-always_in names a = condition_in names a.condition >>= λ condition. Ok (a.name, condition)
+always_in vars a = condition_in (standing vars) a.condition >>= λ condition. Ok (a.name, condition)
 
 abbrev pub transaction_in : List (List ℕ) → Declaration → Result Transaction ReadFault
-transaction_in names d = statement_in names d.body >>= λ body. expression_in names d.value >>= λ result. Ok (record { name = d.name; body = body; result = result })
+transaction_in vars d =
+    statement_in (inside vars d.parameters) d.body >>= λ body.
+    expression_in (inside vars d.parameters) d.value >>= λ result.
+    Ok (record { name = d.name; parameters = d.parameters; body = body; result = result })
 
-abbrev pub run_in : List (List ℕ) → Pair → Result (TxId × ℕ) ReadFault
-run_in names p = place_in names p.name >>= λ place. count_of p.value >>= λ n. Ok (record { 0 = place }, n)
+-- a call has no more arguments than a transaction may have parameters
+abbrev pub arguments_in : List ℤ → Result (List ℤ) ReadFault
+arguments_in given = if nat_le (length given) most_parameters then each number_of given else Err Limit
 
-abbrev pub listing : List (List ℕ × ℤ) → List (List ℕ × Condition) → List Transaction → List (TxId × ℕ) → Listing
+abbrev pub call_at : ℕ → List ℤ → Call
+call_at place given = record { tx = record { 0 = place }; arguments = given }
+
+abbrev pub run_in : List (List ℕ) → Run → Result (Call × ℕ) ReadFault
+run_in names r = place_in names r.name >>= λ place. count_of r.count >>= λ n. arguments_in r.arguments >>= λ given. Ok (call_at place given, n)
+
+abbrev pub listing : List (List ℕ × ℤ) → List (List ℕ × Condition) → List Transaction → List (Call × ℕ) → Listing
 listing vars always transactions runs =
     record { names = map (λ v. v.0) vars; initial = map (λ v. v.1) vars; always = always; transactions = transactions; runs = runs }
 
@@ -167,13 +201,10 @@ pair_name p = p.name
 abbrev pub condition_name : Always → List ℕ
 condition_name a = a.name
 
-abbrev pub tx_name : Declaration → List ℕ
-tx_name d = d.name
-
 -- names are judged over the whole file before any number is
 unfoldable pub resolved : File → Result Listing ReadFault
 resolved file = do
   vars ← declared_after [] (map pair_name file.vars)
   conditions ← declared_after [] (map condition_name file.always)
   txs ← declared_after [] (map tx_name file.txs)
-  if uses_known vars txs file then converted vars txs file else Err Name
+  if uses_known vars file then converted vars txs file else Err Name

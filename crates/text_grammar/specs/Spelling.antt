@@ -5,6 +5,7 @@ use Rattle.txn_programs.specs.Arithmetic.{fits}
 use Rattle.txn_programs.specs.Tree.{Expression, Condition, Statement, Statements, Transaction}
 use Rattle.txn_programs.specs.Tree as t
 use Rattle.txn_programs.specs.Listing.{Listing, conditions}
+use Rattle.txn_programs.specs.declared.arguments.Call.{Call}
 use Rattle.txn_programs.specs.Standing.{upholds}
 use Rattle.txn_programs.specs.Names.{names_hold}
 use Rattle.txn_programs.specs.Limits.{limits_hold}
@@ -21,6 +22,7 @@ use Rattle.text_grammar.specs.declared.file.FileForm.{FileForm}
 abbrev pub expression_integers : Expression → Bool
 expression_integers (t.Int n) = fits n
 expression_integers (t.Var x) = true
+expression_integers (t.Param p) = true
 expression_integers (t.Add a b) = expression_integers a && expression_integers b
 expression_integers (t.Sub a b) = expression_integers a && expression_integers b
 expression_integers (t.Mul a b) = expression_integers a && expression_integers b
@@ -53,8 +55,13 @@ abbrev mutual
 abbrev pub transaction_integers : Transaction → Bool
 transaction_integers t = statement_integers t.body && expression_integers t.result
 
+abbrev pub run_integers : Call × ℕ → Bool
+run_integers run = list_all fits run.0.arguments
+
 unfoldable pub integers_fit : Listing → Bool
-integers_fit l = list_all fits l.initial && (list_all condition_integers (conditions l) && list_all transaction_integers l.transactions)
+integers_fit l =
+    list_all fits l.initial && (list_all condition_integers (conditions l) && (list_all transaction_integers l.transactions
+    && list_all run_integers l.runs))
 
 -- the bytes spell a file that declares the listing, whose names, limits and integers hold
 pub record Declares (bytes : List ℕ) (l : Listing) : Type 0 where

@@ -1,5 +1,5 @@
 -- Files as trees, and the tokens that spell them: the grammar, one clause a form.
-use Rattle.std.specs.Prelude.{◌≡◌, ℕ, suc, ◌≤◌, ℤ, pos, true, List, [], ◌∷◌, ◌++◌, length, max, codes}
+use Rattle.std.specs.Prelude.{◌≡◌, ℕ, suc, ◌≤◌, ℤ, pos, true, List, [], ◌∷◌, ◌++◌, map, length, max, codes}
 use Rattle.std.specs.List.{flat_map, list_all, AllByRecursion}
 use Rattle.text_words.specs.Bytes.{is_allowed}
 use Rattle.text_words.specs.Tokens.{Lexeme, Opens, Closes, tokens}
@@ -13,7 +13,7 @@ use Rattle.text_grammar.specs.declared.words.Connective.TheVariants as connectiv
 use Rattle.text_grammar.specs.declared.words.Keyword.{Keyword}
 use Rattle.text_grammar.specs.declared.words.Keyword.TheVariants as keyword
 use Rattle.text_grammar.specs.declared.file.FileForm.{FileForm}
-use Rattle.text_grammar.specs.declared.file.FileForm.TheVariants.{One, Two}
+use Rattle.text_grammar.specs.declared.file.FileForm.TheVariants.{One, Two, Three}
 
 -- names are texts, and integers have no bounds
 pub data Expr : Type 0 where
@@ -41,7 +41,7 @@ mutual
     NoStmts : Stmts
     MoreStmts : (first : Stmt) (others : Stmts) → Stmts
 
--- a variable and its first value, or a transaction and how often it runs
+-- a variable and its first value
 pub record Pair : Type 0 where
   pub name : List ℕ
   pub value : ℤ
@@ -51,18 +51,25 @@ pub record Always : Type 0 where
   pub name : List ℕ
   pub condition : Cond
 
--- a transaction
+-- a transaction, with its parameters
 pub record Declaration : Type 0 where
   pub name : List ℕ
+  pub parameters : List (List ℕ)
   pub body : Stmt
   pub value : Expr
+
+-- a call of a transaction, and how many tasks make it
+pub record Run : Type 0 where
+  pub name : List ℕ
+  pub count : ℤ
+  pub arguments : List ℤ
 
 pub record File : Type 0 where
   pub form : FileForm
   pub vars : List Pair
   pub always : List Always
   pub txs : List Declaration
-  pub runs : List Pair
+  pub runs : List Run
 
 abbrev pub operator_word : Operator → List ℕ
 operator_word operator.Add = codes "add"
@@ -125,24 +132,40 @@ pair_tokens word p = form word (token.Name p.name ∷ token.Int p.value ∷ [])
 abbrev pub always_tokens : Always → List Lexeme
 always_tokens a = form (codes "always") (token.Name a.name ∷ cond_tokens a.condition)
 
-abbrev pub tx_tokens : Declaration → List Lexeme
-tx_tokens t = form (codes "tx") (token.Name t.name ∷ (stmt_tokens t.body ++ expr_tokens t.value))
+-- ( NAME .. ), which only form 3 has
+abbrev pub list_tokens : FileForm → List (List ℕ) → List Lexeme
+list_tokens One names = []
+list_tokens Two names = []
+list_tokens Three names = Opens ∷ (map token.Name names ++ (Closes ∷ []))
 
--- form 2 says so, form 1 says nothing
+abbrev pub tx_tokens : FileForm → Declaration → List Lexeme
+tx_tokens announced t =
+    form (codes "tx") (token.Name t.name ∷ (list_tokens announced t.parameters ++ (stmt_tokens t.body ++ expr_tokens t.value)))
+
+abbrev pub run_tokens : Run → List Lexeme
+run_tokens r = form (codes "run") (token.Name r.name ∷ token.Int r.count ∷ map token.Int r.arguments)
+
+-- forms 2 and 3 say so, form 1 says nothing
 abbrev pub heading_tokens : FileForm → List Lexeme
 heading_tokens One = []
 heading_tokens Two = form (codes "stm") (token.Int (pos 2) ∷ [])
+heading_tokens Three = form (codes "stm") (token.Int (pos 3) ∷ [])
 
 -- the form, then the variables, then the conditions, then the transactions, then the runs
 abbrev pub file_tokens : File → List Lexeme
 file_tokens f =
     heading_tokens f.form ++ (flat_map (pair_tokens (codes "var")) f.vars ++ (flat_map always_tokens f.always
-    ++ (flat_map tx_tokens f.txs ++ flat_map (pair_tokens (codes "run")) f.runs)))
+    ++ (flat_map (tx_tokens f.form) f.txs ++ flat_map run_tokens f.runs)))
 
--- form 1 has no conditions
-abbrev pub IsInForm : FileForm → List Always → Type 0
-IsInForm One always = always ≡ []
-IsInForm Two always = Unit {0}
+-- no transaction has parameters, and no run has arguments
+abbrev pub HasNoLists : File → Type 0
+HasNoLists f = AllByRecursion (λ (t : Declaration). t.parameters ≡ []) f.txs × AllByRecursion (λ (r : Run). r.arguments ≡ []) f.runs
+
+-- form 1 has no conditions, and only form 3 has parameters and arguments
+abbrev pub IsOfForm : FileForm → File → Type 0
+IsOfForm One f = (f.always ≡ []) × HasNoLists f
+IsOfForm Two f = HasNoLists f
+IsOfForm Three f = Unit {0}
 
 -- how many parentheses are open at a time, at most
 abbrev pub expr_depth : Expr → ℕ
@@ -189,5 +212,5 @@ pub record SpellsTree (bytes : List ℕ) (f : File) : Type 0 where
   pub short : length bytes ≤ max_len
   pub allowed : list_all is_allowed bytes ≡ true
   pub spelled : tokens bytes ≡ file_tokens f
-  pub formed : IsInForm f.form f.always
+  pub formed : IsOfForm f.form f
   pub shallow : AreShallow f

@@ -1,7 +1,9 @@
 -- What the code's raw trees say, and not where they lie in memory.
-use Rattle.std.specs.Prelude.{List, map}
+use Rattle.std.specs.Prelude.{ℕ, ℤ, List, map}
+use Rattle.std.proofs.Common.{Bor}
+use Rattle.text_words.specs.declared.numeral.Numeral.{Numeral}
 use Rattle.text_words.specs.Bytes.{int_value}
-use Rattle.text_grammar.specs.Tree.{Expr, Cond, Stmt, Stmts, NoStmts, MoreStmts, Pair, Always, Declaration, File}
+use Rattle.text_grammar.specs.Tree.{Expr, Cond, Stmt, Stmts, NoStmts, MoreStmts, Pair, Always, Declaration, Run, File}
 use Rattle.text_grammar.specs.Tree as tree
 use Rattle.text_grammar.specs.declared.expr.RawExpr.{RawExpr}
 use Rattle.text_grammar.specs.declared.expr.RawExpr as expr
@@ -12,6 +14,7 @@ use Rattle.text_grammar.specs.declared.stmt.RawStmt as stmt
 use Rattle.text_grammar.specs.declared.file.RawPair.{RawPair}
 use Rattle.text_grammar.specs.declared.file.RawAlways.{RawAlways}
 use Rattle.text_grammar.specs.declared.file.RawTx.{RawTx}
+use Rattle.text_grammar.specs.declared.file.RawRun.{RawRun}
 use Rattle.text_grammar.specs.declared.file.RawFile.{RawFile}
 
 abbrev pub view_expr : RawExpr → Expr
@@ -54,11 +57,24 @@ view_always a = record { name = a.name.now; condition = view_cond a.condition }
 abbrev pub view_conditions : List RawAlways → List Always
 view_conditions always = map view_always always
 
+-- texts, and not where they lie in memory
+abbrev pub view_names : List (Bor (List ℕ)) → List (List ℕ)
+view_names names = map (λ name. name.now) names
+
 abbrev pub view_tx : RawTx → Declaration
-view_tx t = record { name = t.name.now; body = view_stmt t.body; value = view_expr t.value }
+view_tx t = record { name = t.name.now; parameters = view_names t.params.items; body = view_stmt t.body; value = view_expr t.value }
 
 abbrev pub view_txs : List RawTx → List Declaration
 view_txs ts = map view_tx ts
+
+abbrev pub view_numbers : List Numeral → List ℤ
+view_numbers numerals = map (λ n. int_value n.text.now) numerals
+
+abbrev pub view_run : RawRun → Run
+view_run r = record { name = r.name.now; count = int_value r.count.text.now; arguments = view_numbers r.arguments.items }
+
+abbrev pub view_runs : List RawRun → List Run
+view_runs rs = map view_run rs
 
 abbrev pub view_file : RawFile → File
 view_file f =
@@ -67,5 +83,5 @@ view_file f =
       vars = view_pairs f.vars.items;
       always = view_conditions f.always.items;
       txs = view_txs f.txs.items;
-      runs = view_pairs f.runs.items;
+      runs = view_runs f.runs.items;
     }

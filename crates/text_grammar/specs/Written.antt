@@ -1,68 +1,79 @@
 -- The files that declare a listing: each id written as its name, each number as it is.
-use Rattle.std.specs.Prelude.{ℕ, ℤ, pos, List, [], ◌∷◌, map, slice_index_or}
-use Rattle.txn_programs.specs.declared.ast.TxId.{TxId}
+use Rattle.std.specs.Prelude.{ℕ, ℤ, pos, Bool, not, ◌==◌, if◌then◌else◌, List, [], ◌∷◌, map, slice_index_or}
+use Rattle.std.specs.List.{list_any}
+use Rattle.txn_programs.specs.declared.arguments.Call.{Call}
 use Rattle.txn_programs.specs.Tree.{Expression, Condition, Statement, Statements, Transaction}
 use Rattle.txn_programs.specs.Tree as t
-use Rattle.txn_programs.specs.Listing.{Listing}
-use Rattle.text_grammar.specs.Tree.{Expr, Cond, Stmt, Stmts, NoStmts, MoreStmts, Pair, Always, Declaration, File}
+use Rattle.txn_programs.specs.Listing.{Listing, arity}
+use Rattle.text_grammar.specs.Tree.{Expr, Cond, Stmt, Stmts, NoStmts, MoreStmts, Pair, Always, Declaration, Run, File}
+use Rattle.text_grammar.specs.Scope.{Scope, standing, inside}
 use Rattle.text_grammar.specs.Tree as f
 use Rattle.text_grammar.specs.declared.words.Operator.TheVariants as operator
 use Rattle.text_grammar.specs.declared.words.Comparison.TheVariants as comparison
 use Rattle.text_grammar.specs.declared.words.Connective.TheVariants as connective
 use Rattle.text_grammar.specs.declared.file.FileForm.{FileForm}
-use Rattle.text_grammar.specs.declared.file.FileForm.TheVariants.{One, Two}
+use Rattle.text_grammar.specs.declared.file.FileForm.TheVariants.{One, Two, Three}
 
 -- the name at a place
 abbrev pub name_at : List (List ℕ) → ℕ → List ℕ
 name_at names place = slice_index_or names place []
 
-abbrev pub written_expression : List (List ℕ) → Expression → Expr
-written_expression names (t.Int n) = f.Int n
-written_expression names (t.Var x) = f.Name (name_at names x.0)
-written_expression names (t.Add a b) = f.Binary operator.Add (written_expression names a) (written_expression names b)
-written_expression names (t.Sub a b) = f.Binary operator.Sub (written_expression names a) (written_expression names b)
-written_expression names (t.Mul a b) = f.Binary operator.Mul (written_expression names a) (written_expression names b)
-written_expression names (t.Div a b) = f.Binary operator.Div (written_expression names a) (written_expression names b)
-written_expression names (t.Rem a b) = f.Binary operator.Rem (written_expression names a) (written_expression names b)
+abbrev pub written_expression : Scope → Expression → Expr
+written_expression s (t.Int n) = f.Int n
+written_expression s (t.Var x) = f.Name (name_at s.variables x.0)
+written_expression s (t.Param p) = f.Name (name_at s.parameters p.0)
+written_expression s (t.Add a b) = f.Binary operator.Add (written_expression s a) (written_expression s b)
+written_expression s (t.Sub a b) = f.Binary operator.Sub (written_expression s a) (written_expression s b)
+written_expression s (t.Mul a b) = f.Binary operator.Mul (written_expression s a) (written_expression s b)
+written_expression s (t.Div a b) = f.Binary operator.Div (written_expression s a) (written_expression s b)
+written_expression s (t.Rem a b) = f.Binary operator.Rem (written_expression s a) (written_expression s b)
 
-abbrev pub written_condition : List (List ℕ) → Condition → Cond
-written_condition names (t.Eq a b) = f.Compare comparison.Eq (written_expression names a) (written_expression names b)
-written_condition names (t.Lt a b) = f.Compare comparison.Lt (written_expression names a) (written_expression names b)
-written_condition names (t.Le a b) = f.Compare comparison.Le (written_expression names a) (written_expression names b)
-written_condition names (t.Not c) = f.Not (written_condition names c)
-written_condition names (t.And c d) = f.Connect connective.And (written_condition names c) (written_condition names d)
-written_condition names (t.Or c d) = f.Connect connective.Or (written_condition names c) (written_condition names d)
+abbrev pub written_condition : Scope → Condition → Cond
+written_condition s (t.Eq a b) = f.Compare comparison.Eq (written_expression s a) (written_expression s b)
+written_condition s (t.Lt a b) = f.Compare comparison.Lt (written_expression s a) (written_expression s b)
+written_condition s (t.Le a b) = f.Compare comparison.Le (written_expression s a) (written_expression s b)
+written_condition s (t.Not c) = f.Not (written_condition s c)
+written_condition s (t.And c d) = f.Connect connective.And (written_condition s c) (written_condition s d)
+written_condition s (t.Or c d) = f.Connect connective.Or (written_condition s c) (written_condition s d)
 
 abbrev mutual
-  pub written_statement : List (List ℕ) → Statement → Stmt
-  written_statement names t.Skip = f.Skip
-  written_statement names (t.Set x a) = f.Set (name_at names x.0) (written_expression names a)
-  written_statement names (t.Seq parts) = f.Seq (written_statements names parts)
-  written_statement names (t.If c p q) = f.If (written_condition names c) (written_statement names p) (written_statement names q)
-  written_statement names (t.Repeat n p) = f.Repeat (pos n) (written_statement names p)
-  written_statement names t.Retry = f.Retry
-  written_statement names (t.OrElse p q) = f.OrElse (written_statement names p) (written_statement names q)
-  written_statement names (t.Throw a) = f.Throw (written_expression names a)
+  pub written_statement : Scope → Statement → Stmt
+  written_statement s t.Skip = f.Skip
+  written_statement s (t.Set x a) = f.Set (name_at s.variables x.0) (written_expression s a)
+  written_statement s (t.Seq parts) = f.Seq (written_statements s parts)
+  written_statement s (t.If c p q) = f.If (written_condition s c) (written_statement s p) (written_statement s q)
+  written_statement s (t.Repeat n p) = f.Repeat (pos n) (written_statement s p)
+  written_statement s t.Retry = f.Retry
+  written_statement s (t.OrElse p q) = f.OrElse (written_statement s p) (written_statement s q)
+  written_statement s (t.Throw a) = f.Throw (written_expression s a)
 
-  pub written_statements : List (List ℕ) → Statements → Stmts
-  written_statements names t.End = NoStmts
-  written_statements names (t.More p rest) = MoreStmts (written_statement names p) (written_statements names rest)
+  pub written_statements : Scope → Statements → Stmts
+  written_statements s t.End = NoStmts
+  written_statements s (t.More p rest) = MoreStmts (written_statement s p) (written_statements s rest)
 
 abbrev pub written_always : List (List ℕ) → List ℕ × Condition → Always
-written_always names a = record { name = a.0; condition = written_condition names a.1 }
+written_always vars a = record { name = a.0; condition = written_condition (standing vars) a.1 }
 
 abbrev pub written_transaction : List (List ℕ) → Transaction → Declaration
-written_transaction names t = record { name = t.name; body = written_statement names t.body; value = written_expression names t.result }
+written_transaction vars t =
+    record {
+      name = t.name;
+      parameters = t.parameters;
+      body = written_statement (inside vars t.parameters) t.body;
+      value = written_expression (inside vars t.parameters) t.result;
+    }
 
 -- a variable and its initial value, side by side
 abbrev pub written_vars : List (List ℕ) → List ℤ → List Pair
 written_vars (name ∷ names) (value ∷ values) = record { name = name; value = value } ∷ written_vars names values
 written_vars names values = []
 
-abbrev pub written_run : List Transaction → TxId × ℕ → Pair
-written_run transactions run = record { name = name_at (map (λ t. t.name) transactions) run.0.0; value = pos run.1 }
+-- a call and how many tasks make it
+abbrev pub written_run : List Transaction → Call × ℕ → Run
+written_run transactions run =
+    record { name = name_at (map (λ t. t.name) transactions) run.0.tx.0; count = pos run.1; arguments = run.0.arguments }
 
--- the file of a listing, in one form or the other
+-- the file of a listing, in one form or another
 unfoldable pub written_in : FileForm → Listing → File
 written_in form l =
     record {
@@ -74,10 +85,18 @@ written_in form l =
     }
 
 -- the first form that has room for the conditions
-abbrev pub form_for : List (List ℕ × Condition) → FileForm
-form_for [] = One
-form_for (a ∷ always) = Two
+abbrev pub form_for_conditions : List (List ℕ × Condition) → FileForm
+form_for_conditions [] = One
+form_for_conditions (a ∷ always) = Two
+
+-- a transaction with parameters
+abbrev pub has_list : Transaction → Bool
+has_list t = not (arity t == 0)
+
+-- the first form that has room for the conditions and the parameters
+abbrev pub form_for : Listing → FileForm
+form_for l = if list_any has_list l.transactions then Three else form_for_conditions l.always
 
 -- the file as it is printed
 abbrev pub written : Listing → File
-written l = written_in (form_for l.always) l
+written l = written_in (form_for l) l

@@ -5,18 +5,19 @@ use crate::expr::RawExpr;
 use crate::stmt::RawStmt;
 use text_words::numeral::Numeral;
 
-/// A variable and its first value, or a transaction and how often it runs.
+/// A variable and its first value.
 #[derive(Clone, Copy)]
 pub struct RawPair<'a> {
     pub name: &'a str,
     pub value: Numeral<'a>,
 }
 
-/// The form of a file: the second can have standing conditions.
-#[derive(Clone, Copy)]
+/// The form of a file: the second can have standing conditions, and the third parameters as well.
+#[derive(Clone, Copy, Debug, PartialEq, Eq)]
 pub enum FileForm {
     One,
     Two,
+    Three,
 }
 
 /// A standing condition.
@@ -26,12 +27,21 @@ pub struct RawAlways<'a> {
     pub condition: RawCond<'a>,
 }
 
-/// A transaction.
+/// A transaction, with the names of its parameters.
 #[derive(Drop)]
 pub struct RawTx<'a> {
     pub name: &'a str,
+    pub params: Vec<&'a str>,
     pub body: RawStmt<'a>,
     pub value: RawExpr<'a>,
+}
+
+/// A call of a transaction, and how many tasks make it.
+#[derive(Drop)]
+pub struct RawRun<'a> {
+    pub name: &'a str,
+    pub count: Numeral<'a>,
+    pub arguments: Vec<Numeral<'a>>,
 }
 
 /// A file whose names are not looked up and whose integers are not measured.
@@ -41,5 +51,5 @@ pub struct RawFile<'a> {
     pub vars: Vec<RawPair<'a>>,
     pub always: Vec<RawAlways<'a>>,
     pub txs: Vec<RawTx<'a>>,
-    pub runs: Vec<RawPair<'a>>,
+    pub runs: Vec<RawRun<'a>>,
 }

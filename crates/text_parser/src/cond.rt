@@ -43,7 +43,8 @@ fn comparison_of(
     comparison: Comparison,
     bytes: &[u8],
 ) -> Result<(RawCond<'_>, &[u8]), ReadFault>
-    ensures value { Gives (λ x. (view_cond x.0, tokens x.1.now)) result (cond_with (expr_at depth) (cond_at depth) (Compares comparison) (tokens bytes.now)) }
+    ensures value { Gives (λ x. (view_cond x.0, tokens x.1.now)) result
+        (cond_with (expr_at depth) (cond_at depth) (Compares comparison) (tokens bytes.now)) }
     ensures shorter { IfOk result (λ x. length x.1.now < length bytes.now) }
 {
     let (left, rest) = expr_of(alloc, depth, bytes)?;
@@ -54,7 +55,8 @@ fn comparison_of(
 
 #[cycle(conds)]
 fn negation_of(alloc: Global, depth: u32, bytes: &[u8]) -> Result<(RawCond<'_>, &[u8]), ReadFault>
-    ensures value { Gives (λ x. (view_cond x.0, tokens x.1.now)) result (cond_with (expr_at depth) (cond_at depth) Negates (tokens bytes.now)) }
+    ensures value { Gives (λ x. (view_cond x.0, tokens x.1.now)) result
+        (cond_with (expr_at depth) (cond_at depth) Negates (tokens bytes.now)) }
     ensures shorter { IfOk result (λ x. length x.1.now < length bytes.now) }
 {
     let (inner, rest) = boxed(alloc, depth, bytes)?;
@@ -69,7 +71,8 @@ fn connection_of(
     connective: Connective,
     bytes: &[u8],
 ) -> Result<(RawCond<'_>, &[u8]), ReadFault>
-    ensures value { Gives (λ x. (view_cond x.0, tokens x.1.now)) result (cond_with (expr_at depth) (cond_at depth) (Connects connective) (tokens bytes.now)) }
+    ensures value { Gives (λ x. (view_cond x.0, tokens x.1.now)) result
+        (cond_with (expr_at depth) (cond_at depth) (Connects connective) (tokens bytes.now)) }
     ensures shorter { IfOk result (λ x. length x.1.now < length bytes.now) }
 {
     let (left, rest) = boxed(alloc, depth, bytes)?;

@@ -41,7 +41,8 @@ pub(crate) fn expr_of(
 /// An operation behind its parenthesis.
 #[cycle(exprs)]
 fn binary_of(alloc: Global, depth: u32, bytes: &[u8]) -> Result<(RawExpr<'_>, &[u8]), ReadFault>
-    ensures value { Gives (λ x. (view_expr x.0, tokens x.1.now)) result (binary_with (expr_at depth) (tokens bytes.now)) }
+    ensures value { Gives (λ x. (view_expr x.0, tokens x.1.now)) result
+        (binary_with (expr_at depth) (tokens bytes.now)) }
     ensures shorter { IfOk result (λ x. length x.1.now < length bytes.now) }
 {
     let (word, rest) = name_of(bytes)?;

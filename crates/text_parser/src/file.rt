@@ -1,27 +1,30 @@
 //! Files as trees of texts.
 
-ghost use Rattle.std.specs.Prelude.{◌≡◌, ◌<◌, List, Ok, IfErr, IfOk, length, codes};
+ghost use Rattle.std.specs.Prelude.{◌≡◌, ◌<◌, ◌≤◌, List, Ok, IfErr, IfOk, length, codes};
 ghost use Rattle.text_words.specs.Bytes.{int_value};
 ghost use Rattle.text_words.specs.Tokens.{Lexeme, tokens};
 ghost use Rattle.text_words.specs.Answers.{Gives, ◌>>=◌ as ◌>>=ᴿ◌};
 ghost use Rattle.text_words.specs.declared.fault.ReadFault.TheVariants.{Shape};
 ghost use Rattle.text_grammar.specs.Tree.{Declaration};
-ghost use Rattle.text_grammar.specs.Reading.{pair_at, pair_behind, always_at, conditions_at, tx_at, end_at, form_numbered, announced_at, heading_at, file_of, tree_of};
-ghost use Rattle.text_words.specs.TokenReading.{begins, all_of, close_at};
-ghost use Rattle.text_grammar.specs.View.{view_expr, view_stmt, view_pair, view_pairs, view_always, view_conditions, view_tx, view_txs, view_file};
+ghost use Rattle.text_grammar.specs.Reading.{pair_at, pair_behind, always_at, conditions_at, list_at, parameters_at};
+ghost use Rattle.text_grammar.specs.Reading.{tx_at, arguments_at, run_behind, run_at, end_at};
+ghost use Rattle.text_grammar.specs.Reading.{form_numbered, announced_at, heading_at, file_of, tree_of};
+ghost use Rattle.text_words.specs.TokenReading.{begins, all_of, is_name, name_at, is_int, int_at, close_at};
+ghost use Rattle.text_grammar.specs.View.{view_expr, view_stmt, view_pair, view_pairs, view_always, view_conditions};
+ghost use Rattle.text_grammar.specs.View.{view_names, view_tx, view_txs, view_numbers, view_run, view_runs, view_file};
 
 use crate::cond::cond_of;
 use crate::expr::expr_of;
 use crate::stmt::stmt_of;
 use std::alloc::Global;
 use text_grammar::expr::RawExpr;
-use text_grammar::file::{FileForm, RawAlways, RawFile, RawPair, RawTx};
+use text_grammar::file::{FileForm, RawAlways, RawFile, RawPair, RawRun, RawTx};
 use text_grammar::stmt::RawStmt;
 use text_words::ReadFault;
 use text_words::bytes::are_allowed;
 use text_words::lexer::next_token;
 use text_words::numeral::Numeral;
-use text_words::tokens::{begins, close, form, int_of, name_of};
+use text_words::tokens::{begins, close, form, int_of, name_of, open};
 
 /// A pair behind its parenthesis and its word.
 fn pair_behind(bytes: &[u8]) -> Result<(RawPair<'_>, &[u8]), ReadFault>
@@ -57,18 +60,68 @@ pub fn always_of(alloc: Global, bytes: &[u8]) -> Result<(RawAlways<'_>, &[u8]), 
     }
 }
 
-/// A transaction, and the bytes behind it. It fails by `Shape` where none stands next, or one that is
-/// too deep.
+/// Names, as long as one stands next.
+fn names_of(alloc: Global, bytes: &[u8]) -> Result<(Vec<&str>, &[u8]), ReadFault>
+    ensures value { Gives (λ x. (view_names x.0.items, tokens x.1.now)) result
+        (all_of is_name name_at (tokens bytes.now)) }
+    ensures within { IfOk result (λ x. length x.1.now ≤ length bytes.now) }
+{
+    let mut names = Vec::new(alloc);
+    let mut rest = bytes;
+    'names: while let Ok((name, after)) = name_of(rest) {
+        names.push(name)?;
+        rest = after;
+    }
+    Ok((names, rest))
+}
+
+/// A list of names.
+#[tactic(auto, unfolding(text_grammar::specs::Reading::list_at))]
+fn list_of(alloc: Global, bytes: &[u8]) -> Result<(Vec<&str>, &[u8]), ReadFault>
+    ensures value { Gives (λ x. (view_names x.0.items, tokens x.1.now)) result (list_at (tokens bytes.now)) }
+    ensures shorter { IfOk result (λ x. length x.1.now < length bytes.now) }
+{
+    let inside = open(bytes)?;
+    let (names, rest) = names_of(alloc, inside)?;
+    let rest = close(rest)?;
+    Ok((names, rest))
+}
+
+/// The parameters of a transaction of a file of this form, of which only form 3 has a list, and the bytes
+/// behind them. It fails by `Shape` where form 3 has none.
+#[tactic(auto, unfolding(text_grammar::specs::Reading::parameters_at))]
+pub fn parameters_of(
+    alloc: Global,
+    file_form: FileForm,
+    bytes: &[u8],
+) -> Result<(Vec<&str>, &[u8]), ReadFault>
+    ensures value { Gives (λ x. (view_names x.0.items, tokens x.1.now)) result
+        (parameters_at file_form (tokens bytes.now)) }
+    ensures within { IfOk result (λ x. length x.1.now ≤ length bytes.now) }
+{
+    match file_form {
+        FileForm::One | FileForm::Two => Ok((Vec::new(alloc), bytes)),
+        FileForm::Three => list_of(alloc, bytes),
+    }
+}
+
+/// A transaction of a file of this form, and the bytes behind it. It fails by `Shape` where none stands
+/// next, or one that is too deep.
 #[tactic(auto, unfolding(text_grammar::specs::Reading::tx_at))]
-pub fn tx_of(alloc: Global, bytes: &[u8]) -> Result<(RawTx<'_>, &[u8]), ReadFault>
-    ensures value { Gives (λ x. (view_tx x.0, tokens x.1.now)) result (tx_at (tokens bytes.now)) }
+pub fn tx_of(
+    alloc: Global,
+    file_form: FileForm,
+    bytes: &[u8],
+) -> Result<(RawTx<'_>, &[u8]), ReadFault>
+    ensures value { Gives (λ x. (view_tx x.0, tokens x.1.now)) result (tx_at file_form (tokens bytes.now)) }
     ensures shorter { IfOk result (λ x. length x.1.now < length bytes.now) }
 {
     let rest = form(bytes, "tx")?;
     let (name, rest) = name_of(rest)?;
+    let (params, rest) = parameters_of(alloc, file_form, rest)?;
     let (body, rest) = stmt_of(alloc, INNER_DEPTH, rest)?;
     match expr_of(alloc, INNER_DEPTH, rest) {
-        Ok((value, rest)) => closed_tx(name, body, value, rest),
+        Ok((value, rest)) => closed_tx(name, params, body, value, rest),
         Err(fault) => {
             drop(body);
             Err(fault)
@@ -79,16 +132,35 @@ pub fn tx_of(alloc: Global, bytes: &[u8]) -> Result<(RawTx<'_>, &[u8]), ReadFaul
 /// A transaction behind its value.
 fn closed_tx<'a>(
     name: &'a str,
+    params: Vec<&'a str>,
     body: RawStmt<'a>,
     value: RawExpr<'a>,
     bytes: &'a [u8],
 ) -> Result<(RawTx<'a>, &'a [u8]), ReadFault>
-    ensures value { Gives {Y = Declaration × List Lexeme} (λ x. (view_tx x.0, tokens x.1.now)) result (close_at (tokens bytes.now) >>=ᴿ λ rest. Ok (record { name = name.now; body = view_stmt body.entry; value = view_expr value.entry }, rest)) }
+    ensures value { Gives {Y = Declaration × List Lexeme} (λ x. (view_tx x.0, tokens x.1.now)) result
+        (close_at (tokens bytes.now)
+        >>=ᴿ λ rest. Ok (
+          record {
+            name = name.now;
+            parameters = view_names params.entry.items;
+            body = view_stmt body.entry;
+            value = view_expr value.entry;
+          },
+          rest,
+        )) }
     ensures shorter { IfOk result (λ x. length x.1.now < length bytes.now) }
     ensures kind { IfErr result (λ e. e ≡ Shape) }
 {
     match close(bytes) {
-        Ok(rest) => Ok((RawTx { name, body, value }, rest)),
+        Ok(rest) => Ok((
+            RawTx {
+                name,
+                params,
+                body,
+                value,
+            },
+            rest,
+        )),
         Err(fault) => {
             drop(body);
             drop(value);
@@ -104,7 +176,8 @@ pub fn pairs_of<'a>(
     bytes: &'a [u8],
     word: &str,
 ) -> Result<(Vec<RawPair<'a>>, &'a [u8]), ReadFault>
-    ensures { Gives (λ x. (view_pairs x.0.items, tokens x.1.now)) result (all_of (begins word.now) (pair_at word.now) (tokens bytes.now)) }
+    ensures { Gives (λ x. (view_pairs x.0.items, tokens x.1.now)) result
+        (all_of (begins word.now) (pair_at word.now) (tokens bytes.now)) }
 {
     let mut pairs = Vec::new(alloc);
     let mut rest = bytes;
@@ -117,7 +190,8 @@ pub fn pairs_of<'a>(
 }
 
 fn standing_of(alloc: Global, bytes: &[u8]) -> Result<(Vec<RawAlways<'_>>, &[u8]), ReadFault>
-    ensures { Gives (λ x. (view_conditions x.0.items, tokens x.1.now)) result (all_of (begins (codes "always")) always_at (tokens bytes.now)) }
+    ensures { Gives (λ x. (view_conditions x.0.items, tokens x.1.now)) result
+        (all_of (begins (codes "always")) always_at (tokens bytes.now)) }
 {
     let mut standing = Vec::new(alloc);
     let mut rest = bytes;
@@ -136,25 +210,106 @@ fn conditions_of(
     file_form: FileForm,
     bytes: &[u8],
 ) -> Result<(Vec<RawAlways<'_>>, &[u8]), ReadFault>
-    ensures { Gives (λ x. (view_conditions x.0.items, tokens x.1.now)) result (conditions_at file_form (tokens bytes.now)) }
+    ensures { Gives (λ x. (view_conditions x.0.items, tokens x.1.now)) result
+        (conditions_at file_form (tokens bytes.now)) }
 {
     match file_form {
         FileForm::One => Ok((Vec::new(alloc), bytes)),
-        FileForm::Two => standing_of(alloc, bytes),
+        FileForm::Two | FileForm::Three => standing_of(alloc, bytes),
     }
 }
 
-fn txs_of(alloc: Global, bytes: &[u8]) -> Result<(Vec<RawTx<'_>>, &[u8]), ReadFault>
-    ensures { Gives (λ x. (view_txs x.0.items, tokens x.1.now)) result (all_of (begins (codes "tx")) tx_at (tokens bytes.now)) }
+fn txs_of(
+    alloc: Global,
+    file_form: FileForm,
+    bytes: &[u8],
+) -> Result<(Vec<RawTx<'_>>, &[u8]), ReadFault>
+    ensures { Gives (λ x. (view_txs x.0.items, tokens x.1.now)) result
+        (all_of (begins (codes "tx")) (tx_at file_form) (tokens bytes.now)) }
 {
     let mut txs = Vec::new(alloc);
     let mut rest = bytes;
     'txs: while begins(rest, "tx") {
-        let (tx, after) = tx_of(alloc, rest)?;
+        let (tx, after) = tx_of(alloc, file_form, rest)?;
         txs.push(tx)?;
         rest = after;
     }
     Ok((txs, rest))
+}
+
+/// Integers, as long as one stands next.
+fn numbers_of(alloc: Global, bytes: &[u8]) -> Result<(Vec<Numeral<'_>>, &[u8]), ReadFault>
+    ensures value { Gives (λ x. (view_numbers x.0.items, tokens x.1.now)) result
+        (all_of is_int int_at (tokens bytes.now)) }
+    ensures within { IfOk result (λ x. length x.1.now ≤ length bytes.now) }
+{
+    let mut numbers = Vec::new(alloc);
+    let mut rest = bytes;
+    'numbers: while let Ok((number, after)) = int_of(rest) {
+        numbers.push(number)?;
+        rest = after;
+    }
+    Ok((numbers, rest))
+}
+
+/// Arguments, which only form 3 has.
+#[tactic(auto, unfolding(text_grammar::specs::Reading::arguments_at))]
+fn arguments_of(
+    alloc: Global,
+    file_form: FileForm,
+    bytes: &[u8],
+) -> Result<(Vec<Numeral<'_>>, &[u8]), ReadFault>
+    ensures value { Gives (λ x. (view_numbers x.0.items, tokens x.1.now)) result
+        (arguments_at file_form (tokens bytes.now)) }
+    ensures within { IfOk result (λ x. length x.1.now ≤ length bytes.now) }
+{
+    match file_form {
+        FileForm::One | FileForm::Two => Ok((Vec::new(alloc), bytes)),
+        FileForm::Three => numbers_of(alloc, bytes),
+    }
+}
+
+/// A run behind its parenthesis and its word.
+fn run_behind(
+    alloc: Global,
+    file_form: FileForm,
+    bytes: &[u8],
+) -> Result<(RawRun<'_>, &[u8]), ReadFault>
+    ensures value { Gives (λ x. (view_run x.0, tokens x.1.now)) result (run_behind file_form (tokens bytes.now)) }
+    ensures shorter { IfOk result (λ x. length x.1.now < length bytes.now) }
+{
+    let (name, rest) = name_of(bytes)?;
+    let (count, rest) = int_of(rest)?;
+    let (arguments, rest) = arguments_of(alloc, file_form, rest)?;
+    let rest = close(rest)?;
+    Ok((
+        RawRun {
+            name,
+            count,
+            arguments,
+        },
+        rest,
+    ))
+}
+
+/// The runs of a file of this form, as long as one stands next, and the bytes behind them. It fails by
+/// `Shape` where the word begins what is no run.
+pub fn runs_of(
+    alloc: Global,
+    file_form: FileForm,
+    bytes: &[u8],
+) -> Result<(Vec<RawRun<'_>>, &[u8]), ReadFault>
+    ensures { Gives (λ x. (view_runs x.0.items, tokens x.1.now)) result
+        (all_of (begins (codes "run")) (run_at file_form) (tokens bytes.now)) }
+{
+    let mut runs = Vec::new(alloc);
+    let mut rest = bytes;
+    'runs: while let Ok(inside) = form(rest, "run") {
+        let (run, after) = run_behind(alloc, file_form, inside)?;
+        runs.push(run)?;
+        rest = after;
+    }
+    Ok((runs, rest))
 }
 
 /// The end of the bytes. It fails by `Shape` where a token is left.
@@ -176,6 +331,7 @@ fn form_numbered(number: Numeral<'_>) -> Result<FileForm, ReadFault>
 {
     match number.text.parse::<i64>() {
         Ok(2) => Ok(FileForm::Two),
+        Ok(3) => Ok(FileForm::Three),
         _ => Err(ReadFault::Shape),
     }
 }
@@ -214,8 +370,8 @@ fn file_of(alloc: Global, bytes: &[u8]) -> Result<RawFile<'_>, ReadFault>
     let (form, rest) = heading_of(bytes)?;
     let (vars, rest) = pairs_of(alloc, rest, "var")?;
     let (always, rest) = conditions_of(alloc, form, rest)?;
-    let (txs, rest) = txs_of(alloc, rest)?;
-    let (runs, rest) = pairs_of(alloc, rest, "run")?;
+    let (txs, rest) = txs_of(alloc, form, rest)?;
+    let (runs, rest) = runs_of(alloc, form, rest)?;
     end(rest)?;
     Ok(RawFile {
         form,

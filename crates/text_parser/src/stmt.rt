@@ -5,7 +5,8 @@ ghost use Rattle.text_words.specs.Tokens.{Lexeme, tokens};
 ghost use Rattle.text_words.specs.Answers.{Gives, ◌>>=◌ as ◌>>=ᴿ◌};
 ghost use Rattle.text_words.specs.TokenReading.{close_at};
 ghost use Rattle.text_grammar.specs.Tree.{Stmt, If};
-ghost use Rattle.text_grammar.specs.Reading.{expr_at, cond_at, stmt_at, set_with, seq_with, if_with, repeat_with, orelse_with, throw_with};
+ghost use Rattle.text_grammar.specs.Reading.{expr_at, cond_at, stmt_at, set_with, seq_with, if_with, repeat_with};
+ghost use Rattle.text_grammar.specs.Reading.{orelse_with, throw_with};
 ghost use Rattle.text_grammar.specs.View.{view_cond, view_stmt};
 
 use crate::cond::cond_of;
@@ -81,7 +82,8 @@ fn seq_of(alloc: Global, depth: u32, bytes: &[u8]) -> Result<(RawStmt<'_>, &[u8]
 #[cycle(stmts)]
 #[tactic(auto, unfolding(text_grammar::specs::Reading::if_with))]
 fn if_of(alloc: Global, depth: u32, bytes: &[u8]) -> Result<(RawStmt<'_>, &[u8]), ReadFault>
-    ensures value { Gives (λ x. (view_stmt x.0, tokens x.1.now)) result (if_with (cond_at depth) (stmt_at depth) (tokens bytes.now)) }
+    ensures value { Gives (λ x. (view_stmt x.0, tokens x.1.now)) result
+        (if_with (cond_at depth) (stmt_at depth) (tokens bytes.now)) }
     ensures shorter { IfOk result (λ x. length x.1.now < length bytes.now) }
 {
     let (test, rest) = cond_of(alloc, depth, bytes)?;
@@ -103,7 +105,9 @@ fn choice_of<'a>(
     first: Box<RawStmt<'a>>,
     bytes: &'a [u8],
 ) -> Result<(RawStmt<'a>, &'a [u8]), ReadFault>
-    ensures value { Gives {Y = Stmt × List Lexeme} (λ x. (view_stmt x.0, tokens x.1.now)) result (stmt_at depth (tokens bytes.now) >>=ᴿ λ second. close_at second.1 >>=ᴿ λ rest. Ok (If (view_cond test.entry) (view_stmt first.entry.value) second.0, rest)) }
+    ensures value { Gives {Y = Stmt × List Lexeme} (λ x. (view_stmt x.0, tokens x.1.now)) result
+        (stmt_at depth (tokens bytes.now) >>=ᴿ λ second. close_at second.1
+        >>=ᴿ λ rest. Ok (If (view_cond test.entry) (view_stmt first.entry.value) second.0, rest)) }
     ensures shorter { IfOk result (λ x. length x.1.now < length bytes.now) }
 {
     match boxed(alloc, depth, bytes) {
@@ -124,7 +128,8 @@ fn choice_of<'a>(
 #[cycle(stmts)]
 #[tactic(auto, unfolding(text_grammar::specs::Reading::repeat_with))]
 fn repeat_of(alloc: Global, depth: u32, bytes: &[u8]) -> Result<(RawStmt<'_>, &[u8]), ReadFault>
-    ensures value { Gives (λ x. (view_stmt x.0, tokens x.1.now)) result (repeat_with (stmt_at depth) (tokens bytes.now)) }
+    ensures value { Gives (λ x. (view_stmt x.0, tokens x.1.now)) result
+        (repeat_with (stmt_at depth) (tokens bytes.now)) }
     ensures shorter { IfOk result (λ x. length x.1.now < length bytes.now) }
 {
     let (count, rest) = int_of(bytes)?;
@@ -136,7 +141,8 @@ fn repeat_of(alloc: Global, depth: u32, bytes: &[u8]) -> Result<(RawStmt<'_>, &[
 #[cycle(stmts)]
 #[tactic(auto, unfolding(text_grammar::specs::Reading::orelse_with))]
 fn orelse_of(alloc: Global, depth: u32, bytes: &[u8]) -> Result<(RawStmt<'_>, &[u8]), ReadFault>
-    ensures value { Gives (λ x. (view_stmt x.0, tokens x.1.now)) result (orelse_with (stmt_at depth) (tokens bytes.now)) }
+    ensures value { Gives (λ x. (view_stmt x.0, tokens x.1.now)) result
+        (orelse_with (stmt_at depth) (tokens bytes.now)) }
     ensures shorter { IfOk result (λ x. length x.1.now < length bytes.now) }
 {
     let (first, rest) = boxed(alloc, depth, bytes)?;
@@ -158,7 +164,8 @@ fn boxed(alloc: Global, depth: u32, bytes: &[u8]) -> Result<(Box<RawStmt<'_>>, &
 
 #[tactic(auto, unfolding(text_grammar::specs::Reading::throw_with))]
 fn throw_of(alloc: Global, depth: u32, bytes: &[u8]) -> Result<(RawStmt<'_>, &[u8]), ReadFault>
-    ensures value { Gives (λ x. (view_stmt x.0, tokens x.1.now)) result (throw_with (expr_at depth) (tokens bytes.now)) }
+    ensures value { Gives (λ x. (view_stmt x.0, tokens x.1.now)) result
+        (throw_with (expr_at depth) (tokens bytes.now)) }
     ensures shorter { IfOk result (λ x. length x.1.now < length bytes.now) }
 {
     let (value, rest) = expr_of(alloc, depth, bytes)?;

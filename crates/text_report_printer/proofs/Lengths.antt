@@ -18,7 +18,7 @@ use Rattle.txn_programs.specs.declared.ast.TxId.{TxId}
 use Rattle.txn_programs.specs.declared.limits.TheConstants.{MAX_TASKS, MAX_NAME}
 use Rattle.txn_programs.specs.declared.report.Entry.{Entry}
 use Rattle.txn_programs.specs.LawfulReport.{OutcomeKnown, FitsCatalogue}
-use Rattle.txn_programs.specs.Limits.{limits_hold}
+use Rattle.txn_programs.specs.Limits.{is_short, names_fit, limits_hold}
 use Rattle.txn_programs.specs.Listing.{Listing, always_name, always_names, program_at, tasks}
 use Rattle.txn_programs.specs.Told.{Told}
 use Rattle.txn_programs.specs.Tree.{Transaction, Skip, Int}
@@ -89,8 +89,10 @@ variables_short (n ∷ names) (v ∷ vs) a b c =
 
 pub name_short : (l : Listing) → limits_hold l ≡ true → (tx : TxId) → tx.0 < length l.transactions → length (program_at l tx).name ≤ 32
 name_short l h tx lt =
-    let none : Transaction = record { name = []; body = Skip; result = Int (pos 0) } in
-    leb-true _ _ (passes_at (λ (t : Transaction). nat_le (length t.name) MAX_NAME) l.transactions tx.0 (get_or l.transactions tx.0 none) (limits_parts l h).tx_names (slice_get-get_or l.transactions tx.0 none lt))
+    let none : Transaction = record { name = []; parameters = []; body = Skip; result = Int (pos 0) } in
+    let t = get_or l.transactions tx.0 none in
+    let fit = passes_at names_fit l.transactions tx.0 t (limits_parts l h).tx_names (slice_get-get_or l.transactions tx.0 none lt) in
+    leb-true _ _ (and_parts (is_short t.name) _ fit).0
 
 pub variable_name_short : (l : Listing) → limits_hold l ≡ true → (i : ℕ) (name : List ℕ) → slice_get l.names i ≡ Some name → length name ≤ 32
 variable_name_short l h i name e = leb-true _ _ (passes_at (λ (name : List ℕ). nat_le (length name) MAX_NAME) l.names i name (limits_parts l h).names e)

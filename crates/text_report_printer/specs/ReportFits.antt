@@ -1,4 +1,4 @@
--- Each value that a report tells is one of 64 signed bits.
+-- Values of a report fit 64 signed bits.
 use Rattle.std.specs.Prelude.{ℕ, ℤ, List, All, FitsSigned}
 use Rattle.std.specs.Int.{w64}
 use Rattle.txn_programs.specs.declared.ast.Fault.TheVariants.{User, Overflow, DivideByZero, Broken}

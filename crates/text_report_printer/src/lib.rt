@@ -1,4 +1,4 @@
-//! The one text of a report.
+//! The canonical form of a report.
 #![tactic(auto)]
 
 mod line;

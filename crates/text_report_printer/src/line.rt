@@ -3,7 +3,7 @@
 ghost use Rattle.std.specs.Prelude.{◌≡◌, ℕ, ◌+◌, ◌<◌, ◌≤◌, List, [], ◌∷◌, ◌++◌, length, drop};
 ghost use Rattle.std.specs.Fmt.{decimal, signed_decimal};
 ghost use Rattle.std.specs.Str.{IsUtf8};
-ghost use Rattle.text_report_printer.specs.declared.line.TheConstants.{ROOM};
+ghost use Rattle.text_report_printer.specs.declared.line.TheConstants.{LINE_ROOM};
 ghost use Rattle.text_report_printer.specs.ReportFits.{OutcomeFits};
 ghost use Rattle.text_report_printer.specs.ReportText.{outcome_text};
 
@@ -14,12 +14,12 @@ use std::str;
 use txn::{Catalogue, Fault, Outcome};
 
 /// How many bytes it has room for: more than a line of a report has.
-const ROOM: usize = 128;
+const LINE_ROOM: usize = 128;
 
 /// The end of a line, which grows at its front. A clause sees its text.
 #[derive(Drop)]
 pub(crate) struct LineEnd {
-    bytes: [u8; ROOM],
+    bytes: [u8; LINE_ROOM],
     start: usize,
 }
 
@@ -38,8 +38,8 @@ impl LineEnd {
         ensures { result ≡ [] }
     {
         LineEnd {
-            bytes: [0; ROOM],
-            start: ROOM,
+            bytes: [0; LINE_ROOM],
+            start: LINE_ROOM,
         }
     }
 
@@ -72,7 +72,7 @@ impl LineEnd {
     pub(crate) fn number(&mut self, number: u64)
         requires room { length self.old + 20 ≤ 128 }
         ensures text { self.new ≡ decimal number ++ self.old }
-        ensures short { length self.new ≤ length self.old + 20 }
+        ensures at_most { length self.new ≤ length self.old + 20 }
     {
         self.start = write_digits(number, &mut self.bytes, self.start);
     }
@@ -82,7 +82,7 @@ impl LineEnd {
     pub(crate) fn signed(&mut self, number: i64)
         requires room { length self.old + 21 ≤ 128 }
         ensures text { self.new ≡ signed_decimal number ++ self.old }
-        ensures short { length self.new ≤ length self.old + 21 }
+        ensures at_most { length self.new ≤ length self.old + 21 }
     {
         self.number(number.unsigned_abs());
         if number < 0 {
@@ -95,7 +95,7 @@ impl LineEnd {
     pub(crate) fn outcome(&mut self, catalogue: &Catalogue, outcome: Outcome)
         requires room { length self.old + 38 ≤ 128 }
         ensures text { self.new ≡ outcome_text catalogue.now outcome ++ self.old }
-        ensures short { length self.new ≤ length self.old + 38 }
+        ensures at_most { length self.new ≤ length self.old + 38 }
         ensures fits { OutcomeFits outcome }
     {
         match outcome {
@@ -121,7 +121,7 @@ impl LineEnd {
     #[inline]
     pub(crate) fn text(&self) -> &str
         ensures value { result.now ≡ self.now }
-        ensures short { length result.now ≤ 128 }
+        ensures at_most { length result.now ≤ 128 }
     {
         let text = &self.bytes[self.start..];
         // What was put is text, so it is not judged again, byte by byte.

@@ -1,14 +1,16 @@
 //! The text of a report.
 
-ghost use Rattle.std.specs.Prelude.{◌≡◌, ◌<◌, ◌≤◌, ◌+◌, ◌*◌, [], ◌∷◌, ◌++◌, All, FitsSigned, IfOk, IsOk, OnOk, codes, length, string_bytes, string_capacity, string_len};
+ghost use Rattle.std.specs.Prelude.{◌≡◌, ◌<◌, ◌≤◌, ◌+◌, ◌*◌, [], ◌∷◌, ◌++◌, All, FitsSigned, IfOk, IsOk, OnOk, codes};
+ghost use Rattle.std.specs.Prelude.{length, string_bytes, string_capacity, string_len};
 ghost use Rattle.std.specs.Fmt.{decimal};
 ghost use Rattle.std.specs.Int.{w64};
 ghost use Rattle.std.specs.List.{flat_map};
-ghost use Rattle.txn_programs.specs.declared.limits.TheConstants.{MAX_VARIABLES};
+ghost use Rattle.txn_programs.specs.declared.limits.TheConstants.{MAX_NAME, MAX_VARIABLES};
 ghost use Rattle.txn_programs.specs.LawfulReport.{FitsCatalogue};
 ghost use Rattle.txn_programs.specs.Told.{told};
 ghost use Rattle.text_words.specs.Words.{line};
-ghost use Rattle.text_report_printer.specs.ReportText.{variable_line, variable_lines, outcome_text, entry_line, task_line, report_text, CountsTasks};
+ghost use Rattle.text_report_printer.specs.ReportText.{variable_line, variable_lines, outcome_text, entry_line};
+ghost use Rattle.text_report_printer.specs.ReportText.{task_line, report_text, CountsTasks};
 ghost use Rattle.text_report_printer.specs.ReportFits.{OutcomeFits, OutcomesFit, ReportFits, ValuesFit};
 ghost use Rattle.text_report_printer.specs.declared.report.TheConstants.{LONGEST};
 
@@ -25,12 +27,12 @@ pub const LONGEST: usize = 128;
 
 /// The text of a report of a catalogue, which fits it: the line `base`, a line for each variable
 /// in declared order, the entries, the line `now`, a line for each variable, the parked tasks,
-/// the tasks given up for want of memory, and the line `end`. Each line ends with a newline, and
+/// the tasks given up as memory ran out, and the line `end`. Each line ends with a newline, and
 /// one space stands between two words. `Err` means that memory was refused.
 pub fn print_report(alloc: Global, catalogue: &Catalogue, report: &Report) -> Result<String, Memory>
     requires { FitsCatalogue catalogue.now (told report.now) }
     ensures text { IfOk result (λ s. string_bytes s ≡ report_text catalogue.now (told report.entry.now)) }
-    ensures short { CountsTasks (told report.entry.now) → IfOk result (λ s. length (string_bytes s) ≤ 8388608) }
+    ensures at_most { CountsTasks (told report.entry.now) → IfOk result (λ s. length (string_bytes s) ≤ 8388608) }
     ensures fits { OnOk result (ReportFits (told report.entry.now)) }
 {
     catalogue.rules();
@@ -41,7 +43,8 @@ pub fn print_report(alloc: Global, catalogue: &Catalogue, report: &Report) -> Re
 
 fn put_report(out: &mut String, catalogue: &Catalogue, report: &Report) -> Result<(), AllocError>
     requires { FitsCatalogue catalogue.now (told report.now) }
-    ensures text { OnOk result (string_bytes out.new ≡ string_bytes out.old ++ report_text catalogue.now (told report.entry.now)) }
+    ensures text { OnOk result
+        (string_bytes out.new ≡ string_bytes out.old ++ report_text catalogue.now (told report.entry.now)) }
     ensures fits { OnOk result (ReportFits (told report.entry.now)) }
 {
     catalogue.rules();
@@ -84,7 +87,7 @@ pub fn put_number(out: &mut String, word: &str, number: u64) -> Result<(), Alloc
 }
 
 fn put_variable(out: &mut String, name: &str, variable: &(i64, u64)) -> Result<(), AllocError>
-    requires { length name.now ≤ 32 }
+    requires { length name.now ≤ MAX_NAME }
     ensures text { OnOk result (string_bytes out.new ≡ string_bytes out.old ++ variable_line name.now variable.now) }
     ensures fits { FitsSigned w64 variable.now.0 }
     ensures room { string_len out.old + LONGEST ≤ string_capacity out.old → IsOk result }
@@ -111,7 +114,8 @@ pub fn put_variables(
 ) -> Result<(), AllocError>
     requires few { length vars.now ≤ MAX_VARIABLES }
     requires named { length vars.now ≡ length catalogue.now.names }
-    ensures text { OnOk result (string_bytes out.new ≡ string_bytes out.old ++ variable_lines catalogue.now.names vars.now) }
+    ensures text { OnOk result
+        (string_bytes out.new ≡ string_bytes out.old ++ variable_lines catalogue.now.names vars.now) }
     ensures fits { OnOk result (ValuesFit vars.now) }
     ensures room { string_len out.old + LONGEST * length vars.now ≤ string_capacity out.old → IsOk result }
     ensures len { OnOk result (string_len out.new ≤ string_len out.old + LONGEST * length vars.now) }
@@ -168,7 +172,8 @@ pub fn put_entries(
     entries: &[Entry],
 ) -> Result<(), AllocError>
     requires { All (λ e. e.tx.0 < length catalogue.now.transactions) entries.now }
-    ensures text { OnOk result (string_bytes out.new ≡ string_bytes out.old ++ flat_map (entry_line catalogue.now) entries.now) }
+    ensures text { OnOk result
+        (string_bytes out.new ≡ string_bytes out.old ++ flat_map (entry_line catalogue.now) entries.now) }
     ensures fits { OnOk result (OutcomesFit entries.now) }
     ensures room { string_len out.old + LONGEST * length entries.now ≤ string_capacity out.old → IsOk result }
     ensures len { OnOk result (string_len out.new ≤ string_len out.old + LONGEST * length entries.now) }
@@ -188,8 +193,9 @@ fn put_task(
     tx: TxId,
 ) -> Result<(), AllocError>
     requires known { tx.0 < length catalogue.now.transactions }
-    requires short { length kind.now ≤ 32 }
-    ensures text { OnOk result (string_bytes out.new ≡ string_bytes out.old ++ task_line catalogue.now kind.now (task, tx)) }
+    requires short { length kind.now ≤ MAX_NAME }
+    ensures text { OnOk result
+        (string_bytes out.new ≡ string_bytes out.old ++ task_line catalogue.now kind.now (task, tx)) }
     ensures room { string_len out.old + LONGEST ≤ string_capacity out.old → IsOk result }
     ensures len { OnOk result (string_len out.new ≤ string_len out.old + LONGEST) }
     ensures capacity { string_capacity out.old ≤ string_capacity out.new }
@@ -213,8 +219,9 @@ pub fn put_tasks(
     tasks: &[(TaskId, TxId)],
 ) -> Result<(), AllocError>
     requires known { All (λ p. p.1.0 < length catalogue.now.transactions) tasks.now }
-    requires short { length kind.now ≤ 32 }
-    ensures text { OnOk result (string_bytes out.new ≡ string_bytes out.old ++ flat_map (task_line catalogue.now kind.now) tasks.now) }
+    requires short { length kind.now ≤ MAX_NAME }
+    ensures text { OnOk result
+        (string_bytes out.new ≡ string_bytes out.old ++ flat_map (task_line catalogue.now kind.now) tasks.now) }
     ensures room { string_len out.old + LONGEST * length tasks.now ≤ string_capacity out.old → IsOk result }
     ensures len { OnOk result (string_len out.new ≤ string_len out.old + LONGEST * length tasks.now) }
     ensures capacity { string_capacity out.old ≤ string_capacity out.new }

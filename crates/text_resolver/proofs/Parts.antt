@@ -2,7 +2,7 @@
 use Rattle.std.proofs.Common.{◌≡◌, ℕ, ℤ, List, [], ◌∷◌, map, Result, Ok, Err, refl, ap, ◌∙◌, String, Global, string_bytes}
 use Rattle.txn_programs.specs.declared.ast.Cond.{Cond}
 use Rattle.txn_programs.specs.declared.ast.Tx.{Tx}
-use Rattle.txn_programs.specs.declared.ast.TxId.{TxId}
+use Rattle.txn_programs.specs.declared.arguments.Call.{Call}
 use Rattle.txn_programs.specs.declared.ast.Stmt.{Stmt}
 use Rattle.txn_programs.specs.Tree.{Condition, Statement, Statements, End, More, Transaction, transaction_of, statement_of, statements_of_list}
 use Rattle.txn_programs.specs.Tree as t
@@ -10,6 +10,7 @@ use Rattle.txn_programs.specs.Listing.{listing_of}
 use Rattle.text_words.specs.declared.fault.ReadFault.{ReadFault}
 use Rattle.text_grammar.specs.Tree.{Stmt as Tree, Seq, File}
 use Rattle.text_words.specs.Answers.{◌>>=◌}
+use Rattle.text_grammar.specs.Scope.{Scope}
 use Rattle.text_grammar.specs.Reading.{row}
 use Rattle.text_grammar.specs.Resolving.{each, statement_in, statements_in, listing, variable_of, always_in, transaction_in, run_in, converted}
 use Rattle.text_resolver.specs.Parts.{view_variable, view_condition}
@@ -23,7 +24,7 @@ values_are : (vars : List (String Global × ℤ)) → map (λ (v : List ℕ × �
 values_are [] = refl
 values_are (v ∷ vars) = ap (λ l. v.1 ∷ l) (values_are vars)
 
-pub parts_are : (vars : List (String Global × ℤ)) (always : List (String Global × Cond)) (txs : List Tx) (runs : List (TxId × ℕ))
+pub parts_are : (vars : List (String Global × ℤ)) (always : List (String Global × Cond)) (txs : List Tx) (runs : List (Call × ℕ))
     → listing (map view_variable vars) (map view_condition always) (map transaction_of txs) runs ≡ listing_of vars always txs runs
 parts_are vars always txs runs = rw (names_are vars, values_are vars) refl
 
@@ -43,20 +44,20 @@ links (Ok p) (Ok ps) = refl
 links (Ok p) (Err e) = refl
 links (Err e) others = refl
 
-statements_are : (names : List (List ℕ)) (ss : List Tree) → statements_in names (row ss) ≡ (each (statement_in names) ss >>= λ ps. done (chain ps))
-statements_are names [] = refl
-statements_are names (s ∷ ss) = rw (statements_are names ss) (links (statement_in names s) (each (statement_in names) ss))
+statements_are : (s : Scope) (ss : List Tree) → statements_in s (row ss) ≡ (each (statement_in s) ss >>= λ ps. done (chain ps))
+statements_are s [] = refl
+statements_are s (p ∷ ss) = rw (statements_are s ss) (links (statement_in s p) (each (statement_in s) ss))
 
 ends : (r : Result (List Statement) ReadFault) → ((r >>= λ ps. done (chain ps)) >>= λ ps. done (t.Seq ps)) ≡ (r >>= λ ps. done (t.Seq (chain ps)))
 ends (Ok ps) = refl
 ends (Err e) = refl
 
-pub seq_is : (names : List (List ℕ)) (ss : List Tree) → statement_in names (Seq (row ss)) ≡ (each (statement_in names) ss >>= λ ps. done (t.Seq (chain ps)))
-seq_is names ss = ap (λ r. r >>= λ ps. done (t.Seq ps)) (statements_are names ss) ∙ ends (each (statement_in names) ss)
+pub seq_is : (s : Scope) (ss : List Tree) → statement_in s (Seq (row ss)) ≡ (each (statement_in s) ss >>= λ ps. done (t.Seq (chain ps)))
+seq_is s ss = ap (λ r. r >>= λ ps. done (t.Seq ps)) (statements_are s ss) ∙ ends (each (statement_in s) ss)
 
 -- ---- the whole file
 
-pub converted_is : (vars txs : List (List ℕ)) (file : File) (values : List (List ℕ × ℤ)) (always : List (List ℕ × Condition)) (transactions : List Transaction) (runs : List (TxId × ℕ))
+pub converted_is : (vars txs : List (List ℕ)) (file : File) (values : List (List ℕ × ℤ)) (always : List (List ℕ × Condition)) (transactions : List Transaction) (runs : List (Call × ℕ))
     → each variable_of file.vars ≡ Ok values → each (always_in vars) file.always ≡ Ok always → each (transaction_in vars) file.txs ≡ Ok transactions → each (run_in txs) file.runs ≡ Ok runs
     → converted vars txs file ≡ Ok (listing values always transactions runs)
 unfolding converted

@@ -1,20 +1,34 @@
 //! Names: each declared once, and declared where it is used.
 
-ghost use Rattle.std.specs.Prelude.{◌≡◌, [], map, position, length, bytes_eq};
+ghost use Rattle.std.specs.Prelude.{◌≡◌, Ok, [], map, position, length, bytes_eq};
 ghost use Rattle.std.specs.List.{list_all};
 ghost use Rattle.text_words.specs.Answers.{Gives};
 ghost use Rattle.text_grammar.specs.Reading.{row};
-ghost use Rattle.text_grammar.specs.Resolving.{declared_one, declared_after, pair_name, condition_name, tx_name, is_known, expr_known, cond_known, stmt_known, stmts_known, always_known, tx_known, run_known, uses_known};
+ghost use Rattle.text_grammar.specs.Resolving.{declared_one, declared_after, pair_name, condition_name, tx_name};
+ghost use Rattle.text_grammar.specs.Scope.{standing};
+ghost use Rattle.text_grammar.specs.Resolving.{is_known, expr_known, cond_known, stmt_known, stmts_known, always_known};
+ghost use Rattle.text_grammar.specs.Resolving.{tx_known, run_known, uses_known};
 ghost use Rattle.text_resolver.specs.Texts.{texts};
-ghost use Rattle.text_grammar.specs.View.{view_expr, view_cond, view_stmt, view_stmts, view_pair, view_pairs, view_always, view_conditions, view_tx, view_txs, view_file};
+ghost use Rattle.text_resolver.specs.Scopes.{view_scope, parameters_behind};
+ghost use Rattle.text_grammar.specs.View.{view_expr, view_cond, view_stmt, view_stmts, view_pair, view_pairs};
+ghost use Rattle.text_grammar.specs.View.{view_always, view_conditions, view_names, view_tx, view_txs, view_run};
+ghost use Rattle.text_grammar.specs.View.{view_file};
 
 use indexmap::IndexSet;
 use std::alloc::Global;
 use text_grammar::cond::RawCond;
 use text_grammar::expr::RawExpr;
-use text_grammar::file::{RawAlways, RawFile, RawPair, RawTx};
+use text_grammar::file::{RawAlways, RawFile, RawPair, RawRun, RawTx};
 use text_grammar::stmt::RawStmt;
 use text_words::ReadFault;
+
+/// The names that may stand in a condition, a statement or an expression: those of variables and, in a transaction,
+/// those of its parameters.
+#[derive(Clone, Copy)]
+pub struct Scope<'s, 'a> {
+    pub vars: &'s IndexSet<&'a str>,
+    pub params: &'s IndexSet<&'a str>,
+}
 
 /// Adds a name that is not there. It fails by `Name` where the name is there.
 #[tactic(auto, unfolding(text_grammar::specs::Resolving::declared_one))]
@@ -44,7 +58,8 @@ pub(crate) fn condition_names<'a>(
     alloc: Global,
     conditions: &[RawAlways<'a>],
 ) -> Result<IndexSet<&'a str>, ReadFault>
-    ensures { Gives (λ names. texts names.keys) result (declared_after [] (map condition_name (view_conditions conditions.now))) }
+    ensures { Gives (λ names. texts names.keys) result
+        (declared_after [] (map condition_name (view_conditions conditions.now))) }
 {
     let mut names = IndexSet::new(alloc);
     'conditions: for condition in conditions {
@@ -69,94 +84,172 @@ pub(crate) fn tx_names<'a>(alloc: Global, txs: &[RawTx<'a>]) -> Result<IndexSet<
 pub(crate) fn place_of(names: &IndexSet<&str>, name: &str) -> Option<usize>
     ensures { result ≡ position (bytes_eq name.now) (texts names.now.keys) }
 {
+    if names.is_empty() {
+        return None;
+    }
     names.get_index_of(&name)
 }
 
-fn is_known(names: &IndexSet<&str>, name: &str) -> bool
+/// Whether a name is among these.
+pub(crate) fn is_known(names: &IndexSet<&str>, name: &str) -> bool
     ensures { result ≡ is_known (texts names.now.keys) name.now }
 {
     place_of(names, name).is_some()
 }
 
-fn expr_known(names: &IndexSet<&str>, e: &RawExpr<'_>) -> bool
-    ensures { result ≡ expr_known (texts names.now.keys) (view_expr e.now) }
+/// The names of a transaction's parameters, in their order. It fails by `Name` where one is a variable's name or comes
+/// twice.
+pub fn param_names<'a>(
+    alloc: Global,
+    vars: &IndexSet<&str>,
+    params: &[&'a str],
+) -> Result<IndexSet<&'a str>, ReadFault>
+    ensures { Gives (λ names. texts names.keys) result
+        (parameters_behind (texts vars.now.keys) (view_names params.now)) }
+{
+    let mut names = IndexSet::new(alloc);
+    'params: for name in params {
+        if is_known(vars, *name) {
+            drop(names);
+            return Err(ReadFault::Name);
+        }
+        declare(&mut names, *name)?;
+    }
+    Ok(names)
+}
+
+fn expr_known(scope: &Scope<'_, '_>, e: &RawExpr<'_>) -> bool
+    ensures { result ≡ expr_known (view_scope scope.now) (view_expr e.now) }
 {
     match e {
         RawExpr::Int(_) => true,
-        RawExpr::Name(name) => is_known(names, *name),
-        RawExpr::Binary(_, left, right) => expr_known(names, left) && expr_known(names, right),
+        RawExpr::Name(name) => is_known(scope.params, *name) || is_known(scope.vars, *name),
+        RawExpr::Binary(_, left, right) => expr_known(scope, left) && expr_known(scope, right),
     }
 }
 
-fn cond_known(names: &IndexSet<&str>, c: &RawCond<'_>) -> bool
-    ensures { result ≡ cond_known (texts names.now.keys) (view_cond c.now) }
+fn cond_known(scope: &Scope<'_, '_>, c: &RawCond<'_>) -> bool
+    ensures { result ≡ cond_known (view_scope scope.now) (view_cond c.now) }
 {
     match c {
-        RawCond::Compare(_, left, right) => expr_known(names, left) && expr_known(names, right),
-        RawCond::Not(inner) => cond_known(names, inner),
-        RawCond::Connect(_, left, right) => cond_known(names, left) && cond_known(names, right),
+        RawCond::Compare(_, left, right) => expr_known(scope, left) && expr_known(scope, right),
+        RawCond::Not(inner) => cond_known(scope, inner),
+        RawCond::Connect(_, left, right) => cond_known(scope, left) && cond_known(scope, right),
     }
 }
 
 #[cycle(known)]
-fn stmt_known(names: &IndexSet<&str>, s: &RawStmt<'_>) -> bool
-    ensures { result ≡ stmt_known (texts names.now.keys) (view_stmt s.now) }
+fn stmt_known(scope: &Scope<'_, '_>, s: &RawStmt<'_>) -> bool
+    ensures { result ≡ stmt_known (view_scope scope.now) (view_stmt s.now) }
 {
     match s {
         RawStmt::Skip | RawStmt::Retry => true,
-        RawStmt::Set(name, value) => is_known(names, *name) && expr_known(names, value),
-        RawStmt::Seq(parts) => stmts_known(names, parts.as_slice()),
+        RawStmt::Set(name, value) => is_known(scope.vars, *name) && expr_known(scope, value),
+        RawStmt::Seq(parts) => stmts_known(scope, parts.as_slice()),
         RawStmt::If(test, first, second) => {
-            cond_known(names, test) && stmt_known(names, first) && stmt_known(names, second)
+            cond_known(scope, test) && stmt_known(scope, first) && stmt_known(scope, second)
         }
-        RawStmt::Repeat(_, body) => stmt_known(names, body),
-        RawStmt::OrElse(first, second) => stmt_known(names, first) && stmt_known(names, second),
-        RawStmt::Throw(value) => expr_known(names, value),
+        RawStmt::Repeat(_, body) => stmt_known(scope, body),
+        RawStmt::OrElse(first, second) => stmt_known(scope, first) && stmt_known(scope, second),
+        RawStmt::Throw(value) => expr_known(scope, value),
     }
 }
 
 #[cycle(known)]
-fn stmts_known(names: &IndexSet<&str>, parts: &[RawStmt<'_>]) -> bool
-    ensures { result ≡ stmts_known (texts names.now.keys) (row (view_stmts parts.now)) }
+fn stmts_known(scope: &Scope<'_, '_>, parts: &[RawStmt<'_>]) -> bool
+    ensures { result ≡ stmts_known (view_scope scope.now) (row (view_stmts parts.now)) }
 {
     'parts: for part in parts {
-        if !stmt_known(names, part) {
+        if !stmt_known(scope, part) {
             return false;
         }
     }
     true
 }
 
-fn conditions_known(names: &IndexSet<&str>, conditions: &[RawAlways<'_>]) -> bool
-    ensures { result ≡ list_all (λ c. always_known (texts names.now.keys) (view_always c)) conditions.now }
+/// Whether a condition that has to stand names only variables.
+fn standing_known(alloc: Global, vars: &IndexSet<&str>, c: &RawCond<'_>) -> bool
+    ensures { result ≡ cond_known (standing (texts vars.now.keys)) (view_cond c.now) }
 {
-    conditions.iter().all(|c| cond_known(names, &c.condition))
+    let params = IndexSet::new(alloc);
+    let scope = Scope {
+        vars,
+        params: &params,
+    };
+    cond_known(&scope, c)
 }
 
-fn tx_known(names: &IndexSet<&str>, tx: &RawTx<'_>) -> bool
-    ensures { result ≡ tx_known (texts names.now.keys) (view_tx tx.now) }
+fn conditions_known(alloc: Global, vars: &IndexSet<&str>, conditions: &[RawAlways<'_>]) -> bool
+    ensures { result ≡ list_all (λ c. always_known (texts vars.now.keys) (view_always c)) conditions.now }
 {
-    stmt_known(names, &tx.body) && expr_known(names, &tx.value)
+    conditions
+        .iter()
+        .all(|c| standing_known(alloc, vars, &c.condition))
 }
 
-fn txs_known(names: &IndexSet<&str>, txs: &[RawTx<'_>]) -> bool
-    ensures { result ≡ list_all (λ tx. tx_known (texts names.now.keys) (view_tx tx)) txs.now }
+/// Whether the parameters are new names, and all names that are used are known. Memory alone can fail it.
+fn tx_known(alloc: Global, vars: &IndexSet<&str>, tx: &RawTx<'_>) -> Result<bool, ReadFault>
+    ensures { Gives (λ known. known) result (Ok (tx_known (texts vars.now.keys) (view_tx tx.now))) }
 {
-    txs.iter().all(|tx| tx_known(names, tx))
+    match param_names(alloc, vars, &tx.params) {
+        Ok(params) => {
+            let scope = Scope {
+                vars,
+                params: &params,
+            };
+            Ok(stmt_known(&scope, &tx.body) && expr_known(&scope, &tx.value))
+        }
+        Err(ReadFault::Name) => Ok(false),
+        Err(fault) => Err(fault),
+    }
 }
 
-fn runs_known(names: &IndexSet<&str>, runs: &[RawPair<'_>]) -> bool
-    ensures { result ≡ list_all (λ run. run_known (texts names.now.keys) (view_pair run)) runs.now }
+/// The same of all of them.
+fn txs_known(alloc: Global, vars: &IndexSet<&str>, txs: &[RawTx<'_>]) -> Result<bool, ReadFault>
+    ensures { Gives (λ known. known) result
+        (Ok (list_all (λ tx. tx_known (texts vars.now.keys) (view_tx tx)) txs.now)) }
 {
-    runs.iter().all(|run| is_known(names, run.name))
+    'txs: for tx in txs {
+        if !tx_known(alloc, vars, tx)? {
+            return Ok(false);
+        }
+    }
+    Ok(true)
 }
 
-/// Whether only declared variables and transactions are used.
+/// Whether a run gives its transaction as many arguments as that has parameters. The names are those of the
+/// transactions.
+fn run_known(names: &IndexSet<&str>, txs: &[RawTx<'_>], run: &RawRun<'_>) -> bool
+    requires named { texts names.now.keys ≡ map tx_name (view_txs txs.now) }
+    ensures { result ≡ run_known (view_txs txs.now) (view_run run.now) }
+{
+    match place_of(names, run.name) {
+        Some(place) => txs[place].params.len() == run.arguments.len(),
+        None => false,
+    }
+}
+
+fn runs_known(names: &IndexSet<&str>, txs: &[RawTx<'_>], runs: &[RawRun<'_>]) -> bool
+    requires named { texts names.now.keys ≡ map tx_name (view_txs txs.now) }
+    ensures { result ≡ list_all (λ run. run_known (view_txs txs.now) (view_run run)) runs.now }
+{
+    runs.iter().all(|run| run_known(names, txs, run))
+}
+
+/// Whether only declared names are used, and each as it is declared. The names `txs` are those of the transactions.
+/// Memory alone can fail it.
 #[tactic(auto, using(crate::proofs::Texts::uses_are))]
-pub(crate) fn uses_known(vars: &IndexSet<&str>, txs: &IndexSet<&str>, file: &RawFile<'_>) -> bool
-    ensures { result ≡ uses_known (texts vars.now.keys) (texts txs.now.keys) (view_file file.now) }
+pub(crate) fn uses_known(
+    alloc: Global,
+    vars: &IndexSet<&str>,
+    txs: &IndexSet<&str>,
+    file: &RawFile<'_>,
+) -> Result<bool, ReadFault>
+    requires named { texts txs.now.keys ≡ map tx_name (view_file file.now).txs }
+    ensures { Gives (λ known. known) result (Ok (uses_known (texts vars.now.keys) (view_file file.now))) }
 {
-    conditions_known(vars, &file.always)
-        && txs_known(vars, &file.txs)
-        && runs_known(txs, &file.runs)
+    if !conditions_known(alloc, vars, &file.always) || !txs_known(alloc, vars, &file.txs)? {
+        return Ok(false);
+    }
+    Ok(runs_known(txs, &file.txs, &file.runs))
 }

@@ -1,29 +1,41 @@
 //! From the tree of a file to conditions and transactions: names as ids, and integers as numbers of
 //! the machine.
 
-ghost use Rattle.std.specs.Prelude.{◌≡◌, ◌⊎◌, Ok, IfOk, IfErr, [], map};
+ghost use Rattle.std.specs.Prelude.{◌≡◌, ◌⊎◌, true, Ok, IfOk, IfErr, [], map, string_bytes};
+ghost use Rattle.std.specs.List.{list_all};
 ghost use Rattle.txn_programs.specs.Tree.{expression_of, condition_of, statement_of, transaction_of};
 ghost use Rattle.text_words.specs.Answers.{Gives, Fails, ◌>>=◌ as ◌>>=ᴿ◌};
 ghost use Rattle.text_words.specs.declared.fault.ReadFault.TheVariants.{Name, Limit};
-ghost use Rattle.text_grammar.specs.Resolving.{declared_after, condition_name, tx_name, place_in, variable_in, binary, compare, connect, expression_in, condition_in, statement_in, variable_of, always_in, transaction_in, run_in, each, converted, resolved};
+ghost use Rattle.text_grammar.specs.Scope.{standing};
+ghost use Rattle.text_grammar.specs.Resolving.{declared_after, condition_name, tx_name, tx_known};
+ghost use Rattle.text_grammar.specs.Resolving.{uses_known, place_in};
+ghost use Rattle.text_grammar.specs.Resolving.{variable_in, parameter_in, named_in, binary, compare, connect};
+ghost use Rattle.text_grammar.specs.Resolving.{expression_in, condition_in, statement_in, variable_of, always_in};
+ghost use Rattle.text_grammar.specs.Resolving.{transaction_in, arguments_in, run_in, each, converted, resolved};
 ghost use Rattle.text_words.specs.Bytes.{int_value};
 ghost use Rattle.text_grammar.specs.Reading.{row};
 ghost use Rattle.text_grammar.specs.Tree.{Compare, Set, Seq, Repeat, Throw};
 ghost use Rattle.text_resolver.specs.Texts.{texts};
-ghost use Rattle.text_grammar.specs.View.{view_expr, view_cond, view_stmt, view_stmts, view_pair, view_pairs, view_always, view_conditions, view_tx, view_txs, view_file};
+ghost use Rattle.text_resolver.specs.Scopes.{view_scope};
+ghost use Rattle.text_grammar.specs.View.{view_expr, view_cond, view_stmt, view_stmts, view_pair, view_pairs};
+ghost use Rattle.text_grammar.specs.View.{view_always, view_conditions, view_names, view_tx, view_txs, view_numbers};
+ghost use Rattle.text_grammar.specs.View.{view_run, view_runs, view_file};
 ghost use Rattle.text_resolver.specs.Parts.{view_variable, view_condition, view_parts};
 
-use crate::names::{condition_names, place_of, tx_names, uses_known, var_names};
+use crate::names::{
+    Scope, condition_names, is_known, param_names, place_of, tx_names, uses_known, var_names,
+};
 use indexmap::IndexSet;
 use std::alloc::Global;
 use text_grammar::cond::RawCond;
 use text_grammar::expr::RawExpr;
-use text_grammar::file::{RawAlways, RawFile, RawPair, RawTx};
+use text_grammar::file::{RawAlways, RawFile, RawPair, RawRun, RawTx};
 use text_grammar::stmt::RawStmt;
 use text_grammar::words::{Comparison, Connective, Operator};
 use text_words::ReadFault;
 use text_words::numeral::Numeral;
-use txn_programs::{Cond, Expr, Stmt, Tx, TxId, VarId};
+use txn_programs::limits::MAX_PARAMETERS;
+use txn_programs::{Arguments, Call, Cond, Expr, ParamId, Stmt, Tx, TxId, VarId};
 
 /// The place of a declared name.
 #[tactic(auto, unfolding(text_grammar::specs::Resolving::place_in))]
@@ -46,6 +58,30 @@ pub fn variable(names: &IndexSet<&str>, name: &str) -> Result<VarId, ReadFault>
     Ok(VarId(place))
 }
 
+/// The id of a declared parameter. It fails as `variable` does.
+#[tactic(auto, unfolding(text_grammar::specs::Resolving::parameter_in))]
+fn parameter(names: &IndexSet<&str>, name: &str) -> Result<ParamId, ReadFault>
+    ensures value { Gives (λ x. x) result (parameter_in (texts names.now.keys) name.now) }
+    ensures kind { IfErr result (λ e. (e ≡ Name) ⊎ (e ≡ Limit)) }
+{
+    let place = place_in(names, name)?;
+    Ok(ParamId(place))
+}
+
+/// The parameter or the variable of a name. It fails by `Name` where none of this name is declared, and by `Limit`
+/// where 32 bits have no room for its place.
+pub fn named(scope: &Scope<'_, '_>, name: &str) -> Result<Expr, ReadFault>
+    ensures value { Gives expression_of result (named_in (view_scope scope.now) name.now) }
+    ensures kind { IfErr result (λ e. (e ≡ Name) ⊎ (e ≡ Limit)) }
+{
+    if is_known(scope.params, name) {
+        let id = parameter(scope.params, name)?;
+        return Ok(Expr::Param(id));
+    }
+    let id = variable(scope.vars, name)?;
+    Ok(Expr::Var(id))
+}
+
 /// The operation that an operator makes of two expressions.
 pub fn binary(op: Operator, left: Box<Expr>, right: Box<Expr>) -> Expr
     ensures { expression_of result ≡ binary op (expression_of left.value) (expression_of right.value) }
@@ -60,8 +96,8 @@ pub fn binary(op: Operator, left: Box<Expr>, right: Box<Expr>) -> Expr
 }
 
 #[cycle(expressions)]
-fn expression(alloc: Global, names: &IndexSet<&str>, e: &RawExpr<'_>) -> Result<Expr, ReadFault>
-    ensures { Gives expression_of result (expression_in (texts names.now.keys) (view_expr e.now)) }
+fn expression(alloc: Global, scope: &Scope<'_, '_>, e: &RawExpr<'_>) -> Result<Expr, ReadFault>
+    ensures { Gives expression_of result (expression_in (view_scope scope.now) (view_expr e.now)) }
 {
     match e {
         RawExpr::Int(numeral) => {
@@ -69,12 +105,12 @@ fn expression(alloc: Global, names: &IndexSet<&str>, e: &RawExpr<'_>) -> Result<
             Ok(Expr::Int(number))
         }
         RawExpr::Name(name) => {
-            let id = variable(names, *name)?;
-            Ok(Expr::Var(id))
+            let made = named(scope, *name)?;
+            Ok(made)
         }
         RawExpr::Binary(op, left, right) => {
-            let left = boxed_expression(alloc, names, left)?;
-            let right = boxed_expression(alloc, names, right)?;
+            let left = boxed_expression(alloc, scope, left)?;
+            let right = boxed_expression(alloc, scope, right)?;
             Ok(binary(*op, left, right))
         }
     }
@@ -84,12 +120,12 @@ fn expression(alloc: Global, names: &IndexSet<&str>, e: &RawExpr<'_>) -> Result<
 #[cycle(expressions)]
 fn boxed_expression(
     alloc: Global,
-    names: &IndexSet<&str>,
+    scope: &Scope<'_, '_>,
     e: &RawExpr<'_>,
 ) -> Result<Box<Expr>, ReadFault>
-    ensures { Gives (λ b. expression_of b.value) result (expression_in (texts names.now.keys) (view_expr e.now)) }
+    ensures { Gives (λ b. expression_of b.value) result (expression_in (view_scope scope.now) (view_expr e.now)) }
 {
-    let made = expression(alloc, names, e)?;
+    let made = expression(alloc, scope, e)?;
     let held = Box::new(alloc, made)?;
     Ok(held)
 }
@@ -107,15 +143,16 @@ pub fn compare(op: Comparison, left: Expr, right: Expr) -> Cond
 
 fn comparison(
     alloc: Global,
-    names: &IndexSet<&str>,
+    scope: &Scope<'_, '_>,
     op: Comparison,
     left: &RawExpr<'_>,
     right: &RawExpr<'_>,
 ) -> Result<Cond, ReadFault>
-    ensures { Gives condition_of result (condition_in (texts names.now.keys) (Compare op (view_expr left.now) (view_expr right.now))) }
+    ensures { Gives condition_of result
+        (condition_in (view_scope scope.now) (Compare op (view_expr left.now) (view_expr right.now))) }
 {
-    let left = expression(alloc, names, left)?;
-    let right = expression(alloc, names, right)?;
+    let left = expression(alloc, scope, left)?;
+    let right = expression(alloc, scope, right)?;
     Ok(compare(op, left, right))
 }
 
@@ -130,18 +167,18 @@ pub fn connect(op: Connective, left: Box<Cond>, right: Box<Cond>) -> Cond
 }
 
 #[cycle(conditions)]
-fn condition(alloc: Global, names: &IndexSet<&str>, c: &RawCond<'_>) -> Result<Cond, ReadFault>
-    ensures { Gives condition_of result (condition_in (texts names.now.keys) (view_cond c.now)) }
+fn condition(alloc: Global, scope: &Scope<'_, '_>, c: &RawCond<'_>) -> Result<Cond, ReadFault>
+    ensures { Gives condition_of result (condition_in (view_scope scope.now) (view_cond c.now)) }
 {
     match c {
-        RawCond::Compare(op, left, right) => comparison(alloc, names, *op, left, right),
+        RawCond::Compare(op, left, right) => comparison(alloc, scope, *op, left, right),
         RawCond::Not(inner) => {
-            let inner = boxed_condition(alloc, names, inner)?;
+            let inner = boxed_condition(alloc, scope, inner)?;
             Ok(Cond::Not(inner))
         }
         RawCond::Connect(op, left, right) => {
-            let left = boxed_condition(alloc, names, left)?;
-            let right = boxed_condition(alloc, names, right)?;
+            let left = boxed_condition(alloc, scope, left)?;
+            let right = boxed_condition(alloc, scope, right)?;
             Ok(connect(*op, left, right))
         }
     }
@@ -150,48 +187,48 @@ fn condition(alloc: Global, names: &IndexSet<&str>, c: &RawCond<'_>) -> Result<C
 #[cycle(conditions)]
 fn boxed_condition(
     alloc: Global,
-    names: &IndexSet<&str>,
+    scope: &Scope<'_, '_>,
     c: &RawCond<'_>,
 ) -> Result<Box<Cond>, ReadFault>
-    ensures { Gives (λ b. condition_of b.value) result (condition_in (texts names.now.keys) (view_cond c.now)) }
+    ensures { Gives (λ b. condition_of b.value) result (condition_in (view_scope scope.now) (view_cond c.now)) }
 {
-    let made = condition(alloc, names, c)?;
+    let made = condition(alloc, scope, c)?;
     let held = Box::new(alloc, made)?;
     Ok(held)
 }
 
 fn setting(
     alloc: Global,
-    names: &IndexSet<&str>,
+    scope: &Scope<'_, '_>,
     name: &str,
     value: &RawExpr<'_>,
 ) -> Result<Stmt, ReadFault>
-    ensures { Gives statement_of result (statement_in (texts names.now.keys) (Set name.now (view_expr value.now))) }
+    ensures { Gives statement_of result (statement_in (view_scope scope.now) (Set name.now (view_expr value.now))) }
 {
-    let id = variable(names, name)?;
-    let value = expression(alloc, names, value)?;
+    let id = variable(scope.vars, name)?;
+    let value = expression(alloc, scope, value)?;
     Ok(Stmt::Set(id, value))
 }
 
-fn throwing(alloc: Global, names: &IndexSet<&str>, value: &RawExpr<'_>) -> Result<Stmt, ReadFault>
-    ensures { Gives statement_of result (statement_in (texts names.now.keys) (Throw (view_expr value.now))) }
+fn throwing(alloc: Global, scope: &Scope<'_, '_>, value: &RawExpr<'_>) -> Result<Stmt, ReadFault>
+    ensures { Gives statement_of result (statement_in (view_scope scope.now) (Throw (view_expr value.now))) }
 {
-    let value = expression(alloc, names, value)?;
+    let value = expression(alloc, scope, value)?;
     Ok(Stmt::Throw(value))
 }
 
 #[cycle(resolving)]
-fn statement(alloc: Global, names: &IndexSet<&str>, s: &RawStmt<'_>) -> Result<Stmt, ReadFault>
-    ensures { Gives statement_of result (statement_in (texts names.now.keys) (view_stmt s.now)) }
+fn statement(alloc: Global, scope: &Scope<'_, '_>, s: &RawStmt<'_>) -> Result<Stmt, ReadFault>
+    ensures { Gives statement_of result (statement_in (view_scope scope.now) (view_stmt s.now)) }
 {
     match s {
         RawStmt::Skip => Ok(Stmt::Skip),
-        RawStmt::Set(name, value) => setting(alloc, names, *name, value),
-        RawStmt::Seq(parts) => sequence(alloc, names, parts.as_slice()),
+        RawStmt::Set(name, value) => setting(alloc, scope, *name, value),
+        RawStmt::Seq(parts) => sequence(alloc, scope, parts.as_slice()),
         RawStmt::If(test, first, second) => {
-            let test = condition(alloc, names, test)?;
-            match boxed_statement(alloc, names, first) {
-                Ok(first) => match boxed_statement(alloc, names, second) {
+            let test = condition(alloc, scope, test)?;
+            match boxed_statement(alloc, scope, first) {
+                Ok(first) => match boxed_statement(alloc, scope, second) {
                     Ok(second) => Ok(Stmt::If(test, first, second)),
                     Err(fault) => {
                         drop(test);
@@ -204,23 +241,23 @@ fn statement(alloc: Global, names: &IndexSet<&str>, s: &RawStmt<'_>) -> Result<S
                 }
             }
         }
-        RawStmt::Repeat(count, body) => repetition(alloc, names, *count, body),
+        RawStmt::Repeat(count, body) => repetition(alloc, scope, *count, body),
         RawStmt::Retry => Ok(Stmt::Retry),
         RawStmt::OrElse(first, second) => {
-            let first = boxed_statement(alloc, names, first)?;
-            let second = boxed_statement(alloc, names, second)?;
+            let first = boxed_statement(alloc, scope, first)?;
+            let second = boxed_statement(alloc, scope, second)?;
             Ok(Stmt::OrElse(first, second))
         }
-        RawStmt::Throw(value) => throwing(alloc, names, value),
+        RawStmt::Throw(value) => throwing(alloc, scope, value),
     }
 }
 
 /// The statements of a sequence as one.
 #[cycle(resolving)]
-fn sequence(alloc: Global, names: &IndexSet<&str>, parts: &[RawStmt<'_>]) -> Result<Stmt, ReadFault>
-    ensures { Gives statement_of result (statement_in (texts names.now.keys) (Seq (row (view_stmts parts.now)))) }
+fn sequence(alloc: Global, scope: &Scope<'_, '_>, parts: &[RawStmt<'_>]) -> Result<Stmt, ReadFault>
+    ensures { Gives statement_of result (statement_in (view_scope scope.now) (Seq (row (view_stmts parts.now)))) }
 {
-    let parts = statements(alloc, names, parts)?;
+    let parts = statements(alloc, scope, parts)?;
     Ok(Stmt::Seq(parts))
 }
 
@@ -228,26 +265,27 @@ fn sequence(alloc: Global, names: &IndexSet<&str>, parts: &[RawStmt<'_>]) -> Res
 #[cycle(resolving)]
 fn repetition(
     alloc: Global,
-    names: &IndexSet<&str>,
+    scope: &Scope<'_, '_>,
     count: Numeral<'_>,
     body: &RawStmt<'_>,
 ) -> Result<Stmt, ReadFault>
-    ensures { Gives statement_of result (statement_in (texts names.now.keys) (Repeat (int_value count.entry.text.now) (view_stmt body.now))) }
+    ensures { Gives statement_of result
+        (statement_in (view_scope scope.now) (Repeat (int_value count.entry.text.now) (view_stmt body.now))) }
 {
     let count = count.count()?;
-    let body = boxed_statement(alloc, names, body)?;
+    let body = boxed_statement(alloc, scope, body)?;
     Ok(Stmt::Repeat(count, body))
 }
 
 #[cycle(resolving)]
 fn boxed_statement(
     alloc: Global,
-    names: &IndexSet<&str>,
+    scope: &Scope<'_, '_>,
     s: &RawStmt<'_>,
 ) -> Result<Box<Stmt>, ReadFault>
-    ensures { Gives (λ b. statement_of b.value) result (statement_in (texts names.now.keys) (view_stmt s.now)) }
+    ensures { Gives (λ b. statement_of b.value) result (statement_in (view_scope scope.now) (view_stmt s.now)) }
 {
-    let made = statement(alloc, names, s)?;
+    let made = statement(alloc, scope, s)?;
     let held = Box::new(alloc, made)?;
     Ok(held)
 }
@@ -255,14 +293,15 @@ fn boxed_statement(
 #[cycle(resolving)]
 fn statements(
     alloc: Global,
-    names: &IndexSet<&str>,
+    scope: &Scope<'_, '_>,
     parts: &[RawStmt<'_>],
 ) -> Result<Vec<Stmt>, ReadFault>
-    ensures { Gives (λ made. map statement_of made.items) result (each (statement_in (texts names.now.keys)) (view_stmts parts.now)) }
+    ensures { Gives (λ made. map statement_of made.items) result
+        (each (statement_in (view_scope scope.now)) (view_stmts parts.now)) }
 {
     let mut made = Vec::with_capacity(alloc, parts.len())?;
     'parts: for part in parts {
-        let statement = statement(alloc, names, part)?;
+        let statement = statement(alloc, scope, part)?;
         made.push(statement)?;
     }
     Ok(made)
@@ -290,16 +329,28 @@ pub fn variables(alloc: Global, pairs: &[RawPair<'_>]) -> Result<Vec<(String, i6
     Ok(made)
 }
 
+/// A condition that has to stand: it names only variables.
+fn standing(alloc: Global, vars: &IndexSet<&str>, c: &RawCond<'_>) -> Result<Cond, ReadFault>
+    ensures { Gives condition_of result (condition_in (standing (texts vars.now.keys)) (view_cond c.now)) }
+{
+    let params = IndexSet::new(alloc);
+    let scope = Scope {
+        vars,
+        params: &params,
+    };
+    condition(alloc, &scope, c)
+}
+
 /// A condition that has to stand, with its name.
 fn always(
     alloc: Global,
-    names: &IndexSet<&str>,
+    vars: &IndexSet<&str>,
     raw: &RawAlways<'_>,
 ) -> Result<(String, Cond), ReadFault>
-    ensures { Gives view_condition result (always_in (texts names.now.keys) (view_always raw.now)) }
+    ensures { Gives view_condition result (always_in (texts vars.now.keys) (view_always raw.now)) }
 {
     let name = String::from_str(alloc, raw.name)?;
-    let condition = condition(alloc, names, &raw.condition)?;
+    let condition = standing(alloc, vars, &raw.condition)?;
     Ok((name, condition))
 }
 
@@ -307,12 +358,12 @@ fn always(
 /// declared, and by `Limit` where 64 signed bits have no room for an integer.
 fn always_from(
     alloc: Global,
-    names: &IndexSet<&str>,
+    vars: &IndexSet<&str>,
     raw: RawAlways<'_>,
 ) -> Result<(String, Cond), ReadFault>
-    ensures { Gives view_condition result (always_in (texts names.now.keys) (view_always raw.entry)) }
+    ensures { Gives view_condition result (always_in (texts vars.now.keys) (view_always raw.entry)) }
 {
-    let made = always(alloc, names, &raw);
+    let made = always(alloc, vars, &raw);
     drop(raw);
     made
 }
@@ -320,26 +371,47 @@ fn always_from(
 /// The conditions that have to stand. The tree of each is let go as soon as it is made.
 fn conditions(
     alloc: Global,
-    names: &IndexSet<&str>,
+    vars: &IndexSet<&str>,
     conditions: Vec<RawAlways<'_>>,
 ) -> Result<Vec<(String, Cond)>, ReadFault>
-    ensures { Gives (λ made. map view_condition made.items) result (each (always_in (texts names.now.keys)) (view_conditions conditions.entry.items)) }
+    ensures { Gives (λ made. map view_condition made.items) result
+        (each (always_in (texts vars.now.keys)) (view_conditions conditions.entry.items)) }
 {
     let mut made = Vec::new(alloc);
     'conditions: for raw in conditions {
-        let condition = always_from(alloc, names, raw)?;
+        let condition = always_from(alloc, vars, raw)?;
         made.push(condition)?;
     }
     Ok(made)
 }
 
-fn transaction(alloc: Global, names: &IndexSet<&str>, tx: &RawTx<'_>) -> Result<Tx, ReadFault>
-    ensures { Gives transaction_of result (transaction_in (texts names.now.keys) (view_tx tx.now)) }
+/// Texts, each of its own.
+pub fn owned(alloc: Global, names: &[&str]) -> Result<Vec<String>, ReadFault>
+    ensures { Gives (λ made. map string_bytes made.items) result (Ok (view_names names.now)) }
+{
+    let mut made = Vec::with_capacity(alloc, names.len())?;
+    'names: for name in names {
+        let text = String::from_str(alloc, *name)?;
+        made.push(text)?;
+    }
+    Ok(made)
+}
+
+/// A transaction in its scope.
+fn transaction_inside(alloc: Global, scope: &Scope<'_, '_>, tx: &RawTx<'_>) -> Result<Tx, ReadFault>
+    requires own { (view_scope scope.now).parameters ≡ (view_tx tx.now).parameters }
+    ensures { Gives transaction_of result (transaction_in (view_scope scope.now).variables (view_tx tx.now)) }
 {
     let name = String::from_str(alloc, tx.name)?;
-    let body = statement(alloc, names, &tx.body)?;
-    match expression(alloc, names, &tx.value) {
-        Ok(result) => Ok(Tx { name, body, result }),
+    let params = owned(alloc, &tx.params)?;
+    let body = statement(alloc, scope, &tx.body)?;
+    match expression(alloc, scope, &tx.value) {
+        Ok(result) => Ok(Tx {
+            name,
+            params,
+            body,
+            result,
+        }),
         Err(fault) => {
             drop(body);
             Err(fault)
@@ -347,12 +419,26 @@ fn transaction(alloc: Global, names: &IndexSet<&str>, tx: &RawTx<'_>) -> Result<
     }
 }
 
+/// A transaction whose names are known.
+fn transaction(alloc: Global, vars: &IndexSet<&str>, tx: &RawTx<'_>) -> Result<Tx, ReadFault>
+    requires known { tx_known (texts vars.now.keys) (view_tx tx.now) ≡ true }
+    ensures { Gives transaction_of result (transaction_in (texts vars.now.keys) (view_tx tx.now)) }
+{
+    let params = param_names(alloc, vars, &tx.params)?;
+    let scope = Scope {
+        vars,
+        params: &params,
+    };
+    transaction_inside(alloc, &scope, tx)
+}
+
 /// A transaction, whose tree is let go. It fails by `Name` where a name is not declared, and by
 /// `Limit` where the machine has no room for a number.
-fn transaction_from(alloc: Global, names: &IndexSet<&str>, tx: RawTx<'_>) -> Result<Tx, ReadFault>
-    ensures { Gives transaction_of result (transaction_in (texts names.now.keys) (view_tx tx.entry)) }
+fn transaction_from(alloc: Global, vars: &IndexSet<&str>, tx: RawTx<'_>) -> Result<Tx, ReadFault>
+    requires known { tx_known (texts vars.now.keys) (view_tx tx) ≡ true }
+    ensures { Gives transaction_of result (transaction_in (texts vars.now.keys) (view_tx tx.entry)) }
 {
-    let made = transaction(alloc, names, &tx);
+    let made = transaction(alloc, vars, &tx);
     drop(tx);
     made
 }
@@ -361,40 +447,64 @@ fn transaction_from(alloc: Global, names: &IndexSet<&str>, tx: RawTx<'_>) -> Res
 /// them stands twice.
 fn transactions(
     alloc: Global,
-    names: &IndexSet<&str>,
+    vars: &IndexSet<&str>,
     txs: Vec<RawTx<'_>>,
 ) -> Result<Vec<Tx>, ReadFault>
-    ensures { Gives (λ made. map transaction_of made.items) result (each (transaction_in (texts names.now.keys)) (view_txs txs.entry.items)) }
+    requires known { list_all (tx_known (texts vars.now.keys)) (view_txs txs.items) ≡ true }
+    ensures { Gives (λ made. map transaction_of made.items) result
+        (each (transaction_in (texts vars.now.keys)) (view_txs txs.entry.items)) }
 {
     let mut made = Vec::new(alloc);
     'txs: for tx in txs {
-        let transaction = transaction_from(alloc, names, tx)?;
+        let transaction = transaction_from(alloc, vars, tx)?;
         made.push(transaction)?;
     }
     Ok(made)
 }
 
-fn run(names: &IndexSet<&str>, pair: &RawPair<'_>) -> Result<(TxId, u32), ReadFault>
-    ensures value { Gives (λ x. x) result (run_in (texts names.now.keys) (view_pair pair.now)) }
-    ensures kind { IfErr result (λ e. (e ≡ Name) ⊎ (e ≡ Limit)) }
+/// The arguments of a call. It fails by `Limit` where there are more than a transaction may have parameters, or where
+/// 64 signed bits have no room for one.
+fn arguments(numerals: &[Numeral<'_>]) -> Result<Arguments, ReadFault>
+    ensures value { Gives (λ x. x) result (arguments_in (view_numbers numerals.now)) }
+    ensures kind { IfErr result (λ e. e ≡ Limit) }
 {
-    let place = place_in(names, pair.name)?;
-    let count = pair.value.count()?;
-    Ok((TxId(place), count))
+    if numerals.len() > MAX_PARAMETERS {
+        return Err(ReadFault::Limit);
+    }
+    let mut values = [0; MAX_PARAMETERS];
+    'numerals: for (i, numeral) in numerals.iter().enumerate() {
+        values[i] = numeral.number()?;
+    }
+    Ok(Arguments::of(&values[..numerals.len()]))
 }
 
-/// The transactions to run, each with how often. It fails by `Name` where a transaction is not
-/// declared, and by `Limit` where 32 bits have no room for a count.
+/// A call, and how many tasks make it.
+fn run(names: &IndexSet<&str>, raw: &RawRun<'_>) -> Result<(Call, u32), ReadFault>
+    ensures value { Gives (λ x. x) result (run_in (texts names.now.keys) (view_run raw.now)) }
+    ensures kind { IfErr result (λ e. (e ≡ Name) ⊎ (e ≡ Limit)) }
+{
+    let place = place_in(names, raw.name)?;
+    let count = raw.count.count()?;
+    let arguments = arguments(&raw.arguments)?;
+    let call = Call {
+        tx: TxId(place),
+        arguments,
+    };
+    Ok((call, count))
+}
+
+/// The calls to make, each with how often. It fails by `Name` where a transaction is not
+/// declared, and by `Limit` where the machine has no room for a count or an argument, or a call none for its arguments.
 pub fn runs(
     alloc: Global,
     names: &IndexSet<&str>,
-    pairs: &[RawPair<'_>],
-) -> Result<Vec<(TxId, u32)>, ReadFault>
-    ensures { Gives (λ made. made.items) result (each (run_in (texts names.now.keys)) (view_pairs pairs.now)) }
+    raw: &[RawRun<'_>],
+) -> Result<Vec<(Call, u32)>, ReadFault>
+    ensures { Gives (λ made. made.items) result (each (run_in (texts names.now.keys)) (view_runs raw.now)) }
 {
-    let mut made = Vec::with_capacity(alloc, pairs.len())?;
-    'pairs: for pair in pairs {
-        let entry = run(names, pair)?;
+    let mut made = Vec::with_capacity(alloc, raw.len())?;
+    'runs: for one in raw {
+        let entry = run(names, one)?;
         made.push(entry)?;
     }
     Ok(made)
@@ -406,7 +516,7 @@ pub struct Parts {
     pub vars: Vec<(String, i64)>,
     pub always: Vec<(String, Cond)>,
     pub txs: Vec<Tx>,
-    pub runs: Vec<(TxId, u32)>,
+    pub runs: Vec<(Call, u32)>,
 }
 
 #[tactic(auto, unfolding(text_grammar::specs::Resolving::converted))]
@@ -416,6 +526,7 @@ fn convert(
     txs: &IndexSet<&str>,
     file: RawFile<'_>,
 ) -> Result<Parts, ReadFault>
+    requires known { uses_known (texts vars.now.keys) (view_file file) ≡ true }
     ensures { Gives view_parts result (converted (texts vars.now.keys) (texts txs.now.keys) (view_file file.entry)) }
 {
     let variables = variables(alloc, &file.vars)?;
@@ -437,13 +548,15 @@ fn judged_names<'a>(
     alloc: Global,
     file: &RawFile<'a>,
 ) -> Result<(IndexSet<&'a str>, IndexSet<&'a str>), ReadFault>
-    ensures known { IfOk result (λ names. resolved (view_file file.now) ≡ converted (texts names.0.keys) (texts names.1.keys) (view_file file.now)) }
+    ensures known { IfOk result (λ names. uses_known (texts names.0.keys) (view_file file.now) ≡ true) }
+    ensures named { IfOk result (λ names. resolved (view_file file.now)
+        ≡ converted (texts names.0.keys) (texts names.1.keys) (view_file file.now)) }
     ensures fault { IfErr result (λ fault. Fails fault (resolved (view_file file.now))) }
 {
     let vars = var_names(alloc, &file.vars)?;
     match later_names(alloc, file) {
         Ok(txs) => {
-            if !uses_known(&vars, &txs, file) {
+            if !uses_known(alloc, &vars, &txs, file)? {
                 drop(vars);
                 drop(txs);
                 return Err(ReadFault::Name);
@@ -459,7 +572,9 @@ fn judged_names<'a>(
 
 /// The names of transactions, where those of conditions are declared once too.
 fn later_names<'a>(alloc: Global, file: &RawFile<'a>) -> Result<IndexSet<&'a str>, ReadFault>
-    ensures { Gives (λ names. texts names.keys) result (declared_after [] (map condition_name (view_file file.now).always) >>=ᴿ λ _. declared_after [] (map tx_name (view_file file.now).txs)) }
+    ensures { Gives (λ names. texts names.keys) result
+        (declared_after [] (map condition_name (view_file file.now).always)
+        >>=ᴿ λ _. declared_after [] (map tx_name (view_file file.now).txs)) }
 {
     condition_names(alloc, &file.always)?;
     tx_names(alloc, &file.txs)

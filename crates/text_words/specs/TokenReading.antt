@@ -72,6 +72,12 @@ int_at ts = do
 unfoldable pub is_open : List Lexeme → Bool
 is_open ts = is_ok (open_at ts)
 
+unfoldable pub is_name : List Lexeme → Bool
+is_name ts = is_ok (name_at ts)
+
+unfoldable pub is_int : List Lexeme → Bool
+is_int ts = is_ok (int_at ts)
+
 -- a parenthesis and a word
 unfoldable pub word_at : List Lexeme → Read (List ℕ)
 word_at ts = do

@@ -5,7 +5,8 @@ ghost use Rattle.text_words.specs.Bytes.{int_value};
 ghost use Rattle.text_words.specs.Tokens.{tokens};
 ghost use Rattle.text_words.specs.TokenView.{view};
 ghost use Rattle.text_words.specs.Answers.{Gives};
-ghost use Rattle.text_words.specs.TokenReading.{next_at, open_at, close_at, name_at, int_at, word_at, form_at, begins, is_open};
+ghost use Rattle.text_words.specs.TokenReading.{next_at, open_at, close_at, name_at, int_at, word_at, form_at, begins};
+ghost use Rattle.text_words.specs.TokenReading.{is_open};
 ghost use Rattle.text_words.specs.declared.fault.ReadFault.TheVariants.{Shape};
 
 use crate::fault::ReadFault;

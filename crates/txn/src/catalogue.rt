@@ -1,16 +1,24 @@
 //! The catalogue: what a file declares.
 
-ghost use Rattle.std.specs.Prelude.{◌≡◌, ◌<◌, ◌≤◌, ◌+◌, ◌^◌, ℕ, All, List, length, map, slice_get, Some, IfSome, IfErr, true, false, IfOk, OnOk, IsTrue, ◌↔◌};
+ghost use Rattle.std.specs.Prelude.{◌≡◌, ◌<◌, ◌≤◌, ◌+◌, ◌^◌, ℕ, ℤ, All, List, length, map, slice_get};
+ghost use Rattle.std.specs.Prelude.{string_bytes};
+ghost use Rattle.std.specs.Prelude.{Some, IfSome, IfErr, true, false, IfOk, OnOk, IsTrue, ◌↔◌};
 ghost use Rattle.std.specs.HashMap.{get_by_text};
+ghost use Rattle.txn_programs.specs.declared.limits.TheConstants.{MAX_CONDITIONS, MAX_PARAMETERS, MAX_TASKS};
+ghost use Rattle.txn_programs.specs.declared.limits.TheConstants.{MAX_VARIABLES};
 ghost use Rattle.txn_programs.specs.Fused.{own_code, common_code};
 ghost use Rattle.txn_programs.specs.Names.{names_hold};
 ghost use Rattle.txn_programs.specs.Limits.{limits_hold, most_variables};
+ghost use Rattle.txn_programs.specs.Instance.{instance};
 ghost use Rattle.txn_programs.specs.Tree.{transaction_of, under};
-ghost use Rattle.txn_programs.specs.Listing.{listing_of, conditions, tasks, task_tx, transaction_at, variable_named, transaction_named, condition_named, always_name};
+ghost use Rattle.txn_programs.specs.Listing.{listing_of, conditions, tasks, task_tx, task_arguments, transaction_at};
+ghost use Rattle.txn_programs.specs.Listing.{IsCallable};
+ghost use Rattle.txn_programs.specs.Listing.{variable_named, transaction_named, condition_named, always_name};
 ghost use Rattle.txn_programs.specs.Scope.{ConditionsKnown, ProgramKnown};
 ghost use Rattle.txn_programs.specs.Standing.{Upholds, upholds};
 ghost use Rattle.txn_evaluator.specs.Always.{conditions_of};
-ghost use Rattle.txn_copies.specs.Conditions.{standing_of};
+ghost use Rattle.txn_declarations.specs.Conditions.{standing_of};
+ghost use Rattle.txn.specs.Arities.{most_arity};
 ghost use Rattle.txn.specs.Grown.{grown, SameButRuns, SameProgram};
 ghost use Rattle.txn.specs.Ids.{ids_hold};
 
@@ -18,9 +26,10 @@ use crate::build::{BuildFault, Copies, ids_known, judged, work_out};
 use std::alloc::{AllocError, Global};
 use std::collections::HashMap;
 use std::marker::Model;
-use txn_copies::copy::{always_of, runs_with, transactions_of, variables_of};
-use txn_copies::same::{same_always, same_names, same_runs, same_transactions, same_values};
-use txn_programs::{AlwaysId, Cond, Memory, Op, TaskId, Tx, TxId, VarId};
+use txn_declarations::copy::{always_of, runs_with, transactions_of, variables_of};
+use txn_declarations::names::is_callable;
+use txn_declarations::same::{same_always, same_names, same_runs, same_transactions, same_values};
+use txn_programs::{AlwaysId, Call, Cond, Memory, Op, TaskId, Tx, TxId, VarId};
 
 /// Variables, standing conditions, transactions and runs, in declared order. A clause sees what they
 /// say, as a `Listing`. In every catalogue names and ids hold, and all limits, and each condition is
@@ -38,9 +47,11 @@ pub struct Catalogue {
     tx_places: HashMap<String, usize>,
     codes: Vec<Vec<Op>>,
     ending: Vec<Op>,
+    most_params: usize,
     txs: Vec<Tx>,
-    runs: Vec<(TxId, u32)>,
+    runs: Vec<(Call, u32)>,
     task_txs: Vec<TxId>,
+    task_runs: Vec<usize>,
 }
 
 impl Model for Catalogue {
@@ -60,31 +71,40 @@ impl Model for Catalogue {
 
 impl Catalogue {
     /// The catalogue of variables with their initial values, of standing conditions with their
-    /// names, of transactions, and of runs: a transaction, and how many tasks run it. Tasks are
+    /// names, of transactions, and of runs: a call, and how many tasks make it. Tasks are
     /// numbered from 0 in the order of the runs.
     ///
     /// Refused by `Name` where a name has not the form of one (a letter, then letters, digits and
-    /// underscores) or is given twice among variables, among conditions or among transactions, or an
-    /// id is out of range; else by `Limit` where one of the limits of `limits` is passed; else by
-    /// `Broken` where a condition is not true of the initial values. `Memory` may come in place of
-    /// any answer, where a growth was refused.
+    /// underscores) or is given twice among variables, among conditions, among transactions, or among
+    /// variables and the parameters of one transaction, an id is out of range (a parameter's among
+    /// those of its transaction), or a call has not as many arguments as its transaction has parameters;
+    /// else by `Limit` where one of the limits of `limits` is passed; else by `Broken` where a
+    /// condition is not true of the initial values. `Memory` may come in place of any answer, where a
+    /// growth was refused.
     pub fn build(
         alloc: Global,
         vars: Vec<(String, i64)>,
         always: Vec<(String, Cond)>,
         txs: Vec<Tx>,
-        runs: Vec<(TxId, u32)>,
+        runs: Vec<(Call, u32)>,
     ) -> Result<Catalogue, BuildFault>
         ensures built { IfOk result (λ c. c ≡ listing_of vars.items always.items txs.items runs.items) }
         ensures names { OnOk result (names_hold (listing_of vars.items always.items txs.items runs.items) ≡ true) }
         ensures limits { OnOk result (limits_hold (listing_of vars.items always.items txs.items runs.items) ≡ true) }
-        ensures upheld { OnOk result (upholds (listing_of vars.items always.items txs.items runs.items) (map (λ v. v.1) vars.items) ≡ true) }
-        ensures name { IfErr result (λ e. e ≡ BuildFault.Name → names_hold (listing_of vars.items always.items txs.items runs.items) ≡ false) }
-        ensures limit_after_names { IfErr result (λ e. e ≡ BuildFault.Limit → names_hold (listing_of vars.items always.items txs.items runs.items) ≡ true) }
-        ensures limit { IfErr result (λ e. e ≡ BuildFault.Limit → limits_hold (listing_of vars.items always.items txs.items runs.items) ≡ false) }
-        ensures broken_after_names { IfErr result (λ e. e ≡ BuildFault.Broken → names_hold (listing_of vars.items always.items txs.items runs.items) ≡ true) }
-        ensures broken_after_limits { IfErr result (λ e. e ≡ BuildFault.Broken → limits_hold (listing_of vars.items always.items txs.items runs.items) ≡ true) }
-        ensures broken { IfErr result (λ e. e ≡ BuildFault.Broken → upholds (listing_of vars.items always.items txs.items runs.items) (map (λ v. v.1) vars.items) ≡ false) }
+        ensures upheld { OnOk result
+            (upholds (listing_of vars.items always.items txs.items runs.items) (map (λ v. v.1) vars.items) ≡ true) }
+        ensures name { IfErr result
+            (λ e. e ≡ BuildFault.Name → names_hold (listing_of vars.items always.items txs.items runs.items) ≡ false) }
+        ensures limit_after_names { IfErr result
+            (λ e. e ≡ BuildFault.Limit → names_hold (listing_of vars.items always.items txs.items runs.items) ≡ true) }
+        ensures limit { IfErr result (λ e. e ≡ BuildFault.Limit
+            → limits_hold (listing_of vars.items always.items txs.items runs.items) ≡ false) }
+        ensures broken_after_names { IfErr result
+            (λ e. e ≡ BuildFault.Broken → names_hold (listing_of vars.items always.items txs.items runs.items) ≡ true) }
+        ensures broken_after_limits { IfErr result (λ e. e ≡ BuildFault.Broken
+            → limits_hold (listing_of vars.items always.items txs.items runs.items) ≡ true) }
+        ensures broken { IfErr result (λ e. e ≡ BuildFault.Broken
+            → upholds (listing_of vars.items always.items txs.items runs.items) (map (λ v. v.1) vars.items) ≡ false) }
     {
         if !ids_known(&vars, &always, &txs, &runs) {
             return Err(BuildFault::Name);
@@ -92,8 +112,9 @@ impl Catalogue {
         Catalogue::build_known(alloc, vars, always, txs, runs)
     }
 
-    /// The same catalogue where each id is known to be one of those declared, as a reader knows that
-    /// found each by its name: no id is looked at. It is refused as `build` refuses: by `Name` where
+    /// The same catalogue where each id is known to be one of those declared and each call to have as
+    /// many arguments as its transaction wants, as a reader knows that found each by its name: no id
+    /// is looked at. It is refused as `build` refuses: by `Name` where
     /// a name has not the form of one or is given twice, else by `Limit`, else by `Broken`; `Memory`
     /// may come in place of any answer, where a growth was refused.
     pub fn build_known(
@@ -101,19 +122,26 @@ impl Catalogue {
         vars: Vec<(String, i64)>,
         always: Vec<(String, Cond)>,
         txs: Vec<Tx>,
-        runs: Vec<(TxId, u32)>,
+        runs: Vec<(Call, u32)>,
     ) -> Result<Catalogue, BuildFault>
         requires { ids_hold (listing_of vars.items always.items txs.items runs.items) ≡ true }
         ensures built { IfOk result (λ c. c ≡ listing_of vars.items always.items txs.items runs.items) }
         ensures names { OnOk result (names_hold (listing_of vars.items always.items txs.items runs.items) ≡ true) }
         ensures limits { OnOk result (limits_hold (listing_of vars.items always.items txs.items runs.items) ≡ true) }
-        ensures upheld { OnOk result (upholds (listing_of vars.items always.items txs.items runs.items) (map (λ v. v.1) vars.items) ≡ true) }
-        ensures name { IfErr result (λ e. e ≡ BuildFault.Name → names_hold (listing_of vars.items always.items txs.items runs.items) ≡ false) }
-        ensures limit_after_names { IfErr result (λ e. e ≡ BuildFault.Limit → names_hold (listing_of vars.items always.items txs.items runs.items) ≡ true) }
-        ensures limit { IfErr result (λ e. e ≡ BuildFault.Limit → limits_hold (listing_of vars.items always.items txs.items runs.items) ≡ false) }
-        ensures broken_after_names { IfErr result (λ e. e ≡ BuildFault.Broken → names_hold (listing_of vars.items always.items txs.items runs.items) ≡ true) }
-        ensures broken_after_limits { IfErr result (λ e. e ≡ BuildFault.Broken → limits_hold (listing_of vars.items always.items txs.items runs.items) ≡ true) }
-        ensures broken { IfErr result (λ e. e ≡ BuildFault.Broken → upholds (listing_of vars.items always.items txs.items runs.items) (map (λ v. v.1) vars.items) ≡ false) }
+        ensures upheld { OnOk result
+            (upholds (listing_of vars.items always.items txs.items runs.items) (map (λ v. v.1) vars.items) ≡ true) }
+        ensures name { IfErr result
+            (λ e. e ≡ BuildFault.Name → names_hold (listing_of vars.items always.items txs.items runs.items) ≡ false) }
+        ensures limit_after_names { IfErr result
+            (λ e. e ≡ BuildFault.Limit → names_hold (listing_of vars.items always.items txs.items runs.items) ≡ true) }
+        ensures limit { IfErr result (λ e. e ≡ BuildFault.Limit
+            → limits_hold (listing_of vars.items always.items txs.items runs.items) ≡ false) }
+        ensures broken_after_names { IfErr result
+            (λ e. e ≡ BuildFault.Broken → names_hold (listing_of vars.items always.items txs.items runs.items) ≡ true) }
+        ensures broken_after_limits { IfErr result (λ e. e ≡ BuildFault.Broken
+            → limits_hold (listing_of vars.items always.items txs.items runs.items) ≡ true) }
+        ensures broken { IfErr result (λ e. e ≡ BuildFault.Broken
+            → upholds (listing_of vars.items always.items txs.items runs.items) (map (λ v. v.1) vars.items) ≡ false) }
     {
         let declared = judged(alloc, vars, &always, &txs, &runs)?;
         let derived = work_out(alloc, &always, &txs, &runs)?;
@@ -127,8 +155,10 @@ impl Catalogue {
             txs,
             codes: derived.codes,
             ending: derived.ending,
+            most_params: derived.most_params,
             runs,
             task_txs: derived.task_txs,
+            task_runs: derived.task_runs,
         })
     }
 
@@ -171,12 +201,12 @@ impl Catalogue {
         self.same_program(other) && same_values(self.initial(), other.initial())
     }
 
-    /// A copy with a run of one task more for each of these transactions, after the other runs: the
+    /// A copy with a run of one task more for each of these calls, after the other runs: the
     /// catalogue of a book to which they were submitted in this order. `Memory` only where a growth
     /// was refused.
-    pub fn grown(&self, alloc: Global, more: &[TxId]) -> Result<Catalogue, Memory>
-        requires known { All (λ tx. tx.0 < length self.now.transactions) more.now }
-        requires few { length (tasks self.now) + length more.now ≤ 65536 }
+    pub fn grown(&self, alloc: Global, more: &[Call]) -> Result<Catalogue, Memory>
+        requires known { All (λ c. IsCallable self.now c.tx c.arguments) more.now }
+        requires few { length (tasks self.now) + length more.now ≤ MAX_TASKS }
         ensures { IfOk result (λ c. c ≡ grown self.now more.now) }
     {
         self.rules();
@@ -190,9 +220,10 @@ impl Catalogue {
         }
     }
 
-    /// Copies of what it is built of, with a run more for each of these transactions.
-    fn copies(&self, alloc: Global, more: &[TxId]) -> Result<Copies, AllocError>
-        ensures { IfOk result (λ c. listing_of c.vars.items c.always.items c.txs.items c.runs.items ≡ grown self.now more.now) }
+    /// Copies of what it is built of, with a run more for each of these calls.
+    fn copies(&self, alloc: Global, more: &[Call]) -> Result<Copies, AllocError>
+        ensures { IfOk result
+            (λ c. listing_of c.vars.items c.always.items c.txs.items c.runs.items ≡ grown self.now more.now) }
     {
         Ok(Copies {
             vars: variables_of(alloc, &self.names, self.initial())?,
@@ -205,7 +236,7 @@ impl Catalogue {
     /// The initial values, in declared order.
     pub fn initial(&self) -> &[i64]
         ensures value { result.now ≡ self.now.initial }
-        ensures few { length result.now ≤ 256 }
+        ensures few { length result.now ≤ MAX_VARIABLES }
     {
         self.initial.as_slice()
     }
@@ -213,7 +244,7 @@ impl Catalogue {
     /// How many tasks there are.
     pub fn tasks(&self) -> usize
         ensures value { result ≡ length (tasks self.now) }
-        ensures few { result ≤ 65536 }
+        ensures few { result ≤ MAX_TASKS }
     {
         self.task_txs.len()
     }
@@ -228,13 +259,51 @@ impl Catalogue {
         self.task_txs[task.0 as usize]
     }
 
+    /// The arguments of a task's call.
+    pub fn task_arguments(&self, task: TaskId) -> &[i64]
+        requires { task.0 < length (tasks self.now) }
+        ensures value { result.now ≡ task_arguments self.now task }
+        ensures each { IsCallable self.now (task_tx self.now task) result.now }
+        ensures few { length result.now ≤ MAX_PARAMETERS }
+    {
+        let run = self.task_runs[task.0 as usize];
+        self.runs[run].0.arguments.as_slice()
+    }
+
+    /// Whether this is one of the transactions, and has so many parameters.
+    pub fn is_callable(&self, tx: TxId, arguments: &[i64]) -> bool
+        ensures { IsTrue result ↔ IsCallable self.now tx arguments.now }
+    {
+        is_callable(&self.txs, tx, arguments)
+    }
+
     /// A transaction.
     pub fn tx(&self, id: TxId) -> &Tx
         requires { id.0 < length self.now.transactions }
         ensures value { transaction_of result.now ≡ transaction_at self.now id }
-        ensures known { ProgramKnown (length self.now.initial) (under (conditions self.now) (transaction_of result.now)) }
+        ensures known { (given : List ℤ) → ProgramKnown (length self.now.initial)
+            (instance given (under (conditions self.now) (transaction_of result.now))) }
     {
         &self.txs[id.0 as usize]
+    }
+
+    /// The names of a transaction's parameters, in declared order.
+    pub fn params(&self, id: TxId) -> &[String]
+        requires { id.0 < length self.now.transactions }
+        ensures value { map string_bytes result.now ≡ (transaction_at self.now id).parameters }
+        ensures few { length result.now ≤ MAX_PARAMETERS }
+    {
+        self.txs[id.0 as usize].params.as_slice()
+    }
+
+    /// The most parameters that a transaction has, so that no call has more arguments.
+    pub fn most_parameters(&self) -> usize
+        ensures value { result ≡ most_arity self.now.transactions }
+        ensures calls { (tx : TxId) → (arguments : List ℤ) → IsCallable self.now tx arguments
+            → length arguments ≤ result }
+        ensures few { result ≤ MAX_PARAMETERS }
+    {
+        self.most_params
     }
 
     /// A transaction's own flat code, made when the catalogue was built: that of its body and of its
@@ -261,7 +330,7 @@ impl Catalogue {
         ensures value { map standing_of result.now ≡ self.now.always }
         ensures conditions { conditions_of result.now ≡ conditions self.now }
         ensures count { length result.now ≡ length self.now.always }
-        ensures few { length result.now ≤ 64 }
+        ensures few { length result.now ≤ MAX_CONDITIONS }
         ensures known { ConditionsKnown (length self.now.initial) (conditions_of result.now) }
     {
         self.always.as_slice()
@@ -275,7 +344,7 @@ impl Catalogue {
     }
 
     /// The runs, as declared.
-    pub fn runs(&self) -> &[(TxId, u32)]
+    pub fn runs(&self) -> &[(Call, u32)]
         ensures { result.now ≡ self.now.runs }
     {
         self.runs.as_slice()

@@ -1,3 +1,4 @@
 pub mod Always
 pub mod Flow
+pub mod Notes
 pub mod Worked

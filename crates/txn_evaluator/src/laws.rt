@@ -4,13 +4,15 @@
 //! what a function's contract names has to be proved.
 
 ghost use Rattle.std.specs.Prelude.{◌≡◌, ◌≢◌, ℤ, pos, negsuc, [], ◌∷◌, Ok, Err};
-ghost use Rattle.txn_programs.specs.Tree.{Int, Var, Add, Div, Rem, Eq, And, Statement, Statements, Program, Skip, Set, Seq, If, Repeat, Retry, OrElse, Throw, End, More, Expression};
+ghost use Rattle.txn_programs.specs.Tree.{Int, Var, Add, Div, Rem, Eq, And, Statement, Statements, Program, Skip};
+ghost use Rattle.txn_programs.specs.Tree.{Set, Seq, If, Repeat, Retry, OrElse, Throw, End, More, Expression};
 ghost use Rattle.txn_programs.specs.Meaning.{State, Done, Threw, Retried, value, truth, run, broken, outcome, after};
 ghost use Rattle.txn_programs.specs.Standing.{AllTrue};
 ghost use Rattle.txn_programs.specs.declared.ast.Fault.{Fault};
 ghost use Rattle.txn_programs.specs.declared.ast.Fault.TheVariants.{User, Overflow, DivideByZero};
 ghost use Rattle.txn_programs.specs.declared.ast.Outcome.TheVariants.{Returned, Thrown, Retries};
-ghost use Rattle.txn_evaluator.specs.Worked.{x, joined, keeps_nothing, does_not_catch, counts, waits, divides_by_zero, short, lowers, empties};
+ghost use Rattle.txn_evaluator.specs.Worked.{x, joined, keeps_nothing, does_not_catch, counts};
+ghost use Rattle.txn_evaluator.specs.Worked.{waits, divides_by_zero, short, lowers, empties};
 
 /// `retry` is a left and a right unit of `orelse`.
 pub fn retry_is_a_unit()
@@ -35,7 +37,8 @@ pub fn orelse_begins_anew()
 /// sequence does what it does without it, and ends there where the parts before are done.
 pub fn nothing_follows()
     ensures retry { (rest : Statements) (m : State) → run (Seq (More Retry rest)) m ≡ Retried }
-    ensures throw { (e : Expression) (rest : Statements) (m : State) → run (Seq (More (Throw e) rest)) m ≡ run (Throw e) m }
+    ensures throw { (e : Expression) (rest : Statements) (m : State)
+        → run (Seq (More (Throw e) rest)) m ≡ run (Throw e) m }
     ensures retry_anywhere { (parts rest : Statements) (m : State)
         → run (Seq (joined parts (More Retry rest))) m ≡ run (Seq (joined parts (More Retry End))) m }
     ensures retry_ends { (parts rest : Statements) (m n : State) → run (Seq parts) m ≡ Done n

@@ -7,7 +7,7 @@ use Rattle.txn_programs.specs.Arithmetic.{fits, fitted, sum_of, difference_of, p
 use Rattle.txn_programs.specs.declared.ast.Fault.{Fault}
 use Rattle.txn_programs.specs.declared.ast.Fault.TheVariants.{Overflow}
 use Rattle.txn_programs.specs.declared.ast.TxId.{TxId}
-use Rattle.txn_programs.specs.Tree.{Expression, Int, Var, Add, Sub, Mul, Div, Rem, Condition, Eq, Lt, Le, Not, And, Or, Statement, Skip, Set, Seq, If, Repeat, Retry, OrElse, Throw, Statements, End, More, Program}
+use Rattle.txn_programs.specs.Tree.{Expression, Int, Var, Param, Add, Sub, Mul, Div, Rem, Condition, Eq, Lt, Le, Not, And, Or, Statement, Skip, Set, Seq, If, Repeat, Retry, OrElse, Throw, Statements, End, More, Program}
 use Rattle.txn_programs.specs.Meaning.{State, value, truth, both, negated, and_then, or_else, Ending, Done, Threw, Retried, then_do, unless_retried, with_number, choose, repeated, run, run_all, broken, demanded, upheld, upheld_result, final, outcome_by, outcome_of, outcome}
 use Rattle.txn_programs.specs.Listing.{Listing, program_at}
 use Rattle.txn_programs.specs.LawfulReport.{FaultKnown, OutcomeKnown}
@@ -47,6 +47,7 @@ module _ (n : ℕ) where
   value_known : (e : Expression) (m : State) → ResultKnown n (value e m)
   value_known (Int v) m = tt
   value_known (Var x) m = tt
+  value_known (Param p) m = tt
   value_known (Add a b) m = both_known sum_of (value a m) (value b m) (λ x y. fitted_known (x +ℤ y) (x +ℤ y)) (value_known a m) (value_known b m)
   value_known (Sub a b) m = both_known difference_of (value a m) (value b m) (λ x y. fitted_known (x -ℤ y) (x -ℤ y)) (value_known a m) (value_known b m)
   value_known (Mul a b) m = both_known product_of (value a m) (value b m) (λ x y. fitted_known (x *ℤ y) (x *ℤ y)) (value_known a m) (value_known b m)

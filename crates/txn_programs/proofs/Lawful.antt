@@ -1,16 +1,19 @@
 -- What the rules of a catalogue give of its parts.
-use Rattle.std.proofs.Common.{◌≡◌, ℕ, zero, suc, ◌+◌, ◌<◌, ◌≤◌, Bool, true, ◌&&◌, List, [], ◌∷◌, ◌++◌, length, map, sum_by, replicate, Option, Some, None, refl, sym, ◌∙◌, ap, subst, String, Global, string_bytes, bytes_eq, nat_lt, nat_le, not, cond, length-append}
-use Rattle.std.specs.List.{slice_get, list_all, position, prefix_len}
-use Rattle.std.proofs.lemmas.Bool.{and_parts, and_from, leb-true, ltb-true}
+use Rattle.std.proofs.Common.{◌≡◌, ℕ, zero, suc, ◌+◌, ◌<◌, ◌≤◌, Bool, true, ◌&&◌, List, [], ◌∷◌, ◌++◌, length, map, sum_by, replicate, Option, Some, None, refl, sym, ◌∙◌, ap, subst, arith, ℤ, String, Global, string_bytes, bytes_eq, nat_lt, nat_le, not, cond, length-append}
+use Rattle.std.specs.List.{slice_get, slice_index_or, list_all, position, prefix_len}
+use Rattle.std.proofs.lemmas.Bool.{and_parts, and_from, leb-true, ltb-true, eqb-true}
 use Rattle.std.proofs.lemmas.List.{length-replicate, length-map}
 use Rattle.std.proofs.lemmas.List.Folds.{list_all-append}
 use Rattle.std.proofs.lemmas.List.Sums.{sum_by-cons}
 use Rattle.std.proofs.lemmas.Option.{same_Some}
+use Rattle.txn_programs.specs.declared.arguments.Call.{Call}
 use Rattle.txn_programs.specs.declared.ast.TxId.{TxId}
-use Rattle.txn_programs.specs.Tree.{Expression, Int, Var, Add, Sub, Mul, Div, Rem, Condition, Eq, Lt, Le, Not, And, Or, Statement, Skip, Set, Seq, If, Repeat, Retry, OrElse, Throw, Statements, End, More, Transaction, under}
-use Rattle.txn_programs.specs.Listing.{Listing, conditions, always_names, tasks, tasks_of}
-use Rattle.txn_programs.specs.Names.{names_hold, is_well_formed, is_name, are_distinct, knows_expression, knows_condition, knows_statement, knows_statements, knows_transaction}
-use Rattle.txn_programs.specs.Limits.{most_tasks, most_variables, most_conditions, most_transactions, longest_name, limits_hold, conditions_fit, program_fits}
+use Rattle.txn_programs.specs.declared.ast.TaskId.{TaskId}
+use Rattle.txn_programs.specs.Tree.{Expression, Int, Var, Param, Add, Sub, Mul, Div, Rem, Condition, Eq, Lt, Le, Not, And, Or, Statement, Skip, Set, Seq, If, Repeat, Retry, OrElse, Throw, Statements, End, More, Transaction, under}
+use Rattle.txn_programs.specs.Listing.{Listing, conditions, always_names, calls, calls_of, tasks, task_arguments, call_program, transaction_at, arity, IsCallable}
+use Rattle.txn_programs.specs.Instance.{instance, instance_expression, instance_condition, instance_statement, instance_statements}
+use Rattle.txn_programs.specs.Names.{names_hold, is_well_formed, is_callable, is_name, are_formed, has_own_parameters, are_distinct, knows_expression, knows_condition, knows_standing, knows_statement, knows_statements, knows_transaction}
+use Rattle.txn_programs.specs.Limits.{most_tasks, most_variables, most_conditions, most_transactions, most_parameters, is_short, names_fit, limits_hold, conditions_fit, program_fits}
 use Rattle.txn_programs.specs.Scope.{ExpressionKnown, ConditionKnown, StatementKnown, StatementsKnown, ConditionsKnown, ProgramKnown}
 
 none_is : {X : Type 0} {x : X} → Some x ≡ None → ⊥
@@ -28,39 +31,43 @@ pub record NamesHold (l : Listing) : Type 0 where
   pub distinct : are_distinct l.names ≡ true
   pub always_forms : list_all is_name (always_names l) ≡ true
   pub always_distinct : are_distinct (always_names l) ≡ true
-  pub tx_forms : list_all (λ (t : Transaction). is_name t.name) l.transactions ≡ true
+  pub tx_forms : list_all are_formed l.transactions ≡ true
   pub tx_distinct : are_distinct (map (λ (t : Transaction). t.name) l.transactions) ≡ true
-  pub always_known : list_all (knows_condition (length l.names)) (conditions l) ≡ true
+  pub own_parameters : list_all (has_own_parameters l.names) l.transactions ≡ true
+  pub always_known : list_all (knows_standing (length l.names)) (conditions l) ≡ true
   pub known : list_all (knows_transaction (length l.names)) l.transactions ≡ true
-  pub runs : list_all (λ (run : TxId × ℕ). nat_lt run.0.0 (length l.transactions)) l.runs ≡ true
+  pub runs : list_all (is_callable l) (map (λ (run : Call × ℕ). run.0) l.runs) ≡ true
 
 pub names_parts : (l : Listing) → names_hold l ≡ true → NamesHold l
 unfolding names_hold is_well_formed
 names_parts l h =
     let a = list_all is_name l.names in
     let a' = list_all is_name (always_names l) in
-    let b = list_all (λ (t : Transaction). is_name t.name) l.transactions in
-    let c' = list_all (knows_condition (length l.names)) (conditions l) in
+    let b = list_all are_formed l.transactions in
+    let c' = list_all (knows_standing (length l.names)) (conditions l) in
     let c = list_all (knows_transaction (length l.names)) l.transactions in
-    let d = list_all (λ (run : TxId × ℕ). nat_lt run.0.0 (length l.transactions)) l.runs in
+    let d = list_all (is_callable l) (map (λ (run : Call × ℕ). run.0) l.runs) in
     let e = are_distinct l.names in
     let e' = are_distinct (always_names l) in
     let f = are_distinct (map (λ (t : Transaction). t.name) l.transactions) in
-    let h0 = and_parts (is_well_formed l) (e && (e' && f)) h in
+    let g = list_all (has_own_parameters l.names) l.transactions in
+    let h0 = and_parts (is_well_formed l) (e && (e' && (f && g))) h in
     let h1 = and_parts a (a' && (b && (c' && (c && d)))) h0.0 in
     let h2 = and_parts a' (b && (c' && (c && d))) h1.1 in
     let h3 = and_parts b (c' && (c && d)) h2.1 in
     let h4 = and_parts c' (c && d) h3.1 in
     let h5 = and_parts c d h4.1 in
-    let h6 = and_parts e (e' && f) h0.1 in
-    let h7 = and_parts e' f h6.1 in
+    let h6 = and_parts e (e' && (f && g)) h0.1 in
+    let h7 = and_parts e' (f && g) h6.1 in
+    let h8 = and_parts f g h7.1 in
     record {
       forms = h1.0;
       distinct = h6.0;
       always_forms = h2.0;
       always_distinct = h7.0;
       tx_forms = h3.0;
-      tx_distinct = h7.1;
+      tx_distinct = h8.0;
+      own_parameters = h8.1;
       always_known = h4.0;
       known = h5.0;
       runs = h5.1;
@@ -69,29 +76,29 @@ names_parts l h =
 -- the limits, one by one
 pub record LimitsHold (l : Listing) : Type 0 where
   pub variables : length l.names ≤ most_variables
-  pub names : list_all (λ (name : List ℕ). nat_le (length name) longest_name) l.names ≡ true
+  pub names : list_all is_short l.names ≡ true
   pub conditions_few : length l.always ≤ most_conditions
-  pub always_names_fit : list_all (λ (name : List ℕ). nat_le (length name) longest_name) (always_names l) ≡ true
+  pub always_names_fit : list_all is_short (always_names l) ≡ true
   pub conditions_fitting : conditions_fit (conditions l) ≡ true
   pub transactions : length l.transactions ≤ most_transactions
-  pub tx_names : list_all (λ (t : Transaction). nat_le (length t.name) longest_name) l.transactions ≡ true
+  pub tx_names : list_all names_fit l.transactions ≡ true
   pub programs : list_all (λ (t : Transaction). program_fits (under (conditions l) t)) l.transactions ≡ true
-  pub runs : list_all (λ (run : TxId × ℕ). nat_le run.1 most_tasks) l.runs ≡ true
-  pub tasks : sum_by (λ (run : TxId × ℕ). run.1) l.runs ≤ most_tasks
+  pub runs : list_all (λ (run : Call × ℕ). nat_le run.1 most_tasks) l.runs ≡ true
+  pub tasks : sum_by (λ (run : Call × ℕ). run.1) l.runs ≤ most_tasks
 
 pub limits_parts : (l : Listing) → limits_hold l ≡ true → LimitsHold l
 unfolding limits_hold
 limits_parts l h =
     let a = nat_le (length l.names) most_variables in
-    let b = list_all (λ (name : List ℕ). nat_le (length name) longest_name) l.names in
+    let b = list_all is_short l.names in
     let p = nat_le (length l.always) most_conditions in
-    let q = list_all (λ (name : List ℕ). nat_le (length name) longest_name) (always_names l) in
+    let q = list_all is_short (always_names l) in
     let r = conditions_fit (conditions l) in
     let c = nat_le (length l.transactions) most_transactions in
-    let d = list_all (λ (t : Transaction). nat_le (length t.name) longest_name) l.transactions in
+    let d = list_all names_fit l.transactions in
     let e = list_all (λ (t : Transaction). program_fits (under (conditions l) t)) l.transactions in
-    let f = list_all (λ (run : TxId × ℕ). nat_le run.1 most_tasks) l.runs in
-    let g = nat_le (sum_by (λ (run : TxId × ℕ). run.1) l.runs) most_tasks in
+    let f = list_all (λ (run : Call × ℕ). nat_le run.1 most_tasks) l.runs in
+    let g = nat_le (sum_by (λ (run : Call × ℕ). run.1) l.runs) most_tasks in
     let h1 = and_parts a (b && (p && (q && (r && (c && (d && (e && (f && g)))))))) h in
     let h2 = and_parts b (p && (q && (r && (c && (d && (e && (f && g))))))) h1.1 in
     let h3 = and_parts p (q && (r && (c && (d && (e && (f && g)))))) h2.1 in
@@ -115,18 +122,21 @@ limits_parts l h =
     }
 
 -- a run of n is n tasks
-pub length-tasks_of : (runs : List (TxId × ℕ)) → length (tasks_of runs) ≡ sum_by (λ run. run.1) runs
-length-tasks_of [] = refl
-length-tasks_of (run ∷ runs) =
-    let e = length-append (replicate run.1 run.0) (tasks_of runs) in
+length-calls_of : (runs : List (Call × ℕ)) → length (calls_of runs) ≡ sum_by (λ run. run.1) runs
+length-calls_of [] = refl
+length-calls_of (run ∷ runs) =
+    let e = length-append (replicate run.1 run.0) (calls_of runs) in
     let n = length-replicate run.1 run.0 in
-    let h = length-tasks_of runs in
-    let f : length (tasks_of (run ∷ runs)) ≡ length (replicate run.1 run.0) + length (tasks_of runs) = e in
-    let g : run.1 + length (tasks_of runs) ≡ run.1 + sum_by (λ (run : TxId × ℕ). run.1) runs = ap (λ k. run.1 + k) h in
-    f ∙ ap (λ k. k + length (tasks_of runs)) n ∙ g ∙ sym (sum_by-cons (λ (run : TxId × ℕ). run.1) run runs)
+    let h = length-calls_of runs in
+    let f : length (calls_of (run ∷ runs)) ≡ length (replicate run.1 run.0) + length (calls_of runs) = e in
+    let g : run.1 + length (calls_of runs) ≡ run.1 + sum_by (λ (run : Call × ℕ). run.1) runs = ap (λ k. run.1 + k) h in
+    f ∙ ap (λ k. k + length (calls_of runs)) n ∙ g ∙ sym (sum_by-cons (λ (run : Call × ℕ). run.1) run runs)
+
+pub length-tasks : (l : Listing) → length (tasks l) ≡ sum_by (λ run. run.1) l.runs
+length-tasks l = length-map (calls l) (λ (c : Call). c.tx) ∙ length-calls_of l.runs
 
 pub few_tasks : (l : Listing) → limits_hold l ≡ true → length (tasks l) ≤ most_tasks
-few_tasks l h = subst (λ n. n ≤ most_tasks) (sym (length-tasks_of l.runs)) (limits_parts l h).tasks
+few_tasks l h = subst (λ n. n ≤ most_tasks) (sym (length-tasks l)) (limits_parts l h).tasks
 
 -- what passes at each element passes at one
 pub passes_at : {X : Type 0} (p : X → Bool) (xs : List X) (i : ℕ) (x : X) → list_all p xs ≡ true → slice_get xs i ≡ Some x → p x ≡ true
@@ -141,60 +151,120 @@ passes-replicate : {X : Type 0} (p : X → Bool) (n : ℕ) (x : X) → p x ≡ t
 passes-replicate p zero x h = refl
 passes-replicate p (suc n) x h = and_from _ _ h (passes-replicate p n x h)
 
-known_tasks : (n : ℕ) (runs : List (TxId × ℕ)) → list_all (λ run. nat_lt run.0.0 n) runs ≡ true → list_all (λ (tx : TxId). nat_lt tx.0 n) (tasks_of runs) ≡ true
-known_tasks n [] h = refl
-known_tasks n (run ∷ runs) h =
-    passes-append (λ (tx : TxId). nat_lt tx.0 n) (replicate run.1 run.0) (tasks_of runs)
-    (passes-replicate (λ (tx : TxId). nat_lt tx.0 n) run.1 run.0 (left _ _ h)) (known_tasks n runs (right _ _ h))
+-- what passes at the call of each run passes at that of each task
+passes-calls : (p : Call → Bool) (runs : List (Call × ℕ)) → list_all p (map (λ (run : Call × ℕ). run.0) runs) ≡ true → list_all p (calls_of runs) ≡ true
+passes-calls p [] h = refl
+passes-calls p (run ∷ runs) h =
+    passes-append p (replicate run.1 run.0) (calls_of runs) (passes-replicate p run.1 run.0 (left _ _ h)) (passes-calls p runs (right _ _ h))
+
+-- the transaction and the arguments of a task are those of its call
+calls_so : (cs : List Call) (t : ℕ) (tx : TxId) → slice_get (map (λ (c : Call). c.tx) cs) t ≡ Some tx → slice_get cs t ≡ Some (record { tx = tx; arguments = slice_index_or (map (λ (c : Call). c.arguments) cs) t [] })
+calls_so [] t tx e = absurd (none_is (sym e))
+calls_so (c ∷ cs) zero tx e = ap (λ (x : TxId). Some (record { tx = x; arguments = c.arguments })) (same_Some _ _ e)
+calls_so (c ∷ cs) (suc t) tx e = calls_so cs t tx e
+
+pub task_calls : (l : Listing) (t : TaskId) (tx : TxId) → slice_get (tasks l) t.0 ≡ Some tx → slice_get (calls l) t.0 ≡ Some (record { tx = tx; arguments = task_arguments l t })
+task_calls l t tx e = calls_so (calls l) t.0 tx e
+
+-- a task's call is one of the listing
+pub callable_task : (l : Listing) (t : ℕ) (c : Call) → names_hold l ≡ true → slice_get (calls l) t ≡ Some c → IsCallable l c.tx c.arguments
+callable_task l t c h e =
+    let b = passes_at (is_callable l) (calls l) t c (passes-calls (is_callable l) l.runs (names_parts l h).runs) e in
+    record { declared = ltb-true _ _ (left _ _ b); each = eqb-true _ _ (right _ _ b) }
+
+-- a task has as many arguments as its transaction wants
+pub callable_as : (l : Listing) (t : TaskId) (tx : TxId) → names_hold l ≡ true → slice_get (tasks l) t.0 ≡ Some tx → IsCallable l tx (task_arguments l t)
+callable_as l t tx h e = callable_task l t.0 (record { tx = tx; arguments = task_arguments l t }) h (task_calls l t tx e)
 
 -- a task's transaction is one of the listing
 pub known_task : (l : Listing) (t : ℕ) (tx : TxId) → names_hold l ≡ true → slice_get (tasks l) t ≡ Some tx → tx.0 < length l.transactions
-known_task l t tx h e =
-    ltb-true _ _ (passes_at (λ (tx : TxId). nat_lt tx.0 (length l.transactions)) (tasks l) t tx (known_tasks _ l.runs (names_parts l h).runs) e)
+known_task l t tx h e = (callable_as l (record { 0 = t }) tx h e).declared
 
-known_expression : (n : ℕ) (e : Expression) → knows_expression n e ≡ true → ExpressionKnown n e
-known_expression n (Int v) h = tt
-known_expression n (Var x) h = ltb-true _ _ h
-known_expression n (Add a b) h = (known_expression n a (left _ _ h), known_expression n b (right _ _ h))
-known_expression n (Sub a b) h = (known_expression n a (left _ _ h), known_expression n b (right _ _ h))
-known_expression n (Mul a b) h = (known_expression n a (left _ _ h), known_expression n b (right _ _ h))
-known_expression n (Div a b) h = (known_expression n a (left _ _ h), known_expression n b (right _ _ h))
-known_expression n (Rem a b) h = (known_expression n a (left _ _ h), known_expression n b (right _ _ h))
+-- what knows only these many variables names no others once its arguments are given
+known_expression : (n k : ℕ) (given : List ℤ) (e : Expression) → knows_expression n k e ≡ true → ExpressionKnown n (instance_expression given e)
+known_expression n k given (Int v) h = tt
+known_expression n k given (Var x) h = ltb-true _ _ h
+known_expression n k given (Param p) h = tt
+known_expression n k given (Add a b) h = (known_expression n k given a (left _ _ h), known_expression n k given b (right _ _ h))
+known_expression n k given (Sub a b) h = (known_expression n k given a (left _ _ h), known_expression n k given b (right _ _ h))
+known_expression n k given (Mul a b) h = (known_expression n k given a (left _ _ h), known_expression n k given b (right _ _ h))
+known_expression n k given (Div a b) h = (known_expression n k given a (left _ _ h), known_expression n k given b (right _ _ h))
+known_expression n k given (Rem a b) h = (known_expression n k given a (left _ _ h), known_expression n k given b (right _ _ h))
 
-known_condition : (n : ℕ) (c : Condition) → knows_condition n c ≡ true → ConditionKnown n c
-known_condition n (Eq a b) h = (known_expression n a (left _ _ h), known_expression n b (right _ _ h))
-known_condition n (Lt a b) h = (known_expression n a (left _ _ h), known_expression n b (right _ _ h))
-known_condition n (Le a b) h = (known_expression n a (left _ _ h), known_expression n b (right _ _ h))
-known_condition n (Not c) h = known_condition n c h
-known_condition n (And a b) h = (known_condition n a (left _ _ h), known_condition n b (right _ _ h))
-known_condition n (Or a b) h = (known_condition n a (left _ _ h), known_condition n b (right _ _ h))
+known_condition : (n k : ℕ) (given : List ℤ) (c : Condition) → knows_condition n k c ≡ true → ConditionKnown n (instance_condition given c)
+known_condition n k given (Eq a b) h = (known_expression n k given a (left _ _ h), known_expression n k given b (right _ _ h))
+known_condition n k given (Lt a b) h = (known_expression n k given a (left _ _ h), known_expression n k given b (right _ _ h))
+known_condition n k given (Le a b) h = (known_expression n k given a (left _ _ h), known_expression n k given b (right _ _ h))
+known_condition n k given (Not c) h = known_condition n k given c h
+known_condition n k given (And a b) h = (known_condition n k given a (left _ _ h), known_condition n k given b (right _ _ h))
+known_condition n k given (Or a b) h = (known_condition n k given a (left _ _ h), known_condition n k given b (right _ _ h))
 
 mutual
-  known_statement : (n : ℕ) (s : Statement) → knows_statement n s ≡ true → StatementKnown n s
-  known_statement n Skip h = tt
-  known_statement n (Set x e) h = (ltb-true _ _ (left _ _ h), known_expression n e (right _ _ h))
-  known_statement n (Seq parts) h = known_statements n parts h
-  known_statement n (If c a b) h =
-      (known_condition n c (left _ _ h), known_statement n a (left _ _ (right _ _ h)), known_statement n b (right _ _ (right _ _ h)))
-  known_statement n (Repeat k s) h = known_statement n s h
-  known_statement n Retry h = tt
-  known_statement n (OrElse a b) h = (known_statement n a (left _ _ h), known_statement n b (right _ _ h))
-  known_statement n (Throw e) h = known_expression n e h
+  known_statement : (n k : ℕ) (given : List ℤ) (s : Statement) → knows_statement n k s ≡ true → StatementKnown n (instance_statement given s)
+  known_statement n k given Skip h = tt
+  known_statement n k given (Set x e) h = (ltb-true _ _ (left _ _ h), known_expression n k given e (right _ _ h))
+  known_statement n k given (Seq parts) h = known_statements n k given parts h
+  known_statement n k given (If c a b) h =
+      (known_condition n k given c (left _ _ h), known_statement n k given a (left _ _ (right _ _ h)), known_statement n k given b (right _ _ (right _ _ h)))
+  known_statement n k given (Repeat times s) h = known_statement n k given s h
+  known_statement n k given Retry h = tt
+  known_statement n k given (OrElse a b) h = (known_statement n k given a (left _ _ h), known_statement n k given b (right _ _ h))
+  known_statement n k given (Throw e) h = known_expression n k given e h
 
-  known_statements : (n : ℕ) (s : Statements) → knows_statements n s ≡ true → StatementsKnown n s
-  known_statements n End h = tt
-  known_statements n (More s rest) h = (known_statement n s (left _ _ h), known_statements n rest (right _ _ h))
+  known_statements : (n k : ℕ) (given : List ℤ) (s : Statements) → knows_statements n k s ≡ true → StatementsKnown n (instance_statements given s)
+  known_statements n k given End h = tt
+  known_statements n k given (More s rest) h = (known_statement n k given s (left _ _ h), known_statements n k given rest (right _ _ h))
 
-known_conditions : (n : ℕ) (cs : List Condition) → list_all (knows_condition n) cs ≡ true → ConditionsKnown n cs
-known_conditions n [] h = tt
-known_conditions n (c ∷ cs) h = (known_condition n c (left _ _ h), known_conditions n cs (right _ _ h))
+-- a standing condition has no parameters
+expression_alone : (n : ℕ) (e : Expression) → knows_expression n 0 e ≡ true → ExpressionKnown n e
+expression_alone n (Int v) h = tt
+expression_alone n (Var x) h = ltb-true _ _ h
+expression_alone n (Param p) h = absurd (omega (arith, ltb-true p.0 0 h))
+expression_alone n (Add a b) h = (expression_alone n a (left _ _ h), expression_alone n b (right _ _ h))
+expression_alone n (Sub a b) h = (expression_alone n a (left _ _ h), expression_alone n b (right _ _ h))
+expression_alone n (Mul a b) h = (expression_alone n a (left _ _ h), expression_alone n b (right _ _ h))
+expression_alone n (Div a b) h = (expression_alone n a (left _ _ h), expression_alone n b (right _ _ h))
+expression_alone n (Rem a b) h = (expression_alone n a (left _ _ h), expression_alone n b (right _ _ h))
 
--- each of the listing's programs names only its variables
-pub known_at : (l : Listing) (i : ℕ) (t : Transaction) → names_hold l ≡ true → slice_get l.transactions i ≡ Some t → ProgramKnown (length l.names) (under (conditions l) t)
-known_at l i t h e =
+pub known_standing : (n : ℕ) (c : Condition) → knows_standing n c ≡ true → ConditionKnown n c
+known_standing n (Eq a b) h = (expression_alone n a (left _ _ h), expression_alone n b (right _ _ h))
+known_standing n (Lt a b) h = (expression_alone n a (left _ _ h), expression_alone n b (right _ _ h))
+known_standing n (Le a b) h = (expression_alone n a (left _ _ h), expression_alone n b (right _ _ h))
+known_standing n (Not c) h = known_standing n c h
+known_standing n (And a b) h = (known_standing n a (left _ _ h), known_standing n b (right _ _ h))
+known_standing n (Or a b) h = (known_standing n a (left _ _ h), known_standing n b (right _ _ h))
+
+pub all_standing : (n : ℕ) (cs : List Condition) → list_all (knows_standing n) cs ≡ true → ConditionsKnown n cs
+all_standing n [] h = tt
+all_standing n (c ∷ cs) h = (known_standing n c (left _ _ h), all_standing n cs (right _ _ h))
+
+-- the standing conditions name only the listing's variables
+pub standing_known : (l : Listing) → names_hold l ≡ true → ConditionsKnown (length l.names) (conditions l)
+standing_known l h = all_standing (length l.names) (conditions l) (names_parts l h).always_known
+
+-- and so does each of its transactions with its arguments
+pub known_given : (l : Listing) (i : ℕ) (t : Transaction) (given : List ℤ) → names_hold l ≡ true → slice_get l.transactions i ≡ Some t → ProgramKnown (length l.names) (instance given (under (conditions l) t))
+known_given l i t given h e =
     let n = length l.names in
     let known = passes_at (knows_transaction n) l.transactions i t (names_parts l h).known e in
-    (known_statement n t.body (left _ _ known), (known_expression n t.result (right _ _ known), known_conditions n (conditions l) (names_parts l h).always_known))
+    (known_statement n (arity t) given t.body (left _ _ known), (known_expression n (arity t) given t.result (right _ _ known), standing_known l h))
+
+at_place : {X : Type 0} (xs : List X) (i : ℕ) (d : X) → i < length xs → slice_get xs i ≡ Some (slice_index_or xs i d)
+at_place [] i d h = absurd (omega (arith, h))
+at_place (x ∷ xs) zero d h = refl
+at_place (x ∷ xs) (suc i) d h = at_place xs i d (omega (arith, h))
+
+-- so does each call
+pub known_call : (l : Listing) (tx : TxId) (given : List ℤ) → names_hold l ≡ true → tx.0 < length l.transactions → ProgramKnown (length l.names) (call_program l tx given)
+known_call l tx given h k = known_given l tx.0 (transaction_at l tx) given h (at_place l.transactions tx.0 _ k)
+
+-- a call has no more arguments than a transaction may have parameters
+pub few_arguments : (l : Listing) (tx : TxId) (given : List ℤ) → limits_hold l ≡ true → IsCallable l tx given → length given ≤ most_parameters
+few_arguments l tx given h c =
+    let t = transaction_at l tx in
+    let fit = passes_at names_fit l.transactions tx.0 t (limits_parts l h).tx_names (at_place l.transactions tx.0 _ c.declared) in
+    let few : arity t ≤ most_parameters = leb-true _ _ (left _ _ (right (is_short t.name) _ fit)) in
+    subst (λ (n : ℕ). n ≤ most_parameters) (sym c.each) few
 
 prefix_len-map : {X Y : Type 0} (p : Y → Bool) (f : X → Y) (xs : List X) → prefix_len p (map f xs) ≡ prefix_len (λ x. p (f x)) xs
 prefix_len-map p f [] = refl

@@ -2,3 +2,4 @@ pub mod Rows
 pub mod Lawful
 pub mod Standing
 pub mod Faults
+pub mod Instances

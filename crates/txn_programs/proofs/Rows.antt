@@ -20,7 +20,7 @@ statement_Seq parts =
     let row = row_of (Seq parts) in
     ap tree.Seq (statements_items row.0 row.1 ∙ ap statements_of_list (items_hidden-the_row-Stmt-0 parts))
 
--- one turn, and the turns that are left
+-- one turn, and the times that are left
 pub repeated_step : {S E : Type 0} (n k : ℕ) (go : S → Ending S E) (m : S) → k < n → repeated (n - k) go m ≡ then_do (go m) (repeated (n - (k + 1)) go)
 repeated_step n k go m lt =
     let e : n - k ≡ suc (n - (k + 1)) = omega arith in

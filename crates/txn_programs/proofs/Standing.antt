@@ -6,7 +6,7 @@ use Rattle.txn_programs.specs.declared.ast.Fault.{Fault}
 use Rattle.txn_programs.specs.declared.report.Entry.{Entry}
 use Rattle.txn_programs.specs.Tree.{Condition, Program}
 use Rattle.txn_programs.specs.Meaning.{State, truth, value, run, Ending, Done, Threw, Retried, broken, demanded, upheld, upheld_result, final, kept_by, state_after, after}
-use Rattle.txn_programs.specs.Listing.{Listing, conditions, program_at}
+use Rattle.txn_programs.specs.Listing.{Listing, conditions, program_as}
 use Rattle.txn_programs.specs.Replay.{Snapshot, applied, Replays}
 use Rattle.txn_programs.specs.Standing.{AllTrue, Upholds, is_true, upholds}
 
@@ -43,7 +43,7 @@ after_upholds t m h = by (run t.body m)
 pub replays_uphold : (l : Listing) (base : Snapshot) (es : List Entry) (now : Snapshot) → Upholds l base.state → Replays l base es now → Upholds l now.state
 unfolding applied
 replays_uphold l base [] now h e = subst (λ (s : Snapshot). Upholds l s.state) (sym e) h
-replays_uphold l base (e ∷ es) now h r = replays_uphold l (applied l e base) es now (after_upholds (program_at l e.tx) base.state h) r.1
+replays_uphold l base (e ∷ es) now h r = replays_uphold l (applied l e base) es now (after_upholds (program_as l e.task e.tx) base.state h) r.1
 
 -- the test is exact
 true_is : (b : Result Bool Fault) → is_true b ≡ true → b ≡ Ok true

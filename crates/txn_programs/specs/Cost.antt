@@ -1,10 +1,11 @@
 -- How many nodes a run enters at most.
 use Rattle.std.specs.Prelude.{ℕ, ◌+◌, ◌*◌, List, [], ◌∷◌}
-use Rattle.txn_programs.specs.Tree.{Expression, Int, Var, Add, Sub, Mul, Div, Rem, Condition, Eq, Lt, Le, Not, And, Or, Statement, Skip, Set, Seq, If, Repeat, Retry, OrElse, Throw, Statements, End, More, Program}
+use Rattle.txn_programs.specs.Tree.{Expression, Int, Var, Param, Add, Sub, Mul, Div, Rem, Condition, Eq, Lt, Le, Not, And, Or, Statement, Skip, Set, Seq, If, Repeat, Retry, OrElse, Throw, Statements, End, More, Program}
 
 abbrev pub expression_cost : Expression → ℕ
 expression_cost (Int n) = 1
 expression_cost (Var x) = 1
+expression_cost (Param p) = 1
 expression_cost (Add a b) = 1 + expression_cost a + expression_cost b
 expression_cost (Sub a b) = 1 + expression_cost a + expression_cost b
 expression_cost (Mul a b) = 1 + expression_cost a + expression_cost b

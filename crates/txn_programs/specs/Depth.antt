@@ -1,10 +1,11 @@
 -- How many parentheses a program opens at a time: a node that is written in parentheses counts 1.
 use Rattle.std.specs.Prelude.{ℕ, suc, max}
-use Rattle.txn_programs.specs.Tree.{Expression, Int, Var, Add, Sub, Mul, Div, Rem, Condition, Eq, Lt, Le, Not, And, Or, Statement, Skip, Set, Seq, If, Repeat, Retry, OrElse, Throw, Statements, End, More}
+use Rattle.txn_programs.specs.Tree.{Expression, Int, Var, Param, Add, Sub, Mul, Div, Rem, Condition, Eq, Lt, Le, Not, And, Or, Statement, Skip, Set, Seq, If, Repeat, Retry, OrElse, Throw, Statements, End, More}
 
 abbrev pub expression_depth : Expression → ℕ
 expression_depth (Int n) = 0
 expression_depth (Var x) = 0
+expression_depth (Param p) = 0
 expression_depth (Add a b) = suc (max (expression_depth a) (expression_depth b))
 expression_depth (Sub a b) = suc (max (expression_depth a) (expression_depth b))
 expression_depth (Mul a b) = suc (max (expression_depth a) (expression_depth b))

@@ -10,7 +10,7 @@ use Rattle.txn_programs.specs.declared.ast.Outcome.TheVariants.{Returned, Thrown
 use Rattle.txn_programs.specs.Limits.{most_tasks}
 use Rattle.txn_programs.specs.Meaning.{outcome}
 use Rattle.txn_programs.specs.Standing.{Upholds}
-use Rattle.txn_programs.specs.Listing.{Listing, tasks, program_at}
+use Rattle.txn_programs.specs.Listing.{Listing, tasks, program_as}
 use Rattle.txn_programs.specs.Replay.{Replays, Reached, opening, entered, Stands, Once}
 use Rattle.txn_programs.specs.Told.{Told, base_of, now_of}
 
@@ -69,7 +69,7 @@ pub record LawfulReport (l : Listing) (r : Told) : Type 0 where
   pub memory_ascend : Ascends (map (λ p. p.0.0) r.memory)
   pub accounted : r.base + (length r.entries + (length r.parked + length r.memory)) ≡ length (tasks l)
   -- each parked task waits for a change
-  pub retries : All (λ p. outcome (program_at l p.1) (now_of r).state ≡ Retries) r.parked
+  pub retries : All (λ p. outcome (program_as l p.0 p.1) (now_of r).state ≡ Retries) r.parked
 
 -- the base is reached by exactly the tasks that stand on none of the report's lines
 abbrev pub BaseReached : Listing → Told → Type 0

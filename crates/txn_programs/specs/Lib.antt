@@ -5,8 +5,10 @@ pub mod Cost
 pub mod Depth
 pub mod Code
 pub mod Fused
+pub mod Instance
 pub mod Scope
 pub mod Listing
+pub mod ArgumentsInside
 pub mod Standing
 pub mod Names
 pub mod Limits

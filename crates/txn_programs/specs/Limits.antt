@@ -1,7 +1,7 @@
 -- The limits, and when a listing keeps them.
 use Rattle.std.specs.Prelude.{ℕ, ◌+◌, max, min, ◌≤◌, Bool, ◌&&◌, nat_le, List, length, sum_by}
 use Rattle.std.specs.List.{list_all}
-use Rattle.txn_programs.specs.Tree.{Condition, Statement, Skip, Set, Seq, If, Repeat, Retry, OrElse, Throw, Statements, End, More, Program, under}
+use Rattle.txn_programs.specs.Tree.{Condition, Statement, Skip, Set, Seq, If, Repeat, Retry, OrElse, Throw, Statements, End, More, Transaction, Program, under}
 use Rattle.txn_programs.specs.Cost.{conditions_cost, cost}
 use Rattle.txn_programs.specs.Depth.{expression_depth, condition_depth, statement_depth, statements_depth}
 use Rattle.txn_programs.specs.Listing.{Listing, conditions, always_names}
@@ -15,6 +15,10 @@ most_transactions = 256
 abbrev pub most_conditions : ℕ
 most_conditions = 64
 
+-- of a transaction
+abbrev pub most_parameters : ℕ
+most_parameters = 8
+
 -- in all, and of one run
 abbrev pub most_tasks : ℕ
 most_tasks = 65536
@@ -27,8 +31,8 @@ longest_name = 32
 abbrev pub deepest : ℕ
 deepest = 31
 
-abbrev pub most_turns : ℕ
-most_turns = 1000
+abbrev pub most_times : ℕ
+most_times = 1000
 
 abbrev pub highest_cost : ℕ
 highest_cost = 1000000
@@ -57,14 +61,22 @@ conditions_fit cs = list_all (λ c. nat_le (condition_depth c) deepest) cs && na
 abbrev pub program_fits : Program → Bool
 program_fits t =
     nat_le (statement_depth t.body) deepest && (nat_le (expression_depth t.result) deepest
-    && (nat_le (largest_repeat t.body) most_turns && nat_le (cost t) highest_cost))
+    && (nat_le (largest_repeat t.body) most_times && nat_le (cost t) highest_cost))
+
+-- a name is no longer than the limit
+abbrev pub is_short : List ℕ → Bool
+is_short name = nat_le (length name) longest_name
+
+-- so are those of a transaction and of its parameters, of which there are not too many
+abbrev pub names_fit : Transaction → Bool
+names_fit t = is_short t.name && (nat_le (length t.parameters) most_parameters && list_all is_short t.parameters)
 
 unfoldable pub limits_hold : Listing → Bool
 limits_hold l =
-    nat_le (length l.names) most_variables && (list_all (λ name. nat_le (length name) longest_name) l.names
-    && (nat_le (length l.always) most_conditions && (list_all (λ name. nat_le (length name) longest_name) (always_names l)
+    nat_le (length l.names) most_variables && (list_all is_short l.names
+    && (nat_le (length l.always) most_conditions && (list_all is_short (always_names l)
     && (conditions_fit (conditions l)
-    && (nat_le (length l.transactions) most_transactions && (list_all (λ t. nat_le (length t.name) longest_name) l.transactions
+    && (nat_le (length l.transactions) most_transactions && (list_all names_fit l.transactions
     && (list_all (λ t. program_fits (under (conditions l) t)) l.transactions
     && (list_all (λ run. nat_le run.1 most_tasks) l.runs && nat_le (sum_by (λ run. run.1) l.runs) most_tasks))))))))
 
@@ -74,7 +86,7 @@ capped n = min n (highest_cost + 1)
 
 -- within a depth, and no repeat count over the limit
 abbrev pub StatementFits : ℕ → Statement → Type 0
-StatementFits depth s = (statement_depth s ≤ depth) × (largest_repeat s ≤ most_turns)
+StatementFits depth s = (statement_depth s ≤ depth) × (largest_repeat s ≤ most_times)
 
 abbrev pub StatementsFit : ℕ → Statements → Type 0
-StatementsFit depth parts = (statements_depth parts ≤ depth) × (largest_repeat_of_all parts ≤ most_turns)
+StatementsFit depth parts = (statements_depth parts ≤ depth) × (largest_repeat_of_all parts ≤ most_times)

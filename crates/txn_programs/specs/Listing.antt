@@ -1,14 +1,16 @@
 -- What a catalogue lists: variables, transactions and runs, in declared order.
-use Rattle.std.specs.Prelude.{ℕ, ℤ, List, [], map, flat_map, replicate, slice_index_or, string_bytes, bytes_eq, position, pos, Option, Some, None}
+use Rattle.std.specs.Prelude.{◌≡◌, ℕ, ◌<◌, ℤ, List, [], map, length, flat_map, replicate, slice_index_or, string_bytes, bytes_eq, position, pos, Option, Some, None}
 use Rattle.std.specs.declared.alloc.Global.{Global}
 use Rattle.std.specs.declared.string.String.{String}
 use Rattle.txn_programs.specs.declared.ast.VarId.{VarId}
+use Rattle.txn_programs.specs.declared.arguments.Call.{Call}
 use Rattle.txn_programs.specs.declared.ast.TxId.{TxId}
 use Rattle.txn_programs.specs.declared.ast.TaskId.{TaskId}
 use Rattle.txn_programs.specs.declared.ast.Tx.{Tx}
 use Rattle.txn_programs.specs.declared.ast.Cond.{Cond}
 use Rattle.txn_programs.specs.declared.ast.AlwaysId.{AlwaysId}
 use Rattle.txn_programs.specs.Tree.{Condition, condition_of, Transaction, transaction_of, Program, under, Skip, Int}
+use Rattle.txn_programs.specs.Instance.{instance}
 
 pub record Listing : Type 0 where
   -- the variables' names, and beside them their initial values
@@ -17,11 +19,11 @@ pub record Listing : Type 0 where
   -- the standing conditions, each with its name
   pub always : List (List ℕ × Condition)
   pub transactions : List Transaction
-  -- a transaction, and how many tasks run it
-  pub runs : List (TxId × ℕ)
+  -- a call, and how many tasks make it
+  pub runs : List (Call × ℕ)
 
 -- the listing of what `build` is given
-abbrev pub listing_of : List (String Global × ℤ) → List (String Global × Cond) → List Tx → List (TxId × ℕ) → Listing
+abbrev pub listing_of : List (String Global × ℤ) → List (String Global × Cond) → List Tx → List (Call × ℕ) → Listing
 listing_of vars always txs runs =
     record {
       names = map (λ v. string_bytes v.0) vars;
@@ -38,26 +40,50 @@ conditions l = map (λ a. a.1) l.always
 abbrev pub always_names : Listing → List (List ℕ)
 always_names l = map (λ a. a.0) l.always
 
--- each task's transaction: a run of n is n tasks, in the order of the runs
-abbrev pub tasks_of : List (TxId × ℕ) → List TxId
-tasks_of runs = flat_map (λ run. replicate run.1 run.0) runs
+-- each task's call: a run of n is n tasks, in the order of the runs
+abbrev pub calls_of : List (Call × ℕ) → List Call
+calls_of runs = flat_map (λ run. replicate run.1 run.0) runs
 
+abbrev pub calls : Listing → List Call
+calls l = calls_of l.runs
+
+-- each task's transaction
 abbrev pub tasks : Listing → List TxId
-tasks l = tasks_of l.runs
+tasks l = map (λ (c : Call). c.tx) (calls l)
 
 -- the transaction of a task
 abbrev pub task_tx : Listing → TaskId → TxId
 task_tx l task = slice_index_or (tasks l) task.0 (record { 0 = 0 })
 
 abbrev pub transaction_at : Listing → TxId → Transaction
-transaction_at l tx = slice_index_or l.transactions tx.0 (record { name = []; body = Skip; result = Int (pos 0) })
+transaction_at l tx = slice_index_or l.transactions tx.0 (record { name = []; parameters = []; body = Skip; result = Int (pos 0) })
 
--- the program of a transaction
+-- how many arguments a call of the transaction has
+abbrev pub arity : Transaction → ℕ
+arity t = length t.parameters
+
+-- a transaction of the listing, with as many arguments as it wants
+pub record IsCallable (l : Listing) (tx : TxId) (arguments : List ℤ) : Type 0 where
+  pub declared : tx.0 < length l.transactions
+  pub each : length arguments ≡ arity (transaction_at l tx)
+
+-- the program of a transaction, and of a call of it
 abbrev pub program_at : Listing → TxId → Program
 program_at l tx = under (conditions l) (transaction_at l tx)
 
+abbrev pub call_program : Listing → TxId → List ℤ → Program
+call_program l tx arguments = instance arguments (program_at l tx)
+
+-- the arguments of a task
+abbrev pub task_arguments : Listing → TaskId → List ℤ
+task_arguments l task = slice_index_or (map (λ (c : Call). c.arguments) (calls l)) task.0 []
+
+-- what a task does where this is its transaction
+abbrev pub program_as : Listing → TaskId → TxId → Program
+program_as l task tx = call_program l tx (task_arguments l task)
+
 abbrev pub task_program : Listing → TaskId → Program
-task_program l task = program_at l (task_tx l task)
+task_program l task = program_as l task (task_tx l task)
 
 abbrev pub as_variable : Option ℕ → Option VarId
 as_variable None = None

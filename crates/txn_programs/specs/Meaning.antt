@@ -8,7 +8,7 @@ use Rattle.txn_programs.specs.declared.ast.Fault.TheVariants.{User, Broken}
 use Rattle.txn_programs.specs.declared.ast.Outcome.{Outcome}
 use Rattle.txn_programs.specs.declared.ast.Outcome.TheVariants.{Returned, Thrown, Retries}
 use Rattle.txn_programs.specs.declared.ast.VarId.{VarId}
-use Rattle.txn_programs.specs.Tree.{Expression, Int, Var, Add, Sub, Mul, Div, Rem, Condition, Eq, Lt, Le, Not, And, Or, Statement, Skip, Set, Seq, If, Repeat, Retry, OrElse, Throw, Statements, End, More, Program}
+use Rattle.txn_programs.specs.Tree.{Expression, Int, Var, Param, Add, Sub, Mul, Div, Rem, Condition, Eq, Lt, Le, Not, And, Or, Statement, Skip, Set, Seq, If, Repeat, Retry, OrElse, Throw, Statements, End, More, Program}
 
 abbrev pub State : Type 0
 State = List ℤ
@@ -31,6 +31,8 @@ both f (Ok x) (Ok y) = f x y
 abbrev pub value : Expression → State → Result ℤ Fault
 value (Int n) m = Ok n
 value (Var x) m = Ok (value_at m x)
+-- where a program is run its parameters have been replaced by their arguments
+value (Param p) m = Ok (pos 0)
 value (Add a b) m = both sum_of (value a m) (value b m)
 value (Sub a b) m = both difference_of (value a m) (value b m)
 value (Mul a b) m = both product_of (value a m) (value b m)

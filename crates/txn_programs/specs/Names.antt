@@ -1,9 +1,10 @@
--- When the names and the ids of a listing hold.
+-- When names and ids hold.
 use Rattle.std.specs.Prelude.{ℕ, Bool, true, false, not, ◌&&◌, ◌||◌, ◌==◌, nat_lt, List, [], ◌∷◌, ◌++◌, map, length, bytes_eq}
 use Rattle.std.specs.Char.{is_ascii_alphabetic, is_ascii_digit}
 use Rattle.std.specs.List.{list_any, list_all}
-use Rattle.txn_programs.specs.Tree.{Expression, Int, Var, Add, Sub, Mul, Div, Rem, Condition, Eq, Lt, Le, Not, And, Or, Statement, Skip, Set, Seq, If, Repeat, Retry, OrElse, Throw, Statements, End, More, Transaction}
-use Rattle.txn_programs.specs.Listing.{Listing, conditions, always_names}
+use Rattle.txn_programs.specs.Tree.{Expression, Int, Var, Param, Add, Sub, Mul, Div, Rem, Condition, Eq, Lt, Le, Not, And, Or, Statement, Skip, Set, Seq, If, Repeat, Retry, OrElse, Throw, Statements, End, More, Transaction}
+use Rattle.txn_programs.specs.declared.arguments.Call.{Call}
+use Rattle.txn_programs.specs.Listing.{Listing, conditions, always_names, transaction_at, arity}
 
 -- letters, digits and underscores
 abbrev pub is_name_byte : ℕ → Bool
@@ -22,51 +23,69 @@ are_new earlier (name ∷ rest) = not (list_any (bytes_eq name) earlier) && are_
 abbrev pub are_distinct : List (List ℕ) → Bool
 are_distinct names = are_new [] names
 
--- only variables with a number below n are named
-abbrev pub knows_expression : ℕ → Expression → Bool
-knows_expression n (Int v) = true
-knows_expression n (Var x) = nat_lt x.0 n
-knows_expression n (Add a b) = knows_expression n a && knows_expression n b
-knows_expression n (Sub a b) = knows_expression n a && knows_expression n b
-knows_expression n (Mul a b) = knows_expression n a && knows_expression n b
-knows_expression n (Div a b) = knows_expression n a && knows_expression n b
-knows_expression n (Rem a b) = knows_expression n a && knows_expression n b
+-- only variables with a number below n are named, and parameters with a number below k
+abbrev pub knows_expression : ℕ → ℕ → Expression → Bool
+knows_expression n k (Int v) = true
+knows_expression n k (Var x) = nat_lt x.0 n
+knows_expression n k (Param p) = nat_lt p.0 k
+knows_expression n k (Add a b) = knows_expression n k a && knows_expression n k b
+knows_expression n k (Sub a b) = knows_expression n k a && knows_expression n k b
+knows_expression n k (Mul a b) = knows_expression n k a && knows_expression n k b
+knows_expression n k (Div a b) = knows_expression n k a && knows_expression n k b
+knows_expression n k (Rem a b) = knows_expression n k a && knows_expression n k b
 
-abbrev pub knows_condition : ℕ → Condition → Bool
-knows_condition n (Eq a b) = knows_expression n a && knows_expression n b
-knows_condition n (Lt a b) = knows_expression n a && knows_expression n b
-knows_condition n (Le a b) = knows_expression n a && knows_expression n b
-knows_condition n (Not c) = knows_condition n c
-knows_condition n (And a b) = knows_condition n a && knows_condition n b
-knows_condition n (Or a b) = knows_condition n a && knows_condition n b
+abbrev pub knows_condition : ℕ → ℕ → Condition → Bool
+knows_condition n k (Eq a b) = knows_expression n k a && knows_expression n k b
+knows_condition n k (Lt a b) = knows_expression n k a && knows_expression n k b
+knows_condition n k (Le a b) = knows_expression n k a && knows_expression n k b
+knows_condition n k (Not c) = knows_condition n k c
+knows_condition n k (And a b) = knows_condition n k a && knows_condition n k b
+knows_condition n k (Or a b) = knows_condition n k a && knows_condition n k b
 
 abbrev mutual
-  pub knows_statement : ℕ → Statement → Bool
-  knows_statement n Skip = true
-  knows_statement n (Set x e) = nat_lt x.0 n && knows_expression n e
-  knows_statement n (Seq parts) = knows_statements n parts
-  knows_statement n (If c a b) = knows_condition n c && (knows_statement n a && knows_statement n b)
-  knows_statement n (Repeat k s) = knows_statement n s
-  knows_statement n Retry = true
-  knows_statement n (OrElse a b) = knows_statement n a && knows_statement n b
-  knows_statement n (Throw e) = knows_expression n e
+  pub knows_statement : ℕ → ℕ → Statement → Bool
+  knows_statement n k Skip = true
+  knows_statement n k (Set x e) = nat_lt x.0 n && knows_expression n k e
+  knows_statement n k (Seq parts) = knows_statements n k parts
+  knows_statement n k (If c a b) = knows_condition n k c && (knows_statement n k a && knows_statement n k b)
+  knows_statement n k (Repeat times s) = knows_statement n k s
+  knows_statement n k Retry = true
+  knows_statement n k (OrElse a b) = knows_statement n k a && knows_statement n k b
+  knows_statement n k (Throw e) = knows_expression n k e
 
-  pub knows_statements : ℕ → Statements → Bool
-  knows_statements n End = true
-  knows_statements n (More s rest) = knows_statement n s && knows_statements n rest
+  pub knows_statements : ℕ → ℕ → Statements → Bool
+  knows_statements n k End = true
+  knows_statements n k (More s rest) = knows_statement n k s && knows_statements n k rest
+
+-- a standing condition has no parameters
+abbrev pub knows_standing : ℕ → Condition → Bool
+knows_standing n c = knows_condition n 0 c
 
 abbrev pub knows_transaction : ℕ → Transaction → Bool
-knows_transaction n t = knows_statement n t.body && knows_expression n t.result
+knows_transaction n t = knows_statement n (arity t) t.body && knows_expression n (arity t) t.result
+
+-- the names of a transaction and of its parameters have the form of one
+abbrev pub are_formed : Transaction → Bool
+are_formed t = is_name t.name && list_all is_name t.parameters
+
+-- no parameter of a transaction has the name of one of these variables, nor that of one before it
+abbrev pub has_own_parameters : List (List ℕ) → Transaction → Bool
+has_own_parameters variables t = are_new variables t.parameters
+
+-- a transaction of the listing, with as many arguments as it wants
+abbrev pub is_callable : Listing → Call → Bool
+is_callable l c = nat_lt c.tx.0 (length l.transactions) && (length c.arguments == arity (transaction_at l c.tx))
 
 -- each name has the form of one, and each id is one of the listing's
 unfoldable pub is_well_formed : Listing → Bool
 is_well_formed l =
-    list_all is_name l.names && (list_all is_name (always_names l) && (list_all (λ t. is_name t.name) l.transactions
-    && (list_all (knows_condition (length l.names)) (conditions l)
+    list_all is_name l.names && (list_all is_name (always_names l) && (list_all are_formed l.transactions
+    && (list_all (knows_standing (length l.names)) (conditions l)
     && (list_all (knows_transaction (length l.names)) l.transactions
-    && list_all (λ run. nat_lt run.0.0 (length l.transactions)) l.runs))))
+    && list_all (is_callable l) (map (λ run. run.0) l.runs)))))
 
--- and no name is given twice among variables, among conditions or among transactions
+-- and no name is given twice among variables, among conditions, among transactions, or among variables and the parameters of one
 unfoldable pub names_hold : Listing → Bool
 names_hold l =
-    is_well_formed l && (are_distinct l.names && (are_distinct (always_names l) && are_distinct (map (λ t. t.name) l.transactions)))
+    is_well_formed l && (are_distinct l.names && (are_distinct (always_names l) && (are_distinct (map (λ t. t.name) l.transactions)
+    && list_all (has_own_parameters l.names) l.transactions)))

@@ -4,7 +4,7 @@ use Rattle.std.specs.Ordering.{int_eq}
 use Rattle.txn_programs.specs.declared.report.Entry.{Entry}
 use Rattle.txn_programs.specs.declared.ast.Outcome.TheVariants.{Retries}
 use Rattle.txn_programs.specs.Meaning.{State, outcome, after}
-use Rattle.txn_programs.specs.Listing.{Listing, tasks, program_at}
+use Rattle.txn_programs.specs.Listing.{Listing, tasks, program_as}
 
 -- a number, with the values and versions that stand at it
 pub record Snapshot : Type 0 where
@@ -18,11 +18,11 @@ versions_after n (old ∷ olds) (new ∷ news) (version ∷ versions) =
     (if int_eq old new then version else n) ∷ versions_after n olds news versions
 versions_after n olds news versions = []
 
--- an entry can be applied: it has the next number, its task's transaction and that one's outcome here, which is no retry
+-- an entry can be applied: it has the next number, its task's transaction and the task's outcome here, which is no retry
 pub record Applies (l : Listing) (e : Entry) (s : Snapshot) : Type 0 where
   pub number : e.number ≡ s.number + 1
   pub tx : slice_get (tasks l) e.task.0 ≡ Some e.tx
-  pub outcome_is : e.outcome ≡ outcome (program_at l e.tx) s.state
+  pub outcome_is : e.outcome ≡ outcome (program_as l e.task e.tx) s.state
   pub ends : e.outcome ≢ Retries
 
 -- the snapshot after it
@@ -30,8 +30,8 @@ unfoldable pub applied : Listing → Entry → Snapshot → Snapshot
 applied l e s =
     record {
       number = e.number;
-      state = after (program_at l e.tx) s.state;
-      versions = versions_after e.number s.state (after (program_at l e.tx) s.state) s.versions;
+      state = after (program_as l e.task e.tx) s.state;
+      versions = versions_after e.number s.state (after (program_as l e.task e.tx) s.state) s.versions;
     }
 
 -- each entry in turn can be applied, and the last leads to `now`

@@ -1,10 +1,11 @@
--- A program names only variables with a number below n.
+-- Which variables a program names. What is run has no parameter left.
 use Rattle.std.specs.Prelude.{ℕ, ◌<◌, List, [], ◌∷◌}
-use Rattle.txn_programs.specs.Tree.{Expression, Int, Var, Add, Sub, Mul, Div, Rem, Condition, Eq, Lt, Le, Not, And, Or, Statement, Skip, Set, Seq, If, Repeat, Retry, OrElse, Throw, Statements, End, More, Program}
+use Rattle.txn_programs.specs.Tree.{Expression, Int, Var, Param, Add, Sub, Mul, Div, Rem, Condition, Eq, Lt, Le, Not, And, Or, Statement, Skip, Set, Seq, If, Repeat, Retry, OrElse, Throw, Statements, End, More, Program}
 
 abbrev pub ExpressionKnown : ℕ → Expression → Type 0
 ExpressionKnown n (Int v) = Unit {0}
 ExpressionKnown n (Var x) = x.0 < n
+ExpressionKnown n (Param p) = ⊥
 ExpressionKnown n (Add a b) = ExpressionKnown n a × ExpressionKnown n b
 ExpressionKnown n (Sub a b) = ExpressionKnown n a × ExpressionKnown n b
 ExpressionKnown n (Mul a b) = ExpressionKnown n a × ExpressionKnown n b

@@ -1,4 +1,4 @@
--- When a state keeps the conditions that have to stand.
+-- When a state keeps the standing conditions.
 use Rattle.std.specs.Prelude.{◌≡◌, Bool, true, false, List, [], ◌∷◌, Result, Ok, Err}
 use Rattle.std.specs.List.{list_all}
 use Rattle.txn_programs.specs.Meaning.{State, truth}

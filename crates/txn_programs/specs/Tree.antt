@@ -1,6 +1,7 @@
 -- Programs as plain trees: what a transaction says, and not where it lies in memory.
-use Rattle.std.specs.Prelude.{ℕ, ℤ, List, [], ◌∷◌, string_bytes}
+use Rattle.std.specs.Prelude.{map, ℕ, ℤ, List, [], ◌∷◌, string_bytes}
 use Rattle.txn_programs.specs.declared.ast.VarId.{VarId}
+use Rattle.txn_programs.specs.declared.ast.ParamId.{ParamId}
 use Rattle.txn_programs.specs.declared.ast.Expr.{Expr}
 use Rattle.txn_programs.specs.declared.ast.Expr.TheVariants as e
 use Rattle.txn_programs.specs.declared.ast.Cond.{Cond}
@@ -9,10 +10,11 @@ use Rattle.txn_programs.specs.declared.ast.Stmt.{Stmt, Row_of-Stmt, end_of-Stmt,
 use Rattle.txn_programs.specs.declared.ast.Stmt.TheVariants as s
 use Rattle.txn_programs.specs.declared.ast.Tx.{Tx}
 
--- a number, a variable, or an operator on two operands
+-- a number, a variable, a parameter, or an operator on two operands
 pub data Expression : Type 0 where
   Int : (n : ℤ) → Expression
   Var : (x : VarId) → Expression
+  Param : (p : ParamId) → Expression
   Add : (a b : Expression) → Expression
   Sub : (a b : Expression) → Expression
   Mul : (a b : Expression) → Expression
@@ -48,6 +50,7 @@ mutual
 abbrev pub expression_of : Expr → Expression
 expression_of (e.Int n) = Int n
 expression_of (e.Var x) = Var x
+expression_of (e.Param p) = Param p
 expression_of (e.Add' p a q b) = Add (expression_of a) (expression_of b)
 expression_of (e.Sub' p a q b) = Sub (expression_of a) (expression_of b)
 expression_of (e.Mul' p a q b) = Mul (expression_of a) (expression_of b)
@@ -85,11 +88,13 @@ statements_of_list (p ∷ rest) = More (statement_of p) (statements_of_list rest
 -- a transaction, as it is declared
 pub record Transaction : Type 0 where
   pub name : List ℕ
+  -- the names of its parameters
+  pub parameters : List (List ℕ)
   pub body : Statement
   pub result : Expression
 
 abbrev pub transaction_of : Tx → Transaction
-transaction_of t = record { name = string_bytes t.name; body = statement_of t.body; result = expression_of t.result }
+transaction_of t = record { name = string_bytes t.name; parameters = map string_bytes t.params.items; body = statement_of t.body; result = expression_of t.result }
 
 -- what a task runs: a transaction, and the conditions that have to stand after it
 pub record Program : Type 0 where

@@ -16,11 +16,17 @@ pub struct TaskId(pub u32);
 #[derive(Clone, Copy, Debug, Default, PartialEq, Eq, PartialOrd, Ord)]
 pub struct AlwaysId(pub u32);
 
+/// A parameter of a transaction, by its place in the transaction's list, from 0.
+#[derive(Clone, Copy, Debug, Default, PartialEq, Eq, PartialOrd, Ord)]
+pub struct ParamId(pub u32);
+
 /// An expression: a signed 64-bit number, or a fault.
 #[derive(Debug, PartialEq, Eq, Drop)]
 pub enum Expr {
     Int(i64),
     Var(VarId),
+    /// The argument of a parameter.
+    Param(ParamId),
     Add(Box<Expr>, Box<Expr>),
     Sub(Box<Expr>, Box<Expr>),
     Mul(Box<Expr>, Box<Expr>),
@@ -52,10 +58,11 @@ pub enum Stmt {
     Throw(Expr),
 }
 
-/// A transaction: a body, and a result that sees the body's writes.
+/// A transaction: its parameters' names, a body, and a result that sees the body's writes.
 #[derive(Debug, PartialEq, Eq, Drop)]
 pub struct Tx {
     pub name: String,
+    pub params: Vec<String>,
     pub body: Stmt,
     pub result: Expr,
 }

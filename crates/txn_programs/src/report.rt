@@ -28,6 +28,6 @@ pub struct Report {
     pub now_vars: Vec<(i64, u64)>,
     /// The tasks that wait for a change, each with its transaction.
     pub parked: Vec<(TaskId, TxId)>,
-    /// The tasks given up for want of memory, each with its transaction.
+    /// The tasks given up as memory ran out, each with its transaction.
     pub memory: Vec<(TaskId, TxId)>,
 }

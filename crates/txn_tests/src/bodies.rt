@@ -2,7 +2,7 @@
 
 use crate::parts::X;
 use std::alloc::{AllocError, Global};
-use txn::{Cond, Expr, Stmt, VarId};
+use txn::{Cond, Expr, ParamId, Stmt, VarId};
 
 /// What a transaction does.
 #[derive(Clone, Copy)]
@@ -27,6 +27,8 @@ pub(crate) enum Holds {
     Is(i64),
     /// That the second variable is 5.
     Unknown,
+    /// That the first parameter is 5.
+    Param,
     /// That one over nothing is 0: it divides by zero.
     Faulty,
     /// A condition that is true, as deep as this, of which each but the innermost is a `not`.
@@ -129,6 +131,7 @@ pub(crate) fn condition(alloc: Global, holds: Holds) -> Result<Cond, AllocError>
     match holds {
         Holds::Is(n) => Ok(is(n)),
         Holds::Unknown => Ok(Cond::Eq(Expr::Var(VarId(1)), Expr::Int(5))),
+        Holds::Param => Ok(Cond::Eq(Expr::Param(ParamId(0)), Expr::Int(5))),
         Holds::Faulty => faulty(alloc),
         Holds::Deep(depth) => denials(alloc, depth),
         Holds::Tree(height) => tree(alloc, height),

@@ -1,9 +1,10 @@
 //! Catalogues built of what is said of them, and how they are refused.
 
 use crate::bodies::{Body, Holds, condition, statement};
+use crate::parts::call;
 use std::alloc::{AllocError, Global};
 use std::process::Abort;
-use txn::{BuildFault, Catalogue, Cond, Expr, Stmt, Tx, TxId};
+use txn::{BuildFault, Call, Catalogue, Cond, Expr, ParamId, Stmt, Tx, TxId};
 
 /// What a catalogue is built of. Where nothing else is said it has one transaction `t`, which skips,
 /// and one run of it.
@@ -17,10 +18,13 @@ pub(crate) enum Of {
     Tx(Body),
     /// So many transactions, named `t0`, `t1` and so on, and no run.
     ManyTxs(u32),
-    /// These runs.
-    Runs(&'static [(TxId, u32)]),
+    /// These runs, each of a transaction with these arguments.
+    Runs(&'static [(TxId, &'static [i64], u32)]),
     /// No transaction, and so many runs of the first.
     RunOfNone(u32),
+    /// x, which is 5, a transaction with these parameters, which returns the one of this place, and a
+    /// run of it with each of these arguments.
+    Params(&'static [&'static str], ParamId, &'static [&'static [i64]]),
     /// x, which is 5, these conditions over it, and a transaction of this body.
     Always(&'static [(&'static str, Holds)], Body),
     /// x and so many conditions that are true, named `a0`, `a1` and so on.
@@ -52,7 +56,9 @@ fn vars_of(alloc: Global, of: Of) -> Result<Vec<(String, i64)>, AllocError> {
     match of {
         Of::Vars(vars) => named(alloc, vars),
         Of::ManyVars(count) => many_vars(alloc, count),
-        Of::Always(_, _) | Of::ManyAlways(_) | Of::AlwaysAlone(_) => named(alloc, &[("x", 5)]),
+        Of::Always(_, _) | Of::ManyAlways(_) | Of::AlwaysAlone(_) | Of::Params(_, _, _) => {
+            named(alloc, &[("x", 5)])
+        }
         Of::Tx(_) | Of::ManyTxs(_) | Of::Runs(_) | Of::RunOfNone(_) => Ok(Vec::new(alloc)),
     }
 }
@@ -83,9 +89,10 @@ fn always_of(alloc: Global, of: Of) -> Result<Vec<(String, Cond)>, AllocError> {
     }
 }
 
-fn tx(name: String, body: Stmt) -> Tx {
+fn tx(alloc: Global, name: String, body: Stmt) -> Tx {
     Tx {
         name,
+        params: Vec::new(alloc),
         body,
         result: Expr::Int(0),
     }
@@ -95,14 +102,30 @@ fn tx(name: String, body: Stmt) -> Tx {
 fn one_tx(alloc: Global, body: Body) -> Result<Vec<Tx>, AllocError> {
     let name = String::from_str(alloc, "t")?;
     let mut all = Vec::new(alloc);
-    all.push(tx(name, statement(alloc, body)?))?;
+    all.push(tx(alloc, name, statement(alloc, body)?))?;
+    Ok(all)
+}
+
+/// One transaction with these parameters, which returns the one of this place.
+fn tx_with(alloc: Global, names: &[&str], place: ParamId) -> Result<Vec<Tx>, AllocError> {
+    let mut params = Vec::new(alloc);
+    for name in names {
+        params.push(String::from_str(alloc, name)?)?;
+    }
+    let mut all = Vec::new(alloc);
+    all.push(Tx {
+        name: String::from_str(alloc, "t")?,
+        params,
+        body: Stmt::Skip,
+        result: Expr::Param(place),
+    })?;
     Ok(all)
 }
 
 fn many_txs(alloc: Global, count: u32) -> Result<Vec<Tx>, AllocError> {
     let mut all = Vec::new(alloc);
     for i in 0..count {
-        all.push(tx(format!(in alloc; "t{i}")?, Stmt::Skip))?;
+        all.push(tx(alloc, format!(in alloc; "t{i}")?, Stmt::Skip))?;
     }
     Ok(all)
 }
@@ -110,6 +133,7 @@ fn many_txs(alloc: Global, count: u32) -> Result<Vec<Tx>, AllocError> {
 fn txs_of(alloc: Global, of: Of) -> Result<Vec<Tx>, AllocError> {
     match of {
         Of::Tx(body) | Of::Always(_, body) => one_tx(alloc, body),
+        Of::Params(names, place, _) => tx_with(alloc, names, place),
         Of::ManyTxs(count) => many_txs(alloc, count),
         Of::RunOfNone(_) | Of::AlwaysAlone(_) => Ok(Vec::new(alloc)),
         Of::Vars(_) | Of::ManyVars(_) | Of::Runs(_) | Of::ManyAlways(_) => {
@@ -118,12 +142,30 @@ fn txs_of(alloc: Global, of: Of) -> Result<Vec<Tx>, AllocError> {
     }
 }
 
-fn runs_of(alloc: Global, of: Of) -> Result<Vec<(TxId, u32)>, AllocError> {
+fn runs(alloc: Global, runs: &[(TxId, &[i64], u32)]) -> Result<Vec<(Call, u32)>, AllocError> {
+    let mut all = Vec::new(alloc);
+    for (tx, arguments, count) in runs {
+        all.push((call(*tx, arguments), *count))?;
+    }
+    Ok(all)
+}
+
+/// A run of one task of the first transaction with each of these arguments.
+fn runs_with(alloc: Global, given: &[&[i64]]) -> Result<Vec<(Call, u32)>, AllocError> {
+    let mut all = Vec::new(alloc);
+    for arguments in given {
+        all.push((call(TxId(0), arguments), 1))?;
+    }
+    Ok(all)
+}
+
+fn runs_of(alloc: Global, of: Of) -> Result<Vec<(Call, u32)>, AllocError> {
     match of {
-        Of::Runs(runs) => runs.to_vec(alloc),
-        Of::RunOfNone(count) => [(TxId(0), count)].to_vec(alloc),
+        Of::Runs(of) => runs(alloc, of),
+        Of::Params(_, _, given) => runs_with(alloc, given),
+        Of::RunOfNone(count) => runs(alloc, &[(TxId(0), &[], count)]),
         Of::ManyTxs(_) | Of::AlwaysAlone(_) => Ok(Vec::new(alloc)),
-        _ => [(TxId(0), 1)].to_vec(alloc),
+        _ => runs(alloc, &[(TxId(0), &[], 1)]),
     }
 }
 

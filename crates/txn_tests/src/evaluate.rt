@@ -2,8 +2,9 @@
 
 use crate::parts::catalogue;
 use std::alloc::{AllocError, Global};
-use txn::evaluate::{execute, truth, value};
-use txn::{Catalogue, Cond, Expr, Fault, Outcome, TxId};
+use txn::evaluate::{execute, execute_noting, truth, value};
+use txn::{Catalogue, Cond, Expr, Fault, Outcome, ParamId, TxId};
+use txn_evaluator::notes::undo;
 
 /// Whether a run of the first transaction from the initial state ends so, and leaves this state.
 fn runs_so(alloc: Global, catalogue: &Catalogue, want: Outcome, left: &[i64]) -> bool {
@@ -13,7 +14,7 @@ fn runs_so(alloc: Global, catalogue: &Catalogue, want: Outcome, left: &[i64]) ->
     let Ok(mut state) = catalogue.initial().to_vec(alloc) else {
         return false;
     };
-    match execute(catalogue.tx(TxId(0)), catalogue.always(), &mut state) {
+    match execute(&[], catalogue.tx(TxId(0)), catalogue.always(), &mut state) {
         Ok(how) => how == want && state.as_slice() == left,
         Err(_) => false,
     }
@@ -63,7 +64,7 @@ fn quotient(alloc: Global) -> Result<Result<i64, Fault>, AllocError> {
     let one = Box::new(alloc, Expr::Int(1))?;
     let nothing = Box::new(alloc, Expr::Int(0))?;
     let faulty = Expr::Div(one, nothing);
-    Ok(value(&faulty, &[]))
+    Ok(value(&[], &faulty, &[]))
 }
 
 /// The truth of a condition that is false, and of one with a fault behind it.
@@ -73,11 +74,48 @@ fn truth_of_both(alloc: Global) -> Result<Result<bool, Fault>, AllocError> {
     let never = Cond::Eq(Expr::Div(one, nothing), Expr::Int(0));
     let no = Box::new(alloc, Cond::Eq(Expr::Int(1), Expr::Int(2)))?;
     let both = Cond::And(no, Box::new(alloc, never)?);
-    Ok(truth(&both, &[]))
+    Ok(truth(&[], &both, &[]))
 }
 
 #[test]
 fn conditions_look_right_only_where_needed(rt: HostRuntime) {
     assert!(rt; quotient(rt.alloc()) == Ok(Err(Fault::DivideByZero)));
     assert!(rt; truth_of_both(rt.alloc()) == Ok(Ok(false)));
+}
+
+#[test]
+fn a_parameter_is_its_argument(rt: HostRuntime) {
+    assert!(rt; value(&[7, 8], &Expr::Param(ParamId(1)), &[]) == Ok(8));
+    assert!(rt; value(&[7, 8], &Expr::Param(ParamId(2)), &[]) == Ok(0));
+}
+
+/// Whether a run of the first transaction from the initial state makes so many notes, which lead back to it.
+fn goes_back(alloc: Global, catalogue: &Catalogue, count: usize) -> bool {
+    if catalogue.tx_count() == 0 {
+        return false;
+    }
+    let Ok(mut state) = catalogue.initial().to_vec(alloc) else {
+        return false;
+    };
+    let mut notes = Vec::new(alloc);
+    let ended = execute_noting(
+        &[],
+        catalogue.tx(TxId(0)),
+        catalogue.always(),
+        state.as_mut_slice(),
+        &mut notes,
+    );
+    let made = notes.len();
+    undo(state.as_mut_slice(), &mut notes, 0);
+    ended.is_ok() && made == count && state.as_slice() == catalogue.initial()
+}
+
+#[test]
+fn notes_lead_back(rt: HostRuntime) {
+    let text = "(var x 5)(tx t (orelse (seq (set x 9) (retry)) (seq (set x 6) (set x 7))) x)";
+    let went = match catalogue(rt.alloc(), text) {
+        Some(catalogue) => goes_back(rt.alloc(), &catalogue, 2),
+        None => false,
+    };
+    assert!(rt; went);
 }

@@ -15,9 +15,16 @@ pub(crate) enum Look {
     Count(usize),
     TxName(TxId, &'static str),
     TxOf(&'static str, Option<TxId>),
+    /// The names of the transaction's parameters.
+    Params(TxId, &'static [&'static str]),
+    /// The most parameters of a transaction.
+    MostParams(usize),
     /// How many runs, and how many tasks.
     Tasks(usize, usize),
     TaskTx(TaskId, TxId),
+    TaskArguments(TaskId, &'static [i64]),
+    /// Whether the transaction may be called with these arguments.
+    Callable(TxId, &'static [i64], bool),
     /// How many standing conditions there are.
     Always(usize),
     AlwaysName(AlwaysId, &'static str),
@@ -42,6 +49,15 @@ fn is_tx(catalogue: &Catalogue, tx: TxId, name: &str) -> bool {
         && catalogue.tx(tx).name.as_str() == name
 }
 
+/// Whether the transaction has these parameters.
+fn has_params(catalogue: &Catalogue, tx: TxId, names: &[&str]) -> bool {
+    if tx.0 as usize >= catalogue.tx_count() {
+        return false;
+    }
+    let params = catalogue.params(tx);
+    params.len() == names.len() && params.iter().zip(names).all(|(a, b)| a.as_str() == *b)
+}
+
 /// Whether the condition is called so.
 fn is_condition(catalogue: &Catalogue, condition: AlwaysId, name: &str) -> bool {
     (condition.0 as usize) < catalogue.always().len() && catalogue.always_name(condition) == name
@@ -55,6 +71,11 @@ fn has_tasks(catalogue: &Catalogue, runs: usize, tasks: usize) -> bool {
 /// Whether the task runs this.
 fn is_task(catalogue: &Catalogue, task: TaskId, tx: TxId) -> bool {
     (task.0 as usize) < catalogue.tasks() && catalogue.task_tx(task) == tx
+}
+
+/// Whether the task's call has these arguments.
+fn is_given(catalogue: &Catalogue, task: TaskId, arguments: &[i64]) -> bool {
+    (task.0 as usize) < catalogue.tasks() && catalogue.task_arguments(task) == arguments
 }
 
 /// Whether the first transaction has this code.
@@ -80,8 +101,12 @@ fn tells(catalogue: &Catalogue, look: &Look) -> bool {
         Look::Count(count) => catalogue.tx_count() == *count,
         Look::TxName(tx, name) => is_tx(catalogue, *tx, name),
         Look::TxOf(name, tx) => catalogue.tx_id(name) == *tx,
+        Look::Params(tx, names) => has_params(catalogue, *tx, names),
+        Look::MostParams(count) => catalogue.most_parameters() == *count,
         Look::Tasks(runs, tasks) => has_tasks(catalogue, *runs, *tasks),
         Look::TaskTx(task, tx) => is_task(catalogue, *task, *tx),
+        Look::TaskArguments(task, arguments) => is_given(catalogue, *task, arguments),
+        Look::Callable(tx, arguments, is) => catalogue.is_callable(*tx, arguments) == *is,
         Look::Always(count) => catalogue.always().len() == *count,
         Look::AlwaysName(condition, name) => is_condition(catalogue, *condition, name),
         Look::AlwaysOf(name, condition) => catalogue.always_id(name) == *condition,
@@ -145,6 +170,15 @@ const TASKS: &[Look] = &[
     Look::Tasks(3, 3),
     Look::TaskTx(TaskId(0), TxId(1)),
     Look::TaskTx(TaskId(2), TxId(0)),
+    Look::TaskArguments(TaskId(0), &[]),
+    Look::TaskArguments(TaskId(2), &[]),
+];
+
+const CALLS: &[Look] = &[
+    Look::Callable(TxId(0), &[], true),
+    Look::Callable(TxId(1), &[], true),
+    Look::Callable(TxId(1), &[5], false),
+    Look::Callable(TxId(2), &[], false),
 ];
 
 #[test]
@@ -152,6 +186,7 @@ fn variables_transactions_and_tasks_are_told(rt: HostRuntime) {
     expect(&rt, rt.alloc(), TEXT, VARIABLES);
     expect(&rt, rt.alloc(), TEXT, TRANSACTIONS);
     expect(&rt, rt.alloc(), TEXT, TASKS);
+    expect(&rt, rt.alloc(), TEXT, CALLS);
 }
 
 /// x and two conditions: `small`, that x is at most 5, and `half`, that half of x is 2.
@@ -184,4 +219,33 @@ const STANDING: &[Look] = &[
 #[test]
 fn conditions_are_told(rt: HostRuntime) {
     expect(&rt, rt.alloc(), CONDITIONS, STANDING);
+}
+
+/// Three transactions, of which the second has the most parameters.
+const PARAMETERS: &str =
+    "(stm 3)(var x 5)(tx t () (skip) 0)(tx pay (from to) (set x (add x from)) to)(tx u (n) (skip) n)(run pay 2 7 -8)\
+        (run t 1)";
+
+const GIVEN: &[Look] = &[
+    Look::Params(TxId(0), &[]),
+    Look::Params(TxId(1), &["from", "to"]),
+    Look::Params(TxId(2), &["n"]),
+    Look::MostParams(2),
+    Look::Callable(TxId(1), &[7, -8], true),
+    Look::Callable(TxId(1), &[7], false),
+    Look::Callable(TxId(2), &[7, -8], false),
+    Look::TaskArguments(TaskId(0), &[7, -8]),
+    Look::TaskArguments(TaskId(1), &[7, -8]),
+    Look::TaskArguments(TaskId(2), &[]),
+];
+
+#[test]
+fn parameters_and_arguments_are_told(rt: HostRuntime) {
+    expect(&rt, rt.alloc(), PARAMETERS, GIVEN);
+    expect(
+        &rt,
+        rt.alloc(),
+        TEXT,
+        &[Look::Params(TxId(1), &[]), Look::MostParams(0)],
+    );
 }

@@ -2,6 +2,8 @@
 #![tactic(auto)]
 
 #[cfg(test)]
+mod arguments;
+#[cfg(test)]
 mod bodies;
 #[cfg(test)]
 mod build;
@@ -13,6 +15,8 @@ mod evaluate;
 mod getters;
 #[cfg(test)]
 mod limits;
+#[cfg(test)]
+mod params;
 #[cfg(test)]
 mod parts;
 #[cfg(test)]

@@ -5,24 +5,25 @@ use crate::build::{Of, expect, expect_known};
 use txn::names::is_name;
 use txn::{BuildFault, TxId};
 
-const NAME: Option<BuildFault> = Some(BuildFault::Name);
+pub(crate) const NAME: Option<BuildFault> = Some(BuildFault::Name);
 
-const LIMIT: Option<BuildFault> = Some(BuildFault::Limit);
+pub(crate) const LIMIT: Option<BuildFault> = Some(BuildFault::Limit);
 
 const BROKEN: Option<BuildFault> = Some(BuildFault::Broken);
 
 /// As long as a name may be.
-const LONG: &str = "a2345678901234567890123456789012";
+pub(crate) const LONG: &str = "a2345678901234567890123456789012";
 
-const LONGER: &str = "a23456789012345678901234567890123";
+pub(crate) const LONGER: &str = "a23456789012345678901234567890123";
 
 const NAMES_AND_IDS: &[(Of, Option<BuildFault>)] = &[
     (Of::Vars(&[("1x", 0)]), NAME),
     (Of::Vars(&[("x", 0), ("x", 1)]), NAME),
     (Of::Tx(Body::Sets), NAME),
     (Of::RunOfNone(65537), NAME),
-    (Of::Runs(&[(TxId(0), 1)]), None),
-    (Of::Runs(&[(TxId(1), 1)]), NAME),
+    (Of::Runs(&[(TxId(0), &[], 1)]), None),
+    (Of::Runs(&[(TxId(1), &[], 1)]), NAME),
+    (Of::Runs(&[(TxId(0), &[], 2), (TxId(0), &[5], 1)]), NAME),
 ];
 
 #[test]
@@ -117,9 +118,9 @@ const COUNTS: &[(Of, Option<BuildFault>)] = &[
     (Of::ManyAlways(0), None),
     (Of::ManyAlways(64), None),
     (Of::ManyAlways(65), LIMIT),
-    (Of::Runs(&[(TxId(0), 65536), (TxId(0), 0)]), None),
-    (Of::Runs(&[(TxId(0), 65535), (TxId(0), 2)]), LIMIT),
-    (Of::Runs(&[(TxId(0), 0), (TxId(0), 65537)]), LIMIT),
+    (Of::Runs(&[(TxId(0), &[], 65536), (TxId(0), &[], 0)]), None),
+    (Of::Runs(&[(TxId(0), &[], 65535), (TxId(0), &[], 2)]), LIMIT),
+    (Of::Runs(&[(TxId(0), &[], 0), (TxId(0), &[], 65537)]), LIMIT),
 ];
 
 #[test]

@@ -1,7 +1,8 @@
 //! What the tests build their catalogues of.
 
 use std::alloc::{AllocError, Global};
-use txn::{Catalogue, VarId};
+use txn::limits::MAX_PARAMETERS;
+use txn::{Arguments, Call, Catalogue, TxId, VarId};
 use txn_text::read_file;
 
 pub(crate) const X: VarId = VarId(0);
@@ -12,6 +13,16 @@ pub(crate) fn catalogue(alloc: Global, text: &str) -> Option<Catalogue> {
         Ok(catalogue) => Some(catalogue),
         Err(_) => None,
     }
+}
+
+/// The call of the transaction with these arguments, with none if they are too many.
+pub(crate) fn call(tx: TxId, arguments: &[i64]) -> Call {
+    let arguments = if arguments.len() <= MAX_PARAMETERS {
+        Arguments::of(arguments)
+    } else {
+        Arguments::none()
+    };
+    Call { tx, arguments }
 }
 
 /// The parts, each so many times, one after the other.

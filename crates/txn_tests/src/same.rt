@@ -1,19 +1,27 @@
 //! Equality of catalogues: two that were built apart are the same, and one difference anywhere tells.
 
+ghost use Rattle.std.specs.Prelude.{◌≡◌, []};
+
 use crate::parts::catalogue;
 use std::alloc::Global;
-use txn::{Catalogue, TxId};
+use txn::{Arguments, Call, Catalogue, TxId};
 
 const FIRST: &str = "(var x 5)(tx t (if (eq 0 0) (skip) (seq (retry) (retry))) 7)(run t 3)";
 
 const SMALL: &str = "(stm 2)(var x 5)(always small (le x 5))";
 
 const WHOLE: &str =
-    "(stm 2)(var x 5)(var y -1)(always low (le x (add y 9)))(tx t (if (and (lt x 7) (not (eq y 0))) (orelse (seq (set x (mul x 2)) (retry)) (throw (div x 3))) (repeat 4 (set y (rem y 2)))) (sub x y))(tx u (skip) 1)(run t 2)";
+    "(stm 2)(var x 5)(var y -1)(always low (le x (add y 9)))(tx t (if (and (lt x 7) (not (eq y 0))) (orelse (seq \
+        (set x (mul x 2)) (retry)) (throw (div x 3))) (repeat 4 (set y (rem y 2)))) (sub x y))(tx u (skip) 1)(run t 2)";
 
 /// The same with two runs more.
 const LONGER: &str =
-    "(stm 2)(var x 5)(var y -1)(always low (le x (add y 9)))(tx t (if (and (lt x 7) (not (eq y 0))) (orelse (seq (set x (mul x 2)) (retry)) (throw (div x 3))) (repeat 4 (set y (rem y 2)))) (sub x y))(tx u (skip) 1)(run t 2)(run u 1)(run t 1)";
+    "(stm 2)(var x 5)(var y -1)(always low (le x (add y 9)))(tx t (if (and (lt x 7) (not (eq y 0))) (orelse (seq \
+        (set x (mul x 2)) (retry)) (throw (div x 3))) (repeat 4 (set y (rem y 2)))) (sub x y))(tx u (skip) 1)(run \
+        t 2)(run u 1)(run t 1)";
+
+/// Of two parameters and two arguments.
+const CALLED: &str = "(stm 3)(var x 5)(tx t (a b) (set x a) b)(run t 1 6 7)";
 
 /// As many tasks as there may be but for one.
 const FULL: &str = "(tx t (skip) 0)(run t 65535)";
@@ -93,18 +101,50 @@ const ROWS: &[(How, &str, &str, bool)] = &[
         "(stm 2)(var x 5)(always little (le x 5))",
         false,
     ),
+    (How::Whole, CALLED, CALLED, true),
+    (
+        How::ButRuns,
+        CALLED,
+        "(stm 3)(var x 5)(tx t (a c) (set x a) c)(run t 1 6 7)",
+        false,
+    ),
+    (
+        How::ButRuns,
+        CALLED,
+        "(stm 3)(var x 5)(tx t (b a) (set x b) a)(run t 1 6 7)",
+        false,
+    ),
+    (
+        How::Whole,
+        CALLED,
+        "(stm 3)(var x 5)(tx t (a b) (set x a) b)(run t 1 6 8)",
+        false,
+    ),
     (How::GrownByTwo, WHOLE, LONGER, true),
     (How::GrownByTwo, WHOLE, WHOLE, false),
     (How::GrownByOne, FULL, "(tx t (skip) 0)(run t 65536)", true),
 ];
 
+/// The call of the transaction with no arguments.
+fn of(tx: TxId) -> Call
+    ensures tx { result.tx ≡ tx }
+    ensures none { result.arguments ≡ [] }
+{
+    Call {
+        tx,
+        arguments: Arguments::none(),
+    }
+}
+
 /// Whether the catalogue, grown by a task of the second transaction and one of the first, is the other
 /// one.
 fn is_grown_by_two(alloc: Global, catalogue: &Catalogue, other: &Catalogue) -> Option<bool> {
-    if catalogue.tx_count() < 2 || catalogue.tasks() > 65534 {
+    if !(catalogue.is_callable(TxId(0), &[]) && catalogue.is_callable(TxId(1), &[]))
+        || catalogue.tasks() > 65534
+    {
         return None;
     }
-    match catalogue.grown(alloc, &[TxId(1), TxId(0)]) {
+    match catalogue.grown(alloc, &[of(TxId(1)), of(TxId(0))]) {
         Ok(grown) => Some(grown.same(other)),
         Err(_) => None,
     }
@@ -112,10 +152,10 @@ fn is_grown_by_two(alloc: Global, catalogue: &Catalogue, other: &Catalogue) -> O
 
 /// Whether the catalogue, grown by a task of the first transaction, has as many tasks as the other.
 fn is_grown_by_one(alloc: Global, catalogue: &Catalogue, other: &Catalogue) -> Option<bool> {
-    if catalogue.tx_count() < 1 || catalogue.tasks() > 65535 {
+    if !catalogue.is_callable(TxId(0), &[]) || catalogue.tasks() > 65535 {
         return None;
     }
-    match catalogue.grown(alloc, &[TxId(0)]) {
+    match catalogue.grown(alloc, &[of(TxId(0))]) {
         Ok(grown) => Some(grown.tasks() == other.tasks()),
         Err(_) => None,
     }

@@ -11,7 +11,7 @@ fn has_line(alloc: Global, fault: BuildFault, line: &str) -> bool {
     }
 }
 
-/// Whether want of memory has it.
+/// Whether running out of memory has it.
 fn memory_has_line(alloc: Global, line: &str) -> bool {
     match format!(in alloc; "{Memory}") {
         Ok(text) => text.as_str() == line,

@@ -9,13 +9,13 @@ pub use Rattle.text_grammar.specs.Reading
 pub use Rattle.text_grammar.specs.Written
 pub use Rattle.text_grammar.specs.Resolving
 pub use Rattle.text_grammar.specs.Spelling
-pub use Rattle.text_laws.specs.Faults
-pub use Rattle.text_laws.specs.Gaps
+pub use Rattle.text_file_reader.specs.Faults
+pub use Rattle.text_file_reader.specs.Gaps
 pub use Rattle.text_file_printer.specs.Canonical
 pub use Rattle.text_file_printer.specs.Layout
 pub use Rattle.text_file_printer.specs.Fits
-pub use Rattle.text_report_reader.specs.Reports
-pub use Rattle.text_schedule_reader.specs.Schedules
+pub use Rattle.text_line_reader.specs.Reports
+pub use Rattle.text_line_reader.specs.Schedules
 pub use Rattle.text_report_printer.specs.ReportText
 pub use Rattle.text_report_printer.specs.ReportFits
 pub use Rattle.text_grammar.specs.declared.file

@@ -3,15 +3,13 @@
 //!
 //! This crate is the front of several: `text_words` has bytes, tokens and integers, `text_grammar`
 //! what a file is; on these stand `text_parser`, `text_resolver` and `text_file_reader`, which read files,
-//! `text_laws`, which says what is so of each file, the readers `text_report_reader` and
-//! `text_schedule_reader`, and the printers `text_file_printer` and `text_report_printer`.
+//! `text_file_reader`, which says what is so of each file, the readers `text_line_reader` and
+//! `text_line_reader`, and the printers `text_file_printer` and `text_report_printer`.
 #![tactic(auto)]
 
 pub use text_file_printer::{print_file, text_is_laid_out};
-pub use text_file_reader::read_file;
-pub use text_laws::laws;
+pub use text_file_reader::{laws, read_file};
+pub use text_line_reader::{MAX_REPORT, MAX_SCHEDULE, read_report, read_schedule};
 pub use text_parser::file::MAX_FILE;
 pub use text_report_printer::print_report;
-pub use text_report_reader::{MAX_REPORT, read_report};
-pub use text_schedule_reader::{MAX_SCHEDULE, read_schedule};
 pub use text_words::ReadFault;

@@ -8,12 +8,12 @@ use Rattle.txn_text.specs.fault.ReadFault.{ReadFault}
 use Rattle.txn_text.specs.fault.ReadFault.TheVariants.{TooLong, BadByte, Shape, Name, Limit, Memory, Broken}
 use Rattle.txn_text.specs.Faults as files
 use Rattle.txn_text.specs.Spelling.{Spells}
-use Rattle.text_report_reader.specs.Reports as reports
+use Rattle.text_line_reader.specs.Reports as reports
 
 abbrev pub IsLate : ReadFault → ℕ → List ℕ → Type 0
 IsLate e longest text = (e ≡ Memory) ⊎ ((e ≡ TooLong) × (longest < length text))
 
--- what reads any text that is short enough fails by nothing else than want of memory
+-- what reads any text that is short enough fails by nothing else than running out of memory
 never : {A : Type 0} (x : A) (e : ReadFault) → Fails e (Ok x) → e ≡ Memory
 never x TooLong h = cc
 never x BadByte h = cc

@@ -8,7 +8,8 @@ use txn_text::{ReadFault, read_file};
 
 /// One task waits for n to be another value than 0, one for 100 or more, one adds 7.
 const FIRST: &str =
-    "(var n 0)(tx inc (set n (add n 7)) n)(tx wait (if (eq n 0) (retry) (skip)) n)(tx hold (if (lt n 100) (retry) (skip)) n)(run hold 2)(run inc 1)(run wait 1)";
+    "(var n 0)(tx inc (set n (add n 7)) n)(tx wait (if (eq n 0) (retry) (skip)) n)(tx hold (if (lt n 100) (retry) \
+        (skip)) n)(run hold 2)(run inc 1)(run wait 1)";
 
 /// The tasks of `hold` wait at its end, and the one of `wait` was given up.
 const ENDED: &str =
@@ -18,7 +19,8 @@ const ENDED: &str =
 fn chapter<'a>(front: &'a str, runs: &'a str) -> [&'a str; 3] {
     [
         front,
-        "(tx inc (set n (add n 7)) n)(tx wait (if (eq n 0) (retry) (skip)) n)(tx hold (if (lt n 100) (retry) (skip)) n)",
+        "(tx inc (set n (add n 7)) n)(tx wait (if (eq n 0) (retry) (skip)) n)(tx hold (if (lt n 100) (retry) \
+            (skip)) n)",
         runs,
     ]
 }
@@ -105,6 +107,12 @@ fn a_chapter_that_begins_elsewhere_is_told(rt: HostRuntime) {
         done,
         elsewhere,
     );
+}
+
+#[test]
+fn a_chapter_of_another_program_is_told(rt: HostRuntime) {
+    let alloc = rt.alloc();
+    let elsewhere = ChapterVerdict::Elsewhere;
     let two = "base 0\nn 7 0\nm 0 0\nnow 0\nn 7 0\nm 0 0\nparked 0 hold\nparked 1 hold\nend\n";
     expect_after(
         &rt,

@@ -56,7 +56,7 @@ fn reads_both_forms(rt: HostRuntime) {
 const SHAPES: &[&str] = &[
     "(stm 1)",
     "(stm 0)",
-    "(stm 3)",
+    "(stm 4)",
     "(stm -2)",
     "(stm 02)",
     "(stm 18446744073709551618)",

@@ -1,5 +1,5 @@
-//! Tests of what `txn_text`, `text_report_printer`, `text_report_reader`, `text_schedule_reader` and `checker` promise their
-//! callers.
+//! Tests of what `txn_text`, `text_report_printer`, `text_line_reader`, `text_line_reader` and `checker`
+//! promise their callers.
 #![tactic(auto)]
 
 #[cfg(test)]
@@ -16,6 +16,8 @@ mod conditions;
 mod many;
 #[cfg(test)]
 mod names;
+#[cfg(test)]
+mod parameters;
 #[cfg(test)]
 mod parts;
 #[cfg(test)]

@@ -2,8 +2,7 @@
 
 use std::alloc::{AllocError, Global};
 use std::process::Abort;
-use text_report_reader::read_report;
-use text_schedule_reader::read_schedule;
+use text_line_reader::{read_report, read_schedule};
 use txn::{Catalogue, Move};
 use txn_text::{ReadFault, read_file};
 

@@ -57,6 +57,17 @@ const FILES: &[(&str, &str)] = &[
             (if (eq x 1) (retry) (throw 5)) (repeat 6 (orelse (retry) (skip)))) (add x y))\n\
             (run all 0)\n",
     ),
+    // Parameters and arguments.
+    (
+        "(stm 3)(var x 0)(tx pay(from to)(set x(add from to))x)(tx t()(skip)0)(run pay 2 3 -5)(run t 1)",
+        "(stm 3)\n(var x 0)\n(tx pay (from to) (set x (add from to)) x)\n(tx t () (skip) 0)\n(run pay 2 3 -5)\n\
+            (run t 1)\n",
+    ),
+    // Without them a smaller form says it.
+    (
+        "(stm 3)(tx t()(skip)0)(run t 1)",
+        "(tx t (skip) 0)\n(run t 1)\n",
+    ),
 ];
 
 #[test]
@@ -66,7 +77,8 @@ fn files_are_printed_in_one_way(rt: HostRuntime) {
 
 /// The entry of a task of the first transaction, with the number that follows the task's.
 fn entry(task: u32, outcome: Outcome) -> Entry
-    ensures { result ≡ record { number = task + 1; task = record { 0 = task }; tx = record { 0 = 0 }; outcome = outcome } }
+    ensures { result
+        ≡ record { number = task + 1; task = record { 0 = task }; tx = record { 0 = 0 }; outcome = outcome } }
 {
     Entry {
         number: u64::from(task) + 1,
@@ -114,7 +126,8 @@ fn is_report(alloc: Global, catalogue: &Catalogue, lines: &str) -> bool {
 #[test]
 fn reports_are_printed_line_by_line(rt: HostRuntime) {
     let lines =
-        "base 0\nentry 1 0 t returned -9223372036854775808\nentry 2 1 t threw -7\nentry 3 2 t overflow\nentry 4 3 t zerodiv\nnow 4\nparked 4 t\nmemory 5 t\nend\n";
+        "base 0\nentry 1 0 t returned -9223372036854775808\nentry 2 1 t threw -7\nentry 3 2 t overflow\nentry 4 3 t \
+            zerodiv\nnow 4\nparked 4 t\nmemory 5 t\nend\n";
     let alloc = rt.alloc();
     assert!(rt;
         is_file(alloc, "(tx t (skip) 0)(run t 6)", |catalogue| {

@@ -2,7 +2,7 @@
 
 use crate::parts::{Kind, expect_beginnings, expect_faults, fault, long_fault};
 use crate::report_reading::REPORT;
-use text_report_reader::MAX_REPORT;
+use text_line_reader::MAX_REPORT;
 use txn_text::ReadFault;
 
 #[test]

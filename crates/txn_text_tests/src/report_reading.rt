@@ -3,7 +3,7 @@
 use crate::parts::{INCREMENTS, is_file, on_file};
 use std::alloc::Global;
 use std::process::Abort;
-use text_report_reader::read_report;
+use text_line_reader::read_report;
 use txn::{Catalogue, Outcome, Report, TaskId, TxId};
 use txn_text::print_report;
 

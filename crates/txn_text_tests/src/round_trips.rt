@@ -30,7 +30,7 @@ fn file_of(alloc: Global, bytes: &[u8], catalogue: &Catalogue) -> Result<Catalog
 /// The catalogue, printed and read again.
 fn file_again(alloc: Global, catalogue: &Catalogue) -> Result<Catalogue, ReadFault>
     ensures same { IfOk result (λ again. again ≡ catalogue.now) }
-    // Nothing else keeps it from coming back than want of memory, or a text longer than a file may be.
+    // Nothing else keeps it from coming back than running out of memory, or a text longer than a file may be.
     ensures fault { IfErr result (λ e. (e ≡ Memory) ⊎ ((e ≡ TooLong) × (1048576 < length (file_text catalogue.now)))) }
 {
     match print_file(alloc, catalogue) {
@@ -62,7 +62,8 @@ fn report_of(
 fn report_again(alloc: Global, catalogue: &Catalogue, report: &Report) -> Result<Report, ReadFault>
     requires { FitsCatalogue catalogue.now (told report.now) }
     ensures same { IfOk result (λ again. told again ≡ told report.entry.now) }
-    ensures fault { IfErr result (λ e. (e ≡ Memory) ⊎ ((e ≡ TooLong) × (8388608 < length (report_text catalogue.now (told report.entry.now))))) }
+    ensures fault { IfErr result
+        (λ e. (e ≡ Memory) ⊎ ((e ≡ TooLong) × (8388608 < length (report_text catalogue.now (told report.entry.now))))) }
 {
     match print_report(alloc, catalogue, report) {
         Ok(text) => match report_of(alloc, text.as_bytes(), catalogue, report) {

@@ -2,7 +2,7 @@
 
 use crate::parts::{Kind, expect_faults, fault, long_fault};
 use crate::repeated::repeated_fault;
-use text_schedule_reader::MAX_SCHEDULE;
+use text_line_reader::MAX_SCHEDULE;
 use txn_text::ReadFault;
 
 const OTHER_LINES: &[&str] = &[

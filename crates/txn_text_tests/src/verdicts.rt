@@ -107,7 +107,8 @@ fn conditions_are_judged(rt: HostRuntime) {
         (tx move (seq (set a (sub a 60)) (set b (add b 60))) a)(tx leak (set a 0) a)(run move 2)(run leak 1)";
     let reports = [
         (
-            "base 0\na 100 0\nb 0 0\nentry 1 0 move returned 40\nentry 2 1 move broke pos\nentry 3 2 leak broke sum\nnow 3\na 40 1\nb 60 1\nend\n",
+            "base 0\na 100 0\nb 0 0\nentry 1 0 move returned 40\nentry 2 1 move broke pos\nentry 3 2 leak broke \
+                sum\nnow 3\na 40 1\nb 60 1\nend\n",
             0,
         ),
         (
@@ -119,7 +120,8 @@ fn conditions_are_judged(rt: HostRuntime) {
             2,
         ),
         (
-            "base 1\na -40 1\nb 140 1\nentry 2 1 move broke pos\nentry 3 2 leak broke sum\nnow 3\na -40 1\nb 140 1\nend\n",
+            "base 1\na -40 1\nb 140 1\nentry 2 1 move broke pos\nentry 3 2 leak broke sum\nnow 3\na -40 1\nb 140 \
+                1\nend\n",
             2,
         ),
         (
@@ -127,7 +129,8 @@ fn conditions_are_judged(rt: HostRuntime) {
             3,
         ),
         (
-            "base 1\na 40 1\nb 60 1\nentry 2 1 move returned -20\nentry 3 2 leak broke sum\nnow 3\na -20 2\nb 120 2\nend\n",
+            "base 1\na 40 1\nb 60 1\nentry 2 1 move returned -20\nentry 3 2 leak broke sum\nnow 3\na -20 2\nb 120 \
+                2\nend\n",
             3,
         ),
     ];

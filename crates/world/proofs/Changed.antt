@@ -2,7 +2,7 @@
 use Rattle.std.proofs.Common.{◌≡◌, ◌≢◌, ◌∙◌, ℕ, ℤ, zero, suc, ◌+◌, ◌-◌, ◌<◌, ◌≤◌, List, [], ◌∷◌, ◌++◌, length, map, inl, inr, sym, ap, subst, arith, get_or, Vec, Global}
 use Rattle.std.proofs.lemmas.List.{length_push}
 use Rattle.txn_words.specs.Words.{IsLastChange, last_state, state_of, state_value}
-use Rattle.world_events.specs.Inside.{state_items}
+use Rattle.world.specs.Inside.{state_items}
 use Rattle.world_law.proofs.Places.{get_push}
 use Rattle.world.specs.WorldText.{ArePresent}
 use borrow.Author.Count.{below_more}

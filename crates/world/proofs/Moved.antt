@@ -16,7 +16,7 @@ use Rattle.world_law.specs.declared.events.Seen.TheVariants as seen
 use Rattle.world_law.specs.World.{Check, Started, World, IsRunning, is_live, stand, changed, with_fate, running_again}
 use Rattle.world_law.specs.Next.{Next, told, checks_on, reads_on, goes_again}
 use Rattle.world_law.proofs.Places.{get_set}
-use Rattle.world_events.specs.Runs.{IsChecking}
+use Rattle.world.specs.Runs.{IsChecking}
 use Rattle.world.specs.Lines.{Reads, ChecksCount, Moves}
 
 -- ---- how many pairs are left to check

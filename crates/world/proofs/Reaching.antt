@@ -5,10 +5,10 @@ use Rattle.world_law.specs.declared.events.Event.{Event}
 use Rattle.world_law.specs.declared.events.Seen.{Seen}
 use Rattle.world_law.specs.World.{World, IsOpening}
 use Rattle.world_law.specs.Next.{Next, Run, Reachable}
-use Rattle.world_events.specs.declared.scene.Scene.{Scene}
-use Rattle.world_events.specs.Inside.{listing, world_of, Leads}
-use Rattle.world_events.specs.Runs.{LeadTo}
-use Rattle.world_events.proofs.Working.{take_more}
+use Rattle.world.specs.declared.scene.Scene.{Scene}
+use Rattle.world.specs.Inside.{listing, world_of, Leads}
+use Rattle.world.specs.Runs.{LeadTo}
+use Rattle.world.proofs.Working.{take_more}
 
 pub run_more : (k : Listing) (events : List Event) (answers : List Seen) (w v u : World) (e : Event) (s : Seen) → Run k w events answers v → Next k v e s u → Run k w (events ++ e ∷ []) (answers ++ s ∷ []) u
 run_more k [] [] w v u e s r n = (u, subst (λ (x : World). Next k x e s u) r n, refl)

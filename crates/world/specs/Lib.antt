@@ -1,8 +1,15 @@
 pub use Rattle.world_law.specs.Opacity
-pub use Rattle.world_events.specs.Inside
-pub use Rattle.world_events.specs.Runs
 pub mod View
 pub mod WorldInside
 pub mod Telling
 pub mod Lines
 pub mod WorldText
+pub mod KeptAttempts
+pub mod KeptAttemptInside
+pub mod Trials
+pub mod Inside
+pub mod Steps
+pub mod Asks
+pub mod Opening
+pub mod Runs
+pub mod SeenText

@@ -10,7 +10,7 @@ use Rattle.world_law.specs.declared.events.Seen.{Seen}
 use Rattle.world_law.specs.declared.events.Seen.TheVariants as seen
 use Rattle.world_law.specs.World.{World, Committer}
 use Rattle.world_law.specs.Next.{Next}
-use Rattle.world_events.specs.Runs.{IsChecking}
+use Rattle.world.specs.Runs.{IsChecking}
 
 -- ---- a read
 

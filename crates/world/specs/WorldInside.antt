@@ -1,7 +1,7 @@
 -- What the fields of a world mean, and what they keep.
 use Rattle.world_law.specs.Next.{Reachable}
 use Rattle.world.specs.declared.world.World.TheInside.{Inside}
-use Rattle.world_events.specs.Inside.{listing, world_of, Kept}
+use Rattle.world.specs.Inside.{listing, world_of, Kept}
 use Rattle.world.specs.View.{WorldView}
 
 abbrev pub viewed : Inside → WorldView

@@ -2,15 +2,15 @@
 
 ghost use Rattle.std.specs.Prelude.{◌≡◌, ◌++◌, OnOk, string_bytes};
 ghost use Rattle.std.specs.List.{flat_map};
-ghost use Rattle.world_events.specs.Inside.{listing, world_of};
+ghost use Rattle.world.specs.Inside.{listing, world_of};
 ghost use Rattle.world.specs.WorldText.{fate_text, pair_text, told_line, attempt_line};
 
+use crate::Scene;
 use crate::telling::{Begun, begun_at};
 use std::alloc::AllocError;
 use std::fmt::Write;
 use text_report_printer::variable_name;
 use txn::{Catalogue, VarId};
-use world_events::Scene;
 use world_law::Fate;
 
 fn put_fate(out: &mut String, fate: Fate) -> Result<(), AllocError>
@@ -44,7 +44,9 @@ fn put_log(out: &mut String, catalogue: &Catalogue, log: &[(VarId, i64)]) -> Res
 }
 
 fn put_attempt(out: &mut String, catalogue: &Catalogue, y: &Begun<'_>) -> Result<(), AllocError>
-    ensures { OnOk result (string_bytes out.new ≡ string_bytes out.old ++ told_line catalogue.now y.entry.now.task y.entry.now.rv y.entry.now.log.now y.entry.now.fate) }
+    ensures { OnOk result (string_bytes out.new
+        ≡ string_bytes out.old
+        ++ told_line catalogue.now y.entry.now.task y.entry.now.rv y.entry.now.log.now y.entry.now.fate) }
 {
     let task = y.task.0;
     let rv = y.rv;
@@ -57,7 +59,8 @@ fn put_attempt(out: &mut String, catalogue: &Catalogue, y: &Begun<'_>) -> Result
 
 /// Puts the lines of all attempts behind the text, in the order in which they began.
 pub(crate) fn put_attempts(out: &mut String, scene: &Scene<'_>) -> Result<(), AllocError>
-    ensures { OnOk result (string_bytes out.new ≡ string_bytes out.old ++ flat_map (attempt_line (listing scene.now)) (world_of scene.now).attempts) }
+    ensures { OnOk result (string_bytes out.new
+        ≡ string_bytes out.old ++ flat_map (attempt_line (listing scene.now)) (world_of scene.now).attempts) }
 {
     'attempts: for place in 0..scene.trials.len() {
         put_attempt(out, scene.catalogue, &begun_at(scene, place))?;

@@ -1,8 +1,9 @@
 //! One line of a schedule.
 
 ghost use Rattle.std.specs.Prelude.{◌≡◌, IfOk, OnErr, IsOk};
-ghost use Rattle.world.specs.Lines.{Reads, ReadsPart, Commits, Moves, Plays, PlaysPart, PlaysFree, PlaysCheck, IsCommitting, StoresLast};
-ghost use Rattle.world_events.specs.Runs.{IsChecking};
+ghost use Rattle.world.specs.Lines.{Reads, ReadsPart, Commits, Moves, Plays, PlaysPart};
+ghost use Rattle.world.specs.Lines.{PlaysFree, PlaysCheck, IsCommitting, StoresLast};
+ghost use Rattle.world.specs.Runs.{IsChecking};
 
 use crate::world::World;
 use txn::{Memory, Move, TaskId, VarId};

@@ -2,7 +2,7 @@
 
 ghost use Rattle.std.specs.Prelude.{◌≡◌, ◌<◌, ◌≤◌, IfOk, length, map};
 ghost use Rattle.txn_words.specs.Words.{IsLastChange, last_state, state_value};
-ghost use Rattle.world_events.specs.Inside.{state_items};
+ghost use Rattle.world.specs.Inside.{state_items};
 ghost use Rattle.world.specs.WorldText.{ArePresent};
 
 use std::alloc::{AllocError, Global};

@@ -1,11 +1,11 @@
 //! What a world tells of itself.
 
 ghost use Rattle.std.specs.Prelude.{◌≡◌, ◌<◌, length, map};
-ghost use Rattle.world_events.specs.Inside.{Kept, state_items, world_of};
+ghost use Rattle.world.specs.Inside.{Kept, state_items, world_of};
 ghost use Rattle.world.specs.Telling.{Tells};
 
+use crate::Scene;
 use txn::{TaskId, VarId};
-use world_events::Scene;
 use world_law::Fate;
 
 /// An attempt that began: its task, the number of the state that it reads, what it has read, in

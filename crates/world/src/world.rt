@@ -1,13 +1,14 @@
 //! The running world.
 
-ghost use Rattle.std.specs.Prelude.{◌≡◌, ◌≢◌, ◌<◌, take, length, map, All, IfOk, IfErr, OnOk, OnErr, IsOk, string_bytes};
+ghost use Rattle.std.specs.Prelude.{◌≡◌, ◌≢◌, ◌<◌, take, length, map, All, IfOk};
+ghost use Rattle.std.specs.Prelude.{IfErr, OnOk, OnErr, IsOk, string_bytes};
 ghost use Rattle.txn_programs.specs.Standing.{Upholds};
-ghost use Rattle.world_events.specs.Inside.{state_items};
+ghost use Rattle.world.specs.Inside.{state_items};
 ghost use Rattle.world.specs.Telling.{Tells};
 ghost use Rattle.world_law.specs.World.{IsOpening};
 ghost use Rattle.world_law.specs.Next.{Next};
 ghost use Rattle.world_law.specs.declared.events.Seen.TheVariants as seen;
-ghost use Rattle.world_events.specs.Runs.{LeadTo, MayBeRefused, TakesNone, EndsCheck, EvaluatesFree};
+ghost use Rattle.world.specs.Runs.{LeadTo, MayBeRefused, TakesNone, EndsCheck, EvaluatesFree};
 ghost use Rattle.world.specs.Lines.{Plays, PlaysPart, PlaysFree, PlaysCheck};
 ghost use Rattle.world.specs.WorldText.{IsWorldText, PutsWorld};
 ghost use Rattle.world_law.specs.Opacity.{Opaque, WordsFit};
@@ -15,10 +16,10 @@ ghost use Rattle.world_law.specs.Opacity.{Opaque, WordsFit};
 use crate::playing::play;
 use crate::telling::{Begun, begun_at, states};
 use crate::text::put_world;
+use crate::{Scene, first_scene, happen};
 use std::alloc::Global;
 use std::marker::Model;
 use txn::{Catalogue, Memory, Move};
-use world_events::{Scene, first_scene, happen};
 use world_law::{Event, Seen};
 
 /// The stepped world of a catalogue. A clause sees the catalogue's listing and the plain world,
@@ -67,14 +68,14 @@ impl<'a> World<'a> {
         ensures refused { OnErr result (self.new.world ≡ self.old.world) }
         ensures sure { TakesNone event → IsOk result }
         ensures checks { EndsCheck self.old.world event → IsOk result }
-        ensures short { EvaluatesFree self.old.listing event → IfOk result (λ s. s ≢ seen.Spent) }
+        ensures in_place { EvaluatesFree self.old.listing event → IfOk result (λ s. s ≢ seen.Spent) }
     {
         let seen = happen(&mut self.scene, event)?;
         Ok(seen)
     }
 
     /// These events happen, one after another. `Err` has the place of the event that was refused for
-    /// want of memory, which is none of those that take none: those before it happened, and it
+    /// running out of memory, which is none of those that take none: those before it happened, and it
     /// changed nothing.
     pub fn run(&mut self, events: &[Event]) -> Result<(), usize>
         ensures listing { self.new.listing ≡ self.old.listing }
@@ -122,7 +123,8 @@ impl<'a> World<'a> {
 
     /// Puts those lines behind a text, which stays as it was where a growth is refused.
     pub fn put_text(&self, out: &mut String) -> Result<(), Memory>
-        ensures ok { OnOk result (PutsWorld self.now.listing self.now.world (string_bytes out.old) (string_bytes out.new)) }
+        ensures ok { OnOk result
+            (PutsWorld self.now.listing self.now.world (string_bytes out.old) (string_bytes out.new)) }
         ensures refused { OnErr result (string_bytes out.new ≡ string_bytes out.old) }
     {
         let lines = self.text()?;

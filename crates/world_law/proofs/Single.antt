@@ -335,7 +335,7 @@ single_answer l w h (Drop a) s s' v v' n m room room' =
 single_answer l w h (Again a) s s' v v' n m room room' =
     comes_once (AgainAt l w a) (AgainTo l w a) w s s' v v' (again_once l w a s s' v v') (again_comes l w a s v n) (again_comes l w a s' v' m)
 
--- an attempt that begins, or goes on after a read, may have another answer than want of memory
+-- an attempt that begins, or goes on after a read, may have another answer than running out of memory
 could_begin : (l : Listing) (w : World) (a : TaskId) (r : Answer) → CanBegin l w a → r ≡ ask (task_program l a) [] → (s : Seen) × (u : World) × (s ≢ seen.Spent) × Next l w (Begin a) s u
 could_begin l w a (Needs x) can e = (seen.Needs x, with_attempt w a fate.Running, told_not (Needs x), (can, ap told e, refl))
 could_begin l w a (Ends o ws) can e = (seen.Ended o, with_attempt w a fate.Running, told_not (Ends o ws), (can, ap told e, refl))

@@ -64,7 +64,7 @@ IsNextStore w c s words =
     (w.committer ≡ Some c) × (slice_get (stores c.changes) c.stored ≡ Some s) × Writes s c.number w.words words
 
 -- In the world w the event is seen so, and leads to w'. An event that is not possible is idle and changes nothing. The
--- one thing that the world leaves open is want of memory: where an attempt begins, or goes on after a read that was no
+-- one thing that the world leaves open is running out of memory: where an attempt begins, or goes on after a read that was no
 -- check, `Spent` may come in place of the answer.
 abbrev pub Next : Listing → World → Event → Seen → World → Type 0
 Next l w (Begin a) seen.Idle w' = (CanBegin l w a → ⊥) × (w' ≡ w)

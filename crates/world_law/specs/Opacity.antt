@@ -1,4 +1,4 @@
--- What holds of each world that events lead to.
+-- What holds of each reached world.
 use Rattle.std.specs.Prelude.{◌≡◌, ◌≢◌, ◌⊎◌, ℕ, ◌-◌, ◌*◌, ◌<◌, length, take, Option, Some, None}
 use Rattle.std.specs.List.{slice_get}
 use Rattle.txn_programs.specs.Listing.{Listing, task_program}

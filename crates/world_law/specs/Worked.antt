@@ -2,8 +2,8 @@
 use Rattle.std.specs.Prelude.{ℕ, Bool, true, false, List, [], ◌∷◌, pos, Option, Some, None}
 use Rattle.txn_programs.specs.Listing.{Listing}
 use Rattle.txn_programs.specs.Tree.{Int, Var, Add, Eq, Skip, Set, Seq, If, Retry, Throw, End, More}
+use Rattle.txn_programs.specs.declared.arguments.Call.{Call}
 use Rattle.txn_programs.specs.declared.ast.TaskId.{TaskId}
-use Rattle.txn_programs.specs.declared.ast.TxId.{TxId}
 use Rattle.txn_programs.specs.declared.ast.VarId.{VarId}
 use Rattle.txn_programs.specs.declared.ast.Fault.TheVariants.{User}
 use Rattle.txn_programs.specs.declared.ast.Outcome.TheVariants.{Returned, Thrown, Retries}
@@ -27,8 +27,9 @@ y = record { 0 = 1 }
 abbrev pub task : ℕ → TaskId
 task n = record { 0 = n }
 
-abbrev pub tx : ℕ → TxId
-tx n = record { 0 = n }
+-- a call of a transaction, without arguments
+abbrev pub call : ℕ → Call
+call n = record { tx = record { 0 = n }; arguments = [] }
 
 -- A torn pair. One task adds x and y, which are both 1; the other sets both to 2 after the first has read x.
 abbrev pub pair : Listing
@@ -38,10 +39,10 @@ pair =
       initial = pos 1 ∷ pos 1 ∷ [];
       always = [];
       transactions =
-          record { name = 115 ∷ []; body = Skip; result = Add (Var x) (Var y) }
-          ∷ record { name = 98 ∷ []; body = Seq (More (Set x (Int (pos 2))) (More (Set y (Int (pos 2))) End)); result = Int (pos 0) }
+          record { name = 115 ∷ []; parameters = []; body = Skip; result = Add (Var x) (Var y) }
+          ∷ record { name = 98 ∷ []; parameters = []; body = Seq (More (Set x (Int (pos 2))) (More (Set y (Int (pos 2))) End)); result = Int (pos 0) }
           ∷ [];
-      runs = (tx 0, 1) ∷ (tx 1, 1) ∷ [];
+      runs = (call 0, 1) ∷ (call 1, 1) ∷ [];
     }
 
 abbrev pub pair_opening : World
@@ -79,11 +80,11 @@ back_and_forth =
       initial = pos 1 ∷ [];
       always = [];
       transactions =
-          record { name = 103 ∷ []; body = Skip; result = Var x }
-          ∷ record { name = 116 ∷ []; body = Set x (Int (pos 2)); result = Int (pos 0) }
-          ∷ record { name = 111 ∷ []; body = Set x (Int (pos 1)); result = Int (pos 0) }
+          record { name = 103 ∷ []; parameters = []; body = Skip; result = Var x }
+          ∷ record { name = 116 ∷ []; parameters = []; body = Set x (Int (pos 2)); result = Int (pos 0) }
+          ∷ record { name = 111 ∷ []; parameters = []; body = Set x (Int (pos 1)); result = Int (pos 0) }
           ∷ [];
-      runs = (tx 0, 1) ∷ (tx 1, 1) ∷ (tx 2, 1) ∷ [];
+      runs = (call 0, 1) ∷ (call 1, 1) ∷ (call 2, 1) ∷ [];
     }
 
 abbrev pub back_opening : World
@@ -130,10 +131,10 @@ half =
       initial = pos 1 ∷ pos 1 ∷ [];
       always = [];
       transactions =
-          record { name = 115 ∷ []; body = Skip; result = Add (Var x) (Var y) }
-          ∷ record { name = 116 ∷ []; body = Set y (Int (pos 5)); result = Int (pos 0) }
+          record { name = 115 ∷ []; parameters = []; body = Skip; result = Add (Var x) (Var y) }
+          ∷ record { name = 116 ∷ []; parameters = []; body = Set y (Int (pos 5)); result = Int (pos 0) }
           ∷ [];
-      runs = (tx 0, 1) ∷ (tx 1, 1) ∷ [];
+      runs = (call 0, 1) ∷ (call 1, 1) ∷ [];
     }
 
 -- A moment that moves. One task has read x; another sets y to 5; and the first, which then finds y stale, checks x, which is
@@ -229,11 +230,11 @@ waiting =
       initial = pos 1 ∷ [];
       always = [];
       transactions =
-          record { name = 119 ∷ []; body = If (Eq (Var x) (Int (pos 1))) Retry Skip; result = Var x }
-          ∷ record { name = 116 ∷ []; body = Seq (More (Set x (Int (pos 2))) (More (Throw (Int (pos 7))) End)); result = Int (pos 0) }
-          ∷ record { name = 115 ∷ []; body = Set x (Int (pos 2)); result = Int (pos 0) }
+          record { name = 119 ∷ []; parameters = []; body = If (Eq (Var x) (Int (pos 1))) Retry Skip; result = Var x }
+          ∷ record { name = 116 ∷ []; parameters = []; body = Seq (More (Set x (Int (pos 2))) (More (Throw (Int (pos 7))) End)); result = Int (pos 0) }
+          ∷ record { name = 115 ∷ []; parameters = []; body = Set x (Int (pos 2)); result = Int (pos 0) }
           ∷ [];
-      runs = (tx 0, 1) ∷ (tx 1, 1) ∷ (tx 2, 1) ∷ [];
+      runs = (call 0, 1) ∷ (call 1, 1) ∷ (call 2, 1) ∷ [];
     }
 
 -- A throw commits: its state is the one before, since it drops what it wrote. Its task is done.

@@ -1,4 +1,4 @@
--- A world: words, a history of states, the attempts that read, and the one that commits.
+-- The stepped world: words, a history of states, the attempts that read, and the one that commits.
 use Rattle.std.specs.Prelude.{◌≡◌, ◌≢◌, ℕ, ◌+◌, ◌*◌, ◌<◌, ◌≤◌, ◌^◌, Bool, true, false, if◌then◌else◌, List, [], ◌∷◌, ◌++◌, map, length, slice_index, slice_set, ℤ, Option, Some, None}
 use Rattle.std.specs.List.{slice_get}
 use Rattle.std.specs.Ordering.{int_eq}

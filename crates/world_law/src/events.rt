@@ -48,7 +48,7 @@ pub enum Seen {
     Committed(u64),
     /// The attempt was dropped.
     Dropped,
-    /// The attempt met want of memory.
+    /// The attempt ran out of memory.
     Spent,
     /// The attempt runs again, and checks this variable.
     Checks(VarId),

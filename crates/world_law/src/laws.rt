@@ -6,11 +6,17 @@ ghost use Rattle.world_law.specs.World.{World, IsOpening};
 ghost use Rattle.world_law.specs.Next.{Reachable, Run};
 ghost use Rattle.world_law.specs.Opacity.{Opaque, WordsFit};
 ghost use Rattle.world_law.specs.Determined.{HasOneAnswer, HasOneRefusal};
-ghost use Rattle.world_law.specs.Worked.{pair, pair_opening, torn_events, torn_answers, torn_end, back_and_forth, back_opening, back_events, back_answers, back_end, half, moved_events, moved_answers, moved_end, refused_events, refused_answers, refused_end, fresh_events, fresh_answers, fresh_end, waiting, thrown_events, thrown_answers, thrown_end, parked_events, parked_answers, parked_end, dropped_events, dropped_answers, dropped_end, locked_events, locked_answers, locked_end};
+ghost use Rattle.world_law.specs.Worked.{pair, pair_opening, torn_events, torn_answers, torn_end};
+ghost use Rattle.world_law.specs.Worked.{back_and_forth, back_opening, back_events, back_answers, back_end};
+ghost use Rattle.world_law.specs.Worked.{half, moved_events, moved_answers, moved_end, refused_events};
+ghost use Rattle.world_law.specs.Worked.{refused_answers, refused_end, fresh_events, fresh_answers, fresh_end};
+ghost use Rattle.world_law.specs.Worked.{waiting, thrown_events, thrown_answers, thrown_end, parked_events};
+ghost use Rattle.world_law.specs.Worked.{parked_answers, parked_end, dropped_events, dropped_answers};
+ghost use Rattle.world_law.specs.Worked.{dropped_end, locked_events, locked_answers, locked_end};
 
 use txn::Catalogue;
 
-/// Whatever happens in the world of a catalogue, in whatever order and wherever want of memory
+/// Whatever happens in the world of a catalogue, in whatever order and wherever running out of memory
 /// comes, each attempt's reads are those of one state of the history, whatever became of it; each
 /// state was made by exactly one attempt, whose program leads to it; no task commits twice; the
 /// words mean what they should, between any two loads and stores; and each standing condition is
@@ -23,9 +29,9 @@ pub fn opacity(catalogue: &Catalogue)
     catalogue.rules();
 }
 
-/// Nothing but want of memory is left open: in each world that events lead to, two answers of one
-/// event that are no want of memory are equal, and so are the worlds after them. The worlds after
-/// want of memory are equal too, and it comes only where the attempt could go on. It does nothing:
+/// Nothing but running out of memory is left open: in each world that events lead to, two answers of one
+/// event other than running out of memory are equal, and so are the worlds after them. The worlds after
+/// running out of memory are equal too, and it comes only where the attempt could go on. It does nothing:
 /// its contract is the law.
 pub fn one_answer(catalogue: &Catalogue)
     ensures answer { (w : World) → Reachable catalogue.now w → HasOneAnswer catalogue.now w }

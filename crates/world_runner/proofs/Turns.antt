@@ -3,7 +3,7 @@ use Rattle.std.proofs.Common.{◌≡◌, ◌∙◌, ℕ, suc, ◌+◌, ◌<◌, 
 use Rattle.std.proofs.lemmas.List.{append-nil, length_push, take_all, take_more}
 use Rattle.txn_programs.specs.Listing.{Listing}
 use Rattle.txn_programs.specs.declared.moves.Move.{Move}
-use Rattle.world_seen_printer.specs.SeenText.{seen_line, seen_lines}
+use Rattle.world.specs.SeenText.{seen_line, seen_lines}
 use Rattle.world_law.specs.World.{World}
 use Rattle.world_law.specs.declared.events.Seen.{Seen}
 use Rattle.world.specs.Lines.{Plays}

@@ -2,7 +2,7 @@
 use Rattle.std.specs.Prelude.{◌≡◌, ℕ, List, [], ◌∷◌, ◌++◌}
 use Rattle.txn_programs.specs.Listing.{Listing}
 use Rattle.txn_programs.specs.declared.moves.Move.{Move}
-use Rattle.world_seen_printer.specs.SeenText.{seen_lines}
+use Rattle.world.specs.SeenText.{seen_lines}
 use Rattle.world_law.specs.World.{World, IsOpening}
 use Rattle.world_law.specs.declared.events.Seen.{Seen}
 use Rattle.world.specs.Lines.{Plays}

@@ -5,9 +5,9 @@ use Rattle.txn_programs.specs.Listing.{Listing}
 use Rattle.txn_programs.specs.declared.moves.Move.{Move}
 use Rattle.txn_text.specs.Spelling.{Spells, first_fault}
 use Rattle.text_words.specs.declared.fault.ReadFault.{ReadFault}
-use Rattle.text_schedule_reader.specs.Schedules.{IsSchedule, IsFirst}
-use Rattle.run_faults.specs.declared.fault.RunFault.{RunFault}
-use Rattle.run_faults.specs.declared.fault.RunFault.TheVariants.{Input, Memory, Output, Schedule}
+use Rattle.text_line_reader.specs.Schedules.{IsSchedule, IsFirst}
+use Rattle.run_interface.specs.declared.fault.RunFault.{RunFault}
+use Rattle.run_interface.specs.declared.fault.RunFault.TheVariants.{Input, Memory, Output, Schedule}
 use Rattle.world_runner.specs.Playing.{IsTextOf}
 
 -- the text is that of exactly the file and the schedule that the inputs spell

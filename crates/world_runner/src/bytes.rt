@@ -1,15 +1,15 @@
 //! From the bytes of a file and of a schedule to the bytes of what is seen.
 
-ghost use Rattle.std.specs.Prelude.{◌≡◌, ◌+◌, ◌<◌, ◌^◌, ℕ, List, true, IfOk, OnOk, IfErr, string_bytes};
+ghost use Rattle.std.specs.Prelude.{◌≡◌, ◌+◌, ℕ, List, true, IfOk, OnOk, IfErr, string_bytes};
 ghost use Rattle.txn_text.specs.Spelling.{Spells};
-ghost use Rattle.run_faults.specs.Failures.{output_failures};
+ghost use Rattle.run_interface.specs.Counts.{FewFailed};
+ghost use Rattle.run_interface.specs.Failures.{output_failures};
 ghost use Rattle.world_runner.specs.Showing.{IsShowing, IsRefused, Showed};
 
 use crate::lines::played;
-use run_faults::RunFault;
-use run_sink::{Sink, put_all};
+use run_interface::{RunFault, Sink, put_text};
 use std::alloc::Global;
-use text_schedule_reader::read_schedule;
+use text_line_reader::read_schedule;
 use txn::Catalogue;
 use txn_text::{ReadFault, read_file};
 
@@ -28,18 +28,13 @@ pub fn world_bytes<S: Sink>(
     schedule: &[u8],
     sink: &mut S,
 ) -> Result<(), RunFault>
-    requires { S.failed sink.old < 2 ^ 63 }
+    requires { FewFailed (S.failed sink.old) }
     ensures showed { Showed file.now schedule.now (S.bytes sink.old) (S.bytes sink.new) result }
     ensures flushed { OnOk result (S.flushed sink.new ≡ true) }
     ensures failures { S.failed sink.new ≡ S.failed sink.old + output_failures result }
 {
-    match shown(alloc, file, schedule) {
-        Ok(text) => match put_all(sink, text.as_bytes()) {
-            Ok(()) => Ok(()),
-            Err(_) => Err(RunFault::Output),
-        },
-        Err(fault) => Err(fault),
-    }
+    let text = shown(alloc, file, schedule)?;
+    put_text(sink, &text)
 }
 
 /// What is seen of the schedule on the world of the file.
@@ -57,8 +52,10 @@ fn shown(alloc: Global, file: &[u8], schedule: &[u8]) -> Result<String, RunFault
 /// What is seen of the schedule on the world of the catalogue, which is that of each file that spells
 /// it.
 fn shown_of(alloc: Global, catalogue: &Catalogue, schedule: &[u8]) -> Result<String, RunFault>
-    ensures shown { IfOk result (λ text. (file : List ℕ) → Spells file catalogue.now → IsShowing file schedule.now (string_bytes text)) }
-    ensures refused { IfErr result (λ fault. (file : List ℕ) → Spells file catalogue.now → IsRefused file schedule.now fault) }
+    ensures shown { IfOk result
+        (λ text. (file : List ℕ) → Spells file catalogue.now → IsShowing file schedule.now (string_bytes text)) }
+    ensures refused { IfErr result
+        (λ fault. (file : List ℕ) → Spells file catalogue.now → IsRefused file schedule.now fault) }
 {
     match read_schedule(alloc, schedule, catalogue) {
         Ok(moves) => match played(alloc, catalogue, &moves) {

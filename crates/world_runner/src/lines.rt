@@ -5,8 +5,7 @@ ghost use Rattle.world_runner.specs.Playing.{IsTextOf, PutsLines};
 
 use std::alloc::Global;
 use txn::{Catalogue, Memory, Move};
-use world::World;
-use world_seen_printer::put_seen;
+use world::{World, put_seen};
 
 /// About as many bytes as a line has.
 const LINE: usize = 24;
@@ -32,7 +31,8 @@ fn put_lines(
 ) -> Result<(), Memory>
     requires { world.old.listing ≡ catalogue.now }
     ensures of { world.new.listing ≡ catalogue.now }
-    ensures lines { OnOk result (PutsLines catalogue.now world.old.world moves.now world.new.world (string_bytes out.old) (string_bytes out.new)) }
+    ensures lines { OnOk result (PutsLines catalogue.now world.old.world moves.now world.new.world
+        (string_bytes out.old) (string_bytes out.new)) }
 {
     'moves: for (i, line) in moves.iter().enumerate() {
         let seen = world.play(*line)?;

@@ -1,5 +1,5 @@
 //! Events that take no memory. Both tests do the same, but that such events happen in one of them:
-//! `hostile/gate` counts that they make as many requests for memory.
+//! `hostile/all` counts that they make as many requests for memory.
 
 use crate::parts::{X, Y, catalogue};
 use std::alloc::Global;

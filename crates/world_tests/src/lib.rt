@@ -1,4 +1,4 @@
-//! Tests of the public calls of `world`, and of the lines that `world_seen_printer` puts.
+//! Tests of the public calls of `world`, and of the lines that `world` puts.
 #![tactic(auto)]
 
 #[cfg(test)]

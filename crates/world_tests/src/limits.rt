@@ -28,7 +28,9 @@ fn has_nine_lines(rt: &impl Abort, alloc: Global, world: &World<'_>) {
     assert!(rt; text.starts_with("9 needs v255\nnow 0\nv0 5 0\nv1 5 0\n"));
     assert!(rt;
         text.ends_with(
-            "\nv255 5 0\nattempt 0 0 running\nattempt 1 0 running\nattempt 2 0 running\nattempt 3 0 running\nattempt 4 0 running\nattempt 5 0 running\nattempt 6 0 running\nattempt 7 0 running\nattempt 8 0 running\nend\n"
+            "\nv255 5 0\nattempt 0 0 running\nattempt 1 0 running\nattempt 2 0 running\nattempt 3 0 \
+                running\nattempt 4 0 running\nattempt 5 0 running\nattempt 6 0 running\nattempt 7 0 \
+                running\nattempt 8 0 running\nend\n"
         )
     );
 }

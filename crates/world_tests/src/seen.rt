@@ -1,10 +1,10 @@
-//! The line of each thing that can be seen, as `world_seen_printer` puts it.
+//! The line of each thing that can be seen, as `world` puts it.
 
 use crate::parts::{X, Y, catalogue};
 use std::alloc::Global;
 use txn::{Catalogue, Fault, Outcome};
+use world::put_seen;
 use world_law::Seen;
-use world_seen_printer::put_seen;
 
 /// Two variables.
 const TWO: &str = "(var x 1)(var last 2)";

@@ -3,7 +3,9 @@
 ghost use Rattle.world_law.specs.World.{World};
 ghost use Rattle.world_law.specs.Next.{Reachable};
 ghost use Rattle.world_law.specs.Determined.{HasOneAnswer, HasOneRefusal};
-ghost use Rattle.world_tests.specs.Uses.{PairsAreOfOneState, EndsAreOfPrograms, CommitsAreOfPrograms, StatesAreCommitted, ClocksMakeStates, TasksCommitOnce, WordsAreTheLastState, LoadsAreOfTheState};
+ghost use Rattle.world_tests.specs.Uses.{PairsAreOfOneState, EndsAreOfPrograms};
+ghost use Rattle.world_tests.specs.Uses.{CommitsAreOfPrograms, StatesAreCommitted, ClocksMakeStates};
+ghost use Rattle.world_tests.specs.Uses.{TasksCommitOnce, WordsAreTheLastState, LoadsAreOfTheState};
 
 use crate::parts::{PAIR, catalogue};
 use txn::Catalogue;

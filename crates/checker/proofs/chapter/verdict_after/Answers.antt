@@ -1,6 +1,6 @@
 use Rattle.std.proofs.Common.{◌≡◌, subst}
 use Rattle.txn_programs.specs.Told.{Told, told}
-use Rattle.text_report_reader.specs.Reports.{IsReport}
+use Rattle.text_line_reader.specs.Reports.{IsReport}
 use Rattle.checker.specs.declared.verdict.Verdict.{Verdict}
 use Rattle.checker.specs.declared.verdict.Verdict.TheVariants.{Good, Bad}
 use Rattle.checker.specs.declared.judging.Judgement.{Judgement}

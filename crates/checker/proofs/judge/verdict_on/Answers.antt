@@ -1,7 +1,7 @@
 use Rattle.std.proofs.Common.{rules, IsSome, IfSome, ◌↔◌, ◌≡◌, ◌∙◌, ap, sym, subst, refl}
 use Rattle.std.specs.List.{All}
 use Rattle.txn_programs.specs.declared.ast.Outcome.TheVariants.{Retries}
-use Rattle.txn_programs.specs.Listing.{program_at}
+use Rattle.txn_programs.specs.Listing.{program_as}
 use Rattle.txn_programs.specs.Meaning.{outcome}
 use Rattle.txn_programs.specs.Told.{told, snapshot_at, base_of, now_of}
 use Rattle.checker.specs.View.{view}
@@ -22,6 +22,6 @@ returns c =
     let present : PresentHolds l r = sym now_is ∙ (c.if-not-are_same.ensures.0 refl ∙ (led ∙ (ap (λ s. led_to l s c.deref-2.result.now) base_is ∙ ap (led_to l (base_of r)) c.deref-2.ensures.value))) in
     let tasks : TasksHold l r = c.in_ok-tasks_hold.ensures.0 c.if-not-branch.false in
     let parked : ParkedHold l r =
-    subst (λ ps. All (λ p. outcome (program_at l p.1) (now_of r).state ≡ Retries) ps) c.deref-4.ensures.value
-    (subst (λ m. All (λ p. outcome (program_at l p.1) m ≡ Retries) c.deref-4.result.now) (ap (λ s. s.state) now_is) (c.in_ok-all_retry.ensures.0 c.if-not-branch-2.false)) in
+    subst (λ ps. All (λ p. outcome (program_as l p.0 p.1) (now_of r).state ≡ Retries) ps) c.deref-4.ensures.value
+    (subst (λ m. All (λ p. outcome (program_as l p.0 p.1) m ≡ Retries) c.deref-4.result.now) (ap (λ s. s.state) now_is) (c.in_ok-all_retry.ensures.answer.0 c.if-not-branch-2.false)) in
     lawful l r c.requires (record { base = base; entries = entries; present = present; tasks = tasks; parked = parked })

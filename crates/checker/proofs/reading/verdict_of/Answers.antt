@@ -1,6 +1,6 @@
 use Rattle.std.proofs.Common.{◌≡◌}
 use Rattle.txn_programs.specs.Told.{Told, told}
-use Rattle.text_report_reader.specs.Reports.{IsReport}
+use Rattle.text_line_reader.specs.Reports.{IsReport}
 use Rattle.checker.proofs.Only.{only_on_bytes}
 use Rattle.checker.proofs.reading.verdict_of.Goals as goal
 

@@ -1,5 +1,5 @@
 use Rattle.std.proofs.Common.{ℕ, List, sym, subst}
-use Rattle.command_answers.specs.declared.answer.Answer.{Answer}
+use Rattle.command_line.specs.declared.answer.Answer.{Answer}
 use Rattle.checker.specs.Chapters.{IsUnjudged}
 use Rattle.commands.specs.Checking.{CheckedAfter}
 use Rattle.commands.proofs.Unjudged.{unchecked}

@@ -1,5 +1,5 @@
 use Rattle.std.proofs.Common.{ℕ, List, sym, subst}
-use Rattle.command_answers.specs.declared.answer.Answer.{Answer}
+use Rattle.command_line.specs.declared.answer.Answer.{Answer}
 use Rattle.explain_reports.specs.declared.chapters.ChapterUntold.{ChapterUntold}
 use Rattle.explain_reports.specs.declared.chapters.ChapterUntold.TheVariants.{Unjudged}
 use Rattle.explain_reports.specs.Chapters.{ChapterWritten}

@@ -1,5 +1,5 @@
 use Rattle.std.proofs.Common.{inr, sym, subst}
-use Rattle.command_answers.specs.declared.answer.Answer.{Answer}
+use Rattle.command_line.specs.declared.answer.Answer.{Answer}
 use Rattle.explore_runner.specs.Judging.{Judges}
 use Rattle.explore_runner.specs.declared.sight.Judged.{Judged}
 use Rattle.commands.specs.Exploring.{ExploredBytes, seen}

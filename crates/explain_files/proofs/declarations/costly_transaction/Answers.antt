@@ -3,7 +3,7 @@ use Rattle.std.specs.Prelude.{string_bytes}
 use Rattle.std.proofs.lemmas.Grind.{common_steps}
 use Rattle.txn_programs.specs.declared.ast.Tx.{Tx}
 use Rattle.txn_programs.specs.Tree.{transaction_of}
-use Rattle.txn_rules.specs.Beside.{fits_beside}
+use Rattle.txn_declarations.specs.Beside.{fits_beside}
 use Rattle.explain_files.proofs.Costly.{is_over_beside, all_more}
 use Rattle.explain_files.proofs.declarations.costly_transaction.Goals as goal
 

@@ -6,7 +6,7 @@ use Rattle.explain_files.proofs.Judged.{Walked}
 use Rattle.explain_files.proofs.limits.first_excess.Given as goal
 
 abbrev pub invariant-tokens : goal.invariant-tokens
-invariant-tokens l = Walked (IsRight limit_fault_at) many_in l.bytes l.at l.role (view_counts l.counts)
+invariant-tokens l = Walked (IsRight (limit_fault_at l.form)) l.form (many_in l.form) l.bytes l.at l.role (view_counts l.counts)
 
 abbrev pub decreases-tokens : goal.decreases-tokens
 decreases-tokens l = length l.bytes - l.at

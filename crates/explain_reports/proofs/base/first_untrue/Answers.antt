@@ -14,7 +14,7 @@ conditions-preserved c =
     let at = condition_at c.args.always.now i c.index-always-i.result c.conditions-test.true c.index-always-i.is in
     record {
       before = one_before (IsTrueOf m) (conditions_of c.args.always.now) i (condition_of c.index-always-i.result.1) at
-          (sym c.truth.ensures ∙ (c.in-Ok-true.is ∙ ap Ok c.in-Ok-true.field-0-test)) c.conditions.invariant.before;
+          (sym c.standing_truth.ensures ∙ (c.in-Ok-true.is ∙ ap Ok c.in-Ok-true.field-0-test)) c.conditions.invariant.before;
       known = known_more (length m) c.args.always.now i c.conditions-test.true c.conditions.invariant.known;
     }
 

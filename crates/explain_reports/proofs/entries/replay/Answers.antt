@@ -1,7 +1,7 @@
 use Rattle.std.proofs.Common.{◌∙◌}
 use Rattle.txn_programs.specs.declared.limits.TheConstants.{MAX_TASKS}
 use Rattle.explain_reports.specs.Parts.{GoesOnThere}
-use Rattle.explain_reports.specs.View.{view}
+use Rattle.checker.specs.View.{view}
 use Rattle.explain_reports.proofs.First.{all_before}
 use Rattle.explain_reports.proofs.Replaying.{led_all, step_right, step_led, step_few}
 use Rattle.explain_reports.proofs.entries.replay.Goals as goal

@@ -3,7 +3,7 @@ use Rattle.txn_programs.specs.declared.limits.TheConstants.{MAX_TASKS}
 use Rattle.checker.specs.Parts.{led_to}
 use Rattle.explain_reports.specs.First.{RightBefore}
 use Rattle.explain_reports.specs.Parts.{GoesOnThere}
-use Rattle.explain_reports.specs.View.{view}
+use Rattle.checker.specs.View.{view}
 use Rattle.explain_reports.proofs.entries.replay.Given as goal
 
 abbrev pub invariant-entries : goal.invariant-entries

@@ -1,6 +1,6 @@
 use Rattle.std.proofs.lemmas.Result.{IfOk-weaker}
 use Rattle.std.proofs.Common.{◌≡◌}
-use Rattle.text_report_reader.proofs.Reading.{Rules}
+use Rattle.text_line_reader.proofs.ReportReading.{Rules}
 use Rattle.checker.specs.Verdicts.{IsVerdictOn}
 use Rattle.explain_reports.specs.Explaining.{IsExplained, verdict_of}
 use Rattle.explain_reports.proofs.Verdicts.{verdict_is, same_verdict}

@@ -2,7 +2,7 @@ use Rattle.std.proofs.Common.{◌∙◌, ◌++◌, ◌∷◌, ℕ, List, [], Som
 use Rattle.std.specs.Str.{IsAscii}
 use Rattle.std.proofs.lemmas.Option.{same_Some, none-some}
 use Rattle.txn_programs.specs.Told.{told}
-use Rattle.text_report_reader.specs.Lines.{Whole, lines}
+use Rattle.text_line_reader.specs.Lines.{Whole, lines}
 use Rattle.explain_reports.specs.Rows.{place_of_flaw, IsRow}
 use Rattle.explain_reports.specs.Explaining.{whole_at}
 use Rattle.explain_reports.proofs.Letters.{line_is_ascii}

@@ -1,6 +1,6 @@
 use Rattle.std.proofs.Common.{◌≡◌, ◌≢◌, ◌∷◌, Some, None, refl, sym, subst}
 use Rattle.std.proofs.lemmas.Option.{same_Some}
-use Rattle.text_report_reader.specs.Lines.{Whole, lines}
+use Rattle.text_line_reader.specs.Lines.{Whole, lines}
 use Rattle.explain_reports.specs.declared.gaps.Difference.TheVariants as difference
 use Rattle.explain_reports.proofs.Apart.{whole_first, one_more, differ_at_first, whole_at_first, none_at_first, both_ended}
 use Rattle.explain_reports.proofs.gaps.first_difference.Goals as goal

@@ -1,6 +1,6 @@
 use Rattle.std.proofs.Common.{◌≡◌}
 use Rattle.std.proofs.lemmas.Result.{IfOk-weaker}
-use Rattle.text_report_reader.specs.View.{view_text}
+use Rattle.text_line_reader.specs.ReportView.{view_text}
 use Rattle.explain_reports.specs.Gaps.{DifferAt, IsGapLine, Differ, gap_line}
 use Rattle.explain_reports.proofs.gaps.gap_line.Goals as goal
 

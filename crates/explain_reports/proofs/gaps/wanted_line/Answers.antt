@@ -1,6 +1,6 @@
 use Rattle.std.proofs.Common.{◌∙◌, ap, List, ℕ, ◌++◌}
 use Rattle.std.specs.Prelude.{codes}
-use Rattle.text_report_reader.specs.View.{view_text}
+use Rattle.text_line_reader.specs.ReportView.{view_text}
 use Rattle.explain_reports.specs.Gaps.{side_text}
 use Rattle.explain_reports.proofs.Apart.{joined}
 use Rattle.explain_reports.proofs.gaps.wanted_line.Goals as goal

@@ -8,7 +8,7 @@ use Rattle.checker.specs.Parts.{EntriesHold, TasksHold}
 use Rattle.explain_reports.specs.declared.entries.Replayed.{Replayed}
 use Rattle.explain_reports.specs.declared.entries.Replayed.TheVariants.{Reached, Stopped}
 use Rattle.explain_reports.specs.declared.flaw.Flaw.{Flaw}
-use Rattle.explain_reports.specs.View.{view}
+use Rattle.checker.specs.View.{view}
 use Rattle.explain_reports.specs.Steps.{IsReplayed}
 use Rattle.explain_reports.specs.Flaws.{FailsBy, IsPartJudged, IsJudged}
 use Rattle.explain_reports.proofs.Judging.{by_entries, by_present, by_tasks, by_parked}

@@ -1,5 +1,5 @@
 use Rattle.std.proofs.Common.{◌≡◌}
-use Rattle.text_report_reader.specs.Lines.{lines}
+use Rattle.text_line_reader.specs.Lines.{lines}
 use Rattle.explain_reports.specs.Explaining.{whole_at}
 use Rattle.explain_reports.proofs.lines.line_at.Given as goal
 

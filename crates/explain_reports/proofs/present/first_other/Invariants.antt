@@ -1,6 +1,6 @@
 use Rattle.explain_reports.specs.First.{RightBefore}
 use Rattle.explain_reports.specs.Parts.{StandsAt}
-use Rattle.explain_reports.specs.View.{view}
+use Rattle.checker.specs.View.{view}
 use Rattle.explain_reports.proofs.present.first_other.Given as goal
 
 abbrev pub invariant-vars : goal.invariant-vars

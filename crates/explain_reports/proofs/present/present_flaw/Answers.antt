@@ -2,7 +2,7 @@ use Rattle.std.proofs.Common.{◌∙◌, ℤ, ℕ, List, sym, subst}
 use Rattle.txn_programs.specs.Told.{told}
 use Rattle.explain_reports.specs.First.{AllRight}
 use Rattle.explain_reports.specs.Parts.{StandsAt}
-use Rattle.explain_reports.specs.View.{view}
+use Rattle.checker.specs.View.{view}
 use Rattle.explain_reports.proofs.Presents.{stands}
 use Rattle.explain_reports.proofs.present.present_flaw.Goals as goal
 

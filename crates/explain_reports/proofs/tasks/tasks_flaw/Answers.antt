@@ -8,7 +8,7 @@ use Rattle.txn_programs.specs.Told.{told}
 use Rattle.checker.specs.Parts.{named}
 use Rattle.explain_reports.specs.First.{AllRight, IsFirstWrong, IsSearched}
 use Rattle.explain_reports.specs.Parts.{IsOwn, IsNew}
-use Rattle.explain_reports.proofs.Named.{known_tasks}
+use Rattle.checker.proofs.Named.{known_tasks}
 use Rattle.explain_reports.proofs.Order.{not_own, not_new}
 use Rattle.explain_reports.proofs.tasks.tasks_flaw.Goals as goal
 

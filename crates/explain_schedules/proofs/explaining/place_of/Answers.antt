@@ -1,5 +1,5 @@
 use Rattle.std.proofs.Common.{subst}
-use Rattle.text_schedule_reader.specs.Schedules.{IsFirst}
+use Rattle.text_line_reader.specs.Schedules.{IsFirst}
 use Rattle.explain_schedules.proofs.Limits.{limit_uneven}
 use Rattle.explain_schedules.proofs.explaining.place_of.Goals as goal
 

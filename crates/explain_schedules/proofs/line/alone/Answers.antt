@@ -1,5 +1,5 @@
 use Rattle.std.proofs.Common.{sym, ◌∙◌}
-use Rattle.text_schedule_reader.specs.Raw.{Word}
+use Rattle.text_line_reader.specs.ScheduleRaw.{Word}
 use Rattle.explain_schedules.proofs.Lines.{alone_line, alone_stops}
 use Rattle.explain_schedules.proofs.line.alone.Goals as goal
 

@@ -1,5 +1,5 @@
 use Rattle.std.proofs.Common.{ℕ, ◌+◌, ◌∷◌, ◌++◌, length, refl, sym, ap, subst, ◌∙◌}
-use Rattle.text_schedule_reader.specs.Raw.{OfVariable}
+use Rattle.text_line_reader.specs.ScheduleRaw.{OfVariable}
 use Rattle.explain_schedules.specs.Lines.{StopsAt}
 use Rattle.explain_schedules.specs.declared.line.Wanted.TheVariants as want
 use Rattle.explain_schedules.proofs.Lines.{variable_line, number_stops, name_stops, fails_shape}

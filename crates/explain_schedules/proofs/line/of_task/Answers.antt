@@ -1,5 +1,5 @@
 use Rattle.std.proofs.Common.{refl}
-use Rattle.text_schedule_reader.specs.Raw.{OfTask}
+use Rattle.text_line_reader.specs.ScheduleRaw.{OfTask}
 use Rattle.explain_schedules.proofs.Lines.{task_line, task_stops, fails_shape}
 use Rattle.explain_schedules.proofs.line.of_task.Goals as goal
 

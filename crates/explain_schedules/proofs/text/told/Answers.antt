@@ -1,6 +1,6 @@
 use Rattle.std.proofs.Common.{subst, sym}
-use Rattle.explain_runner.specs.Telling.{IsInLine}
-use Rattle.explain_runner.proofs.Heads.{line_at_head}
+use Rattle.explain_files.specs.Telling.{IsInLine}
+use Rattle.explain_files.proofs.Heads.{line_at_head}
 use Rattle.explain_schedules.proofs.text.told.Goals as goal
 
 pub returns : goal.returns

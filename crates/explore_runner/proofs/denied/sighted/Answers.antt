@@ -1,6 +1,5 @@
 use Rattle.std.proofs.Common.{◌≡◌, false, List, sym, subst}
 use Rattle.std.specs.Prelude.{All}
-use Rattle.explore_options.specs.declared.denial.Denial.{Denial}
 use Rattle.explore_law.specs.declared.found.End.{End}
 use Rattle.explore_law.specs.declared.found.Kinds.{Kinds}
 use Rattle.explore_runner.specs.FoundText.{some_wait}
@@ -25,4 +24,4 @@ returns-in-None-first_ending c =
     let f = c.args.found.now in
     let d = c.args.denial in
     let none = subst (All (λ (ks : Kinds). NoneEnds ks d)) c.as_slice-2.ensures.value c.in-None-first_ending.ensures.none in
-    record { some = tt; none = no_turn_possible l f d c.requires none c.in_default.not-Parked }
+    record { some = tt; none = no_turn_possible l f d c.rules.ensures.names c.requires none c.in_default.not-Parked }

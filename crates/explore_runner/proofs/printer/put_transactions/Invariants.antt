@@ -3,4 +3,4 @@ use Rattle.explore_runner.specs.FoundText.{each_below, tx_part}
 use Rattle.explore_runner.proofs.printer.put_transactions.Given as goal
 
 abbrev pub invariant-transactions : goal.invariant-transactions
-invariant-transactions l = string_bytes l.out ≡ string_bytes l.fn.out ++ each_below (tx_part l.catalogue l.counts l.found) l.k
+invariant-transactions l = string_bytes l.out ≡ string_bytes l.fn.out ++ each_below (tx_part l.catalogue l.calls l.found) l.k

@@ -7,7 +7,7 @@ use Rattle.run_observer.proofs.evaluating.evaluate_by.Given as goal
 
 abbrev pub invariant-needs : goal.invariant-needs
 invariant-needs g l =
-    Going l.catalogue l.fn.tx (at l.pass) l.attempt
+    Going l.catalogue l.fn.tx l.arguments (at l.pass) l.attempt
     × Moving l.fn.pass l.pass (length l.attempt.log)
     × (l.pass.open_now ≡ true)
     × (l.attempt.stand ≡ Fresh)

@@ -1,6 +1,6 @@
 use Rattle.std.proofs.lemmas.Result.{IfOk-weaker}
-use Rattle.journal.specs.declared.run_report.RunReport.{RunReport}
-use Rattle.journal.specs.Lines.{told_run}
+use Rattle.book_storage.specs.declared.run_report.RunReport.{RunReport}
+use Rattle.book_storage.specs.PackedEntries.{told_run}
 use Rattle.txn_programs.specs.LawfulReport.{LawfulReport, BaseReached}
 use Rattle.book.specs.View.{BookView}
 use Rattle.book.specs.Turns.{ReportIs}

@@ -2,8 +2,8 @@ use Rattle.std.proofs.Common.{◌∙◌, subst}
 use Rattle.std.proofs.lemmas.Result.{IfOk-weaker}
 use Rattle.std.specs.Prelude.{IfOk}
 use Rattle.txn_programs.specs.Listing.{Listing}
-use Rattle.journal.specs.declared.run_report.RunReport.{RunReport}
-use Rattle.journal.specs.Lines.{told_run}
+use Rattle.book_storage.specs.declared.run_report.RunReport.{RunReport}
+use Rattle.book_storage.specs.PackedEntries.{told_run}
 use Rattle.txn_programs.specs.LawfulReport.{LawfulReport, BaseReached}
 use Rattle.book.specs.Turns.{ReportIs}
 use Rattle.run_workers.specs.Journals.{KeepsShort}

@@ -1,5 +1,5 @@
 use Rattle.std.proofs.Common.{refl}
-use Rattle.journal.specs.Lines.{told_run}
+use Rattle.book_storage.specs.PackedEntries.{told_run}
 use Rattle.text_report_printer.specs.ReportText.{report_text}
 use Rattle.run_workers.proofs.Sparing.{none_told}
 use Rattle.runner.proofs.Answering.{ran_of}

@@ -3,7 +3,7 @@ use Rattle.std.specs.Prelude.{codes}
 use Rattle.std.specs.Fmt.{decimal}
 use Rattle.std.specs.List.{flat_map}
 use Rattle.txn_programs.proofs.Lawful.{limits_parts}
-use Rattle.journal.specs.Lines.{told_run}
+use Rattle.book_storage.specs.PackedEntries.{told_run}
 use Rattle.txn_programs.specs.declared.ast.TaskId.{TaskId}
 use Rattle.txn_programs.specs.declared.ast.TxId.{TxId}
 use Rattle.txn_programs.specs.declared.report.Entry.{Entry}

@@ -3,6 +3,7 @@ use Rattle.std.specs.Prelude.{IfOk}
 use Rattle.std.proofs.lemmas.Result.{IfOk-weaker}
 use Rattle.txn_programs.specs.declared.report.Report.{Report}
 use Rattle.txn_programs.specs.Told.{told}
+use Rattle.txn_programs.specs.LawfulReport.{LawfulReport, BaseReached}
 use Rattle.book.specs.View.{BookView, opened}
 use Rattle.book.specs.Turns.{ReportIs}
 use Rattle.txn_programs.specs.Listing.{Listing}
@@ -13,6 +14,14 @@ use Rattle.run_workers.specs.Journals.{KeepsShort}
 use Rattle.run_workers.proofs.Sparing.{report_gives}
 use Rattle.run_workers.proofs.Journals.{Shortens, drain_short, report_short}
 use Rattle.stm_c.proofs.running.run_alone.Goals as goal
+
+pub returns-clause-lawful : goal.returns-clause-lawful
+returns-clause-lawful c =
+    subst (λ (k : Listing). IfOk c.report.result (λ (r : Report). LawfulReport k (told r))) (c.drain.ensures.catalogue ∙ ap (λ (x : BookView). x.catalogue) c.in_ok-book.ensures) c.report.ensures.lawful
+
+pub returns-clause-reached : goal.returns-clause-reached
+returns-clause-reached c =
+    subst (λ (k : Listing). IfOk c.report.result (λ (r : Report). BaseReached k (told r))) (c.drain.ensures.catalogue ∙ ap (λ (x : BookView). x.catalogue) c.in_ok-book.ensures) c.report.ensures.reached
 
 pub returns-clause-short : goal.returns-clause-short
 returns-clause-short c =

@@ -36,7 +36,7 @@ returns-clause-again c =
     (record {
       declared =
           record {
-            form = form_for l.always;
+            form = form_for l;
             spelled = printed_spells l names limits fits (subst (λ (bs : List ℕ). length bs ≤ max_len) e short);
             valued = sym named;
             names = names;

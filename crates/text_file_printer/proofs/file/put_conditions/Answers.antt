@@ -4,12 +4,12 @@ use Rattle.std.specs.Option.{option_map}
 use Rattle.std.proofs.lemmas.Option.{slice_get-map, slice_get-get_or}
 use Rattle.txn_programs.specs.Tree.{Condition}
 use Rattle.txn_programs.specs.declared.ast.Cond.{Cond}
-use Rattle.txn_copies.specs.Conditions.{standing_of}
+use Rattle.txn_declarations.specs.Conditions.{standing_of}
 use Rattle.text_file_printer.specs.Canonical.{always_line}
 use Rattle.text_file_printer.specs.Fits.{AlwaysFits}
 use Rattle.text_grammar.specs.Written.{written_always}
 use Rattle.text_words.proofs.Pieces.{piece_more, all_more}
-use Rattle.text_file_printer.proofs.Known.{known_condition_at}
+use Rattle.text_file_printer.proofs.Known.{condition_named_at}
 use Rattle.text_file_printer.proofs.file.put_conditions.Goals as goal
 
 -- a condition of the code is the one at its place in the listing
@@ -21,7 +21,7 @@ pub put_condition-requires : goal.put_condition-requires
 put_condition-requires c =
     let l = c.args.catalogue.now in
     let at = at_place c.always-condition-items.result.now l.always c.conditions.condition-index c.condition-item.result c.always-condition-items.ensures.value c.conditions-test.true c.condition-item.is in
-    known_condition_at l c.conditions.condition-index (standing_of c.condition-item.result) c.rules.ensures.names at
+    condition_named_at l c.conditions.condition-index (standing_of c.condition-item.result) c.rules.ensures.names at
 
 pub conditions-preserved : goal.conditions-preserved
 conditions-preserved c =

@@ -7,6 +7,6 @@ use Rattle.text_file_printer.proofs.file.put_txs.Given as goal
 
 abbrev pub invariant-txs : goal.invariant-txs
 invariant-txs l = record {
-  text : string_bytes l.out ≡ string_bytes l.fn.out ++ flat_map tx_line (take l.i (map (written_transaction l.catalogue.names) l.catalogue.transactions));
+  text : string_bytes l.out ≡ string_bytes l.fn.out ++ flat_map (tx_line l.form) (take l.i (map (written_transaction l.catalogue.names) l.catalogue.transactions));
   fits : AllByRecursion DeclarationFits (take l.i (map (written_transaction l.catalogue.names) l.catalogue.transactions));
 }

@@ -2,11 +2,11 @@ use Rattle.std.proofs.Common.{◌≡◌, ◌⊎◌, ℕ, List, Result, Ok, Err, 
 use Rattle.text_words.specs.declared.fault.ReadFault.{ReadFault}
 use Rattle.text_words.specs.declared.fault.ReadFault.TheVariants.{Memory}
 use Rattle.text_grammar.specs.Spelling.{first_fault}
-use Rattle.text_laws.specs.Faults.{IsFirst}
-use Rattle.text_laws.proofs.FirstFault.{first_fault_is}
+use Rattle.text_file_reader.specs.Faults.{IsFirst}
+use Rattle.text_file_reader.proofs.FirstFault.{first_fault_is}
 use Rattle.txn_programs.specs.Listing.{Listing}
 use Rattle.text_words.specs.Answers.{Gives}
-use Rattle.text_laws.proofs.Spelt.{is_found, is_fault, spelled_listing}
+use Rattle.text_file_reader.proofs.Spelt.{is_found, is_fault, spelled_listing}
 use Rattle.text_file_reader.proofs.read.read_file.Goals as goal
 
 abbrev same : Listing → Listing

@@ -5,7 +5,7 @@ use Rattle.text_words.specs.TokenReading.{all_of, is_open}
 use Rattle.text_grammar.specs.Tree.{Stmt}
 use Rattle.text_grammar.specs.Reading.{stmt_at}
 use Rattle.text_grammar.specs.Resolving.{statement_in}
-use Rattle.text_resolver.specs.Texts.{texts}
+use Rattle.text_resolver.specs.Scopes.{view_scope}
 use Rattle.text_file_reader.proofs.AtOnce.{GoesOn}
 use Rattle.text_file_reader.proofs.statements.+statements.Given as goal
 
@@ -16,7 +16,7 @@ abbrev pub decreases-seq_at_once : goal.decreases-seq_at_once
 decreases-seq_at_once l = 4 * l.depth + 3
 
 abbrev pub invariant-seq_at_once-parts : goal.invariant-seq_at_once-parts
-invariant-seq_at_once-parts l = (items : List Stmt) × GoesOn is_open (stmt_at l.fn.depth) (statement_in (texts l.fn.names.keys)) (all_of is_open (stmt_at l.fn.depth) (tokens l.fn.bytes)) items (map statement_of l.parts.items) (tokens l.rest)
+invariant-seq_at_once-parts l = (items : List Stmt) × GoesOn is_open (stmt_at l.fn.depth) (statement_in (view_scope l.fn.scope)) (all_of is_open (stmt_at l.fn.depth) (tokens l.fn.bytes)) items (map statement_of l.parts.items) (tokens l.rest)
 
 abbrev pub decreases-seq_at_once-parts : goal.decreases-seq_at_once-parts
 decreases-seq_at_once-parts l = length (tokens l.rest)

@@ -1,11 +1,11 @@
 use Rattle.txn_programs.specs.Tree.{expression_of}
 use Rattle.text_words.specs.Tokens.{tokens}
 use Rattle.text_grammar.specs.Reading.{expr_at}
-use Rattle.text_resolver.specs.Texts.{texts}
+use Rattle.text_resolver.specs.Scopes.{view_scope}
 use Rattle.text_file_reader.proofs.Made.{throw_makes}
 use Rattle.text_file_reader.proofs.statements.throw_at_once.Goals as goal
 
 pub returns : goal.returns
 returns c =
-    throw_makes (texts c.args.names.now.keys) (expr_at c.args.depth) (tokens c.args.bytes.now) (tokens c.in_ok-value.rest.now) (expression_of c.in_ok-value.value)
+    throw_makes (view_scope c.args.scope.now) (expr_at c.args.depth) (tokens c.args.bytes.now) (tokens c.in_ok-value.rest.now) (expression_of c.in_ok-value.value)
     c.in_ok-value.ensures

@@ -1,28 +1,17 @@
-use Rattle.std.proofs.Common.{◌≡◌, ◌++◌, ◌∷◌, [], ℕ, List, Ok, Err, true, false, refl, sym, subst, ◌∙◌}
+use Rattle.std.proofs.Common.{◌≡◌, ◌++◌, ◌∷◌, [], ℕ, List, Ok, refl, sym, subst, ◌∙◌}
 use Rattle.std.proofs.lemmas.Result.{err_from_is_err_and}
 use Rattle.std.proofs.lemmas.List.{map_push}
 use Rattle.text_words.specs.Answers.{Fails}
 use Rattle.text_words.specs.Tokens.{Lexeme, tokens}
-use Rattle.text_words.specs.declared.fault.ReadFault.{ReadFault}
-use Rattle.text_words.specs.declared.fault.ReadFault.TheVariants.{Shape}
 use Rattle.text_grammar.specs.View.{view_pair, view_pairs}
 use Rattle.text_grammar.specs.Reading.{pair_at, pair_behind}
 use Rattle.text_words.specs.TokenReading.{form_at, begins, all_of}
 use Rattle.text_words.proofs.Many.{goes_on, ends_at_item, is_done}
 use Rattle.text_grammar.proofs.Files.{pair_shortens}
+use Rattle.text_parser.proofs.Begins.{begun, not_begun}
 use Rattle.text_parser.proofs.file.pairs_of.Goals as goal
 
--- a pair stands next exactly where its parenthesis and its word do, and is what stands behind them
-begun : (word : List ℕ) (ts rest : List Lexeme) → form_at word ts ≡ Ok rest → begins word ts ≡ true
-unfolding begins
-begun word ts rest e = rw e refl
-
-not_begun : (word : List ℕ) (ts : List Lexeme) (e : ReadFault) → e ≡ Shape → Fails e (form_at word ts) → begins word ts ≡ false
-unfolding begins
-not_begun word ts e kind fails =
-    let none : form_at word ts ≡ Err Shape = subst (λ (x : ReadFault). Fails x (form_at word ts)) kind fails in
-    rw none refl
-
+-- a pair is what stands behind its parenthesis and its word
 behind : (word : List ℕ) (ts rest : List Lexeme) → form_at word ts ≡ Ok rest → pair_at word ts ≡ pair_behind rest
 unfolding pair_at
 behind word ts rest e = rw e refl

@@ -4,8 +4,8 @@ use Rattle.text_report_printer.specs.ReportText.{report_text}
 use Rattle.text_report_printer.proofs.Lengths.{report_short}
 use Rattle.text_report_printer.proofs.report.print_report.Goals as goal
 
-pub returns-clause-short : goal.returns-clause-short
-returns-clause-short c =
+pub returns-clause-at_most : goal.returns-clause-at_most
+returns-clause-at_most c =
     let l = c.args.catalogue.now in
     let r = told c.args.report.now in
     let e : string_bytes c.put_report.new.out ≡ report_text l r = c.in_ok-put_report.ensures.text ∙ ap (λ (bs : List ℕ). bs ++ report_text l r) c.in_ok-out.ensures.bytes in

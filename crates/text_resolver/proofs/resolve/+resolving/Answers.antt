@@ -5,7 +5,7 @@ use Rattle.txn_programs.proofs.Rows.{statement_Seq}
 use Rattle.text_grammar.specs.Tree.{Seq}
 use Rattle.text_grammar.specs.Reading.{row}
 use Rattle.text_grammar.specs.Resolving.{each, statement_in}
-use Rattle.text_resolver.specs.Texts.{texts}
+use Rattle.text_resolver.specs.Scopes.{view_scope}
 use Rattle.text_grammar.specs.View.{view_stmt, view_stmts}
 use Rattle.text_words.proofs.Many.{failed}
 use Rattle.text_words.proofs.Steps.{done}
@@ -21,12 +21,12 @@ statement-returns-in-Seq t c =
 pub sequence-returns-in_err-parts : goal.sequence-returns-in_err-parts
 sequence-returns-in_err-parts t c =
     let p = err_from_is_err_and c.from_residual.result c.from_residual.ensures.1 in
-    let names = texts c.args.names.now.keys in
+    let scope = view_scope c.args.scope.now in
     let ss = view_stmts c.args.parts.now in
-    rw (p.1, p.2) (failed c.in_err-parts.field-0.0 (each (statement_in names) ss) _ (statement_in names (Seq (row ss))) c.in_err-parts.ensures (sym (seq_is names ss)))
+    rw (p.1, p.2) (failed c.in_err-parts.field-0.0 (each (statement_in scope) ss) _ (statement_in scope (Seq (row ss))) c.in_err-parts.ensures (sym (seq_is scope ss)))
 
 pub sequence-returns : goal.sequence-returns
 sequence-returns t c =
-    let names = texts c.args.names.now.keys in
+    let scope = view_scope c.args.scope.now in
     let parts = c.in_ok-parts.parts in
-    seq_is names (view_stmts c.args.parts.now) ∙ rw c.in_ok-parts.ensures (ap done (ap plain.Seq (sym (chain_is parts.items)) ∙ sym (statement_Seq parts)))
+    seq_is scope (view_stmts c.args.parts.now) ∙ rw c.in_ok-parts.ensures (ap done (ap plain.Seq (sym (chain_is parts.items)) ∙ sym (statement_Seq parts)))

@@ -10,7 +10,7 @@ use Rattle.text_resolver.proofs.resolve.conditions.Goals as goal
 
 pub conditions-preserved : goal.conditions-preserved
 conditions-preserved c =
-    let one = always_in (texts c.args.names.now.keys) in
+    let one = always_in (texts c.args.vars.now.keys) in
     let front = map view_condition c.conditions.made.items in
     let made = c.in_ok-condition.condition in
     let more = into_iter_items c.next.new.self in
@@ -26,7 +26,7 @@ conditions-preserved c =
 
 pub returns : goal.returns
 returns c =
-    let one = always_in (texts c.args.names.now.keys) in
+    let one = always_in (texts c.args.vars.now.keys) in
     let front = map view_condition c.conditions.made.items in
     let empty : into_iter_items c.conditions.raw-iterator ≡ [] = nothing_left _ (sym c.conditions.invariant.1 ∙ c.in-None.ensures.steps.0) in
     let total = each one (view_conditions (into_iter_items c.into_iter-raw-iterator.result)) in

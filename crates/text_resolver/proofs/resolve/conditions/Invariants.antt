@@ -8,5 +8,5 @@ use Rattle.text_resolver.proofs.Each.{joined}
 use Rattle.text_resolver.proofs.resolve.conditions.Given as goal
 
 abbrev pub invariant-conditions : goal.invariant-conditions
-invariant-conditions l = (joined (map view_condition l.made.items) (each (always_in (texts l.names.keys)) (view_conditions (into_iter_items l.raw-iterator))) ≡ each (always_in (texts l.names.keys)) (view_conditions (into_iter_items l.initial.raw-iterator)))
+invariant-conditions l = (joined (map view_condition l.made.items) (each (always_in (texts l.vars.keys)) (view_conditions (into_iter_items l.raw-iterator))) ≡ each (always_in (texts l.vars.keys)) (view_conditions (into_iter_items l.initial.raw-iterator)))
     × (into_iter_len l.raw-iterator ≡ length (into_iter_items l.raw-iterator))

@@ -1,6 +1,6 @@
 use Rattle.std.proofs.Common.{◌∙◌, List, ℕ, ◌++◌, ap, string_bytes}
 use Rattle.text_words.proofs.Pieces.{piece_more}
-use Rattle.world_events.specs.Inside.{listing, world_of}
+use Rattle.world.specs.Inside.{listing, world_of}
 use Rattle.world.proofs.Lined.{told}
 use Rattle.world.specs.WorldText.{attempt_line}
 use Rattle.world.proofs.attempts.put_attempts.Goals as goal

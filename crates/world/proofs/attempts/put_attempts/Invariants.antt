@@ -1,6 +1,6 @@
 use Rattle.std.proofs.Common.{◌≡◌, ◌++◌, take, string_bytes}
 use Rattle.std.specs.List.{flat_map}
-use Rattle.world_events.specs.Inside.{listing, world_of}
+use Rattle.world.specs.Inside.{listing, world_of}
 use Rattle.world.specs.WorldText.{attempt_line}
 use Rattle.world.proofs.attempts.put_attempts.Given as goal
 

@@ -5,7 +5,7 @@ use Rattle.std.specs.Int.{w64}
 use Rattle.std.proofs.Math.Facts.{of_z-to_z}
 use mir.Val.{SFits, to_z, of_z}
 use Rattle.txn_words.specs.Words.{state_of, state_value}
-use Rattle.world_events.specs.Inside.{state_items}
+use Rattle.world.specs.Inside.{state_items}
 use Rattle.world.proofs.Changed.{ChangedBy, changed_more, same_more, state_at, changed_last}
 use Rattle.world.proofs.present.last_change.Goals as goal
 use Rattle.world.proofs.present.last_change.Goals.{then-next-value, else-next-value}

@@ -1,6 +1,6 @@
 use Rattle.std.specs.Prelude.{◌≡◌, ◌-◌, map}
 use Rattle.txn_words.specs.Words.{state_of, state_value}
-use Rattle.world_events.specs.Inside.{state_items}
+use Rattle.world.specs.Inside.{state_items}
 use Rattle.world.proofs.Changed.{ChangedBy}
 use Rattle.world.proofs.present.last_change.Given as goal
 

@@ -4,7 +4,7 @@ use Rattle.std.specs.Int.{w64}
 use Rattle.std.proofs.lemmas.Int.{to_z-of_z}
 use mir.Val.{SFits}
 use Rattle.txn_words.specs.Words.{last_state, state_of, state_value}
-use Rattle.world_events.specs.Inside.{state_items}
+use Rattle.world.specs.Inside.{state_items}
 use Rattle.world.specs.WorldText.{ArePresent}
 use Rattle.world.proofs.Changed.{present_more, state_at}
 use Rattle.world.proofs.present.present.Goals as goal

@@ -1,5 +1,5 @@
 use Rattle.std.specs.Prelude.{map}
-use Rattle.world_events.specs.Inside.{state_items}
+use Rattle.world.specs.Inside.{state_items}
 use Rattle.world.specs.WorldText.{ArePresent}
 use Rattle.world.proofs.present.present.Given as goal
 

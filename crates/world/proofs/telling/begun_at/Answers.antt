@@ -2,9 +2,9 @@ use Rattle.std.proofs.Common.{◌≡◌, Some, refl, sym, arith}
 use Rattle.std.specs.List.{slice_get}
 use Rattle.std.proofs.lemmas.List.{length-map}
 use Rattle.std.proofs.lemmas.Option.{slice_get_read}
-use Rattle.world_events.specs.Trials.{started_of}
-use Rattle.world_events.specs.declared.trial.Trial.{Trial}
-use Rattle.world_events.proofs.Seeing.{seen_at}
+use Rattle.world.specs.Trials.{started_of}
+use Rattle.world.specs.declared.trial.Trial.{Trial}
+use Rattle.world.proofs.Seeing.{seen_at}
 use Rattle.world.proofs.telling.begun_at.Goals as goal
 
 pub returns : goal.returns

@@ -3,7 +3,7 @@ use Rattle.std.specs.Prelude.{map}
 use Rattle.std.proofs.lemmas.List.{take-map}
 use Rattle.std.specs.declared.alloc.Global.{Global}
 use Rattle.std.specs.declared.vec.Vec.{Vec}
-use Rattle.world_events.specs.Inside.{state_items}
+use Rattle.world.specs.Inside.{state_items}
 use Rattle.world.proofs.telling.states.Goals as goal
 
 pub returns-clause-value : goal.returns-clause-value

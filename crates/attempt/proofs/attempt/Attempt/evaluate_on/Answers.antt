@@ -43,5 +43,5 @@ returns-in_default-clause-memory c = λ small.
     let b = c.go_on.new.self in
     let e = c.go_on.ensures in
     subst (λ (n : ℕ). 8 < n) e.variables
-    (lacks_room b b.stand e.stands e.advanced (λ o is. c.in_default.not-Over o (ap (λ (a : AttemptView). a.stand) c.self-2.view_is ∙ is)) (e.short small)
+    (lacks_room b b.stand e.stands e.advanced (λ o is. c.in_default.not-Over o (ap (λ (a : AttemptView). a.stand) c.self-2.view_is ∙ is)) (e.in_place small)
     (λ x is low. e.room refl x is (omega (arith, low, e.variables, c.requires.values))) e.logged e.apart)

@@ -8,7 +8,7 @@ use Rattle.attempt.specs.View.{AttemptView}
 use Rattle.attempt.proofs.Lawful.{Settles, went_on}
 use Rattle.attempt.proofs.attempt.Attempt.go_on.Goals as goal
 
--- what ended, or met want of memory, needs no variable
+-- what ended, or ran out of memory, needs no variable
 over_needs_none : (s : Stand) (o : Outcome) (x : VarId) → s ≡ stand.Over o → s ≢ stand.Needs x
 over_needs_none s o x e f = cc
 
@@ -25,7 +25,7 @@ invariant_of-self g c =
     let grown : length i.log + length reads.read ≡ length log = sym (ap length reads.grown ∙ length-append i.log reads.read) in
     let read : length i.log + (c.len-in_all.result - c.len-logged.result) ≡ length log = omega (arith, grown, c.len-in_all.ensures.value, c.len-logged.ensures.value) in
     let settles = subst (λ s. Settles s m m) (sym c.in-Needs.is) refl in
-    went_on i c.run_on-stand.result m m count log _ _ c.self.invariant (ap (λ (b : AttemptView). b.stand) c.self.view_is ∙ c.requires.fresh) refl read c.run_on-stand.ensures.known c.run_on-stand.ensures.apart c.run_on-stand.ensures.stops c.run_on-stand.ensures.few c.run_on-stand.ensures.more settles
+    went_on i c.as_slice.result.now c.run_on-stand.result m m count log _ _ c.as_slice.ensures.value c.self.invariant (ap (λ (b : AttemptView). b.stand) c.self.view_is ∙ c.requires.fresh) refl read c.run_on-stand.ensures.known c.run_on-stand.ensures.apart c.run_on-stand.ensures.stops c.run_on-stand.ensures.few c.run_on-stand.ensures.more settles
 
 pub invariant_of-self-in-Over : goal.invariant_of-self-in-Over
 invariant_of-self-in-Over g c =
@@ -38,7 +38,7 @@ invariant_of-self-in-Over g c =
     let grown : length i.log + length reads.read ≡ length log = sym (ap length reads.grown ∙ length-append i.log reads.read) in
     let read : length i.log + (c.len-in_all.result - c.len-logged.result) ≡ length log = omega (arith, grown, c.len-in_all.ensures.value, c.len-logged.ensures.value) in
     let settles = subst (λ s. Settles s m after) (sym c.in-Over.is) c.settle.ensures.pairs in
-    went_on i c.run_on-stand.result m after count log _ _ c.self.invariant (ap (λ (b : AttemptView). b.stand) c.self.view_is ∙ c.requires.fresh) refl read c.run_on-stand.ensures.known c.run_on-stand.ensures.apart c.run_on-stand.ensures.stops c.run_on-stand.ensures.few c.run_on-stand.ensures.more settles
+    went_on i c.as_slice.result.now c.run_on-stand.result m after count log _ _ c.as_slice.ensures.value c.self.invariant (ap (λ (b : AttemptView). b.stand) c.self.view_is ∙ c.requires.fresh) refl read c.run_on-stand.ensures.known c.run_on-stand.ensures.apart c.run_on-stand.ensures.stops c.run_on-stand.ensures.few c.run_on-stand.ensures.more settles
 
 pub returns-in-Needs-clause-open : goal.returns-in-Needs-clause-open
 returns-in-Needs-clause-open g c = λ h e. absurd (h c.in-Needs.field-0 c.in-Needs.is)

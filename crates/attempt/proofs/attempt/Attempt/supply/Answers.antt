@@ -17,7 +17,7 @@ invariant_of-self-2 c =
     let told : c.push.new.self ≡ a.log ++ (c.args.x, c.args.v) ∷ [] = c.in_ok-push.ensures.ok ∙ ap (λ z. a.log ++ (c.args.x, z) ∷ []) (to_z-of_z c.ranges.v) in
     let none : a.writes ≡ [] = subst (λ (s : Stand). remaining s i.machine.own.pairs ≡ []) (sym needs) refl in
     record {
-      declared = c.self.invariant.declared;
+      callable = c.self.invariant.callable;
       lawful =
           subst
           (λ (log : Known). IsLawful (record { program = a.program; variables = a.variables; log = log; writes = []; stand = stand.Fresh; steps = a.steps; total = a.total }))

@@ -10,11 +10,11 @@ use Rattle.attempt_writes.proofs.OwnHints.{changed_noted}
 use Rattle.attempt_writes.proofs.OwnNotes.{no_marks, noted_still}
 use Rattle.attempt_writes.proofs.written.Writes.put.Goals as goal
 
-pub returns-in_err-note_in_branch-clause-short : goal.returns-in_err-note_in_branch-clause-short
-returns-in_err-note_in_branch-clause-short c = λ e.
+pub returns-in_err-note_in_branch-clause-in_place : goal.returns-in_err-note_in_branch-clause-in_place
+returns-in_err-note_in_branch-clause-in_place c = λ e.
     let i = c.self.inside in
     let none = no_marks i.branches.items i.notes.items i.kept.items i.table (ap (λ (o : Own). o.marks) c.self.view_is ∙ e) in
-    absurd (cc (c.in_err-note_in_branch.ensures.short (c.as_slice.ensures.value ∙ none)))
+    absurd (cc (c.in_err-note_in_branch.ensures.in_place (c.as_slice.ensures.value ∙ none)))
 
 pub list-requires-clause-there : goal.list-requires-clause-there
 list-requires-clause-there c = λ u e. c.self.invariant.listed c.args.x u (value_or c.self.inside.table c.args.x.0 ∙ e)

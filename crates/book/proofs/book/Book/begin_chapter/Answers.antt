@@ -1,17 +1,36 @@
 use Rattle.std.proofs.Common.{◌≡◌, ℕ, ◌+◌, ◌-◌, length, map, replicate, refl, sym, ◌∙◌, ap, arith}
 use Rattle.std.specs.Prelude.{min}
 use Rattle.txn_programs.specs.Meaning.{State}
-use Rattle.txn_programs.specs.Listing.{tasks}
-use Rattle.txn_values.specs.Values.{begun}
+use Rattle.txn_programs.specs.Listing.{calls}
+use Rattle.txn.specs.Values.{begun}
 use Rattle.book.specs.Table.{TableView}
 use Rattle.book.specs.Standings.{bare}
 use Rattle.book.specs.BookInside.{with_values}
-use Rattle.book.specs.Carrying.{stays, staying}
+use Rattle.book.specs.View.{BookView}
+use Rattle.book.specs.Carrying.{stays, carried, staying}
 use Rattle.book.specs.Chapters.{chapter_of, most_entries}
-use Rattle.book.proofs.Beginning.{staying_same, flags_unlogged, flags_valued}
+use Rattle.book.proofs.Beginning.{staying_same, carried_same, flags_unlogged, flags_valued}
 use Rattle.book.proofs.Begins.{Begins, begins_view, kept_begins, over_fits}
 use Rattle.book.proofs.book.Book.begin_chapter.Goals as goal
 use Rattle.book.proofs.book.Book.begin_chapter.Goals.{After-clear}
+
+-- as many stay, whatever their logs are
+pub begin-requires-clause-count : goal.begin-requires-clause-count
+begin-requires-clause-count c =
+    let s = c.self.inside in
+    let m = s.present.values.items in
+    let ts = s.table.tasks in
+    c.staying-count.ensures
+    ∙ (ap (λ (b : BookView). length (carried b.tasks)) (sym c.self.view_is)
+    ∙ carried_same (map (with_values m) ts) (map bare c.standings.result.now) (flags_valued m ts ∙ sym (ap (map stays) c.standings.ensures ∙ flags_unlogged ts)))
+
+pub carry_on-requires : goal.carry_on-requires
+carry_on-requires c =
+    let s = c.self.inside in
+    let m = s.present.values.items in
+    let ts = s.table.tasks in
+    c.staying-count.ensures
+    ∙ (ap (λ (b : BookView). length (carried b.tasks)) (sym c.self.view_is) ∙ carried_same (map (with_values m) ts) ts (flags_valued m ts))
 
 pub overflow_sub-self : goal.overflow_sub-self
 overflow_sub-self c =
@@ -30,8 +49,8 @@ parts c =
     let copied = c.copy_from_slice.ensures.items ∙ (c.deref-2.ensures.value ∙ a.values) in
     record {
       listing = c.begin.ensures.listing
-          ∙ (ap (λ (v : State). begun l v (staying (tasks l) (map bare c.standings.result.now))) c.deref.ensures.value
-          ∙ ap (begun l m) (staying_same (tasks l) (map bare c.standings.result.now) (map (with_values m) s.table.tasks) flags));
+          ∙ (ap (λ (v : State). begun l v (staying (calls l) (map bare c.standings.result.now))) c.deref.ensures.value
+          ∙ ap (begun l m) (staying_same (calls l) (map bare c.standings.result.now) (map (with_values m) s.table.tasks) flags));
       room = c.begin.ensures.room;
       carried_is = c.carry_on.ensures;
       base_is = record {

@@ -1,10 +1,10 @@
 use Rattle.std.proofs.Common.{◌≡◌, ◌+◌, ℕ, refl, ◌∙◌, arith, ap, true, length}
 use Rattle.std.proofs.lemmas.List.{length-replicate}
 use Rattle.std.proofs.lemmas.Option.{slice_get-get_or}
-use Rattle.txn_programs.specs.Listing.{Listing, tasks, task_tx}
+use Rattle.txn_programs.specs.Listing.{Listing, tasks, task_tx, task_arguments}
 use Rattle.txn_programs.specs.Names.{names_hold}
 use Rattle.txn_programs.proofs.Lawful.{known_task}
-use Rattle.attempt_machine.proofs.Declared.{program_known}
+use Rattle.attempt.proofs.Calls.{call_known}
 use Rattle.book.specs.Tasks.{Ready}
 use Rattle.book.specs.BookInside.{snapshot_of}
 use Rattle.book.specs.declared.book.Book.TheInside.{Inside}
@@ -14,7 +14,7 @@ use Rattle.book.proofs.book.Book.of_parts.Goals.{After-len}
 
 all_know : (l : Listing) → length l.names ≡ length l.initial → names_hold l ≡ true → AllKnow l
 all_know l named names t less =
-    program_known l (task_tx l (record { 0 = t })) names named (known_task l t (task_tx l (record { 0 = t })) names (slice_get-get_or (tasks l) t (record { 0 = 0 }) less))
+    call_known l (task_tx l (record { 0 = t })) (task_arguments l (record { 0 = t })) names named (known_task l t (task_tx l (record { 0 = t })) names (slice_get-get_or (tasks l) t (record { 0 = 0 }) less))
 
 abbrev inside : (c : After-len) → Inside
 inside c =

@@ -1,6 +1,8 @@
-use Rattle.std.proofs.Common.{◌≡◌, ◌<◌, ◌-◌, ◌++◌, ◌∷◌, [], Some, length, refl, ap, arith, sym, ◌∙◌}
+use Rattle.std.proofs.Common.{◌≡◌, ◌-◌, ◌++◌, ◌∷◌, [], Some, length, refl, sym, subst, ap, arith, ◌∙◌}
 use Rattle.std.specs.List.{slice_get}
-use Rattle.attempt_machine.proofs.Declared.{program_known}
+use Rattle.txn_programs.specs.declared.arguments.Call.{Call}
+use Rattle.txn_programs.specs.Listing.{IsCallable}
+use Rattle.attempt.proofs.Calls.{call_known}
 use Rattle.book.specs.declared.book.Book.TheInside.{Inside}
 use Rattle.book.specs.Tasks.{Ready, Running}
 use Rattle.book.specs.Table.{TableView, with_one_more}
@@ -12,6 +14,10 @@ use Rattle.book.proofs.Lists.{get_append_at}
 use Rattle.book.proofs.Kept.{kept_submitted, kept_stand, view_placed, view_submitted}
 use Rattle.book.proofs.book.Book.submit_running.Goals as goal
 use Rattle.book.proofs.book.Book.submit_running.Goals.{After-add_running}
+
+-- what the new task runs
+abbrev its_call : (c : After-add_running) → Call
+its_call c = record { tx = c.args.tx; arguments = c.args.arguments.now }
 
 -- the book with a ready task more
 abbrev with_ready : (c : After-add_running) → Inside
@@ -28,11 +34,13 @@ pub invariant_of-self : goal.invariant_of-self
 invariant_of-self c =
     let s = c.self.inside in
     let l = s.chapter.listing in
-    let known : c.args.tx.0 < length l.transactions = omega (arith, c.requires, ap (λ (b : BookView). length b.catalogue.transactions) c.self.view_is) in
-    let kept = kept_submitted s c.add.new.self (with_one_more s.table) c.args.tx c.self.invariant refl
+    let tx = c.args.tx in
+    let given = c.args.arguments.now in
+    let known : IsCallable l tx given = subst (λ (b : BookView). IsCallable b.catalogue tx given) (sym c.self.view_is) c.requires in
+    let kept = kept_submitted s c.add.new.self (with_one_more s.table) (its_call c) c.self.invariant refl
     (omega (arith, c.if-spare-eq0.false))
     c.add.ensures.listing c.add.ensures.room
-    (program_known l c.args.tx c.rules.ensures.names c.rules.ensures.named known) in
+    (call_known l tx given c.rules.ensures.names c.rules.ensures.named known.declared) in
     kept_stand (with_ready c) c.add_running.new.self c.add_running.result Ready Running kept c.add_running.ensures.added (at_end c) (λ n e. cc) (λ n e. cc) (λ log e. cc) refl
 
 pub returns : goal.returns
@@ -42,7 +50,7 @@ returns c =
       omega (arith, c.add_running.ensures.task, length-map s.table.tasks (with_values s.present.values.items), ap (λ (b : BookView). length b.tasks) c.self.view_is),
       ap (λ (x : TableView). book_of (record (with_ready c) { table = x })) c.add_running.ensures.added
           ∙ (view_placed (with_ready c) task Running
-          ∙ (ap (λ (b : BookView). stands b task Running) (view_submitted s c.add.new.self (with_one_more s.table) c.args.tx refl c.add.ensures.listing)
-          ∙ ap (λ (b : BookView). stands (submitted b c.args.tx) task Running) c.self.view_is)),
+          ∙ (ap (λ (b : BookView). stands b task Running) (view_submitted s c.add.new.self (with_one_more s.table) (its_call c) refl c.add.ensures.listing)
+          ∙ ap (λ (b : BookView). stands (submitted b (its_call c)) task Running) c.self.view_is)),
       omega (arith, c.if-spare-eq0.false, ap (λ (b : BookView). b.spare) c.self.view_is),
     )

@@ -8,7 +8,7 @@ use Rattle.txn_programs.specs.declared.ast.TaskId.{TaskId}
 use Rattle.book.specs.Standings.{bare, shown_from, HaveRows}
 use Rattle.book.specs.Counting.{IsTally}
 use Rattle.book.specs.Table.{TableView, placed, with_one_more}
-use Rattle.book.specs.TableInside.{places, tasks_of}
+use Rattle.book.specs.TableInside.{tasks_of}
 use Rattle.book.proofs.Lists.{get_append_at}
 use Rattle.book.proofs.Tallies.{tally_more}
 use Rattle.book.proofs.Rows.{length_shown, shown_more, shown_set, rows_more, rows_awake}
@@ -41,10 +41,10 @@ stand-requires-clause-tallied c =
     subst (λ (ss : List Slot). IsTally (map bare ss) s.tally) (sym c.add_ready.ensures.items) (tally_more s.standings.items s.tally c.self.invariant.tallied)
 
 -- the tasks are those with a ready one more, which then runs
-tasks_now : (c : After-stand) → shown_from (length c.self.inside.sleepers.items) c.self.inside.names.items 0 c.stand.new.standings.items ≡ set (tasks_of c.self.inside ++ Ready ∷ []) c.len.result Running
+tasks_now : (c : After-stand) → shown_from c.self.inside.variables c.self.inside.names.items 0 c.stand.new.standings.items ≡ set (tasks_of c.self.inside ++ Ready ∷ []) c.len.result Running
 tasks_now c =
     let s = c.self.inside in
-    let w = length s.sleepers.items in
+    let w = s.variables in
     let ns = s.names.items in
     ap (shown_from w ns 0) c.stand.ensures.items
     ∙ (ap (λ (ss : List Slot). shown_from w ns 0 (set ss c.len.result standing.Running)) c.add_ready.ensures.items
@@ -54,12 +54,12 @@ tasks_now c =
 pub returns-clause-task : goal.returns-clause-task
 returns-clause-task c =
     let s = c.self.inside in
-    omega (arith, c.len.ensures, s.standings.ok.0, length_shown (length s.sleepers.items) s.names.items s.standings.items, ap (λ (b : TableView). length b.tasks) c.self.view_is)
+    omega (arith, c.len.ensures, s.standings.ok.0, length_shown s.variables s.names.items s.standings.items, ap (λ (b : TableView). length b.tasks) c.self.view_is)
 
 pub returns-clause-added : goal.returns-clause-added
 returns-clause-added c =
     let s = c.self.inside in
-    let w = length s.sleepers.items in
+    let w = s.variables in
     let task : TaskId = record { 0 = c.len.result } in
     let made : List Task → TableView = λ ts. record { tasks = ts; variables = w; spare = s.spare - 1 } in
     ap made (tasks_now c) ∙ ap (λ (b : TableView). placed (with_one_more b) task Running) c.self.view_is
@@ -67,7 +67,7 @@ returns-clause-added c =
 pub invariant_of-self : goal.invariant_of-self
 invariant_of-self c =
     let s = c.self.inside in
-    let w = length s.sleepers.items in
+    let w = s.variables in
     let spare : 0 < s.spare = omega (arith, c.requires, ap (λ (b : TableView). b.spare) c.self.view_is) in
     let one : s.spare ≡ suc (s.spare - 1) = omega (arith, spare) in
     let slots : c.len.result ≡ length s.standings.items = omega (arith, c.len.ensures, s.standings.ok.0) in

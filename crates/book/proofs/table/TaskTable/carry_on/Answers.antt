@@ -1,30 +1,39 @@
-use Rattle.std.proofs.Common.{◌≡◌, ℕ, ◌+◌, ◌-◌, ◌<◌, cond, List, length, replicate, get_or, sym, ◌∙◌, ap, subst, arith}
+use Rattle.std.proofs.Common.{◌≡◌, ℕ, ◌+◌, ◌-◌, ◌<◌, cond, List, length, get_or, sym, ◌∙◌, ap, subst, arith}
 use Rattle.book.specs.Tasks.{Task, Running}
 use Rattle.book.specs.Table.{TableView}
 use Rattle.book.specs.Carrying.{stays, carried}
 use Rattle.book.proofs.Rows.{length_shown}
-use Rattle.book.proofs.Carrying.{MovedDown, moved_next, moved_free, moved_length, moved_all}
+use Rattle.book.proofs.Sets.{few_slots}
+use Rattle.book.proofs.Carrying.{MovedDown, moved_left, moved_next, moved_all}
 use Rattle.book.proofs.table.TaskTable.carry_on.Goals as goal
 
 pub settle-kept-requires-clause-from : goal.settle-kept-requires-clause-from
 settle-kept-requires-clause-from c =
-    let s = c.self.inside in
-    let l = c.loop-i in
+    let l = c.tasks in
     let was = c.args.self.now.tasks in
-    let within : l.i < length was = omega (arith, c.loop-i-test.true, c.len-i-end.ensures, s.standings.ok.0, length_shown (length s.sleepers.items) s.names.items s.standings.items, ap (λ (b : TableView). length b.tasks) c.self.view_is) in
-    omega (arith, within, moved_length was l.i l.kept l.self.tasks (omega (arith, within)) l.invariant.moved)
+    omega (arith, moved_left was l.i l.kept l.self.tasks (omega (arith, c.tasks-test.true, c.requires)) l.invariant.moved, l.invariant.moved.size)
+
+pub settle-kept-requires-clause-to : goal.settle-kept-requires-clause-to
+settle-kept-requires-clause-to c = c.tasks.invariant.moved.low
 
 pub settle-kept-requires-clause-free : goal.settle-kept-requires-clause-free
-settle-kept-requires-clause-free c = moved_free c.args.self.now.tasks c.loop-i.i c.loop-i.kept c.loop-i.self.tasks c.loop-i.invariant.moved
+settle-kept-requires-clause-free c = let l = c.tasks in λ less. l.invariant.moved.free l.kept (omega arith) less
 
-pub loop-i-preserved : goal.loop-i-preserved
-loop-i-preserved c =
+pub overflow_add-i : goal.overflow_add-i
+overflow_add-i c =
     let s = c.self.inside in
-    let l = c.loop-i in
+    let l = c.tasks in
+    let within = moved_left c.args.self.now.tasks l.i l.kept l.self.tasks (omega (arith, c.tasks-test.true, c.requires)) l.invariant.moved in
+    omega (arith, within, ap (λ (b : TableView). length b.tasks) c.self.view_is, length_shown s.variables s.names.items s.standings.items, few_slots s c.self.invariant)
+
+pub tasks-preserved : goal.tasks-preserved
+tasks-preserved c =
+    let l = c.tasks in
     let was = c.args.self.now.tasks in
     let t = get_or l.self.tasks l.i Running in
-    let within : l.i < length was = omega (arith, c.loop-i-test.true, c.len-i-end.ensures, s.standings.ok.0, length_shown (length s.sleepers.items) s.names.items s.standings.items, ap (λ (b : TableView). length b.tasks) c.self.view_is) in
+    let within : l.i < length was = moved_left was l.i l.kept l.self.tasks (omega (arith, c.tasks-test.true, c.requires)) l.invariant.moved in
     record {
+      within = omega (arith, within);
       moved = subst (λ (k : ℕ). MovedDown was (l.i + 1) k c.settle-kept.new.self.tasks) (sym c.settle-kept.ensures.next)
           (subst (λ (b : TableView). MovedDown was (l.i + 1) (l.kept + cond (stays t) 1 0) b.tasks) (sym c.settle-kept.ensures.settled)
           (moved_next was l.i l.kept l.self.tasks within l.invariant.moved));
@@ -32,26 +41,28 @@ loop-i-preserved c =
       spare = ap (λ (b : TableView). b.spare) c.settle-kept.ensures.settled ∙ l.invariant.spare;
     }
 
+pub cut-requires-clause-within : goal.cut-requires-clause-within
+cut-requires-clause-within c = let l = c.tasks in omega (arith, l.invariant.moved.low, l.invariant.within, l.invariant.moved.size)
+
+pub cut-requires-clause-waiting : goal.cut-requires-clause-waiting
+cut-requires-clause-waiting c =
+    let l = c.tasks in
+    let all = moved_all c.args.self.now.tasks l.i l.kept l.self.tasks (omega (arith, c.tasks-test.false, c.requires)) l.invariant.moved in
+    all.waiting
+
 pub cut-requires-clause-free : goal.cut-requires-clause-free
 cut-requires-clause-free c =
-    let s = c.self.inside in
-    let l = c.loop-i in
-    let was = c.args.self.now.tasks in
-    let end : c.len-i-end.result ≡ length was = omega (arith, c.len-i-end.ensures, s.standings.ok.0, length_shown (length s.sleepers.items) s.names.items s.standings.items, ap (λ (b : TableView). length b.tasks) c.self.view_is) in
-    let all = moved_all was l.i l.kept l.self.tasks (omega (arith, c.loop-i-test.false, end)) (omega (arith, l.auto.i-end, end)) l.invariant.moved in
-    let size = moved_length was l.i l.kept l.self.tasks (omega (arith, l.auto.i-end, end)) l.invariant.moved in
-    all.2 ∙ ap (λ (k : ℕ). replicate (k - l.kept) Running) (sym size)
+    let l = c.tasks in
+    let all = moved_all c.args.self.now.tasks l.i l.kept l.self.tasks (omega (arith, c.tasks-test.false, c.requires)) l.invariant.moved in
+    all.free
 
 pub returns : goal.returns
 returns c =
-    let s = c.self.inside in
-    let l = c.loop-i in
+    let l = c.tasks in
     let b = c.args.self.now in
     let was = b.tasks in
-    let end : c.len-i-end.result ≡ length was = omega (arith, c.len-i-end.ensures, s.standings.ok.0, length_shown (length s.sleepers.items) s.names.items s.standings.items, ap (λ (v : TableView). length v.tasks) c.self.view_is) in
-    let all = moved_all was l.i l.kept l.self.tasks (omega (arith, c.loop-i-test.false, end)) (omega (arith, l.auto.i-end, end)) l.invariant.moved in
-    let size = moved_length was l.i l.kept l.self.tasks (omega (arith, l.auto.i-end, end)) l.invariant.moved in
-    let spare : c.cut.new.self.spare ≡ b.spare + (length was - length (carried was)) = omega (arith, c.cut.ensures.spare, l.invariant.spare, size, all.0) in
-    ap (λ (ts : List Task). let r : TableView = record c.cut.new.self { tasks = ts } in r) (c.cut.ensures.tasks ∙ all.1)
+    let all = moved_all was l.i l.kept l.self.tasks (omega (arith, c.tasks-test.false, c.requires)) l.invariant.moved in
+    let spare : c.cut.new.self.spare ≡ b.spare + (length was - length (carried was)) = omega (arith, c.cut.ensures.spare, l.invariant.spare, l.invariant.moved.size, all.count) in
+    ap (λ (ts : List Task). let r : TableView = record c.cut.new.self { tasks = ts } in r) (c.cut.ensures.tasks ∙ all.head)
     ∙ (ap (λ (n : ℕ). let r : TableView = record { tasks = carried was; variables = n; spare = c.cut.new.self.spare } in r) (c.cut.ensures.variables ∙ l.invariant.variables)
     ∙ ap (λ (n : ℕ). let r : TableView = record { tasks = carried was; variables = b.variables; spare = n } in r) spare)

@@ -26,13 +26,13 @@ pub stand-requires-clause-was : goal.stand-requires-clause-was
 stand-requires-clause-was c =
     let s = c.self.inside in
     let t = c.args.task.0 in
-    stands_ready (length s.sleepers.items) s.names.items s.standings.items t (ap (λ (b : TableView). slice_get b.tasks t) c.self.view_is ∙ c.requires)
+    stands_ready s.variables s.names.items s.standings.items t (ap (λ (b : TableView). slice_get b.tasks t) c.self.view_is ∙ c.requires)
 
 pub invariant_of-self : goal.invariant_of-self
 invariant_of-self c =
     let s = c.self.inside in
     let t = c.args.task.0 in
-    let w = length s.sleepers.items in
+    let w = s.variables in
     let at : slice_get (tasks_of s) t ≡ Some Ready = ap (λ (b : TableView). slice_get b.tasks t) c.self.view_is ∙ c.requires in
     let ready = stands_ready w s.names.items s.standings.items t at in
     let size = ap length c.stand.ensures.items ∙ length-set s.standings.items t standing.Running in

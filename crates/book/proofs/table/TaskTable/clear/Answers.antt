@@ -27,7 +27,7 @@ ended s v t view within h =
     record { task = get_or v.tasks t Running; at = ap (λ (b : TableView). slice_get b.tasks t) view ∙ slice_get-get_or v.tasks t Running within; ended = h }
 
 inside : (s : Inside) (v : TableView) (t : ℕ) → table_of s ≡ v → t < length v.tasks → t < length s.standings.items
-inside s v t view low = omega (arith, low, ap (λ (b : TableView). length b.tasks) view, length_shown (length s.sleepers.items) s.names.items s.standings.items)
+inside s v t view low = omega (arith, low, ap (λ (b : TableView). length b.tasks) view, length_shown s.variables s.names.items s.standings.items)
 
 pub index-requires : goal.index-requires
 index-requires c = omega (arith, inside c.self.inside c.args.self.now c.args.task.0 c.self.view_is c.requires.within, c.self.inside.standings.ok.0)
@@ -39,7 +39,7 @@ ended-was-requires c =
     let t = c.args.task.0 in
     let read = c.index.result.now in
     let same = same_Some _ _ (sym (slice_get-get_or v.tasks t Running c.requires.within) ∙ found_at s v t read c.self.view_is c.requires.within c.index.ensures) in
-    stays_shown (length s.sleepers.items) s.names.items t read ∙ (ap stays (sym same) ∙ c.requires.ended)
+    stays_shown s.variables s.names.items t read ∙ (ap stays (sym same) ∙ c.requires.ended)
 
 pub stand-requires-clause-few : goal.stand-requires-clause-few
 stand-requires-clause-few c = few_slots c.self.inside c.self.invariant
@@ -53,7 +53,7 @@ pub invariant_of-self : goal.invariant_of-self
 invariant_of-self c =
     let s = c.self.inside in
     let t = c.args.task.0 in
-    let w = length s.sleepers.items in
+    let w = s.variables in
     let h = ended s c.args.self.now t c.self.view_is c.requires.within c.requires.ended in
     let found = at_shown w s.names.items s.standings.items t h.task h.at in
     let size = ap length c.stand.ensures.items ∙ length-set s.standings.items t standing.Running in

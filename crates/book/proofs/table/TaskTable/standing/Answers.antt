@@ -21,13 +21,13 @@ told_bare w names k standing.GivenUp = refl
 pub index-requires : goal.index-requires
 index-requires c =
     let s = c.self.inside in
-    omega (arith, c.requires, ap (λ (b : TableView). length b.tasks) c.self.view_is, length_shown (length s.sleepers.items) s.names.items s.standings.items, s.standings.ok.0)
+    omega (arith, c.requires, ap (λ (b : TableView). length b.tasks) c.self.view_is, length_shown s.variables s.names.items s.standings.items, s.standings.ok.0)
 
 pub returns : goal.returns
 returns c =
     let s = c.self.inside in
     let t = c.args.task.0 in
-    let w = length s.sleepers.items in
+    let w = s.variables in
     let within : t < length s.standings.items = omega (arith, c.requires, ap (λ (b : TableView). length b.tasks) c.self.view_is, length_shown w s.names.items s.standings.items) in
     let read = slice_get_read s.standings.items (length s.standings.items) t c.index.result.now refl within c.index.ensures in
     let there = ap (λ (b : TableView). slice_get b.tasks t) (sym c.self.view_is) ∙ shown_at w s.names.items s.standings.items t c.index.result.now read in

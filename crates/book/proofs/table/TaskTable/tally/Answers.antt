@@ -1,4 +1,4 @@
-use Rattle.std.proofs.Common.{◌∙◌, ap, length, map}
+use Rattle.std.proofs.Common.{◌∙◌, ap, map}
 use Rattle.book.specs.Standings.{bare, unlogged}
 use Rattle.book.specs.Table.{TableView}
 use Rattle.book.proofs.Rows.{all_bare}
@@ -9,4 +9,4 @@ pub returns : goal.returns
 returns c =
     let s = c.self.inside in
     tally_unlogged c.args.self.now.tasks (map bare s.standings.items) s.tally
-    (all_bare (length s.sleepers.items) s.names.items s.standings.items ∙ ap (λ (b : TableView). map unlogged b.tasks) c.self.view_is) c.self.invariant.tallied
+    (all_bare s.variables s.names.items s.standings.items ∙ ap (λ (b : TableView). map unlogged b.tasks) c.self.view_is) c.self.invariant.tallied

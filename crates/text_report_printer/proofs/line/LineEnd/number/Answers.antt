@@ -20,8 +20,8 @@ invariant_of-self c =
     let within = c.self.invariant.0 in
     (omega arith, before_text _ (decimal c.args.number) (drop i.start i.bytes) c.write_digits-self-inside.ensures.written (IsUtf8-from_ascii _ (IsAscii-decimal c.args.number (omega arith))) c.self.invariant.1)
 
-pub returns-clause-short : goal.returns-clause-short
-returns-clause-short c =
+pub returns-clause-at_most : goal.returns-clause-at_most
+returns-clause-at_most c =
     let i = c.self.inside in
     let short = length-decimal-le 20 c.args.number (lit< tt) (omega arith) (omega arith) in
     omega (arith, ap length c.write_digits-self-inside.ensures.written, length-append (decimal c.args.number) (drop i.start i.bytes), ap length c.self.view_is)

@@ -6,7 +6,7 @@ use Rattle.world_law.proofs.Framed.{sound_by}
 use Rattle.world_law.proofs.Reached.{reached_opaque, reached_words}
 use Rattle.world_law.proofs.Upheld.{reached_upheld}
 use Rattle.world.specs.View.{WorldView}
-use Rattle.world_events.specs.Inside.{listing, world_of}
+use Rattle.world.specs.Inside.{listing, world_of}
 use Rattle.world.proofs.world.World.opaque.Goals as goal
 
 pub returns-clause-opaque : goal.returns-clause-opaque

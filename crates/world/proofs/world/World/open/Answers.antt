@@ -1,7 +1,7 @@
 use Rattle.std.proofs.Common.{sym, subst}
 use Rattle.txn_programs.specs.Listing.{Listing}
 use Rattle.world_law.specs.World.{IsOpening}
-use Rattle.world_events.specs.Inside.{listing, world_of}
+use Rattle.world.specs.Inside.{listing, world_of}
 use Rattle.world.proofs.Reaching.{reached_opening}
 use Rattle.world.proofs.world.World.open.Goals as goal
 

@@ -1,5 +1,5 @@
 use Rattle.std.proofs.Common.{◌≡◌, take}
-use Rattle.world_events.specs.Runs.{LeadTo}
+use Rattle.world.specs.Runs.{LeadTo}
 use Rattle.world.proofs.world.World.run.Given as goal
 
 abbrev pub invariant-loop-place : goal.invariant-loop-place

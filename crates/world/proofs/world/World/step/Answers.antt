@@ -1,5 +1,5 @@
 use Rattle.std.proofs.Common.{rules, sym, subst}
-use Rattle.world_events.specs.Runs.{EndsCheck, EvaluatesFree}
+use Rattle.world.specs.Runs.{EndsCheck, EvaluatesFree}
 use Rattle.world.specs.View.{WorldView}
 use Rattle.world.proofs.Reaching.{reached_led}
 use Rattle.world.proofs.world.World.step.Goals as goal
@@ -15,7 +15,7 @@ returns-in_err-seen-clause-checks c h =
     let sure = c.happen.ensures.checks (subst (λ (v : WorldView). EndsCheck v.world c.args.event) (sym c.self.view_is) h) in
     search (rules, sure)
 
-pub returns-clause-short : goal.returns-clause-short
-returns-clause-short c h =
-    let free = c.happen.ensures.short (subst (λ (v : WorldView). EvaluatesFree v.listing c.args.event) (sym c.self.view_is) h) in
+pub returns-clause-in_place : goal.returns-clause-in_place
+returns-clause-in_place c h =
+    let free = c.happen.ensures.in_place (subst (λ (v : WorldView). EvaluatesFree v.listing c.args.event) (sym c.self.view_is) h) in
     search (rules, free)

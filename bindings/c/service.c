@@ -1,0 +1,799 @@
+/* Calls from any thread, over pthreads: see service.h. It is inside libstm.a and libstm.so.
+ *
+ * One mutex guards the store. A thread that finds it taken puts its call in line, and who has the lock makes the calls
+ * in line before it lets go: so under contention the store stays with one processor for some calls, and few threads
+ * sleep. While the lock is free no task is ready: after each call what it woke has its turns, lowest first.
+ *
+ * A call whose transaction retries waits: it lies on its thread's stack, and stands in the table until its task is
+ * over. Who ends the task takes it out of there and writes down the answer. The bells are rung when the lock is free
+ * again, and a thread goes on only after its bell: so a call is there for as long as another thread knows of it.
+ *
+ * A long transaction is evaluated by its own thread, with a worker and without the lock. Meanwhile its task is running,
+ * and its call is in the table: so whoever has the lock can end the task, and the thread finds the answer when it comes
+ * for the lock. Where it waits and is woken it is its thread's again. */
+#ifndef _POSIX_C_SOURCE
+#define _POSIX_C_SOURCE 200809L
+#endif
+#include "service.h"
+
+#include <errno.h>
+#include <pthread.h>
+#include <stdbool.h>
+#include <string.h>
+#include <time.h>
+
+/* The memory of the library: heap.c, or the host's own. */
+struct block {
+    bool got;
+    void *at;
+};
+struct block rattle_alloc(size_t size, size_t align);
+void rattle_dealloc(void *old);
+
+enum {
+    MOST_TASKS = 65536,
+    MOST_OBSERVERS = 32,
+    OBSERVERS = 4,
+    /* How often a transaction is observed or tried beside the commits, before it is evaluated under the lock. */
+    TRIES = 8,
+    BUCKETS = 4096,
+    /* How often a thread looks for its answer before it sleeps, and after how many looks it tries the lock. */
+    LOOKS = 512,
+    LOOKS_A_TRY = 32,
+    /* For how many rounds a thread makes the calls of others. */
+    ROUNDS = 16,
+    /* A processor's line of memory. */
+    LINE = 64,
+    /* The longest file; in it the longest value; the longest run of one task, `(run NAME 1)`, with its newline; and the
+       longest argument, with the space before it. */
+    MOST_FILE = 1048576,
+    MOST_VALUE = 20,
+    MOST_RUN = 41,
+    MOST_ARGUMENT = 21
+};
+
+typedef stm_turned makes(stm_store *, stm_lender *, uint32_t, const int64_t *, size_t);
+
+/* How far a call is: asked for; its answer is there; or it waits, and its answer is there when its bell was rung. */
+enum state { ASKED, ANSWERED, WAITS };
+
+struct call {
+    makes *by;
+    uint32_t transaction;
+    /* They lie where its thread has them, until the call was made. */
+    const int64_t *arguments;
+    size_t count;
+    enum state state;
+    stm_answer answer;
+    struct call *next; /* in line, or in its bucket of the table */
+    /* Of one that is or was in the table: its task, and whether it is there. */
+    int64_t ticket;
+    bool listed;
+    /* Of a long one: whether its task is running and its thread's to evaluate, and by which job. */
+    bool running;
+    stm_job job;
+    /* Whether its bell is to be rung, or was and its thread has not seen it yet; and the next one to ring. */
+    bool owed;
+    struct call *next_owed;
+    /* Whether it was rung, under a lock of its own. */
+    pthread_mutex_t lock;
+    pthread_cond_t bell;
+    bool rung;
+};
+
+/* Workers that observe and evaluate long transactions, each for one thread at a time. */
+struct workers {
+    pthread_mutex_t lock;
+    pthread_cond_t changed;
+    stm_worker all[MOST_OBSERVERS];
+    stm_worker *idle[MOST_OBSERVERS];
+    size_t idle_count;
+    bool closed;
+};
+
+/* A text that is copied out of the store, in a room that grows with it. */
+struct text {
+    uint8_t *at;
+    size_t room, length;
+};
+
+struct stm_service {
+    /* How many threads are in a call; and those in line, the last first: both are changed without the lock. */
+    size_t inside;
+    char apart[LINE];
+    struct call *in_line;
+    char apart_too[LINE];
+    pthread_mutex_t lock;
+    bool closed;
+    stm_store store;
+    stm_lender lender;
+    struct call *to_ring;
+    /* How many long calls are in the table, and of these, how many are running. */
+    size_t long_calls, running;
+    struct call *table[BUCKETS];
+    pthread_condattr_t monotonic;
+    stm_program program;
+    size_t transactions;
+    /* 1 for each long transaction, 0 for the others; NULL: none is long. */
+    uint8_t *long_ones;
+    stm_service_options options;
+    struct text file, report;
+    struct workers workers;
+};
+
+static stm_answer bare(int32_t code) { return (stm_answer){code, 0, 0}; }
+
+static bool is_long(const stm_service *s, uint32_t transaction) {
+    return s->long_ones && transaction < s->transactions && s->long_ones[transaction];
+}
+
+/* ---- Those that wait, or run outside the lock ---- */
+
+/* Where the table has the call of this task, or where it ends. */
+static struct call **place_of(stm_service *s, int64_t ticket) {
+    struct call **at = &s->table[ticket % BUCKETS];
+    while (*at && (*at)->ticket != ticket) at = &(*at)->next;
+    return at;
+}
+
+static void list(stm_service *s, struct call *call, int64_t ticket) {
+    struct call **bucket = &s->table[ticket % BUCKETS];
+    call->ticket = ticket;
+    call->listed = true;
+    call->running = call->owed = false;
+    call->next = *bucket;
+    *bucket = call;
+    s->long_calls += is_long(s, call->transaction);
+}
+
+/* Takes the call of this task out of the table; NULL: no thread has one. */
+static struct call *unlist(stm_service *s, int64_t ticket) {
+    struct call **at = place_of(s, ticket), *call = *at;
+    if (!call) return NULL;
+    *at = call->next;
+    s->long_calls -= is_long(s, call->transaction);
+    s->running -= call->running;
+    call->listed = call->running = false;
+    return call;
+}
+
+/* Its task runs by this job, and is its thread's to evaluate. */
+static void runs(stm_service *s, struct call *call, stm_job job) {
+    call->job = job;
+    call->running = true;
+    s->running++;
+}
+
+static void is_to_be_rung(stm_service *s, struct call *call) {
+    if (call->owed) return;
+    call->owed = true;
+    call->next_owed = s->to_ring;
+    s->to_ring = call;
+}
+
+/* Hands the answer to the thread that has a call of this task, if there is one. */
+static void hand(stm_service *s, int64_t ticket, stm_answer answer) {
+    struct call *call = unlist(s, ticket);
+    if (!call) return;
+    call->answer = answer;
+    is_to_be_rung(s, call);
+}
+
+static void ring(struct call *call) {
+    pthread_mutex_lock(&call->lock);
+    call->rung = true;
+    pthread_cond_signal(&call->bell);
+    pthread_mutex_unlock(&call->lock);
+}
+
+/* Those whose bells are to be rung. */
+static struct call *take_owed(stm_service *s) {
+    struct call *first = s->to_ring;
+    s->to_ring = NULL;
+    return first;
+}
+
+static void ring_all(struct call *call) {
+    for (struct call *next; call; call = next) {
+        next = call->next_owed;
+        ring(call);
+    }
+}
+
+/* Sleeps until the bell was rung, or the time is up: whether it was rung. NULL: without end. */
+static bool is_rung(struct call *call, const struct timespec *until) {
+    int late = 0;
+    pthread_mutex_lock(&call->lock);
+    while (!call->rung && late != ETIMEDOUT) {
+        if (until) late = pthread_cond_timedwait(&call->bell, &call->lock, until);
+        else pthread_cond_wait(&call->bell, &call->lock);
+    }
+    bool rung = call->rung;
+    call->rung = false;
+    pthread_mutex_unlock(&call->lock);
+    return rung;
+}
+
+/* ---- Turns of tasks, under the lock ---- */
+
+/* What the caller of the task is told. */
+static stm_answer told(int32_t code, int64_t value, uint64_t entry) {
+    return (stm_answer){code == STM_GIVEN_UP ? STM_MEMORY : code, value, entry};
+}
+
+/* The lowest ready task has its turn; false: none is ready. */
+static bool give_turn(stm_service *s) {
+    stm_turned turn = stm_turn(&s->store, &s->lender);
+    if (turn.ticket < 0) return false;
+    if (turn.code != STM_RETRIES) hand(s, turn.ticket, told(turn.code, turn.value, turn.entry));
+    return true;
+}
+
+/* As `give_turn`, but a long one is handed to its thread, where one waits. */
+static bool give_turn_or_hand(stm_service *s) {
+    stm_job job = stm_take_job(&s->store);
+    if (job.ticket < 0) return false;
+    struct call *call = is_long(s, job.transaction) ? *place_of(s, job.ticket) : NULL;
+    if (call) {
+        runs(s, call, job);
+        is_to_be_rung(s, call);
+        return true;
+    }
+    stm_answer answer = stm_serial(&s->store, job.ticket);
+    if (answer.code != STM_RETRIES) hand(s, job.ticket, told(answer.code, answer.value, answer.entry));
+    return true;
+}
+
+/* Serves each ready task, the lowest first. */
+static void serve(stm_service *s) {
+    bool more = true;
+    while (more) more = s->long_calls > s->running ? give_turn_or_hand(s) : give_turn(s);
+}
+
+/* So its running task ended: it waits, but for a try, or its thread has the answer. */
+static void ends(stm_service *s, struct call *call, stm_answer answer) {
+    if (answer.code == STM_RETRIES && call->by == stm_call) {
+        call->running = false;
+        s->running--;
+        return;
+    }
+    if (answer.code == STM_RETRIES) stm_withdraw(&s->store, call->ticket);
+    hand(s, call->ticket, told(answer.code, answer.value, answer.entry));
+}
+
+/* Gives what threads evaluate just then its turn, and what that woke: so no task is ready or running. */
+static void settle(stm_service *s) {
+    if (s->running == 0) return;
+    for (size_t i = 0; i < BUCKETS; i++) {
+        for (struct call *next, *call = s->table[i]; call; call = next) {
+            next = call->next;
+            if (call->running) ends(s, call, stm_serial(&s->store, call->ticket));
+        }
+    }
+    while (give_turn(s)) continue;
+}
+
+/* ---- Chapters ---- */
+
+typedef int32_t copies(stm_store *, uint8_t *, size_t, size_t *);
+
+/* Copies a text of the store, into a longer room where it has to be. */
+static int32_t copy(stm_service *s, struct text *text, copies *by) {
+    int32_t code = by(&s->store, text->at, text->room, &text->length);
+    if (code != STM_SHORT) return code;
+    struct block block = rattle_alloc(text->length, 16);
+    if (!block.got) return STM_MEMORY;
+    if (text->at) rattle_dealloc(text->at);
+    text->at = block.at;
+    text->room = text->length;
+    return by(&s->store, text->at, text->room, &text->length);
+}
+
+/* Hands file and report of the chapter to the host. */
+static int32_t hand_over(stm_service *s) {
+    if (!s->options.ended) return STM_DONE;
+    int32_t code = copy(s, &s->file, stm_file);
+    if (code == STM_DONE) code = copy(s, &s->report, stm_report_now);
+    if (code != STM_DONE) return code;
+    /* The host may take long. */
+    ring_all(take_owed(s));
+    int before;
+    pthread_setcancelstate(PTHREAD_CANCEL_DISABLE, &before);
+    int failed = s->options.ended(s->options.own, s->file.at, s->file.length, s->report.at, s->report.length);
+    pthread_setcancelstate(before, &before);
+    return failed ? STM_NO_ROOM : STM_DONE;
+}
+
+/* Begins a chapter, if that makes room. */
+static int32_t next_chapter(stm_service *s) {
+    stm_counts counts;
+    settle(s);
+    stm_get_counts(&s->store, &counts);
+    if (counts.done + counts.given_up == 0) return STM_NO_ROOM;
+    int32_t code = hand_over(s);
+    if (code == STM_DONE) stm_begin_chapter(&s->store);
+    return code;
+}
+
+/* ---- Calls, under the lock ---- */
+
+static stm_turned turn_by(stm_service *s, const struct call *call) {
+    return call->by(&s->store, &s->lender, call->transaction, call->arguments, call->count);
+}
+
+/* A turn of the call, in a new chapter where the present one has no room; and of what it woke. */
+static stm_turned turn_of(stm_service *s, const struct call *call) {
+    stm_turned turn = {-1, call->transaction, STM_CLOSED, 0, 0};
+    if (s->closed) return turn;
+    turn.code = STM_UNKNOWN;
+    if (call->transaction >= s->transactions) return turn;
+    turn = turn_by(s, call);
+    if (turn.code == STM_NO_ROOM) {
+        turn.code = next_chapter(s);
+        if (turn.code == STM_DONE) turn = turn_by(s, call);
+    }
+    if (turn.ticket >= 0) serve(s);
+    return turn;
+}
+
+static bool makes_bell(stm_service *s, struct call *call) {
+    call->rung = false;
+    call->lock = (pthread_mutex_t)PTHREAD_MUTEX_INITIALIZER;
+    return pthread_cond_init(&call->bell, &s->monotonic) == 0;
+}
+
+/* Makes the call. Its thread may go on at once where it does not wait. */
+static void make(stm_service *s, struct call *call) {
+    stm_turned turn = turn_of(s, call);
+    enum state state = turn.code == STM_RETRIES && turn.ticket >= 0 ? WAITS : ANSWERED;
+    call->answer = told(turn.code, turn.value, turn.entry);
+    if (state == WAITS && !makes_bell(s, call)) {
+        stm_withdraw(&s->store, turn.ticket);
+        call->answer = bare(STM_MEMORY);
+        state = ANSWERED;
+    }
+    if (state == WAITS) list(s, call, turn.ticket);
+    __atomic_store_n(&call->state, state, __ATOMIC_RELEASE);
+}
+
+/* Makes the calls in line, in the order in which they came. */
+static void make_those_in_line(stm_service *s) {
+    for (int round = 0; round < ROUNDS && __atomic_load_n(&s->in_line, __ATOMIC_RELAXED); round++) {
+        struct call *next, *call = __atomic_exchange_n(&s->in_line, NULL, __ATOMIC_ACQUIRE), *first = NULL;
+        for (; call; call = next) {
+            next = call->next;
+            call->next = first;
+            first = call;
+        }
+        for (; first; first = next) {
+            next = first->next;
+            make(s, first);
+        }
+    }
+}
+
+/* Lets the lock go, and rings the bells. */
+static void unlock(stm_service *s) {
+    make_those_in_line(s);
+    struct call *owed = take_owed(s);
+    pthread_mutex_unlock(&s->lock);
+    ring_all(owed);
+}
+
+/* ---- Workers ---- */
+
+/* A worker for this thread; NULL: it is closed, or none is idle and the thread does not wait. */
+static stm_worker *borrow(struct workers *w, bool waits) {
+    int before;
+    pthread_setcancelstate(PTHREAD_CANCEL_DISABLE, &before);
+    pthread_mutex_lock(&w->lock);
+    while (waits && !w->closed && w->idle_count == 0) pthread_cond_wait(&w->changed, &w->lock);
+    stm_worker *worker = !w->closed && w->idle_count > 0 ? w->idle[--w->idle_count] : NULL;
+    pthread_mutex_unlock(&w->lock);
+    pthread_setcancelstate(before, &before);
+    return worker;
+}
+
+static void give_back(struct workers *w, stm_worker *worker) {
+    pthread_mutex_lock(&w->lock);
+    w->idle[w->idle_count++] = worker;
+    pthread_cond_signal(&w->changed);
+    pthread_mutex_unlock(&w->lock);
+}
+
+/* ---- Long calls: the lock is held, but while a task is evaluated or its thread sleeps ---- */
+
+static bool is_past(const struct timespec *until) {
+    struct timespec now;
+    if (!until) return false;
+    clock_gettime(CLOCK_MONOTONIC, &now);
+    return now.tv_sec != until->tv_sec ? now.tv_sec > until->tv_sec : now.tv_nsec >= until->tv_nsec;
+}
+
+/* Has a running task of the call, in a new chapter where the present one has no room; or an answer. */
+static void begin(stm_service *s, struct call *call) {
+    int64_t ticket = STM_CLOSED;
+    if (!s->closed) ticket = stm_submit(&s->store, call->transaction, call->arguments, call->count);
+    if (ticket == STM_NO_ROOM) {
+        ticket = next_chapter(s);
+        if (ticket == STM_DONE) ticket = stm_submit(&s->store, call->transaction, call->arguments, call->count);
+    }
+    if (ticket >= 0) {
+        list(s, call, ticket);
+        runs(s, call, stm_claim(&s->store, ticket));
+    } else {
+        /* Without room, a try can still tell that it retries. */
+        call->answer = bare(ticket == STM_NO_ROOM ? turn_by(s, call).code : (int32_t)ticket);
+    }
+}
+
+/* Evaluates the running task beside what others commit; or under the lock, where no worker is idle or too many commits
+ * came in between. Another thread may end the task meanwhile. Where the time is up it is given up. */
+static void evaluate(stm_service *s, struct call *call, const struct timespec *until) {
+    stm_worker *worker = borrow(&s->workers, false);
+    for (int tries = 0; call->running && !is_past(until); tries++) {
+        if (!worker || tries == TRIES) {
+            ends(s, call, stm_serial(&s->store, call->ticket));
+            break;
+        }
+        stm_job job = call->job;
+        unlock(s);
+        int32_t code = stm_try_job(worker, job);
+        pthread_mutex_lock(&s->lock);
+        if (!call->running || is_past(until)) break;
+        stm_answer answer = code == STM_DONE ? stm_finish(&s->store, worker) : bare(code);
+        if (answer.code == STM_STALE || answer.code == STM_OTHER_CHAPTER) continue;
+        if (answer.code == STM_MEMORY) stm_give_up(&s->store, call->ticket);
+        ends(s, call, answer);
+    }
+    if (call->running) {
+        stm_give_up(&s->store, call->ticket);
+        hand(s, call->ticket, bare(STM_TIMED_OUT));
+    }
+    serve(s);
+    if (worker) give_back(&s->workers, worker);
+}
+
+/* Sleeps until the task is over or running again. Where the time is up before it is withdrawn. */
+static void sleep_long(stm_service *s, struct call *call, const struct timespec *until) {
+    unlock(s);
+    bool rung = is_rung(call, until);
+    pthread_mutex_lock(&s->lock);
+    if (rung) call->owed = false;
+    if (rung || !call->listed || call->running) return;
+    stm_withdraw(&s->store, call->ticket);
+    hand(s, call->ticket, bare(STM_TIMED_OUT));
+}
+
+static void run_long(stm_service *s, struct call *call, const struct timespec *until) {
+    int before;
+    call->listed = call->running = call->owed = false;
+    call->answer = bare(STM_MEMORY);
+    if (!makes_bell(s, call)) return;
+    pthread_setcancelstate(PTHREAD_CANCEL_DISABLE, &before);
+    pthread_mutex_lock(&s->lock);
+    begin(s, call);
+    while (call->listed) call->running ? evaluate(s, call, until) : sleep_long(s, call, until);
+    bool owed = call->owed;
+    unlock(s);
+    if (owed) is_rung(call, NULL);
+    pthread_setcancelstate(before, &before);
+    pthread_cond_destroy(&call->bell);
+    pthread_mutex_destroy(&call->lock);
+}
+
+/* ---- Calls ---- */
+
+static void enter(stm_service *s) { __atomic_add_fetch(&s->inside, 1, __ATOMIC_RELAXED); }
+
+/* The last that a thread has to do with the service. */
+static void leave(stm_service *s) { __atomic_sub_fetch(&s->inside, 1, __ATOMIC_RELEASE); }
+
+static void pause_shortly(void) {
+#if defined(__x86_64__)
+    __builtin_ia32_pause();
+#endif
+}
+
+/* Gets in line, until the call was made by whoever has the lock; or, where it comes to have the lock, by itself. */
+static void line_up(stm_service *s, struct call *call) {
+    struct call **line = &s->in_line;
+    call->next = __atomic_load_n(line, __ATOMIC_RELAXED);
+    while (!__atomic_compare_exchange_n(line, &call->next, call, true, __ATOMIC_RELEASE, __ATOMIC_RELAXED)) continue;
+    for (int look = 1; look <= LOOKS; look++) {
+        if (__atomic_load_n(&call->state, __ATOMIC_ACQUIRE) != ASKED) return;
+        if (look % LOOKS_A_TRY == 0 && pthread_mutex_trylock(&s->lock) == 0) {
+            unlock(s);
+            continue;
+        }
+        pause_shortly();
+    }
+    while (__atomic_load_n(&call->state, __ATOMIC_ACQUIRE) == ASKED) {
+        pthread_mutex_lock(&s->lock);
+        unlock(s);
+    }
+}
+
+/* Waits for the answer. Where the time is up and there is none yet the task is withdrawn. */
+static void wait_for(stm_service *s, struct call *call, const struct timespec *until) {
+    int before;
+    pthread_setcancelstate(PTHREAD_CANCEL_DISABLE, &before);
+    if (!is_rung(call, until)) {
+        pthread_mutex_lock(&s->lock);
+        bool late = call->listed;
+        if (late) {
+            unlist(s, call->ticket);
+            stm_withdraw(&s->store, call->ticket);
+            call->answer = bare(STM_TIMED_OUT);
+        }
+        unlock(s);
+        if (!late) is_rung(call, NULL);
+    }
+    pthread_setcancelstate(before, &before);
+    pthread_cond_destroy(&call->bell);
+    pthread_mutex_destroy(&call->lock);
+}
+
+/* Runs the transaction; where it waits, at most until then; NULL: without end. */
+static stm_answer run(stm_service *s, makes *by, uint32_t transaction, const int64_t *arguments, size_t count,
+                      const struct timespec *until) {
+    struct call call;
+    call.by = by;
+    call.transaction = transaction;
+    call.arguments = arguments;
+    call.count = count;
+    call.state = ASKED;
+    enter(s);
+    if (s->long_ones && is_long(s, transaction)) {
+        run_long(s, &call, until);
+    } else if (pthread_mutex_trylock(&s->lock) == 0) {
+        make(s, &call);
+        unlock(s);
+    } else {
+        line_up(s, &call);
+    }
+    if (call.state == WAITS) wait_for(s, &call, until);
+    leave(s);
+    return call.answer;
+}
+
+stm_answer stm_atomically(stm_service *s, uint32_t transaction, const int64_t *arguments, size_t count) {
+    return run(s, stm_call, transaction, arguments, count, NULL);
+}
+
+stm_answer stm_try_atomically(stm_service *s, uint32_t transaction, const int64_t *arguments, size_t count) {
+    return run(s, stm_try_call, transaction, arguments, count, NULL);
+}
+
+stm_answer stm_atomically_within(stm_service *s, uint32_t transaction, const int64_t *arguments, size_t count,
+                                 uint64_t nanoseconds) {
+    struct timespec until;
+    clock_gettime(CLOCK_MONOTONIC, &until);
+    uint64_t rest = (uint64_t)until.tv_nsec + nanoseconds % 1000000000;
+    until.tv_sec += (time_t)(nanoseconds / 1000000000 + rest / 1000000000);
+    until.tv_nsec = (long)(rest % 1000000000);
+    return run(s, stm_call, transaction, arguments, count, &until);
+}
+
+/* ---- Observers ---- */
+
+/* Beside the commits; and under the lock where too many came in between. */
+static stm_answer observe(stm_service *s, stm_worker *worker, uint32_t transaction, const int64_t *arguments,
+                          size_t count) {
+    stm_answer answer = bare(STM_STALE);
+    for (int tries = 0; tries < TRIES && answer.code == STM_STALE; tries++) {
+        answer = stm_observe(worker, transaction, arguments, count);
+    }
+    if (answer.code != STM_STALE) return answer;
+    pthread_mutex_lock(&s->lock);
+    answer = stm_observe(worker, transaction, arguments, count);
+    unlock(s);
+    return answer;
+}
+
+stm_answer stm_service_observe(stm_service *s, uint32_t transaction, const int64_t *arguments, size_t count) {
+    stm_answer answer = bare(STM_CLOSED);
+    enter(s);
+    stm_worker *worker = borrow(&s->workers, true);
+    if (worker) {
+        bool known = transaction < s->transactions;
+        answer = known ? observe(s, worker, transaction, arguments, count) : bare(STM_UNKNOWN);
+        give_back(&s->workers, worker);
+    }
+    leave(s);
+    return answer;
+}
+
+/* ---- What it says of itself ---- */
+
+static void lock(stm_service *s) {
+    enter(s);
+    pthread_mutex_lock(&s->lock);
+}
+
+static void unlock_and_leave(stm_service *s) {
+    unlock(s);
+    leave(s);
+}
+
+int64_t stm_service_transaction(const stm_service *s, const uint8_t *name, size_t name_length) {
+    return stm_program_transaction(&s->program, name, name_length);
+}
+
+int64_t stm_service_parameters(const stm_service *s, uint32_t transaction) {
+    return stm_program_parameters(&s->program, transaction);
+}
+
+int32_t stm_service_value(stm_service *s, const uint8_t *name, size_t name_length, int64_t *value, uint64_t *version) {
+    lock(s);
+    int32_t code = stm_value(&s->store, name, name_length, value, version);
+    unlock_and_leave(s);
+    return code;
+}
+
+static uint64_t number_of(stm_service *s, uint64_t (*of)(stm_store *)) {
+    lock(s);
+    uint64_t number = of(&s->store);
+    unlock_and_leave(s);
+    return number;
+}
+
+uint64_t stm_service_entered(stm_service *s) { return number_of(s, stm_entered); }
+uint64_t stm_service_chapter(stm_service *s) { return number_of(s, stm_chapter); }
+
+/* Settled first, so that file and report are of one moment where nothing comes between. */
+static int32_t text_of(stm_service *s, copies *by, uint8_t *room, size_t room_length, size_t *wanted) {
+    lock(s);
+    settle(s);
+    int32_t code = by(&s->store, room, room_length, wanted);
+    unlock_and_leave(s);
+    return code;
+}
+
+int32_t stm_service_report(stm_service *s, uint8_t *room, size_t room_length, size_t *wanted) {
+    return text_of(s, stm_report_now, room, room_length, wanted);
+}
+
+int32_t stm_service_file(stm_service *s, uint8_t *room, size_t room_length, size_t *wanted) {
+    return text_of(s, stm_file, room, room_length, wanted);
+}
+
+/* ---- Its begin ---- */
+
+/* The longest run of one task that the program can have. */
+static size_t most_run(stm_service *s) {
+    int64_t most = 0;
+    for (size_t i = 0; i < s->transactions; i++) {
+        int64_t parameters = stm_program_parameters(&s->program, (uint32_t)i);
+        if (parameters > most) most = parameters;
+    }
+    return MOST_RUN + (size_t)most * MOST_ARGUMENT;
+}
+
+/* How many tasks a chapter may have: where the host keeps the chapters, no more than fit into a file. */
+static int32_t most_tasks(stm_service *s, size_t *most) {
+    *most = MOST_TASKS;
+    if (!s->options.ended) return STM_DONE;
+    stm_store as_declared = {0};
+    int32_t code = stm_open(&s->program, 0, 0, &as_declared);
+    if (code != STM_DONE) return code;
+    size_t length = 0;
+    code = stm_file(&as_declared, NULL, 0, &length);
+    stm_store_free(&as_declared);
+    if (code != STM_SHORT) return code;
+    length += stm_program_variables(&s->program) * MOST_VALUE;
+    size_t fit = length < MOST_FILE ? (MOST_FILE - length) / most_run(s) : 0;
+    if (fit < *most) *most = fit;
+    return STM_DONE;
+}
+
+static int32_t open_store(stm_service *s) {
+    size_t most, own = stm_program_tasks(&s->program), room = s->options.room;
+    int32_t code = most_tasks(s, &most);
+    if (code != STM_DONE) return code;
+    if (own > most || room > most - own) return STM_NO_ROOM;
+    if (room == 0) room = most - own;
+    return stm_open_with_room(&s->program, s->options.observers, s->options.checkpoint, room, &s->store);
+}
+
+/* Workers and an attempt to lend. A file with no transaction has neither, and no call of it comes to them. */
+static int32_t open_workers(stm_service *s) {
+    struct workers *w = &s->workers;
+    int32_t code = STM_DONE;
+    for (size_t i = 0; i < s->options.observers && code == STM_DONE; i++) {
+        if (s->transactions > 0) code = stm_open_worker(&s->store, &w->all[i]);
+        w->idle[w->idle_count++] = &w->all[i];
+    }
+    if (code == STM_DONE && s->transactions > 0) code = stm_open_lender(&s->store, &s->lender);
+    return code;
+}
+
+/* Which transactions are long. */
+static int32_t weigh(stm_service *s) {
+    size_t length;
+    if (s->transactions == 0) return STM_DONE;
+    struct block block = rattle_alloc(s->transactions, 16);
+    if (!block.got) return STM_MEMORY;
+    s->long_ones = block.at;
+    int32_t code = stm_program_long(&s->program, s->long_ones, s->transactions, &length);
+    if (code != STM_DONE || memchr(s->long_ones, 1, s->transactions)) return code;
+    rattle_dealloc(s->long_ones);
+    s->long_ones = NULL;
+    return STM_DONE;
+}
+
+static int32_t open_all(stm_service *s, const uint8_t *file, size_t file_length) {
+    if (s->options.observers > MOST_OBSERVERS) return STM_NO_WORKER;
+    if (s->options.observers == 0) s->options.observers = OBSERVERS;
+    if (pthread_condattr_setclock(&s->monotonic, CLOCK_MONOTONIC) != 0) return STM_MEMORY;
+    int32_t code = stm_read(file, file_length, &s->program);
+    s->transactions = stm_program_transactions(&s->program);
+    if (code == STM_DONE) code = weigh(s);
+    if (code == STM_DONE) code = open_store(s);
+    if (code == STM_DONE) code = open_workers(s);
+    if (code == STM_DONE) serve(s);
+    return code;
+}
+
+/* What a service holds, or one that could not be opened. */
+static void let_go(stm_service *s) {
+    for (size_t i = 0; i < MOST_OBSERVERS; i++) stm_worker_free(&s->workers.all[i]);
+    stm_lender_free(&s->lender);
+    stm_store_free(&s->store);
+    stm_program_free(&s->program);
+    if (s->long_ones) rattle_dealloc(s->long_ones);
+    if (s->file.at) rattle_dealloc(s->file.at);
+    if (s->report.at) rattle_dealloc(s->report.at);
+    pthread_condattr_destroy(&s->monotonic);
+    pthread_cond_destroy(&s->workers.changed);
+    pthread_mutex_destroy(&s->workers.lock);
+    pthread_mutex_destroy(&s->lock);
+    rattle_dealloc(s);
+}
+
+int32_t stm_service_open(const uint8_t *file, size_t file_length, const stm_service_options *options,
+                         stm_service **out) {
+    *out = NULL;
+    struct block block = rattle_alloc(sizeof(stm_service), 16);
+    if (!block.got) return STM_MEMORY;
+    stm_service *s = block.at;
+    memset(s, 0, sizeof *s);
+    if (pthread_condattr_init(&s->monotonic) != 0) return rattle_dealloc(s), STM_MEMORY;
+    s->lock = s->workers.lock = (pthread_mutex_t)PTHREAD_MUTEX_INITIALIZER;
+    s->workers.changed = (pthread_cond_t)PTHREAD_COND_INITIALIZER;
+    if (options) s->options = *options;
+    int32_t code = open_all(s, file, file_length);
+    if (code == STM_DONE) *out = s;
+    else let_go(s);
+    return code;
+}
+
+/* ---- Its end ---- */
+
+void stm_service_close(stm_service *s) {
+    lock(s);
+    s->closed = true;
+    for (size_t i = 0; i < BUCKETS; i++) {
+        for (struct call *call; (call = s->table[i]);) {
+            if (call->running) stm_give_up(&s->store, call->ticket);
+            else stm_withdraw(&s->store, call->ticket);
+            hand(s, call->ticket, bare(STM_CLOSED));
+        }
+    }
+    unlock(s);
+    pthread_mutex_lock(&s->workers.lock);
+    s->workers.closed = true;
+    pthread_cond_broadcast(&s->workers.changed);
+    pthread_mutex_unlock(&s->workers.lock);
+    leave(s);
+}
+
+void stm_service_free(stm_service *s) {
+    if (!s) return;
+    stm_service_close(s);
+    int before;
+    pthread_setcancelstate(PTHREAD_CANCEL_DISABLE, &before);
+    while (__atomic_load_n(&s->inside, __ATOMIC_ACQUIRE) > 0) nanosleep(&(struct timespec){0, 100000}, NULL);
+    pthread_setcancelstate(before, &before);
+    let_go(s);
+}

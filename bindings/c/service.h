@@ -1,0 +1,101 @@
+/* stm: transactions that any thread calls and waits for.
+ *
+ * A service is a store with its lock and its waiting threads in one handle. A thread calls a transaction, which
+ * runs as one atomic step, and gets its outcome; where the transaction retries, the thread sleeps until it has run.
+ *
+ * Short transactions run one at a time, under the lock. A long one (`stm_program_long`) is evaluated by the thread that
+ * calls it, beside what others commit, and takes the lock only to be submitted and entered. It runs under the lock if
+ * every worker is taken, if others changed what it read in 8 tries, and if a chapter ends, or the report or the file is
+ * asked for, before it is entered. What it answers is the same.
+ *
+ * What the host owes is what C leaves to it: pointers are to what is there; a thread that calls has 64 KB of stack;
+ * no call is made from a signal handler, nor from `ended`; none is made after `stm_service_free`; and none in a
+ * forked child, for another thread may have held the lock, and no child has that thread. Else all calls may be made
+ * by any thread at any time, and none is a point where a thread is cancelled. It is over pthreads: link with -pthread.
+ *
+ * What a file says stays in memory until the process ends, once for each `stm_service_open`. */
+#ifndef STM_SERVICE_H
+#define STM_SERVICE_H
+
+#include "stm.h"
+
+#ifdef __cplusplus
+extern "C" {
+#endif
+
+typedef struct stm_service stm_service;
+
+typedef struct stm_service_options {
+    /* How many tasks a chapter has room for beside the file's own; 0: as many as there can be, which are 65536 in all;
+     * with `ended` so many that the file of the chapter is never too long. */
+    size_t room;
+    /* As for `stm_run_one`: a journal of so many entries is followed by a checkpoint; 0: never. */
+    uint32_t checkpoint;
+    /* How many workers there are, at most 32; 0: 4. A thread takes one while it looks by `stm_service_observe`, or
+     * evaluates a long transaction. */
+    uint32_t observers;
+    /* Called with file and report of each chapter that ends, under the lock: so it makes no call of the service, and
+     * returns. Not 0: the chapter goes on, and each call that finds no room asks again. NULL: none. The last chapter
+     * does not end: ask for its file and report when the service is closed. */
+    int (*ended)(void *own, const uint8_t *file, size_t file_length, const uint8_t *report, size_t report_length);
+    void *own;
+} stm_service_options;
+
+/* Opens a service of the file, with these options or, with NULL, with 0 for each; and gives the runs of the file their
+ * turns: STM_DONE, and `out` has the service. Else `out` has NULL: STM_FILE_TOO_LONG .. STM_FILE_BROKEN, STM_MEMORY;
+ * STM_NO_ROOM: a chapter can't have room for so many tasks; STM_NO_WORKER: more than 32 observers. */
+int32_t stm_service_open(const uint8_t *file, size_t file_length, const stm_service_options *options,
+                         stm_service **out);
+
+/* The number of the transaction of this name, or STM_UNKNOWN; and how many parameters it has, or STM_UNKNOWN. */
+int64_t stm_service_transaction(const stm_service *service, const uint8_t *name, size_t name_length);
+int64_t stm_service_parameters(const stm_service *service, uint32_t transaction);
+
+/* Runs the transaction as one atomic step; where it retries, the thread waits until it was entered. It is given a
+ * number for each of its parameters, in their order, which the host leaves as they are until the call ends: `NULL, 0`
+ * where it has none. The outcome is STM_DONE with what it returned, STM_THROWN with what it threw, STM_OVERFLOW,
+ * STM_DIVIDE_BY_ZERO, or STM_BROKEN with the condition's number; and the number of the entry in its chapter. With any
+ * other answer it had no effect, and never will: STM_CLOSED; STM_MEMORY; STM_UNKNOWN: no such transaction, or it has
+ * another number of parameters; STM_NO_ROOM: every task that a chapter has room for waits, or `ended` failed. */
+stm_answer stm_atomically(stm_service *service, uint32_t transaction, const int64_t *arguments, size_t count);
+
+/* As `stm_atomically`, but where it retries the answer is STM_RETRIES, at once, and nothing was entered. A long one is
+ * given up then, so the report has it on a line `memory`. */
+stm_answer stm_try_atomically(stm_service *service, uint32_t transaction, const int64_t *arguments, size_t count);
+
+/* As `stm_atomically`, but a thread that has waited for so long goes on with STM_TIMED_OUT. A long one whose time is up
+ * before it is entered is given up; where it is evaluated just then, when that ends. */
+stm_answer stm_atomically_within(stm_service *service, uint32_t transaction, const int64_t *arguments, size_t count,
+                                 uint64_t nanoseconds);
+
+/* How the call would end on one state, beside what others commit: an outcome with no entry, STM_RETRIES,
+ * STM_CLOSED, STM_MEMORY or STM_UNKNOWN. */
+stm_answer stm_service_observe(stm_service *service, uint32_t transaction, const int64_t *arguments, size_t count);
+
+/* The present value of a variable, and the number of the last entry of the chapter that changed it, 0 where none did:
+ * STM_DONE; STM_UNKNOWN. */
+int32_t stm_service_value(stm_service *service, const uint8_t *name, size_t name_length, int64_t *value,
+                          uint64_t *version);
+
+/* How many entries there were in all chapters; and the number of the chapter, from 0 on. */
+uint64_t stm_service_entered(stm_service *service);
+uint64_t stm_service_chapter(stm_service *service);
+
+/* Copies the report, or the file, of the present chapter into the room, as `stm_report_now` and `stm_file` do. Others
+ * may commit between two calls, so the text may have grown after STM_SHORT. Once the service is closed the two are a
+ * pair, which `stm_check` finds good. */
+int32_t stm_service_report(stm_service *service, uint8_t *room, size_t room_length, size_t *wanted);
+int32_t stm_service_file(stm_service *service, uint8_t *room, size_t room_length, size_t *wanted);
+
+/* Each call that waits and each later one answers STM_CLOSED, and no transaction is entered any more: one that is
+ * evaluated just then is given up. The calls from `stm_service_value` to `stm_service_file` go on. */
+void stm_service_close(stm_service *service);
+
+/* Closes it, waits until no thread is in a call, and lets it go. NULL is none. */
+void stm_service_free(stm_service *service);
+
+#ifdef __cplusplus
+}
+#endif
+
+#endif

@@ -1,0 +1,399 @@
+/// stm for C++17: a service that threads call, and whole files. It is over `service.h` and `stm.h`, whose library it
+/// wants: link with libstm.so or libstm.a, and -pthread.
+///
+///     stm::service bank = stm::service::open(text).value();
+///     stm::outcome paid = bank.atomically("pay", {20});
+///     if (paid) std::cout << *paid;
+///
+/// Calls answer what they found or why there is nothing. Only `value()` throws; with -fno-exceptions it ends the
+/// process. Where memory runs out, the strings of the standard library throw as ever.
+#ifndef STM_HPP
+#define STM_HPP
+
+#include "service.h"
+#include "stm.h"
+#include "stm_version.h"
+
+#include <algorithm>
+#include <array>
+#include <chrono>
+#include <cstddef>
+#include <cstdint>
+#include <cstdlib>
+#include <functional>
+#include <initializer_list>
+#include <limits>
+#include <memory>
+#include <optional>
+#include <stdexcept>
+#include <string>
+#include <string_view>
+#include <utility>
+
+namespace stm {
+
+/// The version of the library that is linked; that of this header is `STM_VERSION`.
+inline std::string_view version() noexcept { return stm_version(); }
+
+/// What `value()` throws where there is none.
+class error : public std::runtime_error {
+public:
+    explicit error(std::int32_t code, std::int64_t value = 0)
+        : runtime_error(text(code, value)), code_(code), value_(value) {}
+
+    /// The code, one of `enum stm_code`.
+    std::int32_t code() const noexcept { return code_; }
+    /// What was thrown (`STM_THROWN`), or the number of the condition (`STM_BROKEN`); else 0.
+    std::int64_t value() const noexcept { return value_; }
+
+private:
+    static std::string text(std::int32_t code, std::int64_t value) {
+        bool tells = code == STM_THROWN || code == STM_BROKEN;
+        return "stm: " + std::string(stm_word(code)) + (tells ? " " + std::to_string(value) : "");
+    }
+
+    std::int32_t code_;
+    std::int64_t value_;
+};
+
+namespace detail {
+
+#if defined(__cpp_exceptions)
+[[noreturn]] inline void raise(std::int32_t code, std::int64_t value = 0) { throw error(code, value); }
+#else
+[[noreturn]] inline void raise(std::int32_t, std::int64_t = 0) { std::abort(); }
+#endif
+
+inline const std::uint8_t *bytes(std::string_view text) noexcept {
+    return reinterpret_cast<const std::uint8_t *>(text.data());
+}
+
+inline std::string_view text_of(const std::uint8_t *at, std::size_t length) noexcept {
+    return {reinterpret_cast<const char *>(at), length};
+}
+
+} // namespace detail
+
+/// A value, or the code that says why there is none.
+template <class T> class answer {
+public:
+    answer(T value, std::int32_t code = STM_DONE) : value_(std::move(value)), code_(code) {}
+    static answer none(std::int32_t code) { return answer(code); }
+
+    explicit operator bool() const noexcept { return value_.has_value(); }
+    /// The value; throws `error` where there is none.
+    T &value() & { return held(), *value_; }
+    const T &value() const & { return held(), *value_; }
+    T value() && { return held(), std::move(*value_); }
+    /// The value, which is there.
+    T &operator*() & noexcept { return *value_; }
+    const T &operator*() const & noexcept { return *value_; }
+    T *operator->() noexcept { return &*value_; }
+    const T *operator->() const noexcept { return &*value_; }
+
+    /// `STM_DONE`, or another one of `enum stm_code`.
+    std::int32_t code() const noexcept { return code_; }
+    std::string_view word() const noexcept { return stm_word(code_); }
+
+private:
+    explicit answer(std::int32_t code) : code_(code) {}
+    void held() const {
+        if (!value_) detail::raise(code_);
+    }
+
+    std::optional<T> value_;
+    std::int32_t code_;
+};
+
+/// What a call gives its transaction: a number for each of its parameters, in their order, of which there are at most 8.
+/// `{3, 5, 20}`; or a std::vector, a std::array or the like of std::int64_t.
+class arguments {
+public:
+    arguments() noexcept = default;
+    arguments(std::initializer_list<std::int64_t> numbers) noexcept : arguments(numbers.begin(), numbers.size()) {}
+    template <class Numbers, class = decltype(static_cast<const std::int64_t *>(std::declval<const Numbers &>().data()))>
+    arguments(const Numbers &numbers) noexcept : arguments(numbers.data(), numbers.size()) {}
+    arguments(const std::int64_t *numbers, std::size_t count) noexcept : count_(count) {
+        std::copy_n(numbers, std::min(count, first_.size()), first_.begin());
+    }
+
+    /// With more than 8 numbers no call is made, so only the first 8 of them are there.
+    const std::int64_t *data() const noexcept { return first_.data(); }
+    std::size_t size() const noexcept { return count_; }
+
+private:
+    std::array<std::int64_t, 8> first_{};
+    std::size_t count_ = 0;
+};
+
+/// How a call ended. It is true where the transaction returned.
+class outcome {
+public:
+    explicit outcome(stm_answer told) noexcept : told_(told) {}
+
+    explicit operator bool() const noexcept { return told_.code == STM_DONE; }
+    /// What the transaction returned; throws `error` where it did not.
+    std::int64_t value() const {
+        if (!*this) detail::raise(told_.code, told_.value);
+        return told_.value;
+    }
+    /// What it returned, where it did.
+    std::int64_t operator*() const noexcept { return told_.value; }
+    /// What it threw, where it did.
+    std::optional<std::int64_t> thrown() const noexcept { return told_if(STM_THROWN); }
+    /// The number of the standing condition that it would have broken, where that is so.
+    std::optional<std::int64_t> broken() const noexcept { return told_if(STM_BROKEN); }
+    /// The number of its entry in its chapter, and 0 where it was not entered: then it had no effect, and never will.
+    std::uint64_t entry() const noexcept { return told_.entry; }
+    /// `STM_DONE`; entered: `STM_THROWN`, `STM_OVERFLOW`, `STM_DIVIDE_BY_ZERO`, `STM_BROKEN`; not entered:
+    /// `STM_RETRIES`, `STM_TIMED_OUT`, `STM_CLOSED`, `STM_NO_ROOM`, `STM_MEMORY`, `STM_UNKNOWN`.
+    std::int32_t code() const noexcept { return told_.code; }
+    std::string_view word() const noexcept { return stm_word(told_.code); }
+
+private:
+    std::optional<std::int64_t> told_if(std::int32_t code) const noexcept {
+        return told_.code == code ? std::optional<std::int64_t>(told_.value) : std::nullopt;
+    }
+
+    stm_answer told_;
+};
+
+/// Whether a report is lawful. It is true where it is; else the code tells the first part that does not hold
+/// (`STM_BAD_TEXT` .. `STM_BAD_PARKED`), or why the file is refused.
+class verdict {
+public:
+    explicit verdict(std::int32_t code) noexcept : code_(code) {}
+
+    explicit operator bool() const noexcept { return code_ == STM_DONE; }
+    std::int32_t code() const noexcept { return code_; }
+    std::string_view word() const noexcept { return stm_word(code_); }
+
+private:
+    std::int32_t code_;
+};
+
+namespace detail {
+
+/// A text, copied into a room that grows until it is long enough.
+template <class Call> answer<std::string> text(Call call) {
+    std::string room(std::size_t{1} << 12, '\0');
+    for (;;) {
+        std::size_t wanted = 0;
+        std::int32_t code = call(reinterpret_cast<std::uint8_t *>(room.data()), room.size(), &wanted);
+        room.resize(wanted);
+        if (code == STM_SHORT) continue;
+        if (code == STM_DONE || code == STM_MORE) return answer<std::string>(std::move(room), code);
+        return answer<std::string>::none(code);
+    }
+}
+
+} // namespace detail
+
+/// The report of all tasks of the file, one after another on this thread. A journal of `checkpoint` entries is followed
+/// by a checkpoint; 0: never.
+inline answer<std::string> run(std::string_view file, std::uint32_t checkpoint = 0) {
+    return detail::text([&](std::uint8_t *room, std::size_t length, std::size_t *wanted) {
+        return stm_run_one(detail::bytes(file), file.size(), checkpoint, room, length, wanted);
+    });
+}
+
+/// Whether the report is lawful for the file.
+inline verdict check(std::string_view file, std::string_view report) noexcept {
+    return verdict(stm_check(detail::bytes(file), file.size(), detail::bytes(report), report.size()));
+}
+
+/// What is seen of the schedule on the stepped world of the file.
+inline answer<std::string> world(std::string_view file, std::string_view schedule) {
+    const std::uint8_t *events = detail::bytes(schedule);
+    return detail::text([&](std::uint8_t *room, std::size_t length, std::size_t *wanted) {
+        return stm_world(detail::bytes(file), file.size(), events, schedule.size(), room, length, wanted);
+    });
+}
+
+/// What is found when every order of the file's tasks is seen, of at most so many states. Where more are reached the
+/// code is `STM_MORE`, and the text says so.
+inline answer<std::string> explore(std::string_view file, std::uint32_t states) {
+    return detail::text([&](std::uint8_t *room, std::size_t length, std::size_t *wanted) {
+        return stm_explore(detail::bytes(file), file.size(), states, room, length, wanted);
+    });
+}
+
+/// The report of a run that comes to the end of this number, counted from 1 as `explore` lists them.
+inline answer<std::string> explore_to(std::string_view file, std::uint32_t states, std::size_t end) {
+    return detail::text([&](std::uint8_t *room, std::size_t length, std::size_t *wanted) {
+        return stm_explore_to(detail::bytes(file), file.size(), states, end, room, length, wanted);
+    });
+}
+
+/// Is told file and report of each chapter that ends, under the lock, so it makes no call of the service. Where it
+/// answers false or throws the chapter goes on, and each call that finds no room asks again. The last chapter does not
+/// end: ask for its file and report once the service is closed.
+using keeper = std::function<bool(std::string_view file, std::string_view report)>;
+
+/// How a service is opened.
+struct options {
+    /// How many tasks a chapter has room for beside those of the file; 0: as many as there can be.
+    std::size_t room = 0;
+    /// A journal of so many entries is followed by a checkpoint; 0: never.
+    std::uint32_t checkpoint = 0;
+    /// How many workers there are, at most 32; 0: 4. A thread has one while it observes, or runs a long transaction.
+    std::uint32_t observers = 0;
+    keeper on_chapter = nullptr;
+};
+
+/// A present value, and the number of the last entry of the chapter that changed it, 0 where none did.
+struct present {
+    std::int64_t value;
+    std::uint64_t version;
+};
+
+/// A store with its lock and its waiting threads. Any thread may make any call at any time, but for moving it and
+/// letting it go. An empty one, which was moved from, answers `STM_EMPTY`, 0 or nothing.
+class service {
+public:
+    /// A service of the file. The tasks of its runs have their turns first. What it says stays in memory until the
+    /// process ends.
+    static answer<service> open(std::string_view file, options how = {}) {
+        auto made = std::make_unique<held>();
+        made->keep = std::move(how.on_chapter);
+        auto *hook = made->keep ? ended : nullptr;
+        stm_service_options given = {how.room, how.checkpoint, how.observers, hook, made.get()};
+        std::int32_t code = stm_service_open(detail::bytes(file), file.size(), &given, &made->at);
+        return code == STM_DONE ? answer<service>(service(std::move(made))) : answer<service>::none(code);
+    }
+
+    service(service &&) noexcept = default;
+    service &operator=(service &&) noexcept = default;
+
+    /// The number of a transaction. A call by its number finds it sooner than one by its name.
+    std::optional<std::uint32_t> transaction(std::string_view name) const noexcept {
+        if (!held_) return std::nullopt;
+        std::int64_t number = stm_service_transaction(held_->at, detail::bytes(name), name.size());
+        return number < 0 ? std::nullopt : std::optional<std::uint32_t>(static_cast<std::uint32_t>(number));
+    }
+
+    /// How many parameters a transaction has, at most 8.
+    std::optional<std::size_t> parameters(std::uint32_t transaction) const noexcept {
+        std::int64_t count = held_ ? stm_service_parameters(held_->at, transaction) : std::int64_t{STM_EMPTY};
+        return count < 0 ? std::nullopt : std::optional<std::size_t>(static_cast<std::size_t>(count));
+    }
+
+    /// Runs the transaction as one atomic step. Where it retries the thread waits until a commit changed what it read,
+    /// and it was entered. It is given an argument for each of its parameters: with more or fewer, `STM_UNKNOWN`.
+    outcome atomically(std::uint32_t transaction, arguments given = {}) noexcept {
+        return outcome(held_ ? stm_atomically(held_->at, transaction, given.data(), given.size()) : none(STM_EMPTY));
+    }
+    outcome atomically(std::string_view name, arguments given = {}) noexcept {
+        return by_name(name, [&](std::uint32_t number) { return atomically(number, given); });
+    }
+
+    /// As `atomically`, but `STM_RETRIES`, and nothing entered, where the transaction retries on the present values.
+    outcome try_atomically(std::uint32_t transaction, arguments given = {}) noexcept {
+        if (!held_) return outcome(none(STM_EMPTY));
+        return outcome(stm_try_atomically(held_->at, transaction, given.data(), given.size()));
+    }
+    outcome try_atomically(std::string_view name, arguments given = {}) noexcept {
+        return by_name(name, [&](std::uint32_t number) { return try_atomically(number, given); });
+    }
+
+    /// As `atomically`, but `STM_TIMED_OUT` where it still waits when the time is up.
+    template <class Rep, class Period>
+    outcome atomically_within(std::chrono::duration<Rep, Period> time, std::uint32_t transaction,
+                              arguments given = {}) noexcept {
+        if (!held_) return outcome(none(STM_EMPTY));
+        std::uint64_t at_most = nanoseconds(time);
+        return outcome(stm_atomically_within(held_->at, transaction, given.data(), given.size(), at_most));
+    }
+    template <class Rep, class Period>
+    outcome atomically_within(std::chrono::duration<Rep, Period> time, std::string_view name,
+                              arguments given = {}) noexcept {
+        return by_name(name, [&](std::uint32_t number) { return atomically_within(time, number, given); });
+    }
+
+    /// How the call would end on one state, beside the commits; nothing is entered.
+    outcome observe(std::uint32_t transaction, arguments given = {}) const noexcept {
+        if (!held_) return outcome(none(STM_EMPTY));
+        return outcome(stm_service_observe(held_->at, transaction, given.data(), given.size()));
+    }
+    outcome observe(std::string_view name, arguments given = {}) const noexcept {
+        return by_name(name, [&](std::uint32_t number) { return observe(number, given); });
+    }
+
+    /// The present value of the variable of this name.
+    std::optional<present> value(std::string_view name) const noexcept {
+        present told = {0, 0};
+        if (!held_) return std::nullopt;
+        auto code = stm_service_value(held_->at, detail::bytes(name), name.size(), &told.value, &told.version);
+        return code == STM_DONE ? std::optional<present>(told) : std::nullopt;
+    }
+
+    /// The number of the chapter, from 0 on, and how many entries there were in all chapters.
+    std::uint64_t chapter() const noexcept { return held_ ? stm_service_chapter(held_->at) : 0; }
+    std::uint64_t entered() const noexcept { return held_ ? stm_service_entered(held_->at) : 0; }
+
+    /// Report and file of the present chapter. Once the service is closed they are a pair that `check` finds good.
+    answer<std::string> report() const { return text(stm_service_report); }
+    answer<std::string> file() const { return text(stm_service_file); }
+
+    /// Every call that waits and every later one answers `STM_CLOSED`. What was entered stays. A service that goes out
+    /// of scope is closed too.
+    void close() noexcept {
+        if (held_) stm_service_close(held_->at);
+    }
+
+private:
+    struct held {
+        held() = default;
+        held(const held &) = delete;
+        held &operator=(const held &) = delete;
+        ~held() { stm_service_free(at); }
+
+        keeper keep;
+        stm_service *at = nullptr;
+    };
+
+    explicit service(std::unique_ptr<held> made) noexcept : held_(std::move(made)) {}
+
+    static stm_answer none(std::int32_t code) noexcept { return {code, 0, 0}; }
+
+    template <class Call> outcome by_name(std::string_view name, Call call) const noexcept {
+        auto number = transaction(name);
+        return number ? call(*number) : outcome(none(held_ ? STM_UNKNOWN : STM_EMPTY));
+    }
+
+    template <class Call> answer<std::string> text(Call call) const {
+        return detail::text([&](std::uint8_t *room, std::size_t length, std::size_t *wanted) {
+            return held_ ? call(held_->at, room, length, wanted) : std::int32_t{STM_EMPTY};
+        });
+    }
+
+    /// As many as fit: a time that is too long is the longest that there is.
+    template <class Rep, class Period>
+    static std::uint64_t nanoseconds(std::chrono::duration<Rep, Period> time) noexcept {
+        using seconds = std::chrono::duration<long double>;
+        constexpr auto longest = std::chrono::nanoseconds::max();
+        if (!(time > time.zero())) return 0;
+        if (seconds(time) >= seconds(longest)) return std::numeric_limits<std::uint64_t>::max();
+        return static_cast<std::uint64_t>(std::chrono::ceil<std::chrono::nanoseconds>(time).count());
+    }
+
+    static int ended(void *own, const std::uint8_t *file, std::size_t file_length, const std::uint8_t *report,
+                     std::size_t report_length) noexcept {
+        const keeper &keep = static_cast<held *>(own)->keep;
+#if defined(__cpp_exceptions)
+        try {
+            return keep(detail::text_of(file, file_length), detail::text_of(report, report_length)) ? 0 : 1;
+        } catch (...) {
+            return 1;
+        }
+#else
+        return keep(detail::text_of(file, file_length), detail::text_of(report, report_length)) ? 0 : 1;
+#endif
+    }
+
+    std::unique_ptr<held> held_;
+};
+
+} // namespace stm
+
+#endif

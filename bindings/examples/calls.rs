@@ -1,0 +1,48 @@
+//! Each way in which a call can end, what a commit wakes, and a chapter. docs/EMBEDDING.md shows what it prints.
+use stm::{lt, retry, set, throw, var, when, Declare, End, Error, Outcome, Store, Turned};
+
+/// Each way in which a call can end.
+fn tell(what: &str, answer: Result<Turned, Error>) {
+    match answer.map(|turned| (turned.ticket, turned.end)) {
+        Ok((_, End::Entered(entered))) => match entered.outcome {
+            Outcome::Returned(value) => println!("{what}: returned {value}, entry {}", entered.number),
+            Outcome::Thrown(value) => println!("{what}: threw {value}, entry {}", entered.number),
+            Outcome::Overflow | Outcome::DivideByZero | Outcome::Broken(_) => {
+                println!("{what}: {:?}, entry {}", entered.outcome, entered.number)
+            }
+        },
+        Ok((ticket, End::Parked)) => println!("{what}: waits with ticket {}", ticket.0),
+        Ok((_, End::GivenUp)) => println!("{what}: no memory"),
+        Err(error) => println!("{what}: {error}"),
+    }
+}
+
+fn main() -> Result<(), Error> {
+    let mut declare = Declare::new();
+    let (here, out) = (declare.var("here", 100), declare.var("out", 0));
+    let pay = when(lt(&here, 60), throw(60), set(&here, var(&here) - 60));
+    declare.tx("pay", pay, &here);
+    declare.tx("put", set(&out, var(&out) + 1), &out);
+    declare.tx("get", when(lt(&out, 1), retry(), set(&out, var(&out) - 1)), &out);
+    let program = declare.program()?;
+    let number = |name| program.transaction(name).expect("it is declared");
+    let (pay, put, get) = (number("pay"), number("put"), number("get"));
+
+    let store = Store::open_with_room(&program, 0, 0, 5)?;
+    tell("pay", store.call(pay, &[]));
+    tell("pay", store.call(pay, &[]));
+    tell("get", store.call(get, &[]));
+    std::thread::scope(|scope| {
+        scope.spawn(|| tell("put", store.call(put, &[])));
+    });
+    while let Some(woken) = store.turn() {
+        println!("ticket {} was woken", woken.ticket.0);
+        tell("get", Ok(woken));
+    }
+    println!("{:?}", store.try_call(get, &[])?);
+    let (report, file) = store.report_and_file()?;
+    println!("{:?}", stm::check(&file, &report)?);
+    store.begin_chapter();
+    tell("put", store.call(put, &[]));
+    Ok(())
+}

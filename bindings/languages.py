@@ -1,0 +1,102 @@
+"""What `bindings/check` tries of hosts in C++ and in Python: their tests, with the sanitizers where there are, and the
+examples, whose journals are judged. `library` is a folder as `./stm --library` makes it; `case` and `run` are functions of
+bindings/check."""
+import os
+import shutil
+import sys
+
+HERE = os.path.dirname(os.path.abspath(__file__))
+WARN = ["-Wall", "-Wextra", "-Wpedantic", "-Wconversion", "-Wshadow", "-Werror"]
+COMPILERS = ("g++", "clang++")
+# The tests of stm.hpp.
+TESTS = ("service", "arguments")
+# How many minutes the simulations are run: many chapters.
+MINUTES = 2_000_000
+BANK = "4000 transfers, each paid or refused\nthe journals of 3 chapters are good\n"
+QUEUE = "2000 orders, each taken once\nthe journals of all chapters are good: 4000 entries\n"
+TRANSFERS = "2000 transfers, each paid or refused\nalice and bob have 1000\nthe journal is good\n"
+CALLS = """pay: returned 40, entry 1
+pay: threw 60, entry 2
+get: waits with ticket 2
+put: returned 1, entry 3
+ticket 2 was woken
+get: returned 0, entry 4
+None
+Good
+put: returned 1, entry 1
+"""
+IN_RUST = {
+    "bank": BANK,
+    "calls": CALLS,
+    "chapters": "1000 minutes\n5 good\n",
+    "transfers": TRANSFERS,
+    "workers": "4000 transfers, each paid or refused\nGood\n",
+}
+
+
+def simulated(minutes):
+    return f"{minutes} minutes, all journals are good\nmemory did not grow\n"
+
+
+def told_by(done):
+    return (done.stdout + done.stderr).decode(errors="replace")
+
+
+def cpp(case, run, work, library):
+    there = [word for word in COMPILERS if shutil.which(word)]
+    for word in COMPILERS:
+        if word not in there:
+            print(f"not tried: {word} is not there")
+
+    def built(word, source, name, *flags, more=()):
+        out = os.path.join(work, name)
+        words = [word, "-std=c++17", "-O1", *WARN, *flags, "-I", library, f"{HERE}/{source}", *more]
+        done = run(*words, f"{library}/libstm.a", "-pthread", "-o", out, timeout=400)
+        case(f"{source} is built by {word}", done.returncode == 0, told_by(done))
+        return out
+
+    def prints(name, wanted, *words, **more):
+        done = run(*words, timeout=400, **more)
+        case(name, done.stdout.decode() == wanted, told_by(done))
+
+    for word in there:
+        for name in TESTS:
+            prints(f"{name}.cpp by {word}", "good\n", built(word, f"tests/{name}.cpp", f"{name}.{word}"))
+        for more in (["-std=c++20"], ["-fno-exceptions", "-fno-rtti"]):
+            done = run(word, "-std=c++17", *WARN, *more, "-fsyntax-only", "-I", library, f"{HERE}/examples/bounded_queue.cpp", timeout=400)
+            case(f"stm.hpp by {word} {' '.join(more)}", done.returncode == 0, told_by(done))
+    for word in there[:1]:
+        prints("bounded_queue.cpp", QUEUE, built(word, "examples/bounded_queue.cpp", "queue"))
+        prints("transfers.cpp", TRANSFERS, built(word, "examples/transfers.cpp", "transfers"))
+        prints("simulation.cpp", simulated(MINUTES), built(word, "examples/simulation.cpp", "simulation"), MINUTES)
+    for word, (name, flag) in ((word, one) for word in there[:1] for one in (("address", "address,undefined"), ("thread", "thread"))):
+        flags = [f"-fsanitize={flag}", "-g", "-fno-sanitize-recover=all"]
+        probe = os.path.join(work, "probe.cpp")
+        with open(probe, "w") as file:
+            file.write("int main() { return 0; }\n")
+        if run(word, *flags, probe, "-o", probe + ".out").returncode or run(probe + ".out").returncode:
+            print(f"not tried: {word} has no -fsanitize={flag} here")
+            continue
+        # The part in C is built with the sanitizer too. What a file says stays, and that is no fault.
+        part = os.path.join(work, f"service.{name}.o")
+        done = run("cc", "-std=c99", "-O1", *flags, "-I", library, "-c", f"{HERE}/c/service.c", "-o", part, timeout=400)
+        case(f"service.c with the {name} sanitizer", done.returncode == 0, told_by(done))
+        for test in TESTS:
+            host = built(word, f"tests/{test}.cpp", f"{test}.{name}", *flags, more=[part])
+            leaking = dict(os.environ, ASAN_OPTIONS="detect_leaks=0")
+            prints(f"{test}.cpp under the {name} sanitizer", "good\n", host, env=leaking)
+
+
+def python(case, run, library):
+    there = dict(os.environ, STM_LIB_DIR=library, PYTHONPATH=f"{HERE}/python", PYTHONDONTWRITEBYTECODE="1")
+    words = [sys.executable, "-W", "error"]
+    done = run(*words, "-m", "unittest", "discover", "-s", f"{HERE}/python/tests", env=there, timeout=400)
+    case("the tests in Python", done.returncode == 0, told_by(done))
+    for name, wanted in (("bank", BANK), ("bounded_queue", QUEUE), ("transfers", TRANSFERS)):
+        done = run(*words, f"{HERE}/examples/{name}.py", env=there, timeout=400)
+        case(f"{name}.py", done.stdout.decode() == wanted, told_by(done))
+    if run(sys.executable, "-m", "mypy", "--version", env=there).returncode:
+        print("not tried: mypy is not there")
+        return
+    done = run(sys.executable, "-m", "mypy", "--strict", "--cache-dir", os.devnull, f"{HERE}/python/stm", env=there, timeout=400)
+    case("the types in Python", done.returncode == 0, told_by(done))

@@ -1,0 +1,60 @@
+"""Transactions over named variables, called from any thread: the library proved in Rattle, by ctypes.
+
+    import stm
+
+    with stm.Service("(var n 0) (tx inc (set n (add n 1)) n)") as counter:
+        counter.atomically("inc")  # 1
+
+    with stm.Service("(stm 3) (var n 0) (tx add (k) (set n (add n k)) n)") as counter:
+        counter.atomically("add", [5])  # 5
+
+`run`, `check`, `world`, `explore` and `explore_to` take whole files.
+"""
+
+from ._faults import (
+    Broken,
+    Closed,
+    DivideByZero,
+    Error,
+    Fault,
+    MoreStates,
+    NoEnd,
+    NoRoom,
+    OutOfMemory,
+    Overflow,
+    Refused,
+    Retries,
+    Thrown,
+    TimedOut,
+    Unknown,
+    WrongArguments,
+)
+from ._files import Verdict, check, explore, explore_to, run, version, world
+from ._service import Service
+
+__all__ = [
+    "Broken",
+    "Closed",
+    "DivideByZero",
+    "Error",
+    "Fault",
+    "MoreStates",
+    "NoEnd",
+    "NoRoom",
+    "OutOfMemory",
+    "Overflow",
+    "Refused",
+    "Retries",
+    "Service",
+    "Thrown",
+    "TimedOut",
+    "Unknown",
+    "Verdict",
+    "WrongArguments",
+    "check",
+    "explore",
+    "explore_to",
+    "run",
+    "version",
+    "world",
+]

@@ -1,0 +1,91 @@
+"""Why a call answered nothing, as exceptions."""
+
+from __future__ import annotations
+
+from ._library import word
+
+
+class Error(Exception):
+    """Anything that this package raises."""
+
+
+class Refused(Error, ValueError):
+    """The file, the schedule, or a number is refused: the library's code, and its word."""
+
+    def __init__(self, code: int) -> None:
+        super().__init__(word(code))
+        self.code = code
+        self.word = word(code)
+
+
+class MoreStates(Error):
+    """More states are reached than were asked for; `found` says so, as `stm explore` prints it."""
+
+    def __init__(self, found: str) -> None:
+        super().__init__("more states are reached")
+        self.found = found
+
+
+class NoEnd(Error, LookupError):
+    """There is no end of that number."""
+
+
+class Fault(Error):
+    """A call on a service that returned nothing. `entry` is the number of its entry in its chapter; where it is 0 the
+    call was not entered: it had no effect, and never will."""
+
+    def __init__(self, *told: object, entry: int = 0) -> None:
+        super().__init__(*told)
+        self.entry = entry
+
+
+class Thrown(Fault):
+    """The transaction threw a value."""
+
+    def __init__(self, value: int, entry: int = 0) -> None:
+        super().__init__(value, entry=entry)
+        self.value = value
+
+
+class Overflow(Fault, OverflowError):
+    """A result is outside 64 bits."""
+
+
+class DivideByZero(Fault, ZeroDivisionError):
+    """A division by 0."""
+
+
+class Broken(Fault):
+    """It would have broken the standing condition of this name."""
+
+    def __init__(self, condition: str, entry: int = 0) -> None:
+        super().__init__(condition, entry=entry)
+        self.condition = condition
+
+
+class Retries(Fault):
+    """The transaction retries on the present values."""
+
+
+class TimedOut(Fault, TimeoutError):
+    """The transaction still waited when its time was up."""
+
+
+class Closed(Fault):
+    """The service was closed."""
+
+
+class NoRoom(Fault):
+    """All room is taken by calls that wait; or `on_chapter` failed, and this is raised from its error."""
+
+
+class OutOfMemory(Fault, MemoryError):
+    """A growth was refused."""
+
+
+class Unknown(Fault, KeyError):
+    """There is no transaction, or no variable, of this name."""
+
+
+class WrongArguments(Fault, TypeError):
+    """The transaction has another number of parameters than it was given arguments."""

@@ -1,0 +1,108 @@
+"""Whole files, from text to text."""
+
+from __future__ import annotations
+
+import ctypes
+import enum
+from typing import Callable
+
+from . import _declared
+from ._faults import MoreStates, NoEnd, OutOfMemory, Refused
+from ._library import library
+
+
+def copied(call: Callable[..., int], *given: object) -> tuple[int, str]:
+    """The code of a call, and the text that it copies into a room, which grows until it is long enough."""
+    length = 1 << 16
+    while True:
+        room, wanted = ctypes.create_string_buffer(length), ctypes.c_size_t(0)
+        code = call(*given, room, length, ctypes.byref(wanted))
+        if code != _declared.SHORT:
+            return code, ctypes.string_at(room, wanted.value).decode("ascii")
+        length = wanted.value
+
+
+def refused(code: int) -> Exception:
+    """What is raised for a code of a whole file."""
+    if code == _declared.MEMORY:
+        return OutOfMemory()
+    return NoEnd() if code == _declared.NO_END else Refused(code)
+
+
+def _text(call: Callable[..., int], *given: object) -> str:
+    code, text = copied(call, *given)
+    if code == _declared.MORE:
+        raise MoreStates(text)
+    if code != _declared.DONE:
+        raise refused(code)
+    return text
+
+
+def taken(text: str) -> tuple[bytes, int]:
+    """A text as a call takes it: its bytes, and how many there are."""
+    spelled = text.encode()
+    return spelled, len(spelled)
+
+
+def bounded(number: int, bits: int) -> int:
+    """The number, which has to fit into so many bits."""
+    if not 0 <= number < 1 << bits:
+        raise ValueError(f"{number} is not from 0 to {(1 << bits) - 1}")
+    return number
+
+
+def signed(number: int) -> int:
+    """The number, which has to fit into 64 signed bits."""
+    if not -(1 << 63) <= number < 1 << 63:
+        raise ValueError(f"{number} is not a number of 64 signed bits")
+    return number
+
+
+class Verdict(enum.Enum):
+    """Whether a report is lawful for a file, or the first part that does not hold. It is true where it is lawful."""
+
+    GOOD = _declared.DONE
+    BAD_TEXT = _declared.BAD_TEXT
+    BAD_BASE = _declared.BAD_BASE
+    BAD_ENTRIES = _declared.BAD_ENTRIES
+    BAD_PRESENT = _declared.BAD_PRESENT
+    BAD_TASKS = _declared.BAD_TASKS
+    BAD_PARKED = _declared.BAD_PARKED
+
+    def __bool__(self) -> bool:
+        return self is Verdict.GOOD
+
+
+def run(file: str, checkpoint: int = 0) -> str:
+    """The report of all tasks of the file, one after another. A journal of `checkpoint` entries is followed by a
+    checkpoint; 0: never."""
+    return _text(library.stm_run_one, *taken(file), bounded(checkpoint, 32))
+
+
+def check(file: str, report: str) -> Verdict:
+    """Whether the report is lawful for the file."""
+    code: int = library.stm_check(*taken(file), *taken(report))
+    if code < 0:
+        raise refused(code)
+    return Verdict(code)
+
+
+def world(file: str, schedule: str) -> str:
+    """What is seen of the schedule on the stepped world of the file."""
+    return _text(library.stm_world, *taken(file), *taken(schedule))
+
+
+def explore(file: str, states: int = 1_000_000) -> str:
+    """What is found when every order of the file's tasks is seen, of at most so many states: else `MoreStates`."""
+    return _text(library.stm_explore, *taken(file), bounded(states, 32))
+
+
+def explore_to(file: str, end: int, states: int = 1_000_000) -> str:
+    """The report of a run that comes to the end of this number, counted from 1 as `explore` lists them: or `NoEnd`."""
+    return _text(library.stm_explore_to, *taken(file), bounded(states, 32), bounded(end, 64))
+
+
+def version() -> str:
+    """The version of the library that was found."""
+    told: bytes = library.stm_version()
+    return told.decode("ascii")

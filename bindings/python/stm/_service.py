@@ -1,0 +1,254 @@
+"""Calls from any thread."""
+
+from __future__ import annotations
+
+import ctypes
+import re
+import threading
+import weakref
+from types import TracebackType
+from typing import Any, Callable, Dict, List, NamedTuple, Optional, Sequence, Type
+
+from . import _declared
+from ._faults import (
+    Broken,
+    Closed,
+    DivideByZero,
+    Fault,
+    NoRoom,
+    OutOfMemory,
+    Overflow,
+    Retries,
+    Thrown,
+    TimedOut,
+    Unknown,
+    WrongArguments,
+)
+from ._files import bounded, copied, refused, signed, taken
+from ._declared import Answer
+from ._library import library, word
+
+_SAME = {
+    _declared.OVERFLOW: Overflow,
+    _declared.DIVIDE_BY_ZERO: DivideByZero,
+    _declared.RETRIES: Retries,
+    _declared.TIMED_OUT: TimedOut,
+    _declared.CLOSED: Closed,
+    _declared.NO_ROOM: NoRoom,
+    _declared.MEMORY: OutOfMemory,
+    _declared.GIVEN_UP: OutOfMemory,
+}
+
+# Longer than any process lives, in seconds: what is more is this.
+_LONGEST = 1e9
+
+
+class _Transaction(NamedTuple):
+    number: int
+    parameters: int
+
+
+class _Keeper:
+    """What is called with file and report of each chapter that ends, by a thread that calls; and why it failed last."""
+
+    def __init__(self, keep: Callable[[str, str], object]) -> None:
+        self.keep = keep
+        self.call = _declared.Ended(self._ended)
+        self.failed: Optional[BaseException] = None
+        # KeyboardInterrupt and its like, by thread: each goes on when the thread's own call ends.
+        self.interrupts: Dict[int, BaseException] = {}
+
+    def _ended(self, _own: Any, file: Any, file_length: int, report: Any, report_length: int) -> int:
+        try:
+            spelled = (ctypes.string_at(file, file_length), ctypes.string_at(report, report_length))
+            self.keep(*(text.decode("ascii") for text in spelled))
+            self.failed = None
+            return 0
+        except BaseException as error:
+            self.failed = error
+            if not isinstance(error, Exception):
+                self.interrupts[threading.get_ident()] = error
+            return 1
+
+    def go_on(self) -> None:
+        """Raises what has interrupted this thread."""
+        error = self.interrupts.pop(threading.get_ident(), None)
+        if error is not None:
+            raise error
+
+
+def _conditions(text: str) -> List[str]:
+    """The names of the standing conditions that the file declares, in order."""
+    tokens = re.findall(r"[()]|[^\s()]+", re.sub(r";[^\n]*", "", text))
+    names, depth = [], 0
+    for at, token in enumerate(tokens):
+        if token == "(" and depth == 0 and tokens[at + 1] == "always":
+            names.append(tokens[at + 2])
+        depth += (token == "(") - (token == ")")
+    return names
+
+
+def _let_go(service: ctypes.c_void_p, _keeper: Optional[_Keeper]) -> None:
+    library.stm_service_free(service)
+
+
+class Service:
+    """A store with its lock and its waiting threads: any thread may make any call at any time.
+
+        with stm.Service("(var n 0) (tx inc (set n (add n 1)) n)") as counter:
+            counter.atomically("inc")  # 1
+
+    A call gives its transaction a number of 64 signed bits for each of its parameters: `atomically("pay", [3, 5, 20])`;
+    with more or fewer, `WrongArguments`. A call that waits lets other threads go on. Ctrl-C reaches the main thread when
+    its call ends: give it a `timeout`. What a file says stays in memory until the process ends.
+
+    `room`: how many tasks a chapter has room for beside those of the file; 0: as many as there can be. `checkpoint`: a
+    journal of so many entries is followed by a checkpoint; 0: never. `observers`: how many workers there are, at most
+    32; 0: 4; a thread takes one while it observes or evaluates a long transaction. `on_chapter` is called with file and
+    report of each chapter that ends, under the lock, so it makes no call of the service; where it raises the chapter
+    goes on, and each call that finds no room asks it again, and raises `NoRoom` from its error. The last chapter does
+    not end: ask for its file and report once the service is closed. `Refused` where the file is refused, or there can't
+    be so much room or so many observers.
+    """
+
+    def __init__(
+        self,
+        text: str,
+        *,
+        room: int = 0,
+        checkpoint: int = 0,
+        observers: int = 0,
+        on_chapter: Optional[Callable[[str, str], object]] = None,
+    ) -> None:
+        self._text = text
+        self._names: Optional[List[str]] = None
+        self._found: Dict[str, _Transaction] = {}
+        self._keeper = None if on_chapter is None else _Keeper(on_chapter)
+        ended = _declared.Ended() if self._keeper is None else self._keeper.call
+        sizes = (bounded(room, 64), bounded(checkpoint, 32), bounded(observers, 32))
+        options = _declared.Options(*sizes, ended, None)
+        self._at = ctypes.c_void_p()
+        code = library.stm_service_open(*taken(text), ctypes.byref(options), ctypes.byref(self._at))
+        if code != _declared.DONE:
+            raise refused(code)
+        # At exit threads may be in calls still, so nothing is let go then.
+        weakref.finalize(self, _let_go, self._at, self._keeper).atexit = False
+
+    def atomically(
+        self, transaction: str, arguments: Sequence[int] = (), *, timeout: Optional[float] = None
+    ) -> int:
+        """Runs the transaction as one atomic step: what it returned; else a `Fault`. Where it retries the thread waits
+        until a commit changed what it read, and it was entered; with a timeout, in seconds, at most so long, and then
+        `TimedOut`."""
+        call = self._call(transaction, arguments)
+        if timeout is None:
+            return self._returned(library.stm_atomically(*call))
+        nanoseconds = int(min(max(timeout, 0.0), _LONGEST) * 1e9)
+        return self._returned(library.stm_atomically_within(*call, nanoseconds))
+
+    def try_atomically(self, transaction: str, arguments: Sequence[int] = ()) -> int:
+        """As `atomically`, but `Retries`, and nothing entered, where the transaction retries on the present values."""
+        return self._returned(library.stm_try_atomically(*self._call(transaction, arguments)))
+
+    def observe(self, transaction: str, arguments: Sequence[int] = ()) -> int:
+        """What the transaction would return on one state, beside the commits; nothing is entered."""
+        return self._returned(library.stm_service_observe(*self._call(transaction, arguments)))
+
+    def parameters(self, transaction: str) -> int:
+        """How many parameters a transaction has, at most 8."""
+        return self._transaction(transaction).parameters
+
+    def value(self, name: str) -> int:
+        """The present value of a variable."""
+        return self._present(name)[0]
+
+    def version(self, name: str) -> int:
+        """The number of the last entry of the chapter that changed a variable, 0 where none did."""
+        return self._present(name)[1]
+
+    @property
+    def chapter(self) -> int:
+        """The number of the chapter, from 0 on."""
+        told: int = library.stm_service_chapter(self._at)
+        return told
+
+    @property
+    def entered(self) -> int:
+        """How many entries there were in all chapters."""
+        told: int = library.stm_service_entered(self._at)
+        return told
+
+    def report(self) -> str:
+        """The report of the present chapter."""
+        return self._copied(library.stm_service_report)
+
+    def file(self) -> str:
+        """The file of the present chapter as it has become. Once the service is closed, file and report are a pair that
+        `check` finds good."""
+        return self._copied(library.stm_service_file)
+
+    def close(self) -> None:
+        """Every call that waits and every later one raises `Closed`. What was entered stays."""
+        library.stm_service_close(self._at)
+
+    def __enter__(self) -> Service:
+        return self
+
+    def __exit__(
+        self,
+        _kind: Optional[Type[BaseException]],
+        _error: Optional[BaseException],
+        _trace: Optional[TracebackType],
+    ) -> None:
+        self.close()
+
+    def _transaction(self, name: str) -> _Transaction:
+        found = self._found.get(name)
+        if found is None:
+            number = int(library.stm_service_transaction(self._at, *taken(name)))
+            if number < 0:
+                raise Unknown(name)
+            found = _Transaction(number, int(library.stm_service_parameters(self._at, number)))
+            self._found[name] = found
+        return found
+
+    def _call(self, name: str, arguments: Sequence[int]) -> tuple[ctypes.c_void_p, int, Any, int]:
+        """The service, the number of the transaction, and its arguments, as the library takes them."""
+        number, parameters = self._transaction(name)
+        if len(arguments) != parameters:
+            raise WrongArguments(f"arguments of {name}: {parameters} wanted, {len(arguments)} given")
+        if parameters == 0:
+            return self._at, number, None, 0
+        given = (ctypes.c_int64 * parameters)(*(signed(argument) for argument in arguments))
+        return self._at, number, given, parameters
+
+    def _returned(self, answer: Answer) -> int:
+        keeper = self._keeper
+        if keeper is not None and keeper.interrupts:
+            keeper.go_on()
+        if answer.code == _declared.DONE:
+            value: int = answer.value
+            return value
+        raise self._fault(answer) from (keeper.failed if keeper and answer.code == _declared.NO_ROOM else None)
+
+    def _fault(self, answer: Answer) -> Fault:
+        if answer.code == _declared.THROWN:
+            return Thrown(answer.value, answer.entry)
+        if answer.code == _declared.BROKEN:
+            if self._names is None:
+                self._names = _conditions(self._text)
+            return Broken(self._names[answer.value], answer.entry)
+        return _SAME[answer.code](word(answer.code), entry=answer.entry)
+
+    def _present(self, name: str) -> tuple[int, int]:
+        value, version = ctypes.c_int64(), ctypes.c_uint64()
+        code = library.stm_service_value(self._at, *taken(name), ctypes.byref(value), ctypes.byref(version))
+        if code != _declared.DONE:
+            raise Unknown(name)
+        return value.value, version.value
+
+    def _copied(self, call: Callable[..., int]) -> str:
+        code, text = copied(call, self._at)
+        if code != _declared.DONE:
+            raise refused(code)
+        return text

@@ -1,0 +1,241 @@
+//! The calls of a service, which is the part of the library that is in C (`bindings/c/service.h`).
+
+use super::{code, error_of, outcome, text, Told};
+use crate::answers::Outcome;
+use crate::error::{Error, Fault};
+use std::ffi::c_void;
+use std::panic::{catch_unwind, AssertUnwindSafe};
+
+/// What is told of a chapter that ends: its file and its report. Whether they were kept.
+pub type Keep = Box<dyn FnMut(&str, &str) -> bool + Send>;
+
+type Ended = extern "C" fn(*mut c_void, *const u8, usize, *const u8, usize) -> i32;
+
+#[repr(C)]
+struct Options {
+    room: usize,
+    checkpoint: u32,
+    observers: u32,
+    ended: Option<Ended>,
+    own: *mut c_void,
+}
+
+extern "C" {
+    fn stm_service_open(
+        file: *const u8,
+        file_length: usize,
+        options: *const Options,
+        out: *mut *mut c_void,
+    ) -> i32;
+    fn stm_service_transaction(service: *const c_void, name: *const u8, name_length: usize) -> i64;
+    fn stm_service_parameters(service: *const c_void, transaction: u32) -> i64;
+    fn stm_atomically(service: *mut c_void, transaction: u32, arguments: *const i64, count: usize) -> Told;
+    fn stm_try_atomically(
+        service: *mut c_void,
+        transaction: u32,
+        arguments: *const i64,
+        count: usize,
+    ) -> Told;
+    fn stm_atomically_within(
+        service: *mut c_void,
+        transaction: u32,
+        arguments: *const i64,
+        count: usize,
+        nanoseconds: u64,
+    ) -> Told;
+    fn stm_service_observe(
+        service: *mut c_void,
+        transaction: u32,
+        arguments: *const i64,
+        count: usize,
+    ) -> Told;
+    fn stm_service_value(
+        service: *mut c_void,
+        name: *const u8,
+        name_length: usize,
+        value: *mut i64,
+        version: *mut u64,
+    ) -> i32;
+    fn stm_service_entered(service: *mut c_void) -> u64;
+    fn stm_service_chapter(service: *mut c_void) -> u64;
+    fn stm_service_report(service: *mut c_void, room: *mut u8, room_length: usize, wanted: *mut usize)
+        -> i32;
+    fn stm_service_file(service: *mut c_void, room: *mut u8, room_length: usize, wanted: *mut usize) -> i32;
+    fn stm_service_close(service: *mut c_void);
+    fn stm_service_free(service: *mut c_void);
+}
+
+/// Hands a chapter that ends to the closure behind `own`: 0 where it was kept. No panic goes on into C.
+extern "C" fn ended(
+    own: *mut c_void,
+    file: *const u8,
+    file_length: usize,
+    report: *const u8,
+    report_length: usize,
+) -> i32 {
+    // SAFETY: `own` is the box of `RawService::open`, which stays until the service is let go. The service calls under
+    // its lock, so one thread at a time has it. The texts are the service's, and stay for the call.
+    let (keep, file, report) = unsafe {
+        (
+            &mut *own.cast::<Keep>(),
+            std::slice::from_raw_parts(file, file_length),
+            std::slice::from_raw_parts(report, report_length),
+        )
+    };
+    let spelled = |text| std::str::from_utf8(text).expect("the library's texts are ASCII");
+    let kept = catch_unwind(AssertUnwindSafe(|| keep(spelled(file), spelled(report))));
+    i32::from(!kept.unwrap_or(false))
+}
+
+/// A service's handle, never null, and the closure that it calls.
+pub struct RawService {
+    at: *mut c_void,
+    keep: Option<*mut Keep>,
+}
+
+// SAFETY: the library takes the calls from any thread at once, and the closure is `Send` and called under its lock.
+unsafe impl Send for RawService {}
+// SAFETY: as for `Send`.
+unsafe impl Sync for RawService {}
+
+/// What a call returned, or why it did not; where the library makes no such call, this is why.
+fn returned(told: &Told, unknown: impl FnOnce() -> Fault) -> Result<i64, Fault> {
+    match outcome(told) {
+        Some(Outcome::Returned(value)) => return Ok(value),
+        Some(Outcome::Thrown(value)) => return Err(Fault::Thrown(value)),
+        Some(Outcome::Overflow) => return Err(Fault::Overflow),
+        Some(Outcome::DivideByZero) => return Err(Fault::DivideByZero),
+        Some(Outcome::Broken(condition)) => return Err(Fault::Broken(condition)),
+        None => {}
+    }
+    Err(match told.code {
+        code::RETRIES => Fault::Retries,
+        code::TIMED_OUT => Fault::TimedOut,
+        code::CLOSED => Fault::Closed,
+        code::NO_ROOM => Fault::NoRoom,
+        code::MEMORY | code::GIVEN_UP => Fault::Memory,
+        code::UNKNOWN => unknown(),
+        other => unreachable!("the library answers {other}"),
+    })
+}
+
+impl RawService {
+    pub fn open(
+        file: &[u8],
+        room: usize,
+        checkpoint: u32,
+        observers: u32,
+        keep: Option<Keep>,
+    ) -> Result<RawService, Error> {
+        let keep = keep.map(|keep| Box::into_raw(Box::new(keep)));
+        let own = keep.map_or(std::ptr::null_mut(), |keep| keep.cast());
+        let options = Options { room, checkpoint, observers, ended: keep.map(|_| ended as Ended), own };
+        let mut made = RawService { at: std::ptr::null_mut(), keep };
+        // SAFETY: a slice that is borrowed for the call, as the options are; `out` is null, and holds a service where
+        // the answer is 0.
+        match unsafe { stm_service_open(file.as_ptr(), file.len(), &options, &mut made.at) } {
+            code::DONE => Ok(made),
+            code::NO_WORKER => Err(Error::TooManyWorkers),
+            code => Err(error_of(code)),
+        }
+    }
+
+    pub fn transaction(&self, name: &str) -> Option<u32> {
+        // SAFETY: a slice that is borrowed for the call.
+        u32::try_from(unsafe { stm_service_transaction(self.at, name.as_ptr(), name.len()) }).ok()
+    }
+
+    pub fn parameters(&self, transaction: u32) -> Option<usize> {
+        // SAFETY: the library tests the number.
+        usize::try_from(unsafe { stm_service_parameters(self.at, transaction) }).ok()
+    }
+
+    /// Why the library makes no such call.
+    fn refusal(&self, transaction: u32, arguments: &[i64]) -> Fault {
+        match self.parameters(transaction) {
+            Some(parameters) => Fault::WrongArguments { transaction, parameters, given: arguments.len() },
+            None => Fault::UnknownTransaction(transaction),
+        }
+    }
+
+    pub fn atomically(&self, transaction: u32, arguments: &[i64]) -> Result<i64, Fault> {
+        // SAFETY: from any thread; a slice that is borrowed for the call. The library tests the number, and how many
+        // arguments there are.
+        let told = unsafe { stm_atomically(self.at, transaction, arguments.as_ptr(), arguments.len()) };
+        returned(&told, || self.refusal(transaction, arguments))
+    }
+
+    pub fn try_atomically(&self, transaction: u32, arguments: &[i64]) -> Result<i64, Fault> {
+        // SAFETY: as `atomically`.
+        let told = unsafe { stm_try_atomically(self.at, transaction, arguments.as_ptr(), arguments.len()) };
+        returned(&told, || self.refusal(transaction, arguments))
+    }
+
+    pub fn atomically_within(
+        &self,
+        transaction: u32,
+        arguments: &[i64],
+        nanoseconds: u64,
+    ) -> Result<i64, Fault> {
+        let (at, count) = (arguments.as_ptr(), arguments.len());
+        // SAFETY: as `atomically`.
+        let told = unsafe { stm_atomically_within(self.at, transaction, at, count, nanoseconds) };
+        returned(&told, || self.refusal(transaction, arguments))
+    }
+
+    pub fn observe(&self, transaction: u32, arguments: &[i64]) -> Result<i64, Fault> {
+        // SAFETY: as `atomically`.
+        let told = unsafe { stm_service_observe(self.at, transaction, arguments.as_ptr(), arguments.len()) };
+        returned(&told, || self.refusal(transaction, arguments))
+    }
+
+    pub fn value(&self, name: &str) -> Option<(i64, u64)> {
+        let (mut value, mut version) = (0, 0);
+        // SAFETY: from any thread; a slice that is borrowed for the call; both numbers are only written.
+        let code = unsafe { stm_service_value(self.at, name.as_ptr(), name.len(), &mut value, &mut version) };
+        (code == code::DONE).then_some((value, version))
+    }
+
+    pub fn entered(&self) -> u64 {
+        // SAFETY: from any thread.
+        unsafe { stm_service_entered(self.at) }
+    }
+
+    pub fn chapter(&self) -> u64 {
+        // SAFETY: from any thread.
+        unsafe { stm_service_chapter(self.at) }
+    }
+
+    pub fn report(&self) -> Result<String, Error> {
+        text(|room, wanted| {
+            // SAFETY: from any thread; room and length are borrowed for the call.
+            unsafe { stm_service_report(self.at, room.as_mut_ptr(), room.len(), wanted) }
+        })
+    }
+
+    pub fn file(&self) -> Result<String, Error> {
+        text(|room, wanted| {
+            // SAFETY: as `report`.
+            unsafe { stm_service_file(self.at, room.as_mut_ptr(), room.len(), wanted) }
+        })
+    }
+
+    pub fn close(&self) {
+        // SAFETY: from any thread.
+        unsafe { stm_service_close(self.at) }
+    }
+}
+
+impl Drop for RawService {
+    fn drop(&mut self) {
+        // SAFETY: nobody borrows it, so no thread is in a call. After it the closure is called no more.
+        unsafe {
+            if !self.at.is_null() {
+                stm_service_free(self.at);
+            }
+            if let Some(keep) = self.keep {
+                drop(Box::from_raw(keep));
+            }
+        }
+    }
+}

@@ -1,0 +1,201 @@
+//! Calls from any thread.
+
+use crate::error::{Error, Fault};
+use crate::raw::{Keep, RawService};
+use std::time::Duration;
+
+/// A store with its lock and its waiting threads, which threads share by a reference. A call runs a transaction as one
+/// atomic step, and answers how it ended; where the transaction retries, the thread waits. Chapters begin by themselves
+/// where the room is used up, so it goes on in memory that does not grow.
+///
+/// ```
+/// use stm::{Fault, Service};
+///
+/// let bank = Service::open(
+///     "(var here 100) (var there 0)
+///      (tx pay (if (lt here 60) (throw here) (seq (set here (sub here 60)) (set there (add there 60)))) here)",
+/// )?;
+/// let pay = bank.transaction("pay").expect("it is declared");
+/// assert_eq!(bank.atomically(pay, &[]), Ok(40));
+/// assert_eq!(bank.atomically(pay, &[]), Err(Fault::Thrown(40)));
+/// assert_eq!(bank.value("there"), Some((60, 1)));
+/// # Ok::<(), stm::Error>(())
+/// ```
+pub struct Service {
+    raw: RawService,
+}
+
+/// How a service is opened.
+#[derive(Default)]
+pub struct ServiceOptions {
+    room: usize,
+    checkpoint: u32,
+    observers: u32,
+    keep: Option<Keep>,
+}
+
+impl ServiceOptions {
+    /// What `Service::open` takes.
+    pub fn new() -> ServiceOptions {
+        ServiceOptions::default()
+    }
+
+    /// How many tasks a chapter has room for beside those of the file; 0: as many as there can be. Where there can't be
+    /// so many, `open_with` answers `NoRoom`.
+    pub fn room(self, room: usize) -> ServiceOptions {
+        ServiceOptions { room, ..self }
+    }
+
+    /// A journal of so many entries is followed by a checkpoint; 0: never.
+    pub fn checkpoint(self, checkpoint: u32) -> ServiceOptions {
+        ServiceOptions { checkpoint, ..self }
+    }
+
+    /// How many workers there are, at most 32 (`TooManyWorkers`); 0: 4. A thread takes one while it observes, or
+    /// evaluates a long transaction beside what others commit. Who observes waits for one; where none is left, a long
+    /// transaction is evaluated under the lock.
+    pub fn observers(self, observers: u32) -> ServiceOptions {
+        ServiceOptions { observers, ..self }
+    }
+
+    /// The closure is told the file and the report of each chapter that ends, before the next one begins: a pair that
+    /// `check` finds good. It is called under the lock, so it makes no call on the service. Where it fails or panics
+    /// the chapter goes on, and each call that finds no room asks it again. The last chapter does not end: ask for its
+    /// file and report once the service is closed.
+    ///
+    /// ```
+    /// use std::sync::{Arc, Mutex};
+    /// use stm::{Service, ServiceOptions, Verdict};
+    ///
+    /// let good = Arc::new(Mutex::new(0));
+    /// let judged = good.clone();
+    /// let options = ServiceOptions::new().room(10).on_chapter(move |file, report| {
+    ///     *judged.lock().unwrap() += u32::from(stm::check(file, report)? == Verdict::Good);
+    ///     Ok::<(), stm::Error>(())
+    /// });
+    /// let service = Service::open_with("(var x 5) (tx inc (set x (add x 1)) x)", options)?;
+    /// for _ in 0..25 {
+    ///     service.atomically(0, &[]).expect("it returns");
+    /// }
+    /// assert_eq!((service.chapter(), *good.lock().unwrap()), (2, 2));
+    /// # Ok::<(), stm::Error>(())
+    /// ```
+    pub fn on_chapter<E>(
+        self,
+        mut keep: impl FnMut(&str, &str) -> Result<(), E> + Send + 'static,
+    ) -> ServiceOptions {
+        ServiceOptions { keep: Some(Box::new(move |file, report| keep(file, report).is_ok())), ..self }
+    }
+}
+
+impl Service {
+    /// The service of the program that the text spells. The tasks of its runs have their turns first. What it says
+    /// stays in memory until the process ends.
+    pub fn open(text: &str) -> Result<Service, Error> {
+        Service::open_with(text, ServiceOptions::new())
+    }
+
+    /// As `open`, by options of one's own.
+    pub fn open_with(text: &str, options: ServiceOptions) -> Result<Service, Error> {
+        let ServiceOptions { room, checkpoint, observers, keep } = options;
+        Ok(Service { raw: RawService::open(text.as_bytes(), room, checkpoint, observers, keep)? })
+    }
+
+    /// The number of a transaction.
+    pub fn transaction(&self, name: &str) -> Option<u32> {
+        self.raw.transaction(name)
+    }
+
+    /// How many parameters a transaction has, at most 8.
+    pub fn parameters(&self, transaction: u32) -> Option<usize> {
+        self.raw.parameters(transaction)
+    }
+
+    /// Runs the transaction as one atomic step: what it returned. It is given an argument for each of its parameters,
+    /// in their order: `&[]` where it has none. Where it retries the thread waits until a commit changed what it read,
+    /// and it was entered.
+    pub fn atomically(&self, transaction: u32, arguments: &[i64]) -> Result<i64, Fault> {
+        self.raw.atomically(transaction, arguments)
+    }
+
+    /// As `atomically`; `Retries`, and nothing was entered, where the transaction retries on the present values.
+    pub fn try_atomically(&self, transaction: u32, arguments: &[i64]) -> Result<i64, Fault> {
+        self.raw.try_atomically(transaction, arguments)
+    }
+
+    /// As `atomically`; `TimedOut` after the time, also where a long transaction is evaluated until then. It had no
+    /// effect, and never will.
+    ///
+    /// ```
+    /// use std::time::Duration;
+    ///
+    /// let service = stm::Service::open("(tx wait (retry) 0)")?;
+    /// assert_eq!(service.atomically_within(0, &[], Duration::from_millis(1)), Err(stm::Fault::TimedOut));
+    /// # Ok::<(), stm::Error>(())
+    /// ```
+    pub fn atomically_within(
+        &self,
+        transaction: u32,
+        arguments: &[i64],
+        time: Duration,
+    ) -> Result<i64, Fault> {
+        let nanoseconds = u64::try_from(time.as_nanos()).unwrap_or(u64::MAX);
+        self.raw.atomically_within(transaction, arguments, nanoseconds)
+    }
+
+    /// How the transaction would end with these arguments on one state, beside the commits; nothing is entered.
+    ///
+    /// ```
+    /// let service = stm::Service::open("(var x 5) (tx inc (set x (add x 1)) x)")?;
+    /// assert_eq!(service.observe(0, &[]), Ok(6));
+    /// assert_eq!(service.observe(0, &[]), Ok(6));
+    /// assert_eq!(service.entered(), 0);
+    /// # Ok::<(), stm::Error>(())
+    /// ```
+    pub fn observe(&self, transaction: u32, arguments: &[i64]) -> Result<i64, Fault> {
+        self.raw.observe(transaction, arguments)
+    }
+
+    /// The present value of the variable of this name, and the number of the last entry of the chapter that changed
+    /// it, 0 where none did.
+    pub fn value(&self, name: &str) -> Option<(i64, u64)> {
+        self.raw.value(name)
+    }
+
+    /// The number of the chapter, from 0 on.
+    pub fn chapter(&self) -> u64 {
+        self.raw.chapter()
+    }
+
+    /// How many entries there were in all chapters.
+    pub fn entered(&self) -> u64 {
+        self.raw.entered()
+    }
+
+    /// The report of the present chapter.
+    pub fn report(&self) -> Result<String, Error> {
+        self.raw.report()
+    }
+
+    /// The file of the present chapter as it has become. Once the service is closed, file and report are a pair that
+    /// `check` finds good.
+    pub fn file(&self) -> Result<String, Error> {
+        self.raw.file()
+    }
+
+    /// Every call that waits and every later one answers `Closed`. What was entered stays. A service that is dropped
+    /// is closed too.
+    ///
+    /// ```
+    /// let service = stm::Service::open("(tx wait (retry) 0)")?;
+    /// std::thread::scope(|scope| {
+    ///     let waits = scope.spawn(|| service.atomically(0, &[]));
+    ///     service.close();
+    ///     assert_eq!(waits.join().unwrap(), Err(stm::Fault::Closed));
+    /// });
+    /// # Ok::<(), stm::Error>(())
+    /// ```
+    pub fn close(&self) {
+        self.raw.close()
+    }
+}

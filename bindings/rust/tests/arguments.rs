@@ -1,0 +1,182 @@
+//! Calls that give arguments: each gets its own, as many as its transaction has parameters, or is refused.
+
+use std::time::Duration;
+use stm::*;
+
+/// `pay` moves so much from `alice` to `bob`, or throws it; `take` waits until `bob` has so much; `digits` returns its
+/// arguments as the digits of a number.
+fn declared() -> Declare {
+    let mut bank = Declare::new();
+    let (alice, bob) = (bank.var("alice", 100), bank.var("bob", 20));
+    let pay = bank.tx_with("pay", ["n"], |[n]| {
+        let short = when(lt(&alice, &n), throw(&n), skip());
+        (seq([short, set(&alice, var(&alice) - &n), set(&bob, var(&bob) + &n)]), &alice)
+    });
+    bank.tx_with("take", ["n"], |[n]| {
+        (seq([when(lt(&bob, &n), retry(), skip()), set(&bob, var(&bob) - &n)]), param(&n))
+    });
+    bank.tx("sum", skip(), sum([&alice, &bob]));
+    bank.tx_with("same", ["n"], |[n]| (skip(), param(&n)));
+    bank.tx_with("digits", ["a", "b", "c", "d", "e", "f", "g", "h"], |[a, rest @ ..]| {
+        (skip(), rest.iter().fold(param(&a), |number, digit| number * 10 + digit))
+    });
+    bank.run_with(&pay, 2, &[10]);
+    bank
+}
+
+const NAMES: [&str; 5] = ["pay", "take", "sum", "same", "digits"];
+const WANTED: [usize; 5] = [1, 1, 0, 1, 8];
+const NINE: [i64; 9] = [1, 2, 3, 4, 5, 6, 7, 8, 9];
+const PAY: u32 = 0;
+const TAKE: u32 = 1;
+const SUM: u32 = 2;
+const SAME: u32 = 3;
+const DIGITS: u32 = 4;
+
+#[test]
+fn the_text_is_of_form_3_where_there_are_parameters() {
+    let text = declared().text().unwrap();
+    assert!(text.starts_with("(stm 3)\n(var alice 100)\n"));
+    assert!(
+        text.contains("(tx sum () (skip) (add alice bob))\n") && text.contains("(tx same (n) (skip) n)\n")
+    );
+    assert!(
+        text.contains("(tx digits (a b c d e f g h) (skip) (add (mul (add ")
+            && text.ends_with("(run pay 2 10)\n")
+    );
+    let mut none = Declare::new();
+    let tx = none.tx_with("t", [], |[]| (skip(), 0));
+    none.run_with(&tx, 3, &[]);
+    assert_eq!(none.text().unwrap(), "(stm 2)\n(tx t (skip) 0)\n(run t 3)\n");
+    assert_eq!(none.program().map(|program| program.parameters(0)), Ok(Some(0)));
+}
+
+#[test]
+fn what_is_refused() {
+    let declares = |parameters: [&str; 2]| {
+        let mut declare = Declare::new();
+        declare.var("x", 0);
+        declare.tx_with("t", parameters, |[a, _]| (skip(), param(&a)));
+        declare.program().map(|_| ())
+    };
+    assert_eq!(declares(["a", "b"]), Ok(()));
+    assert_eq!([declares(["a", "a"]), declares(["x", "b"]), declares(["a b", "c"])], [Err(Error::Name); 3]);
+    for given in [&[][..], &[1, 2]] {
+        let mut bank = declared();
+        let pay = bank.tx_with("again", ["n"], |[n]| (skip(), param(&n)));
+        bank.run_with(&pay, 1, given);
+        assert_eq!(bank.text(), Err(Error::Name));
+    }
+    let mut nine = Declare::new();
+    nine.tx_with("t", ["a", "b", "c", "d", "e", "f", "g", "h", "i"], |[a, ..]| (skip(), param(&a)));
+    assert_eq!(nine.program().map(|_| ()), Err(Error::Limit));
+    let mut other = Declare::new();
+    let mut kept = None;
+    other.tx_with("t", ["a"], |[a]| (skip(), param(kept.insert(a))));
+    other.tx("u", skip(), param(&kept.unwrap()));
+    assert_eq!(other.program().map(|_| ()), Err(Error::Name));
+}
+
+#[test]
+fn jobs_have_their_arguments() {
+    let program = declared().program().unwrap();
+    let store = Store::open_with_room(&program, 1, 0, 2).unwrap();
+    let mut worker = store.worker().unwrap();
+    let job = store.take_job().unwrap();
+    assert_eq!((job.transaction, &job.arguments[..]), (PAY, &[10][..]));
+    let changed = Job { arguments: Arguments::new(&[11]).unwrap(), ..job };
+    assert_eq!(
+        (worker.try_job(changed), store.finish(&mut worker)),
+        (Ok(Tried::Ended), Ok(Brought::OtherTask))
+    );
+    let wrong = Job { arguments: Arguments::default(), ..job };
+    assert_eq!(
+        worker.try_job(wrong),
+        Err(Error::WrongArguments { transaction: PAY, parameters: 1, given: 0 })
+    );
+    assert_eq!(worker.try_job(job), Ok(Tried::Ended));
+    let outcome = Outcome::Returned(90);
+    assert_eq!(store.finish(&mut worker), Ok(Brought::Committed(Entered { number: 1, outcome })));
+    assert_eq!(store.submit(DIGITS, &NINE[..8]), Ok(Ticket(2)));
+    let job = store.claim(Ticket(2)).unwrap().unwrap();
+    assert_eq!(&job.arguments[..], &NINE[..8]);
+    assert_eq!((worker.try_job(job), store.finish(&mut worker).is_ok()), (Ok(Tried::Ended), true));
+    let report = store.report().unwrap();
+    assert!(report.contains("digits returned 12345678\n"));
+    let file = store.file().unwrap();
+    assert!(
+        file.starts_with("(stm 3)\n") && file.ends_with("(run pay 2 10)\n(run digits 1 1 2 3 4 5 6 7 8)\n")
+    );
+    assert_eq!(stm::check(&file, &report), Ok(Verdict::Good));
+    assert_eq!(stm::run(&program, 2).map(|report| report.contains("entry 2 1 pay returned 80")), Ok(true));
+}
+
+#[test]
+fn calls_of_a_store() {
+    let program = declared().program().unwrap();
+    let store = Store::open_with_room(&program, 1, 0, 9).unwrap();
+    let mut worker = store.worker().unwrap();
+    let returned = |turned: Result<Turned, Error>| match turned.unwrap().end {
+        End::Entered(Entered { outcome: Outcome::Returned(value), .. }) => value,
+        end => panic!("it ends with {end:?}"),
+    };
+    for (transaction, parameters) in (0..).zip(WANTED) {
+        assert_eq!(program.parameters(transaction), Some(parameters));
+        for given in (0..=9).filter(|given| *given != parameters) {
+            let (refused, arguments) =
+                (Error::WrongArguments { transaction, parameters, given }, &NINE[..given]);
+            assert_eq!(store.submit(transaction, arguments), Err(refused));
+            assert_eq!(store.call(transaction, arguments), Err(refused));
+            assert_eq!(store.try_call(transaction, arguments), Err(refused));
+            assert_eq!(worker.observe(transaction, arguments), Err(refused));
+        }
+    }
+    assert_eq!((program.parameters(5), store.spare()), (None, 9));
+    assert_eq!((store.turn().is_some(), store.turn().is_some(), store.turn()), (true, true, None));
+    assert_eq!((returned(store.call(PAY, &[60])), returned(store.call(SUM, &[]))), (20, 120));
+    assert_eq!(returned(store.call(DIGITS, &NINE[1..])), 23456789);
+    assert_eq!([i64::MIN, i64::MAX].map(|n| returned(store.call(SAME, &[n]))), [i64::MIN, i64::MAX]);
+    assert_eq!(worker.observe(PAY, &[21]), Ok(Observed::Thrown(21)));
+    assert_eq!(
+        (store.try_call(TAKE, &[101]), worker.observe(TAKE, &[101])),
+        (Ok(None), Ok(Observed::Retries))
+    );
+    let waits = store.call(TAKE, &[101]).unwrap();
+    assert_eq!(waits.end, End::Parked);
+    store.begin_chapter();
+    assert!(store.file().unwrap().ends_with("(run take 1 101)\n"));
+    assert_eq!(
+        (returned(store.call(PAY, &[1])), store.turn().map(|woken| woken.ticket)),
+        (19, Some(waits.ticket))
+    );
+}
+
+#[test]
+fn calls_of_a_service() {
+    let bank = declared().service().unwrap();
+    for (transaction, parameters) in (0..).zip(WANTED) {
+        assert_eq!(bank.transaction(NAMES[transaction as usize]), Some(transaction));
+        assert_eq!(bank.parameters(transaction), Some(parameters));
+        for given in (0..=9).filter(|given| *given != parameters) {
+            let refused = Err(Fault::WrongArguments { transaction, parameters, given });
+            let (arguments, time) = (&NINE[..given], Duration::from_millis(1));
+            assert_eq!(bank.atomically(transaction, arguments), refused);
+            assert_eq!(bank.try_atomically(transaction, arguments), refused);
+            assert_eq!(bank.atomically_within(transaction, arguments, time), refused);
+            assert_eq!(bank.observe(transaction, arguments), refused);
+        }
+    }
+    assert_eq!((bank.entered(), bank.parameters(5)), (2, None));
+    std::thread::scope(|scope| {
+        for n in 21..25 {
+            let bank = &bank;
+            scope.spawn(move || assert_eq!(bank.atomically(TAKE, &[n]), Ok(n)));
+        }
+        (0..50).for_each(|_| assert!(bank.atomically(PAY, &[1]).is_ok()));
+    });
+    assert_eq!(bank.atomically(DIGITS, &NINE[..8]), Ok(12345678));
+    bank.close();
+    assert_eq!(stm::check(&bank.file().unwrap(), &bank.report().unwrap()), Ok(Verdict::Good));
+    let told = Fault::WrongArguments { transaction: PAY, parameters: 1, given: 0 }.to_string();
+    assert_eq!(told, "arguments of transaction 0: 1 wanted, 0 given");
+}

@@ -1,0 +1,268 @@
+/* A service: each way in which a call can end, all that is refused, and chapters. Prints `good`. */
+#include "judging.h"
+
+#include <pthread.h>
+#include <stdio.h>
+#include <time.h>
+
+static const char ENDS[] =
+    "(stm 2)(var n 7)(var low 0)(var out 0)(always kept (eq low 0))"
+    "(tx inc (set n (add n 1)) n)(tx bad (throw n) 0)(tx over (skip) (mul n 9223372036854775807))"
+    "(tx zero (skip) (div n 0))(tx break (set low 1) 0)(tx wait (if (eq out 0) (retry) (skip)) out)(tx go (set out n) out)"
+    "(run inc 2)(run wait 1)(run bad 1)";
+
+static const uint8_t *bytes(const char *text) { return (const uint8_t *)text; }
+
+static uint32_t number_of(stm_service *service, const char *name) {
+    int64_t number = stm_service_transaction(service, (const uint8_t *)name, strlen(name));
+    wants(number >= 0);
+    return (uint32_t)number;
+}
+
+static int is(stm_answer answer, int32_t code, int64_t value, uint64_t entry) {
+    return answer.code == code && answer.value == value && answer.entry == entry;
+}
+
+/* The runs of the file have had their turns: two increments and a throw; one waits. */
+static void each_end(void) {
+    stm_service *s = opens(ENDS, NULL);
+    wants(stm_service_entered(s) == 3 && stm_service_chapter(s) == 0 && value_of(s, "n") == 9);
+    wants(is(stm_atomically(s, number_of(s, "inc"), NULL, 0), STM_DONE, 10, 4));
+    wants(is(stm_atomically(s, number_of(s, "bad"), NULL, 0), STM_THROWN, 10, 5));
+    wants(is(stm_atomically(s, number_of(s, "over"), NULL, 0), STM_OVERFLOW, 0, 6));
+    wants(is(stm_atomically(s, number_of(s, "zero"), NULL, 0), STM_DIVIDE_BY_ZERO, 0, 7));
+    wants(is(stm_atomically(s, number_of(s, "break"), NULL, 0), STM_BROKEN, 0, 8));
+    uint32_t wait = number_of(s, "wait");
+    wants(is(stm_try_atomically(s, wait, NULL, 0), STM_RETRIES, 0, 0));
+    wants(is(stm_atomically_within(s, wait, NULL, 0, 1000), STM_TIMED_OUT, 0, 0));
+    wants(is(stm_service_observe(s, wait, NULL, 0), STM_RETRIES, 0, 0));
+    wants(is(stm_service_observe(s, number_of(s, "inc"), NULL, 0), STM_DONE, 11, 0));
+    wants(is(stm_service_observe(s, number_of(s, "bad"), NULL, 0), STM_THROWN, 10, 0) && value_of(s, "n") == 10);
+    /* The run of the file that waited has its turn behind the call that woke it. */
+    wants(is(stm_try_atomically(s, number_of(s, "go"), NULL, 0), STM_DONE, 10, 9) && stm_service_entered(s) == 10);
+    wants(is(stm_atomically_within(s, wait, NULL, 0, UINT64_MAX), STM_DONE, 10, 11));
+    wants(is(stm_try_atomically(s, wait, NULL, 0), STM_DONE, 10, 12));
+    int64_t value = 0;
+    uint64_t version = 0;
+    wants(stm_service_value(s, bytes("n"), 1, &value, &version) == STM_DONE && value == 10 && version == 4);
+    struct judged judged = {{" memory ", "\nmemory "}, {0}, 0};
+    judges_the_last(s, &judged);
+    wants(judged.lines[1] == 1);
+    stm_service_free(s);
+}
+
+static void unknown_names(stm_service *s) {
+    int64_t value = 5;
+    uint64_t version = 6;
+    wants(stm_service_transaction(s, bytes("in"), 2) == STM_UNKNOWN);
+    wants(stm_service_transaction(s, NULL, 0) == STM_UNKNOWN);
+    wants(stm_service_value(s, bytes("inc"), 3, &value, &version) == STM_UNKNOWN && value == 5 && version == 6);
+    for (uint32_t unknown = 7; unknown != 0; unknown = unknown == 7 ? UINT32_MAX : 0) {
+        wants(is(stm_atomically(s, unknown, NULL, 0), STM_UNKNOWN, 0, 0));
+        wants(is(stm_try_atomically(s, unknown, NULL, 0), STM_UNKNOWN, 0, 0));
+        wants(is(stm_atomically_within(s, unknown, NULL, 0, 5), STM_UNKNOWN, 0, 0));
+        wants(is(stm_service_observe(s, unknown, NULL, 0), STM_UNKNOWN, 0, 0));
+    }
+}
+
+static void short_rooms(stm_service *s) {
+    uint8_t room[1000];
+    size_t report = 0, file = 0, again = 0;
+    wants(stm_service_report(s, NULL, 0, &report) == STM_SHORT && stm_service_file(s, NULL, 0, &file) == STM_SHORT);
+    wants(report > 0 && report < sizeof room && file > 0 && file < sizeof room);
+    wants(stm_service_report(s, room, report - 1, &again) == STM_SHORT && again == report);
+    wants(stm_service_report(s, room, report, &again) == STM_DONE && stm_service_file(s, room, file, &again) == STM_DONE);
+}
+
+/* What is refused leaves no entry; and a closed service answers what asks for no transaction. */
+static void what_is_refused(void) {
+    stm_service *s = opens(ENDS, NULL);
+    unknown_names(s);
+    short_rooms(s);
+    wants(stm_service_entered(s) == 3);
+    stm_service_close(s);
+    stm_service_close(s);
+    wants(is(stm_atomically(s, 0, NULL, 0), STM_CLOSED, 0, 0));
+    wants(is(stm_try_atomically(s, 0, NULL, 0), STM_CLOSED, 0, 0));
+    wants(is(stm_atomically_within(s, 99, NULL, 0, 0), STM_CLOSED, 0, 0));
+    wants(is(stm_service_observe(s, 0, NULL, 0), STM_CLOSED, 0, 0));
+    short_rooms(s);
+    wants(stm_service_entered(s) == 3 && stm_service_chapter(s) == 0 && value_of(s, "n") == 9 && number_of(s, "inc") == 0);
+    stm_service_free(s);
+    stm_service_free(NULL);
+}
+
+static int32_t opened(const char *text, size_t room, uint32_t observers, hook *ended) {
+    static struct judged judged;
+    stm_service_options options = {room, 0, observers, ended, &judged};
+    stm_service *s = (stm_service *)&options;
+    int32_t code = stm_service_open(bytes(text), strlen(text), &options, &s);
+    wants((code == STM_DONE) == (s != NULL));
+    stm_service_free(s);
+    return code;
+}
+
+/* A service that is not opened, and one at each limit. */
+static void what_is_not_opened(void) {
+    static const char one[] = "(var x 0)(tx inc (set x (add x 1)) x)(run inc 1)";
+    wants(opened("(var x 0", 0, 0, NULL) == STM_FILE_SHAPE && opened("(var \xff 0)", 0, 0, NULL) == STM_FILE_BAD_BYTE);
+    wants(opened("(var x 0)(tx t (skip) y)", 0, 0, NULL) == STM_FILE_NAME && opened("", 0, 0, NULL) == STM_DONE);
+    wants(opened("(stm 2)(var x 0)(always a (eq x 1))", 0, 0, NULL) == STM_FILE_BROKEN);
+    wants(opened(one, 65535, 32, NULL) == STM_DONE && opened(one, 65536, 0, NULL) == STM_NO_ROOM);
+    wants(opened(one, SIZE_MAX, 0, NULL) == STM_NO_ROOM && opened(one, 0, 33, NULL) == STM_NO_WORKER);
+    wants(opened(one, 25000, 1, judges) == STM_DONE && opened(one, 65535, 1, judges) == STM_NO_ROOM);
+    /* A file of more runs than a chapter's file has room for, each by itself. */
+    static const char runs[] = "(var x 0)(tx inc (set x (add x 1)) x)(run inc 30000)";
+    wants(opened(runs, 0, 0, judges) == STM_NO_ROOM && opened(runs, 0, 0, NULL) == STM_DONE);
+    stm_service *s = opens("(var x 0)", NULL);
+    wants(is(stm_atomically(s, 0, NULL, 0), STM_UNKNOWN, 0, 0));
+    wants(is(stm_service_observe(s, 0, NULL, 0), STM_UNKNOWN, 0, 0));
+    stm_service_free(s);
+}
+
+static const char LONG_NAMES[] =
+    "(var x 0)(tx a2345678901234567890123456789012 (set x (add x -4611686018427387904)) x)"
+    "(tx b2345678901234567890123456789012 (set x 0) x)";
+
+/* The longest chapters that a host can keep: by names of 32 bytes, by turns, their files have just room. */
+static void the_longest_chapters(void) {
+    struct judged judged = {{"\nentry "}, {0}, 0};
+    stm_service_options options = {0, 0, 0, judges, &judged};
+    stm_service *s = opens(LONG_NAMES, &options);
+    for (uint32_t i = 0; i < 52000; i++) wants(stm_atomically(s, i % 2, NULL, 0).code == STM_DONE);
+    wants(judged.chapters == 2 && stm_service_chapter(s) == 2 && judged.lines[0] > 50000);
+    judges_the_last(s, &judged);
+    wants(judged.lines[0] == 52000 && stm_service_entered(s) == 52000);
+    stm_service_free(s);
+}
+
+/* A hook that fails so many times. */
+static int failures;
+static int fails_first(void *own, const uint8_t *file, size_t file_length, const uint8_t *report, size_t report_length) {
+    wants(judges(own, file, file_length, report, report_length) == 0);
+    return failures-- > 0 ? 1 : 0;
+}
+
+/* Where the host does not keep a chapter it goes on, and nothing of it is lost. */
+static void a_hook_that_fails(void) {
+    struct judged judged = {{"\nentry "}, {0}, 0};
+    stm_service_options options = {3, 0, 0, fails_first, &judged};
+    stm_service *s = opens(ENDS, &options);
+    for (int i = 0; i < 3; i++) wants(stm_atomically(s, 0, NULL, 0).code == STM_DONE);
+    failures = 2;
+    wants(is(stm_atomically(s, 0, NULL, 0), STM_NO_ROOM, 0, 0));
+    wants(is(stm_try_atomically(s, 0, NULL, 0), STM_NO_ROOM, 0, 0));
+    wants(stm_service_chapter(s) == 0 && stm_service_entered(s) == 6 && judged.chapters == 2);
+    wants(is(stm_atomically(s, 0, NULL, 0), STM_DONE, 13, 1) && judged.chapters == 3 && judged.lines[0] == 18);
+    wants(stm_service_chapter(s) == 1 && stm_service_entered(s) == 7);
+    stm_service_free(s);
+}
+
+static const char WAITS[] = "(var out 0)(var n 0)(tx wait (if (eq out 0) (retry) (skip)) out)(tx go (set out 5) out)"
+                            "(tx inc (set n (add n 1)) n)";
+static stm_service *waited_for;
+
+static void *waits(void *expects) {
+    wants(stm_atomically(waited_for, number_of(waited_for, "wait"), NULL, 0).code == *(int32_t *)expects);
+    return NULL;
+}
+
+static long lines_now(stm_service *s, const char *word) {
+    static uint8_t report[1 << 20];
+    size_t length;
+    wants(stm_service_report(s, report, sizeof report, &length) == STM_DONE);
+    return lines_with((const char *)report, length, word);
+}
+
+/* Comes back when so many tasks wait. */
+static void until_there_wait(stm_service *s, long count) {
+    while (lines_now(s, "\nparked ") < count) nanosleep(&(struct timespec){0, 1000000}, NULL);
+}
+
+/* Where every task of a chapter waits there is no room; a try that retries wants none; and who waits is told all the same. */
+static void all_wait(void) {
+    stm_service_options options = {3, 0, 0, NULL, NULL};
+    stm_service *s = waited_for = opens(WAITS, &options);
+    int32_t done = STM_DONE, closed = STM_CLOSED;
+    pthread_t threads[3];
+    for (int i = 0; i < 2; i++) wants(pthread_create(&threads[i], NULL, waits, &done) == 0);
+    until_there_wait(s, 2);
+    for (int i = 1; i <= 20; i++) wants(is(stm_atomically(s, 2, NULL, 0), STM_DONE, i, 1) && stm_service_chapter(s) == (uint64_t)i - 1);
+    wants(is(stm_atomically_within(s, 0, NULL, 0, 10), STM_TIMED_OUT, 0, 0));
+    wants(is(stm_try_atomically(s, 0, NULL, 0), STM_RETRIES, 0, 0));
+    wants(stm_atomically(s, 1, NULL, 0).code == STM_DONE && value_of(s, "out") == 5);
+    for (int i = 0; i < 2; i++) pthread_join(threads[i], NULL);
+    stm_service_free(s);
+    s = waited_for = opens(WAITS, &options);
+    for (int i = 0; i < 3; i++) wants(pthread_create(&threads[i], NULL, waits, &closed) == 0);
+    until_there_wait(s, 3);
+    wants(is(stm_atomically(s, 1, NULL, 0), STM_NO_ROOM, 0, 0));
+    wants(is(stm_try_atomically(s, 2, NULL, 0), STM_NO_ROOM, 0, 0));
+    wants(is(stm_try_atomically(s, 0, NULL, 0), STM_RETRIES, 0, 0) && stm_service_chapter(s) == 0);
+    stm_service_close(s);
+    for (int i = 0; i < 3; i++) pthread_join(threads[i], NULL);
+    wants(lines_now(s, "\nparked ") == 0 && lines_now(s, "\nmemory ") == 3);
+    stm_service_free(s);
+}
+
+/* Calls wait whose tasks have numbers so far apart that they fall into one bucket of the table. */
+static void waits_in_one_bucket(void) {
+    enum { BUCKETS = 4096 };
+    stm_service *s = waited_for = opens(WAITS, NULL);
+    int32_t done = STM_DONE;
+    pthread_t threads[3];
+    for (int i = 0; i < 3; i++) {
+        wants(pthread_create(&threads[i], NULL, waits, &done) == 0);
+        until_there_wait(s, i + 1);
+        for (int calls = 1; calls < BUCKETS; calls++) wants(stm_atomically(s, 2, NULL, 0).code == STM_DONE);
+    }
+    wants(is(stm_atomically_within(s, 0, NULL, 0, 1000), STM_TIMED_OUT, 0, 0));
+    wants(stm_atomically(s, 1, NULL, 0).code == STM_DONE);
+    for (int i = 0; i < 3; i++) pthread_join(threads[i], NULL);
+    stm_service_free(s);
+}
+
+static void *waits_and_is_cancelled(void *told) {
+    *(stm_answer *)told = stm_atomically(waited_for, number_of(waited_for, "wait"), NULL, 0);
+    pthread_testcancel();
+    return NULL;
+}
+
+/* A thread that is cancelled while it waits is so after its call. */
+static void a_thread_is_cancelled(void) {
+    stm_service *s = waited_for = opens(ENDS, NULL);
+    stm_answer told = {0, 0, 0};
+    void *end = NULL;
+    pthread_t thread;
+    wants(pthread_create(&thread, NULL, waits_and_is_cancelled, &told) == 0);
+    until_there_wait(s, 2);
+    wants(pthread_cancel(thread) == 0);
+    nanosleep(&(struct timespec){0, 5000000}, NULL);
+    wants(lines_now(s, "\nparked ") == 2 && stm_atomically(s, number_of(s, "go"), NULL, 0).code == STM_DONE);
+    wants(pthread_join(thread, &end) == 0 && end == PTHREAD_CANCELED && is(told, STM_DONE, 9, 6));
+    stm_service_free(s);
+}
+
+/* With checkpoints outcomes are told as without, and the reports are short. */
+static void with_checkpoints(void) {
+    struct judged judged = {{"\nentry "}, {0}, 0};
+    stm_service_options options = {100, 8, 0, judges, &judged};
+    stm_service *s = opens("(var x 0)(tx inc (set x (add x 1)) x)", &options);
+    for (int i = 1; i <= 1000; i++) wants(stm_atomically(s, 0, NULL, 0).value == i);
+    wants(judged.chapters == 9 && judged.lines[0] < 9 * 8 && stm_service_entered(s) == 1000);
+    stm_service_free(s);
+}
+
+int main(void) {
+    each_end();
+    what_is_refused();
+    what_is_not_opened();
+    the_longest_chapters();
+    a_hook_that_fails();
+    all_wait();
+    waits_in_one_bucket();
+    a_thread_is_cancelled();
+    with_checkpoints();
+    printf("good\n");
+    return 0;
+}

@@ -1,0 +1,4 @@
+pub mod Members
+pub mod Levels
+pub mod SetInside
+pub mod PackedEntries

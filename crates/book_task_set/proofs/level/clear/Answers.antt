@@ -1,5 +1,0 @@
-use Rattle.book_task_set.proofs.Rows.{clear_is}
-use Rattle.book_task_set.proofs.level.clear.Goals as goal
-
-pub returns-clause-cleared : goal.returns-clause-cleared
-returns-clause-cleared c = clear_is c.args.words.now c.args.bit

@@ -1,5 +1,0 @@
-use Rattle.book_task_set.proofs.Rows.{has_is}
-use Rattle.book_task_set.proofs.level.has.Goals as goal
-
-pub returns : goal.returns
-returns c = has_is c.args.words.now c.args.bit

@@ -1,5 +1,0 @@
-use Rattle.book_task_set.proofs.Rows.{set_is}
-use Rattle.book_task_set.proofs.level.set.Goals as goal
-
-pub returns : goal.returns
-returns c = set_is c.args.words.now c.args.bit

@@ -1,5 +1,0 @@
-use Rattle.chain_law.proofs.Coming.{next_is_told}
-use Rattle.chain_law.proofs.laws.next_chapters_are_told.Goals as goal
-
-pub returns : goal.returns
-returns c b r fits idle is = next_is_told b r fits idle is

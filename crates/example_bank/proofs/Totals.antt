@@ -1,0 +1,22 @@
+-- Totals, an account at a time, and the program of a bank's catalogue.
+use Rattle.std.proofs.Common.{◌≡◌, ◌∙◌, ℕ, zero, suc, ◌+◌, ◌<◌, ℤ, ◌+ℤ◌, List, [], ◌∷◌, length, map, take, get_or, Result, Ok, Err, IfOk, String, Global, sym, ap, subst, arith}
+use Rattle.std.proofs.lemmas.Int.{ints}
+use Rattle.txn_programs.specs.Listing.{Listing}
+use Rattle.stm_store.specs.declared.program.Program.{Program}
+use Rattle.example_bank.specs.Balances.{total, IsBank}
+
+abbrev pub total_of : List (String Global × ℤ) → ℤ
+total_of accounts = total (map (λ a. a.1) accounts)
+
+pub total_more : (xs : List (String Global × ℤ)) (i : ℕ) (x : String Global × ℤ) → i < length xs → x ≡ get_or xs i x → total_of (take (i + 1) xs) ≡ total_of (take i xs) +ℤ x.1
+total_more [] i x lt e = absurd (omega arith)
+total_more (y ∷ ys) zero x lt e = let s : x.1 ≡ y.1 = ap (λ a. a.1) e in omega (arith, ints)
+total_more (y ∷ ys) (suc i) x lt e =
+    let r = total_more ys i x (omega arith) e in
+    let one : suc i + 1 ≡ suc (i + 1) = omega arith in
+    let more : y.1 +ℤ total_of (take (i + 1) ys) ≡ (y.1 +ℤ total_of (take i ys)) +ℤ x.1 = omega (arith, ints) in
+    ap (λ k. total_of (take k (y ∷ ys))) one ∙ more
+
+pub bank_of : {E : Type 0} (r : Result Program E) (l : Listing) → IsBank l → IfOk r (λ p. p.catalogue.now ≡ l) → IfOk r (λ p. IsBank p.catalogue.now)
+bank_of (Ok p) l bank e = subst IsBank (sym e) bank
+bank_of (Err f) l bank e = e

@@ -1,6 +1,0 @@
--- What a stage of the replay says, and not where it lies in memory.
-use Rattle.txn_programs.specs.Replay.{Snapshot}
-use Rattle.explain_reports.specs.declared.stage.Stage.{Stage}
-
-abbrev pub view : Stage → Snapshot
-view s = record { number = s.number; state = s.values.items; versions = s.versions.items }

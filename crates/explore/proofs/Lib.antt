@@ -1,9 +1,0 @@
-pub mod Growing
-pub mod Steps
-pub mod Counting
-pub mod Whole
-pub mod Running
-pub mod Trying
-pub mod Ending
-pub mod Charting
-pub mod Fewest

@@ -1,4 +1,0 @@
-pub mod Turns
-pub mod Noting
-pub mod Searching
-pub mod Charted

@@ -1,2 +1,0 @@
-pub mod FlatRows
-pub mod Indexing

@@ -1,7 +1,0 @@
-use Rattle.std.proofs.Common.{refl}
-use Rattle.explore_places.specs.Bucket.{mixed}
-use Rattle.explore_places.proofs.hash.mix.Goals as goal
-
-pub returns : goal.returns
-unfolding mixed
-returns c = refl

@@ -1,7 +1,0 @@
-use Rattle.std.proofs.Common.{refl}
-use Rattle.explore_places.specs.Inside.{rows}
-use Rattle.explore_places.proofs.rows.Rows.new.Goals as goal
-
-pub returns : goal.returns
-unfolding rows
-returns c = refl

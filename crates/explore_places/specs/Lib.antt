@@ -1,4 +1,0 @@
-pub mod Bucket
-pub mod Shelf
-pub mod Indexed
-pub mod Inside

@@ -1,9 +1,0 @@
-pub mod Counts
-pub mod Shuffles
-pub mod Sizes
-pub mod Leading
-pub mod Whole
-pub mod Making
-pub mod Queueing
-pub mod Turning
-pub mod Closing

@@ -1,5 +1,0 @@
-use Rattle.explore_reports.proofs.Whole.{whole_nobody}
-use Rattle.explore_reports.proofs.laws.nobody_waits_for_ever.Goals as goal
-
-pub returns : goal.returns
-returns c f r found nobody h = whole_nobody c.args.catalogue.now f r c.rules.ensures.names found nobody h

@@ -1,6 +1,0 @@
-use Rattle.explore_reports.proofs.Queueing.{set_queue}
-use Rattle.explore_reports.proofs.queues.add.Goals as goal
-
-pub returns : goal.returns
-returns c =
-    set_queue c.args.waiting.now.items c.args.tx.0 c.index_mut.result.now c.push.new.self c.args.task c.requires c.index_mut.ensures.value c.in_ok-push.ensures.items

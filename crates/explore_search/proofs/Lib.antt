@@ -1,0 +1,15 @@
+pub mod Calls
+pub mod Growing
+pub mod Steps
+pub mod Counting
+pub mod Whole
+pub mod Trying
+pub mod Ending
+pub mod Charting
+pub mod Fewest
+pub mod Nearing
+pub mod FlatRows
+pub mod Indexing
+pub mod Graphing
+pub mod Instancing
+pub mod Keeping

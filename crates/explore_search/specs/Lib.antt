@@ -1,0 +1,13 @@
+pub mod Instancing
+pub mod Turns
+pub mod Noting
+pub mod Keeping
+pub mod Searching
+pub mod Charted
+pub mod Bucket
+pub mod Shelf
+pub mod Indexed
+pub mod Packed
+pub mod Inside
+pub mod Graphing
+pub mod Nearest

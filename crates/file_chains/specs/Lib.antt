@@ -1,0 +1,3 @@
+pub mod GoingOn
+pub mod Printing
+pub mod Chains

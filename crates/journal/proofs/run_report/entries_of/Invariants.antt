@@ -1,5 +1,0 @@
-use Rattle.std.proofs.Common.{◌≡◌, take}
-use Rattle.journal.proofs.run_report.entries_of.Given as goal
-
-abbrev pub invariant-lines : goal.invariant-lines
-invariant-lines l = l.entries.items ≡ take l.line-index l.lines

@@ -1,0 +1,9 @@
+pub mod Settings
+pub mod Counts
+pub mod Outlet
+pub mod Puts
+pub mod Statuses
+pub mod Failures
+pub mod Refused
+pub mod Bounds
+pub mod Denied

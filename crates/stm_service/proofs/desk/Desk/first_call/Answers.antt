@@ -1,0 +1,29 @@
+use Rattle.std.proofs.Common.{◌≡◌, ℤ, List, sym, subst}
+use Rattle.stm_store.specs.Turning.{Calls}
+use Rattle.stm_store.specs.declared.answers.Called.{Called}
+use Rattle.stm_service.specs.Calling.{Begins, begun_by, next_ticket}
+use Rattle.stm_service.specs.declared.calls.Begun.{Begun}
+use Rattle.txn_programs.specs.declared.ast.Outcome.{Outcome}
+use Rattle.stm_service.specs.declared.calls.Begun.TheVariants as begun
+use Rattle.stm_service.proofs.Begun.{ran_begins}
+use Rattle.stm_service.proofs.Seen.{ran_entered}
+use Rattle.stm_service.proofs.desk.Desk.first_call.Goals as goal
+
+pub returns-in-Ran-clause-begins : goal.returns-in-Ran-clause-begins
+returns-in-Ran-clause-begins g c =
+    let s = c.args.self.now in
+    let new = c.call_lent-called.new.self in
+    let l = g.N.Naming.catalogue in
+    subst (λ (b : Begun). Begins l s.closed (next_ticket s.store) c.args.call.now b new) (sym c.begun_by.ensures)
+    (ran_begins l s.closed s.store new c.args.call.now c.in-Ran.turned s.named c.law.ensures.declared c.law.ensures.fits c.law.ensures.each c.law-2.ensures.tickets
+    (subst (λ (r : Called). Calls s.store c.args.call.now.tx c.args.call.now.arguments r new) c.in-Ran.is
+    (subst (λ (xs : List ℤ). Calls s.store c.args.call.now.tx xs c.call_lent-called.result new) c.as_slice.ensures.value c.call_lent-called.ensures.called)))
+
+pub returns-in-Ran-clause-entered : goal.returns-in-Ran-clause-entered
+returns-in-Ran-clause-entered g c o is =
+    let s = c.args.self.now in
+    let new = c.call_lent-called.new.self in
+    ∣ ran_entered g.N.Naming.catalogue s.store new c.args.call.now c.in-Ran.turned o s.named c.law.ensures.declared c.law.ensures.fits c.law.ensures.each
+    (subst (λ (r : Called). Calls s.store c.args.call.now.tx c.args.call.now.arguments r new) c.in-Ran.is
+    (subst (λ (xs : List ℤ). Calls s.store c.args.call.now.tx xs c.call_lent-called.result new) c.as_slice.ensures.value c.call_lent-called.ensures.called))
+    (subst (λ (b : Begun). b ≡ begun.Over o) c.begun_by.ensures is) ∣₁

@@ -1,0 +1,5 @@
+pub mod Answering
+pub mod Calling
+pub mod Keeping
+pub mod Observations
+pub mod Seeing

@@ -1,0 +1,42 @@
+//! What a call answers, and by which name a lock knows its program.
+
+ghost use Rattle.std.specs.Prelude.{[], true};
+ghost use Rattle.txn_programs.specs.Listing.{Listing};
+ghost use Rattle.cells.specs.Cells.{CellsId};
+
+use std::marker::Brand;
+
+/// Of which program and which cells a service is. What a lock guards is known by its type alone, so the type says
+/// it.
+pub trait Naming: Send {
+    ghost catalogue: { Listing };
+
+    ghost cells: { CellsId };
+}
+
+impl Naming for Brand {
+    ghost catalogue = { record { names = []; initial = []; always = []; transactions = []; runs = [] } };
+
+    ghost cells = { record {
+      table = record { words = 0; slots = 0; views_name = 0; atom = 0; block = 0; offset = 0; slot_names = [] };
+      variables = 0;
+      are_read = true;
+    } };
+}
+
+/// Why a call has no outcome. It is entered nowhere, and never will be.
+#[derive(Clone, Copy, Debug, PartialEq, Eq)]
+pub enum CallFault {
+    /// A growth was refused: a task of the call was given up.
+    Memory,
+    /// The service is closed.
+    Closed,
+    /// Each task that there is room for still waits; or the host could not keep the chapter that had to end.
+    NoRoom,
+    /// The program has no such transaction, or it has not as many parameters as there are arguments.
+    Unknown,
+    /// The transaction retries on the present values, and was not submitted.
+    Retries,
+    /// The time of the call is up.
+    TimedOut,
+}

@@ -1,0 +1,198 @@
+//! Calls of a transaction with arguments on a desk.
+
+ghost use Rattle.std.specs.Prelude.{◌≡◌, ◌⊎◌, None, IfSome, true, All};
+ghost use Rattle.txn_programs.specs.Listing.{IsCallable};
+ghost use Rattle.txn_programs.specs.declared.ast.Outcome.{Outcome};
+ghost use Rattle.book.specs.Carrying.{stays};
+ghost use Rattle.stm_store.specs.Asking.{IsFull, IsUnchanged};
+ghost use Rattle.stm_service.specs.Answering.{call_of};
+ghost use Rattle.stm_service.specs.Calling.{Begins, IsOfWay, IsServed, begun_by, next_ticket};
+ghost use Rattle.stm_service.specs.Seeing.{IsEnteredOn};
+ghost use Rattle.stm_service.specs.declared.answer.CallFault.TheVariants as CallFault;
+ghost use Rattle.stm_service.specs.declared.calls.Begun.TheVariants as Begun;
+ghost use Rattle.stm_service.specs.declared.calls.Way.TheVariants as Way;
+
+use crate::answer::{CallFault, Naming};
+use crate::archive::Archive;
+use crate::chapters::Page;
+use crate::desk::Desk;
+use stm_store::{Called, End, Job, Ticket, Turned};
+use txn::{Arguments, Call, Outcome, TxId};
+
+/// What came of a call at once.
+#[derive(Clone, Copy)]
+pub(crate) enum Begun {
+    /// It was entered.
+    Over(Outcome),
+    /// It retries: the task of the call waits.
+    Waits(Ticket, Call),
+    /// There was no room, and the chapter could not end, since the host did not keep it.
+    NotKept,
+    Refused(CallFault),
+}
+
+/// Whether a call may wait for its task.
+#[derive(Clone, Copy, PartialEq, Eq)]
+pub(crate) enum Way {
+    Waits,
+    /// Where its transaction retries nothing is submitted.
+    Tries,
+}
+
+impl<N: Naming, K: Archive + Drop> Desk<N, K> {
+    /// A task of the call, which has its turn at once; then all that it woke have theirs. Where the room is used up
+    /// the next chapter begins before, if that makes room and the host keeps the present one. What cannot be called
+    /// is `Unknown`, and nothing changes.
+    pub(crate) fn call(&mut self, tx: TxId, arguments: &[i64], way: Way) -> Begun
+        ensures begins { Begins N.catalogue self.old.closed (next_ticket self.old.store)
+            (record { tx = tx; arguments = arguments.now }) result self.new.store }
+        ensures way { IsOfWay way result }
+        ensures closed { self.old.closed ≡ true
+            → (result ≡ Begun.Refused CallFault.Closed) × IsUnchanged self.old.store self.new.store }
+        ensures served { (o : Outcome) → result ≡ Begun.Over o → IsServed self.new.store }
+        ensures unknown { ¬ (IsCallable N.catalogue tx arguments.now) → IsUnchanged self.old.store self.new.store }
+        ensures refused { ¬ (IsCallable N.catalogue tx arguments.now)
+            → (result ≡ Begun.Refused CallFault.Unknown) ⊎ (result ≡ Begun.Refused CallFault.Closed) }
+    {
+        if self.closed {
+            return Begun::Refused(CallFault::Closed);
+        }
+        let catalogue = self.store.catalogue();
+        catalogue.rules();
+        if !catalogue.is_callable(tx, arguments) {
+            return Begun::Refused(CallFault::Unknown);
+        }
+        let call = Call {
+            tx,
+            arguments: Arguments::of(arguments),
+        };
+        let begun = self.turn_in_room(&call, way);
+        if matches!(begun, Begun::Over(_)) {
+            self.serve();
+        }
+        begun
+    }
+
+    /// The first turn of a call, in a chapter that has room for it.
+    pub(crate) fn turn_in_room(&mut self, call: &Call, way: Way) -> Begun
+        requires { IsCallable N.catalogue call.now.tx call.now.arguments }
+        ensures begins { Begins N.catalogue self.old.closed (next_ticket self.old.store)
+            call.now result self.new.store }
+        ensures way { IsOfWay way result }
+        ensures entered { (o : Outcome) → result ≡ Begun.Over o
+            → ∥ IsEnteredOn N.catalogue call.now o self.old.store.book.history self.new.store.book.history ∥₁ }
+    {
+        if let Some(begun) = self.first_turn(call, way) {
+            return begun;
+        }
+        match self.next_chapter() {
+            Page::Begun => self.turn_in_next(call, way),
+            Page::Full => Begun::Refused(CallFault::NoRoom),
+            Page::NotKept => Begun::NotKept,
+        }
+    }
+
+    /// The first turn of a call in a chapter that has just begun.
+    fn turn_in_next(&mut self, call: &Call, way: Way) -> Begun
+        requires known { IsCallable N.catalogue call.now.tx call.now.arguments }
+        requires begun { All (λ t. stays t ≡ true) self.old.store.book.tasks }
+        ensures begins { Begins N.catalogue self.old.closed (next_ticket self.old.store)
+            call.now result self.new.store }
+        ensures way { IsOfWay way result }
+        ensures entered { (o : Outcome) → result ≡ Begun.Over o
+            → ∥ IsEnteredOn N.catalogue call.now o self.old.store.book.history self.new.store.book.history ∥₁ }
+    {
+        match self.first_turn(call, way) {
+            Some(begun) => begun,
+            None => Begun::Refused(CallFault::NoRoom),
+        }
+    }
+
+    /// The first turn of a call. `None` and no change where the chapter has no room for it.
+    fn first_turn(&mut self, call: &Call, way: Way) -> Option<Begun>
+        requires { IsCallable N.catalogue call.now.tx call.now.arguments }
+        ensures begins { IfSome result
+            (λ b. Begins N.catalogue self.old.closed (next_ticket self.old.store) call.now b self.new.store) }
+        ensures way { IfSome result (λ b. IsOfWay way b) }
+        ensures entered { IfSome result (λ b. (o : Outcome) → b ≡ Begun.Over o
+            → ∥ IsEnteredOn N.catalogue call.now o self.old.store.book.history self.new.store.book.history ∥₁) }
+        ensures none { result ≡ None → IsFull self.old.store × IsUnchanged self.old.store self.new.store }
+        ensures closed { self.new.closed ≡ self.old.closed }
+    {
+        match way {
+            Way::Waits => self.first_call(call),
+            Way::Tries => self.first_try(call),
+        }
+    }
+
+    fn first_call(&mut self, call: &Call) -> Option<Begun>
+        requires { IsCallable N.catalogue call.now.tx call.now.arguments }
+        ensures way { IfSome result (λ b. IsOfWay Way.Waits b) }
+        ensures begins { IfSome result
+            (λ b. Begins N.catalogue self.old.closed (next_ticket self.old.store) call.now b self.new.store) }
+        ensures entered { IfSome result (λ b. (o : Outcome) → b ≡ Begun.Over o
+            → ∥ IsEnteredOn N.catalogue call.now o self.old.store.book.history self.new.store.book.history ∥₁) }
+        ensures none { result ≡ None → IsFull self.old.store × IsUnchanged self.old.store self.new.store }
+        ensures closed { self.new.closed ≡ self.old.closed }
+    {
+        self.store.law();
+        let Some(lender) = &mut self.lender else {
+            unreachable!()
+        };
+        let called = self
+            .store
+            .call_lent(lender, call.tx, call.arguments.as_slice());
+        self.store.law();
+        match called {
+            Called::Ran(turned) => Some(begun_by(turned)),
+            Called::NoRoom => None,
+            Called::Retries => unreachable!(),
+        }
+    }
+
+    fn first_try(&mut self, call: &Call) -> Option<Begun>
+        requires { IsCallable N.catalogue call.now.tx call.now.arguments }
+        ensures way { IfSome result (λ b. IsOfWay Way.Tries b) }
+        ensures begins { IfSome result
+            (λ b. Begins N.catalogue self.old.closed (next_ticket self.old.store) call.now b self.new.store) }
+        ensures entered { IfSome result (λ b. (o : Outcome) → b ≡ Begun.Over o
+            → ∥ IsEnteredOn N.catalogue call.now o self.old.store.book.history self.new.store.book.history ∥₁) }
+        ensures none { result ≡ None → IsFull self.old.store × IsUnchanged self.old.store self.new.store }
+        ensures closed { self.new.closed ≡ self.old.closed }
+    {
+        self.store.law();
+        let Some(lender) = &mut self.lender else {
+            unreachable!()
+        };
+        let called = self
+            .store
+            .try_call_lent(lender, call.tx, call.arguments.as_slice());
+        self.store.law();
+        match called {
+            Called::Ran(turned) => Some(begun_by(turned)),
+            Called::NoRoom => None,
+            Called::Retries => Some(Begun::Refused(CallFault::Retries)),
+        }
+    }
+}
+
+/// What came of the turn of a call's own task.
+fn begun_by(turned: Turned) -> Begun
+    ensures { result ≡ begun_by turned.job turned.end }
+{
+    match turned.end {
+        End::Entered(entered) => Begun::Over(entered.outcome),
+        End::Parked => Begun::Waits(turned.job.ticket, call_of(turned.job)),
+        End::Abandoned => Begun::Refused(CallFault::Memory),
+    }
+}
+
+/// The call that the task of the job makes.
+pub(crate) fn call_of(job: Job) -> Call
+    ensures { result ≡ call_of job }
+{
+    Call {
+        tx: job.tx,
+        arguments: job.arguments,
+    }
+}

@@ -1,0 +1,96 @@
+//! Where a thread that waits is told what came of its task.
+
+ghost use Rattle.std.specs.Prelude.{◌≡◌, true};
+ghost use Rattle.txn_programs.specs.declared.ast.Outcome.{Outcome};
+ghost use Rattle.stm_service.specs.Answering.{IsAnswer};
+ghost use Rattle.stm_service.specs.declared.seat.Told.TheVariants as Told;
+
+use crate::answer::Naming;
+use std::marker::PhantomData;
+use std::sync::{Arc, Condvar};
+use stm_store::Ticket;
+use txn::{Call, Outcome};
+use txn_declarations::same::same_values;
+
+/// What a thread that waits is told.
+#[derive(Clone, Copy)]
+pub(crate) enum Told {
+    /// Its task retries still.
+    Nothing,
+    /// Its task was entered.
+    Entered(Outcome),
+    /// Its task ran out of memory.
+    GivenUp,
+}
+
+/// The seat of a thread that waits: for the task of which call, and the bell that rings for it.
+#[derive(Drop)]
+pub(crate) struct Seat<N: Naming> {
+    ticket: Ticket,
+    call: Call,
+    told: Told,
+    bell: Arc<Condvar>,
+    of: PhantomData<N>,
+    ghost is: { (o : Outcome) → told ≡ Told.Entered o → ∥ IsAnswer N.catalogue ticket call o ∥₁ },
+}
+
+/// Whether the two are calls of the same transaction with the same arguments.
+fn are_same(a: &Call, b: &Call) -> bool
+    ensures { result ≡ true → a.now ≡ b.now }
+{
+    a.tx == b.tx && same_values(a.arguments.as_slice(), b.arguments.as_slice())
+}
+
+impl<N: Naming> Seat<N> {
+    /// Of a task that waits.
+    pub(crate) fn new(ticket: Ticket, call: Call, bell: Arc<Condvar>) -> Seat<N> {
+        Seat {
+            ticket,
+            call,
+            told: Told::Nothing,
+            bell,
+            of: PhantomData,
+        }
+    }
+
+    /// Whether it is the seat of this task.
+    fn is_of(&self, ticket: Ticket, call: &Call) -> bool
+        ensures ticket { result ≡ true → self.now.ticket ≡ ticket }
+        ensures call { result ≡ true → self.now.call ≡ call.now }
+    {
+        self.ticket.0 == ticket.0 && are_same(&self.call, call)
+    }
+
+    /// What it tells of this task. Of any other one it is nothing.
+    pub(crate) fn told_of(&self, ticket: Ticket, call: &Call) -> Told
+        ensures { (o : Outcome) → result ≡ Told.Entered o → ∥ IsAnswer N.catalogue ticket call.now o ∥₁ }
+    {
+        if !self.is_of(ticket, call) {
+            return Told::Nothing;
+        }
+        self.told
+    }
+
+    /// What came of this task is told, if it is the seat's: the bell that is to be rung. `None` where it is not, or
+    /// was rung at once, out of memory.
+    pub(crate) fn tell(&mut self, ticket: Ticket, call: &Call, told: Told) -> Option<Arc<Condvar>>
+        requires { (o : Outcome) → told ≡ Told.Entered o → ∥ IsAnswer N.catalogue ticket call.now o ∥₁ }
+    {
+        if self.is_of(ticket, call) {
+            self.told = told;
+            return match Arc::clone(&self.bell) {
+                Ok(bell) => Some(bell),
+                Err(_) => {
+                    self.ring();
+                    None
+                }
+            };
+        }
+        None
+    }
+
+    /// Calls its thread.
+    pub(crate) fn ring(&self) {
+        self.bell.notify_one();
+    }
+}

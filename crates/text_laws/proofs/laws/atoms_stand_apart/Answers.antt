@@ -1,5 +1,0 @@
-use Rattle.text_words.proofs.Lexing.{tokens-text}
-use Rattle.text_laws.proofs.laws.atoms_stand_apart.Goals as goal
-
-pub returns : goal.returns
-returns c = tokens-text

@@ -1,5 +1,0 @@
-use Rattle.text_laws.proofs.FirstFault.{first_fault_is}
-use Rattle.text_laws.proofs.laws.faults_are_first.Goals as goal
-
-pub returns : goal.returns
-returns c = first_fault_is

@@ -1,4 +1,0 @@
-//! What is so of each file, whoever reads or prints it.
-#![tactic(auto)]
-
-pub mod laws;

@@ -1,0 +1,112 @@
+-- The lines of moves are read as these moves.
+use Rattle.std.proofs.Common.{◌≡◌, ◌∙◌, ℕ, ◌<◌, ◌≤◌, true, List, [], ◌∷◌, length, map, Result, Ok, refl, sym, ap, arith}
+use Rattle.std.specs.Prelude.{All, codes}
+use Rattle.std.specs.Fmt.{decimal}
+use Rattle.std.specs.List.{AllByRecursion}
+use Rattle.std.proofs.lemmas.List.Elements.{recursion_from_All}
+use Rattle.txn_programs.specs.declared.ast.TaskId.{TaskId}
+use Rattle.txn_programs.specs.declared.ast.VarId.{VarId}
+use Rattle.txn_programs.specs.declared.limits.TheConstants.{MAX_TASKS}
+use Rattle.txn_programs.specs.declared.moves.Move.{Move}
+use Rattle.txn_programs.specs.declared.moves.Move.TheVariants as move
+use Rattle.txn_programs.specs.Listing.{Listing, tasks}
+use Rattle.txn_programs.specs.Names.{names_hold}
+use Rattle.text_words.specs.Words.{line}
+use Rattle.text_line_reader.proofs.Agains.{task_id_again, small, each_again, all_again, tests_again, text_again}
+use Rattle.text_line_reader.specs.declared.schedule.raw.TaskVerb.{TaskVerb}
+use Rattle.text_line_reader.specs.declared.schedule.raw.TaskVerb.TheVariants as of_task
+use Rattle.text_line_reader.specs.declared.schedule.raw.VariableVerb.{VariableVerb}
+use Rattle.text_line_reader.specs.declared.schedule.raw.VariableVerb.TheVariants as of_variable
+use Rattle.text_line_reader.specs.ScheduleRaw.{Raw, OfTask, OfVariable, Word, raw_words, raw_text, IsRaw}
+use Rattle.text_line_reader.specs.ScheduleResolving.{is_known, names_known, task_move, variable_move, move_told, moves_told, resolved}
+use Rattle.text_line_reader.specs.Spelling.{spelled_name, move_words, schedule_text, TaskFits, VariableFits, MoveFits}
+use Rattle.text_line_reader.proofs.SchedulePlaces.{variable_again, variable_is_known, variable_is_name}
+use Rattle.text_line_reader.proofs.ScheduleBacks.{task_words, variable_words}
+
+-- what a catalogue keeps
+record Keeps (l : Listing) : Type 0 where
+  names : names_hold l ≡ true
+  few : length (tasks l) ≤ MAX_TASKS
+
+-- the line of a move
+pub written_move : Listing → Move → Raw
+written_move l (move.Begin task) = OfTask of_task.Begin (decimal task.0)
+written_move l (move.Read task x) = OfVariable of_variable.Read (decimal task.0) (spelled_name l x)
+written_move l (move.Commit task) = OfTask of_task.Commit (decimal task.0)
+written_move l (move.Drop task) = OfTask of_task.Drop (decimal task.0)
+written_move l (move.First task x) = OfVariable of_variable.First (decimal task.0) (spelled_name l x)
+written_move l (move.Value task) = OfTask of_task.Value (decimal task.0)
+written_move l (move.Second task) = OfTask of_task.Second (decimal task.0)
+written_move l (move.Ask task) = OfTask of_task.Ask (decimal task.0)
+written_move l move.Word = Word
+written_move l (move.Again task) = OfTask of_task.Again (decimal task.0)
+written_move l (move.Move task) = OfTask of_task.Move (decimal task.0)
+
+-- the line is read as the move
+record ReadAgain (l : Listing) (r : Raw) (m : Move) : Type 0 where
+  words : IsRaw r
+  known : is_known l r ≡ true
+  told : move_told l r ≡ Ok m
+  text : line (move_words l m) ≡ line (raw_words r)
+
+of_task_again : (l : Listing) → Keeps l → (v : TaskVerb) (task : TaskId) → TaskFits l task → ReadAgain l (OfTask v (decimal task.0)) (task_move v task)
+of_task_again l keeps v task h =
+    let few = keeps.few in
+    record {
+      words = small task.0 (omega arith);
+      known = refl;
+      told = rw (task_id_again l task few h) refl;
+      text = ap line (task_words l v task);
+    }
+
+of_variable_again : (l : Listing) → Keeps l → (v : VariableVerb) (task : TaskId) (x : VarId) → TaskFits l task × VariableFits l x → ReadAgain l (OfVariable v (decimal task.0) (spelled_name l x)) (variable_move v task x)
+of_variable_again l keeps v task x h =
+    let few = keeps.few in
+    let task_known = h.0 in
+    record {
+      words = (small task.0 (omega arith), variable_is_name l x keeps.names h.1);
+      known = variable_is_known l x keeps.names h.1;
+      told = rw (task_id_again l task few h.0, variable_again l x keeps.names h.1) refl;
+      text = ap line (variable_words l v task x);
+    }
+
+move_again : (l : Listing) → Keeps l → (m : Move) → MoveFits l m → ReadAgain l (written_move l m) m
+unfolding written_move
+move_again l keeps (move.Begin task) h = of_task_again l keeps of_task.Begin task h
+move_again l keeps (move.Read task x) h = of_variable_again l keeps of_variable.Read task x h
+move_again l keeps (move.Commit task) h = of_task_again l keeps of_task.Commit task h
+move_again l keeps (move.Drop task) h = of_task_again l keeps of_task.Drop task h
+move_again l keeps (move.First task x) h = of_variable_again l keeps of_variable.First task x h
+move_again l keeps (move.Value task) h = of_task_again l keeps of_task.Value task h
+move_again l keeps (move.Second task) h = of_task_again l keeps of_task.Second task h
+move_again l keeps (move.Ask task) h = of_task_again l keeps of_task.Ask task h
+move_again l keeps move.Word h = record { words = tt; known = refl; told = refl; text = refl }
+move_again l keeps (move.Again task) h = of_task_again l keeps of_task.Again task h
+move_again l keeps (move.Move task) h = of_task_again l keeps of_task.Move task h
+
+-- ---- all lines
+
+abbrev pub written_moves : Listing → List Move → List Raw
+written_moves l moves = map (written_move l) moves
+
+pub record MovesAgain (l : Listing) (moves : List Move) : Type 0 where
+  pub words : AllByRecursion IsRaw (written_moves l moves)
+  pub told : resolved l (written_moves l moves) ≡ Ok moves
+  pub text : schedule_text l moves ≡ raw_text (written_moves l moves)
+
+resolved_by : (l : Listing) (raws : List Raw) (moves : List Move) → names_known l raws ≡ true → moves_told l raws ≡ Ok moves → resolved l raws ≡ Ok moves
+unfolding resolved
+resolved_by l raws moves a b = rw a b
+
+pub moves_again : (l : Listing) (moves : List Move) → names_hold l ≡ true → length (tasks l) ≤ MAX_TASKS → All (MoveFits l) moves → MovesAgain l moves
+moves_again l moves names few all =
+    let keeps : Keeps l = record { names = names; few = few } in
+    let fits = recursion_from_All (MoveFits l) moves all in
+    let again = λ (m : Move) (h : MoveFits l m). move_again l keeps m h in
+    record {
+      words = all_again (MoveFits l) IsRaw (written_move l) (λ m h. (again m h).words) moves fits;
+      told = resolved_by l (written_moves l moves) moves
+          (tests_again (MoveFits l) (is_known l) (written_move l) (λ m h. (again m h).known) moves fits)
+          (each_again (MoveFits l) (written_move l) (move_told l) (λ m h. (again m h).told) moves fits);
+      text = text_again (MoveFits l) (written_move l) (λ m. line (move_words l m)) (λ r. line (raw_words r)) (λ m h. (again m h).text) moves fits;
+    }

@@ -1,0 +1,16 @@
+pub mod Lines
+pub mod Words
+pub mod Rows
+pub mod Counts
+pub mod View
+pub mod ReportRaw
+pub mod ReportReading
+pub mod ReportResolving
+pub mod ReportView
+pub mod Reports
+pub mod Spelling
+pub mod ScheduleRaw
+pub mod ScheduleReading
+pub mod ScheduleResolving
+pub mod ScheduleView
+pub mod Schedules

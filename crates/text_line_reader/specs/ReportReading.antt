@@ -1,0 +1,90 @@
+-- Reading lines in their order, each step with what it reads and the lines left.
+use Rattle.std.specs.Prelude.{ℕ, if◌then◌else◌, Result, Ok, Err, List, codes}
+use Rattle.std.specs.Str.{bytes_eq}
+use Rattle.text_words.specs.Answers.{◌>>=◌}
+use Rattle.text_words.specs.declared.fault.ReadFault.{ReadFault}
+use Rattle.text_words.specs.declared.fault.ReadFault.TheVariants.{Shape}
+use Rattle.text_line_reader.specs.Lines.{Line}
+use Rattle.text_line_reader.specs.ReportRaw.{Variable, Ending, Returned, Threw, Overflow, DivideByZero, Broke, Entry, Task, Raw}
+use Rattle.text_line_reader.specs.Words.{first_word, name_in, int_in, number_in, expect, after_word}
+use Rattle.text_line_reader.specs.Rows.{line_at, lines_at, all_at, end_at}
+
+-- ---- lines
+
+unfoldable pub variable_in : List ℕ → Result Variable ReadFault
+variable_in text = do
+  first ← first_word text
+  second ← first_word first.1
+  name ← name_in first.0
+  value ← int_in second.0
+  version ← number_in second.1
+  Ok (record { name = name; value = value; version = version })
+
+-- behind a word, the value with which an ending comes
+unfoldable pub valued_in : List ℕ → List ℕ → Result Ending ReadFault
+valued_in word text = do
+  value ← int_in text
+  if bytes_eq word (codes "returned") then Ok (Returned value) else (if bytes_eq word (codes "threw") then Ok (Threw value) else Err Shape)
+
+-- the name of the condition that is broken
+unfoldable pub broke_in : List ℕ → Result Ending ReadFault
+broke_in text = do
+  name ← name_in text
+  Ok (Broke name)
+
+-- an ending of two words
+unfoldable pub worded_in : List ℕ → Result Ending ReadFault
+worded_in text = do
+  word ← first_word text
+  if bytes_eq word.0 (codes "broke") then broke_in word.1 else valued_in word.0 word.1
+
+unfoldable pub ending_in : List ℕ → Result Ending ReadFault
+ending_in text = if bytes_eq text (codes "overflow") then Ok Overflow else (if bytes_eq text (codes "zerodiv") then Ok DivideByZero else worded_in text)
+
+unfoldable pub entry_in : List ℕ → Result Entry ReadFault
+entry_in text = do
+  first ← after_word (codes "entry") text
+  second ← first_word first
+  third ← first_word second.1
+  fourth ← first_word third.1
+  number ← number_in second.0
+  task ← number_in third.0
+  name ← name_in fourth.0
+  ending ← ending_in fourth.1
+  Ok (record { number = number; task = task; name = name; ending = ending })
+
+unfoldable pub task_in : List ℕ → List ℕ → Result Task ReadFault
+task_in wanted text = do
+  first ← after_word wanted text
+  second ← first_word first
+  task ← number_in second.0
+  name ← name_in second.1
+  Ok (record { task = task; name = name })
+
+unfoldable pub numbered_in : List ℕ → List ℕ → Result (List ℕ) ReadFault
+numbered_in wanted text = do
+  number ← after_word wanted text
+  number_in number
+
+-- ---- one line after another
+
+unfoldable pub raw_at : ℕ → List Line → Result Raw ReadFault
+raw_at variables ls = do
+  base ← line_at (numbered_in (codes "base")) ls
+  base_vars ← lines_at variable_in variables base.1
+  entries ← all_at (codes "entry") entry_in base_vars.1
+  current ← line_at (numbered_in (codes "now")) entries.1
+  current_vars ← lines_at variable_in variables current.1
+  parked ← all_at (codes "parked") (task_in (codes "parked")) current_vars.1
+  memory ← all_at (codes "memory") (task_in (codes "memory")) parked.1
+  last ← line_at (expect (codes "end")) memory.1
+  nothing ← end_at last.1
+  Ok (record {
+    base = base.0;
+    base_vars = base_vars.0;
+    entries = entries.0;
+    current = current.0;
+    current_vars = current_vars.0;
+    parked = parked.0;
+    memory = memory.0;
+  })

@@ -1,0 +1,4 @@
+pub(crate) mod raw;
+pub(crate) mod read;
+pub(crate) mod resolve;
+pub(crate) mod shape;

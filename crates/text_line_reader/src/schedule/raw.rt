@@ -1,0 +1,31 @@
+//! A line of a schedule as it is written, before any name or number is judged.
+
+use crate::Count;
+
+/// The first word of a line that names a task alone.
+#[derive(Clone, Copy, Debug)]
+pub(crate) enum TaskVerb {
+    Begin,
+    Commit,
+    Drop,
+    Value,
+    Second,
+    Ask,
+    Again,
+    Move,
+}
+
+/// The first word of a line that names a task and a variable.
+#[derive(Clone, Copy, Debug)]
+pub(crate) enum VariableVerb {
+    Read,
+    First,
+}
+
+/// A line.
+#[derive(Clone, Copy, Debug)]
+pub(crate) enum RawMove<'a> {
+    OfTask(TaskVerb, Count<'a>),
+    OfVariable(VariableVerb, Count<'a>, &'a str),
+    Word,
+}

@@ -1,0 +1,112 @@
+//! From the words of a schedule to its moves: names as ids, and integers as numbers.
+
+ghost use Rattle.std.specs.Prelude.{◌≡◌, ◌⊎◌, IfErr};
+ghost use Rattle.std.specs.List.{list_all};
+ghost use Rattle.text_words.specs.Answers.{Gives};
+ghost use Rattle.text_words.specs.declared.fault.ReadFault.TheVariants.{Name, Limit};
+ghost use Rattle.text_line_reader.specs.ScheduleResolving.{is_known, task_move, variable_move, variable_id, move_told};
+ghost use Rattle.text_line_reader.specs.ScheduleResolving.{moves_told, resolved};
+ghost use Rattle.text_line_reader.specs.ScheduleView.{view_move, view_moves};
+
+use crate::schedule::raw::{RawMove, TaskVerb, VariableVerb};
+use crate::task_id;
+use std::alloc::Global;
+use text_words::ReadFault;
+use txn::{Catalogue, Move, TaskId, VarId};
+
+/// Whether a line's variable is known, if it names one.
+fn is_known(catalogue: &Catalogue, line: RawMove<'_>) -> bool
+    ensures { result ≡ is_known catalogue.now (view_move line.entry) }
+{
+    match line {
+        RawMove::OfTask(_, _) | RawMove::Word => true,
+        RawMove::OfVariable(_, _, name) => catalogue.var_id(name).is_some(),
+    }
+}
+
+/// Whether all names are known.
+fn names_known(catalogue: &Catalogue, lines: &[RawMove<'_>]) -> bool
+    ensures { result ≡ list_all (λ line. is_known catalogue.now (view_move line)) lines.now }
+{
+    lines.iter().all(|line| is_known(catalogue, *line))
+}
+
+fn task_move(verb: TaskVerb, task: TaskId) -> Move
+    ensures { result ≡ task_move verb task }
+{
+    match verb {
+        TaskVerb::Begin => Move::Begin(task),
+        TaskVerb::Commit => Move::Commit(task),
+        TaskVerb::Drop => Move::Drop(task),
+        TaskVerb::Value => Move::Value(task),
+        TaskVerb::Second => Move::Second(task),
+        TaskVerb::Ask => Move::Ask(task),
+        TaskVerb::Again => Move::Again(task),
+        TaskVerb::Move => Move::Move(task),
+    }
+}
+
+fn variable_move(verb: VariableVerb, task: TaskId, variable: VarId) -> Move
+    ensures { result ≡ variable_move verb task variable }
+{
+    match verb {
+        VariableVerb::Read => Move::Read(task, variable),
+        VariableVerb::First => Move::First(task, variable),
+    }
+}
+
+#[tactic(auto, unfolding(crate::specs::ScheduleResolving::variable_id))]
+fn variable_id(catalogue: &Catalogue, name: &str) -> Result<VarId, ReadFault>
+    ensures value { Gives (λ x. x) result (variable_id catalogue.now name.now) }
+    ensures kind { IfErr result (λ e. e ≡ Name) }
+{
+    catalogue.var_id(name).ok_or(ReadFault::Name)
+}
+
+/// The move of a line.
+fn move_told(catalogue: &Catalogue, line: RawMove<'_>) -> Result<Move, ReadFault>
+    ensures value { Gives (λ x. x) result (move_told catalogue.now (view_move line.entry)) }
+    ensures kind { IfErr result (λ e. (e ≡ Name) ⊎ (e ≡ Limit)) }
+{
+    match line {
+        RawMove::OfTask(verb, number) => {
+            let task = task_id(catalogue, number)?;
+            Ok(task_move(verb, task))
+        }
+        RawMove::OfVariable(verb, number, name) => {
+            let task = task_id(catalogue, number)?;
+            let variable = variable_id(catalogue, name)?;
+            Ok(variable_move(verb, task, variable))
+        }
+        RawMove::Word => Ok(Move::Word),
+    }
+}
+
+fn moves_told(
+    alloc: Global,
+    catalogue: &Catalogue,
+    lines: &[RawMove<'_>],
+) -> Result<Vec<Move>, ReadFault>
+    ensures { Gives (λ x. x.items) result (moves_told catalogue.now (view_moves lines.now)) }
+{
+    let mut made = Vec::with_capacity(alloc, lines.len())?;
+    'lines: for line in lines {
+        made.push(move_told(catalogue, *line)?)?;
+    }
+    Ok(made)
+}
+
+/// The moves of the lines: their names are judged first, and then their numbers.
+pub(crate) fn resolved(
+    alloc: Global,
+    catalogue: &Catalogue,
+    lines: &[RawMove<'_>],
+) -> Result<Vec<Move>, ReadFault>
+    ensures { Gives (λ x. x.items) result (resolved catalogue.now (view_moves lines.now)) }
+{
+    if names_known(catalogue, lines) {
+        moves_told(alloc, catalogue, lines)
+    } else {
+        Err(ReadFault::Name)
+    }
+}

@@ -1,5 +1,0 @@
-use Rattle.text_lines.proofs.Parting.{line_parted}
-use Rattle.text_lines.proofs.lines.next_line.Goals as goal
-
-pub returns-clause-value : goal.returns-clause-value
-returns-clause-value c = line_parted c.part.result c.args.bytes.now c.part.ensures.value

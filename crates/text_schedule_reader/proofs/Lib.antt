@@ -1,9 +1,0 @@
-pub mod Steps
-pub mod Rows
-pub mod Written
-pub mod Places
-pub mod Backs
-pub mod Agains
-pub mod Blame
-pub mod Known
-pub mod Reading

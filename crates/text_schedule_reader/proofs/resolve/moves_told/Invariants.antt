@@ -1,8 +1,0 @@
-use Rattle.std.proofs.Common.{◌≡◌, drop}
-use Rattle.text_lines.proofs.Each.{joined}
-use Rattle.text_schedule_reader.specs.Resolving.{moves_told}
-use Rattle.text_schedule_reader.specs.View.{view_moves}
-use Rattle.text_schedule_reader.proofs.resolve.moves_told.Given as goal
-
-abbrev pub invariant-lines : goal.invariant-lines
-invariant-lines l = joined l.made.items (moves_told l.catalogue (view_moves (drop l.line-index l.lines))) ≡ moves_told l.catalogue (view_moves l.lines)

@@ -1,0 +1,5 @@
+mod Equal
+mod Named
+pub mod Weights
+pub mod Beside
+mod Copying

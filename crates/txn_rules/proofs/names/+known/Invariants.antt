@@ -1,7 +1,0 @@
-use Rattle.std.proofs.Common.{◌≡◌, drop}
-use Rattle.txn_programs.specs.Tree.{statements_of_list}
-use Rattle.txn_programs.specs.Names.{knows_statements}
-use Rattle.txn_rules.proofs.names.+known.Given as goal
-
-abbrev pub invariant-statements_known-loop-part : goal.invariant-statements_known-loop-part
-invariant-statements_known-loop-part l = knows_statements l.count (statements_of_list (drop l.part-index l.parts)) ≡ knows_statements l.count (statements_of_list l.parts)

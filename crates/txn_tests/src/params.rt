@@ -1,0 +1,72 @@
+//! The parameters of transactions: what `Catalogue::build` refuses of them, and what a catalogue tells.
+
+use crate::bodies::{Body, Holds};
+use crate::build::{Of, expect};
+use crate::limits::{LIMIT, LONG, LONGER, NAME};
+use txn::{BuildFault, ParamId};
+
+const NAMES: &[(Of, Option<BuildFault>)] = &[
+    (Of::Params(&["from", "to"], ParamId(1), &[]), None),
+    (Of::Params(&["1st"], ParamId(0), &[]), NAME),
+    (Of::Params(&[""], ParamId(0), &[]), NAME),
+    (Of::Params(&["from", "from"], ParamId(1), &[]), NAME),
+    (Of::Params(&["from", "x"], ParamId(1), &[]), NAME),
+    (Of::Params(&["x1", "t"], ParamId(1), &[]), None),
+];
+
+#[test]
+fn names_of_parameters_are_their_own(rt: HostRuntime) {
+    expect(&rt, rt.alloc(), NAMES);
+}
+
+const IDS: &[(Of, Option<BuildFault>)] = &[
+    (Of::Params(&["from", "to"], ParamId(2), &[]), NAME),
+    (Of::Params(&[], ParamId(0), &[]), NAME),
+    (Of::Always(&[("a", Holds::Param)], Body::Skips), NAME),
+];
+
+#[test]
+fn parameters_are_known(rt: HostRuntime) {
+    expect(&rt, rt.alloc(), IDS);
+}
+
+const CALLS: &[(Of, Option<BuildFault>)] = &[
+    (
+        Of::Params(&["from", "to"], ParamId(1), &[&[3, -4], &[0, 0]]),
+        None,
+    ),
+    (
+        Of::Params(&["from", "to"], ParamId(1), &[&[3, -4], &[3]]),
+        NAME,
+    ),
+    (
+        Of::Params(&["from", "to"], ParamId(1), &[&[3, -4, 5]]),
+        NAME,
+    ),
+    (Of::Params(&["from", "to"], ParamId(1), &[&[]]), NAME),
+];
+
+#[test]
+fn each_parameter_has_an_argument(rt: HostRuntime) {
+    expect(&rt, rt.alloc(), CALLS);
+}
+
+const EIGHT: &[&str] = &["a", "b", "c", "d", "e", "f", "g", "h"];
+
+const NINE: &[&str] = &["a", "b", "c", "d", "e", "f", "g", "h", "i"];
+
+const LIMITS: &[(Of, Option<BuildFault>)] = &[
+    (
+        Of::Params(EIGHT, ParamId(7), &[&[1, -2, 3, -4, 5, -6, 7, -8]]),
+        None,
+    ),
+    (Of::Params(NINE, ParamId(8), &[]), LIMIT),
+    (Of::Params(&[LONG], ParamId(0), &[]), None),
+    (Of::Params(&[LONGER], ParamId(0), &[]), LIMIT),
+    (Of::Params(&[LONGER, LONGER], ParamId(0), &[]), NAME),
+];
+
+#[test]
+fn parameters_are_eight_at_most(rt: HostRuntime) {
+    expect(&rt, rt.alloc(), LIMITS);
+}
