@@ -154,8 +154,8 @@ static void *works_to_the_end(void *own) {
 static void closed_while_they_run(const char *text, uint32_t first, uint32_t second) {
     struct worker workers[MOST_THREADS] = {{0}};
     pthread_t threads[MOST_THREADS];
-    struct judged judged = {{" returned ", "\nparked "}, {0}, 0};
-    stm_service_options options = {0, 0, 32, NULL, NULL};
+    struct judged judged = {{" returned "}, {0}, 0}, end = {{"\nparked "}, {0}, 0};
+    stm_service_options options = {0, 0, 32, judges, &judged};
     long outcomes = 0;
     service = opens(text, &options);
     for (int i = 0; i < MOST_THREADS; i++)
@@ -166,8 +166,9 @@ static void closed_while_they_run(const char *text, uint32_t first, uint32_t sec
     uint64_t entered = stm_service_entered(service);
     for (int i = 0; i < MOST_THREADS; i++) pthread_join(threads[i], NULL), outcomes += workers[i].outcomes;
     judges_the_last(service, &judged);
+    judges_the_last(service, &end);
     wants(stm_service_entered(service) == entered && (uint64_t)outcomes == entered);
-    wants(judged.lines[0] == outcomes && judged.lines[1] == 0);
+    wants(judged.lines[0] == outcomes && end.lines[0] == 0);
     stm_service_free(service);
 }
 
