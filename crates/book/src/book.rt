@@ -86,8 +86,8 @@ impl<'a> Book<'a> {
     ghost use Rattle.txn_programs.specs.Told.{told};
     ghost use Rattle.book_storage.specs.PackedEntries.{told_run};
     ghost use Rattle.book.specs.View.{opened, IsRunning, stands, committed, checkpointed};
-    ghost use Rattle.book.specs.Turns.{Taken, TakenFrom, IsEndOf, EndsOn, EndsAs, Finished, IsLeft, Served, Turn, Drains};
-    ghost use Rattle.book.specs.Turns.{kept_short, readied, IsIdle, without_journal, ReportIs};
+    ghost use Rattle.book.specs.Turns.{Taken, TakenFrom, IsEndOf, EndsOn, EndsAs, Finished, IsLeft, Served};
+    ghost use Rattle.book.specs.Turns.{Turn, Drains, kept_short, readied, IsIdle, without_journal, ReportIs};
     ghost use Rattle.book.specs.LawfulBook.{LawfulBook, BookFits, KeepsConditions, Waits};
     ghost use Rattle.book.specs.Waiting.{ParkedWait};
     ghost use Rattle.attempt.specs.Room.{TakesMemory};

@@ -2,8 +2,8 @@
 //!
 //! `ast` has the programs, `arguments` what a call gives its transaction, `code` the instructions that
 //! programs are compiled to, `report` what a run of tasks left, `moves` the lines of a schedule, `limits` and
-//! `names` what every catalogue keeps to. The definitions stand in `specs/`, over plain trees: what a program says, and not where it
-//! lies in memory. Callers name all of it by the crate `txn`.
+//! `names` what every catalogue keeps to. The definitions stand in `specs/`, over plain trees: what a program
+//! says, and not where it lies in memory. Callers name all of it by the crate `txn`.
 #![tactic(auto)]
 
 pub mod arguments;
