@@ -8,6 +8,7 @@ any contract. It takes as many lines as the body, so that all else stays where i
 
 import glob
 import os
+import shutil
 import re
 from dataclasses import dataclass
 
@@ -115,4 +116,7 @@ def stub_room(room, kept):
         for proof in (os.path.join(room, one.folder, file) for one in others for file in PROOF_FILES):
             if os.path.exists(proof):
                 os.remove(proof)
+        for folder, name in (os.path.split(os.path.join(room, one.folder)) for one in others):
+            # Those of what is called within its body.
+            shutil.rmtree(os.path.join(folder, "fn", name), ignore_errors=True)
     return names

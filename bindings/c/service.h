@@ -54,9 +54,10 @@ int64_t stm_service_parameters(const stm_service *service, uint32_t transaction)
 /* Runs the transaction as one atomic step; where it retries, the thread waits until it was entered. It is given a
  * number for each of its parameters, in their order, which the host leaves as they are until the call ends: `NULL, 0`
  * where it has none. The outcome is STM_DONE with what it returned, STM_THROWN with what it threw, STM_OVERFLOW,
- * STM_DIVIDE_BY_ZERO, or STM_BROKEN with the condition's number; and the number of the entry in its chapter. With any
- * other answer it had no effect, and never will: STM_CLOSED; STM_MEMORY; STM_UNKNOWN: no such transaction, or it has
- * another number of parameters; STM_NO_ROOM: every task that a chapter has room for waits, or `ended` failed. */
+ * STM_DIVIDE_BY_ZERO, STM_OUTSIDE, or STM_BROKEN with the condition's number; and the number of the entry in its
+ * chapter. With any other answer it had no effect, and never will: STM_CLOSED; STM_MEMORY; STM_UNKNOWN: no such
+ * transaction, or it has another number of parameters; STM_NO_ROOM: every task that a chapter has room for waits, or
+ * `ended` failed. */
 stm_answer stm_atomically(stm_service *service, uint32_t transaction, const int64_t *arguments, size_t count);
 
 /* As `stm_atomically`, but where it retries the answer is STM_RETRIES, at once, and nothing was entered. A long one is

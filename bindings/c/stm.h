@@ -61,6 +61,8 @@ enum stm_code {
     STM_RUNNING = 14,
     /* `withdraw`: the task is neither ready nor parked, and nothing changed. */
     STM_NOT_WAITING = 15,
+    /* As STM_THROWN .. STM_BROKEN: the transaction named a cell outside its table. The task is done. */
+    STM_OUTSIDE = 16,
     /* `stm_check`: the first part of the report that does not hold. */
     STM_BAD_TEXT = 101,
     STM_BAD_BASE = 102,
@@ -258,9 +260,10 @@ int32_t stm_try_job(stm_worker *worker, stm_job job);
 int32_t stm_try(stm_worker *worker, uint32_t task);
 
 /* Brings the worker's ended attempt to the store, under the lock: how the transaction ended (STM_DONE,
- * STM_THROWN .. STM_BROKEN) with the number of the entry; STM_RETRIES (the task is parked), STM_STALE,
- * STM_NOT_RUNNING, STM_NOT_ENDED, STM_UNKNOWN, STM_OTHER_PROGRAM, STM_OTHER_CHAPTER. The worker may be of any
- * store: where its program says otherwise the attempt is refused. Its time grows with the transaction. */
+ * STM_THROWN .. STM_BROKEN, STM_OUTSIDE) with the number of the entry; STM_RETRIES (the task is parked),
+ * STM_STALE, STM_NOT_RUNNING, STM_NOT_ENDED, STM_UNKNOWN, STM_OTHER_PROGRAM, STM_OTHER_CHAPTER. The worker
+ * may be of any store: where its program says otherwise the attempt is refused. Its time grows with the
+ * transaction. */
 stm_answer stm_finish(stm_store *store, stm_worker *worker);
 
 /* A turn of a running task on the present values, under the lock: as `stm_finish`, never stale;
@@ -272,9 +275,9 @@ stm_answer stm_serial(stm_store *store, int64_t ticket);
 int32_t stm_open_lender(stm_store *store, stm_lender *out);
 
 /* A task of the call more, which has its turn at once, whatever else is ready: its ticket, and the code
- * STM_DONE or STM_THROWN .. STM_BROKEN with the value and the number of the entry; STM_RETRIES (it is parked),
- * STM_GIVEN_UP. The ticket -1 and no change: STM_NO_ROOM, STM_UNKNOWN, STM_EMPTY. What it woke is ready.
- * Under the lock. */
+ * STM_DONE, STM_THROWN .. STM_BROKEN or STM_OUTSIDE with the value and the number of the entry; STM_RETRIES
+ * (it is parked), STM_GIVEN_UP. The ticket -1 and no change: STM_NO_ROOM, STM_UNKNOWN, STM_EMPTY. What it
+ * woke is ready. Under the lock. */
 stm_turned stm_call(stm_store *store, stm_lender *lender, uint32_t transaction, const int64_t *arguments,
                     size_t count);
 
@@ -334,7 +337,7 @@ int32_t stm_report_now(stm_store *store, uint8_t *room, size_t room_length, size
 int32_t stm_file(stm_store *store, uint8_t *room, size_t room_length, size_t *wanted);
 
 /* How the call would end on one state, with no lock: STM_DONE with the value that it returns, STM_RETRIES,
- * STM_STALE, STM_THROWN .. STM_BROKEN, STM_MEMORY, STM_UNKNOWN. It has no entry. */
+ * STM_STALE, STM_THROWN .. STM_BROKEN, STM_OUTSIDE, STM_MEMORY, STM_UNKNOWN. It has no entry. */
 stm_answer stm_observe(stm_worker *worker, uint32_t transaction, const int64_t *arguments, size_t count);
 
 /* Let go, and leave the handle empty. An empty one stays so. */

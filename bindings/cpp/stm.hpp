@@ -145,8 +145,8 @@ public:
     std::optional<std::int64_t> broken() const noexcept { return told_if(STM_BROKEN); }
     /// The number of its entry in its chapter, and 0 where it was not entered: then it had no effect, and never will.
     std::uint64_t entry() const noexcept { return told_.entry; }
-    /// `STM_DONE`; entered: `STM_THROWN`, `STM_OVERFLOW`, `STM_DIVIDE_BY_ZERO`, `STM_BROKEN`; not entered:
-    /// `STM_RETRIES`, `STM_TIMED_OUT`, `STM_CLOSED`, `STM_NO_ROOM`, `STM_MEMORY`, `STM_UNKNOWN`.
+    /// `STM_DONE`; entered: `STM_THROWN`, `STM_OVERFLOW`, `STM_DIVIDE_BY_ZERO`, `STM_BROKEN`, `STM_OUTSIDE`; not
+    /// entered: `STM_RETRIES`, `STM_TIMED_OUT`, `STM_CLOSED`, `STM_NO_ROOM`, `STM_MEMORY`, `STM_UNKNOWN`.
     std::int32_t code() const noexcept { return told_.code; }
     std::string_view word() const noexcept { return stm_word(told_.code); }
 

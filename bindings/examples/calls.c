@@ -17,6 +17,7 @@ static void tell(const char *what, stm_turned turn) {
     case STM_THROWN: printf("%s: threw %lld, entry %lld\n", what, value, entry); break;
     case STM_BROKEN: printf("%s: would break condition %lld, entry %lld\n", what, value, entry); break;
     case STM_OVERFLOW:
+    case STM_OUTSIDE:
     case STM_DIVIDE_BY_ZERO: printf("%s: %s, entry %lld\n", what, stm_word(turn.code), entry); break;
     case STM_RETRIES: printf("%s: waits with ticket %lld\n", what, ticket); break;
     case STM_GIVEN_UP: printf("%s: no memory\n", what); break;

@@ -7,7 +7,7 @@ fn tell(what: &str, answer: Result<Turned, Error>) {
         Ok((_, End::Entered(entered))) => match entered.outcome {
             Outcome::Returned(value) => println!("{what}: returned {value}, entry {}", entered.number),
             Outcome::Thrown(value) => println!("{what}: threw {value}, entry {}", entered.number),
-            Outcome::Overflow | Outcome::DivideByZero | Outcome::Broken(_) => {
+            Outcome::Overflow | Outcome::DivideByZero | Outcome::Broken(_) | Outcome::Outside => {
                 println!("{what}: {:?}, entry {}", entered.outcome, entered.number)
             }
         },

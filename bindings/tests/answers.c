@@ -27,6 +27,7 @@ static const struct {
     {13, "ready"},
     {14, "running"},
     {15, "neither ready nor parked"},
+    {16, "outside its table"},
     {101, "report: text"},
     {102, "report: base"},
     {103, "report: entries"},

@@ -15,7 +15,7 @@ _stm() {
     elif [ "$command" = help ]; then
         COMPREPLY=($(compgen -W "$commands" -- "$word"))
     elif [ "${COMP_WORDS[COMP_CWORD - 1]}" = --deny ]; then
-        COMPREPLY=($(compgen -W "parked threw broke overflow zerodiv" -- "$word"))
+        COMPREPLY=($(compgen -W "parked threw broke overflow zerodiv outside" -- "$word"))
     elif [ "${word#-}" != "$word" ]; then
         COMPREPLY=($(compgen -W "$options" -- "$word"))
     else

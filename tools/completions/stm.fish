@@ -21,6 +21,6 @@ complete -c stm -n "__fish_seen_subcommand_from print" -l after -r -F -d 'a repo
 complete -c stm -n "__fish_seen_subcommand_from explore" -l states -x -d 'how many states are looked at, at most'
 complete -c stm -n "__fish_seen_subcommand_from explore" -l to -x -d 'a report of a run that comes to this end'
 complete -c stm -n "__fish_seen_subcommand_from explore" -l find -x -d 'a report of a run that comes to such a turn'
-complete -c stm -n "__fish_seen_subcommand_from explore" -l deny -x -a 'parked threw broke overflow zerodiv' -d 'status 1 where some order comes to it'
+complete -c stm -n "__fish_seen_subcommand_from explore" -l deny -x -a 'parked threw broke overflow zerodiv outside' -d 'status 1 where some order comes to it'
 complete -c stm -n "__fish_seen_subcommand_from explore" -l dot -d 'the graph of the states, for Graphviz'
 complete -c stm -n "__fish_seen_subcommand_from explain" -l schedule -r -F -d 'a schedule of the file, which is explained in its place'

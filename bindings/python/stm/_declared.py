@@ -7,6 +7,7 @@ from typing import Any, Dict, List, Tuple
 
 # What the calls answer, by the names of the header.
 DONE, RETRIES, GIVEN_UP, THROWN, OVERFLOW, DIVIDE_BY_ZERO, BROKEN, MORE, NO_END = 0, 1, 4, 5, 6, 7, 8, 9, 10
+OUTSIDE = 16
 BAD_TEXT, BAD_BASE, BAD_ENTRIES, BAD_PRESENT, BAD_TASKS, BAD_PARKED = 101, 102, 103, 104, 105, 106
 MEMORY, SHORT, UNKNOWN, NO_ROOM, CLOSED, TIMED_OUT = -6, -8, -9, -14, -19, -20
 

@@ -55,6 +55,10 @@ class DivideByZero(Fault, ZeroDivisionError):
     """A division by 0."""
 
 
+class Outside(Fault, IndexError):
+    """A cell outside its table."""
+
+
 class Broken(Fault):
     """It would have broken the standing condition of this name."""
 

@@ -17,6 +17,7 @@ from ._faults import (
     Fault,
     NoRoom,
     OutOfMemory,
+    Outside,
     Overflow,
     Retries,
     Thrown,
@@ -31,6 +32,7 @@ from ._library import library, word
 _SAME = {
     _declared.OVERFLOW: Overflow,
     _declared.DIVIDE_BY_ZERO: DivideByZero,
+    _declared.OUTSIDE: Outside,
     _declared.RETRIES: Retries,
     _declared.TIMED_OUT: TimedOut,
     _declared.CLOSED: Closed,

@@ -64,6 +64,8 @@ pub enum Outcome {
     DivideByZero,
     /// It would have broken the standing condition of this number.
     Broken(u32),
+    /// It named a cell outside its table.
+    Outside,
 }
 
 /// The entry of a task: its number in the chapter, and how the transaction ended.
@@ -150,6 +152,8 @@ pub enum Observed {
     DivideByZero,
     /// It would break the standing condition of this number.
     Broken(u32),
+    /// It names a cell outside its table.
+    Outside,
     /// What was read is no longer so: try again.
     Stale,
     /// A growth was refused.
@@ -164,6 +168,7 @@ impl From<Outcome> for Observed {
             Outcome::Overflow => Observed::Overflow,
             Outcome::DivideByZero => Observed::DivideByZero,
             Outcome::Broken(condition) => Observed::Broken(condition),
+            Outcome::Outside => Observed::Outside,
         }
     }
 }

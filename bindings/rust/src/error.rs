@@ -107,7 +107,7 @@ impl fmt::Display for Error {
 
 impl std::error::Error for Error {}
 
-/// Why a call on a service returned nothing. With the first four a call was entered, but that of `observe`, and had no
+/// Why a call on a service returned nothing. With the first five a call was entered, but that of `observe`, and had no
 /// effect on the variables; with the others it was not entered, and never will be.
 #[derive(Clone, Copy, Debug, PartialEq, Eq)]
 pub enum Fault {
@@ -116,6 +116,8 @@ pub enum Fault {
     DivideByZero,
     /// It would have broken the standing condition of this number.
     Broken(u32),
+    /// It named a cell outside its table.
+    Outside,
     /// It retries: of `try_atomically` and `observe`.
     Retries,
     /// It still waited when its time was up.
@@ -149,6 +151,7 @@ impl fmt::Display for Fault {
             }
             Fault::Overflow => "a result is outside 64 bits",
             Fault::DivideByZero => "a division by 0",
+            Fault::Outside => "a cell outside its table",
             Fault::Retries => "the transaction retries",
             Fault::TimedOut => "the time is up",
             Fault::Closed => "the service is closed",

@@ -32,6 +32,7 @@ mod code {
     pub const READY: i32 = 13;
     pub const RUNNING: i32 = 14;
     pub const NOT_WAITING: i32 = 15;
+    pub const OUTSIDE: i32 = 16;
     pub const BAD_TEXT: i32 = 101;
     pub const BAD_BASE: i32 = 102;
     pub const BAD_ENTRIES: i32 = 103;
@@ -339,6 +340,7 @@ fn outcome(told: &Told) -> Option<Outcome> {
         code::OVERFLOW => Some(Outcome::Overflow),
         code::DIVIDE_BY_ZERO => Some(Outcome::DivideByZero),
         code::BROKEN => Some(Outcome::Broken(told.value as u32)),
+        code::OUTSIDE => Some(Outcome::Outside),
         _ => None,
     }
 }

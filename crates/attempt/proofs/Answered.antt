@@ -1,16 +1,20 @@
 -- What a program needs and writes: a variable that it may name and that is not logged, and writes in order.
-use Rattle.std.proofs.Common.{◌≡◌, ℕ, zero, suc, ◌+◌, ◌<◌, Bool, true, false, List, [], ◌∷◌, Option, Some, None, Result, Ok, Err, ℤ, refl, subst}
+use Rattle.std.proofs.Common.{◌≡◌, ℕ, zero, suc, ◌+◌, ◌<◌, Bool, true, false, List, [], ◌∷◌, Option, Some, None, Result, Ok, Err, ℤ, pos, negsuc, nat_lt, if◌then◌else◌, ◌≤◌, refl, subst, arith}
+use Rattle.std.proofs.lemmas.Bool.Decides.{nat_tests}
 use Rattle.std.specs.Ordering.{int_eq}
 use Rattle.std.specs.Int.RustNames.{int_lt, int_le}
 use Rattle.txn_programs.specs.Arithmetic.{sum_of, difference_of, product_of, quotient_of, remainder_of}
-use Rattle.txn_programs.specs.Meaning.{both, negated, and_then, or_else, Ending, Done, Threw, Retried, then_do, unless_retried, with_number, choose, repeated, demanded}
-use Rattle.txn_programs.specs.Scope.{ExpressionKnown, ConditionKnown, StatementKnown, StatementsKnown, ConditionsKnown, ProgramKnown}
+use Rattle.txn_programs.specs.Tables.{cell_of, joined}
+use Rattle.txn_programs.specs.Meaning.{both, then_value, joined_from, negated, and_then, or_else, Ending, Done, Threw, Retried, then_do, unless_retried, with_number, with_cell, choose, repeated, demanded}
+use Rattle.txn_programs.specs.Scope.{TableKnown, ExpressionKnown, ConditionKnown, StatementKnown, StatementsKnown, ConditionsKnown, ProgramKnown}
 use Rattle.txn_programs.specs.declared.ast.VarId.{VarId}
+use Rattle.txn_programs.specs.declared.ast.Span.{Span}
+use Rattle.txn_programs.specs.declared.ast.Fold.{Fold}
 use Rattle.txn_programs.specs.declared.ast.Fault.{Fault}
-use Rattle.txn_programs.specs.declared.ast.Fault.TheVariants.{User, Broken}
+use Rattle.txn_programs.specs.declared.ast.Fault.TheVariants.{User, Broken, Outside}
 use Rattle.txn_programs.specs.declared.ast.AlwaysId.{AlwaysId}
 use Rattle.txn_programs.specs.declared.ast.Outcome.{Outcome}
-use Rattle.txn_programs.specs.Tree.{Expression, Int, Var, Param, Add, Sub, Mul, Div, Rem, Condition, Eq, Lt, Le, Not, And, Or, Statement, Skip, Set, Seq, If, Repeat, Retry, OrElse, Throw, Statements, End, More, Program}
+use Rattle.txn_programs.specs.Tree.{Expression, Int, Var, Param, Cell, OfAll, Add, Sub, Mul, Div, Rem, Condition, Eq, Lt, Le, Not, And, Or, Statement, Skip, Set, Put, Seq, If, Repeat, Retry, OrElse, Throw, Statements, End, More, Program}
 use Rattle.attempt_machine.specs.declared.found.Halt.{Halt}
 use Rattle.attempt_machine.specs.declared.found.Halt.TheVariants.{Need, Fails}
 use Rattle.attempt.specs.declared.next.Stand.TheVariants as stand
@@ -48,10 +52,44 @@ halting_asks : (n : ℕ) (log : Known) (r : Result ℤ Fault) → Asks n log (ha
 halting_asks n log (Ok v) = tt
 halting_asks n log (Err f) = tt
 
+then_asks : {A : Type 0} (n : ℕ) (log : Known) (f : A → Result ℤ Halt) → ((v : A) → Asks n log (f v)) → (r : Result A Halt) → Asks n log r → Asks n log (then_value r f)
+then_asks n log f h (Ok v) p = h v
+then_asks n log f h (Err (Need z)) p = p
+then_asks n log f h (Err (Fails e)) p = tt
+
+nat_lt_less : (i n : ℕ) → nat_lt i n ≡ true → i < n
+nat_lt_less i n e = grind (arith, nat_tests)
+
+-- a cell is a variable that may be named
+cell_known : (n : ℕ) (t : Span) (i : ℤ) (x : VarId) → TableKnown n t → cell_of t i ≡ Ok x → x.0 < n
+cell_known n t (negsuc i) x k e = absurd (cc e)
+cell_known n t (pos i) x k e = at (nat_lt i t.length) refl e
+  where
+    at : (b : Bool) → nat_lt i t.length ≡ b → (if b then Ok (record { 0 = t.first + i }) else Err Outside) ≡ Ok x → x.0 < n
+    at true f e =
+        let less = nat_lt_less i t.length f in
+        let same : t.first + i ≡ x.0 = cc e in
+        omega (arith, k, less, same)
+    at false f e = absurd (cc e)
+
+cell_asks : (n : ℕ) (log w : Known) (t : Span) (i : ℤ) → TableKnown n t → Asks n log (then_value (halting (cell_of t i)) (see log w))
+cell_asks n log w t i k = at (cell_of t i) refl
+  where
+    at : (c : Result VarId Fault) → cell_of t i ≡ c → Asks n log (then_value (halting c) (see log w))
+    at (Ok x) e = see_asks n log w x (cell_known n t i x k e)
+    at (Err f) e = tt
+
+all_ask : (n : ℕ) (log w : Known) (f : Fold) (many x : ℕ) (v : ℤ) → x + many ≤ n → Asks n log (joined_from (λ x y. halting (joined f x y)) (see log w) many x v)
+all_ask n log w f zero x v le = tt
+all_ask n log w f (suc many) x v le =
+    then_asks n log _ (λ u. then_asks n log _ (λ s. all_ask n log w f many (suc x) s (omega (arith, le))) _ (halting_asks n log (joined f v u))) _ (see_asks n log w (record { 0 = x }) (omega (arith, le)))
+
 value_asks : (n : ℕ) (log w : Known) (e : Expression) → ExpressionKnown n e → Asks n log (see_value e log w)
 value_asks n log w (Int v) k = tt
 value_asks n log w (Param p) k = tt
 value_asks n log w (Var x) k = see_asks n log w x k
+value_asks n log w (Cell t a) k = then_asks n log _ (λ i. cell_asks n log w t i k.0) _ (value_asks n log w a k.1)
+value_asks n log w (OfAll f t) k = all_ask n log w f t.length t.first _ k
 value_asks n log w (Add a b) k = both_asks n log (λ x y. halting (sum_of x y)) (λ x y. halting_asks n log (sum_of x y)) _ _ (value_asks n log w a k.0) (value_asks n log w b k.1)
 value_asks n log w (Sub a b) k = both_asks n log (λ x y. halting (difference_of x y)) (λ x y. halting_asks n log (difference_of x y)) _ _ (value_asks n log w a k.0) (value_asks n log w b k.1)
 value_asks n log w (Mul a b) k = both_asks n log (λ x y. halting (product_of x y)) (λ x y. halting_asks n log (product_of x y)) _ _ (value_asks n log w a k.0) (value_asks n log w b k.1)
@@ -112,6 +150,13 @@ number_well n log f h (Ok v) p = h v
 number_well n log f h (Err (Need x)) p = p
 number_well n log f h (Err (Fails e)) p = tt
 
+cell_well : (n : ℕ) (log w : Known) (t : Span) (i v : ℤ) → TableKnown n t → AreWrites n w → EndsWell n log (with_cell (halting (cell_of t i)) (λ x. Done (write w x v)))
+cell_well n log w t i v k p = at (cell_of t i) refl
+  where
+    at : (c : Result VarId Fault) → cell_of t i ≡ c → EndsWell n log (with_cell (halting c) (λ x. Done (write w x v)))
+    at (Ok x) e = (AllKnown-write n w x v (cell_known n t i x k e) p.0, Ascending-write w x v p.1)
+    at (Err f) e = tt
+
 choose_well : (n : ℕ) (log : Known) (c : Result Bool Halt) (a b : Ending Known Halt) → Asks n log c → EndsWell n log a → EndsWell n log b → EndsWell n log (choose c a b)
 choose_well n log (Ok true) a b p q r = q
 choose_well n log (Ok false) a b p q r = r
@@ -127,6 +172,7 @@ mutual
   pub run_well : (n : ℕ) (log : Known) (s : Statement) (w : Known) → StatementKnown n s → AreWrites n w → EndsWell n log (see_run s log w)
   run_well n log Skip w k p = p
   run_well n log (Set x e) w k p = number_well n log (λ v. Done (write w x v)) (λ v. (AllKnown-write n w x v k.0 p.0, Ascending-write w x v p.1)) _ (value_asks n log w e k.1)
+  run_well n log (Put t a b) w k p = number_well n log _ (λ i. number_well n log _ (λ v. cell_well n log w t i v k.0 p) _ (value_asks n log w b k.1.1)) _ (value_asks n log w a k.1.0)
   run_well n log (Seq parts) w k p = run_all_well n log parts w k p
   run_well n log (If c a b) w k p = choose_well n log _ _ _ (truth_asks n log w c k.0) (run_well n log a w k.1 p) (run_well n log b w k.2 p)
   run_well n log (Repeat i s) w k p = repeated_well n log (see_run s log) (λ w' q. run_well n log s w' k q) i w p

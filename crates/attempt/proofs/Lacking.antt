@@ -1,4 +1,4 @@
--- An attempt that stopped before its end: its program has an `orelse`, or there are more variables than a log has places for.
+-- An attempt that stopped before its end: its program has an `orelse` or writes a cell, or there are more variables than a log has places for.
 use Rattle.std.proofs.Common.{◌≡◌, ◌≢◌, ◌<◌, ◌≤◌, length, pos, refl, arith}
 use Rattle.txn_programs.specs.declared.ast.VarId.{VarId}
 use Rattle.txn_programs.specs.declared.ast.Outcome.{Outcome}

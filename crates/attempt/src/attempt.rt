@@ -25,7 +25,7 @@ use std::alloc::Global;
 use std::marker::Model;
 use txn::{Catalogue, Memory, Outcome, TxId, VarId};
 use txn_programs::Arguments;
-use txn_programs::limits::MAX_VARIABLES;
+use txn_programs::limits::MAX_VALUES;
 
 /// One evaluation of a transaction with its arguments over what it was told, as far as it has come. A clause
 /// sees an `AttemptView`.
@@ -219,8 +219,8 @@ impl<'a> Attempt<'a> {
     /// and the state after it is that state with the `writes` stored in it.
     ///
     /// `Memory` where a growth was refused: an `orelse` takes memory, and so does a write in its
-    /// first branch. Then the attempt is spent, and each later answer is `Memory`. A transaction
-    /// without an `orelse` never meets it.
+    /// first branch, or to a table's cell. Then the attempt is spent, and each later answer is `Memory`. A
+    /// transaction without an `orelse` that writes no cell never meets it.
     pub fn advance(&mut self) -> Next
         ensures answers { Answers result self.new }
         ensures program { self.new.program ≡ self.old.program }
@@ -307,8 +307,8 @@ impl<'a> Attempt<'a> {
     /// `steps` are the nodes that were entered, each once.
     ///
     /// `Memory` where a growth was refused: of the log, then the attempt waits for the variable that
-    /// it needs; or as in `advance`, then it is spent. A transaction without an `orelse` over at most
-    /// eight variables never meets it.
+    /// it needs; or as in `advance`, then it is spent. A transaction without an `orelse` that writes no cell
+    /// never meets it over at most eight variables.
     pub fn evaluate_on(&mut self, values: &[i64]) -> Result<Outcome, Memory>
         requires fresh { self.old.stand ≡ Stand.Fresh }
         requires values { length values.now ≡ self.old.variables }
@@ -354,7 +354,7 @@ impl<'a> Attempt<'a> {
     #[inline(never)]
     fn go_on<R: Reader>(&mut self, reader: &mut R)
         requires fresh { self.old.stand ≡ Stand.Fresh }
-        requires values { length (R.values reader.old) ≤ MAX_VARIABLES }
+        requires values { length (R.values reader.old) ≤ MAX_VALUES }
         ensures advanced { self.new.stand ≢ Stand.Fresh }
         ensures stands { StandsAt self.new self.new.stand }
         ensures program { self.new.program ≡ self.old.program }

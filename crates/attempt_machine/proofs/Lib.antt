@@ -7,4 +7,5 @@ pub mod Kept
 pub mod Reading
 pub mod Loading
 pub mod Small
+pub mod OfCells
 pub mod Stores

@@ -18,6 +18,7 @@ pub mod reader;
 pub mod running;
 mod seeing;
 pub mod spot;
+mod tables;
 
 pub use found::{Found, Halt};
 pub use laws::{answers, frame, fuses, resumes};

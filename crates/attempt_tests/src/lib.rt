@@ -24,4 +24,6 @@ mod standing;
 #[cfg(test)]
 mod steps;
 #[cfg(test)]
+mod tables;
+#[cfg(test)]
 mod values;

@@ -1,5 +1,5 @@
 -- Distinct numbers, and how they are found.
-use Rattle.std.proofs.Common.{◌≡◌, ◌≢◌, ℕ, zero, suc, ◌+◌, ◌-◌, ◌<◌, ◌≤◌, Bool, true, false, List, [], ◌∷◌, ◌++◌, length, Some, refl, sym, ap, subst, ◌∙◌, arith, ⊎_elim, ◌==◌, eqb, ◌||◌, get_or, slice_get, Option, None}
+use Rattle.std.proofs.Common.{◌≡◌, ◌≢◌, ℕ, zero, suc, ◌-◌, ◌<◌, ◌≤◌, Bool, true, false, List, [], ◌∷◌, ◌++◌, length, Some, refl, sym, ap, subst, ◌∙◌, arith, ⊎_elim, ◌==◌, eqb, ◌||◌, get_or, slice_get, Option, None}
 use Rattle.std.specs.Prelude.{IfSome}
 use Rattle.std.specs.List.{AllByRecursion, IsDistinct, list_any}
 use Rattle.std.proofs.lemmas.Bool.Decides.{eqb_tells}
@@ -8,7 +8,7 @@ use Rattle.std.proofs.lemmas.Map.Steps.{length-le_from_distinct_below}
 use Rattle.attempt_writes.specs.NumberIndex.{AreHeads, AreLinked, IsAbsent, IsFound, IsHead, IsNewest, bucket_of}
 use Rattle.attempt_writes.proofs.Placed.{key_of}
 
-apart : (m n : ℕ) → m ≢ n → eqb m n ≡ false
+pub apart : (m n : ℕ) → m ≢ n → eqb m n ≡ false
 apart m n ne = ⊎_elim (λ (t : ((m == n) ≡ true) × (m ≡ n)). absurd (ne t.1)) (λ (t : ((m == n) ≡ false) × (m ≢ n)). t.0) (eqb_tells m n)
 
 all_more : (P : ℕ → Type 0) (xs : List ℕ) (n : ℕ) → AllByRecursion P xs → P n → AllByRecursion P (xs ++ n ∷ [])
@@ -105,12 +105,12 @@ found_empty xs heads links e f g =
       linked = λ some. absurd (omega (arith, some, no_heads));
     }
 
-all_at : (P : ℕ → Type 0) (xs : List ℕ) (k n : ℕ) → AllByRecursion P xs → slice_get xs k ≡ Some n → P n
+pub all_at : (P : ℕ → Type 0) (xs : List ℕ) (k n : ℕ) → AllByRecursion P xs → slice_get xs k ≡ Some n → P n
 all_at P [] k n a e = absurd (cc)
 all_at P (x ∷ xs) zero n a e = let same : x ≡ n = cc in subst P same a.0
 all_at P (x ∷ xs) (suc k) n a e = all_at P xs k n a.1 e
 
-not_apart : (n : ℕ) → eqb n n ≡ false → ⊥
+pub not_apart : (n : ℕ) → eqb n n ≡ false → ⊥
 not_apart n e = ⊎_elim (λ (t : ((n == n) ≡ true) × (n ≡ n)). absurd (cc)) (λ (t : ((n == n) ≡ false) × (n ≢ n)). absurd (t.1 refl)) (eqb_tells n n)
 
 -- of distinct numbers each has one place

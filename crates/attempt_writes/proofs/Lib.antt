@@ -7,3 +7,9 @@ pub mod OwnTable
 pub mod OwnNotes
 pub mod OwnHints
 pub mod OwnList
+pub mod Far
+pub mod Logged
+pub mod LogKept
+pub mod FarLines
+pub mod SortedLines
+pub mod OwnFar

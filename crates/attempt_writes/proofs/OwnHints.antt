@@ -5,7 +5,7 @@ use Rattle.std.proofs.lemmas.Option.{slice_get_within}
 use Rattle.std.proofs.Math.ListN.{set, length-set}
 use Rattle.std.proofs.Math.Seq.{drop-length, take-length}
 use Rattle.txn_programs.specs.declared.ast.VarId.{VarId}
-use Rattle.attempt_writes.specs.declared.written.Note.{Note}
+use Rattle.attempt_writes.specs.declared.note.Note.{Note}
 use Rattle.attempt_writes.specs.declared.written.Branch.{Branch}
 use Rattle.attempt_writes.specs.Own.{flat, undone, listed, marks_of, AreOthers, AreApart, AreOnce, hints_before, AreHinted, IsChangedInner, IsNotedInner, IsOther}
 use Rattle.attempt_writes.proofs.OwnTable.{get_same, get_other, known_listed, same_or_other}
@@ -103,7 +103,7 @@ hint_found ns t low e x h g other k le at =
     let within = slice_get_within ns r.0 r.2.0 r.2.1 in
     other r.2.0 (omega (arith, le, from, same)) (omega (arith, within, same)) (ap (slice_get ns) (sym same) ∙ r.2.1) r.2.2
 
-drop_get : (ns : List Note) (low k j : ℕ) → j ≡ low + k → slice_get (drop low ns) k ≡ slice_get ns j
+pub drop_get : (ns : List Note) (low k j : ℕ) → j ≡ low + k → slice_get (drop low ns) k ≡ slice_get ns j
 drop_get [] zero k j e = refl
 drop_get [] (suc low) k j e = refl
 drop_get (n ∷ ns) zero k j e =
@@ -224,7 +224,7 @@ once_entered bs b ns e once =
     (subst AreApart (sym none) tt, subst (λ (l : List Note). AreOnce l (reverse bs)) (sym all) once)
 
 -- a variable with no note has the value that it had
-other_undone : (ns : List Note) (x : VarId) (t : List (Option ℤ)) → AreOthers x ns → slice_get (undone ns t) x.0 ≡ slice_get t x.0
+pub other_undone : (ns : List Note) (x : VarId) (t : List (Option ℤ)) → AreOthers x ns → slice_get (undone ns t) x.0 ≡ slice_get t x.0
 other_undone [] x t a = refl
 other_undone (n ∷ ns) x t a = get_other (undone ns t) n.x.0 x.0 n.old (λ e. a.0 (sym e)) ∙ other_undone ns x t a.1
 

@@ -6,7 +6,7 @@ use Rattle.std.proofs.Math.ListN.{set}
 use Rattle.std.proofs.Math.Seq.{drop-append_seam, drop-length, take-append_seam, take-length}
 use Rattle.std.specs.List.{refill}
 use Rattle.txn_programs.specs.declared.ast.VarId.{VarId}
-use Rattle.attempt_writes.specs.declared.written.Note.{Note}
+use Rattle.attempt_writes.specs.declared.note.Note.{Note}
 use Rattle.attempt_writes.specs.declared.written.Branch.{Branch}
 use Rattle.attempt_writes.specs.Known.{Known}
 use Rattle.attempt_writes.specs.Own.{Mark, Marked, flat, value_in, undone, listed, written_at, marks_of, AreNested, IsListed, AreNotedListed, AreInside, HaveFloors, LeavesInner, GoesBack, HasNote, IsNoted}
@@ -55,7 +55,7 @@ noted_undone (suc h) (m ∷ ns) zero n t x v le e same = absurd (omega arith)
 noted_undone (suc h) (m ∷ ns) (suc k) n t x v le e same = noted_undone h ns k n t x v (omega arith) e same
 
 -- a write with a note of what was before is undone by it
-fresh_undone : (h : ℕ) (ns : List Note) (n : Note) (t : List (Option ℤ)) (v : Option ℤ) → h ≤ length ns → n.x.0 < length t → value_in t n.x ≡ n.old → undone (drop h (ns ++ n ∷ [])) (set t n.x.0 v) ≡ undone (drop h ns) t
+pub fresh_undone : (h : ℕ) (ns : List Note) (n : Note) (t : List (Option ℤ)) (v : Option ℤ) → h ≤ length ns → n.x.0 < length t → value_in t n.x ≡ n.old → undone (drop h (ns ++ n ∷ [])) (set t n.x.0 v) ≡ undone (drop h ns) t
 fresh_undone h ns n t v le lt e =
     ap (λ (l : List Note). undone l (set t n.x.0 v)) (drop-append-le h ns (n ∷ []) le)
     ∙ undone_append (drop h ns) n (set t n.x.0 v)
@@ -147,7 +147,7 @@ noted_fresh bs n ns k =
       nested = nested_more (length ns) (length (ns ++ n ∷ [])) (reverse bs) more k;
     }
 
-no_mark : (bs : List Branch) (ns : List Note) (kept : List ℕ) (t : List (Option ℤ)) → marks_of bs ns kept t ≡ [] → bs ≡ []
+pub no_mark : (bs : List Branch) (ns : List Note) (kept : List ℕ) (t : List (Option ℤ)) → marks_of bs ns kept t ≡ [] → bs ≡ []
 no_mark [] ns kept t e = refl
 no_mark (b ∷ bs) ns kept t e = absurd (cc)
 
@@ -273,5 +273,11 @@ kept_set ns kept i n le lt split =
 -- a write of all of a list
 pub refilled : (n : ℕ) (ns ms : List Note) → length ms ≡ n → refill n ns ms ≡ ms
 refilled n ns ms e =
+    let le : n ≤ length ms = omega (arith, e) in
+    take-append-le n ms (drop (length ms) ns) le ∙ ap (λ k. take k ms) (sym e) ∙ take-length ms
+
+-- the same of any list
+pub refilled_with : {X : Type 0} (n : ℕ) (ns ms : List X) → length ms ≡ n → refill n ns ms ≡ ms
+refilled_with n ns ms e =
     let le : n ≤ length ms = omega (arith, e) in
     take-append-le n ms (drop (length ms) ns) le ∙ ap (λ k. take k ms) (sym e) ∙ take-length ms

@@ -24,7 +24,7 @@ after_placed y p rest x v true c lt k h = (lt, k.1)
 after_placed y p rest x v false true lt k h = (lt, k)
 after_placed y p rest x v false false lt k h = (k.0, h)
 
-AllAfter-write : (y : VarId) (w : Known) (x : VarId) (v : ℤ) → y.0 < x.0 → AllAfter y w → AllAfter y (write w x v)
+pub AllAfter-write : (y : VarId) (w : Known) (x : VarId) (v : ℤ) → y.0 < x.0 → AllAfter y w → AllAfter y (write w x v)
 AllAfter-write y [] x v lt k = (lt, tt)
 AllAfter-write y (p ∷ rest) x v lt k = after_placed y p rest x v (p.0.0 == x.0) (nat_lt x.0 p.0.0) lt k (AllAfter-write y rest x v lt k.1)
 

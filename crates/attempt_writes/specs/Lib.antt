@@ -3,5 +3,10 @@ pub mod Order
 pub mod Places
 pub mod NumberIndex
 pub mod NumberIndexInside
+pub mod FarPlaces
+pub mod FarPlacesInside
 pub mod LogTableInside
+pub mod Notes
+pub mod FarWrites
+pub mod FarWritesInside
 pub mod Own

@@ -1,5 +1,5 @@
 -- Numbers in buckets: the head of a bucket leads to its newest number, and a link from each to the one before it.
-use Rattle.std.specs.Prelude.{◌≡◌, ◌≢◌, ◌<◌, ◌≤◌, ◌+◌, ◌-◌, ℕ, List, Some, length, slice_get, slice_index, bit_and, max}
+use Rattle.std.specs.Prelude.{◌≡◌, ◌≢◌, ◌<◌, ◌≤◌, ◌-◌, ℕ, List, Some, length, slice_get, slice_index, bit_and, max}
 
 -- the number is not in the list
 abbrev pub IsAbsent : List ℕ → ℕ → Type 0

@@ -1,5 +1,5 @@
 -- What the fields of a list of numbers that are found by themselves keep.
-use Rattle.std.specs.Prelude.{◌≡◌, ◌≤◌, ◌<◌, length, eqb}
+use Rattle.std.specs.Prelude.{◌≤◌, ◌<◌, length, eqb}
 use Rattle.std.specs.List.{AllByRecursion, IsDistinct}
 use Rattle.attempt_writes.specs.declared.number_index.NumberIndex.TheInside.{Inside}
 use Rattle.attempt_writes.specs.NumberIndex.{IsFound}

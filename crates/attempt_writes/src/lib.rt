@@ -6,11 +6,17 @@
 //! branch of an `orelse` retries.
 #![tactic(auto)]
 
+pub mod far_places;
+pub mod far_writes;
 pub mod layer;
 pub mod log_table;
+pub mod note;
 pub mod number_index;
+pub mod sorted_lines;
 pub mod written;
 
+pub use far_places::FarPlaces;
+pub use far_writes::FarWrites;
 pub use layer::Layer;
 pub use log_table::LogTable;
 pub use number_index::NumberIndex;

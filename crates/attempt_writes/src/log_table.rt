@@ -1,16 +1,17 @@
 //! What an attempt was told, found in constant time.
 
-ghost use Rattle.std.specs.Prelude.{◌≡◌, ◌<◌, ◌≤◌, ◌+◌, ◌*◌, ◌++◌, ◌∷◌, [], None, length};
+ghost use Rattle.std.specs.Prelude.{◌≡◌, ◌<◌, ◌≤◌, ◌+◌, ◌*◌, ◌++◌, ◌∷◌, [], None, false, length};
 ghost use Rattle.std.specs.Prelude.{take, slice_get, slice_set, IsOk, IfOk, OnOk, OnErr};
 ghost use Rattle.attempt_writes.specs.Known.{known_at};
-ghost use Rattle.attempt_writes.specs.Places.{placed_value};
+ghost use Rattle.attempt_writes.specs.Places.{pair_value};
 
+use crate::far_places::FarPlaces;
 use crate::layer::Layer;
 use smallvec::SmallVec;
 use std::alloc::{AllocError, Global};
 use std::marker::Model;
 use std::mem;
-use txn_programs::limits::MAX_VARIABLES;
+use txn_programs::limits::{MAX_VALUES, MAX_VARIABLES};
 use txn_programs::{Memory, VarId};
 
 /// Variables with a value each, in the order of supply. A clause sees the pairs.
@@ -23,8 +24,12 @@ pub struct LogTable {
     count: usize,
     /// How many lines there are.
     room: usize,
+    /// Whether a far variable was logged since the log was empty: one with no place in the table.
+    is_wide: bool,
     /// At each variable's number the place of its pair, where it has one; else any number.
-    places: [u8; MAX_VARIABLES],
+    places: [u32; MAX_VARIABLES],
+    /// The places of the far variables.
+    far: FarPlaces,
 }
 
 impl Model for LogTable {
@@ -43,14 +48,13 @@ impl Model for LogTable {
 /// A line that is no pair yet.
 const BLANK: (VarId, i64) = (VarId(0), 0);
 
-/// The value of the pair at the variable's place, if it is the variable's. Most often the place is
-/// behind all pairs, and they are not looked at.
+/// The value of the pair at a place, if it is the variable's. Most often the place is behind all
+/// pairs, and they are not looked at.
 #[inline(always)]
-fn look(lines: &Layer, count: usize, places: &[u8], x: VarId) -> Option<i64>
+fn look(lines: &Layer, count: usize, place: usize, x: VarId) -> Option<i64>
     requires { count ≤ length lines.now.items }
-    ensures { result ≡ placed_value (slice_get places.now x.0) (take count lines.now.items) x }
+    ensures { result ≡ pair_value (slice_get (take count lines.now.items) place) x }
 {
-    let place = usize::from(*places.get(x.0 as usize)?);
     if place >= count {
         return None;
     }
@@ -65,7 +69,7 @@ fn look(lines: &Layer, count: usize, places: &[u8], x: VarId) -> Option<i64>
 #[inline(never)]
 fn make_room(lines: &mut Layer) -> Result<usize, AllocError>
     requires some { 0 < length lines.old.items }
-    requires few { length lines.old.items ≤ MAX_VARIABLES }
+    requires few { length lines.old.items ≤ MAX_VALUES }
     ensures room { IfOk result (λ room. room ≡ length lines.new.items) }
     ensures twice { IfOk result (λ room. room ≡ 2 * length lines.old.items) }
     ensures front { take (length lines.old.items) lines.new.items ≡ lines.old.items }
@@ -96,7 +100,7 @@ fn append(
     requires room { room.old ≡ length lines.old.items }
     requires within { count ≤ room.old }
     requires some { 0 < room.old }
-    requires few { count < MAX_VARIABLES }
+    requires few { count < MAX_VALUES }
     ensures ok { OnOk result (take (count + 1) lines.new.items ≡ take count lines.old.items ++ pair ∷ []) }
     ensures refused { OnErr result (lines.new.items ≡ lines.old.items) }
     ensures within { OnOk result (count < room.new) }
@@ -119,6 +123,19 @@ fn cut(mut lines: Layer, count: usize) -> Layer
     lines
 }
 
+/// Drops the places of the far variables. Most often none was logged, and they are not looked at.
+#[inline(always)]
+fn forget_far(far: &mut FarPlaces, is_wide: &mut bool)
+    requires { is_wide.old ≡ false → far.old ≡ [] }
+    ensures far { far.new ≡ [] }
+    ensures narrow { is_wide.new ≡ false }
+{
+    if *is_wide {
+        far.clear();
+        *is_wide = false;
+    }
+}
+
 impl LogTable {
     /// An empty log. It takes no memory.
     pub fn new(alloc: Global) -> LogTable
@@ -128,7 +145,9 @@ impl LogTable {
             lines: SmallVec::from_buf(alloc, [BLANK; 8]),
             count: 0,
             room: 8,
+            is_wide: false,
             places: [0; MAX_VARIABLES],
+            far: FarPlaces::new(alloc),
         }
     }
 
@@ -142,7 +161,7 @@ impl LogTable {
     /// How many pairs there are.
     pub fn len(&self) -> usize
         ensures value { result ≡ length self.now }
-        ensures few { result ≤ MAX_VARIABLES }
+        ensures few { result ≤ MAX_VALUES }
     {
         self.count
     }
@@ -162,30 +181,74 @@ impl LogTable {
         let alloc = *self.lines.allocator();
         let count = mem::replace(&mut self.count, 0);
         self.room = 8;
+        forget_far(&mut self.far, &mut self.is_wide);
         let lines = mem::replace(&mut self.lines, SmallVec::from_buf(alloc, [BLANK; 8]));
         cut(lines, count)
     }
 
     /// Drops all, and keeps the room.
+    #[inline(always)]
     pub fn clear(&mut self)
         ensures { self.new ≡ [] }
     {
         self.count = 0;
+        forget_far(&mut self.far, &mut self.is_wide);
     }
 
     /// The value of a variable, if it is there.
     #[inline(always)]
-    #[tactic(auto, using(crate::proofs::Placed::known_by_place))]
     pub fn find(&self, x: VarId) -> Option<i64>
         ensures { result ≡ known_at self.now x }
     {
-        look(&self.lines, self.count, &self.places, x)
+        if x.0 as usize >= MAX_VARIABLES {
+            return self.find_far(x);
+        }
+        look(
+            &self.lines,
+            self.count,
+            self.places[x.0 as usize] as usize,
+            x,
+        )
+    }
+
+    /// The value of a far variable, if it is there.
+    #[cold]
+    #[inline(never)]
+    fn find_far(&self, x: VarId) -> Option<i64>
+        requires { MAX_VARIABLES ≤ x.0 }
+        ensures { result ≡ known_at self.now x }
+    {
+        match self.far.find(x.0) {
+            Some(place) => look(&self.lines, self.count, place, x),
+            None => None,
+        }
     }
 
     /// One pair more, of a variable that is not there.
     #[inline(always)]
     pub fn push(&mut self, x: VarId, v: i64) -> Result<(), Memory>
-        requires known { x.0 < MAX_VARIABLES }
+        requires known { x.0 < MAX_VALUES }
+        requires new { known_at self.old x ≡ None }
+        ensures ok { OnOk result (self.new ≡ self.old ++ (x, v) ∷ []) }
+        ensures refused { OnErr result (self.new ≡ self.old) }
+        ensures in_place { length self.old < 8 → IsOk result }
+    {
+        if x.0 as usize >= MAX_VARIABLES {
+            return self.push_far(x, v);
+        }
+        let place = self.count;
+        append(&mut self.lines, place, &mut self.room, (x, v))?;
+        self.count = place + 1;
+        self.places[x.0 as usize] = place as u32;
+        Ok(())
+    }
+
+    /// One pair more, of a far variable that is not there.
+    #[cold]
+    #[inline(never)]
+    fn push_far(&mut self, x: VarId, v: i64) -> Result<(), Memory>
+        requires far { MAX_VARIABLES ≤ x.0 }
+        requires known { x.0 < MAX_VALUES }
         requires new { known_at self.old x ≡ None }
         ensures ok { OnOk result (self.new ≡ self.old ++ (x, v) ∷ []) }
         ensures refused { OnErr result (self.new ≡ self.old) }
@@ -193,8 +256,9 @@ impl LogTable {
     {
         let place = self.count;
         append(&mut self.lines, place, &mut self.room, (x, v))?;
+        self.far.push(x.0, place)?;
+        self.is_wide = true;
         self.count = place + 1;
-        self.places[x.0 as usize] = place as u8;
         Ok(())
     }
 }

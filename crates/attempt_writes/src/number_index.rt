@@ -181,6 +181,13 @@ impl NumberIndex {
         self.numbers.len()
     }
 
+    /// The numbers.
+    pub fn as_slice(&self) -> &[u32]
+        ensures { result.now ≡ self.now }
+    {
+        self.numbers.as_slice()
+    }
+
     /// The place of a number in the list, if it is there.
     pub fn find(&self, number: u32) -> Option<usize>
         ensures there { IfSome result (λ k. slice_get self.now k ≡ Some number) }

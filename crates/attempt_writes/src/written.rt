@@ -10,13 +10,17 @@ ghost use Rattle.attempt_writes.specs.Known.{Known, known_at, write};
 ghost use Rattle.attempt_writes.specs.Own.{Marked, marks_of, value_in, valued, undone, AreApart, AreHinted, AreInside};
 ghost use Rattle.attempt_writes.specs.Own.{AreListed, AreNested, AreNotedListed, AreOnce, GoesBack, HasNote};
 ghost use Rattle.attempt_writes.specs.Own.{IsChangedInner, IsListed, IsNoted, IsNotedInner, IsOther, LeavesInner};
+ghost use Rattle.attempt_writes.specs.FarWrites.{far_at, far_now};
+ghost use Rattle.attempt_writes.specs.declared.written.Branch.{Branch};
 ghost use Rattle.attempt_writes.specs.Order.{AllBefore, AllKnown, Ascending};
 
+use crate::far_writes::FarWrites;
+use crate::note::{MAX_NOTES, Note, has_note, undo};
 use arrayvec::ArrayVec;
 use std::alloc::{AllocError, Global};
 use std::marker::Model;
 use txn_programs::VarId;
-use txn_programs::limits::MAX_VARIABLES;
+use txn_programs::limits::{MAX_VALUES, MAX_VARIABLES};
 
 /// How many pairs at the front are of earlier variables: by halves, and it finds them all.
 fn front(pairs: &[(VarId, i64)], x: VarId) -> usize
@@ -172,21 +176,14 @@ pub const LOOP_ROOM: usize = 32;
 /// The turns that are left of each loop.
 pub type Loops = ArrayVec<u32, LOOP_ROOM>;
 
-/// A variable that a live first branch wrote, its own write before, and the hint before.
-#[derive(Clone, Copy)]
-pub struct Note {
-    pub x: VarId,
-    pub earlier: u16,
-    pub old: Option<i64>,
-}
-
 /// A live first branch: where it begins, how many instructions further the second one does, how
-/// many notes there were, and how many loops were kept.
+/// many notes there were, and of far writes, and how many loops were kept.
 #[derive(Clone, Copy)]
 pub struct Branch {
     pub begin: usize,
     pub passed: usize,
     pub height: usize,
+    pub far: usize,
     pub floor: usize,
 }
 
@@ -244,28 +241,12 @@ fn take_up_some(loops: &mut Loops, kept: &mut Vec<u32>, floor: usize)
     kept.truncate(floor);
 }
 
-/// Whether the note at a place is the variable's, and the place from `low` on and below `high`.
-fn has_note(notes: &[Note], low: usize, high: usize, place: u16, x: VarId) -> bool
-    ensures here { result ≡ true → HasNote low high notes.now x }
-    ensures other { result ≡ false → IsOther low high notes.now place x }
-{
-    let place = usize::from(place);
-    match notes.get(place) {
-        Some(note) => low <= place && place < high && note.x.0 == x.0,
-        None => false,
-    }
-}
-
-/// How many notes there is room for: a place is kept in 16 bits. Some 256 live branches make so many,
-/// which is more than a program has.
-const MAX_NOTES: usize = 65_536;
-
 /// Notes what a variable was, unless no branch is live, as most often, or it is noted in the innermost.
 #[inline(always)]
 fn note_in_branch(
     branches: &[Branch],
     notes: &mut Vec<Note>,
-    noted: &mut [u16],
+    noted: &mut [u32],
     x: VarId,
     old: Option<i64>,
 ) -> Result<(), AllocError>
@@ -297,42 +278,12 @@ fn note_in_branch(
         return Err(AllocError);
     }
     notes.push(Note { x, earlier, old })?;
-    noted[x.0 as usize] = place as u16;
+    noted[x.0 as usize] = place as u32;
     Ok(())
 }
 
-/// Goes back in a table by the notes from `height` on, the last first, and drops them.
-#[inline(always)]
-fn undo(table: &mut [Option<i64>], notes: &mut Vec<Note>, noted: &mut [u16], height: usize)
-    requires within { height ≤ length notes.old.items }
-    requires inside { AreInside (length table.old) notes.old.items }
-    requires hints { length noted.old ≡ length table.old }
-    requires hinted { AreHinted 0 notes.old.items noted.old }
-    ensures wide { length table.new ≡ length table.old }
-    ensures hints { length noted.new ≡ length noted.old }
-    ensures height { length notes.new.items ≡ height }
-    ensures front { notes.new.items ≡ take height notes.old.items }
-    ensures hinted { AreHinted 0 notes.new.items noted.new }
-    ensures undone { (h : ℕ) → h ≤ height
-        → undone (drop h notes.new.items) table.new ≡ undone (drop h notes.old.items) table.old }
-    ensures noted { (pairs : Known) → AreNotedListed pairs notes.old.items → AreNotedListed pairs notes.new.items }
-    ensures listed { (pairs : Known) → AreNotedListed pairs notes.old.items → AreListed pairs table.old
-        → AreListed pairs table.new }
-{
-    while notes.len() > height {
-        match notes.pop() {
-            Some(note) => {
-                let Note { x, earlier, old } = note;
-                table[x.0 as usize] = old;
-                noted[x.0 as usize] = earlier;
-            }
-            None => unreachable!(),
-        }
-    }
-}
-
 /// Leaves each variable its first note of those from `low` on: how many notes there are then.
-fn join(notes: &mut [Note], noted: &mut [u16], low: usize, height: usize) -> usize
+fn join(notes: &mut [Note], noted: &mut [u32], low: usize, height: usize) -> usize
     requires within { height ≤ length notes.old }
     requires below { low ≤ height }
     requires inside { AreInside (length noted.old) notes.old }
@@ -360,7 +311,7 @@ fn join(notes: &mut [Note], noted: &mut [u16], low: usize, height: usize) -> usi
             noted[note.x.0 as usize] = note.earlier;
         } else {
             notes[kept] = note;
-            noted[note.x.0 as usize] = kept as u16;
+            noted[note.x.0 as usize] = kept as u32;
             kept += 1;
         }
     }
@@ -368,7 +319,7 @@ fn join(notes: &mut [Note], noted: &mut [u16], low: usize, height: usize) -> usi
 }
 
 /// Leaves the notes of a branch that is done, from `height` on, to the branch around it.
-fn merge(branches: &[Branch], notes: &mut Vec<Note>, noted: &mut [u16], height: usize)
+fn merge(branches: &[Branch], notes: &mut Vec<Note>, noted: &mut [u32], height: usize)
     requires within { height ≤ length notes.old.items }
     requires nested { AreNested height (reverse branches.now) }
     requires inside { AreInside (length noted.old) notes.old.items }
@@ -395,13 +346,66 @@ fn merge(branches: &[Branch], notes: &mut Vec<Note>, noted: &mut [u16], height: 
     }
 }
 
+/// How many far notes there were where the innermost live branch began, if one is live.
+fn innermost_far(branches: &[Branch]) -> Option<usize>
+    ensures none { branches.now ≡ [] → result ≡ None }
+    ensures some { (b : Branch) (outer : List Branch) → reverse branches.now ≡ b ∷ outer → result ≡ Some b.far }
+{
+    match branches.last() {
+        Some(branch) => Some(branch.far),
+        None => None,
+    }
+}
+
+/// Goes back in the far writes. Most often there are none, and nothing is looked at.
+#[inline(always)]
+fn go_back_far(far: &mut FarWrites, is_wide: bool, height: usize)
+    requires within { height ≤ length far.old.notes }
+    requires narrow { is_wide ≡ false → far.old.numbers ≡ [] }
+    ensures now { far_now far.new ≡ far_at height far.old }
+    ensures before { (h : ℕ) → h ≤ height → far_at h far.new ≡ far_at h far.old }
+    ensures numbers { far.new.numbers ≡ far.old.numbers }
+    ensures notes { height ≤ length far.new.notes }
+{
+    if is_wide {
+        far.back(height);
+    }
+}
+
+/// Makes the far pairs those that are near and then those of the far writes, if there are far writes.
+#[inline(always)]
+fn settle_far(far: &mut FarWrites, is_wide: bool, near: &[(VarId, i64)])
+    requires few { length near.now ≤ MAX_VARIABLES }
+    requires some { is_wide ≡ true → 0 < length far.old.numbers }
+    ensures pairs { is_wide ≡ true → far.new.pairs ≡ near.now ++ far_now far.old }
+    ensures now { far_now far.new ≡ far_now far.old }
+    ensures numbers { far.new.numbers ≡ far.old.numbers }
+{
+    if is_wide {
+        far.settle(near);
+    }
+}
+
+/// Drops the far writes, if there are any.
+#[inline(always)]
+fn forget_far(far: &mut FarWrites, is_wide: &mut bool)
+    requires { is_wide.old ≡ false → far.old.numbers ≡ [] }
+    ensures numbers { far.new.numbers ≡ [] }
+    ensures narrow { is_wide.new ≡ false }
+{
+    if *is_wide {
+        far.clear();
+        *is_wide = false;
+    }
+}
+
 /// Own writes. A clause sees `Own`.
 #[derive(Drop)]
 pub struct Writes {
     /// At each variable's number the value of its own write.
     table: [Option<i64>; MAX_VARIABLES],
     /// At each variable's number the place of its last note, where it has one; else any number.
-    noted: [u16; MAX_VARIABLES],
+    noted: [u32; MAX_VARIABLES],
     /// Each variable that was written, ascending, also where a retry went back behind it; its value
     /// as of `settle`.
     pairs: Pairs,
@@ -409,6 +413,10 @@ pub struct Writes {
     branches: Vec<Branch>,
     /// The loops to go back to, those of the outer branches first.
     kept: Vec<u32>,
+    /// Whether a far variable was written since all was dropped.
+    is_wide: bool,
+    /// The own writes of far variables.
+    far: FarWrites,
 }
 
 impl Model for Writes {
@@ -435,6 +443,8 @@ impl Writes {
             notes: Vec::new(alloc),
             branches: Vec::new(alloc),
             kept: Vec::new(alloc),
+            is_wide: false,
+            far: FarWrites::new(alloc),
         }
     }
 
@@ -442,7 +452,11 @@ impl Writes {
     pub fn as_slice(&self) -> &[(VarId, i64)]
         ensures { result.now ≡ self.now.pairs }
     {
-        self.pairs.as_slice()
+        if self.is_wide {
+            self.far.pairs()
+        } else {
+            self.pairs.as_slice()
+        }
     }
 
     /// The value of a variable's own write, if there is one.
@@ -450,22 +464,29 @@ impl Writes {
     pub fn find(&self, x: VarId) -> Option<i64>
         ensures { result ≡ known_at self.now.writes x }
     {
+        if x.0 as usize >= MAX_VARIABLES {
+            return self.far.find(x);
+        }
         if self.pairs.is_empty() {
             return None;
         }
         look(&self.table, x)
     }
 
-    /// Writes a variable. It takes memory in a live first branch alone, and none where the branch has
-    /// changed that variable already.
+    /// Writes a variable. Of a near one it takes memory in a live first branch alone; none is taken where
+    /// the branch has changed the variable already. Refused, writes and branches are as they were.
     #[inline(always)]
     pub fn put(&mut self, x: VarId, v: i64) -> Result<(), AllocError>
-        requires { x.0 < MAX_VARIABLES }
+        requires { x.0 < MAX_VALUES }
         ensures value { OnOk result (self.new.writes ≡ write self.old.writes x v) }
-        ensures marks { OnOk result (self.new.marks ≡ self.old.marks) }
-        ensures in_place { self.old.marks ≡ [] → IsOk result }
+        ensures marks { self.new.marks ≡ self.old.marks }
+        ensures refused { OnErr result (self.new.writes ≡ self.old.writes) }
+        ensures in_place { self.old.marks ≡ [] → x.0 < MAX_VARIABLES → IsOk result }
         ensures again { IsChangedInner self.old.marks self.old.writes x → IsOk result }
     {
+        if x.0 as usize >= MAX_VARIABLES {
+            return self.put_far(x, v);
+        }
         let old = self.table[x.0 as usize];
         note_in_branch(
             self.branches.as_slice(),
@@ -477,6 +498,23 @@ impl Writes {
         list(&mut self.pairs, old, x, v);
         self.table[x.0 as usize] = Some(v);
         Ok(())
+    }
+
+    /// Writes a far variable.
+    #[cold]
+    #[inline(never)]
+    fn put_far(&mut self, x: VarId, v: i64) -> Result<(), AllocError>
+        requires far { MAX_VARIABLES ≤ x.0 }
+        requires known { x.0 < MAX_VALUES }
+        ensures value { OnOk result (self.new.writes ≡ write self.old.writes x v) }
+        ensures marks { self.new.marks ≡ self.old.marks }
+        ensures refused { OnErr result (self.new.writes ≡ self.old.writes) }
+        ensures again { IsChangedInner self.old.marks self.old.writes x → IsOk result }
+    {
+        let k = self.far.line_of(x)?;
+        self.is_wide = true;
+        let height = innermost_far(self.branches.as_slice());
+        self.far.put(height, k, v)
     }
 
     /// A first branch begins: the loops are kept to go back to, and none is live in it.
@@ -493,11 +531,13 @@ impl Writes {
         ensures loops { OnOk result (loops.new.items ≡ []) }
     {
         let height = self.notes.len();
+        let far = self.far.height();
         let floor = self.kept.len();
         self.branches.push(Branch {
             begin,
             passed,
             height,
+            far,
             floor,
         })?;
         if loops.is_empty() {
@@ -542,6 +582,7 @@ impl Writes {
             &mut self.noted,
             branch.height,
         );
+        go_back_far(&mut self.far, self.is_wide, branch.far);
         take_up(loops, &mut self.kept, branch.floor);
         Some(Second {
             begin: branch.begin,
@@ -556,7 +597,7 @@ impl Writes {
         ensures marks { self.new.marks ≡ [] }
         ensures pairs { self.new.pairs ≡ self.old.writes }
     {
-        if self.pairs.is_empty() && self.branches.is_empty() {
+        if self.pairs.is_empty() && self.branches.is_empty() && !self.is_wide {
             return;
         }
         self.settle_some();
@@ -574,9 +615,11 @@ impl Writes {
         self.notes.clear();
         self.branches.clear();
         self.kept.clear();
+        settle_far(&mut self.far, self.is_wide, self.pairs.as_slice());
     }
 
     /// Drops all.
+    #[inline(always)]
     pub fn clear(&mut self)
         ensures writes { self.new.writes ≡ [] }
         ensures marks { self.new.marks ≡ [] }
@@ -586,5 +629,6 @@ impl Writes {
         self.notes.clear();
         self.branches.clear();
         self.kept.clear();
+        forget_far(&mut self.far, &mut self.is_wide);
     }
 }

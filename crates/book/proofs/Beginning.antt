@@ -205,7 +205,7 @@ chapter_fits b h f =
       tasks = sym (staying_length (calls b.catalogue) b.tasks (length-calls b.catalogue ∙ sym f.tasks))
           ∙ (sym (ap length (calls_begun b.catalogue b.present.state (staying (calls b.catalogue) b.tasks))) ∙ length-calls (next_catalogue b));
       few = omega (arith, f.few, carried_shorter b.tasks);
-      few_variables = omega (arith, f.few_variables, f.values);
+      few_values = omega (arith, f.few_values, f.values);
       values = refl;
       versions = zeros;
       base_values = refl;

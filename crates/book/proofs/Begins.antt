@@ -1,5 +1,5 @@
 -- A chapter begins: what the fields of a book say and keep then.
-use Rattle.std.proofs.Common.{◌≡◌, Vec, Global, ℕ, ◌+◌, ◌-◌, ◌≤◌, List, [], length, map, replicate, sym, ◌∙◌, ap, subst, arith, vec_capacity}
+use Rattle.std.proofs.Common.{◌≡◌, Vec, Global, ℕ, ◌+◌, ◌-◌, ◌≤◌, List, [], length, map, sym, ◌∙◌, ap, subst, arith, vec_capacity}
 use Rattle.std.specs.Prelude.{min}
 use Rattle.std.proofs.lemmas.List.{length-map}
 use Rattle.txn_programs.specs.declared.report.Entry.{Entry}
@@ -8,6 +8,8 @@ use Rattle.txn_programs.specs.Listing.{Listing}
 use Rattle.txn_programs.specs.Replay.{Snapshot, opening}
 use Rattle.book.specs.Tasks.{Task}
 use Rattle.book.specs.declared.stored.Stored.{Stored}
+use Rattle.book.specs.declared.since.Since.{Since}
+use Rattle.book.specs.Changed.{Follows, IsAnew}
 use Rattle.book.specs.declared.book.Book.TheInside.{Inside}
 use Rattle.book.specs.Table.{TableView}
 use Rattle.book.specs.View.{BookView}
@@ -18,19 +20,14 @@ use Rattle.book.specs.Chapters.{ChapterView, chapter_of, next_catalogue, entered
 use Rattle.book.proofs.Kept.{opening_is}
 use Rattle.book.proofs.Beginning.{chapter_lawful, chapter_fits, carried_valued, carried_open, carried_shorter}
 
--- the same values, number 0 and versions 0
-pub record IsAnew (now was : Stored) : Type 0 where
-  pub number : now.number ≡ 0
-  pub values : now.values.items ≡ was.values.items
-  pub versions : now.versions.items ≡ replicate (length was.values.items) 0
-
 -- the parts of a new chapter
-pub record Begins (b : Inside) (chapter : ChapterView) (table : TableView) (base present : Stored) (journal : Vec Entry Global) (before spare : ℕ) : Type 0 where
+pub record Begins (b : Inside) (chapter : ChapterView) (table : TableView) (base present : Stored) (since : Since) (journal : Vec Entry Global) (before spare : ℕ) : Type 0 where
   pub listing : chapter.listing ≡ next_catalogue (book_of b)
   pub room : chapter.room ≡ b.chapter.room
   pub carried_is : table ≡ carried_on b.table
   pub base_is : IsAnew base b.present
   pub present_is : IsAnew present b.present
+  pub follows : Follows base present since
   pub journal_is : journal.items ≡ []
   pub capacity : vec_capacity b.journal ≤ vec_capacity journal
   pub before_is : before ≡ b.before + b.present.number
@@ -39,9 +36,9 @@ pub record Begins (b : Inside) (chapter : ChapterView) (table : TableView) (base
 same_carried : (m : State) (ts : List Task) → length (carried (map (with_values m) ts)) ≡ length (carried ts)
 same_carried m ts = ap length (sym (carried_valued m ts)) ∙ length-map (carried ts) (with_values m)
 
-pub begins_view : (b : Inside) (chapter : ChapterView) (table : TableView) (base present : Stored) (journal : Vec Entry Global) (before spare : ℕ) → Begins b chapter table base present journal before spare
-    → book_of (record b { chapter = chapter; table = table; base = base; present = present; journal = journal; before = before; spare = spare }) ≡ chapter_of (book_of b)
-begins_view b chapter table base present journal before spare h =
+pub begins_view : (b : Inside) (chapter : ChapterView) (table : TableView) (base present : Stored) (since : Since) (journal : Vec Entry Global) (before spare : ℕ) → Begins b chapter table base present since journal before spare
+    → book_of (record b { chapter = chapter; table = table; base = base; present = present; since = since; journal = journal; before = before; spare = spare }) ≡ chapter_of (book_of b)
+begins_view b chapter table base present since journal before spare h =
     let v = book_of b in
     let m = b.present.values.items in
     let l = next_catalogue v in
@@ -63,11 +60,11 @@ over_counted b k =
     let m = b.present.values.items in
     omega (arith, k.fits.counted, carried_open (map (with_values m) b.table.tasks), same_carried m b.table.tasks, length-map b.table.tasks (with_values m))
 
-pub kept_begins : (b : Inside) (chapter : ChapterView) (table : TableView) (base present : Stored) (journal : Vec Entry Global) (before spare : ℕ) → Begins b chapter table base present journal before spare
-    → IsKept b → IsKept (record b { chapter = chapter; table = table; base = base; present = present; journal = journal; before = before; spare = spare })
-kept_begins b chapter table base present journal before spare h k =
+pub kept_begins : (b : Inside) (chapter : ChapterView) (table : TableView) (base present : Stored) (since : Since) (journal : Vec Entry Global) (before spare : ℕ) → Begins b chapter table base present since journal before spare
+    → IsKept b → IsKept (record b { chapter = chapter; table = table; base = base; present = present; since = since; journal = journal; before = before; spare = spare })
+kept_begins b chapter table base present since journal before spare h k =
     let v = book_of b in
-    let view = begins_view b chapter table base present journal before spare h in
+    let view = begins_view b chapter table base present since journal before spare h in
     let ts = b.table.tasks in
     let size : length table.tasks ≡ length (carried ts) = ap (λ (x : TableView). length x.tasks) h.carried_is in
     let left : table.spare ≡ b.table.spare + (length ts - length (carried ts)) = ap (λ (x : TableView). x.spare) h.carried_is in
@@ -85,6 +82,7 @@ kept_begins b chapter table base present journal before spare h k =
       few = k.few;
       clock = omega (arith, h.before_is, h.spare_is, size, counted, k.clock);
       variables = ap (λ (x : TableView). x.variables) h.carried_is ∙ (k.variables ∙ sym wide);
+      since = h.follows;
     }
 
 -- what came over fits

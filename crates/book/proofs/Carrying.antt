@@ -9,7 +9,7 @@ use Rattle.book.specs.declared.task.Slot.{Slot}
 use Rattle.book.specs.declared.task.Slot.TheVariants as standing
 use Rattle.book.specs.Tasks.{Task}
 use Rattle.book.specs.Tasks.{Ready, Running, Parked, Done, GivenUp}
-use Rattle.book.specs.Standings.{shown, shown_from, HaveRows, bare}
+use Rattle.book.specs.Standings.{shown, shown_from, HaveRows, bare, Kept}
 use Rattle.book.specs.Turns.{readied_one}
 use Rattle.book.specs.Table.{is_ready, waits_low, IsWaiting}
 use Rattle.book.specs.TableInside.{AreSets, places}
@@ -268,25 +268,25 @@ sets_cut ts n m ready sleepers free h =
           h.known t log (at_place ts m t (Parked log) (ap (λ (xs : List Task). slice_get xs t) (sym (take-append-drop n ts)) ∙ get_append_left (take n ts) (drop n ts) t (Parked log) first));
     }
 
-take_from : (w : ℕ) (names : List ℕ) (k : ℕ) (ss : List Slot) (n : ℕ) → shown_from w names k (take n ss) ≡ take n (shown_from w names k ss)
+take_from : (w : ℕ) (names : Kept) (k : ℕ) (ss : List Slot) (n : ℕ) → shown_from w names k (take n ss) ≡ take n (shown_from w names k ss)
 take_from w names k ss zero = refl
 take_from w names k [] (suc n) = refl
 take_from w names k (s ∷ ss) (suc n) = ap (λ (ts : List Task). shown w names k s ∷ ts) (take_from w names (k + 1) ss n)
 
-pub shown_take : (w : ℕ) (names : List ℕ) (ss : List Slot) (n : ℕ) → shown_from w names 0 (take n ss) ≡ take n (shown_from w names 0 ss)
+pub shown_take : (w : ℕ) (names : Kept) (ss : List Slot) (n : ℕ) → shown_from w names 0 (take n ss) ≡ take n (shown_from w names 0 ss)
 shown_take w names ss n = take_from w names 0 ss n
 
-pub rows_cut : (w : ℕ) (names : List ℕ) (ss : List Slot) (n : ℕ) → HaveRows w names ss → HaveRows w names (take n ss)
+pub rows_cut : (w : ℕ) (names : Kept) (ss : List Slot) (n : ℕ) → HaveRows w names ss → HaveRows w names (take n ss)
 rows_cut w names ss n rows =
     record {
       fits = λ t m e. rows.fits t m (before t m e);
-      whole = λ t m e. rows.whole t m (before t m e);
+      whole = λ few t m e. rows.whole few t m (before t m e);
     } where
       before : (t m : ℕ) → slice_get (take n ss) t ≡ Some (standing.Parked m) → slice_get ss t ≡ Some (standing.Parked m)
       before t m e = ap (λ (xs : List Slot). slice_get xs t) (sym (take-append-drop n ss)) ∙ get_append_left (take n ss) (drop n ss) t (standing.Parked m) e
 
 -- whether a task stays is told by its standing
-pub stays_shown : (w : ℕ) (names : List ℕ) (k : ℕ) (s : Slot) → stays (bare s) ≡ stays (shown w names k s)
+pub stays_shown : (w : ℕ) (names : Kept) (k : ℕ) (s : Slot) → stays (bare s) ≡ stays (shown w names k s)
 stays_shown w names k standing.Ready = refl
 stays_shown w names k standing.Running = refl
 stays_shown w names k (standing.Parked n) = refl

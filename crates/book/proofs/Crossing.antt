@@ -19,8 +19,10 @@ use Rattle.txn_programs.specs.contracts.ast.Stmt as stmt
 use Rattle.txn_programs.specs.contracts.ast.Stmt.TheKnot as sk
 use Rattle.txn_programs.specs.declared.ast.Stmt.TheBlock.{member-Stmt}
 use Rattle.txn_programs.specs.contracts.ast.Tx as tx
+use Rattle.txn_programs.proofs.ast.Span.TheSendSync as span
 use Rattle.txn.specs.contracts.catalogue.Catalogue as catalogue
 use Rattle.cells.proofs.Crossing.{publisher_send, shared_send}
+use Rattle.book.proofs.since.Since.TheSendSync as since
 use Rattle.book.proofs.stored.Stored.TheSendSync as stored
 use Rattle.book.proofs.task.Slot.TheSendSync as slot
 use Rattle.book.proofs.table.TaskTable.TheSendSync as table
@@ -30,9 +32,24 @@ use Rattle.txn_programs.proofs.arguments.Call.TheSendSync as call
 use Rattle.book.specs.contracts.book.Book as book
 
 step_expr : (h : ek.the_members → RattleType) → ((j : ek.the_members) → IsSync (h j)) → IsSync (layer_row ek.ring member-Expr h)
-step_expr h all = let b = Box-sync (h member-Expr) (all member-Expr) in variants_sync (let r = h member-Expr in ek.type-Expr r r r r r r r r r r) (
+step_expr h all = let b = Box-sync (h member-Expr) (all member-Expr) in variants_sync (let r = h member-Expr in ek.type-Expr r r r r r r r r r r r) (
   (search sendable, tt),
-  ((search sendable, tt), ((search sendable, tt), ((b, (b, tt)), ((b, (b, tt)), ((b, (b, tt)), ((b, (b, tt)), ((b, (b, tt)), tt))))))),
+  (
+    (search sendable, tt),
+    (
+      (search sendable, tt),
+      (
+        (span.the_sync, (b, tt)),
+        (
+          (span.the_sync, tt),
+          (
+            (span.the_sync, tt),
+            ((span.the_sync, tt), ((b, (b, tt)), ((b, (b, tt)), ((b, (b, tt)), ((b, (b, tt)), ((b, (b, tt)), tt)))))),
+          ),
+        ),
+      ),
+    ),
+  ),
 )
 
 expr_each : (i : ek.the_members) (h : ek.the_members → RattleType) → ((j : ek.the_members) → IsSync (h j)) → IsSync (layer_row ek.ring i h)
@@ -65,7 +82,7 @@ cond_sync = let b = Box-sync ck.hole-Cond cond_hole in variants_sync cond.enum (
 step_stmt : (h : sk.the_members → RattleType) → ((j : sk.the_members) → IsSync (h j)) → IsSync (layer_row sk.ring member-Stmt h)
 step_stmt h all = let b = Box-sync (h member-Stmt) (all member-Stmt) in let v = Vec-sync (h member-Stmt) (all member-Stmt) in variants_sync (let r = h member-Stmt in sk.type-Stmt r r r r r r) (
   tt,
-  ((search sendable, (expr_sync, tt)), ((v, tt), ((cond_sync, (b, (b, tt))), ((search sendable, (b, tt)), (tt, ((b, (b, tt)), ((expr_sync, tt), tt))))))),
+  ((search sendable, (expr_sync, tt)), ((span.the_sync, (expr_sync, (expr_sync, tt))), ((v, tt), ((cond_sync, (b, (b, tt))), ((search sendable, (b, tt)), (tt, ((b, (b, tt)), ((expr_sync, tt), tt)))))))),
 )
 
 stmt_each : (i : sk.the_members) (h : sk.the_members → RattleType) → ((j : sk.the_members) → IsSync (h j)) → IsSync (layer_row sk.ring i h)
@@ -77,7 +94,7 @@ stmt_hole = fix_sync sk.ring (λ i. record { sync = stmt_each i }) member-Stmt
 pub stmt_sync : IsSync stmt.the_row
 stmt_sync = let b = Box-sync sk.hole-Stmt stmt_hole in let v = Vec-sync sk.hole-Stmt stmt_hole in variants_sync stmt.enum (
   tt,
-  ((search sendable, (expr_sync, tt)), ((v, tt), ((cond_sync, (b, (b, tt))), ((search sendable, (b, tt)), (tt, ((b, (b, tt)), ((expr_sync, tt), tt))))))),
+  ((search sendable, (expr_sync, tt)), ((span.the_sync, (expr_sync, (expr_sync, tt))), ((v, tt), ((cond_sync, (b, (b, tt))), ((search sendable, (b, tt)), (tt, ((b, (b, tt)), ((expr_sync, tt), tt)))))))),
 )
 
 tx_sync : IsSync tx.the_row
@@ -87,4 +104,4 @@ pub catalogue_sync : IsSync catalogue.the_row
 catalogue_sync = let t = tx_sync in let c = cond_sync in let o = op.the_sync in let a = call.the_sync in search (sendable, crosses, maps.crosses) depth 80 fits 6000
 
 pub book_send : (ℓ : NamedLft) → IsSend (book.the_row ℓ)
-book_send ℓ = let a = catalogue_sync in let b = shared_send in let c = publisher_send in let d = stored.the_send in let e = slot.the_send in let f = line.the_send in let h = table.the_send in search (sendable, crosses) depth 60
+book_send ℓ = let a = catalogue_sync in let b = shared_send in let c = publisher_send in let d = stored.the_send in let e = slot.the_send in let f = line.the_send in let h = table.the_send in let i = since.the_send in search (sendable, crosses) depth 60

@@ -5,7 +5,7 @@ use Rattle.std.proofs.lemmas.List.{length-set, length-map, length-replicate}
 use Rattle.std.proofs.lemmas.List.Elements.{All-nil, All-replicate}
 use Rattle.txn_programs.specs.declared.ast.TaskId.{TaskId}
 use Rattle.txn_programs.specs.declared.report.Entry.{Entry}
-use Rattle.txn_programs.specs.declared.limits.TheConstants.{MAX_TASKS, MAX_VARIABLES}
+use Rattle.txn_programs.specs.declared.limits.TheConstants.{MAX_TASKS, MAX_VALUES}
 use Rattle.txn_programs.specs.Meaning.{State}
 use Rattle.txn_programs.specs.Scope.{ProgramKnown}
 use Rattle.txn_programs.specs.Listing.{Listing, tasks, task_program, call_program}
@@ -25,6 +25,8 @@ use Rattle.book.proofs.Lists.{map_set, map_get}
 use Rattle.book.proofs.Filling.{told_again, ready_without, running_with, all_readied, all_ready, one_more_ready}
 use Rattle.attempt.specs.Asking.{Known}
 use Rattle.book.specs.declared.stored.Stored.{Stored}
+use Rattle.book.specs.declared.since.Since.{Since}
+use Rattle.book.specs.Changed.{Follows, AreAlike}
 use Rattle.txn_programs.specs.declared.arguments.Call.{Call}
 use Rattle.txn.specs.Grown.{grown}
 use Rattle.book.specs.Submitted.{submitted}
@@ -46,7 +48,7 @@ fits_stand b task was is h at same =
       base_versions = h.base_versions;
       recent = h.recent;
       base_recent = h.base_recent;
-      few_variables = h.few_variables;
+      few_values = h.few_values;
       known = h.known;
       programs = λ t l. h.programs t (omega (arith, l, size));
       counted = omega (arith, h.counted, size, same, open_count-set b.tasks task.0 was is at);
@@ -60,8 +62,8 @@ open_count-ready (suc n) = omega (arith, open_count-ready n)
 abbrev pub AllKnow : Listing → Type 0
 AllKnow l = (t : ℕ) → t < length (tasks l) → ProgramKnown (length l.initial) (task_program l (record { 0 = t }))
 
-fits_opened : (l : Listing) (cells : CellsId) (spare : ℕ) → length (tasks l) ≤ MAX_TASKS → length l.initial ≤ MAX_VARIABLES → AllKnow l → BookFits (opened l cells spare)
-fits_opened l cells spare few few_variables known =
+fits_opened : (l : Listing) (cells : CellsId) (spare : ℕ) → length (tasks l) ≤ MAX_TASKS → length l.initial ≤ MAX_VALUES → AllKnow l → BookFits (opened l cells spare)
+fits_opened l cells spare few few_values known =
     let size : length (replicate (length (tasks l)) Ready) ≡ length (tasks l) = length-replicate (length (tasks l)) Ready in
     let zeros : length (replicate (length l.initial) 0) ≡ length l.initial = length-replicate {A = ℕ} (length l.initial) 0 in
     let none : All (λ (v : ℕ). v ≤ 0) (replicate (length l.initial) 0) = All-replicate (λ (v : ℕ). v ≤ 0) (length l.initial) 0 (omega arith) in
@@ -74,7 +76,7 @@ fits_opened l cells spare few few_variables known =
       base_versions = zeros;
       recent = none;
       base_recent = none;
-      few_variables = few_variables;
+      few_values = few_values;
       known = All-nil (λ (e : Entry). e.tx.0 < length l.transactions);
       programs = λ t less. known t (omega (arith, less, size));
       counted = omega (arith, open_count-ready (length (tasks l)), size);
@@ -92,7 +94,7 @@ fits_checkpoint b h =
     record {
       tasks = h.tasks;
       few = h.few;
-      few_variables = h.few_variables;
+      few_values = h.few_values;
       values = h.values;
       versions = h.versions;
       base_values = h.values;
@@ -135,13 +137,13 @@ new_is l b n =
     ∙ (ap (λ (t : List Task). made l b.cells (l.initial ∷ []) (opening l) [] (opening l) t) (ap (map (with_values b.present.values.items)) n.tasks ∙ all_ready b.present.values.items (length (tasks l)))
     ∙ (ap (λ (r : ℕ). ended r b.before) n.room ∙ ap (ended (length (tasks l) + b.spare)) n.before)))))))
 
-pub kept_opened : (l : Listing) (b : Inside) → IsNew l b → length (tasks l) + b.spare ≤ MAX_TASKS → length l.initial ≤ MAX_VARIABLES → AllKnow l → Upholds l l.initial → b.room ≤ vec_capacity b.journal → b.room ≤ b.chapter.room → length l.initial ≤ vec_capacity b.changes → b.table.spare ≡ b.spare → b.table.variables ≡ length l.initial → IsKept b
-kept_opened l b n few few_variables known stands room submit_room changes_room spare variables =
+pub kept_opened : (l : Listing) (b : Inside) → IsNew l b → length (tasks l) + b.spare ≤ MAX_TASKS → length l.initial ≤ MAX_VALUES → AllKnow l → Upholds l l.initial → b.room ≤ vec_capacity b.journal → b.room ≤ b.chapter.room → length l.initial ≤ vec_capacity b.changes → b.table.spare ≡ b.spare → b.table.variables ≡ length l.initial → Follows b.base b.present b.since → IsKept b
+kept_opened l b n few few_values known stands room submit_room changes_room spare variables since =
     let is = new_is l b n in
     let size : length b.table.tasks ≡ length (tasks l) = ap length n.tasks ∙ length-replicate (length (tasks l)) Ready in
     record {
       lawful = subst LawfulBook (sym is) (lawful_opened l b.cells b.spare stands);
-      fits = subst BookFits (sym is) (fits_opened l b.cells b.spare (omega (arith, few)) few_variables known);
+      fits = subst BookFits (sym is) (fits_opened l b.cells b.spare (omega (arith, few)) few_values known);
       room = room;
       submit_room = submit_room;
       changes_room = omega (arith, changes_room, ap (λ (m : Listing). length m.initial) n.listing);
@@ -150,6 +152,7 @@ kept_opened l b n few few_variables known stands room submit_room changes_room s
       few = omega (arith, few, n.room);
       clock = omega (arith, few, size, n.before);
       variables = omega (arith, variables, ap (λ (m : Listing). length m.initial) n.listing);
+      since = since;
     }
 
 -- one task stands otherwise; it was not done and is neither done nor parked
@@ -172,6 +175,7 @@ kept_stand b table task was is k e at was_open is_open is_awake same =
       few = k.few;
       clock = omega (arith, k.clock, length-set b.table.tasks task.0 is);
       variables = k.variables;
+      since = k.since;
     })
 
 -- the lowest ready task is taken, if there is one
@@ -229,6 +233,7 @@ kept_park b table task log k e at waits =
       few = k.few;
       clock = omega (arith, k.clock, length-set b.table.tasks task.0 (Parked (unvalued log)));
       variables = k.variables;
+      since = k.since;
     })
 
 pub view_readied : (b : Inside) → book_of (record b { table = with_tasks b.table (map readied_one b.table.tasks) }) ≡ readied (book_of b)
@@ -253,11 +258,12 @@ kept_readied b table k e =
       few = k.few;
       clock = omega (arith, k.clock, length-map b.table.tasks readied_one);
       variables = k.variables;
+      since = k.since;
     })
 
 -- the base becomes the present
-pub kept_checkpoint : (b : Inside) (base : Stored) (journal : Vec Entry Global) → IsKept b → snapshot_of base ≡ snapshot_of b.present → journal.items ≡ [] → vec_capacity b.journal ≤ vec_capacity journal → IsKept (record b { base = base; journal = journal })
-kept_checkpoint b base journal k e none capacity =
+pub kept_checkpoint : (b : Inside) (base : Stored) (since : Since) (journal : Vec Entry Global) → IsKept b → Follows base b.present since → snapshot_of base ≡ snapshot_of b.present → journal.items ≡ [] → vec_capacity b.journal ≤ vec_capacity journal → IsKept (record b { base = base; since = since; journal = journal })
+kept_checkpoint b base since journal k follows e none capacity =
     let v = book_of b in
     let made : Snapshot → List Entry → BookView = λ x j. record v { base = x; journal = j } in
     let view : made (snapshot_of base) journal.items ≡ checkpointed v = ap (λ (x : Snapshot). made x journal.items) e ∙ ap (λ (j : List Entry). made (snapshot_of b.present) j) none in
@@ -272,12 +278,23 @@ kept_checkpoint b base journal k e none capacity =
       few = k.few;
       clock = k.clock;
       variables = k.variables;
+      since = follows;
     }
 
-pub same_snapshot : (n : ℕ) (values state : State) (versions vs : List ℕ) → values ≡ state → versions ≡ vs → (let r : Snapshot = record { number = n; state = values; versions = versions } in r) ≡ (let r : Snapshot = record { number = n; state = state; versions = vs } in r)
-same_snapshot n values state versions vs e f =
-    ap (λ (m : State). let r : Snapshot = record { number = n; state = m; versions = versions } in r) e
-    ∙ ap (λ (x : List ℕ). let r : Snapshot = record { number = n; state = state; versions = x } in r) f
+-- as many values and versions in the base as in the present
+pub alike : (b : Inside) → IsKept b → AreAlike b.base b.present
+alike b k =
+    record {
+      values = k.fits.base_values ∙ sym k.fits.values;
+      base_versions = k.fits.base_versions ∙ sym k.fits.values;
+      versions = k.fits.versions ∙ sym k.fits.values;
+    }
+
+pub same_parts : (base present : Stored) → base.number ≡ present.number → base.values.items ≡ present.values.items → base.versions.items ≡ present.versions.items → snapshot_of base ≡ snapshot_of present
+same_parts base present a b c =
+    ap (λ (n : ℕ). let r : Snapshot = record { number = n; state = base.values.items; versions = base.versions.items } in r) a
+    ∙ (ap (λ (m : State). let r : Snapshot = record { number = present.number; state = m; versions = base.versions.items } in r) b
+    ∙ ap (λ (v : List ℕ). let r : Snapshot = record { number = present.number; state = present.values.items; versions = v } in r) c)
 
 -- a task is submitted
 pub view_submitted : (b : Inside) (chapter : ChapterView) (table : TableView) (c : Call) → table ≡ with_one_more b.table → chapter.listing ≡ grown b.chapter.listing (c ∷ []) → book_of (record b { chapter = chapter; table = table; spare = b.spare - 1 }) ≡ submitted (book_of b) c
@@ -307,4 +324,5 @@ kept_submitted b chapter table c k e spare more same program =
       few = k.few;
       clock = omega (arith, k.clock, size, spare);
       variables = omega (arith, ap (λ (x : TableView). x.variables) e, k.variables, wide);
+      since = k.since;
     }

@@ -17,6 +17,7 @@ mod Found
 mod Waking
 mod Writes
 mod Storing
+mod Changed
 mod Raising
 mod Committing
 mod Reporting

@@ -1,9 +1,9 @@
 -- A parked task, as a table keeps it, and how it comes to another place.
-use Rattle.std.proofs.Common.{◌≡◌, ◌≢◌, ℕ, zero, suc, ◌*◌, ◌<◌, Bool, true, false, List, [], ◌∷◌, Some, length, set, get_or, refl, sym, ◌∙◌, ap, subst, arith}
+use Rattle.std.proofs.Common.{◌≡◌, ◌≢◌, ℕ, zero, suc, ◌<◌, ◌≤◌, Bool, true, false, List, [], ◌∷◌, Some, length, set, get_or, refl, sym, ◌∙◌, ap, subst, arith}
 use Rattle.std.specs.List.{slice_get}
 use Rattle.std.proofs.lemmas.Bool.{cond_both}
-use Rattle.std.proofs.lemmas.List.{length-set}
-use Rattle.std.proofs.lemmas.Option.{same_Some, slice_get_within, slice_get_read}
+use Rattle.std.proofs.lemmas.List.{length-set, get_or-set_other, get_or-set_same}
+use Rattle.std.proofs.lemmas.Option.{same_Some, slice_get_within, slice_get_read, get_or_from_slice_get}
 use Rattle.attempt.specs.Asking.{Known}
 use Rattle.attempt.specs.Order.{AllKnown}
 use Rattle.book.specs.declared.task.Slot.{Slot}
@@ -11,23 +11,23 @@ use Rattle.book.specs.declared.task.Slot.TheVariants as standing
 use Rattle.book.specs.declared.table.TaskTable.TheInside.{Inside}
 use Rattle.book.specs.Tasks.{Task}
 use Rattle.book.specs.Tasks.{Running, Parked}
-use Rattle.book.specs.Standings.{shown, shown_from, row, naming, HaveRows}
-use Rattle.book.specs.Table.{TableView, IsParked, flagged, names_low, is_ready, waits_low}
-use Rattle.book.specs.TableInside.{AreSets, table_of, tasks_of, places}
+use Rattle.book.specs.Standings.{Kept, kept_log, shown, shown_from, HaveRows}
+use Rattle.book.specs.Table.{TableView, unvalued, IsParked, flagged, names_low, is_ready, waits_low}
+use Rattle.book.specs.TableInside.{AreSets, IsSorted, table_of, tasks_of, places, kept_of}
 use Rattle.book.proofs.Lists.{get_set_other, set_same}
-use Rattle.book.proofs.Rows.{RowWritten, shown_at, shown_set, stands_parked, rows_awake, rows_parked, written_same, length_shown}
+use Rattle.book.proofs.Rows.{log_of_list, log_written, known_valued, RowWritten, shown_at, shown_set, shown_parked, shown_awake, stands_parked, rows_kept, rows_awake, rows_parked, written_same, length_shown}
 use Rattle.book.proofs.Sets.{sets_placed, sets_park, flag_stays, places_set, at_place}
 
--- a parked task, and its row
+-- a parked task, and what is kept of it
 pub record Waiting (s : Inside) (t : ℕ) : Type 0 where
   pub count : ℕ
   pub stands : slice_get s.standings.items t ≡ Some (standing.Parked count)
-  pub shown_is : slice_get (tasks_of s) t ≡ Some (Parked (naming (row s.names.items (t * s.variables) count)))
+  pub shown_is : slice_get (tasks_of s) t ≡ Some (Parked (kept_log s.variables (kept_of s) t count))
 
 pub waiting : (s : Inside) (v : TableView) (t : ℕ) → table_of s ≡ v → IsParked (slice_get v.tasks t) → Waiting s t
 waiting s v t view parked =
     let at : slice_get (tasks_of s) t ≡ Some (Parked parked.0) = ap (λ (b : TableView). slice_get b.tasks t) view ∙ parked.1 in
-    let p = stands_parked s.variables s.names.items s.standings.items t parked.0 at in
+    let p = stands_parked s.variables (kept_of s) s.standings.items t parked.0 at in
     record { count = p.0; stands = p.1; shown_is = at ∙ ap (λ (l : Known). Some (Parked l)) p.2 }
 
 pub read_at : (s : Inside) (t : ℕ) (h : Waiting s t) (read : Slot) → read ≡ get_or s.standings.items t read → slice_get s.standings.items t ≡ Some read
@@ -69,28 +69,61 @@ sets_shifted {v} ts n ready was between now from to log h at free less known siz
     subst (λ (us : List Task). AreSets v us ready now)
     (ap (λ (us : List Task). set us to (Parked log)) (places_set ts n from Running (slice_get_within ts from (Parked log) at)) ∙ places_set (set ts from Running) n to (Parked log) low) b
 
--- its standing is written there, beside its row
-pub shown_shifted : (w from to n : ℕ) (now was : List ℕ) (ss : List Slot) → RowWritten w to now was → HaveRows w was ss → slice_get ss from ≡ Some (standing.Parked n) → slice_get ss to ≡ Some standing.Running → to < from → row now (to * w) n ≡ row was (from * w) n
-    → shown_from w now 0 (set (set ss from standing.Running) to (standing.Parked n)) ≡ set (set (shown_from w was 0 ss) from Running) to (Parked (naming (row was (from * w) n)))
+-- its standing is written there, beside what is kept of it
+pub shown_shifted : (w from to n : ℕ) (now was : Kept) (ss : List Slot) → RowWritten w to now was → HaveRows w was ss → slice_get ss from ≡ Some (standing.Parked n) → slice_get ss to ≡ Some standing.Running → to < from → kept_log w now to n ≡ kept_log w was from n
+    → shown_from w now 0 (set (set ss from standing.Running) to (standing.Parked n)) ≡ set (set (shown_from w was 0 ss) from Running) to (Parked (kept_log w was from n))
 shown_shifted w from to n now was ss h rows at free less written =
     let other : to ≢ from = λ e. omega (arith, e, less) in
     let there : slice_get (set ss from standing.Running) to ≡ Some standing.Running = get_set_other ss from to standing.Running other ∙ free in
     shown_set w now (set ss from standing.Running) to (standing.Parked n)
-    ∙ (ap (λ (ts : List Task). set ts to (Parked (naming (row now (to * w) n)))) (written_same w to now was (set ss from standing.Running) h (rows_awake w from was ss (standing.Parked n) standing.Running rows at (λ m e. cc)) there)
-    ∙ (ap (λ (ts : List Task). set ts to (Parked (naming (row now (to * w) n)))) (shown_set w was ss from standing.Running)
-    ∙ ap (λ (r : List ℕ). set (set (shown_from w was 0 ss) from Running) to (Parked (naming r))) written))
+    ∙ (ap (λ (ts : List Task). set ts to (Parked (kept_log w now to n))) (written_same w to now was (set ss from standing.Running) h (rows_awake w from was ss (standing.Parked n) standing.Running rows at (λ m e. cc)) there)
+    ∙ (ap (λ (ts : List Task). set ts to (Parked (kept_log w now to n))) (shown_set w was ss from standing.Running)
+    ∙ ap (λ (l : Known). set (set (shown_from w was 0 ss) from Running) to (Parked l)) written))
 
-pub rows_shifted : (w from to n : ℕ) (now was : List ℕ) (ss : List Slot) → RowWritten w to now was → HaveRows w was ss → slice_get ss from ≡ Some (standing.Parked n) → slice_get ss to ≡ Some standing.Running → to < from → HaveRows w now (set (set ss from standing.Running) to (standing.Parked n))
+pub rows_shifted : (w from to n : ℕ) (now was : Kept) (ss : List Slot) → RowWritten w to now was → HaveRows w was ss → slice_get ss from ≡ Some (standing.Parked n) → slice_get ss to ≡ Some standing.Running → to < from → HaveRows w now (set (set ss from standing.Running) to (standing.Parked n))
 rows_shifted w from to n now was ss h rows at free less =
     let other : to ≢ from = λ e. omega (arith, e, less) in
     let there : slice_get (set ss from standing.Running) to ≡ Some standing.Running = get_set_other ss from to standing.Running other ∙ free in
     rows_parked w to n now was (set ss from standing.Running) h (rows_awake w from was ss (standing.Parked n) standing.Running rows at (λ m e. cc)) (rows.fits from n at) there
 
+pub few_of : (s : Inside) (v : TableView) → table_of s ≡ v → v.variables ≤ 256 → s.variables ≤ 256
+few_of s v view narrow = omega (arith, narrow, ap (λ (b : TableView). b.variables) view)
+
+pub many_of : (s : Inside) (v : TableView) → table_of s ≡ v → 256 < v.variables → 256 < s.variables
+many_of s v view wide = omega (arith, wide, ap (λ (b : TableView). b.variables) view)
+
+-- with many variables there is a log for each task
+pub log_within : (s : Inside) (t : ℕ) (was : Slot) → IsSorted s → 256 < s.variables → slice_get s.standings.items t ≡ Some was → t < length s.logs.items
+log_within s t was k wide at = omega (arith, slice_get_within s.standings.items t was at, k.names_room.logs wide)
+
+pub as_many : (n : ℕ) → n ≤ n
+as_many n = omega arith
+
+-- all but a task's log are kept, where another one is put
+pub log_put : (s : Inside) (t : ℕ) (l : Known) → 256 < s.variables → RowWritten s.variables t (let k : Kept = record { bytes = s.names.items; logs = set s.logs.items t l } in k) (kept_of s)
+log_put s t l wide =
+    log_written s.variables t _ (kept_of s) wide (as_many (length s.names.items)) (λ u other. get_or-set_other s.logs.items t u l [] other)
+
+pub log_read : (logs : List Known) (t : ℕ) (l : Known) → t < length logs → l ≡ get_or logs t l → l ≡ get_or logs t []
+log_read logs t l low e = sym (get_or_from_slice_get logs t l [] (slice_get_read logs (length logs) t l refl low e))
+
+-- and a parked task waits for what its log names
+pub known_log : (s : Inside) (t : ℕ) (h : Waiting s t) → IsSorted s → 256 < s.variables → AllKnown s.variables (get_or s.logs.items t [])
+known_log s t h k wide =
+    let l = kept_log s.variables (kept_of s) t h.count in
+    known_valued s.variables (get_or s.logs.items t [])
+    (subst (λ (x : Known). AllKnown s.variables x) (log_of_list s.variables (kept_of s) t h.count wide) (k.sets.known t l (at_place (tasks_of s) s.spare t (Parked l) h.shown_is)))
+
+pub waiting_within : (s : Inside) (t : ℕ) (h : Waiting s t) → t < length (places (tasks_of s) s.spare)
+waiting_within s t h =
+    let l = kept_log s.variables (kept_of s) t h.count in
+    slice_get_within (places (tasks_of s) s.spare) t (Parked l) (at_place (tasks_of s) s.spare t (Parked l) h.shown_is)
+
 -- a task that is read where it stands
-pub found_at : (s : Inside) (v : TableView) (t : ℕ) (read : Slot) → table_of s ≡ v → t < length v.tasks → read ≡ get_or s.standings.items t read → slice_get v.tasks t ≡ Some (shown s.variables s.names.items t read)
+pub found_at : (s : Inside) (v : TableView) (t : ℕ) (read : Slot) → table_of s ≡ v → t < length v.tasks → read ≡ get_or s.standings.items t read → slice_get v.tasks t ≡ Some (shown s.variables (kept_of s) t read)
 found_at s v t read view low e =
-    let within : t < length s.standings.items = omega (arith, low, ap (λ (b : TableView). length b.tasks) view, length_shown s.variables s.names.items s.standings.items) in
-    ap (λ (b : TableView). slice_get b.tasks t) (sym view) ∙ shown_at s.variables s.names.items s.standings.items t read (slice_get_read s.standings.items (length s.standings.items) t read refl within e)
+    let within : t < length s.standings.items = omega (arith, low, ap (λ (b : TableView). length b.tasks) view, length_shown s.variables (kept_of s) s.standings.items) in
+    ap (λ (b : TableView). slice_get b.tasks t) (sym view) ∙ shown_at s.variables (kept_of s) s.standings.items t read (slice_get_read s.standings.items (length s.standings.items) t read refl within e)
 
 twice : (ts : List Task) (k : ℕ) (x t : Task) → set (set ts k x) k t ≡ set ts k t
 twice [] k x t = refl
@@ -99,3 +132,42 @@ twice (u ∷ ts) (suc k) x t = ap (λ (r : List Task). u ∷ r) (twice ts k x t)
 
 pub set_back : (ts : List Task) (k : ℕ) (x t : Task) → slice_get ts k ≡ Some t → set (set ts k x) k t ≡ ts
 set_back ts k x t e = twice ts k x t ∙ set_same ts k t e
+
+-- the logs, where that of one task is moved to another's place
+abbrev pub moved_logs : Inside → ℕ → ℕ → Known → Known → Kept
+moved_logs s from to gone log = record { bytes = s.names.items; logs = set (set s.logs.items from gone) to log }
+
+abbrev left_log : Inside → ℕ → Known → Kept
+left_log s from gone = record { bytes = s.names.items; logs = set s.logs.items from gone }
+
+put_there : (s : Inside) (from to : ℕ) (gone log : Known) → 256 < s.variables → RowWritten s.variables to (moved_logs s from to gone log) (left_log s from gone)
+put_there s from to gone log wide =
+    log_written s.variables to (moved_logs s from to gone log) (left_log s from gone) wide (as_many (length s.names.items)) (λ u other. get_or-set_other (set s.logs.items from gone) to u log [] other)
+
+rows_left : (s : Inside) (from : ℕ) (h : Waiting s from) (gone : Known) → IsSorted s → HaveRows s.variables (left_log s from gone) (set s.standings.items from standing.Running)
+rows_left s from h gone k =
+    rows_kept s.variables (left_log s from gone) (kept_of s) (set s.standings.items from standing.Running) (as_many (length s.names.items))
+    (rows_awake s.variables from (kept_of s) s.standings.items (standing.Parked h.count) standing.Running k.rows h.stands (λ m e. cc))
+
+free_there : (s : Inside) (from to : ℕ) → to < from → slice_get s.standings.items to ≡ Some standing.Running → slice_get (set s.standings.items from standing.Running) to ≡ Some standing.Running
+free_there s from to less free = get_set_other s.standings.items from to standing.Running (λ e. omega (arith, e, less)) ∙ free
+
+-- a parked task with its log in another's place
+pub shown_moved : (s : Inside) (from to : ℕ) (h : Waiting s from) (gone log : Known) → IsSorted s → 256 < s.variables → slice_get s.standings.items to ≡ Some standing.Running → to < from → log ≡ get_or s.logs.items from []
+    → shown_from s.variables (moved_logs s from to gone log) 0 (set (set s.standings.items from standing.Running) to (standing.Parked h.count))
+    ≡ set (set (tasks_of s) from Running) to (Parked (kept_log s.variables (kept_of s) from h.count))
+shown_moved s from to h gone log k wide free less same =
+    let w = s.variables in
+    let n = h.count in
+    let low : to < length (set s.logs.items from gone) = omega (arith, log_within s to standing.Running k wide free, length-set s.logs.items from gone) in
+    let told : kept_log w (moved_logs s from to gone log) to n ≡ kept_log w (kept_of s) from n =
+    log_of_list w (moved_logs s from to gone log) to n wide
+    ∙ (ap unvalued (get_or-set_same (set s.logs.items from gone) to log [] low ∙ same) ∙ sym (log_of_list w (kept_of s) from n wide)) in
+    shown_parked w to n (moved_logs s from to gone log) (left_log s from gone) (set s.standings.items from standing.Running) (kept_log w (kept_of s) from n) (put_there s from to gone log wide) (rows_left s from h gone k) (free_there s from to less free) told
+    ∙ ap (λ (ts : List Task). set ts to (Parked (kept_log w (kept_of s) from n)))
+    (shown_awake w from (left_log s from gone) (kept_of s) s.standings.items (standing.Parked n) standing.Running (log_put s from gone wide) k.rows h.stands (λ m e. cc))
+
+pub rows_moved : (s : Inside) (from to : ℕ) (h : Waiting s from) (gone log : Known) → IsSorted s → 256 < s.variables → slice_get s.standings.items to ≡ Some standing.Running → to < from
+    → HaveRows s.variables (moved_logs s from to gone log) (set (set s.standings.items from standing.Running) to (standing.Parked h.count))
+rows_moved s from to h gone log k wide free less =
+    rows_parked s.variables to h.count (moved_logs s from to gone log) (left_log s from gone) (set s.standings.items from standing.Running) (put_there s from to gone log wide) (rows_left s from h gone k) (k.rows.fits from h.count h.stands) (free_there s from to less free)

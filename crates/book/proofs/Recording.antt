@@ -12,7 +12,7 @@ use Rattle.book.specs.Tasks.{Task}
 use Rattle.book.specs.Tasks.{Ready, Running, Parked, Done, GivenUp}
 use Rattle.book.specs.declared.task.Slot.{Slot}
 use Rattle.book.specs.declared.task.Slot.TheVariants as standing
-use Rattle.book.specs.Standings.{shown, shown_from}
+use Rattle.book.specs.Standings.{shown, shown_from, Kept}
 use Rattle.book.specs.Table.{TableView, IsWaiting, placed, with_tasks}
 use Rattle.book.specs.BookInside.{with_values, told_of, book_of, IsKept}
 use Rattle.book.specs.declared.book.Book.TheInside.{Inside}
@@ -26,7 +26,7 @@ use Rattle.book.proofs.Lists.{get_map, map_get, get_append, get_append_right}
 use Rattle.book.proofs.Filling.{ready_without}
 use Rattle.book.proofs.Rows.{at_shown}
 
-done_standing : (w : ℕ) (names : List ℕ) (k : ℕ) (s : Slot) (n : ℕ) → shown w names k s ≡ Done n → s ≡ standing.Done n
+done_standing : (w : ℕ) (names : Kept) (k : ℕ) (s : Slot) (n : ℕ) → shown w names k s ≡ Done n → s ≡ standing.Done n
 done_standing w names k standing.Ready n e = absurd (cc)
 done_standing w names k standing.Running n e = absurd (cc)
 done_standing w names k (standing.Parked m) n e = absurd (cc)
@@ -34,7 +34,7 @@ done_standing w names k (standing.Done m) n e = cc
 done_standing w names k standing.GivenUp n e = absurd (cc)
 
 -- a done task stands so
-pub stands_done : (w : ℕ) (names : List ℕ) (ss : List Slot) (t n : ℕ) → slice_get (shown_from w names 0 ss) t ≡ Some (Done n) → slice_get ss t ≡ Some (standing.Done n)
+pub stands_done : (w : ℕ) (names : Kept) (ss : List Slot) (t n : ℕ) → slice_get (shown_from w names 0 ss) t ≡ Some (Done n) → slice_get ss t ≡ Some (standing.Done n)
 stands_done w names ss t n e = let g = at_shown w names ss t (Done n) e in g.1 ∙ ap Some (done_standing w names t g.0 n g.2)
 
 valued_done : (m : State) (t : Task) (n : ℕ) → with_values m t ≡ Done n → t ≡ Done n

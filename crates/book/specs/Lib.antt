@@ -5,6 +5,7 @@ pub mod LawfulBook
 pub mod Waiting
 pub mod Chapters
 pub mod Openings
+pub mod Changed
 pub mod ChapterInside
 pub mod BookInside
 pub mod Turns

@@ -3,7 +3,7 @@
 ghost use Rattle.std.specs.Prelude.{◌≡◌, ◌≢◌, ◌<◌, ◌≤◌, ◌+◌, ◌∷◌, [], ℕ, length, map, IfOk, IsTrue, ◌↔◌};
 ghost use Rattle.std.specs.Prelude.{MatchBool, vec_capacity, Some, slice_get, replicate};
 ghost use Rattle.std.specs.Prelude.{OnErr};
-ghost use Rattle.txn_programs.specs.declared.limits.TheConstants.{MAX_TASKS, MAX_VARIABLES};
+ghost use Rattle.txn_programs.specs.declared.limits.TheConstants.{MAX_TASKS, MAX_VALUES};
 ghost use Rattle.txn_words.specs.Stores.{with_changes};
 ghost use Rattle.attempt.specs.Asking.{Known};
 ghost use Rattle.attempt.specs.Frame.{Agrees};
@@ -11,16 +11,19 @@ ghost use Rattle.attempt.specs.Order.{Ascending, AllKnown};
 ghost use Rattle.cells.specs.Passing.{MeetsBy};
 ghost use Rattle.book.specs.Turns.{is_committed};
 ghost use Rattle.book.specs.Openings.{IsOpening};
+ghost use Rattle.book.specs.Changed.{Follows};
 
-use crate::changing::{note_changes, store_changes};
+use crate::changing::note_changes;
 use crate::chapter::Chapter;
 use crate::clock::reach;
 use crate::counting::Counts;
 use crate::ending::bring_to_end;
 use crate::journal::enter;
+use crate::keeping::park;
 use crate::listing::{given_up, parked};
+use crate::since::Since;
 use crate::standing::Standing;
-use crate::stored::{Stored, openings, pairs, start_anew};
+use crate::stored::{Stored, openings, pairs, rebase, start_anew, store};
 use crate::table::TaskTable;
 use crate::task::{Finish, Serial};
 use crate::validate::agrees;
@@ -31,11 +34,10 @@ use std::alloc::Global;
 use std::marker::Model;
 use txn::{Catalogue, Entry, Memory, Outcome, Report, TaskId, TxId, VarId};
 
-/// The tasks of a catalogue, the journal of those that committed, and the present values. A
-/// clause sees a `BookView`. At all times the journal replays from the base to the present, no
-/// task is entered twice, the program of each parked task retries on the present values, the
-/// present values are the last state that was published, and every state keeps the standing
-/// conditions.
+/// The tasks of a catalogue, the journal of those that committed, and the present values. A clause sees a `BookView`.
+/// At all times the journal replays from the base to the present, no task is entered twice, the program of each
+/// parked task retries on the present values, the present values are the last state that was published, and every
+/// state keeps the standing conditions.
 #[derive(Drop)]
 pub struct Book<'a> {
     /// The catalogue of the present chapter.
@@ -45,6 +47,8 @@ pub struct Book<'a> {
     base: Stored,
     journal: Vec<PackedEntry>,
     present: Stored,
+    /// Which variables changed since when, where that is listed.
+    since: Since,
     /// What the last commit changed. Its room is for one change a variable.
     changes: Vec<(VarId, i64)>,
     /// How each task stands.
@@ -75,7 +79,7 @@ impl<'a> Model for Book<'a> {
 
 impl<'a> Book<'a> {
     ghost use Rattle.txn_programs.specs.Meaning.{outcome, after};
-    ghost use Rattle.txn_programs.specs.Listing.{tasks, task_tx, task_arguments, task_program, IsCallable};
+    ghost use Rattle.txn_programs.specs.Listing.{values, tasks, task_tx, task_arguments, task_program, IsCallable};
     ghost use Rattle.txn.specs.Grown.{SameProgram};
     ghost use Rattle.book.specs.Carrying.{carried};
     ghost use Rattle.book.specs.Chapters.{chapter_of, entered_in_all};
@@ -88,6 +92,7 @@ impl<'a> Book<'a> {
     ghost use Rattle.book.specs.View.{opened, IsRunning, stands, committed, checkpointed};
     ghost use Rattle.book.specs.Turns.{Taken, TakenFrom, IsEndOf, EndsOn, EndsAs, Finished, IsLeft, Served};
     ghost use Rattle.book.specs.Turns.{Turn, Drains, kept_short, readied, IsIdle, without_journal, ReportIs};
+    ghost use Rattle.book.specs.Turns.{left_parked};
     ghost use Rattle.book.specs.LawfulBook.{LawfulBook, BookFits, KeepsConditions, Waits};
     ghost use Rattle.book.specs.Waiting.{ParkedWait};
     ghost use Rattle.attempt.specs.Room.{TakesMemory};
@@ -95,13 +100,12 @@ impl<'a> Book<'a> {
     ghost use Rattle.book.specs.Table.{IsWaiting};
     ghost use Rattle.book.specs.Recorded.{IsReady, IsRecorded, told_as};
 
-    /// All tasks ready, number 0, the initial values, an empty journal. `Memory` only where a
-    /// growth was refused.
+    /// All tasks ready, number 0, the initial values, an empty journal. `Memory` only where a growth was refused.
     ///
-    /// Room for how each task stands, for one entry a task, for one change a variable, and for each
-    /// variable's set of the tasks that wait for it is taken here, and for what each of these has read, so
-    /// that no commit takes any. The cells and the publisher have to have been opened
-    /// together on the catalogue's initial values, and nothing published since.
+    /// Room for how each task stands, for one entry a task, for one change a variable, and for each variable's set of
+    /// the tasks that wait for it is taken here, and for what each of these has read, so that no commit takes any.
+    /// The cells and the publisher have to have been opened together on the catalogue's initial values, and nothing
+    /// published since.
     pub fn open(
         alloc: Global,
         catalogue: &'a Catalogue,
@@ -150,12 +154,12 @@ impl<'a> Book<'a> {
         let variables = catalogue.initial().len();
         let room = count + spare;
         let chapter = Chapter::first(alloc, catalogue, room)?;
-        let (base, present) = openings(alloc, catalogue)?;
+        let (base, present, since) = openings(alloc, catalogue)?;
         let journal = Vec::with_capacity(alloc, room)?;
         let changes = Vec::with_capacity(alloc, variables)?;
         let table = TaskTable::open(alloc, count, spare, variables)?;
         Ok(Book::of_parts(
-            chapter, cells, publisher, base, present, journal, changes, table, spare,
+            chapter, cells, publisher, base, present, since, journal, changes, table, spare,
         ))
     }
 
@@ -166,6 +170,7 @@ impl<'a> Book<'a> {
         publisher: Publisher,
         base: Stored,
         present: Stored,
+        since: Since,
         journal: Vec<PackedEntry>,
         changes: Vec<(VarId, i64)>,
         table: TaskTable,
@@ -175,12 +180,13 @@ impl<'a> Book<'a> {
         requires unused { publisher.history ≡ chapter.listing.initial ∷ [] }
         requires base { IsOpening chapter.listing base }
         requires present { IsOpening chapter.listing present }
+        requires since { Follows base present since }
         requires journal { journal.items ≡ [] }
         requires journal_room { length (tasks chapter.listing) + spare ≤ vec_capacity journal }
         requires changes_room { length chapter.listing.initial ≤ vec_capacity changes }
         requires room { length (tasks chapter.listing) + spare ≤ chapter.room }
         requires few { length (tasks chapter.listing) + spare ≤ MAX_TASKS }
-        requires few_variables { length chapter.listing.initial ≤ MAX_VARIABLES }
+        requires few_values { length chapter.listing.initial ≤ MAX_VALUES }
         requires tasks { table.tasks ≡ replicate (length (tasks chapter.listing)) Task.Ready }
         requires spare { table.spare ≡ spare }
         requires variables { table.variables ≡ length chapter.listing.initial }
@@ -195,6 +201,7 @@ impl<'a> Book<'a> {
             base,
             journal,
             present,
+            since,
             changes,
             table,
             room,
@@ -341,8 +348,7 @@ impl<'a> Book<'a> {
         self.chapter.catalogue(alloc)
     }
 
-    /// The lowest ready task, which is then running. `None` exactly if none is ready. It takes no
-    /// memory.
+    /// The lowest ready task, which is then running. `None` exactly if none is ready. It takes no memory.
     pub fn take(&mut self) -> Option<TaskId>
         ensures taken { Taken self.old result self.new }
         ensures catalogue { self.new.catalogue ≡ self.old.catalogue }
@@ -424,9 +430,9 @@ impl<'a> Book<'a> {
         self.finish_lent(task, &mut attempt)
     }
 
-    /// As `finish`, of an attempt that the caller keeps, so that it can be restarted in the room that
-    /// it has. Where the task is parked, and after a commit, it has answered once more; else it is as
-    /// it was.
+    /// As `finish`, of an attempt that the caller keeps, so that it can be restarted in the room that it has. Where
+    /// the task is parked, and after a commit, it has answered once more; else it is as it was. With more than 256
+    /// variables the book keeps the log of a task that is parked, and the attempt begins anew.
     pub fn finish_lent(&mut self, task: TaskId, attempt: &mut Attempt<'_>) -> Finish
         requires exists { task.0 < length self.old.tasks }
         requires ended { IsEndOf self.old.catalogue task attempt.old }
@@ -444,7 +450,7 @@ impl<'a> Book<'a> {
             Next::Returned(value) => Outcome::Returned(value),
             Next::Thrown(fault) => Outcome::Thrown(fault),
             Next::Retry => {
-                self.park(task, attempt.log());
+                self.park(task, attempt);
                 return Finish::Parked;
             }
             Next::Need(_) | Next::Memory => unreachable!(),
@@ -490,7 +496,9 @@ impl<'a> Book<'a> {
         // It read the present values, so its log is not compared with them once more.
         let writes = attempt.writes();
         if matches!(how, Outcome::Retries) {
-            self.park(task, attempt.log());
+            // To ask for the log is to be told that it names each variable once.
+            let _told = attempt.log();
+            self.park(task, attempt);
             return Serial::Parked;
         }
         Serial::Committed(self.commit(task, how, writes))
@@ -528,15 +536,12 @@ impl<'a> Book<'a> {
         true
     }
 
-    /// The base becomes the present number, values and versions, and the journal is empty. It
-    /// takes no memory.
+    /// The base becomes the present number, values and versions, and the journal is empty. It takes no memory.
     pub fn checkpoint(&mut self)
         ensures checkpointed { self.new ≡ checkpointed self.old }
         ensures catalogue { self.new.catalogue ≡ self.old.catalogue }
     {
-        self.base.number = self.present.number;
-        self.base.values.copy_from_slice(&self.present.values);
-        self.base.versions.copy_from_slice(&self.present.versions);
+        rebase(&mut self.base, &self.present, &mut self.since);
         self.journal.clear();
     }
 
@@ -553,9 +558,7 @@ impl<'a> Book<'a> {
         self.table.carry_on(count);
         self.before += self.present.number;
         self.spare = reach(self.before, self.room) - self.table.len();
-        start_anew(&mut self.present);
-        self.base.values.copy_from_slice(&self.present.values);
-        start_anew(&mut self.base);
+        start_anew(&mut self.base, &mut self.present, &mut self.since);
         self.journal.clear();
     }
 
@@ -600,8 +603,7 @@ impl<'a> Book<'a> {
         self.turns(&mut attempt, every);
     }
 
-    /// Gives the lowest ready task a turn until none is ready, by an attempt that is restarted for
-    /// each.
+    /// Gives the lowest ready task a turn until none is ready, by an attempt that is restarted for each.
     #[inline(never)]
     fn turns(&mut self, attempt: &mut Attempt<'a>, every: u32)
         requires { (k : ℕ) → slice_get self.old.tasks k ≢ Some Task.Running }
@@ -727,7 +729,7 @@ impl<'a> Book<'a> {
         ensures fits { BookFits self.now }
         ensures upheld { KeepsConditions self.now }
         ensures numbered { length self.now.history ≡ entered_in_all self.now + 1 }
-        ensures named { length self.now.catalogue.names ≡ length self.now.catalogue.initial }
+        ensures valued { values self.now.catalogue ≡ length self.now.catalogue.initial }
         ensures waits { ParkedWait self.now }
     {
         // Its law: a program that retries over a log does so on each state that agrees with the log.
@@ -737,12 +739,14 @@ impl<'a> Book<'a> {
     }
 
     /// The task waits for a change of a logged variable.
-    fn park(&mut self, task: TaskId, log: &[(VarId, i64)])
+    fn park(&mut self, task: TaskId, attempt: &mut Attempt<'_>)
         requires running { IsRunning self.old task }
-        requires waits { Waits self.old.catalogue self.old.present.state task log.now }
-        ensures { self.new ≡ stands self.old task (Task.Parked log.now) }
+        requires waits { Waits self.old.catalogue self.old.present.state task attempt.old.log }
+        requires variables { attempt.old.variables ≡ length self.old.catalogue.initial }
+        ensures parked { self.new ≡ stands self.old task (Task.Parked attempt.old.log) }
+        ensures left { attempt.new ≡ left_parked attempt.old }
     {
-        self.table.park(task, log);
+        park(&mut self.table, task, attempt);
     }
 
     /// The task commits with this outcome and these writes. The number of its entry.
@@ -765,12 +769,12 @@ impl<'a> Book<'a> {
         let tx = self.chapter.transaction(task);
         note_changes(&mut self.changes, writes, &self.present.values);
         self.publisher.publish(self.cells.get(), &self.changes);
-        let present = &mut self.present;
-        store_changes(
-            &mut present.values,
-            &mut present.versions,
+        store(
+            &mut self.present,
             number,
             &self.changes,
+            &self.base,
+            &mut self.since,
         );
         self.present.number = number;
         self.table.finish(task, number);

@@ -4,7 +4,7 @@
 ghost use Rattle.std.specs.Prelude.{true, IsTrue, ◌↔◌, ◌≡◌, ◌<◌, ◌≤◌, ◌++◌, ◌∷◌, [], length, map, drop, IfOk};
 ghost use Rattle.std.specs.Prelude.{Some, slice_get};
 ghost use Rattle.txn_programs.specs.declared.limits.TheConstants.{MAX_TASKS};
-ghost use Rattle.txn_programs.specs.Listing.{calls, tasks, task_tx, task_arguments, IsCallable};
+ghost use Rattle.txn_programs.specs.Listing.{values, calls, tasks, task_tx, task_arguments, IsCallable};
 ghost use Rattle.txn_programs.specs.Standing.{Upholds};
 ghost use Rattle.txn_programs.specs.Names.{names_hold};
 ghost use Rattle.txn_programs.specs.Limits.{limits_hold};
@@ -81,7 +81,7 @@ impl<'a> Chapter<'a> {
 
     /// What the chapter's catalogue keeps. It does nothing: its contract is the law.
     pub fn rules(&self)
-        ensures named { length self.now.listing.names ≡ length self.now.listing.initial }
+        ensures valued { values self.now.listing ≡ length self.now.listing.initial }
         ensures names { names_hold self.now.listing ≡ true }
         ensures limits { limits_hold self.now.listing ≡ true }
         ensures upheld { Upholds self.now.listing self.now.listing.initial }

@@ -1,13 +1,14 @@
 //! How each task stands, with the sets by which the lowest ready task and those to wake are found.
 //!
 //! A task stands in eight bytes, and a task that is never parked has nothing beside. What a parked task
-//! read lies in a row of bytes: the numbers of the variables, in the order of reading. Their values are
-//! not kept: while it is parked they are the present ones, since a commit that changes one wakes it.
+//! read lies in a row of bytes: the numbers of the variables, in the order of reading. With more variables
+//! than sets it lies in the log itself, which is moved here. The values are not looked at: while it is parked
+//! they are the present ones, since a commit that changes one wakes it.
 
 ghost use Rattle.std.specs.Prelude.{◌≡◌, ◌≢◌, ◌<◌, ◌≤◌, ◌^◌, ℕ, length, map, replicate, IfOk, IfSome, IfNone};
 ghost use Rattle.std.specs.Prelude.{MatchBool, MatchOption, Some, All, true, false, slice_get, slice_set};
 ghost use Rattle.std.specs.Prelude.{slice_index_or, cond, drop, take, ◌-◌, ◌+◌, ◌++◌, ◌∷◌, [], vec_len, vec_capacity};
-ghost use Rattle.txn_programs.specs.declared.limits.TheConstants.{MAX_TASKS, MAX_VARIABLES};
+ghost use Rattle.txn_programs.specs.declared.limits.TheConstants.{MAX_TASKS, MAX_VALUES};
 ghost use Rattle.txn_words.specs.Stores.{id_of};
 ghost use Rattle.book.specs.declared.sleepers.TheConstants.{MAX_SETS};
 ghost use Rattle.attempt.specs.Order.{AllKnown, Apart};
@@ -23,10 +24,13 @@ ghost use Rattle.book.specs.Table.{waits_for, woken_for, woken_by, unvalued};
 
 use crate::bits::lowest_bit;
 use crate::counting::Tally;
-use crate::names::{has_name, keep_names, move_row, row_of};
-use crate::sleepers::{MAX_SETS, enter, enter_row, leave, none_asleep};
+use crate::names::{
+    forget, has_name, keep_names, move_log, move_row, room_for_logs, room_for_rows, row_of,
+};
+use crate::sleepers::{MAX_SETS, enter, enter_row, leave, leave_log, none_asleep};
 use crate::standing::{Standing, told};
 use crate::task::{Slot, ended, stand, stays, trade};
+use attempt::Log;
 use book_storage::TaskSet;
 use std::alloc::{AllocError, Global};
 use std::marker::Model;
@@ -47,8 +51,12 @@ pub struct TaskTable {
     variables: usize,
     /// For the low eight bits of a variable's number the parked tasks whose log names such a variable.
     sleepers: Vec<TaskSet>,
-    /// A row for each task, as far up as tasks have been parked: a byte for each variable.
+    /// A row for each task, as far up as tasks have been parked: a byte for each variable. None with more
+    /// variables than sets.
     names: Vec<u8>,
+    /// With more variables than sets what each parked task read, and an empty log for each other one that there
+    /// is room for. Else there are none.
+    logs: Vec<Log>,
 }
 
 impl Model for TaskTable {
@@ -76,7 +84,7 @@ impl TaskTable {
         variables: usize,
     ) -> Result<TaskTable, AllocError>
         requires few { count + spare ≤ MAX_TASKS }
-        requires few_variables { variables ≤ MAX_VARIABLES }
+        requires few_variables { variables ≤ MAX_VALUES }
         ensures tasks { IfOk result (λ b. b.tasks ≡ replicate count Task.Ready) }
         ensures variables { IfOk result (λ b. b.variables ≡ variables) }
         ensures spare { IfOk result (λ b. b.spare ≡ spare) }
@@ -93,7 +101,8 @@ impl TaskTable {
             ready: TaskSet::of_first(alloc, count, room)?,
             variables,
             sleepers: none_asleep(alloc, variables, room)?,
-            names: Vec::with_capacity(alloc, room * variables)?,
+            names: room_for_rows(alloc, variables, room)?,
+            logs: room_for_logs(alloc, variables, room)?,
         })
     }
 
@@ -201,8 +210,20 @@ impl TaskTable {
         requires { IsParked (slice_get self.old.tasks task.0) }
         ensures { self.new ≡ placed self.old task Task.GivenUp }
     {
-        self.rouse(task);
+        self.unpark(task);
         self.drop_ready(task);
+    }
+
+    /// A parked task is ready.
+    fn unpark(&mut self, task: TaskId)
+        requires { IsParked (slice_get self.old.tasks task.0) }
+        ensures { self.new ≡ placed self.old task Task.Ready }
+    {
+        if self.is_wide() {
+            self.rouse_wide(task);
+        } else {
+            self.rouse(task);
+        }
     }
 
     /// A ready or a parked task is given up. `false` and no change where it was neither.
@@ -318,8 +339,18 @@ impl TaskTable {
         );
     }
 
-    /// A running task waits for a change of a logged variable. It takes no memory.
+    /// Whether variables share sets: then a parked task keeps its log.
+    #[inline(always)]
+    pub fn is_wide(&self) -> bool
+        ensures { MatchBool result (MAX_SETS < self.now.variables) (self.now.variables ≤ MAX_SETS) }
+    {
+        self.variables > MAX_SETS
+    }
+
+    /// A running task waits for a change of a logged variable, where each variable has a set of its own. It
+    /// takes no memory.
     pub fn park(&mut self, task: TaskId, log: &[(VarId, i64)])
+        requires narrow { self.old.variables ≤ MAX_SETS }
         requires running { slice_get self.old.tasks task.0 ≡ Some Task.Running }
         requires known { AllKnown self.old.variables log.now }
         requires apart { Apart log.now }
@@ -330,6 +361,29 @@ impl TaskTable {
         keep_names(&mut self.names, width, at, log);
         enter(&mut self.sleepers, log, at);
         let count = log.len() as u32;
+        stand(
+            &mut self.standings,
+            &mut self.tally,
+            task,
+            &Slot::Running,
+            Slot::Parked(count),
+        );
+    }
+
+    /// As `park`, where variables share sets. The log stays here.
+    #[cold]
+    #[inline(never)]
+    pub fn park_wide(&mut self, task: TaskId, log: Log)
+        requires wide { MAX_SETS < self.old.variables }
+        requires running { slice_get self.old.tasks task.0 ≡ Some Task.Running }
+        requires known { AllKnown self.old.variables log }
+        ensures { self.new ≡ placed self.old task (Task.Parked (unvalued log)) }
+    {
+        let at = task.0 as usize;
+        let pairs = log.as_slice();
+        enter(&mut self.sleepers, pairs, at);
+        let count = pairs.len() as u32;
+        self.logs[at] = log;
         stand(
             &mut self.standings,
             &mut self.tally,
@@ -464,6 +518,45 @@ impl TaskTable {
             (slice_set (slice_set self.old.tasks from Task.Running) to
             (slice_index_or self.old.tasks from Task.Running)) }
     {
+        if self.is_wide() {
+            self.shift_wide(from, to);
+        } else {
+            self.shift_row(from, to);
+        }
+    }
+
+    /// As `shift`, where variables share sets.
+    fn shift_wide(&mut self, from: usize, to: usize)
+        requires wide { MAX_SETS < self.old.variables }
+        requires parked { IsParked (slice_get self.old.tasks from) }
+        requires below { to < from }
+        requires free { slice_get self.old.tasks to ≡ Some Task.Running }
+        ensures { self.new
+            ≡ with_tasks self.old
+            (slice_set (slice_set self.old.tasks from Task.Running) to
+            (slice_index_or self.old.tasks from Task.Running)) }
+    {
+        let Slot::Parked(count) = &self.standings[from] else {
+            unreachable!()
+        };
+        let count = *count;
+        leave_log(&mut self.sleepers, self.logs[from].as_slice(), from);
+        enter(&mut self.sleepers, self.logs[from].as_slice(), to);
+        move_log(&mut self.logs, from, to);
+        trade(&mut self.standings, from, to, count);
+    }
+
+    /// As `shift`, where each variable has a set of its own.
+    fn shift_row(&mut self, from: usize, to: usize)
+        requires narrow { self.old.variables ≤ MAX_SETS }
+        requires parked { IsParked (slice_get self.old.tasks from) }
+        requires below { to < from }
+        requires free { slice_get self.old.tasks to ≡ Some Task.Running }
+        ensures { self.new
+            ≡ with_tasks self.old
+            (slice_set (slice_set self.old.tasks from Task.Running) to
+            (slice_index_or self.old.tasks from Task.Running)) }
+    {
         let Slot::Parked(count) = &self.standings[from] else {
             unreachable!()
         };
@@ -509,7 +602,8 @@ impl TaskTable {
     #[cold]
     #[inline(never)]
     fn wake_each_among(&mut self, changes: &[(VarId, i64)])
-        requires { (i : ℕ) → i < length changes.now → id_of changes.now i < self.old.variables }
+        requires wide { MAX_SETS < self.old.variables }
+        requires known { (i : ℕ) → i < length changes.now → id_of changes.now i < self.old.variables }
         ensures { self.new ≡ with_tasks self.old (map (woken_by changes.now) self.old.tasks) }
     {
         for change in changes {
@@ -536,7 +630,8 @@ impl TaskTable {
     /// As `wake_for`, where variables share a set: a task of the set is passed by where it waits for others of
     /// them alone.
     fn wake_among(&mut self, variable: usize)
-        requires { variable < self.old.variables }
+        requires wide { MAX_SETS < self.old.variables }
+        requires known { variable < self.old.variables }
         ensures { self.new ≡ with_tasks self.old (map (woken_for variable) self.old.tasks) }
     {
         let mut from = 0;
@@ -548,12 +643,13 @@ impl TaskTable {
 
     /// A parked task is ready where its log names the variable, and else stays as it is.
     fn rouse_for(&mut self, task: TaskId, variable: usize)
-        requires { IsParked (slice_get self.old.tasks task.0) }
+        requires wide { MAX_SETS < self.old.variables }
+        requires parked { IsParked (slice_get self.old.tasks task.0) }
         ensures { self.new
             ≡ placed self.old task (woken_for variable (slice_index_or self.old.tasks task.0 Task.Running)) }
     {
         if self.is_waiting_for(task, variable) {
-            self.rouse(task);
+            self.rouse_wide(task);
         }
     }
 
@@ -572,19 +668,13 @@ impl TaskTable {
         self.sleepers[variable % MAX_SETS].first_from(from)
     }
 
-    /// Whether the log of a parked task names the variable.
+    /// Whether the log of a parked task names the variable, where variables share sets.
     fn is_waiting_for(&self, task: TaskId, variable: usize) -> bool
-        requires { IsParked (slice_get self.now.tasks task.0) }
+        requires wide { MAX_SETS < self.now.variables }
+        requires parked { IsParked (slice_get self.now.tasks task.0) }
         ensures { slice_get (map (waits_for variable) self.now.tasks) task.0 ≡ Some result }
     {
-        let at = task.0 as usize;
-        let Slot::Parked(count) = &self.standings[at] else {
-            unreachable!()
-        };
-        has_name(
-            row_of(&self.names, self.variables, at, *count as usize),
-            variable,
-        )
+        has_name(self.logs[task.0 as usize].as_slice(), variable)
     }
 
     /// Of the tasks that wait for the variable 64 numbers: those of this word where one is left in it,
@@ -605,9 +695,34 @@ impl TaskTable {
         asleep.lowest_word()
     }
 
-    /// A parked task is ready, and waits for no variable.
+    /// A parked task is ready, and waits for no variable. Its log is let go.
+    #[cold]
+    #[inline(never)]
+    fn rouse_wide(&mut self, task: TaskId)
+        requires wide { MAX_SETS < self.old.variables }
+        requires parked { IsParked (slice_get self.old.tasks task.0) }
+        ensures { self.new ≡ placed self.old task Task.Ready }
+    {
+        let at = task.0 as usize;
+        let Slot::Parked(count) = &self.standings[at] else {
+            unreachable!()
+        };
+        let count = *count;
+        forget(&mut self.logs, &mut self.sleepers, at);
+        stand(
+            &mut self.standings,
+            &mut self.tally,
+            task,
+            &Slot::Parked(count),
+            Slot::Ready,
+        );
+        self.ready.insert(at);
+    }
+
+    /// As `rouse_wide`, where each variable has a set of its own.
     fn rouse(&mut self, task: TaskId)
-        requires { IsParked (slice_get self.old.tasks task.0) }
+        requires narrow { self.old.variables ≤ MAX_SETS }
+        requires parked { IsParked (slice_get self.old.tasks task.0) }
         ensures { self.new ≡ placed self.old task Task.Ready }
     {
         let at = task.0 as usize;

@@ -1,6 +1,6 @@
 -- What the fields of a packed entry mean, and what a report with a packed journal tells.
 use Rattle.std.specs.Prelude.{◌≡◌, ◌<◌, ◌^◌, ℕ, ℤ, pos, negsuc}
-use Rattle.txn_programs.specs.declared.ast.Fault.TheVariants.{User, Overflow, DivideByZero, Broken}
+use Rattle.txn_programs.specs.declared.ast.Fault.TheVariants.{User, Overflow, DivideByZero, Broken, Outside}
 use Rattle.txn_programs.specs.declared.ast.Outcome.{Outcome}
 use Rattle.txn_programs.specs.declared.ast.Outcome.TheVariants.{Returned, Thrown, Retries}
 use Rattle.txn_programs.specs.declared.report.Entry.{Entry}
@@ -22,6 +22,7 @@ outcome_with how.User value = Thrown (User value)
 outcome_with how.Overflow value = Thrown Overflow
 outcome_with how.DivideByZero value = Thrown DivideByZero
 outcome_with how.Broken value = Thrown (Broken (record { 0 = number_in value }))
+outcome_with how.Outside value = Thrown Outside
 outcome_with how.Retries value = Retries
 
 abbrev pub entry_of : Inside → Entry

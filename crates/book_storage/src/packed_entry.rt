@@ -14,6 +14,7 @@ pub(crate) enum How {
     Overflow,
     DivideByZero,
     Broken,
+    Outside,
     Retries,
 }
 
@@ -56,6 +57,7 @@ impl PackedEntry {
             Outcome::Thrown(Fault::Overflow) => (How::Overflow, 0),
             Outcome::Thrown(Fault::DivideByZero) => (How::DivideByZero, 0),
             Outcome::Thrown(Fault::Broken(condition)) => (How::Broken, i64::from(condition.0)),
+            Outcome::Thrown(Fault::Outside) => (How::Outside, 0),
             Outcome::Retries => (How::Retries, 0),
         };
         PackedEntry {
@@ -78,6 +80,7 @@ impl PackedEntry {
             How::Overflow => Outcome::Thrown(Fault::Overflow),
             How::DivideByZero => Outcome::Thrown(Fault::DivideByZero),
             How::Broken => Outcome::Thrown(Fault::Broken(AlwaysId(self.value as u32))),
+            How::Outside => Outcome::Thrown(Fault::Outside),
             How::Retries => Outcome::Retries,
         };
         Entry {

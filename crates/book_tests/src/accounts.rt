@@ -54,7 +54,7 @@ fn variables(alloc: Global) -> Result<Vec<(String, i64)>, AllocError> {
 
 /// Their sum has to stay 100.
 fn standing(alloc: Global) -> Result<Vec<(String, Cond)>, AllocError>
-    ensures { IfOk result (λ always. conditions (listing_of [] always.items [] []) ≡ sum_stays ∷ []) }
+    ensures { IfOk result (λ always. conditions (listing_of [] [] always.items [] []) ≡ sum_stays ∷ []) }
 {
     let name = String::from_str(alloc, "sum")?;
     let mut always = Vec::new(alloc);
@@ -85,7 +85,14 @@ fn accounts(alloc: Global) -> Result<Catalogue, BuildFault>
     let runs = [(plain(TxId(0)), 1), (plain(TxId(1)), 1)].to_vec(alloc)?;
     let variables = variables(alloc)?;
     let always = standing(alloc)?;
-    Catalogue::build(alloc, variables, always, transactions(alloc)?, runs)
+    Catalogue::build(
+        alloc,
+        variables,
+        Vec::new(alloc),
+        always,
+        transactions(alloc)?,
+        runs,
+    )
 }
 
 /// Whatever was done with the book, the sum is 100: of the base, of the present, and of all that was

@@ -48,6 +48,7 @@ fn a_line_tells_each_outcome(rt: HostRuntime) {
     assert!(rt; is_told(Outcome::Thrown(Fault::User(-7))));
     assert!(rt; is_told(Outcome::Thrown(Fault::Overflow)));
     assert!(rt; is_told(Outcome::Thrown(Fault::DivideByZero)));
+    assert!(rt; is_told(Outcome::Thrown(Fault::Outside)));
     assert!(rt; is_told(Outcome::Thrown(Fault::Broken(AlwaysId(63)))));
     assert!(rt; is_told(Outcome::Thrown(Fault::Broken(AlwaysId(u32::MAX)))));
     assert!(rt; is_told(Outcome::Retries));

@@ -6,6 +6,7 @@
 //! 2 `LoadVersion`, 3 `LoadValue`, 4 `LoadVersionAgain`; 5 `LockVersion`, 6 `StoreValue`,
 //! 7 `StoreClock`, 8 `ReleaseVersion`.
 ghost use Rattle.std.specs.Prelude.{◌≡◌, ◌+◌, ◌^◌, ◌<◌, ◌≤◌, true, length, slice_index, IfOk};
+ghost use Rattle.txn_programs.specs.declared.limits.TheConstants.{MAX_VALUES};
 ghost use Rattle.txn_words.specs.Words.{StartsWith};
 ghost use Rattle.txn_words.specs.Stores.{opened, MayLock, MayStore, MayRelease, after_lock, after_value, after_clock};
 ghost use Rattle.txn_words.specs.Stores.{after_release};
@@ -36,6 +37,7 @@ pub(crate) struct Board {
 
 impl Model for Board {
     ghost use Rattle.std.specs.Prelude.{◌≡◌, ◌+◌, ◌*◌, ◌≤◌};
+    ghost use Rattle.txn_programs.specs.declared.limits.TheConstants.{MAX_VALUES};
     ghost use Rattle.cells.specs.Cells.{CellsId};
 
     ghost Value = { CellsId };
@@ -43,7 +45,7 @@ impl Model for Board {
     ghost view = { λ b. record { table = b.table.shared.table_id; variables = b.variables; are_read = b.are_read } };
 
     ghost invariant = { λ b.
-        (b.table.shared.table_id.words ≡ 2 * b.variables + 1) × (b.variables ≤ 256) };
+        (b.table.shared.table_id.words ≡ 2 * b.variables + 1) × (b.variables ≤ MAX_VALUES) };
 }
 
 impl Board {
@@ -55,7 +57,7 @@ impl Board {
         are_read: bool,
     ) -> Result<(Board, Seat<(), Sight>), AllocError>
         requires words { AreFirstWords values.now.items words.now (length values.now.items) }
-        requires variables { length values.now.items ≤ 256 }
+        requires variables { length values.now.items ≤ MAX_VALUES }
         ensures board { IfOk result (λ b. b.0.variables ≡ length values.now.items) }
         ensures read { IfOk result (λ b. b.0.are_read ≡ are_read) }
         ensures seat { IfOk result (λ b. (b.1.table_id ≡ b.0.table)

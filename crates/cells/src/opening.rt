@@ -1,5 +1,6 @@
 //! How cells are made.
 ghost use Rattle.std.specs.Prelude.{◌≡◌, ◌+◌, ◌*◌, ◌<◌, ◌≤◌, [], ◌∷◌, true, false, length, replicate, IfOk};
+ghost use Rattle.txn_programs.specs.declared.limits.TheConstants.{MAX_VALUES};
 ghost use Rattle.txn_words.specs.Stores.{opened};
 ghost use Rattle.cells.specs.Sight.{publishing, commit_of};
 ghost use Rattle.cells.specs.Passing.{new_pass};
@@ -17,8 +18,8 @@ use std::alloc::{AllocError, Global};
 use txn_programs::Memory;
 
 impl Cells {
-    /// Makes cells whose variables have these values, the one publisher of them, and so many
-    /// passes.
+    /// Makes cells whose variables have these values, up to `MAX_VALUES` of them, the one publisher of
+    /// them, and so many passes.
     ///
     /// The history has one state, these values, and its number is 0. Each pass was told of that
     /// history, has loaded nothing, and is closed. This and `unread` are the only calls of the crate
@@ -28,7 +29,7 @@ impl Cells {
         values: &[i64],
         readers: usize,
     ) -> Result<(Cells, Publisher, Vec<Pass>), Memory>
-        requires variables { length values.now ≤ 256 }
+        requires variables { length values.now ≤ MAX_VALUES }
         requires readers { readers ≤ 32 }
         ensures cells { IfOk result (λ r. r.0.variables ≡ length values.now) }
         ensures read { IfOk result (λ r. r.0.are_read ≡ true) }
@@ -49,14 +50,14 @@ impl Cells {
         Ok((cells, Publisher { how }, passes))
     }
 
-    /// Makes cells that nobody reads, whose variables have these values, and the one publisher of
-    /// them.
+    /// Makes cells that nobody reads, whose variables have these values, up to `MAX_VALUES` of them, and
+    /// the one publisher of them.
     ///
     /// There is no pass of them, so nobody can tell how a publish is kept: it stores no word. The
     /// history has one state, these values, and its number is 0. `Err` says that a growth was
     /// refused, and leaves nothing behind.
     pub fn unread(alloc: Global, values: &[i64]) -> Result<(Cells, Publisher), Memory>
-        requires variables { length values.now ≤ 256 }
+        requires variables { length values.now ≤ MAX_VALUES }
         ensures cells { IfOk result (λ r. r.0.variables ≡ length values.now) }
         ensures unread { IfOk result (λ r. r.0.are_read ≡ false) }
         ensures publisher { IfOk result (λ r.
@@ -75,7 +76,7 @@ fn lay(
     values: &[i64],
     are_read: bool,
 ) -> Result<(Cells, Seat<(), Sight>, Vec<i64>), AllocError>
-    requires { length values.now ≤ 256 }
+    requires { length values.now ≤ MAX_VALUES }
     ensures cells { IfOk result (λ r. (r.0.variables ≡ length values.now) × (r.0.are_read ≡ are_read)) }
     ensures seat { IfOk result (λ r. (r.1.table_id ≡ r.0.table) × (r.1.me.0 ≡ publishing (opened values.now))) }
     ensures values { IfOk result (λ r. r.2.items ≡ values.now) }
@@ -89,7 +90,7 @@ fn lay(
 
 // The words of these values: the clock and each version are 0.
 fn first_words(alloc: Global, values: &[i64]) -> Result<Vec<u64>, AllocError>
-    requires { length values.now ≤ 256 }
+    requires { length values.now ≤ MAX_VALUES }
     ensures { IfOk result (λ v. AreFirstWords values.now v.items (length values.now)) }
 {
     let mut words = Vec::with_capacity(alloc, 2 * values.len() + 1)?;

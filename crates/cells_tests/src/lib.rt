@@ -25,3 +25,5 @@ mod shared;
 mod unread;
 #[cfg(test)]
 mod uses;
+#[cfg(test)]
+mod wide;

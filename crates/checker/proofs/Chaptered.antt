@@ -36,30 +36,30 @@ first_of_next : (l : Listing) (r : Told) → take (length r.parked) (calls (next
 first_of_next l r = ap (take (length r.parked)) (one_each (waiting l r)) ∙ take_all (length r.parked) (waiting l r) (let e = length_waiting l r.parked in omega (arith, e))
 
 pub next_goes_on : (l : Listing) (r : Told) → GoesOnAfter l r (next_chapter l r)
-next_goes_on l r = record { program = record { names = refl; always = refl; transactions = refl }; begins = refl; first = first_of_next l r }
+next_goes_on l r = record { program = record { names = refl; tables = refl; always = refl; transactions = refl }; begins = refl; first = first_of_next l r }
 
 pub grown_goes_on : (l : Listing) (r : Told) (next : Listing) (more : List Call) → GoesOnAfter l r next → GoesOnAfter l r (grown next more)
 grown_goes_on l r next more g =
     let all : length (take (length r.parked) (calls next)) ≡ length r.parked = ap length g.first ∙ length_waiting l r.parked in
     record {
-      program = record { names = g.program.names; always = g.program.always; transactions = g.program.transactions };
+      program = record { names = g.program.names; tables = g.program.tables; always = g.program.always; transactions = g.program.transactions };
       begins = g.begins;
       first = ap (take (length r.parked)) (calls_behind next.runs (map one more)) ∙ (take-append-le (length r.parked) (calls next) (calls_of (map one more)) (omega (arith, all, length-take (length r.parked) (calls next))) ∙ g.first);
     }
 
-abbrev made : List (List ℕ) → State → List (List ℕ × Condition) → List Transaction → List (Call × ℕ) → Listing
-made n i w t r = record { names = n; initial = i; always = w; transactions = t; runs = r }
+abbrev made : List (List ℕ) → List (List ℕ × ℕ) → State → List (List ℕ × Condition) → List Transaction → List (Call × ℕ) → Listing
+made n c i w t r = record { names = n; tables = c; initial = i; always = w; transactions = t; runs = r }
 
-same_made : (n m : List (List ℕ)) (i j : State) (w v : List (List ℕ × Condition)) (t u : List Transaction) (r s : List (Call × ℕ))
-    → n ≡ m → i ≡ j → w ≡ v → t ≡ u → r ≡ s → made n i w t r ≡ made m j v u s
-same_made n m i j w v t u r s a b c d e = rw (a, b, c, d, e) refl
+same_made : (n m : List (List ℕ)) (c d : List (List ℕ × ℕ)) (i j : State) (w v : List (List ℕ × Condition)) (t u : List Transaction) (r s : List (Call × ℕ))
+    → n ≡ m → c ≡ d → i ≡ j → w ≡ v → t ≡ u → r ≡ s → made n c i w t r ≡ made m d j v u s
+same_made n m c d i j w v t u r s e f g h k o = rw (e, f, g, h, k, o) refl
 
 pub begins_as_told : (l : Listing) (r : Told) (next : Listing) → (GoesOnAfter l r next ↔ (beginning (length r.parked) next ≡ next_chapter l r))
 begins_as_told l r next = (
-  λ g. same_made next.names l.names next.initial (now_of r).state next.always l.always next.transactions l.transactions _ _
-      (sym g.program.names) g.begins (sym g.program.always) (sym g.program.transactions) (ap (map one) g.first),
+  λ g. same_made next.names l.names next.tables l.tables next.initial (now_of r).state next.always l.always next.transactions l.transactions _ _
+      (sym g.program.names) (sym g.program.tables) g.begins (sym g.program.always) (sym g.program.transactions) (ap (map one) g.first),
   λ e. record {
-    program = record { names = sym (ap (λ (m : Listing). m.names) e); always = sym (ap (λ (m : Listing). m.always) e); transactions = sym (ap (λ (m : Listing). m.transactions) e) };
+    program = record { names = sym (ap (λ (m : Listing). m.names) e); tables = sym (ap (λ (m : Listing). m.tables) e); always = sym (ap (λ (m : Listing). m.always) e); transactions = sym (ap (λ (m : Listing). m.transactions) e) };
     begins = ap (λ (m : Listing). m.initial) e;
     first = sym (one_each (take (length r.parked) (calls next))) ∙ (ap (λ (m : Listing). calls_of m.runs) e ∙ one_each (waiting l r));
   },

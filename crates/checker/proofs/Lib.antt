@@ -8,3 +8,4 @@ pub mod Firsts
 mod Chaptered
 pub mod Chapterings
 mod OneMore
+mod Inside

@@ -101,8 +101,8 @@ fn begins_at(alloc: Global, values: &[i64], vars: &[(i64, u64)]) -> Result<bool,
 }
 
 /// Whether a catalogue goes on where a report of an earlier one ended: it declares the same variables,
-/// standing conditions and transactions, each variable begins at the value that it has at the report's
-/// present, and its first tasks make the calls of the parked ones, in their order. More tasks may follow.
+/// tables, standing conditions and transactions, each variable and each cell begins at the value that it has at
+/// the report's present, and its first tasks make the calls of the parked ones, in their order. More tasks may follow.
 /// `Memory` only where a growth was refused.
 pub fn goes_on_after(
     alloc: Global,

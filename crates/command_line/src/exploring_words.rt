@@ -39,18 +39,19 @@ const FOUND: &str =
     "A state is the present values, and how many tasks of each transaction are done. Prints how\n\
      many states are reached, and then:\n\n    \
      tx NAME ..      in which ways turns of it end somewhere: returned, threw, overflow,\n                    \
-     zerodiv, broke CONDITION; parks where it waits at some end\n    \
+     zerodiv, outside, broke CONDITION; parks where it waits at some end\n    \
      ends N          how many states have no turn left, each on a line of its own:\n    \
      1 x 7           the first, with its values: all tasks are done\n    \
      2 x 0 parked t 3    the second, where three tasks of t wait for ever\n\n\
      Where more states are reached than --states allows it prints `more than N states`.\n\
      --to 2 prints a report, as stm run does, of a run that comes to the second end.\n\n\
      --find pay 'threw 1' prints that of a run which stops at a turn of pay that ends so, or\n\
-     `never`. An OUTCOME is returned V, threw V, overflow, zerodiv, broke CONDITION, or its first\n\
-     word alone; or parks, which is to come to where a task of it would wait. In the report the\n\
-     tasks that are left are parked where they would wait, else on lines `memory`.\n\n\
+     `never`. An OUTCOME is returned V, threw V, overflow, zerodiv, outside, broke CONDITION, or\n\
+     its first word alone; or parks, which is to come to where a task of it would wait. In the\n\
+     report the tasks that are left are parked where they would wait, else on lines `memory`.\n\n\
      With --deny the text is the same. Where some order comes to what is denied the status is 1,\n\
-     and the standard error names the first, in the order parked, threw, broke, overflow, zerodiv:\n\n    \
+     and the standard error names the first, in the order parked, threw, broke, overflow, zerodiv,\n\
+     outside:\n\n    \
      stm: denied: parked: see --to 2\n\n\
      --dot prints the graph of the states for Graphviz: a line for each state with its values, and\n\
      one for each turn. An end has a double border, and is filled where a task waits for ever.\n\n\
@@ -78,7 +79,7 @@ const DOT: &str =
      are reached";
 
 /// What can be denied.
-const DENIALS: [&str; 5] = ["parked", "threw", "broke", "overflow", "zerodiv"];
+const DENIALS: [&str; 6] = ["parked", "threw", "broke", "overflow", "zerodiv", "outside"];
 
 const STATES: &str = "How many states are looked at, at most, 1 to 16777216";
 

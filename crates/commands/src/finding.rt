@@ -106,17 +106,19 @@ fn found<R: Eprint + AllocGlobal, S: Sink>(
     }
 }
 
-/// Says that no outcome is written so, with the one that may be meant: no two of them begin with the same letter.
+/// Says that no outcome is written so, with the one that may be meant: no two of them begin with the same letter,
+/// but `overflow` and `outside`.
 fn no_such_outcome<R: Eprint>(rt: &R, outcome: &str) -> Answer
     ensures { result ≡ Answer.Refused }
 {
-    let line = match outcome.as_bytes().first() {
-        Some(b'r') => "stm: there is no such outcome; did you mean returned?",
-        Some(b't') => "stm: there is no such outcome; did you mean threw?",
-        Some(b'o') => "stm: there is no such outcome; did you mean overflow?",
-        Some(b'z') => "stm: there is no such outcome; did you mean zerodiv?",
-        Some(b'b') => "stm: there is no such outcome; did you mean broke?",
-        Some(b'p') => "stm: there is no such outcome; did you mean parks?",
+    let line = match outcome.as_bytes() {
+        [b'r', ..] => "stm: there is no such outcome; did you mean returned?",
+        [b't', ..] => "stm: there is no such outcome; did you mean threw?",
+        [b'o', b'u', ..] => "stm: there is no such outcome; did you mean outside?",
+        [b'o', ..] => "stm: there is no such outcome; did you mean overflow?",
+        [b'z', ..] => "stm: there is no such outcome; did you mean zerodiv?",
+        [b'b', ..] => "stm: there is no such outcome; did you mean broke?",
+        [b'p', ..] => "stm: there is no such outcome; did you mean parks?",
         _ => "stm: there is no such outcome",
     };
     refused(rt, line)

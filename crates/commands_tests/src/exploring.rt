@@ -162,6 +162,14 @@ fn what_cannot_be_sought_is_3(rt: HostRuntime) {
             (b"none", b"parked"),
             "stm: there is no such outcome; did you mean parks?\n",
         ),
+        (
+            (b"none", b"outsid"),
+            "stm: there is no such outcome; did you mean outside?\n",
+        ),
+        (
+            (b"none", b"overfl"),
+            "stm: there is no such outcome; did you mean overflow?\n",
+        ),
         ((b"none", b"6"), "stm: there is no such outcome\n"),
         ((b"icn", b"threw"), "stm: there is no such transaction\n"),
         ((b"none", b"threw"), "stm: there is no such transaction\n"),

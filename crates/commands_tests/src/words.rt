@@ -381,12 +381,12 @@ fn usages_are_told(rt: HostRuntime) {
         (
             "stm explore a --deny prked",
             "error: invalid value 'prked' for '--deny <WHAT>'\n  [possible values: parked, threw, broke, overflow, \
-                zerodiv]\n\n  tip: a similar value exists: 'parked'\n",
+                zerodiv, outside]\n\n  tip: a similar value exists: 'parked'\n",
         ),
         (
             "stm explore a --deny",
             "error: a value is required for '--deny <WHAT>' but none was supplied\n  [possible values: parked, \
-                threw, broke, overflow, zerodiv]\n",
+                threw, broke, overflow, zerodiv, outside]\n",
         ),
     ] {
         expect_told(&rt, rt.alloc(), line, told);
@@ -498,6 +498,12 @@ fn what_is_denied_is_asked_for(rt: HostRuntime) {
         alloc,
         "stm explore --deny overflow --deny zerodiv a.stm",
         none.with(Denial::Overflow).with(Denial::ZeroDiv),
+    );
+    expect_denied(
+        &rt,
+        alloc,
+        "stm explore --deny outside a.stm",
+        none.with(Denial::Outside),
     );
 }
 

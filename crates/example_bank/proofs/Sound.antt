@@ -1,5 +1,5 @@
 -- A state that keeps a bank's conditions is sound.
-use Rattle.std.proofs.Common.{◌≡◌, ◌∙◌, ℕ, zero, suc, ◌+◌, ◌<◌, ◌≤◌, ℤ, pos, ◌+ℤ◌, ◌≤ℤ◌, Bool, true, false, T, List, [], ◌∷◌, ◌++◌, length, take, get_or, All, Result, Ok, Err, refl, sym, ap, subst, arith, int_le, if◌then◌else◌, IfOk, Vec, Global}
+use Rattle.std.proofs.Common.{◌≡◌, ◌∙◌, ℕ, zero, suc, ◌+◌, ◌<◌, ◌≤◌, ℤ, pos, ◌+ℤ◌, ◌≤ℤ◌, Bool, true, false, T, List, [], ◌∷◌, ◌++◌, length, take, get_or, Result, Ok, Err, refl, sym, ap, subst, arith, int_le, if◌then◌else◌, IfOk, Vec, Global}
 use Rattle.std.specs.Ordering.{int_eq}
 use Rattle.std.proofs.lemmas.Bool.Decides.{Decides-int_eq}
 use Rattle.std.proofs.lemmas.Int.{ints}
@@ -13,7 +13,7 @@ use Rattle.txn_programs.specs.Arithmetic.{fits, sum_of}
 use Rattle.txn_programs.specs.Meaning.{State, both, value, truth}
 use Rattle.txn_programs.specs.Tree.{Condition, Int, Var, Eq, Le}
 use Rattle.txn_programs.specs.Listing.{Listing, conditions}
-use Rattle.txn_programs.specs.Standing.{AllTrue, Upholds}
+use Rattle.txn_programs.specs.Standing.{AllTrue}
 use Rattle.book.specs.View.{BookView}
 use Rattle.book.specs.LawfulBook.{BookFits, KeepsConditions}
 use Rattle.stm_store.specs.Working.{declaring}

@@ -1,7 +1,10 @@
 -- Totals, an account at a time, and the program of a bank's catalogue.
-use Rattle.std.proofs.Common.{◌≡◌, ◌∙◌, ℕ, zero, suc, ◌+◌, ◌<◌, ℤ, ◌+ℤ◌, List, [], ◌∷◌, length, map, take, get_or, Result, Ok, Err, IfOk, String, Global, sym, ap, subst, arith}
+use Rattle.std.proofs.Common.{◌≡◌, ◌∙◌, ℕ, zero, suc, ◌+◌, ◌<◌, ℤ, ◌+ℤ◌, List, [], ◌∷◌, ◌++◌, length, map, take, get_or, Result, Ok, Err, IfOk, String, Global, sym, ap, subst, arith}
 use Rattle.std.proofs.lemmas.Int.{ints}
-use Rattle.txn_programs.specs.Listing.{Listing}
+use Rattle.std.specs.List.{flat_map}
+use Rattle.std.proofs.lemmas.List.{append-nil}
+use Rattle.txn_programs.specs.declared.ast.Table.{Table}
+use Rattle.txn_programs.specs.Listing.{Listing, values_of}
 use Rattle.stm_store.specs.declared.program.Program.{Program}
 use Rattle.example_bank.specs.Balances.{total, IsBank}
 
@@ -20,3 +23,13 @@ total_more (y ∷ ys) (suc i) x lt e =
 pub bank_of : {E : Type 0} (r : Result Program E) (l : Listing) → IsBank l → IfOk r (λ p. p.catalogue.now ≡ l) → IfOk r (λ p. IsBank p.catalogue.now)
 bank_of (Ok p) l bank e = subst IsBank (sym e) bank
 bank_of (Err f) l bank e = e
+
+-- without tables the values are those of the variables
+pub without_tables : (vars : List (String Global × ℤ)) (ts : List Table) → ts ≡ [] → map (λ v. v.1) vars ++ flat_map (λ (t : Table). values_of t.cells) ts ≡ map (λ v. v.1) vars
+without_tables vars ts e =
+    ap (λ (us : List Table). map (λ (v : String Global × ℤ). v.1) vars ++ flat_map (λ (t : Table). values_of t.cells) us) e
+    ∙ append-nil (map (λ (v : String Global × ℤ). v.1) vars)
+
+pub accounts_of : {E : Type 0} (r : Result Program E) (l : Listing) (values : List ℤ) → l.initial ≡ values → IfOk r (λ p. p.catalogue.now ≡ l) → IfOk r (λ p. p.catalogue.now.initial ≡ values)
+accounts_of (Ok p) l values is e = ap (λ (k : Listing). k.initial) e ∙ is
+accounts_of (Err f) l values is e = e

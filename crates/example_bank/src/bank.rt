@@ -17,7 +17,7 @@ pub trait Naming: Send {
 }
 
 impl Naming for Brand {
-    ghost catalogue = { record { names = []; initial = []; always = []; transactions = []; runs = [] } };
+    ghost catalogue = { record { names = []; tables = []; initial = []; always = []; transactions = []; runs = [] } };
 }
 
 /// Accounts, and the transactions on them that wait to be served.

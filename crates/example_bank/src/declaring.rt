@@ -124,7 +124,7 @@ pub fn declared(
     let Ok(always) = rules(alloc, &accounts, all) else {
         return Err(BankFault::Memory);
     };
-    match Catalogue::build(alloc, accounts, always, txs, runs) {
+    match Catalogue::build(alloc, accounts, Vec::new(alloc), always, txs, runs) {
         Ok(catalogue) => kept(alloc, catalogue),
         Err(fault) => Err(BankFault::Refused(fault)),
     }

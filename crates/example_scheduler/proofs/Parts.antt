@@ -1,9 +1,12 @@
 -- What a plan's transactions do, and that what is built of them is its program.
-use Rattle.std.proofs.Common.{◌≡◌, ◌∙◌, ℕ, ℤ, pos, List, [], ◌∷◌, length, map, replicate, Result, Ok, Err, IfOk, String, refl, ap, sym, Vec, Global}
-use Rattle.std.proofs.lemmas.List.{length-map}
+use Rattle.std.proofs.Common.{◌≡◌, ◌∙◌, ℕ, ℤ, pos, List, [], ◌∷◌, ◌++◌, length, map, replicate, Result, Ok, Err, IfOk, String, refl, ap, sym, Vec, Global}
+use Rattle.std.specs.List.{flat_map}
+use Rattle.std.proofs.lemmas.List.{length-map, append-nil}
 use Rattle.txn_programs.specs.declared.ast.Stmt.{Stmt}
 use Rattle.txn_programs.specs.declared.ast.Stmt.TheVariants as stmt
+use Rattle.txn_programs.specs.declared.ast.Table.{Table}
 use Rattle.txn_programs.specs.declared.ast.Tx.{Tx}
+use Rattle.txn_programs.specs.Listing.{values_of}
 use Rattle.txn_programs.specs.Tree.{Statement, Statements, Seq, Transaction, statement_of, statements_of_list, transaction_of}
 use Rattle.txn_programs.proofs.Rows.{statement_Seq}
 use Rattle.stm_store.specs.declared.program.Program.{Program}
@@ -38,3 +41,9 @@ plan_of (Ok p) steps flags txs unset do_so initial transactions = record {
   transactions = ap (λ (ts : List Transaction). map (λ (t : Transaction). t.body) ts) transactions ∙ bodies_of txs ∙ do_so;
 }
 plan_of (Err e) steps flags txs unset do_so initial transactions = initial
+
+-- without tables the values are those of the flags
+pub without_tables : (flags : List (String Global × ℤ)) (ts : List Table) → ts ≡ [] → map (λ v. v.1) flags ++ flat_map (λ (t : Table). values_of t.cells) ts ≡ map (λ v. v.1) flags
+without_tables flags ts e =
+    ap (λ (us : List Table). map (λ (v : String Global × ℤ). v.1) flags ++ flat_map (λ (t : Table). values_of t.cells) us) e
+    ∙ append-nil (map (λ (v : String Global × ℤ). v.1) flags)

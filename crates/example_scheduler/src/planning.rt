@@ -159,12 +159,20 @@ pub fn plan(alloc: Global, steps: &[Step]) -> Result<Program, PlanFault>
 }
 
 /// The program of the parts.
+#[tactic(auto, using(crate::proofs::Parts::without_tables))]
 fn built(alloc: Global, parts: Parts) -> Result<Program, PlanFault>
     ensures flags { IfOk result (λ p. p.catalogue.now.initial ≡ map (λ flag. flag.1) parts.flags.items) }
     ensures transactions { IfOk result (λ p. p.catalogue.now.transactions ≡ map transaction_of parts.txs.items) }
 {
     let Parts { flags, txs, runs } = parts;
-    let catalogue = match Catalogue::build(alloc, flags, Vec::new(alloc), txs, runs) {
+    let catalogue = match Catalogue::build(
+        alloc,
+        flags,
+        Vec::new(alloc),
+        Vec::new(alloc),
+        txs,
+        runs,
+    ) {
         Ok(catalogue) => catalogue,
         Err(fault) => return Err(PlanFault::Refused(fault)),
     };

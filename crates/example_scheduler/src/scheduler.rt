@@ -23,7 +23,7 @@ pub trait Planned: Send {
 }
 
 impl Planned for Brand {
-    ghost catalogue = { record { names = []; initial = []; always = []; transactions = []; runs = [] } };
+    ghost catalogue = { record { names = []; tables = []; initial = []; always = []; transactions = []; runs = [] } };
 
     ghost after = { [] };
 }

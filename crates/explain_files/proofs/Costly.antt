@@ -9,8 +9,6 @@ use Rattle.txn_programs.specs.declared.ast.Cond.{Cond}
 use Rattle.txn_programs.specs.declared.ast.Tx.{Tx}
 use Rattle.txn_programs.specs.Tree.{Condition, condition_of, transaction_of}
 use Rattle.txn_programs.specs.Meaning.{State, truth}
-use Rattle.txn_programs.specs.Names.{knows_standing}
-use Rattle.txn_programs.proofs.Lawful.{all_standing}
 use Rattle.txn_programs.specs.Standing.{is_true}
 use Rattle.txn_programs.specs.Scope.{ConditionsKnown}
 use Rattle.txn_programs.specs.Cost.{conditions_cost}
@@ -152,9 +150,9 @@ is_false always values i x y text lt e g t b h =
       untrue = h;
     }
 
--- they name only variables that there are
-pub known_conditions : (n : ℕ) (always : List Standing) → list_all (knows_standing n) (standing_conditions (map view_condition always)) ≡ true → ConditionsKnown n (conditions_of always)
-known_conditions n always h = all_standing n (conditions_of always) (sym (ap (list_all (knows_standing n)) (same_always always)) ∙ h)
+-- they name only variables and cells that there are
+pub known_conditions : (n : ℕ) (always : List Standing) → ConditionsKnown n (standing_conditions (map view_condition always)) → ConditionsKnown n (conditions_of always)
+known_conditions n always h = subst (ConditionsKnown n) (same_always always) h
 
 pub untrue_conditions : (values : State) (always : List (List ℕ × Condition)) → list_all (λ c. is_true (truth c values)) (standing_conditions always) ≡ false → list_all (true_of values) always ≡ false
 untrue_conditions values always h = sym (list_all-map (λ (c : Condition). is_true (truth c values)) (λ (a : List ℕ × Condition). a.1) always) ∙ h

@@ -11,7 +11,7 @@ use Rattle.txn_programs.specs.Tree.{Expression, Condition, Statement, Statements
 use Rattle.txn_programs.specs.Tree as t
 use Rattle.txn_programs.specs.Listing.{Listing, conditions, always_names}
 use Rattle.txn_programs.specs.Names.{are_new, are_distinct}
-use Rattle.txn_programs.specs.Limits.{most_variables, most_conditions, most_transactions, most_parameters, most_tasks, longest_name, is_short, names_fit, limits_hold}
+use Rattle.txn_programs.specs.Limits.{most_variables, most_conditions, most_transactions, most_parameters, most_tasks, most_tables, most_cells, longest_name, is_short, names_fit, table_fits, tables_fit, limits_hold}
 use Rattle.text_words.specs.Tokens.{Lexeme, Closes}
 use Rattle.text_words.specs.Answers.{◌>>=◌}
 use Rattle.text_words.specs.Numbers.{number_of, count_of}
@@ -375,16 +375,20 @@ resolved_is file vars always txs runs k a b c d =
     let k2 = both _ _ k1.1 in
     rw (declared_again [] (map pair_name file.vars) k0.0, declared_again [] (map condition_name file.always) k1.0, declared_again [] (map tx_name file.txs) k2.0, k2.1, a, b, c, d) refl
 
-limits_are : (l : Listing) → length l.names ≤ most_variables → list_all is_short l.names ≡ true → length l.always ≤ most_conditions → list_all is_short (always_names l) ≡ true
+no_tables_fit : (l : Listing) → l.tables ≡ [] → tables_fit l ≡ true
+no_tables_fit l none =
+    ap (λ (ts : List (List ℕ × ℕ)). nat_le (length ts) most_tables && (list_all table_fits ts && nat_le (sum_by (λ (t : List ℕ × ℕ). t.1) ts) most_cells)) none
+
+limits_are : (l : Listing) → length l.names ≤ most_variables → list_all is_short l.names ≡ true → l.tables ≡ [] → length l.always ≤ most_conditions → list_all is_short (always_names l) ≡ true
     → length l.transactions ≤ most_transactions → list_all names_fit l.transactions ≡ true → list_all (λ run. nat_le run.1 most_tasks) l.runs ≡ true → tasks_in_all l.runs ≤ most_tasks
     → CostsHold l → limits_hold l ≡ true
 unfolding limits_hold
-limits_are l variables names conditions always transactions txs one all costs =
+limits_are l variables names tables conditions always transactions txs one all costs =
     let p1 = le-leb (length l.names) most_variables variables in
     let p2 = le-leb (length l.always) most_conditions conditions in
     let p3 = le-leb (length l.transactions) most_transactions transactions in
     let p4 = le-leb (tasks_in_all l.runs) most_tasks all in
-    both_true _ _ p1 (both_true _ _ names (both_true _ _ p2 (both_true _ _ always (both_true _ _ costs.0 (both_true _ _ p3 (both_true _ _ txs (both_true _ _ costs.1 (both_true _ _ one p4))))))))
+    both_true _ _ p1 (both_true _ _ names (both_true _ _ (no_tables_fit l tables) (both_true _ _ p2 (both_true _ _ always (both_true _ _ costs.0 (both_true _ _ p3 (both_true _ _ txs (both_true _ _ costs.1 (both_true _ _ one p4)))))))))
 
 uses_parts : (vars : List (List ℕ)) (file : File) → uses_known vars file ≡ true
     → (list_all (always_known vars) file.always ≡ true) × (list_all (tx_known vars) file.txs ≡ true) × (list_all (run_known file.txs) file.runs ≡ true)
@@ -433,6 +437,6 @@ file_fits file formed k h =
     record {
       listing = l;
       is = is;
-      holds = limits_are l (omega arith) (ap (list_all is_short) of.variables ∙ vars_are.short) (omega arith) (ap (list_all is_short) of.conditions ∙ always_are.short)
+      holds = limits_are l (omega arith) (ap (list_all is_short) of.variables ∙ vars_are.short) refl (omega arith) (ap (list_all is_short) of.conditions ∙ always_are.short)
           (omega arith) txs_are.fit runs_are.one (omega arith);
     }

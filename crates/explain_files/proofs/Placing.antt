@@ -1,13 +1,15 @@
 -- Each kind of fault has a place: some name or number is wrong there, or some declaration.
-use Rattle.std.proofs.Common.{◌≡◌, ℕ, zero, suc, true, false, List, [], ◌∷◌, ◌++◌, map, Some, Result, Ok, refl, sym, ap, subst, ◌∙◌, inl, inr}
+use Rattle.std.proofs.Common.{◌≡◌, ℕ, zero, suc, true, false, List, [], ◌∷◌, ◌++◌, length, map, Some, Result, Ok, refl, sym, ap, subst, ◌∙◌, inl, inr}
 use Rattle.std.specs.List.{slice_get, flat_map, list_all}
 use Rattle.std.specs.Option.{option_map}
 use Rattle.std.proofs.lemmas.Option.{slice_get-map}
 use Rattle.txn_programs.specs.Tree.{Condition, Transaction}
-use Rattle.txn_programs.specs.Listing.{Listing, conditions, always_names}
+use Rattle.txn_programs.specs.Listing.{Listing, values, conditions, always_names}
 use Rattle.txn_programs.specs.Limits.{limits_hold}
-use Rattle.txn_programs.specs.Names.{knows_standing, names_hold}
-use Rattle.txn_programs.proofs.Lawful.{names_parts}
+use Rattle.txn_programs.specs.Names.{names_hold}
+use Rattle.txn_programs.specs.Scope.{ConditionsKnown}
+use Rattle.txn_programs.proofs.Lawful.{standing_known}
+use Rattle.txn_programs.proofs.Untabled.{untabled_values}
 use Rattle.txn_programs.specs.Standing.{upholds}
 use Rattle.text_words.specs.Tokens.{Lexeme, tokens}
 use Rattle.text_words.specs.Tokens as token
@@ -183,7 +185,9 @@ pub broken_listed : (bytes : List ℕ) → IsFirst bytes faults.Broken → IsLis
 broken_listed bytes first = (first.0, broken_is bytes first.0 first.1.0)
 
 untrue_in : (bytes : List ℕ) (l : Listing) → Declares bytes l → upholds l l.initial ≡ false → IsUntrue l
-untrue_in bytes l d u = record { known = ap (λ (n : ℕ). list_all (knows_standing n) (conditions l)) d.valued ∙ (names_parts l d.names).always_known; untrue = u }
+untrue_in bytes l d u =
+    let valued : values l ≡ length l.initial = untabled_values l d.limits ∙ sym d.valued in
+    record { known = subst (λ (n : ℕ). ConditionsKnown n (conditions l)) valued (standing_known l d.names); untrue = u }
 
 pub broken_untrue : (bytes : List ℕ) (l : Listing) → IsFirst bytes faults.Broken → declared_by bytes ≡ Ok l → IsUntrue l
 broken_untrue bytes l first d =

@@ -4,7 +4,7 @@ use Rattle.std.specs.List.{slice_get, list_all}
 use Rattle.txn_programs.specs.Tree.{Condition, Transaction}
 use Rattle.txn_programs.specs.Listing.{Listing, conditions}
 use Rattle.txn_programs.specs.Meaning.{State, truth}
-use Rattle.txn_programs.specs.Names.{knows_standing}
+use Rattle.txn_programs.specs.Scope.{ConditionsKnown}
 use Rattle.txn_programs.specs.Standing.{is_true, upholds}
 use Rattle.txn_programs.specs.Cost.{conditions_cost}
 use Rattle.txn_programs.specs.Limits.{conditions_fit}
@@ -76,9 +76,9 @@ IsCostly l name.Called text = ⊥
 abbrev pub CostsHold : Listing → Type 0
 CostsHold l = (conditions_fit (conditions l) ≡ true) × (list_all (fits_beside (conditions_cost (conditions l))) l.transactions ≡ true)
 
--- only declared variables are named in the conditions, and one of them is not true of the initial values
+-- only declared variables and cells are named in the conditions, and one of them is not true of the initial values
 pub record IsUntrue (l : Listing) : Type 0 where
-  pub known : list_all (knows_standing (length l.initial)) (conditions l) ≡ true
+  pub known : ConditionsKnown (length l.initial) (conditions l)
   pub untrue : upholds l l.initial ≡ false
 
 -- the first standing condition that is not true of these values has this name

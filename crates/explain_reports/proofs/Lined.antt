@@ -64,6 +64,7 @@ outcome_lacks l names (outcome.Thrown (fault.User v)) f k = both_lack (codes "th
 outcome_lacks l names (outcome.Thrown fault.Overflow) f k = refl
 outcome_lacks l names (outcome.Thrown fault.DivideByZero) f k = refl
 outcome_lacks l names (outcome.Thrown (fault.Broken id)) f k = both_lack (codes "broke ") (always_name l id) refl (condition_lacks l id names k)
+outcome_lacks l names (outcome.Thrown fault.Outside) f k = refl
 outcome_lacks l names outcome.Retries f k = refl
 
 -- ---- rows

@@ -3,11 +3,12 @@ use Rattle.std.proofs.Common.{◌≡◌, ◌∙◌, ℕ, zero, suc, ◌-◌, ◌
 use Rattle.std.specs.List.{slice_get}
 use Rattle.std.proofs.lemmas.Option.{same_Some, slice_get_within}
 use Rattle.std.proofs.lemmas.Bool.Decides.{eqb_tells}
-use Rattle.txn_programs.specs.Listing.{Listing}
+use Rattle.txn_programs.specs.Listing.{Listing, values}
 use Rattle.txn_programs.specs.Limits.{limits_hold}
 use Rattle.txn_programs.specs.Names.{names_hold}
 use Rattle.txn_programs.specs.Told.{Told}
 use Rattle.txn_programs.proofs.Lawful.{few_tasks}
+use Rattle.txn_programs.proofs.Untabled.{untabled_valued}
 use Rattle.text_line_reader.specs.Lines.{Line, Whole, Cut, with_byte, lines, first_line}
 use Rattle.text_line_reader.specs.Reports.{IsReport}
 use Rattle.explain_reports.specs.declared.flaw.Flaw.{Flaw}
@@ -93,8 +94,9 @@ pub record IsAt (l : Listing) (bytes : List ℕ) (r : Told) (flaw : Flaw) : Type
   pub row : IsRow l r flaw (text ++ 10 ∷ [])
   pub within : place_of_flaw r flaw < 8388608
 
-pub is_at : (l : Listing) (bytes : List ℕ) (r : Told) (flaw : Flaw) → length l.names ≡ length l.initial → names_hold l ≡ true → limits_hold l ≡ true → IsReport l bytes r → IsFlaw l r flaw → IsAt l bytes r flaw
-is_at l bytes r flaw named names limits is f =
+pub is_at : (l : Listing) (bytes : List ℕ) (r : Told) (flaw : Flaw) → values l ≡ length l.initial → names_hold l ≡ true → limits_hold l ≡ true → IsReport l bytes r → IsFlaw l r flaw → IsAt l bytes r flaw
+is_at l bytes r flaw valued names limits is f =
+    let named = untabled_valued l limits valued in
     let sized : Sized l r = record { base = is.fits.base_vars ∙ sym named; present = is.fits.current_vars ∙ sym named } in
     let there = row_at l r flaw sized f in
     let rows : lines bytes ≡ report_rows l r = ap lines is.text ∙ report_lined l r names (few_tasks l limits) is.fits is.values in

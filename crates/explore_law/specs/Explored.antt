@@ -9,7 +9,7 @@ use Rattle.txn_programs.specs.declared.ast.AlwaysId.{AlwaysId}
 use Rattle.txn_programs.specs.declared.ast.TxId.{TxId}
 use Rattle.txn_programs.specs.declared.ast.Outcome.{Outcome}
 use Rattle.txn_programs.specs.declared.ast.Outcome.TheVariants.{Returned, Thrown, Retries}
-use Rattle.txn_programs.specs.declared.ast.Fault.TheVariants.{User, Overflow, DivideByZero, Broken}
+use Rattle.txn_programs.specs.declared.ast.Fault.TheVariants.{User, Overflow, DivideByZero, Broken, Outside}
 use Rattle.txn_programs.specs.Listing.{Listing}
 use Rattle.txn_programs.specs.Meaning.{outcome}
 use Rattle.explore_law.specs.declared.found.End.{End}
@@ -26,6 +26,7 @@ pub data Kind : Type 0 where
   Overflowing : Kind
   DividingByZero : Kind
   Breaking : (id : AlwaysId) → Kind
+  GoingOutside : Kind
 
 abbrev pub kind_of : Outcome → Option Kind
 kind_of (Returned v) = Some Returning
@@ -33,6 +34,7 @@ kind_of (Thrown (User v)) = Some Throwing
 kind_of (Thrown Overflow) = Some Overflowing
 kind_of (Thrown DivideByZero) = Some DividingByZero
 kind_of (Thrown (Broken id)) = Some (Breaking id)
+kind_of (Thrown Outside) = Some GoingOutside
 kind_of Retries = None
 
 -- whether the kind is among those
@@ -41,6 +43,7 @@ shows ks Returning = ks.returned
 shows ks Throwing = ks.threw
 shows ks Overflowing = ks.overflow
 shows ks DividingByZero = ks.zerodiv
+shows ks GoingOutside = ks.outside
 shows ks (Breaking id) = slice_index_or ks.broke id.0 false
 
 -- some turn of the transaction, at a reached configuration, ends so

@@ -10,7 +10,7 @@ use Rattle.txn_programs.specs.Meaning.{outcome}
 use Rattle.explore_law.specs.declared.instance.InstanceId.{InstanceId}
 use Rattle.explore_law.specs.declared.sought.Sought.{Sought}
 use Rattle.explore_law.specs.declared.sought.WayWhere.{WayWhere}
-use Rattle.explore_law.specs.declared.sought.Sought.TheVariants.{Returned, Threw, Overflow, ZeroDiv, Broke, Parks}
+use Rattle.explore_law.specs.declared.sought.Sought.TheVariants.{Returned, Threw, Overflow, ZeroDiv, Broke, Parks, Outside}
 use Rattle.explore_law.specs.Instances.{instance_at, instance_program}
 use Rattle.explore_law.specs.Orders.{Config, count_at, first_config, Leads, Reached}
 
@@ -27,6 +27,7 @@ IsSought Overflow o = o ≡ how.Thrown fault.Overflow
 IsSought ZeroDiv o = o ≡ how.Thrown fault.DivideByZero
 IsSought (Broke wanted) o = (id : AlwaysId) × (o ≡ how.Thrown (fault.Broken id)) × Wants wanted id
 IsSought Parks o = o ≡ how.Retries
+IsSought Outside o = o ≡ how.Thrown fault.Outside
 
 -- it shows at the configuration by the instance: a task of it is left, and what it comes to on the values is sought
 pub record ShowsBy (l : Listing) (k : InstanceId) (s : Sought) (p : Config) : Type 0 where

@@ -16,6 +16,8 @@ pub struct Kinds {
     pub threw: bool,
     pub overflow: bool,
     pub zerodiv: bool,
+    /// A cell outside its table was named.
+    pub outside: bool,
     /// For each standing condition, whether it was thrown that it is broken.
     pub broke: [bool; MAX_CONDITIONS],
 }

@@ -18,6 +18,8 @@ pub enum Sought {
     Broke(Option<AlwaysId>),
     /// It retries, and so is parked.
     Parks,
+    /// It names a cell outside its table.
+    Outside,
 }
 
 /// Turns that lead to where what is sought shows, and the instance by which it shows there.

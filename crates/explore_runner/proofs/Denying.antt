@@ -16,7 +16,7 @@ use Rattle.explore_law.specs.declared.found.Found.{Found}
 use Rattle.explore_law.specs.declared.instance.InstanceId.{InstanceId}
 use Rattle.explore_law.specs.Instances.{instances, instance_at}
 use Rattle.explore_law.specs.Orders.{Config, first_config, turned, Leads, count_at}
-use Rattle.explore_law.specs.Explored.{Kind, Returning, Throwing, Overflowing, DividingByZero, Breaking, shows, Explored, Somewhere, end_config, end_configs}
+use Rattle.explore_law.specs.Explored.{Kind, Returning, Throwing, Overflowing, DividingByZero, GoingOutside, Breaking, shows, Explored, Somewhere, end_config, end_configs}
 use Rattle.explore_law.proofs.Instances.{instance_callable, length-counted}
 use Rattle.explore_search.proofs.Whole.{turn_known}
 use Rattle.explore_runner.specs.FoundText.{found_text, some_wait}
@@ -39,6 +39,7 @@ none_shown ks d Returning none is s = absurd (cc)
 none_shown ks d Throwing none is s = let no : ks.threw ≡ false = subst (NoneEnds ks) (sym (same_Some denial.Threw d is)) none in absurd (cc)
 none_shown ks d Overflowing none is s = let no : ks.overflow ≡ false = subst (NoneEnds ks) (sym (same_Some denial.Overflow d is)) none in absurd (cc)
 none_shown ks d DividingByZero none is s = let no : ks.zerodiv ≡ false = subst (NoneEnds ks) (sym (same_Some denial.ZeroDiv d is)) none in absurd (cc)
+none_shown ks d GoingOutside none is s = let no : ks.outside ≡ false = subst (NoneEnds ks) (sym (same_Some denial.Outside d is)) none in absurd (cc)
 none_shown ks d (Breaking id) none is s = none_flagged ks.broke id.0 (subst (NoneEnds ks) (sym (same_Some denial.Broke d is)) none) s
 
 -- at each configuration there is a count for each instance
@@ -85,6 +86,7 @@ no_turn_possible l f denial.Threw names found none other w = no_turn l f denial.
 no_turn_possible l f denial.Broke names found none other w = no_turn l f denial.Broke names found none w
 no_turn_possible l f denial.Overflow names found none other w = no_turn l f denial.Overflow names found none w
 no_turn_possible l f denial.ZeroDiv names found none other w = no_turn l f denial.ZeroDiv names found none w
+no_turn_possible l f denial.Outside names found none other w = no_turn l f denial.Outside names found none w
 
 -- the text of what is found, and what is said of it
 pub judged_is : (l : Listing) (f : Found) (limit : ℕ) (ds : Denials) (file : List ℕ) → Spells file l → Explored l f → (judged : Judged) (text : List ℕ) → text ≡ found_text l f → IsSaid l f ds judged

@@ -18,7 +18,7 @@ use Rattle.txn_programs.specs.Told.{Told, now_of}
 use Rattle.txn_programs.specs.LawfulReport.{LawfulReport, on_lines}
 use Rattle.txn_programs.specs.Tree.{Program}
 use Rattle.explore_law.specs.declared.sought.Sought.{Sought}
-use Rattle.explore_law.specs.declared.sought.Sought.TheVariants.{Returned, Threw, Overflow, ZeroDiv, Broke, Parks}
+use Rattle.explore_law.specs.declared.sought.Sought.TheVariants.{Returned, Threw, Overflow, ZeroDiv, Broke, Parks, Outside}
 use Rattle.explore_law.specs.declared.instance.InstanceId.{InstanceId}
 use Rattle.explore_law.specs.Instances.{instances, instance_at, instance_program}
 use Rattle.explore_law.specs.Finding.{IsSought, ShowsBy}
@@ -197,6 +197,7 @@ module _ (l : Listing) (r : Told) (names : names_hold l ≡ true) (tx : TxId) (k
   shows_there (Threw w) turns p h leads shows = last_there (Threw w) turns p h leads shows.sought
   shows_there Overflow turns p h leads shows = last_there Overflow turns p h leads shows.sought
   shows_there ZeroDiv turns p h leads shows = last_there ZeroDiv turns p h leads shows.sought
+  shows_there Outside turns p h leads shows = last_there Outside turns p h leads shows.sought
   shows_there (Broke w) turns p h leads shows = last_there (Broke w) turns p h leads shows.sought
   shows_there Parks turns p h leads shows = parked_there turns p h leads shows.left shows.sought
 
@@ -213,5 +214,6 @@ goes_there l k (Returned w) turns p leads shows = turn_goes l k turns p leads (r
 goes_there l k (Threw w) turns p leads shows = turn_goes l k turns p leads (record { left = shows.left; ends = λ e. let is = shows.sought.1 in cc })
 goes_there l k Overflow turns p leads shows = turn_goes l k turns p leads (record { left = shows.left; ends = λ e. let is = shows.sought in cc })
 goes_there l k ZeroDiv turns p leads shows = turn_goes l k turns p leads (record { left = shows.left; ends = λ e. let is = shows.sought in cc })
+goes_there l k Outside turns p leads shows = turn_goes l k turns p leads (record { left = shows.left; ends = λ e. let is = shows.sought in cc })
 goes_there l k (Broke w) turns p leads shows = turn_goes l k turns p leads (record { left = shows.left; ends = λ e. let is = shows.sought.1 in cc })
 goes_there l k Parks turns p leads shows = (p, leads)

@@ -7,8 +7,10 @@ use Rattle.std.specs.List.{All}
 use Rattle.std.specs.Ordering.{int_eq}
 use Rattle.txn_programs.specs.declared.ast.Fault.{Fault}
 use Rattle.txn_programs.specs.declared.ast.Fault.TheVariants.{User}
-use Rattle.txn_programs.specs.Tree.{Statement, Skip, Set, Seq, If, Repeat, Retry, OrElse, Throw, Statements, End, More, Program}
-use Rattle.txn_programs.specs.Meaning.{State, value, truth, Ending, Done, Threw, Retried, then_do, unless_retried, with_number, choose, repeated, run, run_all, with_value, kept_by, state_after, final, after}
+use Rattle.txn_programs.specs.declared.ast.VarId.{VarId}
+use Rattle.txn_programs.specs.Tables.{cell_of}
+use Rattle.txn_programs.specs.Tree.{Statement, Skip, Set, Put, Seq, If, Repeat, Retry, OrElse, Throw, Statements, End, More, Program}
+use Rattle.txn_programs.specs.Meaning.{State, value, truth, Ending, Done, Threw, Retried, then_do, unless_retried, with_number, with_cell, choose, repeated, run, run_all, with_value, kept_by, state_after, final, after}
 use Rattle.txn_programs.specs.Replay.{versions_after}
 
 abbrev Sized : ℕ → Ending State Fault → Type 0
@@ -31,6 +33,10 @@ module _ (n : ℕ) where
   with_sized (Ok v) go h = h v
   with_sized (Err f) go h = tt
 
+  in_cell_sized : (r : Result VarId Fault) (go : VarId → Ending State Fault) → ((x : VarId) → Sized n (go x)) → Sized n (with_cell r go)
+  in_cell_sized (Ok x) go h = h x
+  in_cell_sized (Err f) go h = tt
+
   choose_sized : (r : Result Bool Fault) (a b : Ending State Fault) → Sized n a → Sized n b → Sized n (choose r a b)
   choose_sized (Ok true) a b p q = p
   choose_sized (Ok false) a b p q = q
@@ -44,6 +50,8 @@ module _ (n : ℕ) where
     run_sized : (s : Statement) (m : State) → length m ≡ n → Sized n (run s m)
     run_sized Skip m h = h
     run_sized (Set x e) m h = with_sized (value e m) (λ v. Done (with_value m x v)) (λ v. length-set m x.0 v ∙ h)
+    run_sized (Put t a b) m h =
+        with_sized (value a m) _ (λ i. with_sized (value b m) _ (λ v. in_cell_sized (cell_of t i) (λ x. Done (with_value m x v)) (λ x. length-set m x.0 v ∙ h)))
     run_sized (Seq parts) m h = run_all_sized parts m h
     run_sized (If c a b) m h = choose_sized (truth c m) (run a m) (run b m) (run_sized a m h) (run_sized b m h)
     run_sized (Repeat k s) m h = repeated_sized k (run s) m h (run_sized s)

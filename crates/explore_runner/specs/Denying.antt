@@ -12,7 +12,7 @@ use Rattle.explore_law.specs.declared.found.End.{End}
 use Rattle.explore_law.specs.declared.found.Kinds.{Kinds}
 use Rattle.explore_law.specs.declared.found.Found.{Found}
 use Rattle.explore_law.specs.Orders.{Config, Reached, IsEnd}
-use Rattle.explore_law.specs.Explored.{Kind, Returning, Throwing, Overflowing, DividingByZero, Breaking, shows, Somewhere}
+use Rattle.explore_law.specs.Explored.{Kind, Returning, Throwing, Overflowing, DividingByZero, GoingOutside, Breaking, shows, Somewhere}
 use Rattle.explore_runner.specs.FoundText.{some_wait}
 use Rattle.explore_runner.specs.declared.denied.Ending.{Ending}
 use Rattle.explore_runner.specs.declared.denied.Ending.TheVariants as ending
@@ -25,6 +25,7 @@ denial_of Returning = None
 denial_of Throwing = Some denial.Threw
 denial_of Overflowing = Some denial.Overflow
 denial_of DividingByZero = Some denial.ZeroDiv
+denial_of GoingOutside = Some denial.Outside
 denial_of (Breaking id) = Some denial.Broke
 
 -- some order comes to an end at which a task waits
@@ -48,6 +49,7 @@ IsPossible l denial.Threw = TurnsSomewhere l denial.Threw
 IsPossible l denial.Broke = TurnsSomewhere l denial.Broke
 IsPossible l denial.Overflow = TurnsSomewhere l denial.Overflow
 IsPossible l denial.ZeroDiv = TurnsSomewhere l denial.ZeroDiv
+IsPossible l denial.Outside = TurnsSomewhere l denial.Outside
 
 -- it is not denied, or no order comes to it
 abbrev pub IsClear : Listing → Denials → Denial → Type 0
@@ -60,6 +62,7 @@ ClearBefore l ds denial.Threw = IsClear l ds denial.Parked
 ClearBefore l ds denial.Broke = IsClear l ds denial.Parked × IsClear l ds denial.Threw
 ClearBefore l ds denial.Overflow = IsClear l ds denial.Parked × IsClear l ds denial.Threw × IsClear l ds denial.Broke
 ClearBefore l ds denial.ZeroDiv = IsClear l ds denial.Parked × IsClear l ds denial.Threw × IsClear l ds denial.Broke × IsClear l ds denial.Overflow
+ClearBefore l ds denial.Outside = IsClear l ds denial.Parked × IsClear l ds denial.Threw × IsClear l ds denial.Broke × IsClear l ds denial.Overflow × IsClear l ds denial.ZeroDiv
 
 -- no order comes to anything that is denied
 abbrev pub NothingDenied : Listing → Denials → Type 0
@@ -70,12 +73,14 @@ kind_of_ending ending.Threw = Throwing
 kind_of_ending (ending.Broke id) = Breaking id
 kind_of_ending ending.Overflow = Overflowing
 kind_of_ending ending.ZeroDiv = DividingByZero
+kind_of_ending ending.Outside = GoingOutside
 
 abbrev pub denial_by : Ending → Denial
 denial_by ending.Threw = denial.Threw
 denial_by (ending.Broke id) = denial.Broke
 denial_by ending.Overflow = denial.Overflow
 denial_by ending.ZeroDiv = denial.ZeroDiv
+denial_by ending.Outside = denial.Outside
 
 -- what of it is denied
 abbrev pub what : Offence → Denial
@@ -102,6 +107,7 @@ ending_words l ending.Threw = codes " threw"
 ending_words l (ending.Broke id) = codes " broke " ++ always_name l id
 ending_words l ending.Overflow = codes " overflow"
 ending_words l ending.ZeroDiv = codes " zerodiv"
+ending_words l ending.Outside = codes " outside"
 
 -- a space, and the same as one word of a command line
 abbrev pub ending_word : Listing → Ending → List ℕ
@@ -109,6 +115,7 @@ ending_word l ending.Threw = codes " threw"
 ending_word l (ending.Broke id) = codes " 'broke " ++ (always_name l id ++ codes "'")
 ending_word l ending.Overflow = codes " overflow"
 ending_word l ending.ZeroDiv = codes " zerodiv"
+ending_word l ending.Outside = codes " outside"
 
 abbrev pub find_words : Listing → TxId → Ending → List ℕ
 find_words l tx how = codes ": see --find " ++ (transaction_name l tx.0 ++ ending_word l how)
@@ -131,6 +138,7 @@ NoneEnds ks denial.Threw = ks.threw ≡ false
 NoneEnds ks denial.Broke = All (λ b. b ≡ false) ks.broke
 NoneEnds ks denial.Overflow = ks.overflow ≡ false
 NoneEnds ks denial.ZeroDiv = ks.zerodiv ≡ false
+NoneEnds ks denial.Outside = ks.outside ≡ false
 
 -- by the kinds of all transactions' turns: one of this transaction, of which this is denied
 pub record Ends (kinds : List Kinds) (d : Denial) (tx : TxId) (how : Ending) : Type 0 where

@@ -52,7 +52,9 @@ broke_word l ks k = only (slice_index_or ks.broke k false) (codes " broke " ++ a
 
 -- in which ways turns end, other than by a broken condition
 abbrev pub flag_words : Kinds → List ℕ
-flag_words ks = only ks.returned (codes " returned") ++ (only ks.threw (codes " threw") ++ (only ks.overflow (codes " overflow") ++ only ks.zerodiv (codes " zerodiv")))
+flag_words ks =
+    only ks.returned (codes " returned") ++ (only ks.threw (codes " threw") ++ (only ks.overflow (codes " overflow")
+    ++ (only ks.zerodiv (codes " zerodiv") ++ only ks.outside (codes " outside"))))
 
 -- tx NAME, in which ways its turns end, and whether it waits at an end
 abbrev pub tx_line : Listing → ℕ → Bool → Option Kinds → List ℕ

@@ -8,7 +8,7 @@ use Rattle.txn_programs.specs.declared.ast.AlwaysId.{AlwaysId}
 use Rattle.explore_law.specs.declared.sought.Sought.{Sought}
 use Rattle.explore_law.specs.declared.sought.Sought.TheVariants as sought
 use Rattle.explore_runner.specs.declared.outcomes.OutcomeWords.{OutcomeWords}
-use Rattle.explore_runner.specs.declared.outcomes.OutcomeWords.TheVariants.{Returned, Threw, Overflow, ZeroDiv, Broke, Parks}
+use Rattle.explore_runner.specs.declared.outcomes.OutcomeWords.TheVariants.{Returned, Threw, Overflow, ZeroDiv, Broke, Parks, Outside}
 
 -- as an entry of a report has it, or the kind alone
 abbrev pub outcome_words : OutcomeWords → List ℕ
@@ -21,6 +21,7 @@ outcome_words ZeroDiv = codes "zerodiv"
 outcome_words (Broke None) = codes "broke"
 outcome_words (Broke (Some name)) = codes "broke " ++ name.now
 outcome_words Parks = codes "parks"
+outcome_words Outside = codes "outside"
 
 -- its value has room in 64 signed bits, and its name is a name
 abbrev pub CanBe : OutcomeWords → Type 0
@@ -52,3 +53,4 @@ sought_by l ZeroDiv = Some sought.ZeroDiv
 sought_by l (Broke None) = Some (sought.Broke None)
 sought_by l (Broke (Some name)) = this_condition (condition_named l name.now)
 sought_by l Parks = Some sought.Parks
+sought_by l Outside = Some sought.Outside

@@ -24,6 +24,7 @@ pub(crate) enum Ending {
     Broke(AlwaysId),
     Overflow,
     ZeroDiv,
+    Outside,
 }
 
 /// Something that is possible, and where it shows.
@@ -57,7 +58,11 @@ pub(crate) fn first_denied(catalogue: &Catalogue, found: &Found, denied: Denials
     if overflow.is_some() {
         return overflow;
     }
-    sighted_denied(catalogue, found, denied, Denial::ZeroDiv)
+    let zerodiv = sighted_denied(catalogue, found, denied, Denial::ZeroDiv);
+    if zerodiv.is_some() {
+        return zerodiv;
+    }
+    sighted_denied(catalogue, found, denied, Denial::Outside)
 }
 
 /// Where this shows, if it is denied and some order comes to it.
@@ -134,6 +139,7 @@ fn ending_of(kinds: &Kinds, denial: Denial) -> Option<Ending>
         Denial::Threw if kinds.threw => Some(Ending::Threw),
         Denial::Overflow if kinds.overflow => Some(Ending::Overflow),
         Denial::ZeroDiv if kinds.zerodiv => Some(Ending::ZeroDiv),
+        Denial::Outside if kinds.outside => Some(Ending::Outside),
         Denial::Broke => match first_broken(&kinds.broke) {
             Some(id) => Some(Ending::Broke(id)),
             None => None,
@@ -208,6 +214,7 @@ fn put_ending(out: &mut String, catalogue: &Catalogue, ending: Ending) -> Result
         Ending::Threw => out.push_str(" threw"),
         Ending::Overflow => out.push_str(" overflow"),
         Ending::ZeroDiv => out.push_str(" zerodiv"),
+        Ending::Outside => out.push_str(" outside"),
         Ending::Broke(id) => {
             out.push_str(" broke ")?;
             out.push_str(always_name(catalogue, id))
@@ -223,6 +230,7 @@ fn put_word(out: &mut String, catalogue: &Catalogue, ending: Ending) -> Result<(
         Ending::Threw => out.push_str(" threw"),
         Ending::Overflow => out.push_str(" overflow"),
         Ending::ZeroDiv => out.push_str(" zerodiv"),
+        Ending::Outside => out.push_str(" outside"),
         Ending::Broke(id) => {
             out.push_str(" 'broke ")?;
             out.push_str(always_name(catalogue, id))?;

@@ -134,6 +134,7 @@ fn sought_by(catalogue: &Catalogue, outcome: OutcomeWords<'_>) -> Option<Sought>
             None => None,
         },
         OutcomeWords::Parks => Some(Sought::Parks),
+        OutcomeWords::Outside => Some(Sought::Outside),
     }
 }
 

@@ -23,7 +23,7 @@ use txn::Catalogue;
 /// As `explore_bytes`, and says whether some order comes to what is denied. What is written is the same.
 ///
 /// `Clear`: no order does. `Denied`: some order does, and the line says to what: the first that is denied, in
-/// the order parked, threw, broke, overflow, zerodiv, and where it shows. `More`: more configurations are
+/// the order parked, threw, broke, overflow, zerodiv, outside, and where it shows. `More`: more configurations are
 /// reached, and nothing is said. An `Err` is as that of `explore_bytes`.
 pub fn judge_bytes<S: Sink>(
     alloc: Global,

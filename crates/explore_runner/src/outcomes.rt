@@ -31,6 +31,8 @@ pub enum OutcomeWords<'a> {
     Broke(Option<&'a str>),
     /// `parks`.
     Parks,
+    /// `outside`.
+    Outside,
 }
 
 impl<'a> OutcomeWords<'a> {
@@ -47,6 +49,7 @@ impl<'a> OutcomeWords<'a> {
             "zerodiv" => Some(OutcomeWords::ZeroDiv),
             "broke" => Some(OutcomeWords::Broke(None)),
             "parks" => Some(OutcomeWords::Parks),
+            "outside" => Some(OutcomeWords::Outside),
             _ => of_two(text.as_bytes()),
         }
     }

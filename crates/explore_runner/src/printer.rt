@@ -110,6 +110,7 @@ fn put_flags(out: &mut String, kinds: &Kinds) -> Result<(), AllocError>
     put_only(out, kinds.threw, " threw")?;
     put_only(out, kinds.overflow, " overflow")?;
     put_only(out, kinds.zerodiv, " zerodiv")?;
+    put_only(out, kinds.outside, " outside")?;
     Ok(())
 }
 

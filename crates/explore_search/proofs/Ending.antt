@@ -16,7 +16,7 @@ use Rattle.explore_law.specs.declared.found.Found.{Found}
 use Rattle.explore_law.specs.declared.instance.InstanceId.{InstanceId}
 use Rattle.explore_law.specs.Instances.{instances}
 use Rattle.explore_law.specs.Orders.{Config, first_config, Reached}
-use Rattle.explore_law.specs.Explored.{Kind, Returning, Throwing, Overflowing, DividingByZero, Breaking, shows, IsOnce, ReachesMore, Explored, end_config, end_configs, config_cmp}
+use Rattle.explore_law.specs.Explored.{Kind, Returning, Throwing, Overflowing, DividingByZero, GoingOutside, Breaking, shows, IsOnce, ReachesMore, Explored, end_config, end_configs, config_cmp}
 use Rattle.explore_law.specs.declared.found.End.{End}
 use Rattle.std.specs.Ordering.{is_lt}
 use Rattle.explore_search.specs.Shelf.{Shelf, Adds, nowhere}
@@ -167,11 +167,13 @@ none_shown zero k Returning h = absurd (cc)
 none_shown zero k Throwing h = absurd (cc)
 none_shown zero k Overflowing h = absurd (cc)
 none_shown zero k DividingByZero h = absurd (cc)
+none_shown zero k GoingOutside h = absurd (cc)
 none_shown zero k (Breaking id) h = unset 64 id.0 h
 none_shown (suc n) zero Returning h = absurd (cc)
 none_shown (suc n) zero Throwing h = absurd (cc)
 none_shown (suc n) zero Overflowing h = absurd (cc)
 none_shown (suc n) zero DividingByZero h = absurd (cc)
+none_shown (suc n) zero GoingOutside h = absurd (cc)
 none_shown (suc n) zero (Breaking id) h = unset 64 id.0 h
 none_shown (suc n) (suc k) kind h = none_shown n k kind h
 

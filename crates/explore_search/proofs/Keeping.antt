@@ -8,7 +8,7 @@ use Rattle.std.proofs.Math.Seq.{get_or-append_seam}
 use Rattle.txn_programs.specs.declared.arguments.Call.{Call}
 use Rattle.txn_programs.specs.declared.ast.VarId.{VarId}
 use Rattle.txn_programs.specs.declared.ast.Outcome.{Outcome}
-use Rattle.txn_programs.specs.Listing.{Listing, call_program}
+use Rattle.txn_programs.specs.Listing.{Listing, values, call_program}
 use Rattle.txn_programs.specs.Meaning.{State, value_at, outcome, after}
 use Rattle.txn_programs.specs.Names.{names_hold}
 use Rattle.txn_programs.specs.Scope.{ProgramKnown}
@@ -36,14 +36,14 @@ agrees_pair (q ∷ rest) m zero p h e =
 agrees_pair (q ∷ rest) m (suc i) p h e = agrees_pair rest m i p h.1 e
 
 -- where the program of an instance ends over a log, a task of it ends so on each state that agrees with the log
-pub ends_as : (l : Listing) (cs : List Call) (k : InstanceId) (c : Call) (t : Program) (log writes : Known) (o : Outcome) → FrameTheorem → names_hold l ≡ true → length l.names ≡ length l.initial
+pub ends_as : (l : Listing) (cs : List Call) (k : InstanceId) (c : Call) (t : Program) (log writes : Known) (o : Outcome) → FrameTheorem → names_hold l ≡ true → values l ≡ length l.initial
     → cs ≡ instances l → k.0 < length cs → c ≡ get_or cs k.0 c → t ≡ call_program l c.tx c.arguments → ask t log ≡ Ends o writes → (m : State) → length m ≡ length l.initial → Agrees log m
     → (outcome (instance_program l k) m ≡ o) × (after (instance_program l k) m ≡ store writes m)
-ends_as l cs k c t log writes o frame names named same low is own ends m wide agrees =
+ends_as l cs k c t log writes o frame names valued same low is own ends m wide agrees =
     let at : slice_get (instances l) k.0 ≡ Some c = stands l cs k.0 c same low is in
     let program : t ≡ instance_program l k = own ∙ ap (λ (x : Call). call_program l x.tx x.arguments) (sym (instance_gets l k c at)) in
-    let known : ProgramKnown (length l.names) (call_program l c.tx c.arguments) = known_call l c.tx c.arguments names (instance_callable l k.0 c names at).declared in
-    let sized : ProgramKnown (length m) t = subst (λ (n : ℕ). ProgramKnown n t) (named ∙ sym wide) (subst (ProgramKnown (length l.names)) (sym own) known) in
+    let known : ProgramKnown (values l) (call_program l c.tx c.arguments) = known_call l c.tx c.arguments names (instance_callable l k.0 c names at).declared in
+    let sized : ProgramKnown (length m) t = subst (λ (n : ℕ). ProgramKnown n t) (valued ∙ sym wide) (subst (ProgramKnown (values l)) (sym own) known) in
     let framed : AnswersBy m (Ends o writes) (outcome t m) (after t m) = subst (λ (r : Answer). AnswersBy m r (outcome t m) (after t m)) ends (frame t log m sized agrees) in
     subst (λ (u : Program). (outcome u m ≡ o) × (after u m ≡ store writes m)) program framed
 

@@ -8,14 +8,14 @@ use Rattle.txn_programs.specs.declared.ast.TxId.{TxId}
 use Rattle.explore_law.specs.declared.instance.InstanceId.{InstanceId}
 use Rattle.txn_programs.specs.declared.ast.Outcome.{Outcome}
 use Rattle.txn_programs.specs.declared.ast.Outcome.TheVariants.{Returned, Thrown, Retries}
-use Rattle.txn_programs.specs.declared.ast.Fault.TheVariants.{User, Overflow, DivideByZero, Broken}
+use Rattle.txn_programs.specs.declared.ast.Fault.TheVariants.{User, Overflow, DivideByZero, Broken, Outside}
 use Rattle.txn_programs.specs.LawfulReport.{OutcomeKnown}
 use Rattle.txn_programs.specs.Listing.{Listing}
 use Rattle.txn_programs.specs.Meaning.{outcome}
 use Rattle.explore_law.specs.declared.found.Kinds.{Kinds}
 use Rattle.explore_law.specs.Instances.{instance_at, instance_program}
 use Rattle.explore_law.specs.Orders.{Config, HasTurn, turned}
-use Rattle.explore_law.specs.Explored.{Kind, Returning, Throwing, Overflowing, DividingByZero, Breaking, kind_of, shows}
+use Rattle.explore_law.specs.Explored.{Kind, Returning, Throwing, Overflowing, DividingByZero, GoingOutside, Breaking, kind_of, shows}
 use Rattle.explore_search.specs.Indexed.{config_at}
 use Rattle.explore_search.specs.Noting.{none_seen, noted}
 use Rattle.explore_search.specs.Searching.{IsTried, WasSeen, IsSearched}
@@ -46,6 +46,7 @@ noted_new ks (Thrown DivideByZero) DividingByZero known h = refl
 noted_new ks (Thrown (Broken id)) (Breaking j) known h =
     let same : id ≡ j = cc in
     subst (λ (c : AlwaysId). get_or (set ks.broke id.0 true) c.0 false ≡ true) same (get_or-set_same ks.broke id.0 true false known)
+noted_new ks (Thrown Outside) GoingOutside known h = refl
 noted_new ks o kind known h = absurd (cc)
 
 pub noted_old : (ks : Kinds) (o : Outcome) (kind : Kind) → shows ks kind ≡ true → shows (noted ks o) kind ≡ true
@@ -53,27 +54,38 @@ noted_old ks (Returned v) Returning h = refl
 noted_old ks (Returned v) Throwing h = h
 noted_old ks (Returned v) Overflowing h = h
 noted_old ks (Returned v) DividingByZero h = h
+noted_old ks (Returned v) GoingOutside h = h
 noted_old ks (Returned v) (Breaking j) h = h
 noted_old ks (Thrown (User v)) Returning h = h
 noted_old ks (Thrown (User v)) Throwing h = refl
 noted_old ks (Thrown (User v)) Overflowing h = h
 noted_old ks (Thrown (User v)) DividingByZero h = h
+noted_old ks (Thrown (User v)) GoingOutside h = h
 noted_old ks (Thrown (User v)) (Breaking j) h = h
 noted_old ks (Thrown Overflow) Returning h = h
 noted_old ks (Thrown Overflow) Throwing h = h
 noted_old ks (Thrown Overflow) Overflowing h = refl
 noted_old ks (Thrown Overflow) DividingByZero h = h
+noted_old ks (Thrown Overflow) GoingOutside h = h
 noted_old ks (Thrown Overflow) (Breaking j) h = h
 noted_old ks (Thrown DivideByZero) Returning h = h
 noted_old ks (Thrown DivideByZero) Throwing h = h
 noted_old ks (Thrown DivideByZero) Overflowing h = h
 noted_old ks (Thrown DivideByZero) DividingByZero h = refl
+noted_old ks (Thrown DivideByZero) GoingOutside h = h
 noted_old ks (Thrown DivideByZero) (Breaking j) h = h
 noted_old ks (Thrown (Broken id)) Returning h = h
 noted_old ks (Thrown (Broken id)) Throwing h = h
 noted_old ks (Thrown (Broken id)) Overflowing h = h
 noted_old ks (Thrown (Broken id)) DividingByZero h = h
+noted_old ks (Thrown (Broken id)) GoingOutside h = h
 noted_old ks (Thrown (Broken id)) (Breaking j) h = set_shows ks.broke id.0 j.0 h
+noted_old ks (Thrown Outside) Returning h = h
+noted_old ks (Thrown Outside) Throwing h = h
+noted_old ks (Thrown Outside) Overflowing h = h
+noted_old ks (Thrown Outside) DividingByZero h = h
+noted_old ks (Thrown Outside) GoingOutside h = refl
+noted_old ks (Thrown Outside) (Breaking j) h = h
 noted_old ks Retries kind h = h
 
 pub noted_only : (ks : Kinds) (o : Outcome) (kind : Kind) → shows (noted ks o) kind ≡ true → (shows ks kind ≡ true) ⊎ (kind_of o ≡ Some kind)
@@ -81,28 +93,39 @@ noted_only ks (Returned v) Returning h = inr refl
 noted_only ks (Returned v) Throwing h = inl h
 noted_only ks (Returned v) Overflowing h = inl h
 noted_only ks (Returned v) DividingByZero h = inl h
+noted_only ks (Returned v) GoingOutside h = inl h
 noted_only ks (Returned v) (Breaking j) h = inl h
 noted_only ks (Thrown (User v)) Returning h = inl h
 noted_only ks (Thrown (User v)) Throwing h = inr refl
 noted_only ks (Thrown (User v)) Overflowing h = inl h
 noted_only ks (Thrown (User v)) DividingByZero h = inl h
+noted_only ks (Thrown (User v)) GoingOutside h = inl h
 noted_only ks (Thrown (User v)) (Breaking j) h = inl h
 noted_only ks (Thrown Overflow) Returning h = inl h
 noted_only ks (Thrown Overflow) Throwing h = inl h
 noted_only ks (Thrown Overflow) Overflowing h = inr refl
 noted_only ks (Thrown Overflow) DividingByZero h = inl h
+noted_only ks (Thrown Overflow) GoingOutside h = inl h
 noted_only ks (Thrown Overflow) (Breaking j) h = inl h
 noted_only ks (Thrown DivideByZero) Returning h = inl h
 noted_only ks (Thrown DivideByZero) Throwing h = inl h
 noted_only ks (Thrown DivideByZero) Overflowing h = inl h
 noted_only ks (Thrown DivideByZero) DividingByZero h = inr refl
+noted_only ks (Thrown DivideByZero) GoingOutside h = inl h
 noted_only ks (Thrown DivideByZero) (Breaking j) h = inl h
 noted_only ks (Thrown (Broken id)) Returning h = inl h
 noted_only ks (Thrown (Broken id)) Throwing h = inl h
 noted_only ks (Thrown (Broken id)) Overflowing h = inl h
 noted_only ks (Thrown (Broken id)) DividingByZero h = inl h
+noted_only ks (Thrown (Broken id)) GoingOutside h = inl h
 noted_only ks (Thrown (Broken id)) (Breaking j) h =
     ⊎_elim (λ (k : get_or ks.broke j.0 false ≡ true). inl k) (λ (e : id.0 ≡ j.0). inr (ap (λ (n : ℕ). Some (Breaking (condition n))) e)) (set_only ks.broke id.0 j.0 h)
+noted_only ks (Thrown Outside) Returning h = inl h
+noted_only ks (Thrown Outside) Throwing h = inl h
+noted_only ks (Thrown Outside) Overflowing h = inl h
+noted_only ks (Thrown Outside) DividingByZero h = inl h
+noted_only ks (Thrown Outside) GoingOutside h = inr refl
+noted_only ks (Thrown Outside) (Breaking j) h = inl h
 noted_only ks Retries kind h = inl h
 
 abbrev transaction : ℕ → TxId

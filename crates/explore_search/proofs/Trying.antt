@@ -6,7 +6,7 @@ use Rattle.txn_programs.specs.declared.ast.TxId.{TxId}
 use Rattle.explore_law.specs.declared.instance.InstanceId.{InstanceId}
 use Rattle.txn_programs.specs.declared.ast.Outcome.{Outcome}
 use Rattle.txn_programs.specs.declared.ast.Outcome.TheVariants.{Returned, Thrown, Retries}
-use Rattle.txn_programs.specs.declared.ast.Fault.TheVariants.{User, Overflow, DivideByZero, Broken}
+use Rattle.txn_programs.specs.declared.ast.Fault.TheVariants.{User, Overflow, DivideByZero, Broken, Outside}
 use Rattle.txn_programs.specs.Limits.{limits_hold}
 use Rattle.txn_programs.proofs.Lawful.{limits_parts}
 use Rattle.txn_programs.proofs.Faults.{outcome_known}
@@ -137,6 +137,7 @@ outcome_more m n (Thrown (User v)) h known = tt
 outcome_more m n (Thrown Overflow) h known = tt
 outcome_more m n (Thrown DivideByZero) h known = tt
 outcome_more m n (Thrown (Broken id)) h known = let low : id.0 < m = known in omega (arith, low, h)
+outcome_more m n (Thrown Outside) h known = tt
 outcome_more m n Retries h known = tt
 
 -- a condition that the outcome of a call names is one of the listing's

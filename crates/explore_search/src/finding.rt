@@ -155,6 +155,7 @@ fn is_sought(sought: Sought, outcome: Outcome) -> bool
         (Sought::ZeroDiv, Outcome::Thrown(Fault::DivideByZero)) => true,
         (Sought::Broke(wanted), Outcome::Thrown(Fault::Broken(id))) => is_meant(wanted, id),
         (Sought::Parks, Outcome::Retries) => true,
+        (Sought::Outside, Outcome::Thrown(Fault::Outside)) => true,
         _ => false,
     }
 }

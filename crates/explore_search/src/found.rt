@@ -187,6 +187,7 @@ fn no_kind() -> Kinds
         threw: false,
         overflow: false,
         zerodiv: false,
+        outside: false,
         broke: [false; MAX_CONDITIONS],
     }
 }

@@ -231,6 +231,7 @@ fn note(kinds: Kinds, outcome: Outcome) -> Kinds
         Outcome::Thrown(Fault::Overflow) => kinds.overflow = true,
         Outcome::Thrown(Fault::DivideByZero) => kinds.zerodiv = true,
         Outcome::Thrown(Fault::Broken(id)) => kinds.broke[id.0 as usize] = true,
+        Outcome::Thrown(Fault::Outside) => kinds.outside = true,
         Outcome::Retries => {}
     }
     kinds

@@ -248,6 +248,7 @@ fn outcomes_are_read_from_words(rt: HostRuntime) {
         ),
         ("overflow", OutcomeWords::Overflow),
         ("zerodiv", OutcomeWords::ZeroDiv),
+        ("outside", OutcomeWords::Outside),
         ("broke", OutcomeWords::Broke(None)),
         ("broke sum", OutcomeWords::Broke(Some("sum"))),
         ("parks", OutcomeWords::Parks),

@@ -106,6 +106,7 @@ fn the_outcomes_of_each_transaction_are_told(rt: HostRuntime) {
                 threw: true,
                 overflow: false,
                 zerodiv: false,
+                outside: false,
                 broke: [false; 64],
             };
             assert!(rt; found.kinds.first() == Some(&pay));

@@ -250,6 +250,7 @@ fn what_can_be_denied_has_a_word(rt: HostRuntime) {
         ("broke", Denial::Broke),
         ("overflow", Denial::Overflow),
         ("zerodiv", Denial::ZeroDiv),
+        ("outside", Denial::Outside),
     ];
     for (word, denial) in words {
         assert!(rt; Denial::named(word) == Some(denial));

@@ -39,12 +39,13 @@ fn tasks(alloc: Global) -> Result<(Vec<Tx>, Vec<(Call, u32)>), AllocError> {
     Ok((transactions, runs))
 }
 
-/// The catalogue of all that, with no standing conditions.
+/// The catalogue of all that, with no tables and no standing conditions.
 pub(crate) fn counter(alloc: Global) -> Result<Catalogue, BuildFault> {
     let (transactions, runs) = tasks(alloc)?;
     Catalogue::build(
         alloc,
         variables(alloc)?,
+        Vec::new(alloc),
         Vec::new(alloc),
         transactions,
         runs,

@@ -16,6 +16,8 @@ pub enum Denial {
     Overflow,
     /// A turn that divides by zero.
     ZeroDiv,
+    /// A turn that names a cell outside its table.
+    Outside,
 }
 
 impl Denial {
@@ -30,6 +32,7 @@ impl Denial {
             "broke" => Some(Denial::Broke),
             "overflow" => Some(Denial::Overflow),
             "zerodiv" => Some(Denial::ZeroDiv),
+            "outside" => Some(Denial::Outside),
             _ => None,
         }
     }
@@ -43,6 +46,7 @@ pub struct Denials {
     pub broke: bool,
     pub overflow: bool,
     pub zerodiv: bool,
+    pub outside: bool,
 }
 
 impl Denials {
@@ -56,6 +60,7 @@ impl Denials {
             broke: false,
             overflow: false,
             zerodiv: false,
+            outside: false,
         }
     }
 
@@ -70,6 +75,7 @@ impl Denials {
             Denial::Broke => denied.broke = true,
             Denial::Overflow => denied.overflow = true,
             Denial::ZeroDiv => denied.zerodiv = true,
+            Denial::Outside => denied.outside = true,
         }
         denied
     }
@@ -84,6 +90,7 @@ impl Denials {
             Denial::Broke => self.broke,
             Denial::Overflow => self.overflow,
             Denial::ZeroDiv => self.zerodiv,
+            Denial::Outside => self.outside,
         }
     }
 }

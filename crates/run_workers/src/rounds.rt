@@ -1,6 +1,6 @@
 //! The times under the lock of a worker that tries light tasks together.
 
-ghost use Rattle.std.specs.Prelude.{◌≡◌, ◌≢◌, ◌⊎◌, ◌<◌, ◌≤◌, length, All, IfSome, None};
+ghost use Rattle.std.specs.Prelude.{◌≡◌, ◌≢◌, ◌⊎◌, ◌↔◌, ◌<◌, ◌≤◌, length, All, IfSome, IsTrue, None};
 ghost use Rattle.txn_programs.specs.declared.limits.TheConstants.{MAX_VARIABLES};
 ghost use Rattle.run_workers.specs.Standing.{HasTask, IsOver, NoneReady, ArePresent};
 ghost use Rattle.run_workers.specs.declared.trials.How.{How};
@@ -14,8 +14,8 @@ use crate::worker::Crew;
 use arrayvec::ArrayVec;
 use attempt::Attempt;
 use std::sync::Wait;
-use txn::TaskId;
 use txn::weights::Size;
+use txn::{Catalogue, TaskId};
 use txn_programs::limits::MAX_VARIABLES;
 
 /// How many tasks are taken in one time under the lock at most.
@@ -24,15 +24,24 @@ const TAKES: u32 = 1_000;
 /// How much the tasks that have their turns in it weigh together at most, but for the last one.
 const ROUND_WEIGHT: u32 = 40_000;
 
-/// The present values, as they were at some time under the lock.
+/// The present values, as they were at some time under the lock, where there are so few.
 pub(crate) type Values = ArrayVec<i64, MAX_VARIABLES>;
 
-/// Copies values, of which there are so many as variables.
+/// Whether a copy has room for all values.
+pub(crate) fn has_room(catalogue: &Catalogue) -> bool
+    ensures { IsTrue result ↔ (length catalogue.now.initial ≤ MAX_VARIABLES) }
+{
+    catalogue.initial().len() <= MAX_VARIABLES
+}
+
+/// Copies values, where a copy has room for all.
 fn copy(from: &[i64], values: &mut Values)
-    requires { length from.now ≤ MAX_VARIABLES }
-    ensures { values.new.items ≡ from.now }
+    ensures { length from.now ≤ MAX_VARIABLES → values.new.items ≡ from.now }
 {
     values.clear();
+    if from.len() > MAX_VARIABLES {
+        return;
+    }
     match values.try_extend_from_slice(from) {
         Ok(()) => {}
         Err(_) => unreachable!(),
@@ -52,8 +61,9 @@ pub(crate) fn begin<'b, R: Wait, G: Gate, N: Naming>(
 ) -> Option<TaskId>
     requires exists { HasTask N.catalogue first }
     ensures left { IfSome result (HasTask N.catalogue) }
-    ensures values { ArePresent N.catalogue values.new.items }
-    ensures wide { length values.new.items ≡ length N.catalogue.initial }
+    ensures values { length N.catalogue.initial ≤ MAX_VARIABLES → ArePresent N.catalogue values.new.items }
+    ensures wide { length N.catalogue.initial ≤ MAX_VARIABLES
+        → length values.new.items ≡ length N.catalogue.initial }
 {
     let sizes = crew.sizes.as_slice();
     let mut named = lock(rt, crew.shared);
@@ -72,8 +82,9 @@ pub(crate) fn round<'b, R: Wait, G: Gate, N: Naming>(
     values: &mut Values,
 ) -> Option<TaskId>
     ensures left { IfSome result (HasTask N.catalogue) }
-    ensures values { ArePresent N.catalogue values.new.items }
-    ensures wide { length values.new.items ≡ length N.catalogue.initial }
+    ensures values { length N.catalogue.initial ≤ MAX_VARIABLES → ArePresent N.catalogue values.new.items }
+    ensures wide { length N.catalogue.initial ≤ MAX_VARIABLES
+        → length values.new.items ≡ length N.catalogue.initial }
 {
     let sizes = crew.sizes.as_slice();
     let mut named = lock(rt, crew.shared);

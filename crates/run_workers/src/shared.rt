@@ -8,7 +8,6 @@ ghost use Rattle.std.specs.Prelude.{◌≡◌, ◌≢◌, ◌<◌, ◌≤◌, �
 ghost use Rattle.std.specs.Coded.{codes};
 ghost use Rattle.std.proofs.Props.{props};
 ghost use Rattle.txn.specs.Codes.{coded_listing};
-ghost use Rattle.txn_programs.specs.declared.limits.TheConstants.{MAX_VARIABLES};
 ghost use Rattle.txn_programs.specs.Listing.{Listing, tasks, task_tx};
 ghost use Rattle.book_storage.specs.PackedEntries.{told_run};
 ghost use Rattle.txn_programs.specs.LawfulReport.{LawfulReport, BaseReached};
@@ -43,7 +42,7 @@ pub(crate) trait Naming: Send {
 }
 
 impl Naming for Brand {
-    ghost catalogue = { record { names = []; initial = []; always = []; transactions = []; runs = [] } };
+    ghost catalogue = { record { names = []; tables = []; initial = []; always = []; transactions = []; runs = [] } };
 
     ghost every = { 0 };
 }
@@ -215,11 +214,10 @@ pub(crate) fn serial<'b, R: Wait, N: Naming>(
     next_at_once(&mut named, at_once)
 }
 
-/// The present values, one for each variable.
+/// The present values, one for each variable and each cell.
 pub(crate) fn present<'n, N: Naming>(named: &'n Named<'_, N>) -> &'n [i64]
     ensures present { ArePresent N.catalogue result.now }
     ensures wide { length result.now ≡ length N.catalogue.initial }
-    ensures few { length result.now ≤ MAX_VARIABLES }
 {
     let book = &named.book;
     book.law();

@@ -17,7 +17,7 @@ ghost use Rattle.run_workers.specs.declared.trials.How.{How};
 ghost use Rattle.txn.specs.Weighing.{is_light};
 
 use crate::gate::{Gate, Point, stop_at};
-use crate::rounds::{Values, begin, close, round};
+use crate::rounds::{Values, begin, close, has_room, round};
 use crate::shared::{Named, Naming, TryEnd, finish, give_up, serial, take};
 use crate::trials::{Trial, are_idle, evaluate_all, idle_trials};
 use crate::trying::attempt_on;
@@ -138,6 +138,9 @@ fn run_rounds<'b, R: Wait, G: Gate, N: Naming>(
         if are_idle(trials) {
             return left;
         }
+        if !has_room(crew.catalogue) {
+            break;
+        }
         evaluate_all(crew.gate, trials, crew.catalogue, values.as_slice());
         if left.is_some() {
             close(rt, crew, attempt, trials);
@@ -152,7 +155,7 @@ fn run_rounds<'b, R: Wait, G: Gate, N: Naming>(
     }
 }
 
-/// Its trials, where there are light tasks; else none.
+/// Its trials, where there are light tasks and a copy has room for all values; else none.
 fn first_trials<'b, G: Gate, N: Naming>(
     crew: &Crew<'_, 'b, G, N>,
     task: TaskId,
@@ -160,7 +163,7 @@ fn first_trials<'b, G: Gate, N: Naming>(
     requires { HasTask N.catalogue task }
     ensures { list_any is_light crew.now.sizes.items ≡ false → result.items ≡ [] }
 {
-    if have_light(crew.sizes.as_slice()) {
+    if have_light(crew.sizes.as_slice()) && has_room(crew.catalogue) {
         return idle_trials(crew.alloc, crew.catalogue, task);
     }
     Vec::new(crew.alloc)

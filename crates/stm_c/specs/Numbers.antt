@@ -145,6 +145,7 @@ told_thrown (fault.User value) = record { code = pos 5; value = value; entry = 0
 told_thrown fault.Overflow = bare (pos 6)
 told_thrown fault.DivideByZero = bare (pos 7)
 told_thrown (fault.Broken condition) = record { code = pos 8; value = pos condition.0; entry = 0 }
+told_thrown fault.Outside = bare (pos 16)
 
 -- how a transaction ends
 abbrev pub told_outcome : Outcome → Told

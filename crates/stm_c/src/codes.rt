@@ -292,6 +292,7 @@ fn thrown(fault: Fault) -> Told
             value: i64::from(condition.0),
             entry: 0,
         },
+        Fault::Outside => bare(16),
     }
 }
 

@@ -76,10 +76,10 @@ pub extern "C" fn stm_program_tasks(program: &ProgramHandle) -> usize
 /// How many variables it has, numbered from 0 as declared. 0 of an empty handle.
 #[unsafe(no_mangle)]
 pub extern "C" fn stm_program_variables(program: &ProgramHandle) -> usize
-    ensures value { Asked program.now.value 0 result (λ p n. n ≡ length p.catalogue.now.initial) }
+    ensures value { Asked program.now.value 0 result (λ p n. n ≡ length p.catalogue.now.names) }
 {
     match program.get() {
-        Some(program) => program.catalogue().initial().len(),
+        Some(program) => program.catalogue().var_count(),
         None => 0,
     }
 }

@@ -15,7 +15,7 @@ pub trait Naming: Send {
 }
 
 impl Naming for Brand {
-    ghost catalogue = { record { names = []; initial = []; always = []; transactions = []; runs = [] } };
+    ghost catalogue = { record { names = []; tables = []; initial = []; always = []; transactions = []; runs = [] } };
 
     ghost cells = { record {
       table = record { words = 0; slots = 0; views_name = 0; atom = 0; block = 0; offset = 0; slot_names = [] };

@@ -15,7 +15,7 @@ use txn_declarations::same::{same_always, same_transactions};
 impl Store {
     /// As `finish`, of a worker of any store. `OtherProgram` exactly where the worker's program says otherwise
     /// of the job's transaction than the store's: of what it does, of the standing conditions, or of how
-    /// many variables there are. Its time grows with that transaction and with the conditions.
+    /// many variables and cells there are. Its time grows with that transaction and with the conditions.
     pub fn finish_of_any(&mut self, worker: &mut Worker) -> Brought
         ensures brought { Brings self.old worker.old result self.new }
         ensures kept { KeepsTasks self.old self.new }

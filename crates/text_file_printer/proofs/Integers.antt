@@ -27,6 +27,8 @@ expression : (names : Scope) (e : Expression) → ExprFits (written_expression n
 expression names (t.Int n) h = integer n h
 expression names (t.Var x) h = refl
 expression names (t.Param p) h = refl
+expression names (t.Cell tb a) h = refl
+expression names (t.OfAll f tb) h = refl
 expression names (t.Add a b) h = and_from _ _ (expression names a h.0) (expression names b h.1)
 expression names (t.Sub a b) h = and_from _ _ (expression names a h.0) (expression names b h.1)
 expression names (t.Mul a b) h = and_from _ _ (expression names a h.0) (expression names b h.1)
@@ -45,6 +47,7 @@ mutual
   statement : (names : Scope) (s : Statement) → StmtFits (written_statement names s) → statement_integers s ≡ true
   statement names t.Skip h = refl
   statement names (t.Set x e) h = expression names e h
+  statement names (t.Put tb a b) h = refl
   statement names (t.Seq parts) h = statements names parts h
   statement names (t.If c a b) h = and_from _ _ (condition names c h.0) (and_from _ _ (statement names a h.1) (statement names b h.2))
   statement names (t.Repeat n s) h = statement names s h.1

@@ -80,26 +80,26 @@ pair_list word w ps named fits =
     lines_of (pair_line word) (pair_tokens word) (λ p. HasName p × PairFits p) (λ p h. pair_lines word p w h.0 h.1) ps (all_both HasName PairFits ps named fits)
 
 -- the conditions, each of which has a name, names only variables, and fits
-always_list : (l : Listing) → names_hold l ≡ true → AllByRecursion AlwaysFits (map (written_always l.names) l.always)
+always_list : (l : Listing) → names_hold l ≡ true → limits_hold l ≡ true → AllByRecursion AlwaysFits (map (written_always l.names) l.always)
     → Lines (flat_map always_line (map (written_always l.names) l.always)) (flat_map always_tokens (map (written_always l.names) l.always))
-always_list l h fits =
+always_list l h k fits =
     let parts = names_parts l h in
     let P : List ℕ × Condition → Type 0 = λ a. (is_name a.0 ≡ true) × ConditionNamed (standing l.names) a.1 in
     let Q : List ℕ × Condition → Type 0 = λ a. AlwaysFits (written_always l.names a) in
     let forms : list_all (λ (a : List ℕ × Condition). is_name a.0) l.always ≡ true = sym (list_all-map is_name (λ (a : List ℕ × Condition). a.0) l.always) ∙ parts.always_forms in
     let here : (i : ℕ) (a : List ℕ × Condition) → slice_get l.always i ≡ Some a → P a =
-    λ i a e. (passes_at (λ (a : List ℕ × Condition). is_name a.0) l.always i a forms e, condition_named_at l i a h e) in
+    λ i a e. (passes_at (λ (a : List ℕ × Condition). is_name a.0) l.always i a forms e, condition_named_at l i a h k e) in
     map_lines always_line always_tokens (written_always l.names) (λ a. P a × Q a)
     (λ a k. always_lines l.names parts.forms a k.0.0 k.0.1 k.1) l.always
     (all_both P Q l.always (all_at P l.always here) (unmapped AlwaysFits (written_always l.names) l.always fits))
 
-tx_list : (l : Listing) (form : FileForm) → names_hold l ≡ true → AllByRecursion DeclarationFits (map (written_transaction l.names) l.transactions)
+tx_list : (l : Listing) (form : FileForm) → names_hold l ≡ true → limits_hold l ≡ true → AllByRecursion DeclarationFits (map (written_transaction l.names) l.transactions)
     → Lines (flat_map (tx_line form) (map (written_transaction l.names) l.transactions)) (flat_map (tx_tokens form) (map (written_transaction l.names) l.transactions))
-tx_list l form h fits =
+tx_list l form h k fits =
     let parts = names_parts l h in
     let P : Transaction → Type 0 = λ t. (are_formed t ≡ true) × IsNamed l.names t in
     let Q : Transaction → Type 0 = λ t. DeclarationFits (written_transaction l.names t) in
-    let here : (i : ℕ) (t : Transaction) → slice_get l.transactions i ≡ Some t → P t = λ i t e. (passes_at are_formed l.transactions i t parts.tx_forms e, transaction_named_at l i t h e) in
+    let here : (i : ℕ) (t : Transaction) → slice_get l.transactions i ≡ Some t → P t = λ i t e. (passes_at are_formed l.transactions i t parts.tx_forms e, transaction_named_at l i t h k e) in
     map_lines (tx_line form) (tx_tokens form) (written_transaction l.names) (λ t. P t × Q t)
     (λ t k. let formed = and_parts (is_name t.name) (list_all is_name t.parameters) k.0.0 in tx_lines form l.names parts.forms t formed.0 formed.1 k.0.1.body k.0.1.value k.1) l.transactions
     (all_both P Q l.transactions (all_at P l.transactions here) (unmapped DeclarationFits (written_transaction l.names) l.transactions fits))
@@ -112,9 +112,9 @@ run_list l h fits =
     map_lines run_line run_tokens (written_run l.transactions) (λ r. P r × Q r) (λ r k. run_lines (written_run l.transactions r) k.0 k.1) l.runs
     (all_both P Q l.runs (all_at P l.runs (run_named l h)) (unmapped RunFits (written_run l.transactions) l.runs fits))
 
-file_lines : (l : Listing) → names_hold l ≡ true → FileFits (written l) → Lines (file_text l) (file_tokens (written l))
+file_lines : (l : Listing) → names_hold l ≡ true → limits_hold l ≡ true → FileFits (written l) → Lines (file_text l) (file_tokens (written l))
 unfolding written_in
-file_lines l h fits =
+file_lines l h k fits =
     let forms = (names_parts l h).forms in
     let vars = written_vars l.names l.initial in
     let always = map (written_always l.names) l.always in
@@ -123,8 +123,8 @@ file_lines l h fits =
     let form = form_for l in
     let heading = heading_lines form in
     let a = pair_list (codes "var") var_is_word vars (vars_named l.names l.initial forms) fits.vars in
-    let b = always_list l h fits.always in
-    let c = tx_list l form h fits.txs in
+    let b = always_list l h k fits.always in
+    let c = tx_list l form h k fits.txs in
     let d = run_list l h fits.runs in
     both_lines (heading_text form) _ (heading_tokens form) _ heading
     (both_lines (flat_map (pair_line (codes "var")) vars) _ (flat_map (pair_tokens (codes "var")) vars) _ a
@@ -174,7 +174,7 @@ in_form l h = go (list_any has_list l.transactions) refl where
 pub printed_spells : (l : Listing) → names_hold l ≡ true → limits_hold l ≡ true → FileFits (written l) → length (file_text l) ≤ max_len → SpellsTree (file_text l) (written l)
 unfolding written_in
 printed_spells l named limits fits short =
-    let lines = file_lines l named fits in
+    let lines = file_lines l named limits fits in
     record {
       short = short;
       allowed = lines.allowed;

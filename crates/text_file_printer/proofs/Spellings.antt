@@ -123,6 +123,8 @@ pub expr_reads : (names : Scope) → AreNames names → (e : Expression) → Exp
 expr_reads names forms (t.Int n) k h = number n h
 expr_reads names forms (t.Var x) k h = named names.variables x.0 forms.variables k
 expr_reads names forms (t.Param p) k h = named names.parameters p.0 forms.parameters k
+expr_reads names forms (t.Cell tb a) k h = absurd k
+expr_reads names forms (t.OfAll f tb) k h = absurd k
 expr_reads names forms (t.Add a b) k h = binary operator.Add (written_expression names a) (written_expression names b) (expr_reads names forms a k.0 h.0) (expr_reads names forms b k.1 h.1)
 expr_reads names forms (t.Sub a b) k h = binary operator.Sub (written_expression names a) (written_expression names b) (expr_reads names forms a k.0 h.0) (expr_reads names forms b k.1 h.1)
 expr_reads names forms (t.Mul a b) k h = binary operator.Mul (written_expression names a) (written_expression names b) (expr_reads names forms a k.0 h.0) (expr_reads names forms b k.1 h.1)
@@ -180,6 +182,7 @@ mutual
   pub stmt_reads : (names : Scope) → AreNames names → (s : Statement) → StatementNamed names s → StmtFits (written_statement names s) → Reads (stmt_text (written_statement names s)) (stmt_tokens (written_statement names s))
   stmt_reads names forms t.Skip k h = form_reads (codes "skip") [] [] (keyword_is_word keyword.Skip) none_follows
   stmt_reads names forms (t.Set x e) k h = set_reads (name_at names.variables x.0) (written_expression names e) (named names.variables x.0 forms.variables k.0) (expr_reads names forms e k.1 h)
+  stmt_reads names forms (t.Put tb a b) k h = absurd k
   stmt_reads names forms (t.Seq parts) k h =
       form_reads (codes "seq") (stmts_text (written_statements names parts)) (stmts_tokens (written_statements names parts)) (keyword_is_word keyword.Seq) (stmts_follow names forms parts k h)
   stmt_reads names forms (t.If c a b) k h =

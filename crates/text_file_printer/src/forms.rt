@@ -72,6 +72,8 @@ fn put_expr(out: &mut String, scope: &Scope<'_>, e: &Expr) -> Result<(), AllocEr
         Expr::Int(n) => put_int(out, *n),
         Expr::Var(x) => put_name(out, scope, *x),
         Expr::Param(p) => put_param(out, scope, *p),
+        // No catalogue has a table.
+        Expr::At(_, _) | Expr::Sum(_) | Expr::Min(_) | Expr::Max(_) => unreachable!(),
         Expr::Add(a, b) => put_operation(out, scope, "add", a, b),
         Expr::Sub(a, b) => put_operation(out, scope, "sub", a, b),
         Expr::Mul(a, b) => put_operation(out, scope, "mul", a, b),
@@ -242,6 +244,8 @@ fn put_stmt(out: &mut String, scope: &Scope<'_>, s: &Stmt) -> Result<(), AllocEr
     match s {
         Stmt::Skip => out.push_str("(skip)"),
         Stmt::Set(x, e) => put_set(out, scope, *x, e),
+        // No catalogue has a table.
+        Stmt::Put(_, _, _) => unreachable!(),
         Stmt::Seq(parts) => put_seq(out, scope, parts.as_slice()),
         Stmt::If(c, a, b) => {
             put_first_condition(out, scope, "if", c)?;

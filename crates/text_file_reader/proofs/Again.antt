@@ -1,10 +1,11 @@
 -- The file of a listing whose names, limits and integers hold is resolved to it.
-use Rattle.std.proofs.Common.{◌≡◌, ℕ, ◌≤◌, ◌<◌, Bool, true, false, ◌||◌, List, [], ◌∷◌, length, map, Ok, refl, sym, ap, ◌∙◌, arith}
+use Rattle.std.proofs.Common.{◌≡◌, ℕ, ◌≤◌, ◌<◌, Bool, true, false, ◌||◌, List, [], ◌∷◌, length, map, Ok, refl, sym, ap, subst, ◌∙◌, arith}
 use Rattle.std.specs.Prelude.{ℤ, pos, nat_lt, nat_le, ◌^◌}
 use Rattle.std.specs.List.{list_all}
 use Rattle.std.proofs.lemmas.List.{length-map}
 use Rattle.std.proofs.lemmas.Bool.{lt-ltb, le-leb, leb-true, eqb-true, eq-eqb}
 use Rattle.txn_programs.specs.declared.arguments.Call.{Call}
+use Rattle.txn_programs.specs.declared.ast.Span.{Span}
 use Rattle.txn_programs.specs.declared.limits.TheConstants.{MAX_TASKS, MAX_REPEAT}
 use Rattle.txn_programs.specs.Arithmetic.{fits}
 use Rattle.txn_programs.specs.Tree.{Expression, Condition, Statement, Statements, Transaction, under}
@@ -19,6 +20,7 @@ use Rattle.text_grammar.specs.Resolving.{is_known, expr_known, cond_known, stmt_
 use Rattle.text_grammar.specs.Spelling.{expression_integers, condition_integers, statement_integers, statements_integers, transaction_integers, run_integers, integers_fit}
 use Rattle.text_grammar.specs.declared.file.FileForm.{FileForm}
 use Rattle.txn_programs.proofs.Lawful.{names_parts, limits_parts}
+use Rattle.txn_programs.proofs.Untabled.{untabled, no_spans}
 use Rattle.text_file_reader.specs.Resolved.{parameters_of, is_wanted}
 use Rattle.text_file_reader.proofs.Declared.{both, any_at, none_later, place_again, known_again, id_again, variable_again, parameter_again, declared_again}
 use Rattle.text_file_reader.proofs.Back.{both_true, names_of_conditions, names_of_txs, parameters_of_txs}
@@ -46,30 +48,34 @@ either : (a b : Bool) → b ≡ true → (a || b) ≡ true
 either true b h = refl
 either false b h = h
 
-expression_again : (s : Scope) → FineScope s → (x : Expression) → knows_expression (length s.variables) (length s.parameters) x ≡ true → expression_integers x ≡ true → expression_in s (written_expression s x) ≡ Ok x
+expression_again : (s : Scope) → FineScope s → (x : Expression) → knows_expression (length s.variables) [] (length s.parameters) x ≡ true → expression_integers x ≡ true → expression_in s (written_expression s x) ≡ Ok x
 expression_again s fine (t.Int n) k i = rw (number_again n i) refl
 expression_again s fine (t.Var x) k i =
     let other : is_known s.parameters (name_at s.variables x.0) ≡ false = none_later s.variables s.parameters (name_at s.variables x.0) fine.parameters.new (any_at s.variables x.0 k) in
     rw (other, variable_again s.variables x fine.variables.new fine.variables.few k) refl
 expression_again s fine (t.Param p) k i =
     rw (known_again s.variables s.parameters p.0 fine.parameters.new k, parameter_again s.variables s.parameters p fine.parameters.new fine.parameters.few k) refl
+expression_again s fine (t.Cell tb a) k i = absurd (cc)
+expression_again s fine (t.OfAll f tb) k i = absurd (cc)
 expression_again s fine (t.Add a b) k i = let p = both _ _ k in let q = both _ _ i in rw (expression_again s fine a p.0 q.0, expression_again s fine b p.1 q.1) refl
 expression_again s fine (t.Sub a b) k i = let p = both _ _ k in let q = both _ _ i in rw (expression_again s fine a p.0 q.0, expression_again s fine b p.1 q.1) refl
 expression_again s fine (t.Mul a b) k i = let p = both _ _ k in let q = both _ _ i in rw (expression_again s fine a p.0 q.0, expression_again s fine b p.1 q.1) refl
 expression_again s fine (t.Div a b) k i = let p = both _ _ k in let q = both _ _ i in rw (expression_again s fine a p.0 q.0, expression_again s fine b p.1 q.1) refl
 expression_again s fine (t.Rem a b) k i = let p = both _ _ k in let q = both _ _ i in rw (expression_again s fine a p.0 q.0, expression_again s fine b p.1 q.1) refl
 
-expression_known : (s : Scope) → FineScope s → (x : Expression) → knows_expression (length s.variables) (length s.parameters) x ≡ true → expr_known s (written_expression s x) ≡ true
+expression_known : (s : Scope) → FineScope s → (x : Expression) → knows_expression (length s.variables) [] (length s.parameters) x ≡ true → expr_known s (written_expression s x) ≡ true
 expression_known s fine (t.Int n) k = refl
 expression_known s fine (t.Var x) k = either (is_known s.parameters (name_at s.variables x.0)) _ (known_again [] s.variables x.0 fine.variables.new k)
 expression_known s fine (t.Param p) k = rw (known_again s.variables s.parameters p.0 fine.parameters.new k) refl
+expression_known s fine (t.Cell tb a) k = absurd (cc)
+expression_known s fine (t.OfAll f tb) k = absurd (cc)
 expression_known s fine (t.Add a b) k = let p = both _ _ k in both_true _ _ (expression_known s fine a p.0) (expression_known s fine b p.1)
 expression_known s fine (t.Sub a b) k = let p = both _ _ k in both_true _ _ (expression_known s fine a p.0) (expression_known s fine b p.1)
 expression_known s fine (t.Mul a b) k = let p = both _ _ k in both_true _ _ (expression_known s fine a p.0) (expression_known s fine b p.1)
 expression_known s fine (t.Div a b) k = let p = both _ _ k in both_true _ _ (expression_known s fine a p.0) (expression_known s fine b p.1)
 expression_known s fine (t.Rem a b) k = let p = both _ _ k in both_true _ _ (expression_known s fine a p.0) (expression_known s fine b p.1)
 
-condition_again : (s : Scope) → FineScope s → (x : Condition) → knows_condition (length s.variables) (length s.parameters) x ≡ true → condition_integers x ≡ true → condition_in s (written_condition s x) ≡ Ok x
+condition_again : (s : Scope) → FineScope s → (x : Condition) → knows_condition (length s.variables) [] (length s.parameters) x ≡ true → condition_integers x ≡ true → condition_in s (written_condition s x) ≡ Ok x
 condition_again s fine (t.Eq a b) k i = let p = both _ _ k in let q = both _ _ i in rw (expression_again s fine a p.0 q.0, expression_again s fine b p.1 q.1) refl
 condition_again s fine (t.Lt a b) k i = let p = both _ _ k in let q = both _ _ i in rw (expression_again s fine a p.0 q.0, expression_again s fine b p.1 q.1) refl
 condition_again s fine (t.Le a b) k i = let p = both _ _ k in let q = both _ _ i in rw (expression_again s fine a p.0 q.0, expression_again s fine b p.1 q.1) refl
@@ -77,7 +83,7 @@ condition_again s fine (t.Not c) k i = rw (condition_again s fine c k i) refl
 condition_again s fine (t.And c d) k i = let p = both _ _ k in let q = both _ _ i in rw (condition_again s fine c p.0 q.0, condition_again s fine d p.1 q.1) refl
 condition_again s fine (t.Or c d) k i = let p = both _ _ k in let q = both _ _ i in rw (condition_again s fine c p.0 q.0, condition_again s fine d p.1 q.1) refl
 
-condition_known : (s : Scope) → FineScope s → (x : Condition) → knows_condition (length s.variables) (length s.parameters) x ≡ true → cond_known s (written_condition s x) ≡ true
+condition_known : (s : Scope) → FineScope s → (x : Condition) → knows_condition (length s.variables) [] (length s.parameters) x ≡ true → cond_known s (written_condition s x) ≡ true
 condition_known s fine (t.Eq a b) k = let p = both _ _ k in both_true _ _ (expression_known s fine a p.0) (expression_known s fine b p.1)
 condition_known s fine (t.Lt a b) k = let p = both _ _ k in both_true _ _ (expression_known s fine a p.0) (expression_known s fine b p.1)
 condition_known s fine (t.Le a b) k = let p = both _ _ k in both_true _ _ (expression_known s fine a p.0) (expression_known s fine b p.1)
@@ -86,9 +92,10 @@ condition_known s fine (t.And c d) k = let p = both _ _ k in both_true _ _ (cond
 condition_known s fine (t.Or c d) k = let p = both _ _ k in both_true _ _ (condition_known s fine c p.0) (condition_known s fine d p.1)
 
 mutual
-  statement_again : (s : Scope) → FineScope s → (x : Statement) → knows_statement (length s.variables) (length s.parameters) x ≡ true → statement_integers x ≡ true → largest_repeat x ≤ 1000 → statement_in s (written_statement s x) ≡ Ok x
+  statement_again : (s : Scope) → FineScope s → (x : Statement) → knows_statement (length s.variables) [] (length s.parameters) x ≡ true → statement_integers x ≡ true → largest_repeat x ≤ 1000 → statement_in s (written_statement s x) ≡ Ok x
   statement_again s fine t.Skip k i r = refl
   statement_again s fine (t.Set x a) k i r = let p = both _ _ k in rw (variable_again s.variables x fine.variables.new fine.variables.few p.0, expression_again s fine a p.1 i) refl
+  statement_again s fine (t.Put tb a b) k i r = absurd (cc)
   statement_again s fine (t.Seq parts) k i r = rw (statements_again s fine parts k i r) refl
   statement_again s fine (t.If c a b) k i r =
       let p = both _ _ k in let p1 = both _ _ p.1 in let q = both _ _ i in let q1 = both _ _ q.1 in
@@ -100,16 +107,17 @@ mutual
       rw (statement_again s fine a p.0 q.0 (omega arith), statement_again s fine b p.1 q.1 (omega arith)) refl
   statement_again s fine (t.Throw a) k i r = rw (expression_again s fine a k i) refl
 
-  statements_again : (s : Scope) → FineScope s → (x : Statements) → knows_statements (length s.variables) (length s.parameters) x ≡ true → statements_integers x ≡ true → largest_repeat_of_all x ≤ 1000 → statements_in s (written_statements s x) ≡ Ok x
+  statements_again : (s : Scope) → FineScope s → (x : Statements) → knows_statements (length s.variables) [] (length s.parameters) x ≡ true → statements_integers x ≡ true → largest_repeat_of_all x ≤ 1000 → statements_in s (written_statements s x) ≡ Ok x
   statements_again s fine t.End k i r = refl
   statements_again s fine (t.More first rest) k i r =
       let p = both _ _ k in let q = both _ _ i in
       rw (statement_again s fine first p.0 q.0 (omega arith), statements_again s fine rest p.1 q.1 (omega arith)) refl
 
 mutual
-  statement_known : (s : Scope) → FineScope s → (x : Statement) → knows_statement (length s.variables) (length s.parameters) x ≡ true → stmt_known s (written_statement s x) ≡ true
+  statement_known : (s : Scope) → FineScope s → (x : Statement) → knows_statement (length s.variables) [] (length s.parameters) x ≡ true → stmt_known s (written_statement s x) ≡ true
   statement_known s fine t.Skip k = refl
   statement_known s fine (t.Set x a) k = let p = both _ _ k in both_true _ _ (known_again [] s.variables x.0 fine.variables.new p.0) (expression_known s fine a p.1)
+  statement_known s fine (t.Put tb a b) k = absurd (cc)
   statement_known s fine (t.Seq parts) k = statements_known s fine parts k
   statement_known s fine (t.If c a b) k =
       let p = both _ _ k in let p1 = both _ _ p.1 in
@@ -119,7 +127,7 @@ mutual
   statement_known s fine (t.OrElse a b) k = let p = both _ _ k in both_true _ _ (statement_known s fine a p.0) (statement_known s fine b p.1)
   statement_known s fine (t.Throw a) k = expression_known s fine a k
 
-  statements_known : (s : Scope) → FineScope s → (x : Statements) → knows_statements (length s.variables) (length s.parameters) x ≡ true → stmts_known s (written_statements s x) ≡ true
+  statements_known : (s : Scope) → FineScope s → (x : Statements) → knows_statements (length s.variables) [] (length s.parameters) x ≡ true → stmts_known s (written_statements s x) ≡ true
   statements_known s fine t.End k = refl
   statements_known s fine (t.More first rest) k = let p = both _ _ k in both_true _ _ (statement_known s fine first p.0) (statements_known s fine rest p.1)
 
@@ -135,19 +143,19 @@ fine_inside names fine t own fit =
     let few = leb-true (length t.parameters) most_parameters (both _ _ (both (is_short t.name) _ fit).1).0 in
     record { variables = fine; parameters = record { new = own; few = omega arith } }
 
-conditions_again : (names : List (List ℕ)) → Fine [] names → (all : List (List ℕ × Condition)) → list_all (knows_standing (length names)) (map (λ a. a.1) all) ≡ true → list_all condition_integers (map (λ a. a.1) all) ≡ true
+conditions_again : (names : List (List ℕ)) → Fine [] names → (all : List (List ℕ × Condition)) → list_all (knows_standing (length names) []) (map (λ a. a.1) all) ≡ true → list_all condition_integers (map (λ a. a.1) all) ≡ true
     → each (always_in names) (map (written_always names) all) ≡ Ok all
 conditions_again names fine [] k i = refl
 conditions_again names fine (a ∷ all) k i =
     let k1 = both _ _ k in let i1 = both _ _ i in
     rw (condition_again (standing names) (fine_standing names fine) a.1 k1.0 i1.0, conditions_again names fine all k1.1 i1.1) refl
 
-conditions_known : (names : List (List ℕ)) → Fine [] names → (all : List (List ℕ × Condition)) → list_all (knows_standing (length names)) (map (λ a. a.1) all) ≡ true → list_all (always_known names) (map (written_always names) all) ≡ true
+conditions_known : (names : List (List ℕ)) → Fine [] names → (all : List (List ℕ × Condition)) → list_all (knows_standing (length names) []) (map (λ a. a.1) all) ≡ true → list_all (always_known names) (map (written_always names) all) ≡ true
 conditions_known names fine [] k = refl
 conditions_known names fine (a ∷ all) k = let k1 = both _ _ k in both_true _ _ (condition_known (standing names) (fine_standing names fine) a.1 k1.0) (conditions_known names fine all k1.1)
 
 transactions_again : (names : List (List ℕ)) → Fine [] names → (cs : List Condition) (ts : List Transaction) → list_all (has_own_parameters names) ts ≡ true → list_all names_fit ts ≡ true
-    → list_all (knows_transaction (length names)) ts ≡ true → list_all transaction_integers ts ≡ true → list_all (λ t. program_fits (under cs t)) ts ≡ true → each (transaction_in names) (map (written_transaction names) ts) ≡ Ok ts
+    → list_all (knows_transaction (length names) []) ts ≡ true → list_all transaction_integers ts ≡ true → list_all (λ t. program_fits (under cs t)) ts ≡ true → each (transaction_in names) (map (written_transaction names) ts) ≡ Ok ts
 transactions_again names fine cs [] o f k i h = refl
 transactions_again names fine cs (p ∷ ps) o f k i h =
     let o1 = both _ _ o in let f1 = both _ _ f in
@@ -160,7 +168,7 @@ transactions_again names fine cs (p ∷ ps) o f k i h =
     rw (statement_again s inner p.body k2.0 i2.0 small, expression_again s inner p.result k2.1 i2.1, transactions_again names fine cs ps o1.1 f1.1 k1.1 i1.1 h1.1) refl
 
 transactions_known : (names : List (List ℕ)) → Fine [] names → (ts : List Transaction) → list_all (has_own_parameters names) ts ≡ true → list_all names_fit ts ≡ true
-    → list_all (knows_transaction (length names)) ts ≡ true → list_all (tx_known names) (map (written_transaction names) ts) ≡ true
+    → list_all (knows_transaction (length names) []) ts ≡ true → list_all (tx_known names) (map (written_transaction names) ts) ≡ true
 transactions_known names fine [] o f k = refl
 transactions_known names fine (p ∷ ps) o f k =
     let o1 = both _ _ o in let f1 = both _ _ f in
@@ -248,14 +256,17 @@ resolved_again form l valued names limits integers =
     let i = both (list_all fits l.initial) _ integers in
     let i1 = both (list_all condition_integers (conditions l)) _ i.1 in
     let i2 = both (list_all transaction_integers l.transactions) _ i1.1 in
+    let no_tables : l.tables ≡ [] = untabled l limits in
+    let always_known = subst (λ (ts : List Span). list_all (knows_standing (length l.names) ts) (conditions l) ≡ true) (no_spans l limits) n.always_known in
+    let known = subst (λ (ts : List Span). list_all (knows_transaction (length l.names) ts) l.transactions ≡ true) (no_spans l limits) n.known in
     let fine : Fine [] l.names = record { new = n.distinct; few = m.variables } in
     let tx_fine : Fine [] (names_in l.transactions) = record { new = n.tx_distinct; few = let few = m.transactions in let e = length-map l.transactions (λ (t : Transaction). t.name) in omega arith } in
     let vars = var_names l.names l.initial valued in
     let always = names_of_conditions l.names l.always in
     let txs = names_of_txs l.names l.transactions in
     let wanted = all_wanted l (map (λ (run : Call × ℕ). run.0) l.runs) ∙ n.runs in
-    let others_used = both_true _ _ (transactions_known l.names fine l.transactions n.own_parameters m.tx_names n.known) (runs_known l.names l.transactions tx_fine l.runs wanted) in
-    let used = both_true _ _ (conditions_known l.names fine l.always n.always_known) others_used in
+    let others_used = both_true _ _ (transactions_known l.names fine l.transactions n.own_parameters m.tx_names known) (runs_known l.names l.transactions tx_fine l.runs wanted) in
+    let used = both_true _ _ (conditions_known l.names fine l.always always_known) others_used in
     let first = firsts l.names l.initial valued in
     let second = seconds l.names l.initial valued in
     rw (
@@ -267,9 +278,9 @@ resolved_again form l valued names limits integers =
       declared_again [] (names_in l.transactions) n.tx_distinct,
       used,
       vars_again l.names l.initial i.0,
-      conditions_again l.names fine l.always n.always_known i1.0,
-      transactions_again l.names fine (conditions l) l.transactions n.own_parameters m.tx_names n.known i2.0 m.programs,
+      conditions_again l.names fine l.always always_known i1.0,
+      transactions_again l.names fine (conditions l) l.transactions n.own_parameters m.tx_names known i2.0 m.programs,
       runs_again l.transactions tx_fine (λ c k. few_wanted l c limits k) l.runs wanted m.runs i2.1,
       first,
       second,
-    ) refl
+    ) (ap (λ (ts : List (List ℕ × ℕ)). Ok (record l { tables = ts })) (sym no_tables))

@@ -250,6 +250,7 @@ parameters_of_txs names (t ∷ ts) = ap (λ ps. t.parameters ∷ ps) (parameters
 
 pub record IsWritten (file : File) (l : Listing) : Type 0 where
   pub same : written_in file.form l ≡ file
+  pub untabled : l.tables ≡ []
   pub valued : length l.initial ≡ length l.names
   pub integers : integers_fit l ≡ true
 
@@ -277,6 +278,7 @@ converted_back file l h =
     let conditions = list_all-map condition_integers (λ (w : List ℕ × Condition). w.1) a.0 ∙ ab.1 in
     subst (IsWritten file) (ok_is made l r.2) (record {
       same = rw (same_vars, same_always, same_txs, same_runs) refl;
+      untabled = refl;
       valued = length-map v.0 (λ (w : List ℕ × ℤ). w.1) ∙ sym (length-map v.0 (λ (w : List ℕ × ℤ). w.0));
       integers = both_true _ _ values (both_true _ _ conditions (both_true _ _ pb.1 rb.1));
     })

@@ -7,7 +7,7 @@ use Rattle.std.proofs.lemmas.List.Folds.{list_all-map}
 use Rattle.std.proofs.lemmas.List.Concat.{flat_map-cons}
 use Rattle.txn_programs.specs.Arithmetic.{fits}
 use Rattle.txn_programs.specs.Tree as t
-use Rattle.txn_programs.specs.Listing.{Listing, conditions, always_names}
+use Rattle.txn_programs.specs.Listing.{Listing, spans, conditions, table_names, always_names}
 use Rattle.txn_programs.specs.Names.{is_name, are_new, are_distinct, are_formed, has_own_parameters, knows_standing, knows_transaction, is_well_formed, names_hold}
 use Rattle.txn_programs.specs.Limits.{most_parameters, limits_hold}
 use Rattle.txn_programs.specs.Standing.{upholds}
@@ -333,17 +333,19 @@ resolved_names bytes file l spelled h =
     let always : always_names l ≡ map condition_name file.always = sym (names_of_conditions l.names l.always) ∙ ap (λ (g : File). map condition_name g.always) w.same in
     let transactions : map (λ t. t.name) l.transactions ≡ map tx_name file.txs = sym (names_of_txs l.names l.transactions) ∙ ap (λ (g : File). map tx_name g.txs) w.same in
     let a : list_all is_name l.names ≡ true = ap (list_all is_name) names ∙ n.vars in
+    let a0 : list_all is_name (table_names l) ≡ true = ap (λ (ts : List (List ℕ × ℕ)). list_all is_name (map (λ t. t.0) ts)) w.untabled in
     let a1 : list_all is_name (always_names l) ≡ true = ap (list_all is_name) always ∙ n.always in
     let a2 : list_all are_formed l.transactions ≡ true = sym (list_all-map is_formed (written_transaction l.names) l.transactions) ∙ ap (λ (g : File). list_all is_formed g.txs) w.same ∙ n.txs in
-    let ids = both (list_all (knows_standing (length l.names)) (conditions l)) _ (resolved_holds file l h) in
-    let ids1 = both (list_all (knows_transaction (length l.names)) l.transactions) _ ids.1 in
+    let ids = both (list_all (knows_standing (length l.names) (spans l)) (conditions l)) _ (resolved_holds file l h) in
+    let ids1 = both (list_all (knows_transaction (length l.names) (spans l)) l.transactions) _ ids.1 in
     let u : are_distinct l.names ≡ true = ap are_distinct names ∙ k.vars_new in
+    let ut : are_distinct (table_names l) ≡ true = ap (λ (ts : List (List ℕ × ℕ)). are_distinct (map (λ t. t.0) ts)) w.untabled in
     let u1 : are_distinct (always_names l) ≡ true = ap are_distinct always ∙ k.always_new in
     let u2 : are_distinct (map (λ t. t.name) l.transactions) ≡ true = ap are_distinct transactions ∙ k.txs_new in
     let used : uses_known l.names file ≡ true = ap (λ (ns : List (List ℕ)). uses_known ns file) names ∙ k.used in
     let u3 : list_all (has_own_parameters l.names) l.transactions ≡ true =
     sym (list_all-map (is_own l.names) (written_transaction l.names) l.transactions) ∙ ap (λ (g : File). list_all (is_own l.names) g.txs) w.same ∙ own_used l.names file used in
-    rw (a, a1, a2, ids.0, ids1.0, ids1.1, u, u1, u2, u3) refl
+    rw (a, a0, a1, a2, ids.0, ids1.0, ids1.1, u, ut, u1, u2, u3) refl
 
 names_are_known : (file : File) (l : Listing) → resolved file ≡ Ok l → names_known file ≡ true
 names_are_known file l h = let k = resolved_is file l h in rw (k.vars_new, k.always_new, k.txs_new, k.used) refl

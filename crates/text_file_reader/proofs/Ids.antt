@@ -8,7 +8,7 @@ use Rattle.txn_programs.specs.declared.ast.ParamId.{ParamId}
 use Rattle.txn_programs.specs.declared.arguments.Call.{Call}
 use Rattle.txn_programs.specs.Tree.{Expression, Condition, Statement, Statements, Transaction}
 use Rattle.txn_programs.specs.Tree as t
-use Rattle.txn_programs.specs.Listing.{Listing, conditions}
+use Rattle.txn_programs.specs.Listing.{Listing, spans, conditions}
 use Rattle.txn_programs.specs.Names.{knows_expression, knows_condition, knows_standing, knows_statement, knows_statements, knows_transaction, is_callable}
 use Rattle.txn.specs.Ids.{ids_hold}
 use Rattle.text_words.specs.Answers.{◌>>=◌}
@@ -49,55 +49,55 @@ parameter_below names name p h =
 abbrev Known : {A : Type 0} → (A → Bool) → A → Type 0
 Known knows x = knows x ≡ true
 
-binary_knows : (n k : ℕ) (op : Operator) (a b : Expression) → Known (knows_expression n k) a → Known (knows_expression n k) b → Known (knows_expression n k) (binary op a b)
+binary_knows : (n k : ℕ) (op : Operator) (a b : Expression) → Known (knows_expression n [] k) a → Known (knows_expression n [] k) b → Known (knows_expression n [] k) (binary op a b)
 binary_knows n k operator.Add a b p q = both_true _ _ p q
 binary_knows n k operator.Sub a b p q = both_true _ _ p q
 binary_knows n k operator.Mul a b p q = both_true _ _ p q
 binary_knows n k operator.Div a b p q = both_true _ _ p q
 binary_knows n k operator.Rem a b p q = both_true _ _ p q
 
-expression_knows : (s : Scope) (e : Expr) (x : Expression) → expression_in s e ≡ Ok x → Known (knows_expression (length s.variables) (length s.parameters)) x
+expression_knows : (s : Scope) (e : Expr) (x : Expression) → expression_in s e ≡ Ok x → Known (knows_expression (length s.variables) [] (length s.parameters)) x
 expression_knows s (f.Int value) x h =
     let v = bind_ok (number_of value) _ x h in
-    subst (Known (knows_expression (length s.variables) (length s.parameters))) (ok_is (t.Int v.0) x v.2) refl
+    subst (Known (knows_expression (length s.variables) [] (length s.parameters))) (ok_is (t.Int v.0) x v.2) refl
 expression_knows s (f.Name name) x h =
     elim (chosen (is_known s.parameters name) (parameter_in s.parameters name >>= λ p. done (t.Param p)) (variable_in s.variables name >>= λ v. done (t.Var v)) (Ok x) h) [
       | inl q ↦
           let v = bind_ok (parameter_in s.parameters name) _ x q.1 in
-          subst (Known (knows_expression (length s.variables) (length s.parameters))) (ok_is (t.Param v.0) x v.2) (parameter_below s.parameters name v.0 v.1)
+          subst (Known (knows_expression (length s.variables) [] (length s.parameters))) (ok_is (t.Param v.0) x v.2) (parameter_below s.parameters name v.0 v.1)
       | inr q ↦
           let v = bind_ok (variable_in s.variables name) _ x q.1 in
-          subst (Known (knows_expression (length s.variables) (length s.parameters))) (ok_is (t.Var v.0) x v.2) (variable_below s.variables name v.0 v.1)
+          subst (Known (knows_expression (length s.variables) [] (length s.parameters))) (ok_is (t.Var v.0) x v.2) (variable_below s.variables name v.0 v.1)
     ]
 expression_knows s (f.Binary op left right) x h =
     let a = bind_ok (expression_in s left) _ x h in
     let b = bind_ok (expression_in s right) _ x a.2 in
-    subst (Known (knows_expression (length s.variables) (length s.parameters))) (ok_is (binary op a.0 b.0) x b.2) (binary_knows (length s.variables) (length s.parameters) op a.0 b.0 (expression_knows s left a.0 a.1) (expression_knows s right b.0 b.1))
+    subst (Known (knows_expression (length s.variables) [] (length s.parameters))) (ok_is (binary op a.0 b.0) x b.2) (binary_knows (length s.variables) (length s.parameters) op a.0 b.0 (expression_knows s left a.0 a.1) (expression_knows s right b.0 b.1))
 
-compare_knows : (n k : ℕ) (op : Comparison) (a b : Expression) → Known (knows_expression n k) a → Known (knows_expression n k) b → Known (knows_condition n k) (compare op a b)
+compare_knows : (n k : ℕ) (op : Comparison) (a b : Expression) → Known (knows_expression n [] k) a → Known (knows_expression n [] k) b → Known (knows_condition n [] k) (compare op a b)
 compare_knows n k comparison.Eq a b p q = both_true _ _ p q
 compare_knows n k comparison.Lt a b p q = both_true _ _ p q
 compare_knows n k comparison.Le a b p q = both_true _ _ p q
 
-connect_knows : (n k : ℕ) (op : Connective) (c d : Condition) → Known (knows_condition n k) c → Known (knows_condition n k) d → Known (knows_condition n k) (connect op c d)
+connect_knows : (n k : ℕ) (op : Connective) (c d : Condition) → Known (knows_condition n [] k) c → Known (knows_condition n [] k) d → Known (knows_condition n [] k) (connect op c d)
 connect_knows n k connective.And c d p q = both_true _ _ p q
 connect_knows n k connective.Or c d p q = both_true _ _ p q
 
-condition_knows : (s : Scope) (c : Cond) (x : Condition) → condition_in s c ≡ Ok x → Known (knows_condition (length s.variables) (length s.parameters)) x
+condition_knows : (s : Scope) (c : Cond) (x : Condition) → condition_in s c ≡ Ok x → Known (knows_condition (length s.variables) [] (length s.parameters)) x
 condition_knows s (f.Compare op left right) x h =
     let a = bind_ok (expression_in s left) _ x h in
     let b = bind_ok (expression_in s right) _ x a.2 in
-    subst (Known (knows_condition (length s.variables) (length s.parameters))) (ok_is (compare op a.0 b.0) x b.2) (compare_knows (length s.variables) (length s.parameters) op a.0 b.0 (expression_knows s left a.0 a.1) (expression_knows s right b.0 b.1))
+    subst (Known (knows_condition (length s.variables) [] (length s.parameters))) (ok_is (compare op a.0 b.0) x b.2) (compare_knows (length s.variables) (length s.parameters) op a.0 b.0 (expression_knows s left a.0 a.1) (expression_knows s right b.0 b.1))
 condition_knows s (f.Not inner) x h =
     let a = bind_ok (condition_in s inner) _ x h in
-    subst (Known (knows_condition (length s.variables) (length s.parameters))) (ok_is (t.Not a.0) x a.2) (condition_knows s inner a.0 a.1)
+    subst (Known (knows_condition (length s.variables) [] (length s.parameters))) (ok_is (t.Not a.0) x a.2) (condition_knows s inner a.0 a.1)
 condition_knows s (f.Connect op left right) x h =
     let a = bind_ok (condition_in s left) _ x h in
     let b = bind_ok (condition_in s right) _ x a.2 in
-    subst (Known (knows_condition (length s.variables) (length s.parameters))) (ok_is (connect op a.0 b.0) x b.2) (connect_knows (length s.variables) (length s.parameters) op a.0 b.0 (condition_knows s left a.0 a.1) (condition_knows s right b.0 b.1))
+    subst (Known (knows_condition (length s.variables) [] (length s.parameters))) (ok_is (connect op a.0 b.0) x b.2) (connect_knows (length s.variables) (length s.parameters) op a.0 b.0 (condition_knows s left a.0 a.1) (condition_knows s right b.0 b.1))
 
 abbrev StatementKnown : Scope → Statement → Type 0
-StatementKnown s x = Known (knows_statement (length s.variables) (length s.parameters)) x
+StatementKnown s x = Known (knows_statement (length s.variables) [] (length s.parameters)) x
 
 mutual
   statement_knows : (s : Scope) (p : Stmt) (x : Statement) → statement_in s p ≡ Ok x → StatementKnown s x
@@ -127,26 +127,26 @@ mutual
       let a = bind_ok (expression_in s value) _ x h in
       subst (StatementKnown s) (ok_is (t.Throw a.0) x a.2) (expression_knows s value a.0 a.1)
 
-  statements_know : (s : Scope) (ss : Stmts) (x : Statements) → statements_in s ss ≡ Ok x → Known (knows_statements (length s.variables) (length s.parameters)) x
-  statements_know s NoStmts x h = subst (Known (knows_statements (length s.variables) (length s.parameters))) (ok_is t.End x h) refl
+  statements_know : (s : Scope) (ss : Stmts) (x : Statements) → statements_in s ss ≡ Ok x → Known (knows_statements (length s.variables) [] (length s.parameters)) x
+  statements_know s NoStmts x h = subst (Known (knows_statements (length s.variables) [] (length s.parameters))) (ok_is t.End x h) refl
   statements_know s (MoreStmts first others) x h =
       let a = bind_ok (statement_in s first) _ x h in
       let b = bind_ok (statements_in s others) _ x a.2 in
-      subst (Known (knows_statements (length s.variables) (length s.parameters))) (ok_is (t.More a.0 b.0) x b.2) (both_true _ _ (statement_knows s first a.0 a.1) (statements_know s others b.0 b.1))
+      subst (Known (knows_statements (length s.variables) [] (length s.parameters))) (ok_is (t.More a.0 b.0) x b.2) (both_true _ _ (statement_knows s first a.0 a.1) (statements_know s others b.0 b.1))
 
-always_knows : (names : List (List ℕ)) (a : Always) (x : List ℕ × Condition) → always_in names a ≡ Ok x → Known (λ (y : List ℕ × Condition). knows_standing (length names) y.1) x
+always_knows : (names : List (List ℕ)) (a : Always) (x : List ℕ × Condition) → always_in names a ≡ Ok x → Known (λ (y : List ℕ × Condition). knows_standing (length names) [] y.1) x
 always_knows names a x h =
     let c = bind_ok (condition_in (standing names) a.condition) _ x h in
     let made : List ℕ × Condition = (a.name, c.0) in
-    subst (Known (λ (y : List ℕ × Condition). knows_standing (length names) y.1)) (ok_is made x c.2) (condition_knows (standing names) a.condition c.0 c.1)
+    subst (Known (λ (y : List ℕ × Condition). knows_standing (length names) [] y.1)) (ok_is made x c.2) (condition_knows (standing names) a.condition c.0 c.1)
 
-transaction_knows : (names : List (List ℕ)) (d : Declaration) (x : Transaction) → transaction_in names d ≡ Ok x → Known (knows_transaction (length names)) x
+transaction_knows : (names : List (List ℕ)) (d : Declaration) (x : Transaction) → transaction_in names d ≡ Ok x → Known (knows_transaction (length names) []) x
 transaction_knows names d x h =
     let s = inside names d.parameters in
     let a = bind_ok (statement_in s d.body) _ x h in
     let b = bind_ok (expression_in s d.value) _ x a.2 in
     let made : Transaction = record { name = d.name; parameters = d.parameters; body = a.0; result = b.0 } in
-    subst (Known (knows_transaction (length names))) (ok_is made x b.2) (both_true _ _ (statement_knows s d.body a.0 a.1) (expression_knows s d.value b.0 b.1))
+    subst (Known (knows_transaction (length names) [])) (ok_is made x b.2) (both_true _ _ (statement_knows s d.body a.0 a.1) (expression_knows s d.value b.0 b.1))
 
 -- ---- lists
 
@@ -183,9 +183,9 @@ converted_holds file l used h =
     let w = converted_back file made (h ∙ ap done (sym (ok_is made l r.2))) in
     let names : vars ≡ made.names = ap (λ (g : File). map pair_name g.vars) (sym w.same) ∙ var_names made.names made.initial w.valued in
     let parameters : map declared_parameters file.txs ≡ map parameters_of p.0 = ap (λ (g : File). map declared_parameters g.txs) (sym w.same) ∙ parameters_of_txs made.names p.0 in
-    let known : list_all (knows_standing (length vars)) (conditions made) ≡ true =
-    list_all-map (knows_standing (length vars)) (λ (w : List ℕ × Condition). w.1) a.0 ∙ each_knows (always_in vars) (λ (w : List ℕ × Condition). knows_standing (length vars) w.1) (always_knows vars) file.always a.0 a.1 in
-    let known_txs : list_all (knows_transaction (length vars)) p.0 ≡ true = each_knows (transaction_in vars) (knows_transaction (length vars)) (transaction_knows vars) file.txs p.0 p.1 in
+    let known : list_all (knows_standing (length vars) []) (conditions made) ≡ true =
+    list_all-map (knows_standing (length vars) []) (λ (w : List ℕ × Condition). w.1) a.0 ∙ each_knows (always_in vars) (λ (w : List ℕ × Condition). knows_standing (length vars) [] w.1) (always_knows vars) file.always a.0 a.1 in
+    let known_txs : list_all (knows_transaction (length vars) []) p.0 ≡ true = each_knows (transaction_in vars) (knows_transaction (length vars) []) (transaction_knows vars) file.txs p.0 p.1 in
     let wanted : list_all (is_wanted (map declared_parameters file.txs)) (map (λ (run : Call × ℕ). run.0) r.0) ≡ true =
     list_all-map (is_wanted (map declared_parameters file.txs)) (λ (run : Call × ℕ). run.0) r.0
     ∙ good_knows (run_in txs) (run_known file.txs) (λ (run : Call × ℕ). is_wanted (map declared_parameters file.txs) run.0) (λ b x g e. run_wanted file.txs b x g e) file.runs r.0 runs_known r.1 in
@@ -193,8 +193,8 @@ converted_holds file l used h =
     let wanted_made : list_all (is_wanted (map parameters_of p.0)) calls ≡ true = subst (λ (ps : List (List (List ℕ))). list_all (is_wanted ps) calls ≡ true) parameters wanted in
     let same : list_all (is_wanted (map parameters_of p.0)) calls ≡ list_all (is_callable made) calls = all_wanted made calls in
     let known_runs : list_all (is_callable made) calls ≡ true = sym same ∙ wanted_made in
-    let k1 : list_all (knows_standing (length made.names)) (conditions made) ≡ true = subst (λ (ns : List (List ℕ)). list_all (knows_standing (length ns)) (conditions made) ≡ true) names known in
-    let k2 : list_all (knows_transaction (length made.names)) made.transactions ≡ true = subst (λ (ns : List (List ℕ)). list_all (knows_transaction (length ns)) made.transactions ≡ true) names known_txs in
+    let k1 : list_all (knows_standing (length made.names) (spans made)) (conditions made) ≡ true = subst (λ (ns : List (List ℕ)). list_all (knows_standing (length ns) []) (conditions made) ≡ true) names known in
+    let k2 : list_all (knows_transaction (length made.names) (spans made)) made.transactions ≡ true = subst (λ (ns : List (List ℕ)). list_all (knows_transaction (length ns) []) made.transactions ≡ true) names known_txs in
     let all : ids_hold made ≡ true = rw (k1, k2, known_runs) refl in
     subst (λ (k : Listing). ids_hold k ≡ true) (ok_is made l r.2) all
 

@@ -22,7 +22,15 @@ fn built(alloc: Global, parts: Parts) -> Result<Catalogue, ReadFault>
     requires { ids_hold (view_parts parts) ≡ true }
     ensures { Gives (λ c. c) result (lawful (view_parts parts)) }
 {
-    match Catalogue::build_known(alloc, parts.vars, parts.always, parts.txs, parts.runs) {
+    let tables = Vec::new(alloc);
+    match Catalogue::build_known(
+        alloc,
+        parts.vars,
+        tables,
+        parts.always,
+        parts.txs,
+        parts.runs,
+    ) {
         Ok(catalogue) => Ok(catalogue),
         Err(BuildFault::Name) => Err(ReadFault::Name),
         Err(BuildFault::Limit) => Err(ReadFault::Limit),

@@ -184,7 +184,7 @@ run_in names r = place_in names r.name >>= λ place. count_of r.count >>= λ n. 
 
 abbrev pub listing : List (List ℕ × ℤ) → List (List ℕ × Condition) → List Transaction → List (Call × ℕ) → Listing
 listing vars always transactions runs =
-    record { names = map (λ v. v.0) vars; initial = map (λ v. v.1) vars; always = always; transactions = transactions; runs = runs }
+    record { names = map (λ v. v.0) vars; tables = []; initial = map (λ v. v.1) vars; always = always; transactions = transactions; runs = runs }
 
 -- the listing of a file whose names are known
 unfoldable pub converted : List (List ℕ) → List (List ℕ) → File → Result Listing ReadFault

@@ -23,6 +23,9 @@ abbrev pub expression_integers : Expression → Bool
 expression_integers (t.Int n) = fits n
 expression_integers (t.Var x) = true
 expression_integers (t.Param p) = true
+-- no file says a table yet, and no listing has one
+expression_integers (t.Cell table a) = true
+expression_integers (t.OfAll fold table) = true
 expression_integers (t.Add a b) = expression_integers a && expression_integers b
 expression_integers (t.Sub a b) = expression_integers a && expression_integers b
 expression_integers (t.Mul a b) = expression_integers a && expression_integers b
@@ -41,6 +44,7 @@ abbrev mutual
   pub statement_integers : Statement → Bool
   statement_integers t.Skip = true
   statement_integers (t.Set x a) = expression_integers a
+  statement_integers (t.Put table a b) = true
   statement_integers (t.Seq parts) = statements_integers parts
   statement_integers (t.If c p q) = condition_integers c && (statement_integers p && statement_integers q)
   statement_integers (t.Repeat n p) = statement_integers p

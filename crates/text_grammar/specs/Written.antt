@@ -22,6 +22,9 @@ abbrev pub written_expression : Scope → Expression → Expr
 written_expression s (t.Int n) = f.Int n
 written_expression s (t.Var x) = f.Name (name_at s.variables x.0)
 written_expression s (t.Param p) = f.Name (name_at s.parameters p.0)
+-- no file says a table yet, and no listing has one
+written_expression s (t.Cell table a) = f.Name []
+written_expression s (t.OfAll fold table) = f.Name []
 written_expression s (t.Add a b) = f.Binary operator.Add (written_expression s a) (written_expression s b)
 written_expression s (t.Sub a b) = f.Binary operator.Sub (written_expression s a) (written_expression s b)
 written_expression s (t.Mul a b) = f.Binary operator.Mul (written_expression s a) (written_expression s b)
@@ -40,6 +43,7 @@ abbrev mutual
   pub written_statement : Scope → Statement → Stmt
   written_statement s t.Skip = f.Skip
   written_statement s (t.Set x a) = f.Set (name_at s.variables x.0) (written_expression s a)
+  written_statement s (t.Put table a b) = f.Skip
   written_statement s (t.Seq parts) = f.Seq (written_statements s parts)
   written_statement s (t.If c p q) = f.If (written_condition s c) (written_statement s p) (written_statement s q)
   written_statement s (t.Repeat n p) = f.Repeat (pos n) (written_statement s p)

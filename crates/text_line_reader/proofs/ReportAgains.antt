@@ -1,6 +1,6 @@
 -- The words of a report that fits the catalogue tell that report.
 use Rattle.std.proofs.Common.{◌≡◌, ◌≢◌, ◌∙◌, ℕ, suc, ◌+◌, ◌<◌, ◌≤◌, ◌^◌, true, List, [], ◌∷◌, ◌++◌, length, map, get_or, Ok, refl, sym, ap, arith}
-use Rattle.std.specs.Prelude.{ℤ, pos, negsuc, FitsSigned, codes, is_some}
+use Rattle.std.specs.Prelude.{ℤ, pos, negsuc, FitsSigned, All, codes, is_some}
 use Rattle.std.specs.Int.{w64}
 use Rattle.std.specs.Fmt.{decimal, signed_decimal}
 use Rattle.std.specs.List.{flat_map, list_all, AllByRecursion}
@@ -29,8 +29,9 @@ use Rattle.text_report_printer.specs.ReportFits.{OutcomeFits, ReportFits}
 use Rattle.text_report_printer.specs.ReportText.{variable_line, variable_lines, outcome_text, entry_line, task_line, report_text}
 use Rattle.text_words.specs.Numbers.{number_of}
 use Rattle.text_words.specs.Words.{line}
-use Rattle.text_line_reader.specs.ReportRaw.{Variable, Ending, Returned, Threw, Overflow, DivideByZero, Broke, Entry, Task, Raw, variable_words, ending_words, entry_words, task_words, raw_text, IsVariable, IsEnding, IsEntry, IsTask, IsRaw}
+use Rattle.text_line_reader.specs.ReportRaw.{Variable, Ending, Returned, Threw, Overflow, DivideByZero, Outside, Broke, Entry, Task, Raw, variable_words, ending_words, entry_words, task_words, raw_text, IsVariable, IsEnding, IsEntry, IsTask, IsRaw}
 use Rattle.text_line_reader.specs.Counts.{below}
+use Rattle.text_line_reader.specs.Reports.{knows_outside}
 use Rattle.text_line_reader.specs.ReportResolving.{named_as, is_known, entries_known, tasks_known, variables_known, transactions_known, condition_known, conditions_known, names_known, count_in, variable_told, outcome_told, entry_told, task_told, told_of, resolved}
 use Rattle.text_line_reader.specs.Rows.{each}
 use Rattle.text_line_reader.proofs.Numbers.{decimal_value, int_printed, printed_value, below_is}
@@ -107,24 +108,30 @@ written_ending l (outcome.Returned v) = Returned (signed_decimal v)
 written_ending l (outcome.Thrown (fault.User v)) = Threw (signed_decimal v)
 written_ending l (outcome.Thrown fault.Overflow) = Overflow
 written_ending l (outcome.Thrown fault.DivideByZero) = DivideByZero
+written_ending l (outcome.Thrown fault.Outside) = Outside
 written_ending l (outcome.Thrown (fault.Broken id)) = Broke (always_name l id)
 written_ending l outcome.Retries = Overflow
 
+-- it is outside only where the listing knows it
+abbrev IsOutside : Listing → Outcome → Type 0
+IsOutside l o = o ≡ outcome.Thrown fault.Outside → knows_outside l ≡ true
+
 record OutcomeAgain (l : Listing) (o : Outcome) : Type 0 where
-  words : IsEnding (written_ending l o)
+  words : IsEnding (knows_outside l) (written_ending l o)
   known : condition_known l (written_ending l o) ≡ true
   told : outcome_told l (written_ending l o) ≡ Ok o
   text : (word : List ℕ) → line (word ∷ outcome_text l o ∷ []) ≡ line (word ∷ ending_words (written_ending l o))
 
-outcome_again : (l : Listing) → names_hold l ≡ true → (o : Outcome) → OutcomeFits o → OutcomeKnown (length l.always) o → o ≢ outcome.Retries → OutcomeAgain l o
+outcome_again : (l : Listing) → names_hold l ≡ true → (o : Outcome) → OutcomeFits o → OutcomeKnown (length l.always) o → o ≢ outcome.Retries → IsOutside l o → OutcomeAgain l o
 unfolding written_ending
-outcome_again l names (outcome.Returned v) f k ends = record { words = int_printed v f; known = refl; told = rw (value_again v f) refl; text = λ word. refl }
-outcome_again l names (outcome.Thrown (fault.User v)) f k ends = record { words = int_printed v f; known = refl; told = rw (value_again v f) refl; text = λ word. refl }
-outcome_again l names (outcome.Thrown fault.Overflow) f k ends = record { words = tt; known = refl; told = refl; text = λ word. refl }
-outcome_again l names (outcome.Thrown fault.DivideByZero) f k ends = record { words = tt; known = refl; told = refl; text = λ word. refl }
-outcome_again l names (outcome.Thrown (fault.Broken id)) f k ends =
+outcome_again l names (outcome.Returned v) f k ends out = record { words = int_printed v f; known = refl; told = rw (value_again v f) refl; text = λ word. refl }
+outcome_again l names (outcome.Thrown (fault.User v)) f k ends out = record { words = int_printed v f; known = refl; told = rw (value_again v f) refl; text = λ word. refl }
+outcome_again l names (outcome.Thrown fault.Overflow) f k ends out = record { words = tt; known = refl; told = refl; text = λ word. refl }
+outcome_again l names (outcome.Thrown fault.DivideByZero) f k ends out = record { words = tt; known = refl; told = refl; text = λ word. refl }
+outcome_again l names (outcome.Thrown fault.Outside) f k ends out = record { words = out refl; known = refl; told = refl; text = λ word. refl }
+outcome_again l names (outcome.Thrown (fault.Broken id)) f k ends out =
     record { words = condition_is_name l id names k; known = ap is_some (condition_is l id names k); told = rw (always_again l id names k) refl; text = λ word. refl }
-outcome_again l names outcome.Retries f k ends = absurd (ends refl)
+outcome_again l names outcome.Retries f k ends out = absurd (ends refl)
 
 abbrev written_entry : Listing → told.Entry → Entry
 written_entry l e = record { number = decimal e.number; task = decimal e.task.0; name = (program_at l e.tx).name; ending = written_ending l e.outcome }
@@ -136,9 +143,10 @@ record EntryFits (l : Listing) (e : told.Entry) : Type 0 where
   ids : (e.task.0 < length (tasks l)) × (e.tx.0 < length l.transactions)
   value : OutcomeFits e.outcome
   fault_known : OutcomeKnown (length l.always) e.outcome
+  outside : IsOutside l e.outcome
 
 record EntryAgain (l : Listing) (e : told.Entry) : Type 0 where
-  words : IsEntry (written_entry l e)
+  words : IsEntry (knows_outside l) (written_entry l e)
   known : is_known l (written_entry l e).name ≡ true
   condition : condition_known l (written_entry l e).ending ≡ true
   told : entry_told l (written_entry l e) ≡ Ok e
@@ -148,7 +156,7 @@ entry_again : (l : Listing) (e : told.Entry) → names_hold l ≡ true → lengt
 unfolding entry_told
 entry_again l e names few f =
     let task_known = f.ids.0 in
-    let o = outcome_again l names e.outcome f.value f.fault_known f.ends in
+    let o = outcome_again l names e.outcome f.value f.fault_known f.ends f.outside in
     record {
       words = record { number = small e.number f.number; task = small e.task.0 (omega arith); name = tx_is_name l e.tx names f.ids.1; ending = o.words };
       known = tx_is_known l e.tx names f.ids.1;
@@ -183,9 +191,10 @@ task_again l t names few f =
 -- ---- all lines of a kind
 
 entries_fit : (l : Listing) (es : List told.Entry) → AllByRecursion (λ (e : told.Entry). e.number ≤ MAX_TASKS) es → AllByRecursion (λ (e : told.Entry). e.outcome ≢ outcome.Retries) es
-    → AllByRecursion (λ (e : told.Entry). (e.task.0 < length (tasks l)) × (e.tx.0 < length l.transactions)) es → AllByRecursion (λ (e : told.Entry). OutcomeFits e.outcome) es → AllByRecursion (λ (e : told.Entry). OutcomeKnown (length l.always) e.outcome) es → AllByRecursion (EntryFits l) es
-entries_fit l [] a b c d k = tt
-entries_fit l (e ∷ es) a b c d k = (record { number = a.0; ends = b.0; ids = c.0; value = d.0; fault_known = k.0 }, entries_fit l es a.1 b.1 c.1 d.1 k.1)
+    → AllByRecursion (λ (e : told.Entry). (e.task.0 < length (tasks l)) × (e.tx.0 < length l.transactions)) es → AllByRecursion (λ (e : told.Entry). OutcomeFits e.outcome) es → AllByRecursion (λ (e : told.Entry). OutcomeKnown (length l.always) e.outcome) es
+    → AllByRecursion (λ (e : told.Entry). IsOutside l e.outcome) es → AllByRecursion (EntryFits l) es
+entries_fit l [] a b c d k o = tt
+entries_fit l (e ∷ es) a b c d k o = (record { number = a.0; ends = b.0; ids = c.0; value = d.0; fault_known = k.0; outside = o.0 }, entries_fit l es a.1 b.1 c.1 d.1 k.1 o.1)
 
 -- ---- all lines
 
@@ -202,7 +211,7 @@ written_report l t =
     }
 
 pub record ReportAgain (l : Listing) (t : Told) : Type 0 where
-  pub words : IsRaw (length l.names) (written_report l t)
+  pub words : IsRaw (knows_outside l) (length l.names) (written_report l t)
   pub told : resolved l (written_report l t) ≡ Ok t
   pub text : report_text l t ≡ raw_text (written_report l t)
 
@@ -229,8 +238,9 @@ all_text : (l : Listing) (t : Told) → variable_lines l.names t.base_vars ≡ f
     → report_text l t ≡ raw_text (written_report l t)
 all_text l t b e c f g = five (line (codes "base" ∷ decimal t.base ∷ [])) (line (codes "now" ∷ decimal t.current ∷ [])) (line (codes "end" ∷ [])) b c e f g
 
-pub report_again : (l : Listing) (t : Told) → length l.names ≡ length l.initial → names_hold l ≡ true → length (tasks l) ≤ MAX_TASKS → FitsCatalogue l t → ReportFits t → ReportAgain l t
-report_again l t named names few f v =
+pub report_again : (l : Listing) (t : Told) → length l.names ≡ length l.initial → names_hold l ≡ true → length (tasks l) ≤ MAX_TASKS → FitsCatalogue l t → ReportFits t
+    → All (λ (e : told.Entry). e.outcome ≡ outcome.Thrown fault.Outside → knows_outside l ≡ true) t.entries → ReportAgain l t
+report_again l t named names few f v out =
     let forms = (names_parts l names).forms in
     let base_vars = variables_again l.names t.base_vars (f.base_vars ∙ sym named) forms (recursion_from_All (λ (x : ℤ × ℕ). FitsSigned w64 x.0) t.base_vars v.base) (recursion_from_All (λ (x : ℤ × ℕ). x.1 ≤ MAX_TASKS) t.base_vars f.base_versions) in
     let current_vars = variables_again l.names t.current_vars (f.current_vars ∙ sym named) forms (recursion_from_All (λ (x : ℤ × ℕ). FitsSigned w64 x.0) t.current_vars v.current) (recursion_from_All (λ (x : ℤ × ℕ). x.1 ≤ MAX_TASKS) t.current_vars f.current_versions) in
@@ -239,7 +249,8 @@ report_again l t named names few f v =
     (recursion_from_All (λ (e : told.Entry). e.outcome ≢ outcome.Retries) t.entries f.ends)
     (recursion_from_All (λ (e : told.Entry). (e.task.0 < length (tasks l)) × (e.tx.0 < length l.transactions)) t.entries f.entries)
     (recursion_from_All (λ (e : told.Entry). OutcomeFits e.outcome) t.entries v.entries)
-    (recursion_from_All (λ (e : told.Entry). OutcomeKnown (length l.always) e.outcome) t.entries f.faults) in
+    (recursion_from_All (λ (e : told.Entry). OutcomeKnown (length l.always) e.outcome) t.entries f.faults)
+    (recursion_from_All (λ (e : told.Entry). IsOutside l e.outcome) t.entries out) in
     let parked = recursion_from_All (IdsFit l) t.parked f.parked in
     let memory = recursion_from_All (IdsFit l) t.memory f.memory in
     let entry = λ (e : told.Entry) (h : EntryFits l e). entry_again l e names few h in
@@ -255,7 +266,7 @@ report_again l t named names few f v =
         base = small t.base f.base;
         base_count = base_vars.count;
         base_vars = base_vars.words;
-        entries = all_again (EntryFits l) IsEntry (written_entry l) (λ e h. (entry e h).words) t.entries entries;
+        entries = all_again (EntryFits l) (IsEntry (knows_outside l)) (written_entry l) (λ e h. (entry e h).words) t.entries entries;
         current = small t.current f.current;
         current_count = current_vars.count;
         current_vars = current_vars.words;

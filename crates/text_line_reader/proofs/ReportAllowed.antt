@@ -1,11 +1,11 @@
 -- A report that is written has allowed bytes alone.
-use Rattle.std.proofs.Common.{◌≡◌, ℕ, true, List, [], ◌∷◌, ◌++◌, refl, sym, subst}
+use Rattle.std.proofs.Common.{◌≡◌, ℕ, Bool, true, List, [], ◌∷◌, ◌++◌, refl, sym, subst}
 use Rattle.std.specs.Prelude.{codes}
 use Rattle.std.specs.List.{list_all, flat_map, AllByRecursion}
 use Rattle.std.proofs.lemmas.Bool.{and_from}
 use Rattle.text_words.specs.Bytes.{is_allowed}
 use Rattle.text_words.specs.Words.{line}
-use Rattle.text_line_reader.specs.ReportRaw.{Variable, Ending, Returned, Threw, Overflow, DivideByZero, Broke, Entry, Task, Raw, variable_words, ending_words, entry_words, task_words, number_words, raw_text, IsVariable, IsEnding, IsEntry, IsTask, IsRaw}
+use Rattle.text_line_reader.specs.ReportRaw.{Variable, Ending, Returned, Threw, Overflow, DivideByZero, Outside, Broke, Entry, Task, Raw, variable_words, ending_words, entry_words, task_words, number_words, raw_text, IsVariable, IsEnding, IsEntry, IsTask, IsRaw}
 use Rattle.text_line_reader.specs.Words.{is_number}
 use Rattle.text_line_reader.specs.Reports.{IsWritten}
 use Rattle.text_line_reader.proofs.Allowed.{allowed, name_allowed, int_allowed, number_allowed, two, words_allowed, line_allowed, lines_allowed}
@@ -13,16 +13,17 @@ use Rattle.text_line_reader.proofs.Allowed.{allowed, name_allowed, int_allowed, 
 variable_allowed : (v : Variable) → IsVariable v → words_allowed (variable_words v) ≡ true
 variable_allowed v h = and_from _ _ (name_allowed v.name h.name) (and_from _ _ (int_allowed v.value h.value) (and_from _ _ (number_allowed v.version h.version) refl))
 
-ending_allowed : (x : Ending) → IsEnding x → words_allowed (ending_words x) ≡ true
-ending_allowed (Returned value) h = and_from _ _ refl (and_from _ _ (int_allowed value h) refl)
-ending_allowed (Threw value) h = and_from _ _ refl (and_from _ _ (int_allowed value h) refl)
-ending_allowed Overflow h = refl
-ending_allowed DivideByZero h = refl
-ending_allowed (Broke name) h = and_from _ _ refl (and_from _ _ (name_allowed name h) refl)
+ending_allowed : (cells : Bool) (x : Ending) → IsEnding cells x → words_allowed (ending_words x) ≡ true
+ending_allowed cells (Returned value) h = and_from _ _ refl (and_from _ _ (int_allowed value h) refl)
+ending_allowed cells (Threw value) h = and_from _ _ refl (and_from _ _ (int_allowed value h) refl)
+ending_allowed cells Overflow h = refl
+ending_allowed cells DivideByZero h = refl
+ending_allowed cells Outside h = refl
+ending_allowed cells (Broke name) h = and_from _ _ refl (and_from _ _ (name_allowed name h) refl)
 
-entry_allowed : (e : Entry) → IsEntry e → words_allowed (entry_words e) ≡ true
-entry_allowed e h =
-    and_from _ _ refl (and_from _ _ (number_allowed e.number h.number) (and_from _ _ (number_allowed e.task h.task) (and_from _ _ (name_allowed e.name h.name) (ending_allowed e.ending h.ending))))
+entry_allowed : (cells : Bool) (e : Entry) → IsEntry cells e → words_allowed (entry_words e) ≡ true
+entry_allowed cells e h =
+    and_from _ _ refl (and_from _ _ (number_allowed e.number h.number) (and_from _ _ (number_allowed e.task h.task) (and_from _ _ (name_allowed e.name h.name) (ending_allowed cells e.ending h.ending))))
 
 task_allowed : (word : List ℕ) → allowed word ≡ true → (t : Task) → IsTask t → words_allowed (task_words word t) ≡ true
 task_allowed word w t h = and_from _ _ w (and_from _ _ (number_allowed t.task h.task) (and_from _ _ (name_allowed t.name h.name) refl))
@@ -37,15 +38,15 @@ record IsAllowed (bytes : List ℕ) : Type 0 where
 join : {a b : List ℕ} → IsAllowed a → IsAllowed b → IsAllowed (a ++ b)
 join {a} {b} p q = record { by = two a b p.by q.by }
 
-text_allowed : (n : ℕ) (r : Raw) → IsRaw n r → IsAllowed (raw_text r)
-text_allowed n r is =
+text_allowed : (cells : Bool) (n : ℕ) (r : Raw) → IsRaw cells n r → IsAllowed (raw_text r)
+text_allowed cells n r is =
     let number = λ (word digits : List ℕ) (w : allowed word ≡ true) (h : is_number digits ≡ true). let a : IsAllowed (line (number_words word digits)) = record { by = numbered_allowed word digits w h } in a in
     let variables = λ (vs : List Variable) (h : AllByRecursion IsVariable vs). let a : IsAllowed (flat_map (λ v. line (variable_words v)) vs) = record { by = lines_allowed variable_words IsVariable variable_allowed vs h } in a in
-    let entries : IsAllowed (flat_map (λ e. line (entry_words e)) r.entries) = record { by = lines_allowed entry_words IsEntry entry_allowed r.entries is.entries } in
+    let entries : IsAllowed (flat_map (λ e. line (entry_words e)) r.entries) = record { by = lines_allowed entry_words (IsEntry cells) (entry_allowed cells) r.entries is.entries } in
     let tasks = λ (word : List ℕ) (w : allowed word ≡ true) (ts : List Task) (h : AllByRecursion IsTask ts). let a : IsAllowed (flat_map (λ t. line (task_words word t)) ts) = record { by = lines_allowed (task_words word) IsTask (task_allowed word w) ts h } in a in
     let last : IsAllowed (line (codes "end" ∷ [])) = record { by = line_allowed (codes "end" ∷ []) refl } in
     join (number (codes "base") r.base refl is.base) (join (variables r.base_vars is.base_vars) (join entries (join (number (codes "now") r.current refl is.current) (join (variables r.current_vars is.current_vars)
     (join (tasks (codes "parked") refl r.parked is.parked) (join (tasks (codes "memory") refl r.memory is.memory) last))))))
 
-pub raw_allowed : (n : ℕ) (bytes : List ℕ) (r : Raw) → IsWritten n bytes r → list_all is_allowed bytes ≡ true
-raw_allowed n bytes r w = subst (λ (bs : List ℕ). allowed bs ≡ true) (sym w.text) (text_allowed n r w.words).by
+pub raw_allowed : (cells : Bool) (n : ℕ) (bytes : List ℕ) (r : Raw) → IsWritten cells n bytes r → list_all is_allowed bytes ≡ true
+raw_allowed cells n bytes r w = subst (λ (bs : List ℕ). allowed bs ≡ true) (sym w.text) (text_allowed cells n r w.words).by

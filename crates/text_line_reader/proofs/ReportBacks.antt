@@ -1,6 +1,6 @@
 -- What is told of words is written as these words.
 use Rattle.std.proofs.Common.{◌≡◌, ◌≢◌, ◌∙◌, ℕ, suc, ◌+◌, ◌<◌, ◌≤◌, ◌^◌, true, List, [], ◌∷◌, ◌++◌, length, Ok, refl, sym, ap, subst, arith}
-use Rattle.std.specs.Prelude.{ℤ, pos, negsuc, FitsSigned, codes}
+use Rattle.std.specs.Prelude.{ℤ, pos, negsuc, FitsSigned, All, codes}
 use Rattle.std.specs.Int.{w64}
 use Rattle.std.specs.Fmt.{decimal, signed_decimal}
 use Rattle.std.specs.List.{flat_map, AllByRecursion}
@@ -27,10 +27,11 @@ use Rattle.text_words.specs.Numbers.{number_of}
 use Rattle.text_words.specs.Words.{line}
 use Rattle.text_words.proofs.Numerals.{number_is}
 use Rattle.text_words.proofs.Steps.{bind_ok, ok_is}
-use Rattle.text_line_reader.specs.ReportRaw.{Variable, Ending, Returned, Threw, Overflow, DivideByZero, Broke, Entry, Task, Raw, variable_words, ending_words, entry_words, task_words, number_words, raw_text, IsVariable, IsEnding, IsEntry, IsTask, IsRaw}
+use Rattle.text_line_reader.specs.ReportRaw.{Variable, Ending, Returned, Threw, Overflow, DivideByZero, Outside, Broke, Entry, Task, Raw, variable_words, ending_words, entry_words, task_words, number_words, raw_text, IsVariable, IsEnding, IsEntry, IsTask, IsRaw}
 use Rattle.text_line_reader.specs.Words.{is_number}
 use Rattle.text_line_reader.specs.ReportResolving.{named_as, variables_known, names_known, count_in, tx_id, always_id, variable_told, outcome_told, entry_told, task_told, told_of}
 use Rattle.text_line_reader.specs.Counts.{task_id}
+use Rattle.text_line_reader.specs.Reports.{knows_outside}
 use Rattle.text_line_reader.specs.Rows.{each}
 use Rattle.text_line_reader.proofs.Numbers.{number_written, int_written, below_gives}
 use Rattle.text_line_reader.proofs.ReportPlaces.{tx_back, always_back}
@@ -92,8 +93,9 @@ pub record OutcomeBack (l : Listing) (e : Ending) (o : Outcome) : Type 0 where
   pub fits : OutcomeFits o
   pub known : OutcomeKnown (length l.always) o
   pub ends : o ≢ outcome.Retries
+  pub outside : o ≡ outcome.Thrown fault.Outside → knows_outside l ≡ true
 
-outcome_back : (l : Listing) (e : Ending) (o : Outcome) → IsEnding e → outcome_told l e ≡ Ok o → OutcomeBack l e o
+outcome_back : (l : Listing) (e : Ending) (o : Outcome) → IsEnding (knows_outside l) e → outcome_told l e ≡ Ok o → OutcomeBack l e o
 outcome_back l (Returned value) o is e =
     let a = bind_ok (number_of (int_value value)) _ o e in
     let v = value_back value a.0 is a.1 in
@@ -103,6 +105,7 @@ outcome_back l (Returned value) o is e =
       fits = v.fits;
       known = tt;
       ends = λ h. cc;
+      outside = λ h. absurd (cc);
     })
 outcome_back l (Threw value) o is e =
     let a = bind_ok (number_of (int_value value)) _ o e in
@@ -113,9 +116,11 @@ outcome_back l (Threw value) o is e =
       fits = v.fits;
       known = tt;
       ends = λ h. cc;
+      outside = λ h. absurd (cc);
     })
-outcome_back l Overflow o is e = subst (OutcomeBack l Overflow) (ok_is (outcome.Thrown fault.Overflow) o e) (record { text = λ word. refl; fits = tt; known = tt; ends = λ h. cc })
-outcome_back l DivideByZero o is e = subst (OutcomeBack l DivideByZero) (ok_is (outcome.Thrown fault.DivideByZero) o e) (record { text = λ word. refl; fits = tt; known = tt; ends = λ h. cc })
+outcome_back l Overflow o is e = subst (OutcomeBack l Overflow) (ok_is (outcome.Thrown fault.Overflow) o e) (record { text = λ word. refl; fits = tt; known = tt; ends = λ h. cc; outside = λ h. absurd (cc) })
+outcome_back l DivideByZero o is e = subst (OutcomeBack l DivideByZero) (ok_is (outcome.Thrown fault.DivideByZero) o e) (record { text = λ word. refl; fits = tt; known = tt; ends = λ h. cc; outside = λ h. absurd (cc) })
+outcome_back l Outside o is e = subst (OutcomeBack l Outside) (ok_is (outcome.Thrown fault.Outside) o e) (record { text = λ word. refl; fits = tt; known = tt; ends = λ h. cc; outside = λ h. is })
 outcome_back l (Broke name) o is e =
     let a = bind_ok (always_id l name) _ o e in
     let c = always_back l name a.0 a.1 in
@@ -125,6 +130,7 @@ outcome_back l (Broke name) o is e =
       fits = tt;
       known = c.known;
       ends = λ h. cc;
+      outside = λ h. absurd (cc);
     })
 
 pub record EntryBack (l : Listing) (e : Entry) (x : told.Entry) : Type 0 where
@@ -133,9 +139,10 @@ pub record EntryBack (l : Listing) (e : Entry) (x : told.Entry) : Type 0 where
   pub fits : OutcomeFits x.outcome
   pub fault_known : OutcomeKnown (length l.always) x.outcome
   pub ends : x.outcome ≢ outcome.Retries
+  pub outside : x.outcome ≡ outcome.Thrown fault.Outside → knows_outside l ≡ true
   pub ids : (x.task.0 < length (tasks l)) × (x.tx.0 < length l.transactions)
 
-entry_back : (l : Listing) → length (tasks l) ≤ MAX_TASKS → (e : Entry) (x : told.Entry) → IsEntry e → entry_told l e ≡ Ok x → EntryBack l e x
+entry_back : (l : Listing) → length (tasks l) ≤ MAX_TASKS → (e : Entry) (x : told.Entry) → IsEntry (knows_outside l) e → entry_told l e ≡ Ok x → EntryBack l e x
 unfolding entry_told
 entry_back l few e x is h =
     let a = bind_ok (count_in e.number) _ x h in
@@ -156,6 +163,7 @@ entry_back l few e x is h =
       fits = ended.fits;
       fault_known = ended.known;
       ends = ended.ends;
+      outside = ended.outside;
       ids = (task.known, tx.known);
     })
 
@@ -207,8 +215,9 @@ pub record ReportBack (l : Listing) (r : Raw) (t : Told) : Type 0 where
   pub text : raw_text r ≡ report_text l t
   pub fits : FitsCatalogue l t
   pub values : ReportFits t
+  pub outside : All (λ (x : told.Entry). x.outcome ≡ outcome.Thrown fault.Outside → knows_outside l ≡ true) t.entries
 
-pub told_back : (l : Listing) (r : Raw) (t : Told) → length l.names ≡ length l.initial → length (tasks l) ≤ MAX_TASKS → IsRaw (length l.names) r → names_known l r ≡ true → told_of l r ≡ Ok t → ReportBack l r t
+pub told_back : (l : Listing) (r : Raw) (t : Told) → length l.names ≡ length l.initial → length (tasks l) ≤ MAX_TASKS → IsRaw (knows_outside l) (length l.names) r → names_known l r ≡ true → told_of l r ≡ Ok t → ReportBack l r t
 unfolding told_of names_known variables_known
 told_back l r t named few is known e =
     let n = and_parts _ _ (and_parts _ _ known).0 in
@@ -221,7 +230,7 @@ told_back l r t named few is known e =
     let h = bind_ok (each (task_told l) r.memory) _ t g.2 in
     let base = count_back r.base a.0 is.base a.1 in
     let base_vars = variables_back l.names r.base_vars b.0 is.base_vars n.0 b.1 in
-    let entries = each_back IsEntry (EntryBack l) (entry_told l) (entry_back l few) r.entries c.0 is.entries c.1 in
+    let entries = each_back (IsEntry (knows_outside l)) (EntryBack l) (entry_told l) (entry_back l few) r.entries c.0 is.entries c.1 in
     let current = count_back r.current d.0 is.current d.1 in
     let current_vars = variables_back l.names r.current_vars f.0 is.current_vars n.1 f.1 in
     let parked = each_back IsTask (TaskLineBack l (codes "parked")) (task_told l) (task_back l few (codes "parked")) r.parked g.0 is.parked g.1 in
@@ -267,4 +276,6 @@ told_back l r t named few is known e =
         entries = All-from_recursion (λ (x : told.Entry). OutcomeFits x.outcome) c.0 (pairs_all (EntryBack l) (λ (x : told.Entry). OutcomeFits x.outcome) (λ x y q. q.fits) r.entries c.0 entries);
         current = All-from_recursion (λ (x : ℤ × ℕ). FitsSigned w64 x.0) f.0 current_vars.values;
       };
+      outside = All-from_recursion (λ (x : told.Entry). x.outcome ≡ outcome.Thrown fault.Outside → knows_outside l ≡ true) c.0
+          (pairs_all (EntryBack l) (λ (x : told.Entry). x.outcome ≡ outcome.Thrown fault.Outside → knows_outside l ≡ true) (λ x y q. q.outside) r.entries c.0 entries);
     })

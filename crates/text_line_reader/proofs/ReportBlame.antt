@@ -13,7 +13,7 @@ use Rattle.text_words.specs.Numbers.{number_of}
 use Rattle.text_words.specs.declared.fault.ReadFault.TheVariants as faults
 use Rattle.text_words.proofs.Steps.{done}
 use Rattle.text_line_reader.specs.Lines.{Line}
-use Rattle.text_line_reader.specs.ReportRaw.{Variable, Ending, Returned, Threw, Overflow, DivideByZero, Broke, Entry, Task, Raw}
+use Rattle.text_line_reader.specs.ReportRaw.{Variable, Ending, Returned, Threw, Overflow, DivideByZero, Outside, Broke, Entry, Task, Raw}
 use Rattle.text_line_reader.specs.Words.{expect}
 use Rattle.text_line_reader.specs.ReportReading.{variable_in, valued_in, broke_in, worded_in, ending_in, entry_in, task_in, numbered_in, raw_at}
 use Rattle.text_line_reader.specs.ReportResolving.{is_known, condition_known, conditions_known, variables_known, transactions_known, names_known, count_in, found, tx_id, always_id, variable_told, outcome_told, entry_told, task_told, told_of}
@@ -42,18 +42,19 @@ unfolding worded_in
 worded_shape text =
     then faults.Shape _ _ (word_shape text) (λ word. either faults.Shape (bytes_eq word.0 (codes "broke")) _ _ (broke_shape word.1) (valued_shape word.0 word.1))
 
-ending_shape : (text : List ℕ) → IsShape (ending_in text)
+ending_shape : (cells : Bool) (text : List ℕ) → IsShape (ending_in cells text)
 unfolding ending_in
-ending_shape text =
+ending_shape cells text =
     either faults.Shape (bytes_eq text (codes "overflow")) _ _ (ok faults.Shape Overflow)
-    (either faults.Shape (bytes_eq text (codes "zerodiv")) _ _ (ok faults.Shape DivideByZero) (worded_shape text))
+    (either faults.Shape (bytes_eq text (codes "zerodiv")) _ _ (ok faults.Shape DivideByZero)
+    (either faults.Shape (bytes_eq text (codes "outside") && cells) _ _ (ok faults.Shape Outside) (worded_shape text)))
 
-entry_shape : (text : List ℕ) → IsShape (entry_in text)
+entry_shape : (cells : Bool) (text : List ℕ) → IsShape (entry_in cells text)
 unfolding entry_in
-entry_shape text =
+entry_shape cells text =
     then faults.Shape _ _ (after_shape (codes "entry") text) (λ first. then faults.Shape _ _ (word_shape first) (λ second. then faults.Shape _ _ (word_shape second.1)
     (λ third. then faults.Shape _ _ (word_shape third.1) (λ fourth. then faults.Shape _ _ (number_shape second.0) (λ number. then faults.Shape _ _ (number_shape third.0)
-    (λ task. then faults.Shape _ _ (name_shape fourth.0) (λ name. then faults.Shape _ _ (ending_shape fourth.1) (λ ending. ok faults.Shape _))))))))
+    (λ task. then faults.Shape _ _ (name_shape fourth.0) (λ name. then faults.Shape _ _ (ending_shape cells fourth.1) (λ ending. ok faults.Shape _))))))))
 
 task_shape : (wanted text : List ℕ) → IsShape (task_in wanted text)
 unfolding task_in
@@ -65,12 +66,12 @@ numbered_shape : (wanted text : List ℕ) → IsShape (numbered_in wanted text)
 unfolding numbered_in
 numbered_shape wanted text = then faults.Shape _ _ (after_shape wanted text) (λ number. number_shape number)
 
-pub raw_shape : (n : ℕ) (ls : List Line) → IsShape (raw_at n ls)
+pub raw_shape : (cells : Bool) (n : ℕ) (ls : List Line) → IsShape (raw_at cells n ls)
 unfolding raw_at
-raw_shape n ls =
+raw_shape cells n ls =
     then faults.Shape _ _ (line_shape (numbered_in (codes "base")) (numbered_shape (codes "base")) ls) (λ a.
     then faults.Shape _ _ (lines_shape variable_in variable_shape n a.1) (λ b.
-    then faults.Shape _ _ (all_shape (codes "entry") entry_in entry_shape b.1) (λ c.
+    then faults.Shape _ _ (all_shape (codes "entry") (entry_in cells) (entry_shape cells) b.1) (λ c.
     then faults.Shape _ _ (line_shape (numbered_in (codes "now")) (numbered_shape (codes "now")) c.1) (λ d.
     then faults.Shape _ _ (lines_shape variable_in variable_shape n d.1) (λ f.
     then faults.Shape _ _ (all_shape (codes "parked") (task_in (codes "parked")) (task_shape (codes "parked")) f.1) (λ g.
@@ -108,6 +109,7 @@ outcome_limit l (Returned value) h = then faults.Limit _ _ (number_limit (int_va
 outcome_limit l (Threw value) h = then faults.Limit _ _ (number_limit (int_value value)) (λ v. ok faults.Limit _)
 outcome_limit l Overflow h = ok faults.Limit _
 outcome_limit l DivideByZero h = ok faults.Limit _
+outcome_limit l Outside h = ok faults.Limit _
 outcome_limit l (Broke name) h = then faults.Limit _ _ (always_limit l name h) (λ id. ok faults.Limit _)
 
 entry_limit : (l : Listing) (e : Entry) → (is_known l e.name && condition_known l e.ending) ≡ true → IsLimit (entry_told l e)

@@ -15,7 +15,7 @@ use Rattle.text_line_reader.specs.Lines.{lines}
 use Rattle.text_line_reader.specs.ReportRaw.{Raw}
 use Rattle.text_line_reader.specs.ReportReading.{raw_at}
 use Rattle.text_line_reader.specs.ReportResolving.{names_known, told_of, resolved}
-use Rattle.text_line_reader.specs.Reports.{max_len, IsReport, IsWritten, IsFirst, report_at}
+use Rattle.text_line_reader.specs.Reports.{max_len, knows_outside, IsReport, IsWritten, IsFirst, report_at}
 use Rattle.text_line_reader.proofs.ReportAllowed.{raw_allowed}
 use Rattle.text_line_reader.proofs.ReportAgains.{report_again, written_report}
 use Rattle.text_line_reader.proofs.ReportBacks.{told_back}
@@ -30,7 +30,7 @@ record Passed (bytes : List ℕ) : Type 0 where
   allowed : list_all is_allowed bytes ≡ true
 
 abbrev rest_at : Listing → List ℕ → Result Told ReadFault
-rest_at l bytes = raw_at (length l.names) (lines bytes) >>= λ r. resolved l r
+rest_at l bytes = raw_at (knows_outside l) (length l.names) (lines bytes) >>= λ r. resolved l r
 
 passed : (l : Listing) (bytes : List ℕ) (t : Told) → report_at l bytes ≡ Ok t → Passed bytes × (rest_at l bytes ≡ Ok t)
 unfolding report_at
@@ -54,11 +54,11 @@ by_names l r t e =
 report_back : (l : Listing) (bytes : List ℕ) (t : Told) → Rules l → report_at l bytes ≡ Ok t → IsReport l bytes t
 report_back l bytes t rules e =
     let p = passed l bytes t e in
-    let r = bind_ok (raw_at (length l.names) (lines bytes)) _ t p.1 in
-    let w = read_is_written (length l.names) bytes r.0 p.0.short r.1 in
+    let r = bind_ok (raw_at (knows_outside l) (length l.names) (lines bytes)) _ t p.1 in
+    let w = read_is_written (knows_outside l) (length l.names) bytes r.0 p.0.short r.1 in
     let n = by_names l r.0 t r.2 in
     let b = told_back l r.0 t rules.named (few_tasks l rules.limits) w.words n.0 n.1 in
-    record { short = p.0.short; text = w.text ∙ b.text; fits = b.fits; values = b.values }
+    record { short = p.0.short; text = w.text ∙ b.text; fits = b.fits; values = b.values; outside = b.outside }
 
 passes : (l : Listing) (bytes : List ℕ) → length bytes ≤ max_len → list_all is_allowed bytes ≡ true → report_at l bytes ≡ rest_at l bytes
 unfolding report_at
@@ -66,9 +66,9 @@ passes l bytes short allowed = rw (not_over (length bytes) max_len short, allowe
 
 pub report_read : (l : Listing) (bytes : List ℕ) (t : Told) → Rules l → IsReport l bytes t → report_at l bytes ≡ Ok t
 report_read l bytes t rules is =
-    let a = report_again l t rules.named rules.names (few_tasks l rules.limits) is.fits is.values in
-    let w : IsWritten (length l.names) bytes (written_report l t) = record { short = is.short; text = is.text ∙ a.text; words = a.words } in
-    passes l bytes is.short (raw_allowed (length l.names) bytes (written_report l t) w) ∙ rw (written_is_read (length l.names) bytes (written_report l t) w) a.told
+    let a = report_again l t rules.named rules.names (few_tasks l rules.limits) is.fits is.values is.outside in
+    let w : IsWritten (knows_outside l) (length l.names) bytes (written_report l t) = record { short = is.short; text = is.text ∙ a.text; words = a.words } in
+    passes l bytes is.short (raw_allowed (knows_outside l) (length l.names) bytes (written_report l t) w) ∙ rw (written_is_read (knows_outside l) (length l.names) bytes (written_report l t) w) a.told
 
 -- ---- the first fault
 
@@ -80,8 +80,8 @@ in_names l r e h =
       | inr p ↦ inr (p.0, cc)
     ]
 
-no_raw : (l : Listing) (bytes : List ℕ) (e : ReadFault) → raw_at (length l.names) (lines bytes) ≡ Err e → (r : Raw) → IsWritten (length l.names) bytes r → ⊥
-no_raw l bytes e h r w = let k = written_is_read (length l.names) bytes r w in absurd cc
+no_raw : (l : Listing) (bytes : List ℕ) (e : ReadFault) → raw_at (knows_outside l) (length l.names) (lines bytes) ≡ Err e → (r : Raw) → IsWritten (knows_outside l) (length l.names) bytes r → ⊥
+no_raw l bytes e h r w = let k = written_is_read (knows_outside l) (length l.names) bytes r w in absurd cc
 
 no_report : (l : Listing) (bytes : List ℕ) (e : ReadFault) → Rules l → report_at l bytes ≡ Err e → (t : Told) → IsReport l bytes t → ⊥
 no_report l bytes e rules h t is = let k = report_read l bytes t rules is in absurd cc
@@ -95,10 +95,10 @@ first_is l bytes e rules h =
           let short = at_most (length bytes) max_len p.0 in
           elim (chosen (list_all is_allowed bytes) (rest_at l bytes) (Err faults.BadByte) (Err e) p.1) [
             | inr q ↦ subst (IsFirst l bytes) (let s : faults.BadByte ≡ e = cc in s) (short, q.0)
-            | inl q ↦ elim (failed_in (raw_at (length l.names) (lines bytes)) (λ r. resolved l r) e q.1) [
-              | inl s ↦ subst (IsFirst l bytes) (sym ((raw_shape (length l.names) (lines bytes)).by e s)) (short, q.0, no_raw l bytes e s)
+            | inl q ↦ elim (failed_in (raw_at (knows_outside l) (length l.names) (lines bytes)) (λ r. resolved l r) e q.1) [
+              | inl s ↦ subst (IsFirst l bytes) (sym ((raw_shape (knows_outside l) (length l.names) (lines bytes)).by e s)) (short, q.0, no_raw l bytes e s)
               | inr s ↦
-                  let w = read_is_written (length l.names) bytes s.0 short s.1 in
+                  let w = read_is_written (knows_outside l) (length l.names) bytes s.0 short s.1 in
                   elim (in_names l s.0 e s.2) [
                     | inl n ↦ subst (IsFirst l bytes) (sym n.1) (s.0, (w, n.0, no_report l bytes e rules h))
                     | inr n ↦ subst (IsFirst l bytes) (sym n.1) (s.0, (w, n.0))

@@ -1,7 +1,8 @@
 -- What single steps of reading take, and what they read again.
-use Rattle.std.proofs.Common.{◌≡◌, ◌∙◌, ℕ, true, false, cond, List, ◌∷◌, ◌++◌, Result, Ok, Err, refl, ap, subst, inl, inr}
+use Rattle.std.proofs.Common.{◌≡◌, ◌∙◌, ℕ, Bool, true, false, ◌&&◌, cond, List, ◌∷◌, ◌++◌, Result, Ok, Err, refl, ap, subst, inl, inr}
 use Rattle.std.specs.Prelude.{codes}
 use Rattle.std.specs.Str.{bytes_eq}
+use Rattle.std.proofs.lemmas.Bool.{and_parts}
 use Rattle.std.proofs.lemmas.Slice.Eq.{bytes_eq-Decides}
 use Rattle.txn_programs.specs.Names.{is_name}
 use Rattle.text_words.specs.Bytes.{is_int}
@@ -9,7 +10,7 @@ use Rattle.text_words.specs.declared.fault.ReadFault.{ReadFault}
 use Rattle.text_words.specs.declared.fault.ReadFault.TheVariants.{Shape}
 use Rattle.text_words.proofs.Steps.{bind_ok, done, ok_is, chosen}
 use Rattle.text_line_reader.specs.Words.{is_number, first_word, name_in, int_in, number_in, after_word}
-use Rattle.text_line_reader.specs.ReportRaw.{Variable, Ending, Returned, Threw, Overflow, DivideByZero, Broke, Entry, Task, variable_words, ending_words, entry_words, task_words, number_words, IsVariable, IsEnding, IsEntry, IsTask}
+use Rattle.text_line_reader.specs.ReportRaw.{Variable, Ending, Returned, Threw, Overflow, DivideByZero, Outside, Broke, Entry, Task, variable_words, ending_words, entry_words, task_words, number_words, IsVariable, IsEnding, IsEntry, IsTask}
 use Rattle.text_line_reader.specs.ReportReading.{variable_in, valued_in, broke_in, worded_in, ending_in, entry_in, task_in, numbered_in}
 use Rattle.text_line_reader.proofs.Parting.{lacks}
 use Rattle.text_line_reader.proofs.Numbers.{name_lacks, int_lacks, number_lacks}
@@ -49,19 +50,19 @@ variable_again v h =
       number_again v.version h.version,
     ) refl
 
-valued_takes : (word text : List ℕ) (x : Ending) → valued_in word text ≡ Ok x → Takes ending_words IsEnding (word ++ 32 ∷ text) x
+valued_takes : (cells : Bool) (word text : List ℕ) (x : Ending) → valued_in word text ≡ Ok x → Takes ending_words (IsEnding cells) (word ++ 32 ∷ text) x
 unfolding valued_in
-valued_takes word text x e =
+valued_takes cells word text x e =
     let b = bind_ok (int_in text) _ x e in
     let i = int_takes text b.0 b.1 in
     let front = λ (w : List ℕ). ap (λ (v : List ℕ). w ++ 32 ∷ v) i.same in
     elim (chosen (bytes_eq word (codes "returned")) (done (Returned b.0)) _ (Ok x) b.2) [
-      | inl p ↦ subst (Takes ending_words IsEnding (word ++ 32 ∷ text)) (ok_is (Returned b.0) x p.1) (record {
+      | inl p ↦ subst (Takes ending_words (IsEnding cells) (word ++ 32 ∷ text)) (ok_is (Returned b.0) x p.1) (record {
         same = ap (λ (w : List ℕ). w ++ 32 ∷ text) ((bytes_eq-Decides word (codes "returned")).0 p.0) ∙ front (codes "returned");
         is = i.passes;
       })
       | inr p ↦ elim (chosen (bytes_eq word (codes "threw")) (done (Threw b.0)) (Err Shape) (Ok x) p.1) [
-        | inl q ↦ subst (Takes ending_words IsEnding (word ++ 32 ∷ text)) (ok_is (Threw b.0) x q.1) (record {
+        | inl q ↦ subst (Takes ending_words (IsEnding cells) (word ++ 32 ∷ text)) (ok_is (Threw b.0) x q.1) (record {
           same = ap (λ (w : List ℕ). w ++ 32 ∷ text) ((bytes_eq-Decides word (codes "threw")).0 q.0) ∙ front (codes "threw");
           is = i.passes;
         })
@@ -69,38 +70,43 @@ valued_takes word text x e =
       ]
     ]
 
-broke_takes : (text : List ℕ) (x : Ending) → broke_in text ≡ Ok x → Takes ending_words IsEnding (codes "broke" ++ 32 ∷ text) x
+broke_takes : (cells : Bool) (text : List ℕ) (x : Ending) → broke_in text ≡ Ok x → Takes ending_words (IsEnding cells) (codes "broke" ++ 32 ∷ text) x
 unfolding broke_in
-broke_takes text x e =
+broke_takes cells text x e =
     let b = bind_ok (name_in text) _ x e in
     let n = name_takes text b.0 b.1 in
-    subst (Takes ending_words IsEnding (codes "broke" ++ 32 ∷ text)) (ok_is (Broke b.0) x b.2) (record {
+    subst (Takes ending_words (IsEnding cells) (codes "broke" ++ 32 ∷ text)) (ok_is (Broke b.0) x b.2) (record {
       same = ap (λ (v : List ℕ). codes "broke" ++ 32 ∷ v) n.same;
       is = n.passes;
     })
 
-worded_takes : (text : List ℕ) (x : Ending) → worded_in text ≡ Ok x → Takes ending_words IsEnding text x
+worded_takes : (cells : Bool) (text : List ℕ) (x : Ending) → worded_in text ≡ Ok x → Takes ending_words (IsEnding cells) text x
 unfolding worded_in
-worded_takes text x e =
+worded_takes cells text x e =
     let a = bind_ok (first_word text) _ x e in
     let same = word_takes text a.0 a.1 in
     elim (chosen (bytes_eq a.0.0 (codes "broke")) (broke_in a.0.1) (valued_in a.0.0 a.0.1) (Ok x) a.2) [
       | inl p ↦
-          let b = broke_takes a.0.1 x p.1 in
+          let b = broke_takes cells a.0.1 x p.1 in
           record { same = same ∙ ap (λ (w : List ℕ). w ++ 32 ∷ a.0.1) ((bytes_eq-Decides a.0.0 (codes "broke")).0 p.0) ∙ b.same; is = b.is }
       | inr p ↦
-          let b = valued_takes a.0.0 a.0.1 x p.1 in
+          let b = valued_takes cells a.0.0 a.0.1 x p.1 in
           record { same = same ∙ b.same; is = b.is }
     ]
 
-pub ending_takes : (text : List ℕ) (x : Ending) → ending_in text ≡ Ok x → Takes ending_words IsEnding text x
+pub ending_takes : (cells : Bool) (text : List ℕ) (x : Ending) → ending_in cells text ≡ Ok x → Takes ending_words (IsEnding cells) text x
 unfolding ending_in
-ending_takes text x e =
+ending_takes cells text x e =
     elim (chosen (bytes_eq text (codes "overflow")) (done Overflow) _ (Ok x) e) [
-      | inl p ↦ subst (Takes ending_words IsEnding text) (ok_is Overflow x p.1) (record { same = (bytes_eq-Decides text (codes "overflow")).0 p.0; is = tt })
-      | inr p ↦ elim (chosen (bytes_eq text (codes "zerodiv")) (done DivideByZero) (worded_in text) (Ok x) p.1) [
-        | inl q ↦ subst (Takes ending_words IsEnding text) (ok_is DivideByZero x q.1) (record { same = (bytes_eq-Decides text (codes "zerodiv")).0 q.0; is = tt })
-        | inr q ↦ worded_takes text x q.1
+      | inl p ↦ subst (Takes ending_words (IsEnding cells) text) (ok_is Overflow x p.1) (record { same = (bytes_eq-Decides text (codes "overflow")).0 p.0; is = tt })
+      | inr p ↦ elim (chosen (bytes_eq text (codes "zerodiv")) (done DivideByZero) _ (Ok x) p.1) [
+        | inl q ↦ subst (Takes ending_words (IsEnding cells) text) (ok_is DivideByZero x q.1) (record { same = (bytes_eq-Decides text (codes "zerodiv")).0 q.0; is = tt })
+        | inr q ↦ elim (chosen (bytes_eq text (codes "outside") && cells) (done Outside) (worded_in text) (Ok x) q.1) [
+          | inl s ↦
+              let both = and_parts (bytes_eq text (codes "outside")) cells s.0 in
+              subst (Takes ending_words (IsEnding cells) text) (ok_is Outside x s.1) (record { same = (bytes_eq-Decides text (codes "outside")).0 both.0; is = both.1 })
+          | inr s ↦ worded_takes cells text x s.1
+        ]
       ]
     ]
 
@@ -112,17 +118,18 @@ broke_again : (name : List ℕ) → is_name name ≡ true → worded_in (codes "
 unfolding broke_in worded_in
 broke_again name h = rw (word_again (codes "broke") name refl, name_again name h) refl
 
-pub ending_again : (x : Ending) → IsEnding x → ending_in (text_of (ending_words x)) ≡ Ok x
+pub ending_again : (cells : Bool) (x : Ending) → IsEnding cells x → ending_in cells (text_of (ending_words x)) ≡ Ok x
 unfolding ending_in
-ending_again (Returned value) h = valued_again (codes "returned") value refl refl h
-ending_again (Threw value) h = valued_again (codes "threw") value refl refl h
-ending_again Overflow h = refl
-ending_again DivideByZero h = refl
-ending_again (Broke name) h = broke_again name h
+ending_again cells (Returned value) h = valued_again (codes "returned") value refl refl h
+ending_again cells (Threw value) h = valued_again (codes "threw") value refl refl h
+ending_again cells Overflow h = refl
+ending_again cells DivideByZero h = refl
+ending_again cells Outside h = rw h refl
+ending_again cells (Broke name) h = broke_again name h
 
-pub entry_takes : (text : List ℕ) (x : Entry) → entry_in text ≡ Ok x → Takes entry_words IsEntry text x
+pub entry_takes : (cells : Bool) (text : List ℕ) (x : Entry) → entry_in cells text ≡ Ok x → Takes entry_words (IsEntry cells) text x
 unfolding entry_in
-entry_takes text x e =
+entry_takes cells text x e =
     let a = bind_ok (after_word (codes "entry") text) _ x e in
     let b = bind_ok (first_word a.0) _ x a.2 in
     let c = bind_ok (first_word b.0.1) _ x b.2 in
@@ -130,13 +137,13 @@ entry_takes text x e =
     let f = bind_ok (number_in b.0.0) _ x d.2 in
     let g = bind_ok (number_in c.0.0) _ x f.2 in
     let h = bind_ok (name_in d.0.0) _ x g.2 in
-    let k = bind_ok (ending_in d.0.1) _ x h.2 in
+    let k = bind_ok (ending_in cells d.0.1) _ x h.2 in
     let number = number_takes b.0.0 f.0 f.1 in
     let task = number_takes c.0.0 g.0 g.1 in
     let name = name_takes d.0.0 h.0 h.1 in
-    let ending = ending_takes d.0.1 k.0 k.1 in
+    let ending = ending_takes cells d.0.1 k.0 k.1 in
     let made : Entry = record { number = f.0; task = g.0; name = h.0; ending = k.0 } in
-    subst (Takes entry_words IsEntry text) (ok_is made x k.2) (record {
+    subst (Takes entry_words (IsEntry cells) text) (ok_is made x k.2) (record {
       same = after_takes (codes "entry") text a.0 a.1
           ∙ ap (λ (t : List ℕ). codes "entry" ++ 32 ∷ t) (word_takes a.0 b.0 b.1
           ∙ ap (λ (t : List ℕ). b.0.0 ++ 32 ∷ t) (word_takes b.0.1 c.0 c.1
@@ -154,6 +161,7 @@ entry_takes text x e =
     words a b c (Threw value) = refl
     words a b c Overflow = refl
     words a b c DivideByZero = refl
+    words a b c Outside = refl
     words a b c (Broke name) = refl
 
 pub entry_text : (e : Entry) → text_of (entry_words e) ≡ codes "entry" ++ 32 ∷ (e.number ++ 32 ∷ (e.task ++ 32 ∷ (e.name ++ 32 ∷ text_of (ending_words e.ending))))
@@ -164,11 +172,12 @@ entry_text e = same e.number e.task e.name e.ending
     same a b c (Threw value) = refl
     same a b c Overflow = refl
     same a b c DivideByZero = refl
+    same a b c Outside = refl
     same a b c (Broke name) = refl
 
-entry_read : (e : Entry) → IsEntry e → entry_in (codes "entry" ++ 32 ∷ (e.number ++ 32 ∷ (e.task ++ 32 ∷ (e.name ++ 32 ∷ text_of (ending_words e.ending))))) ≡ Ok e
+entry_read : (cells : Bool) (e : Entry) → IsEntry cells e → entry_in cells (codes "entry" ++ 32 ∷ (e.number ++ 32 ∷ (e.task ++ 32 ∷ (e.name ++ 32 ∷ text_of (ending_words e.ending))))) ≡ Ok e
 unfolding entry_in
-entry_read e h =
+entry_read cells e h =
     let last = text_of (ending_words e.ending) in
     rw (
       after_again (codes "entry") (e.number ++ 32 ∷ (e.task ++ 32 ∷ (e.name ++ 32 ∷ last))) refl,
@@ -178,11 +187,11 @@ entry_read e h =
       number_again e.number h.number,
       number_again e.task h.task,
       name_again e.name h.name,
-      ending_again e.ending h.ending,
+      ending_again cells e.ending h.ending,
     ) refl
 
-pub entry_again : (e : Entry) → IsEntry e → entry_in (text_of (entry_words e)) ≡ Ok e
-entry_again e h = ap entry_in (entry_text e) ∙ entry_read e h
+pub entry_again : (cells : Bool) (e : Entry) → IsEntry cells e → entry_in cells (text_of (entry_words e)) ≡ Ok e
+entry_again cells e h = ap (entry_in cells) (entry_text e) ∙ entry_read cells e h
 
 pub task_takes : (wanted text : List ℕ) (x : Task) → task_in wanted text ≡ Ok x → Takes (task_words wanted) IsTask text x
 unfolding task_in

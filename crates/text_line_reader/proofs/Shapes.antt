@@ -1,5 +1,5 @@
 -- All lines of a report: what is read is written so, and what is written so is read.
-use Rattle.std.proofs.Common.{◌≡◌, ◌∙◌, ℕ, true, List, [], ◌∷◌, ◌++◌, length, map, None, Ok, refl, ap, subst}
+use Rattle.std.proofs.Common.{◌≡◌, ◌∙◌, ℕ, Bool, true, List, [], ◌∷◌, ◌++◌, length, map, None, Ok, refl, ap, subst}
 use Rattle.std.specs.Prelude.{codes}
 use Rattle.std.specs.List.{AllByRecursion}
 use Rattle.text_words.proofs.Steps.{bind_ok, ok_is}
@@ -20,8 +20,8 @@ numbered_reads wanted w = record { takes = numbered_takes wanted; again = λ n h
 variable_reads : Reads variable_words IsVariable variable_in
 variable_reads = record { takes = variable_takes; again = variable_again }
 
-entry_reads : Reads entry_words IsEntry entry_in
-entry_reads = record { takes = entry_takes; again = entry_again }
+entry_reads : (cells : Bool) → Reads entry_words (IsEntry cells) (entry_in cells)
+entry_reads cells = record { takes = entry_takes cells; again = entry_again cells }
 
 task_reads : (wanted : List ℕ) → lacks 32 wanted ≡ true → Reads (task_words wanted) IsTask (task_in wanted)
 task_reads wanted w = record { takes = task_takes wanted; again = λ t h. task_again wanted t w h }
@@ -45,16 +45,16 @@ raw_lines r =
     ++ (map (line_of (task_words (codes "memory"))) r.memory
     ++ (line_of end_words tt ∷ [])))))))
 
-pub record TakesRaw (n : ℕ) (ls : List Line) (r : Raw) : Type 0 where
+pub record TakesRaw (cells : Bool) (n : ℕ) (ls : List Line) (r : Raw) : Type 0 where
   pub parts : ls ≡ raw_lines r
-  pub is : IsRaw n r
+  pub is : IsRaw cells n r
 
-pub raw_takes : (n : ℕ) (ls : List Line) (r : Raw) → raw_at n ls ≡ Ok r → TakesRaw n ls r
+pub raw_takes : (cells : Bool) (n : ℕ) (ls : List Line) (r : Raw) → raw_at cells n ls ≡ Ok r → TakesRaw cells n ls r
 unfolding raw_at
-raw_takes n ls r e =
+raw_takes cells n ls r e =
     let a = bind_ok (line_at (numbered_in (codes "base")) ls) _ r e in
     let b = bind_ok (lines_at variable_in n a.0.1) _ r a.2 in
-    let c = bind_ok (all_at (codes "entry") entry_in b.0.1) _ r b.2 in
+    let c = bind_ok (all_at (codes "entry") (entry_in cells) b.0.1) _ r b.2 in
     let d = bind_ok (line_at (numbered_in (codes "now")) c.0.1) _ r c.2 in
     let f = bind_ok (lines_at variable_in n d.0.1) _ r d.2 in
     let g = bind_ok (all_at (codes "parked") (task_in (codes "parked")) f.0.1) _ r f.2 in
@@ -63,14 +63,14 @@ raw_takes n ls r e =
     let m = bind_ok (end_at k.0.1) _ r k.2 in
     let base = line_takes (number_words (codes "base")) (λ t. is_number t ≡ true) (numbered_in (codes "base")) (numbered_reads (codes "base") refl) ls a.0 a.1 in
     let base_vars = lines_take variable_words IsVariable variable_in variable_reads n a.0.1 b.0 b.1 in
-    let entries = all_take entry_words IsEntry (codes "entry") entry_in entry_reads b.0.1 c.0 c.1 in
+    let entries = all_take entry_words (IsEntry cells) (codes "entry") (entry_in cells) (entry_reads cells) b.0.1 c.0 c.1 in
     let current = line_takes (number_words (codes "now")) (λ t. is_number t ≡ true) (numbered_in (codes "now")) (numbered_reads (codes "now") refl) c.0.1 d.0 d.1 in
     let current_vars = lines_take variable_words IsVariable variable_in variable_reads n d.0.1 f.0 f.1 in
     let parked = all_take (task_words (codes "parked")) IsTask (codes "parked") (task_in (codes "parked")) (task_reads (codes "parked") refl) f.0.1 g.0 g.1 in
     let memory = all_take (task_words (codes "memory")) IsTask (codes "memory") (task_in (codes "memory")) (task_reads (codes "memory") refl) g.0.1 h.0 h.1 in
     let last = line_takes end_words (λ u. Unit {0}) (expect (codes "end")) end_reads h.0.1 k.0 k.1 in
     let made : Raw = record { base = a.0.0; base_vars = b.0.0; entries = c.0.0; current = d.0.0; current_vars = f.0.0; parked = g.0.0; memory = h.0.0 } in
-    subst (TakesRaw n ls) (ok_is made r m.2) (record {
+    subst (TakesRaw cells n ls) (ok_is made r m.2) (record {
       parts = base.parts
           ∙ ap (λ (us : List Line). line_of (number_words (codes "base")) a.0.0 ∷ us) (base_vars.0.parts
           ∙ ap (λ (us : List Line). map (line_of variable_words) b.0.0 ++ us) (entries.parts
@@ -109,9 +109,9 @@ entry_begins e = ap (begins (codes "entry")) (entry_text e) ∙ begins_again (co
 so_many : (n : ℕ) (vars : List Variable) (rest : List Line) → length vars ≡ n → AllByRecursion IsVariable vars → lines_at variable_in n (map (line_of variable_words) vars ++ rest) ≡ Ok (vars, rest)
 so_many n vars rest count h = subst (λ (m : ℕ). lines_at variable_in m (map (line_of variable_words) vars ++ rest) ≡ Ok (vars, rest)) count (lines_again variable_words IsVariable variable_in variable_reads vars rest h)
 
-pub raw_again : (n : ℕ) (r : Raw) → IsRaw n r → raw_at n (raw_lines r) ≡ Ok r
+pub raw_again : (cells : Bool) (n : ℕ) (r : Raw) → IsRaw cells n r → raw_at cells n (raw_lines r) ≡ Ok r
 unfolding raw_at
-raw_again n r is =
+raw_again cells n r is =
     let l7 : List Line = line_of end_words tt ∷ [] in
     let l6 : List Line = map (line_of (task_words (codes "memory"))) r.memory ++ l7 in
     let l5 : List Line = map (line_of (task_words (codes "parked"))) r.parked ++ l6 in
@@ -122,7 +122,7 @@ raw_again n r is =
     rw (
       line_again (number_words (codes "base")) (λ t. is_number t ≡ true) (numbered_in (codes "base")) (numbered_reads (codes "base") refl) r.base l1 is.base,
       so_many n r.base_vars l2 is.base_count is.base_vars,
-      all_again entry_words IsEntry (codes "entry") entry_in entry_reads entry_begins r.entries l3 is.entries (begins_not (codes "entry") (codes "now") r.current refl refl),
+      all_again entry_words (IsEntry cells) (codes "entry") (entry_in cells) (entry_reads cells) entry_begins r.entries l3 is.entries (begins_not (codes "entry") (codes "now") r.current refl refl),
       line_again (number_words (codes "now")) (λ t. is_number t ≡ true) (numbered_in (codes "now")) (numbered_reads (codes "now") refl) r.current l4 is.current,
       so_many n r.current_vars l5 is.current_count is.current_vars,
       all_again (task_words (codes "parked")) IsTask (codes "parked") (task_in (codes "parked")) (task_reads (codes "parked") refl) (λ t. begins_again (codes "parked") (t.task ++ 32 ∷ t.name) refl) r.parked l6 is.parked (memory_stops r.memory),

@@ -1,5 +1,5 @@
 -- A report as it is written: its words, before any name or number is judged.
-use Rattle.std.specs.Prelude.{◌≡◌, ℕ, true, List, [], ◌∷◌, ◌++◌, length, codes}
+use Rattle.std.specs.Prelude.{◌≡◌, ℕ, Bool, true, List, [], ◌∷◌, ◌++◌, length, codes}
 use Rattle.std.specs.List.{flat_map, AllByRecursion}
 use Rattle.txn_programs.specs.Names.{is_name}
 use Rattle.text_words.specs.Bytes.{is_int}
@@ -18,6 +18,7 @@ pub data Ending : Type 0 where
   Threw : (value : List ℕ) → Ending
   Overflow : Ending
   DivideByZero : Ending
+  Outside : Ending
   Broke : (name : List ℕ) → Ending
 
 -- NUMBER TASK NAME and how it ended
@@ -51,6 +52,7 @@ ending_words (Returned value) = codes "returned" ∷ value ∷ []
 ending_words (Threw value) = codes "threw" ∷ value ∷ []
 ending_words Overflow = codes "overflow" ∷ []
 ending_words DivideByZero = codes "zerodiv" ∷ []
+ending_words Outside = codes "outside" ∷ []
 ending_words (Broke name) = codes "broke" ∷ name ∷ []
 
 abbrev pub entry_words : Entry → List (List ℕ)
@@ -81,29 +83,31 @@ pub record IsVariable (v : Variable) : Type 0 where
   pub value : is_int v.value ≡ true
   pub version : is_number v.version ≡ true
 
-abbrev pub IsEnding : Ending → Type 0
-IsEnding (Returned value) = is_int value ≡ true
-IsEnding (Threw value) = is_int value ≡ true
-IsEnding Overflow = Unit {0}
-IsEnding DivideByZero = Unit {0}
-IsEnding (Broke name) = is_name name ≡ true
+-- it is outside only where cells can be told
+abbrev pub IsEnding : Bool → Ending → Type 0
+IsEnding cells (Returned value) = is_int value ≡ true
+IsEnding cells (Threw value) = is_int value ≡ true
+IsEnding cells Overflow = Unit {0}
+IsEnding cells DivideByZero = Unit {0}
+IsEnding cells Outside = cells ≡ true
+IsEnding cells (Broke name) = is_name name ≡ true
 
-pub record IsEntry (e : Entry) : Type 0 where
+pub record IsEntry (cells : Bool) (e : Entry) : Type 0 where
   pub number : is_number e.number ≡ true
   pub task : is_number e.task ≡ true
   pub name : is_name e.name ≡ true
-  pub ending : IsEnding e.ending
+  pub ending : IsEnding cells e.ending
 
 pub record IsTask (t : Task) : Type 0 where
   pub task : is_number t.task ≡ true
   pub name : is_name t.name ≡ true
 
 -- each word is of its kind, and there is a line for each of so many variables
-pub record IsRaw (variables : ℕ) (r : Raw) : Type 0 where
+pub record IsRaw (cells : Bool) (variables : ℕ) (r : Raw) : Type 0 where
   pub base : is_number r.base ≡ true
   pub base_count : length r.base_vars ≡ variables
   pub base_vars : AllByRecursion IsVariable r.base_vars
-  pub entries : AllByRecursion IsEntry r.entries
+  pub entries : AllByRecursion (IsEntry cells) r.entries
   pub current : is_number r.current ≡ true
   pub current_count : length r.current_vars ≡ variables
   pub current_vars : AllByRecursion IsVariable r.current_vars

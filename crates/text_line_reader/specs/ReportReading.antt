@@ -1,11 +1,11 @@
 -- Reading lines in their order, each step with what it reads and the lines left.
-use Rattle.std.specs.Prelude.{ℕ, if◌then◌else◌, Result, Ok, Err, List, codes}
+use Rattle.std.specs.Prelude.{ℕ, Bool, ◌&&◌, if◌then◌else◌, Result, Ok, Err, List, codes}
 use Rattle.std.specs.Str.{bytes_eq}
 use Rattle.text_words.specs.Answers.{◌>>=◌}
 use Rattle.text_words.specs.declared.fault.ReadFault.{ReadFault}
 use Rattle.text_words.specs.declared.fault.ReadFault.TheVariants.{Shape}
 use Rattle.text_line_reader.specs.Lines.{Line}
-use Rattle.text_line_reader.specs.ReportRaw.{Variable, Ending, Returned, Threw, Overflow, DivideByZero, Broke, Entry, Task, Raw}
+use Rattle.text_line_reader.specs.ReportRaw.{Variable, Ending, Returned, Threw, Overflow, DivideByZero, Outside, Broke, Entry, Task, Raw}
 use Rattle.text_line_reader.specs.Words.{first_word, name_in, int_in, number_in, expect, after_word}
 use Rattle.text_line_reader.specs.Rows.{line_at, lines_at, all_at, end_at}
 
@@ -38,11 +38,15 @@ worded_in text = do
   word ← first_word text
   if bytes_eq word.0 (codes "broke") then broke_in word.1 else valued_in word.0 word.1
 
-unfoldable pub ending_in : List ℕ → Result Ending ReadFault
-ending_in text = if bytes_eq text (codes "overflow") then Ok Overflow else (if bytes_eq text (codes "zerodiv") then Ok DivideByZero else worded_in text)
+-- an ending, which is outside only where cells can be told
+unfoldable pub ending_in : Bool → List ℕ → Result Ending ReadFault
+ending_in cells text =
+    if bytes_eq text (codes "overflow") then Ok Overflow
+    else (if bytes_eq text (codes "zerodiv") then Ok DivideByZero
+    else (if bytes_eq text (codes "outside") && cells then Ok Outside else worded_in text))
 
-unfoldable pub entry_in : List ℕ → Result Entry ReadFault
-entry_in text = do
+unfoldable pub entry_in : Bool → List ℕ → Result Entry ReadFault
+entry_in cells text = do
   first ← after_word (codes "entry") text
   second ← first_word first
   third ← first_word second.1
@@ -50,7 +54,7 @@ entry_in text = do
   number ← number_in second.0
   task ← number_in third.0
   name ← name_in fourth.0
-  ending ← ending_in fourth.1
+  ending ← ending_in cells fourth.1
   Ok (record { number = number; task = task; name = name; ending = ending })
 
 unfoldable pub task_in : List ℕ → List ℕ → Result Task ReadFault
@@ -68,11 +72,11 @@ numbered_in wanted text = do
 
 -- ---- one line after another
 
-unfoldable pub raw_at : ℕ → List Line → Result Raw ReadFault
-raw_at variables ls = do
+unfoldable pub raw_at : Bool → ℕ → List Line → Result Raw ReadFault
+raw_at cells variables ls = do
   base ← line_at (numbered_in (codes "base")) ls
   base_vars ← lines_at variable_in variables base.1
-  entries ← all_at (codes "entry") entry_in base_vars.1
+  entries ← all_at (codes "entry") (entry_in cells) base_vars.1
   current ← line_at (numbered_in (codes "now")) entries.1
   current_vars ← lines_at variable_in variables current.1
   parked ← all_at (codes "parked") (task_in (codes "parked")) current_vars.1

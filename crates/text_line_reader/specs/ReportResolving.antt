@@ -18,7 +18,7 @@ use Rattle.text_words.specs.Answers.{◌>>=◌}
 use Rattle.text_words.specs.Numbers.{number_of}
 use Rattle.text_words.specs.declared.fault.ReadFault.{ReadFault}
 use Rattle.text_words.specs.declared.fault.ReadFault.TheVariants.{Name}
-use Rattle.text_line_reader.specs.ReportRaw.{Variable, Ending, Returned, Threw, Overflow, DivideByZero, Broke, Entry, Task, Raw}
+use Rattle.text_line_reader.specs.ReportRaw.{Variable, Ending, Returned, Threw, Overflow, DivideByZero, Outside, Broke, Entry, Task, Raw}
 use Rattle.text_line_reader.specs.Rows.{each}
 use Rattle.text_line_reader.specs.Counts.{below, task_id}
 
@@ -54,6 +54,7 @@ condition_known l (Returned value) = true
 condition_known l (Threw value) = true
 condition_known l Overflow = true
 condition_known l DivideByZero = true
+condition_known l Outside = true
 condition_known l (Broke name) = is_some (condition_named l name)
 
 abbrev pub conditions_known : Listing → List Entry → Bool
@@ -91,6 +92,7 @@ outcome_told l (Returned value) = number_of (int_value value) >>= λ v. Ok (outc
 outcome_told l (Threw value) = number_of (int_value value) >>= λ v. Ok (outcome.Thrown (fault.User v))
 outcome_told l Overflow = Ok (outcome.Thrown fault.Overflow)
 outcome_told l DivideByZero = Ok (outcome.Thrown fault.DivideByZero)
+outcome_told l Outside = Ok (outcome.Thrown fault.Outside)
 outcome_told l (Broke name) = always_id l name >>= λ id. Ok (outcome.Thrown (fault.Broken id))
 
 unfoldable pub entry_told : Listing → Entry → Result told.Entry ReadFault

@@ -18,6 +18,7 @@ view_ending (code.Returned value) = raw.Returned value.text.now
 view_ending (code.Threw value) = raw.Threw value.text.now
 view_ending code.Overflow = raw.Overflow
 view_ending code.DivideByZero = raw.DivideByZero
+view_ending code.Outside = raw.Outside
 view_ending (code.Broke name) = raw.Broke name.now
 
 abbrev pub view_entry : RawEntry → Entry

@@ -10,7 +10,7 @@ use Rattle.std.proofs.lemmas.List.Elements.{recursion_from_All}
 use Rattle.std.proofs.lemmas.Option.{slice_get-get_or}
 use Rattle.std.proofs.lemmas.List.{length-map}
 use Rattle.txn_programs.specs.declared.ast.AlwaysId.{AlwaysId}
-use Rattle.txn_programs.specs.declared.ast.Fault.TheVariants.{User, Overflow, DivideByZero, Broken}
+use Rattle.txn_programs.specs.declared.ast.Fault.TheVariants.{User, Overflow, DivideByZero, Broken, Outside}
 use Rattle.txn_programs.specs.declared.ast.Outcome.{Outcome}
 use Rattle.txn_programs.specs.declared.ast.Outcome.TheVariants.{Returned, Thrown, Retries}
 use Rattle.txn_programs.specs.declared.ast.TaskId.{TaskId}
@@ -52,6 +52,7 @@ outcome_short l limits (Thrown (User v)) h k = let p = value_short v h in omega 
 outcome_short l limits (Thrown Overflow) h k = lit≤ tt
 outcome_short l limits (Thrown DivideByZero) h k = lit≤ tt
 outcome_short l limits (Thrown (Broken id)) h k = let p = condition_short l limits id k in omega arith
+outcome_short l limits (Thrown Outside) h k = lit≤ tt
 outcome_short l limits Retries h k = lit≤ tt
 
 entry_short : (l : Listing) → limits_hold l ≡ true → (e : Entry) → length (program_at l e.tx).name ≤ 32 → e.number ≤ 65536 → e.task.0 ≤ 65536 → OutcomeFits e.outcome → OutcomeKnown (length l.always) e.outcome → length (entry_line l e) ≤ 100

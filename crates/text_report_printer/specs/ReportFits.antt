@@ -1,7 +1,7 @@
 -- Values of a report fit 64 signed bits.
 use Rattle.std.specs.Prelude.{ℕ, ℤ, List, All, FitsSigned}
 use Rattle.std.specs.Int.{w64}
-use Rattle.txn_programs.specs.declared.ast.Fault.TheVariants.{User, Overflow, DivideByZero, Broken}
+use Rattle.txn_programs.specs.declared.ast.Fault.TheVariants.{User, Overflow, DivideByZero, Broken, Outside}
 use Rattle.txn_programs.specs.declared.ast.Outcome.{Outcome}
 use Rattle.txn_programs.specs.declared.ast.Outcome.TheVariants.{Returned, Thrown, Retries}
 use Rattle.txn_programs.specs.declared.report.Entry.{Entry}
@@ -13,6 +13,7 @@ OutcomeFits (Thrown (User v)) = FitsSigned w64 v
 OutcomeFits (Thrown Overflow) = Unit {0}
 OutcomeFits (Thrown DivideByZero) = Unit {0}
 OutcomeFits (Thrown (Broken id)) = Unit {0}
+OutcomeFits (Thrown Outside) = Unit {0}
 OutcomeFits Retries = Unit {0}
 
 abbrev pub ValuesFit : List (ℤ × ℕ) → Type 0

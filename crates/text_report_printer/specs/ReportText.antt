@@ -2,7 +2,7 @@
 use Rattle.std.specs.Prelude.{ℕ, ℤ, ◌+◌, ◌≤◌, List, [], ◌∷◌, ◌++◌, length, codes}
 use Rattle.std.specs.List.{flat_map}
 use Rattle.std.specs.Fmt.{decimal, signed_decimal}
-use Rattle.txn_programs.specs.declared.ast.Fault.TheVariants.{User, Overflow, DivideByZero, Broken}
+use Rattle.txn_programs.specs.declared.ast.Fault.TheVariants.{User, Overflow, DivideByZero, Broken, Outside}
 use Rattle.txn_programs.specs.declared.ast.Outcome.{Outcome}
 use Rattle.txn_programs.specs.declared.ast.Outcome.TheVariants.{Returned, Thrown, Retries}
 use Rattle.txn_programs.specs.declared.ast.TaskId.{TaskId}
@@ -30,6 +30,7 @@ outcome_text l (Thrown (User v)) = codes "threw " ++ signed_decimal v
 outcome_text l (Thrown Overflow) = codes "overflow"
 outcome_text l (Thrown DivideByZero) = codes "zerodiv"
 outcome_text l (Thrown (Broken id)) = codes "broke " ++ always_name l id
+outcome_text l (Thrown Outside) = codes "outside"
 outcome_text l Retries = codes "retries"
 
 -- entry NUMBER TASK NAME OUTCOME

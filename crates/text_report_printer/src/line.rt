@@ -113,6 +113,7 @@ impl LineEnd {
                 self.word(always_name(catalogue, id));
                 self.word("broke ");
             }
+            Outcome::Thrown(Fault::Outside) => self.word("outside"),
             Outcome::Retries => self.word("retries"),
         }
     }

@@ -13,7 +13,7 @@ pub fn variable_name(catalogue: &Catalogue, number: usize) -> &str
     ensures at_most { length result.now ≤ MAX_NAME }
 {
     catalogue.rules();
-    if number < catalogue.initial().len() {
+    if number < catalogue.var_count() {
         catalogue.var_name(VarId(number as u32))
     } else {
         ""

@@ -1,5 +1,6 @@
 -- What the parts of a file come to.
 use Rattle.std.proofs.Common.{◌≡◌, ℕ, ℤ, List, [], ◌∷◌, map, Result, Ok, Err, refl, ap, ◌∙◌, String, Global, string_bytes}
+use Rattle.std.proofs.lemmas.List.{append-nil}
 use Rattle.txn_programs.specs.declared.ast.Cond.{Cond}
 use Rattle.txn_programs.specs.declared.ast.Tx.{Tx}
 use Rattle.txn_programs.specs.declared.arguments.Call.{Call}
@@ -25,8 +26,8 @@ values_are [] = refl
 values_are (v ∷ vars) = ap (λ l. v.1 ∷ l) (values_are vars)
 
 pub parts_are : (vars : List (String Global × ℤ)) (always : List (String Global × Cond)) (txs : List Tx) (runs : List (Call × ℕ))
-    → listing (map view_variable vars) (map view_condition always) (map transaction_of txs) runs ≡ listing_of vars always txs runs
-parts_are vars always txs runs = rw (names_are vars, values_are vars) refl
+    → listing (map view_variable vars) (map view_condition always) (map transaction_of txs) runs ≡ listing_of vars [] always txs runs
+parts_are vars always txs runs = rw (names_are vars, values_are vars, append-nil (map (λ (v : String Global × ℤ). v.1) vars)) refl
 
 -- ---- the parts of a sequence, as a list
 

@@ -1,5 +1,5 @@
 -- What the code builds a catalogue of, as a listing.
-use Rattle.std.specs.Prelude.{ℕ, ℤ, List, string_bytes}
+use Rattle.std.specs.Prelude.{ℕ, ℤ, List, [], string_bytes}
 use Rattle.std.specs.declared.alloc.Global.{Global}
 use Rattle.std.specs.declared.string.String.{String}
 use Rattle.txn_programs.specs.declared.ast.Cond.{Cond}
@@ -14,4 +14,4 @@ abbrev pub view_condition : String Global × Cond → List ℕ × Condition
 view_condition a = (string_bytes a.0, condition_of a.1)
 
 abbrev pub view_parts : Parts → Listing
-view_parts p = listing_of p.vars.items p.always.items p.txs.items p.runs.items
+view_parts p = listing_of p.vars.items [] p.always.items p.txs.items p.runs.items

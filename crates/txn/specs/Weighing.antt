@@ -10,11 +10,12 @@ use Rattle.txn_programs.specs.Fused.{own_code}
 use Rattle.txn_programs.specs.Listing.{Listing}
 use Rattle.txn.specs.declared.weights.Weights.{Weights}
 use Rattle.txn.specs.declared.weights.Size.{Size}
-use Rattle.txn.specs.declared.weights.Size.TheVariants.{Short, Held, Light, Long}
+use Rattle.txn.specs.declared.weights.Size.TheVariants.{Short, Light, Long}
 
--- it writes a variable
+-- it writes a variable, or a cell of a table
 abbrev pub is_store : Op → Bool
 is_store (op.Store x) = true
+is_store (op.Put first length) = true
 is_store _ = false
 
 -- it is a retry

@@ -5,7 +5,7 @@ ghost use Rattle.std.specs.Prelude.{string_bytes};
 ghost use Rattle.std.specs.Prelude.{Some, IfSome, IfErr, true, false, IfOk, OnOk, IsTrue, ◌↔◌};
 ghost use Rattle.std.specs.HashMap.{get_by_text};
 ghost use Rattle.txn_programs.specs.declared.limits.TheConstants.{MAX_CONDITIONS, MAX_PARAMETERS, MAX_TASKS};
-ghost use Rattle.txn_programs.specs.declared.limits.TheConstants.{MAX_VARIABLES};
+ghost use Rattle.txn_programs.specs.declared.limits.TheConstants.{MAX_VALUES, MAX_VARIABLES};
 ghost use Rattle.txn_programs.specs.Fused.{own_code, common_code};
 ghost use Rattle.txn_programs.specs.Names.{names_hold};
 ghost use Rattle.txn_programs.specs.Limits.{limits_hold, most_variables};
@@ -13,25 +13,29 @@ ghost use Rattle.txn_programs.specs.Instance.{instance};
 ghost use Rattle.txn_programs.specs.Tree.{transaction_of, under};
 ghost use Rattle.txn_programs.specs.Listing.{listing_of, conditions, tasks, task_tx, task_arguments, transaction_at};
 ghost use Rattle.txn_programs.specs.Listing.{IsCallable};
+ghost use Rattle.txn_programs.specs.Listing.{table_named, values};
 ghost use Rattle.txn_programs.specs.Listing.{variable_named, transaction_named, condition_named, always_name};
 ghost use Rattle.txn_programs.specs.Scope.{ConditionsKnown, ProgramKnown};
 ghost use Rattle.txn_programs.specs.Standing.{Upholds, upholds};
 ghost use Rattle.txn_evaluator.specs.Always.{conditions_of};
 ghost use Rattle.txn_declarations.specs.Conditions.{standing_of};
+ghost use Rattle.txn_declarations.specs.Counted.{counted};
 ghost use Rattle.txn.specs.Arities.{most_arity};
 ghost use Rattle.txn.specs.Grown.{grown, SameButRuns, SameProgram};
 ghost use Rattle.txn.specs.Ids.{ids_hold};
 
-use crate::build::{BuildFault, Copies, ids_known, judged, work_out};
+use crate::build::{BuildFault, Copies, ids_known, judged, kept_tables, work_out};
 use std::alloc::{AllocError, Global};
 use std::collections::HashMap;
 use std::marker::Model;
-use txn_declarations::copy::{always_of, runs_with, transactions_of, variables_of};
+use txn_declarations::copy::{always_of, runs_with, tables_of, transactions_of, variables_of};
 use txn_declarations::names::is_callable;
-use txn_declarations::same::{same_always, same_names, same_runs, same_transactions, same_values};
-use txn_programs::{AlwaysId, Call, Cond, Memory, Op, TaskId, Tx, TxId, VarId};
+use txn_declarations::same::{
+    same_always, same_names, same_runs, same_tables, same_transactions, same_values,
+};
+use txn_programs::{AlwaysId, Call, Cond, Memory, Op, Table, TaskId, Tx, TxId, VarId};
 
-/// Variables, standing conditions, transactions and runs, in declared order. A clause sees what they
+/// Variables, tables, standing conditions, transactions and runs, in declared order. A clause sees what they
 /// say, as a `Listing`. In every catalogue names and ids hold, and all limits, and each condition is
 /// true of the initial values. It keeps the flat code of each transaction, and once that of the
 /// conditions: the listing determines them. They are let go before the trees: blocks as large as
@@ -41,6 +45,8 @@ use txn_programs::{AlwaysId, Call, Cond, Memory, Op, TaskId, Tx, TxId, VarId};
 pub struct Catalogue {
     names: Vec<String>,
     places: HashMap<String, usize>,
+    tables: Vec<(String, u32)>,
+    table_places: HashMap<String, usize>,
     initial: Vec<i64>,
     always: Vec<(String, Cond)>,
     always_places: HashMap<String, usize>,
@@ -70,12 +76,12 @@ impl Model for Catalogue {
 }
 
 impl Catalogue {
-    /// The catalogue of variables with their initial values, of standing conditions with their
+    /// The catalogue of variables with their initial values, of tables, of standing conditions with their
     /// names, of transactions, and of runs: a call, and how many tasks make it. Tasks are
     /// numbered from 0 in the order of the runs.
     ///
     /// Refused by `Name` where a name has not the form of one (a letter, then letters, digits and
-    /// underscores) or is given twice among variables, among conditions, among transactions, or among
+    /// underscores) or is given twice among variables, among tables, among conditions, among transactions, or among
     /// variables and the parameters of one transaction, an id is out of range (a parameter's among
     /// those of its transaction), or a call has not as many arguments as its transaction has parameters;
     /// else by `Limit` where one of the limits of `limits` is passed; else by `Broken` where a
@@ -84,32 +90,37 @@ impl Catalogue {
     pub fn build(
         alloc: Global,
         vars: Vec<(String, i64)>,
+        tables: Vec<Table>,
         always: Vec<(String, Cond)>,
         txs: Vec<Tx>,
         runs: Vec<(Call, u32)>,
     ) -> Result<Catalogue, BuildFault>
-        ensures built { IfOk result (λ c. c ≡ listing_of vars.items always.items txs.items runs.items) }
-        ensures names { OnOk result (names_hold (listing_of vars.items always.items txs.items runs.items) ≡ true) }
-        ensures limits { OnOk result (limits_hold (listing_of vars.items always.items txs.items runs.items) ≡ true) }
+        ensures built { IfOk result (λ c. c ≡ listing_of vars.items tables.items always.items txs.items runs.items) }
+        ensures names { OnOk result
+            (names_hold (listing_of vars.items tables.items always.items txs.items runs.items) ≡ true) }
+        ensures limits { OnOk result
+            (limits_hold (listing_of vars.items tables.items always.items txs.items runs.items) ≡ true) }
         ensures upheld { OnOk result
-            (upholds (listing_of vars.items always.items txs.items runs.items) (map (λ v. v.1) vars.items) ≡ true) }
-        ensures name { IfErr result
-            (λ e. e ≡ BuildFault.Name → names_hold (listing_of vars.items always.items txs.items runs.items) ≡ false) }
-        ensures limit_after_names { IfErr result
-            (λ e. e ≡ BuildFault.Limit → names_hold (listing_of vars.items always.items txs.items runs.items) ≡ true) }
+            (upholds (listing_of vars.items tables.items always.items txs.items runs.items)
+            (listing_of vars.items tables.items always.items txs.items runs.items).initial ≡ true) }
+        ensures name { IfErr result (λ e. e ≡ BuildFault.Name
+            → names_hold (listing_of vars.items tables.items always.items txs.items runs.items) ≡ false) }
+        ensures limit_after_names { IfErr result (λ e. e ≡ BuildFault.Limit
+            → names_hold (listing_of vars.items tables.items always.items txs.items runs.items) ≡ true) }
         ensures limit { IfErr result (λ e. e ≡ BuildFault.Limit
-            → limits_hold (listing_of vars.items always.items txs.items runs.items) ≡ false) }
-        ensures broken_after_names { IfErr result
-            (λ e. e ≡ BuildFault.Broken → names_hold (listing_of vars.items always.items txs.items runs.items) ≡ true) }
+            → limits_hold (listing_of vars.items tables.items always.items txs.items runs.items) ≡ false) }
+        ensures broken_after_names { IfErr result (λ e. e ≡ BuildFault.Broken
+            → names_hold (listing_of vars.items tables.items always.items txs.items runs.items) ≡ true) }
         ensures broken_after_limits { IfErr result (λ e. e ≡ BuildFault.Broken
-            → limits_hold (listing_of vars.items always.items txs.items runs.items) ≡ true) }
+            → limits_hold (listing_of vars.items tables.items always.items txs.items runs.items) ≡ true) }
         ensures broken { IfErr result (λ e. e ≡ BuildFault.Broken
-            → upholds (listing_of vars.items always.items txs.items runs.items) (map (λ v. v.1) vars.items) ≡ false) }
+            → upholds (listing_of vars.items tables.items always.items txs.items runs.items)
+            (listing_of vars.items tables.items always.items txs.items runs.items).initial ≡ false) }
     {
-        if !ids_known(&vars, &always, &txs, &runs) {
+        if !ids_known(&vars, &tables, &always, &txs, &runs) {
             return Err(BuildFault::Name);
         }
-        Catalogue::build_known(alloc, vars, always, txs, runs)
+        Catalogue::build_known(alloc, vars, tables, always, txs, runs)
     }
 
     /// The same catalogue where each id is known to be one of those declared and each call to have as
@@ -120,35 +131,43 @@ impl Catalogue {
     pub fn build_known(
         alloc: Global,
         vars: Vec<(String, i64)>,
+        tables: Vec<Table>,
         always: Vec<(String, Cond)>,
         txs: Vec<Tx>,
         runs: Vec<(Call, u32)>,
     ) -> Result<Catalogue, BuildFault>
-        requires { ids_hold (listing_of vars.items always.items txs.items runs.items) ≡ true }
-        ensures built { IfOk result (λ c. c ≡ listing_of vars.items always.items txs.items runs.items) }
-        ensures names { OnOk result (names_hold (listing_of vars.items always.items txs.items runs.items) ≡ true) }
-        ensures limits { OnOk result (limits_hold (listing_of vars.items always.items txs.items runs.items) ≡ true) }
+        requires { ids_hold (listing_of vars.items tables.items always.items txs.items runs.items) ≡ true }
+        ensures built { IfOk result (λ c. c ≡ listing_of vars.items tables.items always.items txs.items runs.items) }
+        ensures names { OnOk result
+            (names_hold (listing_of vars.items tables.items always.items txs.items runs.items) ≡ true) }
+        ensures limits { OnOk result
+            (limits_hold (listing_of vars.items tables.items always.items txs.items runs.items) ≡ true) }
         ensures upheld { OnOk result
-            (upholds (listing_of vars.items always.items txs.items runs.items) (map (λ v. v.1) vars.items) ≡ true) }
-        ensures name { IfErr result
-            (λ e. e ≡ BuildFault.Name → names_hold (listing_of vars.items always.items txs.items runs.items) ≡ false) }
-        ensures limit_after_names { IfErr result
-            (λ e. e ≡ BuildFault.Limit → names_hold (listing_of vars.items always.items txs.items runs.items) ≡ true) }
+            (upholds (listing_of vars.items tables.items always.items txs.items runs.items)
+            (listing_of vars.items tables.items always.items txs.items runs.items).initial ≡ true) }
+        ensures name { IfErr result (λ e. e ≡ BuildFault.Name
+            → names_hold (listing_of vars.items tables.items always.items txs.items runs.items) ≡ false) }
+        ensures limit_after_names { IfErr result (λ e. e ≡ BuildFault.Limit
+            → names_hold (listing_of vars.items tables.items always.items txs.items runs.items) ≡ true) }
         ensures limit { IfErr result (λ e. e ≡ BuildFault.Limit
-            → limits_hold (listing_of vars.items always.items txs.items runs.items) ≡ false) }
-        ensures broken_after_names { IfErr result
-            (λ e. e ≡ BuildFault.Broken → names_hold (listing_of vars.items always.items txs.items runs.items) ≡ true) }
+            → limits_hold (listing_of vars.items tables.items always.items txs.items runs.items) ≡ false) }
+        ensures broken_after_names { IfErr result (λ e. e ≡ BuildFault.Broken
+            → names_hold (listing_of vars.items tables.items always.items txs.items runs.items) ≡ true) }
         ensures broken_after_limits { IfErr result (λ e. e ≡ BuildFault.Broken
-            → limits_hold (listing_of vars.items always.items txs.items runs.items) ≡ true) }
+            → limits_hold (listing_of vars.items tables.items always.items txs.items runs.items) ≡ true) }
         ensures broken { IfErr result (λ e. e ≡ BuildFault.Broken
-            → upholds (listing_of vars.items always.items txs.items runs.items) (map (λ v. v.1) vars.items) ≡ false) }
+            → upholds (listing_of vars.items tables.items always.items txs.items runs.items)
+            (listing_of vars.items tables.items always.items txs.items runs.items).initial ≡ false) }
     {
-        let declared = judged(alloc, vars, &always, &txs, &runs)?;
+        let declared = judged(alloc, vars, &tables, &always, &txs, &runs)?;
+        let tables = kept_tables(alloc, tables)?;
         let derived = work_out(alloc, &always, &txs, &runs)?;
         Ok(Catalogue {
             names: declared.names,
             places: declared.places,
             initial: declared.initial,
+            tables,
+            table_places: declared.table_places,
             always,
             always_places: declared.always_places,
             tx_places: declared.tx_places,
@@ -162,11 +181,11 @@ impl Catalogue {
         })
     }
 
-    /// What every catalogue keeps: a name for each initial value, the rules on names and ids, the
+    /// What every catalogue keeps: a variable or a cell for each initial value, the rules on names and ids, the
     /// limits, and that the initial values keep each standing condition. It does nothing: its
     /// contract is the law.
     pub fn rules(&self)
-        ensures named { length self.now.names ≡ length self.now.initial }
+        ensures valued { values self.now ≡ length self.now.initial }
         ensures names { names_hold self.now ≡ true }
         ensures limits { limits_hold self.now ≡ true }
         ensures upheld { Upholds self.now self.now.initial }
@@ -175,7 +194,7 @@ impl Catalogue {
         let _values = self.initial.len();
     }
 
-    /// Whether the two say the same: names, initial values, standing conditions, transactions and
+    /// Whether the two say the same: names, tables, initial values, standing conditions, transactions and
     /// runs, each in its order.
     pub fn same(&self, other: &Catalogue) -> bool
         ensures { IsTrue result ↔ (self.now ≡ other.now) }
@@ -183,17 +202,18 @@ impl Catalogue {
         self.same_but_runs(other) && same_runs(self.runs(), other.runs())
     }
 
-    /// Whether the two say the same but for their runs and the values at which they begin: names, standing
+    /// Whether the two say the same but for their runs and the values at which they begin: names, tables, standing
     /// conditions and transactions, each in its order.
     pub fn same_program(&self, other: &Catalogue) -> bool
         ensures { IsTrue result ↔ SameProgram self.now other.now }
     {
         same_names(&self.names, &other.names)
+            && same_tables(&self.tables, &other.tables)
             && same_always(&self.always, &other.always)
             && same_transactions(&self.txs, &other.txs)
     }
 
-    /// Whether the two say the same but for their runs: names, initial values, standing conditions
+    /// Whether the two say the same but for their runs: names, tables, initial values, standing conditions
     /// and transactions, each in its order.
     pub fn same_but_runs(&self, other: &Catalogue) -> bool
         ensures { IsTrue result ↔ SameButRuns self.now other.now }
@@ -211,7 +231,14 @@ impl Catalogue {
     {
         self.rules();
         let copies = self.copies(alloc, more)?;
-        match Catalogue::build(alloc, copies.vars, copies.always, copies.txs, copies.runs) {
+        match Catalogue::build(
+            alloc,
+            copies.vars,
+            copies.tables,
+            copies.always,
+            copies.txs,
+            copies.runs,
+        ) {
             Ok(catalogue) => Ok(catalogue),
             Err(BuildFault::Name) => unreachable!(),
             Err(BuildFault::Limit) => unreachable!(),
@@ -223,20 +250,23 @@ impl Catalogue {
     /// Copies of what it is built of, with a run more for each of these calls.
     fn copies(&self, alloc: Global, more: &[Call]) -> Result<Copies, AllocError>
         ensures { IfOk result
-            (λ c. listing_of c.vars.items c.always.items c.txs.items c.runs.items ≡ grown self.now more.now) }
+            (λ c. listing_of c.vars.items c.tables.items c.always.items c.txs.items c.runs.items
+            ≡ grown self.now more.now) }
     {
         Ok(Copies {
-            vars: variables_of(alloc, &self.names, self.initial())?,
+            vars: variables_of(alloc, &self.names, &self.initial[..self.names.len()])?,
+            tables: tables_of(alloc, &self.tables, &self.initial[self.names.len()..])?,
             always: always_of(alloc, &self.always)?,
             txs: transactions_of(alloc, &self.txs)?,
             runs: runs_with(alloc, self.runs(), more)?,
         })
     }
 
-    /// The initial values, in declared order.
+    /// The initial values of the variables, in declared order, and behind them those of the cells, table after
+    /// table.
     pub fn initial(&self) -> &[i64]
         ensures value { result.now ≡ self.now.initial }
-        ensures few { length result.now ≤ MAX_VARIABLES }
+        ensures few { length result.now ≤ MAX_VALUES }
     {
         self.initial.as_slice()
     }
@@ -348,6 +378,31 @@ impl Catalogue {
         ensures { result.now ≡ self.now.runs }
     {
         self.runs.as_slice()
+    }
+
+    /// How many variables there are.
+    pub fn var_count(&self) -> usize
+        ensures value { result ≡ length self.now.names }
+        ensures few { result ≤ MAX_VARIABLES }
+    {
+        self.names.len()
+    }
+
+    /// The tables, each with its name and how many cells it has, in declared order.
+    pub fn tables(&self) -> &[(String, u32)]
+        ensures { map counted result.now ≡ self.now.tables }
+    {
+        self.tables.as_slice()
+    }
+
+    /// The place of the table of a name among the tables.
+    pub fn table_place(&self, name: &str) -> Option<usize>
+        ensures { result ≡ table_named self.now name.now }
+    {
+        match self.table_places.get(name) {
+            Some(place) => Some(*place),
+            None => None,
+        }
     }
 
     /// A variable's name.

@@ -6,14 +6,15 @@ ghost use Rattle.txn_programs.specs.Listing.{listing_of};
 ghost use Rattle.txn_programs.specs.Tree.{transaction_of};
 ghost use Rattle.txn.specs.Values.{with_values};
 
-use crate::{Call, Catalogue, Cond, Tx, TxId, VarId};
+use crate::{Call, Catalogue, Cond, Table, Tx, TxId, VarId};
 use std::alloc::{AllocError, Global};
-use txn_declarations::copy::{always_of, copied_transaction, runs_with};
+use txn_declarations::copy::{always_of, copied_transaction, runs_with, tables_of};
 
 /// What `Catalogue::build` takes.
 #[derive(Drop)]
 pub(crate) struct Parts {
     pub(crate) vars: Vec<(String, i64)>,
+    pub(crate) tables: Vec<Table>,
     pub(crate) always: Vec<(String, Cond)>,
     pub(crate) txs: Vec<Tx>,
     pub(crate) runs: Vec<(Call, u32)>,
@@ -60,23 +61,27 @@ fn transactions(alloc: Global, catalogue: &Catalogue) -> Result<Vec<Tx>, AllocEr
     Ok(made)
 }
 
-/// What the catalogue is built of, with these values. There has to be one for each variable.
+/// What the catalogue is built of, with these values. There has to be one for each variable and each cell.
 pub(crate) fn parts_with(
     alloc: Global,
     catalogue: &Catalogue,
     values: &[i64],
 ) -> Result<Parts, AllocError>
-    requires each { length values.now ≡ length catalogue.now.names }
-    requires few { length values.now ≤ MAX_VARIABLES }
+    requires { length values.now ≡ length catalogue.now.initial }
     ensures { IfOk result
-        (λ p. listing_of p.vars.items p.always.items p.txs.items p.runs.items ≡ with_values catalogue.now values.now) }
+        (λ p. listing_of p.vars.items p.tables.items p.always.items p.txs.items p.runs.items
+        ≡ with_values catalogue.now values.now) }
 {
-    let vars = variables(alloc, catalogue, values)?;
+    catalogue.rules();
+    let count = catalogue.var_count();
+    let vars = variables(alloc, catalogue, &values[..count])?;
+    let tables = tables_of(alloc, catalogue.tables(), &values[count..])?;
     let always = always_of(alloc, catalogue.always())?;
     let txs = transactions(alloc, catalogue)?;
     let runs = runs_with(alloc, catalogue.runs(), &[])?;
     Ok(Parts {
         vars,
+        tables,
         always,
         txs,
         runs,

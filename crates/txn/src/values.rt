@@ -16,7 +16,7 @@ use txn_declarations::copy::runs_with;
 /// Why a catalogue cannot begin at these values.
 #[derive(Clone, Copy, Debug, PartialEq, Eq)]
 pub enum ValuesFault {
-    /// There is not one for each variable.
+    /// There is not one for each variable and each cell.
     Count,
     /// A standing condition is not true of them.
     Broken,
@@ -26,24 +26,28 @@ pub enum ValuesFault {
 
 /// The catalogue of parts whose names and limits hold.
 fn built(alloc: Global, parts: Parts) -> Result<Catalogue, ValuesFault>
-    requires names { names_hold (listing_of parts.vars.items parts.always.items parts.txs.items parts.runs.items)
+    requires names { names_hold
+        (listing_of parts.vars.items parts.tables.items parts.always.items parts.txs.items parts.runs.items)
         ≡ true }
-    requires limits { limits_hold (listing_of parts.vars.items parts.always.items parts.txs.items parts.runs.items)
+    requires limits { limits_hold
+        (listing_of parts.vars.items parts.tables.items parts.always.items parts.txs.items parts.runs.items)
         ≡ true }
     ensures built { IfOk result
-        (λ c. c ≡ listing_of parts.vars.items parts.always.items parts.txs.items parts.runs.items) }
+        (λ c. c ≡ listing_of parts.vars.items parts.tables.items parts.always.items parts.txs.items parts.runs.items) }
     ensures broken { IfErr result (λ e. e ≡ ValuesFault.Broken
-        → upholds (listing_of parts.vars.items parts.always.items parts.txs.items parts.runs.items)
-        (map (λ v. v.1) parts.vars.items) ≡ false) }
+        → upholds (listing_of parts.vars.items parts.tables.items parts.always.items parts.txs.items parts.runs.items)
+        (listing_of parts.vars.items parts.tables.items parts.always.items parts.txs.items parts.runs.items).initial
+        ≡ false) }
     ensures count { IfErr result (λ e. e ≢ ValuesFault.Count) }
 {
     let Parts {
         vars,
+        tables,
         always,
         txs,
         runs,
     } = parts;
-    match Catalogue::build(alloc, vars, always, txs, runs) {
+    match Catalogue::build(alloc, vars, tables, always, txs, runs) {
         Ok(next) => Ok(next),
         Err(BuildFault::Broken) => Err(ValuesFault::Broken),
         Err(BuildFault::Memory) => Err(ValuesFault::Memory),
@@ -52,10 +56,11 @@ fn built(alloc: Global, parts: Parts) -> Result<Catalogue, ValuesFault>
     }
 }
 
-/// The catalogue that begins at these values, one for each variable in declared order. Names,
+/// The catalogue that begins at these values, one for each variable and behind them one for each cell, in
+/// declared order. Names,
 /// standing conditions, transactions and runs are as they were.
 ///
-/// `Count` exactly where there are more or fewer values than variables, else `Broken` only where a
+/// `Count` exactly where there are more or fewer values than variables and cells, else `Broken` only where a
 /// standing condition is not true of them. `Memory` only where a growth was refused.
 pub fn with_values(
     alloc: Global,
@@ -86,7 +91,7 @@ fn made(
     values: &[i64],
     parts: Parts,
 ) -> Result<Catalogue, ValuesFault>
-    requires { listing_of parts.vars.items parts.always.items parts.txs.items parts.runs.items
+    requires { listing_of parts.vars.items parts.tables.items parts.always.items parts.txs.items parts.runs.items
         ≡ with_values catalogue.now values.now }
     ensures with { IfOk result (λ c. c ≡ with_values catalogue.now values.now) }
     ensures upheld { OnOk result (Upholds catalogue.now values.now) }

@@ -87,11 +87,13 @@ fn weight_of(catalogue: &Catalogue, tx: TxId) -> u32
     with_code(with_code(0, catalogue.code(tx)), catalogue.ending())
 }
 
-/// Whether the code writes a variable. A fused instruction that does so has a plain one behind it.
+/// Whether the code writes a variable or a cell of a table. A fused instruction that does so has a plain one
+/// behind it.
 fn writes(code: &[Op]) -> bool
     ensures { result ≡ list_any is_store code.now }
 {
-    code.iter().any(|op| matches!(*op, Op::Store(_)))
+    code.iter()
+        .any(|op| matches!(*op, Op::Store(_) | Op::Put(_, _)))
 }
 
 /// Whether the code has a `retry`.

@@ -1,10 +1,10 @@
--- Calls are equal where the fields of what they give are.
-use Rattle.std.proofs.Common.{◌≡◌, ◌∙◌, ap, sym, refl, ℕ, ℤ, List, length, take, ◌==◌, ◌&&◌, Bool, int_eq, arith}
+-- Calls are equal where the fields of what they give are, and counted tables where names and counts are.
+use Rattle.std.proofs.Common.{◌≡◌, ◌∙◌, ap, sym, refl, ℕ, ℤ, List, length, take, ◌==◌, ◌&&◌, Bool, int_eq, bytes_eq, arith}
 use Rattle.std.specs.Bool.{Decides}
 use Rattle.std.specs.Cmp.{unsigned_Decides, signed_Decides}
 use Rattle.std.proofs.lemmas.Bool.{and_parts, and_from}
 use Rattle.std.proofs.lemmas.Grind.{common_steps}
-use Rattle.std.proofs.lemmas.Slice.Eq.{slice_eq-Decides}
+use Rattle.std.proofs.lemmas.Slice.Eq.{slice_eq-Decides, bytes_eq-Decides}
 use Rattle.std.specs.Cmp.Lexicographic.{pointwise}
 use Rattle.txn_programs.specs.declared.arguments.Call.{Call}
 use Rattle.txn_programs.specs.ArgumentsInside.{given, fields}
@@ -45,4 +45,12 @@ decides_run a b =
     let count = unsigned_Decides a.1 b.1 in (
       λ h. let parts = and_parts _ _ h in ap (λ (c : Call). (c, a.1)) (call.0 parts.0) ∙ ap (λ (n : ℕ). (b.0, n)) (count.0 parts.1),
       λ e. and_from _ _ (call.1 (ap (λ (r : Call × ℕ). r.0) e)) (count.1 (ap (λ (r : Call × ℕ). r.1) e)),
+    )
+
+pub decides_count : (a b : List ℕ × ℕ) → Decides (bytes_eq a.0 b.0 && (a.1 == b.1)) (a ≡ b)
+decides_count a b =
+    let name = bytes_eq-Decides a.0 b.0 in
+    let count = unsigned_Decides a.1 b.1 in (
+      λ h. let parts = and_parts _ _ h in ap (λ (n : List ℕ). (n, a.1)) (name.0 parts.0) ∙ ap (λ (n : ℕ). (b.0, n)) (count.0 parts.1),
+      λ e. and_from _ _ (name.1 (ap (λ (r : List ℕ × ℕ). r.0) e)) (count.1 (ap (λ (r : List ℕ × ℕ). r.1) e)),
     )

@@ -3,3 +3,4 @@ mod Named
 pub mod Weights
 pub mod Beside
 mod Copying
+mod Finding

@@ -2,7 +2,7 @@
 use Rattle.std.proofs.Common.{◌≡◌, ℕ, zero, suc, ◌+◌, ◌*◌, ◌≤◌, ◌<◌, ap, ◌∙◌, arith, inl, inr}
 use Rattle.std.proofs.lemmas.Bool.{cases_lt}
 use Rattle.txn_programs.specs.Limits.{capped, highest_cost}
-use Rattle.txn_programs.specs.Tree.{Condition, Eq, Lt, Le, Not, And, Or, Statement, Skip, Set, Seq, If, Repeat, Retry, OrElse, Throw}
+use Rattle.txn_programs.specs.Tree.{Condition, Eq, Lt, Le, Not, And, Or, Statement, Skip, Set, Put, Seq, If, Repeat, Retry, OrElse, Throw}
 use Rattle.txn_programs.specs.Depth.{condition_depth, statement_depth}
 
 -- times of a part that was capped cost as much as those of the part
@@ -32,6 +32,7 @@ condition_depth_positive (Or a b) = omega arith
 pub statement_depth_positive : (s : Statement) → 0 < statement_depth s
 statement_depth_positive Skip = omega arith
 statement_depth_positive (Set x e) = omega arith
+statement_depth_positive (Put t a b) = omega arith
 statement_depth_positive (Seq parts) = omega arith
 statement_depth_positive (If c a b) = omega arith
 statement_depth_positive (Repeat n s) = omega arith

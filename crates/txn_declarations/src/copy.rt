@@ -1,11 +1,13 @@
 //! Copies of what a catalogue declares: each says what its original says.
 
-ghost use Rattle.std.specs.Prelude.{◌≡◌, ◌++◌, IfOk, length, map, string_bytes};
+ghost use Rattle.std.specs.Prelude.{◌≡◌, ◌++◌, IfOk, flat_map, length, map, string_bytes, sum_by};
+ghost use Rattle.txn_programs.specs.Listing.{table_of, values_of};
 ghost use Rattle.txn_programs.specs.Tree.{If, expression_of, condition_of, statement_of, transaction_of};
 ghost use Rattle.txn_declarations.specs.Conditions.{standing_of};
+ghost use Rattle.txn_declarations.specs.Counted.{counted};
 
 use std::alloc::{AllocError, Global};
-use txn_programs::{Call, Cond, Expr, Stmt, Tx};
+use txn_programs::{Call, Cells, Cond, Expr, Stmt, Table, Tx};
 
 #[cycle(expressions)]
 fn expression(alloc: Global, e: &Expr) -> Result<Expr, AllocError>
@@ -15,6 +17,10 @@ fn expression(alloc: Global, e: &Expr) -> Result<Expr, AllocError>
         Expr::Int(n) => Ok(Expr::Int(*n)),
         Expr::Var(x) => Ok(Expr::Var(*x)),
         Expr::Param(p) => Ok(Expr::Param(*p)),
+        Expr::At(table, a) => Ok(Expr::At(*table, boxed_expression(alloc, a)?)),
+        Expr::Sum(table) => Ok(Expr::Sum(*table)),
+        Expr::Min(table) => Ok(Expr::Min(*table)),
+        Expr::Max(table) => Ok(Expr::Max(*table)),
         Expr::Add(a, b) => {
             let first = boxed_expression(alloc, a)?;
             let (first, second) = beside_expression(alloc, b, first)?;
@@ -65,7 +71,7 @@ fn boxed_expression(alloc: Global, e: &Expr) -> Result<Box<Expr>, AllocError>
     Ok(Box::new(alloc, copy)?)
 }
 
-/// Copies of both sides of a comparison.
+/// Copies of both operands.
 fn expressions(alloc: Global, a: &Expr, b: &Expr) -> Result<(Expr, Expr), AllocError>
     ensures { IfOk result (λ p. (expression_of p.0 ≡ expression_of a.now) × (expression_of p.1 ≡ expression_of b.now)) }
 {
@@ -140,6 +146,10 @@ fn statement(alloc: Global, s: &Stmt) -> Result<Stmt, AllocError>
         Stmt::Skip => Ok(Stmt::Skip),
         Stmt::Retry => Ok(Stmt::Retry),
         Stmt::Set(x, e) => Ok(Stmt::Set(*x, expression(alloc, e)?)),
+        Stmt::Put(table, a, b) => {
+            let (a, b) = expressions(alloc, a, b)?;
+            Ok(Stmt::Put(*table, a, b))
+        }
         Stmt::Seq(parts) => Ok(Stmt::Seq(statements(alloc, parts.as_slice())?)),
         Stmt::If(c, a, b) => {
             let first = boxed_statement(alloc, a)?;
@@ -272,6 +282,37 @@ pub fn variables_of(
     let mut copies = Vec::with_capacity(alloc, names.len())?;
     for i in 0..names.len() {
         copies.push((names[i].clone()?, values[i]))?;
+    }
+    Ok(copies)
+}
+
+/// A table of this name whose cells are these.
+fn table(alloc: Global, name: &str, values: &[i64]) -> Result<Table, AllocError>
+    ensures name { IfOk result (λ t. string_bytes t.name ≡ name.now) }
+    ensures values { IfOk result (λ t. values_of t.cells ≡ values.now) }
+{
+    Ok(Table {
+        name: String::from_str(alloc, name)?,
+        cells: Cells::Each(values.to_vec(alloc)?),
+    })
+}
+
+/// Tables of these names and so many cells each: the values, table after table.
+pub fn tables_of(
+    alloc: Global,
+    tables: &[(String, u32)],
+    values: &[i64],
+) -> Result<Vec<Table>, AllocError>
+    requires { sum_by (λ t. t.1) tables.now ≡ length values.now }
+    ensures tables { IfOk result (λ v. map table_of v.items ≡ map counted tables.now) }
+    ensures values { IfOk result (λ v. flat_map (λ t. values_of t.cells) v.items ≡ values.now) }
+{
+    let mut copies = Vec::with_capacity(alloc, tables.len())?;
+    let mut rest = values;
+    for (name, count) in tables {
+        let (cells, more) = rest.split_at(*count as usize);
+        copies.push(table(alloc, name.as_str(), cells)?)?;
+        rest = more;
     }
     Ok(copies)
 }

@@ -10,12 +10,16 @@ ghost use Rattle.txn_programs.specs.Cost.{expression_cost, condition_cost, condi
 ghost use Rattle.txn_programs.specs.Cost.{statement_cost, statements_cost};
 ghost use Rattle.txn_programs.specs.Depth.{expression_depth, condition_depth, statement_depth};
 ghost use Rattle.txn_programs.specs.Limits.{capped, conditions_fit, StatementFits, StatementsFit};
-ghost use Rattle.txn_programs.specs.Limits.{is_short, names_fit};
+ghost use Rattle.txn_programs.specs.Limits.{is_short, names_fit, table_fits};
+ghost use Rattle.txn_programs.specs.Listing.{table_of};
 ghost use Rattle.txn_declarations.specs.Beside.{fits_beside};
-ghost use Rattle.txn_programs.specs.declared.limits.TheConstants.{MAX_NAME, MAX_PARAMETERS, MAX_TASKS};
+ghost use Rattle.txn_programs.specs.declared.limits.TheConstants.{MAX_CELLS, MAX_NAME, MAX_PARAMETERS};
+ghost use Rattle.txn_programs.specs.declared.limits.TheConstants.{MAX_TABLES, MAX_TASKS};
 
-use txn_programs::limits::{MAX_COST, MAX_DEPTH, MAX_NAME, MAX_PARAMETERS, MAX_REPEAT, MAX_TASKS};
-use txn_programs::{Call, Cond, Expr, Stmt, Tx};
+use txn_programs::limits::{
+    MAX_CELLS, MAX_COST, MAX_DEPTH, MAX_NAME, MAX_PARAMETERS, MAX_REPEAT, MAX_TABLES, MAX_TASKS,
+};
+use txn_programs::{Call, Cond, Expr, Stmt, Table, Tx};
 
 /// One over the largest cost: what a larger one counts as.
 const OVER: u32 = MAX_COST + 1;
@@ -28,13 +32,35 @@ fn node(parts: u32) -> u32
     (1 + parts).min(OVER)
 }
 
-/// The capped cost of an expression that is no deeper than this.
+/// The capped cost of an expression that is no deeper than this. Most have no parts, so they are told at once.
+#[cycle(expressions)]
 fn expression_weight(e: &Expr, depth: u32) -> Option<u32>
     ensures { SomeIff result (expression_depth (expression_of e.now) ≤ depth)
         (capped (expression_cost (expression_of e.now))) }
 {
     match e {
         Expr::Int(_) | Expr::Var(_) | Expr::Param(_) => Some(1),
+        _ => compound_weight(e, depth),
+    }
+}
+
+/// The same, of one that may have parts.
+#[cycle(expressions)]
+#[inline(never)]
+fn compound_weight(e: &Expr, depth: u32) -> Option<u32>
+    ensures { SomeIff result (expression_depth (expression_of e.now) ≤ depth)
+        (capped (expression_cost (expression_of e.now))) }
+{
+    match e {
+        Expr::Int(_) | Expr::Var(_) | Expr::Param(_) => Some(1),
+        Expr::At(_, a) => {
+            let below = depth.checked_sub(1)?;
+            Some(node(expression_weight(a, below)?))
+        }
+        Expr::Sum(table) | Expr::Min(table) | Expr::Max(table) => {
+            depth.checked_sub(1)?;
+            Some(node(table.length.min(OVER)))
+        }
         Expr::Add(a, b) | Expr::Sub(a, b) | Expr::Mul(a, b) | Expr::Div(a, b) | Expr::Rem(a, b) => {
             let below = depth.checked_sub(1)?;
             Some(node(expression_weight(a, below)? + expression_weight(b, below)?))
@@ -42,8 +68,8 @@ fn expression_weight(e: &Expr, depth: u32) -> Option<u32>
     }
 }
 
-#[tactic(auto, using(crate::proofs::Weights::condition_depth_positive))]
 /// The capped cost of a condition that is no deeper than this.
+#[tactic(auto, using(crate::proofs::Weights::condition_depth_positive))]
 fn condition_weight(c: &Cond, depth: u32) -> Option<u32>
     ensures { SomeIff result (condition_depth (condition_of c.now) ≤ depth)
         (capped (condition_cost (condition_of c.now))) }
@@ -79,6 +105,9 @@ fn statement_weight(s: &Stmt, depth: u32) -> Option<u32>
     match s {
         Stmt::Skip | Stmt::Retry => Some(1),
         Stmt::Set(_, e) | Stmt::Throw(e) => Some(node(expression_weight(e, below)?)),
+        Stmt::Put(_, a, b) => {
+            Some(node(expression_weight(a, below)? + expression_weight(b, below)?))
+        }
         Stmt::Seq(parts) => Some(node(statements_weight(parts.as_slice(), below)?)),
         Stmt::If(c, a, b) => {
             let test = condition_weight(c, below)?;
@@ -150,6 +179,37 @@ pub fn names_fit(vars: &[(String, i64)]) -> bool
     ensures { result ≡ list_all (λ var. nat_le (length (string_bytes var.0)) MAX_NAME) vars.now }
 {
     vars.iter().all(|var| var.0.len() <= MAX_NAME)
+}
+
+/// Whether a table's name is not too long, and it has a cell.
+fn table_fits(table: &Table) -> bool
+    ensures { result ≡ table_fits (table_of table.now) }
+{
+    table.name.len() <= MAX_NAME && table.cells.count() > 0
+}
+
+/// Whether there are not too many cells in all.
+fn cells_fit(tables: &[Table]) -> bool
+    ensures { result ≡ nat_le (sum_by (λ t. t.1) (map table_of tables.now)) MAX_CELLS }
+{
+    let mut left = MAX_CELLS;
+    for table in tables {
+        let count = table.cells.count();
+        if count > left {
+            return false;
+        }
+        left -= count;
+    }
+    true
+}
+
+/// Whether there are not too many tables, nor cells in all of them, each has a cell, and no name of one is
+/// too long.
+pub fn tables_within(tables: &[Table]) -> bool
+    ensures { result ≡ (nat_le (length tables.now) MAX_TABLES && (list_all (λ t. table_fits (table_of t)) tables.now
+        && nat_le (sum_by (λ t. t.1) (map table_of tables.now)) MAX_CELLS)) }
+{
+    tables.len() <= MAX_TABLES && tables.iter().all(table_fits) && cells_fit(tables)
 }
 
 /// Whether no name of a standing condition is too long.

@@ -5,8 +5,15 @@ ghost use Rattle.std.specs.Prelude.{◌≡◌, ◌↔◌, IsTrue, map, string_by
 ghost use Rattle.txn_programs.specs.Tree.{expression_of, condition_of, statement_of};
 ghost use Rattle.txn_programs.specs.Tree.{statements_of_list, transaction_of};
 ghost use Rattle.txn_declarations.specs.Conditions.{standing_of};
+ghost use Rattle.txn_declarations.specs.Counted.{counted};
 
-use txn_programs::{Call, Cond, Expr, Stmt, Tx};
+use txn_programs::{Call, Cond, Expr, Span, Stmt, Tx};
+
+fn same_table(a: Span, b: Span) -> bool
+    ensures { IsTrue result ↔ (a ≡ b) }
+{
+    a.first == b.first && a.length == b.length
+}
 
 fn same_expression(a: &Expr, b: &Expr) -> bool
     ensures { IsTrue result ↔ (expression_of a.now ≡ expression_of b.now) }
@@ -15,6 +22,10 @@ fn same_expression(a: &Expr, b: &Expr) -> bool
         (Expr::Int(m), Expr::Int(n)) => *m == *n,
         (Expr::Var(x), Expr::Var(y)) => x.0 == y.0,
         (Expr::Param(p), Expr::Param(q)) => p.0 == q.0,
+        (Expr::At(t, p), Expr::At(u, q)) => same_table(*t, *u) && same_expression(p, q),
+        (Expr::Sum(t), Expr::Sum(u))
+        | (Expr::Min(t), Expr::Min(u))
+        | (Expr::Max(t), Expr::Max(u)) => same_table(*t, *u),
         (Expr::Add(p, q), Expr::Add(r, s))
         | (Expr::Sub(p, q), Expr::Sub(r, s))
         | (Expr::Mul(p, q), Expr::Mul(r, s))
@@ -46,6 +57,9 @@ fn same_statement(a: &Stmt, b: &Stmt) -> bool
     match (a, b) {
         (Stmt::Skip, Stmt::Skip) | (Stmt::Retry, Stmt::Retry) => true,
         (Stmt::Set(x, e), Stmt::Set(y, f)) => x.0 == y.0 && same_expression(e, f),
+        (Stmt::Put(t, p, q), Stmt::Put(u, r, s)) => {
+            same_table(*t, *u) && same_expression(p, r) && same_expression(q, s)
+        }
         (Stmt::Seq(parts), Stmt::Seq(others)) => {
             same_statements(parts.as_slice(), others.as_slice())
         }
@@ -150,4 +164,12 @@ pub fn same_names(names: &[String], others: &[String]) -> bool
     ensures { IsTrue result ↔ (map string_bytes names.now ≡ map string_bytes others.now) }
 {
     names == others
+}
+
+/// Whether the tables have the same names and as many cells, in their order.
+pub fn same_tables(tables: &[(String, u32)], others: &[(String, u32)]) -> bool
+    ensures { IsTrue result
+        ↔ (map counted tables.now ≡ map counted others.now) }
+{
+    tables == others
 }

@@ -4,7 +4,7 @@ use Rattle.std.proofs.lemmas.List.{length-map}
 use Rattle.std.proofs.lemmas.Simd.{map-map}
 use Rattle.txn_programs.specs.declared.ast.Cond.{Cond}
 use Rattle.txn_programs.specs.Tree.{condition_of}
-use Rattle.txn_programs.specs.Listing.{Listing, conditions}
+use Rattle.txn_programs.specs.Listing.{Listing, conditions, values}
 use Rattle.txn_programs.specs.Limits.{limits_hold}
 use Rattle.txn_programs.specs.Names.{names_hold}
 use Rattle.txn_programs.specs.Scope.{ConditionsKnown}
@@ -22,6 +22,6 @@ module _ (l : Listing) (always : List (String Global × Cond)) (e : map (λ a. (
       let same : length l.always ≡ length always = ap length (sym e) ∙ length-map always (λ a. (string_bytes a.0, condition_of a.1)) in
       omega (arith, same, few)
 
--- the conditions name only variables of the listing
-pub conditions_known : (l : Listing) → names_hold l ≡ true → ConditionsKnown (length l.names) (conditions l)
+-- the conditions name only variables and cells of the listing
+pub conditions_known : (l : Listing) → names_hold l ≡ true → ConditionsKnown (values l) (conditions l)
 conditions_known l h = standing_known l h

@@ -1,3 +1,4 @@
 pub mod Always
 pub mod GoingBack
 mod Sequences
+mod Joining

@@ -3,28 +3,25 @@
 // the instance itself is never made.
 
 ghost use Rattle.std.specs.Prelude.{◌≡◌, ◌<◌, ◌≤◌, ◌^◌, length, IfOk};
-ghost use Rattle.txn_programs.specs.Arithmetic.{sum_of, difference_of, product_of, quotient_of, remainder_of};
-ghost use Rattle.std.specs.Prelude.{vec_len, OnOk, OnErr};
+ghost use Rattle.txn_programs.specs.Arithmetic.{difference_of, product_of, quotient_of, remainder_of};
+ghost use Rattle.std.specs.Prelude.{vec_len, Ok, OnOk, OnErr};
 ghost use Rattle.txn_programs.specs.Instance.{argument, instance_expression, instance_condition};
 ghost use Rattle.txn_programs.specs.Instance.{instance_statement, instance_statements, instance};
-ghost use Rattle.txn_programs.specs.Meaning.{value, truth, upheld, final, run, run_all, repeated, outcome, after};
+ghost use Rattle.txn_programs.specs.Meaning.{then_value, value, truth, upheld, final, run, run_all, repeated};
+ghost use Rattle.txn_programs.specs.Meaning.{outcome, after};
 ghost use Rattle.txn_programs.specs.Scope.{ExpressionKnown, ConditionKnown, ConditionsKnown};
-ghost use Rattle.txn_programs.specs.Scope.{StatementKnown, StatementsKnown, ProgramKnown};
+ghost use Rattle.txn_programs.specs.Scope.{StatementKnown, StatementsKnown, ProgramKnown, TableKnown};
+ghost use Rattle.txn_programs.specs.Tables.{cell_of};
 ghost use Rattle.txn_programs.specs.Tree.{expression_of, condition_of, statement_of};
 ghost use Rattle.txn_programs.specs.Tree.{statements_of_list, transaction_of, under};
 ghost use Rattle.txn_evaluator.specs.Flow.{ending_of};
 ghost use Rattle.txn_evaluator.specs.Notes.{undone, AreInside, LeadBack};
 ghost use Rattle.txn_evaluator.specs.Always.{conditions_of};
 
+use crate::cells::{all_cells, cell, sum};
 use crate::notes::{Note, undo, write};
 use std::alloc::AllocError;
-use txn_programs::{AlwaysId, Cond, Expr, Fault, Outcome, ParamId, Stmt, Tx};
-
-fn sum(x: i64, y: i64) -> Result<i64, Fault>
-    ensures { result ≡ sum_of x y }
-{
-    x.checked_add(y).ok_or(Fault::Overflow)
-}
+use txn_programs::{AlwaysId, Cond, Expr, Fault, Fold, Outcome, ParamId, Span, Stmt, Tx, VarId};
 
 fn difference(x: i64, y: i64) -> Result<i64, Fault>
     ensures { result ≡ difference_of x y }
@@ -77,12 +74,39 @@ pub fn value(arguments: &[i64], e: &Expr, state: &[i64]) -> Result<i64, Fault>
         Expr::Int(n) => Ok(*n),
         Expr::Var(x) => Ok(state[x.0 as usize]),
         Expr::Param(p) => Ok(argument(arguments, *p)),
+        Expr::At(table, a) => Ok(state[cell(*table, value(arguments, a, state)?)?]),
+        Expr::Sum(table) => all_cells(Fold::Sum, *table, state),
+        Expr::Min(table) => all_cells(Fold::Min, *table, state),
+        Expr::Max(table) => all_cells(Fold::Max, *table, state),
         Expr::Add(a, b) => sum(value(arguments, a, state)?, value(arguments, b, state)?),
         Expr::Sub(a, b) => difference(value(arguments, a, state)?, value(arguments, b, state)?),
         Expr::Mul(a, b) => product(value(arguments, a, state)?, value(arguments, b, state)?),
         Expr::Div(a, b) => quotient(value(arguments, a, state)?, value(arguments, b, state)?),
         Expr::Rem(a, b) => remainder(value(arguments, a, state)?, value(arguments, b, state)?),
     }
+}
+
+/// The cell that a `put` writes, and what it becomes.
+fn target(
+    arguments: &[i64],
+    table: Span,
+    a: &Expr,
+    b: &Expr,
+    state: &[i64],
+) -> Result<(VarId, i64), Fault>
+    requires table { TableKnown (length state.now) table }
+    requires index { ExpressionKnown (length state.now) (instance_expression arguments.now (expression_of a.now)) }
+    requires value { ExpressionKnown (length state.now) (instance_expression arguments.now (expression_of b.now)) }
+    requires valued { length state.now ≤ 2 ^ 32 }
+    ensures target { result ≡ then_value (value (instance_expression arguments.now (expression_of a.now)) state.now)
+        (λ i. then_value (value (instance_expression arguments.now (expression_of b.now)) state.now)
+        (λ v. then_value (cell_of table i) (λ x. Ok (x, v)))) }
+    ensures inside { IfOk result (λ t. t.0.0 < length state.now) }
+{
+    let i = value(arguments, a, state)?;
+    let v = value(arguments, b, state)?;
+    let place = cell(table, i)?;
+    Ok((VarId(place as u32), v))
 }
 
 /// Whether a condition holds with these arguments.
@@ -125,7 +149,8 @@ fn perform(
     state: &mut [i64],
     notes: &mut Vec<Note>,
 ) -> Result<Flow, AllocError>
-    requires { StatementKnown (length state.old) (instance_statement arguments.now (statement_of s.now)) }
+    requires known { StatementKnown (length state.old) (instance_statement arguments.now (statement_of s.now)) }
+    requires valued { length state.old ≤ 2 ^ 32 }
     ensures ends { IfOk result (λ flow. ending_of flow state.new
         ≡ run (instance_statement arguments.now (statement_of s.now)) state.old) }
     ensures back { LeadBack notes.old.items state.old notes.new.items state.new }
@@ -135,6 +160,13 @@ fn perform(
         Stmt::Set(x, e) => match value(arguments, e, state) {
             Ok(v) => {
                 write(state, notes, *x, v)?;
+                Ok(Flow::Done)
+            }
+            Err(f) => Ok(Flow::Threw(f)),
+        },
+        Stmt::Put(table, a, b) => match target(arguments, *table, a, b, state) {
+            Ok((x, v)) => {
+                write(state, notes, x, v)?;
                 Ok(Flow::Done)
             }
             Err(f) => Ok(Flow::Threw(f)),
@@ -171,7 +203,9 @@ fn perform_all(
     state: &mut [i64],
     notes: &mut Vec<Note>,
 ) -> Result<Flow, AllocError>
-    requires { StatementsKnown (length state.old) (instance_statements arguments.now (statements_of_list parts.now)) }
+    requires known { StatementsKnown (length state.old)
+        (instance_statements arguments.now (statements_of_list parts.now)) }
+    requires valued { length state.old ≤ 2 ^ 32 }
     ensures ends { IfOk result (λ flow. ending_of flow state.new
         ≡ run_all (instance_statements arguments.now (statements_of_list parts.now)) state.old) }
     ensures back { LeadBack notes.old.items state.old notes.new.items state.new }
@@ -194,7 +228,8 @@ fn repeat(
     state: &mut [i64],
     notes: &mut Vec<Note>,
 ) -> Result<Flow, AllocError>
-    requires { StatementKnown (length state.old) (instance_statement arguments.now (statement_of s.now)) }
+    requires known { StatementKnown (length state.old) (instance_statement arguments.now (statement_of s.now)) }
+    requires valued { length state.old ≤ 2 ^ 32 }
     ensures ends { IfOk result (λ flow. ending_of flow state.new
         ≡ repeated n (run (instance_statement arguments.now (statement_of s.now))) state.old) }
     ensures back { LeadBack notes.old.items state.old notes.new.items state.new }
@@ -255,6 +290,7 @@ pub fn execute_noting(
     requires known { ProgramKnown (length state.old)
         (instance arguments.now (under (conditions_of always.now) (transaction_of t.now))) }
     requires numbered { length always.now ≤ 2 ^ 32 }
+    requires valued { length state.old ≤ 2 ^ 32 }
     ensures outcome { IfOk result (λ o. o
         ≡ outcome (instance arguments.now (under (conditions_of always.now) (transaction_of t.now))) state.old) }
     ensures after { OnOk result (state.new
@@ -287,6 +323,7 @@ pub fn execute(
     requires known { ProgramKnown (vec_len state.old)
         (instance arguments.now (under (conditions_of always.now) (transaction_of t.now))) }
     requires numbered { length always.now ≤ 2 ^ 32 }
+    requires valued { vec_len state.old ≤ 2 ^ 32 }
     ensures outcome { IfOk result (λ o. o
         ≡ outcome (instance arguments.now (under (conditions_of always.now) (transaction_of t.now))) state.old.items) }
     ensures after { OnOk result (state.new.items

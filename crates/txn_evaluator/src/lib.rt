@@ -5,6 +5,7 @@
 //! with STM Haskell.
 #![tactic(auto)]
 
+mod cells;
 pub mod evaluate;
 pub mod laws;
 pub mod notes;

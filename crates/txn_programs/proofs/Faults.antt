@@ -1,14 +1,18 @@
 -- Which faults a transaction throws: a condition that it names is one of those that stand.
-use Rattle.std.proofs.Common.{ℕ, zero, suc, ◌+◌, ◌<◌, ◌≤◌, Bool, true, false, if◌then◌else◌, List, [], ◌∷◌, length, Result, Ok, Err, ℤ, pos, negsuc, arith}
+use Rattle.std.proofs.Common.{ℕ, zero, suc, ◌+◌, ◌<◌, ◌≤◌, Bool, true, false, nat_lt, if◌then◌else◌, List, [], ◌∷◌, length, Result, Ok, Err, ℤ, pos, negsuc, arith}
 use Rattle.std.proofs.lemmas.List.{length-map}
 use Rattle.std.specs.Prelude.{◌+ℤ◌, ◌-ℤ◌, ◌*ℤ◌}
 use Rattle.std.specs.Int.RustNames.{int_div, int_rem}
 use Rattle.txn_programs.specs.Arithmetic.{fits, fitted, sum_of, difference_of, product_of, quotient_of, remainder_of}
 use Rattle.txn_programs.specs.declared.ast.Fault.{Fault}
-use Rattle.txn_programs.specs.declared.ast.Fault.TheVariants.{Overflow}
+use Rattle.txn_programs.specs.declared.ast.Fault.TheVariants.{Overflow, Outside}
 use Rattle.txn_programs.specs.declared.ast.TxId.{TxId}
-use Rattle.txn_programs.specs.Tree.{Expression, Int, Var, Param, Add, Sub, Mul, Div, Rem, Condition, Eq, Lt, Le, Not, And, Or, Statement, Skip, Set, Seq, If, Repeat, Retry, OrElse, Throw, Statements, End, More, Program}
-use Rattle.txn_programs.specs.Meaning.{State, value, truth, both, negated, and_then, or_else, Ending, Done, Threw, Retried, then_do, unless_retried, with_number, choose, repeated, run, run_all, broken, demanded, upheld, upheld_result, final, outcome_by, outcome_of, outcome}
+use Rattle.txn_programs.specs.Tree.{Expression, Int, Var, Param, Cell, OfAll, Add, Sub, Mul, Div, Rem, Condition, Eq, Lt, Le, Not, And, Or, Statement, Skip, Set, Put, Seq, If, Repeat, Retry, OrElse, Throw, Statements, End, More, Program}
+use Rattle.txn_programs.specs.declared.ast.Fold.{Fold}
+use Rattle.txn_programs.specs.declared.ast.Fold.TheVariants as fold
+use Rattle.txn_programs.specs.declared.ast.VarId.{VarId}
+use Rattle.txn_programs.specs.Tables.{cell_from, cell_of, beginning, joined}
+use Rattle.txn_programs.specs.Meaning.{State, value_at, then_value, joined_from, with_cell, value, truth, both, negated, and_then, or_else, Ending, Done, Threw, Retried, then_do, unless_retried, with_number, choose, repeated, run, run_all, broken, demanded, upheld, upheld_result, final, outcome_by, outcome_of, outcome}
 use Rattle.txn_programs.specs.Listing.{Listing, program_at}
 use Rattle.txn_programs.specs.LawfulReport.{FaultKnown, OutcomeKnown}
 
@@ -44,10 +48,33 @@ module _ (n : ℕ) where
   both_known f (Ok x) (Err e) h p q = q
   both_known f (Ok x) (Ok y) h p q = h x y
 
+  then_known_value : {A B : Type 0} (r : Result A Fault) (go : A → Result B Fault) → ResultKnown n r → ((v : A) → ResultKnown n (go v)) → ResultKnown n (then_value r go)
+  then_known_value (Ok v) go p h = h v
+  then_known_value (Err f) go p h = p
+
+  cell_known : (first count : ℕ) (i : ℤ) → ResultKnown {A = VarId} n (cell_from first count i)
+  cell_known first count (pos i) = at (nat_lt i count)
+    where
+      at : (b : Bool) → ResultKnown {A = VarId} n (if b then Ok (record { 0 = first + i }) else Err Outside)
+      at true = tt
+      at false = tt
+  cell_known first count (negsuc i) = tt
+
+  join_known : (f : Fold) (x y : ℤ) → ResultKnown n (joined f x y)
+  join_known fold.Sum x y = fitted_known (x +ℤ y) (x +ℤ y)
+  join_known fold.Min x y = tt
+  join_known fold.Max x y = tt
+
+  joined_known : (f : Fold) (m : State) (k x : ℕ) (v : ℤ) → ResultKnown n (joined_from (joined f) (λ y. Ok (value_at m y)) k x v)
+  joined_known f m zero x v = tt
+  joined_known f m (suc k) x v = then_known_value (joined f v (value_at m (record { 0 = x }))) _ (join_known f v (value_at m (record { 0 = x }))) (λ u. joined_known f m k (suc x) u)
+
   value_known : (e : Expression) (m : State) → ResultKnown n (value e m)
   value_known (Int v) m = tt
   value_known (Var x) m = tt
   value_known (Param p) m = tt
+  value_known (Cell t a) m = then_known_value (value a m) _ (value_known a m) (λ i. then_known_value (cell_of t i) _ (cell_known t.first t.length i) (λ x. tt))
+  value_known (OfAll f t) m = joined_known f m t.length t.first (beginning f)
   value_known (Add a b) m = both_known sum_of (value a m) (value b m) (λ x y. fitted_known (x +ℤ y) (x +ℤ y)) (value_known a m) (value_known b m)
   value_known (Sub a b) m = both_known difference_of (value a m) (value b m) (λ x y. fitted_known (x -ℤ y) (x -ℤ y)) (value_known a m) (value_known b m)
   value_known (Mul a b) m = both_known product_of (value a m) (value b m) (λ x y. fitted_known (x *ℤ y) (x *ℤ y)) (value_known a m) (value_known b m)
@@ -80,6 +107,10 @@ module _ (n : ℕ) where
   number_known (Ok v) go p h = h v
   number_known (Err f) go p h = p
 
+  in_cell_known : (r : Result VarId Fault) (go : VarId → Ending State Fault) → ResultKnown n r → ((x : VarId) → EndingKnown n (go x)) → EndingKnown n (with_cell r go)
+  in_cell_known (Ok x) go p h = h x
+  in_cell_known (Err f) go p h = p
+
   choose_known : (r : Result Bool Fault) (a b : Ending State Fault) → ResultKnown n r → EndingKnown n a → EndingKnown n b → EndingKnown n (choose r a b)
   choose_known (Ok true) a b p q r = q
   choose_known (Ok false) a b p q r = r
@@ -103,6 +134,8 @@ module _ (n : ℕ) where
     run_known : (s : Statement) (m : State) → EndingKnown n (run s m)
     run_known Skip m = tt
     run_known (Set x e) m = number_known (value e m) _ (value_known e m) (λ v. tt)
+    run_known (Put t a b) m =
+        number_known (value a m) _ (value_known a m) (λ i. number_known (value b m) _ (value_known b m) (λ v. in_cell_known (cell_of t i) _ (cell_known t.first t.length i) (λ x. tt)))
     run_known (Seq parts) m = run_all_known parts m
     run_known (If c a b) m = choose_known (truth c m) (run a m) (run b m) (truth_known c m) (run_known a m) (run_known b m)
     run_known (Repeat k s) m = repeated_known k (run s) m (run_known s)

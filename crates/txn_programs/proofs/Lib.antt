@@ -1,5 +1,6 @@
 pub mod Rows
 pub mod Lawful
+pub mod Untabled
 pub mod Standing
 pub mod Faults
 pub mod Instances

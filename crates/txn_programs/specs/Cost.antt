@@ -1,11 +1,13 @@
 -- How many nodes a run enters at most.
 use Rattle.std.specs.Prelude.{ℕ, ◌+◌, ◌*◌, List, [], ◌∷◌}
-use Rattle.txn_programs.specs.Tree.{Expression, Int, Var, Param, Add, Sub, Mul, Div, Rem, Condition, Eq, Lt, Le, Not, And, Or, Statement, Skip, Set, Seq, If, Repeat, Retry, OrElse, Throw, Statements, End, More, Program}
+use Rattle.txn_programs.specs.Tree.{Expression, Int, Var, Param, Cell, OfAll, Add, Sub, Mul, Div, Rem, Condition, Eq, Lt, Le, Not, And, Or, Statement, Skip, Set, Put, Seq, If, Repeat, Retry, OrElse, Throw, Statements, End, More, Program}
 
 abbrev pub expression_cost : Expression → ℕ
 expression_cost (Int n) = 1
 expression_cost (Var x) = 1
 expression_cost (Param p) = 1
+expression_cost (Cell t a) = 1 + expression_cost a
+expression_cost (OfAll f t) = 1 + t.length
 expression_cost (Add a b) = 1 + expression_cost a + expression_cost b
 expression_cost (Sub a b) = 1 + expression_cost a + expression_cost b
 expression_cost (Mul a b) = 1 + expression_cost a + expression_cost b
@@ -24,6 +26,7 @@ abbrev mutual
   pub statement_cost : Statement → ℕ
   statement_cost Skip = 1
   statement_cost (Set x e) = 1 + expression_cost e
+  statement_cost (Put t a b) = 1 + expression_cost a + expression_cost b
   statement_cost (Seq parts) = 1 + statements_cost parts
   statement_cost (If c a b) = 1 + condition_cost c + statement_cost a + statement_cost b
   statement_cost (Repeat n s) = 1 + n * statement_cost s

@@ -1,6 +1,6 @@
 -- A program with its arguments: each parameter is replaced by its argument, as a number. The standing conditions have no parameters.
 use Rattle.std.specs.Prelude.{ℤ, pos, List, slice_index_or}
-use Rattle.txn_programs.specs.Tree.{Expression, Int, Var, Param, Add, Sub, Mul, Div, Rem, Condition, Eq, Lt, Le, Not, And, Or, Statement, Skip, Set, Seq, If, Repeat, Retry, OrElse, Throw, Statements, End, More, Program}
+use Rattle.txn_programs.specs.Tree.{Expression, Int, Var, Param, Cell, OfAll, Add, Sub, Mul, Div, Rem, Condition, Eq, Lt, Le, Not, And, Or, Statement, Skip, Set, Put, Seq, If, Repeat, Retry, OrElse, Throw, Statements, End, More, Program}
 use Rattle.txn_programs.specs.declared.ast.ParamId.{ParamId}
 use Rattle.txn_programs.specs.declared.code.Op.{Op}
 use Rattle.txn_programs.specs.declared.code.Op.TheVariants as op
@@ -13,6 +13,8 @@ abbrev pub instance_expression : List ℤ → Expression → Expression
 instance_expression given (Int v) = Int v
 instance_expression given (Var x) = Var x
 instance_expression given (Param p) = Int (argument given p)
+instance_expression given (Cell t a) = Cell t (instance_expression given a)
+instance_expression given (OfAll f t) = OfAll f t
 instance_expression given (Add a b) = Add (instance_expression given a) (instance_expression given b)
 instance_expression given (Sub a b) = Sub (instance_expression given a) (instance_expression given b)
 instance_expression given (Mul a b) = Mul (instance_expression given a) (instance_expression given b)
@@ -31,6 +33,7 @@ abbrev mutual
   pub instance_statement : List ℤ → Statement → Statement
   instance_statement given Skip = Skip
   instance_statement given (Set x e) = Set x (instance_expression given e)
+  instance_statement given (Put t a b) = Put t (instance_expression given a) (instance_expression given b)
   instance_statement given (Seq parts) = Seq (instance_statements given parts)
   instance_statement given (If c a b) = If (instance_condition given c) (instance_statement given a) (instance_statement given b)
   instance_statement given (Repeat n s) = Repeat n (instance_statement given s)

@@ -4,7 +4,7 @@ use Rattle.txn_programs.specs.declared.ast.TxId.{TxId}
 use Rattle.txn_programs.specs.declared.ast.TaskId.{TaskId}
 use Rattle.txn_programs.specs.declared.report.Entry.{Entry}
 use Rattle.txn_programs.specs.declared.ast.Fault.{Fault}
-use Rattle.txn_programs.specs.declared.ast.Fault.TheVariants.{User, Overflow, DivideByZero, Broken}
+use Rattle.txn_programs.specs.declared.ast.Fault.TheVariants.{User, Overflow, DivideByZero, Broken, Outside}
 use Rattle.txn_programs.specs.declared.ast.Outcome.{Outcome}
 use Rattle.txn_programs.specs.declared.ast.Outcome.TheVariants.{Returned, Thrown, Retries}
 use Rattle.txn_programs.specs.Limits.{most_tasks}
@@ -32,6 +32,7 @@ FaultKnown n (User v) = Unit {0}
 FaultKnown n Overflow = Unit {0}
 FaultKnown n DivideByZero = Unit {0}
 FaultKnown n (Broken id) = id.0 < n
+FaultKnown n Outside = Unit {0}
 
 abbrev pub OutcomeKnown : ℕ → Outcome → Type 0
 OutcomeKnown n (Returned v) = Unit {0}

@@ -1,5 +1,6 @@
 pub mod Arithmetic
 pub mod Tree
+pub mod Tables
 pub mod Meaning
 pub mod Cost
 pub mod Depth

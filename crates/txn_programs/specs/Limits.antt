@@ -1,13 +1,25 @@
 -- The limits, and when a listing keeps them.
-use Rattle.std.specs.Prelude.{ℕ, ◌+◌, max, min, ◌≤◌, Bool, ◌&&◌, nat_le, List, length, sum_by}
+use Rattle.std.specs.Prelude.{ℕ, ◌+◌, max, min, ◌≤◌, Bool, ◌&&◌, nat_lt, nat_le, List, length, sum_by}
 use Rattle.std.specs.List.{list_all}
-use Rattle.txn_programs.specs.Tree.{Condition, Statement, Skip, Set, Seq, If, Repeat, Retry, OrElse, Throw, Statements, End, More, Transaction, Program, under}
+use Rattle.txn_programs.specs.Tree.{Condition, Statement, Skip, Set, Put, Seq, If, Repeat, Retry, OrElse, Throw, Statements, End, More, Transaction, Program, under}
 use Rattle.txn_programs.specs.Cost.{conditions_cost, cost}
 use Rattle.txn_programs.specs.Depth.{expression_depth, condition_depth, statement_depth, statements_depth}
-use Rattle.txn_programs.specs.Listing.{Listing, conditions, always_names}
+use Rattle.txn_programs.specs.Listing.{Listing, cells, conditions, always_names}
 
 abbrev pub most_variables : ℕ
 most_variables = 256
+
+-- no text has tables yet, so no listing does
+abbrev pub most_tables : ℕ
+most_tables = 0
+
+-- of all tables
+abbrev pub most_cells : ℕ
+most_cells = 1048576
+
+-- of a state: the variables, and the cells of all tables behind them
+abbrev pub most_values : ℕ
+most_values = 1048832
 
 abbrev pub most_transactions : ℕ
 most_transactions = 256
@@ -42,6 +54,7 @@ abbrev mutual
   pub largest_repeat : Statement → ℕ
   largest_repeat Skip = 0
   largest_repeat (Set x e) = 0
+  largest_repeat (Put t a b) = 0
   largest_repeat (Seq parts) = largest_repeat_of_all parts
   largest_repeat (If c a b) = max (largest_repeat a) (largest_repeat b)
   largest_repeat (Repeat n s) = max n (largest_repeat s)
@@ -71,14 +84,22 @@ is_short name = nat_le (length name) longest_name
 abbrev pub names_fit : Transaction → Bool
 names_fit t = is_short t.name && (nat_le (length t.parameters) most_parameters && list_all is_short t.parameters)
 
+-- a table's name is no longer than the limit, and it has a cell
+abbrev pub table_fits : List ℕ × ℕ → Bool
+table_fits t = is_short t.0 && nat_lt 0 t.1
+
+-- there are not too many tables, nor cells in all of them
+abbrev pub tables_fit : Listing → Bool
+tables_fit l = nat_le (length l.tables) most_tables && (list_all table_fits l.tables && nat_le (cells l) most_cells)
+
 unfoldable pub limits_hold : Listing → Bool
 limits_hold l =
-    nat_le (length l.names) most_variables && (list_all is_short l.names
+    nat_le (length l.names) most_variables && (list_all is_short l.names && (tables_fit l
     && (nat_le (length l.always) most_conditions && (list_all is_short (always_names l)
     && (conditions_fit (conditions l)
     && (nat_le (length l.transactions) most_transactions && (list_all names_fit l.transactions
     && (list_all (λ t. program_fits (under (conditions l) t)) l.transactions
-    && (list_all (λ run. nat_le run.1 most_tasks) l.runs && nat_le (sum_by (λ run. run.1) l.runs) most_tasks))))))))
+    && (list_all (λ run. nat_le run.1 most_tasks) l.runs && nat_le (sum_by (λ run. run.1) l.runs) most_tasks)))))))))
 
 -- a cost as far as it is counted: what is over the limit is one over
 abbrev pub capped : ℕ → ℕ

@@ -1,5 +1,5 @@
--- What a catalogue lists: variables, transactions and runs, in declared order.
-use Rattle.std.specs.Prelude.{◌≡◌, ℕ, ◌<◌, ℤ, List, [], map, length, flat_map, replicate, slice_index_or, string_bytes, bytes_eq, position, pos, Option, Some, None}
+-- What a catalogue lists: variables, tables, transactions and runs, in declared order.
+use Rattle.std.specs.Prelude.{◌≡◌, ℕ, ◌+◌, ◌<◌, ℤ, List, [], ◌∷◌, ◌++◌, map, sum_by, length, flat_map, replicate, slice_index_or, string_bytes, bytes_eq, position, pos, Option, Some, None}
 use Rattle.std.specs.declared.alloc.Global.{Global}
 use Rattle.std.specs.declared.string.String.{String}
 use Rattle.txn_programs.specs.declared.ast.VarId.{VarId}
@@ -9,12 +9,19 @@ use Rattle.txn_programs.specs.declared.ast.TaskId.{TaskId}
 use Rattle.txn_programs.specs.declared.ast.Tx.{Tx}
 use Rattle.txn_programs.specs.declared.ast.Cond.{Cond}
 use Rattle.txn_programs.specs.declared.ast.AlwaysId.{AlwaysId}
+use Rattle.txn_programs.specs.declared.ast.Span.{Span}
+use Rattle.txn_programs.specs.declared.ast.Cells.{Cells}
+use Rattle.txn_programs.specs.declared.ast.Cells.TheVariants.{Same, Each}
+use Rattle.txn_programs.specs.declared.ast.Table.{Table}
 use Rattle.txn_programs.specs.Tree.{Condition, condition_of, Transaction, transaction_of, Program, under, Skip, Int}
 use Rattle.txn_programs.specs.Instance.{instance}
 
 pub record Listing : Type 0 where
-  -- the variables' names, and beside them their initial values
+  -- the variables' names
   pub names : List (List ℕ)
+  -- the tables, each with its name and how many cells it has
+  pub tables : List (List ℕ × ℕ)
+  -- the initial values of the variables, and behind them those of the cells, table after table
   pub initial : List ℤ
   -- the standing conditions, each with its name
   pub always : List (List ℕ × Condition)
@@ -22,16 +29,45 @@ pub record Listing : Type 0 where
   -- a call, and how many tasks make it
   pub runs : List (Call × ℕ)
 
+-- the numbers that cells are at first
+abbrev pub values_of : Cells → List ℤ
+values_of (Same n v) = replicate n v
+values_of (Each vs) = vs.items
+
+abbrev pub table_of : Table → List ℕ × ℕ
+table_of t = (string_bytes t.name, length (values_of t.cells))
+
 -- the listing of what `build` is given
-abbrev pub listing_of : List (String Global × ℤ) → List (String Global × Cond) → List Tx → List (Call × ℕ) → Listing
-listing_of vars always txs runs =
+abbrev pub listing_of : List (String Global × ℤ) → List Table → List (String Global × Cond) → List Tx → List (Call × ℕ) → Listing
+listing_of vars tables always txs runs =
     record {
       names = map (λ v. string_bytes v.0) vars;
-      initial = map (λ v. v.1) vars;
+      tables = map table_of tables;
+      initial = map (λ v. v.1) vars ++ flat_map (λ (t : Table). values_of t.cells) tables;
       always = map (λ a. (string_bytes a.0, condition_of a.1)) always;
       transactions = map transaction_of txs;
       runs = runs;
     }
+
+abbrev pub table_names : Listing → List (List ℕ)
+table_names l = map (λ t. t.0) l.tables
+
+-- how many cells there are in all tables
+abbrev pub cells : Listing → ℕ
+cells l = sum_by (λ t. t.1) l.tables
+
+-- how many values a state has: one for each variable, and one for each cell
+abbrev pub values : Listing → ℕ
+values l = length l.names + cells l
+
+-- the cells of each table, where those of the first begin with this variable: a table's come behind those of the one
+-- before it
+abbrev pub spans_from : ℕ → List (List ℕ × ℕ) → List Span
+spans_from first [] = []
+spans_from first (t ∷ ts) = record { first = first; length = t.1 } ∷ spans_from (first + t.1) ts
+
+abbrev pub spans : Listing → List Span
+spans l = spans_from (length l.names) l.tables
 
 -- the standing conditions, and beside them their names
 abbrev pub conditions : Listing → List Condition
@@ -96,6 +132,10 @@ as_transaction (Some place) = Some (record { 0 = place })
 -- the variable of a name
 abbrev pub variable_named : Listing → List ℕ → Option VarId
 variable_named l name = as_variable (position (bytes_eq name) l.names)
+
+-- the place among the tables of that of a name
+abbrev pub table_named : Listing → List ℕ → Option ℕ
+table_named l name = position (bytes_eq name) (table_names l)
 
 -- the transaction of a name
 abbrev pub transaction_named : Listing → List ℕ → Option TxId

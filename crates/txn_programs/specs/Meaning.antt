@@ -1,4 +1,4 @@
--- What a transaction does in one step, from a state: one value for each variable.
+-- What a transaction does in one step, from a state: one value for each variable, a cell of a table being one.
 use Rattle.std.specs.Prelude.{ℕ, zero, suc, ◌+◌, Bool, true, false, not, List, [], ◌∷◌, Result, Ok, Err, slice_index_or, slice_set, ℤ, pos}
 use Rattle.std.specs.Int.RustNames.{int_lt, int_le}
 use Rattle.std.specs.Ordering.{int_eq}
@@ -8,7 +8,8 @@ use Rattle.txn_programs.specs.declared.ast.Fault.TheVariants.{User, Broken}
 use Rattle.txn_programs.specs.declared.ast.Outcome.{Outcome}
 use Rattle.txn_programs.specs.declared.ast.Outcome.TheVariants.{Returned, Thrown, Retries}
 use Rattle.txn_programs.specs.declared.ast.VarId.{VarId}
-use Rattle.txn_programs.specs.Tree.{Expression, Int, Var, Param, Add, Sub, Mul, Div, Rem, Condition, Eq, Lt, Le, Not, And, Or, Statement, Skip, Set, Seq, If, Repeat, Retry, OrElse, Throw, Statements, End, More, Program}
+use Rattle.txn_programs.specs.Tables.{cell_of, beginning, joined}
+use Rattle.txn_programs.specs.Tree.{Expression, Int, Var, Param, Cell, OfAll, Add, Sub, Mul, Div, Rem, Condition, Eq, Lt, Le, Not, And, Or, Statement, Skip, Set, Put, Seq, If, Repeat, Retry, OrElse, Throw, Statements, End, More, Program}
 
 abbrev pub State : Type 0
 State = List ℤ
@@ -27,12 +28,24 @@ both f (Err e) b = Err e
 both f (Ok x) (Err e) = Err e
 both f (Ok x) (Ok y) = f x y
 
+-- goes on with what is there
+abbrev pub then_value : {A B E : Type 0} → Result A E → (A → Result B E) → Result B E
+then_value (Ok v) go = go v
+then_value (Err e) go = Err e
+
+-- n variables from number x on, joined to v one after another
+abbrev pub joined_from : {E : Type 0} → (ℤ → ℤ → Result ℤ E) → (VarId → Result ℤ E) → ℕ → ℕ → ℤ → Result ℤ E
+joined_from join read zero x v = Ok v
+joined_from join read (suc n) x v = then_value (read (record { 0 = x })) (λ u. then_value (join v u) (joined_from join read n (suc x)))
+
 -- the value of an expression
 abbrev pub value : Expression → State → Result ℤ Fault
 value (Int n) m = Ok n
 value (Var x) m = Ok (value_at m x)
 -- where a program is run its parameters have been replaced by their arguments
 value (Param p) m = Ok (pos 0)
+value (Cell t a) m = then_value (value a m) (λ i. then_value (cell_of t i) (λ x. Ok (value_at m x)))
+value (OfAll f t) m = joined_from (joined f) (λ x. Ok (value_at m x)) t.length t.first (beginning f)
 value (Add a b) m = both sum_of (value a m) (value b m)
 value (Sub a b) m = both difference_of (value a m) (value b m)
 value (Mul a b) m = both product_of (value a m) (value b m)
@@ -86,6 +99,11 @@ abbrev pub with_number : {S E : Type 0} → Result ℤ E → (ℤ → Ending S E
 with_number (Ok v) go = go v
 with_number (Err f) go = Threw f
 
+-- goes on with a variable
+abbrev pub with_cell : {S E : Type 0} → Result VarId E → (VarId → Ending S E) → Ending S E
+with_cell (Ok x) go = go x
+with_cell (Err f) go = Threw f
+
 -- the chosen part
 abbrev pub choose : {S E : Type 0} → Result Bool E → Ending S E → Ending S E → Ending S E
 choose (Ok true) a b = a
@@ -102,6 +120,7 @@ abbrev mutual
   pub run : Statement → State → Ending State Fault
   run Skip m = Done m
   run (Set x e) m = with_number (value e m) (λ v. Done (with_value m x v))
+  run (Put t a b) m = with_number (value a m) (λ i. with_number (value b m) (λ v. with_cell (cell_of t i) (λ x. Done (with_value m x v))))
   run (Seq parts) m = run_all parts m
   run (If c a b) m = choose (truth c m) (run a m) (run b m)
   run (Repeat n s) m = repeated n (run s) m

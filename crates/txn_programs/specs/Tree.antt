@@ -2,6 +2,9 @@
 use Rattle.std.specs.Prelude.{map, ℕ, ℤ, List, [], ◌∷◌, string_bytes}
 use Rattle.txn_programs.specs.declared.ast.VarId.{VarId}
 use Rattle.txn_programs.specs.declared.ast.ParamId.{ParamId}
+use Rattle.txn_programs.specs.declared.ast.Span.{Span}
+use Rattle.txn_programs.specs.declared.ast.Fold.{Fold}
+use Rattle.txn_programs.specs.declared.ast.Fold.TheVariants as fold
 use Rattle.txn_programs.specs.declared.ast.Expr.{Expr}
 use Rattle.txn_programs.specs.declared.ast.Expr.TheVariants as e
 use Rattle.txn_programs.specs.declared.ast.Cond.{Cond}
@@ -10,11 +13,13 @@ use Rattle.txn_programs.specs.declared.ast.Stmt.{Stmt, Row_of-Stmt, end_of-Stmt,
 use Rattle.txn_programs.specs.declared.ast.Stmt.TheVariants as s
 use Rattle.txn_programs.specs.declared.ast.Tx.{Tx}
 
--- a number, a variable, a parameter, or an operator on two operands
+-- a number, a variable, a parameter, a cell of a table by its number, all cells of a table, or an operator on two operands
 pub data Expression : Type 0 where
   Int : (n : ℤ) → Expression
   Var : (x : VarId) → Expression
   Param : (p : ParamId) → Expression
+  Cell : (t : Span) (a : Expression) → Expression
+  OfAll : (f : Fold) (t : Span) → Expression
   Add : (a b : Expression) → Expression
   Sub : (a b : Expression) → Expression
   Mul : (a b : Expression) → Expression
@@ -35,6 +40,7 @@ mutual
   pub data Statement : Type 0 where
     Skip : Statement
     Set : (x : VarId) (a : Expression) → Statement
+    Put : (t : Span) (a b : Expression) → Statement
     Seq : (parts : Statements) → Statement
     If : (t : Condition) (p q : Statement) → Statement
     Repeat : (n : ℕ) (p : Statement) → Statement
@@ -51,6 +57,10 @@ abbrev pub expression_of : Expr → Expression
 expression_of (e.Int n) = Int n
 expression_of (e.Var x) = Var x
 expression_of (e.Param p) = Param p
+expression_of (e.At' t p a) = Cell t (expression_of a)
+expression_of (e.Sum t) = OfAll fold.Sum t
+expression_of (e.Min t) = OfAll fold.Min t
+expression_of (e.Max t) = OfAll fold.Max t
 expression_of (e.Add' p a q b) = Add (expression_of a) (expression_of b)
 expression_of (e.Sub' p a q b) = Sub (expression_of a) (expression_of b)
 expression_of (e.Mul' p a q b) = Mul (expression_of a) (expression_of b)
@@ -69,6 +79,7 @@ abbrev mutual
   pub statement_of : Stmt → Statement
   statement_of s.Skip = Skip
   statement_of (s.Set x a) = Set x (expression_of a)
+  statement_of (s.Put t a b) = Put t (expression_of a) (expression_of b)
   statement_of (s.Seq' shape parts) = Seq (statements_of parts)
   statement_of (s.If' t p a q b) = If (condition_of t) (statement_of a) (statement_of b)
   statement_of (s.Repeat' n p a) = Repeat n (statement_of a)

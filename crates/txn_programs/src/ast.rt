@@ -1,5 +1,8 @@
 //! The language of transactions.
 
+ghost use Rattle.std.specs.Prelude.{◌≡◌, ◌<◌, ◌^◌, length};
+ghost use Rattle.txn_programs.specs.Listing.{values_of};
+
 /// A variable, by its place in declared order, from 0.
 #[derive(Clone, Copy, Debug, Default, PartialEq, Eq, PartialOrd, Ord)]
 pub struct VarId(pub u32);
@@ -20,6 +23,23 @@ pub struct AlwaysId(pub u32);
 #[derive(Clone, Copy, Debug, Default, PartialEq, Eq, PartialOrd, Ord)]
 pub struct ParamId(pub u32);
 
+/// The cells of a table, which are variables behind the declared ones.
+#[derive(Clone, Copy, Debug, PartialEq, Eq)]
+pub struct Span {
+    /// The number of the first cell as a variable.
+    pub first: u32,
+    /// How many cells there are.
+    pub length: u32,
+}
+
+/// What all cells of a table make together.
+#[derive(Clone, Copy, Debug, PartialEq, Eq)]
+pub enum Fold {
+    Sum,
+    Min,
+    Max,
+}
+
 /// An expression: a signed 64-bit number, or a fault.
 #[derive(Debug, PartialEq, Eq, Drop)]
 pub enum Expr {
@@ -27,6 +47,14 @@ pub enum Expr {
     Var(VarId),
     /// The argument of a parameter.
     Param(ParamId),
+    /// The cell with this number, from 0.
+    At(Span, Box<Expr>),
+    /// The sum of all cells.
+    Sum(Span),
+    /// The least of all cells.
+    Min(Span),
+    /// The greatest of all cells.
+    Max(Span),
     Add(Box<Expr>, Box<Expr>),
     Sub(Box<Expr>, Box<Expr>),
     Mul(Box<Expr>, Box<Expr>),
@@ -45,11 +73,42 @@ pub enum Cond {
     Or(Box<Cond>, Box<Cond>),
 }
 
+/// What the cells of a table are at first.
+#[derive(Debug, PartialEq, Eq, Drop)]
+pub enum Cells {
+    /// So many cells, each of which is this number.
+    Same(u32, i64),
+    /// A cell for each of these numbers.
+    Each(Vec<i64>),
+}
+
+impl Cells {
+    /// How many cells there are.
+    pub fn count(&self) -> usize
+        ensures value { result ≡ length (values_of self.now) }
+        ensures below { result < 2 ^ 63 }
+    {
+        match self {
+            Cells::Same(count, _) => *count as usize,
+            Cells::Each(numbers) => numbers.len(),
+        }
+    }
+}
+
+/// A table: its name, and its cells.
+#[derive(Debug, PartialEq, Eq, Drop)]
+pub struct Table {
+    pub name: String,
+    pub cells: Cells,
+}
+
 /// A statement.
 #[derive(Debug, PartialEq, Eq, Drop)]
 pub enum Stmt {
     Skip,
     Set(VarId, Expr),
+    /// The cell with the first number becomes the second one.
+    Put(Span, Expr, Expr),
     Seq(Vec<Stmt>),
     If(Cond, Box<Stmt>, Box<Stmt>),
     Repeat(u32, Box<Stmt>),
@@ -78,6 +137,8 @@ pub enum Fault {
     DivideByZero,
     /// A standing condition that would not be true of what it leaves.
     Broken(AlwaysId),
+    /// A number that is none of a table's cells.
+    Outside,
 }
 
 /// How a transaction ends.

@@ -16,7 +16,10 @@ pub mod names;
 pub mod report;
 
 pub use arguments::{Arguments, Call};
-pub use ast::{AlwaysId, Cond, Expr, Fault, Outcome, ParamId, Stmt, TaskId, Tx, TxId, VarId};
+pub use ast::{
+    AlwaysId, Cells, Cond, Expr, Fault, Fold, Outcome, ParamId, Span, Stmt, Table, TaskId, Tx,
+    TxId, VarId,
+};
 pub use code::Op;
 pub use memory::Memory;
 pub use moves::Move;

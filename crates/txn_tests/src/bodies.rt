@@ -2,7 +2,16 @@
 
 use crate::parts::X;
 use std::alloc::{AllocError, Global};
-use txn::{Cond, Expr, ParamId, Stmt, VarId};
+use txn::{Cond, Expr, ParamId, Span, Stmt, VarId};
+
+/// What is read of a table.
+#[derive(Clone, Copy)]
+pub(crate) enum Read {
+    First,
+    Sum,
+    Min,
+    Max,
+}
 
 /// What a transaction does.
 #[derive(Clone, Copy)]
@@ -18,6 +27,10 @@ pub(crate) enum Body {
     Never(u32),
     /// Sequences of one statement, so deep.
     Deep(u8),
+    /// Throws what it reads of the table.
+    Throws(Read, Span),
+    /// Puts 7 into the first cell of the table.
+    Puts(Span),
 }
 
 /// What has to hold of x, which is 5 at first.
@@ -37,6 +50,8 @@ pub(crate) enum Holds {
     Tree(u8),
     /// That this is not so. It costs one more.
     Denied(u8),
+    /// That what is read of the table is 0.
+    Reads(Read, Span),
 }
 
 fn repeat(alloc: Global, count: u32, body: Stmt) -> Result<Stmt, AllocError> {
@@ -70,6 +85,15 @@ fn deep(alloc: Global, depth: u8) -> Result<Stmt, AllocError> {
     Ok(body)
 }
 
+fn read_of(alloc: Global, what: Read, table: Span) -> Result<Expr, AllocError> {
+    match what {
+        Read::First => Ok(Expr::At(table, Box::new(alloc, Expr::Int(0))?)),
+        Read::Sum => Ok(Expr::Sum(table)),
+        Read::Min => Ok(Expr::Min(table)),
+        Read::Max => Ok(Expr::Max(table)),
+    }
+}
+
 /// The statement.
 pub(crate) fn statement(alloc: Global, body: Body) -> Result<Stmt, AllocError> {
     match body {
@@ -79,6 +103,8 @@ pub(crate) fn statement(alloc: Global, body: Body) -> Result<Stmt, AllocError> {
         Body::Huge(count) => repeat(alloc, count, huge(alloc, 29)?),
         Body::Never(count) => repeat(alloc, 0, repeat(alloc, count, Stmt::Skip)?),
         Body::Deep(depth) => deep(alloc, depth),
+        Body::Throws(what, table) => Ok(Stmt::Throw(read_of(alloc, what, table)?)),
+        Body::Puts(table) => Ok(Stmt::Put(table, Expr::Int(0), Expr::Int(7))),
     }
 }
 
@@ -136,5 +162,6 @@ pub(crate) fn condition(alloc: Global, holds: Holds) -> Result<Cond, AllocError>
         Holds::Deep(depth) => denials(alloc, depth),
         Holds::Tree(height) => tree(alloc, height),
         Holds::Denied(height) => denied(alloc, tree(alloc, height)?),
+        Holds::Reads(what, table) => Ok(Cond::Eq(read_of(alloc, what, table)?, Expr::Int(0))),
     }
 }

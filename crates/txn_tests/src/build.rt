@@ -4,7 +4,7 @@ use crate::bodies::{Body, Holds, condition, statement};
 use crate::parts::call;
 use std::alloc::{AllocError, Global};
 use std::process::Abort;
-use txn::{BuildFault, Call, Catalogue, Cond, Expr, ParamId, Stmt, Tx, TxId};
+use txn::{BuildFault, Call, Catalogue, Cells, Cond, Expr, ParamId, Stmt, Table, Tx, TxId};
 
 /// What a catalogue is built of. Where nothing else is said it has one transaction `t`, which skips,
 /// and one run of it.
@@ -31,6 +31,10 @@ pub(crate) enum Of {
     ManyAlways(u32),
     /// x and these conditions, and no transaction.
     AlwaysAlone(&'static [(&'static str, Holds)]),
+    /// x, tables of these names and so many cells, each of which is 0, and a transaction of this body.
+    Tables(&'static [(&'static str, u32)], Body),
+    /// x, tables, and a condition `a` over them.
+    TablesUnder(&'static [(&'static str, u32)], Holds),
 }
 
 /// How a catalogue is refused, if it is.
@@ -56,10 +60,31 @@ fn vars_of(alloc: Global, of: Of) -> Result<Vec<(String, i64)>, AllocError> {
     match of {
         Of::Vars(vars) => named(alloc, vars),
         Of::ManyVars(count) => many_vars(alloc, count),
-        Of::Always(_, _) | Of::ManyAlways(_) | Of::AlwaysAlone(_) | Of::Params(_, _, _) => {
-            named(alloc, &[("x", 5)])
-        }
+        Of::Always(_, _)
+        | Of::ManyAlways(_)
+        | Of::AlwaysAlone(_)
+        | Of::Params(_, _, _)
+        | Of::Tables(_, _)
+        | Of::TablesUnder(_, _) => named(alloc, &[("x", 5)]),
         Of::Tx(_) | Of::ManyTxs(_) | Of::Runs(_) | Of::RunOfNone(_) => Ok(Vec::new(alloc)),
+    }
+}
+
+fn tables(alloc: Global, of: &[(&str, u32)]) -> Result<Vec<Table>, AllocError> {
+    let mut all = Vec::new(alloc);
+    for (name, count) in of {
+        all.push(Table {
+            name: String::from_str(alloc, name)?,
+            cells: Cells::Same(*count, 0),
+        })?;
+    }
+    Ok(all)
+}
+
+fn tables_of(alloc: Global, of: Of) -> Result<Vec<Table>, AllocError> {
+    match of {
+        Of::Tables(of, _) | Of::TablesUnder(of, _) => tables(alloc, of),
+        _ => Ok(Vec::new(alloc)),
     }
 }
 
@@ -85,6 +110,7 @@ fn always_of(alloc: Global, of: Of) -> Result<Vec<(String, Cond)>, AllocError> {
     match of {
         Of::Always(always, _) | Of::AlwaysAlone(always) => standing(alloc, always),
         Of::ManyAlways(count) => many_always(alloc, count),
+        Of::TablesUnder(_, holds) => standing(alloc, &[("a", holds)]),
         _ => Ok(Vec::new(alloc)),
     }
 }
@@ -132,13 +158,12 @@ fn many_txs(alloc: Global, count: u32) -> Result<Vec<Tx>, AllocError> {
 
 fn txs_of(alloc: Global, of: Of) -> Result<Vec<Tx>, AllocError> {
     match of {
-        Of::Tx(body) | Of::Always(_, body) => one_tx(alloc, body),
+        Of::Tx(body) | Of::Always(_, body) | Of::Tables(_, body) => one_tx(alloc, body),
         Of::Params(names, place, _) => tx_with(alloc, names, place),
         Of::ManyTxs(count) => many_txs(alloc, count),
         Of::RunOfNone(_) | Of::AlwaysAlone(_) => Ok(Vec::new(alloc)),
-        Of::Vars(_) | Of::ManyVars(_) | Of::Runs(_) | Of::ManyAlways(_) => {
-            one_tx(alloc, Body::Skips)
-        }
+        Of::Vars(_) | Of::ManyVars(_) | Of::Runs(_) | Of::ManyAlways(_) | Of::TablesUnder(_, _) =>
+            one_tx(alloc, Body::Skips),
     }
 }
 
@@ -173,17 +198,19 @@ fn runs_of(alloc: Global, of: Of) -> Result<Vec<(Call, u32)>, AllocError> {
 fn refusal(alloc: Global, of: Of) -> Refusal {
     let runs = runs_of(alloc, of)?;
     let vars = vars_of(alloc, of)?;
+    let tables = tables_of(alloc, of)?;
     let always = always_of(alloc, of)?;
     let txs = txs_of(alloc, of)?;
-    Ok(Catalogue::build(alloc, vars, always, txs, runs).err())
+    Ok(Catalogue::build(alloc, vars, tables, always, txs, runs).err())
 }
 
-/// The same of variables alone, with no id that could be unknown.
+/// The same of variables and tables alone, with no id that could be unknown.
 #[tactic(auto, unfolding(txn::specs::Ids::ids_hold))]
 fn refusal_known(alloc: Global, of: Of) -> Refusal {
     let vars = vars_of(alloc, of)?;
-    let none = Vec::new(alloc);
-    Ok(Catalogue::build_known(alloc, vars, Vec::new(alloc), Vec::new(alloc), none).err())
+    let tables = tables_of(alloc, of)?;
+    let (always, txs, none) = (Vec::new(alloc), Vec::new(alloc), Vec::new(alloc));
+    Ok(Catalogue::build_known(alloc, vars, tables, always, txs, none).err())
 }
 
 /// Each is refused so, where its ids are known.

@@ -3,6 +3,7 @@
 use crate::parts::catalogue;
 use std::alloc::{AllocError, Global};
 use txn::evaluate::{execute, execute_noting, truth, value};
+use txn::limits::MAX_VALUES;
 use txn::{Catalogue, Cond, Expr, Fault, Outcome, ParamId, TxId};
 use txn_evaluator::notes::undo;
 
@@ -14,6 +15,9 @@ fn runs_so(alloc: Global, catalogue: &Catalogue, want: Outcome, left: &[i64]) ->
     let Ok(mut state) = catalogue.initial().to_vec(alloc) else {
         return false;
     };
+    if state.len() > MAX_VALUES {
+        return false;
+    }
     match execute(&[], catalogue.tx(TxId(0)), catalogue.always(), &mut state) {
         Ok(how) => how == want && state.as_slice() == left,
         Err(_) => false,
@@ -97,6 +101,9 @@ fn goes_back(alloc: Global, catalogue: &Catalogue, count: usize) -> bool {
     let Ok(mut state) = catalogue.initial().to_vec(alloc) else {
         return false;
     };
+    if state.len() > MAX_VALUES {
+        return false;
+    }
     let mut notes = Vec::new(alloc);
     let ended = execute_noting(
         &[],

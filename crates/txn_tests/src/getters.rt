@@ -9,8 +9,13 @@ use txn::{AlwaysId, Catalogue, Op, TaskId, TxId, VarId};
 /// Something that a catalogue tells.
 pub(crate) enum Look {
     Initial(&'static [i64]),
+    /// How many variables there are.
+    Vars(usize),
     VarName(VarId, &'static str),
     VarOf(&'static str, Option<VarId>),
+    /// How many tables there are.
+    Tables(usize),
+    TableOf(&'static str, Option<usize>),
     /// How many transactions there are.
     Count(usize),
     TxName(TxId, &'static str),
@@ -38,8 +43,7 @@ pub(crate) enum Look {
 
 /// Whether the variable is called so.
 fn is_var(catalogue: &Catalogue, variable: VarId, name: &str) -> bool {
-    catalogue.rules();
-    (variable.0 as usize) < catalogue.initial().len() && catalogue.var_name(variable) == name
+    (variable.0 as usize) < catalogue.var_count() && catalogue.var_name(variable) == name
 }
 
 /// Whether the transaction is called so.
@@ -96,8 +100,11 @@ fn begins(catalogue: &Catalogue, count: usize, first: Op) -> bool {
 fn tells(catalogue: &Catalogue, look: &Look) -> bool {
     match look {
         Look::Initial(values) => catalogue.initial() == *values,
+        Look::Vars(count) => catalogue.var_count() == *count,
         Look::VarName(variable, name) => is_var(catalogue, *variable, name),
         Look::VarOf(name, variable) => catalogue.var_id(name) == *variable,
+        Look::Tables(count) => catalogue.tables().len() == *count,
+        Look::TableOf(name, place) => catalogue.table_place(name) == *place,
         Look::Count(count) => catalogue.tx_count() == *count,
         Look::TxName(tx, name) => is_tx(catalogue, *tx, name),
         Look::TxOf(name, tx) => catalogue.tx_id(name) == *tx,
@@ -154,10 +161,13 @@ const TEXT: &str =
 
 const VARIABLES: &[Look] = &[
     Look::Initial(&[5, -1]),
+    Look::Vars(2),
     Look::VarOf("y", Some(VarId(1))),
     Look::VarOf("skip", None),
     Look::VarName(VarId(1), "y"),
 ];
+
+const NO_TABLES: &[Look] = &[Look::Tables(0), Look::TableOf("x", None)];
 
 const TRANSACTIONS: &[Look] = &[
     Look::Count(2),
@@ -184,6 +194,7 @@ const CALLS: &[Look] = &[
 #[test]
 fn variables_transactions_and_tasks_are_told(rt: HostRuntime) {
     expect(&rt, rt.alloc(), TEXT, VARIABLES);
+    expect(&rt, rt.alloc(), TEXT, NO_TABLES);
     expect(&rt, rt.alloc(), TEXT, TRANSACTIONS);
     expect(&rt, rt.alloc(), TEXT, TASKS);
     expect(&rt, rt.alloc(), TEXT, CALLS);

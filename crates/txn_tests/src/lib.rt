@@ -22,4 +22,6 @@ mod parts;
 #[cfg(test)]
 mod same;
 #[cfg(test)]
+mod tables;
+#[cfg(test)]
 mod texts;

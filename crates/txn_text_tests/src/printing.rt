@@ -88,9 +88,9 @@ fn entry(task: u32, outcome: Outcome) -> Entry
     }
 }
 
-/// Four entries, one for each way to end, and two tasks that are left.
+/// Five entries, one for each way to end, and two tasks that are left.
 fn report(alloc: Global) -> Result<Report, AllocError>
-    ensures { (l : Listing) → length l.initial ≡ 0 → length l.transactions ≡ 1 → length (tasks l) ≡ 6
+    ensures { (l : Listing) → length l.initial ≡ 0 → length l.transactions ≡ 1 → length (tasks l) ≡ 7
         → IfOk result (λ r. FitsCatalogue l (told r)) }
 {
     Ok(Report {
@@ -101,17 +101,18 @@ fn report(alloc: Global) -> Result<Report, AllocError>
             entry(1, Outcome::Thrown(Fault::User(-7))),
             entry(2, Outcome::Thrown(Fault::Overflow)),
             entry(3, Outcome::Thrown(Fault::DivideByZero)),
+            entry(4, Outcome::Thrown(Fault::Outside)),
         ]?,
-        now: 4,
+        now: 5,
         now_vars: Vec::new(alloc),
-        parked: vec![in alloc; (TaskId(4), TxId(0))]?,
-        memory: vec![in alloc; (TaskId(5), TxId(0))]?,
+        parked: vec![in alloc; (TaskId(5), TxId(0))]?,
+        memory: vec![in alloc; (TaskId(6), TxId(0))]?,
     })
 }
 
-/// Whether the report is printed so for a catalogue of six tasks of one transaction.
+/// Whether the report is printed so for a catalogue of seven tasks of one transaction.
 fn is_report(alloc: Global, catalogue: &Catalogue, lines: &str) -> bool {
-    if catalogue.initial().len() != 0 || catalogue.tx_count() != 1 || catalogue.tasks() != 6 {
+    if catalogue.initial().len() != 0 || catalogue.tx_count() != 1 || catalogue.tasks() != 7 {
         return false;
     }
     let Ok(report) = report(alloc) else {
@@ -127,10 +128,10 @@ fn is_report(alloc: Global, catalogue: &Catalogue, lines: &str) -> bool {
 fn reports_are_printed_line_by_line(rt: HostRuntime) {
     let lines =
         "base 0\nentry 1 0 t returned -9223372036854775808\nentry 2 1 t threw -7\nentry 3 2 t overflow\nentry 4 3 t \
-            zerodiv\nnow 4\nparked 4 t\nmemory 5 t\nend\n";
+            zerodiv\nentry 5 4 t outside\nnow 5\nparked 5 t\nmemory 6 t\nend\n";
     let alloc = rt.alloc();
     assert!(rt;
-        is_file(alloc, "(tx t (skip) 0)(run t 6)", |catalogue| {
+        is_file(alloc, "(tx t (skip) 0)(run t 7)", |catalogue| {
             is_report(alloc, catalogue, lines)
         })
     );

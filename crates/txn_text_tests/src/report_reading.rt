@@ -4,8 +4,8 @@ use crate::parts::{INCREMENTS, is_file, on_file};
 use std::alloc::Global;
 use std::process::Abort;
 use text_line_reader::read_report;
-use txn::{Catalogue, Outcome, Report, TaskId, TxId};
-use txn_text::print_report;
+use txn::{Catalogue, Fault, Outcome, Report, TaskId, TxId};
+use txn_text::{ReadFault, print_report};
 
 /// The report of a run of the two increments.
 pub(crate) const REPORT: &str =
@@ -84,6 +84,48 @@ fn what_is_read_prints_as_the_same_bytes(rt: HostRuntime) {
         "base 65536\nx 0 65536\nentry 0 0 inc zerodiv\nentry 7 1 inc threw -1\nnow 0\nx 0 0\nend\n",
     ] {
         assert!(rt; increments_print_again(rt.alloc(), text), "of {text}");
+    }
+}
+
+/// A report of which an entry ended outside a table.
+const OUTSIDE: &str = "base 0\nentry 1 0 t outside\nnow 1\nend\n";
+
+/// What that is read as, where it is a report of this file.
+fn outside_of(alloc: Global, file: &str) -> Option<Result<Outcome, ReadFault>> {
+    on_file(alloc, file, |catalogue| {
+        let report = read_report(alloc, OUTSIDE.as_bytes(), catalogue)?;
+        match report.entries.first() {
+            Some(entry) => Ok(entry.outcome),
+            None => Err(ReadFault::Memory),
+        }
+    })
+}
+
+#[test]
+fn outside_is_known_where_form_3_alone_can_say_the_file(rt: HostRuntime) {
+    let alloc = rt.alloc();
+    let third = "(stm 3)(tx t (k) (skip) k)(run t 1 1)";
+    assert_eq!(rt;
+        outside_of(alloc, third),
+        Some(Ok(Outcome::Thrown(Fault::Outside)))
+    );
+    assert!(rt;
+        is_file(
+            alloc,
+            third,
+            |catalogue| prints_again(alloc, catalogue, OUTSIDE)
+        )
+    );
+    for file in [
+        "(tx t (skip) 0)(run t 1)",
+        "(stm 2)(always yes (eq 1 1))(tx t (skip) 0)(run t 1)",
+        "(stm 3)(tx t () (skip) 0)(run t 1)",
+    ] {
+        assert_eq!(rt;
+            outside_of(alloc, file),
+            Some(Err(ReadFault::Shape)),
+            "of {file}"
+        );
     }
 }
 

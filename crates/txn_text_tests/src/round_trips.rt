@@ -1,11 +1,13 @@
 //! What is printed is read again as the same: a catalogue, and a report of it.
 
-ghost use Rattle.std.specs.Prelude.{◌≡◌, ◌<◌, ◌≤◌, ◌⊎◌, IfErr, IfOk, length};
+ghost use Rattle.std.specs.Prelude.{◌≡◌, ◌<◌, ◌≤◌, ◌⊎◌, All, IfErr, IfOk, length, true};
+ghost use Rattle.txn_programs.specs.declared.ast.Fault.TheVariants.{Outside};
+ghost use Rattle.txn_programs.specs.declared.ast.Outcome.TheVariants.{Thrown};
 ghost use Rattle.txn_programs.specs.LawfulReport.{FitsCatalogue};
 ghost use Rattle.txn_programs.specs.Told.{told};
 ghost use Rattle.txn_text.specs.Canonical.{file_text};
 ghost use Rattle.txn_text.specs.ReportText.{report_text};
-ghost use Rattle.txn_text.specs.Reports.{IsReport};
+ghost use Rattle.txn_text.specs.Reports.{IsReport, knows_outside};
 ghost use Rattle.txn_text.specs.Spelling.{Spells};
 ghost use Rattle.txn_text.specs.fault.ReadFault.TheVariants.{Memory, TooLong};
 
@@ -60,7 +62,9 @@ fn report_of(
 
 /// The report, printed and read again.
 fn report_again(alloc: Global, catalogue: &Catalogue, report: &Report) -> Result<Report, ReadFault>
-    requires { FitsCatalogue catalogue.now (told report.now) }
+    requires fits { FitsCatalogue catalogue.now (told report.now) }
+    requires outside { All (λ e. e.outcome ≡ Thrown Outside → knows_outside catalogue.now ≡ true)
+        (told report.now).entries }
     ensures same { IfOk result (λ again. told again ≡ told report.entry.now) }
     ensures fault { IfErr result
         (λ e. (e ≡ Memory) ⊎ ((e ≡ TooLong) × (8388608 < length (report_text catalogue.now (told report.entry.now))))) }
@@ -81,7 +85,9 @@ fn both_again(
     catalogue: &Catalogue,
     report: &Report,
 ) -> Result<(Catalogue, Report), ReadFault>
-    requires { FitsCatalogue catalogue.now (told report.now) }
+    requires fits { FitsCatalogue catalogue.now (told report.now) }
+    requires outside { All (λ e. e.outcome ≡ Thrown Outside → knows_outside catalogue.now ≡ true)
+        (told report.now).entries }
     ensures file { IfOk result (λ again. again.0 ≡ catalogue.now) }
     ensures report { IfOk result (λ again. told again.1 ≡ told report.entry.now) }
 {

@@ -4,7 +4,7 @@ use Rattle.std.specs.Fmt.{decimal, signed_decimal}
 use Rattle.std.specs.List.{flat_map}
 use Rattle.txn_programs.specs.declared.ast.TaskId.{TaskId}
 use Rattle.txn_programs.specs.declared.ast.VarId.{VarId}
-use Rattle.txn_programs.specs.Listing.{Listing}
+use Rattle.txn_programs.specs.Listing.{Listing, values}
 use Rattle.txn_words.specs.Words.{IsLastChange, last_state, state_value}
 use Rattle.text_words.specs.Words.{line}
 use Rattle.text_report_printer.specs.Names.{variable_name}
@@ -14,7 +14,7 @@ use Rattle.world_law.specs.declared.events.Fate.{Fate}
 use Rattle.world_law.specs.declared.events.Fate.TheVariants.{Running, Committed, Parked, Stale, Dropped, Spent}
 use Rattle.world_law.specs.World.{Started, World}
 
--- of so many variables the value in the last state, and the number of the last state that changed it
+-- of so many variables and cells the value in the last state, and the number of the last state that changed it
 pub record ArePresent (h : List (List ℤ)) (count : ℕ) (vars : List (ℤ × ℕ)) : Type 0 where
   pub all : length vars ≡ count
   pub each : (x : ℕ) (v : ℤ × ℕ) → slice_get vars x ≡ Some v → (v.0 ≡ state_value (last_state h) x) × IsLastChange h x v.1
@@ -42,7 +42,7 @@ attempt_line l y = told_line l y.task y.rv y.log y.fate
 -- the last lines of the world were put behind the text
 pub record PutsWorld (l : Listing) (w : World) (old new : List ℕ) : Type 0 where
   pub vars : List (ℤ × ℕ)
-  pub present : ArePresent w.history (length l.names) vars
+  pub present : ArePresent w.history (values l) vars
   pub text : new ≡ old ++ (line (codes "now" ∷ decimal (length w.history - 1) ∷ [])
       ++ (variable_lines l.names vars ++ (flat_map (attempt_line l) w.attempts ++ line (codes "end" ∷ []))))
 

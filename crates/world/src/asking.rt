@@ -1,7 +1,7 @@
 //! An attempt that has ended asks to commit.
 
 ghost use Rattle.std.specs.Prelude.{◌≡◌, ◌<◌, ◌≤◌, length, None, IfOk, OnErr, Decides};
-ghost use Rattle.txn_programs.specs.declared.limits.TheConstants.{MAX_VARIABLES};
+ghost use Rattle.txn_programs.specs.declared.limits.TheConstants.{MAX_VALUES};
 ghost use Rattle.attempt.specs.Order.{AllKnown};
 ghost use Rattle.attempt.specs.Frame.{Agrees, store};
 ghost use Rattle.world_law.specs.World.{differences};
@@ -122,7 +122,7 @@ fn written(alloc: Global, state: &[i64], writes: &[(VarId, i64)]) -> Result<Vec<
 
 /// The variables whose values differ, with their new values.
 fn changes(alloc: Global, before: &[i64], after: &[i64]) -> Result<Vec<(VarId, i64)>, AllocError>
-    requires few { length before.now ≤ MAX_VARIABLES }
+    requires few { length before.now ≤ MAX_VALUES }
     requires same { length after.now ≡ length before.now }
     ensures { IfOk result (λ v. v.items ≡ differences 0 before.now after.now) }
 {

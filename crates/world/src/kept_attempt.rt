@@ -16,10 +16,11 @@ use std::alloc::{AllocError, Global};
 use std::marker::Model;
 use txn::{Catalogue, Memory, TxId, VarId};
 
-/// What is kept of an attempt. A whole one takes some thousand bytes, so it stands apart.
+/// What is kept of an attempt. A whole one takes eleven thousand bytes, so it stands apart, alone in a list: it is
+/// put there and dropped there. What moves in and out of a box goes over the stack, and a step held three of them.
 #[derive(Drop)]
 enum Parts<'a> {
-    Whole(Box<Attempt<'a>>),
+    Whole(Vec<Attempt<'a>>),
     LogAlone(Log),
 }
 
@@ -61,12 +62,13 @@ impl<'a> KeptAttempt<'a> {
         requires { IsCallable catalogue.now id arguments.now }
         ensures { IfOk result (λ a. a ≡ fresh_attempt catalogue.now id arguments.now) }
     {
-        let attempt = Box::new(alloc, Attempt::new(alloc, catalogue, id, arguments))?;
+        let mut alone = Vec::with_capacity(alloc, 1)?;
+        alone.push_reserved(Attempt::new(alloc, catalogue, id, arguments));
         Ok(KeptAttempt {
             catalogue,
             id,
             arguments,
-            parts: Parts::Whole(attempt),
+            parts: Parts::Whole(alone),
         })
     }
 
@@ -76,7 +78,7 @@ impl<'a> KeptAttempt<'a> {
         ensures known { AllKnown self.now.variables result.now }
     {
         match &self.parts {
-            Parts::Whole(attempt) => attempt.log(),
+            Parts::Whole(alone) => alone[0].log(),
             Parts::LogAlone(log) => log.as_slice(),
         }
     }
@@ -87,7 +89,7 @@ impl<'a> KeptAttempt<'a> {
         ensures known { AllKnown self.now.variables result.now }
     {
         match &self.parts {
-            Parts::Whole(attempt) => attempt.writes(),
+            Parts::Whole(alone) => alone[0].writes(),
             Parts::LogAlone(_) => &[],
         }
     }
@@ -100,7 +102,7 @@ impl<'a> KeptAttempt<'a> {
         ensures refused { OnErr result (self.new ≡ self.old) }
     {
         match &mut self.parts {
-            Parts::Whole(attempt) => attempt.supply(x, value),
+            Parts::Whole(alone) => alone[0].supply(x, value),
             Parts::LogAlone(_) => unreachable!(),
         }
     }
@@ -116,10 +118,10 @@ impl<'a> KeptAttempt<'a> {
         ensures needed { (x : VarId) → result ≡ next.Need x
             → (x.0 < self.new.variables) × (known_at self.new.log x ≡ None) }
     {
-        let Parts::Whole(attempt) = &mut self.parts else {
+        let Parts::Whole(alone) = &mut self.parts else {
             return Next::Memory;
         };
-        attempt.advance()
+        alone[0].advance()
     }
 
     /// It keeps its log alone. It takes no memory, and gives back what it does not keep.
@@ -127,7 +129,8 @@ impl<'a> KeptAttempt<'a> {
         ensures { self.new ≡ shortened self.old }
     {
         let log = match &mut self.parts {
-            Parts::Whole(attempt) => {
+            Parts::Whole(alone) => {
+                let attempt = &mut alone[0];
                 // Each logged variable exists: so does each of the log alone.
                 let _known = attempt.log();
                 attempt.take_log()

@@ -1,7 +1,7 @@
 //! The world as it opens.
 
 ghost use Rattle.std.specs.Prelude.{◌≡◌, ◌≤◌, length, replicate, None, IfOk};
-ghost use Rattle.txn_programs.specs.declared.limits.TheConstants.{MAX_VARIABLES};
+ghost use Rattle.txn_programs.specs.declared.limits.TheConstants.{MAX_VALUES};
 ghost use Rattle.world_law.specs.World.{IsOpening};
 ghost use Rattle.world.specs.Opening.{AreOpeningWords};
 ghost use Rattle.world.specs.Inside.{Kept, world_of};
@@ -35,7 +35,7 @@ pub fn first_scene<'a>(alloc: Global, catalogue: &'a Catalogue) -> Result<Scene<
 
 /// The words of these values: the clock and each version are 0.
 fn opening_words(alloc: Global, values: &[i64]) -> Result<Vec<u64>, AllocError>
-    requires { length values.now ≤ MAX_VARIABLES }
+    requires { length values.now ≤ MAX_VALUES }
     ensures { IfOk result (λ v. AreOpeningWords values.now v.items) }
 {
     let mut words = Vec::with_capacity(alloc, 2 * values.len() + 1)?;

@@ -2,7 +2,7 @@
 
 ghost use Rattle.std.specs.Prelude.{◌≡◌, ◌+◌, ◌*◌, ◌^◌, ◌<◌, ◌≤◌, length, Some, None};
 ghost use Rattle.std.specs.List.{slice_get};
-ghost use Rattle.txn_programs.specs.declared.limits.TheConstants.{MAX_VARIABLES};
+ghost use Rattle.txn_programs.specs.declared.limits.TheConstants.{MAX_VALUES};
 ghost use Rattle.world_law.specs.World.{stores, Writes};
 ghost use Rattle.world_law.specs.Next.{Reachable};
 ghost use Rattle.world_law.specs.declared.events.Event.TheVariants.{Word};
@@ -49,7 +49,7 @@ fn make_next(scene: &mut Scene, mut publishing: Publishing) -> Seen
 
 /// The next store of a commit.
 fn next_store(publishing: &Publishing) -> Store
-    requires few { length publishing.now.changes.items ≤ MAX_VARIABLES }
+    requires few { length publishing.now.changes.items ≤ MAX_VALUES }
     requires under { publishing.now.stored < 3 * length publishing.now.changes.items + 1 }
     ensures { slice_get (stores publishing.now.changes.items) publishing.now.stored ≡ Some result }
 {

@@ -2,15 +2,14 @@
 use Rattle.std.proofs.Common.{◌≡◌, ℕ, zero, suc, true, List, [], ◌∷◌, length, Some, pos, sym, refl, ◌∙◌, subst, slice_get, slice_index_or}
 use Rattle.std.proofs.Math.ListN.{length-set}
 use Rattle.txn_programs.specs.Instance.{instance}
-use Rattle.txn_programs.specs.Listing.{Listing, conditions, task_arguments, task_program, task_tx}
+use Rattle.txn_programs.specs.Listing.{Listing, values, conditions, task_arguments, task_program, task_tx}
 use Rattle.txn_programs.specs.Meaning.{State, outcome, after}
 use Rattle.txn_programs.specs.Names.{names_hold}
 use Rattle.txn_programs.specs.Scope.{ConditionsKnown, ProgramKnown}
 use Rattle.txn_programs.specs.Tree.{Skip, Int, under}
 use Rattle.txn_programs.specs.declared.ast.Outcome.{Outcome}
 use Rattle.txn_programs.specs.declared.ast.TaskId.{TaskId}
-use Rattle.txn_programs.proofs.Lawful.{known_given}
-use Rattle.txn_evaluator.proofs.Always.{conditions_known}
+use Rattle.txn_programs.proofs.Lawful.{known_given, standing_known}
 use Rattle.attempt.specs.Asking.{Known, Answer, Ends, ask}
 use Rattle.attempt.specs.Frame.{Agrees, store, AnswersBy}
 use Rattle.attempt_machine.proofs.FrameProof.{frame_holds}
@@ -25,14 +24,14 @@ found (x ∷ xs) zero d P each other = each x refl
 found (x ∷ xs) (suc i) d P each other = found xs i d P each other
 
 -- the rules on names of a catalogue
-pub sound_by : (l : Listing) → names_hold l ≡ true → length l.names ≡ length l.initial → IsSound l
+pub sound_by : (l : Listing) → names_hold l ≡ true → values l ≡ length l.initial → IsSound l
 sound_by l names same = record {
   known = λ a.
       let n = length l.initial in
       let given = task_arguments l a in
       found l.transactions (task_tx l a).0 (record { name = []; parameters = []; body = Skip; result = Int (pos 0) }) (λ t. ProgramKnown n (instance given (under (conditions l) t)))
       (λ t e. subst (λ (n : ℕ). ProgramKnown n (instance given (under (conditions l) t))) same (known_given l (task_tx l a).0 t given names e))
-      (tt, (tt, subst (λ (n : ℕ). ConditionsKnown n (conditions l)) same (conditions_known l names)));
+      (tt, (tt, subst (λ (n : ℕ). ConditionsKnown n (conditions l)) same (standing_known l names)));
 }
 
 pub length-store : (writes : Known) (m : State) → length (store writes m) ≡ length m

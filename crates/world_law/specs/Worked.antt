@@ -36,6 +36,7 @@ abbrev pub pair : Listing
 pair =
     record {
       names = (120 ∷ []) ∷ (121 ∷ []) ∷ [];
+      tables = [];
       initial = pos 1 ∷ pos 1 ∷ [];
       always = [];
       transactions =
@@ -77,6 +78,7 @@ abbrev pub back_and_forth : Listing
 back_and_forth =
     record {
       names = (120 ∷ []) ∷ [];
+      tables = [];
       initial = pos 1 ∷ [];
       always = [];
       transactions =
@@ -128,6 +130,7 @@ abbrev pub half : Listing
 half =
     record {
       names = (120 ∷ []) ∷ (121 ∷ []) ∷ [];
+      tables = [];
       initial = pos 1 ∷ pos 1 ∷ [];
       always = [];
       transactions =
@@ -227,6 +230,7 @@ abbrev pub waiting : Listing
 waiting =
     record {
       names = (120 ∷ []) ∷ [];
+      tables = [];
       initial = pos 1 ∷ [];
       always = [];
       transactions =

@@ -10,7 +10,7 @@ use world_law::Seen;
 const TWO: &str = "(var x 1)(var last 2)";
 
 /// What is seen, and its line.
-const LINES: [(Seen, &str); 18] = [
+const LINES: [(Seen, &str); 19] = [
     (Seen::Idle, "7 idle\n"),
     (Seen::Needs(X), "7 needs x\n"),
     (Seen::Needs(Y), "7 needs last\n"),
@@ -26,6 +26,10 @@ const LINES: [(Seen, &str); 18] = [
     (
         Seen::Ended(Outcome::Thrown(Fault::DivideByZero)),
         "7 ended zerodiv\n",
+    ),
+    (
+        Seen::Ended(Outcome::Thrown(Fault::Outside)),
+        "7 ended outside\n",
     ),
     (Seen::Ended(Outcome::Retries), "7 ended retries\n"),
     (Seen::Loaded, "7 loaded\n"),

@@ -106,6 +106,7 @@ fn returned(told: &Told, unknown: impl FnOnce() -> Fault) -> Result<i64, Fault> 
         Some(Outcome::Overflow) => return Err(Fault::Overflow),
         Some(Outcome::DivideByZero) => return Err(Fault::DivideByZero),
         Some(Outcome::Broken(condition)) => return Err(Fault::Broken(condition)),
+        Some(Outcome::Outside) => return Err(Fault::Outside),
         None => {}
     }
     Err(match told.code {

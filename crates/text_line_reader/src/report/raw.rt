@@ -18,6 +18,7 @@ pub(crate) enum RawEnding<'a> {
     Threw(Numeral<'a>),
     Overflow,
     DivideByZero,
+    Outside,
     Broke(&'a str),
 }
 

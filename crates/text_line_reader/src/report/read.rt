@@ -4,7 +4,7 @@ ghost use Rattle.std.specs.Prelude.{◌≡◌, IfOk, IfErr, ◌⊎◌, Ok};
 ghost use Rattle.txn_programs.specs.Told.{Told, told};
 ghost use Rattle.text_words.specs.Answers.{Gives};
 ghost use Rattle.text_words.specs.declared.fault.ReadFault.TheVariants.{Memory};
-ghost use Rattle.text_line_reader.specs.Reports.{IsReport, IsFirst, report_at};
+ghost use Rattle.text_line_reader.specs.Reports.{IsReport, IsFirst, knows_outside, report_at};
 
 use crate::report::resolve::resolved;
 use crate::report::shape::raw_of;
@@ -15,6 +15,13 @@ use txn::{Catalogue, Report};
 
 /// The longest report, in bytes.
 pub const MAX_REPORT: usize = 8_388_608;
+
+/// Whether an entry can end `outside`: form 3 of a file alone can say the catalogue.
+fn knows_outside(catalogue: &Catalogue) -> bool
+    ensures { result ≡ knows_outside catalogue.now }
+{
+    catalogue.most_parameters() > 0
+}
 
 #[tactic(auto, unfolding(crate::specs::Reports::report_at))]
 fn read(alloc: Global, bytes: &[u8], catalogue: &Catalogue) -> Result<Report, ReadFault>
@@ -27,16 +34,18 @@ fn read(alloc: Global, bytes: &[u8], catalogue: &Catalogue) -> Result<Report, Re
         return Err(ReadFault::BadByte);
     }
     catalogue.rules();
-    let raw = raw_of(alloc, bytes, catalogue.initial().len())?;
+    let cells = knows_outside(catalogue);
+    let raw = raw_of(alloc, bytes, catalogue.var_count(), cells)?;
     resolved(alloc, catalogue, &raw)
 }
 
 /// Reads a report of a catalogue. It is `Ok` exactly where the bytes, at most 8,388,608, are the
 /// text of a report that fits the catalogue: each line in its place, each variable's line with its
 /// name, numbers and versions at most 65,536, values of 64 signed bits, tasks and transactions of
-/// the catalogue. Otherwise the fault is the first of `TooLong`, `BadByte`, `Shape`, `Name` and
-/// `Limit` that applies, each judged over all the bytes before the next is. `Memory` may come in
-/// place of any answer, where a growth was refused. It takes time and memory linear in the input.
+/// the catalogue, and no entry that ended `outside` unless a transaction has parameters. Otherwise
+/// the fault is the first of `TooLong`, `BadByte`, `Shape`, `Name` and `Limit` that applies, each
+/// judged over all the bytes before the next is. `Memory` may come in place of any answer, where a
+/// growth was refused. It takes time and memory linear in the input.
 pub fn read_report(alloc: Global, bytes: &[u8], catalogue: &Catalogue) -> Result<Report, ReadFault>
     // What is read has this text.
     ensures found { IfOk result (λ r. IsReport catalogue.now bytes.now (told r)) }

@@ -62,7 +62,8 @@ fn condition_known(catalogue: &Catalogue, ending: RawEnding<'_>) -> bool
         RawEnding::Returned(_)
         | RawEnding::Threw(_)
         | RawEnding::Overflow
-        | RawEnding::DivideByZero => true,
+        | RawEnding::DivideByZero
+        | RawEnding::Outside => true,
     }
 }
 
@@ -173,6 +174,7 @@ fn outcome_told(catalogue: &Catalogue, ending: RawEnding<'_>) -> Result<Outcome,
         }
         RawEnding::Overflow => Ok(Outcome::Thrown(Fault::Overflow)),
         RawEnding::DivideByZero => Ok(Outcome::Thrown(Fault::DivideByZero)),
+        RawEnding::Outside => Ok(Outcome::Thrown(Fault::Outside)),
         RawEnding::Broke(name) => {
             let id = always_id(catalogue, name)?;
             Ok(Outcome::Thrown(Fault::Broken(id)))

@@ -79,23 +79,26 @@ fn worded_in(text: &[u8]) -> Result<RawEnding<'_>, ReadFault>
     }
 }
 
+/// An ending, which is `outside` only where cells can be told.
 #[tactic(auto, unfolding(crate::specs::ReportReading::ending_in))]
-fn ending_in(text: &[u8]) -> Result<RawEnding<'_>, ReadFault>
-    ensures value { Gives view_ending result (ending_in text.now) }
+fn ending_in(text: &[u8], cells: bool) -> Result<RawEnding<'_>, ReadFault>
+    ensures value { Gives view_ending result (ending_in cells text.now) }
     ensures kind { IfErr result (λ e. e ≡ Shape) }
 {
     if is_word(text, "overflow") {
         Ok(RawEnding::Overflow)
     } else if is_word(text, "zerodiv") {
         Ok(RawEnding::DivideByZero)
+    } else if is_word(text, "outside") && cells {
+        Ok(RawEnding::Outside)
     } else {
         worded_in(text)
     }
 }
 
 #[tactic(auto, unfolding(crate::specs::ReportReading::entry_in))]
-fn entry_in(text: &[u8]) -> Result<RawEntry<'_>, ReadFault>
-    ensures value { Gives view_entry result (entry_in text.now) }
+fn entry_in(text: &[u8], cells: bool) -> Result<RawEntry<'_>, ReadFault>
+    ensures value { Gives view_entry result (entry_in cells text.now) }
     ensures kind { IfErr result (λ e. e ≡ Shape) }
 {
     let first = after_word(text, "entry")?;
@@ -105,7 +108,7 @@ fn entry_in(text: &[u8]) -> Result<RawEntry<'_>, ReadFault>
     let number = number_in(second)?;
     let task = number_in(third)?;
     let name = name_in(fourth)?;
-    let ending = ending_in(rest)?;
+    let ending = ending_in(rest, cells)?;
     Ok(RawEntry {
         number,
         task,
@@ -174,14 +177,15 @@ fn variables_at(
 }
 
 /// The entry on the next line, if there is one.
-fn entry_at(bytes: &[u8]) -> Result<Option<(RawEntry<'_>, &[u8])>, ReadFault>
-    ensures value { Gives (view_next view_entry) result (next_at (codes "entry") entry_in (lines bytes.now)) }
+fn entry_at(bytes: &[u8], cells: bool) -> Result<Option<(RawEntry<'_>, &[u8])>, ReadFault>
+    ensures value { Gives (view_next view_entry) result
+        (next_at (codes "entry") (entry_in cells) (lines bytes.now)) }
     ensures shorter { IfOk result (λ r. IfSome r (λ x. length x.1.now < length bytes.now)) }
     ensures kind { IfErr result (λ e. e ≡ Shape) }
 {
     match next_line(bytes) {
         Some((line, rest)) if begins(line, "entry") => {
-            let entry = entry_in(line)?;
+            let entry = entry_in(line, cells)?;
             Ok(Some((entry, rest)))
         }
         _ => Ok(None),
@@ -189,13 +193,17 @@ fn entry_at(bytes: &[u8]) -> Result<Option<(RawEntry<'_>, &[u8])>, ReadFault>
 }
 
 /// The entries on the next lines.
-fn entries_at(alloc: Global, bytes: &[u8]) -> Result<(Vec<RawEntry<'_>>, &[u8]), ReadFault>
+fn entries_at(
+    alloc: Global,
+    bytes: &[u8],
+    cells: bool,
+) -> Result<(Vec<RawEntry<'_>>, &[u8]), ReadFault>
     ensures { Gives (λ x. (view_entries x.0.items, lines x.1.now)) result
-        (all_at (codes "entry") entry_in (lines bytes.now)) }
+        (all_at (codes "entry") (entry_in cells) (lines bytes.now)) }
 {
     let mut entries = Vec::new(alloc);
     let mut rest = bytes;
-    'entries: while let Some((entry, after)) = entry_at(rest)? {
+    'entries: while let Some((entry, after)) = entry_at(rest, cells)? {
         entries.push(entry)?;
         rest = after;
     }
@@ -248,18 +256,19 @@ fn last_at(bytes: &[u8]) -> Result<&[u8], ReadFault>
     Ok(rest)
 }
 
-/// All lines of a report of so many variables.
+/// All lines of a report of so many variables; where `cells` is true, an entry may end `outside`.
 #[tactic(auto, unfolding(crate::specs::ReportReading::raw_at))]
 pub(crate) fn raw_of(
     alloc: Global,
     bytes: &[u8],
     variables: usize,
+    cells: bool,
 ) -> Result<RawReport<'_>, ReadFault>
-    ensures { Gives view_raw result (raw_at variables (lines bytes.now)) }
+    ensures { Gives view_raw result (raw_at cells variables (lines bytes.now)) }
 {
     let (base, rest) = number_at(bytes, "base")?;
     let (base_vars, rest) = variables_at(alloc, rest, variables)?;
-    let (entries, rest) = entries_at(alloc, rest)?;
+    let (entries, rest) = entries_at(alloc, rest, cells)?;
     let (now, rest) = number_at(rest, "now")?;
     let (now_vars, rest) = variables_at(alloc, rest, variables)?;
     let (parked, rest) = tasks_at(alloc, rest, "parked")?;

@@ -1,9 +1,9 @@
-use Rattle.std.proofs.Common.{◌≡◌, ◌≢◌, ◌+◌, ◌<◌, ◌≤◌, Result, IfOk, IsOk, Ok, Err, ◌∙◌, ℤ, List, ap, arith, length, map, String, Global, refl, subst, sym, true}
+use Rattle.std.proofs.Common.{◌≡◌, ◌≢◌, ◌+◌, ◌<◌, ◌≤◌, Result, IfOk, IsOk, Ok, Err, ◌∙◌, ℤ, List, ap, length, map, String, Global, refl, subst, sym, true}
 use Rattle.txn_programs.specs.Cost.{cost}
 use Rattle.txn_programs.specs.Code.{program_code}
 use Rattle.txn_programs.specs.Fused.{machine_code}
-use Rattle.txn_programs.specs.Limits.{most_variables, program_fits, conditions_fit}
-use Rattle.txn_programs.specs.Listing.{Listing, call_program, conditions, transaction_at}
+use Rattle.txn_programs.specs.Limits.{most_values, program_fits, conditions_fit}
+use Rattle.txn_programs.specs.Listing.{Listing, values, call_program, conditions, transaction_at}
 use Rattle.txn_programs.specs.Meaning.{State}
 use Rattle.txn_programs.specs.Names.{names_hold}
 use Rattle.txn_programs.specs.Scope.{ConditionsKnown}
@@ -13,12 +13,11 @@ use Rattle.txn_programs.specs.declared.ast.Tx.{Tx}
 use Rattle.txn_programs.specs.declared.ast.TxId.{TxId}
 use Rattle.txn_programs.specs.declared.ast.VarId.{VarId}
 use Rattle.txn_programs.specs.declared.ast.Outcome.{Outcome}
-use Rattle.txn_programs.proofs.Lawful.{limits_parts}
 use Rattle.attempt_machine.specs.declared.found.Found.{Found}
 use Rattle.attempt_machine.specs.declared.found.Found.TheVariants as found
 use Rattle.attempt_machine.specs.Room.{AreDeclared, NeedsNoMemory}
 use Rattle.attempt_machine.proofs.Declared.{program_fitting, conditions_fitting, conditions_known}
-use Rattle.attempt_machine.proofs.Stores.{program_declared}
+use Rattle.attempt_machine.proofs.Stores.{call_declared}
 use Rattle.attempt_machine.specs.Asking.{Known}
 use Rattle.attempt_machine.specs.Place.{place_of, instance_under, Tells}
 use Rattle.attempt_machine.specs.Correct.{IsReached}
@@ -48,12 +47,10 @@ run-requires-clause-code g c =
 pub run-requires-clause-declared : goal.run-requires-clause-declared
 run-requires-clause-declared g c =
     let l = c.args.catalogue.now in
-    let few = (limits_parts l c.rules.ensures.limits).variables in
-    let most : length l.initial ≤ 256 = omega (arith, few, c.rules.ensures.named) in
     let given = c.args.arguments.now in
-    let known = call_known l c.args.id given c.rules.ensures.names c.rules.ensures.named c.requires.callable.declared in
+    let declared = call_declared l c.args.id given c.rules.ensures.limits c.rules.ensures.names c.requires.callable.declared in
     let same = same_instance c.args.arguments.now l c.args.id c.always-always.result.now c.tx-tx.result.now c.always-always.ensures.conditions c.tx-tx.ensures.value in
-    subst (λ (t : Program). AreDeclared (program_code t)) (sym same) (program_declared (length l.initial) most (call_program l c.args.id given) known)
+    subst (λ (t : Program). AreDeclared (program_code t)) (sym same) declared
 
 pub run-requires-clause-fits : goal.run-requires-clause-fits
 run-requires-clause-fits g c =
@@ -71,7 +68,7 @@ pub run-requires-clause-closed : goal.run-requires-clause-closed
 run-requires-clause-closed g c =
     let l = c.args.catalogue.now in
     let same = same_program l c.args.id c.always-always.result.now c.tx-tx.result.now c.always-always.ensures.conditions c.tx-tx.ensures.value in
-    subst (λ (t : Program). ConditionsKnown most_variables t.always) (sym same) (conditions_known l c.rules.ensures.limits c.rules.ensures.names)
+    subst (λ (t : Program). ConditionsKnown most_values t.always) (sym same) (conditions_known l c.rules.ensures.limits c.rules.ensures.names)
 
 pub run-requires-clause-reached : goal.run-requires-clause-reached
 run-requires-clause-reached g c =
@@ -87,34 +84,34 @@ run-requires-clause-ahead g c =
 
 -- the log after a run is still of variables that may be named, each once
 logged : (l : Listing) (id : TxId) (given : List ℤ) (always : List (String Global × Cond)) (tx : Tx) (m : State) (earlier later : Known) → map (λ a. condition_of a.1) always ≡ conditions l → transaction_of tx ≡ transaction_at l id →
-    names_hold l ≡ true → length l.names ≡ length l.initial → id.0 < length l.transactions → ReadsOn (instance_under given always tx) m earlier later → AllKnown (length l.initial) earlier → Apart earlier → AllKnown (length l.initial) later × Apart later
-logged l id given always tx m earlier later conditions is names named declared reads known apart =
+    names_hold l ≡ true → values l ≡ length l.initial → id.0 < length l.transactions → ReadsOn (instance_under given always tx) m earlier later → AllKnown (length l.initial) earlier → Apart earlier → AllKnown (length l.initial) later × Apart later
+logged l id given always tx m earlier later conditions is names valued declared reads known apart =
     let same = same_instance given l id always tx conditions is in
-    reads_known (length l.initial) (call_program l id given) m earlier later (call_known l id given names named declared) (subst (λ (t : Program). ReadsOn t m earlier later) same reads) known apart
+    reads_known (length l.initial) (call_program l id given) m earlier later (call_known l id given names valued declared) (subst (λ (t : Program). ReadsOn t m earlier later) same reads) known apart
 
 pub returns-in-Ok-Need-clause-known : goal.returns-in-Ok-Need-clause-known
 returns-in-Ok-Need-clause-known g c =
-    (logged c.args.catalogue.now c.args.id c.args.arguments.now c.always-always.result.now c.tx-tx.result.now (g.R.Reader.values c.args.reader.now) c.args.log.now c.run.new.log c.always-always.ensures.conditions c.tx-tx.ensures.value c.rules.ensures.names c.rules.ensures.named c.requires.callable.declared c.run.ensures.reads c.requires.known c.requires.apart).0
+    (logged c.args.catalogue.now c.args.id c.args.arguments.now c.always-always.result.now c.tx-tx.result.now (g.R.Reader.values c.args.reader.now) c.args.log.now c.run.new.log c.always-always.ensures.conditions c.tx-tx.ensures.value c.rules.ensures.names c.rules.ensures.valued c.requires.callable.declared c.run.ensures.reads c.requires.known c.requires.apart).0
 
 pub returns-in-Ok-Need-clause-apart : goal.returns-in-Ok-Need-clause-apart
 returns-in-Ok-Need-clause-apart g c =
-    (logged c.args.catalogue.now c.args.id c.args.arguments.now c.always-always.result.now c.tx-tx.result.now (g.R.Reader.values c.args.reader.now) c.args.log.now c.run.new.log c.always-always.ensures.conditions c.tx-tx.ensures.value c.rules.ensures.names c.rules.ensures.named c.requires.callable.declared c.run.ensures.reads c.requires.known c.requires.apart).1
+    (logged c.args.catalogue.now c.args.id c.args.arguments.now c.always-always.result.now c.tx-tx.result.now (g.R.Reader.values c.args.reader.now) c.args.log.now c.run.new.log c.always-always.ensures.conditions c.tx-tx.ensures.value c.rules.ensures.names c.rules.ensures.valued c.requires.callable.declared c.run.ensures.reads c.requires.known c.requires.apart).1
 
 pub returns-in-Ok-End-clause-known : goal.returns-in-Ok-End-clause-known
 returns-in-Ok-End-clause-known g c =
-    (logged c.args.catalogue.now c.args.id c.args.arguments.now c.always-always.result.now c.tx-tx.result.now (g.R.Reader.values c.args.reader.now) c.args.log.now c.run.new.log c.always-always.ensures.conditions c.tx-tx.ensures.value c.rules.ensures.names c.rules.ensures.named c.requires.callable.declared c.run.ensures.reads c.requires.known c.requires.apart).0
+    (logged c.args.catalogue.now c.args.id c.args.arguments.now c.always-always.result.now c.tx-tx.result.now (g.R.Reader.values c.args.reader.now) c.args.log.now c.run.new.log c.always-always.ensures.conditions c.tx-tx.ensures.value c.rules.ensures.names c.rules.ensures.valued c.requires.callable.declared c.run.ensures.reads c.requires.known c.requires.apart).0
 
 pub returns-in-Ok-End-clause-apart : goal.returns-in-Ok-End-clause-apart
 returns-in-Ok-End-clause-apart g c =
-    (logged c.args.catalogue.now c.args.id c.args.arguments.now c.always-always.result.now c.tx-tx.result.now (g.R.Reader.values c.args.reader.now) c.args.log.now c.run.new.log c.always-always.ensures.conditions c.tx-tx.ensures.value c.rules.ensures.names c.rules.ensures.named c.requires.callable.declared c.run.ensures.reads c.requires.known c.requires.apart).1
+    (logged c.args.catalogue.now c.args.id c.args.arguments.now c.always-always.result.now c.tx-tx.result.now (g.R.Reader.values c.args.reader.now) c.args.log.now c.run.new.log c.always-always.ensures.conditions c.tx-tx.ensures.value c.rules.ensures.names c.rules.ensures.valued c.requires.callable.declared c.run.ensures.reads c.requires.known c.requires.apart).1
 
 pub returns-in-Err-clause-known : goal.returns-in-Err-clause-known
 returns-in-Err-clause-known g c =
-    (logged c.args.catalogue.now c.args.id c.args.arguments.now c.always-always.result.now c.tx-tx.result.now (g.R.Reader.values c.args.reader.now) c.args.log.now c.run.new.log c.always-always.ensures.conditions c.tx-tx.ensures.value c.rules.ensures.names c.rules.ensures.named c.requires.callable.declared c.run.ensures.reads c.requires.known c.requires.apart).0
+    (logged c.args.catalogue.now c.args.id c.args.arguments.now c.always-always.result.now c.tx-tx.result.now (g.R.Reader.values c.args.reader.now) c.args.log.now c.run.new.log c.always-always.ensures.conditions c.tx-tx.ensures.value c.rules.ensures.names c.rules.ensures.valued c.requires.callable.declared c.run.ensures.reads c.requires.known c.requires.apart).0
 
 pub returns-in-Err-clause-apart : goal.returns-in-Err-clause-apart
 returns-in-Err-clause-apart g c =
-    (logged c.args.catalogue.now c.args.id c.args.arguments.now c.always-always.result.now c.tx-tx.result.now (g.R.Reader.values c.args.reader.now) c.args.log.now c.run.new.log c.always-always.ensures.conditions c.tx-tx.ensures.value c.rules.ensures.names c.rules.ensures.named c.requires.callable.declared c.run.ensures.reads c.requires.known c.requires.apart).1
+    (logged c.args.catalogue.now c.args.id c.args.arguments.now c.always-always.result.now c.tx-tx.result.now (g.R.Reader.values c.args.reader.now) c.args.log.now c.run.new.log c.always-always.ensures.conditions c.tx-tx.ensures.value c.rules.ensures.names c.rules.ensures.valued c.requires.callable.declared c.run.ensures.reads c.requires.known c.requires.apart).1
 
 pub returns-in-Ok-Need-clause-open : goal.returns-in-Ok-Need-clause-open
 returns-in-Ok-Need-clause-open g c = λ h e. absurd (h c.in-Ok-Need.x refl)

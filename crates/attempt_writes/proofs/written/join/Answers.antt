@@ -1,7 +1,7 @@
 use Rattle.std.proofs.Common.{◌≡◌, ◌+◌, ◌<◌, ◌≤◌, ◌++◌, [], ◌∷◌, List, None, refl, ap, sym, subst, ◌∙◌, arith, drop, take, get_or, length, add-one, drop-cons}
 use Rattle.std.proofs.lemmas.List.{drop-set-lt, length-take-le, take-append-drop, take-set-le, take_more_set}
 use Rattle.std.proofs.Math.ListN.{set, length-set}
-use Rattle.attempt_writes.specs.declared.written.Note.{Note}
+use Rattle.attempt_writes.specs.declared.note.Note.{Note}
 use Rattle.attempt_writes.specs.Own.{undone, hints_before, AreApart, AreHinted, AreInside, AreNotedListed}
 use Rattle.attempt_writes.proofs.OwnHints.{apart_kept, hinted_kept, hinted_split, hinted_without}
 use Rattle.attempt_writes.proofs.OwnNotes.{has_dropped, inside_drop, kept_set, noted_prefix, noted_without}

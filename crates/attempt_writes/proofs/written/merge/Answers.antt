@@ -1,5 +1,5 @@
 use Rattle.std.proofs.Common.{List, ap, sym, subst, ◌∙◌, drop, take, reverse}
-use Rattle.attempt_writes.specs.declared.written.Note.{Note}
+use Rattle.attempt_writes.specs.declared.note.Note.{Note}
 use Rattle.attempt_writes.specs.Own.{undone, AreApart, AreHinted, AreNotedListed, AreOnce}
 use Rattle.attempt_writes.proofs.OwnHints.{once_inner, once_joined}
 use Rattle.attempt_writes.proofs.OwnNotes.{inner_nested, marks_same, refilled}

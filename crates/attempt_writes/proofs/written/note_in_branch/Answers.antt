@@ -1,7 +1,7 @@
 use Rattle.std.proofs.Common.{◌≡◌, ◌+◌, ℕ, List, subst, sym, arith, get_or, length, reverse}
 use Rattle.std.proofs.Math.ListN.{set}
 use Rattle.txn_programs.specs.declared.ast.VarId.{VarId}
-use Rattle.attempt_writes.specs.declared.written.Note.{Note}
+use Rattle.attempt_writes.specs.declared.note.Note.{Note}
 use Rattle.attempt_writes.specs.Own.{AreHinted, AreOnce, HasNote, IsNoted, IsOther}
 use Rattle.attempt_writes.proofs.OwnHints.{get_known, hinted_push, inner_others, once_push, others_above}
 use Rattle.attempt_writes.proofs.OwnNotes.{inner_nested, noted_keeps, noted_fresh}

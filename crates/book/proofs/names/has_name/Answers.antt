@@ -1,30 +1,30 @@
-use Rattle.std.proofs.Common.{◌≡◌, ◌+◌, ◌<◌, ◌||◌, ℕ, Bool, List, length, drop, get_or, sym, ◌∙◌, ap}
+use Rattle.std.proofs.Common.{◌≡◌, ◌+◌, ◌<◌, ◌||◌, ℕ, Bool, length, drop, get_or, sym, ◌∙◌, ap}
 use Rattle.std.specs.Prelude.{nat_eq}
 use Rattle.std.proofs.lemmas.Bool.{eq-eqb, ne_eqb}
 use Rattle.std.proofs.lemmas.List.{drop_more, drop_all}
+use Rattle.attempt.specs.Asking.{Known}
 use Rattle.book.specs.Table.{names}
-use Rattle.book.specs.Standings.{naming}
+use Rattle.book.proofs.Sleeping.{no_pair}
 use Rattle.book.proofs.names.has_name.Goals as goal
 
-named_from : (x : ℕ) (row : List ℕ) (i : ℕ) → i < length row → names x (naming (drop i row)) ≡ (nat_eq (get_or row i 0) x || names x (naming (drop (i + 1) row)))
-named_from x row i low = ap (λ (l : List ℕ). names x (naming l)) (drop_more row i 0 low)
+named_from : (x : ℕ) (log : Known) (i : ℕ) → i < length log → names x (drop i log) ≡ (nat_eq (get_or log i no_pair).0.0 x || names x (drop (i + 1) log))
+named_from x log i low = ap (names x) (drop_more log i no_pair low)
 
-pub loop-name-preserved : goal.loop-name-preserved
-loop-name-preserved c =
-    let row = c.args.row.now in
-    let i = c.loop-name.name-index in
+pub loop-pair-preserved : goal.loop-pair-preserved
+loop-pair-preserved c =
+    let log = c.args.log.now in
+    let i = c.loop-pair.pair-index in
     let x = c.args.variable in
-    ap (λ (b : Bool). b || names x (naming (drop (i + 1) row))) (sym (ne_eqb (get_or row i 0) x c.if-name-variable.false))
-    ∙ (sym (named_from x row i c.loop-name-test.true) ∙ c.loop-name.invariant)
+    ap (λ (b : Bool). b || names x (drop (i + 1) log)) (sym (ne_eqb (get_or log i no_pair).0.0 x c.if-pair-variable.false))
+    ∙ (sym (named_from x log i c.loop-pair-test.true) ∙ c.loop-pair.invariant)
 
-pub returns-then-name-variable : goal.returns-then-name-variable
-returns-then-name-variable c =
-    let row = c.args.row.now in
-    let i = c.loop-name.name-index in
+pub returns-then-pair-variable : goal.returns-then-pair-variable
+returns-then-pair-variable c =
+    let log = c.args.log.now in
+    let i = c.loop-pair.pair-index in
     let x = c.args.variable in
-    ap (λ (b : Bool). b || names x (naming (drop (i + 1) row))) (sym (eq-eqb (get_or row i 0) x c.if-name-variable.true))
-    ∙ (sym (named_from x row i c.loop-name-test.true) ∙ c.loop-name.invariant)
+    ap (λ (b : Bool). b || names x (drop (i + 1) log)) (sym (eq-eqb (get_or log i no_pair).0.0 x c.if-pair-variable.true))
+    ∙ (sym (named_from x log i c.loop-pair-test.true) ∙ c.loop-pair.invariant)
 
 pub returns : goal.returns
-returns c =
-    ap (λ (l : List ℕ). names c.args.variable (naming l)) (sym (drop_all c.loop-name.name-index c.args.row.now c.loop-name-test.false)) ∙ c.loop-name.invariant
+returns c = ap (names c.args.variable) (sym (drop_all c.loop-pair.pair-index c.args.log.now c.loop-pair-test.false)) ∙ c.loop-pair.invariant

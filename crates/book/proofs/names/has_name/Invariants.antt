@@ -1,7 +1,6 @@
 use Rattle.std.proofs.Common.{◌≡◌, drop}
 use Rattle.book.specs.Table.{names}
-use Rattle.book.specs.Standings.{naming}
 use Rattle.book.proofs.names.has_name.Given as goal
 
-abbrev pub invariant-loop-name : goal.invariant-loop-name
-invariant-loop-name l = names l.variable (naming (drop l.name-index l.row)) ≡ names l.variable (naming l.row)
+abbrev pub invariant-loop-pair : goal.invariant-loop-pair
+invariant-loop-pair l = names l.variable (drop l.pair-index l.log) ≡ names l.variable l.log

@@ -2,6 +2,7 @@ use Rattle.std.proofs.Common.{◌≤◌, ◌+◌, refl, sym, length, arith}
 use Rattle.txn_programs.specs.Listing.{tasks}
 use Rattle.txn_programs.proofs.Lawful.{few_tasks}
 use Rattle.text_report_printer.proofs.Lengths.{report_short}
+use Rattle.checker.proofs.Inside.{none_outside}
 use Rattle.checker.proofs.laws.lawful_texts_are_good.Goals as goal
 
 pub returns : goal.returns
@@ -12,5 +13,5 @@ returns c file l r spells lawful values =
     record {
       listing = l;
       spelled = spells;
-      verdict = record { report = r; read = record { short = short; text = refl; fits = lawful.fits; values = values }; verdict = lawful };
+      verdict = record { report = r; read = record { short = short; text = refl; fits = lawful.fits; values = values; outside = none_outside l r spells.declared.names spells.declared.limits lawful }; verdict = lawful };
     }

@@ -1,6 +1,6 @@
 use Rattle.std.proofs.lemmas.Result.{IfOk-weaker}
 use Rattle.std.proofs.Common.{◌≡◌}
-use Rattle.text_line_reader.proofs.ReportReading.{Rules}
+use Rattle.text_line_reader.proofs.Reading.{rules_of}
 use Rattle.checker.specs.Verdicts.{IsVerdictOn}
 use Rattle.explain_reports.specs.Explaining.{IsExplained, verdict_of}
 use Rattle.explain_reports.proofs.Verdicts.{verdict_is, same_verdict}
@@ -16,6 +16,6 @@ pub returns-clause-alone : goal.returns-clause-alone
 returns-clause-alone c v on =
     let l = c.args.catalogue.now in
     let bytes = c.args.bytes.now in
-    let rules : Rules l = record { named = c.rules.ensures.named; names = c.rules.ensures.names; limits = c.rules.ensures.limits } in
+    let rules = rules_of l c.rules.ensures.valued c.rules.ensures.names c.rules.ensures.limits in
     IfOk-weaker c.explained.result (IsExplained l bytes) (λ x. verdict_of x ≡ v)
     (λ x h. same_verdict l bytes (verdict_of x) v rules (λ r a b. c.one_verdict.ensures l r (verdict_of x) v a b) (verdict_is l bytes x h) on) c.explained.ensures

@@ -13,7 +13,7 @@ overflow_cast-result c = omega (arith, (limits_parts c.args.catalogue.now c.rule
 
 -- what is read past the end
 abbrev past : Kinds
-past = record { returned = false; threw = false; overflow = false; zerodiv = false; broke = [] }
+past = record { returned = false; threw = false; overflow = false; zerodiv = false; outside = false; broke = [] }
 
 pub returns-in-Some-clause-some : goal.returns-in-Some-clause-some
 returns-in-Some-clause-some c =

@@ -24,7 +24,7 @@ returns-clause-answer c =
     let asked : ask a.program a.log ≡ Ends o c.writes.result.now = c.writes.ensures.ends o c.in_ok-outcome.ensures.ended in
     let ends : ask a.program c.copy.new.list.items ≡ Ends o c.copy-2.new.list.items =
     subst (λ (w : Known). ask a.program c.copy.new.list.items ≡ Ends o w) (sym writes) (subst (λ (log : Known). ask a.program log ≡ Ends o c.writes.result.now) (sym reads) asked) in
-    let holds = ends_as l c.args.calls.now c.args.k c.index-calls-k.result a.program c.copy.new.list.items c.copy-2.new.list.items o c.frame.ensures c.rules.ensures.names c.rules.ensures.named
+    let holds = ends_as l c.args.calls.now c.args.k c.index-calls-k.result a.program c.copy.new.list.items c.copy-2.new.list.items o c.frame.ensures c.rules.ensures.names c.rules.ensures.valued
     c.requires.calls c.requires.known c.index-calls-k.is program ends in
     record {
       read = subst (AllKnown (length l.initial)) (sym c.in_ok-copy.ensures) (subst (λ (n : ℕ). AllKnown n c.log.result.now) variables c.log.ensures.known);

@@ -3,6 +3,7 @@ use Rattle.std.specs.Prelude.{codes}
 use Rattle.std.specs.Fmt.{decimal}
 use Rattle.std.specs.List.{flat_map}
 use Rattle.txn_programs.proofs.Lawful.{limits_parts}
+use Rattle.txn_programs.proofs.Untabled.{untabled_valued}
 use Rattle.book_storage.specs.PackedEntries.{told_run}
 use Rattle.txn_programs.specs.declared.ast.TaskId.{TaskId}
 use Rattle.txn_programs.specs.declared.ast.TxId.{TxId}
@@ -17,12 +18,24 @@ use Rattle.runner.proofs.pieces.put_report.Goals as goal
 pub put_values-requires-clause-few : goal.put_values-requires-clause-few
 put_values-requires-clause-few g c =
     let few = (limits_parts c.args.catalogue.now c.rules.ensures.limits).variables in
-    omega (arith, few, ap length c.deref.ensures.value)
+    let named = untabled_valued c.args.catalogue.now c.rules.ensures.limits c.rules.ensures.valued in
+    omega (arith, few, named, ap length c.deref.ensures.value)
 
 pub put_values-requires-2-clause-few : goal.put_values-requires-2-clause-few
 put_values-requires-2-clause-few g c =
     let few = (limits_parts c.args.catalogue.now c.rules.ensures.limits).variables in
-    omega (arith, few, ap length c.deref-3.ensures.value)
+    let named = untabled_valued c.args.catalogue.now c.rules.ensures.limits c.rules.ensures.valued in
+    omega (arith, few, named, ap length c.deref-3.ensures.value)
+
+pub put_values-requires-clause-named : goal.put_values-requires-clause-named
+put_values-requires-clause-named g c =
+    let named = untabled_valued c.args.catalogue.now c.rules.ensures.limits c.rules.ensures.valued in
+    omega (arith, named, ap length c.deref.ensures.value)
+
+pub put_values-requires-2-clause-named : goal.put_values-requires-2-clause-named
+put_values-requires-2-clause-named g c =
+    let named = untabled_valued c.args.catalogue.now c.rules.ensures.limits c.rules.ensures.valued in
+    omega (arith, named, ap length c.deref-3.ensures.value)
 
 pub returns-in_err-put_values-clause-breaks : goal.returns-in_err-put_values-clause-breaks
 returns-in_err-put_values-clause-breaks g c =

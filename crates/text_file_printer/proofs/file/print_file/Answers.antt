@@ -5,6 +5,7 @@ use Rattle.txn_programs.specs.Meaning.{State, truth}
 use Rattle.txn_programs.specs.Tree.{Condition}
 use Rattle.txn_programs.specs.Listing.{conditions}
 use Rattle.txn_programs.specs.Standing.{AllTrue, is_true}
+use Rattle.txn_programs.proofs.Untabled.{untabled_valued}
 use Rattle.text_grammar.specs.Written.{form_for, written}
 use Rattle.text_file_printer.specs.Canonical.{file_text}
 use Rattle.text_grammar.specs.Spelling.{Spells}
@@ -27,9 +28,9 @@ returns-clause-layout c =
 pub returns-clause-again : goal.returns-clause-again
 returns-clause-again c =
     let l = c.args.catalogue.now in
-    let named = c.rules.ensures.named in
     let names = c.rules.ensures.names in
     let limits = c.rules.ensures.limits in
+    let named = untabled_valued l limits c.rules.ensures.valued in
     let fits = c.in_ok-put_file.ensures.fits in
     let e : string_bytes c.put_file.new.out ≡ file_text l = c.in_ok-put_file.ensures.text ∙ ap (λ (bs : List ℕ). bs ++ file_text l) c.new-out.ensures.bytes in
     λ short. subst (λ (bs : List ℕ). Spells bs l) (sym e)

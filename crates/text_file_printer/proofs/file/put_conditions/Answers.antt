@@ -21,7 +21,7 @@ pub put_condition-requires : goal.put_condition-requires
 put_condition-requires c =
     let l = c.args.catalogue.now in
     let at = at_place c.always-condition-items.result.now l.always c.conditions.condition-index c.condition-item.result c.always-condition-items.ensures.value c.conditions-test.true c.condition-item.is in
-    condition_named_at l c.conditions.condition-index (standing_of c.condition-item.result) c.rules.ensures.names at
+    condition_named_at l c.conditions.condition-index (standing_of c.condition-item.result) c.rules.ensures.names c.rules.ensures.limits at
 
 pub conditions-preserved : goal.conditions-preserved
 conditions-preserved c =

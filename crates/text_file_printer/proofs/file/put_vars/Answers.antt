@@ -6,6 +6,7 @@ use Rattle.text_file_printer.specs.Fits.{PairFits}
 use Rattle.text_grammar.specs.Tree.{Pair}
 use Rattle.text_grammar.specs.Written.{written_vars}
 use Rattle.text_words.proofs.Pieces.{piece_more, all_more, at_end, all_at_end}
+use Rattle.txn_programs.proofs.Untabled.{untabled_valued}
 use Rattle.text_file_printer.proofs.Variables.{vars_at, length-vars}
 use Rattle.text_file_printer.proofs.file.put_vars.Goals as goal
 
@@ -27,12 +28,17 @@ pub returns-clause-text : goal.returns-clause-text
 returns-clause-text c =
     let l = c.args.catalogue.now in
     let long : length (written_vars l.names l.initial) ≤ c.vars.i =
-    omega (arith, length-vars l.names l.initial c.rules.ensures.named, ap length c.initial-value-items.ensures.value, c.vars-test.false) in
+    omega (arith, length-vars l.names l.initial (untabled_valued l c.rules.ensures.limits c.rules.ensures.valued), ap length c.initial-value-items.ensures.value, c.vars-test.false) in
     at_end (pair_line (codes "var")) (written_vars l.names l.initial) c.vars.i (string_bytes c.args.out.now) (string_bytes c.vars.out) long c.vars.invariant.text
 
 pub returns-clause-fits : goal.returns-clause-fits
 returns-clause-fits c =
     let l = c.args.catalogue.now in
     let long : length (written_vars l.names l.initial) ≤ c.vars.i =
-    omega (arith, length-vars l.names l.initial c.rules.ensures.named, ap length c.initial-value-items.ensures.value, c.vars-test.false) in
+    omega (arith, length-vars l.names l.initial (untabled_valued l c.rules.ensures.limits c.rules.ensures.valued), ap length c.initial-value-items.ensures.value, c.vars-test.false) in
     all_at_end PairFits (written_vars l.names l.initial) c.vars.i long c.vars.invariant.fits
+
+pub var_name-requires : goal.var_name-requires
+var_name-requires c =
+    let named = untabled_valued c.args.catalogue.now c.rules.ensures.limits c.rules.ensures.valued in
+    omega (arith, named, ap length c.initial-value-items.ensures.value, c.vars-test.true)

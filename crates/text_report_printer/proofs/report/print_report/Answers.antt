@@ -1,5 +1,6 @@
 use Rattle.std.proofs.Common.{◌≡◌, ◌∙◌, ◌≤◌, ℕ, List, ◌++◌, length, ap, sym, subst, string_bytes}
 use Rattle.txn_programs.specs.Told.{told}
+use Rattle.txn_programs.proofs.Untabled.{untabled_valued}
 use Rattle.text_report_printer.specs.ReportText.{report_text}
 use Rattle.text_report_printer.proofs.Lengths.{report_short}
 use Rattle.text_report_printer.proofs.report.print_report.Goals as goal
@@ -10,4 +11,4 @@ returns-clause-at_most c =
     let r = told c.args.report.now in
     let e : string_bytes c.put_report.new.out ≡ report_text l r = c.in_ok-put_report.ensures.text ∙ ap (λ (bs : List ℕ). bs ++ report_text l r) c.in_ok-out.ensures.bytes in
     λ counts. subst (λ (bs : List ℕ). length bs ≤ 8388608) (sym e)
-    (report_short l r c.rules.ensures.limits c.rules.ensures.named c.requires c.in_ok-put_report.ensures.fits counts)
+    (report_short l r c.rules.ensures.limits (untabled_valued l c.rules.ensures.limits c.rules.ensures.valued) c.requires c.in_ok-put_report.ensures.fits counts)

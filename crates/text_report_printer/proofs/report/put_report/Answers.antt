@@ -3,6 +3,7 @@ use Rattle.std.specs.Prelude.{codes}
 use Rattle.std.specs.Fmt.{decimal}
 use Rattle.std.specs.List.{flat_map}
 use Rattle.txn_programs.proofs.Lawful.{limits_parts}
+use Rattle.txn_programs.proofs.Untabled.{untabled_valued}
 use Rattle.txn_programs.specs.declared.ast.TaskId.{TaskId}
 use Rattle.txn_programs.specs.declared.ast.TxId.{TxId}
 use Rattle.txn_programs.specs.declared.report.Entry.{Entry}
@@ -15,12 +16,24 @@ use Rattle.text_report_printer.proofs.report.put_report.Goals as goal
 pub put_variables-requires-clause-few : goal.put_variables-requires-clause-few
 put_variables-requires-clause-few c =
     let few = (limits_parts c.args.catalogue.now c.rules.ensures.limits).variables in
-    omega (arith, few, ap length c.deref.ensures.value)
+    let named = untabled_valued c.args.catalogue.now c.rules.ensures.limits c.rules.ensures.valued in
+    omega (arith, few, named, ap length c.deref.ensures.value)
 
 pub put_variables-requires-2-clause-few : goal.put_variables-requires-2-clause-few
 put_variables-requires-2-clause-few c =
     let few = (limits_parts c.args.catalogue.now c.rules.ensures.limits).variables in
-    omega (arith, few, ap length c.deref-3.ensures.value)
+    let named = untabled_valued c.args.catalogue.now c.rules.ensures.limits c.rules.ensures.valued in
+    omega (arith, few, named, ap length c.deref-3.ensures.value)
+
+pub put_variables-requires-clause-named : goal.put_variables-requires-clause-named
+put_variables-requires-clause-named c =
+    let named = untabled_valued c.args.catalogue.now c.rules.ensures.limits c.rules.ensures.valued in
+    omega (arith, named, ap length c.deref.ensures.value)
+
+pub put_variables-requires-2-clause-named : goal.put_variables-requires-2-clause-named
+put_variables-requires-2-clause-named c =
+    let named = untabled_valued c.args.catalogue.now c.rules.ensures.limits c.rules.ensures.valued in
+    omega (arith, named, ap length c.deref-3.ensures.value)
 
 pub returns-clause-text : goal.returns-clause-text
 returns-clause-text c =

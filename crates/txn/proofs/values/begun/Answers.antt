@@ -1,19 +1,15 @@
-use Rattle.std.proofs.Common.{◌≡◌, ◌∙◌, ap, sym, arith, true, false}
+use Rattle.std.proofs.Common.{◌≡◌, ◌∙◌, ap, sym, true, false}
 use Rattle.txn_programs.specs.Listing.{Listing, listing_of}
 use Rattle.txn_programs.specs.Names.{names_hold}
 use Rattle.txn_programs.specs.Limits.{limits_hold}
 use Rattle.txn_programs.specs.Standing.{upholds}
-use Rattle.txn_programs.proofs.Lawful.{limits_parts}
 use Rattle.txn.specs.Values.{begun}
 use Rattle.txn.proofs.Beginning.{names_begun, limits_begun, begun_is}
 use Rattle.txn.proofs.Standing.{upheld_passes}
 use Rattle.txn.proofs.values.begun.Goals as goal
 use Rattle.txn.proofs.values.begun.Goals.{After-drop-parts-2}
 
-pub parts_with-requires-clause-few : goal.parts_with-requires-clause-few
-parts_with-requires-clause-few c = omega (arith, c.requires.each, c.rules.ensures.named, (limits_parts c.args.catalogue.now c.rules.ensures.limits).variables)
-
-is : (c : After-drop-parts-2) → listing_of c.in-Ok.parts.vars.items c.in-Ok.parts.always.items c.in-Ok.parts.txs.items c.in-Ok-runs_with.runs.items ≡ begun c.args.catalogue.now c.args.values.now c.args.calls.now
+is : (c : After-drop-parts-2) → listing_of c.in-Ok.parts.vars.items c.in-Ok.parts.tables.items c.in-Ok.parts.always.items c.in-Ok.parts.txs.items c.in-Ok-runs_with.runs.items ≡ begun c.args.catalogue.now c.args.values.now c.args.calls.now
 is c = begun_is c.args.catalogue.now _ c.args.values.now c.args.calls.now c.in-Ok-runs_with.runs.items c.in-Ok.ensures c.in-Ok-runs_with.ensures
 
 pub built-requires-clause-names : goal.built-requires-clause-names

@@ -14,4 +14,4 @@ statement_weight-returns-in_err-statements_weight-in-Seq t c =
 pub statement_weight-returns-in_ok-statements_weight-in-Seq : goal.statement_weight-returns-in_ok-statements_weight-in-Seq
 statement_weight-returns-in_ok-statements_weight-in-Seq t c =
     let e : statement_of c.args.s.now ≡ Seq (statements_of_list c.as_slice.result.now) = ap statement_of c.in-Seq.is ∙ statement_Seq c.in-Seq.parts ∙ ap (λ l. Seq (statements_of_list l)) (sym c.as_slice.ensures.value) in
-    subst (λ (s : Statement). StatementFits c.args.depth s × (c.node.result ≡ capped (statement_cost s))) (sym e) (search rules)
+    subst (λ (s : Statement). StatementFits c.args.depth s × (c.node-in-Seq.result ≡ capped (statement_cost s))) (sym e) (search rules)

@@ -14,7 +14,7 @@ use Rattle.world.proofs.storing.make_next.Goals as goal
 pub write-requires : goal.write-requires
 write-requires c =
     let s = c.args.scene.now in
-    may_write s c.args.publishing c.next_store-store.result c.requires.kept c.next_store-store.ensures (sound_by (listing s) c.rules.ensures.names c.rules.ensures.named) c.requires.reached
+    may_write s c.args.publishing c.next_store-store.result c.requires.kept c.next_store-store.ensures (sound_by (listing s) c.rules.ensures.names c.rules.ensures.valued) c.requires.reached
 
 pub index_mut-requires : goal.index_mut-requires
 index_mut-requires c =

@@ -1,6 +1,6 @@
 use Rattle.std.proofs.Common.{ap, arith, subst, sym}
-use Rattle.txn_programs.proofs.Lawful.{limits_parts}
 use Rattle.txn_programs.specs.Cost.{cost}
+use Rattle.attempt_machine.proofs.Declared.{few_values}
 use Rattle.attempt_machine.specs.Frame.{Agrees}
 use Rattle.attempt_machine.specs.Reading.{ReadsOn}
 use Rattle.attempt_machine.proofs.Reading.{reads_nothing}
@@ -12,9 +12,9 @@ use Rattle.attempt.proofs.attempt.Attempt.advance_by.Goals as goal
 
 pub go_on-requires-clause-values : goal.go_on-requires-clause-values
 go_on-requires-clause-values g c =
-    let few = (limits_parts c.self.inside.catalogue.now c.rules.ensures.limits).variables in
+    let few = few_values c.self.inside.catalogue.now c.rules.ensures.limits in
     let variables = ap (λ (a : AttemptView). a.variables) c.self.view_is in
-    omega (arith, few, c.rules.ensures.named, c.requires.values, variables)
+    omega (arith, few, c.rules.ensures.valued, c.requires.values, variables)
 
 pub returns-in-Fresh-clause-reads : goal.returns-in-Fresh-clause-reads
 returns-in-Fresh-clause-reads g c =

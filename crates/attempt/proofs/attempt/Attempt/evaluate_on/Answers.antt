@@ -1,5 +1,5 @@
 use Rattle.std.proofs.Common.{ℕ, ◌<◌, ◌∙◌, ap, arith, refl, subst, sym}
-use Rattle.txn_programs.proofs.Lawful.{limits_parts}
+use Rattle.attempt_machine.proofs.Declared.{few_values}
 use Rattle.attempt.specs.AttemptInside.{StandsAt}
 use Rattle.attempt.specs.View.{AttemptView, HoldsAt, next_of}
 use Rattle.attempt.proofs.Lacking.{lacks_room}
@@ -10,9 +10,9 @@ use Rattle.attempt.proofs.attempt.Attempt.evaluate_on.Goals as goal
 pub go_on-requires-clause-values : goal.go_on-requires-clause-values
 go_on-requires-clause-values c =
     let l = c.self.inside.catalogue.now in
-    let few = (limits_parts l c.rules.ensures.limits).variables in
+    let few = few_values l c.rules.ensures.limits in
     let variables = ap (λ (a : AttemptView). a.variables) c.self.view_is in
-    omega (arith, few, c.rules.ensures.named, c.requires.values, variables)
+    omega (arith, few, c.rules.ensures.valued, c.requires.values, variables)
 
 pub returns-clause-agrees : goal.returns-clause-agrees
 returns-clause-agrees c = reads_agree _ c.args.values.now _ _ c.go_on.ensures.reads c.requires.agrees

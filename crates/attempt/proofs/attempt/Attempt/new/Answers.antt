@@ -5,7 +5,7 @@ use Rattle.attempt.proofs.attempt.Attempt.new.Goals as goal
 
 pub invariant_of-result : goal.invariant_of-result
 invariant_of-result c =
-    let known = call_known c.args.catalogue.now c.args.id c.args.arguments.now c.rules.ensures.names c.rules.ensures.named c.requires.declared in
+    let known = call_known c.args.catalogue.now c.args.id c.args.arguments.now c.rules.ensures.names c.rules.ensures.valued c.requires.declared in
     let small = call_cheap c.args.catalogue.now c.args.id c.args.arguments.now c.rules.ensures.limits c.requires.declared in
     search (rules, known, small)
 

@@ -5,7 +5,7 @@ use Rattle.attempt.proofs.attempt.Attempt.restart.Goals as goal
 
 pub invariant_of-self : goal.invariant_of-self
 invariant_of-self c =
-    let known = call_known c.args.catalogue.now c.args.id c.args.arguments.now c.rules.ensures.names c.rules.ensures.named c.requires.declared in
+    let known = call_known c.args.catalogue.now c.args.id c.args.arguments.now c.rules.ensures.names c.rules.ensures.valued c.requires.declared in
     let small = call_cheap c.args.catalogue.now c.args.id c.args.arguments.now c.rules.ensures.limits c.requires.declared in
     search (rules, known, small)
 

@@ -1,7 +1,7 @@
 use Rattle.std.proofs.Common.{◌≡◌, ◌∙◌, ap, subst, sym, ◌∷◌, ◌++◌, [], to_z-of_z, arith, refl}
 use Rattle.attempt.specs.declared.next.Stand.TheVariants as stand
 use Rattle.attempt.specs.AttemptInside.{viewed, remaining, IsLawful, StandsAt, IsGoing, GoesOn}
-use Rattle.txn_programs.proofs.Lawful.{limits_parts}
+use Rattle.attempt_machine.proofs.Declared.{few_values}
 use Rattle.attempt_machine.specs.Asking.{Known}
 use Rattle.attempt.specs.View.{AttemptView}
 use Rattle.attempt.proofs.Lawful.{told_more, supplied_goes}
@@ -31,8 +31,8 @@ push-requires-clause-known c =
     let a = viewed c.self.inside in
     let needs : a.stand ≡ stand.Needs c.args.x = ap (λ (b : AttemptView). b.stand) c.self.view_is ∙ c.requires.needed in
     let waits = subst (StandsAt a) needs c.self.invariant.lawful.stands in
-    let few = (limits_parts c.self.inside.catalogue.now c.rules.ensures.limits).variables in
-    omega (arith, waits.1, few, c.rules.ensures.named)
+    let few = few_values c.self.inside.catalogue.now c.rules.ensures.limits in
+    omega (arith, waits.1, few, c.rules.ensures.valued)
 
 pub push-requires-clause-new : goal.push-requires-clause-new
 push-requires-clause-new c =

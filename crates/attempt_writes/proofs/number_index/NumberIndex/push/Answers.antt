@@ -1,4 +1,4 @@
-use Rattle.std.proofs.Common.{◌≡◌, ◌≤◌, ◌+◌, ◌<◌, ◌++◌, ◌∷◌, [], ℕ, List, length, subst, sym, ap, ◌∙◌, arith, eqb, length-append}
+use Rattle.std.proofs.Common.{◌≡◌, ◌+◌, ◌<◌, ◌++◌, ◌∷◌, [], ℕ, List, length, subst, sym, ap, ◌∙◌, arith, eqb}
 use Rattle.std.specs.List.{AllByRecursion, IsDistinct}
 use Rattle.attempt_writes.specs.NumberIndex.{IsAbsent, IsFound}
 use Rattle.attempt_writes.proofs.Indexed.{few_distinct, distinct_more, known_more, found_more}

@@ -1,5 +1,6 @@
 use Rattle.std.proofs.Common.{rules, ℕ, ℤ, Option, None, replicate, subst, sym}
 use Rattle.std.proofs.lemmas.List.{length-replicate}
+use Rattle.attempt_writes.specs.FarWrites.{AreFar}
 use Rattle.attempt_writes.specs.Known.{Known}
 use Rattle.attempt_writes.specs.Own.{AreListed}
 use Rattle.attempt_writes.proofs.OwnTable.{new_listed}
@@ -18,4 +19,8 @@ invariant_of-result c = record {
   hinted = search rules;
   once = search rules;
   floors = search rules;
+  far = subst AreFar (sym c.new-5.ensures.numbers) tt;
+  far_nested = search rules;
+  narrow = λ e. c.new-5.ensures.numbers;
+  some = λ e. absurd (cc);
 }

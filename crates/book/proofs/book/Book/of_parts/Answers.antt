@@ -1,7 +1,7 @@
 use Rattle.std.proofs.Common.{◌≡◌, ◌+◌, ℕ, refl, ◌∙◌, arith, ap, true, length}
 use Rattle.std.proofs.lemmas.List.{length-replicate}
 use Rattle.std.proofs.lemmas.Option.{slice_get-get_or}
-use Rattle.txn_programs.specs.Listing.{Listing, tasks, task_tx, task_arguments}
+use Rattle.txn_programs.specs.Listing.{Listing, values, tasks, task_tx, task_arguments}
 use Rattle.txn_programs.specs.Names.{names_hold}
 use Rattle.txn_programs.proofs.Lawful.{known_task}
 use Rattle.attempt.proofs.Calls.{call_known}
@@ -12,9 +12,9 @@ use Rattle.book.proofs.Kept.{IsNew, opening_is, kept_opened, new_is, AllKnow}
 use Rattle.book.proofs.book.Book.of_parts.Goals as goal
 use Rattle.book.proofs.book.Book.of_parts.Goals.{After-len}
 
-all_know : (l : Listing) → length l.names ≡ length l.initial → names_hold l ≡ true → AllKnow l
-all_know l named names t less =
-    call_known l (task_tx l (record { 0 = t })) (task_arguments l (record { 0 = t })) names named (known_task l t (task_tx l (record { 0 = t })) names (slice_get-get_or (tasks l) t (record { 0 = 0 }) less))
+all_know : (l : Listing) → values l ≡ length l.initial → names_hold l ≡ true → AllKnow l
+all_know l valued names t less =
+    call_known l (task_tx l (record { 0 = t })) (task_arguments l (record { 0 = t })) names valued (known_task l t (task_tx l (record { 0 = t })) names (slice_get-get_or (tasks l) t (record { 0 = 0 }) less))
 
 abbrev inside : (c : After-len) → Inside
 inside c =
@@ -25,6 +25,7 @@ inside c =
       base = c.args.base;
       journal = c.args.journal;
       present = c.args.present;
+      since = c.args.since;
       changes = c.args.changes;
       table = c.args.table;
       room = c.len.result + c.args.spare;
@@ -56,7 +57,7 @@ invariant_of-result c =
     let l = c.args.chapter.listing in
     let r = c.requires in
     let k = size c in
-    kept_opened l (inside c) (is c) r.few r.few_variables (all_know l c.rules.ensures.named c.rules.ensures.names) c.rules.ensures.upheld (omega (arith, r.journal_room, k)) (omega (arith, r.room, k)) r.changes_room r.spare r.variables
+    kept_opened l (inside c) (is c) r.few r.few_values (all_know l c.rules.ensures.valued c.rules.ensures.names) c.rules.ensures.upheld (omega (arith, r.journal_room, k)) (omega (arith, r.room, k)) r.changes_room r.spare r.variables r.since
 
 pub returns : goal.returns
 returns c = new_is c.args.chapter.listing (inside c) (is c)

@@ -15,4 +15,4 @@ invariant_of-self c =
     kept_submitted s c.add.new.self c.add-2.new.self (record { tx = tx; arguments = given }) c.self.invariant c.add-2.ensures.added
     (omega (arith, c.if-self-eq0.false))
     c.add.ensures.listing c.add.ensures.room
-    (call_known l tx given c.rules.ensures.names c.rules.ensures.named known.declared)
+    (call_known l tx given c.rules.ensures.names c.rules.ensures.valued known.declared)

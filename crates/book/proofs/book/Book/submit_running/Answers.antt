@@ -40,7 +40,7 @@ invariant_of-self c =
     let kept = kept_submitted s c.add.new.self (with_one_more s.table) (its_call c) c.self.invariant refl
     (omega (arith, c.if-spare-eq0.false))
     c.add.ensures.listing c.add.ensures.room
-    (call_known l tx given c.rules.ensures.names c.rules.ensures.named known.declared) in
+    (call_known l tx given c.rules.ensures.names c.rules.ensures.valued known.declared) in
     kept_stand (with_ready c) c.add_running.new.self c.add_running.result Ready Running kept c.add_running.ensures.added (at_end c) (λ n e. cc) (λ n e. cc) (λ log e. cc) refl
 
 pub returns : goal.returns

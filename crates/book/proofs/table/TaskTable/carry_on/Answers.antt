@@ -5,6 +5,7 @@ use Rattle.book.specs.Carrying.{stays, carried}
 use Rattle.book.proofs.Rows.{length_shown}
 use Rattle.book.proofs.Sets.{few_slots}
 use Rattle.book.proofs.Carrying.{MovedDown, moved_left, moved_next, moved_all}
+use Rattle.book.specs.TableInside.{kept_of}
 use Rattle.book.proofs.table.TaskTable.carry_on.Goals as goal
 
 pub settle-kept-requires-clause-from : goal.settle-kept-requires-clause-from
@@ -24,7 +25,7 @@ overflow_add-i c =
     let s = c.self.inside in
     let l = c.tasks in
     let within = moved_left c.args.self.now.tasks l.i l.kept l.self.tasks (omega (arith, c.tasks-test.true, c.requires)) l.invariant.moved in
-    omega (arith, within, ap (λ (b : TableView). length b.tasks) c.self.view_is, length_shown s.variables s.names.items s.standings.items, few_slots s c.self.invariant)
+    omega (arith, within, ap (λ (b : TableView). length b.tasks) c.self.view_is, length_shown s.variables (kept_of s) s.standings.items, few_slots s c.self.invariant)
 
 pub tasks-preserved : goal.tasks-preserved
 tasks-preserved c =

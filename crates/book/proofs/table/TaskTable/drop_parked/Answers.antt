@@ -6,4 +6,4 @@ use Rattle.book.proofs.table.TaskTable.drop_parked.Goals as goal
 
 pub returns : goal.returns
 returns c =
-    c.drop_ready.ensures ∙ (ap (λ (b : TableView). placed b c.args.task GivenUp) c.rouse.ensures ∙ placed_twice c.args.self.now c.args.task Ready GivenUp)
+    c.drop_ready.ensures ∙ (ap (λ (b : TableView). placed b c.args.task GivenUp) c.unpark.ensures ∙ placed_twice c.args.self.now c.args.task Ready GivenUp)

@@ -8,9 +8,9 @@ use Rattle.book.specs.declared.table.TaskTable.TheInside.{Inside}
 use Rattle.book.specs.Tasks.{Task}
 use Rattle.book.specs.Tasks.{Ready, Running, Parked}
 use Rattle.book.specs.Turns.{readied_one}
-use Rattle.book.specs.Standings.{shown, row, naming}
+use Rattle.book.specs.Standings.{shown, kept_log}
 use Rattle.book.specs.Table.{TableView, with_tasks}
-use Rattle.book.specs.TableInside.{table_of}
+use Rattle.book.specs.TableInside.{table_of, kept_of}
 use Rattle.book.specs.Carrying.{stays}
 use Rattle.book.proofs.Lists.{get_set_same, get_set_other, set_same}
 use Rattle.book.proofs.Rows.{length_shown}
@@ -18,8 +18,8 @@ use Rattle.book.proofs.Parking.{found_at, set_back}
 use Rattle.book.proofs.table.TaskTable.lower.Goals as goal
 
 -- the task that is read, in the view
-seen : (s : Inside) (v : TableView) (t : ℕ) (read st : Slot) → table_of s ≡ v → t < length v.tasks → read ≡ get_or s.standings.items t read → read ≡ st → slice_get v.tasks t ≡ Some (shown s.variables s.names.items t st)
-seen s v t read st view low e is = found_at s v t read view low e ∙ ap (λ (x : Slot). Some (shown s.variables s.names.items t x)) is
+seen : (s : Inside) (v : TableView) (t : ℕ) (read st : Slot) → table_of s ≡ v → t < length v.tasks → read ≡ get_or s.standings.items t read → read ≡ st → slice_get v.tasks t ≡ Some (shown s.variables (kept_of s) t st)
+seen s v t read st view low e is = found_at s v t read view low e ∙ ap (λ (x : Slot). Some (shown s.variables (kept_of s) t x)) is
 
 read_as : (v : TableView) (t : ℕ) (x : Task) → slice_get v.tasks t ≡ Some x → get_or v.tasks t Running ≡ x
 read_as v t x e = get_or_from_slice_get v.tasks t x Running e
@@ -42,7 +42,7 @@ free_then v from to was low free at =
 pub index-requires : goal.index-requires
 index-requires c =
     let s = c.self.inside in
-    omega (arith, c.requires.from, ap (λ (b : TableView). length b.tasks) c.self.view_is, length_shown s.variables s.names.items s.standings.items, s.standings.ok.0)
+    omega (arith, c.requires.from, ap (λ (b : TableView). length b.tasks) c.self.view_is, length_shown s.variables (kept_of s) s.standings.items, s.standings.ok.0)
 
 pub claim-requires : goal.claim-requires
 claim-requires c = seen c.self.inside c.args.self.now c.args.from c.index.result.now standing.Ready c.self.view_is c.requires.from c.index.ensures c.in-Ready.is
@@ -62,10 +62,10 @@ make_ready-requires-in-Running c =
 pub shift-requires-clause-parked : goal.shift-requires-clause-parked
 shift-requires-clause-parked c =
     let s = c.self.inside in
-    (naming (row s.names.items (c.args.from * s.variables) c.in-Parked.field-0), seen s c.args.self.now c.args.from c.index.result.now (standing.Parked c.in-Parked.field-0) c.self.view_is c.requires.from c.index.ensures c.in-Parked.is)
+    (kept_log s.variables (kept_of s) c.args.from c.in-Parked.field-0, seen s c.args.self.now c.args.from c.index.result.now (standing.Parked c.in-Parked.field-0) c.self.view_is c.requires.from c.index.ensures c.in-Parked.is)
 
 -- what stays is ready, running or parked
-none_other : (s : Inside) (t : ℕ) (read : Slot) (x : Task) → x ≡ shown s.variables s.names.items t read → stays x ≡ true → (read ≡ standing.Ready → ⊥) → (read ≡ standing.Running → ⊥) → ((n : ℕ) → read ≡ standing.Parked n → ⊥) → ⊥
+none_other : (s : Inside) (t : ℕ) (read : Slot) (x : Task) → x ≡ shown s.variables (kept_of s) t read → stays x ≡ true → (read ≡ standing.Ready → ⊥) → (read ≡ standing.Running → ⊥) → ((n : ℕ) → read ≡ standing.Parked n → ⊥) → ⊥
 none_other s t standing.Ready x e h a b d = a (cc)
 none_other s t standing.Running x e h a b d = b (cc)
 none_other s t (standing.Parked n) x e h a b d = d n (cc)
@@ -112,5 +112,5 @@ returns-else-to-from c =
     let read = read_as v c.args.from _ at in
     let same : c.args.from ≡ c.args.to = omega (arith, c.requires.to, c.if-to-from.false) in
     ap (with_tasks v) (sym (set_back v.tasks c.args.from Running _ at))
-    ∙ (ap (λ (k : ℕ). with_tasks v (set (set v.tasks c.args.from Running) k (Parked (naming (row s.names.items (c.args.from * s.variables) c.in-Parked.field-0))))) same
+    ∙ (ap (λ (k : ℕ). with_tasks v (set (set v.tasks c.args.from Running) k (Parked (kept_log s.variables (kept_of s) c.args.from c.in-Parked.field-0)))) same
     ∙ ap (λ (t : Task). with_tasks v (set (set v.tasks c.args.from Running) c.args.to t)) (sym (ap readied_one read)))

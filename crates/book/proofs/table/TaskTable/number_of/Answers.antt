@@ -5,13 +5,13 @@ use Rattle.book.specs.declared.table.TaskTable.TheInside.{Inside}
 use Rattle.book.specs.declared.task.Slot.TheVariants as standing
 use Rattle.book.specs.Tasks.{Done}
 use Rattle.book.specs.Table.{TableView}
-use Rattle.book.specs.TableInside.{table_of}
+use Rattle.book.specs.TableInside.{table_of, kept_of}
 use Rattle.book.proofs.Rows.{length_shown, shown_at}
 use Rattle.book.proofs.Recording.{stands_done}
 use Rattle.book.proofs.table.TaskTable.number_of.Goals as goal
 
 within : (s : Inside) (v : TableView) (t : ℕ) → table_of s ≡ v → t < length v.tasks → t < length s.standings.items
-within s v t view low = omega (arith, low, ap (λ (b : TableView). length b.tasks) view, length_shown s.variables s.names.items s.standings.items)
+within s v t view low = omega (arith, low, ap (λ (b : TableView). length b.tasks) view, length_shown s.variables (kept_of s) s.standings.items)
 
 pub index-requires : goal.index-requires
 index-requires c = omega (arith, within c.self.inside c.args.self.now c.args.task.0 c.self.view_is c.requires, c.self.inside.standings.ok.0)
@@ -21,11 +21,11 @@ returns-in-Done-clause-some c =
     let s = c.self.inside in
     let t = c.args.task.0 in
     let read = slice_get_read s.standings.items (length s.standings.items) t c.index.result.now refl (within s c.args.self.now t c.self.view_is c.requires) c.index.ensures in
-    ap (λ (b : TableView). slice_get b.tasks t) (sym c.self.view_is) ∙ (shown_at s.variables s.names.items s.standings.items t (standing.Done c.in-Done.number) (read ∙ ap Some c.in-Done.is) ∙ ap (λ (n : ℕ). Some (Done n)) (sym c.from.ensures))
+    ap (λ (b : TableView). slice_get b.tasks t) (sym c.self.view_is) ∙ (shown_at s.variables (kept_of s) s.standings.items t (standing.Done c.in-Done.number) (read ∙ ap Some c.in-Done.is) ∙ ap (λ (n : ℕ). Some (Done n)) (sym c.from.ensures))
 
 pub returns-in_default : goal.returns-in_default
 returns-in_default c =
     let s = c.self.inside in
     let t = c.args.task.0 in
     let read = slice_get_read s.standings.items (length s.standings.items) t c.index.result.now refl (within s c.args.self.now t c.self.view_is c.requires) c.index.ensures in
-    record { some = tt; none = λ n e. c.in_default.not-Done n (same_Some _ _ (sym read ∙ stands_done s.variables s.names.items s.standings.items t n (ap (λ (b : TableView). slice_get b.tasks t) c.self.view_is ∙ e))) }
+    record { some = tt; none = λ n e. c.in_default.not-Done n (same_Some _ _ (sym read ∙ stands_done s.variables (kept_of s) s.standings.items t n (ap (λ (b : TableView). slice_get b.tasks t) c.self.view_is ∙ e))) }

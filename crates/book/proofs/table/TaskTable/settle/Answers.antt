@@ -8,7 +8,7 @@ use Rattle.book.specs.Tasks.{Task, Running}
 use Rattle.book.specs.Turns.{readied_one}
 use Rattle.book.specs.Standings.{bare}
 use Rattle.book.specs.Table.{TableView, with_tasks}
-use Rattle.book.specs.TableInside.{table_of}
+use Rattle.book.specs.TableInside.{table_of, kept_of}
 use Rattle.book.specs.Carrying.{stays}
 use Rattle.book.proofs.Lists.{get_set_same}
 use Rattle.book.proofs.Rows.{length_shown}
@@ -19,12 +19,12 @@ use Rattle.book.proofs.table.TaskTable.settle.Goals as goal
 -- what is read of a standing is so of the task
 stays_here : (s : Inside) (v : TableView) (t : ℕ) (read : Slot) (b r : Bool) → table_of s ≡ v → t < length v.tasks → read ≡ get_or s.standings.items t read → r ≡ stays (bare read) → r ≡ b → stays (get_or v.tasks t Running) ≡ b
 stays_here s v t read b r view low e is h =
-    ap stays (get_or_from_slice_get v.tasks t _ Running (found_at s v t read view low e)) ∙ (sym (stays_shown s.variables s.names.items t read) ∙ (sym is ∙ h))
+    ap stays (get_or_from_slice_get v.tasks t _ Running (found_at s v t read view low e)) ∙ (sym (stays_shown s.variables (kept_of s) t read) ∙ (sym is ∙ h))
 
 pub index-requires : goal.index-requires
 index-requires c =
     let s = c.self.inside in
-    omega (arith, c.requires.from, ap (λ (b : TableView). length b.tasks) c.self.view_is, length_shown s.variables s.names.items s.standings.items, s.standings.ok.0)
+    omega (arith, c.requires.from, ap (λ (b : TableView). length b.tasks) c.self.view_is, length_shown s.variables (kept_of s) s.standings.items, s.standings.ok.0)
 
 pub returns-then-not-stays-clause-next : goal.returns-then-not-stays-clause-next
 returns-then-not-stays-clause-next c =

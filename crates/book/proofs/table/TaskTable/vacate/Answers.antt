@@ -6,7 +6,7 @@ use Rattle.book.specs.Tasks.{Task}
 use Rattle.book.specs.Tasks.{Ready, Running, Parked, Done, GivenUp}
 use Rattle.book.specs.Standings.{bare}
 use Rattle.book.specs.Table.{TableView, IsWaiting, with_tasks}
-use Rattle.book.specs.TableInside.{table_of}
+use Rattle.book.specs.TableInside.{table_of, kept_of}
 use Rattle.book.specs.Carrying.{stays}
 use Rattle.book.proofs.Lists.{set_same}
 use Rattle.book.proofs.Rows.{length_shown}
@@ -18,12 +18,12 @@ use Rattle.book.proofs.table.TaskTable.vacate.Goals as goal
 stays_here : (s : Inside) (v : TableView) (t : ℕ) (read : Slot) (b r : Bool) → table_of s ≡ v → t < length v.tasks → read ≡ get_or s.standings.items t read → r ≡ stays (bare read) → r ≡ b → stays (get_or v.tasks t Running) ≡ b
 stays_here s v t read b r view low e is h =
     let same = same_Some _ _ (sym (slice_get-get_or v.tasks t Running low) ∙ found_at s v t read view low e) in
-    ap stays same ∙ (sym (stays_shown s.variables s.names.items t read) ∙ (sym is ∙ h))
+    ap stays same ∙ (sym (stays_shown s.variables (kept_of s) t read) ∙ (sym is ∙ h))
 
 pub index-requires : goal.index-requires
 index-requires c =
     let s = c.self.inside in
-    omega (arith, c.requires.within, ap (λ (b : TableView). length b.tasks) c.self.view_is, length_shown s.variables s.names.items s.standings.items, s.standings.ok.0)
+    omega (arith, c.requires.within, ap (λ (b : TableView). length b.tasks) c.self.view_is, length_shown s.variables (kept_of s) s.standings.items, s.standings.ok.0)
 
 pub clear-requires-clause-ended : goal.clear-requires-clause-ended
 clear-requires-clause-ended c = stays_here c.self.inside c.args.self.now c.args.task.0 c.index.result.now false c.stays.result c.self.view_is c.requires.within c.index.ensures c.stays.ensures c.if-not-stays.true

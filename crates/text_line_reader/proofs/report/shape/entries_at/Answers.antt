@@ -16,6 +16,6 @@ entries-preserved c =
     let entry = c.in-Some.entry in
     let ls = lines c.entries.rest.now in
     let more = lines c.in-Some.after.now in
-    let is : next_at (codes "entry") entry_in ls ≡ Ok (Some (view_entry entry, more)) = c.in_ok-entry.ensures.value ∙ ap (λ (o : Option (RawEntry × Bor (List ℕ))). done (view_next view_entry o)) c.in-Some.is in
+    let is : next_at (codes "entry") (entry_in c.args.cells) ls ≡ Ok (Some (view_entry entry, more)) = c.in_ok-entry.ensures.value ∙ ap (λ (o : Option (RawEntry × Bor (List ℕ))). done (view_next view_entry o)) c.in-Some.is in
     let e : view_entries c.push.new.self.items ≡ view_entries c.entries.entries.items ++ view_entry entry ∷ [] = rw c.in_ok-push.ensures.items (map_push view_entry c.entries.entries.items entry) in
-    rw e (all_more (codes "entry") entry_in (view_entries c.entries.entries.items) ls (view_entry entry, more) _ is c.entries.invariant)
+    rw e (all_more (codes "entry") (entry_in c.args.cells) (view_entries c.entries.entries.items) ls (view_entry entry, more) _ is c.entries.invariant)

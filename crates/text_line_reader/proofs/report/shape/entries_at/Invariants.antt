@@ -8,7 +8,7 @@ use Rattle.text_line_reader.proofs.Rows.{with_front}
 use Rattle.text_line_reader.proofs.report.shape.entries_at.Given as goal
 
 abbrev pub invariant-entries : goal.invariant-entries
-invariant-entries l = with_front (view_entries l.entries.items) (all_at (codes "entry") entry_in (lines l.rest)) ≡ all_at (codes "entry") entry_in (lines l.fn.bytes)
+invariant-entries l = with_front (view_entries l.entries.items) (all_at (codes "entry") (entry_in l.fn.cells) (lines l.rest)) ≡ all_at (codes "entry") (entry_in l.fn.cells) (lines l.fn.bytes)
 
 abbrev pub decreases-entries : goal.decreases-entries
 decreases-entries l = length l.rest

@@ -13,16 +13,16 @@ pub returns-clause-opaque : goal.returns-clause-opaque
 returns-clause-opaque c =
     let s = c.self.inside.scene in
     subst (λ (v : WorldView). Opaque v.listing v.world) c.self.view_is
-    (reached_opaque (listing s) (sound_by (listing s) c.rules.ensures.names c.rules.ensures.named) (world_of s) c.self.invariant.reached)
+    (reached_opaque (listing s) (sound_by (listing s) c.rules.ensures.names c.rules.ensures.valued) (world_of s) c.self.invariant.reached)
 
 pub returns-clause-words : goal.returns-clause-words
 returns-clause-words c =
     let s = c.self.inside.scene in
     subst (λ (v : WorldView). WordsFit v.listing v.world) c.self.view_is
-    (reached_words (listing s) (sound_by (listing s) c.rules.ensures.names c.rules.ensures.named) (world_of s) c.self.invariant.reached)
+    (reached_words (listing s) (sound_by (listing s) c.rules.ensures.names c.rules.ensures.valued) (world_of s) c.self.invariant.reached)
 
 pub returns-clause-upheld : goal.returns-clause-upheld
 returns-clause-upheld c =
     let s = c.self.inside.scene in
     subst (λ (v : WorldView). All (λ m. Upholds v.listing m) v.world.history) c.self.view_is
-    (reached_upheld (listing s) (sound_by (listing s) c.rules.ensures.names c.rules.ensures.named) c.rules.ensures.upheld (world_of s) c.self.invariant.reached)
+    (reached_upheld (listing s) (sound_by (listing s) c.rules.ensures.names c.rules.ensures.valued) c.rules.ensures.upheld (world_of s) c.self.invariant.reached)

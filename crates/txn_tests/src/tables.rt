@@ -1,0 +1,119 @@
+//! Tables: what `Catalogue::build` refuses of them.
+
+use crate::bodies::{Body, Holds, Read};
+use crate::build::{Of, expect, expect_known};
+use crate::limits::{LIMIT, LONG, LONGER, NAME};
+use txn::{BuildFault, Span};
+
+/// Behind x the two cells of `a`, and then the three of `b`.
+const TWO: &[(&str, u32)] = &[("a", 2), ("b", 3)];
+
+const A: Span = Span {
+    first: 1,
+    length: 2,
+};
+
+const B: Span = Span {
+    first: 3,
+    length: 3,
+};
+
+/// The cells of both.
+const ALL: Span = Span {
+    first: 1,
+    length: 5,
+};
+
+/// The first cell of `a`.
+const PART: Span = Span {
+    first: 1,
+    length: 1,
+};
+
+/// x, and the first cell of `a`.
+const BEFORE: Span = Span {
+    first: 0,
+    length: 2,
+};
+
+/// As many cells as `b` has, behind it.
+const BEHIND: Span = Span {
+    first: 6,
+    length: 3,
+};
+
+/// So far no table is within the limits.
+const NO_TABLE_YET: Option<BuildFault> = LIMIT;
+
+/// A table may be named as a variable or a transaction is: these names are apart.
+const NAMES: &[(Of, Option<BuildFault>)] = &[
+    (Of::Tables(&[], Body::Skips), None),
+    (Of::Tables(TWO, Body::Skips), NO_TABLE_YET),
+    (Of::Tables(&[("x", 1), ("t", 1)], Body::Skips), NO_TABLE_YET),
+    (Of::Tables(&[(LONG, 1)], Body::Skips), NO_TABLE_YET),
+    (Of::Tables(&[("1a", 1)], Body::Skips), NAME),
+    (Of::Tables(&[("", 1)], Body::Skips), NAME),
+    (Of::Tables(&[("a", 1), ("a", 2)], Body::Skips), NAME),
+    (
+        Of::Tables(&[("a", 1), ("b", 1), ("a", 1)], Body::Skips),
+        NAME,
+    ),
+    (Of::Tables(&[(LONGER, 1)], Body::Skips), LIMIT),
+    (Of::Tables(&[(LONGER, 1), (LONGER, 1)], Body::Skips), NAME),
+];
+
+#[test]
+fn names_of_tables_are_their_own(rt: HostRuntime) {
+    expect(&rt, rt.alloc(), NAMES);
+    expect_known(&rt, rt.alloc(), NAMES);
+}
+
+/// A table has a cell, and all have 1,048,576 at most.
+const COUNTS: &[(Of, Option<BuildFault>)] = &[
+    (Of::Tables(&[("a", 0)], Body::Skips), LIMIT),
+    (Of::Tables(&[("a", 1_048_577)], Body::Skips), LIMIT),
+    (
+        Of::Tables(&[("a", 1_048_576), ("b", 1)], Body::Skips),
+        LIMIT,
+    ),
+    (
+        Of::Tables(&[("a", u32::MAX), ("b", u32::MAX)], Body::Skips),
+        LIMIT,
+    ),
+];
+
+#[test]
+fn cells_are_a_power_of_two_at_most(rt: HostRuntime) {
+    expect(&rt, rt.alloc(), COUNTS);
+}
+
+/// Only the cells of a whole table are one.
+const USES: &[(Of, Option<BuildFault>)] = &[
+    (Of::Tables(TWO, Body::Throws(Read::First, A)), NO_TABLE_YET),
+    (Of::Tables(TWO, Body::Throws(Read::Sum, B)), NO_TABLE_YET),
+    (Of::Tables(TWO, Body::Throws(Read::Min, A)), NO_TABLE_YET),
+    (Of::Tables(TWO, Body::Throws(Read::Max, B)), NO_TABLE_YET),
+    (Of::Tables(TWO, Body::Puts(B)), NO_TABLE_YET),
+    (
+        Of::TablesUnder(TWO, Holds::Reads(Read::Sum, A)),
+        NO_TABLE_YET,
+    ),
+    (Of::Tables(TWO, Body::Throws(Read::First, ALL)), NAME),
+    (Of::Tables(TWO, Body::Throws(Read::First, PART)), NAME),
+    (Of::Tables(TWO, Body::Throws(Read::Sum, BEFORE)), NAME),
+    (Of::Tables(TWO, Body::Throws(Read::Min, BEHIND)), NAME),
+    (Of::Tables(TWO, Body::Throws(Read::Max, ALL)), NAME),
+    (Of::Tables(TWO, Body::Puts(ALL)), NAME),
+    (Of::Tables(TWO, Body::Puts(BEHIND)), NAME),
+    (Of::TablesUnder(TWO, Holds::Reads(Read::First, PART)), NAME),
+    (Of::TablesUnder(TWO, Holds::Reads(Read::Sum, BEFORE)), NAME),
+    (Of::Tables(&[], Body::Throws(Read::First, A)), NAME),
+    (Of::Tables(&[], Body::Throws(Read::Sum, A)), NAME),
+    (Of::Tables(&[], Body::Puts(A)), NAME),
+    (Of::TablesUnder(&[], Holds::Reads(Read::Max, A)), NAME),
+];
+
+#[test]
+fn what_is_no_table_is_unknown(rt: HostRuntime) {
+    expect(&rt, rt.alloc(), USES);
+}
