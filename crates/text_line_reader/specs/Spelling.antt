@@ -1,5 +1,5 @@
 -- The text of a schedule: a line for each of its moves.
-use Rattle.std.specs.Prelude.{ℕ, ◌<◌, List, [], ◌∷◌, length, codes, slice_index_or}
+use Rattle.std.specs.Prelude.{ℕ, ◌∸◌, ◌<◌, nat_lt, if◌then◌else◌, List, [], ◌∷◌, length, codes, slice_index_or}
 use Rattle.std.specs.List.{flat_map}
 use Rattle.std.specs.Fmt.{decimal}
 use Rattle.txn_programs.specs.declared.ast.TaskId.{TaskId}
@@ -7,12 +7,19 @@ use Rattle.txn_programs.specs.declared.ast.VarId.{VarId}
 use Rattle.txn_programs.specs.declared.moves.Move.{Move}
 use Rattle.txn_programs.specs.declared.moves.Move.TheVariants as move
 use Rattle.txn_programs.specs.declared.moves.Move.TheVariants.{Begin, Read, Commit, Drop, First, Value, Second, Ask, Word, Again}
-use Rattle.txn_programs.specs.Listing.{Listing, tasks}
+use Rattle.txn_programs.specs.Listing.{Listing, tasks, values}
 use Rattle.text_words.specs.Words.{line}
+use Rattle.text_report_printer.specs.ReportText.{cell_name}
 
--- the name of a variable
+-- the name of the cell at a place among those of the tables
+abbrev pub spelled_cell : List (List ℕ × ℕ) → ℕ → List ℕ
+spelled_cell [] place = []
+spelled_cell (t ∷ ts) place = if nat_lt place t.1 then cell_name t.0 place else spelled_cell ts (place ∸ t.1)
+
+-- the name of a variable or of a cell
 abbrev pub spelled_name : Listing → VarId → List ℕ
-spelled_name l x = slice_index_or l.names x.0 []
+spelled_name l x =
+    if nat_lt x.0 (length l.names) then slice_index_or l.names x.0 [] else spelled_cell l.tables (x.0 ∸ length l.names)
 
 -- the words of a move's line
 abbrev pub move_words : Listing → Move → List (List ℕ)
@@ -31,12 +38,12 @@ move_words l (move.Move task) = codes "move" ∷ decimal task.0 ∷ []
 abbrev pub schedule_text : Listing → List Move → List ℕ
 schedule_text l moves = flat_map (λ m. line (move_words l m)) moves
 
--- a task and a variable of the catalogue
+-- a task, and a variable or a cell, of the catalogue
 abbrev pub TaskFits : Listing → TaskId → Type 0
 TaskFits l task = task.0 < length (tasks l)
 
 abbrev pub VariableFits : Listing → VarId → Type 0
-VariableFits l x = x.0 < length l.names
+VariableFits l x = x.0 < values l
 
 -- the move names tasks and variables of the catalogue alone
 abbrev pub MoveFits : Listing → Move → Type 0

@@ -27,5 +27,6 @@ pub(crate) enum VariableVerb {
 pub(crate) enum RawMove<'a> {
     OfTask(TaskVerb, Count<'a>),
     OfVariable(VariableVerb, Count<'a>, &'a str),
+    OfCell(VariableVerb, Count<'a>, &'a str, Count<'a>),
     Word,
 }
