@@ -60,3 +60,13 @@ values_put l vs front back out after n count is_front is_back put =
     let last : back ≡ drop (length l.names) vs = is_back ∙ ap (λ (k : ℕ). drop k vs) count in
     let tables = table_lines l.tables (drop (length l.names) vs) in
     ap (λ (x : List (ℤ × ℕ)). after ++ table_lines l.tables x) last ∙ ap (λ (x : List ℕ). x ++ tables) (put ∙ ap (λ (x : List ℕ). out ++ x) first) ∙ append_assoc out (variable_lines l.names vs) tables
+
+-- the lines of a table's first cells, and of the others behind them
+pub cells_split : (name : List ℕ) (first n : ℕ) (vs : List (ℤ × ℕ)) → cell_lines name first vs ≡ cell_lines name first (take n vs) ++ cell_lines name (first + n) (drop n vs)
+cells_split name first zero vs = ap (λ (k : ℕ). cell_lines name k vs) (sym (add-zero first))
+cells_split name first (suc n) [] = refl
+cells_split name first (suc n) (v ∷ vs) =
+    let front = cell_line name first v in
+    let same : suc first + n ≡ first + suc n = omega arith in
+    ap (λ (x : List ℕ). front ++ x) (cells_split name (suc first) n vs ∙ ap (λ (k : ℕ). cell_lines name (suc first) (take n vs) ++ cell_lines name k (drop n vs)) same)
+    ∙ sym (append_assoc front (cell_lines name (suc first) (take n vs)) (cell_lines name (first + suc n) (drop n vs)))
