@@ -13,6 +13,7 @@ pub mod Agains
 pub mod Reading
 pub mod ReportSteps
 pub mod ReportKnown
+pub mod CellSteps
 pub mod Shapes
 pub mod Counted
 pub mod ReportTexts

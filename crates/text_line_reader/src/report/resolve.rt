@@ -2,6 +2,7 @@
 
 ghost use Rattle.std.specs.Prelude.{◌≡◌, ◌⊎◌, IfErr, length};
 ghost use Rattle.std.specs.List.{list_all};
+ghost use Rattle.txn_programs.specs.Listing.{spans};
 ghost use Rattle.txn_programs.specs.Told.{told};
 ghost use Rattle.text_words.specs.Answers.{Gives};
 ghost use Rattle.text_words.specs.declared.fault.ReadFault.TheVariants.{Name, Limit};
@@ -14,12 +15,14 @@ ghost use Rattle.text_line_reader.specs.ReportView.{view_variable, view_variable
 ghost use Rattle.text_line_reader.specs.ReportView.{view_entries};
 ghost use Rattle.text_line_reader.specs.ReportView.{view_task, view_tasks, view_raw};
 
+use crate::cells::spans_of;
+use crate::report::cells::{cells_known, cells_told, values_told};
 use crate::report::raw::{RawEnding, RawEntry, RawReport, RawTask, RawVariable};
 use crate::{Count, task_id};
 use std::alloc::Global;
 use text_words::ReadFault;
 use txn::limits::MAX_TASKS;
-use txn::{AlwaysId, Catalogue, Entry, Fault, Outcome, Report, TaskId, TxId, VarId};
+use txn::{AlwaysId, Catalogue, Entry, Fault, Outcome, Report, Span, TaskId, TxId, VarId};
 
 /// Whether each line has the name of the variable at its place.
 fn named_as(catalogue: &Catalogue, vars: &[RawVariable<'_>]) -> bool
@@ -73,14 +76,18 @@ fn conditions_known(catalogue: &Catalogue, entries: &[RawEntry<'_>]) -> bool
     entries.iter().all(|e| condition_known(catalogue, e.ending))
 }
 
-/// Whether each variable's lines have its name.
+/// Whether each variable's lines have its name, and those of cells name cells in their order.
 #[tactic(auto, unfolding(crate::specs::ReportResolving::variables_known))]
-fn variables_known(catalogue: &Catalogue, report: &RawReport<'_>) -> bool
+fn variables_known(catalogue: &Catalogue, spans: &[Span], report: &RawReport<'_>) -> bool
+    requires spans { spans.now ≡ spans catalogue.now }
     requires base { length report.now.base_vars.items ≡ length catalogue.now.names }
     requires current { length report.now.now_vars.items ≡ length catalogue.now.names }
     ensures { result ≡ variables_known catalogue.now (view_raw report.entry.now) }
 {
-    named_as(catalogue, &report.base_vars) && named_as(catalogue, &report.now_vars)
+    named_as(catalogue, &report.base_vars)
+        && named_as(catalogue, &report.now_vars)
+        && cells_known(catalogue, spans, &report.base_cells)
+        && cells_known(catalogue, spans, &report.now_cells)
 }
 
 /// Whether only the catalogue's transactions are named.
@@ -101,12 +108,13 @@ fn transactions_known(catalogue: &Catalogue, report: &RawReport<'_>) -> bool
 
 /// Whether all names are known.
 #[tactic(auto, unfolding(crate::specs::ReportResolving::names_known))]
-fn names_known(catalogue: &Catalogue, report: &RawReport<'_>) -> bool
+fn names_known(catalogue: &Catalogue, spans: &[Span], report: &RawReport<'_>) -> bool
+    requires spans { spans.now ≡ spans catalogue.now }
     requires base { length report.now.base_vars.items ≡ length catalogue.now.names }
     requires current { length report.now.now_vars.items ≡ length catalogue.now.names }
     ensures { result ≡ names_known catalogue.now (view_raw report.entry.now) }
 {
-    if !variables_known(catalogue, report) {
+    if !variables_known(catalogue, spans, report) {
         return false;
     }
     if !transactions_known(catalogue, report) {
@@ -116,7 +124,7 @@ fn names_known(catalogue: &Catalogue, report: &RawReport<'_>) -> bool
 }
 
 /// A number or a version.
-fn count_in(count: Count<'_>) -> Result<u64, ReadFault>
+pub(crate) fn count_in(count: Count<'_>) -> Result<u64, ReadFault>
     ensures value { Gives (λ x. x) result (count_in count.entry.text.now) }
     ensures kind { IfErr result (λ e. e ≡ Limit) }
 {
@@ -149,10 +157,15 @@ fn variable_told(v: RawVariable<'_>) -> Result<(i64, u64), ReadFault>
     Ok((value, version))
 }
 
-fn variables_told(alloc: Global, vars: &[RawVariable<'_>]) -> Result<Vec<(i64, u64)>, ReadFault>
+/// The variables, with room for so many values.
+fn variables_told(
+    alloc: Global,
+    room: usize,
+    vars: &[RawVariable<'_>],
+) -> Result<Vec<(i64, u64)>, ReadFault>
     ensures { Gives (λ x. x.items) result (each variable_told (view_variables vars.now)) }
 {
-    let mut made = Vec::with_capacity(alloc, vars.len())?;
+    let mut made = Vec::with_capacity(alloc, room)?;
     'vars: for v in vars {
         made.push(variable_told(*v)?)?;
     }
@@ -242,23 +255,28 @@ fn tasks_told(
 fn told_of(
     alloc: Global,
     catalogue: &Catalogue,
+    spans: &[Span],
     report: &RawReport<'_>,
 ) -> Result<Report, ReadFault>
+    requires { spans.now ≡ spans catalogue.now }
     ensures { Gives told result (told_of catalogue.now (view_raw report.entry.now)) }
 {
+    let values = catalogue.initial().len();
     let base = count_in(report.base)?;
-    let base_vars = variables_told(alloc, &report.base_vars)?;
+    let base_vars = variables_told(alloc, values, &report.base_vars)?;
+    let base_cells = cells_told(alloc, catalogue, spans, &report.base_cells)?;
     let entries = entries_told(alloc, catalogue, &report.entries)?;
     let now = count_in(report.now)?;
-    let now_vars = variables_told(alloc, &report.now_vars)?;
+    let now_vars = variables_told(alloc, values, &report.now_vars)?;
+    let now_cells = cells_told(alloc, catalogue, spans, &report.now_cells)?;
     let parked = tasks_told(alloc, catalogue, &report.parked)?;
     let memory = tasks_told(alloc, catalogue, &report.memory)?;
     Ok(Report {
         base,
-        base_vars,
+        base_vars: values_told(catalogue, base_vars, &base_cells)?,
         entries,
         now,
-        now_vars,
+        now_vars: values_told(catalogue, now_vars, &now_cells)?,
         parked,
         memory,
     })
@@ -275,8 +293,9 @@ pub(crate) fn resolved(
     requires current { length report.now.now_vars.items ≡ length catalogue.now.names }
     ensures { Gives told result (resolved catalogue.now (view_raw report.entry.now)) }
 {
-    if names_known(catalogue, report) {
-        told_of(alloc, catalogue, report)
+    let spans = spans_of(alloc, catalogue)?;
+    if names_known(catalogue, &spans, report) {
+        told_of(alloc, catalogue, &spans, report)
     } else {
         Err(ReadFault::Name)
     }
