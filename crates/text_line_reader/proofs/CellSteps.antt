@@ -1,16 +1,15 @@
 -- What a cell's name and its line are read as, and what is read again.
-use Rattle.std.proofs.Common.{◌≡◌, ◌∙◌, ℕ, Bool, true, false, not, eqb, List, [], ◌∷◌, ◌++◌, None, Result, Ok, refl, ap, subst, append_assoc, inl, inr}
+use Rattle.std.proofs.Common.{◌≡◌, ◌∙◌, ℕ, Bool, true, false, not, eqb, List, [], ◌∷◌, ◌++◌, None, Result, Ok, refl, sym, ap, subst, append_assoc}
 use Rattle.std.specs.Prelude.{is_some}
-use Rattle.std.specs.List.{list_all}
+use Rattle.std.specs.List.{list_all, AllByRecursion}
 use Rattle.std.proofs.lemmas.Bool.{and_parts, and_from}
-use Rattle.std.proofs.lemmas.Bool.Decides.{eqb_tells}
 use Rattle.std.proofs.lemmas.List.Folds.{list_all-append}
 use Rattle.txn_programs.specs.Names.{is_name, is_name_byte}
 use Rattle.text_words.proofs.Steps.{bind_ok, ok_is}
 use Rattle.text_report_printer.specs.ReportText.{cell_text}
 use Rattle.text_line_reader.specs.Lines.{parted}
 use Rattle.text_line_reader.specs.Words.{is_number, given, first_word, name_in, int_in, number_in, expect, is_bracketed, cell_in}
-use Rattle.text_line_reader.specs.ReportRaw.{Cell, cell_words, IsCell}
+use Rattle.text_line_reader.specs.ReportRaw.{Cell, cell_words, IsCell, HasCells}
 use Rattle.text_line_reader.specs.ReportReading.{cell_line_in}
 use Rattle.text_line_reader.proofs.Parting.{lacks, parted_takes, parted_again}
 use Rattle.text_line_reader.proofs.Numbers.{is_int_byte, name_lacks, int_lacks, number_lacks}
@@ -129,3 +128,8 @@ cell_line_again c h =
 
 pub cell_line_bracketed : (c : Cell) → IsCell c → is_bracketed (text_of (cell_words c)) ≡ true
 cell_line_bracketed c h = bracketed c.table c.index (32 ∷ (c.value ++ 32 ∷ c.version)) h.table
+
+-- each line of a cell is that of one
+pub are_cells : (cells : Bool) (cs : List Cell) → HasCells cells cs → AllByRecursion IsCell cs
+are_cells false cs h = subst (AllByRecursion IsCell) (sym h) tt
+are_cells true cs h = h
