@@ -40,17 +40,6 @@ use Rattle.text_line_reader.proofs.Agains.{task_id_again, small, each_again, all
 
 -- ---- words
 
-fits_is : (z : ℤ) → FitsSigned w64 z → fits z ≡ true
-fits_is (pos n) h = lt-ltb n (2 ^ 63) h.sfits
-fits_is (negsuc n) h = lt-ltb n (2 ^ 63) (let g = h.sfits in omega arith)
-
-value_again : (z : ℤ) → FitsSigned w64 z → number_of (int_value (signed_decimal z)) ≡ Ok z
-unfolding number_of
-value_again z h = rw (printed_value z h, fits_is z h) refl
-
-count_again : (n : ℕ) → n ≤ MAX_TASKS → count_in (decimal n) ≡ Ok n
-count_again n h = ap (below (MAX_TASKS + 1)) (decimal_value n (omega arith)) ∙ below_is (MAX_TASKS + 1) n (omega arith)
-
 abbrev nothing : Transaction
 nothing = record { name = []; parameters = []; body = Skip; result = Int (pos 0) }
 
