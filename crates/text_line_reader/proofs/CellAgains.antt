@@ -13,7 +13,7 @@ use Rattle.txn_programs.specs.Listing.{Listing}
 use Rattle.text_words.specs.Words.{line}
 use Rattle.text_report_printer.specs.ReportText.{cell_line, variable_line, cell_name}
 use Rattle.text_line_reader.specs.ReportRaw.{Cell, cell_words, IsCell}
-use Rattle.text_line_reader.specs.ReportResolving.{cell_id, in_order, in_order_from, is_written, cell_told, filled}
+use Rattle.text_line_reader.specs.ReportResolving.{cell_id, is_from, next_id, in_order, is_written, cell_told, filled}
 use Rattle.text_line_reader.specs.Rows.{each}
 use Rattle.text_line_reader.proofs.Agains.{small}
 use Rattle.text_line_reader.proofs.Numbers.{decimal_number, int_printed}
@@ -35,7 +35,7 @@ written_cells (s ∷ ss) [] = []
 written_cells (s ∷ ss) (v ∷ vs) = with_line v.1 (written_cell s v) (written_cells ss vs)
 
 -- and what they tell
-abbrev told_cells : ℕ → List (ℤ × ℕ) → List (VarId × (ℤ × ℕ))
+abbrev pub told_cells : ℕ → List (ℤ × ℕ) → List (VarId × (ℤ × ℕ))
 told_cells x [] = []
 told_cells x (v ∷ vs) = with_line v.1 (record { 0 = x }, v) (told_cells (suc x) vs)
 

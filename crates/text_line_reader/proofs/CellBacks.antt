@@ -1,5 +1,5 @@
 -- What is told of cells is written as their lines, where each cell without a line is as it was at first.
-use Rattle.std.proofs.Common.{◌≡◌, ◌∙◌, ℕ, suc, ◌+◌, ◌-◌, ◌<◌, ◌≤◌, ◌^◌, Bool, true, false, eqb, List, [], ◌∷◌, ◌++◌, length, Option, Some, None, Ok, Err, refl, sym, ap, subst, arith, inl, inr}
+use Rattle.std.proofs.Common.{◌≡◌, ◌∙◌, ℕ, suc, ◌+◌, ◌-◌, ◌<◌, ◌≤◌, ◌^◌, Bool, true, false, eqb, ◌&&◌, List, [], ◌∷◌, ◌++◌, length, Option, Some, None, Ok, Err, refl, sym, ap, subst, arith, inl, inr}
 use Rattle.std.specs.Prelude.{ℤ, FitsSigned, nat_le, slice_get}
 use Rattle.std.specs.Int.{w64}
 use Rattle.std.specs.Fmt.{decimal, signed_decimal}
@@ -21,7 +21,7 @@ use Rattle.text_words.proofs.Steps.{bind_ok, done, ok_is, chosen}
 use Rattle.text_words.specs.declared.fault.ReadFault.TheVariants.{Limit}
 use Rattle.text_report_printer.specs.ReportText.{variable_line, cell_text, cell_name, cell_line}
 use Rattle.text_line_reader.specs.ReportRaw.{Cell, cell_words, IsCell}
-use Rattle.text_line_reader.specs.ReportResolving.{cell_id, in_order, in_order_from, count_in, found, is_written, cell_told, filled}
+use Rattle.text_line_reader.specs.ReportResolving.{cell_id, is_from, next_id, in_order, count_in, found, is_written, cell_told, filled}
 use Rattle.text_line_reader.specs.Rows.{each}
 use Rattle.text_line_reader.proofs.Numbers.{number_written}
 use Rattle.text_line_reader.proofs.Spots.{spots, spots_length, spot_lines}
@@ -134,7 +134,7 @@ filled_later : (x : ℕ) (first : ℤ) (initial : List ℤ) (t : VarId × (ℤ �
 filled_later x first initial t ts h = rw h refl
 
 -- in what order cells stand
-ordered : (l : Listing) (least : ℕ) (o : Option VarId) (x : VarId) (cs : List Cell) → o ≡ Some x → in_order_from l least o cs ≡ true → (least ≤ x.0) × (in_order l (suc x.0) cs ≡ true)
+ordered : (l : Listing) (least : ℕ) (o : Option VarId) (x : VarId) (cs : List Cell) → o ≡ Some x → (is_from least o && in_order l (next_id o) cs) ≡ true → (least ≤ x.0) × (in_order l (suc x.0) cs ≡ true)
 ordered l least None x cs is h = absurd cc
 ordered l least (Some y) x cs is h =
     let p = and_parts (nat_le least y.0) (in_order l (suc y.0) cs) h in
@@ -144,8 +144,8 @@ ordered l least (Some y) x cs is h =
 at_most : (n m : ℕ) → n ≤ m → nat_le n m ≡ true
 at_most n m h = grind (arith, nat_tests)
 
-order_from : (l : Listing) (least : ℕ) (o : Option VarId) (x : VarId) (cs : List Cell) → o ≡ Some x → least ≤ x.0 → in_order l (suc x.0) cs ≡ true → in_order_from l least o cs ≡ true
-order_from l least o x cs is le h = subst (λ (p : Option VarId). in_order_from l least p cs ≡ true) (sym is) (and_from _ _ (at_most least x.0 le) h)
+order_from : (l : Listing) (least : ℕ) (o : Option VarId) (x : VarId) (cs : List Cell) → o ≡ Some x → least ≤ x.0 → in_order l (suc x.0) cs ≡ true → (is_from least o && in_order l (next_id o) cs) ≡ true
+order_from l least o x cs is le h = subst (λ (p : Option VarId). (is_from least p && in_order l (next_id p) cs) ≡ true) (sym is) (and_from _ _ (at_most least x.0 le) h)
 
 pub cells_back : (l : Listing) (x : ℕ) (ss : List (List ℕ × ℕ)) (initial : List ℤ) (cs : List Cell) (ts : List (VarId × (ℤ × ℕ))) → length initial ≡ length ss → AllByRecursion (FitsSigned w64) initial
     → Stands l x ss → AllByRecursion IsCell cs → in_order l x cs ≡ true → each (cell_told l) cs ≡ Ok ts → CellsBack ss initial cs (filled initial x ts)
@@ -196,7 +196,7 @@ all_stand l limits c x k id at =
     let same : a.far ≡ k = omega (arith, place, at) in
     record { is = subst (λ (n : ℕ). slice_get (spots l.tables) n ≡ Some (c.table, digits_value 10 c.index)) same a.is; small = omega (arith, few, inside) }
 
-from_first : (l : Listing) (c : Cell) (o : Option VarId) (cs : List Cell) → cell_id l c ≡ o → in_order_from l 0 o cs ≡ true → in_order_from l (length l.names) o cs ≡ true
+from_first : (l : Listing) (c : Cell) (o : Option VarId) (cs : List Cell) → cell_id l c ≡ o → (is_from 0 o && in_order l (next_id o) cs) ≡ true → (is_from (length l.names) o && in_order l (next_id o) cs) ≡ true
 from_first l c None cs id h = absurd cc
 from_first l c (Some x) cs id h =
     let place = (name_back l c.table c.index x id).place in

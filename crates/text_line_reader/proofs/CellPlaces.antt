@@ -1,5 +1,5 @@
 -- The cell that is written so, and how the cell at a place is written.
-use Rattle.std.proofs.Common.{◌≡◌, ◌∙◌, ℕ, zero, suc, ◌+◌, ◌-◌, ◌<◌, ◌≤◌, ◌^◌, Bool, true, false, cond, List, [], ◌∷◌, ◌++◌, length, map, get_or, Option, Some, None, refl, sym, ap, subst, arith, inl, inr}
+use Rattle.std.proofs.Common.{◌≡◌, ◌∙◌, ℕ, zero, suc, ◌+◌, ◌-◌, ◌<◌, ◌≤◌, ◌^◌, Bool, true, false, cond, List, [], ◌∷◌, ◌++◌, length, map, get_or, Option, Some, None, Result, Ok, Err, refl, sym, ap, subst, arith, inl, inr}
 use Rattle.std.specs.Prelude.{sum_by, bytes_eq, position, slice_get, nat_lt}
 use Rattle.std.specs.Fmt.{decimal}
 use Rattle.std.specs.Str.Parse.{digits_value}
@@ -16,11 +16,15 @@ use Rattle.txn_programs.specs.Limits.{limits_hold}
 use Rattle.txn_programs.specs.Listing.{Listing, cells, spans, spans_from, table_names, table_named}
 use Rattle.txn_programs.specs.Names.{is_name, names_hold}
 use Rattle.txn_programs.proofs.Lawful.{names_parts, limits_parts, passes_at}
-use Rattle.text_words.proofs.Steps.{chosen}
+use Rattle.text_words.specs.Answers.{Fails}
+use Rattle.text_words.specs.declared.fault.ReadFault.{ReadFault}
+use Rattle.text_words.specs.declared.fault.ReadFault.TheVariants.{Limit}
+use Rattle.text_words.proofs.Steps.{done, chosen}
 use Rattle.text_report_printer.specs.ReportText.{cell_name}
+use Rattle.text_line_reader.specs.Counts.{below}
 use Rattle.text_line_reader.specs.CellNames.{cell_of, cell_at, cell_named}
 use Rattle.text_line_reader.specs.Spelling.{spelled_cell}
-use Rattle.text_line_reader.proofs.Numbers.{decimal_value}
+use Rattle.text_line_reader.proofs.Numbers.{decimal_value, below_gives}
 use Rattle.text_line_reader.proofs.Places.{place_again}
 use Rattle.text_line_reader.proofs.Spots.{row, spots, row_at, behind_row, no_table, no_span, SpotAt, spot_at}
 
@@ -158,3 +162,37 @@ spelled (t ∷ ts) place lt = in_table (nat_lt place t.1) refl
     in_table : (b : Bool) → nat_lt place t.1 ≡ b → Spelled (t ∷ ts) place
     in_table true e = record { name = t.0; index = place; is = row_at t.0 0 t.1 place (spots ts) (ltb-true place t.1 e); text = rw e refl }
     in_table false e = let le = at_least place t.1 e in later_spelled t ts place e le (spelled ts (place - t.1) (omega (arith, s, lt)))
+
+-- ---- a number, as it is parsed
+
+pub below_err : (bound n : ℕ) → below bound n ≡ Err Limit → nat_lt n bound ≡ false
+unfolding below
+below_err bound n h =
+    elim (chosen (nat_lt n bound) (done n) (Err Limit) (Err Limit) h) [
+      | inl p ↦ absurd (let e = p.1 in cc)
+      | inr p ↦ p.0
+    ]
+
+pub cell_of_number : (span : Span) (v n : ℕ) → below span.length v ≡ Ok n → Some (record { 0 = span.first + n }) ≡ cell_of span v
+cell_of_number span v n e =
+    let b = below_gives span.length v n e in
+    let same = b.0 in
+    let lt = b.1 in
+    let inside : nat_lt v span.length ≡ true = lt-ltb v span.length (omega (arith, same, lt)) in
+    rw inside (ap (λ (k : ℕ). Some (record { 0 = span.first + k })) (sym same))
+
+pub no_cell_of : (span : Span) (v : ℕ) (e : ReadFault) → e ≡ Limit → Fails e (below span.length v) → None ≡ cell_of span v
+no_cell_of span v e is fails =
+    let past : nat_lt v span.length ≡ false = below_err span.length v (subst (λ (d : ReadFault). Fails d (below span.length v)) is fails) in
+    rw past refl
+
+-- each table's cells end before all values do
+pub tables_end : (first : ℕ) (ts : List (List ℕ × ℕ)) (place : ℕ) → (get_or (spans_from first ts) place no_span).first + (get_or (spans_from first ts) place no_span).length ≤ first + sum_by (λ t. t.1) ts
+tables_end first [] place = omega arith
+tables_end first (t ∷ ts) zero =
+    let s : sum_by (λ (u : List ℕ × ℕ). u.1) (t ∷ ts) ≡ t.1 + sum_by (λ (u : List ℕ × ℕ). u.1) ts = sum_by-cons (λ (u : List ℕ × ℕ). u.1) t ts in
+    omega (arith, s)
+tables_end first (t ∷ ts) (suc place) =
+    let s : sum_by (λ (u : List ℕ × ℕ). u.1) (t ∷ ts) ≡ t.1 + sum_by (λ (u : List ℕ × ℕ). u.1) ts = sum_by-cons (λ (u : List ℕ × ℕ). u.1) t ts in
+    let h = tables_end (first + t.1) ts place in
+    omega (arith, s, h)

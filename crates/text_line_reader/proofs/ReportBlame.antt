@@ -1,6 +1,6 @@
 -- Which faults each step may have.
-use Rattle.std.proofs.Common.{◌≡◌, ℕ, suc, ◌+◌, Bool, true, ◌&&◌, List, [], ◌∷◌, Option, Some, None, refl}
-use Rattle.std.specs.Prelude.{codes, ℤ, is_some, nat_le, ◌==◌}
+use Rattle.std.proofs.Common.{◌≡◌, ℕ, ◌+◌, Bool, true, false, ◌&&◌, List, [], ◌∷◌, Option, Some, None, refl}
+use Rattle.std.specs.Prelude.{codes, ℤ, is_some, ◌==◌}
 use Rattle.std.specs.List.{list_all}
 use Rattle.std.specs.Str.{bytes_eq}
 use Rattle.std.specs.Str.Parse.{digits_value}
@@ -18,7 +18,7 @@ use Rattle.text_line_reader.specs.ReportRaw.{Variable, Cell, Ending, Returned, T
 use Rattle.text_line_reader.specs.Words.{expect, begins, is_bracketed}
 use Rattle.text_line_reader.specs.ReportReading.{variable_in, cell_line_in, valued_in, broke_in, worded_in, ending_in, entry_in, task_in, numbered_in, cells_at, raw_at}
 use Rattle.text_line_reader.specs.Rows.{each}
-use Rattle.text_line_reader.specs.ReportResolving.{cell_id, in_order, in_order_from, cells_known, named_as, is_written, cell_told, is_known, condition_known, conditions_known, variables_known, transactions_known, names_known, count_in, found, tx_id, always_id, variable_told, outcome_told, entry_told, task_told, told_of}
+use Rattle.text_line_reader.specs.ReportResolving.{cell_id, is_from, next_id, in_order, cells_known, named_as, is_written, cell_told, is_known, condition_known, conditions_known, variables_known, transactions_known, names_known, count_in, found, tx_id, always_id, variable_told, outcome_told, entry_told, task_told, told_of}
 use Rattle.text_line_reader.proofs.Blame.{bad, ok, err, then, either, IsShape, word_shape, name_shape, int_shape, number_shape, cell_shape, expect_shape, after_shape, line_shape, lines_shape, all_shape, end_shape, IsLimit, below_limit, task_id_limit, each_limit, any_limit}
 
 -- ---- lines fail by their shape alone
@@ -115,6 +115,10 @@ variable_limit : (v : Variable) → IsLimit (variable_told v)
 unfolding variable_told
 variable_limit v = then faults.Limit _ _ (number_limit (int_value v.value)) (λ value. then faults.Limit _ _ (count_limit v.version) (λ version. ok faults.Limit _))
 
+from_known : (least : ℕ) (o : Option VarId) → is_from least o ≡ true → is_some o ≡ true
+from_known least None h = absurd cc
+from_known least (Some x) h = refl
+
 written_limit : (version : ℕ) → IsLimit (is_written version)
 written_limit version = either faults.Limit (version == 0) _ _ (err faults.Limit) (ok faults.Limit version)
 
@@ -124,14 +128,11 @@ cell_limit l c h =
     then faults.Limit _ _ (found_limit (cell_id l c) h) (λ x. then faults.Limit _ _ (number_limit (int_value c.value))
     (λ value. then faults.Limit _ _ (count_limit c.version) (λ version. then faults.Limit _ _ (written_limit version) (λ written. ok faults.Limit _))))
 
-mutual
-  in_order_known : (l : Listing) (least : ℕ) (cs : List Cell) → in_order l least cs ≡ true → list_all (λ c. is_some (cell_id l c)) cs ≡ true
-  in_order_known l least [] h = refl
-  in_order_known l least (c ∷ cs) h = from_known l least (cell_id l c) cs h
-
-  from_known : (l : Listing) (least : ℕ) (o : Option VarId) (cs : List Cell) → in_order_from l least o cs ≡ true → (is_some o && list_all (λ c. is_some (cell_id l c)) cs) ≡ true
-  from_known l least None cs h = absurd cc
-  from_known l least (Some x) cs h = in_order_known l (suc x.0) cs (and_parts (nat_le least x.0) (in_order l (suc x.0) cs) h).1
+in_order_known : (l : Listing) (least : ℕ) (cs : List Cell) → in_order l least cs ≡ true → list_all (λ c. is_some (cell_id l c)) cs ≡ true
+in_order_known l least [] h = refl
+in_order_known l least (c ∷ cs) h =
+    let p = and_parts (is_from least (cell_id l c)) (in_order l (next_id (cell_id l c)) cs) h in
+    and_from _ _ (from_known least (cell_id l c) p.0) (in_order_known l (next_id (cell_id l c)) cs p.1)
 
 cells_limit : (l : Listing) (cs : List Cell) → cells_known l cs ≡ true → IsLimit (each (cell_told l) cs)
 cells_limit l cs h = each_limit (λ (c : Cell). is_some (cell_id l c)) (cell_told l) (cell_limit l) cs (in_order_known l 0 cs h)

@@ -1,6 +1,6 @@
 //! Cells by the name of their table and their number in it.
 
-ghost use Rattle.std.specs.Prelude.{◌≡◌, ◌+◌, ◌≤◌, IfErr, Ok};
+ghost use Rattle.std.specs.Prelude.{◌≡◌, ◌+◌, ◌≤◌, IfErr, IfOk};
 ghost use Rattle.std.specs.Str.Parse.{digits_value};
 ghost use Rattle.txn_programs.specs.declared.limits.TheConstants.{MAX_VALUES};
 ghost use Rattle.txn_programs.specs.Listing.{spans};
@@ -14,7 +14,7 @@ ghost use Rattle.text_line_reader.specs.Reports.{knows_cells};
 use crate::lines::part;
 use crate::numeral::Count;
 use crate::words::{expect, name_in, number_in};
-use std::alloc::Global;
+use std::alloc::{AllocError, Global};
 use text_words::ReadFault;
 use txn::{Catalogue, Span, VarId};
 
@@ -56,13 +56,14 @@ pub(crate) fn cell_in(text: &[u8]) -> Result<(&str, Count<'_>), ReadFault>
 }
 
 /// The cells of each table.
-pub(crate) fn spans_of(alloc: Global, catalogue: &Catalogue) -> Result<Vec<Span>, ReadFault>
-    ensures { Gives (λ x. x.items) result (Ok (spans catalogue.now)) }
+pub(crate) fn spans_of(alloc: Global, catalogue: &Catalogue) -> Result<Vec<Span>, AllocError>
+    ensures { IfOk result (λ v. v.items ≡ spans catalogue.now) }
 {
     catalogue.rules();
-    let mut made = Vec::with_capacity(alloc, catalogue.tables().len())?;
+    let tables = catalogue.tables();
+    let mut made = Vec::with_capacity(alloc, tables.len())?;
     let mut first = catalogue.var_count() as u32;
-    'tables: for (_, length) in catalogue.tables() {
+    'tables: for (_, length) in tables {
         made.push(Span {
             first,
             length: *length,
@@ -83,20 +84,20 @@ fn cell_of(span: Span, index: Count<'_>) -> Option<VarId>
     }
 }
 
-/// The cell that is written so, if there is one; `spans` are the cells of each table of the catalogue.
+/// The cell that is written so, if there is one; `tables` are the cells of each table of the catalogue.
 #[tactic(auto, unfolding(crate::specs::CellNames::cell_named))]
 pub(crate) fn cell_named(
     catalogue: &Catalogue,
-    spans: &[Span],
+    tables: &[Span],
     table: &str,
     index: Count<'_>,
 ) -> Option<VarId>
-    requires { spans.now ≡ spans catalogue.now }
+    requires { tables.now ≡ spans catalogue.now }
     ensures { result ≡ cell_named catalogue.now table.now index.entry.text.now }
 {
     catalogue.rules();
     match catalogue.table_place(table) {
-        Some(place) => cell_of(spans[place], index),
+        Some(place) => cell_of(tables[place], index),
         None => None,
     }
 }

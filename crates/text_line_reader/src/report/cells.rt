@@ -1,13 +1,13 @@
 //! The lines of cells: read, and told.
 
-ghost use Rattle.std.specs.Prelude.{◌≡◌, ◌<◌, ◌⊎◌, ℤ, ℕ, IfErr, IfOk, IfSome, Ok, length};
+ghost use Rattle.std.specs.Prelude.{◌≡◌, ◌<◌, ◌⊎◌, All, FitsSigned, IfErr, IfOk, IfSome, OnOk, drop, length};
+ghost use Rattle.std.specs.Int.{w64};
 ghost use Rattle.txn_programs.specs.Listing.{spans};
 ghost use Rattle.text_words.specs.Answers.{Gives};
 ghost use Rattle.text_words.specs.declared.fault.ReadFault.TheVariants.{Shape, Name, Limit};
-ghost use Rattle.text_report_printer.specs.ReportFits.{ValuesFit};
 ghost use Rattle.text_line_reader.specs.Lines.{lines};
 ghost use Rattle.text_line_reader.specs.Words.{is_bracketed};
-ghost use Rattle.text_line_reader.specs.Rows.{next_by, each};
+ghost use Rattle.text_line_reader.specs.Rows.{next_by, all_by, each};
 ghost use Rattle.text_line_reader.specs.View.{view_next};
 ghost use Rattle.text_line_reader.specs.ReportReading.{cell_line_in, cells_at};
 ghost use Rattle.text_line_reader.specs.ReportResolving.{cell_id, cells_known, is_written, cell_told, values_told};
@@ -17,7 +17,7 @@ use crate::cells::{cell_in, cell_named, is_bracketed};
 use crate::report::raw::RawCell;
 use crate::report::resolve::count_in;
 use crate::{first_word, int_in, next_line, number_in};
-use std::alloc::Global;
+use std::alloc::{AllocError, Global};
 use text_words::ReadFault;
 use txn::{Catalogue, Span, VarId};
 
@@ -56,6 +56,20 @@ fn cell_at(bytes: &[u8]) -> Result<Option<(RawCell<'_>, &[u8])>, ReadFault>
     }
 }
 
+/// The cells on the next lines.
+fn all_cells(alloc: Global, bytes: &[u8]) -> Result<(Vec<RawCell<'_>>, &[u8]), ReadFault>
+    ensures { Gives (λ x. (view_cells x.0.items, lines x.1.now)) result
+        (all_by is_bracketed cell_line_in (lines bytes.now)) }
+{
+    let mut cells = Vec::new(alloc);
+    let mut rest = bytes;
+    'cells: while let Some((cell, after)) = cell_at(rest)? {
+        cells.push(cell)?;
+        rest = after;
+    }
+    Ok((cells, rest))
+}
+
 /// The cells on the next lines, where cells can be told.
 #[tactic(auto, unfolding(crate::specs::ReportReading::cells_at))]
 pub(crate) fn cells_at(
@@ -65,35 +79,30 @@ pub(crate) fn cells_at(
 ) -> Result<(Vec<RawCell<'_>>, &[u8]), ReadFault>
     ensures { Gives (λ x. (view_cells x.0.items, lines x.1.now)) result (cells_at cells (lines bytes.now)) }
 {
-    let mut made = Vec::new(alloc);
-    if !cells {
-        return Ok((made, bytes));
+    if cells {
+        all_cells(alloc, bytes)
+    } else {
+        Ok((Vec::new(alloc), bytes))
     }
-    let mut rest = bytes;
-    'made: while let Some((cell, after)) = cell_at(rest)? {
-        made.push(cell)?;
-        rest = after;
-    }
-    Ok((made, rest))
 }
 
 // ---- told
 
-fn cell_id(catalogue: &Catalogue, spans: &[Span], c: RawCell<'_>) -> Option<VarId>
-    requires { spans.now ≡ spans catalogue.now }
+fn cell_id(catalogue: &Catalogue, tables: &[Span], c: RawCell<'_>) -> Option<VarId>
+    requires { tables.now ≡ spans catalogue.now }
     ensures { result ≡ cell_id catalogue.now (view_cell c.entry) }
 {
-    cell_named(catalogue, spans, c.table, c.index)
+    cell_named(catalogue, tables, c.table, c.index)
 }
 
 /// Whether each line names a cell, which comes behind that of the line before.
-pub(crate) fn cells_known(catalogue: &Catalogue, spans: &[Span], cells: &[RawCell<'_>]) -> bool
-    requires { spans.now ≡ spans catalogue.now }
+pub(crate) fn cells_known(catalogue: &Catalogue, tables: &[Span], cells: &[RawCell<'_>]) -> bool
+    requires { tables.now ≡ spans catalogue.now }
     ensures { result ≡ cells_known catalogue.now (view_cells cells.now) }
 {
     let mut least: u64 = 0;
     'cells: for c in cells {
-        match cell_id(catalogue, spans, *c) {
+        match cell_id(catalogue, tables, *c) {
             Some(x) if x.0 as u64 >= least => least = x.0 as u64 + 1,
             _ => return false,
         }
@@ -117,14 +126,14 @@ fn is_written(version: u64) -> Result<u64, ReadFault>
 #[tactic(auto, unfolding(crate::specs::ReportResolving::cell_told))]
 fn cell_told(
     catalogue: &Catalogue,
-    spans: &[Span],
+    tables: &[Span],
     c: RawCell<'_>,
 ) -> Result<(VarId, (i64, u64)), ReadFault>
-    requires { spans.now ≡ spans catalogue.now }
+    requires { tables.now ≡ spans catalogue.now }
     ensures value { Gives (λ x. x) result (cell_told catalogue.now (view_cell c.entry)) }
     ensures kind { IfErr result (λ e. (e ≡ Name) ⊎ (e ≡ Limit)) }
 {
-    let x = cell_id(catalogue, spans, c).ok_or(ReadFault::Name)?;
+    let x = cell_id(catalogue, tables, c).ok_or(ReadFault::Name)?;
     let value = c.value.number()?;
     let version = count_in(c.version)?;
     let written = is_written(version)?;
@@ -134,17 +143,25 @@ fn cell_told(
 pub(crate) fn cells_told(
     alloc: Global,
     catalogue: &Catalogue,
-    spans: &[Span],
+    tables: &[Span],
     cells: &[RawCell<'_>],
 ) -> Result<Vec<(VarId, (i64, u64))>, ReadFault>
-    requires { spans.now ≡ spans catalogue.now }
+    requires { tables.now ≡ spans catalogue.now }
     ensures { Gives (λ x. x.items) result (each (cell_told catalogue.now) (view_cells cells.now)) }
 {
     let mut made = Vec::with_capacity(alloc, cells.len())?;
     'cells: for c in cells {
-        made.push(cell_told(catalogue, spans, *c)?)?;
+        made.push(cell_told(catalogue, tables, *c)?)?;
     }
     Ok(made)
+}
+
+/// A cell that no entry wrote, with its initial value.
+fn unwritten(first: i64) -> (i64, u64)
+    ensures value { result ≡ (first, 0) }
+    ensures fits { FitsSigned w64 first }
+{
+    (first, 0)
 }
 
 /// The values of the variables, which come first, and behind them those of all cells: as they are
@@ -153,15 +170,18 @@ pub(crate) fn values_told(
     catalogue: &Catalogue,
     variables: Vec<(i64, u64)>,
     cells: &[(VarId, (i64, u64))],
-) -> Result<Vec<(i64, u64)>, ReadFault>
-    ensures value { Gives (λ x. x.items) result (Ok (values_told catalogue.now variables.items cells.now)) }
+) -> Result<Vec<(i64, u64)>, AllocError>
+    ensures value { IfOk result (λ v. v.items ≡ values_told catalogue.now variables.items cells.now) }
+    // The initial values of cells are of 64 bits, as those that it copies are.
+    ensures fit { OnOk result (All (FitsSigned w64) (drop (length catalogue.now.names) catalogue.now.initial)) }
 {
     catalogue.rules();
     let count = catalogue.var_count();
+    let begun = &catalogue.initial()[count..];
     let mut values = variables;
     let mut next = 0;
-    'cells: for (i, first) in catalogue.initial()[count..].iter().enumerate() {
-        let mut value = (*first, 0);
+    'cells: for (i, first) in begun.iter().enumerate() {
+        let mut value = unwritten(*first);
         if next < cells.len() && cells[next].0.0 as usize == count + i {
             value = cells[next].1;
             next += 1;

@@ -1,6 +1,7 @@
 //! Reports read.
 
-ghost use Rattle.std.specs.Prelude.{◌≡◌, IfOk, IfErr, ◌⊎◌, Ok};
+ghost use Rattle.std.specs.Prelude.{◌≡◌, All, FitsSigned, IfOk, IfErr, OnOk, ◌⊎◌, Ok, drop, length};
+ghost use Rattle.std.specs.Int.{w64};
 ghost use Rattle.txn_programs.specs.Told.{Told, told};
 ghost use Rattle.text_words.specs.Answers.{Gives};
 ghost use Rattle.text_words.specs.declared.fault.ReadFault.TheVariants.{Memory};
@@ -27,7 +28,8 @@ pub fn max_report(catalogue: &Catalogue) -> usize
 
 #[tactic(auto, unfolding(crate::specs::Reports::report_at))]
 fn read(alloc: Global, bytes: &[u8], catalogue: &Catalogue) -> Result<Report, ReadFault>
-    ensures { Gives told result (report_at catalogue.now bytes.now) }
+    ensures value { Gives told result (report_at catalogue.now bytes.now) }
+    ensures fit { OnOk result (All (FitsSigned w64) (drop (length catalogue.now.names) catalogue.now.initial)) }
 {
     if bytes.len() > max_report(catalogue) {
         return Err(ReadFault::TooLong);

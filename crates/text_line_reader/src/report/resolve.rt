@@ -1,6 +1,7 @@
 //! From the words of a report to what it tells: names as ids, and integers as numbers.
 
-ghost use Rattle.std.specs.Prelude.{◌≡◌, ◌⊎◌, IfErr, length};
+ghost use Rattle.std.specs.Prelude.{◌≡◌, ◌⊎◌, All, FitsSigned, IfErr, OnOk, drop, length};
+ghost use Rattle.std.specs.Int.{w64};
 ghost use Rattle.std.specs.List.{list_all};
 ghost use Rattle.txn_programs.specs.Listing.{spans};
 ghost use Rattle.txn_programs.specs.Told.{told};
@@ -78,16 +79,16 @@ fn conditions_known(catalogue: &Catalogue, entries: &[RawEntry<'_>]) -> bool
 
 /// Whether each variable's lines have its name, and those of cells name cells in their order.
 #[tactic(auto, unfolding(crate::specs::ReportResolving::variables_known))]
-fn variables_known(catalogue: &Catalogue, spans: &[Span], report: &RawReport<'_>) -> bool
-    requires spans { spans.now ≡ spans catalogue.now }
+fn variables_known(catalogue: &Catalogue, tables: &[Span], report: &RawReport<'_>) -> bool
+    requires tables { tables.now ≡ spans catalogue.now }
     requires base { length report.now.base_vars.items ≡ length catalogue.now.names }
     requires current { length report.now.now_vars.items ≡ length catalogue.now.names }
     ensures { result ≡ variables_known catalogue.now (view_raw report.entry.now) }
 {
     named_as(catalogue, &report.base_vars)
         && named_as(catalogue, &report.now_vars)
-        && cells_known(catalogue, spans, &report.base_cells)
-        && cells_known(catalogue, spans, &report.now_cells)
+        && cells_known(catalogue, tables, &report.base_cells)
+        && cells_known(catalogue, tables, &report.now_cells)
 }
 
 /// Whether only the catalogue's transactions are named.
@@ -108,13 +109,13 @@ fn transactions_known(catalogue: &Catalogue, report: &RawReport<'_>) -> bool
 
 /// Whether all names are known.
 #[tactic(auto, unfolding(crate::specs::ReportResolving::names_known))]
-fn names_known(catalogue: &Catalogue, spans: &[Span], report: &RawReport<'_>) -> bool
-    requires spans { spans.now ≡ spans catalogue.now }
+fn names_known(catalogue: &Catalogue, tables: &[Span], report: &RawReport<'_>) -> bool
+    requires tables { tables.now ≡ spans catalogue.now }
     requires base { length report.now.base_vars.items ≡ length catalogue.now.names }
     requires current { length report.now.now_vars.items ≡ length catalogue.now.names }
     ensures { result ≡ names_known catalogue.now (view_raw report.entry.now) }
 {
-    if !variables_known(catalogue, spans, report) {
+    if !variables_known(catalogue, tables, report) {
         return false;
     }
     if !transactions_known(catalogue, report) {
@@ -255,28 +256,31 @@ fn tasks_told(
 fn told_of(
     alloc: Global,
     catalogue: &Catalogue,
-    spans: &[Span],
+    tables: &[Span],
     report: &RawReport<'_>,
 ) -> Result<Report, ReadFault>
-    requires { spans.now ≡ spans catalogue.now }
-    ensures { Gives told result (told_of catalogue.now (view_raw report.entry.now)) }
+    requires { tables.now ≡ spans catalogue.now }
+    ensures value { Gives told result (told_of catalogue.now (view_raw report.entry.now)) }
+    ensures fit { OnOk result (All (FitsSigned w64) (drop (length catalogue.now.names) catalogue.now.initial)) }
 {
     let values = catalogue.initial().len();
     let base = count_in(report.base)?;
     let base_vars = variables_told(alloc, values, &report.base_vars)?;
-    let base_cells = cells_told(alloc, catalogue, spans, &report.base_cells)?;
+    let base_cells = cells_told(alloc, catalogue, tables, &report.base_cells)?;
     let entries = entries_told(alloc, catalogue, &report.entries)?;
     let now = count_in(report.now)?;
     let now_vars = variables_told(alloc, values, &report.now_vars)?;
-    let now_cells = cells_told(alloc, catalogue, spans, &report.now_cells)?;
+    let now_cells = cells_told(alloc, catalogue, tables, &report.now_cells)?;
     let parked = tasks_told(alloc, catalogue, &report.parked)?;
     let memory = tasks_told(alloc, catalogue, &report.memory)?;
+    let base_vars = values_told(catalogue, base_vars, &base_cells)?;
+    let now_vars = values_told(catalogue, now_vars, &now_cells)?;
     Ok(Report {
         base,
-        base_vars: values_told(catalogue, base_vars, &base_cells)?,
+        base_vars,
         entries,
         now,
-        now_vars: values_told(catalogue, now_vars, &now_cells)?,
+        now_vars,
         parked,
         memory,
     })
@@ -291,11 +295,12 @@ pub(crate) fn resolved(
 ) -> Result<Report, ReadFault>
     requires base { length report.now.base_vars.items ≡ length catalogue.now.names }
     requires current { length report.now.now_vars.items ≡ length catalogue.now.names }
-    ensures { Gives told result (resolved catalogue.now (view_raw report.entry.now)) }
+    ensures value { Gives told result (resolved catalogue.now (view_raw report.entry.now)) }
+    ensures fit { OnOk result (All (FitsSigned w64) (drop (length catalogue.now.names) catalogue.now.initial)) }
 {
-    let spans = spans_of(alloc, catalogue)?;
-    if names_known(catalogue, &spans, report) {
-        told_of(alloc, catalogue, &spans, report)
+    let tables = spans_of(alloc, catalogue)?;
+    if names_known(catalogue, &tables, report) {
+        told_of(alloc, catalogue, &tables, report)
     } else {
         Err(ReadFault::Name)
     }

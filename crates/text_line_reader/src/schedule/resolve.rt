@@ -17,25 +17,25 @@ use text_words::ReadFault;
 use txn::{Catalogue, Move, Span, TaskId, VarId};
 
 /// Whether a line's variable or cell is known, if it names one.
-fn is_known(catalogue: &Catalogue, spans: &[Span], line: RawMove<'_>) -> bool
-    requires { spans.now ≡ spans catalogue.now }
+fn is_known(catalogue: &Catalogue, tables: &[Span], line: RawMove<'_>) -> bool
+    requires { tables.now ≡ spans catalogue.now }
     ensures { result ≡ is_known catalogue.now (view_move line.entry) }
 {
     match line {
         RawMove::OfTask(_, _) | RawMove::Word => true,
         RawMove::OfVariable(_, _, name) => catalogue.var_id(name).is_some(),
         RawMove::OfCell(_, _, table, index) => {
-            cell_named(catalogue, spans, table, index).is_some()
+            cell_named(catalogue, tables, table, index).is_some()
         }
     }
 }
 
 /// Whether all names are known.
-fn names_known(catalogue: &Catalogue, spans: &[Span], lines: &[RawMove<'_>]) -> bool
-    requires { spans.now ≡ spans catalogue.now }
+fn names_known(catalogue: &Catalogue, tables: &[Span], lines: &[RawMove<'_>]) -> bool
+    requires { tables.now ≡ spans catalogue.now }
     ensures { result ≡ list_all (λ line. is_known catalogue.now (view_move line)) lines.now }
 {
-    lines.iter().all(|line| is_known(catalogue, spans, *line))
+    lines.iter().all(|line| is_known(catalogue, tables, *line))
 }
 
 fn task_move(verb: TaskVerb, task: TaskId) -> Move
@@ -73,24 +73,24 @@ fn variable_id(catalogue: &Catalogue, name: &str) -> Result<VarId, ReadFault>
 #[tactic(auto, unfolding(crate::specs::ScheduleResolving::cell_id))]
 fn cell_id(
     catalogue: &Catalogue,
-    spans: &[Span],
+    tables: &[Span],
     table: &str,
     index: Count<'_>,
 ) -> Result<VarId, ReadFault>
-    requires { spans.now ≡ spans catalogue.now }
+    requires { tables.now ≡ spans catalogue.now }
     ensures value { Gives (λ x. x) result (cell_id catalogue.now table.now index.entry.text.now) }
     ensures kind { IfErr result (λ e. e ≡ Name) }
 {
-    cell_named(catalogue, spans, table, index).ok_or(ReadFault::Name)
+    cell_named(catalogue, tables, table, index).ok_or(ReadFault::Name)
 }
 
 /// The move of a line.
 fn move_told(
     catalogue: &Catalogue,
-    spans: &[Span],
+    tables: &[Span],
     line: RawMove<'_>,
 ) -> Result<Move, ReadFault>
-    requires { spans.now ≡ spans catalogue.now }
+    requires { tables.now ≡ spans catalogue.now }
     ensures value { Gives (λ x. x) result (move_told catalogue.now (view_move line.entry)) }
     ensures kind { IfErr result (λ e. (e ≡ Name) ⊎ (e ≡ Limit)) }
 {
@@ -106,7 +106,7 @@ fn move_told(
         }
         RawMove::OfCell(verb, number, table, index) => {
             let task = task_id(catalogue, number)?;
-            let cell = cell_id(catalogue, spans, table, index)?;
+            let cell = cell_id(catalogue, tables, table, index)?;
             Ok(variable_move(verb, task, cell))
         }
         RawMove::Word => Ok(Move::Word),
@@ -116,15 +116,15 @@ fn move_told(
 fn moves_told(
     alloc: Global,
     catalogue: &Catalogue,
-    spans: &[Span],
+    tables: &[Span],
     lines: &[RawMove<'_>],
 ) -> Result<Vec<Move>, ReadFault>
-    requires { spans.now ≡ spans catalogue.now }
+    requires { tables.now ≡ spans catalogue.now }
     ensures { Gives (λ x. x.items) result (moves_told catalogue.now (view_moves lines.now)) }
 {
     let mut made = Vec::with_capacity(alloc, lines.len())?;
     'lines: for line in lines {
-        made.push(move_told(catalogue, spans, *line)?)?;
+        made.push(move_told(catalogue, tables, *line)?)?;
     }
     Ok(made)
 }
@@ -137,9 +137,9 @@ pub(crate) fn resolved(
 ) -> Result<Vec<Move>, ReadFault>
     ensures { Gives (λ x. x.items) result (resolved catalogue.now (view_moves lines.now)) }
 {
-    let spans = spans_of(alloc, catalogue)?;
-    if names_known(catalogue, &spans, lines) {
-        moves_told(alloc, catalogue, &spans, lines)
+    let tables = spans_of(alloc, catalogue)?;
+    if names_known(catalogue, &tables, lines) {
+        moves_told(alloc, catalogue, &tables, lines)
     } else {
         Err(ReadFault::Name)
     }

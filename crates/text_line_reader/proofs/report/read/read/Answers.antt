@@ -1,6 +1,5 @@
 use Rattle.std.proofs.Common.{◌∙◌}
 use Rattle.text_line_reader.specs.Lines.{lines}
-use Rattle.text_line_reader.proofs.CellPlaces.{cell_back}
 use Rattle.text_line_reader.proofs.Counted.{counted}
 use Rattle.text_line_reader.proofs.report.read.read.Goals as goal
 
