@@ -5,7 +5,7 @@ use Rattle.txn_programs.specs.Names.{is_name}
 use Rattle.text_words.specs.Bytes.{is_int}
 use Rattle.text_words.specs.Words.{line}
 use Rattle.text_report_printer.specs.ReportText.{cell_text}
-use Rattle.text_line_reader.specs.Words.{is_number, is_index}
+use Rattle.text_line_reader.specs.Words.{is_number}
 
 -- NAME VALUE VERSION
 pub record Variable : Type 0 where
@@ -100,7 +100,7 @@ pub record IsVariable (v : Variable) : Type 0 where
 
 pub record IsCell (c : Cell) : Type 0 where
   pub table : is_name c.table ≡ true
-  pub index : is_index c.index ≡ true
+  pub index : is_number c.index ≡ true
   pub value : is_int c.value ≡ true
   pub version : is_number c.version ≡ true
 

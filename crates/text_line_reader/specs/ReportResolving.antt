@@ -36,15 +36,20 @@ named_as (name ∷ names) (v ∷ vs) = bytes_eq v.name name && named_as names vs
 abbrev pub cell_id : Listing → Cell → Option VarId
 cell_id l c = cell_named l c.table c.index
 
--- each is a cell, and stands behind the one before it: the first has at least this id
-abbrev mutual
-  pub in_order : Listing → ℕ → List Cell → Bool
-  in_order l least [] = true
-  in_order l least (c ∷ cs) = in_order_from l least (cell_id l c) cs
+-- it is a cell, and its id is at least this
+abbrev pub is_from : ℕ → Option VarId → Bool
+is_from least None = false
+is_from least (Some x) = nat_le least x.0
 
-  pub in_order_from : Listing → ℕ → Option VarId → List Cell → Bool
-  in_order_from l least None cs = false
-  in_order_from l least (Some x) cs = nat_le least x.0 && in_order l (suc x.0) cs
+-- the least id of a cell behind it
+abbrev pub next_id : Option VarId → ℕ
+next_id None = 0
+next_id (Some x) = suc x.0
+
+-- each is a cell, and stands behind the one before it: the first has at least this id
+abbrev pub in_order : Listing → ℕ → List Cell → Bool
+in_order l least [] = true
+in_order l least (c ∷ cs) = is_from least (cell_id l c) && in_order l (next_id (cell_id l c)) cs
 
 abbrev pub cells_known : Listing → List Cell → Bool
 cells_known l cs = in_order l 0 cs

@@ -4,7 +4,7 @@ use Rattle.std.specs.List.{flat_map}
 use Rattle.txn_programs.specs.Names.{is_name}
 use Rattle.text_words.specs.Words.{line}
 use Rattle.text_report_printer.specs.ReportText.{cell_text}
-use Rattle.text_line_reader.specs.Words.{is_number, is_index}
+use Rattle.text_line_reader.specs.Words.{is_number}
 use Rattle.text_line_reader.specs.declared.schedule.raw.TaskVerb.{TaskVerb}
 use Rattle.text_line_reader.specs.declared.schedule.raw.TaskVerb.TheVariants as of_task
 use Rattle.text_line_reader.specs.declared.schedule.raw.VariableVerb.{VariableVerb}
@@ -48,5 +48,5 @@ abbrev pub IsRaw : Bool → Raw → Type 0
 IsRaw cells (OfTask verb task) = is_number task ≡ true
 IsRaw cells (OfVariable verb task name) = (is_number task ≡ true) × (is_name name ≡ true)
 IsRaw cells (OfCell verb task table index) =
-    (cells ≡ true) × (is_number task ≡ true) × (is_name table ≡ true) × (is_index index ≡ true)
+    (cells ≡ true) × (is_number task ≡ true) × (is_name table ≡ true) × (is_number index ≡ true)
 IsRaw cells Word = Unit {0}

@@ -1,5 +1,5 @@
 -- Single words of a line: what each is read as.
-use Rattle.std.specs.Prelude.{ℕ, Bool, false, not, ◌&&◌, ◌==◌, List, [], ◌∷◌, is_some, if◌then◌else◌, Option, Some, None, Result, Ok, Err}
+use Rattle.std.specs.Prelude.{ℕ, Bool, not, ◌&&◌, List, [], is_some, if◌then◌else◌, Option, Some, None, Result, Ok, Err}
 use Rattle.std.specs.Str.Parse.{starts_with_minus}
 use Rattle.txn_programs.specs.Names.{is_name}
 use Rattle.text_words.specs.Bytes.{is_int}
@@ -9,19 +9,9 @@ use Rattle.text_words.specs.declared.fault.ReadFault.{ReadFault}
 use Rattle.text_words.specs.declared.fault.ReadFault.TheVariants.{Shape}
 use Rattle.text_line_reader.specs.Lines.{parted}
 
--- an integer without a sign
+-- an integer without a sign, and so without a leading zero
 abbrev pub is_number : List ℕ → Bool
 is_number text = not (starts_with_minus text) && is_int text
-
--- a zero stands in front of other digits
-abbrev pub is_padded : List ℕ → Bool
-is_padded [] = false
-is_padded (b ∷ []) = false
-is_padded (b ∷ c ∷ rest) = b == 48
-
--- the number of a cell, without a sign or a leading zero
-abbrev pub is_index : List ℕ → Bool
-is_index text = is_number text && not (is_padded text)
 
 -- what is there, or a fault of shape
 abbrev pub given : {A : Type 0} → Option A → Result A ReadFault
@@ -40,9 +30,6 @@ int_in text = if is_int text then Ok text else Err Shape
 
 unfoldable pub number_in : List ℕ → Result (List ℕ) ReadFault
 number_in text = if is_number text then Ok text else Err Shape
-
-unfoldable pub index_in : List ℕ → Result (List ℕ) ReadFault
-index_in text = if is_index text then Ok text else Err Shape
 
 -- it names a cell, and no variable
 unfoldable pub is_bracketed : List ℕ → Bool
@@ -74,5 +61,5 @@ cell_in text = do
   second ← given (parted 93 first.1)
   nothing ← expect [] second.1
   name ← name_in first.0
-  index ← index_in second.0
+  index ← number_in second.0
   Ok (name, index)

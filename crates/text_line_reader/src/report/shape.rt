@@ -14,6 +14,7 @@ ghost use Rattle.text_line_reader.specs.ReportView.{view_variable, view_variable
 ghost use Rattle.text_line_reader.specs.ReportView.{view_entries};
 ghost use Rattle.text_line_reader.specs.ReportView.{view_task, view_tasks, view_raw};
 
+use crate::report::cells::cells_at;
 use crate::report::raw::{RawEnding, RawEntry, RawReport, RawTask, RawVariable};
 use crate::words::after_word;
 use crate::{
@@ -256,7 +257,8 @@ fn last_at(bytes: &[u8]) -> Result<&[u8], ReadFault>
     Ok(rest)
 }
 
-/// All lines of a report of so many variables; where `cells` is true, an entry may end `outside`.
+/// All lines of a report of so many variables; where `cells` is true there may be lines of cells, and
+/// an entry may end `outside`.
 #[tactic(auto, unfolding(crate::specs::ReportReading::raw_at))]
 pub(crate) fn raw_of(
     alloc: Global,
@@ -268,9 +270,11 @@ pub(crate) fn raw_of(
 {
     let (base, rest) = number_at(bytes, "base")?;
     let (base_vars, rest) = variables_at(alloc, rest, variables)?;
+    let (base_cells, rest) = cells_at(alloc, rest, cells)?;
     let (entries, rest) = entries_at(alloc, rest, cells)?;
     let (now, rest) = number_at(rest, "now")?;
     let (now_vars, rest) = variables_at(alloc, rest, variables)?;
+    let (now_cells, rest) = cells_at(alloc, rest, cells)?;
     let (parked, rest) = tasks_at(alloc, rest, "parked")?;
     let (memory, rest) = tasks_at(alloc, rest, "memory")?;
     let rest = last_at(rest)?;
@@ -278,9 +282,11 @@ pub(crate) fn raw_of(
     Ok(RawReport {
         base,
         base_vars,
+        base_cells,
         entries,
         now,
         now_vars,
+        now_cells,
         parked,
         memory,
     })

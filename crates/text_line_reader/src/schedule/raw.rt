@@ -15,7 +15,7 @@ pub(crate) enum TaskVerb {
     Move,
 }
 
-/// The first word of a line that names a task and a variable.
+/// The first word of a line that names a task, and a variable or a cell.
 #[derive(Clone, Copy, Debug)]
 pub(crate) enum VariableVerb {
     Read,

@@ -7,7 +7,7 @@ use Rattle.text_line_reader.proofs.schedule.shape.raws_of.Goals as goal
 pub returns-in_err-end : goal.returns-in_err-end
 returns-in_err-end c =
     let p = err_from_is_err_and c.from_residual-in_err-end.result c.from_residual-in_err-end.ensures.1 in
-    rw (p.1, p.2) (raws_stop c.in_err-end.field-0.0 (view_moves c.moves.moves.items) (lines c.moves.rest.now) _ c.in_default.ensures.value c.in_err-end.ensures.value c.moves.invariant)
+    rw (p.1, p.2) (raws_stop c.args.cells c.in_err-end.field-0.0 (view_moves c.moves.moves.items) (lines c.moves.rest.now) _ c.in_default.ensures.value c.in_err-end.ensures.value c.moves.invariant)
 
 pub returns : goal.returns
-returns c = raws_done (view_moves c.moves.moves.items) (lines c.moves.rest.now) c.in_ok-end.field-0 _ c.in_ok-end.ensures.value c.moves.invariant
+returns c = raws_done c.args.cells (view_moves c.moves.moves.items) (lines c.moves.rest.now) c.in_ok-end.field-0 _ c.in_ok-end.ensures.value c.moves.invariant
