@@ -98,7 +98,7 @@ lines_none f a p all = record {
 }
 
 -- what is left after some lines, as the code cuts it off
-cut : {X : Type 0} (n : ℕ) (rest : List X) → take (length rest - n) (drop n rest) ≡ drop n rest
+pub cut : {X : Type 0} (n : ℕ) (rest : List X) → take (length rest - n) (drop n rest) ≡ drop n rest
 cut n rest = take_all (length rest - n) (drop n rest) (omega (arith, length-drop n rest))
 
 -- so many lines more

@@ -68,3 +68,7 @@ pub cells_begin : (l : Listing) (n : ℕ) (vars : List (ℤ × ℕ)) (s : Snapsh
 cells_begin l n vars s e h =
     behind (length l.names) l.initial vars
     (beside l.initial vars (subst (λ (t : Snapshot). AreBegun l.initial t.state t.versions) (sym e) h))
+
+-- of no values at all
+pub none_begin : (l : Listing) → CellsBegin l []
+none_begin l = behind (length l.names) l.initial [] (nothing l.initial)
