@@ -107,17 +107,17 @@ cells_short name index (v ∷ vs) a i b c =
     omega (arith, length-append (cell_line name index v) (cell_lines name (suc index) vs))
 
 -- of a list of which this holds it holds in each part
-each_take : (P : ℤ × ℕ → Type 0) (n : ℕ) (vs : List (ℤ × ℕ)) → AllByRecursion P vs → AllByRecursion P (take n vs)
+pub each_take : (P : ℤ × ℕ → Type 0) (n : ℕ) (vs : List (ℤ × ℕ)) → AllByRecursion P vs → AllByRecursion P (take n vs)
 each_take P zero vs h = tt
 each_take P (suc n) [] h = tt
 each_take P (suc n) (v ∷ vs) h = (h.0, each_take P n vs h.1)
 
-each_drop : (P : ℤ × ℕ → Type 0) (n : ℕ) (vs : List (ℤ × ℕ)) → AllByRecursion P vs → AllByRecursion P (drop n vs)
+pub each_drop : (P : ℤ × ℕ → Type 0) (n : ℕ) (vs : List (ℤ × ℕ)) → AllByRecursion P vs → AllByRecursion P (drop n vs)
 each_drop P zero vs h = h
 each_drop P (suc n) [] h = tt
 each_drop P (suc n) (v ∷ vs) h = each_drop P n vs h.1
 
-parted : (n : ℕ) (vs : List (ℤ × ℕ)) → length vs ≡ length (take n vs) + length (drop n vs)
+pub parted : (n : ℕ) (vs : List (ℤ × ℕ)) → length vs ≡ length (take n vs) + length (drop n vs)
 parted n vs = ap length (sym (take-append-drop n vs)) ∙ length-append (take n vs) (drop n vs)
 
 -- the name of a table that is kept with how many cells it has

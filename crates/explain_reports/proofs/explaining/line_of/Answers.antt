@@ -34,7 +34,7 @@ as_text-requires c =
     let there = is_at l c.args.bytes.now r c.args.flaw c.rules.ensures.valued c.rules.ensures.names c.rules.ensures.limits c.requires.read c.requires.flaw in
     let same = same_Some c.in-Some.text.now there.text (c.in-Some.ensures ∙ (ap (λ (n : ℕ). whole_at n (lines c.args.bytes.now)) c.place_of_flaw-place.ensures ∙ there.whole)) in
     subst (λ (t : List ℕ). IsAscii t) (sym same)
-    (line_is_ascii l c.args.bytes.now r (place_of_flaw r c.args.flaw) there.text c.rules.ensures.valued c.rules.ensures.names c.rules.ensures.limits c.requires.read there.stands)
+    (line_is_ascii l c.args.bytes.now r (place_of_flaw l r c.args.flaw) there.text c.rules.ensures.valued c.rules.ensures.names c.rules.ensures.limits c.requires.read there.stands)
 
 pub returns-clause-stands : goal.returns-clause-stands
 returns-clause-stands c =
