@@ -1,9 +1,9 @@
 -- The lines of moves are read as these moves.
-use Rattle.std.proofs.Common.{◌≡◌, ◌∙◌, ℕ, ◌<◌, ◌≤◌, ◌-◌, ◌||◌, Bool, true, false, List, [], ◌∷◌, length, map, Result, Ok, refl, sym, ap, arith}
+use Rattle.std.proofs.Common.{◌≡◌, ◌∙◌, ℕ, ◌<◌, ◌≤◌, ◌-◌, ◌||◌, suc, Bool, true, false, List, [], ◌∷◌, length, map, Result, Ok, refl, sym, ap, arith}
 use Rattle.std.specs.Prelude.{All, codes, is_some, nat_lt, sum_by, if◌then◌else◌}
 use Rattle.std.specs.Fmt.{decimal}
 use Rattle.std.specs.List.{AllByRecursion}
-use Rattle.std.proofs.lemmas.Bool.{ltb-true}
+use Rattle.std.proofs.lemmas.Bool.{lt-ltb, ltb-true}
 use Rattle.std.proofs.lemmas.Bool.Decides.{nat_tests}
 use Rattle.std.proofs.lemmas.List.Elements.{recursion_from_All}
 use Rattle.txn_programs.specs.declared.ast.TaskId.{TaskId}
@@ -78,7 +78,7 @@ past n m h = grind (arith, nat_tests)
 -- where there is a cell, cells can be told
 some_table : (ts : List (List ℕ × ℕ)) (b : Bool) (n : ℕ) → n < sum_by (λ t. t.1) ts → (nat_lt 0 (length ts) || b) ≡ true
 some_table [] b n h = absurd (omega (arith, h))
-some_table (t ∷ ts) b n h = refl
+some_table (t ∷ ts) b n h = rw (lt-ltb 0 (suc (length ts)) (omega arith)) refl
 
 of_variable_again : (l : Listing) → Keeps l → (v : VariableVerb) (task : TaskId) (x : VarId) → TaskFits l task × VariableFits l x → ReadAgain l (written_name l v task x) (variable_move v task x)
 of_variable_again l keeps v task x h = in_case (nat_lt x.0 (length l.names)) refl
