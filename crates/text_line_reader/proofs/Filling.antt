@@ -59,6 +59,18 @@ module _ (begun : List ℤ) (cells : List ToldCell) (i n next : ℕ) (lt : i < l
 pub filled_more : (values : List (ℤ × ℕ)) (v : ℤ × ℕ) (here rest total : List (ℤ × ℕ)) → here ≡ v ∷ rest → values ++ here ≡ total → (values ++ v ∷ []) ++ rest ≡ total
 filled_more values v here rest total step so_far = append_assoc values (v ∷ []) rest ∙ ap (λ (zs : List (ℤ × ℕ)). values ++ zs) (sym step) ∙ so_far
 
+-- the cell at hand has a line
+pub more_told : (values values' : List (ℤ × ℕ)) (v : ℤ × ℕ) (begun : List ℤ) (cells : List ToldCell) (i n next next' : ℕ) (total : List (ℤ × ℕ)) → i < length begun → values' ≡ values ++ v ∷ [] → next' ≡ next + 1 → v ≡ (get_or cells next no_cell).1
+    → next < length cells → (get_or cells next no_cell).0.0 ≡ n + i → values ++ filled (drop i begun) (i + n) (drop next cells) ≡ total → values' ++ filled (drop (i + 1) begun) (i + 1 + n) (drop next' cells) ≡ total
+more_told values values' v begun cells i n next next' total lt a b d more e so_far =
+    rw (a, b, d) (filled_more values (get_or cells next no_cell).1 _ _ total (step_told begun cells i n next lt more e) so_far)
+
+-- or none
+pub more_begun : (values values' : List (ℤ × ℕ)) (v : ℤ × ℕ) (begun : List ℤ) (cells : List ToldCell) (i n next next' : ℕ) (total : List (ℤ × ℕ)) → i < length begun → values' ≡ values ++ v ∷ [] → next' ≡ next → v ≡ (get_or begun i (pos 0), 0)
+    → filled (drop i begun) (i + n) (drop next cells) ≡ (get_or begun i (pos 0), 0) ∷ filled (drop (i + 1) begun) (i + 1 + n) (drop next cells)
+    → values ++ filled (drop i begun) (i + n) (drop next cells) ≡ total → values' ++ filled (drop (i + 1) begun) (i + 1 + n) (drop next' cells) ≡ total
+more_begun values values' v begun cells i n next next' total lt a b d step so_far = rw (a, b, d) (filled_more values (get_or begun i (pos 0), 0) _ _ total step so_far)
+
 -- all of them
 pub rest_is : (n : ℕ) (xs : List ℤ) → take (length xs - n) (drop n xs) ≡ drop n xs
 rest_is n xs = take_all (length xs - n) (drop n xs) (omega (arith, length-drop n xs))
@@ -72,5 +84,5 @@ values_done l variables cells values begun i n next same count le so_far =
 
 pub all_fit : (l : Listing) (begun : List ℤ) (i : ℕ) → begun ≡ drop (length l.names) l.initial → length begun ≤ i → ((k : ℕ) → k < i → FitsSigned w64 (get_or begun k (pos 0))) → All (FitsSigned w64) (drop (length l.names) l.initial)
 all_fit l begun i same le h =
-    let all : All (FitsSigned w64) begun = All-from_get_or begun (pos 0) (λ k lt. h k (omega (arith, lt, le))) in
+    let all : All (FitsSigned w64) begun = All-from_get_or (FitsSigned w64) begun (pos 0) (λ k lt. h k (omega (arith, lt, le))) in
     subst (λ (zs : List ℤ). All (FitsSigned w64) zs) same all

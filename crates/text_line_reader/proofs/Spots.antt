@@ -1,8 +1,9 @@
 -- The cells of all tables in their order: each with its table's name and its number in it.
-use Rattle.std.proofs.Common.{◌≡◌, ◌∙◌, ℕ, zero, suc, ◌+◌, ◌<◌, List, [], ◌∷◌, ◌++◌, length, map, take, drop, get_or, Some, refl, sym, ap, append_assoc, arith}
+use Rattle.std.proofs.Common.{◌≡◌, ◌∙◌, ℕ, zero, suc, ◌+◌, ◌<◌, ◌≤◌, List, [], ◌∷◌, ◌++◌, length, map, take, drop, get_or, Some, refl, sym, ap, append_assoc, arith}
 use Rattle.std.specs.Prelude.{ℤ, sum_by, slice_get, string_bytes}
 use Rattle.std.specs.declared.alloc.Global.{Global}
 use Rattle.std.specs.declared.string.String.{String}
+use Rattle.std.proofs.lemmas.List.{append-nil, drop_all}
 use Rattle.std.proofs.lemmas.List.Sums.{sum_by-cons}
 use Rattle.txn_programs.specs.declared.ast.Span.{Span}
 use Rattle.txn_programs.specs.Listing.{spans_from}
@@ -117,3 +118,8 @@ room_more first tables i t lt is =
     let rest : List (List ℕ × ℕ) = map sized (drop (i + 1) tables) in
     let s : sum_by (λ (u : List ℕ × ℕ). u.1) (sized t ∷ rest) ≡ t.1 + sum_by (λ (u : List ℕ × ℕ). u.1) rest = sum_by-cons (λ (u : List ℕ × ℕ). u.1) (sized t) rest in
     ap (λ (ts : List (String Global × ℕ)). first + sum_by (λ (u : List ℕ × ℕ). u.1) (map sized ts)) (next_item tables i t lt is) ∙ omega (arith, s)
+
+-- all of them
+pub spans_done : (made : List Span) (first : ℕ) (tables : List (String Global × ℕ)) (i : ℕ) (total : List Span) → length tables ≤ i → made ++ spans_from first (map sized (drop i tables)) ≡ total → made ≡ total
+spans_done made first tables i total le so_far =
+    sym (append-nil made) ∙ ap (λ (ts : List (String Global × ℕ)). made ++ spans_from first (map sized ts)) (sym (drop_all i tables le)) ∙ so_far
