@@ -1,6 +1,7 @@
 //! The lines of cells: read, and told.
 
-ghost use Rattle.std.specs.Prelude.{◌≡◌, ◌<◌, ◌⊎◌, All, FitsSigned, IfErr, IfOk, IfSome, OnOk, drop, length};
+ghost use Rattle.std.specs.Prelude.{◌≡◌, ◌<◌, ◌⊎◌, All, FitsSigned};
+ghost use Rattle.std.specs.Prelude.{IfErr, IfOk, IfSome, OnOk, drop, length};
 ghost use Rattle.std.specs.Int.{w64};
 ghost use Rattle.txn_programs.specs.Listing.{spans};
 ghost use Rattle.text_words.specs.Answers.{Gives};
