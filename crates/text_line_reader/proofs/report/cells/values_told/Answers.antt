@@ -1,6 +1,7 @@
 use Rattle.std.proofs.Common.{◌≡◌, ◌∙◌, ℕ, ◌+◌, ◌-◌, ◌<◌, ◌≤◌, List, [], ◌∷◌, ◌++◌, length, take, drop, get_or, ap, sym, arith, below_more}
 use Rattle.std.specs.Prelude.{ℤ, pos, FitsSigned}
 use Rattle.std.specs.Int.{w64}
+use Rattle.text_line_reader.specs.ReportResolving.{filled}
 use Rattle.text_line_reader.proofs.Filling.{rest_is, values_done, all_fit, step_past, step_later, more_told, more_begun}
 use Rattle.text_line_reader.proofs.report.cells.values_told.Goals as goal
 use Rattle.text_line_reader.proofs.report.cells.values_told.Goals.{then-next-cells+then-cells-next, else-next-cells, else-next-cells-via-then-next-cells+else-cells-next, else-next-cells-via-else-next-cells}
@@ -26,7 +27,7 @@ cells-preserved c =
           }
       | else-next-cells w ↦
           let at = w.next-is in
-          let step = elim w.else-next-cells.branch [
+          let step : filled (drop i begun) (i + n) (drop next cells) ≡ (get_or begun i (pos 0), 0) ∷ filled (drop (i + 1) begun) (i + 1 + n) (drop next cells) = elim w.else-next-cells.branch [
             | else-next-cells-via-then-next-cells+else-cells-next u ↦ step_later begun cells i n next c.cells-test.true u.if-next-cells.true u.if-cells-next.false
             | else-next-cells-via-else-next-cells u ↦ step_past begun cells i n next c.cells-test.true u.if-next-cells.false
           ] in
