@@ -57,11 +57,11 @@ IsLater x (t ∷ ts) = x ≤ t.0.0
 told_later : (x y : ℕ) (vs : List (ℤ × ℕ)) → x ≤ y → IsLater x (told_cells y vs)
 unfolding IsLater
 told_later x y [] le = tt
-told_later x y (v ∷ vs) le = in_case (eqb v.1 0) refl
-  where
-    in_case : (b : Bool) → eqb v.1 0 ≡ b → IsLater x (told_cells y (v ∷ vs))
-    in_case true e = rw e (told_later x (suc y) vs (omega (arith, le)))
-    in_case false e = rw e le
+told_later x y (v ∷ vs) le =
+    elim (eqb_tells v.1 0) [
+      | inl e ↦ rw e.0 (told_later x (suc y) vs (omega (arith, le)))
+      | inr e ↦ rw e.0 le
+    ]
 
 -- a cell that no entry wrote
 not_told : (x : ℕ) (first : ℤ) (initial : List ℤ) (ts : List (VarId × (ℤ × ℕ))) → IsLater (suc x) ts → filled (first ∷ initial) x ts ≡ (first, 0) ∷ filled initial (suc x) ts

@@ -12,7 +12,8 @@ use Rattle.std.proofs.lemmas.Option.{same_Some, slice_get-get_or}
 use Rattle.std.proofs.lemmas.Slice.Eq.{bytes_eq-Decides}
 use Rattle.txn_programs.specs.declared.ast.Span.{Span}
 use Rattle.txn_programs.specs.declared.ast.VarId.{VarId}
-use Rattle.txn_programs.specs.Limits.{limits_hold}
+use Rattle.txn_programs.specs.declared.limits.TheConstants.{MAX_VALUES}
+use Rattle.txn_programs.specs.Limits.{most_tables, limits_hold}
 use Rattle.txn_programs.specs.Listing.{Listing, cells, spans, spans_from, table_names, table_named}
 use Rattle.txn_programs.specs.Names.{is_name, names_hold}
 use Rattle.txn_programs.proofs.Lawful.{names_parts, limits_parts, passes_at}
@@ -113,14 +114,15 @@ tables_spelled l p first (t ∷ ts) h e few table span =
     let next : (q : ℕ) → suc p + q ≡ p + suc q = λ q. omega arith in
     let begin : first ≡ first + 0 = omega arith in
     subst (λ (k : ℕ). AreSpelled l k (spots (t ∷ ts))) (sym begin)
-    (row_spelled l p first 0 t.1 t (spots ts) h (omega (arith, e)) (ap (λ k. get_or l.tables k no_table) (sym here) ∙ table 0) (ap (λ k. get_or (spans l) k no_span) (sym here) ∙ span 0) refl (omega (arith, s, few))
+    (row_spelled l p first 0 t.1 t (spots ts) h (omega (arith, e)) (ap (λ k. get_or l.tables k no_table) (sym here) ∙ table 0) (ap (λ k. get_or (spans l) k no_span) (sym here) ∙ span 0) (omega arith) (omega (arith, s, few))
     (tables_spelled l (suc p) (first + t.1) ts h (omega (arith, e)) (omega (arith, s, few))
     (λ q. ap (λ k. get_or l.tables k no_table) (next q) ∙ table (suc q)) (λ q. ap (λ k. get_or (spans l) k no_span) (next q) ∙ span (suc q))))
 
 pub all_spelled : (l : Listing) → names_hold l ≡ true → limits_hold l ≡ true → AreSpelled l (length l.names) (spots l.tables)
 all_spelled l h limits =
     let few = (limits_parts l limits).cells in
-    tables_spelled l 0 (length l.names) l.tables h refl (omega (arith, few)) (λ q. refl) (λ q. refl)
+    let same : (q : ℕ) → 0 + q ≡ q = λ q. omega arith in
+    tables_spelled l 0 (length l.names) l.tables h (omega arith) (omega (arith, few)) (λ q. ap (λ k. get_or l.tables k no_table) (same q)) (λ q. ap (λ k. get_or (spans l) k no_span) (same q))
 
 pub spelled_at : (l : Listing) (x : ℕ) (ss : List (List ℕ × ℕ)) (k : ℕ) (s : List ℕ × ℕ) → AreSpelled l x ss → slice_get ss k ≡ Some s → IsSpelled l (x + k) s
 spelled_at l x [] k s h e = absurd cc
@@ -152,16 +154,17 @@ later_spelled t ts place past le s =
 at_least : (n m : ℕ) → nat_lt n m ≡ false → m ≤ n
 at_least n m h = grind (arith, nat_tests)
 
+in_table : (t : List ℕ × ℕ) (ts : List (List ℕ × ℕ)) (place : ℕ) (b : Bool) → nat_lt place t.1 ≡ b → (t.1 ≤ place → Spelled ts (place - t.1)) → Spelled (t ∷ ts) place
+in_table t ts place true e others =
+    let same : 0 + place ≡ place = omega arith in
+    record { name = t.0; index = place; is = row_at t.0 0 t.1 place (spots ts) (ltb-true place t.1 e) ∙ ap (λ i. Some (t.0, i)) same; text = rw e refl }
+in_table t ts place false e others = let le = at_least place t.1 e in later_spelled t ts place e le (others le)
+
 pub spelled : (ts : List (List ℕ × ℕ)) (place : ℕ) → place < sum_by (λ t. t.1) ts → Spelled ts place
 spelled [] place lt = absurd (omega arith)
-spelled (t ∷ ts) place lt = in_table (nat_lt place t.1) refl
-  where
-    s : sum_by (λ (u : List ℕ × ℕ). u.1) (t ∷ ts) ≡ t.1 + sum_by (λ (u : List ℕ × ℕ). u.1) ts
-    s = sum_by-cons (λ (u : List ℕ × ℕ). u.1) t ts
-
-    in_table : (b : Bool) → nat_lt place t.1 ≡ b → Spelled (t ∷ ts) place
-    in_table true e = record { name = t.0; index = place; is = row_at t.0 0 t.1 place (spots ts) (ltb-true place t.1 e); text = rw e refl }
-    in_table false e = let le = at_least place t.1 e in later_spelled t ts place e le (spelled ts (place - t.1) (omega (arith, s, lt)))
+spelled (t ∷ ts) place lt =
+    let s : sum_by (λ (u : List ℕ × ℕ). u.1) (t ∷ ts) ≡ t.1 + sum_by (λ (u : List ℕ × ℕ). u.1) ts = sum_by-cons (λ (u : List ℕ × ℕ). u.1) t ts in
+    in_table t ts place (nat_lt place t.1) refl (λ le. spelled ts (place - t.1) (omega (arith, s, lt)))
 
 -- ---- a number, as it is parsed
 
@@ -196,3 +199,30 @@ tables_end first (t ∷ ts) (suc place) =
     let s : sum_by (λ (u : List ℕ × ℕ). u.1) (t ∷ ts) ≡ t.1 + sum_by (λ (u : List ℕ × ℕ). u.1) ts = sum_by-cons (λ (u : List ℕ × ℕ). u.1) t ts in
     let h = tables_end (first + t.1) ts place in
     omega (arith, s, h)
+
+-- ---- the tables of the code
+
+spans_length : (first : ℕ) (ts : List (List ℕ × ℕ)) → length (spans_from first ts) ≡ length ts
+spans_length first [] = refl
+spans_length first (t ∷ ts) = ap suc (spans_length (first + t.1) ts)
+
+pub place_known : (l : Listing) (name : List ℕ) (p : ℕ) → Some p ≡ table_named l name → p < length (spans l)
+place_known l name p e =
+    let found = position-Some (bytes_eq name) (table_names l) p [] (sym e) in
+    let inside = found.0 in
+    let n = length-map l.tables table_text in
+    let m = spans_length (length l.names) l.tables in
+    omega (arith, inside, n, m)
+
+pub few_spans : (l : Listing) → limits_hold l ≡ true → length (spans l) ≤ most_tables
+few_spans l limits =
+    let m = spans_length (length l.names) l.tables in
+    let few = (limits_parts l limits).tables in
+    omega (arith, few, m)
+
+pub span_inside : (l : Listing) (tables : List Span) (p : ℕ) → limits_hold l ≡ true → tables ≡ spans l → (get_or tables p no_span).first + (get_or tables p no_span).length ≤ MAX_VALUES
+span_inside l tables p limits same =
+    let ends = tables_end (length l.names) l.tables p in
+    let a = (limits_parts l limits).variables in
+    let b = (limits_parts l limits).cells in
+    subst (λ (ts : List Span). (get_or ts p no_span).first + (get_or ts p no_span).length ≤ MAX_VALUES) (sym same) (omega (arith, ends, a, b))

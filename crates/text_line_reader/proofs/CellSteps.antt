@@ -50,10 +50,10 @@ text_lacks sep space (word ∷ next ∷ words) h =
 
 pub cell_lacks : (sep : ℕ) → is_name_byte sep ≡ false → is_int_byte sep ≡ false → eqb 91 sep ≡ false → eqb 93 sep ≡ false
     → (name index : List ℕ) → is_name name ≡ true → is_number index ≡ true → lacks sep (cell_text name index) ≡ true
-cell_lacks sep a b open close name index h k =
+cell_lacks sep a b left right name index h k =
     list_all-append (λ c. not (eqb c sep)) name (91 ∷ (index ++ (93 ∷ [])))
-    ∙ and_from _ _ (name_lacks sep a name h) (and_from _ _ (ap not open)
-    (list_all-append (λ c. not (eqb c sep)) index (93 ∷ []) ∙ and_from _ _ (number_lacks sep b index k) (and_from _ _ (ap not close) refl)))
+    ∙ and_from _ _ (name_lacks sep a name h) (and_from _ _ (ap not left)
+    (list_all-append (λ c. not (eqb c sep)) index (93 ∷ []) ∙ and_from _ _ (number_lacks sep b index k) (and_from _ _ (ap not right) refl)))
 
 -- the text of a cell's name
 pub record IsCellName (text : List ℕ) (x : List ℕ × List ℕ) : Type 0 where

@@ -19,6 +19,7 @@ pub mod CellPlaces
 pub mod WordsTold
 pub mod CellBacks
 pub mod CellAgains
+pub mod Filling
 pub mod Shapes
 pub mod Counted
 pub mod ReportTexts

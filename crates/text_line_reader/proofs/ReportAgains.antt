@@ -4,7 +4,7 @@ use Rattle.std.specs.Prelude.{ℤ, pos, FitsSigned, All, codes, is_some, nat_lt}
 use Rattle.std.specs.Int.{w64}
 use Rattle.std.specs.Fmt.{decimal, signed_decimal}
 use Rattle.std.specs.List.{flat_map, list_all, AllByRecursion}
-use Rattle.std.proofs.lemmas.Bool.{and_parts, and_from}
+use Rattle.std.proofs.lemmas.Bool.{and_parts, and_from, lt-ltb}
 use Rattle.std.proofs.lemmas.List.{length-map, take-append-drop}
 use Rattle.std.proofs.lemmas.List.Elements.{recursion_from_All}
 use Rattle.std.proofs.lemmas.Option.{slice_get-get_or}
@@ -197,7 +197,7 @@ cells_written l xs = written_cells (spots l.tables) (drop (length l.names) xs)
 no_tables : (ts : List (List ℕ × ℕ)) (b : Bool) (vs : List (ℤ × ℕ)) → AllByRecursion IsCell (written_cells (spots ts) vs) → HasCells (nat_lt 0 (length ts) || b) (written_cells (spots ts) vs)
 no_tables [] true vs h = tt
 no_tables [] false vs h = refl
-no_tables (t ∷ ts) b vs h = h
+no_tables (t ∷ ts) b vs h = rw (lt-ltb 0 (suc (length ts)) (omega arith)) h
 
 record ValuesAgain (l : Listing) (xs : List (ℤ × ℕ)) : Type 0 where
   count : length (written_variables l.names xs) ≡ length l.names

@@ -210,27 +210,27 @@ record ValuesBack (l : Listing) (vs : List Variable) (cs : List Cell) (xs : List
 abbrev pub cells_initial : Listing → List ℤ
 cells_initial l = drop (length l.names) l.initial
 
-values_back : (l : Listing) (vs : List Variable) (cs : List Cell) (as : List (ℤ × ℕ)) (bs : List (VarId × (ℤ × ℕ))) → values l ≡ length l.initial → limits_hold l ≡ true → AllByRecursion (FitsSigned w64) (cells_initial l)
-    → length vs ≡ length l.names → AllByRecursion IsVariable vs → named_as l.names vs ≡ true → each variable_told vs ≡ Ok as
-    → AllByRecursion IsCell cs → cells_known l cs ≡ true → each (cell_told l) cs ≡ Ok bs → ValuesBack l vs cs (values_told l as bs)
-values_back l vs cs as bs valued limits fit count are named told cs_are order cs_told =
-    let a = variables_back l.names vs as are named told in
+values_back : (l : Listing) (vs : List Variable) (cs : List Cell) (xs : List (ℤ × ℕ)) (bs : List (VarId × (ℤ × ℕ))) → values l ≡ length l.initial → limits_hold l ≡ true → AllByRecursion (FitsSigned w64) (cells_initial l)
+    → length vs ≡ length l.names → AllByRecursion IsVariable vs → named_as l.names vs ≡ true → each variable_told vs ≡ Ok xs
+    → AllByRecursion IsCell cs → cells_known l cs ≡ true → each (cell_told l) cs ≡ Ok bs → ValuesBack l vs cs (values_told l xs bs)
+values_back l vs cs xs bs valued limits fit count are named told cs_are order cs_told =
+    let a = variables_back l.names vs xs are named told in
     let long : length (cells_initial l) ≡ cells l = let n = length-drop (length l.names) l.initial in omega (arith, valued, n) in
     let b = tables_back l (cells_initial l) cs bs limits long fit cs_are order cs_told in
     let told : List (ℤ × ℕ) = filled (cells_initial l) (length l.names) bs in
-    let as_many : length as ≡ length l.names = a.count ∙ count in
-    let rest_is : drop (length l.names) (as ++ told) ≡ told = behind (length l.names) as told as_many in
+    let as_many : length xs ≡ length l.names = a.count ∙ count in
+    let rest_is : drop (length l.names) (xs ++ told) ≡ told = behind (length l.names) xs told as_many in
     let v : List ℕ = flat_map (λ (x : Variable). line (variable_words x)) vs in
     let c : List ℕ = flat_map (λ (x : Cell). line (cell_words x)) cs in
-    let cells_text : c ≡ table_lines l.tables (drop (length l.names) (as ++ told)) = b.text ∙ tables_lined l.tables told ∙ ap (table_lines l.tables) (sym rest_is) in
+    let cells_text : c ≡ table_lines l.tables (drop (length l.names) (xs ++ told)) = b.text ∙ tables_lined l.tables told ∙ ap (table_lines l.tables) (sym rest_is) in
     record {
-      text = λ rest. ap (λ (t : List ℕ). t ++ (c ++ rest)) (a.text ∙ sym (more_lines l.names as told as_many))
-          ∙ ap (λ (t : List ℕ). variable_lines l.names (as ++ told) ++ (t ++ rest)) cells_text
-          ∙ sym (append_assoc (variable_lines l.names (as ++ told)) (table_lines l.tables (drop (length l.names) (as ++ told))) rest);
-      count = let n = length-append as told in let m = b.count in omega (arith, n, m, as_many, long, valued);
+      text = λ rest. ap (λ (t : List ℕ). t ++ (c ++ rest)) (a.text ∙ sym (more_lines l.names xs told as_many))
+          ∙ ap (λ (t : List ℕ). variable_lines l.names (xs ++ told) ++ (t ++ rest)) cells_text
+          ∙ sym (append_assoc (variable_lines l.names (xs ++ told)) (table_lines l.tables (drop (length l.names) (xs ++ told))) rest);
+      count = let n = length-append xs told in let m = b.count in omega (arith, n, m, as_many, long, valued);
       begin = subst (UnwrittenBegin (cells_initial l)) (sym rest_is) b.begin;
-      values = both_all (λ x. FitsSigned w64 x.0) as told a.values b.values;
-      versions = both_all (λ x. x.1 ≤ MAX_TASKS) as told a.versions b.versions;
+      values = both_all (λ x. FitsSigned w64 x.0) xs told a.values b.values;
+      versions = both_all (λ x. x.1 ≤ MAX_TASKS) xs told a.versions b.versions;
     }
 
 -- ---- all lines

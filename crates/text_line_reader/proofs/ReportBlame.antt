@@ -16,7 +16,7 @@ use Rattle.text_words.proofs.Steps.{done}
 use Rattle.text_line_reader.specs.Lines.{Line}
 use Rattle.text_line_reader.specs.ReportRaw.{Variable, Cell, Ending, Returned, Threw, Overflow, DivideByZero, Outside, Broke, Entry, Task, Raw}
 use Rattle.text_line_reader.specs.Words.{expect, begins, is_bracketed}
-use Rattle.text_line_reader.specs.ReportReading.{variable_in, cell_line_in, valued_in, broke_in, worded_in, ending_in, entry_in, task_in, numbered_in, cells_at, raw_at}
+use Rattle.text_line_reader.specs.ReportReading.{variable_in, cell_line_in, valued_in, broke_in, worded_in, ending_in, entry_in, task_in, numbered_in, cells_at, values_at, raw_at}
 use Rattle.text_line_reader.specs.Rows.{each}
 use Rattle.text_line_reader.specs.ReportResolving.{cell_id, is_from, next_id, in_order, cells_known, named_as, is_written, cell_told, is_known, condition_known, conditions_known, variables_known, transactions_known, names_known, count_in, found, tx_id, always_id, variable_told, outcome_told, entry_told, task_told, told_of}
 use Rattle.text_line_reader.proofs.Blame.{bad, ok, err, then, either, IsShape, word_shape, name_shape, int_shape, number_shape, cell_shape, expect_shape, after_shape, line_shape, lines_shape, all_shape, end_shape, IsLimit, below_limit, task_id_limit, each_limit, any_limit}
@@ -39,6 +39,10 @@ cells_shape : (cells : Bool) (ls : List Line) → IsShape (cells_at cells ls)
 unfolding cells_at
 cells_shape false ls = ok faults.Shape _
 cells_shape true ls = all_shape is_bracketed cell_line_in cell_line_shape ls
+
+values_shape : (cells : Bool) (n : ℕ) (ls : List Line) → IsShape (values_at cells n ls)
+unfolding values_at
+values_shape cells n ls = then faults.Shape _ _ (lines_shape variable_in variable_shape n ls) (λ a. then faults.Shape _ _ (cells_shape cells a.1) (λ b. ok faults.Shape _))
 
 valued_shape : (word text : List ℕ) → IsShape (valued_in word text)
 unfolding valued_in
@@ -83,16 +87,14 @@ pub raw_shape : (cells : Bool) (n : ℕ) (ls : List Line) → IsShape (raw_at ce
 unfolding raw_at
 raw_shape cells n ls =
     then faults.Shape _ _ (line_shape (numbered_in (codes "base")) (numbered_shape (codes "base")) ls) (λ a.
-    then faults.Shape _ _ (lines_shape variable_in variable_shape n a.1) (λ b.
-    then faults.Shape _ _ (cells_shape cells b.1) (λ b'.
-    then faults.Shape _ _ (all_shape (begins (codes "entry")) (entry_in cells) (entry_shape cells) b'.1) (λ c.
+    then faults.Shape _ _ (values_shape cells n a.1) (λ b.
+    then faults.Shape _ _ (all_shape (begins (codes "entry")) (entry_in cells) (entry_shape cells) b.1) (λ c.
     then faults.Shape _ _ (line_shape (numbered_in (codes "now")) (numbered_shape (codes "now")) c.1) (λ d.
-    then faults.Shape _ _ (lines_shape variable_in variable_shape n d.1) (λ f.
-    then faults.Shape _ _ (cells_shape cells f.1) (λ f'.
-    then faults.Shape _ _ (all_shape (begins (codes "parked")) (task_in (codes "parked")) (task_shape (codes "parked")) f'.1) (λ g.
+    then faults.Shape _ _ (values_shape cells n d.1) (λ f.
+    then faults.Shape _ _ (all_shape (begins (codes "parked")) (task_in (codes "parked")) (task_shape (codes "parked")) f.1) (λ g.
     then faults.Shape _ _ (all_shape (begins (codes "memory")) (task_in (codes "memory")) (task_shape (codes "memory")) g.1) (λ h.
     then faults.Shape _ _ (line_shape (expect (codes "end")) (expect_shape (codes "end")) h.1) (λ k.
-    then faults.Shape _ _ (end_shape k.1) (λ m. ok faults.Shape _)))))))))))
+    then faults.Shape _ _ (end_shape k.1) (λ m. ok faults.Shape _)))))))))
 
 -- ---- words whose names are known fail by a limit alone
 

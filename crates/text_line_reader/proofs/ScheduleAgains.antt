@@ -1,9 +1,9 @@
 -- The lines of moves are read as these moves.
-use Rattle.std.proofs.Common.{◌≡◌, ◌∙◌, ℕ, ◌<◌, ◌≤◌, ◌-◌, ◌||◌, Bool, true, false, List, [], ◌∷◌, length, map, Result, Ok, refl, sym, ap, arith}
-use Rattle.std.specs.Prelude.{All, codes, is_some, nat_lt, sum_by, if◌then◌else◌}
+use Rattle.std.proofs.Common.{◌≡◌, ◌∙◌, ℕ, ◌<◌, ◌≤◌, ◌-◌, ◌||◌, suc, Bool, true, false, List, [], ◌∷◌, length, map, Result, Ok, refl, sym, ap, subst, arith}
+use Rattle.std.specs.Prelude.{All, codes, is_some, nat_lt, sum_by}
 use Rattle.std.specs.Fmt.{decimal}
 use Rattle.std.specs.List.{AllByRecursion}
-use Rattle.std.proofs.lemmas.Bool.{ltb-true}
+use Rattle.std.proofs.lemmas.Bool.{lt-ltb, ltb-true}
 use Rattle.std.proofs.lemmas.Bool.Decides.{nat_tests}
 use Rattle.std.proofs.lemmas.List.Elements.{recursion_from_All}
 use Rattle.txn_programs.specs.declared.ast.TaskId.{TaskId}
@@ -36,10 +36,12 @@ record Keeps (l : Listing) : Type 0 where
   few : length (tasks l) ≤ MAX_TASKS
 
 -- the line of a move that names a variable or a cell
+abbrev written_by : Bool → Listing → VariableVerb → TaskId → VarId → Raw
+written_by true l v task x = OfVariable v (decimal task.0) (spelled_name l x)
+written_by false l v task x = OfCell v (decimal task.0) (spot_of l x).0 (decimal (spot_of l x).1)
+
 abbrev written_name : Listing → VariableVerb → TaskId → VarId → Raw
-written_name l v task x =
-    if nat_lt x.0 (length l.names) then OfVariable v (decimal task.0) (spelled_name l x)
-    else OfCell v (decimal task.0) (spot_of l x).0 (decimal (spot_of l x).1)
+written_name l v task x = written_by (nat_lt x.0 (length l.names)) l v task x
 
 -- the line of a move
 pub written_move : Listing → Move → Raw
@@ -78,7 +80,7 @@ past n m h = grind (arith, nat_tests)
 -- where there is a cell, cells can be told
 some_table : (ts : List (List ℕ × ℕ)) (b : Bool) (n : ℕ) → n < sum_by (λ t. t.1) ts → (nat_lt 0 (length ts) || b) ≡ true
 some_table [] b n h = absurd (omega (arith, h))
-some_table (t ∷ ts) b n h = refl
+some_table (t ∷ ts) b n h = rw (lt-ltb 0 (suc (length ts)) (omega arith)) refl
 
 of_variable_again : (l : Listing) → Keeps l → (v : VariableVerb) (task : TaskId) (x : VarId) → TaskFits l task × VariableFits l x → ReadAgain l (written_name l v task x) (variable_move v task x)
 of_variable_again l keeps v task x h = in_case (nat_lt x.0 (length l.names)) refl
@@ -92,22 +94,24 @@ of_variable_again l keeps v task x h = in_case (nat_lt x.0 (length l.names)) ref
     in_case : (b : Bool) → nat_lt x.0 (length l.names) ≡ b → ReadAgain l (written_name l v task x) (variable_move v task x)
     in_case true e =
         let lt = ltb-true x.0 (length l.names) e in
-        rw e (record {
+        let r : ReadAgain l (written_by true l v task x) (variable_move v task x) = record {
           words = (number, variable_is_name l x keeps.names lt);
           known = variable_is_known l x keeps.names lt;
           told = rw (task_id_again l task few h.0, variable_again l x keeps.names lt) refl;
           text = ap line (variable_words l v task x);
-        })
+        } in
+        subst (λ (b : Bool). ReadAgain l (written_by b l v task x) (variable_move v task x)) (sym e) r
     in_case false e =
         let le = past x.0 (length l.names) e in
         let here = h.1 in
         let c = cell_is_named l x keeps.names keeps.limits le h.1 in
-        rw e (record {
+        let r : ReadAgain l (written_by false l v task x) (variable_move v task x) = record {
           words = (some_table l.tables (nat_lt 0 (most_arity l.transactions)) (x.0 - length l.names) (omega (arith, le, here)), number, c.name, c.index);
           known = ap is_some c.id;
           told = rw (task_id_again l task few h.0, cell_again l x keeps.names keeps.limits le h.1) refl;
           text = ap line (variable_words l v task x) ∙ ap (λ (n : List ℕ). line (variable_word v ∷ decimal task.0 ∷ n ∷ [])) c.text;
-        })
+        } in
+        subst (λ (b : Bool). ReadAgain l (written_by b l v task x) (variable_move v task x)) (sym e) r
 
 move_again : (l : Listing) → Keeps l → (m : Move) → MoveFits l m → ReadAgain l (written_move l m) m
 unfolding written_move

@@ -8,7 +8,7 @@ use Rattle.text_line_reader.specs.Lines.{Line, parted}
 use Rattle.text_line_reader.specs.ReportRaw.{Variable, Cell, Ending, Returned, Threw, Overflow, DivideByZero, Outside, Broke, Entry, Task, Raw, variable_words, cell_words, ending_words, entry_words, task_words, number_words, IsVariable, IsCell, HasCells, IsEnding, IsEntry, IsTask, IsRaw}
 use Rattle.text_line_reader.specs.Words.{is_number, expect, begins, is_bracketed}
 use Rattle.text_line_reader.specs.Rows.{line_at, lines_at, all_by, all_at, end_at}
-use Rattle.text_line_reader.specs.ReportReading.{numbered_in, variable_in, cell_line_in, entry_in, task_in, cells_at, raw_at}
+use Rattle.text_line_reader.specs.ReportReading.{numbered_in, variable_in, cell_line_in, entry_in, task_in, cells_at, values_at, raw_at}
 use Rattle.text_line_reader.proofs.Parting.{lacks}
 use Rattle.text_line_reader.proofs.Steps.{text_of, expect_takes, expect_again, begins_again, begins_not, begins_alone}
 use Rattle.text_line_reader.proofs.ReportSteps.{variable_takes, variable_again, entry_takes, entry_again, entry_text, task_takes, task_again, numbered_takes, numbered_again}
@@ -65,6 +65,27 @@ cells_take true ls x e =
     let t : TakesLines cell_words IsCell ls x = all_take cell_words IsCell is_bracketed cell_line_in cell_reads ls x e in
     record { parts = t.parts; are = t.are }
 
+-- the lines are those of so many variables, then those of cells, and then the rest
+record TakesValues (cells : Bool) (n : ℕ) (ls : List Line) (x : (List Variable × List Cell) × List Line) : Type 0 where
+  parts : ls ≡ map (line_of variable_words) x.0.0 ++ (map (line_of cell_words) x.0.1 ++ x.1)
+  count : length x.0.0 ≡ n
+  variables : AllByRecursion IsVariable x.0.0
+  cells_are : HasCells cells x.0.1
+
+values_take : (cells : Bool) (n : ℕ) (ls : List Line) (x : (List Variable × List Cell) × List Line) → values_at cells n ls ≡ Ok x → TakesValues cells n ls x
+unfolding values_at
+values_take cells n ls x e =
+    let a = bind_ok (lines_at variable_in n ls) _ x e in
+    let b = bind_ok (cells_at cells a.0.1) _ x a.2 in
+    let vars = lines_take variable_words IsVariable variable_in variable_reads n ls a.0 a.1 in
+    let of_cells = cells_take cells a.0.1 b.0 b.1 in
+    subst (TakesValues cells n ls) (ok_is ((a.0.0, b.0.0), b.0.1) x b.2) (record {
+      parts = vars.0.parts ∙ ap (λ (us : List Line). map (line_of variable_words) a.0.0 ++ us) of_cells.parts;
+      count = vars.1;
+      variables = vars.0.are;
+      cells_are = of_cells.are;
+    })
+
 pub record TakesRaw (cells : Bool) (n : ℕ) (ls : List Line) (r : Raw) : Type 0 where
   pub parts : ls ≡ raw_lines r
   pub is : IsRaw cells n r
@@ -73,49 +94,43 @@ pub raw_takes : (cells : Bool) (n : ℕ) (ls : List Line) (r : Raw) → raw_at c
 unfolding raw_at
 raw_takes cells n ls r e =
     let a = bind_ok (line_at (numbered_in (codes "base")) ls) _ r e in
-    let b = bind_ok (lines_at variable_in n a.0.1) _ r a.2 in
-    let b' = bind_ok (cells_at cells b.0.1) _ r b.2 in
-    let c = bind_ok (all_at (codes "entry") (entry_in cells) b'.0.1) _ r b'.2 in
+    let b = bind_ok (values_at cells n a.0.1) _ r a.2 in
+    let c = bind_ok (all_at (codes "entry") (entry_in cells) b.0.1) _ r b.2 in
     let d = bind_ok (line_at (numbered_in (codes "now")) c.0.1) _ r c.2 in
-    let f = bind_ok (lines_at variable_in n d.0.1) _ r d.2 in
-    let f' = bind_ok (cells_at cells f.0.1) _ r f.2 in
-    let g = bind_ok (all_at (codes "parked") (task_in (codes "parked")) f'.0.1) _ r f'.2 in
+    let f = bind_ok (values_at cells n d.0.1) _ r d.2 in
+    let g = bind_ok (all_at (codes "parked") (task_in (codes "parked")) f.0.1) _ r f.2 in
     let h = bind_ok (all_at (codes "memory") (task_in (codes "memory")) g.0.1) _ r g.2 in
     let k = bind_ok (line_at (expect (codes "end")) h.0.1) _ r h.2 in
     let m = bind_ok (end_at k.0.1) _ r k.2 in
     let base = line_takes (number_words (codes "base")) (λ t. is_number t ≡ true) (numbered_in (codes "base")) (numbered_reads (codes "base") refl) ls a.0 a.1 in
-    let base_vars = lines_take variable_words IsVariable variable_in variable_reads n a.0.1 b.0 b.1 in
-    let base_cells = cells_take cells b.0.1 b'.0 b'.1 in
-    let entries = all_take entry_words (IsEntry cells) (begins (codes "entry")) (entry_in cells) (entry_reads cells) b'.0.1 c.0 c.1 in
+    let base_values = values_take cells n a.0.1 b.0 b.1 in
+    let entries = all_take entry_words (IsEntry cells) (begins (codes "entry")) (entry_in cells) (entry_reads cells) b.0.1 c.0 c.1 in
     let current = line_takes (number_words (codes "now")) (λ t. is_number t ≡ true) (numbered_in (codes "now")) (numbered_reads (codes "now") refl) c.0.1 d.0 d.1 in
-    let current_vars = lines_take variable_words IsVariable variable_in variable_reads n d.0.1 f.0 f.1 in
-    let current_cells = cells_take cells f.0.1 f'.0 f'.1 in
-    let parked = all_take (task_words (codes "parked")) IsTask (begins (codes "parked")) (task_in (codes "parked")) (task_reads (codes "parked") refl) f'.0.1 g.0 g.1 in
+    let current_values = values_take cells n d.0.1 f.0 f.1 in
+    let parked = all_take (task_words (codes "parked")) IsTask (begins (codes "parked")) (task_in (codes "parked")) (task_reads (codes "parked") refl) f.0.1 g.0 g.1 in
     let memory = all_take (task_words (codes "memory")) IsTask (begins (codes "memory")) (task_in (codes "memory")) (task_reads (codes "memory") refl) g.0.1 h.0 h.1 in
     let last = line_takes end_words (λ u. Unit {0}) (expect (codes "end")) end_reads h.0.1 k.0 k.1 in
-    let made : Raw = record { base = a.0.0; base_vars = b.0.0; base_cells = b'.0.0; entries = c.0.0; current = d.0.0; current_vars = f.0.0; current_cells = f'.0.0; parked = g.0.0; memory = h.0.0 } in
+    let made : Raw = record { base = a.0.0; base_vars = b.0.0.0; base_cells = b.0.0.1; entries = c.0.0; current = d.0.0; current_vars = f.0.0.0; current_cells = f.0.0.1; parked = g.0.0; memory = h.0.0 } in
     subst (TakesRaw cells n ls) (ok_is made r m.2) (record {
       parts = base.parts
-          ∙ ap (λ (us : List Line). line_of (number_words (codes "base")) a.0.0 ∷ us) (base_vars.0.parts
-          ∙ ap (λ (us : List Line). map (line_of variable_words) b.0.0 ++ us) (base_cells.parts
-          ∙ ap (λ (us : List Line). map (line_of cell_words) b'.0.0 ++ us) (entries.parts
+          ∙ ap (λ (us : List Line). line_of (number_words (codes "base")) a.0.0 ∷ us) (base_values.parts
+          ∙ ap (λ (us : List Line). map (line_of variable_words) b.0.0.0 ++ (map (line_of cell_words) b.0.0.1 ++ us)) (entries.parts
           ∙ ap (λ (us : List Line). map (line_of entry_words) c.0.0 ++ us) (current.parts
-          ∙ ap (λ (us : List Line). line_of (number_words (codes "now")) d.0.0 ∷ us) (current_vars.0.parts
-          ∙ ap (λ (us : List Line). map (line_of variable_words) f.0.0 ++ us) (current_cells.parts
-          ∙ ap (λ (us : List Line). map (line_of cell_words) f'.0.0 ++ us) (parked.parts
+          ∙ ap (λ (us : List Line). line_of (number_words (codes "now")) d.0.0 ∷ us) (current_values.parts
+          ∙ ap (λ (us : List Line). map (line_of variable_words) f.0.0.0 ++ (map (line_of cell_words) f.0.0.1 ++ us)) (parked.parts
           ∙ ap (λ (us : List Line). map (line_of (task_words (codes "parked"))) g.0.0 ++ us) (memory.parts
           ∙ ap (λ (us : List Line). map (line_of (task_words (codes "memory"))) h.0.0 ++ us) (last.parts
-          ∙ ap (λ (us : List Line). line_of end_words tt ∷ us) (end_is k.0.1 m.0 m.1))))))))));
+          ∙ ap (λ (us : List Line). line_of end_words tt ∷ us) (end_is k.0.1 m.0 m.1))))))));
       is = record {
         base = base.is;
-        base_count = base_vars.1;
-        base_vars = base_vars.0.are;
-        base_cells = base_cells.are;
+        base_count = base_values.count;
+        base_vars = base_values.variables;
+        base_cells = base_values.cells_are;
         entries = entries.are;
         current = current.is;
-        current_count = current_vars.1;
-        current_vars = current_vars.0.are;
-        current_cells = current_cells.are;
+        current_count = current_values.count;
+        current_vars = current_values.variables;
+        current_cells = current_values.cells_are;
         parked = parked.are;
         memory = memory.are;
       };
@@ -170,11 +185,16 @@ unfolding cells_at
 so_written false cs rest h stop = subst (λ (xs : List Cell). cells_at false (map (line_of cell_words) xs ++ rest) ≡ Ok (xs, rest)) (sym h) refl
 so_written true cs rest h stop = all_again cell_words IsCell is_bracketed cell_line_in cell_reads cell_line_bracketed cs rest h stop
 
-entry_begins : (e : Entry) → begins (codes "entry") (text_of (entry_words e)) ≡ true
-entry_begins e = ap (begins (codes "entry")) (entry_text e) ∙ begins_again (codes "entry") _ refl
-
 so_many : (n : ℕ) (vars : List Variable) (rest : List Line) → length vars ≡ n → AllByRecursion IsVariable vars → lines_at variable_in n (map (line_of variable_words) vars ++ rest) ≡ Ok (vars, rest)
 so_many n vars rest count h = subst (λ (m : ℕ). lines_at variable_in m (map (line_of variable_words) vars ++ rest) ≡ Ok (vars, rest)) count (lines_again variable_words IsVariable variable_in variable_reads vars rest h)
+
+values_again : (cells : Bool) (n : ℕ) (vars : List Variable) (cs : List Cell) (rest : List Line) → length vars ≡ n → AllByRecursion IsVariable vars → HasCells cells cs → stops is_bracketed rest
+    → values_at cells n (map (line_of variable_words) vars ++ (map (line_of cell_words) cs ++ rest)) ≡ Ok ((vars, cs), rest)
+unfolding values_at
+values_again cells n vars cs rest count h k stop = rw (so_many n vars (map (line_of cell_words) cs ++ rest) count h, so_written cells cs rest k stop) refl
+
+entry_begins : (e : Entry) → begins (codes "entry") (text_of (entry_words e)) ≡ true
+entry_begins e = ap (begins (codes "entry")) (entry_text e) ∙ begins_again (codes "entry") _ refl
 
 pub raw_again : (cells : Bool) (n : ℕ) (r : Raw) → IsRaw cells n r → raw_at cells n (raw_lines r) ≡ Ok r
 unfolding raw_at
@@ -190,12 +210,10 @@ raw_again cells n r is =
     let l1 : List Line = map (line_of variable_words) r.base_vars ++ l12 in
     rw (
       line_again (number_words (codes "base")) (λ t. is_number t ≡ true) (numbered_in (codes "base")) (numbered_reads (codes "base") refl) r.base l1 is.base,
-      so_many n r.base_vars l12 is.base_count is.base_vars,
-      so_written cells r.base_cells l2 is.base_cells (entries_stop cells r.entries r.current l4 is.entries is.current),
+      values_again cells n r.base_vars r.base_cells l2 is.base_count is.base_vars is.base_cells (entries_stop cells r.entries r.current l4 is.entries is.current),
       all_again entry_words (IsEntry cells) (begins (codes "entry")) (entry_in cells) (entry_reads cells) (λ e h. entry_begins e) r.entries l3 is.entries (begins_not (codes "entry") (codes "now") r.current refl refl),
       line_again (number_words (codes "now")) (λ t. is_number t ≡ true) (numbered_in (codes "now")) (numbered_reads (codes "now") refl) r.current l4 is.current,
-      so_many n r.current_vars l45 is.current_count is.current_vars,
-      so_written cells r.current_cells l5 is.current_cells (tasks_stop (codes "parked") refl r.parked l6 is.parked (tasks_stop (codes "memory") refl r.memory l7 is.memory last_stops)),
+      values_again cells n r.current_vars r.current_cells l5 is.current_count is.current_vars is.current_cells (tasks_stop (codes "parked") refl r.parked l6 is.parked (tasks_stop (codes "memory") refl r.memory l7 is.memory last_stops)),
       all_again (task_words (codes "parked")) IsTask (begins (codes "parked")) (task_in (codes "parked")) (task_reads (codes "parked") refl) (λ t h. begins_again (codes "parked") (t.task ++ 32 ∷ t.name) refl) r.parked l6 is.parked (memory_stops r.memory),
       all_again (task_words (codes "memory")) IsTask (begins (codes "memory")) (task_in (codes "memory")) (task_reads (codes "memory") refl) (λ t h. begins_again (codes "memory") (t.task ++ 32 ∷ t.name) refl) r.memory l7 is.memory (begins_alone (codes "memory") (codes "end") last_alone),
       line_again end_words (λ u. Unit {0}) (expect (codes "end")) end_reads tt [] tt,

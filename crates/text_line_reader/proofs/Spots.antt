@@ -1,9 +1,13 @@
 -- The cells of all tables in their order: each with its table's name and its number in it.
-use Rattle.std.proofs.Common.{◌≡◌, ◌∙◌, ℕ, zero, suc, ◌+◌, ◌<◌, List, [], ◌∷◌, ◌++◌, length, take, drop, get_or, Some, refl, sym, ap, append_assoc, arith}
-use Rattle.std.specs.Prelude.{ℤ, sum_by, slice_get}
+use Rattle.std.proofs.Common.{◌≡◌, ◌∙◌, ℕ, zero, suc, ◌+◌, ◌<◌, ◌≤◌, List, [], ◌∷◌, ◌++◌, length, map, take, drop, get_or, Some, refl, sym, ap, append_assoc, arith}
+use Rattle.std.specs.Prelude.{ℤ, sum_by, slice_get, string_bytes}
+use Rattle.std.specs.declared.alloc.Global.{Global}
+use Rattle.std.specs.declared.string.String.{String}
+use Rattle.std.proofs.lemmas.List.{append-nil, drop_all}
 use Rattle.std.proofs.lemmas.List.Sums.{sum_by-cons}
 use Rattle.txn_programs.specs.declared.ast.Span.{Span}
 use Rattle.txn_programs.specs.Listing.{spans_from}
+use Rattle.text_line_reader.proofs.Each.{next_item}
 use Rattle.text_report_printer.specs.ReportText.{cell_line, cell_lines, table_lines}
 
 -- those of one table from this number on, so many
@@ -39,8 +43,8 @@ tables_lined (t ∷ ts) vs = row_lines t.0 0 t.1 (spots ts) vs ∙ ap (λ (u : L
 -- ---- how many there are
 
 row_length : (name : List ℕ) (index n : ℕ) (ss : List (List ℕ × ℕ)) → length (row name index n ++ ss) ≡ n + length ss
-row_length name index zero ss = refl
-row_length name index (suc n) ss = ap suc (row_length name (suc index) n ss)
+row_length name index zero ss = omega arith
+row_length name index (suc n) ss = let h = row_length name (suc index) n ss in omega (arith, h)
 
 pub spots_length : (ts : List (List ℕ × ℕ)) → length (spots ts) ≡ sum_by (λ t. t.1) ts
 spots_length [] = refl
@@ -58,8 +62,10 @@ row_at name index (suc n) (suc k) ss lt =
     row_at name (suc index) n k ss (omega arith) ∙ ap (λ i. Some (name, i)) same
 
 pub behind_row : (name : List ℕ) (index n k : ℕ) (ss : List (List ℕ × ℕ)) → slice_get (row name index n ++ ss) (n + k) ≡ slice_get ss k
-behind_row name index zero k ss = refl
-behind_row name index (suc n) k ss = behind_row name (suc index) n k ss
+behind_row name index zero k ss = let same : 0 + k ≡ k = omega arith in ap (slice_get ss) same
+behind_row name index (suc n) k ss =
+    let next : suc n + k ≡ suc (n + k) = omega arith in
+    ap (slice_get ((name, index) ∷ (row name (suc index) n ++ ss))) next ∙ behind_row name (suc index) n k ss
 
 abbrev pub no_table : List ℕ × ℕ
 no_table = ([], 0)
@@ -79,7 +85,7 @@ pub spot_at : (first : ℕ) (ts : List (List ℕ × ℕ)) (place index : ℕ) �
 spot_at first [] place index lt inside = absurd (omega arith)
 spot_at first (t ∷ ts) zero index lt inside =
     let s : sum_by (λ (u : List ℕ × ℕ). u.1) (t ∷ ts) ≡ t.1 + sum_by (λ (u : List ℕ × ℕ). u.1) ts = sum_by-cons (λ (u : List ℕ × ℕ). u.1) t ts in
-    record { far = 0; first_is = omega arith; length_is = refl; inside = omega (arith, inside, s); is = row_at t.0 0 t.1 index (spots ts) inside }
+    record { far = 0; first_is = omega arith; length_is = refl; inside = omega (arith, inside, s); is = let same : 0 + index ≡ index = omega arith in ap (slice_get (row t.0 0 t.1 ++ spots ts)) same ∙ row_at t.0 0 t.1 index (spots ts) inside ∙ ap (λ i. Some (t.0, i)) same }
 spot_at first (t ∷ ts) (suc place) index lt inside =
     let s = spot_at (first + t.1) ts place index (omega arith) inside in
     let f = s.first_is in
@@ -93,3 +99,27 @@ spot_at first (t ∷ ts) (suc place) index lt inside =
       inside = omega (arith, below, total);
       is = ap (slice_get (row t.0 0 t.1 ++ spots ts)) on ∙ behind_row t.0 0 t.1 (s.far + index) (spots ts) ∙ s.is;
     }
+
+-- ---- the tables as the code has them
+
+abbrev pub sized : String Global × ℕ → List ℕ × ℕ
+sized t = (string_bytes t.0, t.1)
+
+-- one table more
+pub spans_more : (made : List Span) (first : ℕ) (tables : List (String Global × ℕ)) (i : ℕ) (t : String Global × ℕ) (total : List Span) → i < length tables → t ≡ get_or tables i t
+    → made ++ spans_from first (map sized (drop i tables)) ≡ total → (made ++ record { first = first; length = t.1 } ∷ []) ++ spans_from (first + t.1) (map sized (drop (i + 1) tables)) ≡ total
+spans_more made first tables i t total lt is so_far =
+    append_assoc made (record { first = first; length = t.1 } ∷ []) (spans_from (first + t.1) (map sized (drop (i + 1) tables)))
+    ∙ ap (λ (ts : List (String Global × ℕ)). made ++ spans_from first (map sized ts)) (sym (next_item tables i t lt is)) ∙ so_far
+
+pub room_more : (first : ℕ) (tables : List (String Global × ℕ)) (i : ℕ) (t : String Global × ℕ) → i < length tables → t ≡ get_or tables i t
+    → first + sum_by (λ u. u.1) (map sized (drop i tables)) ≡ first + t.1 + sum_by (λ u. u.1) (map sized (drop (i + 1) tables))
+room_more first tables i t lt is =
+    let rest : List (List ℕ × ℕ) = map sized (drop (i + 1) tables) in
+    let s : sum_by (λ (u : List ℕ × ℕ). u.1) (sized t ∷ rest) ≡ t.1 + sum_by (λ (u : List ℕ × ℕ). u.1) rest = sum_by-cons (λ (u : List ℕ × ℕ). u.1) (sized t) rest in
+    ap (λ (ts : List (String Global × ℕ)). first + sum_by (λ (u : List ℕ × ℕ). u.1) (map sized ts)) (next_item tables i t lt is) ∙ omega (arith, s)
+
+-- all of them
+pub spans_done : (made : List Span) (first : ℕ) (tables : List (String Global × ℕ)) (i : ℕ) (total : List Span) → length tables ≤ i → made ++ spans_from first (map sized (drop i tables)) ≡ total → made ≡ total
+spans_done made first tables i total le so_far =
+    sym (append-nil made) ∙ ap (λ (ts : List (String Global × ℕ)). made ++ spans_from first (map sized ts)) (sym (drop_all i tables le)) ∙ so_far

@@ -86,27 +86,32 @@ unfoldable pub cells_at : Bool → List Line → Read (List Cell)
 cells_at false ls = Ok ([], ls)
 cells_at true ls = all_by is_bracketed cell_line_in ls
 
+-- the lines of so many variables, and behind them those of cells
+unfoldable pub values_at : Bool → ℕ → List Line → Read (List Variable × List Cell)
+values_at cells variables ls = do
+  vars ← lines_at variable_in variables ls
+  of_cells ← cells_at cells vars.1
+  Ok ((vars.0, of_cells.0), of_cells.1)
+
 unfoldable pub raw_at : Bool → ℕ → List Line → Result Raw ReadFault
 raw_at cells variables ls = do
   base ← line_at (numbered_in (codes "base")) ls
-  base_vars ← lines_at variable_in variables base.1
-  base_cells ← cells_at cells base_vars.1
-  entries ← all_at (codes "entry") (entry_in cells) base_cells.1
+  base_values ← values_at cells variables base.1
+  entries ← all_at (codes "entry") (entry_in cells) base_values.1
   current ← line_at (numbered_in (codes "now")) entries.1
-  current_vars ← lines_at variable_in variables current.1
-  current_cells ← cells_at cells current_vars.1
-  parked ← all_at (codes "parked") (task_in (codes "parked")) current_cells.1
+  current_values ← values_at cells variables current.1
+  parked ← all_at (codes "parked") (task_in (codes "parked")) current_values.1
   memory ← all_at (codes "memory") (task_in (codes "memory")) parked.1
   last ← line_at (expect (codes "end")) memory.1
   nothing ← end_at last.1
   Ok (record {
     base = base.0;
-    base_vars = base_vars.0;
-    base_cells = base_cells.0;
+    base_vars = base_values.0.0;
+    base_cells = base_values.0.1;
     entries = entries.0;
     current = current.0;
-    current_vars = current_vars.0;
-    current_cells = current_cells.0;
+    current_vars = current_values.0.0;
+    current_cells = current_values.0.1;
     parked = parked.0;
     memory = memory.0;
   })

@@ -18,7 +18,7 @@ use Rattle.text_line_reader.specs.Reports.{knows_cells}
 abbrev pub max_len : ℕ
 max_len = 1048576
 
--- the bytes are the text of these moves, each with a task and a variable of the catalogue
+-- the bytes are the text of these moves, each with a task, and a variable or a cell, of the catalogue
 pub record IsSchedule (l : Listing) (bytes : List ℕ) (moves : List Move) : Type 0 where
   pub short : length bytes ≤ max_len
   pub text : bytes ≡ schedule_text l moves

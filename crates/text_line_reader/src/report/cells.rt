@@ -1,6 +1,7 @@
 //! The lines of cells: read, and told.
 
-ghost use Rattle.std.specs.Prelude.{◌≡◌, ◌<◌, ◌⊎◌, All, FitsSigned, IfErr, IfOk, IfSome, OnOk, drop, length};
+ghost use Rattle.std.specs.Prelude.{◌≡◌, ◌<◌, ◌⊎◌, All, FitsSigned};
+ghost use Rattle.std.specs.Prelude.{IfErr, IfOk, IfSome, OnOk, drop, length};
 ghost use Rattle.std.specs.Int.{w64};
 ghost use Rattle.txn_programs.specs.Listing.{spans};
 ghost use Rattle.text_words.specs.Answers.{Gives};
@@ -157,11 +158,11 @@ pub(crate) fn cells_told(
 }
 
 /// A cell that no entry wrote, with its initial value.
-fn unwritten(first: i64) -> (i64, u64)
-    ensures value { result ≡ (first, 0) }
-    ensures fits { FitsSigned w64 first }
+fn unwritten(first: &i64) -> (i64, u64)
+    ensures value { result ≡ (first.now, 0) }
+    ensures fits { FitsSigned w64 first.now }
 {
-    (first, 0)
+    (*first, 0)
 }
 
 /// The values of the variables, which come first, and behind them those of all cells: as they are
@@ -181,7 +182,7 @@ pub(crate) fn values_told(
     let mut values = variables;
     let mut next = 0;
     'cells: for (i, first) in begun.iter().enumerate() {
-        let mut value = unwritten(*first);
+        let mut value = unwritten(first);
         if next < cells.len() && cells[next].0.0 as usize == count + i {
             value = cells[next].1;
             next += 1;

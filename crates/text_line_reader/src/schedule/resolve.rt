@@ -5,8 +5,8 @@ ghost use Rattle.std.specs.List.{list_all};
 ghost use Rattle.txn_programs.specs.Listing.{spans};
 ghost use Rattle.text_words.specs.Answers.{Gives};
 ghost use Rattle.text_words.specs.declared.fault.ReadFault.TheVariants.{Name, Limit};
-ghost use Rattle.text_line_reader.specs.ScheduleResolving.{is_known, task_move, variable_move, cell_id, variable_id, move_told};
-ghost use Rattle.text_line_reader.specs.ScheduleResolving.{moves_told, resolved};
+ghost use Rattle.text_line_reader.specs.ScheduleResolving.{is_known, task_move, variable_move, cell_id, variable_id};
+ghost use Rattle.text_line_reader.specs.ScheduleResolving.{move_told, moves_told, resolved};
 ghost use Rattle.text_line_reader.specs.ScheduleView.{view_move, view_moves};
 
 use crate::cells::{cell_named, spans_of};

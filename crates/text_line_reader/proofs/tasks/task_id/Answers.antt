@@ -1,7 +1,4 @@
 use Rattle.std.proofs.Common.{arith}
-use Rattle.text_line_reader.proofs.CellAgains.{cells_again}
-use Rattle.text_line_reader.proofs.ReportReading.{is_found}
-use Rattle.text_line_reader.proofs.ScheduleReading as tmp
 use Rattle.text_line_reader.proofs.Numbers.{below_gives}
 use Rattle.text_line_reader.proofs.tasks.task_id.Goals as goal
 

@@ -8,11 +8,9 @@ returns c =
     rw (
       c.in_ok-base.ensures.value,
       c.in_ok-base_vars.ensures,
-      c.in_ok-base_cells.ensures,
       c.in_ok-entries.ensures,
       c.in_ok-now.ensures.value,
       c.in_ok-now_vars.ensures,
-      c.in_ok-now_cells.ensures,
       c.in_ok-parked.ensures,
       c.in_ok-memory.ensures,
       c.in_ok-rest.ensures.value,
