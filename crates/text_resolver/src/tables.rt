@@ -70,7 +70,7 @@ fn cells(
     others: &[Numeral<'_>],
 ) -> Result<Cells, ReadFault>
     ensures { Gives values_of result
-        (numbers_in count.entry (int_value first.entry.text.now) (view_numbers others.now)) }
+        (numbers_in count (int_value first.entry.text.now) (view_numbers others.now)) }
 {
     if others.is_empty() {
         let number = first.number()?;
@@ -108,7 +108,7 @@ pub fn tables(alloc: Global, raw: &[RawTable<'_>]) -> Result<Vec<Table>, ReadFau
 
 /// So many cells behind the first variables. It fails by `Limit` where 32 bits have no room for their ids.
 fn span_behind(first: usize, count: usize) -> Result<Span, ReadFault>
-    ensures value { Gives (λ x. x) result (span_behind first.entry count.entry) }
+    ensures value { Gives (λ x. x) result (span_behind first count) }
     ensures kind { IfErr result (λ e. e ≡ Limit) }
 {
     let behind = first.checked_add(count).ok_or(ReadFault::Limit)?;
@@ -122,7 +122,7 @@ fn span_behind(first: usize, count: usize) -> Result<Span, ReadFault>
 /// The cells of each table as variables behind the first ones, table after table. It fails by `Limit` where 32 bits have
 /// no room for their ids.
 pub fn spans(alloc: Global, first: usize, tables: &[Table]) -> Result<Vec<Span>, ReadFault>
-    ensures { Gives (λ made. made.items) result (spans_in first.entry (map listed tables.now)) }
+    ensures { Gives (λ made. made.items) result (spans_in first (map listed tables.now)) }
 {
     let mut made = Vec::with_capacity(alloc, tables.len())?;
     let mut next = first;
