@@ -54,14 +54,14 @@ most_listed [] = refl
 most_listed (t ∷ ts) = more_than_none (arity t) (most_arity ts) ∙ ap (λ b. has_list t || b) (most_listed ts)
 
 -- with tables in form 3
-pub with_tables : {X : Type 0} (l : Listing) (f : X → List ℕ × ℕ) (xs : List X) → map f xs ≡ l.tables → eqb (length xs) 0 ≡ false → form_for l ≡ Three
-with_tables l f [] mapped e = absurd cc
-with_tables l f (x ∷ xs) mapped e = ap (λ ts. form_with ts l) (sym mapped)
+pub with_tables : {X : Type 0} (l : Listing) (f : X → List ℕ × ℕ) (xs : List X) → map f xs ≡ l.tables → 0 < length xs → form_for l ≡ Three
+with_tables l f [] mapped some = absurd (omega arith)
+with_tables l f (x ∷ xs) mapped some = ap (λ ts. form_with ts l) (sym mapped)
 
 -- without tables in the form of the rest
-without_tables : {X : Type 0} (l : Listing) (f : X → List ℕ × ℕ) (xs : List X) → map f xs ≡ l.tables → eqb (length xs) 0 ≡ true → form_for l ≡ form_with [] l
-without_tables l f [] mapped e = ap (λ ts. form_with ts l) (sym mapped)
-without_tables l f (x ∷ xs) mapped e = absurd (omega (arith, eqb-true _ _ e))
+without_tables : {X : Type 0} (l : Listing) (f : X → List ℕ × ℕ) (xs : List X) → map f xs ≡ l.tables → length xs ≤ 0 → form_for l ≡ form_with [] l
+without_tables l f [] mapped none = ap (λ ts. form_with ts l) (sym mapped)
+without_tables l f (x ∷ xs) mapped none = absurd (omega arith)
 
 with_lists_alone : (l : Listing) → 0 < most_arity l.transactions → form_with [] l ≡ Three
 with_lists_alone l h =
@@ -90,10 +90,10 @@ conditions_are f (x ∷ xs) =
     ap (λ b. cond b One Two) (sym some)
 
 -- where there are neither tables nor parameters, the conditions tell the form
-module _ {X Y : Type 0} (l : Listing) (g : Y → List ℕ × ℕ) (ys : List Y) (f : X → List ℕ × Condition) (xs : List X) where
-  pub by_conditions : map g ys ≡ l.tables → eqb (length ys) 0 ≡ true → most_arity l.transactions ≤ 0 → map f xs ≡ l.always → (b : Bool) → eqb (length xs) 0 ≡ b → form_for l ≡ cond b One Two
-  by_conditions tabled none h mapped b e =
-      without_tables l g ys tabled none ∙ without_lists l h ∙ ap form_for_conditions (sym mapped) ∙ conditions_are f xs ∙ ap (λ c. cond c One Two) e
+pub by_conditions : {X Y : Type 0} (l : Listing) (g : Y → List ℕ × ℕ) (ys : List Y) (f : X → List ℕ × Condition) (xs : List X) (b : Bool) → map g ys ≡ l.tables → length ys ≤ 0
+    → most_arity l.transactions ≤ 0 → map f xs ≡ l.always → eqb (length xs) 0 ≡ b → form_for l ≡ cond b One Two
+by_conditions l g ys f xs b tabled none few mapped e =
+    without_tables l g ys tabled none ∙ without_lists l few ∙ ap form_for_conditions (sym mapped) ∙ conditions_are f xs ∙ ap (λ c. cond c One Two) e
 
 -- where a table is known, the form has tables
 pub knows_form : (l : Listing) (t : Span) → knows_table (spans l) t ≡ true → has_tables (form_for l) ≡ true

@@ -1,5 +1,5 @@
 -- Tables by their cells, and the values of these as they are written.
-use Rattle.std.proofs.Common.{◌≡◌, ◌∙◌, ℕ, zero, suc, ◌+◌, ◌<◌, ◌≤◌, ℤ, pos, Bool, true, false, eqb, Option, Some, None, cond, List, [], ◌∷◌, ◌++◌, length, map, take, drop, replicate, sum_by, add-one, refl, sym, ap, arith}
+use Rattle.std.proofs.Common.{◌≡◌, ◌∙◌, ℕ, zero, suc, ◌+◌, ◌<◌, ◌≤◌, ℤ, pos, Bool, true, false, eqb, Option, Some, None, cond, ◌||◌, List, [], ◌∷◌, ◌++◌, length, map, take, drop, replicate, sum_by, add-one, refl, sym, ap, arith}
 use Rattle.std.specs.List.{flat_map, list_all, position, position_from}
 use Rattle.std.specs.Option.{option_map}
 use Rattle.std.specs.Ordering.{int_eq}
@@ -51,7 +51,7 @@ table_named t first (u ∷ ts) =
     ∙ ap (cond (same_span t (record { first = first; length = u.1 })) u.0) (table_named t (first + u.1) ts)
 
 -- the name of a table that is known has the form of one
-known_step : (b c : Bool) (name other : List ℕ) → is_name name ≡ true → (c ≡ true → is_name other ≡ true) → cond b true c ≡ true → is_name (cond b name other) ≡ true
+known_step : (b c : Bool) (name other : List ℕ) → is_name name ≡ true → (c ≡ true → is_name other ≡ true) → (b || c) ≡ true → is_name (cond b name other) ≡ true
 known_step true c name other here there h = here
 known_step false c name other here there h = there h
 

@@ -60,7 +60,8 @@ fn put_file(out: &mut String, catalogue: &Catalogue) -> Result<(), AllocError>
 fn form_of(catalogue: &Catalogue) -> FileForm
     ensures { result ≡ form_for catalogue.now }
 {
-    if !catalogue.tables().is_empty() || catalogue.most_parameters() > 0 {
+    let (tables, parameters) = (catalogue.tables().len(), catalogue.most_parameters());
+    if tables > 0 || parameters > 0 {
         FileForm::Three
     } else if catalogue.always().is_empty() {
         FileForm::One
@@ -80,11 +81,12 @@ fn put_heading(out: &mut String, form: FileForm) -> Result<(), AllocError>
     }
 }
 
-fn put_var(out: &mut String, name: &str, value: i64) -> Result<(), AllocError>
+fn put_var(out: &mut String, name: &str, value: &i64) -> Result<(), AllocError>
     ensures text { OnOk result (string_bytes out.new
-        ≡ string_bytes out.old ++ pair_line (codes "var") (record { name = name.now; value = value })) }
-    ensures fits { FitsSigned w64 value }
+        ≡ string_bytes out.old ++ pair_line (codes "var") (record { name = name.now; value = value.now })) }
+    ensures fits { FitsSigned w64 value.now }
 {
+    let value = *value;
     writeln!(out, "(var {name} {value})")
 }
 
@@ -97,7 +99,7 @@ fn put_vars(out: &mut String, catalogue: &Catalogue) -> Result<(), AllocError>
     catalogue.rules();
     let values = catalogue.initial();
     'vars: for i in 0..catalogue.var_count() {
-        put_var(out, catalogue.var_name(VarId(i as u32)), values[i])?;
+        put_var(out, catalogue.var_name(VarId(i as u32)), &values[i])?;
     }
     Ok(())
 }
