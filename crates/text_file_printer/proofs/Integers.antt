@@ -85,8 +85,8 @@ one_or_all false one all h k = k
 cells : (ts : List Table) → AllByRecursion TableFits ts → list_all fits (flat_map numbers_of ts) ≡ true
 cells [] h = refl
 cells (t ∷ ts) h =
-    let first = integer t.first h.0.1 in
-    let numbers = one_or_all (eqb (length t.others) 0) (replicate (natural t.count) t.first) (t.first ∷ t.others) (same (natural t.count) t.first first) (and_from _ _ first (integers t.others h.0.2)) in
+    let first = integer t.first h.0.1.0 in
+    let numbers = one_or_all (eqb (length t.others) 0) (replicate (natural t.count) t.first) (t.first ∷ t.others) (same (natural t.count) t.first first) (and_from _ _ first (integers t.others h.0.1.1)) in
     list_all-append fits (numbers_of t) (flat_map numbers_of ts) ∙ and_from _ _ numbers (cells ts h.1)
 
 initial : (l : Listing) → length l.names ≤ length l.initial → DeclareTables (written_tables l.tables (drop (length l.names) l.initial)) l

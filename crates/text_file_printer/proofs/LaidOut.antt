@@ -11,7 +11,7 @@ use Rattle.text_grammar.specs.Tree as f
 use Rattle.text_grammar.specs.declared.words.Keyword.TheVariants as keyword
 use Rattle.text_grammar.specs.declared.file.FileForm.{FileForm}
 use Rattle.text_grammar.specs.declared.file.FileForm.TheVariants.{One, Two, Three}
-use Rattle.text_file_printer.specs.Canonical.{form_text, spaced, expr_text, cond_text, stmt_text, stmts_text, pair_line, table_line, always_line, list_text, tx_line, spaced_integer, run_line, heading_text, text_of}
+use Rattle.text_file_printer.specs.Canonical.{form_text, spaced, expr_text, cond_text, stmt_text, stmts_text, pair_line, numbers_told, table_line, always_line, list_text, tx_line, spaced_integer, run_line, heading_text, text_of}
 use Rattle.text_file_printer.specs.Layout.{space_before, laid_out_in, laid_out}
 use Rattle.text_file_printer.proofs.Spellings.{two_printed, three_printed}
 
@@ -129,10 +129,10 @@ integers_laid (value ∷ values) = both (token.Int value ∷ []) (map token.Int 
 
 table_laid : (t : Table) → Lines (table_tokens t) (table_line t)
 table_laid t =
-    line_laid (codes "table") (token.Name t.name ∷ token.Int t.count ∷ token.Int t.first ∷ map token.Int t.others) _
-    (both (token.Name t.name ∷ []) (token.Int t.count ∷ token.Int t.first ∷ map token.Int t.others) _ _ (name t.name)
-    (both (token.Int t.count ∷ []) (token.Int t.first ∷ map token.Int t.others) _ _ (int t.count)
-    (both (token.Int t.first ∷ []) (map token.Int t.others) _ _ (int t.first) (integers_laid t.others))))
+    let numbers = numbers_told t in
+    line_laid (codes "table") (token.Name t.name ∷ token.Int t.count ∷ map token.Int numbers) _
+    (both (token.Name t.name ∷ []) (token.Int t.count ∷ map token.Int numbers) _ _ (name t.name)
+    (both (token.Int t.count ∷ []) (map token.Int numbers) _ _ (int t.count) (integers_laid numbers)))
 
 always_laid : (a : Always) → Lines (always_tokens a) (always_line a)
 always_laid a = line_laid (codes "always") (token.Name a.name ∷ cond_tokens a.condition) _ (both (token.Name a.name ∷ []) (cond_tokens a.condition) _ _ (name a.name) (cond_laid a.condition))

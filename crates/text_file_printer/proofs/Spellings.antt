@@ -31,7 +31,7 @@ use Rattle.text_words.specs.Tokens as token
 use Rattle.text_grammar.specs.Tree.{Expr, Cond, Stmt, Stmts, Pair, Table, Always, Declaration, Run, form, operator_word, fold_word, comparison_word, connective_word, keyword_word, expr_tokens, cond_tokens, stmt_tokens, stmts_tokens, pair_tokens, table_tokens, always_tokens, list_tokens, tx_tokens, run_tokens, heading_tokens}
 use Rattle.text_grammar.specs.Tree as f
 use Rattle.text_grammar.specs.Written.{name_at, name_of, written_expression, written_condition, written_statement, written_statements, written_always, written_transaction}
-use Rattle.text_file_printer.specs.Canonical.{form_text, spaced, expr_text, cond_text, stmt_text, stmts_text, heading_text, pair_line, table_line, always_line, list_text, tx_line, spaced_integer, run_line}
+use Rattle.text_file_printer.specs.Canonical.{form_text, spaced, expr_text, cond_text, stmt_text, stmts_text, heading_text, pair_line, numbers_told, table_line, always_line, list_text, tx_line, spaced_integer, run_line}
 use Rattle.text_file_printer.specs.Fits.{ExprFits, CondFits, StmtFits, StmtsFit, PairFits, TableFits, AlwaysFits, DeclarationFits, RunFits}
 use Rattle.text_file_printer.proofs.Spelled.{IsWord, Reads, Follows, Lines, word_reads, empty_reads, spaced_follows, none_follows, both_follow, form_reads, line_of, none_lines}
 use Rattle.text_file_printer.proofs.WordForms.{name_word, int_word}
@@ -323,10 +323,9 @@ run_lines r name h =
 
 pub table_lines : (t : Table) → is_name t.name ≡ true → TableFits t → Lines (table_line t) (table_tokens t)
 table_lines t name h =
-    let numbers = spaced_integer t.first ++ flat_map spaced_integer t.others in
-    let behind = spaced_integer t.count ++ numbers in
+    let numbers = numbers_told t in
+    let behind = spaced_integer t.count ++ flat_map spaced_integer numbers in
     line_of (form_text (codes "table") (spaced t.name ++ behind)) (table_tokens t)
-    (form_reads (codes "table") (spaced t.name ++ behind) (token.Name t.name ∷ token.Int t.count ∷ token.Int t.first ∷ map token.Int t.others) table_is_word
-    (both_follow (spaced t.name) behind (token.Name t.name ∷ []) (token.Int t.count ∷ token.Int t.first ∷ map token.Int t.others) (one_name t.name name)
-    (both_follow (spaced_integer t.count) numbers (token.Int t.count ∷ []) (token.Int t.first ∷ map token.Int t.others) (one_integer t.count h.0)
-    (both_follow (spaced_integer t.first) (flat_map spaced_integer t.others) (token.Int t.first ∷ []) (map token.Int t.others) (one_integer t.first h.1) (integers_follow t.others h.2)))))
+    (form_reads (codes "table") (spaced t.name ++ behind) (token.Name t.name ∷ token.Int t.count ∷ map token.Int numbers) table_is_word
+    (both_follow (spaced t.name) behind (token.Name t.name ∷ []) (token.Int t.count ∷ map token.Int numbers) (one_name t.name name)
+    (both_follow (spaced_integer t.count) (flat_map spaced_integer numbers) (token.Int t.count ∷ []) (map token.Int numbers) (one_integer t.count h.0) (integers_follow numbers h.1))))

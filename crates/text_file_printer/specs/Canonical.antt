@@ -54,10 +54,13 @@ pair_line word p = form_text word (spaced p.name ++ spaced (signed_decimal p.val
 abbrev pub spaced_integer : ℤ → List ℕ
 spaced_integer value = spaced (signed_decimal value)
 
+-- the numbers that are told of a table's cells
+abbrev pub numbers_told : Table → List ℤ
+numbers_told t = t.first ∷ t.others
+
 -- a table on a line
 abbrev pub table_line : Table → List ℕ
-table_line t =
-    form_text (codes "table") (spaced t.name ++ (spaced_integer t.count ++ (spaced_integer t.first ++ flat_map spaced_integer t.others))) ++ codes "\n"
+table_line t = form_text (codes "table") (spaced t.name ++ (spaced_integer t.count ++ flat_map spaced_integer (numbers_told t))) ++ codes "\n"
 
 -- a condition that has to stand, on a line
 abbrev pub always_line : Always → List ℕ

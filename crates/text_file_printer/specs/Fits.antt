@@ -3,6 +3,7 @@ use Rattle.std.specs.Prelude.{FitsSigned}
 use Rattle.std.specs.Int.{w64}
 use Rattle.std.specs.List.{AllByRecursion}
 use Rattle.text_grammar.specs.Tree.{Expr, Int, Name, At, OfAll, Binary, Cond, Compare, Not, Connect, Stmt, Skip, Set, Put, Seq, If, Repeat, Retry, OrElse, Throw, Stmts, NoStmts, MoreStmts, Pair, Table, Always, Declaration, Run, File}
+use Rattle.text_file_printer.specs.Canonical.{numbers_told}
 
 abbrev pub ExprFits : Expr → Type 0
 ExprFits (Int value) = FitsSigned w64 value
@@ -36,7 +37,7 @@ abbrev pub PairFits : Pair → Type 0
 PairFits p = FitsSigned w64 p.value
 
 abbrev pub TableFits : Table → Type 0
-TableFits t = FitsSigned w64 t.count × FitsSigned w64 t.first × AllByRecursion (FitsSigned w64) t.others
+TableFits t = FitsSigned w64 t.count × AllByRecursion (FitsSigned w64) (numbers_told t)
 
 abbrev pub AlwaysFits : Always → Type 0
 AlwaysFits a = CondFits a.condition

@@ -1,6 +1,7 @@
 //! The canonical text of a catalogue.
 
-ghost use Rattle.std.specs.Prelude.{◌≡◌, ◌<◌, ◌≤◌, ◌++◌, FitsSigned, IfOk, OnOk, codes, drop, length, map, pos, string_bytes};
+ghost use Rattle.std.specs.Prelude.{◌≡◌, ◌<◌, ◌≤◌, ◌++◌, FitsSigned, IfOk, List, OnOk, codes, drop, length, map, pos};
+ghost use Rattle.std.specs.Prelude.{string_bytes, ℕ};
 ghost use Rattle.std.specs.Int.{w64};
 ghost use Rattle.std.specs.List.{AllByRecursion, flat_map, list_all};
 ghost use Rattle.std.specs.Ordering.{int_eq};
@@ -12,8 +13,8 @@ ghost use Rattle.text_grammar.specs.Written.{form_for, written_vars, written_alw
 ghost use Rattle.text_grammar.specs.Written.{scope_of, written_in, written_table, written_tables, written};
 ghost use Rattle.text_grammar.specs.Spelling.{Spells};
 ghost use Rattle.text_grammar.specs.Tree.{file_tokens};
-ghost use Rattle.text_file_printer.specs.Canonical.{spaced, heading_text, pair_line, table_line, always_line, names_text};
-ghost use Rattle.text_file_printer.specs.Canonical.{list_text, tx_line, spaced_integer, run_line, file_text};
+ghost use Rattle.text_file_printer.specs.Canonical.{spaced, heading_text, pair_line, numbers_told, table_line};
+ghost use Rattle.text_file_printer.specs.Canonical.{always_line, names_text, list_text, tx_line, spaced_integer, run_line, file_text};
 ghost use Rattle.text_file_printer.specs.Layout.{laid_out};
 ghost use Rattle.text_file_printer.specs.Named.{ExpressionNamed, ConditionNamed, StatementNamed};
 ghost use Rattle.text_file_printer.specs.Fits.{PairFits, TableFits, AlwaysFits, DeclarationFits, RunFits, FileFits};
@@ -105,10 +106,23 @@ fn put_vars(out: &mut String, catalogue: &Catalogue) -> Result<(), AllocError>
 }
 
 /// Whether each of the numbers is this one.
-fn are_all(numbers: &[i64], n: i64) -> bool
-    ensures { result ≡ list_all (int_eq n) numbers.now }
+fn are_all(numbers: &[i64], n: &i64) -> bool
+    ensures { result ≡ list_all (int_eq n.now) numbers.now }
 {
-    numbers.iter().all(|m| n == *m)
+    numbers.iter().all(|m| *n == *m)
+}
+
+/// What is written of the values of a table's cells: the first alone where all are the same.
+fn told(values: &[i64]) -> &[i64]
+    requires { 0 < length values.now }
+    ensures { (t : List ℕ × ℕ) → result.now ≡ numbers_told (written_table t values.now) }
+{
+    let (first, others) = values.split_at(1);
+    if are_all(others, &first[0]) {
+        first
+    } else {
+        values
+    }
 }
 
 /// A table, of whose cells these are the first values.
@@ -118,12 +132,8 @@ fn put_table(out: &mut String, name: &str, count: u32, values: &[i64]) -> Result
         ≡ string_bytes out.old ++ table_line (written_table (name.now, count) values.now)) }
     ensures fits { OnOk result (TableFits (written_table (name.now, count) values.now)) }
 {
-    let (first, others) = (values[0], &values[1..]);
     put_counted(out, "table", name, count)?;
-    put_integer(out, first)?;
-    if !are_all(others, first) {
-        put_integers(out, others)?;
-    }
+    put_integers(out, told(values))?;
     out.push_str(")\n")
 }
 
