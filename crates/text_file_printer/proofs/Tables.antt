@@ -1,5 +1,5 @@
 -- Tables by their cells, and the values of these as they are written.
-use Rattle.std.proofs.Common.{◌≡◌, ◌∙◌, ℕ, zero, suc, ◌+◌, ◌<◌, ◌≤◌, ℤ, pos, Bool, true, false, eqb, Option, Some, None, cond, ◌||◌, List, [], ◌∷◌, ◌++◌, length, map, take, drop, replicate, sum_by, add-one, refl, sym, ap, arith}
+use Rattle.std.proofs.Common.{◌≡◌, ◌∙◌, ℕ, zero, suc, ◌+◌, ◌<◌, ◌≤◌, ℤ, pos, Bool, true, false, eqb, Option, Some, None, cond, ◌||◌, List, [], ◌∷◌, ◌++◌, length, map, take, drop, replicate, sum_by, add-one, refl, sym, ap, arith, String, Global}
 use Rattle.std.specs.List.{flat_map, list_all, position, position_from}
 use Rattle.std.specs.Option.{option_map}
 use Rattle.std.specs.Ordering.{int_eq}
@@ -11,7 +11,8 @@ use Rattle.std.proofs.lemmas.Iterator.Adapters.{position_from-zero}
 use Rattle.txn_programs.specs.declared.ast.Span.{Span}
 use Rattle.txn_programs.specs.Names.{is_name, same_span, knows_table}
 use Rattle.txn_programs.specs.Limits.{limits_hold, is_short, table_fits}
-use Rattle.txn_programs.specs.Listing.{Listing, spans_from, values}
+use Rattle.txn_programs.specs.Listing.{Listing, cells, spans_from, values}
+use Rattle.txn_declarations.specs.Counted.{counted}
 use Rattle.txn_programs.proofs.Lawful.{limits_parts}
 use Rattle.text_grammar.specs.Tree.{Table}
 use Rattle.text_grammar.specs.Written.{name_where, numbers_of, written_table, written_tables, DeclareTables}
@@ -69,6 +70,19 @@ length-spans first (t ∷ ts) = ap suc (length-spans (first + t.1) ts)
 
 -- ---- values
 
+abbrev Held : Type 0
+Held = String Global × ℕ
+
+counted_cells : (ts : List Held) → sum_by (λ (t : List ℕ × ℕ). t.1) (map counted ts) ≡ sum_by (λ (t : Held). t.1) ts
+counted_cells [] = refl
+counted_cells (t ∷ ts) =
+    sum_by-cons (λ (u : List ℕ × ℕ). u.1) (counted t) (map counted ts) ∙ ap (λ n. t.1 + n) (counted_cells ts)
+    ∙ sym (sum_by-cons (λ (u : Held). u.1) t ts)
+
+-- the tables of the code have all cells of the listing
+pub all_cells : (ts : List Held) (l : Listing) → map counted ts ≡ l.tables → sum_by (λ (t : Held). t.1) ts ≡ cells l
+all_cells ts l e = sym (counted_cells ts) ∙ ap (sum_by (λ (t : List ℕ × ℕ). t.1)) e
+
 all_same : (v : ℤ) (vs : List ℤ) → list_all (int_eq v) vs ≡ true → replicate (length vs) v ≡ vs
 all_same v [] h = refl
 all_same v (u ∷ vs) h =
@@ -87,18 +101,18 @@ numbers_are : (t : List ℕ × ℕ) (vs : List ℤ) → 0 < t.1 → length vs �
 numbers_are t [] some n = absurd (omega arith)
 numbers_are t (v ∷ vs) some n = numbers_by t v vs (list_all (int_eq v) vs) refl (sym n)
 
-counted_as : (t : List ℕ × ℕ) (vs : List ℤ) → ◌≡◌ {A = List ℕ × ℤ} ((written_table t vs).name, (written_table t vs).count) (t.0, pos t.1)
-counted_as t [] = refl
-counted_as t (v ∷ vs) = refl
+told_as : (t : List ℕ × ℕ) (vs : List ℤ) → ◌≡◌ {A = List ℕ × ℤ} ((written_table t vs).name, (written_table t vs).count) (t.0, pos t.1)
+told_as t [] = refl
+told_as t (v ∷ vs) = refl
 
-abbrev Counted : Type 0
-Counted = List ℕ × ℤ
+abbrev Told : Type 0
+Told = List ℕ × ℤ
 
-counted : (ts : List (List ℕ × ℕ)) (vs : List ℤ) → map {B = Counted} (λ (t : Table). (t.name, t.count)) (written_tables ts vs) ≡ map {B = Counted} (λ (t : List ℕ × ℕ). (t.0, pos t.1)) ts
-counted [] vs = refl
-counted (t ∷ ts) vs =
-    ap (λ (c : Counted). c ∷ map {B = Counted} (λ (u : Table). (u.name, u.count)) (written_tables ts (drop t.1 vs))) (counted_as t (take t.1 vs))
-    ∙ ap (λ (cs : List Counted). (t.0, pos t.1) ∷ cs) (counted ts (drop t.1 vs))
+told : (ts : List (List ℕ × ℕ)) (vs : List ℤ) → map {B = Told} (λ (t : Table). (t.name, t.count)) (written_tables ts vs) ≡ map {B = Told} (λ (t : List ℕ × ℕ). (t.0, pos t.1)) ts
+told [] vs = refl
+told (t ∷ ts) vs =
+    ap (λ (c : Told). c ∷ map {B = Told} (λ (u : Table). (u.name, u.count)) (written_tables ts (drop t.1 vs))) (told_as t (take t.1 vs))
+    ∙ ap (λ (cs : List Told). (t.0, pos t.1) ∷ cs) (told ts (drop t.1 vs))
 
 begun : (ts : List (List ℕ × ℕ)) (vs : List ℤ) → list_all table_fits ts ≡ true → sum_by (λ (t : List ℕ × ℕ). t.1) ts ≡ length vs → flat_map numbers_of (written_tables ts vs) ≡ vs
 begun [] vs h n = sym (nil_from_length vs (omega arith))
@@ -115,6 +129,6 @@ pub tables_declared : (l : Listing) → limits_hold l ≡ true → values l ≡ 
 tables_declared l h n =
     let behind = drop (length l.names) l.initial in
     record {
-      counted = counted l.tables behind;
+      counted = told l.tables behind;
       begun = begun l.tables behind (limits_parts l h).each_table (omega (arith, n, length-drop (length l.names) l.initial));
     }

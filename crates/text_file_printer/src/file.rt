@@ -147,7 +147,7 @@ fn put_tables(out: &mut String, catalogue: &Catalogue) -> Result<(), AllocError>
         (drop (length catalogue.now.names) catalogue.now.initial))) }
 {
     catalogue.rules();
-    let mut rest = &catalogue.initial()[catalogue.var_count()..];
+    let (_, mut rest) = catalogue.initial().split_at(catalogue.var_count());
     'tables: for (name, count) in catalogue.tables() {
         let (values, more) = rest.split_at(*count as usize);
         put_table(out, name.as_str(), *count, values)?;

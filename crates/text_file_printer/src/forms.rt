@@ -4,8 +4,8 @@ ghost use Rattle.std.specs.Prelude.{◌≡◌, ◌<◌, ◌++◌, FitsSigned, On
 ghost use Rattle.std.specs.Fmt.{decimal, signed_decimal};
 ghost use Rattle.std.specs.Int.{w64};
 ghost use Rattle.txn_programs.specs.Tree.{expression_of, condition_of, statement_of, statements_of_list};
-ghost use Rattle.text_grammar.specs.Written.{name_at, name_of, written_expression, written_condition, written_statement};
-ghost use Rattle.text_grammar.specs.Written.{written_statements};
+ghost use Rattle.text_grammar.specs.Written.{name_at, name_of, scope_of, written_expression, written_condition};
+ghost use Rattle.text_grammar.specs.Written.{written_statement, written_statements};
 ghost use Rattle.text_file_printer.specs.Canonical.{form_text, spaced, expr_text, cond_text, stmt_text, stmts_text};
 ghost use Rattle.text_grammar.specs.Tree.{Seq};
 ghost use Rattle.text_file_printer.specs.Named.{ExpressionNamed, ConditionNamed, StatementNamed, StatementsNamed};
@@ -62,18 +62,18 @@ fn put_param(out: &mut String, scope: &Scope<'_>, p: ParamId) -> Result<(), Allo
 }
 
 /// The name of the table with these cells, which is one of few.
-fn put_table_name(out: &mut String, scope: &Scope<'_>, table: Span) -> Result<(), AllocError>
-    ensures { OnOk result (string_bytes out.new ≡ string_bytes out.old ++ name_of (view_scope scope.now) table) }
+fn table_name<'a>(catalogue: &'a Catalogue, table: Span) -> &'a str
+    ensures { result.now ≡ name_of (scope_of catalogue.now) table }
 {
-    scope.catalogue.rules();
-    let mut first = scope.catalogue.var_count() as u32;
-    'tables: for (name, count) in scope.catalogue.tables() {
+    catalogue.rules();
+    let mut first = catalogue.var_count() as u32;
+    'tables: for (name, count) in catalogue.tables() {
         if table.first == first && table.length == *count {
-            return out.push_str(name.as_str());
+            return name.as_str();
         }
         first += *count;
     }
-    Ok(())
+    ""
 }
 
 /// All cells of a table, behind a word.
@@ -87,7 +87,7 @@ fn put_fold(
         ≡ string_bytes out.old ++ form_text word.now (spaced (name_of (view_scope scope.now) table))) }
 {
     put_opening(out, word)?;
-    put_table_name(out, scope, table)?;
+    out.push_str(table_name(scope.catalogue, table))?;
     out.push_str(")")
 }
 
@@ -130,7 +130,7 @@ fn put_cell(
     ensures fits { OnOk result (ExprFits (written_expression (view_scope scope.now) (expression_of index.now))) }
 {
     out.push_str("(at ")?;
-    put_table_name(out, scope, table)?;
+    out.push_str(table_name(scope.catalogue, table))?;
     put_last_expression(out, scope, index)
 }
 
@@ -305,7 +305,7 @@ fn put_put(
     ensures value_fits { OnOk result (ExprFits (written_expression (view_scope scope.now) (expression_of value.now))) }
 {
     out.push_str("(put ")?;
-    put_table_name(out, scope, table)?;
+    out.push_str(table_name(scope.catalogue, table))?;
     out.push_str(" ")?;
     put_expr(out, scope, index)?;
     put_last_expression(out, scope, value)
