@@ -1,10 +1,10 @@
 -- Tables by their cells, and the values of these as they are written.
-use Rattle.std.proofs.Common.{◌≡◌, ◌∙◌, ℕ, zero, suc, ◌+◌, ◌<◌, ◌≤◌, ℤ, pos, Bool, true, false, eqb, Option, Some, None, cond, ◌||◌, List, [], ◌∷◌, ◌++◌, length, map, take, drop, replicate, sum_by, add-one, refl, sym, ap, arith, String, Global}
+use Rattle.std.proofs.Common.{◌≡◌, ◌∙◌, ℕ, suc, ◌+◌, ◌<◌, ◌≤◌, ℤ, pos, Bool, true, false, eqb, Option, Some, None, cond, ◌||◌, List, [], ◌∷◌, ◌++◌, length, map, take, drop, replicate, sum_by, add-one, refl, sym, ap, arith, String, Global}
 use Rattle.std.specs.List.{flat_map, list_all, position, position_from}
 use Rattle.std.specs.Option.{option_map}
 use Rattle.std.specs.Ordering.{int_eq}
 use Rattle.std.proofs.lemmas.Bool.Decides.{Decides-int_eq}
-use Rattle.std.proofs.lemmas.Bool.{and_parts, eqb-true, ltb-true, ne_eqb}
+use Rattle.std.proofs.lemmas.Bool.{and_parts, ltb-true, ne_eqb}
 use Rattle.std.proofs.lemmas.List.{nil_from_length, length-take, length-drop, take-append-drop}
 use Rattle.std.proofs.lemmas.List.Sums.{sum_by-cons}
 use Rattle.std.proofs.lemmas.Iterator.Adapters.{position_from-zero}

@@ -77,12 +77,7 @@ fn table_name<'a>(catalogue: &'a Catalogue, table: Span) -> &'a str
 }
 
 /// All cells of a table, behind a word.
-fn put_fold(
-    out: &mut String,
-    scope: &Scope<'_>,
-    word: &str,
-    table: Span,
-) -> Result<(), AllocError>
+fn put_fold(out: &mut String, scope: &Scope<'_>, word: &str, table: Span) -> Result<(), AllocError>
     ensures { OnOk result (string_bytes out.new
         ≡ string_bytes out.old ++ form_text word.now (spaced (name_of (view_scope scope.now) table))) }
 {

@@ -1,4 +1,4 @@
-use Rattle.std.proofs.Common.{◌≡◌, ◌≤◌, ◌<◌, ◌∙◌, true, false, length, sym, arith, inl, inr}
+use Rattle.std.proofs.Common.{◌≤◌, ◌<◌, ◌∙◌, true, false, sym, arith, inl, inr}
 use Rattle.txn.specs.Arities.{most_arity}
 use Rattle.txn_declarations.specs.Conditions.{standing_of}
 use Rattle.txn_declarations.specs.Counted.{counted}

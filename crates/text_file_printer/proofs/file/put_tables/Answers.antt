@@ -1,4 +1,4 @@
-use Rattle.std.proofs.Common.{◌≡◌, ◌∙◌, ℕ, List, length, drop, map, sum_by, ap, subst, sym, true, String, Global, arith, string_bytes, ◌++◌}
+use Rattle.std.proofs.Common.{◌≡◌, ◌∙◌, List, length, drop, map, ap, subst, arith, string_bytes, ◌++◌}
 use Rattle.std.specs.List.{flat_map, list_all, AllByRecursion}
 use Rattle.std.proofs.lemmas.List.{length-drop}
 use Rattle.txn_programs.specs.Limits.{table_fits}
