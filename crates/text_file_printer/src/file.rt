@@ -7,14 +7,14 @@ ghost use Rattle.std.specs.List.{AllByRecursion, flat_map, list_all};
 ghost use Rattle.std.specs.Ordering.{int_eq};
 ghost use Rattle.txn_programs.specs.Tree.{condition_of, transaction_of};
 ghost use Rattle.txn_declarations.specs.Conditions.{standing_of};
-ghost use Rattle.txn_declarations.specs.Counted.{counted};
 ghost use Rattle.text_grammar.specs.Scope.{inside};
 ghost use Rattle.text_grammar.specs.Written.{form_for, written_vars, written_always, written_transaction, written_run};
 ghost use Rattle.text_grammar.specs.Written.{scope_of, written_in, written_table, written_tables, written};
 ghost use Rattle.text_grammar.specs.Spelling.{Spells};
 ghost use Rattle.text_grammar.specs.Tree.{file_tokens};
 ghost use Rattle.text_file_printer.specs.Canonical.{spaced, heading_text, pair_line, numbers_told, table_line};
-ghost use Rattle.text_file_printer.specs.Canonical.{always_line, names_text, list_text, tx_line, spaced_integer, run_line, file_text};
+ghost use Rattle.text_file_printer.specs.Canonical.{always_line, names_text, list_text, tx_line, spaced_integer};
+ghost use Rattle.text_file_printer.specs.Canonical.{run_line, file_text};
 ghost use Rattle.text_file_printer.specs.Layout.{laid_out};
 ghost use Rattle.text_file_printer.specs.Named.{ExpressionNamed, ConditionNamed, StatementNamed};
 ghost use Rattle.text_file_printer.specs.Fits.{PairFits, TableFits, AlwaysFits, DeclarationFits, RunFits, FileFits};
@@ -112,7 +112,7 @@ fn are_all(numbers: &[i64], n: &i64) -> bool
     numbers.iter().all(|m| *n == *m)
 }
 
-/// What is written of the values of a table's cells: the first alone where all are the same.
+/// The numbers that are written of a table whose cells begin at these values: the first alone where all are the same.
 fn told(values: &[i64]) -> &[i64]
     requires { 0 < length values.now }
     ensures { (t : List ℕ × ℕ) → result.now ≡ numbers_told (written_table t values.now) }
@@ -125,7 +125,7 @@ fn told(values: &[i64]) -> &[i64]
     }
 }
 
-/// A table, of whose cells these are the first values.
+/// A table whose cells begin at these values.
 fn put_table(out: &mut String, name: &str, count: u32, values: &[i64]) -> Result<(), AllocError>
     requires { 0 < length values.now }
     ensures text { OnOk result (string_bytes out.new
@@ -242,7 +242,8 @@ fn put_tx(
         (transaction_of tx.now).result }
     ensures text { OnOk result (string_bytes out.new
         ≡ string_bytes out.old ++ tx_line form (written_transaction (scope_of catalogue.now) (transaction_of tx.now))) }
-    ensures fits { OnOk result (DeclarationFits (written_transaction (scope_of catalogue.now) (transaction_of tx.now))) }
+    ensures fits { OnOk result
+        (DeclarationFits (written_transaction (scope_of catalogue.now) (transaction_of tx.now))) }
 {
     let params = tx.params.as_slice();
     let scope = Scope { catalogue, params };
@@ -258,8 +259,8 @@ fn put_txs(out: &mut String, catalogue: &Catalogue, form: FileForm) -> Result<()
     ensures text { OnOk result (string_bytes out.new
         ≡ string_bytes out.old
         ++ flat_map (tx_line form) (map (written_transaction (scope_of catalogue.now)) catalogue.now.transactions)) }
-    ensures fits { OnOk result
-        (AllByRecursion DeclarationFits (map (written_transaction (scope_of catalogue.now)) catalogue.now.transactions)) }
+    ensures fits { OnOk result (AllByRecursion DeclarationFits
+        (map (written_transaction (scope_of catalogue.now)) catalogue.now.transactions)) }
 {
     catalogue.rules();
     'txs: for i in 0..catalogue.tx_count() {

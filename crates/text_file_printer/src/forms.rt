@@ -61,7 +61,7 @@ fn put_param(out: &mut String, scope: &Scope<'_>, p: ParamId) -> Result<(), Allo
     out.push_str(scope.params[p.0 as usize].as_str())
 }
 
-/// The name of the table with these cells, which is one of few.
+/// The name of the table with these cells, found among the few that there are.
 fn table_name<'a>(catalogue: &'a Catalogue, table: Span) -> &'a str
     ensures { result.now ≡ name_of (scope_of catalogue.now) table }
 {
