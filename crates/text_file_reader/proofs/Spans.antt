@@ -80,6 +80,10 @@ first_place first (t ∷ ts) (suc i) h lt =
 
 -- ---- tables in scope
 
+-- the same scope while names alone are judged
+abbrev pub names_alone : Scope → Scope
+names_alone s = record { variables = s.variables; tables = s.tables; spans = []; parameters = s.parameters }
+
 -- each table in scope has cells, by which none is taken for another
 pub record Apart (s : Scope) : Type 0 where
   pub as_many : length s.spans ≡ length s.tables
