@@ -25,7 +25,7 @@ use Rattle.text_grammar.specs.declared.file.FileForm.{FileForm}
 use Rattle.txn_programs.proofs.Lawful.{names_parts, limits_parts}
 use Rattle.text_file_reader.specs.Resolved.{parameters_of, is_wanted}
 use Rattle.text_file_reader.proofs.Declared.{both, any_at, none_later, place_again, known_again, id_again, variable_again, parameter_again, declared_again}
-use Rattle.text_file_reader.proofs.Spans.{names_alone, spans_again, length-spans, table_again, table_known_again}
+use Rattle.text_file_reader.proofs.Spans.{names_alone, spans_again, spans_of_all, table_again, table_known_again}
 use Rattle.text_file_reader.proofs.Back.{both_true, names_of_conditions, names_of_txs, parameters_of_txs}
 use Rattle.text_file_reader.proofs.Calls.{all_wanted, few_wanted}
 
@@ -147,7 +147,7 @@ fine_standing : (l : Listing) → Fine [] l.names → are_distinct (table_names 
 fine_standing l fine tables = record {
   variables = fine;
   tables = tables;
-  spanned = length-spans (length l.names) l.tables ∙ sym (length-map l.tables (λ (t : List ℕ × ℕ). t.0));
+  spanned = spans_of_all l;
   parameters = record { new = refl; few = omega arith };
 }
 

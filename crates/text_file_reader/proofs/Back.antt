@@ -34,7 +34,7 @@ use Rattle.text_words.proofs.Steps.{bind_ok, ok_is, done, chosen}
 use Rattle.text_words.proofs.Numerals.{number_is}
 use Rattle.text_file_reader.specs.Resolved.{parameters_of}
 use Rattle.text_file_reader.proofs.Declared.{id_back, variable_back, parameter_back, resolved_is}
-use Rattle.text_file_reader.proofs.Spans.{Apart, spans_back, length-spans, tables_apart, table_back}
+use Rattle.text_file_reader.proofs.Spans.{Apart, spans_back, scope_apart, table_back}
 
 pub both_true : (a b : Bool) → a ≡ true → b ≡ true → (a && b) ≡ true
 both_true a b p q = rw (p, q) refl
@@ -459,14 +459,6 @@ pub record IsWritten (file : File) (l : Listing) : Type 0 where
   pub same : written_in file.form file.tables l ≡ file
   pub tabled : DeclareTables file.tables l
   pub integers : integers_fit l ≡ true
-
-scope_apart : (l : Listing) → list_all table_fits l.tables ≡ true → Apart (scope_of l)
-scope_apart l fit =
-    let many : length (table_names l) ≡ length l.tables = length-map l.tables (λ (t : List ℕ × ℕ). t.0) in
-    record {
-      as_many = length-spans (length l.names) l.tables ∙ sym many;
-      place = λ i lt. tables_apart (length l.names) l.tables fit i (omega (arith, lt, many));
-    }
 
 pub converted_back : (file : File) (l : Listing) → list_all table_fits l.tables ≡ true → IsConverted file l → IsWritten file l
 unfolding written_in integers_fit

@@ -4,18 +4,19 @@ use Rattle.std.specs.Prelude.{position, is_some, bytes_eq, nat_lt, ◌^◌, ◌=
 use Rattle.std.specs.List.{list_any, list_all, slice_index_or, position_or_len}
 use Rattle.std.proofs.lemmas.Slice.Eq.{bytes_eq-Decides}
 use Rattle.std.proofs.lemmas.Bool.{lt-ltb, ltb-true, eqb-true, eq-eqb, ne_eqb}
+use Rattle.std.proofs.lemmas.List.{length-map}
 use Rattle.std.proofs.lemmas.List.Quantifiers.{position-Some}
 use Rattle.std.proofs.lemmas.List.Folds.{list_any_at}
 use Rattle.std.proofs.lemmas.List.Sums.{sum_by-cons}
 use Rattle.txn_programs.specs.declared.ast.Span.{Span}
-use Rattle.txn_programs.specs.Listing.{spans_from}
+use Rattle.txn_programs.specs.Listing.{Listing, spans_from, spans, table_names}
 use Rattle.txn_programs.specs.Limits.{is_short, table_fits}
 use Rattle.txn_programs.specs.Names.{are_distinct, same_span, knows_table}
 use Rattle.text_words.specs.declared.fault.ReadFault.{ReadFault}
 use Rattle.text_words.specs.declared.fault.ReadFault.TheVariants as faults
 use Rattle.text_words.proofs.Steps.{bind_ok, ok_is, done, chosen}
 use Rattle.text_grammar.specs.Scope.{Scope}
-use Rattle.text_grammar.specs.Written.{name_at, name_where, name_of}
+use Rattle.text_grammar.specs.Written.{name_at, name_where, name_of, scope_of}
 use Rattle.text_grammar.specs.Resolving.{is_known, span_at, table_in, span_behind, spans_in}
 use Rattle.text_file_reader.proofs.Declared.{both, neither, place_again}
 
@@ -43,9 +44,12 @@ spans_again first (t ∷ ts) h =
     let small : nat_lt (first + t.1) (2 ^ 32) ≡ true = lt-ltb (first + t.1) (2 ^ 32) (omega (arith, h, s)) in
     rw (small, spans_again (first + t.1) ts (omega (arith, h, s))) refl
 
-pub length-spans : (first : ℕ) (ts : List (List ℕ × ℕ)) → length (spans_from first ts) ≡ length ts
+length-spans : (first : ℕ) (ts : List (List ℕ × ℕ)) → length (spans_from first ts) ≡ length ts
 length-spans first [] = refl
 length-spans first (t ∷ ts) = let h = length-spans (first + t.1) ts in omega (arith, h)
+
+pub spans_of_all : (l : Listing) → length (spans l) ≡ length (table_names l)
+spans_of_all l = length-spans (length l.names) l.tables ∙ sym (length-map l.tables (λ (t : List ℕ × ℕ). t.0))
 
 -- ---- the same cells
 
@@ -89,10 +93,16 @@ pub record Apart (s : Scope) : Type 0 where
   pub as_many : length s.spans ≡ length s.tables
   pub place : (i : ℕ) → i < length s.tables → position (same_span (slice_index_or s.spans i no_cells)) s.spans ≡ Some i
 
-pub tables_apart : (first : ℕ) (ts : List (List ℕ × ℕ)) → list_all table_fits ts ≡ true → (i : ℕ) → i < length ts → position (same_span (slice_index_or (spans_from first ts) i no_cells)) (spans_from first ts) ≡ Some i
-tables_apart first ts h i lt =
-    let there : nat_lt i (length (spans_from first ts)) ≡ true = lt-ltb _ _ (let e = length-spans first ts in omega (arith, e, lt)) in
-    rw (first_place first ts i h lt, there) refl
+pub scope_apart : (l : Listing) → list_all table_fits l.tables ≡ true → Apart (scope_of l)
+scope_apart l fit =
+    let all = spans_of_all l in
+    let names : length (table_names l) ≡ length l.tables = length-map l.tables (λ (t : List ℕ × ℕ). t.0) in
+    record {
+      as_many = all;
+      place = λ i lt.
+        let there : nat_lt i (length (spans l)) ≡ true = lt-ltb _ _ (omega (arith, all, lt)) in
+        rw (first_place (length l.names) l.tables i fit (omega (arith, lt, names)), there) refl;
+    }
 
 placed_at : (spans : List Span) (o : Option ℕ) (t : Span) → span_at spans o ≡ Ok t → (i : ℕ) × (o ≡ Some i) × (slice_index_or spans i no_cells ≡ t)
 placed_at spans None t e = absurd cc

@@ -26,8 +26,9 @@ use text_grammar::file::FileForm;
 use text_parser::file::{
     INNER_DEPTH, MAX_FILE, end, heading_of, pairs_of, parameters_of, runs_of, tables_of,
 };
-use text_resolver::names::{Scope, declare, param_names, table_names, var_names};
-use text_resolver::resolve::{Parts, owned, runs, spans, tables, variables};
+use text_resolver::names::{Scope, declare, param_names, var_names};
+use text_resolver::resolve::{Parts, owned, runs, variables};
+use text_resolver::tables::{spans, table_names, tables};
 use text_words::ReadFault;
 use text_words::bytes::are_allowed;
 use text_words::tokens::{begins, close, form, name_of};

@@ -12,7 +12,8 @@ use std::alloc::Global;
 use text_grammar::file::FileForm;
 use text_grammar::words::{Head, Operator, head_of};
 use text_resolver::names::Scope;
-use text_resolver::resolve::{binary, named, table};
+use text_resolver::resolve::{binary, named, of_all};
+use text_resolver::tables::table;
 use text_words::ReadFault;
 use text_words::lexer::Token;
 use text_words::tokens::{close, name_of, token_of};
@@ -146,12 +147,7 @@ fn fold_at_once<'a>(
     let (name, rest) = name_of(bytes)?;
     let cells = table(scope, name)?;
     let rest = close(rest)?;
-    let made = match fold {
-        Fold::Sum => Expr::Sum(cells),
-        Fold::Min => Expr::Min(cells),
-        Fold::Max => Expr::Max(cells),
-    };
-    Ok((made, rest))
+    Ok((of_all(fold, cells), rest))
 }
 
 /// An expression that stands in another.
