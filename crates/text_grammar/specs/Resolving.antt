@@ -144,8 +144,8 @@ connect connective.Or = t.Or
 abbrev pub expression_in : Scope → Expr → Result Expression ReadFault
 expression_in s (f.Int value) = number_of value >>= λ n. Ok (t.Int n)
 expression_in s (f.Name name) = named_in s name
-expression_in s (f.At table index) = table_in s table >>= λ t. expression_in s index >>= λ a. Ok (t.Cell t a)
-expression_in s (f.OfAll fold table) = table_in s table >>= λ t. Ok (t.OfAll fold t)
+expression_in s (f.At table index) = table_in s table >>= λ span. expression_in s index >>= λ a. Ok (t.Cell span a)
+expression_in s (f.OfAll fold table) = table_in s table >>= λ span. Ok (t.OfAll fold span)
 expression_in s (f.Binary op left right) = expression_in s left >>= λ a. expression_in s right >>= λ b. Ok (binary op a b)
 
 abbrev pub condition_in : Scope → Cond → Result Condition ReadFault
@@ -157,7 +157,7 @@ abbrev mutual
   pub statement_in : Scope → Stmt → Result Statement ReadFault
   statement_in s f.Skip = Ok t.Skip
   statement_in s (f.Set name value) = variable_in s.variables name >>= λ x. expression_in s value >>= λ a. Ok (t.Set x a)
-  statement_in s (f.Put table index value) = table_in s table >>= λ t. expression_in s index >>= λ a. expression_in s value >>= λ b. Ok (t.Put t a b)
+  statement_in s (f.Put table index value) = table_in s table >>= λ span. expression_in s index >>= λ a. expression_in s value >>= λ b. Ok (t.Put span a b)
   statement_in s (f.Seq parts) = statements_in s parts >>= λ ps. Ok (t.Seq ps)
   statement_in s (f.If test first second) = condition_in s test >>= λ c. statement_in s first >>= λ p. statement_in s second >>= λ q. Ok (t.If c p q)
   statement_in s (f.Repeat count body) = count_of count >>= λ n. statement_in s body >>= λ p. Ok (t.Repeat n p)

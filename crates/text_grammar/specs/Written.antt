@@ -99,9 +99,12 @@ natural (negsuc n) = 0
 abbrev pub numbers_of : Table → List ℤ
 numbers_of t = if length t.others == 0 then replicate (natural t.count) t.first else t.first ∷ t.others
 
--- the tables of the listing, as they may be written: each with one number for all its cells, or with all
+-- the tables of the listing, as they may be written: each with one number for all its cells, or with as many as it has cells
 pub record DeclareTables (tables : List Table) (l : Listing) : Type 0 where
-  pub counted : map (λ (t : Table). (t.name, t.count)) tables ≡ map (λ (t : List ℕ × ℕ). (t.0, pos t.1)) l.tables
+-- the tables of the listing, as they may be written: each with one number for all its cells, or with as many as it has cells
+pub record DeclareTables (tables : List Table) (l : Listing) : Type 0 where
+  pub counted : map {B = List ℕ × ℤ} (λ t. (t.name, t.count)) tables ≡ map {B = List ℕ × ℤ} (λ t. (t.0, pos t.1)) l.tables
+  pub filled : map (λ (t : Table). length (numbers_of t)) tables ≡ map (λ (t : List ℕ × ℕ). t.1) l.tables
   pub begun : flat_map numbers_of tables ≡ drop (length l.names) l.initial
 
 -- the file of a listing, in one form or another, with its tables so
