@@ -202,12 +202,7 @@ fn number_fault(
 }
 
 /// What is wrong with a token that is for this, where this stands behind it.
-fn judged(
-    counts: &mut Counts,
-    role: Role,
-    token: Token<'_>,
-    behind: &[u8],
-) -> Option<LimitFault>
+fn judged(counts: &mut Counts, role: Role, token: Token<'_>, behind: &[u8]) -> Option<LimitFault>
     ensures fault { result ≡ limit_fault (view_counts counts.old) role (view token.entry) (tokens behind.now) }
     ensures counts { result ≡ None
         → view_counts counts.new ≡ many_with (view_counts counts.old) role (view token.entry) }

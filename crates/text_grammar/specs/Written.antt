@@ -101,8 +101,6 @@ numbers_of t = if length t.others == 0 then replicate (natural t.count) t.first 
 
 -- the tables of the listing, as they may be written: each with one number for all its cells, or with as many as it has cells
 pub record DeclareTables (tables : List Table) (l : Listing) : Type 0 where
--- the tables of the listing, as they may be written: each with one number for all its cells, or with as many as it has cells
-pub record DeclareTables (tables : List Table) (l : Listing) : Type 0 where
   pub counted : map {B = List ℕ × ℤ} (λ t. (t.name, t.count)) tables ≡ map {B = List ℕ × ℤ} (λ t. (t.0, pos t.1)) l.tables
   pub filled : map (λ (t : Table). length (numbers_of t)) tables ≡ map (λ (t : List ℕ × ℕ). t.1) l.tables
   pub begun : flat_map numbers_of tables ≡ drop (length l.names) l.initial
