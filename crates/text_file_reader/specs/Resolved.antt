@@ -10,6 +10,7 @@ use Rattle.text_words.specs.TokenReading.{Read, close_at}
 use Rattle.text_words.specs.declared.fault.ReadFault.{ReadFault}
 use Rattle.text_words.specs.declared.fault.ReadFault.TheVariants.{Name}
 use Rattle.text_grammar.specs.Tree.{Declaration, Run}
+use Rattle.text_grammar.specs.declared.file.FileForm.{FileForm}
 use Rattle.text_grammar.specs.Scope.{Scope}
 use Rattle.text_grammar.specs.Reading.{expr_at, stmt_at}
 use Rattle.text_grammar.specs.Resolving.{each, declared_after, expression_in, statement_in, transaction_in, run_in}
@@ -40,10 +41,10 @@ pub record MakesTwo {A B : Type 0} (part : List Lexeme → Read A) (one : A → 
   pub makes_second : MakesLast (part between) one second rest
 
 -- a body was read and a result behind it, which is the last, and they are made into these
-pub record MakesBody (s : Scope) (ts : List Lexeme) (body : Statement) (result : Expression) (rest : List Lexeme) : Type 0 where
+pub record MakesBody (form : FileForm) (s : Scope) (ts : List Lexeme) (body : Statement) (result : Expression) (rest : List Lexeme) : Type 0 where
   pub between : List Lexeme
-  pub makes_body : Makes (stmt_at 31 ts) (statement_in s) body between
-  pub makes_result : MakesLast (expr_at 31 between) (expression_in s) result rest
+  pub makes_body : Makes (stmt_at form 31 ts) (statement_in s) body between
+  pub makes_result : MakesLast (expr_at form 31 between) (expression_in s) result rest
 
 -- the same of an item with this name
 pub record MakesNamed {A B : Type 0} (read : Read A) (one : A → Result B ReadFault) (name : A → List ℕ) (made : B) (named : List ℕ) (rest : List Lexeme) : Type 0 where
@@ -53,8 +54,8 @@ pub record MakesNamed {A B : Type 0} (read : Read A) (one : A → Result B ReadF
   pub is_named : name item ≡ named
 
 -- a transaction, where no parameter has the name of a variable or of one before it
-abbrev pub own_transaction_in : List (List ℕ) → Declaration → Result Transaction ReadFault
-own_transaction_in vars d = if are_new vars d.parameters then transaction_in vars d else Err Name
+abbrev pub own_transaction_in : Scope → Declaration → Result Transaction ReadFault
+own_transaction_in s d = if are_new s.variables d.parameters then transaction_in s d else Err Name
 
 abbrev pub parameters_of : Transaction → List (List ℕ)
 parameters_of t = t.parameters
