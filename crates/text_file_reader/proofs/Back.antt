@@ -490,6 +490,3 @@ converted_back file l fit c =
       };
       integers = both_true _ _ initial (both_true _ _ conditions (both_true _ _ pb.1 rb.1));
     }
-
-pub resolved_back : (file : File) (l : Listing) → list_all table_fits l.tables ≡ true → resolved file ≡ Ok l → IsWritten file l
-resolved_back file l fit h = converted_back file l fit (converted_parts file l (resolved_is file l h).is_converted)
