@@ -253,7 +253,7 @@ txs_named announced (t ∷ all) s ts lists h =
 
 -- ---- runs
 
-integers_are : (given : List ℤ) (ts : List Lexeme) → integers_in (map token.Int given ++ (Closes ∷ ts)) ≡ length given
+pub integers_are : (given : List ℤ) (ts : List Lexeme) → integers_in (map token.Int given ++ (Closes ∷ ts)) ≡ length given
 integers_are [] ts = refl
 integers_are (a ∷ given) ts = let e : integers_in (map token.Int given ++ (Closes ∷ ts)) ≡ length given = integers_are given ts in omega arith
 
