@@ -38,12 +38,12 @@ pub fn table(scope: &Scope<'_, '_>, name: &str) -> Result<Span, ReadFault>
     ensures value { Gives (λ x. x) result (table_in (view_scope scope.now) name.now) }
     ensures kind { IfErr result (λ e. e ≡ Name) }
 {
-    let none = Span {
+    let place = place_of(scope.tables, name).ok_or(ReadFault::Name)?;
+    let no_cells = Span {
         first: 0,
         length: 0,
     };
-    let place = place_of(scope.tables, name).ok_or(ReadFault::Name)?;
-    Ok(scope.spans.get(place).copied().unwrap_or(none))
+    Ok(scope.spans.get(place).copied().unwrap_or(no_cells))
 }
 
 /// Numbers of the machine. It fails by `Limit` where 64 signed bits have no room for one.

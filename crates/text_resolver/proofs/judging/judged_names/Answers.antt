@@ -4,7 +4,7 @@ use Rattle.text_grammar.specs.View.{view_file}
 use Rattle.text_resolver.specs.DeclaredNames.{view_declared}
 use Rattle.text_words.proofs.Steps.{ok_is}
 use Rattle.text_resolver.proofs.Judged.{not_declared, judged_is, named_are}
-use Rattle.text_resolver.proofs.resolve.judged_names.Goals as goal
+use Rattle.text_resolver.proofs.judging.judged_names.Goals as goal
 
 pub returns-in_err-names-clause-fault : goal.returns-in_err-names-clause-fault
 returns-in_err-names-clause-fault c =
