@@ -88,7 +88,8 @@ fn compound_at_once<'a>(
         (expression_in (view_scope scope.now)) (expression_of x.0) (tokens x.1.now)) }
 {
     let (word, rest) = name_of(bytes)?;
-    match head_of(file_form, word)? {
+    let head = head_of(file_form, word)?;
+    match head {
         Head::Operates(operator) => {
             binary_at_once(alloc, file_form, scope, depth, operator, rest)
         }

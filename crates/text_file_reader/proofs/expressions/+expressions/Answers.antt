@@ -17,7 +17,7 @@ use Rattle.text_grammar.specs.declared.file.FileForm.{FileForm}
 use Rattle.text_grammar.specs.declared.words.Head.{Head}
 use Rattle.text_grammar.specs.declared.words.Head.TheVariants.{Operates, Picks, Folds}
 use Rattle.text_resolver.specs.Scopes.{view_scope}
-use Rattle.text_file_reader.proofs.Made.{MakesExpression, number_makes, name_makes, inside_makes, behind_head}
+use Rattle.text_file_reader.proofs.Made.{MakesExpression, number_makes, name_makes, inside_makes, behind_head, binary_makes, cell_makes}
 use Rattle.text_file_reader.proofs.expressions.+expressions.Goals as goal
 
 pub expression_at_once-returns-in_ok-number-in-Int : goal.expression_at_once-returns-in_ok-number-in-Int
@@ -54,14 +54,24 @@ behind form scope depth bytes word inside kind result is_word is_kind made =
 pub compound_at_once-returns-in-Operates : goal.compound_at_once-returns-in-Operates
 compound_at_once-returns-in-Operates t c =
     behind c.args.file_form (view_scope c.args.scope.now) c.args.depth c.args.bytes.now c.in_ok-word.word.now (tokens c.in_ok-word.rest.now) (Operates c.in-Operates.operator) c.binary_at_once.result c.in_ok-word.ensures.value
-    (c.in_ok-head_of.ensures.value ∙ ap done c.in-Operates.is) c.binary_at_once.ensures
+    (c.in_ok-head.ensures.value ∙ ap done c.in-Operates.is) c.binary_at_once.ensures
 
 pub compound_at_once-returns-in-Picks : goal.compound_at_once-returns-in-Picks
 compound_at_once-returns-in-Picks t c =
     behind c.args.file_form (view_scope c.args.scope.now) c.args.depth c.args.bytes.now c.in_ok-word.word.now (tokens c.in_ok-word.rest.now) Picks c.cell_at_once.result c.in_ok-word.ensures.value
-    (c.in_ok-head_of.ensures.value ∙ ap done c.in-Picks.is) c.cell_at_once.ensures
+    (c.in_ok-head.ensures.value ∙ ap done c.in-Picks.is) c.cell_at_once.ensures
 
 pub compound_at_once-returns-in-Folds : goal.compound_at_once-returns-in-Folds
 compound_at_once-returns-in-Folds t c =
     behind c.args.file_form (view_scope c.args.scope.now) c.args.depth c.args.bytes.now c.in_ok-word.word.now (tokens c.in_ok-word.rest.now) (Folds c.in-Folds.fold) c.fold_at_once.result c.in_ok-word.ensures.value
-    (c.in_ok-head_of.ensures.value ∙ ap done c.in-Folds.is) c.fold_at_once.ensures
+    (c.in_ok-head.ensures.value ∙ ap done c.in-Folds.is) c.fold_at_once.ensures
+
+pub binary_at_once-returns : goal.binary_at_once-returns
+binary_at_once-returns t c =
+    rw c.binary.ensures (binary_makes (view_scope c.args.scope.now) (expr_at c.args.file_form c.args.depth) (tokens c.args.bytes.now) (tokens c.in_ok-left.rest.now) (tokens c.in_ok-right.rest.now) (tokens c.in_ok-rest.rest.now)
+    c.args.operator (expression_of c.in_ok-left.left.value) (expression_of c.in_ok-right.right.value) c.in_ok-left.ensures c.in_ok-right.ensures c.in_ok-rest.ensures.value)
+
+pub cell_at_once-returns : goal.cell_at_once-returns
+cell_at_once-returns t c =
+    cell_makes (view_scope c.args.scope.now) (expr_at c.args.file_form c.args.depth) (tokens c.args.bytes.now) (tokens c.in_ok-name.rest.now) (tokens c.in_ok-index.rest.now) (tokens c.in_ok-rest.rest.now)
+    c.in_ok-name.name.now c.in_ok-cells.cells (expression_of c.in_ok-index.index.value) c.in_ok-name.ensures.value c.in_ok-cells.ensures.value c.in_ok-index.ensures c.in_ok-rest.ensures.value
