@@ -22,10 +22,10 @@ use Rattle.text_grammar.specs.Tree.{Expr, Cond, Stmt, Stmts, NoStmts, MoreStmts,
 use Rattle.text_grammar.specs.Tree as f
 use Rattle.text_grammar.specs.Scope.{Scope, standing, inside}
 use Rattle.text_grammar.specs.declared.file.FileForm.{FileForm}
-use Rattle.text_grammar.specs.Resolving.{is_known, expr_known, cond_known, stmt_known, stmts_known, always_known, tx_known, has_parameters, run_known, uses_known, placed, place_in, variable_in, parameter_in, span_at, table_in, named_in, binary, compare, connect, expression_in, condition_in, statement_in, statements_in, each, variable_of, numbers_in, table_of, span_behind, spans_in, always_in, transaction_in, arguments_in, call_at, run_in, listing, converted, resolved, pair_name, table_name, condition_name, tx_name}
+use Rattle.text_grammar.specs.Resolving.{is_known, expr_known, cond_known, stmt_known, stmts_known, always_known, tx_known, has_parameters, run_known, uses_known, placed, place_in, variable_in, parameter_in, span_at, table_in, named_in, binary, compare, connect, expression_in, condition_in, statement_in, statements_in, each, variable_of, numbers_in, table_of, spans_in, always_in, transaction_in, arguments_in, call_at, run_in, listing, converted, resolved, pair_name, table_name, condition_name, tx_name}
 use Rattle.text_file_reader.specs.Faults.{names_known}
 use Rattle.text_file_reader.proofs.Declared.{both, declared_again, resolved_is}
-use Rattle.text_file_reader.proofs.Back.{both_true, Head, head_of, by_heads, IsKept, kept, converted_parts}
+use Rattle.text_file_reader.proofs.Back.{both_true, Head, by_heads, IsKept, kept, converted_parts}
 use Rattle.text_file_reader.proofs.Spans.{spans_again}
 use Rattle.text_words.proofs.Steps.{bind_ok, ok_is, chosen}
 use Rattle.explain_files.specs.declared.limits.LimitFault.{LimitFault}
@@ -35,7 +35,7 @@ use Rattle.explain_files.specs.declared.wanted.Role.TheVariants as role
 use Rattle.explain_files.specs.Limiting.{too_long, too_many, value_fault, turns_fault, is_given, length_fault, tasks_fault, counted, limit_fault}
 use Rattle.explain_files.specs.Judging.{integers_in}
 use Rattle.explain_files.specs.Declarations.{CostsHold}
-use Rattle.explain_files.proofs.Passed.{Seen, seen_in, Fact, Along, within, within_two, within_three, operator_role, comparison_role, connective_role, in_at, pass_expr, pass_cond, pass_stmt, in_set, in_put, in_repeat, in_more, with_variable, with_table_name, with_table, with_condition, with_name, with_parameter, listed, with_transaction, OfParameters, onward, in_var, in_table, in_always, in_tx, with_tasks, OfNumbers, in_run, behind_always, behind_tx, InFile, at_tables, at_always, at_txs, at_runs}
+use Rattle.explain_files.proofs.Passed.{Seen, seen_in, Fact, Along, within, within_two, within_three, operator_role, comparison_role, connective_role, in_at, pass_expr, pass_cond, pass_stmt, in_set, in_put, in_repeat, in_more, with_variable, with_table, with_condition, with_name, with_parameter, listed, with_transaction, OfParameters, onward, in_var, in_table, in_always, in_tx, with_tasks, OfNumbers, in_run, behind_always, behind_tx, InFile, at_tables, at_always, at_txs, at_runs}
 use Rattle.explain_files.proofs.Named.{said_unless, integers_are, IsListed, all_listed, kept_by_parameters, kept_by_variables, kept_by_tables, kept_by_conditions, kept_by_transactions}
 
 -- nothing goes over a limit
@@ -487,7 +487,13 @@ resolved_to file vars tables spans always txs runs k a t p b c d =
       declared_again [] (map table_name file.tables) k1.0,
       declared_again [] (map condition_name file.always) k2.0,
       declared_again [] (map tx_name file.txs) k3.0,
-      k3.1, a, t, p, b, c, d,
+      k3.1,
+      a,
+      t,
+      p,
+      b,
+      c,
+      d,
     ) refl
 
 limits_are : (l : Listing) → length l.names ≤ most_variables → list_all is_short l.names ≡ true → tables_fit l ≡ true → length l.always ≤ most_conditions → list_all is_short (always_names l) ≡ true

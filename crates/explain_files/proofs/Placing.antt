@@ -1,6 +1,6 @@
 -- Each kind of fault has a place: some name or number is wrong there, or some declaration.
 use Rattle.std.proofs.Common.{◌≡◌, ℕ, zero, suc, true, false, List, [], ◌∷◌, ◌++◌, length, map, Some, Result, Ok, refl, sym, ap, subst, ◌∙◌, inl, inr}
-use Rattle.std.specs.List.{slice_get, flat_map, list_all}
+use Rattle.std.specs.List.{slice_get, flat_map}
 use Rattle.std.specs.Option.{option_map}
 use Rattle.std.proofs.lemmas.Option.{slice_get-map}
 use Rattle.txn_programs.specs.Tree.{Condition, Transaction}

@@ -40,18 +40,23 @@ deeper depth more = if depth == 0 then None else Some more
 abbrev pub behind_test : FileForm → ℕ → Option Test → Wants
 behind_test form depth (Some (test.Compares op)) = Some (want.Close ∷ want.Expr form depth ∷ want.Expr form depth ∷ [])
 behind_test form depth (Some test.Negates) = deeper depth (want.Close ∷ want.Cond form (depth - 1) ∷ [])
-behind_test form depth (Some (test.Connects op)) = deeper depth (want.Close ∷ want.Cond form (depth - 1) ∷ want.Cond form (depth - 1) ∷ [])
+behind_test form depth (Some (test.Connects op)) =
+    deeper depth (want.Close ∷ want.Cond form (depth - 1) ∷ want.Cond form (depth - 1) ∷ [])
 behind_test form depth None = None
 
 abbrev pub behind_keyword : FileForm → ℕ → Option Keyword → Wants
 behind_keyword form depth (Some keyword.Skip) = Some (want.Close ∷ [])
 behind_keyword form depth (Some keyword.Set) = Some (want.Close ∷ want.Expr form depth ∷ want.Name name.Target ∷ [])
-behind_keyword form depth (Some keyword.Put) = Some (want.Close ∷ want.Expr form depth ∷ want.Expr form depth ∷ want.Name name.Cells ∷ [])
+behind_keyword form depth (Some keyword.Put) =
+    Some (want.Close ∷ want.Expr form depth ∷ want.Expr form depth ∷ want.Name name.Cells ∷ [])
 behind_keyword form depth (Some keyword.Seq) = Some (want.Parts form depth ∷ [])
-behind_keyword form depth (Some keyword.If) = deeper depth (want.Close ∷ want.Stmt form (depth - 1) ∷ want.Stmt form (depth - 1) ∷ want.Cond form (depth - 1) ∷ [])
-behind_keyword form depth (Some keyword.Repeat) = deeper depth (want.Close ∷ want.Stmt form (depth - 1) ∷ want.Number number.Turns ∷ [])
+behind_keyword form depth (Some keyword.If) =
+    deeper depth (want.Close ∷ want.Stmt form (depth - 1) ∷ want.Stmt form (depth - 1) ∷ want.Cond form (depth - 1) ∷ [])
+behind_keyword form depth (Some keyword.Repeat) =
+    deeper depth (want.Close ∷ want.Stmt form (depth - 1) ∷ want.Number number.Turns ∷ [])
 behind_keyword form depth (Some keyword.Retry) = Some (want.Close ∷ [])
-behind_keyword form depth (Some keyword.OrElse) = deeper depth (want.Close ∷ want.Stmt form (depth - 1) ∷ want.Stmt form (depth - 1) ∷ [])
+behind_keyword form depth (Some keyword.OrElse) =
+    deeper depth (want.Close ∷ want.Stmt form (depth - 1) ∷ want.Stmt form (depth - 1) ∷ [])
 behind_keyword form depth (Some keyword.Throw) = Some (want.Close ∷ want.Expr form depth ∷ [])
 behind_keyword form depth None = None
 
@@ -126,7 +131,8 @@ run_end Three = want.Numbers number.Argument
 abbrev pub within : Section → Kind → List Wanted
 within part kind.Variable = want.Declarations part ∷ want.Close ∷ want.Number number.Initial ∷ want.Name name.Variable ∷ []
 within part kind.Table =
-    want.Declarations part ∷ want.Numbers number.Cell ∷ want.Number number.Cell ∷ want.Number number.Length ∷ want.Name name.Table ∷ []
+    want.Declarations part ∷ want.Numbers number.Cell ∷ want.Number number.Cell ∷ want.Number number.Length
+    ∷ want.Name name.Table ∷ []
 within part kind.Condition = want.Declarations part ∷ want.Close ∷ want.Cond (form_in part) 30 ∷ want.Name name.Condition ∷ []
 within part kind.Transaction = want.Declarations part ∷ want.Close ∷ tx_wants (form_in part)
 within part kind.Run = want.Declarations part ∷ run_end (form_in part) ∷ want.Number number.Tasks ∷ want.Name name.Called ∷ []

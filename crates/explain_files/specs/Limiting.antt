@@ -80,19 +80,19 @@ length_fault many (Err e) values = Some over.Length
 
 -- by what the name or the number is for, where there are so many before it, and by the tokens behind it
 abbrev pub limit_fault : Many → Role → Lexeme → List Lexeme → Option LimitFault
-limit_fault many (role.Name name.Variable) (token.Name text) behind = too_many many.variables most_variables over.Variables text
-limit_fault many (role.Name name.Table) (token.Name text) behind = too_many many.tables most_tables over.Tables text
-limit_fault many (role.Name name.Condition) (token.Name text) behind = too_many many.conditions most_conditions over.Conditions text
-limit_fault many (role.Name name.Transaction) (token.Name text) behind = too_many many.transactions most_transactions over.Transactions text
-limit_fault many (role.Name name.Parameter) (token.Name text) behind = too_many many.parameters most_parameters over.Parameters text
-limit_fault many (role.Number number.Initial) (token.Int value) behind = value_fault (number_of value)
-limit_fault many (role.Number number.Length) (token.Int value) behind = length_fault many.cells (count_of value) (integers_in behind)
-limit_fault many (role.Number number.Cell) (token.Int value) behind = value_fault (number_of value)
-limit_fault many (role.Number number.Turns) (token.Int value) behind = turns_fault (count_of value)
-limit_fault many (role.Number number.Tasks) (token.Int value) behind = tasks_fault many.tasks (count_of value)
-limit_fault many (role.Number number.Argument) (token.Int value) behind = value_fault (number_of value)
-limit_fault many role.Value (token.Int value) behind = value_fault (number_of value)
-limit_fault many used t behind = None
+limit_fault many (role.Name name.Variable) (token.Name text) ts = too_many many.variables most_variables over.Variables text
+limit_fault many (role.Name name.Table) (token.Name text) ts = too_many many.tables most_tables over.Tables text
+limit_fault many (role.Name name.Condition) (token.Name text) ts = too_many many.conditions most_conditions over.Conditions text
+limit_fault many (role.Name name.Transaction) (token.Name text) ts = too_many many.transactions most_transactions over.Transactions text
+limit_fault many (role.Name name.Parameter) (token.Name text) ts = too_many many.parameters most_parameters over.Parameters text
+limit_fault many (role.Number number.Initial) (token.Int value) ts = value_fault (number_of value)
+limit_fault many (role.Number number.Length) (token.Int value) ts = length_fault many.cells (count_of value) (integers_in ts)
+limit_fault many (role.Number number.Cell) (token.Int value) ts = value_fault (number_of value)
+limit_fault many (role.Number number.Turns) (token.Int value) ts = turns_fault (count_of value)
+limit_fault many (role.Number number.Tasks) (token.Int value) ts = tasks_fault many.tasks (count_of value)
+limit_fault many (role.Number number.Argument) (token.Int value) ts = value_fault (number_of value)
+limit_fault many role.Value (token.Int value) ts = value_fault (number_of value)
+limit_fault many used t ts = None
 
 abbrev pub limit_fault_at : FileForm → Saying LimitFault
 limit_fault_at form before t behind = limit_fault (many_in form before) (role_at form before) t behind

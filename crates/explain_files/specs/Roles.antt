@@ -15,7 +15,8 @@ use Rattle.explain_files.specs.declared.wanted.Role.TheVariants as role
 -- the words behind which a table is named
 abbrev pub names_cells : List ℕ → Bool
 names_cells word =
-    bytes_eq word (codes "at") || (bytes_eq word (codes "sum") || (bytes_eq word (codes "min") || (bytes_eq word (codes "max") || bytes_eq word (codes "put"))))
+    bytes_eq word (codes "at") || (bytes_eq word (codes "sum") || (bytes_eq word (codes "min")
+    || (bytes_eq word (codes "max") || bytes_eq word (codes "put"))))
 
 -- behind the word of a parenthesis
 abbrev pub role_of_word : List ℕ → Role

@@ -39,11 +39,8 @@ fn behind_head(
     let Some(head) = head_of(form, word) else {
         return Ok(false);
     };
-    let (close, expr, table) = (
-        Wanted::Close,
-        Wanted::Expr(form, depth),
-        Wanted::Name(NameUse::Cells),
-    );
+    let (close, expr) = (Wanted::Close, Wanted::Expr(form, depth));
+    let table = Wanted::Name(NameUse::Cells);
     match head {
         Head::Operates(_) => want(stack, &[close, expr, expr]),
         Head::Picks => want(stack, &[close, expr, table]),

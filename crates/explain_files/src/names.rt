@@ -6,7 +6,8 @@ ghost use Rattle.text_words.specs.TokenView.{view};
 ghost use Rattle.explain_files.specs.Roles.{form_of};
 ghost use Rattle.explain_files.specs.Judging.{AllTokens, IsRight, IsFirstSaid, names_in, is_among, with_last};
 ghost use Rattle.explain_files.specs.Judging.{with_token};
-ghost use Rattle.explain_files.specs.Judging.{target_fault, cells_fault, value_fault, arity_of, integers_in, given_in, run_fault};
+ghost use Rattle.explain_files.specs.Judging.{target_fault, cells_fault, value_fault, arity_of, integers_in};
+ghost use Rattle.explain_files.specs.Judging.{given_in, run_fault};
 ghost use Rattle.explain_files.specs.Judging.{name_fault, name_fault_for, name_fault_at};
 ghost use Rattle.explain_files.specs.Declaring.{texts, view_declared};
 

@@ -72,7 +72,7 @@ pub enum Section {
     Runs(FileForm),
 }
 
-/// What is wanted at a place. Of an expression, a condition and a statement this is with the form of the file, and how many
+/// What is wanted at a place. With an expression, a condition or a statement goes the form of the file, and how many
 /// more parentheses may be open inside.
 #[derive(Clone, Copy, Debug, PartialEq, Eq)]
 pub enum Wanted {
