@@ -1,5 +1,5 @@
 -- The lines of cells that were written fill the values again.
-use Rattle.std.proofs.Common.{◌≡◌, ◌∙◌, ℕ, suc, ◌+◌, ◌<◌, ◌≤◌, ◌^◌, Bool, true, false, eqb, List, [], ◌∷◌, ◌++◌, length, Some, Ok, refl, sym, ap, arith, inl, inr}
+use Rattle.std.proofs.Common.{◌≡◌, ◌∙◌, ℕ, suc, ◌≤◌, true, false, eqb, List, [], ◌∷◌, ◌++◌, length, Ok, refl, sym, ap, arith, inl, inr}
 use Rattle.std.specs.Prelude.{ℤ, FitsSigned, nat_le, ◌==◌, if◌then◌else◌}
 use Rattle.std.specs.Int.{w64}
 use Rattle.std.specs.Fmt.{decimal, signed_decimal}
@@ -11,9 +11,9 @@ use Rattle.txn_programs.specs.declared.limits.TheConstants.{MAX_TASKS}
 use Rattle.txn_programs.specs.LawfulReport.{UnwrittenBegin}
 use Rattle.txn_programs.specs.Listing.{Listing}
 use Rattle.text_words.specs.Words.{line}
-use Rattle.text_report_printer.specs.ReportText.{cell_line, variable_line, cell_name}
+use Rattle.text_report_printer.specs.ReportText.{variable_line, cell_name}
 use Rattle.text_line_reader.specs.ReportRaw.{Cell, cell_words, IsCell}
-use Rattle.text_line_reader.specs.ReportResolving.{cell_id, is_from, next_id, in_order, is_written, cell_told, filled}
+use Rattle.text_line_reader.specs.ReportResolving.{in_order, cell_told, filled}
 use Rattle.text_line_reader.specs.Rows.{each}
 use Rattle.text_line_reader.proofs.Agains.{small}
 use Rattle.text_line_reader.proofs.Numbers.{decimal_number, int_printed}

@@ -1,5 +1,5 @@
 -- The cell that is written so, and how the cell at a place is written.
-use Rattle.std.proofs.Common.{◌≡◌, ◌∙◌, ℕ, zero, suc, ◌+◌, ◌-◌, ◌<◌, ◌≤◌, ◌^◌, Bool, true, false, cond, List, [], ◌∷◌, ◌++◌, length, map, get_or, Option, Some, None, Result, Ok, Err, refl, sym, ap, subst, arith, inl, inr}
+use Rattle.std.proofs.Common.{◌≡◌, ◌∙◌, ℕ, zero, suc, ◌+◌, ◌-◌, ◌<◌, ◌≤◌, ◌^◌, Bool, true, false, List, [], ◌∷◌, ◌++◌, length, get_or, Option, Some, None, Ok, Err, refl, sym, ap, subst, arith, inl, inr}
 use Rattle.std.specs.Prelude.{sum_by, bytes_eq, position, slice_get, nat_lt}
 use Rattle.std.specs.Fmt.{decimal}
 use Rattle.std.specs.Str.Parse.{digits_value}
@@ -27,7 +27,7 @@ use Rattle.text_line_reader.specs.CellNames.{cell_of, cell_at, cell_named}
 use Rattle.text_line_reader.specs.Spelling.{spelled_cell}
 use Rattle.text_line_reader.proofs.Numbers.{decimal_value, below_gives}
 use Rattle.text_line_reader.proofs.Places.{place_again}
-use Rattle.text_line_reader.proofs.Spots.{row, spots, row_at, behind_row, no_table, no_span, SpotAt, spot_at}
+use Rattle.text_line_reader.proofs.Spots.{row, spots, row_at, behind_row, no_table, no_span, spot_at}
 
 -- ---- a cell that is written so
 

@@ -1,5 +1,5 @@
 -- What a cell's name and its line are read as, and what is read again.
-use Rattle.std.proofs.Common.{◌≡◌, ◌∙◌, ℕ, Bool, true, false, not, eqb, List, [], ◌∷◌, ◌++◌, None, Result, Ok, refl, sym, ap, subst, append_assoc}
+use Rattle.std.proofs.Common.{◌≡◌, ◌∙◌, ℕ, Bool, true, false, not, eqb, List, [], ◌∷◌, ◌++◌, None, Ok, refl, sym, ap, subst, append_assoc}
 use Rattle.std.specs.Prelude.{is_some}
 use Rattle.std.specs.List.{list_all, AllByRecursion}
 use Rattle.std.proofs.lemmas.Bool.{and_parts, and_from}

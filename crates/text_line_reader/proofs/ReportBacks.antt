@@ -1,6 +1,6 @@
 -- What is told of words is written as these words.
-use Rattle.std.proofs.Common.{◌≡◌, ◌≢◌, ◌∙◌, ℕ, suc, ◌+◌, ◌<◌, ◌≤◌, ◌&&◌, true, List, [], ◌∷◌, ◌++◌, length, drop, Ok, refl, sym, ap, subst, append_assoc, length-drop, arith}
-use Rattle.std.specs.Prelude.{ℤ, pos, negsuc, FitsSigned, All, codes}
+use Rattle.std.proofs.Common.{◌≡◌, ◌≢◌, ◌∙◌, ℕ, suc, ◌<◌, ◌≤◌, ◌&&◌, true, List, [], ◌∷◌, ◌++◌, length, drop, Ok, refl, sym, ap, subst, append_assoc, length-drop, arith}
+use Rattle.std.specs.Prelude.{ℤ, FitsSigned, All, codes}
 use Rattle.std.specs.Int.{w64}
 use Rattle.std.specs.Fmt.{decimal, signed_decimal}
 use Rattle.std.specs.List.{flat_map, AllByRecursion}
@@ -34,8 +34,8 @@ use Rattle.text_line_reader.specs.Reports.{knows_cells}
 use Rattle.text_line_reader.specs.Rows.{each}
 use Rattle.text_line_reader.proofs.WordsTold.{value_back, count_back}
 use Rattle.text_line_reader.proofs.CellSteps.{are_cells}
-use Rattle.text_line_reader.proofs.CellBacks.{CellsBack, tables_back}
-use Rattle.text_line_reader.proofs.Spots.{spot_lines, spots, tables_lined}
+use Rattle.text_line_reader.proofs.CellBacks.{tables_back}
+use Rattle.text_line_reader.proofs.Spots.{tables_lined}
 use Rattle.text_line_reader.proofs.ReportPlaces.{tx_back, always_back}
 use Rattle.text_line_reader.proofs.Backs.{task_id_back, each_back, pairs_text, pairs_all}
 

@@ -1,6 +1,6 @@
 -- The lines of moves are read as these moves.
-use Rattle.std.proofs.Common.{◌≡◌, ◌∙◌, ℕ, ◌<◌, ◌≤◌, ◌-◌, ◌||◌, suc, Bool, true, false, List, [], ◌∷◌, length, map, Result, Ok, refl, sym, ap, subst, arith}
-use Rattle.std.specs.Prelude.{All, codes, is_some, nat_lt, sum_by}
+use Rattle.std.proofs.Common.{◌≡◌, ◌∙◌, ℕ, ◌<◌, ◌≤◌, ◌-◌, ◌||◌, suc, Bool, true, false, List, [], ◌∷◌, length, map, Ok, refl, sym, ap, subst, arith}
+use Rattle.std.specs.Prelude.{All, is_some, nat_lt, sum_by}
 use Rattle.std.specs.Fmt.{decimal}
 use Rattle.std.specs.List.{AllByRecursion}
 use Rattle.std.proofs.lemmas.Bool.{lt-ltb, ltb-true}
@@ -11,7 +11,7 @@ use Rattle.txn_programs.specs.declared.ast.VarId.{VarId}
 use Rattle.txn_programs.specs.declared.limits.TheConstants.{MAX_TASKS}
 use Rattle.txn_programs.specs.declared.moves.Move.{Move}
 use Rattle.txn_programs.specs.declared.moves.Move.TheVariants as move
-use Rattle.txn_programs.specs.Listing.{Listing, cells, tasks}
+use Rattle.txn_programs.specs.Listing.{Listing, tasks}
 use Rattle.txn_programs.specs.Limits.{limits_hold}
 use Rattle.txn.specs.Arities.{most_arity}
 use Rattle.txn_programs.specs.Names.{names_hold}

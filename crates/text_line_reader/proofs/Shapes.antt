@@ -7,7 +7,7 @@ use Rattle.text_words.proofs.Steps.{bind_ok, ok_is}
 use Rattle.text_line_reader.specs.Lines.{Line, parted}
 use Rattle.text_line_reader.specs.ReportRaw.{Variable, Cell, Ending, Returned, Threw, Overflow, DivideByZero, Outside, Broke, Entry, Task, Raw, variable_words, cell_words, ending_words, entry_words, task_words, number_words, IsVariable, IsCell, HasCells, IsEnding, IsEntry, IsTask, IsRaw}
 use Rattle.text_line_reader.specs.Words.{is_number, expect, begins, is_bracketed}
-use Rattle.text_line_reader.specs.Rows.{line_at, lines_at, all_by, all_at, end_at}
+use Rattle.text_line_reader.specs.Rows.{line_at, lines_at, all_at, end_at}
 use Rattle.text_line_reader.specs.ReportReading.{numbered_in, variable_in, cell_line_in, entry_in, task_in, cells_at, values_at, raw_at}
 use Rattle.text_line_reader.proofs.Parting.{lacks}
 use Rattle.text_line_reader.proofs.Steps.{text_of, expect_takes, expect_again, begins_again, begins_not, begins_alone}
