@@ -4,3 +4,4 @@ pub mod Untabled
 pub mod Standing
 pub mod Faults
 pub mod Instances
+pub mod Unwritten
