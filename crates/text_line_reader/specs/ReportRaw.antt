@@ -4,7 +4,7 @@ use Rattle.std.specs.List.{flat_map, AllByRecursion}
 use Rattle.txn_programs.specs.Names.{is_name}
 use Rattle.text_words.specs.Bytes.{is_int}
 use Rattle.text_words.specs.Words.{line}
-use Rattle.text_report_printer.specs.ReportText.{cell_text}
+use Rattle.text_report_printer.specs.Names.{cell_text}
 use Rattle.text_line_reader.specs.Words.{is_number, is_index}
 
 -- NAME VALUE VERSION

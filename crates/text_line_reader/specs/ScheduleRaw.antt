@@ -3,7 +3,7 @@ use Rattle.std.specs.Prelude.{◌≡◌, ℕ, Bool, true, List, [], ◌∷◌, c
 use Rattle.std.specs.List.{flat_map}
 use Rattle.txn_programs.specs.Names.{is_name}
 use Rattle.text_words.specs.Words.{line}
-use Rattle.text_report_printer.specs.ReportText.{cell_text}
+use Rattle.text_report_printer.specs.Names.{cell_text}
 use Rattle.text_line_reader.specs.Words.{is_number, is_index}
 use Rattle.text_line_reader.specs.declared.schedule.raw.TaskVerb.{TaskVerb}
 use Rattle.text_line_reader.specs.declared.schedule.raw.TaskVerb.TheVariants as of_task

@@ -1,10 +1,12 @@
 //! The names of what a catalogue declares, none of which is longer than a name may be.
 
-ghost use Rattle.std.specs.Prelude.{◌≡◌, ◌≤◌, length};
+ghost use Rattle.std.specs.Prelude.{◌≡◌, ◌≤◌, ◌++◌, OnOk, length, string_bytes};
 ghost use Rattle.txn_programs.specs.declared.limits.TheConstants.{MAX_NAME};
 ghost use Rattle.txn_programs.specs.Listing.{always_name};
-ghost use Rattle.text_report_printer.specs.Names.{transaction_name, variable_name};
+ghost use Rattle.text_report_printer.specs.Names.{cell_at, transaction_name, value_name, variable_name};
 
+use std::alloc::AllocError;
+use std::fmt::Write;
 use txn::{AlwaysId, Catalogue, TxId, VarId};
 
 /// The name of the variable of this number, or nothing where there is none.
@@ -18,6 +20,38 @@ pub fn variable_name(catalogue: &Catalogue, number: usize) -> &str
     } else {
         ""
     }
+}
+
+/// Puts the name of the cell at a place among those of the tables behind the text: `NAME[INDEX]`.
+fn put_cell_name(out: &mut String, catalogue: &Catalogue, place: usize) -> Result<(), AllocError>
+    ensures { OnOk result (string_bytes out.new ≡ string_bytes out.old ++ cell_at catalogue.now.tables place) }
+{
+    let mut index = place;
+    for (name, count) in catalogue.tables() {
+        let cells = *count as usize;
+        if index < cells {
+            out.push_str(name.as_str())?;
+            return write!(out, "[{index}]");
+        }
+        index -= cells;
+    }
+    Ok(())
+}
+
+/// Puts the name of the variable of this number behind the text, or that of the cell, which is
+/// `NAME[INDEX]`; nothing where there is neither.
+pub fn put_value_name(
+    out: &mut String,
+    catalogue: &Catalogue,
+    number: usize,
+) -> Result<(), AllocError>
+    ensures { OnOk result (string_bytes out.new ≡ string_bytes out.old ++ value_name catalogue.now number) }
+{
+    let variables = catalogue.var_count();
+    if number < variables {
+        return out.push_str(variable_name(catalogue, number));
+    }
+    put_cell_name(out, catalogue, number - variables)
 }
 
 /// The name of the transaction of this number, or nothing where there is none.
