@@ -25,7 +25,8 @@ use Rattle.txn_programs.specs.Told.{Told}
 use Rattle.txn_programs.specs.Tree.{Transaction, Skip, Int}
 use Rattle.txn_programs.proofs.Lawful.{limits_parts, few_tasks, passes_at}
 use Rattle.text_report_printer.specs.ReportFits.{OutcomeFits, ReportFits}
-use Rattle.text_report_printer.specs.ReportText.{variable_line, variable_lines, cell_name, cell_line, cell_lines, table_lines, value_lines, outcome_text, entry_line, task_line, report_text, CountsTasks}
+use Rattle.text_report_printer.specs.Names.{cell_name}
+use Rattle.text_report_printer.specs.ReportText.{variable_line, variable_lines, cell_line, cell_lines, table_lines, value_lines, outcome_text, entry_line, task_line, report_text, CountsTasks}
 use Rattle.text_words.specs.Words.{line}
 
 number_short : (n : ℕ) → n ≤ 65536 → length (decimal n) ≤ 5
