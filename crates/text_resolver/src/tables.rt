@@ -93,8 +93,8 @@ fn table_of(alloc: Global, raw: &RawTable<'_>) -> Result<Table, ReadFault>
     Ok(Table { name, cells })
 }
 
-/// The tables, each with its cells. It fails by `Limit` where the machine has no room for a number, or where a table has
-/// several numbers, and not one for each cell.
+/// The tables, each with its cells. It fails by `Limit` where the machine has no room for a number, or where a table
+/// has several numbers, and not one for each cell.
 pub fn tables(alloc: Global, raw: &[RawTable<'_>]) -> Result<Vec<Table>, ReadFault>
     ensures { Gives (λ made. map view_table made.items) result (each table_of (view_tables raw.now)) }
 {
@@ -119,8 +119,8 @@ fn span_behind(first: usize, count: usize) -> Result<Span, ReadFault>
     })
 }
 
-/// The cells of each table as variables behind the first ones, table after table. It fails by `Limit` where 32 bits have
-/// no room for their ids.
+/// The cells of each table as variables behind the first ones, table after table. It fails by `Limit` where 32 bits
+/// have no room for their ids.
 pub fn spans(alloc: Global, first: usize, tables: &[Table]) -> Result<Vec<Span>, ReadFault>
     ensures { Gives (λ made. made.items) result (spans_in first (map listed tables.now)) }
 {

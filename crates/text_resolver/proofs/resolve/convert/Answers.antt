@@ -1,14 +1,13 @@
-use Rattle.std.proofs.Common.{◌≡◌, ◌∙◌, ap, sym, map, Ok, List}
+use Rattle.std.proofs.Common.{◌∙◌, ap, sym, map}
 use Rattle.std.proofs.lemmas.Result.{err_from_is_err_and}
 use Rattle.txn_programs.specs.Tree.{transaction_of}
 use Rattle.text_grammar.specs.Scope.{Scope}
 use Rattle.text_grammar.specs.Resolving.{each, variable_of, table_of, always_in, transaction_in, run_in}
 use Rattle.text_resolver.specs.Texts.{texts}
-use Rattle.text_grammar.specs.View.{view_pairs, view_tables, view_conditions, view_txs, view_runs, view_file}
+use Rattle.text_grammar.specs.View.{view_pairs, view_tables, view_runs, view_file}
 use Rattle.text_resolver.specs.Parts.{view_variable, view_table, view_condition}
 use Rattle.text_resolver.specs.DeclaredNames.{view_declared, known_scope}
 use Rattle.text_words.proofs.Steps.{done}
-use Rattle.text_words.specs.Answers.{Fails}
 use Rattle.text_resolver.proofs.Texts.{txs_are_own}
 use Rattle.text_resolver.proofs.Parts.{parts_are, spans_are, outer_is, converted_is, spans_fail, conditions_fail, transactions_fail, runs_fail}
 use Rattle.text_resolver.proofs.resolve.convert.Goals as goal
