@@ -1,19 +1,19 @@
 -- The lines of cells that were written fill the values again.
-use Rattle.std.proofs.Common.{◌≡◌, ◌∙◌, ℕ, suc, ◌+◌, ◌<◌, ◌≤◌, ◌^◌, Bool, true, false, eqb, List, [], ◌∷◌, ◌++◌, length, Some, Ok, refl, sym, ap, arith, inl, inr}
-use Rattle.std.specs.Prelude.{ℤ, FitsSigned, nat_le, ◌==◌, if◌then◌else◌}
+use Rattle.std.proofs.Common.{◌≡◌, ◌∙◌, ℕ, suc, ◌≤◌, true, false, eqb, List, [], ◌∷◌, ◌++◌, length, Ok, refl, sym, ap, arith, inl, inr}
+use Rattle.std.specs.Prelude.{ℤ, FitsSigned, ◌==◌, if◌then◌else◌}
 use Rattle.std.specs.Int.{w64}
 use Rattle.std.specs.Fmt.{decimal, signed_decimal}
 use Rattle.std.specs.List.{flat_map, AllByRecursion}
-use Rattle.std.proofs.lemmas.Bool.{and_from, eqb-true, ne_eqb}
-use Rattle.std.proofs.lemmas.Bool.Decides.{nat_tests, eqb_tells}
+use Rattle.std.proofs.lemmas.Bool.{and_from, eqb-true, ne_eqb, eq-eqb, le-leb}
+use Rattle.std.proofs.lemmas.Bool.Decides.{eqb_tells}
 use Rattle.txn_programs.specs.declared.ast.VarId.{VarId}
 use Rattle.txn_programs.specs.declared.limits.TheConstants.{MAX_TASKS}
 use Rattle.txn_programs.specs.LawfulReport.{UnwrittenBegin}
 use Rattle.txn_programs.specs.Listing.{Listing}
 use Rattle.text_words.specs.Words.{line}
-use Rattle.text_report_printer.specs.ReportText.{cell_line, variable_line, cell_name}
+use Rattle.text_report_printer.specs.ReportText.{variable_line, cell_name}
 use Rattle.text_line_reader.specs.ReportRaw.{Cell, cell_words, IsCell}
-use Rattle.text_line_reader.specs.ReportResolving.{cell_id, is_from, next_id, in_order, is_written, cell_told, filled}
+use Rattle.text_line_reader.specs.ReportResolving.{in_order, cell_told, filled}
 use Rattle.text_line_reader.specs.Rows.{each}
 use Rattle.text_line_reader.proofs.Agains.{small}
 use Rattle.text_line_reader.proofs.Numbers.{decimal_number, int_printed}
@@ -46,9 +46,6 @@ pub record CellsAgain (l : Listing) (x : ℕ) (ss : List (List ℕ × ℕ)) (ini
   pub filled_is : filled initial x (told_cells x vs) ≡ vs
   pub text : spot_lines ss vs ≡ flat_map (λ c. line (cell_words c)) (written_cells ss vs)
 
-at_most : (n m : ℕ) → n ≤ m → nat_le n m ≡ true
-at_most n m h = grind (arith, nat_tests)
-
 -- the first that is told comes later
 IsLater : ℕ → List (VarId × (ℤ × ℕ)) → Type 0
 IsLater x [] = Unit {0}
@@ -70,7 +67,7 @@ not_told x first initial [] h = refl
 not_told x first initial (t ∷ ts) h = let other : eqb t.0.0 x ≡ false = ne_eqb t.0.0 x (λ e. absurd (omega (arith, h, e))) in rw other refl
 
 is_told : (x : ℕ) (v : ℤ × ℕ) (first : ℤ) (initial : List ℤ) (ts : List (VarId × (ℤ × ℕ))) → filled (first ∷ initial) x ((record { 0 = x }, v) ∷ ts) ≡ v ∷ filled initial (suc x) ts
-is_told x v first initial ts = let same : eqb x x ≡ true = elim (eqb_tells x x) [ inl p ↦ p.0 | inr p ↦ absurd (p.1 refl) ] in rw same refl
+is_told x v first initial ts = let same : eqb x x ≡ true = eq-eqb x x refl in rw same refl
 
 cell_again : (l : Listing) (x : ℕ) (s : List ℕ × ℕ) (v : ℤ × ℕ) → IsSpelled l x s → FitsSigned w64 v.0 → v.1 ≤ MAX_TASKS → eqb v.1 0 ≡ false → cell_told l (written_cell s v) ≡ Ok (record { 0 = x }, v)
 unfolding cell_told
@@ -97,7 +94,7 @@ written l x s ss first initial v vs sp f m e h =
     let word : IsCell (written_cell s v) = record { table = sp.name; index = decimal_number s.1 sp.small; value = int_printed v.0 f; version = small v.1 m } in
     record {
       words = rw e (word, h.words);
-      order = λ least le. rw (e, sp.id) (and_from _ _ (at_most least x le) (h.order (suc x) (omega arith)));
+      order = λ least le. rw (e, sp.id) (and_from _ _ (le-leb least x le) (h.order (suc x) (omega arith)));
       told = rw (e, cell_again l x s v sp f m e, h.told) refl;
       filled_is = rw e (is_told x v first initial (told_cells (suc x) vs) ∙ ap (λ (us : List (ℤ × ℕ)). v ∷ us) h.filled_is);
       text = rw e (ap (λ (t : List ℕ). variable_line (cell_name s.0 s.1) v ++ t) h.text);

@@ -1,12 +1,12 @@
 -- What is told of cells is written as their lines, where each cell without a line is as it was at first.
-use Rattle.std.proofs.Common.{◌≡◌, ◌∙◌, ℕ, suc, ◌+◌, ◌-◌, ◌<◌, ◌≤◌, ◌^◌, Bool, true, false, eqb, ◌&&◌, List, [], ◌∷◌, ◌++◌, length, Option, Some, None, Ok, Err, refl, sym, ap, subst, arith, inl, inr}
+use Rattle.std.proofs.Common.{◌≡◌, ◌∙◌, ℕ, suc, ◌+◌, ◌-◌, ◌<◌, ◌≤◌, ◌^◌, true, false, eqb, ◌&&◌, List, [], ◌∷◌, ◌++◌, length, Option, Some, None, Ok, Err, refl, sym, ap, subst, arith, inl, inr}
 use Rattle.std.specs.Prelude.{ℤ, FitsSigned, nat_le, slice_get}
 use Rattle.std.specs.Int.{w64}
-use Rattle.std.specs.Fmt.{decimal, signed_decimal}
+use Rattle.std.specs.Fmt.{signed_decimal}
 use Rattle.std.specs.List.{flat_map, AllByRecursion}
 use Rattle.std.specs.Str.Parse.{digits_value}
-use Rattle.std.proofs.lemmas.Bool.{and_parts, and_from, leb-true}
-use Rattle.std.proofs.lemmas.Bool.Decides.{eqb_tells, nat_tests}
+use Rattle.std.proofs.lemmas.Bool.{and_parts, and_from, leb-true, le-leb}
+use Rattle.std.proofs.lemmas.Bool.Decides.{eqb_tells}
 use Rattle.std.proofs.lemmas.Option.{same_Some}
 use Rattle.txn_programs.specs.declared.ast.VarId.{VarId}
 use Rattle.txn_programs.specs.declared.limits.TheConstants.{MAX_TASKS}
@@ -141,11 +141,8 @@ ordered l least (Some y) x cs is h =
     let q : (least ≤ y.0) × (in_order l (suc y.0) cs ≡ true) = (leb-true least y.0 p.0, p.1) in
     subst (λ (z : VarId). (least ≤ z.0) × (in_order l (suc z.0) cs ≡ true)) (same_Some _ _ is) q
 
-at_most : (n m : ℕ) → n ≤ m → nat_le n m ≡ true
-at_most n m h = grind (arith, nat_tests)
-
 order_from : (l : Listing) (least : ℕ) (o : Option VarId) (x : VarId) (cs : List Cell) → o ≡ Some x → least ≤ x.0 → in_order l (suc x.0) cs ≡ true → (is_from least o && in_order l (next_id o) cs) ≡ true
-order_from l least o x cs is le h = subst (λ (p : Option VarId). (is_from least p && in_order l (next_id p) cs) ≡ true) (sym is) (and_from _ _ (at_most least x.0 le) h)
+order_from l least o x cs is le h = subst (λ (p : Option VarId). (is_from least p && in_order l (next_id p) cs) ≡ true) (sym is) (and_from _ _ (le-leb least x.0 le) h)
 
 pub cells_back : (l : Listing) (x : ℕ) (ss : List (List ℕ × ℕ)) (initial : List ℤ) (cs : List Cell) (ts : List (VarId × (ℤ × ℕ))) → length initial ≡ length ss → AllByRecursion (FitsSigned w64) initial
     → Stands l x ss → AllByRecursion IsCell cs → in_order l x cs ≡ true → each (cell_told l) cs ≡ Ok ts → CellsBack ss initial cs (filled initial x ts)
@@ -200,7 +197,7 @@ from_first : (l : Listing) (c : Cell) (o : Option VarId) (cs : List Cell) → ce
 from_first l c None cs id h = absurd cc
 from_first l c (Some x) cs id h =
     let place = (name_back l c.table c.index x id).place in
-    and_from _ _ (at_most (length l.names) x.0 (omega (arith, place))) (and_parts (nat_le 0 x.0) (in_order l (suc x.0) cs) h).1
+    and_from _ _ (le-leb (length l.names) x.0 (omega (arith, place))) (and_parts (nat_le 0 x.0) (in_order l (suc x.0) cs) h).1
 
 -- each comes behind the variables
 pub in_tables : (l : Listing) (cs : List Cell) → in_order l 0 cs ≡ true → in_order l (length l.names) cs ≡ true

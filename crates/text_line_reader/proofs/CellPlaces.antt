@@ -1,10 +1,9 @@
 -- The cell that is written so, and how the cell at a place is written.
-use Rattle.std.proofs.Common.{◌≡◌, ◌∙◌, ℕ, zero, suc, ◌+◌, ◌-◌, ◌<◌, ◌≤◌, ◌^◌, Bool, true, false, cond, List, [], ◌∷◌, ◌++◌, length, map, get_or, Option, Some, None, Result, Ok, Err, refl, sym, ap, subst, arith, inl, inr}
+use Rattle.std.proofs.Common.{◌≡◌, ◌∙◌, ℕ, zero, suc, ◌+◌, ◌-◌, ◌<◌, ◌≤◌, ◌^◌, Bool, true, false, List, [], ◌∷◌, ◌++◌, length, get_or, Option, Some, None, Ok, Err, refl, sym, ap, subst, arith, inl, inr}
 use Rattle.std.specs.Prelude.{sum_by, bytes_eq, position, slice_get, nat_lt}
 use Rattle.std.specs.Fmt.{decimal}
 use Rattle.std.specs.Str.Parse.{digits_value}
-use Rattle.std.proofs.lemmas.Bool.{lt-ltb, ltb-true}
-use Rattle.std.proofs.lemmas.Bool.Decides.{nat_tests}
+use Rattle.std.proofs.lemmas.Bool.{lt-ltb, ltb-true, ltb-false}
 use Rattle.std.proofs.lemmas.List.{get_or-map, length-map}
 use Rattle.std.proofs.lemmas.List.Quantifiers.{position-Some}
 use Rattle.std.proofs.lemmas.List.Sums.{sum_by-cons}
@@ -27,7 +26,7 @@ use Rattle.text_line_reader.specs.CellNames.{cell_of, cell_at, cell_named}
 use Rattle.text_line_reader.specs.Spelling.{spelled_cell}
 use Rattle.text_line_reader.proofs.Numbers.{decimal_value, below_gives}
 use Rattle.text_line_reader.proofs.Places.{place_again}
-use Rattle.text_line_reader.proofs.Spots.{row, spots, row_at, behind_row, no_table, no_span, SpotAt, spot_at}
+use Rattle.text_line_reader.proofs.Spots.{row, spots, row_at, behind_row, no_table, no_span, spot_at}
 
 -- ---- a cell that is written so
 
@@ -151,14 +150,11 @@ later_spelled t ts place past le s =
       text = rw past s.text;
     }
 
-at_least : (n m : ℕ) → nat_lt n m ≡ false → m ≤ n
-at_least n m h = grind (arith, nat_tests)
-
 in_table : (t : List ℕ × ℕ) (ts : List (List ℕ × ℕ)) (place : ℕ) (b : Bool) → nat_lt place t.1 ≡ b → (t.1 ≤ place → Spelled ts (place - t.1)) → Spelled (t ∷ ts) place
 in_table t ts place true e others =
     let same : 0 + place ≡ place = omega arith in
     record { name = t.0; index = place; is = row_at t.0 0 t.1 place (spots ts) (ltb-true place t.1 e) ∙ ap (λ i. Some (t.0, i)) same; text = rw e refl }
-in_table t ts place false e others = let le = at_least place t.1 e in later_spelled t ts place e le (others le)
+in_table t ts place false e others = let le = ltb-false place t.1 e in later_spelled t ts place e le (others le)
 
 pub spelled : (ts : List (List ℕ × ℕ)) (place : ℕ) → place < sum_by (λ t. t.1) ts → Spelled ts place
 spelled [] place lt = absurd (omega arith)

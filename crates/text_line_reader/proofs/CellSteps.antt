@@ -1,8 +1,8 @@
 -- What a cell's name and its line are read as, and what is read again.
-use Rattle.std.proofs.Common.{◌≡◌, ◌∙◌, ℕ, Bool, true, false, not, eqb, List, [], ◌∷◌, ◌++◌, None, Result, Ok, refl, sym, ap, subst, append_assoc}
+use Rattle.std.proofs.Common.{◌≡◌, ◌∙◌, ℕ, Bool, true, false, not, eqb, List, [], ◌∷◌, ◌++◌, None, Ok, refl, sym, ap, subst, append_assoc}
 use Rattle.std.specs.Prelude.{is_some}
-use Rattle.std.specs.List.{list_all, AllByRecursion}
-use Rattle.std.proofs.lemmas.Bool.{and_parts, and_from}
+use Rattle.std.specs.List.{AllByRecursion}
+use Rattle.std.proofs.lemmas.Bool.{and_parts, and_from, not-true}
 use Rattle.std.proofs.lemmas.List.Folds.{list_all-append}
 use Rattle.txn_programs.specs.Names.{is_name, is_name_byte}
 use Rattle.text_words.proofs.Steps.{bind_ok, ok_is}
@@ -17,16 +17,12 @@ use Rattle.text_line_reader.proofs.Steps.{text_of, given_ok, word_takes, word_ag
 
 -- ---- a bracket, or none
 
-not_true : (b : Bool) → not b ≡ true → b ≡ false
-not_true true h = absurd cc
-not_true false h = refl
-
 pub parted_none : (sep : ℕ) (bs : List ℕ) → lacks sep bs ≡ true → parted sep bs ≡ None
 unfolding parted
 parted_none sep [] h = refl
 parted_none sep (b ∷ bs) h =
     let p = and_parts (not (eqb b sep)) (lacks sep bs) h in
-    rw (not_true (eqb b sep) p.0, parted_none sep bs p.1) refl
+    rw (not-true (eqb b sep) p.0, parted_none sep bs p.1) refl
 
 pub not_bracketed : (text : List ℕ) → lacks 91 text ≡ true → is_bracketed text ≡ false
 unfolding is_bracketed
@@ -37,14 +33,6 @@ unfolding is_bracketed
 bracketed name index rest h =
     ap (λ (t : List ℕ). is_some (parted 91 t)) (append_assoc name (91 ∷ (index ++ (93 ∷ []))) rest)
     ∙ rw (parted_again 91 name ((index ++ (93 ∷ [])) ++ rest) (name_lacks 91 refl name h)) refl
-
--- no word of a line has such a byte, nor has the line
-pub text_lacks : (sep : ℕ) → eqb 32 sep ≡ false → (words : List (List ℕ)) → list_all (lacks sep) words ≡ true → lacks sep (text_of words) ≡ true
-text_lacks sep space [] h = refl
-text_lacks sep space (word ∷ []) h = (and_parts (lacks sep word) true h).0
-text_lacks sep space (word ∷ next ∷ words) h =
-    let p = and_parts (lacks sep word) (list_all (lacks sep) (next ∷ words)) h in
-    list_all-append (λ b. not (eqb b sep)) word (32 ∷ text_of (next ∷ words)) ∙ and_from _ _ p.0 (and_from _ _ (ap not space) (text_lacks sep space (next ∷ words) p.1))
 
 -- ---- NAME[INDEX]
 

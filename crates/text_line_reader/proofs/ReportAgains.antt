@@ -1,5 +1,5 @@
 -- The words of a report that fits the catalogue tell that report.
-use Rattle.std.proofs.Common.{◌≡◌, ◌≢◌, ◌∙◌, ℕ, zero, suc, ◌+◌, ◌<◌, ◌≤◌, ◌||◌, Bool, true, false, List, [], ◌∷◌, ◌++◌, length, map, take, drop, get_or, Ok, refl, sym, ap, append_assoc, length-drop, arith}
+use Rattle.std.proofs.Common.{◌≡◌, ◌≢◌, ◌∙◌, ℕ, zero, suc, ◌<◌, ◌≤◌, ◌||◌, Bool, true, false, List, [], ◌∷◌, ◌++◌, length, map, take, drop, get_or, Ok, refl, sym, ap, append_assoc, length-drop, arith}
 use Rattle.std.specs.Prelude.{ℤ, pos, FitsSigned, All, codes, is_some, nat_lt}
 use Rattle.std.specs.Int.{w64}
 use Rattle.std.specs.Fmt.{decimal, signed_decimal}
@@ -20,7 +20,7 @@ use Rattle.txn_programs.specs.declared.ast.Outcome.TheVariants as outcome
 use Rattle.txn_programs.specs.declared.limits.TheConstants.{MAX_TASKS}
 use Rattle.txn_programs.specs.declared.report.Entry as told
 use Rattle.txn_programs.specs.LawfulReport.{OutcomeKnown, CellsBegin, FitsCatalogue}
-use Rattle.txn_programs.specs.Listing.{Listing, values, cells, always_name, always_names, tasks, program_at}
+use Rattle.txn_programs.specs.Listing.{Listing, values, always_name, always_names, tasks, program_at}
 use Rattle.txn_programs.specs.Limits.{limits_hold}
 use Rattle.txn_programs.specs.Names.{is_name, are_formed, names_hold}
 use Rattle.txn_programs.specs.Told.{Told}
@@ -31,13 +31,13 @@ use Rattle.text_report_printer.specs.ReportText.{variable_line, variable_lines, 
 use Rattle.text_words.specs.Words.{line}
 use Rattle.text_line_reader.specs.ReportRaw.{Variable, Cell, Ending, Returned, Threw, Overflow, DivideByZero, Outside, Broke, Entry, Task, Raw, variable_words, cell_words, ending_words, entry_words, task_words, raw_text, IsVariable, IsCell, HasCells, IsEnding, IsEntry, IsTask, IsRaw}
 use Rattle.text_line_reader.specs.Reports.{knows_cells}
-use Rattle.text_line_reader.specs.ReportResolving.{named_as, cells_known, cell_told, filled, values_told, is_known, entries_known, tasks_known, variables_known, transactions_known, condition_known, conditions_known, names_known, count_in, variable_told, outcome_told, entry_told, task_told, told_of, resolved}
+use Rattle.text_line_reader.specs.ReportResolving.{named_as, cells_known, cell_told, values_told, is_known, entries_known, tasks_known, variables_known, transactions_known, condition_known, conditions_known, names_known, count_in, variable_told, outcome_told, entry_told, task_told, told_of, resolved}
 use Rattle.text_line_reader.specs.Rows.{each}
 use Rattle.text_line_reader.proofs.Numbers.{int_printed}
 use Rattle.text_line_reader.proofs.WordsTold.{value_again, count_again}
-use Rattle.text_line_reader.proofs.Spots.{spots, spots_length, spot_lines, tables_lined}
+use Rattle.text_line_reader.proofs.Spots.{spots, spots_length, tables_lined}
 use Rattle.text_line_reader.proofs.CellPlaces.{all_spelled}
-use Rattle.text_line_reader.proofs.CellAgains.{written_cells, told_cells, CellsAgain, cells_again}
+use Rattle.text_line_reader.proofs.CellAgains.{written_cells, told_cells, cells_again}
 use Rattle.text_line_reader.proofs.ReportPlaces.{tx_named, tx_again, condition_is, always_again}
 use Rattle.text_line_reader.proofs.Agains.{task_id_again, small, each_again, all_again, tests_again, text_again}
 

@@ -8,7 +8,6 @@ use Rattle.text_words.specs.Words.{line}
 use Rattle.text_line_reader.specs.ReportRaw.{Variable, Cell, Ending, Returned, Threw, Overflow, DivideByZero, Outside, Broke, Entry, Task, Raw, variable_words, cell_words, ending_words, entry_words, task_words, number_words, raw_text, IsVariable, IsCell, HasCells, IsEnding, IsEntry, IsTask, IsRaw}
 use Rattle.text_line_reader.specs.Words.{is_number}
 use Rattle.txn_programs.specs.Listing.{Listing}
-use Rattle.text_report_printer.specs.ReportText.{cell_text}
 use Rattle.text_line_reader.specs.Reports.{IsWritten, knows_cells}
 use Rattle.text_line_reader.proofs.CellSteps.{are_cells}
 use Rattle.text_line_reader.proofs.Allowed.{allowed, name_allowed, int_allowed, number_allowed, two, words_allowed, line_allowed, lines_allowed}

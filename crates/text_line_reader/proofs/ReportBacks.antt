@@ -1,12 +1,12 @@
 -- What is told of words is written as these words.
-use Rattle.std.proofs.Common.{◌≡◌, ◌≢◌, ◌∙◌, ℕ, suc, ◌+◌, ◌<◌, ◌≤◌, ◌&&◌, true, List, [], ◌∷◌, ◌++◌, length, drop, Ok, refl, sym, ap, subst, append_assoc, length-drop, arith}
-use Rattle.std.specs.Prelude.{ℤ, pos, negsuc, FitsSigned, All, codes}
+use Rattle.std.proofs.Common.{◌≡◌, ◌≢◌, ◌∙◌, ℕ, suc, ◌<◌, ◌≤◌, ◌&&◌, true, List, [], ◌∷◌, ◌++◌, length, drop, Ok, refl, sym, ap, subst, append_assoc, length-drop, arith}
+use Rattle.std.specs.Prelude.{ℤ, FitsSigned, All, codes}
 use Rattle.std.specs.Int.{w64}
 use Rattle.std.specs.Fmt.{decimal, signed_decimal}
 use Rattle.std.specs.List.{flat_map, AllByRecursion}
 use Rattle.std.specs.Str.{bytes_eq}
 use Rattle.std.proofs.lemmas.Bool.{and_parts}
-use Rattle.std.proofs.lemmas.List.{length-append}
+use Rattle.std.proofs.lemmas.List.{length-append, drop_at}
 use Rattle.std.proofs.lemmas.List.Elements.{All-from_recursion}
 use Rattle.std.proofs.lemmas.Slice.Eq.{bytes_eq-Decides}
 use Rattle.txn_programs.specs.declared.ast.TaskId.{TaskId}
@@ -34,8 +34,8 @@ use Rattle.text_line_reader.specs.Reports.{knows_cells}
 use Rattle.text_line_reader.specs.Rows.{each}
 use Rattle.text_line_reader.proofs.WordsTold.{value_back, count_back}
 use Rattle.text_line_reader.proofs.CellSteps.{are_cells}
-use Rattle.text_line_reader.proofs.CellBacks.{CellsBack, tables_back}
-use Rattle.text_line_reader.proofs.Spots.{spot_lines, spots, tables_lined}
+use Rattle.text_line_reader.proofs.CellBacks.{tables_back}
+use Rattle.text_line_reader.proofs.Spots.{tables_lined}
 use Rattle.text_line_reader.proofs.ReportPlaces.{tx_back, always_back}
 use Rattle.text_line_reader.proofs.Backs.{task_id_back, each_back, pairs_text, pairs_all}
 
@@ -183,11 +183,6 @@ variables_back (name ∷ names) (v ∷ vs) xs is named e =
 
 -- ---- the lines of variables, and those of cells behind them
 
--- so many, and those behind them
-behind : {X : Type 0} (n : ℕ) (xs ys : List X) → length xs ≡ n → drop n (xs ++ ys) ≡ ys
-behind n [] ys e = ap (λ k. drop k ys) (sym e)
-behind n (x ∷ xs) ys e = ap (λ k. drop k (x ∷ (xs ++ ys))) (sym e) ∙ behind (length xs) xs ys refl
-
 more_lines : (names : List (List ℕ)) (xs ys : List (ℤ × ℕ)) → length xs ≡ length names → variable_lines names (xs ++ ys) ≡ variable_lines names xs
 more_lines [] [] [] e = refl
 more_lines [] [] (y ∷ ys) e = refl
@@ -219,7 +214,7 @@ values_back l vs cs xs bs valued limits fit count are named told cs_are order cs
     let b = tables_back l (cells_initial l) cs bs limits long fit cs_are order cs_told in
     let told : List (ℤ × ℕ) = filled (cells_initial l) (length l.names) bs in
     let as_many : length xs ≡ length l.names = a.count ∙ count in
-    let rest_is : drop (length l.names) (xs ++ told) ≡ told = behind (length l.names) xs told as_many in
+    let rest_is : drop (length l.names) (xs ++ told) ≡ told = drop_at xs told (length l.names) as_many in
     let v : List ℕ = flat_map (λ (x : Variable). line (variable_words x)) vs in
     let c : List ℕ = flat_map (λ (x : Cell). line (cell_words x)) cs in
     let cells_text : c ≡ table_lines l.tables (drop (length l.names) (xs ++ told)) = b.text ∙ tables_lined l.tables told ∙ ap (table_lines l.tables) (sym rest_is) in

@@ -1,17 +1,16 @@
 -- The lines of moves are read as these moves.
-use Rattle.std.proofs.Common.{◌≡◌, ◌∙◌, ℕ, ◌<◌, ◌≤◌, ◌-◌, ◌||◌, suc, Bool, true, false, List, [], ◌∷◌, length, map, Result, Ok, refl, sym, ap, subst, arith}
-use Rattle.std.specs.Prelude.{All, codes, is_some, nat_lt, sum_by}
+use Rattle.std.proofs.Common.{◌≡◌, ◌∙◌, ℕ, ◌<◌, ◌≤◌, ◌-◌, ◌||◌, suc, Bool, true, false, List, [], ◌∷◌, length, map, Ok, refl, sym, ap, subst, arith}
+use Rattle.std.specs.Prelude.{All, is_some, nat_lt, sum_by}
 use Rattle.std.specs.Fmt.{decimal}
 use Rattle.std.specs.List.{AllByRecursion}
-use Rattle.std.proofs.lemmas.Bool.{lt-ltb, ltb-true}
-use Rattle.std.proofs.lemmas.Bool.Decides.{nat_tests}
+use Rattle.std.proofs.lemmas.Bool.{lt-ltb, ltb-true, ltb-false}
 use Rattle.std.proofs.lemmas.List.Elements.{recursion_from_All}
 use Rattle.txn_programs.specs.declared.ast.TaskId.{TaskId}
 use Rattle.txn_programs.specs.declared.ast.VarId.{VarId}
 use Rattle.txn_programs.specs.declared.limits.TheConstants.{MAX_TASKS}
 use Rattle.txn_programs.specs.declared.moves.Move.{Move}
 use Rattle.txn_programs.specs.declared.moves.Move.TheVariants as move
-use Rattle.txn_programs.specs.Listing.{Listing, cells, tasks}
+use Rattle.txn_programs.specs.Listing.{Listing, tasks}
 use Rattle.txn_programs.specs.Limits.{limits_hold}
 use Rattle.txn.specs.Arities.{most_arity}
 use Rattle.txn_programs.specs.Names.{names_hold}
@@ -74,9 +73,6 @@ of_task_again l keeps v task h =
       text = ap line (task_words l v task);
     }
 
-past : (n m : ℕ) → nat_lt n m ≡ false → m ≤ n
-past n m h = grind (arith, nat_tests)
-
 -- where there is a cell, cells can be told
 some_table : (ts : List (List ℕ × ℕ)) (b : Bool) (n : ℕ) → n < sum_by (λ t. t.1) ts → (nat_lt 0 (length ts) || b) ≡ true
 some_table [] b n h = absurd (omega (arith, h))
@@ -102,7 +98,7 @@ of_variable_again l keeps v task x h = in_case (nat_lt x.0 (length l.names)) ref
         } in
         subst (λ (b : Bool). ReadAgain l (written_by b l v task x) (variable_move v task x)) (sym e) r
     in_case false e =
-        let le = past x.0 (length l.names) e in
+        let le = ltb-false x.0 (length l.names) e in
         let here = h.1 in
         let c = cell_is_named l x keeps.names keeps.limits le h.1 in
         let r : ReadAgain l (written_by false l v task x) (variable_move v task x) = record {

@@ -1,6 +1,6 @@
 -- The moves of lines are written as these lines.
-use Rattle.std.proofs.Common.{◌≡◌, ◌∙◌, ℕ, ◌<◌, ◌≤◌, Bool, true, List, [], ◌∷◌, length, Result, Ok, refl, sym, ap, subst}
-use Rattle.std.specs.Prelude.{All, codes}
+use Rattle.std.proofs.Common.{◌≡◌, ◌∙◌, ℕ, ◌≤◌, Bool, true, List, [], ◌∷◌, length, Ok, refl, sym, ap, subst}
+use Rattle.std.specs.Prelude.{All}
 use Rattle.std.specs.Fmt.{decimal}
 use Rattle.std.specs.List.{AllByRecursion}
 use Rattle.std.proofs.lemmas.List.Elements.{All-from_recursion}
@@ -13,7 +13,7 @@ use Rattle.txn_programs.specs.Limits.{limits_hold}
 use Rattle.txn_programs.specs.Listing.{Listing, tasks}
 use Rattle.text_report_printer.specs.ReportText.{cell_text}
 use Rattle.text_words.specs.Words.{line}
-use Rattle.text_words.proofs.Steps.{bind_ok, done, ok_is}
+use Rattle.text_words.proofs.Steps.{bind_ok, ok_is}
 use Rattle.text_line_reader.specs.Counts.{task_id}
 use Rattle.text_line_reader.specs.Reports.{knows_cells}
 use Rattle.text_line_reader.proofs.Backs.{TaskBack, task_id_back, Pairs, each_back, pairs_text, pairs_all}

@@ -1,16 +1,15 @@
 -- Names of variables and of cells, and their places.
-use Rattle.std.proofs.Common.{◌≡◌, ◌∙◌, ℕ, zero, suc, ◌+◌, ◌-◌, ◌<◌, ◌≤◌, ◌^◌, true, false, List, [], ◌∷◌, length, get_or, Option, Some, None, Result, Ok, Err, refl, sym, ap, subst, arith}
+use Rattle.std.proofs.Common.{◌≡◌, ◌∙◌, ℕ, zero, suc, ◌+◌, ◌-◌, ◌<◌, ◌≤◌, true, false, List, [], ◌∷◌, length, get_or, Option, Some, None, Ok, refl, sym, ap, subst, arith}
 use Rattle.std.specs.Prelude.{position, bytes_eq, is_some, slice_get, nat_lt}
 use Rattle.std.specs.Fmt.{decimal}
 use Rattle.std.specs.Str.Parse.{digits_value}
-use Rattle.std.proofs.lemmas.Bool.{lt-ltb}
-use Rattle.std.proofs.lemmas.Bool.Decides.{nat_tests}
+use Rattle.std.proofs.lemmas.Bool.{lt-ltb, le-ltb}
 use Rattle.std.proofs.lemmas.List.Quantifiers.{position-Some}
 use Rattle.std.proofs.lemmas.Option.{same_Some, slice_get-get_or}
 use Rattle.std.proofs.lemmas.Slice.Eq.{bytes_eq-Decides}
 use Rattle.txn_programs.specs.declared.ast.VarId.{VarId}
 use Rattle.txn_programs.specs.Limits.{limits_hold}
-use Rattle.txn_programs.specs.Listing.{Listing, cells, values, as_variable, variable_named}
+use Rattle.txn_programs.specs.Listing.{Listing, values, as_variable, variable_named}
 use Rattle.txn_programs.specs.Names.{is_name, names_hold}
 use Rattle.txn_programs.proofs.Lawful.{names_parts, limits_parts, passes_at}
 use Rattle.text_report_printer.specs.ReportText.{cell_text, cell_name}
@@ -63,13 +62,10 @@ variable_back l name x e = placed l name (position (bytes_eq name) l.names) x re
 
 -- ---- cells
 
-not_less : (n m : ℕ) → m ≤ n → nat_lt n m ≡ false
-not_less n m h = grind (arith, nat_tests)
-
 -- the cell so far behind the first
 spelled_far : (l : Listing) (x : VarId) (far : ℕ) → x.0 ≡ length l.names + far → spelled_name l x ≡ spelled_cell l.tables far
 spelled_far l x far place =
-    let past : nat_lt x.0 (length l.names) ≡ false = not_less x.0 (length l.names) (omega (arith, place)) in
+    let past : nat_lt x.0 (length l.names) ≡ false = le-ltb x.0 (length l.names) (omega (arith, place)) in
     let same : x.0 - length l.names ≡ far = omega (arith, place) in
     rw past (ap (spelled_cell l.tables) same)
 

@@ -1,5 +1,5 @@
 -- What is read are the moves of the text, and which fault comes first where there are none.
-use Rattle.std.proofs.Common.{◌≡◌, ◌∙◌, ℕ, ◌<◌, ◌≤◌, Bool, true, false, cond, List, length, Result, Ok, Err, refl, sym, ap, subst, arith, ◌⊎◌, inl, inr}
+use Rattle.std.proofs.Common.{◌≡◌, ◌∙◌, ℕ, ◌≤◌, true, false, cond, List, length, Result, Ok, Err, refl, sym, subst, ◌⊎◌, inl, inr}
 use Rattle.std.specs.Prelude.{nat_lt, IfOk, IfErr}
 use Rattle.std.specs.List.{list_all}
 use Rattle.std.proofs.lemmas.Bool.{ltb-true}
@@ -10,7 +10,7 @@ use Rattle.text_words.specs.Bytes.{is_allowed}
 use Rattle.text_words.specs.Answers.{◌>>=◌, Gives, Fails}
 use Rattle.text_words.specs.declared.fault.ReadFault.{ReadFault}
 use Rattle.text_words.specs.declared.fault.ReadFault.TheVariants as faults
-use Rattle.text_words.proofs.Steps.{bind_ok, done, ok_is, chosen}
+use Rattle.text_words.proofs.Steps.{bind_ok, chosen}
 use Rattle.text_line_reader.specs.Lines.{lines}
 use Rattle.text_line_reader.proofs.Reading.{Rules, at_most, not_over, failed_in}
 use Rattle.text_line_reader.specs.ScheduleRaw.{Raw}

@@ -1,5 +1,5 @@
 -- All lines of a schedule, and the loop that reads them.
-use Rattle.std.proofs.Common.{◌≡◌, ◌∙◌, ℕ, Bool, true, List, [], ◌∷◌, ◌++◌, map, Option, Some, None, Result, Ok, Err, refl, sym, ap, subst}
+use Rattle.std.proofs.Common.{◌≡◌, ◌∙◌, ℕ, Bool, List, [], ◌∷◌, ◌++◌, map, Some, None, Result, Ok, refl, sym, ap, subst}
 use Rattle.std.specs.List.{AllByRecursion}
 use Rattle.std.proofs.lemmas.List.{append-nil}
 use Rattle.text_words.specs.Answers.{◌>>=◌, Fails}
@@ -7,7 +7,7 @@ use Rattle.text_words.specs.declared.fault.ReadFault.{ReadFault}
 use Rattle.text_words.proofs.Steps.{bind_ok, done, ok_is}
 use Rattle.text_words.proofs.Many.{failed}
 use Rattle.text_line_reader.specs.Lines.{Line, Whole, Cut, first_line}
-use Rattle.text_line_reader.specs.Rows.{end_at, each}
+use Rattle.text_line_reader.specs.Rows.{end_at}
 use Rattle.text_line_reader.proofs.Each.{joined, each_more, each_fails}
 use Rattle.text_line_reader.proofs.Rows.{line_of, first_is}
 use Rattle.text_line_reader.proofs.Ends.{end_is}

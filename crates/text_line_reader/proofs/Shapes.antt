@@ -7,15 +7,15 @@ use Rattle.text_words.proofs.Steps.{bind_ok, ok_is}
 use Rattle.text_line_reader.specs.Lines.{Line, parted}
 use Rattle.text_line_reader.specs.ReportRaw.{Variable, Cell, Ending, Returned, Threw, Overflow, DivideByZero, Outside, Broke, Entry, Task, Raw, variable_words, cell_words, ending_words, entry_words, task_words, number_words, IsVariable, IsCell, HasCells, IsEnding, IsEntry, IsTask, IsRaw}
 use Rattle.text_line_reader.specs.Words.{is_number, expect, begins, is_bracketed}
-use Rattle.text_line_reader.specs.Rows.{line_at, lines_at, all_by, all_at, end_at}
+use Rattle.text_line_reader.specs.Rows.{line_at, lines_at, all_at, end_at}
 use Rattle.text_line_reader.specs.ReportReading.{numbered_in, variable_in, cell_line_in, entry_in, task_in, cells_at, values_at, raw_at}
 use Rattle.text_line_reader.proofs.Parting.{lacks}
-use Rattle.text_line_reader.proofs.Steps.{text_of, expect_takes, expect_again, begins_again, begins_not, begins_alone}
+use Rattle.text_line_reader.proofs.Steps.{text_of, text_lacks, expect_takes, expect_again, begins_again, begins_not, begins_alone}
 use Rattle.text_line_reader.proofs.ReportSteps.{variable_takes, variable_again, entry_takes, entry_again, entry_text, task_takes, task_again, numbered_takes, numbered_again}
 use Rattle.text_line_reader.proofs.Rows.{line_of, Reads, TakesLines, stops, line_takes, line_again, lines_take, lines_again, all_take, all_again}
 use Rattle.text_line_reader.proofs.Ends.{end_is, end_again}
 use Rattle.text_line_reader.proofs.Numbers.{name_lacks, int_lacks, number_lacks}
-use Rattle.text_line_reader.proofs.CellSteps.{cell_line_takes, cell_line_again, cell_line_bracketed, not_bracketed, text_lacks}
+use Rattle.text_line_reader.proofs.CellSteps.{cell_line_takes, cell_line_again, cell_line_bracketed, not_bracketed}
 
 numbered_reads : (wanted : List ℕ) → lacks 32 wanted ≡ true → Reads (number_words wanted) (λ n. is_number n ≡ true) (numbered_in wanted)
 numbered_reads wanted w = record { takes = numbered_takes wanted; again = λ n h. numbered_again wanted n w h }

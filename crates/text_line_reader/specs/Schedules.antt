@@ -1,5 +1,5 @@
 -- Which moves bytes are the text of, and which fault is the first where they are of none.
-use Rattle.std.specs.Prelude.{◌≡◌, ◌<◌, ◌≤◌, ℕ, true, false, nat_lt, if◌then◌else◌, Result, Ok, Err, List, length, All}
+use Rattle.std.specs.Prelude.{◌≡◌, ◌<◌, ◌≤◌, ℕ, true, false, nat_lt, if◌then◌else◌, Result, Err, List, length, All}
 use Rattle.std.specs.List.{list_all, AllByRecursion}
 use Rattle.txn_programs.specs.declared.moves.Move.{Move}
 use Rattle.txn_programs.specs.Listing.{Listing}

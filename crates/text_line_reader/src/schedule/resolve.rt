@@ -85,11 +85,7 @@ fn cell_id(
 }
 
 /// The move of a line.
-fn move_told(
-    catalogue: &Catalogue,
-    tables: &[Span],
-    line: RawMove<'_>,
-) -> Result<Move, ReadFault>
+fn move_told(catalogue: &Catalogue, tables: &[Span], line: RawMove<'_>) -> Result<Move, ReadFault>
     requires { tables.now ≡ spans catalogue.now }
     ensures value { Gives (λ x. x) result (move_told catalogue.now (view_move line.entry)) }
     ensures kind { IfErr result (λ e. (e ≡ Name) ⊎ (e ≡ Limit)) }

@@ -1,7 +1,4 @@
-use Rattle.std.proofs.Common.{◌≡◌, ◌+◌, ◌<◌, ◌≤◌, length, ap, sym, subst, arith}
-use Rattle.txn_programs.specs.declared.ast.Span.{Span}
-use Rattle.txn_programs.specs.declared.limits.TheConstants.{MAX_VALUES}
-use Rattle.txn_programs.specs.Listing.{spans}
+use Rattle.std.proofs.Common.{length, ap, arith}
 use Rattle.text_line_reader.proofs.CellPlaces.{place_known, few_spans, span_inside}
 use Rattle.text_line_reader.proofs.cells.cell_named.Goals as goal
 

@@ -1,4 +1,4 @@
-use Rattle.std.proofs.Common.{◌+◌, arith}
+use Rattle.std.proofs.Common.{arith}
 use Rattle.text_line_reader.proofs.Numbers.{below_gives}
 use Rattle.text_line_reader.proofs.CellPlaces.{cell_of_number, no_cell_of}
 use Rattle.text_line_reader.proofs.cells.cell_of.Goals as goal

@@ -1,6 +1,6 @@
-use Rattle.std.proofs.Common.{◌≡◌, ◌∙◌, ℕ, ◌+◌, ◌≤◌, ◌++◌, List, length, map, ap, sym, arith}
+use Rattle.std.proofs.Common.{◌≡◌, ◌∙◌, ℕ, ◌+◌, List, map, ap, sym, arith}
 use Rattle.std.specs.Prelude.{sum_by}
-use Rattle.txn_programs.specs.Listing.{cells, spans, spans_from}
+use Rattle.txn_programs.specs.Listing.{cells, spans_from}
 use Rattle.txn_programs.proofs.Lawful.{limits_parts}
 use Rattle.text_line_reader.proofs.Spots.{sized, spans_more, room_more, spans_done}
 use Rattle.text_line_reader.proofs.cells.spans_of.Goals as goal

@@ -1,6 +1,5 @@
-use Rattle.std.proofs.Common.{◌≡◌, ◌∙◌, ℕ, ◌+◌, ◌-◌, ◌<◌, ◌≤◌, List, [], ◌∷◌, ◌++◌, length, take, drop, get_or, ap, sym, arith, below_more}
-use Rattle.std.specs.Prelude.{ℤ, pos, FitsSigned}
-use Rattle.std.specs.Int.{w64}
+use Rattle.std.proofs.Common.{◌≡◌, ◌∙◌, ◌+◌, ◌-◌, ◌<◌, List, ◌∷◌, length, take, drop, get_or, ap, arith, below_more}
+use Rattle.std.specs.Prelude.{ℤ, pos}
 use Rattle.text_line_reader.specs.ReportResolving.{filled}
 use Rattle.text_line_reader.proofs.Filling.{rest_is, values_done, all_fit, step_past, step_later, more_told, more_begun}
 use Rattle.text_line_reader.proofs.report.cells.values_told.Goals as goal
