@@ -102,12 +102,6 @@ declared_are earlier (name ∷ rest) all e =
     let first = one_declared earlier b.0 name b.1 in
     declared_are b.0 rest all b.2 ∙ ap (λ xs. xs ++ rest) first.1 ∙ append_assoc earlier (name ∷ []) rest
 
--- names that are declared behind other names that are
-pub later_are : (conditions names all : List (List ℕ)) → (declared_after [] conditions >>= λ others. declared_after [] names) ≡ Ok all → all ≡ names
-later_are conditions names all e =
-    let b = bind_ok (declared_after [] conditions) (λ others. declared_after [] names) all e in
-    declared_are [] names all b.2
-
 -- ---- parameters
 
 bool_cases : (b : Bool) → (b ≡ true) ⊎ (b ≡ false)

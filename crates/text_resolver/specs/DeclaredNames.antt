@@ -6,7 +6,7 @@ use Rattle.text_words.specs.Answers.{◌>>=◌}
 use Rattle.text_grammar.specs.Tree.{File}
 use Rattle.text_grammar.specs.Scope.{Scope, standing}
 use Rattle.text_grammar.specs.Resolving.{declared_after, pair_name, table_name, condition_name, tx_name, converted}
-use Rattle.text_resolver.specs.declared.resolve.DeclaredNames.{DeclaredNames as Sets}
+use Rattle.text_resolver.specs.declared.judging.DeclaredNames.{DeclaredNames as Sets}
 use Rattle.text_resolver.specs.Texts.{texts}
 
 pub record DeclaredNames : Type 0 where

@@ -1,12 +1,12 @@
 //! From the tree of a file to conditions and transactions: names as ids, and integers as numbers of
 //! the machine.
 
-ghost use Rattle.std.specs.Prelude.{◌≡◌, ◌⊎◌, true, Ok, IfOk, IfErr, map, string_bytes};
+ghost use Rattle.std.specs.Prelude.{◌≡◌, ◌⊎◌, true, Ok, IfErr, map, string_bytes};
 ghost use Rattle.std.specs.List.{list_all};
 ghost use Rattle.txn_programs.specs.Tree.{OfAll, expression_of, condition_of, statement_of, transaction_of};
-ghost use Rattle.text_words.specs.Answers.{Gives, Fails};
+ghost use Rattle.text_words.specs.Answers.{Gives};
 ghost use Rattle.text_words.specs.declared.fault.ReadFault.TheVariants.{Name, Limit};
-ghost use Rattle.text_grammar.specs.Resolving.{tx_name, uses_known, place_in};
+ghost use Rattle.text_grammar.specs.Resolving.{uses_known, place_in};
 ghost use Rattle.text_grammar.specs.Resolving.{variable_in, parameter_in, named_in, binary, compare, connect};
 ghost use Rattle.text_grammar.specs.Resolving.{expression_in, condition_in, statement_in, variable_of, always_in};
 ghost use Rattle.text_grammar.specs.Resolving.{transaction_in, arguments_in, run_in, each, resolved};
@@ -15,16 +15,15 @@ ghost use Rattle.text_grammar.specs.Reading.{row};
 ghost use Rattle.text_grammar.specs.Tree.{Compare, Set, Put, Seq, Repeat, Throw};
 ghost use Rattle.text_resolver.specs.Texts.{texts};
 ghost use Rattle.text_resolver.specs.Scopes.{view_scope, has_own_parameters};
-ghost use Rattle.text_resolver.specs.DeclaredNames.{view_declared, declared_in, known_scope, converted_by};
+ghost use Rattle.text_resolver.specs.DeclaredNames.{view_declared, known_scope, converted_by};
 ghost use Rattle.text_grammar.specs.View.{view_expr, view_cond, view_stmt, view_stmts, view_pair, view_pairs};
 ghost use Rattle.text_grammar.specs.View.{view_always, view_conditions, view_names, view_tx, view_txs, view_numbers};
 ghost use Rattle.text_grammar.specs.View.{view_run, view_runs, view_file};
 ghost use Rattle.text_resolver.specs.Parts.{view_variable, view_condition, view_parts};
 
-use crate::names::{
-    Scope, condition_names, is_known, param_names, place_of, tx_names, uses_known, var_names,
-};
-use crate::tables::{spans, table, table_names, tables};
+use crate::judging::{DeclaredNames, judged_names};
+use crate::names::{Scope, is_known, param_names, place_of};
+use crate::tables::{spans, table, tables};
 use indexmap::IndexSet;
 use std::alloc::Global;
 use text_grammar::cond::RawCond;
@@ -549,14 +548,6 @@ pub struct Parts {
     pub runs: Vec<(Call, u32)>,
 }
 
-/// What a file declares, by its kinds: the names of variables, of tables and of transactions.
-#[derive(Drop)]
-struct DeclaredNames<'a> {
-    vars: IndexSet<&'a str>,
-    tables: IndexSet<&'a str>,
-    txs: IndexSet<&'a str>,
-}
-
 #[tactic(auto, unfolding(text_grammar::specs::Resolving::converted))]
 fn convert(alloc: Global, names: &DeclaredNames<'_>, file: RawFile<'_>) -> Result<Parts, ReadFault>
     requires known { uses_known (known_scope (view_declared names.now)) (view_file file) ≡ true }
@@ -582,52 +573,6 @@ fn convert(alloc: Global, names: &DeclaredNames<'_>, file: RawFile<'_>) -> Resul
         txs: transactions,
         runs,
     })
-}
-
-/// The names of each kind, where none of a kind is declared twice.
-fn declared_names<'a>(alloc: Global, file: &RawFile<'a>) -> Result<DeclaredNames<'a>, ReadFault>
-    ensures { Gives view_declared result (declared_in (view_file file.now)) }
-{
-    let vars = var_names(alloc, &file.vars)?;
-    let tables = table_names(alloc, &file.tables)?;
-    condition_names(alloc, &file.always)?;
-    let txs = tx_names(alloc, &file.txs)?;
-    Ok(DeclaredNames { vars, tables, txs })
-}
-
-/// Whether only declared names are used, and each as it is declared. Memory alone can fail it.
-fn names_known(
-    alloc: Global,
-    names: &DeclaredNames<'_>,
-    file: &RawFile<'_>,
-) -> Result<bool, ReadFault>
-    requires named { (view_declared names.now).transactions ≡ map tx_name (view_file file.now).txs }
-    ensures { Gives (λ known. known) result
-        (Ok (uses_known (known_scope (view_declared names.now)) (view_file file.now))) }
-{
-    let params = IndexSet::new(alloc);
-    let outer = Scope {
-        vars: &names.vars,
-        tables: &names.tables,
-        spans: &[],
-        params: &params,
-    };
-    uses_known(alloc, &outer, &names.txs, file)
-}
-
-/// The names of each kind, where each is declared once and only declared ones are used.
-fn judged_names<'a>(alloc: Global, file: &RawFile<'a>) -> Result<DeclaredNames<'a>, ReadFault>
-    ensures known { IfOk result (λ names. uses_known (known_scope (view_declared names)) (view_file file.now) ≡ true) }
-    ensures named { IfOk result (λ names. resolved (view_file file.now)
-        ≡ converted_by (view_declared names) (view_file file.now)) }
-    ensures fault { IfErr result (λ fault. Fails fault (resolved (view_file file.now))) }
-{
-    let names = declared_names(alloc, file)?;
-    if !names_known(alloc, &names, file)? {
-        drop(names);
-        return Err(ReadFault::Name);
-    }
-    Ok(names)
 }
 
 /// What the file declares, or its first fault: names are judged over the whole file before any

@@ -38,12 +38,12 @@ pub fn table(scope: &Scope<'_, '_>, name: &str) -> Result<Span, ReadFault>
     ensures value { Gives (λ x. x) result (table_in (view_scope scope.now) name.now) }
     ensures kind { IfErr result (λ e. e ≡ Name) }
 {
-    let none = Span {
+    let place = place_of(scope.tables, name).ok_or(ReadFault::Name)?;
+    let no_cells = Span {
         first: 0,
         length: 0,
     };
-    let place = place_of(scope.tables, name).ok_or(ReadFault::Name)?;
-    Ok(scope.spans.get(place).copied().unwrap_or(none))
+    Ok(scope.spans.get(place).copied().unwrap_or(no_cells))
 }
 
 /// Numbers of the machine. It fails by `Limit` where 64 signed bits have no room for one.
@@ -93,8 +93,8 @@ fn table_of(alloc: Global, raw: &RawTable<'_>) -> Result<Table, ReadFault>
     Ok(Table { name, cells })
 }
 
-/// The tables, each with its cells. It fails by `Limit` where the machine has no room for a number, or where a table has
-/// several numbers, and not one for each cell.
+/// The tables, each with its cells. It fails by `Limit` where the machine has no room for a number, or where a table
+/// has several numbers, and not one for each cell.
 pub fn tables(alloc: Global, raw: &[RawTable<'_>]) -> Result<Vec<Table>, ReadFault>
     ensures { Gives (λ made. map view_table made.items) result (each table_of (view_tables raw.now)) }
 {
@@ -119,8 +119,8 @@ fn span_behind(first: usize, count: usize) -> Result<Span, ReadFault>
     })
 }
 
-/// The cells of each table as variables behind the first ones, table after table. It fails by `Limit` where 32 bits have
-/// no room for their ids.
+/// The cells of each table as variables behind the first ones, table after table. It fails by `Limit` where 32 bits
+/// have no room for their ids.
 pub fn spans(alloc: Global, first: usize, tables: &[Table]) -> Result<Vec<Span>, ReadFault>
     ensures { Gives (λ made. made.items) result (spans_in first (map listed tables.now)) }
 {
