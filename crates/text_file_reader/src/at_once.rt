@@ -297,8 +297,14 @@ fn file_at_once(alloc: Global, bytes: &[u8]) -> Result<Parts, ReadFault>
     let (file_form, rest) = heading_of(bytes)?;
     let (var_names, vars, rest) = variables_at_once(alloc, rest)?;
     let (table_names, tables, rest) = tables_at_once(alloc, file_form, rest)?;
-    let (always, txs, runs) =
-        behind_tables(alloc, file_form, &var_names, &table_names, &tables, rest)?;
+    let (always, txs, runs) = behind_tables(
+        alloc,
+        file_form,
+        &var_names,
+        &table_names,
+        &tables,
+        rest,
+    )?;
     Ok(Parts {
         vars,
         tables,
