@@ -1,5 +1,5 @@
 -- A listing that a file is resolved to is written as that file.
-use Rattle.std.proofs.Common.{◌≡◌, ℕ, zero, suc, ◌+◌, ◌<◌, Bool, true, false, ◌&&◌, List, [], ◌∷◌, ◌++◌, length, map, replicate, drop, sum_by, Result, Ok, Err, refl, sym, ap, subst, ◌∙◌, inl, inr, arith, length-append}
+use Rattle.std.proofs.Common.{◌≡◌, ℕ, zero, suc, Bool, true, false, ◌&&◌, List, [], ◌∷◌, ◌++◌, length, map, replicate, drop, sum_by, Result, Ok, Err, refl, sym, ap, subst, ◌∙◌, inl, inr, arith, length-append}
 use Rattle.std.specs.Prelude.{ℤ, pos, negsuc, nat_lt, nat_le, ◌^◌, ◌==◌}
 use Rattle.std.specs.List.{list_all, flat_map}
 use Rattle.std.proofs.lemmas.Bool.{eqb-true, ne_eqb}
@@ -25,15 +25,15 @@ use Rattle.text_grammar.specs.declared.words.Connective.{Connective}
 use Rattle.text_grammar.specs.declared.words.Connective.TheVariants as connective
 use Rattle.text_words.specs.declared.fault.ReadFault.{ReadFault}
 use Rattle.text_words.specs.declared.fault.ReadFault.TheVariants as faults
-use Rattle.text_grammar.specs.Written.{DeclareTables, name_at, name_of, scope_of, natural, numbers_of, written_expression, written_condition, written_statement, written_statements, written_always, written_transaction, written_vars, written_in}
+use Rattle.text_grammar.specs.Written.{DeclareTables, name_at, scope_of, natural, numbers_of, written_expression, written_condition, written_statement, written_statements, written_always, written_transaction, written_vars, written_in}
 use Rattle.text_words.specs.Answers.{◌>>=◌}
 use Rattle.text_words.specs.Numbers.{number_of, count_of}
-use Rattle.text_grammar.specs.Resolving.{is_known, table_in, variable_in, parameter_in, place_in, binary, compare, connect, expression_in, condition_in, statement_in, statements_in, each, variable_of, numbers_in, table_of, spans_in, always_in, transaction_in, arguments_in, call_at, run_in, listing, converted, pair_name, table_name, condition_name, tx_name, resolved}
+use Rattle.text_grammar.specs.Resolving.{is_known, table_in, variable_in, parameter_in, place_in, binary, compare, connect, expression_in, condition_in, statement_in, statements_in, each, variable_of, numbers_in, table_of, spans_in, always_in, transaction_in, arguments_in, call_at, run_in, listing, converted, pair_name, table_name, condition_name, tx_name}
 use Rattle.text_grammar.specs.Spelling.{expression_integers, condition_integers, statement_integers, statements_integers, transaction_integers, run_integers, integers_fit}
 use Rattle.text_words.proofs.Steps.{bind_ok, ok_is, done, chosen}
 use Rattle.text_words.proofs.Numerals.{number_is}
 use Rattle.text_file_reader.specs.Resolved.{parameters_of}
-use Rattle.text_file_reader.proofs.Declared.{id_back, variable_back, parameter_back, resolved_is}
+use Rattle.text_file_reader.proofs.Declared.{id_back, variable_back, parameter_back}
 use Rattle.text_file_reader.proofs.Spans.{Apart, spans_back, scope_apart, table_back}
 
 pub both_true : (a b : Bool) → a ≡ true → b ≡ true → (a && b) ≡ true
