@@ -18,6 +18,8 @@ mod file_places;
 #[cfg(test)]
 mod file_shapes;
 #[cfg(test)]
+mod file_tables;
+#[cfg(test)]
 mod file_texts;
 #[cfg(test)]
 mod report_lines;

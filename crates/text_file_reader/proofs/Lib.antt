@@ -5,6 +5,7 @@ pub mod AtOnce
 pub mod Gaps
 pub mod SameTokens
 pub mod Declared
+pub mod Spans
 pub mod Back
 pub mod Calls
 pub mod Again

@@ -22,7 +22,9 @@ reads_as bytes others same allowed short others_short = record {
     declares : (a b : List ℕ) → tokens a ≡ tokens b → list_all is_allowed a ≡ list_all is_allowed b → length b ≤ max_len → (l : Listing) → Declares a l → Declares b l
     declares a b t v le l d = record {
       form = d.form;
-      spelled = record { short = le; allowed = sym v ∙ d.spelled.allowed; spelled = sym t ∙ d.spelled.spelled; formed = d.spelled.formed; shallow = d.spelled.shallow };
+      tables = d.tables;
+      spelled = record { short = le; allowed = sym v ∙ d.spelled.allowed; spelled = sym t ∙ d.spelled.spelled; formed = d.spelled.formed; parts = d.spelled.parts };
+      tabled = d.tabled;
       valued = d.valued;
       names = d.names;
       limits = d.limits;

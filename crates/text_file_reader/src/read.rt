@@ -22,11 +22,10 @@ fn built(alloc: Global, parts: Parts) -> Result<Catalogue, ReadFault>
     requires { ids_hold (view_parts parts) ≡ true }
     ensures { Gives (λ c. c) result (lawful (view_parts parts)) }
 {
-    let tables = Vec::new(alloc);
     match Catalogue::build_known(
         alloc,
         parts.vars,
-        tables,
+        parts.tables,
         parts.always,
         parts.txs,
         parts.runs,

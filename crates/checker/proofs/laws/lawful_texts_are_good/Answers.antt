@@ -1,7 +1,6 @@
-use Rattle.std.proofs.Common.{◌≡◌, ◌≤◌, ◌+◌, refl, length, arith}
+use Rattle.std.proofs.Common.{◌≡◌, ◌≤◌, ◌+◌, refl, sym, length, arith}
 use Rattle.txn_programs.specs.Listing.{tasks, values}
 use Rattle.txn_programs.proofs.Lawful.{few_tasks}
-use Rattle.txn_programs.proofs.Untabled.{untabled_values}
 use Rattle.text_report_printer.proofs.Lengths.{report_short}
 use Rattle.checker.proofs.Inside.{outside_told}
 use Rattle.checker.proofs.laws.lawful_texts_are_good.Goals as goal
@@ -10,7 +9,7 @@ pub returns : goal.returns
 returns c file l r spells lawful values =
     let few : length (tasks l) ≤ 65536 = few_tasks l spells.declared.limits in
     let counts : length r.entries + (length r.parked + length r.memory) ≤ 65536 = omega (arith, lawful.accounted, few) in
-    let valued : values l ≡ length l.initial = omega (arith, spells.declared.valued, untabled_values l spells.declared.limits) in
+    let valued : values l ≡ length l.initial = sym spells.declared.valued in
     let short = report_short l r spells.declared.limits valued lawful.fits values counts in
     record {
       listing = l;
