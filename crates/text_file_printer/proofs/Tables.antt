@@ -124,11 +124,23 @@ begun (t ∷ ts) vs h n =
     ∙ ap (λ (us : List ℤ). take t.1 vs ++ us) (begun ts (drop t.1 vs) parts.1 (omega (arith, all, length-drop t.1 vs)))
     ∙ take-append-drop t.1 vs
 
+filled : (ts : List (List ℕ × ℕ)) (vs : List ℤ) → list_all table_fits ts ≡ true → sum_by (λ (t : List ℕ × ℕ). t.1) ts ≡ length vs → map (λ (t : Table). length (numbers_of t)) (written_tables ts vs) ≡ map (λ (t : List ℕ × ℕ). t.1) ts
+filled [] vs h n = refl
+filled (t ∷ ts) vs h n =
+    let parts = and_parts (table_fits t) (list_all table_fits ts) h in
+    let some = ltb-true _ _ (and_parts (is_short t.0) _ parts.0).1 in
+    let all : t.1 + sum_by (λ (u : List ℕ × ℕ). u.1) ts ≡ length vs = sym (sum_by-cons (λ (u : List ℕ × ℕ). u.1) t ts) ∙ n in
+    let own : length (take t.1 vs) ≡ t.1 = omega (arith, all, length-take t.1 vs) in
+    ap (λ k. k ∷ map (λ (u : Table). length (numbers_of u)) (written_tables ts (drop t.1 vs))) (ap length (numbers_are t (take t.1 vs) some own) ∙ own)
+    ∙ ap (λ ks. t.1 ∷ ks) (filled ts (drop t.1 vs) parts.1 (omega (arith, all, length-drop t.1 vs)))
+
 -- the tables that are written say those of the listing
 pub tables_declared : (l : Listing) → limits_hold l ≡ true → values l ≡ length l.initial → DeclareTables (written_tables l.tables (drop (length l.names) l.initial)) l
 tables_declared l h n =
     let behind = drop (length l.names) l.initial in
+    let all : sum_by (λ (t : List ℕ × ℕ). t.1) l.tables ≡ length behind = omega (arith, n, length-drop (length l.names) l.initial) in
     record {
       counted = told l.tables behind;
-      begun = begun l.tables behind (limits_parts l h).each_table (omega (arith, n, length-drop (length l.names) l.initial));
+      filled = filled l.tables behind (limits_parts l h).each_table all;
+      begun = begun l.tables behind (limits_parts l h).each_table all;
     }
