@@ -100,8 +100,8 @@ scope_apart l fit =
     record {
       as_many = all;
       place = λ i lt.
-        let there : nat_lt i (length (spans l)) ≡ true = lt-ltb _ _ (omega (arith, all, lt)) in
-        rw (first_place (length l.names) l.tables i fit (omega (arith, lt, names)), there) refl;
+          let there : nat_lt i (length (spans l)) ≡ true = lt-ltb _ _ (omega (arith, all, lt)) in
+          rw (first_place (length l.names) l.tables i fit (omega (arith, lt, names)), there) refl;
     }
 
 placed_at : (spans : List Span) (o : Option ℕ) (t : Span) → span_at spans o ≡ Ok t → (i : ℕ) × (o ≡ Some i) × (slice_index_or spans i no_cells ≡ t)
