@@ -15,8 +15,8 @@ ghost use Rattle.text_grammar.specs.Resolving.{tx_name, resolved};
 ghost use Rattle.text_resolver.specs.Texts.{texts};
 ghost use Rattle.text_resolver.specs.Scopes.{view_scope};
 ghost use Rattle.text_resolver.specs.Parts.{view_variable, view_table, view_condition, view_parts};
-ghost use Rattle.text_file_reader.specs.Resolved.{MakesBehind, MakesBody, MakesNamed, MakesPrograms, MakesRuns, Resolves};
-ghost use Rattle.text_file_reader.specs.Resolved.{own_transaction_in, parameters_of, is_wanted};
+ghost use Rattle.text_file_reader.specs.Resolved.{Resolves, MakesBody, MakesNamed, MakesRuns, MakesPrograms};
+ghost use Rattle.text_file_reader.specs.Resolved.{MakesBehind, own_transaction_in, parameters_of, is_wanted};
 
 use crate::conditions::condition_at_once;
 use crate::expressions::last_expression_at_once;
