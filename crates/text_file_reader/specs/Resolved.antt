@@ -1,19 +1,19 @@
 -- Items that are made as they are read: one, the last before a parenthesis, two, one with its name, and all that stand next;
 -- and what is judged of transactions and calls that are made so.
-use Rattle.std.specs.Prelude.{◌≡◌, ℕ, Bool, true, ◌&&◌, ◌==◌, nat_lt, length, slice_index_or, if◌then◌else◌, Result, Ok, Err, List, [], map}
+use Rattle.std.specs.Prelude.{◌≡◌, ℕ, Bool, true, ◌&&◌, ◌==◌, nat_lt, length, slice_index_or, if◌then◌else◌, Result, Ok, Err, List, [], map, codes}
 use Rattle.std.specs.List.{list_all}
 use Rattle.txn_programs.specs.declared.arguments.Call.{Call}
 use Rattle.txn_programs.specs.Names.{are_new}
-use Rattle.txn_programs.specs.Tree.{Expression, Statement, Transaction}
+use Rattle.txn_programs.specs.Tree.{Expression, Condition, Statement, Transaction}
 use Rattle.text_words.specs.Tokens.{Lexeme}
-use Rattle.text_words.specs.TokenReading.{Read, close_at}
+use Rattle.text_words.specs.TokenReading.{Read, close_at, begins, all_of}
 use Rattle.text_words.specs.declared.fault.ReadFault.{ReadFault}
 use Rattle.text_words.specs.declared.fault.ReadFault.TheVariants.{Name}
 use Rattle.text_grammar.specs.Tree.{Declaration, Run}
 use Rattle.text_grammar.specs.declared.file.FileForm.{FileForm}
 use Rattle.text_grammar.specs.Scope.{Scope}
-use Rattle.text_grammar.specs.Reading.{expr_at, stmt_at}
-use Rattle.text_grammar.specs.Resolving.{each, declared_after, expression_in, statement_in, transaction_in, run_in}
+use Rattle.text_grammar.specs.Reading.{expr_at, stmt_at, conditions_at, tx_at, run_at, end_at}
+use Rattle.text_grammar.specs.Resolving.{each, declared_after, expression_in, statement_in, always_in, transaction_in, run_in, condition_name, tx_name}
 
 -- what was read is made into these, each name is declared once, and these tokens are left
 pub record Resolves {A B : Type 0} (read : Read (List A)) (one : A → Result B ReadFault) (name : A → List ℕ) (made : List B) (names : List (List ℕ)) (rest : List Lexeme) : Type 0 where
@@ -70,3 +70,15 @@ pub record MakesRuns (read : Read (List Run)) (names : List (List ℕ)) (paramet
   pub are_read : read ≡ Ok (items, rest)
   pub are_made : each (run_in names) items ≡ Ok made
   pub are_wanted : list_all (λ (run : Call × ℕ). is_wanted parameters run.0) made ≡ true
+
+-- what was read behind the tables, up to the end, is made into these conditions, transactions and runs
+pub record MakesPrograms (form : FileForm) (s : Scope) (ts : List Lexeme) (always : List (List ℕ × Condition)) (transactions : List Transaction) (runs : List (Call × ℕ)) : Type 0 where
+  pub conditions : List (List ℕ)
+  pub names : List (List ℕ)
+  pub behind_always : List Lexeme
+  pub behind_txs : List Lexeme
+  pub behind_runs : List Lexeme
+  pub makes_always : Resolves (conditions_at form ts) (always_in s) condition_name always conditions behind_always
+  pub makes_txs : Resolves (all_of (begins (codes "tx")) (tx_at form) behind_always) (own_transaction_in s) tx_name transactions names behind_txs
+  pub makes_runs : MakesRuns (all_of (begins (codes "run")) (run_at form) behind_txs) names (map parameters_of transactions) runs behind_runs
+  pub ends : end_at behind_runs ≡ Ok tt

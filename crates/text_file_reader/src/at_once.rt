@@ -14,7 +14,7 @@ ghost use Rattle.text_grammar.specs.Resolving.{tx_name, resolved};
 ghost use Rattle.text_resolver.specs.Texts.{texts};
 ghost use Rattle.text_resolver.specs.Scopes.{view_scope};
 ghost use Rattle.text_resolver.specs.Parts.{view_variable, view_table, view_condition, view_parts};
-ghost use Rattle.text_file_reader.specs.Resolved.{MakesBody, MakesNamed, MakesRuns, Resolves};
+ghost use Rattle.text_file_reader.specs.Resolved.{MakesBody, MakesNamed, MakesPrograms, MakesRuns, Resolves};
 ghost use Rattle.text_file_reader.specs.Resolved.{own_transaction_in, parameters_of, is_wanted};
 
 use crate::conditions::condition_at_once;
@@ -247,6 +247,24 @@ fn runs_at_once<'a>(
     Ok((made, rest))
 }
 
+/// The conditions, the transactions and the runs of a file of this form, which end it.
+fn programs_at_once(
+    alloc: Global,
+    file_form: FileForm,
+    outer: &Scope<'_, '_>,
+    bytes: &[u8],
+) -> Result<(Vec<(String, Cond)>, Vec<Tx>, Vec<(Call, u32)>), ReadFault>
+    ensures { IfOk result
+        (λ x. MakesPrograms file_form (view_scope outer.now) (tokens bytes.now) (map view_condition x.0.items)
+        (map transaction_of x.1.items) x.2.items) }
+{
+    let (always, rest) = conditions_at_once(alloc, file_form, outer, bytes)?;
+    let (names, txs, rest) = transactions_at_once(alloc, file_form, outer, rest)?;
+    let (runs, rest) = runs_at_once(alloc, file_form, &names, &txs, rest)?;
+    end(rest)?;
+    Ok((always, txs, runs))
+}
+
 /// What the bytes declare.
 fn file_at_once(alloc: Global, bytes: &[u8]) -> Result<Parts, ReadFault>
     ensures { IfOk result (λ parts. (file_of (tokens bytes.now) >>=ᴿ λ file. resolved file) ≡ Ok (view_parts parts)) }
@@ -262,10 +280,7 @@ fn file_at_once(alloc: Global, bytes: &[u8]) -> Result<Parts, ReadFault>
         spans: &spans,
         params: &params,
     };
-    let (always, rest) = conditions_at_once(alloc, file_form, &outer, rest)?;
-    let (tx_names, txs, rest) = transactions_at_once(alloc, file_form, &outer, rest)?;
-    let (runs, rest) = runs_at_once(alloc, file_form, &tx_names, &txs, rest)?;
-    end(rest)?;
+    let (always, txs, runs) = programs_at_once(alloc, file_form, &outer, rest)?;
     Ok(Parts {
         vars,
         tables,
