@@ -200,13 +200,13 @@ unfolding written_in
 without l h none [] e = (ap (map (written_always (scope_of l))) e, no_lists l h none One)
 without l h none (a ∷ always) e = no_lists l h none Two
 
-untabled : (l : Listing) → names_hold l ≡ true → (b : Bool) → list_any has_list l.transactions ≡ b → IsOfForm (cond b Three (form_for_conditions l.always)) (written_in (cond b Three (form_for_conditions l.always)) [] l)
-untabled l h true e = tt
-untabled l h false e = without l h e l.always refl
+without_tables : (l : Listing) → names_hold l ≡ true → (b : Bool) → list_any has_list l.transactions ≡ b → IsOfForm (cond b Three (form_for_conditions l.always)) (written_in (cond b Three (form_for_conditions l.always)) [] l)
+without_tables l h true e = tt
+without_tables l h false e = without l h e l.always refl
 
 -- the form that is told has room for the tables, the conditions and the parameters
 in_form : (l : Listing) → names_hold l ≡ true → (ts : List (List ℕ × ℕ)) (values : List ℤ) → IsOfForm (form_with ts l) (written_in (form_with ts l) (written_tables ts values) l)
-in_form l h [] values = untabled l h (list_any has_list l.transactions) refl
+in_form l h [] values = without_tables l h (list_any has_list l.transactions) refl
 in_form l h (t ∷ ts) values = tt
 
 -- the text spells the file, where it is not too long
