@@ -20,7 +20,7 @@ use Rattle.text_grammar.specs.Reading.{pair_at, tables_at, conditions_at, tx_at,
 use Rattle.text_grammar.specs.Resolving.{each, declared_one, declared_after, pair_name, table_name, condition_name, tx_name, variable_of, table_of, spans_in, always_in, run_in, listing, resolved}
 use Rattle.text_grammar.specs.Spelling.{lawful, listing_at}
 use Rattle.text_resolver.proofs.Parts.{converted_is}
-use Rattle.text_file_reader.specs.Resolved.{MakesNamed, MakesPrograms, Resolves, own_transaction_in, parameters_of, is_wanted}
+use Rattle.text_file_reader.specs.Resolved.{MakesBehind, MakesNamed, Resolves, own_transaction_in, parameters_of, is_wanted}
 use Rattle.text_file_reader.proofs.Known.{own_transactions, uses_are_known}
 use Rattle.text_file_reader.proofs.Declared.{declared_is}
 
@@ -130,18 +130,17 @@ resolved_is file vars names conditions txs values tables spans always transactio
 
 -- what is resolved as it is read is what the whole tree is resolved to
 pub at_once_is : (ts behind_heading behind_vars behind_tables : List Lexeme) (form : FileForm) (vars names : List (List ℕ))
-    (values : List (List ℕ × ℤ)) (tables : List ((List ℕ × ℕ) × List ℤ)) (spans : List Span) (always : List (List ℕ × Condition)) (transactions : List Transaction) (runs : List (Call × ℕ))
-    → heading_at ts ≡ Ok (form, behind_heading) → Resolves (var_items behind_heading) variable_of pair_name values vars behind_vars
-    → Resolves (tables_at form behind_vars) table_of table_name tables names behind_tables → spans_in (length vars) (map (λ t. t.0) tables) ≡ Ok spans
-    → MakesPrograms form (standing vars names spans) behind_tables always transactions runs
-    → (file_of ts >>= λ file. resolved file) ≡ Ok (listing values tables always transactions runs)
-at_once_is ts behind_heading behind_vars behind_tables form vars names values tables spans always transactions runs h v n s p =
+    (values : List (List ℕ × ℤ)) (tables : List ((List ℕ × ℕ) × List ℤ)) (always : List (List ℕ × Condition)) (transactions : List Transaction) (runs : List (Call × ℕ))
+    → heading_at ts ≡ Ok (form, behind_heading) → Resolves (var_items behind_heading) variable_of pair_name values vars behind_vars → Resolves (tables_at form behind_vars) table_of table_name tables names behind_tables
+    → MakesBehind form vars names (map (λ t. t.0) tables) behind_tables always transactions runs → (file_of ts >>= λ file. resolved file) ≡ Ok (listing values tables always transactions runs)
+at_once_is ts behind_heading behind_vars behind_tables form vars names values tables always transactions runs h v n behind =
+    let p = behind.makes in
     let a = p.makes_always in
     let t = p.makes_txs in
     let r = p.makes_runs in
     let file : File = record { form = form; vars = v.items; tables = n.items; always = a.items; txs = t.items; runs = r.items } in
     rw (file_is ts behind_heading behind_vars behind_tables p.behind_always p.behind_txs p.behind_runs form v.items n.items a.items t.items r.items h v.are_read n.are_read a.are_read t.are_read r.are_read p.ends)
-    (resolved_is file vars names p.conditions p.names values tables spans always transactions runs v.are_declared n.are_declared a.are_declared t.are_declared v.are_made n.are_made s a.are_made t.are_made r.are_made r.are_wanted)
+    (resolved_is file vars names p.conditions p.names values tables behind.spans always transactions runs v.are_declared n.are_declared a.are_declared t.are_declared v.are_made n.are_made behind.are_spans a.are_made t.are_made r.are_made r.are_wanted)
 
 regroup : (r : Result File ReadFault) → (r >>= λ file. resolved file >>= λ l. lawful l) ≡ ((r >>= λ file. resolved file) >>= λ l. lawful l)
 regroup (Ok file) = refl

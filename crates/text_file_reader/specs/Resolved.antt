@@ -2,6 +2,7 @@
 -- and what is judged of transactions and calls that are made so.
 use Rattle.std.specs.Prelude.{◌≡◌, ℕ, Bool, true, ◌&&◌, ◌==◌, nat_lt, length, slice_index_or, if◌then◌else◌, Result, Ok, Err, List, [], map, codes}
 use Rattle.std.specs.List.{list_all}
+use Rattle.txn_programs.specs.declared.ast.Span.{Span}
 use Rattle.txn_programs.specs.declared.arguments.Call.{Call}
 use Rattle.txn_programs.specs.Names.{are_new}
 use Rattle.txn_programs.specs.Tree.{Expression, Condition, Statement, Transaction}
@@ -11,9 +12,9 @@ use Rattle.text_words.specs.declared.fault.ReadFault.{ReadFault}
 use Rattle.text_words.specs.declared.fault.ReadFault.TheVariants.{Name}
 use Rattle.text_grammar.specs.Tree.{Declaration, Run}
 use Rattle.text_grammar.specs.declared.file.FileForm.{FileForm}
-use Rattle.text_grammar.specs.Scope.{Scope}
+use Rattle.text_grammar.specs.Scope.{Scope, standing}
 use Rattle.text_grammar.specs.Reading.{expr_at, stmt_at, conditions_at, tx_at, run_at, end_at}
-use Rattle.text_grammar.specs.Resolving.{each, declared_after, expression_in, statement_in, always_in, transaction_in, run_in, condition_name, tx_name}
+use Rattle.text_grammar.specs.Resolving.{each, declared_after, expression_in, statement_in, spans_in, always_in, transaction_in, run_in, condition_name, tx_name}
 
 -- what was read is made into these, each name is declared once, and these tokens are left
 pub record Resolves {A B : Type 0} (read : Read (List A)) (one : A → Result B ReadFault) (name : A → List ℕ) (made : List B) (names : List (List ℕ)) (rest : List Lexeme) : Type 0 where
@@ -82,3 +83,9 @@ pub record MakesPrograms (form : FileForm) (s : Scope) (ts : List Lexeme) (alway
   pub makes_txs : Resolves (all_of (begins (codes "tx")) (tx_at form) behind_always) (own_transaction_in s) tx_name transactions names behind_txs
   pub makes_runs : MakesRuns (all_of (begins (codes "run")) (run_at form) behind_txs) names (map parameters_of transactions) runs behind_runs
   pub ends : end_at behind_runs ≡ Ok tt
+
+-- the same, where tables with these names and so many cells lie behind the variables
+pub record MakesBehind (form : FileForm) (variables names : List (List ℕ)) (tables : List (List ℕ × ℕ)) (ts : List Lexeme) (always : List (List ℕ × Condition)) (transactions : List Transaction) (runs : List (Call × ℕ)) : Type 0 where
+  pub spans : List Span
+  pub are_spans : spans_in (length variables) tables ≡ Ok spans
+  pub makes : MakesPrograms form (standing variables names spans) ts always transactions runs

@@ -3,6 +3,7 @@
 
 ghost use Rattle.std.specs.Prelude.{◌≡◌, ℕ, List, Ok, IfOk, map, codes};
 ghost use Rattle.std.specs.List.{list_all};
+ghost use Rattle.txn_programs.specs.Listing.{table_of as listed};
 ghost use Rattle.txn_programs.specs.Tree.{expression_of, statement_of, transaction_of};
 ghost use Rattle.text_words.specs.Tokens.{tokens};
 ghost use Rattle.text_words.specs.TokenReading.{begins, all_of};
@@ -14,7 +15,7 @@ ghost use Rattle.text_grammar.specs.Resolving.{tx_name, resolved};
 ghost use Rattle.text_resolver.specs.Texts.{texts};
 ghost use Rattle.text_resolver.specs.Scopes.{view_scope};
 ghost use Rattle.text_resolver.specs.Parts.{view_variable, view_table, view_condition, view_parts};
-ghost use Rattle.text_file_reader.specs.Resolved.{MakesBody, MakesNamed, MakesPrograms, MakesRuns, Resolves};
+ghost use Rattle.text_file_reader.specs.Resolved.{MakesBehind, MakesBody, MakesNamed, MakesPrograms, MakesRuns, Resolves};
 ghost use Rattle.text_file_reader.specs.Resolved.{own_transaction_in, parameters_of, is_wanted};
 
 use crate::conditions::condition_at_once;
@@ -265,6 +266,30 @@ fn programs_at_once(
     Ok((always, txs, runs))
 }
 
+/// The same, where the variables and the tables have these names.
+fn behind_tables(
+    alloc: Global,
+    file_form: FileForm,
+    vars: &IndexSet<&str>,
+    names: &IndexSet<&str>,
+    tables: &[Table],
+    bytes: &[u8],
+) -> Result<(Vec<(String, Cond)>, Vec<Tx>, Vec<(Call, u32)>), ReadFault>
+    ensures { IfOk result
+        (λ x. MakesBehind file_form (texts vars.now.keys) (texts names.now.keys) (map listed tables.now)
+        (tokens bytes.now) (map view_condition x.0.items) (map transaction_of x.1.items) x.2.items) }
+{
+    let spans = spans(alloc, vars.len(), tables)?;
+    let params = IndexSet::new(alloc);
+    let outer = Scope {
+        vars,
+        tables: names,
+        spans: &spans,
+        params: &params,
+    };
+    programs_at_once(alloc, file_form, &outer, bytes)
+}
+
 /// What the bytes declare.
 fn file_at_once(alloc: Global, bytes: &[u8]) -> Result<Parts, ReadFault>
     ensures { IfOk result (λ parts. (file_of (tokens bytes.now) >>=ᴿ λ file. resolved file) ≡ Ok (view_parts parts)) }
@@ -272,15 +297,8 @@ fn file_at_once(alloc: Global, bytes: &[u8]) -> Result<Parts, ReadFault>
     let (file_form, rest) = heading_of(bytes)?;
     let (var_names, vars, rest) = variables_at_once(alloc, rest)?;
     let (table_names, tables, rest) = tables_at_once(alloc, file_form, rest)?;
-    let spans = spans(alloc, var_names.len(), &tables)?;
-    let params = IndexSet::new(alloc);
-    let outer = Scope {
-        vars: &var_names,
-        tables: &table_names,
-        spans: &spans,
-        params: &params,
-    };
-    let (always, txs, runs) = programs_at_once(alloc, file_form, &outer, rest)?;
+    let (always, txs, runs) =
+        behind_tables(alloc, file_form, &var_names, &table_names, &tables, rest)?;
     Ok(Parts {
         vars,
         tables,
