@@ -193,6 +193,12 @@ value_fails_by false v task text e = name_fails v task text e
 value_fails : (cells : Bool) (v : VariableVerb) (first second task : List ℕ) → lacks 32 first ≡ true → number_in first ≡ Ok task → NoValue (cells && is_bracketed second) second → of_variable cells v (first ++ 32 ∷ second) ≡ Err Shape
 value_fails cells v first second task h n e = value_read cells v first second task h n ∙ value_fails_by (cells && is_bracketed second) v task second e
 
+pub neither_cell : (b : Bool) (text : List ℕ) → b ≡ true → cell_in text ≡ Err Shape → NoValue b text
+neither_cell b text is e = subst (λ (a : Bool). NoValue a text) (sym is) e
+
+pub neither_name : (b : Bool) (text : List ℕ) → b ≡ false → name_in text ≡ Err Shape → NoValue b text
+neither_name b text is e = subst (λ (a : Bool). NoValue a text) (sym is) e
+
 no_cell : (text : List ℕ) (r : Result (List ℕ × List ℕ) ReadFault) → cell_in text ≡ r → lacks 32 text ≡ false → r ≡ Err Shape
 no_cell text (Ok x) e h =
     let c = cell_takes text x e in

@@ -21,7 +21,7 @@ use Rattle.explain_schedules.specs.Places.{IsFirstLine}
 use Rattle.explain_schedules.specs.declared.explaining.Finding.{Finding}
 use Rattle.explain_schedules.specs.declared.judging.Judged.{Judged}
 use Rattle.explain_schedules.specs.declared.judging.Judged.TheVariants.{Names, Tasks}
-use Rattle.explain_schedules.specs.Walking.{IsGoing, IsUneven, place_of, wrong_at}
+use Rattle.explain_schedules.specs.Walking.{IsGoing, IsUneven, right_of, place_of, said_of, wrong_at}
 use Rattle.explain_schedules.proofs.Lines.{stops_fails, task_in_line, name_in_line}
 use Rattle.explain_schedules.proofs.Rows.{none_cut, line_is, text_more}
 
@@ -110,6 +110,13 @@ none_left l right bytes rest g lack =
     let not : list_all right [] ≡ false = ap (list_all right) (sym none) ∙ g.not_later in
     cc
 
+-- the same flag of cells
+pub read_by : (a b : Bool) (text : List ℕ) (r : Raw) → a ≡ b → move_in a text ≡ Ok r → move_in b text ≡ Ok r
+read_by a b text r same e = subst (λ (c : Bool). move_in c text ≡ Ok r) same e
+
+pub stops_by : (a b : Bool) (text : List ℕ) (at : ℕ) (wanted : Wanted) → a ≡ b → StopsAt a text at wanted → StopsAt b text at wanted
+stops_by a b text at wanted same s = subst (λ (c : Bool). StopsAt c text at wanted) same s
+
 -- where a line is wrong, and what is said of it
 pub record IsWrong (b : Bool) (place : ℕ) (said : Finding) (at : ℕ) (finding : Finding) : Type 0 where
   pub not_so : b ≡ false
@@ -131,9 +138,15 @@ told_right false place said o e f = absurd (let h = sym e ∙ f in cc)
 
 -- ---- the place is in the line
 
-pub place_reaches : (cells : Bool) (judged : Judged) (line : List ℕ) (r : Raw) → move_in cells line ≡ Ok r → place_of judged r ≤ length line
+place_reaches : (cells : Bool) (judged : Judged) (line : List ℕ) (r : Raw) → move_in cells line ≡ Ok r → place_of judged r ≤ length line
 place_reaches cells Names line r e = subst (λ (t : List ℕ). name_place r ≤ length t) (sym (move_takes cells line r e).same) (name_in_line r)
 place_reaches cells Tasks line r e = subst (λ (t : List ℕ). task_place r ≤ length t) (sym (move_takes cells line r e).same) (task_in_line r)
 
-pub within : (gone at place line after rest bytes : ℕ) → at ≡ place → place ≤ line → line + (1 + after) ≡ rest → gone + rest ≡ bytes → gone + at ≤ bytes
+within : (gone at place line after rest bytes : ℕ) → at ≡ place → place ≤ line → line + (1 + after) ≡ rest → gone + rest ≡ bytes → gone + at ≤ bytes
 within gone at place line after rest bytes e reach len g = omega arith
+
+pub wrong_within : (cells : Bool) (l : Listing) (judged : Judged) (line : List ℕ) (r : Raw) (o : Option (ℕ × Finding)) (x : ℕ × Finding) (gone after rest bytes : ℕ) → move_in cells line ≡ Ok r
+    → o ≡ wrong_at (right_of l judged r) (place_of judged r) (said_of l judged r) → o ≡ Some x → length line + (1 + after) ≡ rest → gone + rest ≡ bytes → gone + x.0 ≤ bytes
+wrong_within cells l judged line r o x gone after rest bytes read e is len g =
+    let told = told_wrong (right_of l judged r) (place_of judged r) (said_of l judged r) o x e is in
+    within gone x.0 (place_of judged r) (length line) after rest bytes told.at_is (place_reaches cells judged line r read) len g

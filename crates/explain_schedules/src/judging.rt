@@ -1,6 +1,6 @@
 //! The first line with an unknown variable or cell, or with a task that there is not.
 
-ghost use Rattle.std.specs.Prelude.{◌≡◌, ◌≤◌, length, is_some, ◌<◌, nat_lt};
+ghost use Rattle.std.specs.Prelude.{◌≡◌, ◌≤◌, ◌<◌, if◌then◌else◌, length, is_some, nat_lt};
 ghost use Rattle.std.specs.Str.Parse.{digits_value};
 ghost use Rattle.txn_programs.specs.Listing.{spans, table_named, tasks, variable_named};
 ghost use Rattle.text_line_reader.specs.CellNames.{cell_named};

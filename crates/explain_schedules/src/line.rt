@@ -1,7 +1,8 @@
 //! One line of a schedule: what it says, or where it stops being a line. Where `cells` is true it may name a cell.
 
-ghost use Rattle.std.specs.Prelude.{◌≡◌, ◌≤◌, ◌+◌, Bool, IfOk, IfErr, IfSome, is_some, true, false, length, ◌++◌, ◌∷◌};
+ghost use Rattle.std.specs.Prelude.{◌≡◌, ◌≤◌, ◌+◌, ◌&&◌, Bool, IfOk, IfErr, IfSome, is_some, true, false, length, ◌++◌, ◌∷◌};
 ghost use Rattle.text_line_reader.specs.ScheduleReading.{task_verb, variable_verb};
+ghost use Rattle.text_line_reader.specs.Words.{is_bracketed};
 ghost use Rattle.explain_schedules.specs.Words.{lacks, IsParted};
 ghost use Rattle.explain_schedules.specs.Lines.{IsLine, StopsAt};
 
@@ -144,6 +145,13 @@ fn of_variable<'a>(verb: &[u8], rest: &'a [u8], cells: bool) -> Result<Line<'a>,
     }
 }
 
+/// Whether a word is read as a cell, and not as a variable.
+fn is_cell(word: &[u8], cells: bool) -> bool
+    ensures { result ≡ (cells && is_bracketed word.now) }
+{
+    cells && is_bracketed(word)
+}
+
 /// The line of a verb, at whose end this place is, and of what stands round the space behind it.
 fn named<'a>(
     verb: &[u8],
@@ -174,7 +182,7 @@ fn named<'a>(
         at: name_at,
         wanted: Wanted::Variable,
     };
-    if cells && is_bracketed(second) {
+    if is_cell(second, cells) {
         match cell_in(second) {
             Ok((table, index)) => Ok(Line::OfCell(at, task, name_at, table, index)),
             Err(_) => Err(wrong),
