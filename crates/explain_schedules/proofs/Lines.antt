@@ -227,7 +227,7 @@ word_fails cells v rest h = rw (none_parted rest h) refl
 variable_verb_is : (v : VariableVerb) (verb : List ℕ) → lacks 32 verb ≡ true → task_verb verb ≡ None → variable_verb verb ≡ Some v → verb ≡ variable_word v
 variable_verb_is v verb h n e =
     let t = move_takes false (verb ++ 32 ∷ codes "0 a") (OfVariable v (codes "0") (codes "a"))
-        (by_variable false v verb (codes "0 a") h n e ∙ value_read false v (codes "0") (codes "a") (codes "0") refl zero_number ∙ variable_in false v (codes "0") (codes "a") (codes "a") refl letter_name_in) in
+    (by_variable false v verb (codes "0 a") h n e ∙ value_read false v (codes "0") (codes "a") (codes "0") refl zero_number ∙ variable_in false v (codes "0") (codes "a") (codes "a") refl letter_name_in) in
     same_front 32 verb (variable_word v) (codes "0 a") (codes "0 a") h (variable_word_is v).spaceless t.same
 
 -- a line of a verb, a task and what is read as this, which stands behind both

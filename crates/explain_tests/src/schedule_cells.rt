@@ -14,7 +14,8 @@ const PARAMETERS: &str = "(stm 3)(var x 5)(tx t (k) (set x k) x)(run t 2 1)";
 /// A file in which no cell can be told.
 const PLAIN: &str = "(var x 5)(tx t (skip) x)(run t 2)";
 
-const BOTH: &str = "the number of a task is wanted, and then the name of a variable, or a cell as NAME[INDEX]";
+const BOTH: &str =
+    "the number of a task is wanted, and then the name of a variable, or a cell as NAME[INDEX]";
 
 const VALUE: &str =
     "the name of a variable, or a cell as NAME[INDEX], is wanted, and then the end of the line";
@@ -26,18 +27,63 @@ const NO_TABLE: &str = "no table of this name is declared";
 const NO_CELL: &str = "the table has no cell of this number";
 
 const SHAPES: &[Case] = &[
-    ("read 0 q[02]\n", "line 1, column 8", VALUE, "; here stands q[02]"),
-    ("read 0 q[-1]\n", "line 1, column 8", VALUE, "; here stands q[-1]"),
-    ("read 0 q[]\n", "line 1, column 8", VALUE, "; here stands q[]"),
-    ("read 0 [2]\n", "line 1, column 8", VALUE, "; here stands [2]"),
-    ("read 0 q[2\n", "line 1, column 8", VALUE, "; here stands q[2"),
-    ("word\nfirst 12 q[2]]\n", "line 2, column 10", VALUE, "; here stands q[2]]"),
-    ("read 0 q[2] x\n", "line 1, column 8", VALUE, "; here stands q[2] x"),
-    ("read q[2]\n", "line 1, column 6", BOTH, "; here stands q[2]"),
+    (
+        "read 0 q[02]\n",
+        "line 1, column 8",
+        VALUE,
+        "; here stands q[02]",
+    ),
+    (
+        "read 0 q[-1]\n",
+        "line 1, column 8",
+        VALUE,
+        "; here stands q[-1]",
+    ),
+    (
+        "read 0 q[]\n",
+        "line 1, column 8",
+        VALUE,
+        "; here stands q[]",
+    ),
+    (
+        "read 0 [2]\n",
+        "line 1, column 8",
+        VALUE,
+        "; here stands [2]",
+    ),
+    (
+        "read 0 q[2\n",
+        "line 1, column 8",
+        VALUE,
+        "; here stands q[2",
+    ),
+    (
+        "word\nfirst 12 q[2]]\n",
+        "line 2, column 10",
+        VALUE,
+        "; here stands q[2]]",
+    ),
+    (
+        "read 0 q[2] x\n",
+        "line 1, column 8",
+        VALUE,
+        "; here stands q[2] x",
+    ),
+    (
+        "read q[2]\n",
+        "line 1, column 6",
+        BOTH,
+        "; here stands q[2]",
+    ),
 ];
 
 const NAMES: &[Case] = &[
-    ("read 0 q[3]\n", "line 1, column 8", NO_CELL, "; here stands q[3]"),
+    (
+        "read 0 q[3]\n",
+        "line 1, column 8",
+        NO_CELL,
+        "; here stands q[3]",
+    ),
     (
         "read 7 q[2]\nread 0 x[1]\nread 0 y\n",
         "line 2, column 8",
@@ -50,7 +96,12 @@ const NAMES: &[Case] = &[
         NO_CELL,
         "; here stands q[99999999999999999999]",
     ),
-    ("read 0 y[0]\n", "line 1, column 8", NO_TABLE, "; here stands y[0]"),
+    (
+        "read 0 y[0]\n",
+        "line 1, column 8",
+        NO_TABLE,
+        "; here stands y[0]",
+    ),
     (
         "read 0 q\n",
         "line 1, column 8",
@@ -68,7 +119,10 @@ const LIMITS: &[Case] = &[(
 
 #[test]
 fn cells_of_tables(rt: HostRuntime) {
-    for schedule in ["read 0 q[0]\n", "begin 0\nread 1 q[2]\nfirst 0 x[0]\nread 0 x\n"] {
+    for schedule in [
+        "read 0 q[0]\n",
+        "begin 0\nread 1 q[2]\nfirst 0 x[0]\nread 0 x\n",
+    ] {
         assert!(rt;
             is_told(rt.alloc(), FILE, schedule, Judgement::Good, "good\n"),
             "of {schedule}"
@@ -88,7 +142,14 @@ fn cells_without_tables(rt: HostRuntime) {
         NO_TABLE,
         "; here stands q[0]",
     )];
-    all_told(&rt, rt.alloc(), PARAMETERS, ReadFault::Name, "F4 Name", known);
+    all_told(
+        &rt,
+        rt.alloc(),
+        PARAMETERS,
+        ReadFault::Name,
+        "F4 Name",
+        known,
+    );
     let unread: &[Case] = &[(
         "read 0 q[0]\n",
         "line 1, column 8",

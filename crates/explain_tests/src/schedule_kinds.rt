@@ -194,7 +194,13 @@ pub(crate) fn all_told(
         let Ok(line) = format!(in alloc; "{place}: {name}: {what}{stands}\n") else {
             panic!(rt; "no memory")
         };
-        let told = is_told(alloc, file, schedule, Judgement::Refused(kind), line.as_str());
+        let told = is_told(
+            alloc,
+            file,
+            schedule,
+            Judgement::Refused(kind),
+            line.as_str(),
+        );
         assert!(rt; told, "of {schedule}");
         assert!(rt; is_refused(alloc, file, schedule, kind), "of {schedule}");
     }
@@ -217,7 +223,14 @@ fn shapes(rt: HostRuntime) {
 
 #[test]
 fn bad_bytes(rt: HostRuntime) {
-    all_told(&rt, rt.alloc(), FILE, ReadFault::BadByte, "F2 BadByte", BAD_BYTES);
+    all_told(
+        &rt,
+        rt.alloc(),
+        FILE,
+        ReadFault::BadByte,
+        "F2 BadByte",
+        BAD_BYTES,
+    );
 }
 
 #[test]

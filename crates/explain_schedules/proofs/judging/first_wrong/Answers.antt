@@ -35,7 +35,7 @@ pub overflow_add-result : goal.overflow_add-result
 overflow_add-result c =
     let line = c.in-Ok.ensures.line in
     let le = wrong_within c.knows_cells-cells.result c.args.catalogue.now c.args.judged c.in-Some.line.now line.raw c.wrong_in.result (c.in-Some-wrong_in.at, c.in-Some-wrong_in.finding)
-        c.gone.result (length c.in-Some.after.now) (length c.lines.rest.now) (length c.args.bytes.now) line.read (c.wrong_in.ensures line.raw line.says) c.in-Some-wrong_in.is c.in-Some.ensures.len c.gone.ensures in
+    c.gone.result (length c.in-Some.after.now) (length c.lines.rest.now) (length c.args.bytes.now) line.read (c.wrong_in.ensures line.raw line.says) c.in-Some-wrong_in.is c.in-Some.ensures.len c.gone.ensures in
     let short = c.requires.uneven.written.short in
     omega (arith, le, short)
 

@@ -16,7 +16,7 @@ returns-in-Ok-cell_in-clause-line c =
     let table = c.in-Ok-cell_in.table.now in
     let index = c.in-Ok-cell_in.index.text.now in
     let t = cell_line c.args.cells c.args.verb.now c.args.first.now c.args.second.now task table index c.requires.spaceless c.requires.verb c.requires.other c.requires.first c.in-Ok.ensures.value
-        (sym c.is_cell.ensures ∙ c.if-is_cell.true) c.in-Ok-cell_in.ensures.value in
+    (sym c.is_cell.ensures ∙ c.if-is_cell.true) c.in-Ok-cell_in.ensures.value in
     record {
       raw = OfCell t.kind task table index;
       read = t.read;
@@ -34,7 +34,7 @@ returns-in-Ok-name_in-clause-line c =
     let task = c.in-Ok.task.text.now in
     let name = c.in-Ok-name_in.name.now in
     let t = variable_line c.args.cells c.args.verb.now c.args.first.now c.args.second.now task name c.requires.spaceless c.requires.verb c.requires.other c.requires.first c.in-Ok.ensures.value
-        (sym c.is_cell.ensures ∙ c.if-is_cell.false) c.in-Ok-name_in.ensures.value in
+    (sym c.is_cell.ensures ∙ c.if-is_cell.false) c.in-Ok-name_in.ensures.value in
     record {
       raw = OfVariable t.kind task name;
       read = t.read;
