@@ -1,14 +1,15 @@
 //! What is read of a file, a report or a schedule.
 
 ghost use Rattle.std.specs.Prelude.{◌<◌, ◌^◌, IfOk, IfErr};
-ghost use Rattle.commands.specs.Files.{IsRead, IsUnread, file_limit, report_limit};
+ghost use Rattle.commands.specs.Files.{IsRead, IsReportLimit, IsReportOf, IsUnread, file_limit, schedule_limit};
 
 use command_line::{Answer, Earlier, unread};
+use run_interface::{RunFault, catalogue_of};
 use std::alloc::Global;
 use std::io::Read;
 use std::rt::Files;
 use std::{fs, io};
-use text_line_reader::MAX_REPORT;
+use text_line_reader::{MAX_REPORT, MAX_SCHEDULE, max_report};
 use txn_text::MAX_FILE;
 
 /// What the reader has left, of which at most one byte past the limit is read: with it, what has more
@@ -38,21 +39,49 @@ pub(crate) fn bytes_of<I: Read + Drop>(
     }
 }
 
-/// What a file has, and a report or a schedule of it, which has its own limit.
-pub(crate) fn both_of<I: Read + Drop, J: Read + Drop>(
+/// What a file has, and a schedule of it.
+pub(crate) fn with_schedule<I: Read + Drop, J: Read + Drop>(
     alloc: Global,
     file: I,
-    other: J,
-    limit: usize,
+    schedule: J,
 ) -> Result<(Vec<u8>, Vec<u8>), Answer>
-    requires { limit < 2 ^ 32 }
     ensures first { IfOk result (λ both. IsRead file_limit (I.remaining file) both.0.items) }
-    ensures second { IfOk result (λ both. IsRead limit (J.remaining other) both.1.items) }
+    ensures second { IfOk result (λ both. IsRead schedule_limit (J.remaining schedule) both.1.items) }
     ensures unread { IfErr result IsUnread }
 {
     let file = bytes_of(alloc, file, MAX_FILE)?;
-    let other = bytes_of(alloc, other, limit)?;
-    Ok((file, other))
+    let schedule = bytes_of(alloc, schedule, MAX_SCHEDULE)?;
+    Ok((file, schedule))
+}
+
+/// How many bytes a report of the file of these bytes has at most: as many as its catalogue gives, or where the file is
+/// refused as many as one without cells does.
+fn report_limit(alloc: Global, file: &[u8]) -> Result<usize, Answer>
+    ensures limit { IfOk result (IsReportLimit file.now) }
+    ensures small { IfOk result (λ limit. limit < 2 ^ 32) }
+    ensures unread { IfErr result IsUnread }
+{
+    match catalogue_of(alloc, file) {
+        Ok(catalogue) => Ok(max_report(&catalogue)),
+        Err(RunFault::Memory) => Err(Answer::Failed(RunFault::Memory)),
+        Err(_) => Ok(MAX_REPORT),
+    }
+}
+
+/// What a file has, and a report of it.
+pub(crate) fn with_report<I: Read + Drop, J: Read + Drop>(
+    alloc: Global,
+    file: I,
+    report: J,
+) -> Result<(Vec<u8>, Vec<u8>), Answer>
+    ensures file { IfOk result (λ both. IsRead file_limit (I.remaining file) both.0.items) }
+    ensures report { IfOk result (λ both. IsReportOf both.0.items (J.remaining report) both.1.items) }
+    ensures unread { IfErr result IsUnread }
+{
+    let file = bytes_of(alloc, file, MAX_FILE)?;
+    let limit = report_limit(alloc, &file)?;
+    let report = bytes_of(alloc, report, limit)?;
+    Ok((file, report))
 }
 
 /// The file at the path, to be read, or what is answered where it cannot be.
@@ -96,14 +125,14 @@ pub(crate) fn chapter_of<I: Read + Drop, J: Read + Drop, K: Read + Drop, L: Read
     earlier_report: L,
 ) -> Result<ChapterBytes, Answer>
     ensures file { IfOk result (λ all. IsRead file_limit (I.remaining file) all.file.items) }
-    ensures report { IfOk result (λ all. IsRead report_limit (J.remaining report) all.report.items) }
+    ensures report { IfOk result (λ all. IsReportOf all.file.items (J.remaining report) all.report.items) }
     ensures earlier { IfOk result (λ all. IsRead file_limit (K.remaining earlier) all.earlier.items) }
     ensures earlier_report { IfOk result
-        (λ all. IsRead report_limit (L.remaining earlier_report) all.earlier_report.items) }
+        (λ all. IsReportOf all.earlier.items (L.remaining earlier_report) all.earlier_report.items) }
     ensures unread { IfErr result IsUnread }
 {
-    let (file, report) = both_of(alloc, file, report, MAX_REPORT)?;
-    let (earlier, earlier_report) = both_of(alloc, earlier, earlier_report, MAX_REPORT)?;
+    let (file, report) = with_report(alloc, file, report)?;
+    let (earlier, earlier_report) = with_report(alloc, earlier, earlier_report)?;
     Ok(ChapterBytes {
         file,
         report,

@@ -28,6 +28,8 @@ mod report_parts;
 #[cfg(test)]
 mod report_refusals;
 #[cfg(test)]
+mod schedule_cells;
+#[cfg(test)]
 mod schedule_kinds;
 #[cfg(test)]
 mod schedule_long;

@@ -19,7 +19,7 @@ use text_words::ReadFault;
 use txn::{Catalogue, Span, VarId};
 
 /// Whether cells can be told, and an entry can end `outside`: form 3 of a file alone can say the catalogue.
-pub(crate) fn knows_cells(catalogue: &Catalogue) -> bool
+pub fn knows_cells(catalogue: &Catalogue) -> bool
     ensures { result ≡ knows_cells catalogue.now }
 {
     catalogue.tables().len() > 0 || catalogue.most_parameters() > 0
@@ -27,7 +27,7 @@ pub(crate) fn knows_cells(catalogue: &Catalogue) -> bool
 
 /// Whether the text names a cell, and no variable.
 #[tactic(auto, unfolding(crate::specs::Words::is_bracketed))]
-pub(crate) fn is_bracketed(text: &[u8]) -> bool
+pub fn is_bracketed(text: &[u8]) -> bool
     ensures { result ≡ is_bracketed text.now }
 {
     part(text, b'[').is_some()
@@ -43,7 +43,7 @@ fn parts(text: &[u8], sep: u8) -> Result<(&[u8], &[u8]), ReadFault>
 
 /// NAME[INDEX]: the name of a table, and a number in it.
 #[tactic(auto, unfolding(crate::specs::Words::cell_in))]
-pub(crate) fn cell_in(text: &[u8]) -> Result<(&str, Count<'_>), ReadFault>
+pub fn cell_in(text: &[u8]) -> Result<(&str, Count<'_>), ReadFault>
     ensures value { Gives (λ x. (x.0.now, x.1.text.now)) result (cell_in text.now) }
     ensures kind { IfErr result (λ e. e ≡ Shape) }
 {
@@ -56,7 +56,7 @@ pub(crate) fn cell_in(text: &[u8]) -> Result<(&str, Count<'_>), ReadFault>
 }
 
 /// The cells of each table.
-pub(crate) fn spans_of(alloc: Global, catalogue: &Catalogue) -> Result<Vec<Span>, AllocError>
+pub fn spans_of(alloc: Global, catalogue: &Catalogue) -> Result<Vec<Span>, AllocError>
     ensures { IfOk result (λ v. v.items ≡ spans catalogue.now) }
 {
     catalogue.rules();
@@ -86,7 +86,7 @@ fn cell_of(span: Span, index: Count<'_>) -> Option<VarId>
 
 /// The cell that is written so, if there is one; `tables` are the cells of each table of the catalogue.
 #[tactic(auto, unfolding(crate::specs::CellNames::cell_named))]
-pub(crate) fn cell_named(
+pub fn cell_named(
     catalogue: &Catalogue,
     tables: &[Span],
     table: &str,
