@@ -43,7 +43,7 @@ fn parts(text: &[u8], sep: u8) -> Result<(&[u8], &[u8]), ReadFault>
 
 /// NAME[INDEX]: the name of a table, and a number in it.
 #[tactic(auto, unfolding(crate::specs::Words::cell_in))]
-pub(crate) fn cell_in(text: &[u8]) -> Result<(&str, Count<'_>), ReadFault>
+pub fn cell_in(text: &[u8]) -> Result<(&str, Count<'_>), ReadFault>
     ensures value { Gives (λ x. (x.0.now, x.1.text.now)) result (cell_in text.now) }
     ensures kind { IfErr result (λ e. e ≡ Shape) }
 {
@@ -74,7 +74,7 @@ pub(crate) fn spans_of(alloc: Global, catalogue: &Catalogue) -> Result<Vec<Span>
 }
 
 /// The cell of this number among these, if there is one.
-fn cell_of(span: Span, index: Count<'_>) -> Option<VarId>
+pub fn cell_of(span: Span, index: Count<'_>) -> Option<VarId>
     requires { span.first + span.length ≤ MAX_VALUES }
     ensures { result ≡ cell_of span (digits_value 10 index.entry.text.now) }
 {

@@ -11,6 +11,7 @@ mod schedule;
 mod tasks;
 mod words;
 
+pub use cells::{cell_in, cell_of};
 pub use lines::{end, first_word, next_line, part};
 pub use numeral::Count;
 pub use report::read::{MAX_REPORT, max_report, read_report};
