@@ -1,6 +1,6 @@
 //! What is seen of a store: under the host's lock. Nothing changes.
 
-ghost use Rattle.std.specs.Prelude.{◌≡◌, ◌≢◌, ◌<◌, ◌⊎◌, None, pos, length};
+ghost use Rattle.std.specs.Prelude.{◌≡◌, ◌≢◌, ◌<◌, ◌⊎◌, None, Some, pos, length};
 ghost use Rattle.txn_text.specs.Canonical.{file_text};
 ghost use Rattle.book.specs.Counting.{AreCounts};
 ghost use Rattle.book.specs.Turns.{IsIdle};
@@ -72,7 +72,16 @@ fn tell_value(store: &Store, name: &[u8], value: &mut i64, version: &mut u64) ->
     let Ok(name) = str::from_utf8(name) else {
         return UNKNOWN;
     };
-    let Some((present, number)) = store.value(name) else {
+    tell(store.value(name), value, version)
+}
+
+/// What was found, where it was.
+fn tell(found: Option<(i64, u64)>, value: &mut i64, version: &mut u64) -> i32
+    ensures done { result ≡ pos 0 → found ≡ Some (value.new, version.new) }
+    ensures unknown { result ≢ pos 0
+        → (result ≡ UNKNOWN) × (found ≡ None) × (value.new ≡ value.old) × (version.new ≡ version.old) }
+{
+    let Some((present, number)) = found else {
         return UNKNOWN;
     };
     *value = present;
@@ -99,21 +108,7 @@ pub extern "C" fn stm_cell(
     let Some(held) = store.get_mut() else {
         return EMPTY;
     };
-    tell_cell(held, table, index, value, version)
-}
-
-fn tell_cell(store: &Store, table: u32, index: u32, value: &mut i64, version: &mut u64) -> i32
-    ensures done { result ≡ pos 0 → CellIs store.now.book table index value.new version.new }
-    ensures unknown { result ≢ pos 0
-        → (result ≡ UNKNOWN) × NoCell store.now.book table index × (value.new ≡ value.old)
-        × (version.new ≡ version.old) }
-{
-    let Some((present, number)) = store.cell(table as usize, index) else {
-        return UNKNOWN;
-    };
-    *value = present;
-    *version = number;
-    0
+    tell(held.cell(table as usize, index), value, version)
 }
 
 /// Copies the present values of a table's cells, from the one of this number on: as many as there are and there

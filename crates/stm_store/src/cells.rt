@@ -1,6 +1,7 @@
 //! The cells of tables: by the place of their table and their number, or by name.
 
 ghost use Rattle.std.specs.Prelude.{◌≡◌, ◌<◌, ◌≤◌, ◌+◌, ◌++◌, IfSome, Some, drop, length, min, take};
+ghost use Rattle.txn_programs.specs.declared.limits.TheConstants.{MAX_VALUES};
 ghost use Rattle.txn_programs.specs.Listing.{spans};
 ghost use Rattle.text_line_reader.specs.CellNames.{cell_at, cell_named};
 ghost use Rattle.stm_store.specs.Naming.{span_at, value_named};
@@ -13,6 +14,7 @@ use txn::{Catalogue, Span, VarId};
 pub(crate) fn span_at(catalogue: &Catalogue, table: usize) -> Span
     ensures value { result ≡ span_at catalogue.now table }
     ensures inside { result.first + result.length ≤ length catalogue.now.initial }
+    ensures few { result.first + result.length ≤ MAX_VALUES }
 {
     catalogue.rules();
     let mut first = catalogue.var_count() as u32;
@@ -47,6 +49,7 @@ pub(crate) fn cell_at(catalogue: &Catalogue, table: usize, index: u32) -> Option
 }
 
 /// The cell that is written so, if there is one.
+#[tactic(auto, unfolding(text_line_reader::specs::CellNames::cell_named))]
 fn named_cell(catalogue: &Catalogue, table: &str, index: Count<'_>) -> Option<VarId>
     ensures id { result ≡ cell_named catalogue.now table.now index.text.now }
     ensures inside { IfSome result (λ x. x.0 < length catalogue.now.initial) }
