@@ -12,7 +12,6 @@ use Rattle.txn_programs.specs.declared.limits.TheConstants.{MAX_TASKS}
 use Rattle.txn_programs.specs.Listing.{Listing, always_name, program_at}
 use Rattle.txn_programs.specs.Told.{Told}
 use Rattle.text_words.specs.Words.{line}
-use Rattle.text_report_printer.specs.Names.{cell_name}
 
 -- NAME VALUE VERSION
 abbrev pub variable_line : List ℕ → ℤ × ℕ → List ℕ
@@ -23,6 +22,13 @@ abbrev pub variable_lines : List (List ℕ) → List (ℤ × ℕ) → List ℕ
 variable_lines names [] = []
 variable_lines [] (v ∷ vs) = []
 variable_lines (name ∷ names) (v ∷ vs) = variable_line name v ++ variable_lines names vs
+
+-- NAME[INDEX]
+abbrev pub cell_text : List ℕ → List ℕ → List ℕ
+cell_text name index = name ++ (91 ∷ (index ++ (93 ∷ [])))
+
+abbrev pub cell_name : List ℕ → ℕ → List ℕ
+cell_name name index = cell_text name (decimal index)
 
 -- a line for a cell that an entry wrote, and none for another
 abbrev pub cell_line : List ℕ → ℕ → ℤ × ℕ → List ℕ
