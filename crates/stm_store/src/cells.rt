@@ -17,9 +17,10 @@ pub(crate) fn span_at(catalogue: &Catalogue, table: usize) -> Span
     ensures few { result.first + result.length ≤ MAX_VALUES }
 {
     catalogue.rules();
+    let tables = catalogue.tables();
     let mut first = catalogue.var_count() as u32;
     let mut before = table;
-    'tables: for (_, length) in catalogue.tables() {
+    'tables: for (_, length) in tables {
         if before == 0 {
             return Span {
                 first,
