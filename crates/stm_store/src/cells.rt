@@ -52,7 +52,7 @@ pub(crate) fn cell_at(catalogue: &Catalogue, table: usize, index: u32) -> Option
 /// The cell that is written so, if there is one.
 #[tactic(auto, unfolding(text_line_reader::specs::CellNames::cell_named))]
 fn named_cell(catalogue: &Catalogue, table: &str, index: Count<'_>) -> Option<VarId>
-    ensures id { result ≡ cell_named catalogue.now table.now index.text.now }
+    ensures id { result ≡ cell_named catalogue.now table.now index.entry.text.now }
     ensures inside { IfSome result (λ x. x.0 < length catalogue.now.initial) }
 {
     let place = catalogue.table_place(table)?;
