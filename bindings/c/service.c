@@ -670,6 +670,13 @@ static size_t most_run(stm_service *s) {
     return MOST_RUN + (size_t)most * MOST_ARGUMENT;
 }
 
+/* How many bytes the values of a chapter's file can take more than as declared; that of a cell has a space before it. */
+static size_t most_values(stm_service *s) {
+    size_t most = stm_program_variables(&s->program) * MOST_VALUE, tables = stm_program_tables(&s->program);
+    for (size_t i = 0; i < tables; i++) most += (size_t)stm_program_cells(&s->program, (uint32_t)i) * (MOST_VALUE + 1);
+    return most;
+}
+
 /* How many tasks a chapter may have: where the host keeps the chapters, no more than fit into a file. */
 static int32_t most_tasks(stm_service *s, size_t *most) {
     *most = MOST_TASKS;
@@ -681,7 +688,7 @@ static int32_t most_tasks(stm_service *s, size_t *most) {
     code = stm_file(&as_declared, NULL, 0, &length);
     stm_store_free(&as_declared);
     if (code != STM_SHORT) return code;
-    length += stm_program_variables(&s->program) * MOST_VALUE;
+    length += most_values(s);
     size_t fit = length < MOST_FILE ? (MOST_FILE - length) / most_run(s) : 0;
     if (fit < *most) *most = fit;
     return STM_DONE;

@@ -73,8 +73,8 @@ stm_answer stm_atomically_within(stm_service *service, uint32_t transaction, con
  * STM_CLOSED, STM_MEMORY or STM_UNKNOWN. */
 stm_answer stm_service_observe(stm_service *service, uint32_t transaction, const int64_t *arguments, size_t count);
 
-/* The present value of a variable, and the number of the last entry of the chapter that changed it, 0 where none did:
- * STM_DONE; STM_UNKNOWN. */
+/* The present value of a variable, or of the cell that is written so, as `acct[5]`, and the number of the last entry of
+ * the chapter that changed it, 0 where none did: STM_DONE; STM_UNKNOWN. */
 int32_t stm_service_value(stm_service *service, const uint8_t *name, size_t name_length, int64_t *value,
                           uint64_t *version);
 

@@ -319,7 +319,7 @@ public:
         return by_name(name, [&](std::uint32_t number) { return observe(number, given); });
     }
 
-    /// The present value of the variable of this name.
+    /// The present value of the variable of this name, or of the cell that is written so, as "acct[5]".
     std::optional<present> value(std::string_view name) const noexcept {
         present told = {0, 0};
         if (!held_) return std::nullopt;

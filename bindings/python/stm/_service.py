@@ -161,11 +161,11 @@ class Service:
         return self._transaction(transaction).parameters
 
     def value(self, name: str) -> int:
-        """The present value of a variable."""
+        """The present value of a variable, or of a cell, as "acct[5]"."""
         return self._present(name)[0]
 
     def version(self, name: str) -> int:
-        """The number of the last entry of the chapter that changed a variable, 0 where none did."""
+        """The number of the last entry of the chapter that changed a variable or cell, 0 where none did."""
         return self._present(name)[1]
 
     @property

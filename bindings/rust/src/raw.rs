@@ -152,6 +152,9 @@ extern "C" {
     fn stm_program_tasks(program: *const Handle) -> usize;
     fn stm_program_transactions(program: *const Handle) -> usize;
     fn stm_program_variable(program: *const Handle, name: *const u8, name_length: usize) -> i64;
+    fn stm_program_tables(program: *const Handle) -> usize;
+    fn stm_program_table(program: *const Handle, name: *const u8, name_length: usize) -> i64;
+    fn stm_program_cells(program: *const Handle, table: u32) -> i64;
     fn stm_program_transaction(program: *const Handle, name: *const u8, name_length: usize) -> i64;
     fn stm_program_parameters(program: *const Handle, transaction: u32) -> i64;
     fn stm_open_with_room(
@@ -175,6 +178,8 @@ extern "C" {
         value: *mut i64,
         version: *mut u64,
     ) -> i32;
+    fn stm_cell(store: *mut Handle, table: u32, index: u32, value: *mut i64, version: *mut u64) -> i32;
+    fn stm_cells(store: *mut Handle, table: u32, from: u32, values: *mut i64, count: usize) -> i64;
     fn stm_finish(store: *mut Handle, worker: *mut Handle) -> Told;
     fn stm_serial(store: *mut Handle, ticket: i64) -> Told;
     fn stm_claim(store: *mut Handle, ticket: i64) -> Taken;
@@ -452,6 +457,21 @@ impl RawProgram {
         u32::try_from(unsafe { stm_program_variable(&self.0, name.as_ptr(), name.len()) }).ok()
     }
 
+    pub fn tables(&self) -> usize {
+        // SAFETY: as `tasks`.
+        unsafe { stm_program_tables(&self.0) }
+    }
+
+    pub fn table(&self, name: &str) -> Option<u32> {
+        // SAFETY: as `variable`.
+        u32::try_from(unsafe { stm_program_table(&self.0, name.as_ptr(), name.len()) }).ok()
+    }
+
+    pub fn cells(&self, table: u32) -> Option<u32> {
+        // SAFETY: as `tasks`. The library tests the number.
+        u32::try_from(unsafe { stm_program_cells(&self.0, table) }).ok()
+    }
+
     pub fn transaction(&self, name: &str) -> Option<u32> {
         // SAFETY: as `variable`.
         u32::try_from(unsafe { stm_program_transaction(&self.0, name.as_ptr(), name.len()) }).ok()
@@ -583,6 +603,21 @@ impl RawStore {
             code::DONE => Some((value, version)),
             _ => None,
         }
+    }
+
+    pub fn cell(&mut self, table: u32, index: u32) -> Option<(i64, u64)> {
+        let (mut value, mut version) = (0, 0);
+        // SAFETY: `&mut self`; both numbers are only written.
+        match unsafe { stm_cell(&mut self.0, table, index, &mut value, &mut version) } {
+            code::DONE => Some((value, version)),
+            _ => None,
+        }
+    }
+
+    pub fn cells(&mut self, table: u32, from: u32, values: &mut [i64]) -> Option<usize> {
+        // SAFETY: `&mut self`; the slice is borrowed for the call, and only written.
+        let told = unsafe { stm_cells(&mut self.0, table, from, values.as_mut_ptr(), values.len()) };
+        usize::try_from(told).ok()
     }
 
     pub fn report_now(&mut self) -> Result<String, Error> {

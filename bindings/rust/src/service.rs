@@ -156,8 +156,8 @@ impl Service {
         self.raw.observe(transaction, arguments)
     }
 
-    /// The present value of the variable of this name, and the number of the last entry of the chapter that changed
-    /// it, 0 where none did.
+    /// The present value of the variable of this name, or of the cell that is written so, as `acct[5]`, and the
+    /// number of the last entry of the chapter that changed it, 0 where none did.
     pub fn value(&self, name: &str) -> Option<(i64, u64)> {
         self.raw.value(name)
     }

@@ -74,7 +74,7 @@ pub fn spans_of(alloc: Global, catalogue: &Catalogue) -> Result<Vec<Span>, Alloc
 }
 
 /// The cell of this number among these, if there is one.
-fn cell_of(span: Span, index: Count<'_>) -> Option<VarId>
+pub fn cell_of(span: Span, index: Count<'_>) -> Option<VarId>
     requires { span.first + span.length ≤ MAX_VALUES }
     ensures { result ≡ cell_of span (digits_value 10 index.entry.text.now) }
 {

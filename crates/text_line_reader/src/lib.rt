@@ -11,7 +11,7 @@ mod schedule;
 mod tasks;
 mod words;
 
-pub use cells::{cell_in, cell_named, is_bracketed, knows_cells, spans_of};
+pub use cells::{cell_in, cell_named, cell_of, is_bracketed, knows_cells, spans_of};
 pub use lines::{end, first_word, next_line, part};
 pub use numeral::Count;
 pub use report::read::{MAX_REPORT, max_report, read_report};
