@@ -49,12 +49,12 @@ short_case true b = refl
 short_case false b = refl
 
 -- the history of a book after an entry
-enters_history : (every : ℕ) (b new : BookView) (task : TaskId) (e : Entered) → Enters every b task e new → new.history ≡ b.history ++ after (task_program b.catalogue task) b.present.state ∷ []
+pub enters_history : (every : ℕ) (b new : BookView) (task : TaskId) (e : Entered) → Enters every b task e new → new.history ≡ b.history ++ after (task_program b.catalogue task) b.present.state ∷ []
 enters_history every b new task e h =
     ap (λ (x : BookView). x.history) h.kept ∙ (short_case (is_due every (serial.Committed e.number) (committed b task)) (committed b task) ∙ committed_history b task)
 
 -- the task of the call was entered
-entered_on : (l : Listing) (every : ℕ) (b new : BookView) (task : TaskId) (call : Call) (e : Entered) → declaring b.catalogue ≡ declaring l → slice_get (tasks b.catalogue) task.0 ≡ Some call.tx → task_arguments b.catalogue task ≡ call.arguments → Enters every b task e new → IsEnteredOn l call e.outcome b.history new.history
+pub entered_on : (l : Listing) (every : ℕ) (b new : BookView) (task : TaskId) (call : Call) (e : Entered) → declaring b.catalogue ≡ declaring l → slice_get (tasks b.catalogue) task.0 ≡ Some call.tx → task_arguments b.catalogue task ≡ call.arguments → Enters every b task e new → IsEnteredOn l call e.outcome b.history new.history
 entered_on l every b new task call e declared runs given h =
     let m = b.present.state in
     let p = call_program l call.tx call.arguments in

@@ -1,0 +1,114 @@
+-- What threads that wait are told, while the history grows.
+use Rattle.std.proofs.Common.{◌≡◌, ◌∙◌, ℕ, ◌+◌, ◌-◌, ◌<◌, ◌≤◌, List, [], ◌∷◌, ◌++◌, Option, Some, None, length, refl, sym, ap, subst, arith, length-append}
+use Rattle.std.specs.List.{All, slice_get}
+use Rattle.std.proofs.lemmas.List.Elements.{All-weaker}
+use Rattle.std.proofs.Math.Logic.{∥∥₁_map}
+use Rattle.txn_programs.specs.declared.ast.TaskId.{TaskId}
+use Rattle.txn_programs.specs.declared.ast.TxId.{TxId}
+use Rattle.txn_programs.specs.declared.ast.Outcome.{Outcome}
+use Rattle.txn_programs.specs.declared.arguments.Call.{Call}
+use Rattle.txn_programs.specs.Meaning.{State, outcome, after}
+use Rattle.txn_programs.specs.Standing.{Upholds}
+use Rattle.txn_programs.specs.Listing.{Listing, tasks, task_arguments, call_program, task_program}
+use Rattle.txn_words.specs.Words.{state_of, last_state, StartsWith}
+use Rattle.txn_words.proofs.Words.{starts_whole, seen_state, seen_shorter, last_pushed}
+use Rattle.book.specs.View.{BookView}
+use Rattle.book.specs.LawfulBook.{LawfulBook}
+use Rattle.book.specs.Chapters.{entered_in_all}
+use Rattle.stm_store.specs.Working.{declaring}
+use Rattle.stm_store.specs.Turning.{Ends, GivesTurn, Calls, TriesCall, called_book}
+use Rattle.stm_store.specs.declared.answers.Entered.{Entered}
+use Rattle.stm_store.specs.declared.answers.End.{End}
+use Rattle.stm_store.specs.declared.answers.End.TheVariants as end
+use Rattle.stm_store.specs.declared.answers.Called.{Called}
+use Rattle.stm_store.specs.declared.answers.Called.TheVariants as called
+use Rattle.stm_store.specs.declared.answers.Turned.{Turned}
+use Rattle.stm_store.specs.declared.store.Store.{Store}
+use Rattle.stm_service.specs.Answering.{call_of}
+use Rattle.stm_service.specs.Seeing.{IsEnteredOn, EntryAt, IsEntryAt, IsHeard}
+use Rattle.stm_service.specs.declared.seat.Told.{Told}
+use Rattle.stm_service.proofs.Seen.{enters_history, entered_on}
+
+-- an entry stays where it is
+pub entry_on : (l : Listing) (call : Call) (o : Outcome) (n : ℕ) (h h' : List State) → StartsWith h' h → EntryAt l call o n h → EntryAt l call o n h'
+entry_on l call o n h h' starts e =
+    let f = call_program l call.tx call.arguments in
+    let here : state_of h' e.place ≡ state_of h e.place = seen_state h' h e.place starts (omega (arith, e.numbered, e.within)) in
+    let next : state_of h' n ≡ state_of h n = seen_state h' h n starts e.within in
+    record {
+      place = e.place;
+      numbered = e.numbered;
+      within = omega (arith, e.within, seen_shorter h' h starts);
+      upheld = subst (λ (x : State). Upholds l x) (sym here) e.upheld;
+      outcome_is = e.outcome_is ∙ ap (outcome f) (sym here);
+      after_is = next ∙ (e.after_is ∙ ap (after f) (sym here));
+    }
+
+heard_on : (l : Listing) (call : Call) (how : Told) (h h' : List State) → StartsWith h' h → IsHeard l call how h → IsHeard l call how h'
+heard_on l call how h h' starts k o n is = ∥∥₁_map (k o n is) (λ (e : EntryAt l call o n h). entry_on l call o n h h' starts e)
+
+-- what was told at each seat
+pub all_heard_on : {A : Type 0} (l : Listing) (call : A → Call) (how : A → Told) (xs : List A) (h h' : List State) → StartsWith h' h → All (λ x. IsHeard l (call x) (how x) h) xs → All (λ x. IsHeard l (call x) (how x) h') xs
+all_heard_on {A} l call how xs h h' starts k =
+    All-weaker (λ (x : A). IsHeard l (call x) (how x) h) (λ (x : A). IsHeard l (call x) (how x) h') (λ (x : A). heard_on l (call x) (how x) h h' starts) xs k
+
+pub all_heard_same : {A : Type 0} (l : Listing) (call : A → Call) (how : A → Told) (xs : List A) (h h' : List State) → h' ≡ h → All (λ x. IsHeard l (call x) (how x) h) xs → All (λ x. IsHeard l (call x) (how x) h') xs
+all_heard_same l call how xs h h' same k = subst (λ (s : List State). All (λ x. IsHeard l (call x) (how x) s) xs) (sym same) k
+
+-- the call that was entered last
+pub entered_at : (l : Listing) (call : Call) (o : Outcome) (n : ℕ) (old new : List State) → length new ≡ n + 1 → IsEnteredOn l call o old new → EntryAt l call o n new
+entered_at l call o n old new last e =
+    let f = call_program l call.tx call.arguments in
+    let m = last_state old in
+    let k = length old - 1 in
+    let grown = old ++ after f m ∷ [] in
+    let more : length grown ≡ length old + 1 = length-append old (after f m ∷ []) in
+    let long : length new ≡ length grown = ap length e.grown in
+    let here : state_of grown k ≡ m = seen_state grown old k (after f m ∷ [], refl) (omega (arith, e.some)) in
+    let next : n ≡ length grown - 1 = omega (arith, more, long, last) in
+    subst (λ (s : List State). EntryAt l call o n s) (sym e.grown)
+    (record {
+      place = k;
+      numbered = omega (arith, more, long, last, e.some);
+      within = omega (arith, more, long, last);
+      upheld = subst (λ (x : State). Upholds l x) (sym here) e.upheld;
+      outcome_is = e.outcome_is ∙ ap (outcome f) (sym here);
+      after_is = ap (state_of grown) next ∙ (last_pushed old (after f m) ∙ ap (after f) (sym here));
+    })
+
+starts_same : (h h' : List State) → h' ≡ h → StartsWith h' h
+starts_same h h' same = subst (λ (s : List State). StartsWith s h) (sym same) (starts_whole h)
+
+-- the history grows with a turn
+ends_starts : (every : ℕ) (b new : BookView) (task : TaskId) (how : End) → Ends every b task how new → StartsWith new.history b.history
+ends_starts every b new task (end.Entered e) h = (after (task_program b.catalogue task) b.present.state ∷ [], enters_history every b new task e h)
+ends_starts every b new task end.Parked h = starts_same b.history new.history (ap (λ (x : BookView). x.history) h.2.2)
+ends_starts every b new task end.Abandoned h = starts_same b.history new.history (ap (λ (x : BookView). x.history) h.1)
+
+pub turn_starts : (old new : Store) (r : Option Turned) → GivesTurn old r new → StartsWith new.book.history old.book.history
+turn_starts old new None h = starts_same old.book.history new.book.history (ap (λ (x : BookView). x.history) h.1)
+turn_starts old new (Some t) h =
+    subst (λ (s : List State). StartsWith new.book.history s) (ap (λ (x : BookView). x.history) h.1.2) (ends_starts old.every h.0 new.book t.job.task t.end h.3)
+
+pub call_starts : (old new : Store) (call : Call) (r : Called) → Calls old call.tx call.arguments r new → StartsWith new.book.history old.book.history
+call_starts old new call called.Retries h = absurd h
+call_starts old new call called.NoRoom h = starts_same old.book.history new.book.history (ap (λ (x : BookView). x.history) h.1.0)
+call_starts old new call (called.Ran t) h = ends_starts old.every (called_book old.book call.tx call.arguments t.job.task) new.book t.job.task t.end h.ends
+
+pub try_starts : (old new : Store) (call : Call) (r : Called) → TriesCall old call.tx call.arguments r new → StartsWith new.book.history old.book.history
+try_starts old new call called.Retries h = starts_same old.book.history new.book.history (ap (λ (x : BookView). x.history) h.1.0)
+try_starts old new call called.NoRoom h = starts_same old.book.history new.book.history (ap (λ (x : BookView). x.history) h.1.0)
+try_starts old new call (called.Ran t) h = ends_starts old.every (called_book old.book call.tx call.arguments t.job.task) new.book t.job.task t.end h.0.ends
+
+-- the turn of the lowest ready task, which was entered
+pub turn_entered : (l : Listing) (old new : Store) (t : Turned) (e : Entered) → old.catalogue.now ≡ l → declaring old.book.catalogue ≡ declaring old.catalogue.now → LawfulBook new.book → GivesTurn old (Some t) new → t.end ≡ end.Entered e
+    → EntryAt l (call_of t.job) e.outcome (entered_in_all new.book) new.book.history
+turn_entered l old new t e named declared lawful h is =
+    let b = h.0 in
+    let same : b.catalogue ≡ old.book.catalogue = ap (λ (x : BookView). x.catalogue) h.1.2 in
+    entered_at l (call_of t.job) e.outcome (entered_in_all new.book) b.history new.book.history lawful.numbered
+    (entered_on l old.every b new.book t.job.task (call_of t.job) e
+    (ap declaring same ∙ (declared ∙ ap declaring named))
+    (ap (λ (c : Listing). slice_get (tasks c) t.job.task.0) same ∙ h.2.0.runs)
+    (ap (λ (c : Listing). task_arguments c t.job.task) same ∙ h.2.0.given)
+    (subst (λ (x : End). Ends old.every b t.job.task x new.book) is h.3))
