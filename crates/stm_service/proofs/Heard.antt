@@ -1,6 +1,10 @@
 -- What threads that wait are told, while the history grows.
-use Rattle.std.proofs.Common.{◌≡◌, ◌∙◌, ℕ, ◌+◌, ◌-◌, ◌<◌, ◌≤◌, List, [], ◌∷◌, ◌++◌, Option, Some, None, length, refl, sym, ap, subst, arith, length-append}
-use Rattle.std.specs.List.{All, slice_get}
+use Rattle.std.proofs.Common.{◌≡◌, ◌∙◌, ◌⊎◌, inl, inr, Bool, true, false, ℕ, ◌+◌, ◌-◌, ◌<◌, ◌≤◌, List, [], ◌∷◌, ◌++◌, Option, Some, None, Result, Ok, Err, OnOk, OnErr, length, refl, sym, ap, subst, arith, length-append}
+use Rattle.std.specs.List.{All, IsAmong, slice_get}
+use Rattle.std.specs.Map.{values_of, set_value, remove_entry}
+use Rattle.std.specs.BTreeMap.{insert_entry}
+use Rattle.std.specs.declared.cmp.Ordering.{Ordering}
+use Rattle.std.proofs.lemmas.Map.Views.{All-values-set_value, All-values-insert_entry, All-map-remove_entry}
 use Rattle.std.proofs.lemmas.List.Elements.{All-weaker}
 use Rattle.std.proofs.Math.Logic.{∥∥₁_map}
 use Rattle.txn_programs.specs.declared.ast.TaskId.{TaskId}
@@ -15,8 +19,11 @@ use Rattle.txn_words.proofs.Words.{starts_whole, seen_state, seen_shorter, last_
 use Rattle.book.specs.View.{BookView}
 use Rattle.book.specs.LawfulBook.{LawfulBook}
 use Rattle.book.specs.Chapters.{entered_in_all}
+use Rattle.stm_store.specs.Asking.{TakesJob, Withdraws}
 use Rattle.stm_store.specs.Working.{declaring}
 use Rattle.stm_store.specs.Turning.{Ends, GivesTurn, Calls, TriesCall, called_book}
+use Rattle.stm_store.specs.declared.job.Ticket.{Ticket}
+use Rattle.stm_store.specs.declared.job.Job.{Job}
 use Rattle.stm_store.specs.declared.answers.Entered.{Entered}
 use Rattle.stm_store.specs.declared.answers.End.{End}
 use Rattle.stm_store.specs.declared.answers.End.TheVariants as end
@@ -25,8 +32,9 @@ use Rattle.stm_store.specs.declared.answers.Called.TheVariants as called
 use Rattle.stm_store.specs.declared.answers.Turned.{Turned}
 use Rattle.stm_store.specs.declared.store.Store.{Store}
 use Rattle.stm_service.specs.Answering.{call_of}
-use Rattle.stm_service.specs.Seeing.{IsEnteredOn, EntryAt, IsEntryAt, IsHeard}
+use Rattle.stm_service.specs.Seeing.{IsEnteredOn, EntryAt, IsEntryAt, IsHeard, IsEnteredSince}
 use Rattle.stm_service.specs.declared.seat.Told.{Told}
+use Rattle.stm_service.specs.declared.seat.Told.TheVariants as told
 use Rattle.stm_service.proofs.Seen.{enters_history, entered_on}
 
 -- an entry stays where it is
@@ -48,12 +56,54 @@ heard_on : (l : Listing) (call : Call) (how : Told) (h h' : List State) → Star
 heard_on l call how h h' starts k o n is = ∥∥₁_map (k o n is) (λ (e : EntryAt l call o n h). entry_on l call o n h h' starts e)
 
 -- what was told at each seat
-pub all_heard_on : {A : Type 0} (l : Listing) (call : A → Call) (how : A → Told) (xs : List A) (h h' : List State) → StartsWith h' h → All (λ x. IsHeard l (call x) (how x) h) xs → All (λ x. IsHeard l (call x) (how x) h') xs
-all_heard_on {A} l call how xs h h' starts k =
+pub all_heard_on : {A : Type 0} (xs : List A) (l : Listing) (call : A → Call) (how : A → Told) (h h' : List State) → StartsWith h' h → All (λ x. IsHeard l (call x) (how x) h) xs → All (λ x. IsHeard l (call x) (how x) h') xs
+all_heard_on {A} xs l call how h h' starts k =
     All-weaker (λ (x : A). IsHeard l (call x) (how x) h) (λ (x : A). IsHeard l (call x) (how x) h') (λ (x : A). heard_on l (call x) (how x) h h' starts) xs k
 
-pub all_heard_same : {A : Type 0} (l : Listing) (call : A → Call) (how : A → Told) (xs : List A) (h h' : List State) → h' ≡ h → All (λ x. IsHeard l (call x) (how x) h) xs → All (λ x. IsHeard l (call x) (how x) h') xs
-all_heard_same l call how xs h h' same k = subst (λ (s : List State). All (λ x. IsHeard l (call x) (how x) s) xs) (sym same) k
+pub all_heard_same : {A : Type 0} (xs : List A) (l : Listing) (call : A → Call) (how : A → Told) (h h' : List State) → h' ≡ h → All (λ x. IsHeard l (call x) (how x) h) xs → All (λ x. IsHeard l (call x) (how x) h') xs
+all_heard_same xs l call how h h' same k = subst (λ (s : List State). All (λ x. IsHeard l (call x) (how x) s) xs) (sym same) k
+
+pub among : {A : Type 0} (P : A → Type 0) (xs : List A) (x : A) → IsAmong xs x → All P xs → P x
+among P xs x at k = subst P (sym at.1.1) (k at.0 x at.1.0)
+
+-- with another seat at a ticket
+pub all_heard_set : {K A : Type 0} (es new : List (K × A)) (l : Listing) (call : A → Call) (how : A → Told) (test : K → Bool) (x : A) (h : List State) → new ≡ set_value test es x → All (λ s. IsHeard l (call s) (how s) h) (values_of es) → IsHeard l (call x) (how x) h → All (λ s. IsHeard l (call s) (how s) h) (values_of new)
+all_heard_set {K} {A} es new l call how test x h is k one =
+    subst (λ (xs : List (K × A)). All (λ s. IsHeard l (call s) (how s) h) (values_of xs)) (sym is)
+    (All-values-set_value test (λ (s : A). IsHeard l (call s) (how s) h) es x k one)
+
+-- without the seat of a ticket
+pub all_heard_less : {K A : Type 0} (es new : List (K × A)) (l : Listing) (call : A → Call) (how : A → Told) (test : K → Bool) (h : List State) → new ≡ remove_entry test es → All (λ s. IsHeard l (call s) (how s) h) (values_of es) → All (λ s. IsHeard l (call s) (how s) h) (values_of new)
+all_heard_less {K} {A} es new l call how test h is k =
+    subst (λ (xs : List (K × A)). All (λ s. IsHeard l (call s) (how s) h) (values_of xs)) (sym is)
+    (All-map-remove_entry test (λ (e : K × A). e.1) (λ (s : A). IsHeard l (call s) (how s) h) es k)
+
+-- with the same seats
+pub all_heard_still : {K A : Type 0} (es new : List (K × A)) (l : Listing) (call : A → Call) (how : A → Told) (h : List State) → new ≡ es → All (λ s. IsHeard l (call s) (how s) h) (values_of es) → All (λ s. IsHeard l (call s) (how s) h) (values_of new)
+all_heard_still {K} {A} es new l call how h is k = subst (λ (xs : List (K × A)). All (λ s. IsHeard l (call s) (how s) h) (values_of xs)) (sym is) k
+
+nothing_heard : (l : Listing) (call : Call) (how : Told) (h : List State) → how ≡ told.Nothing → IsHeard l call how h
+nothing_heard l call how h none o n is = absurd (apart how o n none is)
+  where
+    apart : (t : Told) (o : Outcome) (n : ℕ) → t ≡ told.Nothing → t ≡ told.Entered o n → ⊥
+    apart t o n a b = cc
+
+-- with a seat more, at which nothing was told, if memory was there
+pub all_heard_more : {K A E : Type 0} (r : Result (Option A) E) (es new : List (K × A)) (l : Listing) (call : A → Call) (how : A → Told) (cmp : K → K → Ordering) (k : K) (x : A) (h : List State) → OnOk r (new ≡ insert_entry cmp es k x) → OnErr r (new ≡ es) → how x ≡ told.Nothing → All (λ s. IsHeard l (call s) (how s) h) (values_of es) → All (λ s. IsHeard l (call s) (how s) h) (values_of new)
+all_heard_more {K} {A} (Ok v) es new l call how cmp k x h is err none all =
+    subst (λ (xs : List (K × A)). All (λ s. IsHeard l (call s) (how s) h) (values_of xs)) (sym is)
+    (All-values-insert_entry cmp k x (λ (s : A). IsHeard l (call s) (how s) h) es all (nothing_heard l (call x) (how x) h none))
+all_heard_more (Err e) es new l call how cmp k x h ok is none all = all_heard_still es new l call how h is all
+
+-- the seat was told, or was not
+pub seat_heard : (l : Listing) (before after : Call) (was is : Told) (call : Call) (how : Told) (h : List State) → after ≡ before → (is ≡ was) ⊎ ((is ≡ how) × (after ≡ call)) → IsHeard l before was h → IsHeard l call how h → IsHeard l after is h
+seat_heard l before after was is call how h same (inl e) a b = subst (λ (t : Told). IsHeard l after t h) (sym e) (subst (λ (c : Call). IsHeard l c was h) (sym same) a)
+seat_heard l before after was is call how h same (inr e) a b = subst (λ (t : Told). IsHeard l after t h) (sym e.0) (subst (λ (c : Call). IsHeard l c how h) (sym e.1) b)
+
+-- what a seat tells of a call
+pub told_since : (l : Listing) (of call : Call) (how : Told) (o : Outcome) (n since : ℕ) (h : List State) → (since < n) × (of ≡ call) × (how ≡ told.Entered o n) → IsHeard l of how h → IsEnteredSince l call o since h
+told_since l of call how o n since h e k =
+    ∥∥₁_map (k o n e.2) (λ (x : EntryAt l of o n h). (n, e.0, subst (λ (c : Call). EntryAt l c o n h) e.1 x))
 
 -- the call that was entered last
 pub entered_at : (l : Listing) (call : Call) (o : Outcome) (n : ℕ) (old new : List State) → length new ≡ n + 1 → IsEnteredOn l call o old new → EntryAt l call o n new
@@ -89,6 +139,14 @@ pub turn_starts : (old new : Store) (r : Option Turned) → GivesTurn old r new 
 turn_starts old new None h = starts_same old.book.history new.book.history (ap (λ (x : BookView). x.history) h.1)
 turn_starts old new (Some t) h =
     subst (λ (s : List State). StartsWith new.book.history s) (ap (λ (x : BookView). x.history) h.1.2) (ends_starts old.every h.0 new.book t.job.task t.end h.3)
+
+pub take_same : (old new : Store) (r : Option Job) → TakesJob old r new → new.book.history ≡ old.book.history
+take_same old new None h = ap (λ (x : BookView). x.history) h.1
+take_same old new (Some job) h = ap (λ (x : BookView). x.history) h.0.2
+
+pub withdraw_same : (old new : Store) (ticket : Ticket) (r : Bool) → Withdraws old ticket r new → new.book.history ≡ old.book.history
+withdraw_same old new ticket true h = ap (λ (x : BookView). x.history) h.3
+withdraw_same old new ticket false h = ap (λ (x : BookView). x.history) h.1
 
 pub call_starts : (old new : Store) (call : Call) (r : Called) → Calls old call.tx call.arguments r new → StartsWith new.book.history old.book.history
 call_starts old new call called.Retries h = absurd h

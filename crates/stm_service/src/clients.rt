@@ -189,7 +189,7 @@ impl<N: Naming> Client<N> {
 
     /// The client learns the history, and lets the lock go.
     fn learn<K: Archive + Drop>(&mut self, desk: MutexGuard<'_, Desk<N, K>>)
-        ensures { MeetsBy self.old.worker.pass self.new.worker.pass (mutex_guard_value desk).store.book.history }
+        ensures { MeetsBy self.old.worker.pass self.new.worker.pass (mutex_guard_value desk.entry).store.book.history }
     {
         let mut desk = desk;
         desk.show(self);

@@ -110,12 +110,14 @@ impl<N: Naming, K: Archive + Drop> Desk<N, K> {
         ensures closed { self.new.closed ≡ self.old.closed }
     {
         self.store.law();
-        let turned = match &mut self.lender {
-            Some(lender) => self.store.turn_lent(lender),
+        match &mut self.lender {
+            Some(lender) => {
+                let turned = self.store.turn_lent(lender);
+                self.store.law();
+                turned
+            }
             None => self.no_turn(),
-        };
-        self.store.law();
-        turned
+        }
     }
 
     /// A program without transactions has no task.
