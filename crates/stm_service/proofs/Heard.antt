@@ -1,5 +1,5 @@
 -- What threads that wait are told, while the history grows.
-use Rattle.std.proofs.Common.{◌≡◌, ◌∙◌, ◌⊎◌, inl, inr, Bool, true, false, ℕ, ◌+◌, ◌-◌, ◌<◌, ◌≤◌, List, [], ◌∷◌, ◌++◌, Option, Some, None, Result, Ok, Err, OnOk, OnErr, length, refl, sym, ap, subst, arith, length-append}
+use Rattle.std.proofs.Common.{◌≡◌, ◌∙◌, ◌⊎◌, inl, inr, Bool, true, false, ℕ, ℤ, ◌+◌, ◌-◌, ◌<◌, ◌≤◌, List, [], ◌∷◌, ◌++◌, Option, Some, None, Result, Ok, Err, IfOk, OnOk, OnErr, length, refl, sym, ap, subst, arith, length-append}
 use Rattle.std.specs.List.{All, IsAmong, slice_get}
 use Rattle.std.specs.Map.{values_of, set_value, remove_entry}
 use Rattle.std.specs.BTreeMap.{insert_entry}
@@ -32,10 +32,13 @@ use Rattle.stm_store.specs.declared.answers.Called.TheVariants as called
 use Rattle.stm_store.specs.declared.answers.Turned.{Turned}
 use Rattle.stm_store.specs.declared.store.Store.{Store}
 use Rattle.stm_service.specs.Answering.{call_of}
-use Rattle.stm_service.specs.Seeing.{IsEnteredOn, EntryAt, IsEntryAt, IsHeard, IsEnteredSince}
+use Rattle.stm_service.specs.Seeing.{IsEnteredOn, EntryAt, IsEntryAt, IsHeard, IsEnteredSince, IsSeen}
 use Rattle.stm_service.specs.declared.seat.Told.{Told}
 use Rattle.stm_service.specs.declared.seat.Told.TheVariants as told
 use Rattle.stm_service.proofs.Seen.{enters_history, entered_on}
+
+abbrev called_so : TxId → List ℤ → Call
+called_so tx arguments = record { tx = tx; arguments = arguments }
 
 -- an entry stays where it is
 pub entry_on : (l : Listing) (call : Call) (o : Outcome) (n : ℕ) (h h' : List State) → StartsWith h' h → EntryAt l call o n h → EntryAt l call o n h'
@@ -170,3 +173,22 @@ turn_entered l old new t e named declared lawful h is =
     (ap (λ (c : Listing). slice_get (tasks c) t.job.task.0) same ∙ h.2.0.runs)
     (ap (λ (c : Listing). task_arguments c t.job.task) same ∙ h.2.0.given)
     (subst (λ (x : End). Ends old.every b t.job.task x new.book) is h.3))
+
+-- what a client sees that had seen less when it sat down
+entry_seen : (l : Listing) (call : Call) (o : Outcome) (since : ℕ) (old h : List State) → length old ≤ since + 1 → (n : ℕ) × (since < n) × EntryAt l call o n h → IsSeen l call.tx call.arguments o old h
+entry_seen l call o since old h few (n, later, e) =
+    record {
+      place = e.place;
+      behind = omega (arith, few, later, e.numbered);
+      within = omega (arith, e.numbered, e.within);
+      upheld = e.upheld;
+      outcome_is = e.outcome_is;
+      after_is = ap (state_of h) (sym e.numbered) ∙ e.after_is;
+    }
+
+pub waited_seen : {E : Type 0} (l : Listing) (call : Call) (tx : TxId) (arguments : List ℤ) (old mid now h new : List State) (since : ℕ) (r : Result Outcome E) → call ≡ called_so tx arguments → StartsWith mid old → now ≡ mid → length now ≡ since + 1 → new ≡ h → IfOk r (λ o. IsEnteredSince l call o since h) → IfOk r (λ o. ∥ IsSeen l tx arguments o old new ∥₁)
+waited_seen l call tx arguments old mid now h new since (Err e) is grows same last met k = k
+waited_seen l call tx arguments old mid now h new since (Ok o) is grows same last met k =
+    let few : length old ≤ since + 1 = omega (arith, seen_shorter mid old grows, ap length same, last) in
+    subst (λ (s : List State). ∥ IsSeen l tx arguments o old s ∥₁) (sym met)
+    (subst (λ (c : Call). ∥ IsSeen l c.tx c.arguments o old h ∥₁) is (∥∥₁_map k (entry_seen l call o since old h few)))
