@@ -186,6 +186,10 @@ entry_seen l call o since old h few (n, later, e) =
       after_is = ap (state_of h) (sym e.numbered) ∙ e.after_is;
     }
 
+-- of what the lock guards, however it is read
+pub as_long : {D : Type 0} (a b : D) → a ≡ b → (past : D → List State) (n : ℕ) → length (past a) ≡ n → length (past b) ≡ n
+as_long {D} a b same past n k = subst (λ (d : D). length (past d) ≡ n) same k
+
 pub waited_seen : {E : Type 0} (l : Listing) (call : Call) (tx : TxId) (arguments : List ℤ) (old mid now h new : List State) (since : ℕ) (r : Result Outcome E) → call ≡ called_so tx arguments → StartsWith mid old → now ≡ mid → length now ≡ since + 1 → new ≡ h → IfOk r (λ o. IsEnteredSince l call o since h) → IfOk r (λ o. ∥ IsSeen l tx arguments o old new ∥₁)
 waited_seen l call tx arguments old mid now h new since (Err e) is grows same last met k = k
 waited_seen l call tx arguments old mid now h new since (Ok o) is grows same last met k =
