@@ -32,13 +32,11 @@ use Rattle.stm_store.specs.declared.answers.Called.TheVariants as called
 use Rattle.stm_store.specs.declared.answers.Turned.{Turned}
 use Rattle.stm_store.specs.declared.store.Store.{Store}
 use Rattle.stm_service.specs.Answering.{call_of}
-use Rattle.stm_service.specs.Seeing.{IsEnteredOn, EntryAt, IsEntryAt, IsHeard, IsEnteredSince, IsSeen}
+use Rattle.stm_service.specs.Seeing.{IsEnteredOn, EntryAt, IsHeard, IsEnteredSince, IsSeen}
 use Rattle.stm_service.specs.declared.seat.Told.{Told}
 use Rattle.stm_service.specs.declared.seat.Told.TheVariants as told
+use Rattle.stm_service.proofs.Asked.{call_with}
 use Rattle.stm_service.proofs.Seen.{enters_history, entered_on}
-
-abbrev called_so : TxId → List ℤ → Call
-called_so tx arguments = record { tx = tx; arguments = arguments }
 
 -- an entry stays where it is
 pub entry_on : (l : Listing) (call : Call) (o : Outcome) (n : ℕ) (h h' : List State) → StartsWith h' h → EntryAt l call o n h → EntryAt l call o n h'
@@ -190,7 +188,7 @@ entry_seen l call o since old h few (n, later, e) =
 pub as_long : {D : Type 0} (a b : D) → a ≡ b → (past : D → List State) (n : ℕ) → length (past a) ≡ n → length (past b) ≡ n
 as_long {D} a b same past n k = subst (λ (d : D). length (past d) ≡ n) same k
 
-pub waited_seen : {E : Type 0} (l : Listing) (call : Call) (tx : TxId) (arguments : List ℤ) (old mid now h new : List State) (since : ℕ) (r : Result Outcome E) → call ≡ called_so tx arguments → StartsWith mid old → now ≡ mid → length now ≡ since + 1 → new ≡ h → IfOk r (λ o. IsEnteredSince l call o since h) → IfOk r (λ o. ∥ IsSeen l tx arguments o old new ∥₁)
+pub waited_seen : {E : Type 0} (l : Listing) (call : Call) (tx : TxId) (arguments : List ℤ) (old mid now h new : List State) (since : ℕ) (r : Result Outcome E) → call ≡ call_with tx arguments → StartsWith mid old → now ≡ mid → length now ≡ since + 1 → new ≡ h → IfOk r (λ o. IsEnteredSince l call o since h) → IfOk r (λ o. ∥ IsSeen l tx arguments o old new ∥₁)
 waited_seen l call tx arguments old mid now h new since (Err e) is grows same last met k = k
 waited_seen l call tx arguments old mid now h new since (Ok o) is grows same last met k =
     let few : length old ≤ since + 1 = omega (arith, seen_shorter mid old grows, ap length same, last) in

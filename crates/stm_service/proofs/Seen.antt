@@ -1,5 +1,5 @@
 -- A call that was entered, as a client sees it.
-use Rattle.std.proofs.Common.{◌≡◌, ◌∙◌, ℕ, ℤ, ◌+◌, ◌-◌, ◌<◌, Bool, true, false, if◌then◌else◌, List, [], ◌∷◌, ◌++◌, Some, length, refl, sym, ap, subst, arith, length-append}
+use Rattle.std.proofs.Common.{◌≡◌, ◌∙◌, ℕ, ℤ, ◌+◌, ◌-◌, Bool, true, false, if◌then◌else◌, List, [], ◌∷◌, ◌++◌, Some, length, refl, sym, ap, subst, arith, length-append}
 use Rattle.std.specs.List.{slice_get}
 use Rattle.std.proofs.lemmas.Option.{get_or_from_slice_get}
 use Rattle.std.proofs.Math.Logic.{∥∥₁_map}
@@ -16,10 +16,8 @@ use Rattle.txn_words.proofs.Words.{starts_on, seen_state, seen_shorter, last_pus
 use Rattle.cells.specs.Passing.{Passing, MeetsBy}
 use Rattle.book.specs.View.{BookView, committed, checkpointed}
 use Rattle.book.specs.LawfulBook.{BookFits}
-use Rattle.book.specs.Turns.{is_due, kept_short}
-use Rattle.book.specs.declared.task.Serial.{Serial}
+use Rattle.book.specs.Turns.{is_due}
 use Rattle.book.specs.declared.task.Serial.TheVariants as serial
-use Rattle.stm_store.specs.Tickets.{AreTickets}
 use Rattle.stm_store.specs.Working.{declaring}
 use Rattle.stm_store.specs.Entering.{Enters}
 use Rattle.stm_store.specs.Turning.{Ends, Runs, called_book}

@@ -2,9 +2,8 @@ use Rattle.std.proofs.Common.{◌≡◌, ℤ, List, sym, subst}
 use Rattle.std.specs.BTreeMap.{values}
 use Rattle.stm_store.specs.Turning.{TriesCall}
 use Rattle.stm_store.specs.declared.answers.Called.{Called}
-use Rattle.stm_service.specs.Calling.{Begins, begun_by, next_ticket}
+use Rattle.stm_service.specs.Calling.{Begins, next_ticket}
 use Rattle.stm_service.specs.declared.calls.Begun.{Begun}
-use Rattle.txn_programs.specs.declared.ast.Outcome.{Outcome}
 use Rattle.stm_service.specs.declared.calls.Begun.TheVariants as begun
 use Rattle.stm_service.proofs.Begun.{ran_begins}
 use Rattle.stm_service.proofs.Seen.{ran_entered}
