@@ -1,5 +1,5 @@
 -- No call of a listing without tables ends outside a table.
-use Rattle.std.proofs.Common.{◌≡◌, ◌∙◌, ℕ, zero, suc, ◌+◌, ◌<◌, Bool, true, false, ◌&&◌, ◌||◌, nat_lt, if◌then◌else◌, List, [], ◌∷◌, length, get_or, Result, Ok, Err, ℤ, pos, negsuc, refl, sym, ap, subst, arith}
+use Rattle.std.proofs.Common.{◌≡◌, ◌∙◌, ℕ, zero, suc, ◌+◌, ◌<◌, Bool, true, false, ◌&&◌, ◌||◌, nat_lt, if◌then◌else◌, List, [], ◌∷◌, length, Result, Ok, Err, ℤ, pos, negsuc, refl, sym, ap, subst, arith}
 use Rattle.std.specs.Prelude.{All, ◌+ℤ◌, ◌-ℤ◌, ◌*ℤ◌}
 use Rattle.std.specs.Int.RustNames.{int_div, int_rem}
 use Rattle.std.specs.List.{AllByRecursion}
@@ -14,13 +14,13 @@ use Rattle.txn_programs.specs.declared.ast.Outcome.{Outcome}
 use Rattle.txn_programs.specs.declared.ast.Outcome.TheVariants.{Returned, Thrown, Retries}
 use Rattle.txn_programs.specs.declared.ast.TxId.{TxId}
 use Rattle.txn_programs.specs.declared.report.Entry as report
-use Rattle.txn_programs.specs.Tree.{Expression, Int, Var, Param, Cell, OfAll, Add, Sub, Mul, Div, Rem, Condition, Eq, Lt, Le, Not, And, Or, Statement, Skip, Set, Put, Seq, If, Repeat, Retry, OrElse, Throw, Statements, End, More, Transaction}
+use Rattle.txn_programs.specs.Tree.{Expression, Int, Var, Param, Cell, OfAll, Add, Sub, Mul, Div, Rem, Condition, Eq, Lt, Le, Not, And, Or, Statement, Skip, Set, Put, Seq, If, Repeat, Retry, OrElse, Throw, Statements, End, More}
 use Rattle.txn_programs.specs.Meaning.{State, value, truth, both, negated, and_then, or_else, Ending, Done, Threw, Retried, then_do, unless_retried, with_number, choose, repeated, run, run_all, broken, demanded, upheld, upheld_result, final, outcome_by, outcome_of, outcome}
 use Rattle.txn_programs.specs.Instance.{instance_expression, instance_condition, instance_statement, instance_statements}
 use Rattle.txn_programs.specs.Names.{names_hold, knows_expression, knows_condition, knows_statement, knows_statements, knows_transaction}
 use Rattle.txn_programs.specs.declared.ast.Span.{Span}
 use Rattle.txn_programs.specs.Listing.{Listing, spans, spans_from, arity, conditions, transaction_at, call_program}
-use Rattle.txn_programs.specs.Replay.{Snapshot, Applies, Replays, applied}
+use Rattle.txn_programs.specs.Replay.{Snapshot, Replays, applied}
 use Rattle.txn_programs.specs.LawfulReport.{LawfulReport}
 use Rattle.txn_programs.specs.Told.{Told, base_of, now_of}
 use Rattle.txn_programs.proofs.Lawful.{names_parts, passes_at, known_task}
