@@ -1,9 +1,10 @@
 -- No call of a listing without tables ends outside a table.
-use Rattle.std.proofs.Common.{◌≡◌, ◌∙◌, ℕ, zero, suc, ◌+◌, ◌<◌, Bool, true, false, ◌&&◌, ◌||◌, nat_lt, if◌then◌else◌, List, [], ◌∷◌, length, get_or, Result, Ok, Err, ℤ, pos, negsuc, refl, sym, ap, subst}
+use Rattle.std.proofs.Common.{◌≡◌, ◌∙◌, ℕ, zero, suc, ◌+◌, ◌<◌, Bool, true, false, ◌&&◌, ◌||◌, nat_lt, if◌then◌else◌, List, [], ◌∷◌, length, get_or, Result, Ok, Err, ℤ, pos, negsuc, refl, sym, ap, subst, arith}
 use Rattle.std.specs.Prelude.{All, ◌+ℤ◌, ◌-ℤ◌, ◌*ℤ◌}
 use Rattle.std.specs.Int.RustNames.{int_div, int_rem}
 use Rattle.std.specs.List.{AllByRecursion}
 use Rattle.std.proofs.lemmas.Bool.{and_parts}
+use Rattle.std.proofs.lemmas.Bool.Decides.{nat_tests}
 use Rattle.std.proofs.lemmas.List.Elements.{All-from_recursion}
 use Rattle.std.proofs.lemmas.Option.{slice_get-get_or}
 use Rattle.txn_programs.specs.Arithmetic.{fits, fitted, sum_of, difference_of, product_of, quotient_of, remainder_of}
@@ -188,10 +189,15 @@ call_inside l tx given m names none lt =
     of_inside _ (final (call_program l tx given)) (run_inside n (arity t) given t.body m (left _ _ known))
     (λ m'. final_inside (conditions l) m' _ (value_inside n (arity t) given t.result m' (right _ _ known)))
 
+positive : (n : ℕ) → nat_lt 0 (suc n) ≡ true
+positive n = grind (arith, nat_tests)
+
 -- where one does, cells can be told
 outside_known : (l : Listing) (ts : List (List ℕ × ℕ)) (tx : TxId) (given : List ℤ) (m : State) → l.tables ≡ ts → names_hold l ≡ true → tx.0 < length l.transactions → Thrown Outside ≡ outcome (call_program l tx given) m → knows_cells l ≡ true
 outside_known l [] tx given m e names lt is = absurd (subst OutcomeInside (sym is) (call_inside l tx given m names (ap (spans_from (length l.names)) e) lt))
-outside_known l (t ∷ ts) tx given m e names lt is = ap (λ (us : List (List ℕ × ℕ)). nat_lt 0 (length us) || nat_lt 0 (most_arity l.transactions)) e
+outside_known l (t ∷ ts) tx given m e names lt is =
+    let given = nat_lt 0 (most_arity l.transactions) in
+    ap (λ (us : List (List ℕ × ℕ)). nat_lt 0 (length us) || given) e ∙ ap (λ (some : Bool). some || given) (positive (length ts))
 
 -- ---- journals
 

@@ -3,13 +3,13 @@ use Rattle.std.proofs.Common.{◌≡◌, ◌∙◌, ℕ, zero, suc, ◌-◌, ◌
 use Rattle.std.specs.List.{slice_get}
 use Rattle.std.proofs.lemmas.Option.{same_Some, slice_get_within}
 use Rattle.std.proofs.lemmas.Bool.Decides.{eqb_tells}
-use Rattle.txn_programs.specs.Listing.{Listing, values}
+use Rattle.txn_programs.specs.Listing.{Listing, cells, values}
 use Rattle.txn_programs.specs.Limits.{limits_hold}
 use Rattle.txn_programs.specs.Names.{names_hold}
 use Rattle.txn_programs.specs.Told.{Told}
-use Rattle.txn_programs.proofs.Lawful.{few_tasks}
+use Rattle.txn_programs.proofs.Lawful.{few_tasks, limits_parts}
 use Rattle.text_line_reader.specs.Lines.{Line, Whole, Cut, with_byte, lines, first_line}
-use Rattle.text_line_reader.specs.Reports.{IsReport, max_len}
+use Rattle.text_line_reader.specs.Reports.{IsReport}
 use Rattle.explain_reports.specs.declared.flaw.Flaw.{Flaw}
 use Rattle.explain_reports.specs.Flaws.{IsFlaw}
 use Rattle.explain_reports.specs.Rows.{place_of_flaw, IsRow}
@@ -91,7 +91,7 @@ pub record IsAt (l : Listing) (bytes : List ℕ) (r : Told) (flaw : Flaw) : Type
   pub stands : slice_get (lines bytes) (place_of_flaw l r flaw) ≡ Some (Whole text)
   pub whole : whole_at (place_of_flaw l r flaw) (lines bytes) ≡ Some text
   pub row : IsRow l r flaw (text ++ 10 ∷ [])
-  pub within : place_of_flaw l r flaw < max_len l
+  pub within : place_of_flaw l r flaw < 200000000
 
 pub is_at : (l : Listing) (bytes : List ℕ) (r : Told) (flaw : Flaw) → values l ≡ length l.initial → names_hold l ≡ true → limits_hold l ≡ true → IsReport l bytes r → IsFlaw l r flaw → IsAt l bytes r flaw
 is_at l bytes r flaw valued names limits is f =
@@ -102,6 +102,7 @@ is_at l bytes r flaw valued names limits is f =
     subst (λ (ls : List Line). slice_get ls (place_of_flaw l r flaw) ≡ Some (Whole there.text)) (sym rows) there.stands in
     let inside = slice_get_within (lines bytes) (place_of_flaw l r flaw) (Whole there.text) stands in
     let few = lines_length bytes in
+    let few_cells : cells l ≤ 1048576 = (limits_parts l limits).cells in
     let short = is.short in
     record {
       text = there.text;

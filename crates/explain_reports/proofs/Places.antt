@@ -139,8 +139,14 @@ whole_present l r =
 -- there is a line behind those of the values
 one_behind : (l : Listing) (r : Told) (k : ℕ) → Sized l r → k ≤ lines_of l r.current_vars → k < length (present_lines l r)
 one_behind l r k s h =
-    omega (arith, h, values_sized l r.current_vars s.present, length-append (value_rows l r.current_vars) (parked_lines l r),
-    length-append (task_rows l (codes "parked") r.parked) (memory_lines l r), length-append (task_rows l (codes "memory") r.memory) last_lines)
+    omega (
+      arith,
+      h,
+      values_sized l r.current_vars s.present,
+      length-append (value_rows l r.current_vars) (parked_lines l r),
+      length-append (task_rows l (codes "parked") r.parked) (memory_lines l r),
+      length-append (task_rows l (codes "memory") r.memory) last_lines,
+    )
 
 whole_text : (a b : List ℕ) → Whole a ≡ Whole b → a ≡ b
 whole_text a b e = cc
@@ -155,10 +161,14 @@ present_value l r i v s e =
     record {
       text = whole.0;
       stands = in_present l r k (Whole whole.0) s (x.1 ∙ ap Some whole.1);
-      row = (v, e, λ h.
-          let own = in_front (value_rows l r.current_vars) (parked_lines l r) k row (value_at l r.current_vars i v s.present e h) in
-          let same : Whole whole.0 ≡ row = same_Some (Whole whole.0) row (sym (ap Some whole.1) ∙ sym x.1 ∙ own) in
-          ap (λ (t : List ℕ). t ++ 10 ∷ []) (whole_text whole.0 (variable_row name v) same) ∙ sym (line_text name (signed_decimal v.0 ∷ decimal v.1 ∷ []) []));
+      row = (
+        v,
+        e,
+        λ h.
+            let own = in_front (value_rows l r.current_vars) (parked_lines l r) k row (value_at l r.current_vars i v s.present e h) in
+            let same : Whole whole.0 ≡ row = same_Some (Whole whole.0) row (sym (ap Some whole.1) ∙ sym x.1 ∙ own) in
+            ap (λ (t : List ℕ). t ++ 10 ∷ []) (whole_text whole.0 (variable_row name v) same) ∙ sym (line_text name (signed_decimal v.0 ∷ decimal v.1 ∷ []) []),
+      );
     }
 
 entry_at : (l : Listing) (r : Told) (i : ℕ) (e : entry.Entry) → Sized l r → slice_get r.entries i ≡ Some e → RowAt l r (place_of_entry l r i) (IsEntryRow l r.entries i)

@@ -1,7 +1,6 @@
 -- What is said of a chapter, by what is said of its report and of the earlier one.
-use Rattle.std.proofs.Common.{◌≡◌, ℕ, List, arith, length, sym, subst}
-use Rattle.txn_programs.specs.Listing.{Listing, values}
-use Rattle.txn_programs.proofs.Untabled.{untabled_values}
+use Rattle.std.proofs.Common.{◌≡◌, ℕ, List, sym, subst}
+use Rattle.txn_programs.specs.Listing.{Listing}
 use Rattle.txn_text.specs.Spelling.{Spells}
 use Rattle.text_line_reader.proofs.ReportReading.{Rules}
 use Rattle.checker.specs.declared.verdict.Verdict.{Verdict}
@@ -31,8 +30,7 @@ answer_on f r l v text only a =
 
 pub answer_alone : (f r : List ℕ) (l : Listing) (v w : Verdict) (text : List ℕ) → OneVerdict → Spells f l → SpellsOnly f l → IsAnswer f r v text → IsVerdictOn l r w → v ≡ w
 answer_alone f r l v w text one spells only a b =
-    let valued : values l ≡ length l.initial = omega (arith, spells.declared.valued, untabled_values l spells.declared.limits) in
-    let rules : Rules l = record { valued = valued; names = spells.declared.names; limits = spells.declared.limits } in
+    let rules : Rules l = record { valued = sym spells.declared.valued; names = spells.declared.names; limits = spells.declared.limits } in
     same_verdict l r v w rules (λ t x y. one l t v w x y) (answer_on f r l v text only a) b
 
 -- the verdict behind the earlier pair, with the report's own

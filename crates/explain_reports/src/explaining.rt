@@ -136,9 +136,7 @@ fn place_of_flaw(catalogue: &Catalogue, report: &Report, flaw: Flaw) -> usize
         Flaw::NotOwn(at, _) => place_of_task(catalogue, report, at),
         Flaw::Again(at) => place_of_task(catalogue, report, at),
         Flaw::Falls(at) => place_of_task(catalogue, report, at),
-        Flaw::Count => {
-            place_of_task(catalogue, report, TaskLine::Memory(report.memory.len()))
-        }
+        Flaw::Count => { place_of_task(catalogue, report, TaskLine::Memory(report.memory.len())) }
         Flaw::Ends(i, _) => place_of_task(catalogue, report, TaskLine::Parked(i)),
     }
 }

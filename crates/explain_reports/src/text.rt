@@ -1,8 +1,6 @@
 //! What is said of a report, as text.
 
-ghost use Rattle.std.specs.Prelude.{◌≡◌, ◌≢◌, ◌++◌, OnOk, string_bytes};
-ghost use Rattle.txn_programs.specs.Listing.{Listing};
-ghost use Rattle.text_words.specs.declared.fault.ReadFault.TheVariants.{TooLong};
+ghost use Rattle.std.specs.Prelude.{◌≡◌, ◌++◌, OnOk, string_bytes};
 ghost use Rattle.text_report_printer.specs.Names.{value_name};
 ghost use Rattle.text_report_printer.specs.ReportText.{entry_line, variable_line};
 ghost use Rattle.explain_reports.specs.Texts.{back_text, explanation_text, flaw_text, front_text, kind_text, what_text};
@@ -16,22 +14,6 @@ use text_report_printer::{always_name, put_number, put_outcome, put_value_name, 
 use text_words::ReadFault;
 use txn::{Catalogue, Entry};
 
-/// Why bytes are the text of no report, but for their length.
-fn kind_text(kind: ReadFault) -> &'static str
-    requires { kind ≢ TooLong }
-    ensures { (l : Listing) → result.now ≡ kind_text l kind }
-{
-    match kind {
-        ReadFault::TooLong => unreachable!(),
-        ReadFault::BadByte => "it has a byte that is neither a newline nor printable ASCII\n",
-        ReadFault::Shape => "a line has not the form of the one that stands in its place\n",
-        ReadFault::Name => "a name is not the one that the file has\n",
-        ReadFault::Limit => "a number is larger than may stand in its place\n",
-        ReadFault::Broken => "\n",
-        ReadFault::Memory => "\n",
-    }
-}
-
 /// Puts why bytes are the text of no report behind the text.
 fn put_kind(out: &mut String, catalogue: &Catalogue, kind: ReadFault) -> Result<(), AllocError>
     ensures { OnOk result (string_bytes out.new ≡ string_bytes out.old ++ kind_text catalogue.now kind) }
@@ -39,9 +21,18 @@ fn put_kind(out: &mut String, catalogue: &Catalogue, kind: ReadFault) -> Result<
     match kind {
         ReadFault::TooLong => {
             let most = max_report(catalogue);
-            write!(out, "it has more than {most} bytes\n")
+            writeln!(out, "it has more than {most} bytes")
         }
-        _ => out.push_str(kind_text(kind)),
+        ReadFault::BadByte => {
+            out.push_str("it has a byte that is neither a newline nor printable ASCII\n")
+        }
+        ReadFault::Shape => {
+            out.push_str("a line has not the form of the one that stands in its place\n")
+        }
+        ReadFault::Name => out.push_str("a name is not the one that the file has\n"),
+        ReadFault::Limit => out.push_str("a number is larger than may stand in its place\n"),
+        ReadFault::Broken => out.push_str("\n"),
+        ReadFault::Memory => out.push_str("\n"),
     }
 }
 

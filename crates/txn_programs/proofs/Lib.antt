@@ -1,6 +1,5 @@
 pub mod Rows
 pub mod Lawful
-pub mod Untabled
 pub mod Unwritten
 pub mod Standing
 pub mod Faults

@@ -9,8 +9,8 @@ use Rattle.explain_reports.proofs.Letters.{line_is_ascii}
 use Rattle.explain_reports.proofs.Numbered.{is_at}
 use Rattle.explain_reports.proofs.explaining.line_of.Goals as goal
 
-pub place_of_flaw-place-requires : goal.place_of_flaw-place-requires
-place_of_flaw-place-requires c =
+pub place_of_flaw-place-requires-clause-few : goal.place_of_flaw-place-requires-clause-few
+place_of_flaw-place-requires-clause-few c =
     let there = is_at c.args.catalogue.now c.args.bytes.now (told c.args.report.now) c.args.flaw c.rules.ensures.valued c.rules.ensures.names c.rules.ensures.limits c.requires.read c.requires.flaw in
     let within = there.within in
     omega arith
