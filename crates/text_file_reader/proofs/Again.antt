@@ -1,5 +1,5 @@
 -- The file of a listing whose names, limits and integers hold is resolved to it.
-use Rattle.std.proofs.Common.{◌≡◌, ℕ, zero, suc, ◌+◌, ◌≤◌, ◌<◌, Bool, true, false, ◌||◌, cond, List, [], ◌∷◌, ◌++◌, length, map, replicate, take, drop, sum_by, Ok, refl, sym, ap, subst, ◌∙◌, arith, drop-cons}
+use Rattle.std.proofs.Common.{◌≡◌, ℕ, zero, suc, ◌+◌, ◌≤◌, ◌<◌, Bool, true, false, ◌||◌, cond, List, [], ◌∷◌, ◌++◌, length, map, replicate, take, drop, sum_by, Ok, refl, sym, ap, ◌∙◌, arith}
 use Rattle.std.specs.Prelude.{ℤ, pos, nat_lt, nat_le, ◌^◌, ◌==◌}
 use Rattle.std.specs.List.{list_all, flat_map}
 use Rattle.std.proofs.lemmas.List.{length-map, take-append-drop}
@@ -17,7 +17,7 @@ use Rattle.txn_programs.specs.Names.{are_new, are_distinct, has_own_parameters, 
 use Rattle.txn_programs.specs.Limits.{most_parameters, largest_repeat, largest_repeat_of_all, is_short, table_fits, names_fit, program_fits, limits_hold}
 use Rattle.text_grammar.specs.Written.{DeclareTables, name_at, scope_of, natural, numbers_of, written_expression, written_condition, written_statement, written_statements, written_always, written_transaction, written_vars, written_run, written_in}
 use Rattle.text_grammar.specs.Tree.{Table}
-use Rattle.text_grammar.specs.Scope.{Scope, standing, inside}
+use Rattle.text_grammar.specs.Scope.{Scope, inside}
 use Rattle.text_words.specs.Numbers.{number_of, count_of}
 use Rattle.text_grammar.specs.Resolving.{is_known, expr_known, cond_known, stmt_known, stmts_known, always_known, tx_known, run_known, uses_known, expression_in, condition_in, statement_in, statements_in, each, variable_of, numbers_in, table_of, always_in, transaction_in, arguments_in, run_in, converted, pair_name, table_name, resolved}
 use Rattle.text_grammar.specs.Spelling.{expression_integers, condition_integers, statement_integers, statements_integers, transaction_integers, run_integers, integers_fit}

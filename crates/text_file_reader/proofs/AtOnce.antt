@@ -15,7 +15,7 @@ use Rattle.text_words.proofs.Steps.{bind_ok, ok_is, done}
 use Rattle.text_words.proofs.Many.{Shortens, with_front, goes_on, is_done}
 use Rattle.text_grammar.specs.declared.file.FileForm.{FileForm}
 use Rattle.text_grammar.specs.Tree.{Pair, Table, Always, Declaration, Run, File}
-use Rattle.text_grammar.specs.Scope.{Scope, standing}
+use Rattle.text_grammar.specs.Scope.{standing}
 use Rattle.text_grammar.specs.Reading.{pair_at, tables_at, conditions_at, tx_at, run_at, heading_at, end_at, file_of, tree_of}
 use Rattle.text_grammar.specs.Resolving.{each, declared_one, declared_after, pair_name, table_name, condition_name, tx_name, variable_of, table_of, spans_in, always_in, run_in, listing, resolved}
 use Rattle.text_grammar.specs.Spelling.{lawful, listing_at}

@@ -1,5 +1,5 @@
 -- A listing that a file is resolved to is written as that file.
-use Rattle.std.proofs.Common.{◌≡◌, ℕ, zero, suc, ◌+◌, ◌<◌, Bool, true, false, ◌&&◌, List, [], ◌∷◌, ◌++◌, length, map, replicate, drop, sum_by, Result, Ok, Err, refl, sym, ap, subst, ◌∙◌, inl, inr, arith, length-append}
+use Rattle.std.proofs.Common.{◌≡◌, ℕ, zero, suc, Bool, true, false, ◌&&◌, List, [], ◌∷◌, ◌++◌, length, map, replicate, drop, sum_by, Result, Ok, Err, refl, sym, ap, subst, ◌∙◌, inl, inr, arith, length-append}
 use Rattle.std.specs.Prelude.{ℤ, pos, negsuc, nat_lt, nat_le, ◌^◌, ◌==◌}
 use Rattle.std.specs.List.{list_all, flat_map}
 use Rattle.std.proofs.lemmas.Bool.{eqb-true, ne_eqb}
@@ -25,15 +25,15 @@ use Rattle.text_grammar.specs.declared.words.Connective.{Connective}
 use Rattle.text_grammar.specs.declared.words.Connective.TheVariants as connective
 use Rattle.text_words.specs.declared.fault.ReadFault.{ReadFault}
 use Rattle.text_words.specs.declared.fault.ReadFault.TheVariants as faults
-use Rattle.text_grammar.specs.Written.{DeclareTables, name_at, name_of, scope_of, natural, numbers_of, written_expression, written_condition, written_statement, written_statements, written_always, written_transaction, written_vars, written_in}
+use Rattle.text_grammar.specs.Written.{DeclareTables, name_at, scope_of, natural, numbers_of, written_expression, written_condition, written_statement, written_statements, written_always, written_transaction, written_vars, written_in}
 use Rattle.text_words.specs.Answers.{◌>>=◌}
 use Rattle.text_words.specs.Numbers.{number_of, count_of}
-use Rattle.text_grammar.specs.Resolving.{is_known, table_in, variable_in, parameter_in, place_in, binary, compare, connect, expression_in, condition_in, statement_in, statements_in, each, variable_of, numbers_in, table_of, spans_in, always_in, transaction_in, arguments_in, call_at, run_in, listing, converted, pair_name, table_name, condition_name, tx_name, resolved}
+use Rattle.text_grammar.specs.Resolving.{is_known, table_in, variable_in, parameter_in, place_in, binary, compare, connect, expression_in, condition_in, statement_in, statements_in, each, variable_of, numbers_in, table_of, spans_in, always_in, transaction_in, arguments_in, call_at, run_in, listing, converted, pair_name, table_name, condition_name, tx_name}
 use Rattle.text_grammar.specs.Spelling.{expression_integers, condition_integers, statement_integers, statements_integers, transaction_integers, run_integers, integers_fit}
 use Rattle.text_words.proofs.Steps.{bind_ok, ok_is, done, chosen}
 use Rattle.text_words.proofs.Numerals.{number_is}
 use Rattle.text_file_reader.specs.Resolved.{parameters_of}
-use Rattle.text_file_reader.proofs.Declared.{id_back, variable_back, parameter_back, resolved_is}
+use Rattle.text_file_reader.proofs.Declared.{id_back, variable_back, parameter_back}
 use Rattle.text_file_reader.proofs.Spans.{Apart, spans_back, scope_apart, table_back}
 
 pub both_true : (a b : Bool) → a ≡ true → b ≡ true → (a && b) ≡ true
@@ -305,15 +305,15 @@ numbers_are t n vs counted h = by t.others refl (ap (λ (zs : List ℤ). numbers
         ]
 
 -- tables as they are made are those that are written
-pub record AreTables (ts : List Table) (made : List ((List ℕ × ℕ) × List ℤ)) : Type 0 where
-  pub names : map table_name ts ≡ map (λ t. t.0) (map (λ t. t.0) made)
-  pub counted : map {B = List ℕ × ℤ} (λ t. (t.name, t.count)) ts ≡ map {B = List ℕ × ℤ} (λ t. (t.0, pos t.1)) (map (λ t. t.0) made)
-  pub filled : map (λ (t : Table). length (numbers_of t)) ts ≡ map (λ (t : List ℕ × ℕ). t.1) (map (λ t. t.0) made)
-  pub begun : flat_map numbers_of ts ≡ flat_map (λ t. t.1) made
-  pub as_many : length (flat_map (λ t. t.1) made) ≡ sum_by (λ (t : List ℕ × ℕ). t.1) (map (λ t. t.0) made)
-  pub fit : list_all fits (flat_map (λ t. t.1) made) ≡ true
+record AreTables (ts : List Table) (made : List ((List ℕ × ℕ) × List ℤ)) : Type 0 where
+  names : map table_name ts ≡ map (λ t. t.0) (map (λ t. t.0) made)
+  counted : map {B = List ℕ × ℤ} (λ t. (t.name, t.count)) ts ≡ map {B = List ℕ × ℤ} (λ t. (t.0, pos t.1)) (map (λ t. t.0) made)
+  filled : map (λ (t : Table). length (numbers_of t)) ts ≡ map (λ (t : List ℕ × ℕ). t.1) (map (λ t. t.0) made)
+  begun : flat_map numbers_of ts ≡ flat_map (λ t. t.1) made
+  as_many : length (flat_map (λ t. t.1) made) ≡ sum_by (λ (t : List ℕ × ℕ). t.1) (map (λ t. t.0) made)
+  fit : list_all fits (flat_map (λ t. t.1) made) ≡ true
 
-pub tables_back : (ts : List Table) (made : List ((List ℕ × ℕ) × List ℤ)) → each table_of ts ≡ Ok made → AreTables ts made
+tables_back : (ts : List Table) (made : List ((List ℕ × ℕ) × List ℤ)) → each table_of ts ≡ Ok made → AreTables ts made
 tables_back [] made h = subst (AreTables []) (ok_is [] made h) (record { names = refl; counted = refl; filled = refl; begun = refl; as_many = refl; fit = refl })
 tables_back (t ∷ ts) made h =
     let a = bind_ok (table_of t) _ made h in
@@ -401,6 +401,9 @@ variable_kept p v h =
     let made : List ℕ × ℤ = (p.name, n.0) in
     ap (λ (w : List ℕ × ℤ). w.0) (sym (ok_is made v n.2))
 
+same_scope : (vars vars' names names' : List (List ℕ)) (spans spans' : List Span) → vars ≡ vars' → names ≡ names' → spans ≡ spans' → standing vars' names' spans' ≡ standing vars names spans
+same_scope vars vars' names names' spans spans' p q r = rw (p, q, r) refl
+
 pub converted_parts : (file : File) (l : Listing) → converted (map pair_name file.vars) (map table_name file.tables) (map tx_name file.txs) file ≡ Ok l → IsConverted file l
 unfolding converted
 converted_parts file l h =
@@ -417,8 +420,7 @@ converted_parts file l h =
     let vars_are : vars ≡ made.names = sym (each_keeps variable_of pair_name (λ (w : List ℕ × ℤ). w.0) variable_kept file.vars v.0 v.1) in
     let names_are : names ≡ table_names made = (tables_back file.tables n.0 n.1).names in
     let spans_are : s.0 ≡ spans made = spans_back (length vars) made.tables s.0 s.1 ∙ ap (λ (ns : List (List ℕ)). spans_from (length ns) made.tables) vars_are in
-    let scope : scope_of made ≡ outer =
-    sym (ap (λ (ns : List (List ℕ)). standing ns names s.0) vars_are ∙ ap (λ (ns : List (List ℕ)). standing made.names ns s.0) names_are ∙ ap (λ (us : List Span). standing made.names (table_names made) us) spans_are) in
+    let scope : scope_of made ≡ outer = same_scope vars made.names names (table_names made) s.0 (spans made) vars_are names_are spans_are in
     subst (IsConverted file) (ok_is made l r.2) (record {
       vars = v.0;
       vars_are = v.1;

@@ -9,7 +9,7 @@ use Rattle.txn_programs.specs.declared.ast.Span.{Span}
 use Rattle.txn_programs.specs.Arithmetic.{fits}
 use Rattle.txn_programs.specs.Tree.{Transaction}
 use Rattle.txn_programs.specs.Tree as t
-use Rattle.txn_programs.specs.Listing.{Listing, spans, spans_from, conditions, table_names, always_names}
+use Rattle.txn_programs.specs.Listing.{Listing, spans, conditions, table_names, always_names}
 use Rattle.txn_programs.specs.Names.{is_name, are_new, are_distinct, are_formed, has_own_parameters, knows_standing, knows_transaction, is_well_formed, names_hold}
 use Rattle.txn_programs.specs.Limits.{most_parameters, limits_hold}
 use Rattle.txn_programs.specs.Standing.{upholds}

@@ -1,5 +1,5 @@
 -- What is resolved names variables and transactions by ids that there are.
-use Rattle.std.proofs.Common.{◌≡◌, ℕ, Bool, true, List, [], ◌∷◌, length, map, Result, Ok, refl, sym, ap, subst, ◌∙◌, inl, inr}
+use Rattle.std.proofs.Common.{◌≡◌, ℕ, Bool, true, List, [], ◌∷◌, length, map, Result, Ok, refl, sym, subst, ◌∙◌, inl, inr}
 use Rattle.std.specs.Prelude.{nat_lt}
 use Rattle.std.specs.List.{list_all}
 use Rattle.std.proofs.lemmas.List.Folds.{list_all-map}
@@ -20,7 +20,7 @@ use Rattle.text_grammar.specs.Tree.{Expr, Cond, Stmt, Stmts, NoStmts, MoreStmts,
 use Rattle.text_grammar.specs.Scope.{Scope, inside}
 use Rattle.text_grammar.specs.Written.{scope_of}
 use Rattle.text_grammar.specs.Tree as f
-use Rattle.text_grammar.specs.Resolving.{is_known, place_in, table_in, variable_in, parameter_in, binary, compare, connect, expression_in, condition_in, statement_in, statements_in, each, variable_of, always_in, transaction_in, run_in, run_known, pair_name, table_name, tx_name, uses_known, resolved}
+use Rattle.text_grammar.specs.Resolving.{is_known, place_in, table_in, variable_in, parameter_in, binary, compare, connect, expression_in, condition_in, statement_in, statements_in, each, always_in, transaction_in, run_in, run_known, tx_name, uses_known, resolved}
 use Rattle.text_grammar.specs.declared.words.Operator.{Operator}
 use Rattle.text_grammar.specs.declared.words.Operator.TheVariants as operator
 use Rattle.text_grammar.specs.declared.words.Comparison.{Comparison}

@@ -1,6 +1,6 @@
 -- Tables by their cells: each has its own, so that a table is known by them as by its name.
-use Rattle.std.proofs.Common.{◌≡◌, ℕ, zero, suc, ◌+◌, ◌<◌, ◌≤◌, Bool, true, false, ◌&&◌, ◌||◌, List, [], ◌∷◌, length, Option, Some, None, Result, Ok, Err, sum_by, refl, sym, ap, subst, ◌∙◌, arith, inl, inr}
-use Rattle.std.specs.Prelude.{position, is_some, bytes_eq, nat_lt, ◌^◌, ◌==◌}
+use Rattle.std.proofs.Common.{◌≡◌, ℕ, zero, suc, ◌+◌, ◌<◌, ◌≤◌, Bool, true, false, List, [], ◌∷◌, length, Option, Some, None, Ok, Err, sum_by, refl, sym, ap, subst, ◌∙◌, arith, inl, inr}
+use Rattle.std.specs.Prelude.{position, bytes_eq, nat_lt, ◌^◌, ◌==◌}
 use Rattle.std.specs.List.{list_any, list_all, slice_index_or, position_or_len}
 use Rattle.std.proofs.lemmas.Slice.Eq.{bytes_eq-Decides}
 use Rattle.std.proofs.lemmas.Bool.{lt-ltb, ltb-true, eqb-true, eq-eqb, ne_eqb}
@@ -12,13 +12,12 @@ use Rattle.txn_programs.specs.declared.ast.Span.{Span}
 use Rattle.txn_programs.specs.Listing.{Listing, spans_from, spans, table_names}
 use Rattle.txn_programs.specs.Limits.{is_short, table_fits}
 use Rattle.txn_programs.specs.Names.{are_distinct, same_span, knows_table}
-use Rattle.text_words.specs.declared.fault.ReadFault.{ReadFault}
 use Rattle.text_words.specs.declared.fault.ReadFault.TheVariants as faults
 use Rattle.text_words.proofs.Steps.{bind_ok, ok_is, done, chosen}
 use Rattle.text_grammar.specs.Scope.{Scope}
 use Rattle.text_grammar.specs.Written.{name_at, name_where, name_of, scope_of}
 use Rattle.text_grammar.specs.Resolving.{is_known, span_at, table_in, span_behind, spans_in}
-use Rattle.text_file_reader.proofs.Declared.{both, neither, place_again}
+use Rattle.text_file_reader.proofs.Declared.{both, place_again}
 
 -- ---- the cells of each table
 
@@ -100,8 +99,8 @@ scope_apart l fit =
     record {
       as_many = all;
       place = λ i lt.
-        let there : nat_lt i (length (spans l)) ≡ true = lt-ltb _ _ (omega (arith, all, lt)) in
-        rw (first_place (length l.names) l.tables i fit (omega (arith, lt, names)), there) refl;
+          let there : nat_lt i (length (spans l)) ≡ true = lt-ltb _ _ (omega (arith, all, lt)) in
+          rw (first_place (length l.names) l.tables i fit (omega (arith, lt, names)), there) refl;
     }
 
 placed_at : (spans : List Span) (o : Option ℕ) (t : Span) → span_at spans o ≡ Ok t → (i : ℕ) × (o ≡ Some i) × (slice_index_or spans i no_cells ≡ t)

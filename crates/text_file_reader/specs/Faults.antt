@@ -12,8 +12,8 @@ use Rattle.text_grammar.specs.Spelling.{Declares}
 use Rattle.text_words.specs.declared.fault.ReadFault.{ReadFault}
 use Rattle.text_words.specs.declared.fault.ReadFault.TheVariants.{TooLong, BadByte, Shape, Name, Limit, Memory, Broken}
 
--- no variable, no table, no condition and no transaction is declared twice, no parameter has the name of a variable or of a parameter
--- before it, only declared names are used, and each run gives as many arguments as its transaction has parameters
+-- no variable, no table, no condition and no transaction is declared twice, no parameter has the name of a variable or of a
+-- parameter before it, only declared names are used, and each run gives as many arguments as its transaction has parameters
 abbrev pub names_known : File → Bool
 names_known f =
     are_distinct (map pair_name f.vars) && (are_distinct (map table_name f.tables) && (are_distinct (map condition_name f.always)

@@ -15,8 +15,8 @@ ghost use Rattle.text_grammar.specs.Resolving.{tx_name, resolved};
 ghost use Rattle.text_resolver.specs.Texts.{texts};
 ghost use Rattle.text_resolver.specs.Scopes.{view_scope};
 ghost use Rattle.text_resolver.specs.Parts.{view_variable, view_table, view_condition, view_parts};
-ghost use Rattle.text_file_reader.specs.Resolved.{MakesBehind, MakesBody, MakesNamed, MakesPrograms, MakesRuns, Resolves};
-ghost use Rattle.text_file_reader.specs.Resolved.{own_transaction_in, parameters_of, is_wanted};
+ghost use Rattle.text_file_reader.specs.Resolved.{Resolves, MakesBody, MakesNamed, MakesRuns, MakesPrograms};
+ghost use Rattle.text_file_reader.specs.Resolved.{MakesBehind, own_transaction_in, parameters_of, is_wanted};
 
 use crate::conditions::condition_at_once;
 use crate::expressions::last_expression_at_once;
@@ -297,8 +297,14 @@ fn file_at_once(alloc: Global, bytes: &[u8]) -> Result<Parts, ReadFault>
     let (file_form, rest) = heading_of(bytes)?;
     let (var_names, vars, rest) = variables_at_once(alloc, rest)?;
     let (table_names, tables, rest) = tables_at_once(alloc, file_form, rest)?;
-    let (always, txs, runs) =
-        behind_tables(alloc, file_form, &var_names, &table_names, &tables, rest)?;
+    let (always, txs, runs) = behind_tables(
+        alloc,
+        file_form,
+        &var_names,
+        &table_names,
+        &tables,
+        rest,
+    )?;
     Ok(Parts {
         vars,
         tables,

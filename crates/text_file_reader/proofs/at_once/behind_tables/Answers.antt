@@ -1,8 +1,6 @@
-use Rattle.std.proofs.Common.{◌≡◌, ◌∙◌, ℕ, List, Bor, Result, Ok, length, map, ap, sym, refl, subst}
-use Rattle.std.specs.Prelude.{IfOk}
+use Rattle.std.proofs.Common.{◌≡◌, ◌∙◌, ℕ, List, Bor, Ok, length, map, ap, sym, refl, subst}
 use Rattle.std.proofs.lemmas.List.{length-map}
 use Rattle.std.proofs.lemmas.Result.{IfOk-weaker}
-use Rattle.txn_programs.specs.declared.ast.Span.{Span}
 use Rattle.txn_programs.specs.Listing.{table_of}
 use Rattle.txn_programs.specs.Tree.{transaction_of}
 use Rattle.text_words.specs.Tokens.{tokens}
