@@ -1,11 +1,9 @@
 -- What an explanation says of a schedule.
-use Rattle.std.specs.Prelude.{◌≡◌, ◌<◌, ◌≤◌, ℕ, Bool, List, length}
-use Rattle.std.specs.List.{list_all}
+use Rattle.std.specs.Prelude.{◌≡◌, ◌<◌, ◌≤◌, ℕ, List, length}
 use Rattle.txn_programs.specs.declared.moves.Move.{Move}
 use Rattle.txn_programs.specs.Listing.{Listing}
 use Rattle.text_words.specs.declared.fault.ReadFault.{ReadFault}
 use Rattle.text_words.specs.declared.fault.ReadFault.TheVariants.{TooLong, BadByte, Shape, Name, Limit}
-use Rattle.text_line_reader.specs.ScheduleRaw.{Raw}
 use Rattle.text_line_reader.specs.ScheduleResolving.{is_known}
 use Rattle.text_line_reader.specs.Reports.{knows_cells}
 use Rattle.text_line_reader.specs.Schedules.{IsSchedule, IsFirst, max_len}
