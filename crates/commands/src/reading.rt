@@ -62,7 +62,10 @@ fn report_limit(alloc: Global, file: &[u8]) -> Result<usize, Answer>
     ensures unread { IfErr result IsUnread }
 {
     match catalogue_of(alloc, file) {
-        Ok(catalogue) => Ok(max_report(&catalogue)),
+        Ok(catalogue) => {
+            catalogue.rules();
+            Ok(max_report(&catalogue))
+        }
         Err(RunFault::Memory) => Err(Answer::Failed(RunFault::Memory)),
         Err(_) => Ok(MAX_REPORT),
     }
