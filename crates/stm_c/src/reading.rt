@@ -146,8 +146,10 @@ fn table(catalogue: &Catalogue, name: &[u8]) -> i64
     let Ok(name) = str::from_utf8(name) else {
         return i64::from(UNKNOWN);
     };
+    // There are few tables.
+    catalogue.rules();
     match catalogue.table_place(name) {
-        Some(place) => place as i64,
+        Some(place) => i64::from(place as u32),
         None => i64::from(UNKNOWN),
     }
 }
