@@ -44,9 +44,10 @@ enum {
     ROUNDS = 16,
     /* A processor's line of memory. */
     LINE = 64,
-    /* The longest file; in it the longest value; the longest run of one task, `(run NAME 1)`, with its newline; and the
+    /* The longest file, and the longest of form 3; in it the longest value; the longest run of one task, `(run NAME 1)`, with its newline; and the
        longest argument, with the space before it. */
     MOST_FILE = 1048576,
+    MOST_FILE_OF_FORM_3 = 67108864,
     MOST_VALUE = 20,
     MOST_RUN = 41,
     MOST_ARGUMENT = 21
@@ -670,6 +671,12 @@ static size_t most_run(stm_service *s) {
     return MOST_RUN + (size_t)most * MOST_ARGUMENT;
 }
 
+/* The longest file that the program can have: it is of form 3 where it has a table, or a transaction with parameters. */
+static size_t most_file(stm_service *s) {
+    bool is_of_form_3 = stm_program_tables(&s->program) > 0 || most_run(s) > MOST_RUN;
+    return is_of_form_3 ? MOST_FILE_OF_FORM_3 : MOST_FILE;
+}
+
 /* How many bytes the values of a chapter's file can take more than as declared; that of a cell has a space before it. */
 static size_t most_values(stm_service *s) {
     size_t most = stm_program_variables(&s->program) * MOST_VALUE, tables = stm_program_tables(&s->program);
@@ -689,7 +696,7 @@ static int32_t most_tasks(stm_service *s, size_t *most) {
     stm_store_free(&as_declared);
     if (code != STM_SHORT) return code;
     length += most_values(s);
-    size_t fit = length < MOST_FILE ? (MOST_FILE - length) / most_run(s) : 0;
+    size_t longest = most_file(s), fit = length < longest ? (longest - length) / most_run(s) : 0;
     if (fit < *most) *most = fit;
     return STM_DONE;
 }

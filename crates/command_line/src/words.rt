@@ -62,7 +62,7 @@ const STATUSES: &str =
      cannot be read or the output cannot be written; 5 out of memory.\n\n\
      A file or a schedule is refused by the first kind of fault that applies to it, and the\n\
      standard error names it, as in `stm: file: F3 Shape`:\n\n    \
-     F1 TooLong    more than 1048576 bytes\n    \
+     F1 TooLong    more than 1048576 bytes; more than 67108864, if it begins with (stm 3)\n    \
      F2 BadByte    a byte that is neither a newline nor printable ASCII\n    \
      F3 Shape      not of the form of a file, or a line that is none of a schedule's\n    \
      F4 Name       a name that is declared twice, or not declared; a wrong number of arguments\n    \

@@ -10,7 +10,7 @@ keeps_same None = tt
 keeps_same (Some xs) = refl
 
 -- the bytes of a slice of what was read
-pub read_as : (limit : ℕ) (known : Option (List ℕ)) (items bytes : List ℕ) → bytes ≡ items → IsRead limit known items → IsRead limit known bytes
+pub read_as : (limit : List ℕ → ℕ) (known : Option (List ℕ)) (items bytes : List ℕ) → bytes ≡ items → IsRead limit known items → IsRead limit known bytes
 read_as limit known items bytes same is = subst (λ (b : List ℕ). IsRead limit known b) (sym same) is
 
 pub report_as : (known : Option (List ℕ)) (file_items file items bytes : List ℕ) → file ≡ file_items → bytes ≡ items → IsReportOf file_items known items → IsReportOf file known bytes

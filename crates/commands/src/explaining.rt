@@ -9,14 +9,13 @@ ghost use Rattle.commands.specs.Explaining.{ExplainedOnBytes, ExplainedOnFiles, 
 
 use crate::chapters::explain_chapter_at;
 use crate::checking::answer_of;
-use crate::reading::{both_opened, bytes_of, opened, with_report, with_schedule};
+use crate::reading::{both_opened, file_bytes_of, opened, with_report, with_schedule};
 use command_line::{Answer, Explain, Explained};
 use explain_files::{Judgement, explain_bytes};
 use run_interface::{RunFault, Sink};
 use std::alloc::Global;
 use std::io::Read;
 use std::rt::Files;
-use txn_text::MAX_FILE;
 
 /// Explains what the command line asks for.
 #[inline(never)]
@@ -61,7 +60,7 @@ pub fn explain_input<I: Read + Drop, S: Sink>(alloc: Global, input: I, sink: &mu
     ensures flushed { result ≡ Answer.Done → S.flushed sink.new ≡ true }
     ensures failures { S.failed sink.new ≡ S.failed sink.old + failed_calls result }
 {
-    match bytes_of(alloc, input, MAX_FILE) {
+    match file_bytes_of(alloc, input) {
         Ok(bytes) => explained(alloc, bytes.as_slice(), sink),
         Err(answer) => answer,
     }

@@ -1,6 +1,7 @@
 //! What is read of a file, a report or a schedule.
 
 ghost use Rattle.std.specs.Prelude.{◌<◌, ◌^◌, IfOk, IfErr};
+ghost use Rattle.commands.specs.ToLimit.{left_of};
 ghost use Rattle.commands.specs.Files.{IsRead, IsReportLimit, IsReportOf, IsUnread, file_limit, schedule_limit};
 
 use command_line::{Answer, Earlier, unread};
@@ -10,27 +11,87 @@ use std::io::Read;
 use std::rt::Files;
 use std::{fs, io};
 use text_line_reader::{MAX_REPORT, MAX_SCHEDULE, max_report};
-use txn_text::MAX_FILE;
+use txn_text::{MAX_FILE, MAX_FILE_OF_FORM_3};
 
 /// What the reader has left, of which at most one byte past the limit is read: with it, what has more
 /// bytes than the limit is known to be too long. `Err` is the reader's, or out of memory.
 pub fn read_up_to<I: Read + Drop>(alloc: Global, input: I, limit: usize) -> io::Result<Vec<u8>>
     requires { limit < 2 ^ 32 }
-    ensures { IfOk result (λ bytes. IsRead limit (I.remaining input) bytes.items) }
+    ensures { IfOk result (λ bytes. IsRead (λ all. limit) (I.remaining input) bytes.items) }
 {
     let mut bytes = Vec::new(alloc);
     input.take(limit as u64 + 1).read_to_end(&mut bytes)?;
     Ok(bytes)
 }
 
+/// A reader of a file, which gives at most one byte past the limit that its first bytes give.
+#[derive(Drop)]
+struct ToLimit<I> {
+    inner: I,
+    /// What is still to come of `(stm 3)`, or of as many other bytes.
+    ahead: &'static [u8],
+    /// How many bytes are given behind these where they do not come, and how many where they do.
+    short: usize,
+    long: usize,
+}
+
+impl<I: Read> Read for ToLimit<I> {
+    ghost remaining = { left_of I.remaining };
+
+    fn read(&mut self, buf: &mut [u8]) -> io::Result<usize> {
+        let ahead = self.ahead.len();
+        let most = buf.len().min(if ahead > 0 { ahead } else { self.long });
+        if most == 0 {
+            return Ok(0);
+        }
+        let count = self.inner.read(&mut buf[..most])?;
+        if ahead == 0 {
+            self.long -= count;
+            return Ok(count);
+        }
+        if self.ahead[..count] != buf[..count] {
+            self.long = self.short;
+        }
+        self.ahead = &self.ahead[count..];
+        Ok(count)
+    }
+}
+
+/// What the reader of a file has left, of which at most one byte past the limit that its first bytes give is read.
+pub fn read_file_up_to<I: Read + Drop>(alloc: Global, input: I) -> io::Result<Vec<u8>>
+    ensures { IfOk result (λ bytes. IsRead file_limit (I.remaining input) bytes.items) }
+{
+    let mut bytes = Vec::new(alloc);
+    let ahead = b"(stm 3)";
+    let mut input = ToLimit {
+        inner: input,
+        ahead,
+        short: MAX_FILE + 1 - ahead.len(),
+        long: MAX_FILE_OF_FORM_3 + 1 - ahead.len(),
+    };
+    input.read_to_end(&mut bytes)?;
+    Ok(bytes)
+}
+
 /// The same, with what is answered where it cannot be read.
+pub(crate) fn file_bytes_of<I: Read + Drop>(alloc: Global, input: I) -> Result<Vec<u8>, Answer>
+    ensures read { IfOk result (λ bytes. IsRead file_limit (I.remaining input) bytes.items) }
+    ensures unread { IfErr result IsUnread }
+{
+    match read_file_up_to(alloc, input) {
+        Ok(bytes) => Ok(bytes),
+        Err(error) => Err(unread(&error)),
+    }
+}
+
+/// What another reader has left, with what is answered where it cannot be read.
 pub(crate) fn bytes_of<I: Read + Drop>(
     alloc: Global,
     input: I,
     limit: usize,
 ) -> Result<Vec<u8>, Answer>
     requires { limit < 2 ^ 32 }
-    ensures read { IfOk result (λ bytes. IsRead limit (I.remaining input) bytes.items) }
+    ensures read { IfOk result (λ bytes. IsRead (λ all. limit) (I.remaining input) bytes.items) }
     ensures unread { IfErr result IsUnread }
 {
     match read_up_to(alloc, input, limit) {
@@ -49,7 +110,7 @@ pub(crate) fn with_schedule<I: Read + Drop, J: Read + Drop>(
     ensures second { IfOk result (λ both. IsRead schedule_limit (J.remaining schedule) both.1.items) }
     ensures unread { IfErr result IsUnread }
 {
-    let file = bytes_of(alloc, file, MAX_FILE)?;
+    let file = file_bytes_of(alloc, file)?;
     let schedule = bytes_of(alloc, schedule, MAX_SCHEDULE)?;
     Ok((file, schedule))
 }
@@ -81,7 +142,7 @@ pub(crate) fn with_report<I: Read + Drop, J: Read + Drop>(
     ensures report { IfOk result (λ both. IsReportOf both.0.items (J.remaining report) both.1.items) }
     ensures unread { IfErr result IsUnread }
 {
-    let file = bytes_of(alloc, file, MAX_FILE)?;
+    let file = file_bytes_of(alloc, file)?;
     let limit = report_limit(alloc, &file)?;
     let report = bytes_of(alloc, report, limit)?;
     Ok((file, report))

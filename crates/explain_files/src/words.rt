@@ -3,15 +3,16 @@
 ghost use Rattle.explain_files.specs.Telling.{IsInLine};
 
 use crate::wanted::{NameUse, NumberUse, Section, Wanted};
-use crate::{Finding, LimitFault, NameFault};
+use crate::{Finding, LimitFault, NameFault, Refusal};
 use text_grammar::file::FileForm;
+use text_parser::file::MAX_FILE;
 
 /// What is wrong, in words.
-pub(crate) fn words(finding: Finding) -> &'static str
+pub(crate) fn words(refusal: &Refusal) -> &'static str
     ensures { IsInLine result.now }
 {
-    match finding {
-        Finding::TooLong => "a file has at most 1048576 bytes",
+    match refusal.finding {
+        Finding::TooLong => length_words(refusal.place),
         Finding::BadByte => "no file has this byte: a file has newlines and the bytes 32 to 126",
         Finding::Unwanted(None) => "nothing more is wanted",
         Finding::Unwanted(Some(wanted)) => wanted_words(wanted),
@@ -20,6 +21,17 @@ pub(crate) fn words(finding: Finding) -> &'static str
         Finding::Cost =>
             "the cost of this is more than 1000000, with that of the standing conditions",
         Finding::Untrue => "this standing condition is not true of the initial values",
+    }
+}
+
+/// Of a file that is too long, whose limit this is.
+fn length_words(limit: usize) -> &'static str
+    ensures { IsInLine result.now }
+{
+    if limit > MAX_FILE {
+        "a file that begins with (stm 3) has at most 67108864 bytes"
+    } else {
+        "a file has at most 1048576 bytes"
     }
 }
 

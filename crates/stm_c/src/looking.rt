@@ -1,10 +1,10 @@
 //! What is seen of a store: under the host's lock. Nothing changes.
 
-ghost use Rattle.std.specs.Prelude.{◌≡◌, ◌≢◌, ◌<◌, ◌⊎◌, None, Some, pos, length};
+ghost use Rattle.std.specs.Prelude.{◌≡◌, ◌≢◌, ◌⊎◌, None, Some, pos, length};
 ghost use Rattle.txn_text.specs.Canonical.{file_text};
 ghost use Rattle.book.specs.Counting.{AreCounts};
 ghost use Rattle.book.specs.Turns.{IsIdle};
-ghost use Rattle.stm_store.specs.Telling.{IsFileOf, IsTextOf};
+ghost use Rattle.stm_store.specs.Telling.{IsFileOf, IsTextOf, IsTooLong};
 ghost use Rattle.stm_c.specs.Held.{Asked};
 ghost use Rattle.stm_c.specs.Rooms.{Holds, TooShort};
 ghost use Rattle.stm_c.specs.Looking.{counts_in, CellIs, CopiesBy, NoCell, NoValue, ValueIs};
@@ -151,7 +151,7 @@ pub extern "C" fn stm_file(store: &mut StoreHandle, room: &mut [u8], wanted: &mu
     ensures too_short { Asked store.old.value EMPTY result
         (λ held answer. answer ≡ SHORT → TooShort (IsFileOf held.book) room.old room.new wanted.new) }
     ensures long { Asked store.old.value EMPTY result
-        (λ held answer. answer ≡ FILE_TOO_LONG → 1048576 < length (file_text held.book.catalogue)) }
+        (λ held answer. answer ≡ FILE_TOO_LONG → IsTooLong (file_text held.book.catalogue)) }
     ensures answers { Asked store.old.value EMPTY result
         (λ held answer. (answer ≡ pos 0) ⊎ (answer ≡ SHORT) ⊎ (answer ≡ FILE_TOO_LONG) ⊎ (answer ≡ MEMORY)) }
     ensures none { result ≢ pos 0 → result ≢ SHORT → wanted.new ≡ 0 }
@@ -168,7 +168,7 @@ pub extern "C" fn stm_file(store: &mut StoreHandle, room: &mut [u8], wanted: &mu
 fn file_of(store: &Store, room: &mut [u8], wanted: &mut usize) -> i32
     ensures done { result ≡ pos 0 → Holds (IsFileOf store.now.book) room.old room.new wanted.new }
     ensures too_short { result ≡ SHORT → TooShort (IsFileOf store.now.book) room.old room.new wanted.new }
-    ensures long { result ≡ FILE_TOO_LONG → 1048576 < length (file_text store.now.book.catalogue) }
+    ensures long { result ≡ FILE_TOO_LONG → IsTooLong (file_text store.now.book.catalogue) }
     ensures answers { (result ≡ pos 0) ⊎ (result ≡ SHORT) ⊎ (result ≡ FILE_TOO_LONG) ⊎ (result ≡ MEMORY) }
     ensures none { result ≢ pos 0 → result ≢ SHORT → wanted.new ≡ wanted.old }
     ensures kept { result ≢ pos 0 → room.new ≡ room.old }

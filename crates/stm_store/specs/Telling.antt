@@ -1,10 +1,11 @@
 -- What a book is told as.
-use Rattle.std.specs.Prelude.{◌≡◌, ℕ, ℤ, List, ◌++◌, length, take, drop, min, Option, Some, None}
+use Rattle.std.specs.Prelude.{◌≡◌, ◌<◌, ℕ, ℤ, List, ◌++◌, length, take, drop, min, Option, Some, None}
 use Rattle.txn_programs.specs.declared.ast.VarId.{VarId}
 use Rattle.txn_programs.specs.declared.ast.Span.{Span}
 use Rattle.txn_programs.specs.Listing.{spans}
 use Rattle.txn_programs.specs.Told.{Told}
 use Rattle.txn_programs.specs.LawfulReport.{LawfulReport, BaseReached}
+use Rattle.text_grammar.specs.Tree.{longest}
 use Rattle.txn_text.specs.Spelling.{Spells}
 use Rattle.txn_text.specs.Canonical.{file_text}
 use Rattle.txn_text.specs.ReportText.{report_text}
@@ -28,6 +29,10 @@ pub record IsTextOf (b : BookView) (text : List ℕ) : Type 0 where
 pub record IsFileOf (b : BookView) (text : List ℕ) : Type 0 where
   pub printed : text ≡ file_text b.catalogue
   pub spelled : Spells text b.catalogue
+
+-- no reader takes a file of this text
+abbrev pub IsTooLong : List ℕ → Type 0
+IsTooLong text = longest text < length text
 
 -- the present value and version of this variable or cell, where there is one
 abbrev pub IsToldOf : BookView → Option VarId → Option (ℤ × ℕ) → Type 0

@@ -16,7 +16,7 @@ use Rattle.text_words.specs.Tokens as token
 use Rattle.text_grammar.specs.Scope.{inside}
 use Rattle.text_grammar.specs.declared.file.FileForm.{FileForm}
 use Rattle.text_grammar.specs.declared.file.FileForm.TheVariants.{One, Two, Three}
-use Rattle.text_grammar.specs.Tree.{Pair, Table, Declaration, Run, HasNoLists, IsOfForm, IsAlways, IsTx, SpellsTree, max_len, heading_tokens, pair_tokens, table_tokens, always_tokens, tx_tokens, run_tokens, file_tokens}
+use Rattle.text_grammar.specs.Tree.{Pair, Table, Declaration, Run, HasNoLists, IsOfForm, IsAlways, IsTx, SpellsTree, longest, heading_tokens, pair_tokens, table_tokens, always_tokens, tx_tokens, run_tokens, file_tokens}
 use Rattle.text_grammar.specs.Written.{form_for_conditions, has_list, form_with, form_for, scope_of, written_vars, written_table, written_tables, written_always, written_transaction, written_run, written_in, written}
 use Rattle.text_file_printer.specs.Canonical.{heading_text, pair_line, table_line, always_line, tx_line, run_line, file_text}
 use Rattle.text_file_printer.specs.Fits.{PairFits, TableFits, AlwaysFits, DeclarationFits, RunFits, FileFits}
@@ -210,7 +210,7 @@ in_form l h [] values = without_tables l h (list_any has_list l.transactions) re
 in_form l h (t ∷ ts) values = tt
 
 -- the text spells the file, where it is not too long
-pub printed_spells : (l : Listing) → names_hold l ≡ true → limits_hold l ≡ true → FileFits (written l) → length (file_text l) ≤ max_len → SpellsTree (file_text l) (written l)
+pub printed_spells : (l : Listing) → names_hold l ≡ true → limits_hold l ≡ true → FileFits (written l) → length (file_text l) ≤ longest (file_text l) → SpellsTree (file_text l) (written l)
 unfolding written_in
 printed_spells l named limits fits short =
     let lines = file_lines l named fits in

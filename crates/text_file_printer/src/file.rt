@@ -11,7 +11,7 @@ ghost use Rattle.text_grammar.specs.Scope.{inside};
 ghost use Rattle.text_grammar.specs.Written.{form_for, written_vars, written_always, written_transaction, written_run};
 ghost use Rattle.text_grammar.specs.Written.{scope_of, written_in, written_table, written_tables, written};
 ghost use Rattle.text_grammar.specs.Spelling.{Spells};
-ghost use Rattle.text_grammar.specs.Tree.{file_tokens};
+ghost use Rattle.text_grammar.specs.Tree.{file_tokens, longest};
 ghost use Rattle.text_file_printer.specs.Canonical.{spaced, heading_text, pair_line, numbers_told, table_line};
 ghost use Rattle.text_file_printer.specs.Canonical.{always_line, names_text, list_text, tx_line, spaced_integer};
 ghost use Rattle.text_file_printer.specs.Canonical.{run_line, file_text};
@@ -35,7 +35,7 @@ pub fn print_file(alloc: Global, catalogue: &Catalogue) -> Result<String, Memory
     ensures text { IfOk result (λ s. string_bytes s ≡ file_text catalogue.now) }
     // The same, said of the tokens alone.
     ensures layout { IfOk result (λ s. string_bytes s ≡ laid_out (file_tokens (written catalogue.now))) }
-    ensures again { IfOk result (λ s. length (string_bytes s) ≤ 1048576 → Spells (string_bytes s) catalogue.now) }
+    ensures again { IfOk result (λ s. length (string_bytes s) ≤ longest (string_bytes s) → Spells (string_bytes s) catalogue.now) }
 {
     catalogue.rules();
     let mut out = String::new(alloc);

@@ -17,7 +17,7 @@ use Rattle.txn.specs.Ids.{ids_hold}
 use Rattle.text_words.specs.Bytes.{is_atom_byte, is_in_line, is_int, is_allowed}
 use Rattle.text_words.specs.Tokens.{Lexeme, Opens, Closes, atom, after, tokens_within, tokens}
 use Rattle.text_words.specs.Tokens as token
-use Rattle.text_grammar.specs.Tree.{Expr, Cond, Stmt, Stmts, NoStmts, MoreStmts, Pair, Table, Always, Declaration, Run, File, stmt_tokens, expr_tokens, pair_tokens, table_tokens, always_tokens, list_tokens, tx_tokens, heading_tokens, file_tokens, IsOfForm, SpellsTree, max_len}
+use Rattle.text_grammar.specs.Tree.{Expr, Cond, Stmt, Stmts, NoStmts, MoreStmts, Pair, Table, Always, Declaration, Run, File, stmt_tokens, expr_tokens, pair_tokens, table_tokens, always_tokens, list_tokens, tx_tokens, heading_tokens, file_tokens, IsOfForm, SpellsTree, longest}
 use Rattle.text_grammar.specs.Tree as f
 use Rattle.text_grammar.specs.Scope.{Scope, standing, inside}
 use Rattle.text_grammar.specs.declared.file.FileForm.{FileForm}
@@ -407,11 +407,11 @@ names_are_known file l h = let k = resolved_is file l h in rw (k.vars_new, k.tab
 tree_fault : (bytes : List ℕ) (e : ReadFault) → tree_of bytes ≡ Err e → IsFirst bytes e
 unfolding tree_of
 tree_fault bytes e h =
-    elim (chosen (ltb max_len (length bytes)) (bad_file faults.TooLong) (cond (list_all is_allowed bytes) (file_of (tokens bytes)) (Err faults.BadByte)) (Err e) h) [
-      | inl p ↦ let s : faults.TooLong ≡ e = let q = p.1 in cc in subst (IsFirst bytes) s (ltb-true max_len (length bytes) p.0)
+    elim (chosen (ltb (longest bytes) (length bytes)) (bad_file faults.TooLong) (cond (list_all is_allowed bytes) (file_of (tokens bytes)) (Err faults.BadByte)) (Err e) h) [
+      | inl p ↦ let s : faults.TooLong ≡ e = let q = p.1 in cc in subst (IsFirst bytes) s (ltb-true (longest bytes) (length bytes) p.0)
       | inr p ↦ elim (chosen (list_all is_allowed bytes) (file_of (tokens bytes)) (Err faults.BadByte) (Err e) p.1) [
-        | inl q ↦ subst (IsFirst bytes) (sym ((file_shape (tokens bytes)).by e q.1)) (ltb-false max_len (length bytes) p.0, q.0, λ g s. no_tree bytes e h g s)
-        | inr q ↦ let s : faults.BadByte ≡ e = let g = q.1 in cc in subst (IsFirst bytes) s (ltb-false max_len (length bytes) p.0, q.0)
+        | inl q ↦ subst (IsFirst bytes) (sym ((file_shape (tokens bytes)).by e q.1)) (ltb-false (longest bytes) (length bytes) p.0, q.0, λ g s. no_tree bytes e h g s)
+        | inr q ↦ let s : faults.BadByte ≡ e = let g = q.1 in cc in subst (IsFirst bytes) s (ltb-false (longest bytes) (length bytes) p.0, q.0)
       ]
     ]
 

@@ -5,7 +5,7 @@ use Rattle.txn_programs.specs.Names.{are_distinct}
 use Rattle.txn_programs.specs.Listing.{Listing}
 use Rattle.txn_programs.specs.Standing.{upholds}
 use Rattle.text_words.specs.Bytes.{is_allowed}
-use Rattle.text_grammar.specs.Tree.{File, SpellsTree, max_len}
+use Rattle.text_grammar.specs.Tree.{File, SpellsTree, longest}
 use Rattle.text_grammar.specs.Scope.{standing}
 use Rattle.text_grammar.specs.Resolving.{pair_name, table_name, condition_name, tx_name, uses_known}
 use Rattle.text_grammar.specs.Spelling.{Declares}
@@ -20,10 +20,10 @@ names_known f =
     && (are_distinct (map tx_name f.txs) && uses_known (standing (map pair_name f.vars) (map table_name f.tables) []) f)))
 
 abbrev pub IsFirst : List ℕ → ReadFault → Type 0
-IsFirst bytes TooLong = max_len < length bytes
-IsFirst bytes BadByte = (length bytes ≤ max_len) × (list_all is_allowed bytes ≡ false)
+IsFirst bytes TooLong = longest bytes < length bytes
+IsFirst bytes BadByte = (length bytes ≤ longest bytes) × (list_all is_allowed bytes ≡ false)
 -- no tree is spelt
-IsFirst bytes Shape = (length bytes ≤ max_len) × (list_all is_allowed bytes ≡ true) × ((f : File) → SpellsTree bytes f → ⊥)
+IsFirst bytes Shape = (length bytes ≤ longest bytes) × (list_all is_allowed bytes ≡ true) × ((f : File) → SpellsTree bytes f → ⊥)
 -- a tree is spelt, whose names do not hold
 IsFirst bytes Name = (f : File) × (SpellsTree bytes f × (names_known f ≡ false))
 -- a tree is spelt, whose names hold, and yet no listing is declared

@@ -25,7 +25,7 @@ use indexmap::IndexSet;
 use std::alloc::Global;
 use text_grammar::file::FileForm;
 use text_parser::file::{
-    INNER_DEPTH, MAX_FILE, end, heading_of, pairs_of, parameters_of, runs_of, tables_of,
+    INNER_DEPTH, end, heading_of, longest_file, pairs_of, parameters_of, runs_of, tables_of,
 };
 use text_resolver::names::{Scope, declare, param_names, var_names};
 use text_resolver::resolve::{Parts, owned, runs, variables};
@@ -320,7 +320,7 @@ fn file_at_once(alloc: Global, bytes: &[u8]) -> Result<Parts, ReadFault>
 pub(crate) fn parts_at_once(alloc: Global, bytes: &[u8]) -> Result<Parts, ReadFault>
     ensures { IfOk result (λ parts. (tree_of bytes.now >>=ᴿ λ file. resolved file) ≡ Ok (view_parts parts)) }
 {
-    if bytes.len() > MAX_FILE {
+    if bytes.len() > longest_file(bytes) {
         return Err(ReadFault::TooLong);
     }
     if !are_allowed(bytes) {

@@ -60,14 +60,14 @@ fn read(alloc: Global, bytes: &[u8]) -> Result<Catalogue, ReadFault>
     }
 }
 
-/// Reads a file. It is `Ok` exactly where the bytes spell a catalogue by the rules of the language: at
-/// most 1,048,576 bytes; a reading by the grammar of its form with at most 32 parentheses open at a
-/// time; only declared names used, none declared twice among variables, among tables, among
-/// conditions or among transactions; all limits kept; and each standing condition true of the initial
-/// values. A file of form 2 may have standing conditions. One of form 3 may have tables and parameters
-/// as well: each table with one number for all its cells or with one for each; no parameter with the
-/// name of a variable or of one before it; and each run with as many arguments as its transaction has
-/// parameters.
+/// Reads a file. It is `Ok` exactly where the bytes spell a catalogue by the rules of the language:
+/// at most 1,048,576 bytes, or 67,108,864 where it begins with `(stm 3)`; a reading by the grammar
+/// of its form with at most 32 parentheses open at a time; only declared names used, none declared
+/// twice among variables, among tables, among conditions or among transactions; all limits kept;
+/// and each standing condition true of the initial values. A file of form 2 may have standing
+/// conditions. One of form 3 may have tables and parameters as well: each table with one number for
+/// all its cells or with one for each; no parameter with the name of a variable or of one before
+/// it; and each run with as many arguments as its transaction has parameters.
 ///
 /// Otherwise the fault is the first of `TooLong`, `BadByte`, `Shape`, `Name`, `Limit` and `Broken`
 /// that applies, each judged over all the bytes before the next is; a wrong number of arguments is a

@@ -11,7 +11,7 @@ use Rattle.std.proofs.lemmas.List.{append-nil}
 use Rattle.text_words.specs.Tokens.{Lexeme, Opens, Closes, tokens}
 use Rattle.text_words.specs.Bytes.{is_allowed}
 use Rattle.text_words.specs.Tokens as token
-use Rattle.text_grammar.specs.Tree.{expr_tokens, cond_tokens, stmt_tokens, Pair, Table, Always, Declaration, Run, File, pair_tokens, table_tokens, always_tokens, list_tokens, tx_tokens, run_tokens, heading_tokens, file_tokens, IsOfForm, IsAlways, IsTx, HasParts, SpellsTree, max_len}
+use Rattle.text_grammar.specs.Tree.{expr_tokens, cond_tokens, stmt_tokens, Pair, Table, Always, Declaration, Run, File, pair_tokens, table_tokens, always_tokens, list_tokens, tx_tokens, run_tokens, heading_tokens, file_tokens, IsOfForm, IsAlways, IsTx, HasParts, SpellsTree, longest}
 use Rattle.text_grammar.specs.Tree as tree
 use Rattle.text_words.specs.declared.fault.ReadFault.{ReadFault}
 use Rattle.text_words.specs.declared.fault.ReadFault.TheVariants.{TooLong, BadByte, Shape}
@@ -443,7 +443,7 @@ file_again f formed fits =
 pub tree_takes : (bytes : List ℕ) (f : File) → tree_of bytes ≡ Ok f → SpellsTree bytes f
 unfolding tree_of
 tree_takes bytes f e =
-    elim (chosen (ltb max_len (length bytes)) (Err TooLong) (cond (list_all is_allowed bytes) (file_of (tokens bytes)) (Err BadByte)) (Ok f) e) [
+    elim (chosen (ltb (longest bytes) (length bytes)) (Err TooLong) (cond (list_all is_allowed bytes) (file_of (tokens bytes)) (Err BadByte)) (Ok f) e) [
       | inl p ↦ absurd (let h = p.1 in cc)
       | inr p ↦ elim (chosen (list_all is_allowed bytes) (file_of (tokens bytes)) (Err BadByte) (Ok f) p.1) [
         | inl q ↦ let t = file_takes (tokens bytes) f q.1 in record { short = ltb-false _ _ p.0; allowed = q.0; spelled = t.spelled; formed = t.formed; parts = t.parts }

@@ -368,5 +368,5 @@ file_of ts = do
 -- the tree of the bytes, or the first fault
 unfoldable pub tree_of : List ℕ → Result File ReadFault
 tree_of bytes =
-    if nat_lt tree.max_len (length bytes) then Err TooLong
+    if nat_lt (tree.longest bytes) (length bytes) then Err TooLong
     else (if list_all is_allowed bytes then file_of (tokens bytes) else Err BadByte)

@@ -1,6 +1,6 @@
 -- Files as trees, and the tokens that spell them: the grammar, one clause a form.
-use Rattle.std.specs.Prelude.{◌≡◌, ℕ, suc, ◌≤◌, ℤ, pos, Bool, true, false, ◌&&◌, List, [], ◌∷◌, ◌++◌, map, length, max, codes}
-use Rattle.std.specs.List.{flat_map, list_all, AllByRecursion}
+use Rattle.std.specs.Prelude.{◌≡◌, ℕ, suc, ◌≤◌, ℤ, pos, Bool, true, false, ◌&&◌, List, [], ◌∷◌, ◌++◌, map, length, max, codes, nat_eq, if◌then◌else◌}
+use Rattle.std.specs.List.{flat_map, list_all, AllByRecursion, starts_with}
 use Rattle.text_words.specs.Bytes.{is_allowed}
 use Rattle.text_words.specs.Tokens.{Lexeme, Opens, Closes, tokens}
 use Rattle.text_words.specs.Tokens as token
@@ -278,13 +278,13 @@ IsTx form t = IsStmt form 31 t.body × IsExpr form 31 t.value
 abbrev pub HasParts : File → Type 0
 HasParts f = AllByRecursion (IsAlways f.form) f.always × AllByRecursion (IsTx f.form) f.txs
 
--- the longest file, in bytes
-abbrev pub max_len : ℕ
-max_len = 1048576
+-- how many bytes a file that begins so has at most: one of form 3, which may have tables, has room for their cells
+unfoldable pub longest : List ℕ → ℕ
+longest bytes = if starts_with nat_eq bytes (codes "(stm 3)") then 67108864 else 1048576
 
 -- the bytes spell the tree
 pub record SpellsTree (bytes : List ℕ) (f : File) : Type 0 where
-  pub short : length bytes ≤ max_len
+  pub short : length bytes ≤ longest bytes
   pub allowed : list_all is_allowed bytes ≡ true
   pub spelled : tokens bytes ≡ file_tokens f
   pub formed : IsOfForm f.form f

@@ -5,6 +5,7 @@ ghost use Rattle.txn_programs.specs.declared.ast.Fault.TheVariants.{Outside};
 ghost use Rattle.txn_programs.specs.declared.ast.Outcome.TheVariants.{Thrown};
 ghost use Rattle.txn_programs.specs.LawfulReport.{FitsCatalogue};
 ghost use Rattle.txn_programs.specs.Told.{told};
+ghost use Rattle.text_grammar.specs.Tree.{longest};
 ghost use Rattle.txn_text.specs.Canonical.{file_text};
 ghost use Rattle.txn_text.specs.ReportText.{report_text};
 ghost use Rattle.txn_text.specs.Reports.{IsReport, knows_cells, max_len};
@@ -20,9 +21,9 @@ use txn_text::{ReadFault, print_file, print_report, read_file, read_report};
 
 /// Reads bytes that spell the catalogue, if they are short enough.
 fn file_of(alloc: Global, bytes: &[u8], catalogue: &Catalogue) -> Result<Catalogue, ReadFault>
-    requires { length bytes.now ≤ 1048576 → Spells bytes.now catalogue.now }
+    requires { length bytes.now ≤ longest bytes.now → Spells bytes.now catalogue.now }
     ensures same { IfOk result (λ again. again ≡ catalogue.now) }
-    ensures fault { IfErr result (λ e. (e ≡ Memory) ⊎ ((e ≡ TooLong) × (1048576 < length bytes.now))) }
+    ensures fault { IfErr result (λ e. (e ≡ Memory) ⊎ ((e ≡ TooLong) × (longest bytes.now < length bytes.now))) }
 {
     // Only the contract names it.
     let _wanted = catalogue;
@@ -33,7 +34,8 @@ fn file_of(alloc: Global, bytes: &[u8], catalogue: &Catalogue) -> Result<Catalog
 fn file_again(alloc: Global, catalogue: &Catalogue) -> Result<Catalogue, ReadFault>
     ensures same { IfOk result (λ again. again ≡ catalogue.now) }
     // Nothing else keeps it from coming back than running out of memory, or a text longer than a file may be.
-    ensures fault { IfErr result (λ e. (e ≡ Memory) ⊎ ((e ≡ TooLong) × (1048576 < length (file_text catalogue.now)))) }
+    ensures fault { IfErr result (λ e. (e ≡ Memory)
+        ⊎ ((e ≡ TooLong) × (longest (file_text catalogue.now) < length (file_text catalogue.now)))) }
 {
     match print_file(alloc, catalogue) {
         Ok(text) => match file_of(alloc, text.as_bytes(), catalogue) {

@@ -8,7 +8,7 @@ use Rattle.txn_programs.specs.Standing.{AllTrue, is_true}
 use Rattle.text_grammar.specs.Written.{form_for, written_tables, written}
 use Rattle.text_file_printer.specs.Canonical.{file_text}
 use Rattle.text_grammar.specs.Spelling.{Spells}
-use Rattle.text_grammar.specs.Tree.{max_len}
+use Rattle.text_grammar.specs.Tree.{longest}
 use Rattle.text_file_printer.proofs.Integers.{integers_of}
 use Rattle.text_file_printer.proofs.LaidOut.{text_is_laid_out}
 use Rattle.text_file_printer.proofs.Printed.{printed_spells}
@@ -38,7 +38,7 @@ returns-clause-again c =
           record {
             form = form_for l;
             tables = written_tables l.tables (drop (length l.names) l.initial);
-            spelled = printed_spells l names limits fits (subst (λ (bs : List ℕ). length bs ≤ max_len) e short);
+            spelled = printed_spells l names limits fits (subst (λ (bs : List ℕ). length bs ≤ longest bs) e short);
             tabled = tables_declared l limits c.rules.ensures.valued;
             valued = sym c.rules.ensures.valued;
             names = names;
