@@ -1,5 +1,5 @@
 -- The numbers of names, where a program declares them; how many cells a table has, and how many parameters a transaction.
-use Rattle.std.specs.Prelude.{◌≡◌, ◌<◌, ◌≤◌, ℕ, ℤ, pos, List, [], length, slice_index_or, Option, Some, None, ◌⊎◌, IsUtf8}
+use Rattle.std.specs.Prelude.{◌≡◌, ◌<◌, ◌≤◌, ℕ, ℤ, pos, List, [], length, slice_index_or, Some, None, ◌⊎◌, IsUtf8}
 use Rattle.txn_programs.specs.declared.ast.TxId.{TxId}
 use Rattle.txn_programs.specs.declared.ast.VarId.{VarId}
 use Rattle.txn_programs.specs.Listing.{Listing, arity, table_named, transaction_at, variable_named, transaction_named}

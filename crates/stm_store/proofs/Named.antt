@@ -1,9 +1,8 @@
 -- What the names of a program mean in its store's book.
-use Rattle.std.proofs.Common.{◌≡◌, ◌∙◌, ℕ, ℤ, ◌<◌, List, [], length, Option, None, Some, Ok, Err, ap, arith, position, bytes_eq}
+use Rattle.std.proofs.Common.{◌≡◌, ◌∙◌, ℕ, ℤ, ◌<◌, List, [], length, Option, None, Some, ap, arith, position, bytes_eq}
 use Rattle.std.proofs.lemmas.List.Quantifiers.{position-Some}
 use Rattle.txn_programs.specs.declared.ast.VarId.{VarId}
-use Rattle.txn_programs.specs.declared.ast.Span.{Span}
-use Rattle.txn_programs.specs.Listing.{Listing, values, cells, spans, as_variable, variable_named}
+use Rattle.txn_programs.specs.Listing.{Listing, values, spans, as_variable, variable_named}
 use Rattle.text_line_reader.specs.Words.{cell_in}
 use Rattle.text_line_reader.specs.CellNames.{cell_at, cell_named}
 use Rattle.book.specs.View.{BookView}

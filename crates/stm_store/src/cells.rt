@@ -1,6 +1,6 @@
 //! The cells of tables: by the place of their table and their number, or by name.
 
-ghost use Rattle.std.specs.Prelude.{◌≡◌, ◌<◌, ◌≤◌, ◌+◌, ◌++◌, IfSome, Some, drop, length, min, take};
+ghost use Rattle.std.specs.Prelude.{◌≡◌, ◌<◌, ◌≤◌, ◌+◌, IfSome, Some, drop, length};
 ghost use Rattle.txn_programs.specs.declared.limits.TheConstants.{MAX_VALUES};
 ghost use Rattle.txn_programs.specs.Listing.{spans};
 ghost use Rattle.text_line_reader.specs.CellNames.{cell_at, cell_named};

@@ -4,6 +4,8 @@
 #[cfg(test)]
 mod calling;
 #[cfg(test)]
+mod cells;
+#[cfg(test)]
 mod chapters;
 #[cfg(test)]
 mod lends;

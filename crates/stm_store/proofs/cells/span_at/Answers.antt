@@ -1,9 +1,9 @@
-use Rattle.std.proofs.Common.{◌≡◌, ◌∙◌, ℕ, suc, ◌+◌, ◌-◌, ◌≤◌, List, map, drop, length, get_or, sym, ap, arith}
+use Rattle.std.proofs.Common.{◌≡◌, ◌∙◌, ℕ, suc, ◌+◌, ◌-◌, List, map, drop, get_or, sym, ap, arith}
 use Rattle.std.specs.Prelude.{sum_by}
 use Rattle.txn_programs.specs.Listing.{cells, spans_from}
 use Rattle.txn_programs.proofs.Lawful.{limits_parts}
 use Rattle.text_line_reader.proofs.Spots.{no_span, sized, room_more}
-use Rattle.stm_store.proofs.Spans.{span_here, span_behind, span_none}
+use Rattle.stm_store.proofs.Spans.{span_behind}
 use Rattle.stm_store.proofs.cells.span_at.Goals as goal
 
 pub tables-init : goal.tables-init
