@@ -64,7 +64,7 @@ loop-name-preserved g c =
     let t = c.loop-name-item.result in
     let rest = c.loop-name.rest.now in
     record {
-      puts = puts_more _ _ _ _ _ _ _ _ _ _ before.puts c.in_ok-put_table.ensures.gathers
+      puts = puts_more _ _ _ _ _ _ (table_lines (map counted tables) c.args.vars.now) (table_lines (map counted (drop i tables)) rest) _ _ before.puts c.in_ok-put_table.ensures.gathers
           (table_split tables i t rest c.as_str.result.now _ _ c.loop-name-test.true c.loop-name-item.is c.as_str.ensures.value c.split_at.ensures.front c.split_at.ensures.back);
       left = cells_left tables i t rest _ c.loop-name-test.true c.loop-name-item.is before.left c.split_at.ensures.back;
       few = fewer t.1 rest _ before.few c.split_at.ensures.back;
