@@ -1,7 +1,7 @@
 use Rattle.std.proofs.Common.{◌≡◌, ◌≤◌, ◌∙◌, ◌+◌, ◌-◌, ℕ, ℤ, List, [], ◌++◌, length, length-drop, take, drop, ap, sym, refl, arith}
 use Rattle.text_report_printer.specs.ReportText.{cell_lines}
 use Rattle.text_report_printer.proofs.Lines.{cells_split}
-use Rattle.runner.proofs.Gathering.{cut, gathers_text, on_err, puts_break, puts_more}
+use Rattle.runner.proofs.Gathering.{cut, gathers_text, on_err, puts_break, puts_more, puts_none}
 use Rattle.runner.proofs.pieces.put_table.Goals as goal
 
 -- the first lines, and the others as the code cuts them off
@@ -12,6 +12,16 @@ cells_cut table first n rest =
 -- how many are left behind the first
 left_over : (first n most : ℕ) (rest : List (ℤ × ℕ)) → n ≤ length rest → first + length rest ≤ most → first + n + length (take (length rest - n) (drop n rest)) ≤ most
 left_over first n most rest le few = let same = ap length (cut n rest) in omega (arith, same, length-drop n rest)
+
+pub loop-rest-init : goal.loop-rest-init
+loop-rest-init g c =
+    let few : length c.args.cells.now ≤ 1048576 = c.requires.few in
+    record {
+      puts = puts_none _ _ _;
+      within = omega (arith, few);
+      none_failed = refl;
+      capacity = omega arith;
+    }
 
 pub returns-in_err-make_room-clause-breaks : goal.returns-in_err-make_room-clause-breaks
 returns-in_err-make_room-clause-breaks g c = on_err _ (puts_break _ _ _ _ _ _ _ [] _ c.loop-rest.invariant.puts c.in_err-make_room.ensures.breaks refl)

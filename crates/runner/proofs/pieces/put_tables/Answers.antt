@@ -5,6 +5,7 @@ use Rattle.txn.proofs.Tabled.{counted_cells}
 use Rattle.txn_programs.proofs.Lawful.{limits_parts}
 use Rattle.text_report_printer.specs.ReportText.{cell_lines, table_lines}
 use Rattle.text_report_printer.proofs.Lengths.{table_name_short}
+use Rattle.runner.specs.Pieces.{Breaks}
 use Rattle.runner.proofs.Gathering.{on_err, puts_break, puts_more, puts_none}
 use Rattle.runner.proofs.pieces.put_tables.Goals as goal
 
@@ -51,8 +52,9 @@ put_table-requires-clause-short g c =
 pub returns-in_err-put_table-clause-breaks : goal.returns-in_err-put_table-clause-breaks
 returns-in_err-put_table-clause-breaks g c =
     let tables = c.tables-tables.result.now in
-    on_err _ (puts_break _ _ _ _ _ _ _ _ _ c.loop-name.invariant.puts c.in_err-put_table.ensures.breaks
-    (table_split tables c.loop-name.name-index c.loop-name-item.result c.loop-name.rest.now c.as_str.result.now _ _ c.loop-name-test.true c.loop-name-item.is c.as_str.ensures.value c.split_at.ensures.front c.split_at.ensures.back))
+    let lines = table_split tables c.loop-name.name-index c.loop-name-item.result c.loop-name.rest.now c.as_str.result.now _ _ c.loop-name-test.true c.loop-name-item.is c.as_str.ensures.value c.split_at.ensures.front c.split_at.ensures.back in
+    let broke = puts_break _ _ _ _ _ _ _ _ _ c.loop-name.invariant.puts c.in_err-put_table.ensures.breaks lines in
+    on_err _ (subst (λ (ts : List (List ℕ × ℕ)). Breaks (g.S.Sink.bytes c.args.sink.now) (string_bytes c.args.text.now) (g.S.Sink.bytes c.put_table.new.sink) (table_lines ts c.args.vars.now)) c.tables-tables.ensures broke)
 
 pub loop-name-preserved : goal.loop-name-preserved
 loop-name-preserved g c =
@@ -62,7 +64,7 @@ loop-name-preserved g c =
     let t = c.loop-name-item.result in
     let rest = c.loop-name.rest.now in
     record {
-      puts = puts_more _ _ _ _ _ _ _ _ _ _ before.puts c.in_ok-put_table.ensures.gathers
+      puts = puts_more _ _ _ _ _ _ (table_lines (map counted tables) c.args.vars.now) (table_lines (map counted (drop i tables)) rest) _ _ before.puts c.in_ok-put_table.ensures.gathers
           (table_split tables i t rest c.as_str.result.now _ _ c.loop-name-test.true c.loop-name-item.is c.as_str.ensures.value c.split_at.ensures.front c.split_at.ensures.back);
       left = cells_left tables i t rest _ c.loop-name-test.true c.loop-name-item.is before.left c.split_at.ensures.back;
       few = fewer t.1 rest _ before.few c.split_at.ensures.back;

@@ -1,4 +1,4 @@
-use Rattle.std.proofs.Common.{◌≡◌, ◌∙◌, ℕ, ℤ, List, [], ◌∷◌, ◌++◌, Option, length, take, drop, ap, append_assoc, refl, subst, string_bytes}
+use Rattle.std.proofs.Common.{◌≡◌, ◌∙◌, ℕ, ℤ, List, [], ◌∷◌, ◌++◌, Option, length, take, drop, ap, append_assoc, refl, subst}
 use Rattle.std.specs.Fmt.{decimal}
 use Rattle.txn_programs.specs.Listing.{Listing}
 use Rattle.text_words.specs.Words.{line}
