@@ -144,6 +144,19 @@ fn want_of_memory_is_5(rt: HostRuntime) {
     ends(&rt, &host, 5, 0, Some("stm: out of memory\n"));
 }
 
+/// One that begins with `(stm 3)` may have more.
+#[test]
+fn a_file_of_form_3_may_have_more_bytes(rt: HostRuntime) {
+    for (front, status) in [(b"(stm 3)".as_slice(), 0), (b"(stm 2)".as_slice(), 2)] {
+        let Ok(mut bytes) = Vec::from_elem(rt.alloc(), b' ', 1048577) else {
+            panic!(rt; "no blanks")
+        };
+        bytes[..front.len()].copy_from_slice(front);
+        let host = Host::new(rt.alloc(), RUN, bytes.as_slice());
+        ends_with(&rt, &host, status);
+    }
+}
+
 /// A file of the limit is run, and with one byte more it is refused.
 #[test]
 fn a_file_has_1048576_bytes_at_most(rt: HostRuntime) {
