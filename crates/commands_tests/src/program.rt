@@ -2,6 +2,7 @@
 
 use crate::host::{Host, Prints, Reads};
 use commands::run;
+use std::alloc::{AllocError, Global};
 use std::process::Abort;
 use std::sync::Wait;
 use std::thread::Threads;
@@ -144,14 +145,21 @@ fn want_of_memory_is_5(rt: HostRuntime) {
     ends(&rt, &host, 5, 0, Some("stm: out of memory\n"));
 }
 
+/// The bytes, and then so many spaces.
+fn padded(alloc: Global, front: &[u8], count: usize) -> Result<Vec<u8>, AllocError> {
+    let mut bytes = Vec::new(alloc);
+    bytes.extend_from_slice(front)?;
+    bytes.extend_from_slice(Vec::from_elem(alloc, b' ', count)?.as_slice())?;
+    Ok(bytes)
+}
+
 /// One that begins with `(stm 3)` may have more.
 #[test]
 fn a_file_of_form_3_may_have_more_bytes(rt: HostRuntime) {
     for (front, status) in [(b"(stm 3)".as_slice(), 0), (b"(stm 2)".as_slice(), 2)] {
-        let Ok(mut bytes) = Vec::from_elem(rt.alloc(), b' ', 1048577) else {
+        let Ok(bytes) = padded(rt.alloc(), front, 1048570) else {
             panic!(rt; "no blanks")
         };
-        bytes[..front.len()].copy_from_slice(front);
         let host = Host::new(rt.alloc(), RUN, bytes.as_slice());
         ends_with(&rt, &host, status);
     }
