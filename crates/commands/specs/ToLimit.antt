@@ -8,5 +8,9 @@ use Rattle.commands.specs.declared.reading.ToLimit.{ToLimit}
 abbrev pub count_left : {I : Type 0} → ToLimit I → List ℕ → ℕ
 count_left r all = length r.ahead.now + (if starts_with nat_eq all r.ahead.now then r.long else r.short)
 
+-- how many bytes the next read may give
+abbrev pub most_next : {I : Type 0} → ToLimit I → ℕ
+most_next r = if nat_eq (length r.ahead.now) 0 then r.long else length r.ahead.now
+
 abbrev pub left_of : {I : Type 0} → (I → Option (List ℕ)) → ToLimit I → Option (List ℕ)
 left_of remaining r = option_map (λ all. take (count_left r all) all) (remaining r.inner)

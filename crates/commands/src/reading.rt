@@ -1,7 +1,7 @@
 //! What is read of a file, a report or a schedule.
 
-ghost use Rattle.std.specs.Prelude.{◌<◌, ◌^◌, IfOk, IfErr};
-ghost use Rattle.commands.specs.ToLimit.{left_of};
+ghost use Rattle.std.specs.Prelude.{◌≡◌, ◌<◌, ◌≤◌, ◌+◌, ◌^◌, ◌++◌, ℕ, IfOk, IfErr, List, length};
+ghost use Rattle.commands.specs.ToLimit.{most_next, count_left, left_of};
 ghost use Rattle.commands.specs.Files.{IsRead, IsReportLimit, IsReportOf, IsUnread, file_limit, schedule_limit};
 
 use command_line::{Answer, Earlier, unread};
@@ -35,24 +35,40 @@ struct ToLimit<I> {
     long: usize,
 }
 
+impl<I> ToLimit<I> {
+    /// Goes on behind this part, which was read.
+    fn pass(&mut self, part: &[u8])
+        requires { length part.now ≤ most_next self.old }
+        ensures counted { (ys : List ℕ) → count_left self.old (part.now ++ ys) ≡ length part.now + count_left self.new ys }
+        ensures inner { self.new.inner ≡ self.old.inner }
+    {
+        if self.ahead.is_empty() {
+            self.long -= part.len();
+            return;
+        }
+        let (front, back) = self.ahead.split_at(part.len());
+        self.ahead = back;
+        if front != part {
+            self.long = self.short;
+        }
+    }
+}
+
 impl<I: Read> Read for ToLimit<I> {
     ghost remaining = { left_of I.remaining };
 
     fn read(&mut self, buf: &mut [u8]) -> io::Result<usize> {
-        let ahead = self.ahead.len();
-        let most = buf.len().min(if ahead > 0 { ahead } else { self.long });
+        let next = if self.ahead.is_empty() {
+            self.long
+        } else {
+            self.ahead.len()
+        };
+        let most = buf.len().min(next);
         if most == 0 {
             return Ok(0);
         }
         let count = self.inner.read(&mut buf[..most])?;
-        if ahead == 0 {
-            self.long -= count;
-            return Ok(count);
-        }
-        if self.ahead[..count] != buf[..count] {
-            self.long = self.short;
-        }
-        self.ahead = &self.ahead[count..];
+        self.pass(&buf[..count]);
         Ok(count)
     }
 }
