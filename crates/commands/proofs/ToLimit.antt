@@ -7,7 +7,7 @@ use Rattle.std.specs.List.{starts_with}
 use Rattle.std.specs.Io.KnownBytes.{Consumes, IsAtEnd}
 use lib.Pointwise.{pointwise}
 use Rattle.std.specs.Prelude.{IfSome, codes}
-use Rattle.text_grammar.specs.Tree.{longest}
+use Rattle.txn_text.specs.Tree.{longest}
 use Rattle.commands.specs.Files.{file_limit, IsRead}
 
 -- a read gives a part of what may be given, where the number of bytes that may be given shrinks by those that were read

@@ -4,7 +4,7 @@ use Rattle.std.specs.Io.KnownBytes.{Keeps}
 use Rattle.txn_programs.specs.Listing.{Listing}
 use Rattle.txn_text.specs.Spelling.{Spells, first_fault}
 use Rattle.text_words.specs.declared.fault.ReadFault.{ReadFault}
-use Rattle.text_grammar.specs.Tree.{longest}
+use Rattle.txn_text.specs.Tree.{longest}
 use Rattle.text_line_reader.specs.Reports.{max_len}
 use Rattle.run_interface.specs.Failures.{output_failures}
 use Rattle.runner.specs.Running.{Ran}
