@@ -39,7 +39,8 @@ impl<I> ToLimit<I> {
     /// Goes on behind this part, which was read.
     fn pass(&mut self, part: &[u8])
         requires { length part.now ≤ most_next self.old }
-        ensures counted { (ys : List ℕ) → count_left self.old (part.now ++ ys) ≡ length part.now + count_left self.new ys }
+        ensures counted { (ys : List ℕ)
+            → count_left self.old (part.now ++ ys) ≡ length part.now + count_left self.new ys }
         ensures inner { self.new.inner ≡ self.old.inner }
     {
         if self.ahead.is_empty() {

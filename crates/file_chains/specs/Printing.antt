@@ -4,7 +4,7 @@ use Rattle.std.specs.Io.KnownBytes.{Appends, Keeps}
 use Rattle.txn_programs.specs.Listing.{Listing}
 use Rattle.txn_programs.specs.Told.{Told}
 use Rattle.txn_programs.specs.LawfulReport.{LawfulReport}
-use Rattle.text_grammar.specs.Tree.{longest}
+use Rattle.txn_text.specs.Tree.{longest}
 use Rattle.txn_text.specs.Spelling.{Spells, first_fault}
 use Rattle.txn_text.specs.Canonical.{file_text}
 use Rattle.text_line_reader.specs.Reports.{IsReport}

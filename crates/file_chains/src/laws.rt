@@ -5,7 +5,7 @@ ghost use Rattle.txn_programs.specs.Listing.{Listing};
 ghost use Rattle.txn_programs.specs.Standing.{Upholds};
 ghost use Rattle.txn_programs.specs.Told.{Told};
 ghost use Rattle.txn_programs.specs.LawfulReport.{LawfulReport};
-ghost use Rattle.text_grammar.specs.Tree.{longest};
+ghost use Rattle.txn_text.specs.Tree.{longest};
 ghost use Rattle.txn_text.specs.Spelling.{Spells};
 ghost use Rattle.checker.specs.Chapters.{Follows, GoesOnAfter};
 ghost use Rattle.file_chains.specs.declared.next.Next.TheVariants as next;
