@@ -1,6 +1,6 @@
 //! How much is read of what has more than the limit.
 
-use commands::reading::read_up_to;
+use commands::reading::{read_file_up_to, read_up_to};
 use std::alloc::Global;
 use std::cell::Cell;
 use std::io::{self, Read};
@@ -21,6 +21,52 @@ impl Read for Spaces<'_> {
         self.handed.set(self.handed.get().saturating_add(count));
         Ok(count)
     }
+}
+
+/// The same of a file of so many spaces behind these bytes, which are handed out in pieces of this length.
+#[derive(Drop)]
+struct Begun<'a> {
+    front: &'a [u8],
+    piece: usize,
+    spaces: Spaces<'a>,
+}
+
+impl Read for Begun<'_> {
+    fn read(&mut self, buf: &mut [u8]) -> io::Result<usize> {
+        if self.front.is_empty() {
+            return self.spaces.read(buf);
+        }
+        let count = buf.len().min(self.front.len()).min(self.piece);
+        buf[..count].copy_from_slice(&self.front[..count]);
+        self.front = &self.front[count..];
+        Ok(count)
+    }
+}
+
+/// Of a file that begins so and then has so many spaces, so many of these are read, and no more are taken.
+fn expect_file(
+    rt: &impl Abort,
+    alloc: Global,
+    front: &[u8],
+    piece: usize,
+    size: usize,
+    count: usize,
+) {
+    let handed = Cell::new(0);
+    let spaces = Spaces {
+        left: size,
+        handed: &handed,
+    };
+    let input = Begun {
+        front,
+        piece,
+        spaces,
+    };
+    match read_file_up_to(alloc, input) {
+        Ok(bytes) => assert_eq!(rt; bytes.len(), front.len().saturating_add(count)),
+        Err(_) => panic!(rt; "not read"),
+    }
+    assert_eq!(rt; handed.get(), count);
 }
 
 /// Of so many bytes this many are read, and no more are taken from the reader.
@@ -45,5 +91,28 @@ fn one_byte_past_the_limit_is_read(rt: HostRuntime) {
         expect_read(&rt, rt.alloc(), size, limit, size);
         expect_read(&rt, rt.alloc(), size + 1, limit, size + 1);
         expect_read(&rt, rt.alloc(), size + 5, limit, size + 1);
+    }
+}
+
+/// How a file begins, and how many bytes it has at most.
+const BEGUN: &[(&[u8], usize)] = &[
+    (b"", 1_048_576),
+    (b"(stm 2)", 1_048_576),
+    (b"(stm 3", 1_048_576),
+    (b"(stm  3)", 1_048_576),
+    (b" (stm 3)", 1_048_576),
+    (b"(stm 3)", 67_108_864),
+    (b"(stm 3)(table a 2 0)", 67_108_864),
+];
+
+#[test]
+fn one_byte_past_the_limit_of_a_file_is_read(rt: HostRuntime) {
+    for &(front, limit) in BEGUN {
+        let most = limit.saturating_sub(front.len()).saturating_add(1);
+        for piece in [1, 3, 1000] {
+            expect_file(&rt, rt.alloc(), front, piece, 0, 0);
+            expect_file(&rt, rt.alloc(), front, piece, 100, 100);
+        }
+        expect_file(&rt, rt.alloc(), front, 2, most.saturating_add(5), most);
     }
 }

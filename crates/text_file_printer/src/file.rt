@@ -35,7 +35,8 @@ pub fn print_file(alloc: Global, catalogue: &Catalogue) -> Result<String, Memory
     ensures text { IfOk result (λ s. string_bytes s ≡ file_text catalogue.now) }
     // The same, said of the tokens alone.
     ensures layout { IfOk result (λ s. string_bytes s ≡ laid_out (file_tokens (written catalogue.now))) }
-    ensures again { IfOk result (λ s. length (string_bytes s) ≤ longest (string_bytes s) → Spells (string_bytes s) catalogue.now) }
+    ensures again { IfOk result
+        (λ s. length (string_bytes s) ≤ longest (string_bytes s) → Spells (string_bytes s) catalogue.now) }
 {
     catalogue.rules();
     let mut out = String::new(alloc);

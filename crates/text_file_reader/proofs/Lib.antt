@@ -7,6 +7,7 @@ pub mod SameTokens
 pub mod Declared
 pub mod Spans
 pub mod Back
+mod Begun
 pub mod Calls
 pub mod Again
 pub mod Spelt

@@ -1,5 +1,5 @@
 -- Files of the same tokens.
-use Rattle.std.proofs.Common.{◌≡◌, ◌∙◌, ℕ, ◌≤◌, Bool, true, ◌&&◌, List, ◌++◌, length, refl, sym, ap}
+use Rattle.std.proofs.Common.{◌≡◌, ◌∙◌, ℕ, ◌≤◌, Bool, true, ◌&&◌, List, ◌++◌, length, refl, sym, ap, arith, length-append}
 use Rattle.std.specs.List.{list_all}
 use Rattle.std.proofs.lemmas.Bool.{le-ltb}
 use Rattle.std.proofs.lemmas.List.Folds.{list_all-append}
@@ -10,6 +10,7 @@ use Rattle.text_grammar.specs.Tree.{longest}
 use Rattle.text_grammar.specs.Reading.{tree_of}
 use Rattle.text_grammar.specs.Spelling.{Declares, Spells, listing_at, fault_in}
 use Rattle.text_file_reader.specs.Gaps.{IsGap, SplitsNoToken, ReadsAs}
+use Rattle.text_file_reader.proofs.Begun.{longest_still}
 use Rattle.text_file_reader.proofs.Gaps.{gap-between}
 
 pub reads_as : (bytes others : List ℕ) → tokens bytes ≡ tokens others → list_all is_allowed bytes ≡ list_all is_allowed others → length bytes ≤ longest bytes → length others ≤ longest others → ReadsAs bytes others
@@ -46,6 +47,7 @@ allowed-between a gap b h =
     ∙ ap (λ (v : Bool). list_all is_allowed a && v) (list_all-append is_allowed gap b ∙ ap (λ (v : Bool). v && list_all is_allowed b) h)
     ∙ sym (list_all-append is_allowed a b)
 
-pub reads_as-gap : (a gap b : List ℕ) → IsGap gap → SplitsNoToken a b → list_all is_allowed gap ≡ true → length (a ++ (gap ++ b)) ≤ longest (a ++ (gap ++ b)) → length (a ++ b) ≤ longest (a ++ b) → ReadsAs (a ++ (gap ++ b)) (a ++ b)
-reads_as-gap a gap b g h allowed short shorter =
-    reads_as (a ++ (gap ++ b)) (a ++ b) (gap-between a gap b g h) (allowed-between a gap b allowed) short shorter
+pub reads_as-gap : (a gap b : List ℕ) → IsGap gap → SplitsNoToken a b → list_all is_allowed gap ≡ true → length (a ++ (gap ++ b)) ≤ longest (a ++ (gap ++ b)) → ReadsAs (a ++ (gap ++ b)) (a ++ b)
+reads_as-gap a gap b g h allowed short =
+    reads_as (a ++ (gap ++ b)) (a ++ b) (gap-between a gap b g h) (allowed-between a gap b allowed) short
+    (omega (arith, short, longest_still a gap b g h, length-append a (gap ++ b), length-append gap b, length-append a b))

@@ -46,8 +46,7 @@ pub fn gaps_are_nothing()
     ensures tokens { (a gap b : List ℕ) → IsGap gap → SplitsNoToken a b → tokens (a ++ (gap ++ b)) ≡ tokens (a ++ b) }
     // So does what the file says, unless the gap makes it too long.
     ensures file { (a gap b : List ℕ) → IsGap gap → SplitsNoToken a b → list_all is_allowed gap ≡ true
-        → length (a ++ (gap ++ b)) ≤ longest (a ++ (gap ++ b)) → length (a ++ b) ≤ longest (a ++ b)
-        → ReadsAs (a ++ (gap ++ b)) (a ++ b) }
+        → length (a ++ (gap ++ b)) ≤ longest (a ++ (gap ++ b)) → ReadsAs (a ++ (gap ++ b)) (a ++ b) }
     // There is such a place between any two tokens: wherever the tokens are divided, the bytes can be.
     ensures places { (bytes : List ℕ) (front back : List Lexeme) → tokens bytes ≡ front ++ back
         → Division bytes front back }

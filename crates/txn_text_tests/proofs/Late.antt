@@ -3,7 +3,7 @@ use Rattle.std.proofs.Common.{◌≡◌, ◌<◌, ◌≤◌, ℕ, ◌⊎◌, Lis
 use Rattle.std.specs.Prelude.{IfOk, IfErr}
 use Rattle.txn_programs.specs.Listing.{Listing}
 use Rattle.txn_programs.specs.Told.{Told}
-use Rattle.text_grammar.specs.Tree.{longest}
+use Rattle.txn_text.specs.Tree.{longest}
 use Rattle.txn_text.specs.Answers.{Fails, Gives}
 use Rattle.txn_text.specs.fault.ReadFault.{ReadFault}
 use Rattle.txn_text.specs.fault.ReadFault.TheVariants.{TooLong, BadByte, Shape, Name, Limit, Memory, Broken}

@@ -5,7 +5,7 @@ ghost use Rattle.txn_programs.specs.declared.ast.Fault.TheVariants.{Outside};
 ghost use Rattle.txn_programs.specs.declared.ast.Outcome.TheVariants.{Thrown};
 ghost use Rattle.txn_programs.specs.LawfulReport.{FitsCatalogue};
 ghost use Rattle.txn_programs.specs.Told.{told};
-ghost use Rattle.text_grammar.specs.Tree.{longest};
+ghost use Rattle.txn_text.specs.Tree.{longest};
 ghost use Rattle.txn_text.specs.Canonical.{file_text};
 ghost use Rattle.txn_text.specs.ReportText.{report_text};
 ghost use Rattle.txn_text.specs.Reports.{IsReport, knows_cells, max_len};
