@@ -1,5 +1,5 @@
 -- What is left where a file is read first.
-use Rattle.std.proofs.Common.{◌≡◌, inl, inr, ℕ, List, Option, None, Some, refl, sym, ap, subst, ◌∙◌}
+use Rattle.std.proofs.Common.{◌≡◌, inl, inr, ℕ, List, Option, None, Some, refl, sym, ap, subst}
 use Rattle.std.specs.Io.KnownBytes.{Keeps}
 use Rattle.command_line.specs.declared.answer.Answer.{Answer}
 use Rattle.commands.specs.Files.{IsRead, IsReportOf, IsUnread, failed_calls}

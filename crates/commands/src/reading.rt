@@ -155,8 +155,8 @@ pub(crate) fn with_report<I: Read + Drop, J: Read + Drop>(
     file: I,
     report: J,
 ) -> Result<(Vec<u8>, Vec<u8>), Answer>
-    ensures file { IfOk result (λ both. IsRead file_limit (I.remaining file) both.0.items) }
-    ensures report { IfOk result (λ both. IsReportOf both.0.items (J.remaining report) both.1.items) }
+    ensures first { IfOk result (λ both. IsRead file_limit (I.remaining file) both.0.items) }
+    ensures second { IfOk result (λ both. IsReportOf both.0.items (J.remaining report) both.1.items) }
     ensures unread { IfErr result IsUnread }
 {
     let file = file_bytes_of(alloc, file)?;

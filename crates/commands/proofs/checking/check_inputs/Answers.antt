@@ -5,8 +5,8 @@ use Rattle.commands.proofs.checking.check_inputs.Goals as goal
 
 pub returns-in-Ok-clause-checked : goal.returns-in-Ok-clause-checked
 returns-in-Ok-clause-checked g c =
-    let file = read_as file_limit (g.I.Read.remaining c.args.file) c.in-Ok.file.items c.as_slice.result.now c.as_slice.ensures.value c.in-Ok.ensures.file in
-    let report = report_as (g.J.Read.remaining c.args.report) c.in-Ok.file.items c.as_slice.result.now c.in-Ok.report.items c.as_slice-in-Ok.result.now c.as_slice.ensures.value c.as_slice-in-Ok.ensures.value c.in-Ok.ensures.report in
+    let file = read_as file_limit (g.I.Read.remaining c.args.file) c.in-Ok.file.items c.as_slice.result.now c.as_slice.ensures.value c.in-Ok.ensures.first in
+    let report = report_as (g.J.Read.remaining c.args.report) c.in-Ok.file.items c.as_slice.result.now c.in-Ok.report.items c.as_slice-in-Ok.result.now c.as_slice.ensures.value c.as_slice-in-Ok.ensures.value c.in-Ok.ensures.second in
     inr (c.as_slice.result.now, file, (c.as_slice-in-Ok.result.now, report, c.check_bytes.ensures.checked))
 
 pub returns-in-Err-clause-checked : goal.returns-in-Err-clause-checked
