@@ -8,17 +8,17 @@ use Rattle.txn_programs.specs.Listing.{Listing}
 use Rattle.stm_store.specs.declared.job.Ticket.{Ticket}
 use Rattle.stm_service.specs.Answering.{IsAnswer, IsAnswered}
 
-abbrev called : TxId → List ℤ → Call
-called tx arguments = record { tx = tx; arguments = arguments }
+abbrev pub call_with : TxId → List ℤ → Call
+call_with tx arguments = record { tx = tx; arguments = arguments }
 
-pub answered : (l : Listing) (ticket : Ticket) (tx : TxId) (arguments : List ℤ) (o : Outcome) → ∥ IsAnswer l ticket (called tx arguments) o ∥₁ → IsAnswered l tx arguments o
-answered l ticket tx arguments o h = ∥∥₁_map h (λ (a : IsAnswer l ticket (called tx arguments) o). (ticket, a))
+pub answered : (l : Listing) (ticket : Ticket) (tx : TxId) (arguments : List ℤ) (o : Outcome) → ∥ IsAnswer l ticket (call_with tx arguments) o ∥₁ → IsAnswered l tx arguments o
+answered l ticket tx arguments o h = ∥∥₁_map h (λ (a : IsAnswer l ticket (call_with tx arguments) o). (ticket, a))
 
-all_answered : {E : Type 0} (l : Listing) (ticket : Ticket) (tx : TxId) (arguments : List ℤ) (r : Result Outcome E) → IfOk r (λ o. ∥ IsAnswer l ticket (called tx arguments) o ∥₁) → IfOk r (λ o. IsAnswered l tx arguments o)
+all_answered : {E : Type 0} (l : Listing) (ticket : Ticket) (tx : TxId) (arguments : List ℤ) (r : Result Outcome E) → IfOk r (λ o. ∥ IsAnswer l ticket (call_with tx arguments) o ∥₁) → IfOk r (λ o. IsAnswered l tx arguments o)
 all_answered l ticket tx arguments (Ok o) h = answered l ticket tx arguments o h
 all_answered l ticket tx arguments (Err e) h = h
 
 -- the call that waits is the one that was made
-pub waited_answer : {E : Type 0} (l : Listing) (ticket : Ticket) (call : Call) (tx : TxId) (arguments : List ℤ) (r : Result Outcome E) → call ≡ called tx arguments → IfOk r (λ o. ∥ IsAnswer l ticket call o ∥₁) → IfOk r (λ o. IsAnswered l tx arguments o)
+pub waited_answer : {E : Type 0} (l : Listing) (ticket : Ticket) (call : Call) (tx : TxId) (arguments : List ℤ) (r : Result Outcome E) → call ≡ call_with tx arguments → IfOk r (λ o. ∥ IsAnswer l ticket call o ∥₁) → IfOk r (λ o. IsAnswered l tx arguments o)
 waited_answer l ticket call tx arguments r is h =
     all_answered l ticket tx arguments r (subst (λ (c : Call). IfOk r (λ o. ∥ IsAnswer l ticket c o ∥₁)) is h)

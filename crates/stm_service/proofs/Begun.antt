@@ -5,7 +5,6 @@ use Rattle.std.proofs.lemmas.List.{length-set}
 use Rattle.txn_programs.specs.declared.ast.TaskId.{TaskId}
 use Rattle.txn_programs.specs.declared.ast.TxId.{TxId}
 use Rattle.txn_programs.specs.declared.arguments.Call.{Call}
-use Rattle.txn_programs.specs.declared.ast.Outcome.TheVariants.{Retries}
 use Rattle.txn_programs.specs.Meaning.{outcome}
 use Rattle.txn_programs.specs.Tree.{Program}
 use Rattle.txn_programs.specs.Listing.{Listing, tasks, task_arguments, call_program}

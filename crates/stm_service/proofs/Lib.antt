@@ -4,4 +4,5 @@ mod Pages
 mod Asked
 mod Observed
 mod Seen
+mod Heard
 pub mod Crossing

@@ -1,9 +1,9 @@
 -- A state that a book has published keeps the standing conditions, so what was observed on it is an observation.
-use Rattle.std.proofs.Common.{◌≡◌, ◌∙◌, ℕ, ℤ, ◌+◌, ◌-◌, ◌<◌, List, [], length, refl, sym, ap, subst, arith}
+use Rattle.std.proofs.Common.{◌≡◌, ◌∙◌, ℕ, ℤ, ◌+◌, ◌-◌, ◌<◌, List, [], length, sym, ap, arith}
 use Rattle.txn_programs.specs.declared.ast.TxId.{TxId}
 use Rattle.txn_programs.specs.declared.ast.Outcome.{Outcome}
 use Rattle.txn_programs.specs.declared.arguments.Call.{Call}
-use Rattle.txn_programs.specs.Meaning.{State, outcome}
+use Rattle.txn_programs.specs.Meaning.{outcome}
 use Rattle.txn_programs.specs.Tree.{Program}
 use Rattle.txn_programs.specs.Standing.{Upholds}
 use Rattle.txn_programs.specs.Listing.{Listing, call_program}
@@ -13,7 +13,7 @@ use Rattle.cells.specs.Passing.{Passing, at}
 use Rattle.book.specs.View.{BookView}
 use Rattle.book.specs.LawfulBook.{LawfulBook}
 use Rattle.stm_store.specs.Working.{declaring}
-use Rattle.stm_service.specs.Observations.{EndsIn, IsObservation}
+use Rattle.stm_service.specs.Observations.{IsObservation}
 use Rattle.stm_service.proofs.Answered.{same_program, same_upheld}
 
 published_upheld : (l : Listing) (b : BookView) (k : ℕ) → declaring b.catalogue ≡ declaring l → LawfulBook b → k < length b.history → Upholds l (state_of b.history k)

@@ -1,5 +1,5 @@
 -- A call that was entered, as a client sees it.
-use Rattle.std.proofs.Common.{◌≡◌, ◌∙◌, ℕ, ℤ, ◌+◌, ◌-◌, ◌<◌, Bool, true, false, if◌then◌else◌, List, [], ◌∷◌, ◌++◌, Some, length, refl, sym, ap, subst, arith, length-append}
+use Rattle.std.proofs.Common.{◌≡◌, ◌∙◌, ℕ, ℤ, ◌+◌, ◌-◌, Bool, true, false, if◌then◌else◌, List, [], ◌∷◌, ◌++◌, Some, length, refl, sym, ap, subst, arith, length-append}
 use Rattle.std.specs.List.{slice_get}
 use Rattle.std.proofs.lemmas.Option.{get_or_from_slice_get}
 use Rattle.std.proofs.Math.Logic.{∥∥₁_map}
@@ -16,10 +16,8 @@ use Rattle.txn_words.proofs.Words.{starts_on, seen_state, seen_shorter, last_pus
 use Rattle.cells.specs.Passing.{Passing, MeetsBy}
 use Rattle.book.specs.View.{BookView, committed, checkpointed}
 use Rattle.book.specs.LawfulBook.{BookFits}
-use Rattle.book.specs.Turns.{is_due, kept_short}
-use Rattle.book.specs.declared.task.Serial.{Serial}
+use Rattle.book.specs.Turns.{is_due}
 use Rattle.book.specs.declared.task.Serial.TheVariants as serial
-use Rattle.stm_store.specs.Tickets.{AreTickets}
 use Rattle.stm_store.specs.Working.{declaring}
 use Rattle.stm_store.specs.Entering.{Enters}
 use Rattle.stm_store.specs.Turning.{Ends, Runs, called_book}
@@ -49,12 +47,12 @@ short_case true b = refl
 short_case false b = refl
 
 -- the history of a book after an entry
-enters_history : (every : ℕ) (b new : BookView) (task : TaskId) (e : Entered) → Enters every b task e new → new.history ≡ b.history ++ after (task_program b.catalogue task) b.present.state ∷ []
+pub enters_history : (every : ℕ) (b new : BookView) (task : TaskId) (e : Entered) → Enters every b task e new → new.history ≡ b.history ++ after (task_program b.catalogue task) b.present.state ∷ []
 enters_history every b new task e h =
     ap (λ (x : BookView). x.history) h.kept ∙ (short_case (is_due every (serial.Committed e.number) (committed b task)) (committed b task) ∙ committed_history b task)
 
 -- the task of the call was entered
-entered_on : (l : Listing) (every : ℕ) (b new : BookView) (task : TaskId) (call : Call) (e : Entered) → declaring b.catalogue ≡ declaring l → slice_get (tasks b.catalogue) task.0 ≡ Some call.tx → task_arguments b.catalogue task ≡ call.arguments → Enters every b task e new → IsEnteredOn l call e.outcome b.history new.history
+pub entered_on : (l : Listing) (every : ℕ) (b new : BookView) (task : TaskId) (call : Call) (e : Entered) → declaring b.catalogue ≡ declaring l → slice_get (tasks b.catalogue) task.0 ≡ Some call.tx → task_arguments b.catalogue task ≡ call.arguments → Enters every b task e new → IsEnteredOn l call e.outcome b.history new.history
 entered_on l every b new task call e declared runs given h =
     let m = b.present.state in
     let p = call_program l call.tx call.arguments in

@@ -1,5 +1,5 @@
 -- What calls leave of the store behind a service's lock.
-use Rattle.std.specs.Prelude.{◌≡◌, ◌≢◌, ◌≤◌, ℕ, Bool, true, length, Some, slice_get, All}
+use Rattle.std.specs.Prelude.{◌≡◌, ◌≢◌, ℕ, Bool, true, Some, slice_get, All}
 use Rattle.txn_programs.specs.declared.ast.TaskId.{TaskId}
 use Rattle.txn_programs.specs.declared.arguments.Call.{Call}
 use Rattle.txn_programs.specs.declared.ast.Outcome.TheVariants.{Retries}

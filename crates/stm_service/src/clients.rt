@@ -2,14 +2,17 @@
 
 ghost use Rattle.std.specs.Prelude.{◌≡◌, ◌≢◌, ◌⊎◌, Err, IfErr, IfOk};
 ghost use Rattle.txn_programs.specs.Listing.{IsCallable};
+ghost use Rattle.std.specs.Sync.Mutex.{mutex_guard_value};
 ghost use Rattle.txn_programs.specs.declared.ast.Outcome.{Outcome};
+ghost use Rattle.txn_programs.specs.declared.arguments.Call.{Call};
 ghost use Rattle.txn_words.specs.Words.{StartsWith};
+ghost use Rattle.cells.specs.Passing.{MeetsBy};
+ghost use Rattle.stm_store.specs.declared.job.Ticket.{Ticket};
 ghost use Rattle.stm_service.specs.Answering.{IsAnswered};
 ghost use Rattle.stm_service.specs.Calling.{IsOfWay};
 ghost use Rattle.stm_service.specs.Seeing.{IsSeen};
 ghost use Rattle.stm_service.specs.declared.answer.CallFault.TheVariants as CallFault;
 ghost use Rattle.stm_service.specs.declared.calls.Begun.TheVariants as Begun;
-ghost use Rattle.stm_service.specs.declared.calls.Way.TheVariants as Way;
 
 use crate::answer::{CallFault, Naming};
 use crate::archive::Archive;
@@ -17,14 +20,26 @@ use crate::calls::{Begun, Way};
 use crate::client::Client;
 use crate::desk::Desk;
 use crate::service::{Service, let_go};
-use std::sync::Wait;
+use crate::waiting::{Time, wait_for, wait_within};
+use std::sync::{MutexGuard, Wait};
+use std::time::{Clock, Duration};
+use stm_store::Ticket;
 use txn::{Arguments, Call, Outcome, TxId};
 
 impl<N: Naming, K: Archive + Drop> Desk<N, K> {
-    /// A call that only tries, by a client, which learns the history before its turn and behind it.
-    pub(crate) fn try_by(&mut self, client: &mut Client<N>, tx: TxId, arguments: &[i64]) -> Begun
+    /// A call by a client, which learns the history before its turn and behind it.
+    pub(crate) fn call_by(
+        &mut self,
+        client: &mut Client<N>,
+        tx: TxId,
+        arguments: &[i64],
+        way: Way,
+    ) -> Begun
         ensures answer { (o : Outcome) → result ≡ Begun.Over o → IsAnswered N.catalogue tx arguments.now o }
-        ensures way { IsOfWay Way.Tries result }
+        ensures waits { (ticket : Ticket) (call : Call) → result ≡ Begun.Waits ticket call
+            → (call ≡ (record { tx = tx; arguments = arguments.now }))
+            × (self.new.store.book.history ≡ client.new.worker.pass.seen) }
+        ensures way { IsOfWay way result }
         ensures unknown { result ≡ Begun.Refused CallFault.Unknown → ¬ (IsCallable N.catalogue tx arguments.now) }
         ensures tries { result ≢ Begun.Refused CallFault.TimedOut }
         ensures grows { StartsWith client.new.worker.pass.seen client.old.worker.pass.seen }
@@ -33,7 +48,7 @@ impl<N: Naming, K: Archive + Drop> Desk<N, K> {
         ensures refused { ¬ (IsCallable N.catalogue tx arguments.now)
             → (result ≡ Begun.Refused CallFault.Unknown) ⊎ (result ≡ Begun.Refused CallFault.Closed) }
     {
-        self.store.meet(&mut client.worker);
+        self.show(client);
         if self.closed {
             return Begun::Refused(CallFault::Closed);
         }
@@ -46,8 +61,8 @@ impl<N: Naming, K: Archive + Drop> Desk<N, K> {
             tx,
             arguments: Arguments::of(arguments),
         };
-        let begun = self.turn_in_room(&call, Way::Tries);
-        self.store.meet(&mut client.worker);
+        let begun = self.turn_in_room(&call, way);
+        self.show(client);
         if matches!(begun, Begun::Over(_)) {
             self.serve();
         }
@@ -68,11 +83,45 @@ impl<N: Naming, K: Archive + Drop> Service<N, K> {
 }
 
 impl<N: Naming> Client<N> {
-    /// As `Service::try_atomically`. What the client has seen of the history of the service grows with each call. The
+    /// As `Service::atomically`. What the client has seen of the history of the service grows with each call. The
     /// outcome is that on a state that it has seen then, the state behind that one is what the transaction left, and
     /// that is behind all that it had seen before.
     ///
     /// The service has to be the client's.
+    pub fn atomically<R: Wait, K: Archive + Drop>(
+        &mut self,
+        rt: &R,
+        service: &Service<N, K>,
+        tx: TxId,
+        arguments: &[i64],
+    ) -> Result<Outcome, CallFault>
+        ensures answer { IfOk result (λ o. IsAnswered N.catalogue tx arguments.now o) }
+        ensures grows { StartsWith self.new.worker.pass.seen self.old.worker.pass.seen }
+        ensures seen { IfOk result (λ o. ∥ IsSeen N.catalogue tx arguments.now o
+            self.old.worker.pass.seen self.new.worker.pass.seen ∥₁) }
+        ensures unknown { IfErr result (λ e. e ≡ CallFault.Unknown → ¬ (IsCallable N.catalogue tx arguments.now)) }
+        ensures refused { ¬ (IsCallable N.catalogue tx arguments.now)
+            → (result ≡ Err CallFault.Unknown) ⊎ (result ≡ Err CallFault.Closed) }
+        ensures waits { IfErr result (λ e. (e ≢ CallFault.Retries) × (e ≢ CallFault.TimedOut)) }
+    {
+        let mut desk = service.desk.lock(rt);
+        match desk.call_by(self, tx, arguments, Way::Waits) {
+            Begun::Over(outcome) => {
+                let_go(desk);
+                Ok(outcome)
+            }
+            Begun::Waits(ticket, call) => {
+                let awaited = desk.awaited(ticket, &call);
+                let (desk, answer) = wait_for(rt, desk, &awaited);
+                self.learn(desk);
+                answer
+            }
+            Begun::NotKept => Err(CallFault::NoRoom),
+            Begun::Refused(fault) => Err(fault),
+        }
+    }
+
+    /// As `atomically`, but where the transaction retries nothing is submitted, and the answer is `Retries`.
     pub fn try_atomically<R: Wait, K: Archive + Drop>(
         &mut self,
         rt: &R,
@@ -90,7 +139,7 @@ impl<N: Naming> Client<N> {
         ensures tries { IfErr result (λ e. e ≢ CallFault.TimedOut) }
     {
         let mut desk = service.desk.lock(rt);
-        match desk.try_by(self, tx, arguments) {
+        match desk.call_by(self, tx, arguments, Way::Tries) {
             Begun::Over(outcome) => {
                 let_go(desk);
                 Ok(outcome)
@@ -99,5 +148,50 @@ impl<N: Naming> Client<N> {
             Begun::NotKept => Err(CallFault::NoRoom),
             Begun::Refused(fault) => Err(fault),
         }
+    }
+
+    /// As `atomically`, for at most this time: then the answer is `TimedOut`, and the call has had no effect
+    /// and never will. Where its task can no longer be withdrawn, its outcome is the answer.
+    pub fn atomically_within<R: Wait + Clock, K: Archive + Drop>(
+        &mut self,
+        rt: &R,
+        service: &Service<N, K>,
+        time: Duration,
+        tx: TxId,
+        arguments: &[i64],
+    ) -> Result<Outcome, CallFault>
+        ensures answer { IfOk result (λ o. IsAnswered N.catalogue tx arguments.now o) }
+        ensures grows { StartsWith self.new.worker.pass.seen self.old.worker.pass.seen }
+        ensures seen { IfOk result (λ o. ∥ IsSeen N.catalogue tx arguments.now o
+            self.old.worker.pass.seen self.new.worker.pass.seen ∥₁) }
+        ensures unknown { IfErr result (λ e. e ≡ CallFault.Unknown → ¬ (IsCallable N.catalogue tx arguments.now)) }
+        ensures refused { ¬ (IsCallable N.catalogue tx arguments.now)
+            → (result ≡ Err CallFault.Unknown) ⊎ (result ≡ Err CallFault.Closed) }
+        ensures waits { IfErr result (λ e. e ≢ CallFault.Retries) }
+    {
+        let time = Time::from_now(rt, time);
+        let mut desk = service.desk.lock(rt);
+        match desk.call_by(self, tx, arguments, Way::Waits) {
+            Begun::Over(outcome) => {
+                let_go(desk);
+                Ok(outcome)
+            }
+            Begun::Waits(ticket, call) => {
+                let awaited = desk.awaited(ticket, &call);
+                let (desk, answer) = wait_within(rt, desk, &awaited, time);
+                self.learn(desk);
+                answer
+            }
+            Begun::NotKept => Err(CallFault::NoRoom),
+            Begun::Refused(fault) => Err(fault),
+        }
+    }
+
+    /// The client learns the history, and lets the lock go.
+    fn learn<K: Archive + Drop>(&mut self, desk: MutexGuard<'_, Desk<N, K>>)
+        ensures { MeetsBy self.old.worker.pass self.new.worker.pass (mutex_guard_value desk.entry).store.book.history }
+    {
+        let mut desk = desk;
+        desk.show(self);
     }
 }

@@ -1,15 +1,18 @@
 //! What the lock guards: the store, and a seat for each thread that waits.
 
-ghost use Rattle.std.specs.Prelude.{◌≡◌, ◌≢◌, length, true, Some, None};
+ghost use Rattle.std.specs.Prelude.{◌≡◌, ◌≢◌, ◌+◌, length, true, Some, None, All};
 ghost use Rattle.std.specs.Option.{ForNone};
 ghost use Rattle.std.specs.Coded.{codes};
+ghost use Rattle.std.specs.BTreeMap.{values};
 ghost use Rattle.txn.specs.Codes.{coded_listing};
 ghost use Rattle.txn_programs.specs.Listing.{Listing};
+ghost use Rattle.stm_service.specs.Seeing.{IsHeard};
 
 use crate::answer::Naming;
 use crate::archive::Archive;
 use crate::calls::call_of;
-use crate::seat::{Seat, Told};
+use crate::client::Client;
+use crate::seat::{Awaited, Seat, Told};
 use std::alloc::Global;
 use std::collections::BTreeMap;
 use std::marker::PhantomData;
@@ -47,6 +50,7 @@ pub struct Desk<N: Naming, K: Archive + Drop> {
     ghost named: { store.catalogue.now ≡ N.catalogue } by { Prim.hlevel (codes, coded_listing) },
     ghost placed: { store.cells ≡ N.cells },
     ghost lends: { ForNone lender (length store.catalogue.now.transactions ≡ 0) },
+    ghost heard: { All (λ s. IsHeard N.catalogue s.call s.told store.book.history) (values seats) },
 }
 
 impl<N: Naming, K: Archive + Drop> Desk<N, K> {
@@ -55,8 +59,12 @@ impl<N: Naming, K: Archive + Drop> Desk<N, K> {
     ghost use Rattle.stm_store.specs.declared.answers.End.TheVariants as End;
     ghost use Rattle.stm_service.specs.Answering.{IsAnswer, call_of};
     ghost use Rattle.stm_store.specs.Turning.{GivesTurn};
+    ghost use Rattle.stm_store.specs.Keeping.{KeepsTasks};
     ghost use Rattle.stm_store.specs.declared.answers.Turned.{Turned};
     ghost use Rattle.stm_service.specs.Calling.{IsServed, IsWithdrawn};
+    ghost use Rattle.stm_service.specs.Seeing.{IsEntryAt, IsEnteredSince};
+    ghost use Rattle.book.specs.Chapters.{entered_in_all};
+    ghost use Rattle.cells.specs.Passing.{MeetsBy};
     ghost use Rattle.stm_service.specs.declared.desk.Found.TheVariants as Found;
 
     /// The desk of a store, whose tasks have had their turns then.
@@ -96,11 +104,18 @@ impl<N: Naming, K: Archive + Drop> Desk<N, K> {
         ensures given { GivesTurn self.old.store result self.new.store }
         ensures answer { (t : Turned) (e : Entered) → result ≡ Some t → t.end ≡ End.Entered e
             → ∥ IsAnswer N.catalogue t.job.ticket (call_of t.job) e.outcome ∥₁ }
+        ensures entered { (t : Turned) (e : Entered) → result ≡ Some t → t.end ≡ End.Entered e
+            → IsEntryAt N.catalogue (call_of t.job) e.outcome (entered_in_all self.new.store.book)
+            self.new.store.book.history }
         ensures closed { self.new.closed ≡ self.old.closed }
     {
         self.store.law();
         match &mut self.lender {
-            Some(lender) => self.store.turn_lent(lender),
+            Some(lender) => {
+                let turned = self.store.turn_lent(lender);
+                self.store.law();
+                turned
+            }
             None => self.no_turn(),
         }
     }
@@ -120,12 +135,16 @@ impl<N: Naming, K: Archive + Drop> Desk<N, K> {
 
     /// The thread that waits for this task is told what came of it.
     fn hand(&mut self, job: Job, end: End)
-        requires { (e : Entered) → end ≡ End.Entered e → ∥ IsAnswer N.catalogue job.ticket (call_of job) e.outcome ∥₁ }
+        requires answer { (e : Entered) → end ≡ End.Entered e
+            → ∥ IsAnswer N.catalogue job.ticket (call_of job) e.outcome ∥₁ }
+        requires entered { (e : Entered) → end ≡ End.Entered e
+            → IsEntryAt N.catalogue (call_of job) e.outcome (entered_in_all self.old.store.book)
+            self.old.store.book.history }
         ensures closed { self.new.closed ≡ self.old.closed }
         ensures store { self.new.store ≡ self.old.store }
     {
         let told = match end {
-            End::Entered(entered) => Told::Entered(entered.outcome),
+            End::Entered(entered) => Told::Entered(entered.outcome, self.store.entered()),
             End::Abandoned => Told::GivenUp,
             End::Parked => return,
         };
@@ -148,8 +167,31 @@ impl<N: Naming, K: Archive + Drop> Desk<N, K> {
         }
     }
 
-    /// A seat for a thread whose task waits, and its bell. `None` where a growth was refused.
-    pub(crate) fn sit(&mut self, ticket: Ticket, call: &Call) -> Option<Arc<Condvar>>
+    /// The task that a thread waits for from now on.
+    pub(crate) fn awaited(&self, ticket: Ticket, call: &Call) -> Awaited
+        ensures ticket { result.ticket ≡ ticket }
+        ensures call { result.call ≡ call.now }
+        ensures since { length self.now.store.book.history ≡ result.since + 1 }
+    {
+        self.store.law();
+        Awaited {
+            ticket,
+            call: *call,
+            since: self.store.entered(),
+        }
+    }
+
+    /// A seat for the thread of a task that waits, and its bell. `None` where a growth was refused: then the task is
+    /// withdrawn.
+    pub(crate) fn sit(&mut self, awaited: &Awaited) -> Option<Arc<Condvar>> {
+        let bell = self.seat_for(awaited);
+        if bell.is_none() {
+            let _ = self.leave(awaited);
+        }
+        bell
+    }
+
+    fn seat_for(&mut self, awaited: &Awaited) -> Option<Arc<Condvar>>
         ensures store { self.new.store ≡ self.old.store }
     {
         let Ok(bell) = Arc::new(self.alloc, Condvar::new()) else {
@@ -158,59 +200,68 @@ impl<N: Naming, K: Archive + Drop> Desk<N, K> {
         let Ok(own) = Arc::clone(&bell) else {
             return None;
         };
-        match self.seats.insert(ticket.0, Seat::new(ticket, *call, own)) {
+        match self.seats.insert(awaited.ticket.0, Seat::new(awaited, own)) {
             Ok(_) => Some(bell),
             Err(_) => None,
         }
     }
 
     /// What is told at the seat of this task.
-    fn told(&self, ticket: Ticket, call: &Call) -> Found
-        ensures over { (o : Outcome) → result ≡ Found.Over o → ∥ IsAnswer N.catalogue ticket call.now o ∥₁ }
+    fn told(&self, awaited: &Awaited) -> Found
+        ensures over { (o : Outcome) → result ≡ Found.Over o
+            → ∥ IsAnswer N.catalogue awaited.now.ticket awaited.now.call o ∥₁ }
+        ensures entered { (o : Outcome) → result ≡ Found.Over o → IsEnteredSince N.catalogue awaited.now.call o
+            awaited.now.since self.now.store.book.history }
         ensures left { result ≢ Found.Left }
     {
-        let Some(seat) = self.seats.get(&ticket.0) else {
+        let Some(seat) = self.seats.get(&awaited.ticket.0) else {
             return Found::Nothing;
         };
-        match seat.told_of(ticket, call) {
+        match seat.told_of(awaited) {
             Told::Nothing => Found::Nothing,
-            Told::Entered(outcome) => Found::Over(outcome),
+            Told::Entered(outcome, _) => Found::Over(outcome),
             Told::GivenUp => Found::GivenUp,
         }
     }
 
     /// What the thread of this task finds: where it is anything it leaves its seat, and so it does where the
     /// service is closed.
-    pub(crate) fn look(&mut self, ticket: Ticket, call: &Call) -> Found
-        ensures over { (o : Outcome) → result ≡ Found.Over o → ∥ IsAnswer N.catalogue ticket call.now o ∥₁ }
+    pub(crate) fn look(&mut self, awaited: &Awaited) -> Found
+        ensures over { (o : Outcome) → result ≡ Found.Over o
+            → ∥ IsAnswer N.catalogue awaited.now.ticket awaited.now.call o ∥₁ }
+        ensures entered { (o : Outcome) → result ≡ Found.Over o → IsEnteredSince N.catalogue awaited.now.call o
+            awaited.now.since self.new.store.book.history }
         ensures left { result ≡ Found.Left
-            → (self.old.closed ≡ true) × IsWithdrawn self.old.store self.new.store ticket }
+            → (self.old.closed ≡ true) × IsWithdrawn self.old.store self.new.store awaited.now.ticket }
     {
         if self.closed {
-            return self.leave(ticket, call);
+            return self.leave(awaited);
         }
-        let found = self.told(ticket, call);
+        let found = self.told(awaited);
         if !matches!(found, Found::Nothing) {
-            self.rise(ticket);
+            self.rise(awaited.ticket);
         }
         found
     }
 
     /// The thread of this task waits no longer: it is told what came of the task, and else the task is withdrawn,
     /// so that it had no effect and never will.
-    pub(crate) fn leave(&mut self, ticket: Ticket, call: &Call) -> Found
-        ensures over { (o : Outcome) → result ≡ Found.Over o → ∥ IsAnswer N.catalogue ticket call.now o ∥₁ }
-        ensures left { result ≡ Found.Left → IsWithdrawn self.old.store self.new.store ticket }
+    pub(crate) fn leave(&mut self, awaited: &Awaited) -> Found
+        ensures over { (o : Outcome) → result ≡ Found.Over o
+            → ∥ IsAnswer N.catalogue awaited.now.ticket awaited.now.call o ∥₁ }
+        ensures entered { (o : Outcome) → result ≡ Found.Over o → IsEnteredSince N.catalogue awaited.now.call o
+            awaited.now.since self.new.store.book.history }
+        ensures left { result ≡ Found.Left → IsWithdrawn self.old.store self.new.store awaited.now.ticket }
     {
-        let found = self.told(ticket, call);
+        let found = self.told(awaited);
         if !matches!(found, Found::Nothing) {
-            self.rise(ticket);
+            self.rise(awaited.ticket);
             return found;
         }
-        if !self.store.withdraw(ticket) {
+        if !self.store.withdraw(awaited.ticket) {
             return Found::Nothing;
         }
-        self.rise(ticket);
+        self.rise(awaited.ticket);
         Found::Left
     }
 
@@ -220,6 +271,16 @@ impl<N: Naming, K: Archive + Drop> Desk<N, K> {
     {
         // Its bell is its thread's.
         let _seat = self.seats.remove(&ticket.0);
+    }
+
+    /// The client learns the history.
+    pub(crate) fn show(&mut self, client: &mut Client<N>)
+        ensures met { MeetsBy client.old.worker.pass client.new.worker.pass self.old.store.book.history }
+        ensures same { self.new.store.book ≡ self.old.store.book }
+        ensures kept { KeepsTasks self.old.store self.new.store }
+        ensures closed { self.new.closed ≡ self.old.closed }
+    {
+        self.store.meet(&mut client.worker);
     }
 
     /// No call is answered an outcome from now on but those that were handed one. All that wait are called.

@@ -61,7 +61,7 @@ impl<N: Naming, K: Archive + Drop> Desk<N, K> {
             return Err(CallFault::Closed);
         }
         self.store.law();
-        self.store.meet(&mut client.worker);
+        self.show(client);
         Ok(how)
     }
 }

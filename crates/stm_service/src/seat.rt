@@ -1,6 +1,6 @@
 //! Where a thread that waits is told what came of its task.
 
-ghost use Rattle.std.specs.Prelude.{◌≡◌, true};
+ghost use Rattle.std.specs.Prelude.{◌≡◌, ◌<◌, ◌⊎◌, ℕ, true};
 ghost use Rattle.txn_programs.specs.declared.ast.Outcome.{Outcome};
 ghost use Rattle.stm_service.specs.Answering.{IsAnswer};
 ghost use Rattle.stm_service.specs.declared.seat.Told.TheVariants as Told;
@@ -12,13 +12,22 @@ use stm_store::Ticket;
 use txn::{Call, Outcome};
 use txn_declarations::same::same_values;
 
+/// The task that a thread waits for: its ticket, the call that it makes, and how many entries there were when the
+/// thread sat down.
+#[derive(Clone, Copy)]
+pub(crate) struct Awaited {
+    pub(crate) ticket: Ticket,
+    pub(crate) call: Call,
+    pub(crate) since: u64,
+}
+
 /// What a thread that waits is told.
 #[derive(Clone, Copy)]
 pub(crate) enum Told {
     /// Its task retries still.
     Nothing,
-    /// Its task was entered.
-    Entered(Outcome),
+    /// Its task was entered, as the entry of this number, counted through all chapters.
+    Entered(Outcome, u64),
     /// Its task ran out of memory.
     GivenUp,
 }
@@ -27,11 +36,12 @@ pub(crate) enum Told {
 #[derive(Drop)]
 pub(crate) struct Seat<N: Naming> {
     ticket: Ticket,
-    call: Call,
-    told: Told,
+    pub(crate) call: Call,
+    pub(crate) told: Told,
     bell: Arc<Condvar>,
     of: PhantomData<N>,
-    ghost is: { (o : Outcome) → told ≡ Told.Entered o → ∥ IsAnswer N.catalogue ticket call o ∥₁ },
+    ghost is: { (o : Outcome) (number : ℕ) → told ≡ Told.Entered o number
+        → ∥ IsAnswer N.catalogue ticket call o ∥₁ },
 }
 
 /// Whether the two are calls of the same transaction with the same arguments.
@@ -43,10 +53,12 @@ fn are_same(a: &Call, b: &Call) -> bool
 
 impl<N: Naming> Seat<N> {
     /// Of a task that waits.
-    pub(crate) fn new(ticket: Ticket, call: Call, bell: Arc<Condvar>) -> Seat<N> {
+    pub(crate) fn new(awaited: &Awaited, bell: Arc<Condvar>) -> Seat<N>
+        ensures { result.told ≡ Told.Nothing }
+    {
         Seat {
-            ticket,
-            call,
+            ticket: awaited.ticket,
+            call: awaited.call,
             told: Told::Nothing,
             bell,
             of: PhantomData,
@@ -61,20 +73,34 @@ impl<N: Naming> Seat<N> {
         self.ticket.0 == ticket.0 && are_same(&self.call, call)
     }
 
-    /// What it tells of this task. Of any other one it is nothing.
-    pub(crate) fn told_of(&self, ticket: Ticket, call: &Call) -> Told
-        ensures { (o : Outcome) → result ≡ Told.Entered o → ∥ IsAnswer N.catalogue ticket call.now o ∥₁ }
+    /// What it tells of this task. Of any other one, and of an entry that was there before, it is nothing.
+    pub(crate) fn told_of(&self, awaited: &Awaited) -> Told
+        ensures answer { (o : Outcome) (number : ℕ) → result ≡ Told.Entered o number
+            → ∥ IsAnswer N.catalogue awaited.now.ticket awaited.now.call o ∥₁ }
+        ensures entered { (o : Outcome) (number : ℕ) → result ≡ Told.Entered o number
+            → (awaited.now.since < number) × (self.now.call ≡ awaited.now.call)
+            × (self.now.told ≡ Told.Entered o number) }
     {
-        if !self.is_of(ticket, call) {
+        if !self.is_of(awaited.ticket, &awaited.call) {
             return Told::Nothing;
         }
-        self.told
+        match self.told {
+            Told::Entered(outcome, number) if awaited.since < number => {
+                Told::Entered(outcome, number)
+            }
+            Told::GivenUp => Told::GivenUp,
+            Told::Entered(_, _) | Told::Nothing => Told::Nothing,
+        }
     }
 
     /// What came of this task is told, if it is the seat's: the bell that is to be rung. `None` where it is not, or
     /// was rung at once, out of memory.
     pub(crate) fn tell(&mut self, ticket: Ticket, call: &Call, told: Told) -> Option<Arc<Condvar>>
-        requires { (o : Outcome) → told ≡ Told.Entered o → ∥ IsAnswer N.catalogue ticket call.now o ∥₁ }
+        requires { (o : Outcome) (number : ℕ) → told ≡ Told.Entered o number
+            → ∥ IsAnswer N.catalogue ticket call.now o ∥₁ }
+        ensures call { self.new.call ≡ self.old.call }
+        ensures told { (self.new.told ≡ self.old.told)
+            ⊎ (self.new.told ≡ told) × (self.new.call ≡ call.now) }
     {
         if self.is_of(ticket, call) {
             self.told = told;

@@ -69,11 +69,8 @@ impl<N: Naming, K: Archive + Drop> Service<N, K> {
                 Ok(outcome)
             }
             Begun::Waits(ticket, call) => {
-                let Some(bell) = desk.sit(ticket, &call) else {
-                    let _ = desk.leave(ticket, &call);
-                    return Err(CallFault::Memory);
-                };
-                wait_for(rt, desk, &bell, ticket, &call)
+                let awaited = desk.awaited(ticket, &call);
+                wait_for(rt, desk, &awaited).1
             }
             Begun::NotKept => Err(CallFault::NoRoom),
             Begun::Refused(fault) => Err(fault),
@@ -128,11 +125,8 @@ impl<N: Naming, K: Archive + Drop> Service<N, K> {
                 Ok(outcome)
             }
             Begun::Waits(ticket, call) => {
-                let Some(bell) = desk.sit(ticket, &call) else {
-                    let _ = desk.leave(ticket, &call);
-                    return Err(CallFault::Memory);
-                };
-                wait_within(rt, desk, &bell, ticket, &call, time)
+                let awaited = desk.awaited(ticket, &call);
+                wait_within(rt, desk, &awaited, time).1
             }
             Begun::NotKept => Err(CallFault::NoRoom),
             Begun::Refused(fault) => Err(fault),

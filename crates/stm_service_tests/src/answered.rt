@@ -11,8 +11,8 @@ pub(crate) enum Step {
     Calls(TxId, u32),
     /// So many that are only tried.
     Tries(TxId, u32),
-    /// So many that are only tried, by a client.
-    TriesAsClient(TxId, u32),
+    /// So many calls of this kind, by a client.
+    AsClient(Kind, TxId, u32),
     /// So many, the first with a time of 0, and each other one with so many microseconds more.
     Within(u64, TxId, u32),
     /// A call of this kind with this argument.

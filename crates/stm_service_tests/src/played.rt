@@ -10,7 +10,7 @@ use std::sync::Wait;
 use std::thread;
 use std::thread::{Threads, map_indices};
 use std::time::{Clock, Duration};
-use stm_service::{Archive, CallFault, Naming, Service};
+use stm_service::{Archive, CallFault, Client, Naming, Service};
 use stm_store::{Program, Store};
 use txn::{Outcome, TxId};
 
@@ -73,10 +73,26 @@ fn wait_until<R: Wait + Clock, N: Naming, K: Archive + Drop>(
     }
 }
 
-/// So many calls that are only tried, by a client. Where no worker is free there is none.
-fn try_as_client<R: Wait, N: Naming, K: Archive + Drop>(
+/// A call of this kind by a client.
+fn call_by<R: Wait + Clock, N: Naming, K: Archive + Drop>(
+    rt: &R,
+    client: &mut Client<N>,
+    service: &Service<N, K>,
+    kind: Kind,
+    tx: TxId,
+) -> Result<Outcome, CallFault> {
+    match kind {
+        Kind::Waits => client.atomically(rt, service, tx, &[]),
+        Kind::Tries => client.try_atomically(rt, service, tx, &[]),
+        Kind::Within(time) => client.atomically_within(rt, service, time, tx, &[]),
+    }
+}
+
+/// So many calls of this kind by a client. Where no worker is free there is none.
+fn call_as_client<R: Wait + Clock, N: Naming, K: Archive + Drop>(
     rt: &R,
     service: &Service<N, K>,
+    kind: Kind,
     tx: TxId,
     times: u32,
     answered: &mut Answered,
@@ -85,7 +101,7 @@ fn try_as_client<R: Wait, N: Naming, K: Archive + Drop>(
         return;
     };
     for _ in 0..times {
-        answered.note(client.try_atomically(rt, service, tx, &[]));
+        answered.note(call_by(rt, &mut client, service, kind, tx));
     }
     service.dismiss(rt, client);
 }
@@ -108,7 +124,9 @@ fn play<R: Wait + Clock, N: Naming, K: Archive + Drop>(
                 answered.note(call(rt, service, Kind::Tries, tx, &[]));
             }
         }
-        Step::TriesAsClient(tx, times) => try_as_client(rt, service, tx, times, answered),
+        Step::AsClient(kind, tx, times) => {
+            call_as_client(rt, service, kind, tx, times, answered);
+        }
         Step::Within(more, tx, times) => {
             for i in 0..times {
                 let time = Duration::from_micros(more.wrapping_mul(u64::from(i)));

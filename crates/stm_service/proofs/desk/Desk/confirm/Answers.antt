@@ -7,4 +7,4 @@ pub returns-clause-answer : goal.returns-clause-answer
 returns-clause-answer g c =
     let s = c.args.self.now in
     ∣ seen_observed g.N.Naming.catalogue s.store.book c.args.client.now.worker.pass c.args.tx c.args.arguments.now c.args.how
-    (c.law.ensures.declared ∙ ap declaring s.named) c.law.ensures.lawful c.meet.ensures.met.extends c.requires.last c.requires.ends ∣₁
+    (c.law.ensures.declared ∙ ap declaring s.named) c.law.ensures.lawful c.show.ensures.met.extends c.requires.last c.requires.ends ∣₁
