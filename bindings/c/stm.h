@@ -11,15 +11,9 @@
  *   3. No pointer is null (`out`, `wanted`, `value` and `version` neither), but one that goes with a length or
  *      a count of 0: `NULL, 0` for the room asks how much is wanted, for the arguments gives none. A pointer that
  *      goes with a length is to that many bytes, one that goes with a count to that many numbers.
-<<<<<<< HEAD
  *   4. What a call may write (a handle that is not `const`, a room, `out`, `wanted`, `value`, `version`,
  *      `values`) overlaps nothing else that it is given.
- *   5. A call has 64 KB of stack, whatever the file: the deepest that the limits allow take less than two thirds.
-=======
- *   4. What a call may write (a handle that is not `const`, a room, `out`, `wanted`, `value`, `version`)
- *      overlaps nothing else that it is given.
  *   5. A call has 64 KB of stack, whatever the file: the deepest that the limits allow take less than three quarters.
->>>>>>> origin/main
  *   6. No call is made from a signal handler, nor from the forked child of a process with threads.
  *
  * What stays in memory until the process ends: what a program says, once for each `stm_read`. All else goes
