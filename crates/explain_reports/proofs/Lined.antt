@@ -17,7 +17,7 @@ use Rattle.txn_programs.specs.declared.ast.Outcome.{Outcome}
 use Rattle.txn_programs.specs.declared.ast.Outcome.TheVariants as outcome
 use Rattle.txn_programs.specs.declared.report.Entry.{Entry}
 use Rattle.txn_programs.specs.LawfulReport.{OutcomeKnown, FitsCatalogue}
-use Rattle.txn_programs.specs.Listing.{Listing, always_name, always_names, cells, tasks, program_at, values}
+use Rattle.txn_programs.specs.Listing.{Listing, always_name, always_names, tasks, program_at, values}
 use Rattle.txn_programs.specs.Names.{is_name, are_formed, names_hold}
 use Rattle.txn_programs.specs.Limits.{most_cells, most_tasks, limits_hold}
 use Rattle.txn_programs.specs.Told.{Told}

@@ -20,10 +20,10 @@ use Rattle.text_words.specs.Answers.{Fails}
 use Rattle.text_words.specs.declared.fault.ReadFault.{ReadFault}
 use Rattle.text_words.specs.declared.fault.ReadFault.TheVariants.{Limit}
 use Rattle.text_words.proofs.Steps.{done, chosen}
+use Rattle.text_report_printer.specs.Names.{named_cell}
 use Rattle.text_report_printer.specs.ReportText.{cell_name}
 use Rattle.text_line_reader.specs.Counts.{below}
 use Rattle.text_line_reader.specs.CellNames.{cell_of, cell_at, cell_named}
-use Rattle.text_line_reader.specs.Spelling.{spelled_cell}
 use Rattle.text_line_reader.proofs.Numbers.{decimal_value, below_gives}
 use Rattle.text_line_reader.proofs.Places.{place_again}
 use Rattle.text_line_reader.proofs.Spots.{row, spots, row_at, behind_row, no_table, no_span, spot_at}
@@ -138,7 +138,7 @@ pub record Spelled (ts : List (List ℕ × ℕ)) (place : ℕ) : Type 0 where
   pub name : List ℕ
   pub index : ℕ
   pub is : slice_get (spots ts) place ≡ Some (name, index)
-  pub text : spelled_cell ts place ≡ cell_name name index
+  pub text : named_cell ts place ≡ cell_name name index
 
 later_spelled : (t : List ℕ × ℕ) (ts : List (List ℕ × ℕ)) (place : ℕ) → nat_lt place t.1 ≡ false → t.1 ≤ place → Spelled ts (place - t.1) → Spelled (t ∷ ts) place
 later_spelled t ts place past le s =

@@ -15,6 +15,7 @@ use Rattle.txn_programs.specs.Limits.{limits_hold}
 use Rattle.txn.specs.Arities.{most_arity}
 use Rattle.txn_programs.specs.Names.{names_hold}
 use Rattle.text_words.specs.Words.{line}
+use Rattle.text_report_printer.specs.Names.{value_name}
 use Rattle.text_line_reader.specs.Words.{is_number}
 use Rattle.text_line_reader.proofs.Agains.{task_id_again, small, each_again, all_again, tests_again, text_again}
 use Rattle.text_line_reader.specs.declared.schedule.raw.TaskVerb.{TaskVerb}
@@ -23,7 +24,7 @@ use Rattle.text_line_reader.specs.declared.schedule.raw.VariableVerb.{VariableVe
 use Rattle.text_line_reader.specs.declared.schedule.raw.VariableVerb.TheVariants as of_variable
 use Rattle.text_line_reader.specs.ScheduleRaw.{Raw, OfTask, OfVariable, OfCell, Word, variable_word, raw_words, raw_text, IsRaw}
 use Rattle.text_line_reader.specs.ScheduleResolving.{is_known, names_known, task_move, variable_move, move_told, moves_told, resolved}
-use Rattle.text_line_reader.specs.Spelling.{spelled_name, move_words, schedule_text, TaskFits, VariableFits, MoveFits}
+use Rattle.text_line_reader.specs.Spelling.{move_words, schedule_text, TaskFits, VariableFits, MoveFits}
 use Rattle.text_line_reader.proofs.SchedulePlaces.{variable_again, variable_is_known, variable_is_name, spot_of, cell_is_named, cell_again}
 use Rattle.text_line_reader.specs.Reports.{knows_cells}
 use Rattle.text_line_reader.proofs.ScheduleBacks.{task_words, variable_words}
@@ -36,7 +37,7 @@ record Keeps (l : Listing) : Type 0 where
 
 -- the line of a move that names a variable or a cell
 abbrev written_by : Bool → Listing → VariableVerb → TaskId → VarId → Raw
-written_by true l v task x = OfVariable v (decimal task.0) (spelled_name l x)
+written_by true l v task x = OfVariable v (decimal task.0) (value_name l x.0)
 written_by false l v task x = OfCell v (decimal task.0) (spot_of l x).0 (decimal (spot_of l x).1)
 
 abbrev written_name : Listing → VariableVerb → TaskId → VarId → Raw

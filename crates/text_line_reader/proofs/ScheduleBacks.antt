@@ -11,6 +11,7 @@ use Rattle.txn_programs.specs.declared.moves.Move.{Move}
 use Rattle.txn_programs.specs.declared.moves.Move.TheVariants as move
 use Rattle.txn_programs.specs.Limits.{limits_hold}
 use Rattle.txn_programs.specs.Listing.{Listing, tasks}
+use Rattle.text_report_printer.specs.Names.{value_name}
 use Rattle.text_report_printer.specs.ReportText.{cell_text}
 use Rattle.text_words.specs.Words.{line}
 use Rattle.text_words.proofs.Steps.{bind_ok, ok_is}
@@ -23,7 +24,7 @@ use Rattle.text_line_reader.specs.declared.schedule.raw.VariableVerb.{VariableVe
 use Rattle.text_line_reader.specs.declared.schedule.raw.VariableVerb.TheVariants as of_variable
 use Rattle.text_line_reader.specs.ScheduleRaw.{Raw, OfTask, OfVariable, OfCell, Word, task_word, variable_word, raw_words, raw_text, IsRaw}
 use Rattle.text_line_reader.specs.ScheduleResolving.{task_move, variable_move, cell_id, variable_id, move_told, moves_told}
-use Rattle.text_line_reader.specs.Spelling.{spelled_name, move_words, schedule_text, TaskFits, VariableFits, MoveFits}
+use Rattle.text_line_reader.specs.Spelling.{move_words, schedule_text, TaskFits, VariableFits, MoveFits}
 use Rattle.text_line_reader.proofs.SchedulePlaces.{HasName, variable_back, cell_has_name}
 
 -- ---- the words of a verb's move
@@ -48,7 +49,7 @@ task_fits l of_task.Ask task h = h
 task_fits l of_task.Again task h = h
 task_fits l of_task.Move task h = h
 
-pub variable_words : (l : Listing) (v : VariableVerb) (task : TaskId) (x : VarId) → move_words l (variable_move v task x) ≡ variable_word v ∷ decimal task.0 ∷ spelled_name l x ∷ []
+pub variable_words : (l : Listing) (v : VariableVerb) (task : TaskId) (x : VarId) → move_words l (variable_move v task x) ≡ variable_word v ∷ decimal task.0 ∷ value_name l x.0 ∷ []
 variable_words l of_variable.Read task x = refl
 variable_words l of_variable.First task x = refl
 

@@ -12,6 +12,7 @@ use Rattle.txn_programs.specs.Limits.{limits_hold}
 use Rattle.txn_programs.specs.Listing.{Listing, values, as_variable, variable_named}
 use Rattle.txn_programs.specs.Names.{is_name, names_hold}
 use Rattle.txn_programs.proofs.Lawful.{names_parts, limits_parts, passes_at}
+use Rattle.text_report_printer.specs.Names.{named_cell, value_name}
 use Rattle.text_report_printer.specs.ReportText.{cell_text, cell_name}
 use Rattle.text_line_reader.specs.CellNames.{cell_named}
 use Rattle.text_line_reader.specs.Words.{is_number}
@@ -20,31 +21,30 @@ use Rattle.text_line_reader.proofs.Numbers.{number_written, decimal_number}
 use Rattle.text_line_reader.proofs.Places.{place_again}
 use Rattle.text_line_reader.proofs.Spots.{spots, spots_length, no_table}
 use Rattle.text_line_reader.specs.ScheduleResolving.{found, cell_id, variable_id}
-use Rattle.text_line_reader.specs.Spelling.{spelled_cell, spelled_name}
 
 -- ---- variables
 
-variable_name : (l : Listing) (x : VarId) → x.0 < length l.names → spelled_name l x ≡ get_or l.names x.0 []
+variable_name : (l : Listing) (x : VarId) → x.0 < length l.names → value_name l x.0 ≡ get_or l.names x.0 []
 variable_name l x lt = rw (lt-ltb x.0 (length l.names) lt) refl
 
-named : (l : Listing) (x : VarId) → names_hold l ≡ true → x.0 < length l.names → variable_named l (spelled_name l x) ≡ Some x
+named : (l : Listing) (x : VarId) → names_hold l ≡ true → x.0 < length l.names → variable_named l (value_name l x.0) ≡ Some x
 named l x h lt =
     ap (variable_named l) (variable_name l x lt) ∙ ap as_variable (place_again l.names x.0 (names_parts l h).distinct lt)
 
-pub variable_again : (l : Listing) (x : VarId) → names_hold l ≡ true → x.0 < length l.names → variable_id l (spelled_name l x) ≡ Ok x
+pub variable_again : (l : Listing) (x : VarId) → names_hold l ≡ true → x.0 < length l.names → variable_id l (value_name l x.0) ≡ Ok x
 unfolding variable_id
 variable_again l x h lt = ap found (named l x h lt)
 
-pub variable_is_known : (l : Listing) (x : VarId) → names_hold l ≡ true → x.0 < length l.names → is_some (variable_named l (spelled_name l x)) ≡ true
+pub variable_is_known : (l : Listing) (x : VarId) → names_hold l ≡ true → x.0 < length l.names → is_some (variable_named l (value_name l x.0)) ≡ true
 variable_is_known l x h lt = ap is_some (named l x h lt)
 
-pub variable_is_name : (l : Listing) (x : VarId) → names_hold l ≡ true → x.0 < length l.names → is_name (spelled_name l x) ≡ true
+pub variable_is_name : (l : Listing) (x : VarId) → names_hold l ≡ true → x.0 < length l.names → is_name (value_name l x.0) ≡ true
 variable_is_name l x h lt =
     ap is_name (variable_name l x lt) ∙ passes_at is_name l.names x.0 (get_or l.names x.0 []) (names_parts l h).forms (slice_get-get_or l.names x.0 [] lt)
 
 -- the variable of a name has that name
 pub record HasName (l : Listing) (name : List ℕ) (x : VarId) : Type 0 where
-  pub name_is : spelled_name l x ≡ name
+  pub name_is : value_name l x.0 ≡ name
   pub known : x.0 < values l
 
 placed : (l : Listing) (name : List ℕ) (o : Option ℕ) (x : VarId) → position (bytes_eq name) l.names ≡ o → found (as_variable o) ≡ Ok x → HasName l name x
@@ -63,11 +63,11 @@ variable_back l name x e = placed l name (position (bytes_eq name) l.names) x re
 -- ---- cells
 
 -- the cell so far behind the first
-spelled_far : (l : Listing) (x : VarId) (far : ℕ) → x.0 ≡ length l.names + far → spelled_name l x ≡ spelled_cell l.tables far
+spelled_far : (l : Listing) (x : VarId) (far : ℕ) → x.0 ≡ length l.names + far → value_name l x.0 ≡ named_cell l.tables far
 spelled_far l x far place =
     let past : nat_lt x.0 (length l.names) ≡ false = le-ltb x.0 (length l.names) (omega (arith, place)) in
     let same : x.0 - length l.names ≡ far = omega (arith, place) in
-    rw past (ap (spelled_cell l.tables) same)
+    rw past (ap (named_cell l.tables) same)
 
 in_list : {X : Type 0} (xs : List X) (k : ℕ) (x : X) → slice_get xs k ≡ Some x → k < length xs
 in_list [] k x e = absurd cc
@@ -101,7 +101,7 @@ spot_of l x = get_or (spots l.tables) (x.0 - length l.names) no_table
 
 -- how a cell is written
 pub record CellNamed (l : Listing) (x : VarId) : Type 0 where
-  pub text : spelled_name l x ≡ cell_text (spot_of l x).0 (decimal (spot_of l x).1)
+  pub text : value_name l x.0 ≡ cell_text (spot_of l x).0 (decimal (spot_of l x).1)
   pub name : is_name (spot_of l x).0 ≡ true
   pub index : is_number (decimal (spot_of l x).1) ≡ true
   pub id : cell_named l (spot_of l x).0 (decimal (spot_of l x).1) ≡ Some x

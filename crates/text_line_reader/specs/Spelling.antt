@@ -1,5 +1,5 @@
 -- The text of a schedule: a line for each of its moves.
-use Rattle.std.specs.Prelude.{ℕ, ◌-◌, ◌<◌, nat_lt, if◌then◌else◌, List, [], ◌∷◌, length, codes, slice_index_or}
+use Rattle.std.specs.Prelude.{ℕ, ◌<◌, List, [], ◌∷◌, length, codes}
 use Rattle.std.specs.List.{flat_map}
 use Rattle.std.specs.Fmt.{decimal}
 use Rattle.txn_programs.specs.declared.ast.TaskId.{TaskId}
@@ -9,25 +9,15 @@ use Rattle.txn_programs.specs.declared.moves.Move.TheVariants as move
 use Rattle.txn_programs.specs.declared.moves.Move.TheVariants.{Begin, Read, Commit, Drop, First, Value, Second, Ask, Word, Again}
 use Rattle.txn_programs.specs.Listing.{Listing, tasks, values}
 use Rattle.text_words.specs.Words.{line}
-use Rattle.text_report_printer.specs.ReportText.{cell_name}
-
--- the name of the cell at a place among those of the tables
-abbrev pub spelled_cell : List (List ℕ × ℕ) → ℕ → List ℕ
-spelled_cell [] place = []
-spelled_cell (t ∷ ts) place = if nat_lt place t.1 then cell_name t.0 place else spelled_cell ts (place - t.1)
-
--- the name of a variable or of a cell
-abbrev pub spelled_name : Listing → VarId → List ℕ
-spelled_name l x =
-    if nat_lt x.0 (length l.names) then slice_index_or l.names x.0 [] else spelled_cell l.tables (x.0 - length l.names)
+use Rattle.text_report_printer.specs.Names.{value_name}
 
 -- the words of a move's line
 abbrev pub move_words : Listing → Move → List (List ℕ)
 move_words l (Begin task) = codes "begin" ∷ decimal task.0 ∷ []
-move_words l (Read task x) = codes "read" ∷ decimal task.0 ∷ spelled_name l x ∷ []
+move_words l (Read task x) = codes "read" ∷ decimal task.0 ∷ value_name l x.0 ∷ []
 move_words l (Commit task) = codes "commit" ∷ decimal task.0 ∷ []
 move_words l (Drop task) = codes "drop" ∷ decimal task.0 ∷ []
-move_words l (First task x) = codes "first" ∷ decimal task.0 ∷ spelled_name l x ∷ []
+move_words l (First task x) = codes "first" ∷ decimal task.0 ∷ value_name l x.0 ∷ []
 move_words l (Value task) = codes "value" ∷ decimal task.0 ∷ []
 move_words l (Second task) = codes "second" ∷ decimal task.0 ∷ []
 move_words l (Ask task) = codes "ask" ∷ decimal task.0 ∷ []
