@@ -11,7 +11,6 @@ use Rattle.explain_files.specs.Telling.{Telling}
 use Rattle.explain_files.specs.declared.bytes.Judgement.{Judgement}
 use Rattle.explain_files.specs.declared.bytes.Judgement.TheVariants as file
 use Rattle.explain_reports.specs.Writing.{Written}
-use Rattle.explain_reports.specs.declared.chapters.ChapterUntold.{ChapterUntold}
 use Rattle.explain_reports.specs.declared.chapters.ChapterUntold.TheVariants as untold_by
 use Rattle.explain_reports.specs.Chapters.{ChapterWritten}
 use Rattle.commands.specs.Checking.{chapter_answer}
