@@ -4,8 +4,6 @@
 #[cfg(test)]
 mod calling;
 #[cfg(test)]
-mod cells;
-#[cfg(test)]
 mod chapters;
 #[cfg(test)]
 mod lends;
@@ -19,6 +17,8 @@ mod many;
 mod programs;
 #[cfg(test)]
 mod rows;
+#[cfg(test)]
+mod tables;
 #[cfg(test)]
 mod tasks;
 #[cfg(test)]

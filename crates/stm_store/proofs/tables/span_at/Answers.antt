@@ -4,7 +4,7 @@ use Rattle.txn_programs.specs.Listing.{cells, spans_from}
 use Rattle.txn_programs.proofs.Lawful.{limits_parts}
 use Rattle.text_line_reader.proofs.Spots.{no_span, sized, room_more}
 use Rattle.stm_store.proofs.Spans.{span_behind}
-use Rattle.stm_store.proofs.cells.span_at.Goals as goal
+use Rattle.stm_store.proofs.tables.span_at.Goals as goal
 
 pub tables-init : goal.tables-init
 tables-init c =

@@ -3,7 +3,7 @@ use Rattle.std.specs.Prelude.{sum_by}
 use Rattle.txn_programs.specs.Listing.{values, spans_from}
 use Rattle.text_line_reader.proofs.Spots.{no_span, sized}
 use Rattle.stm_store.specs.Naming.{span_at}
-use Rattle.stm_store.proofs.cells.span_at.Given as goal
+use Rattle.stm_store.proofs.tables.span_at.Given as goal
 
 abbrev pub invariant-tables : goal.invariant-tables
 invariant-tables l = record {
