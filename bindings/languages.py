@@ -9,7 +9,7 @@ HERE = os.path.dirname(os.path.abspath(__file__))
 WARN = ["-Wall", "-Wextra", "-Wpedantic", "-Wconversion", "-Wshadow", "-Werror"]
 COMPILERS = ("g++", "clang++")
 # The tests of stm.hpp.
-TESTS = ("service", "arguments")
+TESTS = ("service", "arguments", "tables")
 # How many minutes the simulations are run: many chapters.
 MINUTES = 2_000_000
 BANK = "4000 transfers, each paid or refused\nthe journals of 3 chapters are good\n"
