@@ -65,7 +65,7 @@ static void of_an_empty_service() {
 static void one_state() {
     stm::service bank = stm::service::open(TEXT).value();
     std::thread pays([&] {
-        for (std::int64_t i = 0; i < 3000; i++) wants(bool(bank.atomically("pay", {i % 4, (i + 1) % 4, 1 + i % 50})));
+        for (std::int64_t i = 0; i < 3000; i++) wants(bool(bank.atomically("pay", {i % 4, (i + 1) % 4, 50})));
     });
     for (int i = 0; i < 300; i++) {
         std::int64_t sum = 0;

@@ -65,7 +65,7 @@ class Tables(unittest.TestCase):
     def test_one_state(self):
         with stm.Service(TEXT) as bank:
             pays = threading.Thread(
-                target=lambda: [bank.atomically("pay", [i % 4, (i + 1) % 4, 1 + i % 50]) for i in range(3000)]
+                target=lambda: [bank.atomically("pay", [i % 4, (i + 1) % 4, 50]) for i in range(3000)]
             )
             pays.start()
             acct, copies = bank.table("acct"), 0
