@@ -44,8 +44,8 @@ enum {
     ROUNDS = 16,
     /* A processor's line of memory. */
     LINE = 64,
-    /* The longest file, and the longest of form 3; in it the longest value; the longest run of one task, `(run NAME 1)`, with its newline; and the
-       longest argument, with the space before it. */
+    /* The longest file, and the longest of form 3; in it the longest value; the longest run of one task, `(run NAME 1)`,
+       with its newline; and the longest argument, with the space before it. */
     MOST_FILE = 1048576,
     MOST_FILE_OF_FORM_3 = 67108864,
     MOST_VALUE = 20,
@@ -630,6 +630,26 @@ int32_t stm_service_value(stm_service *s, const uint8_t *name, size_t name_lengt
     int32_t code = stm_value(&s->store, name, name_length, value, version);
     unlock_and_leave(s);
     return code;
+}
+
+int64_t stm_service_table(const stm_service *s, const uint8_t *name, size_t name_length) {
+    return stm_program_table(&s->program, name, name_length);
+}
+
+int64_t stm_service_table_length(const stm_service *s, uint32_t table) { return stm_program_cells(&s->program, table); }
+
+int32_t stm_service_cell(stm_service *s, uint32_t table, uint32_t index, int64_t *value, uint64_t *version) {
+    lock(s);
+    int32_t code = stm_cell(&s->store, table, index, value, version);
+    unlock_and_leave(s);
+    return code;
+}
+
+int64_t stm_service_cells(stm_service *s, uint32_t table, uint32_t from, int64_t *values, size_t count) {
+    lock(s);
+    int64_t copied = stm_cells(&s->store, table, from, values, count);
+    unlock_and_leave(s);
+    return copied;
 }
 
 static uint64_t number_of(stm_service *s, uint64_t (*of)(stm_store *)) {
