@@ -37,6 +37,14 @@ def transactions(count):
     return "".join(f"(tx t{i} (skip) {i})\n" for i in range(count))
 
 
+def tables(count, length=1):
+    return "(stm 3)" + "".join(f"(table t{i} {length} {i})\n" for i in range(count))
+
+
+# A table of four cells, and a transaction that puts into one and tells another.
+CELLS = "(stm 3)(table a 4 7)(table b 1 9)(tx t (i v j) (put a i v) (at a j))"
+
+
 def standing(count):
     return "(stm 2)" + "".join(f"(always c{i} (le {i} {i}))\n" for i in range(count))
 
@@ -94,6 +102,45 @@ FILES = {
     "one argument fewer": ("(stm 3)(tx t (a b) (skip) 0)(run t 1 2)", NAME),
     "one argument more": ("(stm 3)(tx t (a b) (skip) 0)(run t 0 1 2 3)", NAME),
     "an argument of 20 digits": ("(stm 3)(tx t (a) (skip) a)(run t 1 99999999999999999999)", LIMIT),
+    "64 tables": (tables(64), "=" + EMPTY),
+    "65 tables": (tables(65), LIMIT),
+    "64 tables of 16,384 cells": (tables(64, 16384), "=" + EMPTY),
+    "64 tables of 16,385 cells": (tables(64, 16385), LIMIT),
+    "1,048,576 cells": ("(stm 3)(table a 1048576 7)", "=" + EMPTY),
+    "1,048,577 cells": ("(stm 3)(table a 1048577 7)", LIMIT),
+    "1,048,576 cells and one more": ("(stm 3)(table a 1048576 7)(table b 1 7)", LIMIT),
+    "the last of 1,048,576 cells": (
+        "(stm 3)(table a 1048576 7)(tx t (i) (put a i 9) (at a 0))(run t 1 1048575)(run t 1 1048576)",
+        "=base 0\nentry 1 0 t returned 7\nentry 2 1 t outside\nnow 2\na[1048575] 9 1\nend\n",
+    ),
+    "100,000 cells of their own numbers": (f"(stm 3)(table a 100000 {' '.join(map(str, range(100000)))})", "=" + EMPTY),
+    "a table of no cell": ("(stm 3)(table a 0 7)", LIMIT),
+    "a table of less than no cell": ("(stm 3)(table a -1 7)", LIMIT),
+    "a length of 20 digits": ("(stm 3)(table a 99999999999999999999 7)", LIMIT),
+    "a table without a number": ("(stm 3)(table a 1)", SHAPE),
+    "a number fewer than cells": ("(stm 3)(table a 3 7 8)", LIMIT),
+    "a number more than cells": ("(stm 3)(table a 3 7 8 9 10)", LIMIT),
+    "a table in form 2": ("(stm 2)(table a 1 7)", SHAPE),
+    "a table twice": ("(stm 3)(table a 1 7)(table a 1 7)", NAME),
+    "a table's name of 32 bytes": (f"(stm 3)(table {'a' * 32} 1 7)", "=" + EMPTY),
+    "a table's name of 33 bytes": (f"(stm 3)(table {'a' * 33} 1 7)", LIMIT),
+    "an unknown table": ("(stm 3)(table a 1 7)(tx t () (skip) (at b 0))", NAME),
+    "a variable for a table": ("(stm 3)(var x 1)(tx t () (skip) (sum x))", NAME),
+    "a sum of 999,998 cells": (
+        "(stm 3)(table a 999998 1)(tx t () (skip) (sum a))(run t 1)",
+        "=base 0\nentry 1 0 t returned 999998\nnow 1\nend\n",
+    ),
+    "a sum of 999,999 cells": ("(stm 3)(table a 999999 1)(tx t () (skip) (sum a))(run t 1)", LIMIT),
+    "the last cell": (CELLS + "(run t 1 3 8 3)", "=base 0\nentry 1 0 t returned 8\nnow 1\na[3] 8 1\nend\n"),
+    "a cell behind the last": (CELLS + "(run t 1 4 8 3)(run t 1 3 8 4)", "=base 0\nentry 1 0 t outside\nentry 2 1 t outside\nnow 2\nend\n"),
+    "a cell before the first": (CELLS + "(run t 1 -1 8 3)(run t 1 3 8 -1)", "=base 0\nentry 1 0 t outside\nentry 2 1 t outside\nnow 2\nend\n"),
+    "a cell of a number that has its low bits": (CELLS + "(run t 1 4294967296 8 3)", "=base 0\nentry 1 0 t outside\nnow 1\nend\n"),
+    "a sum that is too great": (
+        "(stm 3)(table a 3 9223372036854775807 1 -1)(tx t () (skip) (sum a))(tx m () (skip) (sub (max a) (min a)))(run t 1)(run m 1)",
+        "=base 0\nentry 1 0 t overflow\nentry 2 1 m overflow\nnow 2\nend\n",
+    ),
+    "a condition on all cells that is not true": ("(stm 3)(table a 300 1)(always c (eq (sum a) 299))", BROKEN),
+    "a condition on a cell that is none": ("(stm 3)(table a 300 1)(always c (eq (at a 300) 1))", BROKEN),
     "form 2 twice": ("(stm 2)(stm 2)", SHAPE),
     "a condition in form 1": ("(always c (eq 0 0))", SHAPE),
     "a condition behind a transaction": ("(stm 2)(tx t (skip) 0)(always c (eq 0 0))", SHAPE),
