@@ -213,22 +213,26 @@ def try_file(trials, program, what, text, wanted):
     return ended
 
 
-def try_beginnings(trials, program):
-    """Each beginning of a file and of its report, and of a schedule."""
+def try_each_beginning(trials, program, text, report, wholes):
+    """Each beginning of a file, of which those of so many bytes are whole files, and of its report."""
     by = os.path.basename(program)
+    names = [trials.write(f"first-{n}", text[:n]) for n in range(len(text) + 1)]
+    ends = list(trials.pool.map(lambda name: run([program, "run", name, "--workers", "1"], trials.folder), names))
+    read = [n for n, it in enumerate(ends) if (it.status, it.err) == (0, b"")]
+    faults = [f"the first {n} bytes: {shown(it)}" for n, it in enumerate(ends) if n not in read and it[:3] != (2, b"", b"stm: file: F3 Shape\n")]
+    faults += [] if read == wholes else [f"read are the beginnings of {read}"]
+    trials.tell(f"{by} run, each beginning of a file", faults, f"of {len(ends)} the ones of {wholes} bytes are read, each other is F3")
+    trials.write("input", text)
+    names = [trials.write(f"first-{n}", report[:n]) for n in range(len(report))]
+    ends = list(trials.pool.map(lambda name: run([program, "check", "input", name], trials.folder), names))
+    faults = [f"the first {n} bytes: {shown(it)}" for n, it in enumerate(ends) if it[:3] != (1, b"bad 1\n", b"")]
+    trials.tell(f"{by} check, each beginning of a report", faults, f"all {len(ends)} are bad 1")
+
+
+def try_beginnings(trials, program):
     moves = RUNS["conditions that are broken"]
-    for text, report, wholes in (INCREMENTS, REPORTS[0], [0, 9, 37, 48]), (moves, BROKEN_REPORTS[0][0], [0, 7, 18, 27, 58, 79, 134, 155, 167, 179]):
-        names = [trials.write(f"first-{n}", text[:n]) for n in range(len(text) + 1)]
-        ends = list(trials.pool.map(lambda name: run([program, "run", name, "--workers", "1"], trials.folder), names))
-        read = [n for n, it in enumerate(ends) if (it.status, it.err) == (0, b"")]
-        faults = [f"the first {n} bytes: {shown(it)}" for n, it in enumerate(ends) if n not in read and it[:3] != (2, b"", b"stm: file: F3 Shape\n")]
-        faults += [] if read == wholes else [f"read are the beginnings of {read}"]
-        trials.tell(f"{by} run, each beginning of a file", faults, f"of {len(ends)} the ones of {wholes} bytes are read, each other is F3")
-        trials.write("input", text)
-        names = [trials.write(f"first-{n}", report[:n]) for n in range(len(report))]
-        ends = list(trials.pool.map(lambda name: run([program, "check", "input", name], trials.folder), names))
-        faults = [f"the first {n} bytes: {shown(it)}" for n, it in enumerate(ends) if it[:3] != (1, b"bad 1\n", b"")]
-        trials.tell(f"{by} check, each beginning of a report", faults, f"all {len(ends)} are bad 1")
+    try_each_beginning(trials, program, INCREMENTS, REPORTS[0], [0, 9, 37, 48])
+    try_each_beginning(trials, program, moves, BROKEN_REPORTS[0][0], [0, 7, 18, 27, 58, 79, 134, 155, 167, 179])
 
 
 def tampered(text, chance):
@@ -243,7 +247,7 @@ def tampered(text, chance):
         elif how == 1:
             bytes_[at:at] = bytes_[at:to]
         elif how == 2:
-            bytes_[at:at] = chance.choice([b"(", b")", b" ", b"\n", b";", b"-", b"0", b"9", b"(seq ", b"(retry)", b"99999999999999999999", b"end\n"])
+            bytes_[at:at] = chance.choice([b"(", b")", b" ", b"\n", b";", b"-", b"0", b"9", b"(seq ", b"(retry)", b"99999999999999999999", b"[", b"]", b"[0] 1 1\n", b"end\n"])
         elif how == 3:
             del bytes_[at:]
         else:
