@@ -86,7 +86,7 @@ enum stm_code {
        another number of parameters than it is given arguments; or (`finish`) the store has no such task, or makes another
        call as it. */
     STM_UNKNOWN = -9,
-    /* `open`: more than 32 workers. `open_worker`: none is left; or, as `open_lender`: the program has no transaction. */
+    /* `open`: more than 32 workers. `open_worker`: none is left. It and `open_lender`: there is no transaction. */
     STM_NO_WORKER = -10,
     /* The worker has no ended attempt to bring. */
     STM_NOT_ENDED = -11,
