@@ -64,13 +64,13 @@ enum { INC, WAIT, GO, WIDE, LONG, LONG_WAIT, FAR, FAR_WAIT, KINDS = 3, WAITERS =
 static const char TEXT[] =
     "(stm 3)"
     "(var n 0)(var out 0)(var a 0)(var b 0)(var c 0)(var d 0)(var e 0)(var f 0)(var g 0)(var h 0)(var i 0)(var j 0)"
-    "(table t 600 0)"
+    "(table t 300 0)"
     "(tx inc () (set n (add n 1)) n)(tx wait () (if (eq out 0) (retry) (skip)) out)(tx go () (set out 1) out)"
     "(tx wide () (orelse (seq (set a n) (set b 1) (retry)) (seq (set a b) (set b c) (set c d) (set d e) (set e f)"
     "(set f g) (set g h) (set h i) (set i j) (set j (add j 1)))) j)"
     "(tx long () (seq " WORK " (orelse (seq (set a n) (set b 1) (retry)) (set j (add j 1)))) j)"
     "(tx long_wait () (seq " WORK " (if (eq out 0) (retry) (skip))) out)"
-    "(tx far () (seq (put t 3 1) (put t 259 1) (put t 515 1)) (sum t))"
+    "(tx far () (seq (put t 3 1) (put t 259 1) (put t 299 1)) (sum t))"
     "(tx far_wait () (if (eq (sum t) 0) (retry) (skip)) (at t 3))"
     "(run inc 1)(run wait 1)";
 
