@@ -47,29 +47,28 @@ def empty():
         nothing(program)
 
 
-def bare(transfers):
-    given = ctypes.c_int64 * 3
-    call = library.stm_atomically
-    with stm.Service(TEXT) as bank:
-        at = bank._at
-        for one in transfers:
-            call(at, 0, given(*one), 3)
+def bare(bank, transfers):
+    given, call, at = ctypes.c_int64 * 3, library.stm_atomically, bank._at
+    for one in transfers:
+        call(at, 0, given(*one), 3)
 
 
-def called(transfers):
-    with stm.Service(TEXT) as bank:
-        call = bank.atomically
-        for one in transfers:
-            try:
-                call("pay", one)
-            except stm.Thrown:
-                pass
+def called(bank, transfers):
+    call = bank.atomically
+    for one in transfers:
+        try:
+            call("pay", one)
+        except stm.Thrown:
+            pass
 
 
 def main():
     transfers = drawn(CALLS)
-    works = {"empty": empty, "bare": lambda: bare(transfers), "call": lambda: called(transfers)}
-    print(*(f"{name}_ns {each(work):.0f}" for name, work in works.items()))
+    found = {"empty": each(empty)}
+    for name, work in (("bare", bare), ("call", called)):
+        with stm.Service(TEXT) as bank:
+            found[name] = each(lambda: work(bank, transfers))
+    print(*(f"{name}_ns {number:.0f}" for name, number in found.items()))
 
 
 main()

@@ -1,10 +1,11 @@
 /* What tables cost a host: prints one line of names and numbers.
  *
- *     tables      a store of 1,000,000 cells: milliseconds to read its file and to open it, bytes a cell that its blocks
- *                 have, and have at most meanwhile; nanoseconds of a call that transfers between 1,000 accounts and
- *                 between 1,000,000; of a call that does nothing; and of a sum, a least and a greatest of 1,000 cells, a
- *                 cell, with the call that does nothing taken off
- *     tables CALL TIMES      only makes this call so often, for who counts instructions: idle, sum, min, max, pay, large
+ *     tables      a store of 1,000,000 cells: milliseconds to read its file and to open it, and how many bytes a cell its
+ *                 blocks have, and had at most while it was opened, more than those of a store of 1,000 cells;
+ *                 nanoseconds of a turn that transfers between 1,000 accounts, between 1,000,000, and of one that does
+ *                 nothing; and how many more a turn takes for each cell of 1,000 that it sums, or whose least or
+ *                 greatest it finds
+ *     tables TURN TIMES      only has this turn so often, for who counts instructions: idle, sum, min, max, pay or large
  *
  * The memory of the library is its own here, and is counted. */
 #include "stm.h"
@@ -119,23 +120,37 @@ static double transfers(uint64_t accounts, int times) {
     double begin = now();
     for (int i = 0; i < times; i++) {
         x ^= x << 13, x ^= x >> 7, x ^= x << 17;
-        const int64_t given[] = {(int64_t)((x & 0xFFFFF) * accounts >> 20), (int64_t)((x >> 20 & 0xFFFFF) * accounts >> 20),
-                                 (int64_t)(1 + ((x >> 40 & 0xFFFF) * 100 >> 16))};
+        int64_t from = (int64_t)((x & 0xFFFFF) * accounts >> 20), to = (int64_t)((x >> 20 & 0xFFFFF) * accounts >> 20);
+        const int64_t given[] = {from, to, (int64_t)(1 + ((x >> 40 & 0xFFFF) * 100 >> 16))};
         calls(transaction, given, 3);
     }
     return (now() - begin) / times;
 }
 
-static void prints_all(void) {
-    opens(CELLS);
-    printf("read_ms %.3f open_ms %.3f", read_ns / 1e6, open_ns / 1e6);
-    printf(" cell_bytes %.1f most_cell_bytes %.1f", (double)(held - opened_with) / CELLS, (double)(most - opened_with) / CELLS);
-    transfers(CELLS, TIMES / 4);
-    double large = transfers(CELLS, TIMES);
+/* How many bytes the blocks of a store have, and had at most. */
+static void weighs(int accounts, double *bytes, double *most_bytes) {
+    opens(accounts);
+    *bytes = (double)(held - opened_with);
+    *most_bytes = (double)(most - opened_with);
     lets_go();
+}
+
+static void prints_large(void) {
+    double few, most_few, many, most_many, more = CELLS - FEW;
+    weighs(FEW, &few, &most_few);
+    weighs(CELLS, &many, &most_many);
+    printf("cell_bytes %.1f most_cell_bytes %.1f", (many - few) / more, (most_many - most_few) / more);
+    opens(CELLS);
+    printf(" read_ms %.3f open_ms %.3f", read_ns / 1e6, open_ns / 1e6);
+    transfers(CELLS, TIMES / 4);
+    printf(" large_ns %.1f", transfers(CELLS, TIMES));
+    lets_go();
+}
+
+static void prints_small(void) {
     opens(FEW);
-    double few = transfers(FEW, TIMES), idle = each("idle", TIMES);
-    printf(" transfer_ns %.1f large_ns %.1f idle_ns %.1f", few, large, idle);
+    double idle = each("idle", TIMES);
+    printf(" transfer_ns %.1f idle_ns %.1f", transfers(FEW, TIMES), idle);
     printf(" sum_ns %.3f", (each("sum", SUMS) - idle) / FEW);
     printf(" min_ns %.3f", (each("min", SUMS) - idle) / FEW);
     printf(" max_ns %.3f\n", (each("max", SUMS) - idle) / FEW);
@@ -144,12 +159,13 @@ static void prints_all(void) {
 
 int main(int count, char **words) {
     if (count == 1) {
-        prints_all();
+        prints_large();
+        prints_small();
         return 0;
     }
     int is_large = count == 3 && strcmp(words[1], "large") == 0, is_pay = count == 3 && strcmp(words[1], "pay") == 0;
     int times = count == 3 ? atoi(words[2]) : 0;
-    if (times < 1) fails("tables [CALL TIMES]");
+    if (times < 1) fails("tables [TURN TIMES]");
     opens(is_large ? CELLS : FEW);
     if (is_large || is_pay) transfers(is_large ? CELLS : FEW, times);
     else each(words[1], times);
