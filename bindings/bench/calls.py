@@ -1,6 +1,6 @@
 """What a call costs from Python: prints one line of names and numbers, nanoseconds.
 
-    calls.py [CALLS]     transfers between 1,000 accounts by one thread (100,000), of which some are thrown
+    calls.py [CALLS]     transfers between 1,000 accounts by one thread (100,000), each of which returns
 
 `empty_ns`: a call by ctypes that does nothing; `bare_ns`: `stm_atomically` by ctypes, with its array of arguments;
 `call_ns`: `Service.atomically`. STM_LIB_DIR names the folder of libstm.so, PYTHONPATH has bindings/python.
@@ -13,7 +13,7 @@ import time
 import stm
 from stm._library import library
 
-TEXT = """(stm 3)(table acct 1000 100)
+TEXT = """(stm 3)(table acct 1000 1000000000)
 (tx pay (from to n) (seq (if (lt (at acct from) n) (throw n) (skip))
   (put acct from (sub (at acct from) n)) (put acct to (add (at acct to) n))) (at acct from))"""
 CALLS = int(sys.argv[1]) if sys.argv[1:] else 100_000
@@ -56,10 +56,7 @@ def bare(bank, transfers):
 def called(bank, transfers):
     call = bank.atomically
     for one in transfers:
-        try:
-            call("pay", one)
-        except stm.Thrown:
-            pass
+        call("pay", one)
 
 
 def main():
