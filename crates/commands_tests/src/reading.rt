@@ -16,21 +16,14 @@ struct Spaces<'a> {
     handed: &'a Cell<usize>,
 }
 
-impl Spaces<'_> {
-    /// Hands out spaces.
-    fn fill(&mut self, buf: &mut [u8]) -> usize {
-        let count = buf.len().min(self.left);
-        buf[..count].fill(b' ');
-        self.left -= count;
-        self.handed.set(self.handed.get().saturating_add(count));
-        count
-    }
-}
-
 impl Read for Spaces<'_> {
     fn read(&mut self, buf: &mut [u8]) -> io::Result<usize> {
         if self.front.is_empty() {
-            return Ok(self.fill(buf));
+            let count = buf.len().min(self.left);
+            buf[..count].fill(b' ');
+            self.left -= count;
+            self.handed.set(self.handed.get().saturating_add(count));
+            return Ok(count);
         }
         let count = buf.len().min(self.front.len()).min(self.piece);
         buf[..count].copy_from_slice(&self.front[..count]);
