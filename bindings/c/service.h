@@ -73,10 +73,21 @@ stm_answer stm_atomically_within(stm_service *service, uint32_t transaction, con
  * STM_CLOSED, STM_MEMORY or STM_UNKNOWN. */
 stm_answer stm_service_observe(stm_service *service, uint32_t transaction, const int64_t *arguments, size_t count);
 
-/* The present value of a variable, and the number of the last entry of the chapter that changed it, 0 where none did:
- * STM_DONE; STM_UNKNOWN. */
+/* The present value of a variable, or of the cell that is written so, as `acct[5]`, and the number of the last entry of
+ * the chapter that changed it, 0 where none did: STM_DONE; STM_UNKNOWN. */
 int32_t stm_service_value(stm_service *service, const uint8_t *name, size_t name_length, int64_t *value,
                           uint64_t *version);
+
+/* The number of the table of this name, or STM_UNKNOWN; and how many cells it has, numbered from 0, or STM_UNKNOWN. */
+int64_t stm_service_table(const stm_service *service, const uint8_t *name, size_t name_length);
+int64_t stm_service_table_length(const stm_service *service, uint32_t table);
+
+/* As `stm_service_value`, of the cell `index` of a table. */
+int32_t stm_service_cell(stm_service *service, uint32_t table, uint32_t index, int64_t *value, uint64_t *version);
+
+/* Copies the present values of a table's cells from the number `from` on into the room, which is for `count` numbers, as
+ * `stm_cells` does: how many, or STM_UNKNOWN. All are of one state. */
+int64_t stm_service_cells(stm_service *service, uint32_t table, uint32_t from, int64_t *values, size_t count);
 
 /* How many entries there were in all chapters; and the number of the chapter, from 0 on. */
 uint64_t stm_service_entered(stm_service *service);

@@ -1,4 +1,4 @@
-/* stm: transactions over named variables, for hosts in C and C++.
+/* stm: transactions over named variables and tables, for hosts in C and C++.
  *
  * Link with libstm.a or libstm.so, which `./stm --library` builds; heap.c and words.c are inside both.
  *
@@ -11,13 +11,13 @@
  *   3. No pointer is null (`out`, `wanted`, `value` and `version` neither), but one that goes with a length or
  *      a count of 0: `NULL, 0` for the room asks how much is wanted, for the arguments gives none. A pointer that
  *      goes with a length is to that many bytes, one that goes with a count to that many numbers.
- *   4. What a call may write (a handle that is not `const`, a room, `out`, `wanted`, `value`, `version`)
- *      overlaps nothing else that it is given.
- *   5. A call has 64 KB of stack, whatever the file: the deepest that the limits allow take less than three quarters.
+ *   4. What a call may write (a handle that is not `const`, a room, `out`, `wanted`, `value`, `version`,
+ *      `values`) overlaps nothing else that it is given.
+ *   5. A call has 64 KB of stack, whatever the file: the deepest that the limits allow take less than seven eighths.
  *   6. No call is made from a signal handler, nor from the forked child of a process with threads.
  *
  * What stays in memory until the process ends: what a program says, once for each `stm_read`. All else goes
- * with its handle, and what a store and its workers share (two words a variable) with the last of them: they
+ * with its handle, and what a store and its workers share (two words a variable or cell) with the last of them: they
  * may be let go in any order, and a worker may outlive its store.
  */
 #ifndef STM_H
@@ -82,11 +82,11 @@ enum stm_code {
     STM_FILE_BROKEN = -7,
     /* The room is too short; how long it has to be was written. */
     STM_SHORT = -8,
-    /* There is no such transaction or variable, or no task of this ticket (any more); the transaction has another
-       number of parameters than it is given arguments; or (`finish`) the store has no such task, or makes another
+    /* There is no such transaction, variable, table or cell, or no task of this ticket (any more); the transaction has
+       another number of parameters than it is given arguments; or (`finish`) the store has no such task, or makes another
        call as it. */
     STM_UNKNOWN = -9,
-    /* `open`: more than 32 workers. `hire`: no worker is left. `hire`, `lend`: the program has no transaction. */
+    /* `open`: more than 32 workers. `open_worker`: none is left. It and `open_lender`: there is no transaction. */
     STM_NO_WORKER = -10,
     /* The worker has no ended attempt to bring. */
     STM_NOT_ENDED = -11,
@@ -155,7 +155,7 @@ const char *stm_word(int32_t code);
 
 /* Whole files. `wanted` is how long the text is; with STM_SHORT, how long the room has to be; 0 with any other
  * answer, for there is no text. The room is written only where there is one. No report is longer than 8388608
- * bytes. */
+ * bytes, and 160 more for each cell of the file's tables. */
 
 /* Runs all tasks of the file on the calling thread, and copies the report into the room. A journal of
  * `checkpoint` entries is followed by a checkpoint; 0: never. */
@@ -191,13 +191,18 @@ typedef struct stm_lender { void *at; } stm_lender;
 /* Reads a program. */
 int32_t stm_read(const uint8_t *file, size_t file_length, stm_program *out);
 
-/* How many tasks, variables and transactions a program has. 0 of an empty handle. */
+/* How many tasks, variables, tables and transactions a program has. 0 of an empty handle. */
 size_t stm_program_tasks(const stm_program *program);
 size_t stm_program_variables(const stm_program *program);
+size_t stm_program_tables(const stm_program *program);
 size_t stm_program_transactions(const stm_program *program);
 
-/* The number of the variable or the transaction of this name, or STM_UNKNOWN. */
+/* How many cells a table has, from 1 to 1048576, numbered from 0; STM_UNKNOWN. */
+int64_t stm_program_cells(const stm_program *program, uint32_t table);
+
+/* The number of the variable, the table or the transaction of this name, or STM_UNKNOWN. */
 int64_t stm_program_variable(const stm_program *program, const uint8_t *name, size_t name_length);
+int64_t stm_program_table(const stm_program *program, const uint8_t *name, size_t name_length);
 int64_t stm_program_transaction(const stm_program *program, const uint8_t *name, size_t name_length);
 
 /* How many parameters the transaction has, at most 8; STM_UNKNOWN. */
@@ -233,11 +238,19 @@ size_t stm_store_tasks(stm_store *store);
 /* How many tasks of the chapter stand how. Under the lock. */
 int32_t stm_get_counts(stm_store *store, stm_counts *out);
 
-/* The present value of the variable of this name, and the number of the last entry that changed it:
- * STM_DONE, and both were written; STM_UNKNOWN. Under the lock. */
+/* The present value of the variable of this name, or of the cell that is written so, as `acct[5]`, and the number of the
+ * last entry that changed it, 0 where none did: STM_DONE, and both were written; STM_UNKNOWN. Under the lock. */
 int32_t stm_value(stm_store *store, const uint8_t *name, size_t name_length, int64_t *value, uint64_t *version);
 
-/* A worker of the store, for one thread; STM_NO_WORKER where all were hired, or there is no transaction.
+/* As `stm_value`, of the cell `index` of a table, both counted from 0. Under the lock. */
+int32_t stm_cell(stm_store *store, uint32_t table, uint32_t index, int64_t *value, uint64_t *version);
+
+/* Copies the present values of a table's cells from the number `from` on into the room, which is for `count` numbers: as
+ * many as there are and it has room for. How many; 0 from the table's end on; STM_UNKNOWN where there is no such table,
+ * with nothing written. Under the lock. */
+int64_t stm_cells(stm_store *store, uint32_t table, uint32_t from, int64_t *values, size_t count);
+
+/* A worker of the store, for one thread; STM_NO_WORKER where all were opened, or there is no transaction.
  * Where it answers STM_MEMORY, the store can make one worker less. Under the lock. */
 int32_t stm_open_worker(stm_store *store, stm_worker *out);
 

@@ -17,6 +17,37 @@ pub struct Tx {
     parameters: usize,
 }
 
+/// A declared table: cells, which are numbered from 0. A transaction with a number of no cell ends `Outside`.
+#[derive(Clone, Debug)]
+pub struct Table(String);
+
+impl Table {
+    /// The value of the cell of this number.
+    pub fn at(&self, index: impl Into<Expr>) -> Expr {
+        Expr(format!("(at {} {})", self.0, index.into().0))
+    }
+
+    /// Gives the cell of this number the value.
+    pub fn put(&self, index: impl Into<Expr>, value: impl Into<Expr>) -> Stmt {
+        Stmt(format!("(put {} {} {})", self.0, index.into().0, value.into().0))
+    }
+
+    /// The sum of the values of all cells.
+    pub fn sum(&self) -> Expr {
+        Expr(format!("(sum {})", self.0))
+    }
+
+    /// The least value of a cell.
+    pub fn min(&self) -> Expr {
+        Expr(format!("(min {})", self.0))
+    }
+
+    /// The greatest value of a cell.
+    pub fn max(&self) -> Expr {
+        Expr(format!("(max {})", self.0))
+    }
+}
+
 /// A parameter of a transaction.
 #[derive(Clone, Debug)]
 pub struct Param(String);
@@ -231,6 +262,7 @@ pub fn throw(value: impl Into<Expr>) -> Stmt {
 #[derive(Clone, Debug, Default)]
 pub struct Declare {
     vars: String,
+    tables: String,
     always: String,
     txs: Vec<Declared>,
     runs: String,
@@ -272,6 +304,21 @@ impl Declare {
         let name = self.named(name);
         let _ = writeln!(self.vars, "(var {name} {value})");
         Var(name)
+    }
+
+    /// A table of so many cells, each with this initial value.
+    pub fn table(&mut self, name: &str, length: usize, value: i64) -> Table {
+        let name = self.named(name);
+        let _ = writeln!(self.tables, "(table {name} {length} {value})");
+        Table(name)
+    }
+
+    /// A table with a cell for each of these initial values, in their order.
+    pub fn table_of(&mut self, name: &str, values: &[i64]) -> Table {
+        let name = self.named(name);
+        let given: String = values.iter().map(|value| format!(" {value}")).collect();
+        let _ = writeln!(self.tables, "(table {name} {}{given})", values.len());
+        Table(name)
     }
 
     /// A standing condition, which each state keeps.
@@ -332,20 +379,20 @@ impl Declare {
         let _ = writeln!(self.runs, "(run {} {times}{given})", tx.name);
     }
 
-    /// The text of a file, of form 3 where a transaction has parameters, else of form 2; `Name` where a word was to
-    /// be declared that is no name.
+    /// The text of a file, of form 3 where there is a table or a transaction has parameters, else of form 2; `Name`
+    /// where a word was to be declared that is no name.
     pub fn text(&self) -> Result<String, Error> {
         if self.has_wrong_name {
             return Err(Error::Name);
         }
-        let lists = self.txs.iter().any(|tx| !tx.parameters.is_empty());
+        let lists = !self.tables.is_empty() || self.txs.iter().any(|tx| !tx.parameters.is_empty());
         let mut txs = String::new();
         for Declared { name, parameters, program } in &self.txs {
             let list = if lists { format!("({}) ", parameters.join(" ")) } else { String::new() };
             let _ = writeln!(txs, "(tx {name} {list}{program})");
         }
         let form = if lists { 3 } else { 2 };
-        Ok(format!("(stm {form})\n{}{}{txs}{}", self.vars, self.always, self.runs))
+        Ok(format!("(stm {form})\n{}{}{}{txs}{}", self.vars, self.tables, self.always, self.runs))
     }
 
     /// The program, or why the file is refused.

@@ -6,7 +6,7 @@ use std::fmt;
 /// Why a call answered nothing. Nothing changed then, unless the call says more.
 #[derive(Clone, Copy, Debug, PartialEq, Eq)]
 pub enum Error {
-    /// The file has more than 1,048,576 bytes.
+    /// The file has more than 1,048,576 bytes, or begins with `(stm 3)` and has more than 67,108,864.
     TooLong,
     /// A byte is not one of those that a file may have.
     BadByte,

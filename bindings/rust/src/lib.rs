@@ -35,7 +35,7 @@ pub use answers::{
 };
 pub use declare::{
     and, div, eq, int, le, lt, not, or, or_else, param, rem, repeat, retry, seq, set, skip, sum, throw, var,
-    when, Cond, Declare, Expr, Param, Stmt, Tx, Var,
+    when, Cond, Declare, Expr, Param, Stmt, Table, Tx, Var,
 };
 pub use error::{Error, Fault, ScheduleFault};
 pub use raw::{Counts, Part, Verdict};

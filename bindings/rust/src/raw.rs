@@ -3,6 +3,7 @@
 
 #![allow(unsafe_code)]
 
+mod code;
 mod service;
 
 pub use service::{Keep, RawService};
@@ -13,56 +14,6 @@ use crate::answers::{
 use crate::error::{Error, ScheduleFault};
 use std::ffi::c_void;
 use std::sync::Arc;
-
-/// What the calls answer, by the names of the header.
-mod code {
-    pub const DONE: i32 = 0;
-    pub const RETRIES: i32 = 1;
-    pub const STALE: i32 = 2;
-    pub const NOT_RUNNING: i32 = 3;
-    pub const GIVEN_UP: i32 = 4;
-    pub const THROWN: i32 = 5;
-    pub const OVERFLOW: i32 = 6;
-    pub const DIVIDE_BY_ZERO: i32 = 7;
-    pub const BROKEN: i32 = 8;
-    pub const MORE: i32 = 9;
-    pub const NO_END: i32 = 10;
-    pub const IDLE: i32 = 11;
-    pub const NO_ENTRY: i32 = 12;
-    pub const READY: i32 = 13;
-    pub const RUNNING: i32 = 14;
-    pub const NOT_WAITING: i32 = 15;
-    pub const OUTSIDE: i32 = 16;
-    pub const BAD_TEXT: i32 = 101;
-    pub const BAD_BASE: i32 = 102;
-    pub const BAD_ENTRIES: i32 = 103;
-    pub const BAD_PRESENT: i32 = 104;
-    pub const BAD_TASKS: i32 = 105;
-    pub const BAD_PARKED: i32 = 106;
-    pub const FILE_TOO_LONG: i32 = -1;
-    pub const FILE_BAD_BYTE: i32 = -2;
-    pub const FILE_SHAPE: i32 = -3;
-    pub const FILE_NAME: i32 = -4;
-    pub const FILE_LIMIT: i32 = -5;
-    pub const MEMORY: i32 = -6;
-    pub const FILE_BROKEN: i32 = -7;
-    pub const SHORT: i32 = -8;
-    pub const UNKNOWN: i32 = -9;
-    pub const NO_WORKER: i32 = -10;
-    pub const NOT_ENDED: i32 = -11;
-    pub const NO_ROOM: i32 = -14;
-    pub const WORK_LEFT: i32 = -15;
-    pub const STATES: i32 = -16;
-    pub const OTHER_PROGRAM: i32 = -17;
-    pub const OTHER_CHAPTER: i32 = -18;
-    pub const CLOSED: i32 = -19;
-    pub const TIMED_OUT: i32 = -20;
-    pub const SCHEDULE_TOO_LONG: i32 = -21;
-    pub const SCHEDULE_BAD_BYTE: i32 = -22;
-    pub const SCHEDULE_SHAPE: i32 = -23;
-    pub const SCHEDULE_NAME: i32 = -24;
-    pub const SCHEDULE_LIMIT: i32 = -25;
-}
 
 #[repr(C)]
 struct Handle {
@@ -152,6 +103,9 @@ extern "C" {
     fn stm_program_tasks(program: *const Handle) -> usize;
     fn stm_program_transactions(program: *const Handle) -> usize;
     fn stm_program_variable(program: *const Handle, name: *const u8, name_length: usize) -> i64;
+    fn stm_program_tables(program: *const Handle) -> usize;
+    fn stm_program_table(program: *const Handle, name: *const u8, name_length: usize) -> i64;
+    fn stm_program_cells(program: *const Handle, table: u32) -> i64;
     fn stm_program_transaction(program: *const Handle, name: *const u8, name_length: usize) -> i64;
     fn stm_program_parameters(program: *const Handle, transaction: u32) -> i64;
     fn stm_open_with_room(
@@ -175,6 +129,8 @@ extern "C" {
         value: *mut i64,
         version: *mut u64,
     ) -> i32;
+    fn stm_cell(store: *mut Handle, table: u32, index: u32, value: *mut i64, version: *mut u64) -> i32;
+    fn stm_cells(store: *mut Handle, table: u32, from: u32, values: *mut i64, count: usize) -> i64;
     fn stm_finish(store: *mut Handle, worker: *mut Handle) -> Told;
     fn stm_serial(store: *mut Handle, ticket: i64) -> Told;
     fn stm_claim(store: *mut Handle, ticket: i64) -> Taken;
@@ -452,6 +408,21 @@ impl RawProgram {
         u32::try_from(unsafe { stm_program_variable(&self.0, name.as_ptr(), name.len()) }).ok()
     }
 
+    pub fn tables(&self) -> usize {
+        // SAFETY: as `tasks`.
+        unsafe { stm_program_tables(&self.0) }
+    }
+
+    pub fn table(&self, name: &str) -> Option<u32> {
+        // SAFETY: as `variable`.
+        u32::try_from(unsafe { stm_program_table(&self.0, name.as_ptr(), name.len()) }).ok()
+    }
+
+    pub fn cells(&self, table: u32) -> Option<u32> {
+        // SAFETY: as `tasks`. The library tests the number.
+        u32::try_from(unsafe { stm_program_cells(&self.0, table) }).ok()
+    }
+
     pub fn transaction(&self, name: &str) -> Option<u32> {
         // SAFETY: as `variable`.
         u32::try_from(unsafe { stm_program_transaction(&self.0, name.as_ptr(), name.len()) }).ok()
@@ -583,6 +554,21 @@ impl RawStore {
             code::DONE => Some((value, version)),
             _ => None,
         }
+    }
+
+    pub fn cell(&mut self, table: u32, index: u32) -> Option<(i64, u64)> {
+        let (mut value, mut version) = (0, 0);
+        // SAFETY: `&mut self`; both numbers are only written.
+        match unsafe { stm_cell(&mut self.0, table, index, &mut value, &mut version) } {
+            code::DONE => Some((value, version)),
+            _ => None,
+        }
+    }
+
+    pub fn cells(&mut self, table: u32, from: u32, values: &mut [i64]) -> Option<usize> {
+        // SAFETY: `&mut self`; the slice is borrowed for the call, and only written.
+        let told = unsafe { stm_cells(&mut self.0, table, from, values.as_mut_ptr(), values.len()) };
+        usize::try_from(told).ok()
     }
 
     pub fn report_now(&mut self) -> Result<String, Error> {

@@ -33,6 +33,21 @@ impl Program {
         self.raw.variable(name)
     }
 
+    /// How many tables it has, numbered from 0 as declared.
+    pub fn tables(&self) -> usize {
+        self.raw.tables()
+    }
+
+    /// The number of a table.
+    pub fn table(&self, name: &str) -> Option<u32> {
+        self.raw.table(name)
+    }
+
+    /// How many cells a table has, numbered from 0.
+    pub fn cells(&self, table: u32) -> Option<u32> {
+        self.raw.cells(table)
+    }
+
     /// The number of a transaction.
     pub fn transaction(&self, name: &str) -> Option<u32> {
         self.raw.transaction(name)
@@ -161,10 +176,21 @@ impl Store {
         held(&self.raw).counts()
     }
 
-    /// The present value of the variable of this name, and the number of the last entry that changed
-    /// it, 0 where none did.
+    /// The present value of the variable of this name, or of the cell that is written so, as `acct[5]`, and the
+    /// number of the last entry that changed it, 0 where none did.
     pub fn value(&self, name: &str) -> Option<(i64, u64)> {
         held(&self.raw).value(name)
+    }
+
+    /// As `value`, of a cell by the number of its table and its own.
+    pub fn cell(&self, table: u32, index: u32) -> Option<(i64, u64)> {
+        held(&self.raw).cell(table, index)
+    }
+
+    /// Copies the present values of a table's cells, from the one of this number on, to the begin of the slice: as
+    /// many as there are and it has room for. How many; `None` where there is no such table.
+    pub fn cells(&self, table: u32, from: u32, values: &mut [i64]) -> Option<usize> {
+        held(&self.raw).cells(table, from, values)
     }
 
     /// The file as it has become, with a run for each task that was submitted. With the report of the

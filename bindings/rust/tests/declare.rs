@@ -100,6 +100,28 @@ fn a_whole_text() {
     assert_eq!(all.program().unwrap().text(), text);
 }
 
+/// Tables stand between variables and conditions, and each transaction has its list of parameters.
+#[test]
+fn tables() {
+    let mut bank = Declare::new();
+    let (acct, rate) = (bank.table("acct", 4, 100), bank.table_of("rate", &[5, -6, 7]));
+    let spare = bank.var("spare", 0);
+    bank.always("solvent", le(0, acct.min()));
+    bank.tx("audit", skip(), acct.sum() + rate.max());
+    let pay = bank.tx_with("pay", ["from", "to", "n"], |[from, to, n]| {
+        let paid = [acct.put(&from, acct.at(&from) - &n), acct.put(&to, acct.at(&to) + &n)];
+        (seq(paid), acct.at(var(&spare) + 1))
+    });
+    bank.run_with(&pay, 1, &[0, 1, 60]);
+    let text = "(stm 3)\n(var spare 0)\n(table acct 4 100)\n(table rate 3 5 -6 7)\n\
+        (always solvent (le 0 (min acct)))\n(tx audit () (skip) (add (sum acct) (max rate)))\n\
+        (tx pay (from to n) (seq (put acct from (sub (at acct from) n)) (put acct to (add (at acct to) n))) \
+        (at acct (add spare 1)))\n(run pay 1 0 1 60)\n";
+    assert_eq!(bank.text().as_deref(), Ok(text));
+    bank.table("a[0]", 1, 0);
+    assert_eq!(bank.text(), Err(Error::Name));
+}
+
 /// A word that is no name declares nothing, and is spliced in nowhere.
 #[test]
 fn names_are_judged() {

@@ -1,9 +1,10 @@
--- No call of a listing ends outside a table: no listing has a table yet.
-use Rattle.std.proofs.Common.{◌≡◌, ◌∙◌, ℕ, zero, suc, ◌+◌, ◌<◌, Bool, true, false, ◌&&◌, if◌then◌else◌, List, [], ◌∷◌, length, get_or, Result, Ok, Err, ℤ, pos, negsuc, refl, sym, subst}
+-- No call of a listing without tables ends outside a table.
+use Rattle.std.proofs.Common.{◌≡◌, ◌∙◌, ℕ, zero, suc, ◌+◌, ◌<◌, Bool, true, false, ◌&&◌, ◌||◌, nat_lt, if◌then◌else◌, List, [], ◌∷◌, length, Result, Ok, Err, ℤ, pos, negsuc, refl, sym, ap, subst, arith}
 use Rattle.std.specs.Prelude.{All, ◌+ℤ◌, ◌-ℤ◌, ◌*ℤ◌}
 use Rattle.std.specs.Int.RustNames.{int_div, int_rem}
 use Rattle.std.specs.List.{AllByRecursion}
 use Rattle.std.proofs.lemmas.Bool.{and_parts}
+use Rattle.std.proofs.lemmas.Bool.Decides.{nat_tests}
 use Rattle.std.proofs.lemmas.List.Elements.{All-from_recursion}
 use Rattle.std.proofs.lemmas.Option.{slice_get-get_or}
 use Rattle.txn_programs.specs.Arithmetic.{fits, fitted, sum_of, difference_of, product_of, quotient_of, remainder_of}
@@ -13,19 +14,18 @@ use Rattle.txn_programs.specs.declared.ast.Outcome.{Outcome}
 use Rattle.txn_programs.specs.declared.ast.Outcome.TheVariants.{Returned, Thrown, Retries}
 use Rattle.txn_programs.specs.declared.ast.TxId.{TxId}
 use Rattle.txn_programs.specs.declared.report.Entry as report
-use Rattle.txn_programs.specs.Tree.{Expression, Int, Var, Param, Cell, OfAll, Add, Sub, Mul, Div, Rem, Condition, Eq, Lt, Le, Not, And, Or, Statement, Skip, Set, Put, Seq, If, Repeat, Retry, OrElse, Throw, Statements, End, More, Transaction}
+use Rattle.txn_programs.specs.Tree.{Expression, Int, Var, Param, Cell, OfAll, Add, Sub, Mul, Div, Rem, Condition, Eq, Lt, Le, Not, And, Or, Statement, Skip, Set, Put, Seq, If, Repeat, Retry, OrElse, Throw, Statements, End, More}
 use Rattle.txn_programs.specs.Meaning.{State, value, truth, both, negated, and_then, or_else, Ending, Done, Threw, Retried, then_do, unless_retried, with_number, choose, repeated, run, run_all, broken, demanded, upheld, upheld_result, final, outcome_by, outcome_of, outcome}
 use Rattle.txn_programs.specs.Instance.{instance_expression, instance_condition, instance_statement, instance_statements}
 use Rattle.txn_programs.specs.Names.{names_hold, knows_expression, knows_condition, knows_statement, knows_statements, knows_transaction}
-use Rattle.txn_programs.specs.Limits.{limits_hold}
 use Rattle.txn_programs.specs.declared.ast.Span.{Span}
-use Rattle.txn_programs.specs.Listing.{Listing, spans, arity, conditions, transaction_at, call_program}
-use Rattle.txn_programs.specs.Replay.{Snapshot, Applies, Replays, applied}
+use Rattle.txn_programs.specs.Listing.{Listing, spans, spans_from, arity, conditions, transaction_at, call_program}
+use Rattle.txn_programs.specs.Replay.{Snapshot, Replays, applied}
 use Rattle.txn_programs.specs.LawfulReport.{LawfulReport}
 use Rattle.txn_programs.specs.Told.{Told, base_of, now_of}
 use Rattle.txn_programs.proofs.Lawful.{names_parts, passes_at, known_task}
-use Rattle.txn_programs.proofs.Untabled.{no_spans}
-use Rattle.text_line_reader.specs.Reports.{knows_outside}
+use Rattle.txn.specs.Arities.{most_arity}
+use Rattle.text_line_reader.specs.Reports.{knows_cells}
 
 abbrev IsInside : Fault → Type 0
 IsInside (User v) = Unit {0}
@@ -180,27 +180,37 @@ of_inside (Done m) result h r = by_inside (result m) (r m)
 of_inside (Threw f) result h r = h
 of_inside Retried result h r = tt
 
-call_inside : (l : Listing) (tx : TxId) (given : List ℤ) (m : State) → names_hold l ≡ true → limits_hold l ≡ true → tx.0 < length l.transactions → OutcomeInside (outcome (call_program l tx given) m)
-call_inside l tx given m names limits lt =
+call_inside : (l : Listing) (tx : TxId) (given : List ℤ) (m : State) → names_hold l ≡ true → spans l ≡ [] → tx.0 < length l.transactions → OutcomeInside (outcome (call_program l tx given) m)
+call_inside l tx given m names none lt =
     let t = transaction_at l tx in
     let n = length l.names in
     let read = passes_at (knows_transaction n (spans l)) l.transactions tx.0 t (names_parts l names).known (slice_get-get_or l.transactions tx.0 _ lt) in
-    let known : knows_transaction n [] t ≡ true = subst (λ (ts : List Span). knows_transaction n ts t ≡ true) (no_spans l limits) read in
+    let known : knows_transaction n [] t ≡ true = subst (λ (ts : List Span). knows_transaction n ts t ≡ true) none read in
     of_inside _ (final (call_program l tx given)) (run_inside n (arity t) given t.body m (left _ _ known))
     (λ m'. final_inside (conditions l) m' _ (value_inside n (arity t) given t.result m' (right _ _ known)))
 
+positive : (n : ℕ) → nat_lt 0 (suc n) ≡ true
+positive n = grind (arith, nat_tests)
+
+-- where one does, cells can be told
+outside_known : (l : Listing) (ts : List (List ℕ × ℕ)) (tx : TxId) (given : List ℤ) (m : State) → l.tables ≡ ts → names_hold l ≡ true → tx.0 < length l.transactions → Thrown Outside ≡ outcome (call_program l tx given) m → knows_cells l ≡ true
+outside_known l [] tx given m e names lt is = absurd (subst OutcomeInside (sym is) (call_inside l tx given m names (ap (spans_from (length l.names)) e) lt))
+outside_known l (t ∷ ts) tx given m e names lt is =
+    let given = nat_lt 0 (most_arity l.transactions) in
+    ap (λ (us : List (List ℕ × ℕ)). nat_lt 0 (length us) || given) e ∙ ap (λ (some : Bool). some || given) (positive (length ts))
+
 -- ---- journals
 
-replay_inside : (l : Listing) (es : List report.Entry) (base now : Snapshot) → names_hold l ≡ true → limits_hold l ≡ true → Replays l base es now
-    → AllByRecursion (λ (e : report.Entry). e.outcome ≡ Thrown Outside → knows_outside l ≡ true) es
-replay_inside l [] base now names limits r = tt
-replay_inside l (e ∷ es) base now names limits r =
+replay_inside : (l : Listing) (es : List report.Entry) (base now : Snapshot) → names_hold l ≡ true → Replays l base es now
+    → AllByRecursion (λ (e : report.Entry). e.outcome ≡ Thrown Outside → knows_cells l ≡ true) es
+replay_inside l [] base now names r = tt
+replay_inside l (e ∷ es) base now names r =
     let tx = known_task l e.task.0 e.tx names r.0.tx in (
-      λ is. absurd (subst OutcomeInside (sym r.0.outcome_is ∙ is) (call_inside l e.tx _ base.state names limits tx)),
-      replay_inside l es (applied l e base) now names limits r.1,
+      λ is. outside_known l l.tables e.tx _ base.state refl names tx (sym is ∙ r.0.outcome_is),
+      replay_inside l es (applied l e base) now names r.1,
     )
 
--- no entry of a lawful report ended outside
-pub none_outside : (l : Listing) (r : Told) → names_hold l ≡ true → limits_hold l ≡ true → LawfulReport l r → All (λ (e : report.Entry). e.outcome ≡ Thrown Outside → knows_outside l ≡ true) r.entries
-none_outside l r names limits lawful =
-    All-from_recursion (λ (e : report.Entry). e.outcome ≡ Thrown Outside → knows_outside l ≡ true) r.entries (replay_inside l r.entries (base_of r) (now_of r) names limits lawful.replays)
+-- an entry of a lawful report ends outside only where cells can be told
+pub outside_told : (l : Listing) (r : Told) → names_hold l ≡ true → LawfulReport l r → All (λ (e : report.Entry). e.outcome ≡ Thrown Outside → knows_cells l ≡ true) r.entries
+outside_told l r names lawful =
+    All-from_recursion (λ (e : report.Entry). e.outcome ≡ Thrown Outside → knows_cells l ≡ true) r.entries (replay_inside l r.entries (base_of r) (now_of r) names lawful.replays)

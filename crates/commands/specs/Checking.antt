@@ -2,7 +2,7 @@
 use Rattle.std.specs.Prelude.{◌≡◌, ℕ, List, take, Option, None, Some}
 use Rattle.std.specs.Io.KnownBytes.{Appends, Keeps}
 use Rattle.txn_text.specs.Faults.{IsFirst}
-use Rattle.commands.specs.Files.{AfterReadingBoth, AfterReadingChapter, report_limit}
+use Rattle.commands.specs.Files.{AfterReadingReport, AfterReadingChapter}
 use Rattle.run_interface.specs.declared.fault.RunFault.TheVariants.{Input, Memory, Output, Schedule}
 use Rattle.checker.specs.declared.verdict.Verdict.{Verdict}
 use Rattle.checker.specs.declared.verdict.Verdict.TheVariants.{Good, Bad}
@@ -68,7 +68,7 @@ Checked file report old new (Earlier kind) = ⊥
 
 -- what a check of a report of a file leaves, of which it is known that they have these bytes, if anything is
 abbrev pub CheckedFiles : Option (List ℕ) → Option (List ℕ) → Option (List ℕ) → Option (List ℕ) → Answer → Type 0
-CheckedFiles file report old new a = AfterReadingBoth report_limit file report (λ f r. Checked f r old new a) old new a
+CheckedFiles file report old new a = AfterReadingReport file report (λ f r. Checked f r old new a) old new a
 
 -- the verdict on a chapter, behind the one before it, was told so
 pub record ToldChapter (file report earlier earlier_report : List ℕ) (old new : Option (List ℕ)) (a : Answer) : Type 0 where

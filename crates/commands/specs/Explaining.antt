@@ -1,6 +1,6 @@
 -- What explaining a file leaves, or a report or a schedule of it.
 use Rattle.std.specs.Prelude.{◌≡◌, ℕ, List, Option, None, Result, Ok, Err}
-use Rattle.commands.specs.Files.{AfterReading, AfterReadingBoth, AfterReadingChapter, file_limit, report_limit, schedule_limit}
+use Rattle.commands.specs.Files.{AfterReading, AfterReadingReport, AfterReadingChapter, AfterReadingSchedule, file_limit}
 use Rattle.checker.specs.declared.verdict.Verdict.TheVariants.{Good, Bad}
 use Rattle.checker.specs.declared.verdict.Part.{Part}
 use Rattle.checker.specs.declared.chapter.ChapterVerdict.{ChapterVerdict}
@@ -11,7 +11,6 @@ use Rattle.explain_files.specs.Telling.{Telling}
 use Rattle.explain_files.specs.declared.bytes.Judgement.{Judgement}
 use Rattle.explain_files.specs.declared.bytes.Judgement.TheVariants as file
 use Rattle.explain_reports.specs.Writing.{Written}
-use Rattle.explain_reports.specs.declared.chapters.ChapterUntold.{ChapterUntold}
 use Rattle.explain_reports.specs.declared.chapters.ChapterUntold.TheVariants as untold_by
 use Rattle.explain_reports.specs.Chapters.{ChapterWritten}
 use Rattle.commands.specs.Checking.{chapter_answer}
@@ -86,14 +85,14 @@ abbrev pub ExplainedFile : Option (List ℕ) → Option (List ℕ) → Option (L
 ExplainedFile known old new a = AfterReading file_limit known (λ input. ExplainedBytes input old new a) old new a
 
 abbrev pub ExplainedOnFiles : Option (List ℕ) → Option (List ℕ) → Option (List ℕ) → Option (List ℕ) → Answer → Type 0
-ExplainedOnFiles input report old new a = AfterReadingBoth report_limit input report (λ f r. ExplainedOnBytes f r old new a) old new a
+ExplainedOnFiles input report old new a = AfterReadingReport input report (λ f r. ExplainedOnBytes f r old new a) old new a
 
 abbrev pub ExplainedChapter : Option (List ℕ) → Option (List ℕ) → Option (List ℕ) → Option (List ℕ) → Option (List ℕ) → Option (List ℕ) → Answer → Type 0
 ExplainedChapter file report earlier earlier_report old new a =
     AfterReadingChapter file report earlier earlier_report (λ f r e s. ExplainedAfter f r e s old new a) old new a
 
 abbrev pub ExplainedSchedule : Option (List ℕ) → Option (List ℕ) → Option (List ℕ) → Option (List ℕ) → Answer → Type 0
-ExplainedSchedule input schedule old new a = AfterReadingBoth schedule_limit input schedule (λ f s. ExplainedMoves f s old new a) old new a
+ExplainedSchedule input schedule old new a = AfterReadingSchedule input schedule (λ f s. ExplainedMoves f s old new a) old new a
 
 -- by what is explained
 abbrev pub ExplainedAs : Explained → Option (List ℕ) → Option (List ℕ) → Answer → Type 0

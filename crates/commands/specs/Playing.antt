@@ -1,7 +1,7 @@
 -- What playing the schedule of a file leaves.
 use Rattle.std.specs.Prelude.{ℕ, List, Option}
 use Rattle.world_runner.specs.Showing.{Showed}
-use Rattle.commands.specs.Files.{AfterReadingBoth, schedule_limit, done, ended}
+use Rattle.commands.specs.Files.{AfterReadingSchedule, done, ended}
 use Rattle.command_line.specs.declared.answer.Answer.{Answer}
 use Rattle.command_line.specs.declared.answer.Answer.TheVariants.{Done, Unlawful, Refused, Unreadable, Failed, Earlier}
 
@@ -16,4 +16,4 @@ Played file schedule old new (Earlier kind) = ⊥
 
 -- of which it is known that they have these bytes, if anything is
 abbrev pub PlayedFiles : Option (List ℕ) → Option (List ℕ) → Option (List ℕ) → Option (List ℕ) → Answer → Type 0
-PlayedFiles file schedule old new a = AfterReadingBoth schedule_limit file schedule (λ f s. Played f s old new a) old new a
+PlayedFiles file schedule old new a = AfterReadingSchedule file schedule (λ f s. Played f s old new a) old new a

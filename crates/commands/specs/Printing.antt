@@ -7,7 +7,7 @@ use Rattle.file_chains.specs.declared.next.Next.{Next}
 use Rattle.file_chains.specs.declared.next.Next.TheVariants.{Again, Chapter}
 use Rattle.command_line.specs.declared.printing_words.Printed.{Printed as Wanted}
 use Rattle.command_line.specs.declared.printing_words.Printed.TheVariants as what
-use Rattle.commands.specs.Files.{AfterReading, AfterReadingBoth, file_limit, report_limit, done, ended}
+use Rattle.commands.specs.Files.{AfterReading, AfterReadingReport, file_limit, done, ended}
 use Rattle.command_line.specs.declared.answer.Answer.{Answer}
 use Rattle.command_line.specs.declared.answer.Answer.TheVariants.{Done, Unlawful, Refused, Unreadable, Failed, Earlier}
 
@@ -34,7 +34,7 @@ abbrev pub PrintedFile : Option (List ℕ) → Option (List ℕ) → Option (Lis
 PrintedFile known old new a = AfterReading file_limit known (λ input. PrintedBytes input old new a) old new a
 
 abbrev pub PrintedOnFiles : Next → Option (List ℕ) → Option (List ℕ) → Option (List ℕ) → Option (List ℕ) → Answer → Type 0
-PrintedOnFiles next file report old new a = AfterReadingBoth report_limit file report (λ f r. PrintedOnBytes next f r old new a) old new a
+PrintedOnFiles next file report old new a = AfterReadingReport file report (λ f r. PrintedOnBytes next f r old new a) old new a
 
 -- by what is asked for
 abbrev pub PrintedAs : Wanted → Option (List ℕ) → Option (List ℕ) → Answer → Type 0

@@ -7,14 +7,13 @@ ghost use Rattle.checker.specs.Lines.{line_of};
 ghost use Rattle.commands.specs.Checking.{Tells, Checked, CheckedAs, CheckedFiles, verdict_answer};
 
 use crate::chapters::check_chapter;
-use crate::reading::{both_of, both_opened};
+use crate::reading::{both_opened, with_report};
 use checker::{Verdict, check};
 use command_line::{Answer, Check};
 use run_interface::{RunFault, Sink, put_all};
 use std::alloc::Global;
 use std::io::Read;
 use std::rt::Files;
-use text_line_reader::MAX_REPORT;
 use txn_text::ReadFault;
 
 /// Checks what the command line asks for.
@@ -70,7 +69,7 @@ pub fn check_inputs<I: Read + Drop, J: Read + Drop, S: Sink>(
     ensures bad { result ≡ Answer.Unlawful → S.flushed sink.new ≡ true }
     ensures failures { S.failed sink.new ≡ S.failed sink.old + failed_calls result }
 {
-    match both_of(alloc, file, report, MAX_REPORT) {
+    match with_report(alloc, file, report) {
         Ok((file, report)) => check_bytes(alloc, file.as_slice(), report.as_slice(), sink),
         Err(answer) => answer,
     }

@@ -9,15 +9,13 @@ ghost use Rattle.commands.specs.Explaining.{ExplainedOnBytes, ExplainedOnFiles, 
 
 use crate::chapters::explain_chapter_at;
 use crate::checking::answer_of;
-use crate::reading::{both_of, both_opened, bytes_of, opened};
+use crate::reading::{both_opened, file_bytes_of, opened, with_report, with_schedule};
 use command_line::{Answer, Explain, Explained};
 use explain_files::{Judgement, explain_bytes};
 use run_interface::{RunFault, Sink};
 use std::alloc::Global;
 use std::io::Read;
 use std::rt::Files;
-use text_line_reader::{MAX_REPORT, MAX_SCHEDULE};
-use txn_text::MAX_FILE;
 
 /// Explains what the command line asks for.
 #[inline(never)]
@@ -62,7 +60,7 @@ pub fn explain_input<I: Read + Drop, S: Sink>(alloc: Global, input: I, sink: &mu
     ensures flushed { result ≡ Answer.Done → S.flushed sink.new ≡ true }
     ensures failures { S.failed sink.new ≡ S.failed sink.old + failed_calls result }
 {
-    match bytes_of(alloc, input, MAX_FILE) {
+    match file_bytes_of(alloc, input) {
         Ok(bytes) => explained(alloc, bytes.as_slice(), sink),
         Err(answer) => answer,
     }
@@ -116,7 +114,7 @@ pub fn explain_on_inputs<I: Read + Drop, J: Read + Drop, S: Sink>(
     ensures bad { result ≡ Answer.Unlawful → S.flushed sink.new ≡ true }
     ensures failures { S.failed sink.new ≡ S.failed sink.old + failed_calls result }
 {
-    match both_of(alloc, file, report, MAX_REPORT) {
+    match with_report(alloc, file, report) {
         Ok((file, report)) => explained_on(alloc, file.as_slice(), report.as_slice(), sink),
         Err(answer) => answer,
     }
@@ -169,7 +167,7 @@ pub fn explain_schedule_inputs<I: Read + Drop, J: Read + Drop, S: Sink>(
     ensures flushed { result ≡ Answer.Done → S.flushed sink.new ≡ true }
     ensures failures { S.failed sink.new ≡ S.failed sink.old + failed_calls result }
 {
-    match both_of(alloc, file, schedule, MAX_SCHEDULE) {
+    match with_schedule(alloc, file, schedule) {
         Ok((file, schedule)) => explained_moves(alloc, file.as_slice(), schedule.as_slice(), sink),
         Err(answer) => answer,
     }

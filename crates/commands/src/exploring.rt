@@ -5,13 +5,12 @@ ghost use Rattle.run_interface.specs.Counts.{FewFailed};
 ghost use Rattle.commands.specs.Files.{failed_calls};
 ghost use Rattle.commands.specs.Exploring.{ExploredBytes, ExploredFile, WitnessedBytes, WitnessedFile};
 
-use crate::reading::{bytes_of, opened};
+use crate::reading::{file_bytes_of, opened};
 use command_line::Answer;
 use explore_runner::{Judged, Witnessed, judge_bytes, witness_bytes};
 use run_interface::{Denials, Limit, Sink};
 use std::io::Read;
 use std::rt::Files;
-use txn_text::MAX_FILE;
 
 /// Sees every order of the tasks of the file at the path, and writes what is found to the sink. Where some
 /// order comes to what is denied, the standard error is told.
@@ -50,7 +49,7 @@ pub fn explore_input<R: Eprint + AllocGlobal, I: Read + Drop, S: Sink>(
     ensures failures { S.failed sink.new ≡ S.failed sink.old + failed_calls result }
 {
     let alloc = rt.alloc();
-    match bytes_of(alloc, input, MAX_FILE) {
+    match file_bytes_of(alloc, input) {
         Ok(bytes) => explored(rt, bytes.as_slice(), limit, denied, sink),
         Err(answer) => answer,
     }
@@ -122,7 +121,7 @@ pub fn witness_input<R: Eprint + AllocGlobal, I: Read + Drop, S: Sink>(
     ensures more { result ≡ Answer.Unlawful → S.flushed sink.new ≡ true }
     ensures failures { S.failed sink.new ≡ S.failed sink.old + failed_calls result }
 {
-    match bytes_of(rt.alloc(), input, MAX_FILE) {
+    match file_bytes_of(rt.alloc(), input) {
         Ok(bytes) => witnessed(rt, bytes.as_slice(), limit, end, sink),
         Err(answer) => answer,
     }

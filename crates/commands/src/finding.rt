@@ -5,13 +5,12 @@ ghost use Rattle.run_interface.specs.Counts.{FewFailed};
 ghost use Rattle.commands.specs.Files.{failed_calls};
 ghost use Rattle.commands.specs.Finding.{AfterWords, FoundBytes, FoundFile};
 
-use crate::reading::{bytes_of, opened};
+use crate::reading::{file_bytes_of, opened};
 use command_line::{Answer, Find};
 use explore_runner::{OutcomeWords, Sighted, find_bytes};
 use run_interface::{Limit, Sink};
 use std::io::Read;
 use std::rt::Files;
-use txn_text::MAX_FILE;
 
 /// Writes to the sink the report of a run of the file at the path that comes to what is sought. Words that say no
 /// outcome are told to the standard error before the file is looked at.
@@ -74,7 +73,7 @@ pub fn find_input<R: Eprint + AllocGlobal, I: Read + Drop, S: Sink>(
     ensures more { result ≡ Answer.Unlawful → S.flushed sink.new ≡ true }
     ensures failures { S.failed sink.new ≡ S.failed sink.old + failed_calls result }
 {
-    match bytes_of(rt.alloc(), input, MAX_FILE) {
+    match file_bytes_of(rt.alloc(), input) {
         Ok(bytes) => found(rt, bytes.as_slice(), limit, transaction, outcome, sink),
         Err(answer) => answer,
     }

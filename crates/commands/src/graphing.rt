@@ -5,14 +5,13 @@ ghost use Rattle.run_interface.specs.Counts.{FewFailed};
 ghost use Rattle.commands.specs.Files.{failed_calls};
 ghost use Rattle.commands.specs.Graphing.{DrawnBytes, DrawnFile};
 
-use crate::reading::{bytes_of, opened};
+use crate::reading::{file_bytes_of, opened};
 use command_line::Answer;
 use explore_runner::{Sight, graph_bytes};
 use run_interface::{Limit, Sink};
 use std::alloc::Global;
 use std::io::Read;
 use std::rt::Files;
-use txn_text::MAX_FILE;
 
 /// Sees every order of the tasks of the file at the path, and writes their graph to the sink.
 pub fn graph_file<R: Files + AllocGlobal, S: Sink>(
@@ -46,7 +45,7 @@ pub fn graph_input<I: Read + Drop, S: Sink>(
     ensures more { result ≡ Answer.Unlawful → S.flushed sink.new ≡ true }
     ensures failures { S.failed sink.new ≡ S.failed sink.old + failed_calls result }
 {
-    match bytes_of(alloc, input, MAX_FILE) {
+    match file_bytes_of(alloc, input) {
         Ok(bytes) => drawn(alloc, bytes.as_slice(), limit, sink),
         Err(answer) => answer,
     }

@@ -5,13 +5,12 @@ ghost use Rattle.run_interface.specs.Counts.{FewFailed};
 ghost use Rattle.commands.specs.Files.{failed_calls};
 ghost use Rattle.commands.specs.Playing.{Played, PlayedFiles};
 
-use crate::reading::{both_of, both_opened};
+use crate::reading::{both_opened, with_schedule};
 use command_line::Answer;
 use run_interface::Sink;
 use std::alloc::Global;
 use std::io::Read;
 use std::rt::Files;
-use text_line_reader::MAX_SCHEDULE;
 use world_runner::world_bytes;
 
 /// Plays the schedule of the file at these paths, and writes the text of the world that it leads to
@@ -47,7 +46,7 @@ pub fn play_inputs<I: Read + Drop, J: Read + Drop, S: Sink>(
     ensures flushed { result ≡ Answer.Done → S.flushed sink.new ≡ true }
     ensures failures { S.failed sink.new ≡ S.failed sink.old + failed_calls result }
 {
-    match both_of(alloc, file, schedule, MAX_SCHEDULE) {
+    match with_schedule(alloc, file, schedule) {
         Ok((file, schedule)) => answered(alloc, file.as_slice(), schedule.as_slice(), sink),
         Err(answer) => answer,
     }

@@ -7,15 +7,13 @@ ghost use Rattle.commands.specs.Files.{failed_calls};
 ghost use Rattle.commands.specs.Printing.{PrintedAs, PrintedBytes, PrintedFile, PrintedOnBytes, PrintedOnFiles};
 
 use crate::checking::answer_of;
-use crate::reading::{both_of, both_opened, bytes_of, opened};
+use crate::reading::{both_opened, file_bytes_of, opened, with_report};
 use command_line::{Answer, Print, Printed};
 use file_chains::{Next, print_bytes, print_on_bytes};
 use run_interface::Sink;
 use std::alloc::Global;
 use std::io::Read;
 use std::rt::Files;
-use text_line_reader::MAX_REPORT;
-use txn_text::MAX_FILE;
 
 /// Prints what the command line asks for.
 #[inline(never)]
@@ -56,7 +54,7 @@ pub fn print_input<I: Read + Drop, S: Sink>(alloc: Global, input: I, sink: &mut 
     ensures flushed { result ≡ Answer.Done → S.flushed sink.new ≡ true }
     ensures failures { S.failed sink.new ≡ S.failed sink.old + failed_calls result }
 {
-    match bytes_of(alloc, input, MAX_FILE) {
+    match file_bytes_of(alloc, input) {
         Ok(bytes) => printed(alloc, bytes.as_slice(), sink),
         Err(answer) => answer,
     }
@@ -111,7 +109,7 @@ pub fn print_on_inputs<I: Read + Drop, J: Read + Drop, S: Sink>(
     ensures bad { result ≡ Answer.Unlawful → S.flushed sink.new ≡ true }
     ensures failures { S.failed sink.new ≡ S.failed sink.old + failed_calls result }
 {
-    match both_of(alloc, file, report, MAX_REPORT) {
+    match with_report(alloc, file, report) {
         Ok((file, report)) => printed_on(alloc, file.as_slice(), report.as_slice(), next, sink),
         Err(answer) => answer,
     }

@@ -1,35 +1,114 @@
 //! What is read of a file, a report or a schedule.
 
-ghost use Rattle.std.specs.Prelude.{◌<◌, ◌^◌, IfOk, IfErr};
-ghost use Rattle.commands.specs.Files.{IsRead, IsUnread, file_limit, report_limit};
+ghost use Rattle.std.specs.Prelude.{◌≡◌, ◌<◌, ◌≤◌, ◌+◌, ◌^◌, ◌++◌, ℕ, IfOk, IfErr, List, length};
+ghost use Rattle.commands.specs.ToLimit.{most_next, count_left, left_of};
+ghost use Rattle.commands.specs.Files.{IsRead, IsReportLimit, IsReportOf, IsUnread, file_limit, schedule_limit};
 
 use command_line::{Answer, Earlier, unread};
+use run_interface::{RunFault, catalogue_of};
 use std::alloc::Global;
 use std::io::Read;
 use std::rt::Files;
 use std::{fs, io};
-use text_line_reader::MAX_REPORT;
-use txn_text::MAX_FILE;
+use text_line_reader::{MAX_REPORT, MAX_SCHEDULE, max_report};
+use txn_text::{MAX_FILE, MAX_FILE_OF_FORM_3};
 
 /// What the reader has left, of which at most one byte past the limit is read: with it, what has more
 /// bytes than the limit is known to be too long. `Err` is the reader's, or out of memory.
 pub fn read_up_to<I: Read + Drop>(alloc: Global, input: I, limit: usize) -> io::Result<Vec<u8>>
     requires { limit < 2 ^ 32 }
-    ensures { IfOk result (λ bytes. IsRead limit (I.remaining input) bytes.items) }
+    ensures { IfOk result (λ bytes. IsRead (λ all. limit) (I.remaining input) bytes.items) }
 {
     let mut bytes = Vec::new(alloc);
     input.take(limit as u64 + 1).read_to_end(&mut bytes)?;
     Ok(bytes)
 }
 
+/// A reader of a file, which gives at most one byte past the limit that its first bytes give.
+#[derive(Drop)]
+struct ToLimit<I> {
+    inner: I,
+    /// What is still to come of `(stm 3)`, or of as many other bytes.
+    ahead: &'static [u8],
+    /// How many bytes are given behind these where they do not come, and how many where they do.
+    short: usize,
+    long: usize,
+}
+
+impl<I> ToLimit<I> {
+    /// Goes on behind this part, which was read.
+    fn pass(&mut self, part: &[u8])
+        requires { length part.now ≤ most_next self.old }
+        ensures counted { (ys : List ℕ)
+            → count_left self.old (part.now ++ ys) ≡ length part.now + count_left self.new ys }
+        ensures inner { self.new.inner ≡ self.old.inner }
+    {
+        if self.ahead.is_empty() {
+            self.long -= part.len();
+            return;
+        }
+        let (front, back) = self.ahead.split_at(part.len());
+        self.ahead = back;
+        if front != part {
+            self.long = self.short;
+        }
+    }
+}
+
+impl<I: Read> Read for ToLimit<I> {
+    ghost remaining = { left_of I.remaining };
+
+    fn read(&mut self, buf: &mut [u8]) -> io::Result<usize> {
+        let next = if self.ahead.is_empty() {
+            self.long
+        } else {
+            self.ahead.len()
+        };
+        let most = buf.len().min(next);
+        if most == 0 {
+            return Ok(0);
+        }
+        let count = self.inner.read(&mut buf[..most])?;
+        self.pass(&buf[..count]);
+        Ok(count)
+    }
+}
+
+/// What the reader of a file has left, of which at most one byte past the limit that its first bytes give is read.
+pub fn read_file_up_to<I: Read + Drop>(alloc: Global, input: I) -> io::Result<Vec<u8>>
+    ensures { IfOk result (λ bytes. IsRead file_limit (I.remaining input) bytes.items) }
+{
+    let mut bytes = Vec::new(alloc);
+    let ahead = b"(stm 3)";
+    let mut input = ToLimit {
+        inner: input,
+        ahead,
+        short: MAX_FILE + 1 - ahead.len(),
+        long: MAX_FILE_OF_FORM_3 + 1 - ahead.len(),
+    };
+    input.read_to_end(&mut bytes)?;
+    Ok(bytes)
+}
+
 /// The same, with what is answered where it cannot be read.
+pub(crate) fn file_bytes_of<I: Read + Drop>(alloc: Global, input: I) -> Result<Vec<u8>, Answer>
+    ensures read { IfOk result (λ bytes. IsRead file_limit (I.remaining input) bytes.items) }
+    ensures unread { IfErr result IsUnread }
+{
+    match read_file_up_to(alloc, input) {
+        Ok(bytes) => Ok(bytes),
+        Err(error) => Err(unread(&error)),
+    }
+}
+
+/// What another reader has left, with what is answered where it cannot be read.
 pub(crate) fn bytes_of<I: Read + Drop>(
     alloc: Global,
     input: I,
     limit: usize,
 ) -> Result<Vec<u8>, Answer>
     requires { limit < 2 ^ 32 }
-    ensures read { IfOk result (λ bytes. IsRead limit (I.remaining input) bytes.items) }
+    ensures read { IfOk result (λ bytes. IsRead (λ all. limit) (I.remaining input) bytes.items) }
     ensures unread { IfErr result IsUnread }
 {
     match read_up_to(alloc, input, limit) {
@@ -38,21 +117,52 @@ pub(crate) fn bytes_of<I: Read + Drop>(
     }
 }
 
-/// What a file has, and a report or a schedule of it, which has its own limit.
-pub(crate) fn both_of<I: Read + Drop, J: Read + Drop>(
+/// What a file has, and a schedule of it.
+pub(crate) fn with_schedule<I: Read + Drop, J: Read + Drop>(
     alloc: Global,
     file: I,
-    other: J,
-    limit: usize,
+    schedule: J,
 ) -> Result<(Vec<u8>, Vec<u8>), Answer>
-    requires { limit < 2 ^ 32 }
     ensures first { IfOk result (λ both. IsRead file_limit (I.remaining file) both.0.items) }
-    ensures second { IfOk result (λ both. IsRead limit (J.remaining other) both.1.items) }
+    ensures second { IfOk result (λ both. IsRead schedule_limit (J.remaining schedule) both.1.items) }
     ensures unread { IfErr result IsUnread }
 {
-    let file = bytes_of(alloc, file, MAX_FILE)?;
-    let other = bytes_of(alloc, other, limit)?;
-    Ok((file, other))
+    let file = file_bytes_of(alloc, file)?;
+    let schedule = bytes_of(alloc, schedule, MAX_SCHEDULE)?;
+    Ok((file, schedule))
+}
+
+/// How many bytes a report of the file of these bytes has at most: as many as its catalogue gives, or where the file is
+/// refused as many as one without cells does.
+fn report_limit(alloc: Global, file: &[u8]) -> Result<usize, Answer>
+    ensures limit { IfOk result (IsReportLimit file.now) }
+    ensures small { IfOk result (λ limit. limit < 2 ^ 32) }
+    ensures unread { IfErr result IsUnread }
+{
+    match catalogue_of(alloc, file) {
+        Ok(catalogue) => {
+            catalogue.rules();
+            Ok(max_report(&catalogue))
+        }
+        Err(RunFault::Memory) => Err(Answer::Failed(RunFault::Memory)),
+        Err(_) => Ok(MAX_REPORT),
+    }
+}
+
+/// What a file has, and a report of it.
+pub(crate) fn with_report<I: Read + Drop, J: Read + Drop>(
+    alloc: Global,
+    file: I,
+    report: J,
+) -> Result<(Vec<u8>, Vec<u8>), Answer>
+    ensures first { IfOk result (λ both. IsRead file_limit (I.remaining file) both.0.items) }
+    ensures second { IfOk result (λ both. IsReportOf both.0.items (J.remaining report) both.1.items) }
+    ensures unread { IfErr result IsUnread }
+{
+    let file = file_bytes_of(alloc, file)?;
+    let limit = report_limit(alloc, &file)?;
+    let report = bytes_of(alloc, report, limit)?;
+    Ok((file, report))
 }
 
 /// The file at the path, to be read, or what is answered where it cannot be.
@@ -96,14 +206,14 @@ pub(crate) fn chapter_of<I: Read + Drop, J: Read + Drop, K: Read + Drop, L: Read
     earlier_report: L,
 ) -> Result<ChapterBytes, Answer>
     ensures file { IfOk result (λ all. IsRead file_limit (I.remaining file) all.file.items) }
-    ensures report { IfOk result (λ all. IsRead report_limit (J.remaining report) all.report.items) }
+    ensures report { IfOk result (λ all. IsReportOf all.file.items (J.remaining report) all.report.items) }
     ensures earlier { IfOk result (λ all. IsRead file_limit (K.remaining earlier) all.earlier.items) }
     ensures earlier_report { IfOk result
-        (λ all. IsRead report_limit (L.remaining earlier_report) all.earlier_report.items) }
+        (λ all. IsReportOf all.earlier.items (L.remaining earlier_report) all.earlier_report.items) }
     ensures unread { IfErr result IsUnread }
 {
-    let (file, report) = both_of(alloc, file, report, MAX_REPORT)?;
-    let (earlier, earlier_report) = both_of(alloc, earlier, earlier_report, MAX_REPORT)?;
+    let (file, report) = with_report(alloc, file, report)?;
+    let (earlier, earlier_report) = with_report(alloc, earlier, earlier_report)?;
     Ok(ChapterBytes {
         file,
         report,

@@ -4,7 +4,7 @@ ghost use Rattle.std.specs.Prelude.{◌≡◌, ◌+◌, true, None};
 ghost use Rattle.run_interface.specs.Counts.{FewFailed};
 ghost use Rattle.commands.specs.Files.{RanBytes, RanFile, failed_calls};
 
-use crate::reading::{bytes_of, opened};
+use crate::reading::{file_bytes_of, opened};
 use command_line::Answer;
 use run_interface::{Options, Sink};
 use runner::{Gate, run_bytes};
@@ -13,7 +13,6 @@ use std::io::Read;
 use std::rt::Files;
 use std::sync::Wait;
 use std::thread::Threads;
-use txn_text::MAX_FILE;
 
 /// Runs the file at the path with these options, and writes its report to the sink.
 #[inline(never)]
@@ -51,7 +50,7 @@ pub fn run_input<T: Threads + Wait + Sync, I: Read + Drop, G: Gate, S: Sink>(
     ensures flushed { result ≡ Answer.Done → S.flushed sink.new ≡ true }
     ensures failures { S.failed sink.new ≡ S.failed sink.old + failed_calls result }
 {
-    match bytes_of(alloc, input, MAX_FILE) {
+    match file_bytes_of(alloc, input) {
         Ok(bytes) => answered(threads, alloc, bytes.as_slice(), options, gate, sink),
         Err(answer) => answer,
     }

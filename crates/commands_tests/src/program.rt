@@ -2,6 +2,7 @@
 
 use crate::host::{Host, Prints, Reads};
 use commands::run;
+use std::alloc::{AllocError, Global};
 use std::process::Abort;
 use std::sync::Wait;
 use std::thread::Threads;
@@ -142,6 +143,26 @@ fn want_of_memory_is_5(rt: HostRuntime) {
     let mut host = Host::new(rt.alloc(), RUN, INCREMENT);
     host.reads = Reads::WantsMemory;
     ends(&rt, &host, 5, 0, Some("stm: out of memory\n"));
+}
+
+/// The bytes, and then so many spaces.
+fn padded(alloc: Global, front: &[u8], count: usize) -> Result<Vec<u8>, AllocError> {
+    let mut bytes = Vec::new(alloc);
+    bytes.extend_from_slice(front)?;
+    bytes.extend_from_slice(Vec::from_elem(alloc, b' ', count)?.as_slice())?;
+    Ok(bytes)
+}
+
+/// One that begins with `(stm 3)` may have more.
+#[test]
+fn a_file_of_form_3_may_have_more_bytes(rt: HostRuntime) {
+    for (front, status) in [(b"(stm 3)".as_slice(), 0), (b"(stm 2)".as_slice(), 2)] {
+        let Ok(bytes) = padded(rt.alloc(), front, 1048570) else {
+            panic!(rt; "no blanks")
+        };
+        let host = Host::new(rt.alloc(), RUN, bytes.as_slice());
+        ends_with(&rt, &host, status);
+    }
 }
 
 /// A file of the limit is run, and with one byte more it is refused.

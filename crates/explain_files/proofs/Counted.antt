@@ -18,8 +18,8 @@ pub names_more : (form : FileForm) (known new : Names) (used : Role) (before : L
 names_more form known new used before t k u e = e ∙ ap (λ (n : Names). with_token n used t) k ∙ ap (λ (r : Role). with_token (names_in form before) r t) u
 
 pub limit_said : (form : FileForm) (many : Many) (used : Role) (before : List Lexeme) (t : Lexeme) (behind : List Lexeme) (said : Option LimitFault)
-    → many ≡ many_in form before → used ≡ role_at form before → said ≡ limit_fault many used t → limit_fault_at form before t behind ≡ said
-limit_said form many used before t behind said k u e = sym (e ∙ ap (λ (n : Many). limit_fault n used t) k ∙ ap (λ (r : Role). limit_fault (many_in form before) r t) u)
+    → many ≡ many_in form before → used ≡ role_at form before → said ≡ limit_fault many used t behind → limit_fault_at form before t behind ≡ said
+limit_said form many used before t behind said k u e = sym (e ∙ ap (λ (n : Many). limit_fault n used t behind) k ∙ ap (λ (r : Role). limit_fault (many_in form before) r t behind) u)
 
 pub many_more : (form : FileForm) (many new : Many) (used : Role) (before : List Lexeme) (t : Lexeme) → many ≡ many_in form before → used ≡ role_at form before → new ≡ many_with many used t → new ≡ many_in form (t ∷ before)
 many_more form many new used before t k u e = e ∙ ap (λ (n : Many). many_with n used t) k ∙ ap (λ (r : Role). many_with (many_in form before) r t) u

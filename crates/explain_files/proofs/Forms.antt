@@ -9,8 +9,10 @@ use Rattle.text_words.specs.TokenReading.{Read, close_at, name_at, int_at, is_op
 use Rattle.text_words.specs.declared.fault.ReadFault.{ReadFault}
 use Rattle.text_words.proofs.Many.{Shortens, all-stop, all-more}
 use Rattle.text_grammar.specs.Tree.{Seq}
-use Rattle.text_grammar.specs.Reading.{operator_of, test_of, keyword_of, expr_at, cond_at, stmt_at, row, set_with, seq_with, if_with, repeat_with, orelse_with, throw_with}
-use Rattle.text_grammar.specs.declared.words.Operator.{Operator}
+use Rattle.text_grammar.specs.Reading.{head_of, test_of, keyword_of, binary_with, at_with, all_with, compound_with, expr_at, cond_at, stmt_at, row, set_with, put_with, seq_with, if_with, repeat_with, orelse_with, throw_with}
+use Rattle.text_grammar.specs.declared.file.FileForm.{FileForm}
+use Rattle.text_grammar.specs.declared.words.Head.{Head}
+use Rattle.text_grammar.specs.declared.words.Head.TheVariants as head
 use Rattle.text_grammar.specs.declared.words.Test.{Test}
 use Rattle.text_grammar.specs.declared.words.Test.TheVariants as test
 use Rattle.text_grammar.specs.declared.words.Keyword.{Keyword}
@@ -20,8 +22,8 @@ use Rattle.text_grammar.proofs.Lists.{name_shortens, int_shortens}
 use Rattle.explain_files.specs.declared.wanted.NumberUse.TheVariants as number
 use Rattle.explain_files.specs.declared.wanted.Wanted.{Wanted}
 use Rattle.explain_files.specs.declared.wanted.Wanted.TheVariants as want
-use Rattle.explain_files.specs.Forms.{Wants, deeper, behind_operator, behind_test, behind_keyword}
-use Rattle.explain_files.specs.Wanting.{Left, left_of, kept, ◌▷◌, read_test, read_keyword, read_parameters, read_arguments, read_all, onto}
+use Rattle.explain_files.specs.Forms.{Wants, deeper, behind_head, behind_test, behind_keyword}
+use Rattle.explain_files.specs.Wanting.{Left, left_of, kept, ◌▷◌, read_test, read_keyword, read_parameters, read_numbers, read_all, onto}
 use Rattle.explain_files.proofs.Chains.{left_to, close_to, none_to, deeper_suc}
 
 -- what is read, where this is wanted now on top of what was wanted before
@@ -35,74 +37,79 @@ deep depth more below ts = sym (ap (λ (wants : Wants). after wants below ts) (d
 
 -- ---- expressions
 
-pub operator_reads : (depth : ℕ) (word : List ℕ) (ts : List Lexeme) (below : List Wanted) (r : Result Operator ReadFault) → operator_of word ≡ r
-    → read_all (want.Operator depth ∷ below) (token.Name word ∷ ts) ≡ after (behind_operator depth (result_ok r)) below ts
-unfolding name_at
-operator_reads depth word ts below (Ok op) e =
-    rw e (left_to (expr_at depth ts) _ _ _ (λ l. left_to (expr_at depth l.1) _ _ _ (λ r. close_to (close_at r.1) _ _)))
-operator_reads depth word ts below (Err d) e = rw e refl
+pub head_reads : (form : FileForm) (depth : ℕ) (word : List ℕ) (ts : List Lexeme) (below : List Wanted) (r : Result Head ReadFault) → head_of form word ≡ r
+    → read_all (want.Head form depth ∷ below) (token.Name word ∷ ts) ≡ after (behind_head form depth (result_ok r)) below ts
+unfolding name_at compound_with binary_with at_with all_with
+head_reads form depth word ts below (Ok (head.Operates op)) e =
+    rw e (left_to (expr_at form depth ts) _ _ _ (λ l. left_to (expr_at form depth l.1) _ _ _ (λ r. close_to (close_at r.1) _ _)))
+head_reads form depth word ts below (Ok head.Picks) e =
+    rw e (left_to (name_at ts) _ _ _ (λ n. left_to (expr_at form depth n.1) _ _ _ (λ i. close_to (close_at i.1) _ _)))
+head_reads form depth word ts below (Ok (head.Folds fold)) e = rw e (left_to (name_at ts) _ _ _ (λ n. close_to (close_at n.1) _ _))
+head_reads form depth word ts below (Err d) e = rw e refl
 
 -- ---- conditions
 
-not_zero : (word : List ℕ) (ts : List Lexeme) (below : List Wanted) → test_of word ≡ Ok test.Negates → read_all (want.Test zero ∷ below) (token.Name word ∷ ts) ≡ None
+not_zero : (form : FileForm) (word : List ℕ) (ts : List Lexeme) (below : List Wanted) → test_of word ≡ Ok test.Negates → read_all (want.Test form zero ∷ below) (token.Name word ∷ ts) ≡ None
 unfolding name_at read_test cond_at
-not_zero word ts below e = rw e refl
+not_zero form word ts below e = rw e refl
 
-connect_zero : (op : _) (word : List ℕ) (ts : List Lexeme) (below : List Wanted) → test_of word ≡ Ok (test.Connects op) → read_all (want.Test zero ∷ below) (token.Name word ∷ ts) ≡ None
+connect_zero : (form : FileForm) (op : _) (word : List ℕ) (ts : List Lexeme) (below : List Wanted) → test_of word ≡ Ok (test.Connects op) → read_all (want.Test form zero ∷ below) (token.Name word ∷ ts) ≡ None
 unfolding name_at read_test cond_at
-connect_zero op word ts below e = rw e refl
+connect_zero form op word ts below e = rw e refl
 
-pub test_reads : (depth : ℕ) (word : List ℕ) (ts : List Lexeme) (below : List Wanted) (r : Result Test ReadFault) → test_of word ≡ r
-    → read_all (want.Test depth ∷ below) (token.Name word ∷ ts) ≡ after (behind_test depth (result_ok r)) below ts
+pub test_reads : (form : FileForm) (depth : ℕ) (word : List ℕ) (ts : List Lexeme) (below : List Wanted) (r : Result Test ReadFault) → test_of word ≡ r
+    → read_all (want.Test form depth ∷ below) (token.Name word ∷ ts) ≡ after (behind_test form depth (result_ok r)) below ts
 unfolding name_at read_test
-test_reads depth word ts below (Ok (test.Compares op)) e =
-    rw e (left_to (expr_at depth ts) _ _ _ (λ l. left_to (expr_at depth l.1) _ _ _ (λ r. close_to (close_at r.1) _ _)))
-test_reads zero word ts below (Ok test.Negates) e = not_zero word ts below e
-test_reads (suc depth) word ts below (Ok test.Negates) e =
-    rw e (left_to (cond_at (suc depth) ts) _ _ _ (λ c. close_to (close_at c.1) _ _))
-    ∙ deep depth (λ n. want.Close ∷ want.Cond n ∷ []) below ts
-test_reads zero word ts below (Ok (test.Connects op)) e = connect_zero op word ts below e
-test_reads (suc depth) word ts below (Ok (test.Connects op)) e =
-    rw e (left_to (cond_at (suc depth) ts) _ _ _ (λ l. left_to (cond_at (suc depth) l.1) _ _ _ (λ r. close_to (close_at r.1) _ _)))
-    ∙ deep depth (λ n. want.Close ∷ want.Cond n ∷ want.Cond n ∷ []) below ts
-test_reads depth word ts below (Err d) e = rw e refl
+test_reads form depth word ts below (Ok (test.Compares op)) e =
+    rw e (left_to (expr_at form depth ts) _ _ _ (λ l. left_to (expr_at form depth l.1) _ _ _ (λ r. close_to (close_at r.1) _ _)))
+test_reads form zero word ts below (Ok test.Negates) e = not_zero form word ts below e
+test_reads form (suc depth) word ts below (Ok test.Negates) e =
+    rw e (left_to (cond_at form (suc depth) ts) _ _ _ (λ c. close_to (close_at c.1) _ _))
+    ∙ deep depth (λ n. want.Close ∷ want.Cond form n ∷ []) below ts
+test_reads form zero word ts below (Ok (test.Connects op)) e = connect_zero form op word ts below e
+test_reads form (suc depth) word ts below (Ok (test.Connects op)) e =
+    rw e (left_to (cond_at form (suc depth) ts) _ _ _ (λ l. left_to (cond_at form (suc depth) l.1) _ _ _ (λ r. close_to (close_at r.1) _ _)))
+    ∙ deep depth (λ n. want.Close ∷ want.Cond form n ∷ want.Cond form n ∷ []) below ts
+test_reads form depth word ts below (Err d) e = rw e refl
 
 -- ---- statements
 
-if_zero : (word : List ℕ) (ts : List Lexeme) (below : List Wanted) → keyword_of word ≡ Ok keyword.If → read_all (want.Keyword zero ∷ below) (token.Name word ∷ ts) ≡ None
+if_zero : (form : FileForm) (word : List ℕ) (ts : List Lexeme) (below : List Wanted) → keyword_of form word ≡ Ok keyword.If → read_all (want.Keyword form zero ∷ below) (token.Name word ∷ ts) ≡ None
 unfolding name_at read_keyword if_with cond_at
-if_zero word ts below e = rw e refl
+if_zero form word ts below e = rw e refl
 
-orelse_zero : (word : List ℕ) (ts : List Lexeme) (below : List Wanted) → keyword_of word ≡ Ok keyword.OrElse → read_all (want.Keyword zero ∷ below) (token.Name word ∷ ts) ≡ None
+orelse_zero : (form : FileForm) (word : List ℕ) (ts : List Lexeme) (below : List Wanted) → keyword_of form word ≡ Ok keyword.OrElse → read_all (want.Keyword form zero ∷ below) (token.Name word ∷ ts) ≡ None
 unfolding name_at read_keyword orelse_with stmt_at
-orelse_zero word ts below e = rw e refl
+orelse_zero form word ts below e = rw e refl
 
-repeat_zero : (word : List ℕ) (ts : List Lexeme) (below : List Wanted) → keyword_of word ≡ Ok keyword.Repeat → read_all (want.Keyword zero ∷ below) (token.Name word ∷ ts) ≡ None
+repeat_zero : (form : FileForm) (word : List ℕ) (ts : List Lexeme) (below : List Wanted) → keyword_of form word ≡ Ok keyword.Repeat → read_all (want.Keyword form zero ∷ below) (token.Name word ∷ ts) ≡ None
 unfolding name_at read_keyword repeat_with stmt_at
-repeat_zero word ts below e = rw e (none_to (int_at ts) _ _ (λ n. refl))
+repeat_zero form word ts below e = rw e (none_to (int_at ts) _ _ (λ n. refl))
 
-pub keyword_reads : (depth : ℕ) (word : List ℕ) (ts : List Lexeme) (below : List Wanted) (r : Result Keyword ReadFault) → keyword_of word ≡ r
-    → read_all (want.Keyword depth ∷ below) (token.Name word ∷ ts) ≡ after (behind_keyword depth (result_ok r)) below ts
-unfolding name_at read_keyword set_with if_with repeat_with orelse_with throw_with
-keyword_reads depth word ts below (Ok keyword.Skip) e = rw e (close_to (close_at ts) _ _)
-keyword_reads depth word ts below (Ok keyword.Set) e =
-    rw e (left_to (name_at ts) _ _ _ (λ n. left_to (expr_at depth n.1) _ _ _ (λ v. close_to (close_at v.1) _ _)))
-keyword_reads depth word ts below (Ok keyword.Seq) e = rw e refl
-keyword_reads zero word ts below (Ok keyword.If) e = if_zero word ts below e
-keyword_reads (suc depth) word ts below (Ok keyword.If) e =
-    rw e (left_to (cond_at (suc depth) ts) _ _ _ (λ c. left_to (stmt_at (suc depth) c.1) _ _ _ (λ p. left_to (stmt_at (suc depth) p.1) _ _ _ (λ q. close_to (close_at q.1) _ _))))
-    ∙ deep depth (λ n. want.Close ∷ want.Stmt n ∷ want.Stmt n ∷ want.Cond n ∷ []) below ts
-keyword_reads zero word ts below (Ok keyword.Repeat) e = repeat_zero word ts below e
-keyword_reads (suc depth) word ts below (Ok keyword.Repeat) e =
-    rw e (left_to (int_at ts) _ _ _ (λ c. left_to (stmt_at (suc depth) c.1) _ _ _ (λ p. close_to (close_at p.1) _ _)))
-    ∙ deep depth (λ n. want.Close ∷ want.Stmt n ∷ want.Number number.Turns ∷ []) below ts
-keyword_reads depth word ts below (Ok keyword.Retry) e = rw e (close_to (close_at ts) _ _)
-keyword_reads zero word ts below (Ok keyword.OrElse) e = orelse_zero word ts below e
-keyword_reads (suc depth) word ts below (Ok keyword.OrElse) e =
-    rw e (left_to (stmt_at (suc depth) ts) _ _ _ (λ p. left_to (stmt_at (suc depth) p.1) _ _ _ (λ q. close_to (close_at q.1) _ _)))
-    ∙ deep depth (λ n. want.Close ∷ want.Stmt n ∷ want.Stmt n ∷ []) below ts
-keyword_reads depth word ts below (Ok keyword.Throw) e = rw e (left_to (expr_at depth ts) _ _ _ (λ v. close_to (close_at v.1) _ _))
-keyword_reads depth word ts below (Err d) e = rw e refl
+pub keyword_reads : (form : FileForm) (depth : ℕ) (word : List ℕ) (ts : List Lexeme) (below : List Wanted) (r : Result Keyword ReadFault) → keyword_of form word ≡ r
+    → read_all (want.Keyword form depth ∷ below) (token.Name word ∷ ts) ≡ after (behind_keyword form depth (result_ok r)) below ts
+unfolding name_at read_keyword set_with put_with if_with repeat_with orelse_with throw_with
+keyword_reads form depth word ts below (Ok keyword.Skip) e = rw e (close_to (close_at ts) _ _)
+keyword_reads form depth word ts below (Ok keyword.Set) e =
+    rw e (left_to (name_at ts) _ _ _ (λ n. left_to (expr_at form depth n.1) _ _ _ (λ v. close_to (close_at v.1) _ _)))
+keyword_reads form depth word ts below (Ok keyword.Put) e =
+    rw e (left_to (name_at ts) _ _ _ (λ n. left_to (expr_at form depth n.1) _ _ _ (λ i. left_to (expr_at form depth i.1) _ _ _ (λ v. close_to (close_at v.1) _ _))))
+keyword_reads form depth word ts below (Ok keyword.Seq) e = rw e refl
+keyword_reads form zero word ts below (Ok keyword.If) e = if_zero form word ts below e
+keyword_reads form (suc depth) word ts below (Ok keyword.If) e =
+    rw e (left_to (cond_at form (suc depth) ts) _ _ _ (λ c. left_to (stmt_at form (suc depth) c.1) _ _ _ (λ p. left_to (stmt_at form (suc depth) p.1) _ _ _ (λ q. close_to (close_at q.1) _ _))))
+    ∙ deep depth (λ n. want.Close ∷ want.Stmt form n ∷ want.Stmt form n ∷ want.Cond form n ∷ []) below ts
+keyword_reads form zero word ts below (Ok keyword.Repeat) e = repeat_zero form word ts below e
+keyword_reads form (suc depth) word ts below (Ok keyword.Repeat) e =
+    rw e (left_to (int_at ts) _ _ _ (λ c. left_to (stmt_at form (suc depth) c.1) _ _ _ (λ p. close_to (close_at p.1) _ _)))
+    ∙ deep depth (λ n. want.Close ∷ want.Stmt form n ∷ want.Number number.Turns ∷ []) below ts
+keyword_reads form depth word ts below (Ok keyword.Retry) e = rw e (close_to (close_at ts) _ _)
+keyword_reads form zero word ts below (Ok keyword.OrElse) e = orelse_zero form word ts below e
+keyword_reads form (suc depth) word ts below (Ok keyword.OrElse) e =
+    rw e (left_to (stmt_at form (suc depth) ts) _ _ _ (λ p. left_to (stmt_at form (suc depth) p.1) _ _ _ (λ q. close_to (close_at q.1) _ _)))
+    ∙ deep depth (λ n. want.Close ∷ want.Stmt form n ∷ want.Stmt form n ∷ []) below ts
+keyword_reads form depth word ts below (Ok keyword.Throw) e = rw e (left_to (expr_at form depth ts) _ _ _ (λ v. close_to (close_at v.1) _ _))
+keyword_reads form depth word ts below (Err d) e = rw e refl
 
 -- ---- items one behind the other, and a closing parenthesis
 
@@ -133,13 +140,13 @@ items_end : {A B : Type 0} (f : List A → B) (goes : List Lexeme → Bool) (one
 items_end f goes one ts k h = rw (all-stop goes one ts h) (close_to (close_at ts) _ k)
 
 -- the statements of a sequence
-pub parts_go_on : (depth : ℕ) (ts : List Lexeme) (k : List Lexeme → Left) → is_open ts ≡ true → (left_of (seq_with (stmt_at depth) ts) ▷ k) ≡ (left_of (stmt_at depth ts) ▷ λ us. left_of (seq_with (stmt_at depth) us) ▷ k)
+pub parts_go_on : (form : FileForm) (depth : ℕ) (ts : List Lexeme) (k : List Lexeme → Left) → is_open ts ≡ true → (left_of (seq_with (stmt_at form depth) ts) ▷ k) ≡ (left_of (stmt_at form depth ts) ▷ λ us. left_of (seq_with (stmt_at form depth) us) ▷ k)
 unfolding seq_with
-parts_go_on depth ts k h = items_go_on (λ parts. Seq (row parts)) is_open (stmt_at depth) (stmt_shortens depth) ts k h
+parts_go_on form depth ts k h = items_go_on (λ parts. Seq (row parts)) is_open (stmt_at form depth) (stmt_shortens form depth) ts k h
 
-pub parts_end : (depth : ℕ) (ts : List Lexeme) (k : List Lexeme → Left) → is_open ts ≡ false → (left_of (seq_with (stmt_at depth) ts) ▷ k) ≡ (kept (close_at ts) ▷ k)
+pub parts_end : (form : FileForm) (depth : ℕ) (ts : List Lexeme) (k : List Lexeme → Left) → is_open ts ≡ false → (left_of (seq_with (stmt_at form depth) ts) ▷ k) ≡ (kept (close_at ts) ▷ k)
 unfolding seq_with
-parts_end depth ts k h = items_end (λ parts. Seq (row parts)) is_open (stmt_at depth) ts k h
+parts_end form depth ts k h = items_end (λ parts. Seq (row parts)) is_open (stmt_at form depth) ts k h
 
 -- the names of a list
 pub parameters_go_on : (word : List ℕ) (ts : List Lexeme) (k : List Lexeme → Left) → (left_of (read_parameters (token.Name word ∷ ts)) ▷ k) ≡ (left_of (read_parameters ts) ▷ k)
@@ -150,11 +157,11 @@ pub parameters_end : (ts : List Lexeme) (k : List Lexeme → Left) → is_name t
 unfolding read_parameters
 parameters_end ts k h = items_end (λ (names : List (List ℕ)). names) is_name name_at ts k h
 
--- the arguments of a run
-pub arguments_go_on : (value : ℤ) (ts : List Lexeme) (k : List Lexeme → Left) → (left_of (read_arguments (token.Int value ∷ ts)) ▷ k) ≡ (left_of (read_arguments ts) ▷ k)
-unfolding read_arguments is_int int_at
-arguments_go_on value ts k = items_go_on (λ (arguments : List ℤ). arguments) is_int int_at int_shortens (token.Int value ∷ ts) k refl
+-- numbers in a row
+pub numbers_go_on : (value : ℤ) (ts : List Lexeme) (k : List Lexeme → Left) → (left_of (read_numbers (token.Int value ∷ ts)) ▷ k) ≡ (left_of (read_numbers ts) ▷ k)
+unfolding read_numbers is_int int_at
+numbers_go_on value ts k = items_go_on (λ (numbers : List ℤ). numbers) is_int int_at int_shortens (token.Int value ∷ ts) k refl
 
-pub arguments_end : (ts : List Lexeme) (k : List Lexeme → Left) → is_int ts ≡ false → (left_of (read_arguments ts) ▷ k) ≡ (kept (close_at ts) ▷ k)
-unfolding read_arguments
-arguments_end ts k h = items_end (λ (arguments : List ℤ). arguments) is_int int_at ts k h
+pub numbers_end : (ts : List Lexeme) (k : List Lexeme → Left) → is_int ts ≡ false → (left_of (read_numbers ts) ▷ k) ≡ (kept (close_at ts) ▷ k)
+unfolding read_numbers
+numbers_end ts k h = items_end (λ (numbers : List ℤ). numbers) is_int int_at ts k h

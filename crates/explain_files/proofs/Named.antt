@@ -9,10 +9,10 @@ use Rattle.std.proofs.lemmas.List.Folds.{list_any-append}
 use Rattle.txn_programs.specs.Names.{are_new}
 use Rattle.text_words.specs.Tokens.{Lexeme, Closes, tokens}
 use Rattle.text_words.specs.Tokens as token
-use Rattle.text_grammar.specs.Tree.{Expr, Cond, Stmt, Stmts, NoStmts, MoreStmts, Pair, Always, Declaration, Run, File, SpellsTree, IsOfForm, operator_word, comparison_word, connective_word, expr_tokens, cond_tokens, stmt_tokens, stmts_tokens, pair_tokens, always_tokens, tx_tokens, run_tokens, file_tokens}
+use Rattle.text_grammar.specs.Tree.{Expr, Cond, Stmt, Stmts, NoStmts, MoreStmts, Pair, Table, Always, Declaration, Run, File, SpellsTree, IsOfForm, operator_word, comparison_word, connective_word, expr_tokens, cond_tokens, stmt_tokens, stmts_tokens, pair_tokens, table_tokens, always_tokens, tx_tokens, run_tokens, file_tokens}
 use Rattle.text_grammar.specs.Tree as f
 use Rattle.text_grammar.specs.Scope.{Scope, inside, standing}
-use Rattle.text_grammar.specs.Resolving.{is_known, expr_known, cond_known, stmt_known, stmts_known, always_known, tx_known, has_parameters, run_known, uses_known, pair_name, condition_name, tx_name}
+use Rattle.text_grammar.specs.Resolving.{is_known, expr_known, cond_known, stmt_known, stmts_known, always_known, tx_known, has_parameters, run_known, uses_known, pair_name, table_name, condition_name, tx_name}
 use Rattle.text_grammar.specs.declared.file.FileForm.{FileForm}
 use Rattle.text_grammar.specs.declared.file.FileForm.TheVariants.{One, Two, Three}
 use Rattle.text_words.specs.declared.fault.ReadFault.TheVariants.{Name}
@@ -21,9 +21,9 @@ use Rattle.text_file_reader.proofs.Back.{both_true}
 use Rattle.explain_files.specs.declared.names.NameFault.{NameFault}
 use Rattle.explain_files.specs.declared.wanted.Role.TheVariants as role
 use Rattle.explain_files.specs.Roles.{form_of}
-use Rattle.explain_files.specs.Judging.{AllTokens, IsRight, with_last, target_fault, value_fault, integers_in, given_in, run_fault, name_fault_for, name_fault_at}
+use Rattle.explain_files.specs.Judging.{AllTokens, IsRight, with_last, target_fault, cells_fault, value_fault, integers_in, given_in, run_fault, name_fault_for, name_fault_at}
 use Rattle.explain_files.proofs.Announced.{form_spelled}
-use Rattle.explain_files.proofs.Passed.{Seen, seen_in, Fact, Along, all_along, within, within_two, within_three, operator_role, comparison_role, connective_role, pass_expr, pass_cond, pass_stmt, in_set, in_repeat, in_more, with_variable, with_condition, with_name, with_parameter, with_parameters, listed, with_transaction, OfParameters, onward, in_var, in_always, in_tx, with_tasks, in_run, with_variables, with_conditions, with_transactions, behind_always, behind_tx, InFile, at_always, at_txs, at_runs, in_file}
+use Rattle.explain_files.proofs.Passed.{Seen, seen_in, Fact, Along, all_along, within, within_two, within_three, operator_role, comparison_role, connective_role, in_at, in_all, pass_expr, pass_cond, pass_stmt, in_set, in_put, in_repeat, in_more, with_variable, with_table, with_condition, with_name, with_parameter, with_parameters, listed, with_transaction, OfParameters, onward, in_var, in_table, in_always, in_tx, with_tasks, in_run, with_variables, with_tables, with_conditions, with_transactions, behind_always, behind_tx, InFile, at_tables, at_always, at_txs, at_runs, in_file}
 
 -- no name is wrong
 abbrev NameRight : Fact
@@ -64,8 +64,15 @@ either_is true b h = refl
 either_is false b (inl e) = absurd cc
 either_is false b (inr e) = e
 
--- a name in an expression, and one that is set
-value_known : (s : Seen) (text : List ℕ) → value_fault s.names text ≡ None → expr_known (inside s.names.variables s.names.parameters) (f.Name text) ≡ true
+-- the names that are known in a standing condition, and in an expression
+abbrev outer : Seen → Scope
+outer s = standing s.names.variables s.names.tables []
+
+abbrev scope : Seen → Scope
+scope s = inside (outer s) s.names.parameters
+
+-- a name in an expression, one that is set, and one of a table
+value_known : (s : Seen) (text : List ℕ) → value_fault s.names text ≡ None → expr_known (scope s) (f.Name text) ≡ true
 value_known s text h =
     let there = said_unless (list_any (bytes_eq text) s.names.parameters || list_any (bytes_eq text) s.names.variables) _ h in
     elim (either_true (list_any (bytes_eq text) s.names.parameters) (list_any (bytes_eq text) s.names.variables) there) [
@@ -81,15 +88,18 @@ unset false false x y h = absurd cc
 target_known : (s : Seen) (text : List ℕ) → target_fault s.names text ≡ None → is_known s.names.variables text ≡ true
 target_known s text h = among_known s.names.variables text (unset (list_any (bytes_eq text) s.names.variables) (list_any (bytes_eq text) s.names.parameters) _ _ h)
 
--- the names that are known in an expression
-abbrev scope : Seen → Scope
-scope s = inside s.names.variables s.names.parameters
+cells_known : (s : Seen) (text : List ℕ) → cells_fault s.names text ≡ None → is_known s.names.tables text ≡ true
+cells_known s text h = among_known s.names.tables text (said_unless (list_any (bytes_eq text) s.names.tables) _ h)
 
 -- ---- expressions, conditions and statements
 
 expr_named : (announced : FileForm) (s : Seen) (e : Expr) (ts : List Lexeme) → Along NameRight announced s role.Value (expr_tokens e ++ ts) → expr_known (scope s) e ≡ true
 expr_named announced s (f.Int value) ts h = refl
 expr_named announced s (f.Name text) ts h = value_known s text h.0
+expr_named announced s (f.At table index) ts h =
+    let w = in_at NameRight announced s table index ts h in
+    both_true _ _ (cells_known s table w.0) (expr_named announced s index (Closes ∷ ts) w.1)
+expr_named announced s (f.OfAll op table) ts h = cells_known s table (in_all NameRight announced s op table ts h).0
 expr_named announced s (f.Binary op left right) ts h =
     let w = within_two NameRight announced s (operator_word op) (expr_tokens left) (expr_tokens right) ts (operator_role op) h in
     both_true _ _ (expr_named announced s left (expr_tokens right ++ (Closes ∷ ts)) w) (expr_named announced s right (Closes ∷ ts) (pass_expr NameRight announced s left (expr_tokens right ++ (Closes ∷ ts)) w))
@@ -109,6 +119,10 @@ mutual
   stmt_named announced s (f.Set text value) ts h =
       let w = in_set NameRight announced s text value ts h in
       both_true _ _ (target_known s text w.0) (expr_named announced s value (Closes ∷ ts) w.1)
+  stmt_named announced s (f.Put table index value) ts h =
+      let w = in_put NameRight announced s table index value ts h in
+      let v = pass_expr NameRight announced s index (expr_tokens value ++ (Closes ∷ ts)) w.1 in
+      both_true _ _ (cells_known s table w.0) (both_true _ _ (expr_named announced s index (expr_tokens value ++ (Closes ∷ ts)) w.1) (expr_named announced s value (Closes ∷ ts) v))
   stmt_named announced s (f.Seq parts) ts h = stmts_named announced s parts (Closes ∷ ts) (within NameRight announced s (codes "seq") role.Value (stmts_tokens parts) ts refl h)
   stmt_named announced s (f.If test first second) ts h =
       let w = within_three NameRight announced s (codes "if") (cond_tokens test) (stmt_tokens first) (stmt_tokens second) ts refl h in
@@ -136,17 +150,23 @@ vars_named announced (p ∷ ps) s ts h =
     let w = in_var NameRight announced s p (flat_map (pair_tokens (codes "var")) ps ++ ts) (onward NameRight announced s (pair_tokens (codes "var")) p ps ts h) in
     both_true _ _ (said_if (list_any (bytes_eq p.name) s.names.variables) _ w.0) (vars_named announced ps (with_variable s p.name) ts w.2)
 
+tables_named : (announced : FileForm) (all : List Table) (s : Seen) (ts : List Lexeme) → Along NameRight announced s role.Value (flat_map table_tokens all ++ ts) → are_new s.names.tables (map table_name all) ≡ true
+tables_named announced [] s ts h = refl
+tables_named announced (t ∷ all) s ts h =
+    let w = in_table NameRight announced s t (flat_map table_tokens all ++ ts) (onward NameRight announced s table_tokens t all ts h) in
+    both_true _ _ (said_if (list_any (bytes_eq t.name) s.names.tables) _ w.named) (tables_named announced all (with_table s t) ts w.rest)
+
 -- there are no parameters yet
 always_named : (announced : FileForm) (all : List Always) (s : Seen) (ts : List Lexeme) → s.names.parameters ≡ [] → Along NameRight announced s role.Value (flat_map always_tokens all ++ ts)
-    → (are_new s.names.conditions (map condition_name all) ≡ true) × (list_all (always_known s.names.variables) all ≡ true)
+    → (are_new s.names.conditions (map condition_name all) ≡ true) × (list_all (always_known (outer s)) all ≡ true)
 always_named announced [] s ts none h = (refl, refl)
 always_named announced (a ∷ all) s ts none h =
     let rest = flat_map always_tokens all ++ ts in
     let o = onward NameRight announced s always_tokens a all ts h in
     let w = in_always NameRight announced s a rest o in
     let more = always_named announced all (with_condition s a.name) ts none (behind_always NameRight announced s a rest o) in
-    let condition : cond_known (inside s.names.variables s.names.parameters) a.condition ≡ true = cond_named announced (with_condition s a.name) a.condition (Closes ∷ rest) w.1 in
-    let known : cond_known (standing s.names.variables) a.condition ≡ true = sym (ap (λ (ps : List (List ℕ)). cond_known (inside s.names.variables ps) a.condition) none) ∙ condition in
+    let condition : cond_known (scope s) a.condition ≡ true = cond_named announced (with_condition s a.name) a.condition (Closes ∷ rest) w.1 in
+    let known : cond_known (outer s) a.condition ≡ true = sym (ap (λ (ps : List (List ℕ)). cond_known (inside (outer s) ps) a.condition) none) ∙ condition in
     (both_true _ _ (said_if (list_any (bytes_eq a.name) s.names.conditions) _ w.0) more.0, both_true _ _ known more.1)
 
 -- ---- the parameters of a transaction
@@ -201,19 +221,19 @@ parameters_counted (p ∷ ps) s earlier e =
 abbrev pub IsListed : FileForm → Declaration → Type 0
 IsListed announced t = listed announced t.parameters ≡ t.parameters
 
-pub tx_variables : (announced : FileForm) (s : Seen) (t : Declaration) → (with_transaction announced s t).names.variables ≡ s.names.variables
-tx_variables announced s t = kept_by_parameters (λ (u : Seen). u.names.variables) (λ u text. refl) (listed announced t.parameters) (with_name s t.name)
+pub tx_outer : (announced : FileForm) (s : Seen) (t : Declaration) → outer (with_transaction announced s t) ≡ outer s
+tx_outer announced s t = kept_by_parameters outer (λ u text. refl) (listed announced t.parameters) (with_name s t.name)
 
 tx_transactions : (announced : FileForm) (s : Seen) (t : Declaration) → (with_transaction announced s t).names.transactions ≡ s.names.transactions ++ t.name ∷ []
 tx_transactions announced s t = kept_by_parameters (λ (u : Seen). u.names.transactions) (λ u text. refl) (listed announced t.parameters) (with_name s t.name)
 
-tx_scope : (announced : FileForm) (s : Seen) (t : Declaration) → IsListed announced t → scope (with_transaction announced s t) ≡ inside s.names.variables t.parameters
+tx_scope : (announced : FileForm) (s : Seen) (t : Declaration) → IsListed announced t → scope (with_transaction announced s t) ≡ inside (outer s) t.parameters
 tx_scope announced s t e =
-    ap (λ (vs : List (List ℕ)). inside vs (with_transaction announced s t).names.parameters) (tx_variables announced s t)
-    ∙ ap (λ (ps : List (List ℕ)). inside s.names.variables ps) (parameters_seen (listed announced t.parameters) (with_name s t.name) ∙ e)
+    ap (λ (sc : Scope). inside sc (with_transaction announced s t).names.parameters) (tx_outer announced s t)
+    ∙ ap (λ (ps : List (List ℕ)). inside (outer s) ps) (parameters_seen (listed announced t.parameters) (with_name s t.name) ∙ e)
 
 txs_named : (announced : FileForm) (all : List Declaration) (s : Seen) (ts : List Lexeme) → AllByRecursion (IsListed announced) all → Along NameRight announced s role.Value (flat_map (tx_tokens announced) all ++ ts)
-    → (are_new s.names.transactions (map tx_name all) ≡ true) × (list_all (tx_known s.names.variables) all ≡ true)
+    → (are_new s.names.transactions (map tx_name all) ≡ true) × (list_all (tx_known (outer s)) all ≡ true)
 txs_named announced [] s ts lists h = (refl, refl)
 txs_named announced (t ∷ all) s ts lists h =
     let rest = flat_map (tx_tokens announced) all ++ ts in
@@ -228,12 +248,12 @@ txs_named announced (t ∷ all) s ts lists h =
     let own : are_new s.names.variables t.parameters ≡ true = sym (ap (λ (vs : List (List ℕ)). are_new vs t.parameters) (append-nil s.names.variables)) ∙ sym (ap (are_new (s.names.variables ++ [])) lists.0) ∙ new in
     let known = both_true _ _ own (both_true _ _ (sym (ap (λ (sc : Scope). stmt_known sc t.body) in_scope) ∙ body) (sym (ap (λ (sc : Scope). expr_known sc t.value) in_scope) ∙ value)) in (
       both_true _ _ (said_if (list_any (bytes_eq t.name) s.names.transactions) _ w.named) (sym (ap (λ (ns : List (List ℕ)). are_new ns (map tx_name all)) (tx_transactions announced s t)) ∙ more.0),
-      both_true _ _ known (sym (ap (λ (vs : List (List ℕ)). list_all (tx_known vs) all) (tx_variables announced s t)) ∙ more.1),
+      both_true _ _ known (sym (ap (λ (sc : Scope). list_all (tx_known sc) all) (tx_outer announced s t)) ∙ more.1),
     )
 
 -- ---- runs
 
-integers_are : (given : List ℤ) (ts : List Lexeme) → integers_in (map token.Int given ++ (Closes ∷ ts)) ≡ length given
+pub integers_are : (given : List ℤ) (ts : List Lexeme) → integers_in (map token.Int given ++ (Closes ∷ ts)) ≡ length given
 integers_are [] ts = refl
 integers_are (a ∷ given) ts = let e : integers_in (map token.Int given ++ (Closes ∷ ts)) ≡ length given = integers_are given ts in omega arith
 
@@ -278,6 +298,14 @@ pub kept_by_variables : {X : Type 0} (look : Seen → X) → ((s : Seen) (text :
 kept_by_variables look h [] s = refl
 kept_by_variables look h (p ∷ ps) s = kept_by_variables look h ps (with_variable s p.name) ∙ h s p.name
 
+tables_of : (all : List Table) (s : Seen) → (with_tables s all).names.tables ≡ s.names.tables ++ map table_name all
+tables_of [] s = sym (append-nil s.names.tables)
+tables_of (t ∷ all) s = tables_of all (with_table s t) ∙ append_assoc s.names.tables (t.name ∷ []) (map table_name all)
+
+pub kept_by_tables : {X : Type 0} (look : Seen → X) → ((s : Seen) (t : Table) → look (with_table s t) ≡ look s) → (all : List Table) (s : Seen) → look (with_tables s all) ≡ look s
+kept_by_tables look h [] s = refl
+kept_by_tables look h (t ∷ all) s = kept_by_tables look h all (with_table s t) ∙ h s t
+
 pub kept_by_conditions : {X : Type 0} (look : Seen → X) → ((s : Seen) (text : List ℕ) → look (with_condition s text) ≡ look s) → (all : List Always) (s : Seen) → look (with_conditions s all) ≡ look s
 kept_by_conditions look h [] s = refl
 kept_by_conditions look h (a ∷ all) s = kept_by_conditions look h all (with_condition s a.name) ∙ h s a.name
@@ -315,39 +343,66 @@ all_listed file h = by_form file.form file.txs h
     every (t ∷ txs) = (refl, every txs)
 
     by_form : (announced : FileForm) (txs : List Declaration) → IsOfForm announced file → AllByRecursion (IsListed announced) file.txs
-    by_form One txs h = none_listed file.txs h.1.0 One (λ names e. sym e)
-    by_form Two txs h = none_listed file.txs h.0 Two (λ names e. sym e)
+    by_form One txs h = none_listed file.txs h.1.1 One (λ names e. sym e)
+    by_form Two txs h = none_listed file.txs h.1 Two (λ names e. sym e)
     by_form Three txs h = every file.txs
 
-file_named : (file : File) → IsOfForm file.form file → InFile NameRight file (at_always file) (at_txs file) (at_runs file) → names_known file ≡ true
+-- what is seen before the conditions is nothing of theirs, and no transaction
+record NoneYet (s : Seen) : Type 0 where
+  parameters : s.names.parameters ≡ []
+  conditions : s.names.conditions ≡ []
+  transactions : s.names.transactions ≡ []
+  arities : s.names.arities ≡ []
+
+none_before : (file : File) → NoneYet (at_always file)
+none_before file =
+    let s0 = seen_in file.form [] in
+    record {
+      parameters = kept_by_tables (λ (s : Seen). s.names.parameters) (λ s t. refl) file.tables (at_tables file) ∙ kept_by_variables (λ (s : Seen). s.names.parameters) (λ s text. refl) file.vars s0;
+      conditions = kept_by_tables (λ (s : Seen). s.names.conditions) (λ s t. refl) file.tables (at_tables file) ∙ kept_by_variables (λ (s : Seen). s.names.conditions) (λ s text. refl) file.vars s0;
+      transactions = kept_by_tables (λ (s : Seen). s.names.transactions) (λ s t. refl) file.tables (at_tables file) ∙ kept_by_variables (λ (s : Seen). s.names.transactions) (λ s text. refl) file.vars s0;
+      arities = kept_by_tables (λ (s : Seen). s.names.arities) (λ s t. refl) file.tables (at_tables file) ∙ kept_by_variables (λ (s : Seen). s.names.arities) (λ s text. refl) file.vars s0;
+    }
+
+-- the variables and the tables of the file are known there
+outer_is : (file : File) → outer (at_always file) ≡ standing (map pair_name file.vars) (map table_name file.tables) []
+outer_is file =
+    let s0 = seen_in file.form [] in
+    let none : (at_tables file).names.tables ≡ [] = kept_by_variables (λ (s : Seen). s.names.tables) (λ s text. refl) file.vars s0 in
+    let variables : (at_always file).names.variables ≡ map pair_name file.vars = kept_by_tables (λ (s : Seen). s.names.variables) (λ s t. refl) file.tables (at_tables file) ∙ variables_of file.vars s0 in
+    let tables : (at_always file).names.tables ≡ map table_name file.tables = tables_of file.tables (at_tables file) ∙ ap (λ (ns : List (List ℕ)). ns ++ map table_name file.tables) none in
+    ap (λ (ns : List (List ℕ)). standing ns (at_always file).names.tables []) variables ∙ ap (λ (ns : List (List ℕ)). standing (map pair_name file.vars) ns []) tables
+
+file_named : (file : File) → IsOfForm file.form file → InFile NameRight file → names_known file ≡ true
 unfolding uses_known
 file_named file formed h =
     let announced = file.form in
     let lists = all_listed file formed in
     let s0 = seen_in announced [] in
-    let s1 = at_always file in
-    let s2 = at_txs file in
-    let s3 = at_runs file in
-    let names = map pair_name file.vars in
-    let none_given : s1.names.parameters ≡ [] = kept_by_variables (λ (s : Seen). s.names.parameters) (λ s text. refl) file.vars s0 in
+    let s1 = at_tables file in
+    let s2 = at_always file in
+    let s3 = at_txs file in
+    let s4 = at_runs file in
+    let sc : Scope = standing (map pair_name file.vars) (map table_name file.tables) [] in
+    let none = none_before file in
     let vars = vars_named announced file.vars s0 _ h.vars in
-    let always = always_named announced file.always s1 _ none_given h.always in
-    let txs = txs_named announced file.txs s2 _ lists h.txs in
-    let known1 : s1.names.variables ≡ names = variables_of file.vars s0 in
-    let known2 : s2.names.variables ≡ names = kept_by_conditions (λ (s : Seen). s.names.variables) (λ s text. refl) file.always s1 ∙ known1 in
-    let none1 : s1.names.conditions ≡ [] = kept_by_variables (λ (s : Seen). s.names.conditions) (λ s text. refl) file.vars s0 in
-    let none2 : s2.names.transactions ≡ [] =
-    kept_by_conditions (λ (s : Seen). s.names.transactions) (λ s text. refl) file.always s1 ∙ kept_by_variables (λ (s : Seen). s.names.transactions) (λ s text. refl) file.vars s0 in
-    let none3 : s2.names.arities ≡ [] =
-    kept_by_conditions (λ (s : Seen). s.names.arities) (λ s text. refl) file.always s1 ∙ kept_by_variables (λ (s : Seen). s.names.arities) (λ s text. refl) file.vars s0 in
-    let known3 : s3.names.transactions ≡ map tx_name file.txs = transactions_of announced file.txs s2 ∙ ap (λ (ns : List (List ℕ)). ns ++ map tx_name file.txs) none2 in
-    let known4 : s3.names.arities ≡ map tx_arity file.txs = arities_of announced file.txs s2 lists ∙ ap (λ (ns : List ℕ). ns ++ map tx_arity file.txs) none3 in
-    let conditions_new : are_new [] (map condition_name file.always) ≡ true = sym (ap (λ (ns : List (List ℕ)). are_new ns (map condition_name file.always)) none1) ∙ always.0 in
-    let txs_new : are_new [] (map tx_name file.txs) ≡ true = sym (ap (λ (ns : List (List ℕ)). are_new ns (map tx_name file.txs)) none2) ∙ txs.0 in
-    let conditions_use : list_all (always_known names) file.always ≡ true = sym (ap (λ (ns : List (List ℕ)). list_all (always_known ns) file.always) known1) ∙ always.1 in
-    let txs_use : list_all (tx_known names) file.txs ≡ true = sym (ap (λ (ns : List (List ℕ)). list_all (tx_known ns) file.txs) known2) ∙ txs.1 in
-    let runs_use : list_all (run_known file.txs) file.runs ≡ true = runs_named announced file.txs file.runs s3 [] known3 known4 h.runs in
-    both_true _ _ vars (both_true _ _ conditions_new (both_true _ _ txs_new (both_true _ _ conditions_use (both_true _ _ txs_use runs_use))))
+    let tables = tables_named announced file.tables s1 _ h.tables in
+    let always = always_named announced file.always s2 _ none.parameters h.always in
+    let txs = txs_named announced file.txs s3 _ lists h.txs in
+    let no_table : s1.names.tables ≡ [] = kept_by_variables (λ (s : Seen). s.names.tables) (λ s text. refl) file.vars s0 in
+    let known2 : outer s2 ≡ sc = outer_is file in
+    let known3 : outer s3 ≡ sc = kept_by_conditions outer (λ s text. refl) file.always s2 ∙ known2 in
+    let none3 : s3.names.transactions ≡ [] = kept_by_conditions (λ (s : Seen). s.names.transactions) (λ s text. refl) file.always s2 ∙ none.transactions in
+    let uncounted : s3.names.arities ≡ [] = kept_by_conditions (λ (s : Seen). s.names.arities) (λ s text. refl) file.always s2 ∙ none.arities in
+    let named4 : s4.names.transactions ≡ map tx_name file.txs = transactions_of announced file.txs s3 ∙ ap (λ (ns : List (List ℕ)). ns ++ map tx_name file.txs) none3 in
+    let counted4 : s4.names.arities ≡ map tx_arity file.txs = arities_of announced file.txs s3 lists ∙ ap (λ (ns : List ℕ). ns ++ map tx_arity file.txs) uncounted in
+    let tables_new : are_new [] (map table_name file.tables) ≡ true = sym (ap (λ (ns : List (List ℕ)). are_new ns (map table_name file.tables)) no_table) ∙ tables in
+    let conditions_new : are_new [] (map condition_name file.always) ≡ true = sym (ap (λ (ns : List (List ℕ)). are_new ns (map condition_name file.always)) none.conditions) ∙ always.0 in
+    let txs_new : are_new [] (map tx_name file.txs) ≡ true = sym (ap (λ (ns : List (List ℕ)). are_new ns (map tx_name file.txs)) none3) ∙ txs.0 in
+    let conditions_use : list_all (always_known sc) file.always ≡ true = sym (ap (λ (o : Scope). list_all (always_known o) file.always) known2) ∙ always.1 in
+    let txs_use : list_all (tx_known sc) file.txs ≡ true = sym (ap (λ (o : Scope). list_all (tx_known o) file.txs) known3) ∙ txs.1 in
+    let runs_use : list_all (run_known file.txs) file.runs ≡ true = runs_named announced file.txs file.runs s4 [] named4 counted4 h.runs in
+    both_true _ _ vars (both_true _ _ tables_new (both_true _ _ conditions_new (both_true _ _ txs_new (both_true _ _ conditions_use (both_true _ _ txs_use runs_use)))))
 
 pub some_name_is_wrong : (bytes : List ℕ) → IsFirst bytes Name → AllTokens (IsRight (name_fault_at (form_of (tokens bytes)))) bytes → ⊥
 some_name_is_wrong bytes first all =

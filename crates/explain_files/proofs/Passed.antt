@@ -5,8 +5,10 @@ use Rattle.std.specs.List.{flat_map}
 use Rattle.std.proofs.lemmas.List.{append-nil, reverse-reverse}
 use Rattle.text_words.specs.Tokens.{Lexeme, Opens, Closes, tokens}
 use Rattle.text_words.specs.Tokens as token
-use Rattle.text_grammar.specs.Tree.{Expr, Cond, Stmt, Stmts, NoStmts, MoreStmts, Pair, Always, Declaration, Run, File, operator_word, comparison_word, connective_word, form, expr_tokens, cond_tokens, stmt_tokens, stmts_tokens, pair_tokens, always_tokens, list_tokens, tx_tokens, run_tokens, heading_tokens, file_tokens}
+use Rattle.text_grammar.specs.Tree.{Expr, Cond, Stmt, Stmts, NoStmts, MoreStmts, Pair, Table, Always, Declaration, Run, File, operator_word, fold_word, comparison_word, connective_word, form, expr_tokens, cond_tokens, stmt_tokens, stmts_tokens, pair_tokens, table_tokens, always_tokens, list_tokens, tx_tokens, run_tokens, heading_tokens, file_tokens}
 use Rattle.text_grammar.specs.Tree as f
+use Rattle.txn_programs.specs.declared.ast.Fold.{Fold}
+use Rattle.txn_programs.specs.declared.ast.Fold.TheVariants as fold
 use Rattle.text_grammar.specs.declared.words.Operator.{Operator}
 use Rattle.text_grammar.specs.declared.words.Operator.TheVariants as operator
 use Rattle.text_grammar.specs.declared.words.Comparison.{Comparison}
@@ -16,6 +18,7 @@ use Rattle.text_grammar.specs.declared.words.Connective.TheVariants as connectiv
 use Rattle.text_grammar.specs.declared.file.FileForm.{FileForm}
 use Rattle.text_grammar.specs.declared.file.FileForm.TheVariants.{One, Two, Three}
 use Rattle.explain_files.specs.declared.wanted.NameUse.TheVariants as name
+use Rattle.explain_files.specs.declared.wanted.NumberUse.{NumberUse}
 use Rattle.explain_files.specs.declared.wanted.NumberUse.TheVariants as number
 use Rattle.explain_files.specs.declared.wanted.Role.{Role}
 use Rattle.explain_files.specs.declared.wanted.Role.TheVariants as role
@@ -93,6 +96,11 @@ operator_role operator.Mul = refl
 operator_role operator.Div = refl
 operator_role operator.Rem = refl
 
+fold_role : (op : Fold) → role_of_word (fold_word op) ≡ role.Name name.Cells
+fold_role fold.Sum = refl
+fold_role fold.Min = refl
+fold_role fold.Max = refl
+
 pub comparison_role : (op : Comparison) → role_of_word (comparison_word op) ≡ role.Value
 comparison_role comparison.Eq = refl
 comparison_role comparison.Lt = refl
@@ -102,11 +110,22 @@ pub connective_role : (op : Connective) → role_of_word (connective_word op) �
 connective_role connective.And = refl
 connective_role connective.Or = refl
 
+-- the parts of what names a table
+pub in_at : (Q : Fact) (announced : FileForm) (s : Seen) (table : List ℕ) (index : Expr) (ts : List Lexeme) → Along Q announced s role.Value (expr_tokens (f.At table index) ++ ts)
+    → Q s (role.Name name.Cells) (token.Name table) (expr_tokens index ++ (Closes ∷ ts)) × Along Q announced s role.Value (expr_tokens index ++ (Closes ∷ ts))
+in_at Q announced s table index ts h = within Q announced s (codes "at") (role.Name name.Cells) (token.Name table ∷ expr_tokens index) ts refl h
+
+pub in_all : (Q : Fact) (announced : FileForm) (s : Seen) (op : Fold) (table : List ℕ) (ts : List Lexeme) → Along Q announced s role.Value (expr_tokens (f.OfAll op table) ++ ts)
+    → Q s (role.Name name.Cells) (token.Name table) (Closes ∷ ts) × Along Q announced s role.Value (Closes ∷ ts)
+in_all Q announced s op table ts h = within Q announced s (fold_word op) (role.Name name.Cells) (token.Name table ∷ []) ts (fold_role op) h
+
 -- ---- what is known stays as it was behind an expression, a condition and a statement
 
 pub pass_expr : (Q : Fact) (announced : FileForm) (s : Seen) (e : Expr) (ts : List Lexeme) → Along Q announced s role.Value (expr_tokens e ++ ts) → Along Q announced s role.Value ts
 pass_expr Q announced s (f.Int value) ts h = h.1
 pass_expr Q announced s (f.Name text) ts h = h.1
+pass_expr Q announced s (f.At table index) ts h = closed Q announced s ts (pass_expr Q announced s index (Closes ∷ ts) (in_at Q announced s table index ts h).1)
+pass_expr Q announced s (f.OfAll op table) ts h = closed Q announced s ts (in_all Q announced s op table ts h).1
 pass_expr Q announced s (f.Binary op left right) ts h =
     closed Q announced s ts (pass_expr Q announced s right (Closes ∷ ts) (pass_expr Q announced s left (expr_tokens right ++ (Closes ∷ ts)) (within_two Q announced s (operator_word op) (expr_tokens left) (expr_tokens right) ts (operator_role op) h)))
 
@@ -122,6 +141,12 @@ pub in_set : (Q : Fact) (announced : FileForm) (s : Seen) (text : List ℕ) (val
     → Q s (role.Name name.Target) (token.Name text) (expr_tokens value ++ (Closes ∷ ts)) × Along Q announced s role.Value (expr_tokens value ++ (Closes ∷ ts))
 in_set Q announced s text value ts h = within Q announced s (codes "set") (role.Name name.Target) (token.Name text ∷ expr_tokens value) ts refl h
 
+pub in_put : (Q : Fact) (announced : FileForm) (s : Seen) (table : List ℕ) (index value : Expr) (ts : List Lexeme) → Along Q announced s role.Value (stmt_tokens (f.Put table index value) ++ ts)
+    → Q s (role.Name name.Cells) (token.Name table) ((expr_tokens index ++ expr_tokens value) ++ (Closes ∷ ts)) × Along Q announced s role.Value (expr_tokens index ++ (expr_tokens value ++ (Closes ∷ ts)))
+in_put Q announced s table index value ts h =
+    let i = within Q announced s (codes "put") (role.Name name.Cells) (token.Name table ∷ (expr_tokens index ++ expr_tokens value)) ts refl h in
+    (i.0, subst (λ (us : List Lexeme). Along Q announced s role.Value us) (append_assoc (expr_tokens index) (expr_tokens value) (Closes ∷ ts)) i.1)
+
 pub in_repeat : (Q : Fact) (announced : FileForm) (s : Seen) (body : Stmt) (ts : List Lexeme) → (count : _) → Along Q announced s role.Value (stmt_tokens (f.Repeat count body) ++ ts)
     → Q s (role.Number number.Turns) (token.Int count) (stmt_tokens body ++ (Closes ∷ ts)) × Along Q announced s role.Value (stmt_tokens body ++ (Closes ∷ ts))
 in_repeat Q announced s body ts count h = within Q announced s (codes "repeat") (role.Number number.Turns) (token.Int count ∷ stmt_tokens body) ts refl h
@@ -133,6 +158,8 @@ mutual
   pub pass_stmt : (Q : Fact) (announced : FileForm) (s : Seen) (e : Stmt) (ts : List Lexeme) → Along Q announced s role.Value (stmt_tokens e ++ ts) → Along Q announced s role.Value ts
   pass_stmt Q announced s f.Skip ts h = closed Q announced s ts (within Q announced s (codes "skip") role.Value [] ts refl h)
   pass_stmt Q announced s (f.Set text value) ts h = closed Q announced s ts (pass_expr Q announced s value (Closes ∷ ts) (in_set Q announced s text value ts h).1)
+  pass_stmt Q announced s (f.Put table index value) ts h =
+      closed Q announced s ts (pass_expr Q announced s value (Closes ∷ ts) (pass_expr Q announced s index (expr_tokens value ++ (Closes ∷ ts)) (in_put Q announced s table index value ts h).1))
   pass_stmt Q announced s (f.Seq parts) ts h = closed Q announced s ts (pass_stmts Q announced s parts (Closes ∷ ts) (within Q announced s (codes "seq") role.Value (stmts_tokens parts) ts refl h))
   pass_stmt Q announced s (f.If test first second) ts h =
       closed Q announced s ts (pass_stmt Q announced s second (Closes ∷ ts) (pass_stmt Q announced s first (stmt_tokens second ++ (Closes ∷ ts))
@@ -151,6 +178,13 @@ mutual
 
 abbrev pub with_variable : Seen → List ℕ → Seen
 with_variable s text = seen_with s (role.Name name.Variable) (token.Name text)
+
+abbrev pub with_table_name : Seen → List ℕ → Seen
+with_table_name s text = seen_with s (role.Name name.Table) (token.Name text)
+
+-- its name, and how many cells it has
+abbrev pub with_table : Seen → Table → Seen
+with_table s t = seen_with (with_table_name s t.name) (role.Number number.Length) (token.Int t.count)
 
 abbrev pub with_condition : Seen → List ℕ → Seen
 with_condition s text = seen_with s (role.Name name.Condition) (token.Name text)
@@ -231,23 +265,41 @@ in_tx Q announced s t ts h =
     let l = in_list Q announced (with_name s t.name) t.parameters _ (subst (λ (us : List Lexeme). Along Q announced (with_name s t.name) (role_of_list announced) us) apart i.1) in
     record { behind = (list ++ inside) ++ (Closes ∷ ts); named = i.0; parameters = l.0; body = l.1 }
 
--- ---- the arguments of a run
+-- ---- numbers in a row
 
--- it is so of each argument, before these tokens
-abbrev pub OfArguments : Fact → Seen → List ℤ → List Lexeme → Type 0
-OfArguments Q s [] ts = Unit {0}
-OfArguments Q s (a ∷ more) ts = Q s (role.Number number.Argument) (token.Int a) (map token.Int more ++ ts) × OfArguments Q s more ts
+-- it is so of each number, before these tokens
+abbrev pub OfNumbers : Fact → Seen → NumberUse → List ℤ → List Lexeme → Type 0
+OfNumbers Q s used [] ts = Unit {0}
+OfNumbers Q s used (a ∷ more) ts = Q s (role.Number used) (token.Int a) (map token.Int more ++ ts) × OfNumbers Q s used more ts
+
+in_values : (Q : Fact) (announced : FileForm) (given : List ℤ) (s : Seen) (ts : List Lexeme) → Along Q announced s (role.Number number.Cell) (map token.Int given ++ ts)
+    → OfNumbers Q s number.Cell given ts × Along Q announced s (role.Number number.Cell) ts
+in_values Q announced [] s ts h = (tt, h)
+in_values Q announced (a ∷ given) s ts h = let r = in_values Q announced given s ts h.1 in ((h.0, r.0), r.1)
 
 in_arguments : (Q : Fact) (announced : FileForm) (given : List ℤ) (s : Seen) (ts : List Lexeme) → Along Q announced s (role.Number number.Argument) (map token.Int given ++ ts)
-    → OfArguments Q s given ts × Along Q announced s (role.Number number.Argument) ts
+    → OfNumbers Q s number.Argument given ts × Along Q announced s (role.Number number.Argument) ts
 in_arguments Q announced [] s ts h = (tt, h)
 in_arguments Q announced (a ∷ given) s ts h = let r = in_arguments Q announced given s ts h.1 in ((h.0, r.0), r.1)
+
+-- of a table: its name, its length, its values, and what stands behind it
+pub record InTable (Q : Fact) (announced : FileForm) (s : Seen) (t : Table) (ts : List Lexeme) : Type 0 where
+  pub named : Q s (role.Name name.Table) (token.Name t.name) (token.Int t.count ∷ token.Int t.first ∷ (map token.Int t.others ++ (Closes ∷ ts)))
+  pub counted : Q (with_table_name s t.name) (role.Number number.Length) (token.Int t.count) (token.Int t.first ∷ (map token.Int t.others ++ (Closes ∷ ts)))
+  pub values : OfNumbers Q (with_table s t) number.Cell (t.first ∷ t.others) (Closes ∷ ts)
+  pub rest : Along Q announced (with_table s t) role.Value ts
+
+pub in_table : (Q : Fact) (announced : FileForm) (s : Seen) (t : Table) (ts : List Lexeme) → Along Q announced s role.Value (table_tokens t ++ ts) → InTable Q announced s t ts
+in_table Q announced s t ts h =
+    let i = within Q announced s (codes "table") (role.Name name.Table) (token.Name t.name ∷ token.Int t.count ∷ token.Int t.first ∷ map token.Int t.others) ts refl h in
+    let v = in_values Q announced (t.first ∷ t.others) (with_table s t) (Closes ∷ ts) i.1.1 in
+    record { named = i.0; counted = i.1.0; values = v.0; rest = v.1.1 }
 
 -- of a run: its name, its count, its arguments, and what stands behind it
 pub record InRun (Q : Fact) (announced : FileForm) (s : Seen) (r : Run) (ts : List Lexeme) : Type 0 where
   pub named : Q s (role.Name name.Called) (token.Name r.name) (token.Int r.count ∷ (map token.Int r.arguments ++ (Closes ∷ ts)))
   pub counted : Q s (role.Number number.Tasks) (token.Int r.count) (map token.Int r.arguments ++ (Closes ∷ ts))
-  pub given : OfArguments Q (with_tasks s r) r.arguments (Closes ∷ ts)
+  pub given : OfNumbers Q (with_tasks s r) number.Argument r.arguments (Closes ∷ ts)
   pub rest : Along Q announced (with_tasks s r) role.Value ts
 
 pub in_run : (Q : Fact) (announced : FileForm) (s : Seen) (r : Run) (ts : List Lexeme) → Along Q announced s role.Value (run_tokens r ++ ts) → InRun Q announced s r ts
@@ -261,6 +313,10 @@ in_run Q announced s r ts h =
 abbrev pub with_variables : Seen → List Pair → Seen
 with_variables s [] = s
 with_variables s (p ∷ ps) = with_variables (with_variable s p.name) ps
+
+abbrev pub with_tables : Seen → List Table → Seen
+with_tables s [] = s
+with_tables s (t ∷ more) = with_tables (with_table s t) more
 
 abbrev pub with_conditions : Seen → List Always → Seen
 with_conditions s [] = s
@@ -284,6 +340,11 @@ pass_vars Q announced [] s ts h = h
 pass_vars Q announced (p ∷ ps) s ts h =
     pass_vars Q announced ps (with_variable s p.name) ts (in_var Q announced s p (flat_map (pair_tokens (codes "var")) ps ++ ts) (onward Q announced s (pair_tokens (codes "var")) p ps ts h)).2
 
+pub pass_tables : (Q : Fact) (announced : FileForm) (all : List Table) (s : Seen) (ts : List Lexeme) → Along Q announced s role.Value (flat_map table_tokens all ++ ts) → Along Q announced (with_tables s all) role.Value ts
+pass_tables Q announced [] s ts h = h
+pass_tables Q announced (t ∷ more) s ts h =
+    pass_tables Q announced more (with_table s t) ts (in_table Q announced s t (flat_map table_tokens more ++ ts) (onward Q announced s table_tokens t more ts h)).rest
+
 pub pass_always : (Q : Fact) (announced : FileForm) (all : List Always) (s : Seen) (ts : List Lexeme) → Along Q announced s role.Value (flat_map always_tokens all ++ ts) → Along Q announced (with_conditions s all) role.Value ts
 pass_always Q announced [] s ts h = h
 pass_always Q announced (a ∷ more) s ts h =
@@ -300,16 +361,25 @@ pass_heading Q announced One s ts h = h
 pass_heading Q announced Two s ts h = h.1.1.1.1
 pass_heading Q announced Three s ts h = h.1.1.1.1
 
--- what is known at the parts of a file
-pub record InFile (Q : Fact) (file : File) (s1 s2 s3 : Seen) : Type 0 where
-  pub vars : Along Q file.form (seen_in file.form []) role.Value
-      (flat_map (pair_tokens (codes "var")) file.vars ++ (flat_map always_tokens file.always ++ (flat_map (tx_tokens file.form) file.txs ++ flat_map run_tokens file.runs)))
-  pub always : Along Q file.form s1 role.Value (flat_map always_tokens file.always ++ (flat_map (tx_tokens file.form) file.txs ++ flat_map run_tokens file.runs))
-  pub txs : Along Q file.form s2 role.Value (flat_map (tx_tokens file.form) file.txs ++ flat_map run_tokens file.runs)
-  pub runs : Along Q file.form s3 role.Value (flat_map run_tokens file.runs ++ [])
+-- from each part of a file on, its tokens
+abbrev from_runs : File → List Lexeme
+from_runs file = flat_map run_tokens file.runs
+
+abbrev from_txs : File → List Lexeme
+from_txs file = flat_map (tx_tokens file.form) file.txs ++ from_runs file
+
+abbrev from_always : File → List Lexeme
+from_always file = flat_map always_tokens file.always ++ from_txs file
+
+abbrev from_tables : File → List Lexeme
+from_tables file = flat_map table_tokens file.tables ++ from_always file
+
+-- what is known at each
+abbrev pub at_tables : File → Seen
+at_tables file = with_variables (seen_in file.form []) file.vars
 
 abbrev pub at_always : File → Seen
-at_always file = with_variables (seen_in file.form []) file.vars
+at_always file = with_tables (at_tables file) file.tables
 
 abbrev pub at_txs : File → Seen
 at_txs file = with_conditions (at_always file) file.always
@@ -317,15 +387,24 @@ at_txs file = with_conditions (at_always file) file.always
 abbrev pub at_runs : File → Seen
 at_runs file = with_transactions file.form (at_txs file) file.txs
 
-pub in_file : (Q : Fact) (file : File) → Along Q file.form (seen_in file.form []) role.Value (file_tokens file) → InFile Q file (at_always file) (at_txs file) (at_runs file)
+pub record InFile (Q : Fact) (file : File) : Type 0 where
+  pub vars : Along Q file.form (seen_in file.form []) role.Value (flat_map (pair_tokens (codes "var")) file.vars ++ from_tables file)
+  pub tables : Along Q file.form (at_tables file) role.Value (from_tables file)
+  pub always : Along Q file.form (at_always file) role.Value (from_always file)
+  pub txs : Along Q file.form (at_txs file) role.Value (from_txs file)
+  pub runs : Along Q file.form (at_runs file) role.Value (from_runs file ++ [])
+
+pub in_file : (Q : Fact) (file : File) → Along Q file.form (seen_in file.form []) role.Value (file_tokens file) → InFile Q file
 in_file Q file h =
-    let runs = flat_map run_tokens file.runs in
     let vars = pass_heading Q file.form file.form (seen_in file.form []) _ h in
-    let always = pass_vars Q file.form file.vars (seen_in file.form []) _ vars in
+    let tables = pass_vars Q file.form file.vars (seen_in file.form []) _ vars in
+    let always = pass_tables Q file.form file.tables (at_tables file) _ tables in
     let txs = pass_always Q file.form file.always (at_always file) _ always in
+    let runs = pass_txs Q file.form file.txs (at_txs file) (from_runs file) txs in
     record {
       vars = vars;
+      tables = tables;
       always = always;
       txs = txs;
-      runs = subst (λ (us : List Lexeme). Along Q file.form (at_runs file) role.Value us) (sym (append-nil runs)) (pass_txs Q file.form file.txs (at_txs file) runs txs);
+      runs = subst (λ (us : List Lexeme). Along Q file.form (at_runs file) role.Value us) (sym (append-nil (from_runs file))) runs;
     }

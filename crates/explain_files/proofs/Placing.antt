@@ -1,6 +1,6 @@
 -- Each kind of fault has a place: some name or number is wrong there, or some declaration.
 use Rattle.std.proofs.Common.{◌≡◌, ℕ, zero, suc, true, false, List, [], ◌∷◌, ◌++◌, length, map, Some, Result, Ok, refl, sym, ap, subst, ◌∙◌, inl, inr}
-use Rattle.std.specs.List.{slice_get, flat_map, list_all}
+use Rattle.std.specs.List.{slice_get, flat_map}
 use Rattle.std.specs.Option.{option_map}
 use Rattle.std.proofs.lemmas.Option.{slice_get-map}
 use Rattle.txn_programs.specs.Tree.{Condition, Transaction}
@@ -9,7 +9,6 @@ use Rattle.txn_programs.specs.Limits.{limits_hold}
 use Rattle.txn_programs.specs.Names.{names_hold}
 use Rattle.txn_programs.specs.Scope.{ConditionsKnown}
 use Rattle.txn_programs.proofs.Lawful.{standing_known}
-use Rattle.txn_programs.proofs.Untabled.{untabled_values}
 use Rattle.txn_programs.specs.Standing.{upholds}
 use Rattle.text_words.specs.Tokens.{Lexeme, tokens}
 use Rattle.text_words.specs.Tokens as token
@@ -24,6 +23,7 @@ use Rattle.text_grammar.specs.Resolving.{condition_name, tx_name, resolved}
 use Rattle.text_grammar.specs.Spelling.{Declares, lawful, listing_at, fault_in, first_fault}
 use Rattle.text_grammar.proofs.Files.{tree_takes, tree_again}
 use Rattle.text_file_reader.specs.Faults.{IsFirst}
+use Rattle.text_file_reader.proofs.Back.{IsKept}
 use Rattle.text_file_reader.proofs.Again.{resolved_again}
 use Rattle.text_file_reader.proofs.FirstFault.{first_fault_is}
 use Rattle.explain_files.specs.declared.wanted.NameUse.{NameUse}
@@ -35,9 +35,9 @@ use Rattle.explain_files.specs.Judging.{AllTokens, IsRight}
 use Rattle.explain_files.specs.Limiting.{limit_fault_at}
 use Rattle.explain_files.specs.Declarations.{declared_by, IsListed, DoesNotDeclare, IsCostly, CostsHold, IsUntrue, IsFalse}
 use Rattle.explain_files.proofs.Announced.{form_spelled}
-use Rattle.explain_files.proofs.Passed.{Seen, Fact, Along, all_along, with_condition, with_transaction, onward, in_always, in_tx, behind_always, behind_tx, InFile, at_always, at_txs, at_runs, in_file}
+use Rattle.explain_files.proofs.Passed.{Seen, Fact, Along, all_along, with_condition, with_transaction, onward, in_always, in_tx, behind_always, behind_tx, InFile, at_always, at_txs, in_file}
 use Rattle.explain_files.proofs.Named.{bool_cases}
-use Rattle.explain_files.proofs.Fitting.{LimitRight, NamesOf, names_of, Fits, file_fits}
+use Rattle.explain_files.proofs.Fitting.{LimitRight, names_of, names_of_txs, Fits, file_fits}
 
 -- ---- a declaration of a listing is one of the tokens
 
@@ -71,7 +71,7 @@ transaction_there announced text (t ∷ all) s ts (suc i) h e =
 record FileOf (bytes : List ℕ) (l : Listing) : Type 0 where
   file : File
   spelled : SpellsTree bytes file
-  named : NamesOf file l
+  named : IsKept file l
 
 file_of : (bytes : List ℕ) (l : Listing) → declared_by bytes ≡ Ok l → FileOf bytes l
 file_of bytes l d =
@@ -80,7 +80,7 @@ file_of bytes l d =
 
 -- none of its tokens declares the name
 none_declares : (bytes : List ℕ) (file : File) (used : NameUse) (text : List ℕ) → SpellsTree bytes file → AllTokens (DoesNotDeclare (form_of (tokens bytes)) used text) bytes
-    → InFile (Undeclared used text) file (at_always file) (at_txs file) (at_runs file)
+    → InFile (Undeclared used text) file
 none_declares bytes file used text spelled all =
     let own : AllTokens (DoesNotDeclare file.form used text) bytes = subst (λ (announced : FileForm). AllTokens (DoesNotDeclare announced used text) bytes) (form_spelled bytes file spelled) all in
     in_file (Undeclared used text) file (all_along (Undeclared used text) file.form bytes (file_tokens file) spelled.spelled own)
@@ -91,7 +91,7 @@ condition_declared bytes l i text c d e all =
     let of = file_of bytes l d in
     let named : slice_get (always_names l) i ≡ Some text = slice_get-map (λ (a : List ℕ × Condition). a.0) l.always i ∙ ap (option_map (λ (a : List ℕ × Condition). a.0)) e in
     let there = none_declares bytes of.file name.Condition text of.spelled all in
-    condition_there of.file.form text of.file.always (at_always of.file) _ i there.always (sym (ap (λ (ns : List (List ℕ)). slice_get ns i) of.named.conditions) ∙ named)
+    condition_there of.file.form text of.file.always (at_always of.file) _ i there.always (sym (ap (λ (ns : List (List ℕ)). slice_get ns i) of.named.always) ∙ named)
 
 transaction_declared : (bytes : List ℕ) (l : Listing) (i : ℕ) (text : List ℕ) (x : Transaction) → declared_by bytes ≡ Ok l → slice_get l.transactions i ≡ Some x → x.name ≡ text
     → AllTokens (DoesNotDeclare (form_of (tokens bytes)) name.Transaction text) bytes → ⊥
@@ -100,14 +100,16 @@ transaction_declared bytes l i text x d e n all =
     let named : slice_get (map (λ (y : Transaction). y.name) l.transactions) i ≡ Some text =
     slice_get-map (λ (y : Transaction). y.name) l.transactions i ∙ ap (option_map (λ (y : Transaction). y.name)) e ∙ ap (λ (u : List ℕ). Some u) n in
     let there = none_declares bytes of.file name.Transaction text of.spelled all in
-    transaction_there of.file.form text of.file.txs (at_txs of.file) _ i there.txs (sym (ap (λ (ns : List (List ℕ)). slice_get ns i) of.named.transactions) ∙ named)
+    transaction_there of.file.form text of.file.txs (at_txs of.file) _ i there.txs (sym (ap (λ (ns : List (List ℕ)). slice_get ns i) (names_of_txs of.file l of.named)) ∙ named)
 
 pub costly_declared : (bytes : List ℕ) (l : Listing) (used : NameUse) (text : List ℕ) → declared_by bytes ≡ Ok l → IsCostly l used text → AllTokens (DoesNotDeclare (form_of (tokens bytes)) used text) bytes → ⊥
 costly_declared bytes l name.Condition text d c all = condition_declared bytes l c.number text c.condition d c.stands all
 costly_declared bytes l name.Transaction text d c all = transaction_declared bytes l c.1.number text c.1.transaction d c.1.stands c.1.named all
 costly_declared bytes l name.Variable text d c all = c
+costly_declared bytes l name.Table text d c all = c
 costly_declared bytes l name.Parameter text d c all = c
 costly_declared bytes l name.Target text d c all = c
+costly_declared bytes l name.Cells text d c all = c
 costly_declared bytes l name.Called text d c all = c
 
 pub false_declared : (bytes : List ℕ) (l : Listing) (text : List ℕ) → declared_by bytes ≡ Ok l → IsFalse l.always l.initial text → AllTokens (DoesNotDeclare (form_of (tokens bytes)) name.Condition text) bytes → ⊥
@@ -179,14 +181,16 @@ costs_do_not_hold bytes l h all d costs =
 -- ---- conditions that are not true
 
 broken_is : (bytes : List ℕ) (l : Listing) → Declares bytes l → declared_by bytes ≡ Ok l
-broken_is bytes l d = let read = tree_again bytes (written_in d.form l) d.spelled in rw read (resolved_again d.form l d.valued d.names d.limits d.integers)
+broken_is bytes l d =
+    let read = tree_again bytes (written_in d.form d.tables l) d.spelled in
+    rw read (resolved_again d.form d.tables l d.tabled d.valued d.names d.limits d.integers)
 
 pub broken_listed : (bytes : List ℕ) → IsFirst bytes faults.Broken → IsListed bytes
 broken_listed bytes first = (first.0, broken_is bytes first.0 first.1.0)
 
 untrue_in : (bytes : List ℕ) (l : Listing) → Declares bytes l → upholds l l.initial ≡ false → IsUntrue l
 untrue_in bytes l d u =
-    let valued : values l ≡ length l.initial = untabled_values l d.limits ∙ sym d.valued in
+    let valued : values l ≡ length l.initial = sym d.valued in
     record { known = subst (λ (n : ℕ). ConditionsKnown n (conditions l)) valued (standing_known l d.names); untrue = u }
 
 pub broken_untrue : (bytes : List ℕ) (l : Listing) → IsFirst bytes faults.Broken → declared_by bytes ≡ Ok l → IsUntrue l

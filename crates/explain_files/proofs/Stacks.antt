@@ -5,7 +5,8 @@ use Rattle.std.specs.Result.{result_ok}
 use Rattle.std.specs.Str.{bytes_eq}
 use Rattle.text_words.specs.Tokens.{Lexeme, Opens, Closes}
 use Rattle.text_words.specs.Tokens as token
-use Rattle.text_grammar.specs.declared.words.Operator.{Operator}
+use Rattle.text_grammar.specs.declared.words.Head.{Head}
+use Rattle.text_grammar.specs.declared.words.Head.TheVariants as head
 use Rattle.text_grammar.specs.declared.words.Test.{Test}
 use Rattle.text_grammar.specs.declared.words.Test.TheVariants as test
 use Rattle.text_grammar.specs.declared.words.Keyword.{Keyword}
@@ -19,9 +20,9 @@ use Rattle.explain_files.specs.declared.wanted.Section.{Section}
 use Rattle.explain_files.specs.declared.wanted.Section.TheVariants as section
 use Rattle.explain_files.specs.declared.wanted.Wanted.{Wanted}
 use Rattle.explain_files.specs.declared.wanted.Wanted.TheVariants as want
-use Rattle.explain_files.specs.Forms.{Wants, deeper, behind_operator, behind_test, behind_keyword, tx_wants, run_end, form_in, behind_kind, behind_part, part_behind, kind_of, behind_stm, behind_declared, behind_form, behind_open, behind_close, behind_word, behind_int, behind}
+use Rattle.explain_files.specs.Forms.{Wants, deeper, behind_head, behind_test, behind_keyword, tx_wants, run_end, form_in, behind_kind, behind_part, part_behind, kind_of, behind_stm, behind_declared, behind_form, behind_open, behind_close, behind_word, behind_int, behind}
 use Rattle.explain_files.specs.Wanting.{Left, ◌▷◌, none_left, from_part, read_one, read_all, onto}
-use Rattle.explain_files.proofs.Endings.{finish, part_end, word_ends, number_ends, simple_ends, expr_ends, operator_ends, cond_ends, test_ends, stmt_ends, keyword_ends, parts_ends, list_ends, parameters_ends, arguments_ends}
+use Rattle.explain_files.proofs.Endings.{finish, part_end, word_ends, number_ends, simple_ends, expr_ends, head_ends, cond_ends, test_ends, stmt_ends, keyword_ends, parts_ends, list_ends, parameters_ends, numbers_ends}
 
 -- declarations are wanted at the bottom, and nowhere else
 abbrev pub IsBottomed : List Wanted → Type 0
@@ -32,16 +33,16 @@ IsBottomed (want.FormNumber ∷ below) = below ≡ []
 IsBottomed (want.Close ∷ below) = IsBottomed below
 IsBottomed (want.Name used ∷ below) = IsBottomed below
 IsBottomed (want.Number used ∷ below) = IsBottomed below
-IsBottomed (want.Expr depth ∷ below) = IsBottomed below
-IsBottomed (want.Operator depth ∷ below) = IsBottomed below
-IsBottomed (want.Cond depth ∷ below) = IsBottomed below
-IsBottomed (want.Test depth ∷ below) = IsBottomed below
-IsBottomed (want.Stmt depth ∷ below) = IsBottomed below
-IsBottomed (want.Keyword depth ∷ below) = IsBottomed below
-IsBottomed (want.Parts depth ∷ below) = IsBottomed below
+IsBottomed (want.Expr form depth ∷ below) = IsBottomed below
+IsBottomed (want.Head form depth ∷ below) = IsBottomed below
+IsBottomed (want.Cond form depth ∷ below) = IsBottomed below
+IsBottomed (want.Test form depth ∷ below) = IsBottomed below
+IsBottomed (want.Stmt form depth ∷ below) = IsBottomed below
+IsBottomed (want.Keyword form depth ∷ below) = IsBottomed below
+IsBottomed (want.Parts form depth ∷ below) = IsBottomed below
 IsBottomed (want.List ∷ below) = IsBottomed below
 IsBottomed (want.Parameters ∷ below) = IsBottomed below
-IsBottomed (want.Arguments ∷ below) = IsBottomed below
+IsBottomed (want.Numbers used ∷ below) = IsBottomed below
 
 -- what is put on a stack keeps that
 abbrev KeepsBottom : List Wanted → Wants → Type 0
@@ -55,26 +56,29 @@ deeper_keeps depth below more h = chosen (eqb depth 0)
     chosen true = tt
     chosen false = h
 
-operator_keeps : (depth : ℕ) (below : List Wanted) (o : Option Operator) → IsBottomed below → KeepsBottom below (behind_operator depth o)
-operator_keeps depth below None h = tt
-operator_keeps depth below (Some op) h = h
+head_keeps : (form : FileForm) (depth : ℕ) (below : List Wanted) (o : Option Head) → IsBottomed below → KeepsBottom below (behind_head form depth o)
+head_keeps form depth below None h = tt
+head_keeps form depth below (Some (head.Operates op)) h = h
+head_keeps form depth below (Some head.Picks) h = h
+head_keeps form depth below (Some (head.Folds fold)) h = h
 
-test_keeps : (depth : ℕ) (below : List Wanted) (o : Option Test) → IsBottomed below → KeepsBottom below (behind_test depth o)
-test_keeps depth below None h = tt
-test_keeps depth below (Some (test.Compares op)) h = h
-test_keeps depth below (Some test.Negates) h = deeper_keeps depth below (want.Close ∷ want.Cond (depth - 1) ∷ []) h
-test_keeps depth below (Some (test.Connects op)) h = deeper_keeps depth below (want.Close ∷ want.Cond (depth - 1) ∷ want.Cond (depth - 1) ∷ []) h
+test_keeps : (form : FileForm) (depth : ℕ) (below : List Wanted) (o : Option Test) → IsBottomed below → KeepsBottom below (behind_test form depth o)
+test_keeps form depth below None h = tt
+test_keeps form depth below (Some (test.Compares op)) h = h
+test_keeps form depth below (Some test.Negates) h = deeper_keeps depth below (want.Close ∷ want.Cond form (depth - 1) ∷ []) h
+test_keeps form depth below (Some (test.Connects op)) h = deeper_keeps depth below (want.Close ∷ want.Cond form (depth - 1) ∷ want.Cond form (depth - 1) ∷ []) h
 
-keyword_keeps : (depth : ℕ) (below : List Wanted) (o : Option Keyword) → IsBottomed below → KeepsBottom below (behind_keyword depth o)
-keyword_keeps depth below None h = tt
-keyword_keeps depth below (Some keyword.Skip) h = h
-keyword_keeps depth below (Some keyword.Set) h = h
-keyword_keeps depth below (Some keyword.Seq) h = h
-keyword_keeps depth below (Some keyword.If) h = deeper_keeps depth below (want.Close ∷ want.Stmt (depth - 1) ∷ want.Stmt (depth - 1) ∷ want.Cond (depth - 1) ∷ []) h
-keyword_keeps depth below (Some keyword.Repeat) h = deeper_keeps depth below _ h
-keyword_keeps depth below (Some keyword.Retry) h = h
-keyword_keeps depth below (Some keyword.OrElse) h = deeper_keeps depth below _ h
-keyword_keeps depth below (Some keyword.Throw) h = h
+keyword_keeps : (form : FileForm) (depth : ℕ) (below : List Wanted) (o : Option Keyword) → IsBottomed below → KeepsBottom below (behind_keyword form depth o)
+keyword_keeps form depth below None h = tt
+keyword_keeps form depth below (Some keyword.Skip) h = h
+keyword_keeps form depth below (Some keyword.Set) h = h
+keyword_keeps form depth below (Some keyword.Put) h = h
+keyword_keeps form depth below (Some keyword.Seq) h = h
+keyword_keeps form depth below (Some keyword.If) h = deeper_keeps depth below (want.Close ∷ want.Stmt form (depth - 1) ∷ want.Stmt form (depth - 1) ∷ want.Cond form (depth - 1) ∷ []) h
+keyword_keeps form depth below (Some keyword.Repeat) h = deeper_keeps depth below _ h
+keyword_keeps form depth below (Some keyword.Retry) h = h
+keyword_keeps form depth below (Some keyword.OrElse) h = deeper_keeps depth below _ h
+keyword_keeps form depth below (Some keyword.Throw) h = h
 
 tx_keeps : (form : FileForm) (part : Section) → IsBottomed (onto (want.Declarations part ∷ want.Close ∷ tx_wants form) [])
 tx_keeps One part = refl
@@ -89,6 +93,7 @@ run_keeps Three part = refl
 part_keeps : (k : Kind) (o : Option Section) → KeepsBottom [] (behind_part k o)
 part_keeps k None = tt
 part_keeps kind.Variable (Some part) = refl
+part_keeps kind.Table (Some part) = refl
 part_keeps kind.Condition (Some part) = refl
 part_keeps kind.Transaction (Some part) = tx_keeps (form_in part) part
 part_keeps kind.Run (Some part) = run_keeps (form_in part) part
@@ -100,6 +105,7 @@ kind_keeps part (Some k) = part_keeps k (part_behind part k)
 stm_keeps : (part : Section) → KeepsBottom [] (behind_stm part)
 stm_keeps section.Start = refl
 stm_keeps (section.Variables form) = tt
+stm_keeps section.Tables = tt
 stm_keeps (section.Conditions form) = tt
 stm_keeps (section.Transactions form) = tt
 stm_keeps (section.Runs form) = tt
@@ -122,16 +128,16 @@ open_keeps want.FormNumber below h = tt
 open_keeps want.Close below h = tt
 open_keeps (want.Name used) below h = tt
 open_keeps (want.Number used) below h = tt
-open_keeps (want.Expr depth) below h = deeper_keeps depth below (want.Operator (depth - 1) ∷ []) h
-open_keeps (want.Operator depth) below h = tt
-open_keeps (want.Cond depth) below h = h
-open_keeps (want.Test depth) below h = tt
-open_keeps (want.Stmt depth) below h = h
-open_keeps (want.Keyword depth) below h = tt
-open_keeps (want.Parts depth) below h = deeper_keeps depth below (want.Parts depth ∷ want.Keyword (depth - 1) ∷ []) h
+open_keeps (want.Expr form depth) below h = deeper_keeps depth below (want.Head form (depth - 1) ∷ []) h
+open_keeps (want.Head form depth) below h = tt
+open_keeps (want.Cond form depth) below h = h
+open_keeps (want.Test form depth) below h = tt
+open_keeps (want.Stmt form depth) below h = h
+open_keeps (want.Keyword form depth) below h = tt
+open_keeps (want.Parts form depth) below h = deeper_keeps depth below (want.Parts form depth ∷ want.Keyword form (depth - 1) ∷ []) h
 open_keeps want.List below h = h
 open_keeps want.Parameters below h = tt
-open_keeps want.Arguments below h = tt
+open_keeps (want.Numbers used) below h = tt
 
 close_keeps : (wanted : Wanted) (below : List Wanted) → IsBottomed (wanted ∷ below) → KeepsBottom below (behind_close wanted)
 close_keeps (want.Declarations part) below h = tt
@@ -140,16 +146,16 @@ close_keeps want.FormNumber below h = tt
 close_keeps want.Close below h = h
 close_keeps (want.Name used) below h = tt
 close_keeps (want.Number used) below h = tt
-close_keeps (want.Expr depth) below h = tt
-close_keeps (want.Operator depth) below h = tt
-close_keeps (want.Cond depth) below h = tt
-close_keeps (want.Test depth) below h = tt
-close_keeps (want.Stmt depth) below h = tt
-close_keeps (want.Keyword depth) below h = tt
-close_keeps (want.Parts depth) below h = h
+close_keeps (want.Expr form depth) below h = tt
+close_keeps (want.Head form depth) below h = tt
+close_keeps (want.Cond form depth) below h = tt
+close_keeps (want.Test form depth) below h = tt
+close_keeps (want.Stmt form depth) below h = tt
+close_keeps (want.Keyword form depth) below h = tt
+close_keeps (want.Parts form depth) below h = h
 close_keeps want.List below h = tt
 close_keeps want.Parameters below h = h
-close_keeps want.Arguments below h = h
+close_keeps (want.Numbers used) below h = h
 
 int_keeps : (wanted : Wanted) (below : List Wanted) (value : ℤ) → IsBottomed (wanted ∷ below) → KeepsBottom below (behind_int wanted value)
 int_keeps (want.Declarations part) below value h = tt
@@ -158,16 +164,16 @@ int_keeps want.FormNumber below value h = subst (λ (b : List Wanted). KeepsBott
 int_keeps want.Close below value h = tt
 int_keeps (want.Name used) below value h = tt
 int_keeps (want.Number used) below value h = h
-int_keeps (want.Expr depth) below value h = h
-int_keeps (want.Operator depth) below value h = tt
-int_keeps (want.Cond depth) below value h = tt
-int_keeps (want.Test depth) below value h = tt
-int_keeps (want.Stmt depth) below value h = tt
-int_keeps (want.Keyword depth) below value h = tt
-int_keeps (want.Parts depth) below value h = tt
+int_keeps (want.Expr form depth) below value h = h
+int_keeps (want.Head form depth) below value h = tt
+int_keeps (want.Cond form depth) below value h = tt
+int_keeps (want.Test form depth) below value h = tt
+int_keeps (want.Stmt form depth) below value h = tt
+int_keeps (want.Keyword form depth) below value h = tt
+int_keeps (want.Parts form depth) below value h = tt
 int_keeps want.List below value h = tt
 int_keeps want.Parameters below value h = tt
-int_keeps want.Arguments below value h = h
+int_keeps (want.Numbers used) below value h = h
 
 word_keeps : (wanted : Wanted) (below : List Wanted) (word : List ℕ) → IsBottomed (wanted ∷ below) → KeepsBottom below (behind_word wanted word)
 word_keeps (want.Declarations part) below word h = tt
@@ -176,16 +182,16 @@ word_keeps want.FormNumber below word h = tt
 word_keeps want.Close below word h = tt
 word_keeps (want.Name used) below word h = h
 word_keeps (want.Number used) below word h = tt
-word_keeps (want.Expr depth) below word h = h
-word_keeps (want.Operator depth) below word h = operator_keeps depth below _ h
-word_keeps (want.Cond depth) below word h = tt
-word_keeps (want.Test depth) below word h = test_keeps depth below _ h
-word_keeps (want.Stmt depth) below word h = tt
-word_keeps (want.Keyword depth) below word h = keyword_keeps depth below _ h
-word_keeps (want.Parts depth) below word h = tt
+word_keeps (want.Expr form depth) below word h = h
+word_keeps (want.Head form depth) below word h = head_keeps form depth below _ h
+word_keeps (want.Cond form depth) below word h = tt
+word_keeps (want.Test form depth) below word h = test_keeps form depth below _ h
+word_keeps (want.Stmt form depth) below word h = tt
+word_keeps (want.Keyword form depth) below word h = keyword_keeps form depth below _ h
+word_keeps (want.Parts form depth) below word h = tt
 word_keeps want.List below word h = tt
 word_keeps want.Parameters below word h = h
-word_keeps want.Arguments below word h = tt
+word_keeps (want.Numbers used) below word h = tt
 
 token_keeps : (wanted : Wanted) (below : List Wanted) (t : Lexeme) → IsBottomed (wanted ∷ below) → KeepsBottom below (behind wanted t)
 unfolding behind
@@ -218,16 +224,16 @@ all_ends (want.FormNumber ∷ below) h = rw h (at_bottom (read_one want.FormNumb
 all_ends (want.Close ∷ below) h = goes_on want.Close below (simple_ends (finish_all below)).0 (all_ends below h)
 all_ends (want.Name used ∷ below) h = goes_on (want.Name used) below (simple_ends (finish_all below)).1 (all_ends below h)
 all_ends (want.Number used ∷ below) h = goes_on (want.Number used) below (simple_ends (finish_all below)).2 (all_ends below h)
-all_ends (want.Expr depth ∷ below) h = goes_on (want.Expr depth) below (expr_ends depth (finish_all below)) (all_ends below h)
-all_ends (want.Operator depth ∷ below) h = goes_on (want.Operator depth) below (operator_ends depth (finish_all below)) (all_ends below h)
-all_ends (want.Cond depth ∷ below) h = goes_on (want.Cond depth) below (cond_ends depth (finish_all below)) (all_ends below h)
-all_ends (want.Test depth ∷ below) h = goes_on (want.Test depth) below (test_ends depth (finish_all below)) (all_ends below h)
-all_ends (want.Stmt depth ∷ below) h = goes_on (want.Stmt depth) below (stmt_ends depth (finish_all below)) (all_ends below h)
-all_ends (want.Keyword depth ∷ below) h = goes_on (want.Keyword depth) below (keyword_ends depth (finish_all below)) (all_ends below h)
-all_ends (want.Parts depth ∷ below) h = goes_on (want.Parts depth) below (parts_ends depth (finish_all below)) (all_ends below h)
+all_ends (want.Expr form depth ∷ below) h = goes_on (want.Expr form depth) below (expr_ends form depth (finish_all below)) (all_ends below h)
+all_ends (want.Head form depth ∷ below) h = goes_on (want.Head form depth) below (head_ends form depth (finish_all below)) (all_ends below h)
+all_ends (want.Cond form depth ∷ below) h = goes_on (want.Cond form depth) below (cond_ends form depth (finish_all below)) (all_ends below h)
+all_ends (want.Test form depth ∷ below) h = goes_on (want.Test form depth) below (test_ends form depth (finish_all below)) (all_ends below h)
+all_ends (want.Stmt form depth ∷ below) h = goes_on (want.Stmt form depth) below (stmt_ends form depth (finish_all below)) (all_ends below h)
+all_ends (want.Keyword form depth ∷ below) h = goes_on (want.Keyword form depth) below (keyword_ends form depth (finish_all below)) (all_ends below h)
+all_ends (want.Parts form depth ∷ below) h = goes_on (want.Parts form depth) below (parts_ends form depth (finish_all below)) (all_ends below h)
 all_ends (want.List ∷ below) h = goes_on want.List below (list_ends (finish_all below)) (all_ends below h)
 all_ends (want.Parameters ∷ below) h = goes_on want.Parameters below (parameters_ends (finish_all below)) (all_ends below h)
-all_ends (want.Arguments ∷ below) h = goes_on want.Arguments below (arguments_ends (finish_all below)) (all_ends below h)
+all_ends (want.Numbers used ∷ below) h = goes_on (want.Numbers used) below (numbers_ends used (finish_all below)) (all_ends below h)
 
 -- ---- stacks whose top is the last
 

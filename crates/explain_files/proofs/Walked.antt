@@ -85,7 +85,7 @@ goes_on bytes at place next went old new e r s = on_true bytes at place next old
 -- ---- where it ends
 
 no_file : (bytes : List ℕ) → IsFirst bytes Shape → IsFileOf (tokens bytes) → ⊥
-no_file bytes first h = first.2 h.file (record { short = first.0; allowed = first.1; spelled = h.spelled; formed = h.formed; shallow = h.shallow })
+no_file bytes first h = first.2 h.file (record { short = first.0; allowed = first.1; spelled = h.spelled; formed = h.formed; parts = h.parts })
 
 abbrev no_tokens : Left
 no_tokens = Some []

@@ -68,8 +68,10 @@ abbrev pub IsCostly : Listing → NameUse → List ℕ → Type 0
 IsCostly l name.Condition text = IsOver l.always text
 IsCostly l name.Transaction text = (conditions_fit (conditions l) ≡ true) × IsOverBeside (conditions_cost (conditions l)) l.transactions text
 IsCostly l name.Variable text = ⊥
+IsCostly l name.Table text = ⊥
 IsCostly l name.Parameter text = ⊥
 IsCostly l name.Target text = ⊥
+IsCostly l name.Cells text = ⊥
 IsCostly l name.Called text = ⊥
 
 -- none is

@@ -12,6 +12,7 @@ abbrev pub view_declared : Declared → Names
 view_declared d =
     record {
       variables = texts d.variables.keys;
+      tables = texts d.tables.keys;
       conditions = texts d.conditions.keys;
       transactions = texts d.transactions.keys;
       arities = d.arities.items;

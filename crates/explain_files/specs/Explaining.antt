@@ -4,7 +4,7 @@ use Rattle.std.specs.List.{list_all}
 use Rattle.txn_programs.specs.Listing.{Listing}
 use Rattle.text_words.specs.Bytes.{is_allowed}
 use Rattle.text_words.specs.Tokens.{tokens}
-use Rattle.text_grammar.specs.Tree.{max_len}
+use Rattle.text_grammar.specs.Tree.{longest}
 use Rattle.text_grammar.specs.Spelling.{Spells, first_fault}
 use Rattle.text_file_reader.specs.Faults.{IsFirst}
 use Rattle.text_words.specs.declared.fault.ReadFault.{ReadFault}
@@ -28,7 +28,7 @@ pub record IsBadByte (bytes : List ℕ) (place : ℕ) : Type 0 where
 
 -- by the kind of fault and by what is found at the place: what is so there
 abbrev pub IsPlaced : ReadFault → List ℕ → ℕ → Finding → Type 0
-IsPlaced TooLong bytes place found.TooLong = (place ≡ max_len) × (place < length bytes)
+IsPlaced TooLong bytes place found.TooLong = (place ≡ longest bytes) × (place < length bytes)
 IsPlaced BadByte bytes place found.BadByte = IsBadByte bytes place
 IsPlaced Shape bytes place (found.Unwanted wanted) = IsStop bytes place
 -- the first name that is declared a second time, or used and not declared, or run with another number of arguments

@@ -10,7 +10,7 @@ use Rattle.explain_files.specs.declared.wanted.NameUse.TheVariants as name
 use Rattle.explain_files.specs.declared.wanted.Role.{Role}
 use Rattle.explain_files.specs.declared.wanted.Role.TheVariants as role
 use Rattle.explain_files.specs.declared.names.NameFault.{NameFault}
-use Rattle.explain_files.specs.declared.names.NameFault.TheVariants.{Twice, OfVariable, NoVariable, NoValue, IsParameter, NoTransaction, Arguments}
+use Rattle.explain_files.specs.declared.names.NameFault.TheVariants.{Twice, OfVariable, NoVariable, NoTable, NoValue, IsParameter, NoTransaction, Arguments}
 use Rattle.explain_files.specs.Tokens.{IsApart}
 use Rattle.explain_files.specs.Walking.{IsTokenPlace}
 use Rattle.explain_files.specs.Roles.{role_at}
@@ -68,6 +68,7 @@ pub record IsFirstSaid {F : Type 0} (fault : Saying F) (bytes : List ℕ) (place
 -- the names that are declared
 pub record Names : Type 0 where
   pub variables : List (List ℕ)
+  pub tables : List (List ℕ)
   pub conditions : List (List ℕ)
   pub transactions : List (List ℕ)
   -- how many parameters each transaction has
@@ -82,6 +83,7 @@ with_last ns n = take (length ns - 1) ns ++ n ∷ []
 -- and one token more, which is for this
 abbrev pub with_token : Names → Role → Lexeme → Names
 with_token known (role.Name name.Variable) (token.Name text) = record known { variables = known.variables ++ text ∷ [] }
+with_token known (role.Name name.Table) (token.Name text) = record known { tables = known.tables ++ text ∷ [] }
 with_token known (role.Name name.Condition) (token.Name text) = record known { conditions = known.conditions ++ text ∷ [] }
 with_token known (role.Name name.Transaction) (token.Name text) =
     record known { transactions = known.transactions ++ text ∷ []; arities = known.arities ++ 0 ∷ []; parameters = [] }
@@ -90,7 +92,7 @@ with_token known (role.Name name.Parameter) (token.Name text) =
 with_token known used t = known
 
 abbrev pub names_in : FileForm → List Lexeme → Names
-names_in form [] = record { variables = []; conditions = []; transactions = []; arities = []; parameters = [] }
+names_in form [] = record { variables = []; tables = []; conditions = []; transactions = []; arities = []; parameters = [] }
 names_in form (t ∷ before) = with_token (names_in form before) (role_at form before) t
 
 abbrev pub is_among : List ℕ → List (List ℕ) → Bool
@@ -109,6 +111,10 @@ target_fault known text =
     if is_among text known.variables then None
     else (if is_among text known.parameters then Some IsParameter
     else Some NoVariable)
+
+-- a table of which cells are read or put
+abbrev pub cells_fault : Names → List ℕ → Option NameFault
+cells_fault known text = if is_among text known.tables then None else Some NoTable
 
 -- nothing has the name, where these are the parameters
 abbrev pub nothing_of : List (List ℕ) → NameFault
@@ -140,10 +146,12 @@ run_fault (Some wanted) given = if given == wanted then None else Some (Argument
 -- what is wrong with a name that is for this, where these are declared before it
 abbrev pub name_fault : Names → Role → List ℕ → List Lexeme → Option NameFault
 name_fault known (role.Name name.Variable) text behind = if is_among text known.variables then Some (Twice name.Variable) else None
+name_fault known (role.Name name.Table) text behind = if is_among text known.tables then Some (Twice name.Table) else None
 name_fault known (role.Name name.Condition) text behind = if is_among text known.conditions then Some (Twice name.Condition) else None
 name_fault known (role.Name name.Transaction) text behind = if is_among text known.transactions then Some (Twice name.Transaction) else None
 name_fault known (role.Name name.Parameter) text behind = parameter_fault known text
 name_fault known (role.Name name.Target) text behind = target_fault known text
+name_fault known (role.Name name.Cells) text behind = cells_fault known text
 name_fault known (role.Name name.Called) text behind = run_fault (arity_of known text) (given_in behind)
 name_fault known role.Value text behind = value_fault known text
 name_fault known role.Word text behind = None

@@ -1,7 +1,7 @@
 -- Places in a file where a token begins.
 use Rattle.std.specs.Prelude.{◌≡◌, ◌<◌, ◌≤◌, ℕ, Bool, true, false, List, [], ◌∷◌, ◌++◌, length, take, drop}
 use Rattle.text_words.specs.Tokens.{Lexeme, tokens}
-use Rattle.text_grammar.specs.Tree.{File, file_tokens, IsOfForm, AreShallow}
+use Rattle.text_grammar.specs.Tree.{File, file_tokens, IsOfForm, HasParts}
 use Rattle.explain_files.specs.declared.wanted.Wanted.{Wanted}
 use Rattle.explain_files.specs.Tokens.{BeginsToken, IsApart}
 use Rattle.explain_files.specs.Forms.{Puts, behind}
@@ -24,7 +24,7 @@ pub record IsFileOf (ts : List Lexeme) : Type 0 where
   pub file : File
   pub spelled : ts ≡ file_tokens file
   pub formed : IsOfForm file.form file
-  pub shallow : AreShallow file
+  pub parts : HasParts file
 
 -- no file begins with the tokens in front and then this one; or, where nothing is left, they are no file
 abbrev pub NoneGoesOn : List Lexeme → List Lexeme → Type 0

@@ -4,17 +4,17 @@ ghost use Rattle.std.specs.Prelude.{◌≡◌, ◌++◌, true, IfOk};
 ghost use Rattle.std.specs.Result.{result_ok};
 ghost use Rattle.text_words.specs.Bytes.{int_value};
 ghost use Rattle.text_words.specs.TokenView.{view};
-ghost use Rattle.text_grammar.specs.Reading.{operator_of, test_of, keyword_of, form_numbered};
-ghost use Rattle.explain_files.specs.Forms.{Puts, kind_of, form_in, conditions_in, part_behind, within};
-ghost use Rattle.explain_files.specs.Forms.{behind_operator, behind_test, behind_keyword, behind_part, behind_kind};
+ghost use Rattle.text_grammar.specs.Reading.{head_of, test_of, keyword_of, form_numbered};
+ghost use Rattle.explain_files.specs.Forms.{Puts, kind_of, form_in, tables_in, conditions_in, part_behind, within};
+ghost use Rattle.explain_files.specs.Forms.{behind_head, behind_test, behind_keyword, behind_part, behind_kind};
 ghost use Rattle.explain_files.specs.Forms.{behind_stm, behind_declared, behind_form, behind_word, behind_int};
 ghost use Rattle.explain_files.specs.Forms.{behind_open, behind_close, behind};
 
-use crate::keywords::{keyword_of, kind_of, operator_of, test_of};
+use crate::keywords::{head_of, keyword_of, kind_of, test_of};
 use crate::wanted::{Kind, NameUse, NumberUse, Section, Wanted};
 use std::alloc::AllocError;
 use text_grammar::file::FileForm;
-use text_grammar::words::{Keyword, Test};
+use text_grammar::words::{Head, Keyword, Test};
 use text_words::lexer::Token;
 use text_words::numeral::Numeral;
 
@@ -26,23 +26,39 @@ fn want(stack: &mut Vec<Wanted>, more: &[Wanted]) -> Result<bool, AllocError>
     Ok(true)
 }
 
-fn behind_operator(stack: &mut Vec<Wanted>, depth: u32, word: &str) -> Result<bool, AllocError>
+fn behind_head(
+    stack: &mut Vec<Wanted>,
+    form: FileForm,
+    depth: u32,
+    word: &str,
+) -> Result<bool, AllocError>
     ensures { IfOk result
-        (λ went. Puts went stack.old.items stack.new.items (behind_operator depth (result_ok (operator_of word.now)))) }
+        (λ went. Puts went stack.old.items stack.new.items
+        (behind_head form depth (result_ok (head_of form word.now)))) }
 {
-    let expr = Wanted::Expr(depth);
-    match operator_of(word) {
-        Some(_) => want(stack, &[Wanted::Close, expr, expr]),
-        None => Ok(false),
+    let Some(head) = head_of(form, word) else {
+        return Ok(false);
+    };
+    let (close, expr) = (Wanted::Close, Wanted::Expr(form, depth));
+    let table = Wanted::Name(NameUse::Cells);
+    match head {
+        Head::Operates(_) => want(stack, &[close, expr, expr]),
+        Head::Picks => want(stack, &[close, expr, table]),
+        Head::Folds(_) => want(stack, &[close, table]),
     }
 }
 
-fn behind_test(stack: &mut Vec<Wanted>, depth: u32, word: &str) -> Result<bool, AllocError>
+fn behind_test(
+    stack: &mut Vec<Wanted>,
+    form: FileForm,
+    depth: u32,
+    word: &str,
+) -> Result<bool, AllocError>
     ensures { IfOk result
-        (λ went. Puts went stack.old.items stack.new.items (behind_test depth (result_ok (test_of word.now)))) }
+        (λ went. Puts went stack.old.items stack.new.items (behind_test form depth (result_ok (test_of word.now)))) }
 {
-    let expr = Wanted::Expr(depth);
-    let cond = Wanted::Cond(depth.saturating_sub(1));
+    let expr = Wanted::Expr(form, depth);
+    let cond = Wanted::Cond(form, depth.saturating_sub(1));
     match test_of(word) {
         Some(Test::Compares(_)) => want(stack, &[Wanted::Close, expr, expr]),
         Some(Test::Negates) if depth > 0 => want(stack, &[Wanted::Close, cond]),
@@ -51,20 +67,27 @@ fn behind_test(stack: &mut Vec<Wanted>, depth: u32, word: &str) -> Result<bool, 
     }
 }
 
-fn behind_keyword(stack: &mut Vec<Wanted>, depth: u32, word: &str) -> Result<bool, AllocError>
+fn behind_keyword(
+    stack: &mut Vec<Wanted>,
+    form: FileForm,
+    depth: u32,
+    word: &str,
+) -> Result<bool, AllocError>
     ensures { IfOk result
-        (λ went. Puts went stack.old.items stack.new.items (behind_keyword depth (result_ok (keyword_of word.now)))) }
+        (λ went. Puts went stack.old.items stack.new.items
+        (behind_keyword form depth (result_ok (keyword_of form word.now)))) }
 {
-    let Some(keyword) = keyword_of(word) else {
+    let Some(keyword) = keyword_of(form, word) else {
         return Ok(false);
     };
-    let expr = Wanted::Expr(depth);
-    let inner = depth.saturating_sub(1);
-    let (cond, stmt) = (Wanted::Cond(inner), Wanted::Stmt(inner));
+    let (expr, inner) = (Wanted::Expr(form, depth), depth.saturating_sub(1));
+    let (cond, stmt) = (Wanted::Cond(form, inner), Wanted::Stmt(form, inner));
+    let table = Wanted::Name(NameUse::Cells);
     match keyword {
         Keyword::Skip | Keyword::Retry => want(stack, &[Wanted::Close]),
         Keyword::Set => want(stack, &[Wanted::Close, expr, Wanted::Name(NameUse::Target)]),
-        Keyword::Seq => want(stack, &[Wanted::Parts(depth)]),
+        Keyword::Put => want(stack, &[Wanted::Close, expr, expr, table]),
+        Keyword::Seq => want(stack, &[Wanted::Parts(form, depth)]),
         Keyword::Throw => want(stack, &[Wanted::Close, expr]),
         Keyword::If if depth > 0 => want(stack, &[Wanted::Close, stmt, stmt, cond]),
         Keyword::Repeat if depth > 0 => want(
@@ -86,6 +109,17 @@ fn form_in(part: Section) -> FileForm
         | Section::Conditions(form)
         | Section::Transactions(form)
         | Section::Runs(form) => form,
+        Section::Tables => FileForm::Three,
+    }
+}
+
+/// Where tables stand behind variables.
+fn tables_in(form: FileForm) -> Option<Section>
+    ensures { result ≡ tables_in form }
+{
+    match form {
+        FileForm::One | FileForm::Two => None,
+        FileForm::Three => Some(Section::Tables),
     }
 }
 
@@ -106,7 +140,10 @@ fn part_behind(part: Section, kind: Kind) -> Option<Section>
     match (part, kind) {
         (Section::Start, Kind::Variable) => Some(Section::Variables(FileForm::One)),
         (Section::Variables(_), Kind::Variable) => Some(part),
+        (Section::Variables(form), Kind::Table) => tables_in(form),
         (Section::Variables(form), Kind::Condition) => conditions_in(form),
+        (Section::Tables, Kind::Table) => Some(part),
+        (Section::Tables, Kind::Condition) => Some(Section::Conditions(FileForm::Three)),
         (Section::Conditions(_), Kind::Condition) => Some(part),
         (Section::Runs(_), Kind::Transaction) => None,
         (_, Kind::Transaction) => Some(Section::Transactions(form_in(part))),
@@ -119,10 +156,11 @@ fn within_tx(stack: &mut Vec<Wanted>, part: Section) -> Result<bool, AllocError>
     ensures { IfOk result
         (λ went. (went ≡ true) × (stack.new.items ≡ stack.old.items ++ within part Kind.Transaction)) }
 {
+    let form = form_in(part);
     let (rest, close) = (Wanted::Declarations(part), Wanted::Close);
-    let (value, body) = (Wanted::Expr(31), Wanted::Stmt(30));
+    let (value, body) = (Wanted::Expr(form, 31), Wanted::Stmt(form, 30));
     let name = Wanted::Name(NameUse::Transaction);
-    match form_in(part) {
+    match form {
         FileForm::One | FileForm::Two => want(stack, &[rest, close, value, body, name]),
         FileForm::Three => want(stack, &[rest, close, value, body, Wanted::List, name]),
     }
@@ -138,8 +176,26 @@ fn within_run(stack: &mut Vec<Wanted>, part: Section) -> Result<bool, AllocError
     );
     match form_in(part) {
         FileForm::One | FileForm::Two => want(stack, &[rest, Wanted::Close, tasks, name]),
-        FileForm::Three => want(stack, &[rest, Wanted::Arguments, tasks, name]),
+        FileForm::Three => {
+            let arguments = Wanted::Numbers(NumberUse::Argument);
+            want(stack, &[rest, arguments, tasks, name])
+        }
     }
+}
+
+fn within_table(stack: &mut Vec<Wanted>, part: Section) -> Result<bool, AllocError>
+    ensures { IfOk result (λ went. (went ≡ true) × (stack.new.items ≡ stack.old.items ++ within part Kind.Table)) }
+{
+    let rest = Wanted::Declarations(part);
+    let (first, others) = (
+        Wanted::Number(NumberUse::Cell),
+        Wanted::Numbers(NumberUse::Cell),
+    );
+    let (length, name) = (
+        Wanted::Number(NumberUse::Length),
+        Wanted::Name(NameUse::Table),
+    );
+    want(stack, &[rest, others, first, length, name])
 }
 
 fn behind_kind(stack: &mut Vec<Wanted>, part: Section, word: &str) -> Result<bool, AllocError>
@@ -160,9 +216,11 @@ fn behind_kind(stack: &mut Vec<Wanted>, part: Section, word: &str) -> Result<boo
                 &[rest, close, Wanted::Number(value), Wanted::Name(name)],
             )
         }
+        Kind::Table => within_table(stack, next),
         Kind::Condition => {
             let name = Wanted::Name(NameUse::Condition);
-            want(stack, &[rest, close, Wanted::Cond(30), name])
+            let condition = Wanted::Cond(form_in(next), 30);
+            want(stack, &[rest, close, condition, name])
         }
         Kind::Transaction => within_tx(stack, next),
         Kind::Run => within_run(stack, next),
@@ -193,10 +251,10 @@ fn behind_word(stack: &mut Vec<Wanted>, wanted: Wanted, word: &str) -> Result<bo
 {
     match wanted {
         Wanted::Word(part) => behind_declared(stack, part, word),
-        Wanted::Operator(depth) => behind_operator(stack, depth, word),
-        Wanted::Test(depth) => behind_test(stack, depth, word),
-        Wanted::Keyword(depth) => behind_keyword(stack, depth, word),
-        Wanted::Name(_) | Wanted::Expr(_) => Ok(true),
+        Wanted::Head(form, depth) => behind_head(stack, form, depth, word),
+        Wanted::Test(form, depth) => behind_test(stack, form, depth, word),
+        Wanted::Keyword(form, depth) => behind_keyword(stack, form, depth, word),
+        Wanted::Name(_) | Wanted::Expr(..) => Ok(true),
         Wanted::Parameters => want(stack, &[Wanted::Parameters]),
         _ => Ok(false),
     }
@@ -237,8 +295,8 @@ fn behind_int(
 {
     match wanted {
         Wanted::FormNumber => behind_form(stack, number),
-        Wanted::Number(_) | Wanted::Expr(_) => Ok(true),
-        Wanted::Arguments => want(stack, &[Wanted::Arguments]),
+        Wanted::Number(_) | Wanted::Expr(..) => Ok(true),
+        Wanted::Numbers(_) => want(stack, &[wanted]),
         _ => Ok(false),
     }
 }
@@ -248,11 +306,11 @@ fn behind_open(stack: &mut Vec<Wanted>, wanted: Wanted) -> Result<bool, AllocErr
 {
     match wanted {
         Wanted::Declarations(part) => want(stack, &[Wanted::Word(part)]),
-        Wanted::Expr(depth) if depth > 0 => want(stack, &[Wanted::Operator(depth - 1)]),
-        Wanted::Cond(depth) => want(stack, &[Wanted::Test(depth)]),
-        Wanted::Stmt(depth) => want(stack, &[Wanted::Keyword(depth)]),
-        Wanted::Parts(depth) if depth > 0 => {
-            want(stack, &[Wanted::Parts(depth), Wanted::Keyword(depth - 1)])
+        Wanted::Expr(form, depth) if depth > 0 => want(stack, &[Wanted::Head(form, depth - 1)]),
+        Wanted::Cond(form, depth) => want(stack, &[Wanted::Test(form, depth)]),
+        Wanted::Stmt(form, depth) => want(stack, &[Wanted::Keyword(form, depth)]),
+        Wanted::Parts(form, depth) if depth > 0 => {
+            want(stack, &[wanted, Wanted::Keyword(form, depth - 1)])
         }
         Wanted::List => want(stack, &[Wanted::Parameters]),
         _ => Ok(false),
@@ -263,7 +321,7 @@ fn behind_close(stack: &mut Vec<Wanted>, wanted: Wanted) -> Result<bool, AllocEr
     ensures { IfOk result (λ went. Puts went stack.old.items stack.new.items (behind_close wanted)) }
 {
     match wanted {
-        Wanted::Close | Wanted::Parts(_) | Wanted::Parameters | Wanted::Arguments => Ok(true),
+        Wanted::Close | Wanted::Parts(..) | Wanted::Parameters | Wanted::Numbers(_) => Ok(true),
         _ => Ok(false),
     }
 }

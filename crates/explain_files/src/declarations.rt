@@ -32,6 +32,7 @@ use text_resolver::resolve::{Parts, resolve};
 use text_words::ReadFault;
 use text_words::lexer::Token;
 use txn::Memory;
+use txn::build::add_cells;
 use txn_declarations::limits::{always_cost, transactions_fit};
 use txn_evaluator::evaluate::standing_truth;
 use txn_programs::limits::MAX_COST;
@@ -193,11 +194,20 @@ fn first_untrue<'a>(always: &'a [(String, Cond)], state: &[i64]) -> &'a str
     unreachable!()
 }
 
-/// The initial values.
-fn initial_values(alloc: Global, vars: &[(String, i64)]) -> Result<Vec<i64>, AllocError>
+/// The initial values of the variables.
+fn values_of(alloc: Global, vars: &[(String, i64)]) -> Result<Vec<i64>, AllocError>
     ensures { IfOk result (λ values. values.items ≡ map (λ v. v.1) vars.now) }
 {
     vars.iter().map(|v| v.1).collect(alloc)
+}
+
+/// The initial values of the variables, and behind them those of the cells.
+fn initial_values(alloc: Global, parts: &Parts) -> Result<Vec<i64>, AllocError>
+    ensures { IfOk result (λ values. values.items ≡ (view_parts parts.now).initial) }
+{
+    let mut values = values_of(alloc, &parts.vars)?;
+    add_cells(&mut values, &parts.tables)?;
+    Ok(values)
 }
 
 /// The name of the first standing condition that is not true of the initial values.
@@ -205,7 +215,7 @@ fn untrue(alloc: Global, parts: &Parts) -> Result<&str, Memory>
     requires { IsUntrue (view_parts parts.now) }
     ensures { IfOk result (λ name. IsFalse (view_parts parts.now).always (view_parts parts.now).initial name.now) }
 {
-    let state = initial_values(alloc, &parts.vars)?;
+    let state = initial_values(alloc, parts)?;
     Ok(first_untrue(&parts.always, state.as_slice()))
 }
 

@@ -14,6 +14,7 @@ use crate::walk::first_stop;
 use crate::wanted::Wanted;
 use std::alloc::Global;
 use text_file_reader::read_file;
+use text_parser::file::longest_file;
 use text_words::ReadFault;
 use txn::Memory;
 
@@ -53,9 +54,6 @@ pub enum Explanation {
     Good,
     Refused(Refusal),
 }
-
-/// The longest file, in bytes.
-const MAX_FILE: usize = 1_048_576;
 
 /// Where a file that has no reading by the grammar stops being the beginning of one.
 fn shape_place(alloc: Global, bytes: &[u8]) -> Result<(usize, Finding), Memory>
@@ -107,7 +105,7 @@ fn place_of(alloc: Global, bytes: &[u8], kind: ReadFault) -> Result<(usize, Find
     ensures { IfOk result (λ x. IsPlaced kind bytes.now x.0 x.1) }
 {
     match kind {
-        ReadFault::TooLong => Ok((MAX_FILE, Finding::TooLong)),
+        ReadFault::TooLong => Ok((longest_file(bytes), Finding::TooLong)),
         ReadFault::BadByte => Ok((bad_byte_place(bytes), Finding::BadByte)),
         ReadFault::Shape => shape_place(alloc, bytes),
         ReadFault::Name => name_place(alloc, bytes),
@@ -121,7 +119,7 @@ fn place_of(alloc: Global, bytes: &[u8], kind: ReadFault) -> Result<(usize, Find
 /// what is wrong there. It takes time and memory linear in the input. `Err` means that memory was refused.
 ///
 /// The kind is what `read_file` says. The place is in the text. Of a file that is too long it is that
-/// of the first byte that no file has, of a bad byte that of the first one. Of a shape it is where the
+/// of the first byte that no file that begins so has, of a bad byte that of the first one. Of a shape it is where the
 /// bytes stop being the beginning of a file: some file begins with the tokens before it, and none with
 /// one more. Of a name or a limit it is the first name or number that is wrong, in the way that is told;
 /// where only the cost of a declaration is, and of a condition that is not true, it is the name of the

@@ -2,23 +2,20 @@
 
 ghost use Rattle.std.specs.Prelude.{◌≡◌};
 ghost use Rattle.std.specs.Result.{result_ok};
-ghost use Rattle.text_grammar.specs.Reading.{operator_of, test_of, keyword_of};
+ghost use Rattle.text_grammar.specs.Reading.{head_of, test_of, keyword_of};
 ghost use Rattle.explain_files.specs.Forms.{kind_of};
 
 use crate::wanted::Kind;
-use text_grammar::words::{Comparison, Connective, Keyword, Operator, Test};
+use text_grammar::file::FileForm;
+use text_grammar::words::{self, Head, Keyword, Test};
 
-/// The operator of a word, if it is one.
-pub(crate) fn operator_of(word: &str) -> Option<Operator>
-    ensures { result ≡ result_ok (operator_of word.now) }
+/// The kind of expression that a word begins in a file of this form, if it does.
+pub(crate) fn head_of(form: FileForm, word: &str) -> Option<Head>
+    ensures { result ≡ result_ok (head_of form word.now) }
 {
-    match word {
-        "add" => Some(Operator::Add),
-        "sub" => Some(Operator::Sub),
-        "mul" => Some(Operator::Mul),
-        "div" => Some(Operator::Div),
-        "rem" => Some(Operator::Rem),
-        _ => None,
+    match words::head_of(form, word) {
+        Ok(head) => Some(head),
+        Err(_) => None,
     }
 }
 
@@ -26,31 +23,19 @@ pub(crate) fn operator_of(word: &str) -> Option<Operator>
 pub(crate) fn test_of(word: &str) -> Option<Test>
     ensures { result ≡ result_ok (test_of word.now) }
 {
-    match word {
-        "eq" => Some(Test::Compares(Comparison::Eq)),
-        "lt" => Some(Test::Compares(Comparison::Lt)),
-        "le" => Some(Test::Compares(Comparison::Le)),
-        "not" => Some(Test::Negates),
-        "and" => Some(Test::Connects(Connective::And)),
-        "or" => Some(Test::Connects(Connective::Or)),
-        _ => None,
+    match words::test_of(word) {
+        Ok(test) => Some(test),
+        Err(_) => None,
     }
 }
 
-/// The kind of statement that a word begins, if it does.
-pub(crate) fn keyword_of(word: &str) -> Option<Keyword>
-    ensures { result ≡ result_ok (keyword_of word.now) }
+/// The kind of statement that a word begins in a file of this form, if it does.
+pub(crate) fn keyword_of(form: FileForm, word: &str) -> Option<Keyword>
+    ensures { result ≡ result_ok (keyword_of form word.now) }
 {
-    match word {
-        "skip" => Some(Keyword::Skip),
-        "set" => Some(Keyword::Set),
-        "seq" => Some(Keyword::Seq),
-        "if" => Some(Keyword::If),
-        "repeat" => Some(Keyword::Repeat),
-        "retry" => Some(Keyword::Retry),
-        "orelse" => Some(Keyword::OrElse),
-        "throw" => Some(Keyword::Throw),
-        _ => None,
+    match words::keyword_of(form, word) {
+        Ok(keyword) => Some(keyword),
+        Err(_) => None,
     }
 }
 
@@ -60,6 +45,7 @@ pub(crate) fn kind_of(word: &str) -> Option<Kind>
 {
     match word {
         "var" => Some(Kind::Variable),
+        "table" => Some(Kind::Table),
         "always" => Some(Kind::Condition),
         "tx" => Some(Kind::Transaction),
         "run" => Some(Kind::Run),

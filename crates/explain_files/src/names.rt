@@ -6,7 +6,8 @@ ghost use Rattle.text_words.specs.TokenView.{view};
 ghost use Rattle.explain_files.specs.Roles.{form_of};
 ghost use Rattle.explain_files.specs.Judging.{AllTokens, IsRight, IsFirstSaid, names_in, is_among, with_last};
 ghost use Rattle.explain_files.specs.Judging.{with_token};
-ghost use Rattle.explain_files.specs.Judging.{target_fault, value_fault, arity_of, integers_in, given_in, run_fault};
+ghost use Rattle.explain_files.specs.Judging.{target_fault, cells_fault, value_fault, arity_of, integers_in};
+ghost use Rattle.explain_files.specs.Judging.{given_in, run_fault};
 ghost use Rattle.explain_files.specs.Judging.{name_fault, name_fault_for, name_fault_at};
 ghost use Rattle.explain_files.specs.Declaring.{texts, view_declared};
 
@@ -28,6 +29,8 @@ pub enum NameFault {
     OfVariable,
     /// No variable has it.
     NoVariable,
+    /// No table has it.
+    NoTable,
     /// Neither a variable nor a parameter of the transaction has it.
     NoValue,
     /// It is to be set, and is a parameter.
@@ -42,6 +45,7 @@ pub enum NameFault {
 #[derive(Drop)]
 struct Declared<'a> {
     variables: IndexSet<&'a str>,
+    tables: IndexSet<&'a str>,
     conditions: IndexSet<&'a str>,
     transactions: IndexSet<&'a str>,
     /// How many parameters each transaction has.
@@ -151,6 +155,17 @@ fn target_fault(declared: &Declared<'_>, name: &str) -> Option<NameFault>
     }
 }
 
+/// What is wrong with a table of which cells are read or put.
+fn cells_fault(declared: &Declared<'_>, name: &str) -> Option<NameFault>
+    ensures { result ≡ cells_fault (view_declared declared.now) name.now }
+{
+    if is_among(&declared.tables, name) {
+        None
+    } else {
+        Some(NameFault::NoTable)
+    }
+}
+
 /// What is wrong with a name in an expression.
 fn value_fault(declared: &Declared<'_>, name: &str) -> Option<NameFault>
     ensures { result ≡ value_fault (view_declared declared.now) name.now }
@@ -177,7 +192,7 @@ fn arity_of(declared: &Declared<'_>, name: &str) -> Option<usize>
 }
 
 /// How many integers stand next.
-fn integers_in(bytes: &[u8]) -> usize
+pub(crate) fn integers_in(bytes: &[u8]) -> usize
     ensures { result ≡ integers_in (tokens bytes.now) }
 {
     let mut count = 0;
@@ -225,10 +240,12 @@ fn judged<'a>(
 {
     match role {
         Role::Name(NameUse::Variable) => twice(&mut declared.variables, NameUse::Variable, name),
+        Role::Name(NameUse::Table) => twice(&mut declared.tables, NameUse::Table, name),
         Role::Name(NameUse::Condition) => twice(&mut declared.conditions, NameUse::Condition, name),
         Role::Name(NameUse::Transaction) => transaction_fault(declared, name),
         Role::Name(NameUse::Parameter) => parameter_fault(declared, name),
         Role::Name(NameUse::Target) => Ok(target_fault(declared, name)),
+        Role::Name(NameUse::Cells) => Ok(cells_fault(declared, name)),
         Role::Name(NameUse::Called) => Ok(run_fault(declared, name, behind)),
         Role::Value => Ok(value_fault(declared, name)),
         Role::Word | Role::List | Role::Number(_) => Ok(None),
@@ -270,6 +287,7 @@ pub(crate) fn wrong_name(alloc: Global, bytes: &[u8]) -> Result<Option<WrongName
 {
     let mut declared = Declared {
         variables: IndexSet::new(alloc),
+        tables: IndexSet::new(alloc),
         conditions: IndexSet::new(alloc),
         transactions: IndexSet::new(alloc),
         arities: Vec::new(alloc),

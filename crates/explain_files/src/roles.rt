@@ -27,9 +27,11 @@ fn role_of_word(word: &str) -> Role
 {
     match word {
         "var" => Role::Name(NameUse::Variable),
+        "table" => Role::Name(NameUse::Table),
         "always" => Role::Name(NameUse::Condition),
         "tx" => Role::Name(NameUse::Transaction),
         "set" => Role::Name(NameUse::Target),
+        "at" | "sum" | "min" | "max" | "put" => Role::Name(NameUse::Cells),
         "run" => Role::Name(NameUse::Called),
         "repeat" => Role::Number(NumberUse::Turns),
         _ => Role::Value,
@@ -53,6 +55,7 @@ fn role_behind_name(form: FileForm, role: Role, name: &str) -> Role
     match role {
         Role::Word => role_of_word(name),
         Role::Name(NameUse::Variable) => Role::Number(NumberUse::Initial),
+        Role::Name(NameUse::Table) => Role::Number(NumberUse::Length),
         Role::Name(NameUse::Called) => Role::Number(NumberUse::Tasks),
         Role::Name(NameUse::Transaction) => role_of_list(form),
         Role::Name(NameUse::Parameter) => role,
@@ -60,11 +63,12 @@ fn role_behind_name(form: FileForm, role: Role, name: &str) -> Role
     }
 }
 
-/// What the token behind a number is for: arguments follow the count of a run.
+/// What the token behind a number is for: values follow the length of a table, and arguments the count of a run.
 fn role_behind_number(role: Role) -> Role
     ensures { result ≡ role_behind_number role }
 {
     match role {
+        Role::Number(NumberUse::Length | NumberUse::Cell) => Role::Number(NumberUse::Cell),
         Role::Number(NumberUse::Tasks | NumberUse::Argument) => Role::Number(NumberUse::Argument),
         _ => Role::Value,
     }

@@ -91,7 +91,7 @@ pub(crate) fn told(alloc: Global, bytes: &[u8], refusal: &Refusal) -> Result<Str
     let meant = meant(bytes, refusal.place, refusal.finding);
     let found = found(alloc, refusal.finding, &bytes[refusal.place..], meant)?;
     let kind = kind_name(refusal.kind);
-    let words = words(refusal.finding);
+    let words = words(refusal);
     let text = line_of(alloc, at.line, at.column, kind, words, found.as_str())?;
     Ok(text)
 }

@@ -7,6 +7,8 @@ use text_grammar::file::FileForm;
 pub enum NameUse {
     /// It declares a variable.
     Variable,
+    /// It declares a table.
+    Table,
     /// It declares a standing condition.
     Condition,
     /// It declares a transaction.
@@ -15,6 +17,8 @@ pub enum NameUse {
     Parameter,
     /// It is the variable that a statement sets.
     Target,
+    /// It is the table of which cells are read or put.
+    Cells,
     /// It is the transaction that a run is of.
     Called,
 }
@@ -24,6 +28,10 @@ pub enum NameUse {
 pub enum NumberUse {
     /// The initial value of a variable.
     Initial,
+    /// How many cells a table has.
+    Length,
+    /// An initial value of cells.
+    Cell,
     /// How often a statement is repeated.
     Turns,
     /// How many tasks a run is.
@@ -37,6 +45,8 @@ pub enum NumberUse {
 pub enum Kind {
     /// `var`
     Variable,
+    /// `table`
+    Table,
     /// `always`
     Condition,
     /// `tx`
@@ -48,12 +58,13 @@ pub enum Kind {
 /// The part of a file in which a declaration stands: what may come there and behind it.
 #[derive(Clone, Copy, Debug, PartialEq, Eq)]
 pub enum Section {
-    /// The beginning: all but standing conditions, or the announcement of form 2 or 3.
+    /// The beginning: variables, transactions and runs, or the announcement of form 2 or 3.
     Start,
-    /// Behind a variable, or behind the announcement of this form: all declarations, in form 1 all but standing
-    /// conditions.
+    /// Behind a variable, or behind the announcement of this form: all declarations that the form has.
     Variables(FileForm),
-    /// Behind a standing condition: all but variables.
+    /// Behind a table, which only form 3 has: all but variables.
+    Tables,
+    /// Behind a standing condition: all but variables and tables.
     Conditions(FileForm),
     /// Behind a transaction: transactions and runs.
     Transactions(FileForm),
@@ -61,7 +72,8 @@ pub enum Section {
     Runs(FileForm),
 }
 
-/// What is wanted at a place. A number of parentheses is how many more of them may be open inside.
+/// What is wanted at a place. With an expression, a condition or a statement goes the form of the file, and how many
+/// more parentheses may be open inside.
 #[derive(Clone, Copy, Debug, PartialEq, Eq)]
 pub enum Wanted {
     /// A declaration, or the end.
@@ -74,23 +86,23 @@ pub enum Wanted {
     Close,
     Name(NameUse),
     Number(NumberUse),
-    Expr(u32),
-    /// The word of an operation.
-    Operator(u32),
-    Cond(u32),
+    Expr(FileForm, u32),
+    /// The word of an expression.
+    Head(FileForm, u32),
+    Cond(FileForm, u32),
     /// The word of a condition.
-    Test(u32),
-    Stmt(u32),
+    Test(FileForm, u32),
+    Stmt(FileForm, u32),
     /// The word of a statement.
-    Keyword(u32),
+    Keyword(FileForm, u32),
     /// The statements of a sequence, and its closing parenthesis.
-    Parts(u32),
+    Parts(FileForm, u32),
     /// The list of parameters of a transaction.
     List,
     /// The names of a list, and its closing parenthesis.
     Parameters,
-    /// The arguments of a run, and its closing parenthesis.
-    Arguments,
+    /// Numbers for this, as many as stand there, and a closing parenthesis.
+    Numbers(NumberUse),
 }
 
 /// What a token is for, as those before it say.
@@ -100,7 +112,7 @@ pub enum Role {
     Word,
     /// A name that declares something, that is set, or that is run.
     Name(NameUse),
-    /// A number that is an initial value, a count, or an argument.
+    /// A number that is an initial value, a length, a count, or an argument.
     Number(NumberUse),
     /// The parenthesis that opens a list of parameters.
     List,

@@ -10,10 +10,9 @@ use Rattle.txn_programs.specs.Listing.{Listing, values}
 use Rattle.txn_programs.specs.Names.{names_hold}
 use Rattle.txn_programs.specs.Told.{Told}
 use Rattle.txn_programs.proofs.Lawful.{few_tasks}
-use Rattle.txn_programs.proofs.Untabled.{untabled_valued}
 use Rattle.text_words.specs.Bytes.{is_allowed}
 use Rattle.text_line_reader.specs.Lines.{Line, Whole, Cut, lines}
-use Rattle.text_line_reader.specs.Reports.{IsReport, IsWritten, knows_outside}
+use Rattle.text_line_reader.specs.Reports.{IsReport, IsWritten}
 use Rattle.text_line_reader.proofs.Parting.{bytes_of, bytes_lines}
 use Rattle.text_line_reader.proofs.ReportAgains.{report_again, written_report}
 use Rattle.text_line_reader.proofs.ReportAllowed.{raw_allowed}
@@ -46,8 +45,7 @@ line_allowed (Cut t ∷ ls) (suc k) text h e = line_allowed ls k text (parts_of 
 
 pub line_is_ascii : (l : Listing) (bytes : List ℕ) (r : Told) (k : ℕ) (text : List ℕ) → values l ≡ length l.initial → names_hold l ≡ true → limits_hold l ≡ true → IsReport l bytes r → slice_get (lines bytes) k ≡ Some (Whole text) → IsAscii text
 line_is_ascii l bytes r k text valued names limits is e =
-    let named = untabled_valued l limits valued in
-    let a = report_again l r named names (few_tasks l limits) is.fits is.values is.outside in
-    let w : IsWritten (knows_outside l) (length l.names) bytes (written_report l r) = record { short = is.short; text = is.text ∙ a.text; words = a.words } in
-    let allowed : list_all is_allowed (bytes_of (lines bytes)) ≡ true = ap (list_all is_allowed) (bytes_lines bytes) ∙ raw_allowed (knows_outside l) (length l.names) bytes (written_report l r) w in
+    let a = report_again l r valued names limits (few_tasks l limits) is.fits is.values is.outside in
+    let w : IsWritten l bytes (written_report l r) = record { short = is.short; text = is.text ∙ a.text; words = a.words } in
+    let allowed : list_all is_allowed (bytes_of (lines bytes)) ≡ true = ap (list_all is_allowed) (bytes_lines bytes) ∙ raw_allowed l bytes (written_report l r) w in
     allowed_is_ascii text (line_allowed (lines bytes) k text allowed e)

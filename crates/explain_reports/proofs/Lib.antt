@@ -6,6 +6,7 @@ mod Seen
 mod Order
 mod Judging
 mod Lined
+mod Valued
 mod Places
 mod Numbered
 mod Verdicts

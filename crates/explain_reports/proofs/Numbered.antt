@@ -3,12 +3,11 @@ use Rattle.std.proofs.Common.{◌≡◌, ◌∙◌, ℕ, zero, suc, ◌-◌, ◌
 use Rattle.std.specs.List.{slice_get}
 use Rattle.std.proofs.lemmas.Option.{same_Some, slice_get_within}
 use Rattle.std.proofs.lemmas.Bool.Decides.{eqb_tells}
-use Rattle.txn_programs.specs.Listing.{Listing, values}
+use Rattle.txn_programs.specs.Listing.{Listing, cells, values}
 use Rattle.txn_programs.specs.Limits.{limits_hold}
 use Rattle.txn_programs.specs.Names.{names_hold}
 use Rattle.txn_programs.specs.Told.{Told}
-use Rattle.txn_programs.proofs.Lawful.{few_tasks}
-use Rattle.txn_programs.proofs.Untabled.{untabled_valued}
+use Rattle.txn_programs.proofs.Lawful.{few_tasks, limits_parts}
 use Rattle.text_line_reader.specs.Lines.{Line, Whole, Cut, with_byte, lines, first_line}
 use Rattle.text_line_reader.specs.Reports.{IsReport}
 use Rattle.explain_reports.specs.declared.flaw.Flaw.{Flaw}
@@ -89,26 +88,26 @@ lines_length (b ∷ bs) =
 
 pub record IsAt (l : Listing) (bytes : List ℕ) (r : Told) (flaw : Flaw) : Type 0 where
   pub text : List ℕ
-  pub stands : slice_get (lines bytes) (place_of_flaw r flaw) ≡ Some (Whole text)
-  pub whole : whole_at (place_of_flaw r flaw) (lines bytes) ≡ Some text
+  pub stands : slice_get (lines bytes) (place_of_flaw l r flaw) ≡ Some (Whole text)
+  pub whole : whole_at (place_of_flaw l r flaw) (lines bytes) ≡ Some text
   pub row : IsRow l r flaw (text ++ 10 ∷ [])
-  pub within : place_of_flaw r flaw < 8388608
+  pub within : place_of_flaw l r flaw < 200000000
 
 pub is_at : (l : Listing) (bytes : List ℕ) (r : Told) (flaw : Flaw) → values l ≡ length l.initial → names_hold l ≡ true → limits_hold l ≡ true → IsReport l bytes r → IsFlaw l r flaw → IsAt l bytes r flaw
 is_at l bytes r flaw valued names limits is f =
-    let named = untabled_valued l limits valued in
-    let sized : Sized l r = record { base = is.fits.base_vars ∙ sym named; present = is.fits.current_vars ∙ sym named } in
+    let sized : Sized l r = record { valued = valued; base = is.fits.base_vars ∙ sym valued; present = is.fits.current_vars ∙ sym valued; begun = is.fits.base_cells } in
     let there = row_at l r flaw sized f in
-    let rows : lines bytes ≡ report_rows l r = ap lines is.text ∙ report_lined l r names (few_tasks l limits) is.fits is.values in
-    let stands : slice_get (lines bytes) (place_of_flaw r flaw) ≡ Some (Whole there.text) =
-    subst (λ (ls : List Line). slice_get ls (place_of_flaw r flaw) ≡ Some (Whole there.text)) (sym rows) there.stands in
-    let inside = slice_get_within (lines bytes) (place_of_flaw r flaw) (Whole there.text) stands in
+    let rows : lines bytes ≡ report_rows l r = ap lines is.text ∙ report_lined l r valued names limits (few_tasks l limits) is.fits is.values in
+    let stands : slice_get (lines bytes) (place_of_flaw l r flaw) ≡ Some (Whole there.text) =
+    subst (λ (ls : List Line). slice_get ls (place_of_flaw l r flaw) ≡ Some (Whole there.text)) (sym rows) there.stands in
+    let inside = slice_get_within (lines bytes) (place_of_flaw l r flaw) (Whole there.text) stands in
     let few = lines_length bytes in
+    let few_cells : cells l ≤ 1048576 = (limits_parts l limits).cells in
     let short = is.short in
     record {
       text = there.text;
       stands = stands;
-      whole = whole_there (lines bytes) (place_of_flaw r flaw) there.text (lines_last bytes) stands;
+      whole = whole_there (lines bytes) (place_of_flaw l r flaw) there.text (lines_last bytes) stands;
       row = there.row;
       within = omega arith;
     }

@@ -30,7 +30,7 @@ answer_on f r l v text only a =
 
 pub answer_alone : (f r : List ℕ) (l : Listing) (v w : Verdict) (text : List ℕ) → OneVerdict → Spells f l → SpellsOnly f l → IsAnswer f r v text → IsVerdictOn l r w → v ≡ w
 answer_alone f r l v w text one spells only a b =
-    let rules : Rules l = record { named = sym spells.declared.valued; names = spells.declared.names; limits = spells.declared.limits } in
+    let rules : Rules l = record { valued = sym spells.declared.valued; names = spells.declared.names; limits = spells.declared.limits } in
     same_verdict l r v w rules (λ t x y. one l t v w x y) (answer_on f r l v text only a) b
 
 -- the verdict behind the earlier pair, with the report's own

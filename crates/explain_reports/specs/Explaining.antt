@@ -28,8 +28,8 @@ pub record IsBad (l : Listing) (bytes : List ℕ) (number : ℕ) (text : List �
   pub read : IsReport l bytes report
   pub fails : FailsFirst l report (part_of flaw)
   pub flaw_is : IsFlaw l report flaw
-  pub numbered : number ≡ place_of_flaw report flaw + 1
-  pub stands : slice_get (lines bytes) (place_of_flaw report flaw) ≡ Some (Whole text)
+  pub numbered : number ≡ place_of_flaw l report flaw + 1
+  pub stands : slice_get (lines bytes) (place_of_flaw l report flaw) ≡ Some (Whole text)
   pub row : IsRow l report flaw (text ++ codes "\n")
 
 -- what is said is so: it is the text of a lawful report; or of none, and this is the first kind of fault; or of one

@@ -1,7 +1,7 @@
 //! What is said of a report, as text.
 
 ghost use Rattle.std.specs.Prelude.{◌≡◌, ◌++◌, OnOk, string_bytes};
-ghost use Rattle.text_report_printer.specs.Names.{variable_name};
+ghost use Rattle.text_report_printer.specs.Names.{value_name};
 ghost use Rattle.text_report_printer.specs.ReportText.{entry_line, variable_line};
 ghost use Rattle.explain_reports.specs.Texts.{back_text, explanation_text, flaw_text, front_text, kind_text, what_text};
 
@@ -9,22 +9,30 @@ use crate::explaining::ReportExplanation;
 use crate::flaw::Flaw;
 use std::alloc::AllocError;
 use std::fmt::Write;
-use text_report_printer::{always_name, put_number, put_outcome, transaction_name, variable_name};
+use text_line_reader::max_report;
+use text_report_printer::{always_name, put_number, put_outcome, put_value_name, transaction_name};
 use text_words::ReadFault;
 use txn::{Catalogue, Entry};
 
-/// Why bytes are the text of no report.
-fn kind_text(kind: ReadFault) -> &'static str
-    ensures { result.now ≡ kind_text kind }
+/// Puts why bytes are the text of no report behind the text.
+fn put_kind(out: &mut String, catalogue: &Catalogue, kind: ReadFault) -> Result<(), AllocError>
+    ensures { OnOk result (string_bytes out.new ≡ string_bytes out.old ++ kind_text catalogue.now kind) }
 {
     match kind {
-        ReadFault::TooLong => "it has more than 8388608 bytes\n",
-        ReadFault::BadByte => "it has a byte that is neither a newline nor printable ASCII\n",
-        ReadFault::Shape => "a line has not the form of the one that stands in its place\n",
-        ReadFault::Name => "a name is not the one that the file has\n",
-        ReadFault::Limit => "a number is larger than may stand in its place\n",
-        ReadFault::Broken => "\n",
-        ReadFault::Memory => "\n",
+        ReadFault::TooLong => {
+            let most = max_report(catalogue);
+            writeln!(out, "it has more than {most} bytes")
+        }
+        ReadFault::BadByte => {
+            out.push_str("it has a byte that is neither a newline nor printable ASCII\n")
+        }
+        ReadFault::Shape => {
+            out.push_str("a line has not the form of the one that stands in its place\n")
+        }
+        ReadFault::Name => out.push_str("a name is not one that may stand in its place\n"),
+        ReadFault::Limit => out.push_str("a number is larger than may stand in its place\n"),
+        ReadFault::Broken => out.push_str("\n"),
+        ReadFault::Memory => out.push_str("\n"),
     }
 }
 
@@ -36,9 +44,9 @@ fn put_variable(
     version: u64,
 ) -> Result<(), AllocError>
     ensures { OnOk result (string_bytes out.new
-        ≡ string_bytes out.old ++ variable_line (variable_name catalogue.now i) (value, version)) }
+        ≡ string_bytes out.old ++ variable_line (value_name catalogue.now i) (value, version)) }
 {
-    out.push_str(variable_name(catalogue, i))?;
+    put_value_name(out, catalogue, i)?;
     writeln!(out, " {value} {version}")?;
     Ok(())
 }
@@ -135,7 +143,7 @@ pub fn put_explanation(
     out.push_str(explanation.verdict().line())?;
     match explanation {
         ReportExplanation::Good => Ok(()),
-        ReportExplanation::Unread(kind) => out.push_str(kind_text(kind)),
+        ReportExplanation::Unread(kind) => put_kind(out, catalogue, kind),
         ReportExplanation::Bad(line, flaw) => {
             let number = line.number;
             write!(out, "line {number}: ")?;

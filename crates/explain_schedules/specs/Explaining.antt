@@ -1,16 +1,15 @@
 -- What an explanation says of a schedule.
-use Rattle.std.specs.Prelude.{◌≡◌, ◌<◌, ◌≤◌, ℕ, Bool, List, length}
-use Rattle.std.specs.List.{list_all}
+use Rattle.std.specs.Prelude.{◌≡◌, ◌<◌, ◌≤◌, ℕ, List, length}
 use Rattle.txn_programs.specs.declared.moves.Move.{Move}
 use Rattle.txn_programs.specs.Listing.{Listing}
 use Rattle.text_words.specs.declared.fault.ReadFault.{ReadFault}
 use Rattle.text_words.specs.declared.fault.ReadFault.TheVariants.{TooLong, BadByte, Shape, Name, Limit}
-use Rattle.text_line_reader.specs.ScheduleRaw.{Raw}
 use Rattle.text_line_reader.specs.ScheduleResolving.{is_known}
+use Rattle.text_line_reader.specs.Reports.{knows_cells}
 use Rattle.text_line_reader.specs.Schedules.{IsSchedule, IsFirst, max_len}
 use Rattle.explain_files.specs.Explaining.{IsBadByte}
 use Rattle.explain_schedules.specs.Words.{name_place, task_place}
-use Rattle.explain_schedules.specs.Places.{IsStop, IsFirstLine, names_a_task}
+use Rattle.explain_schedules.specs.Places.{IsStop, IsFirstLine, unknown_in, names_a_task, no_task}
 use Rattle.explain_schedules.specs.declared.explaining.Finding.{Finding}
 use Rattle.explain_schedules.specs.declared.explaining.Finding.TheVariants as found
 use Rattle.explain_schedules.specs.declared.explaining.Refusal.{Refusal}
@@ -23,11 +22,11 @@ abbrev pub IsPlaced : Listing → ReadFault → List ℕ → ℕ → Finding →
 IsPlaced l TooLong bytes place found.TooLong = (place ≡ max_len) × (place < length bytes)
 -- the first byte that no schedule may have
 IsPlaced l BadByte bytes place found.BadByte = IsBadByte bytes place
-IsPlaced l Shape bytes place (found.Unwanted wanted) = IsStop bytes place wanted
--- the name in the first line whose variable is not known
-IsPlaced l Name bytes place found.NoVariable = IsFirstLine (is_known l) name_place bytes place
+IsPlaced l Shape bytes place (found.Unwanted wanted) = IsStop (knows_cells l) bytes place wanted
+-- the name in the first line whose variable or cell is not known
+IsPlaced l Name bytes place finding = IsFirstLine l (is_known l) name_place (unknown_in l) bytes place finding
 -- the number in the first line whose task there is not
-IsPlaced l Limit bytes place found.NoTask = IsFirstLine (names_a_task l) task_place bytes place
+IsPlaced l Limit bytes place finding = IsFirstLine l (names_a_task l) task_place no_task bytes place finding
 -- nothing else is found
 IsPlaced l kind bytes place finding = ⊥
 

@@ -2,7 +2,7 @@
 use Rattle.std.specs.Prelude.{◌≡◌, ◌==◌, ℕ, Bool, true, not, is_some, if◌then◌else◌, List, [], ◌∷◌, ◌++◌, length, codes}
 use Rattle.std.specs.List.{list_all}
 use Rattle.text_words.specs.Bytes.{is_blank}
-use Rattle.text_line_reader.specs.ScheduleRaw.{Raw, OfTask, OfVariable, Word, task_word, variable_word}
+use Rattle.text_line_reader.specs.ScheduleRaw.{Raw, OfTask, OfVariable, OfCell, Word, task_word, variable_word}
 use Rattle.text_line_reader.specs.ScheduleReading.{task_verb}
 use Rattle.explain_schedules.specs.declared.line.Wanted.{Wanted}
 use Rattle.explain_schedules.specs.declared.line.Wanted.TheVariants as want
@@ -49,10 +49,12 @@ wanted_behind (verb ∷ task ∷ more) = want.Variable
 abbrev pub task_place : Raw → ℕ
 task_place (OfTask verb task) = behind_len (task_word verb ∷ [])
 task_place (OfVariable verb task name) = behind_len (variable_word verb ∷ [])
+task_place (OfCell verb task table index) = behind_len (variable_word verb ∷ [])
 task_place Word = 0
 
--- where in its line the name of the variable begins
+-- where in its line the name of the variable or of the cell begins
 abbrev pub name_place : Raw → ℕ
 name_place (OfTask verb task) = 0
 name_place (OfVariable verb task name) = behind_len (variable_word verb ∷ task ∷ [])
+name_place (OfCell verb task table index) = behind_len (variable_word verb ∷ task ∷ [])
 name_place Word = 0

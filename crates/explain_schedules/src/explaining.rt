@@ -1,6 +1,7 @@
 //! Whether a schedule is read, and where and why it is not.
 
 ghost use Rattle.std.specs.Prelude.{◌≡◌, ◌≤◌, IfOk, length};
+ghost use Rattle.txn_programs.specs.Listing.{spans};
 ghost use Rattle.text_line_reader.specs.Schedules.{IsFirst};
 ghost use Rattle.explain_schedules.specs.Explaining.{IsPlaced, IsExplained};
 
@@ -9,9 +10,9 @@ use crate::judging::{Judged, first_wrong};
 use crate::line::Wanted;
 use explain_files::bad_byte_place;
 use std::alloc::Global;
-use text_line_reader::{MAX_SCHEDULE, read_schedule};
+use text_line_reader::{MAX_SCHEDULE, knows_cells, read_schedule, spans_of};
 use text_words::ReadFault;
-use txn::{Catalogue, Memory};
+use txn::{Catalogue, Memory, Span};
 
 /// What is wrong at the place.
 #[derive(Clone, Copy, Debug, PartialEq, Eq)]
@@ -24,6 +25,10 @@ pub enum Finding {
     Unwanted(Wanted),
     /// No variable has this name.
     NoVariable,
+    /// No table has the name before the bracket.
+    NoTable,
+    /// The table has no cell of this number.
+    NoCell,
     /// There is no task of this number.
     NoTask,
 }
@@ -45,9 +50,15 @@ pub enum ScheduleExplanation {
     Refused(Refusal),
 }
 
-/// The place of the first fault of a schedule, whose kind this is.
-fn place_of(catalogue: &Catalogue, bytes: &[u8], kind: ReadFault) -> (usize, Finding)
-    requires { IsFirst catalogue.now bytes.now kind }
+/// The place of the first fault of a schedule, whose kind this is; `tables` are the cells of each table.
+fn place_of(
+    catalogue: &Catalogue,
+    tables: &[Span],
+    bytes: &[u8],
+    kind: ReadFault,
+) -> (usize, Finding)
+    requires tables { tables.now ≡ spans catalogue.now }
+    requires first { IsFirst catalogue.now bytes.now kind }
     ensures placed { IsPlaced catalogue.now kind bytes.now result.0 result.1 }
     ensures bound { result.0 ≤ length bytes.now }
 {
@@ -56,17 +67,11 @@ fn place_of(catalogue: &Catalogue, bytes: &[u8], kind: ReadFault) -> (usize, Fin
         ReadFault::TooLong => (MAX_SCHEDULE, Finding::TooLong),
         ReadFault::BadByte => (bad_byte_place(bytes), Finding::BadByte),
         ReadFault::Shape => {
-            let stop = first_stop(bytes);
+            let stop = first_stop(bytes, knows_cells(catalogue));
             (stop.place, Finding::Unwanted(stop.wanted))
         }
-        ReadFault::Name => {
-            let place = first_wrong(catalogue, Judged::Variables, bytes);
-            (place, Finding::NoVariable)
-        }
-        ReadFault::Limit => {
-            let place = first_wrong(catalogue, Judged::Tasks, bytes);
-            (place, Finding::NoTask)
-        }
+        ReadFault::Name => first_wrong(catalogue, tables, Judged::Names, bytes),
+        ReadFault::Limit => first_wrong(catalogue, tables, Judged::Tasks, bytes),
         ReadFault::Broken => unreachable!(),
         ReadFault::Memory => unreachable!(),
     }
@@ -80,7 +85,7 @@ fn place_of(catalogue: &Catalogue, bytes: &[u8], kind: ReadFault) -> (usize, Fin
 /// byte that no schedule has room for, of a bad byte that of the first one. Of a shape it is that of a word: some
 /// schedule begins with the bytes before it, and none with the word and the space or the newline that ends
 /// it; or it is the end of the text, where a newline is missing and nothing else. Of an unknown
-/// variable it is that of its name, and of a task that there is not that of its number, in the first
+/// variable or cell it is that of its name, and of a task that there is not that of its number, in the first
 /// line that names one.
 pub fn explain(
     alloc: Global,
@@ -94,7 +99,8 @@ pub fn explain(
         Err(ReadFault::Memory) => return Err(Memory),
         Err(kind) => kind,
     };
-    let (place, finding) = place_of(catalogue, bytes, kind);
+    let tables = spans_of(alloc, catalogue)?;
+    let (place, finding) = place_of(catalogue, &tables, bytes, kind);
     Ok(ScheduleExplanation::Refused(Refusal {
         kind,
         place,

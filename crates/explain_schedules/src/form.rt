@@ -23,14 +23,14 @@ pub(crate) fn gone(bytes: &[u8], rest: &[u8]) -> usize
 }
 
 /// The place of the first word that is none of a schedule's there, or of the end, where what is
-/// missing there is a newline.
-pub(crate) fn first_stop(bytes: &[u8]) -> Stop
-    ensures stop { IsStop bytes.now result.place result.wanted }
+/// missing there is a newline. Where `cells` is true, lines may name cells.
+pub(crate) fn first_stop(bytes: &[u8], cells: bool) -> Stop
+    ensures stop { IsStop cells bytes.now result.place result.wanted }
     ensures bound { result.place ≤ length bytes.now }
 {
     let mut rest = bytes;
     'lines: while let Some((line, after)) = split_once(rest, b'\n') {
-        if let Err(wrong) = line_of(line) {
+        if let Err(wrong) = line_of(line, cells) {
             return Stop {
                 place: gone(bytes, rest) + wrong.at,
                 wanted: wrong.wanted,
@@ -38,17 +38,17 @@ pub(crate) fn first_stop(bytes: &[u8]) -> Stop
         }
         rest = after;
     }
-    last_stop(bytes, rest)
+    last_stop(bytes, rest, cells)
 }
 
 /// The same, where no newline is left.
-fn last_stop(bytes: &[u8], rest: &[u8]) -> Stop
-    requires walked { IsWalked bytes.now rest.now }
+fn last_stop(bytes: &[u8], rest: &[u8], cells: bool) -> Stop
+    requires walked { IsWalked cells bytes.now rest.now }
     requires ends { lacks 10 rest.now ≡ true }
-    ensures stop { IsStop bytes.now result.place result.wanted }
+    ensures stop { IsStop cells bytes.now result.place result.wanted }
     ensures bound { result.place ≤ length bytes.now }
 {
-    match line_of(rest) {
+    match line_of(rest, cells) {
         Ok(_) => Stop {
             place: bytes.len(),
             wanted: Wanted::Newline,

@@ -10,6 +10,7 @@ use crate::words::words;
 use explain_files::{kind_name, line_of, position_of};
 use std::alloc::{AllocError, Global};
 use std::str;
+use text_line_reader::knows_cells;
 use txn::Catalogue;
 
 /// The first line of these bytes, without its newline.
@@ -55,7 +56,7 @@ fn found(
                 "; here stands {standing}, and the file has {tasks} tasks, counted from 0"
             )
         }
-        Finding::Unwanted(_) | Finding::NoVariable => {
+        Finding::Unwanted(_) | Finding::NoVariable | Finding::NoTable | Finding::NoCell => {
             let standing = standing(bytes);
             format!(in alloc; "; here stands {standing}")
         }
@@ -75,7 +76,7 @@ pub(crate) fn told(
     let at = position_of(bytes, refusal.place);
     let found = found(alloc, catalogue, refusal.finding, &bytes[refusal.place..])?;
     let kind = kind_name(refusal.kind);
-    let words = words(refusal.finding);
+    let words = words(refusal.finding, knows_cells(catalogue));
     let text = line_of(alloc, at.line, at.column, kind, words, found.as_str())?;
     Ok(text)
 }

@@ -219,5 +219,9 @@ fn one_byte_too_many(rt: HostRuntime) -> Result<(), Fail> {
     let line = "line 1, column 1048577: F1 TooLong: a file has at most 1048576 bytes\n";
     let long = Judgement::Refused(ReadFault::TooLong);
     expect_line(&rt, rt.alloc(), text.as_str(), line, long);
+    let text = text_of(rt.alloc(), ("(stm 3)\n", " ", 67_108_857, "", ""))?;
+    let line = "line 2, column 67108857: F1 TooLong: \
+        a file that begins with (stm 3) has at most 67108864 bytes\n";
+    expect_line(&rt, rt.alloc(), text.as_str(), line, long);
     Ok(())
 }

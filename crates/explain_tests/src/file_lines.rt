@@ -109,7 +109,7 @@ const NEAR_WORDS: &[Case] = &[
     (
         "(vra x 1)",
         "line 1, column 2: F3 Shape: var, tx, run or stm is wanted; always only in a file that begins with (stm 2) or \
-            (stm 3); here stands vra; did you mean var?\n",
+            (stm 3), table only in one that begins with (stm 3); here stands vra; did you mean var?\n",
     ),
     (
         "(tx t (if (lessthan 1 2) (skip) (skip)) 0)",

@@ -12,6 +12,14 @@ fn behind_spaces(alloc: Global, count: usize, text: &str) -> Result<Vec<u8>, All
     Ok(bytes)
 }
 
+/// The text, so many spaces, and a parenthesis that nothing opened.
+fn closed(alloc: Global, text: &str, count: usize) -> Result<Vec<u8>, AllocError> {
+    let mut bytes = Vec::new(alloc);
+    bytes.extend_from_slice(text.as_bytes())?;
+    bytes.extend_from_slice(behind_spaces(alloc, count, ")")?.as_slice())?;
+    Ok(bytes)
+}
+
 /// The kind and the place of the first fault, and its column.
 fn place_of(alloc: Global, bytes: &[u8]) -> Option<(ReadFault, usize, usize)> {
     match explain(alloc, bytes) {
@@ -56,6 +64,21 @@ fn end_of_the_longest_file(rt: HostRuntime) -> Result<(), Fail> {
     let bytes = behind_spaces(alloc, 1_048_570, "(var x")?;
     assert!(rt;
         place_of(alloc, bytes.as_slice()) == Some((ReadFault::Shape, 1_048_576, 1_048_577))
+    );
+    Ok(())
+}
+
+/// A file that begins with `(stm 3)` may be longer; one that begins otherwise, and says the same, may not.
+#[test]
+fn longer_in_form_3(rt: HostRuntime) -> Result<(), Fail> {
+    let alloc = rt.alloc();
+    let bytes = closed(alloc, "(stm 3)", 1_048_570)?;
+    assert!(rt;
+        place_of(alloc, bytes.as_slice()) == Some((ReadFault::Shape, 1_048_577, 1_048_578))
+    );
+    let bytes = closed(alloc, "(stm  3)", 1_048_570)?;
+    assert!(rt;
+        place_of(alloc, bytes.as_slice()) == Some((ReadFault::TooLong, 1_048_576, 1_048_577))
     );
     Ok(())
 }

@@ -39,92 +39,97 @@ const WORDS: &[Case] = &[
     (
         "(vr x 1)",
         "line 1, column 2: F3 Shape: var, tx, run or stm is wanted; always only in a file that begins with (stm 2) or \
-            (stm 3); here stands vr; did you mean var?\n",
+            (stm 3), table only in one that begins with (stm 3); here stands vr; did you mean var?\n",
     ),
     (
         "(xt t (skip) 0)",
         "line 1, column 2: F3 Shape: var, tx, run or stm is wanted; always only in a file that begins with (stm 2) or \
-            (stm 3); here stands xt; did you mean tx?\n",
+            (stm 3), table only in one that begins with (stm 3); here stands xt; did you mean tx?\n",
     ),
     (
         "(rnu t 1)",
         "line 1, column 2: F3 Shape: var, tx, run or stm is wanted; always only in a file that begins with (stm 2) or \
-            (stm 3); here stands rnu; did you mean run?\n",
+            (stm 3), table only in one that begins with (stm 3); here stands rnu; did you mean run?\n",
     ),
     (
         "(stn 2)",
         "line 1, column 2: F3 Shape: var, tx, run or stm is wanted; always only in a file that begins with (stm 2) or \
-            (stm 3); here stands stn; did you mean stm?\n",
+            (stm 3), table only in one that begins with (stm 3); here stands stn; did you mean stm?\n",
     ),
     (
         "(tm t (skip) 0)",
         "line 1, column 2: F3 Shape: var, tx, run or stm is wanted; always only in a file that begins with (stm 2) or \
-            (stm 3); here stands tm; did you mean tx?\n",
+            (stm 3), table only in one that begins with (stm 3); here stands tm; did you mean tx?\n",
     ),
     (
         "(xvr x 1)",
         "line 1, column 2: F3 Shape: var, tx, run or stm is wanted; always only in a file that begins with (stm 2) or \
-            (stm 3); here stands xvr\n",
+            (stm 3), table only in one that begins with (stm 3); here stands xvr\n",
     ),
     (
         "(axr x 1)",
         "line 1, column 2: F3 Shape: var, tx, run or stm is wanted; always only in a file that begins with (stm 2) or \
-            (stm 3); here stands axr\n",
+            (stm 3), table only in one that begins with (stm 3); here stands axr\n",
     ),
     (
         "(av x 1)",
         "line 1, column 2: F3 Shape: var, tx, run or stm is wanted; always only in a file that begins with (stm 2) or \
-            (stm 3); here stands av\n",
+            (stm 3), table only in one that begins with (stm 3); here stands av\n",
     ),
     (
         "(alway a (eq 0 0))",
         "line 1, column 2: F3 Shape: var, tx, run or stm is wanted; always only in a file that begins with (stm 2) or \
-            (stm 3); here stands alway\n",
+            (stm 3), table only in one that begins with (stm 3); here stands alway\n",
     ),
     (
         "(var x 1)(vat y 1)",
         "line 1, column 11: F3 Shape: var, tx or run is wanted; always only in a file that begins with (stm 2) or \
-            (stm 3); here stands vat; did you mean var?\n",
+            (stm 3), table only in one that begins with (stm 3); here stands vat; did you mean var?\n",
     ),
     (
         "(var x 1)(txx t (skip) 0)",
         "line 1, column 11: F3 Shape: var, tx or run is wanted; always only in a file that begins with (stm 2) or \
-            (stm 3); here stands txx; did you mean tx?\n",
+            (stm 3), table only in one that begins with (stm 3); here stands txx; did you mean tx?\n",
     ),
     (
         "(var x 1)(RUN t 1)",
         "line 1, column 11: F3 Shape: var, tx or run is wanted; always only in a file that begins with (stm 2) or \
-            (stm 3); here stands RUN; did you mean run?\n",
+            (stm 3), table only in one that begins with (stm 3); here stands RUN; did you mean run?\n",
     ),
     (
         "(var x 1)(smt 2)",
         "line 1, column 11: F3 Shape: var, tx or run is wanted; always only in a file that begins with (stm 2) or \
-            (stm 3); here stands smt\n",
+            (stm 3), table only in one that begins with (stm 3); here stands smt\n",
     ),
     (
         "(var x 1)(alway a (eq 0 0))",
         "line 1, column 11: F3 Shape: var, tx or run is wanted; always only in a file that begins with (stm 2) or \
-            (stm 3); here stands alway\n",
+            (stm 3), table only in one that begins with (stm 3); here stands alway\n",
     ),
     (
         "(stm 2)(vra x 1)",
-        "line 1, column 9: F3 Shape: var, always, tx or run is wanted; here stands vra; did you mean var?\n",
+        "line 1, column 9: F3 Shape: var, always, tx or run is wanted; table only in a file that begins with (stm 3); \
+            here stands vra; did you mean var?\n",
     ),
     (
         "(stm 2)(alway a (eq 0 0))",
-        "line 1, column 9: F3 Shape: var, always, tx or run is wanted; here stands alway; did you mean always?\n",
+        "line 1, column 9: F3 Shape: var, always, tx or run is wanted; table only in a file that begins with (stm 3); \
+            here stands alway; did you mean always?\n",
     ),
     (
         "(stm 2)(t t (skip) 0)",
-        "line 1, column 9: F3 Shape: var, always, tx or run is wanted; here stands t; did you mean tx?\n",
+        "line 1, column 9: F3 Shape: var, always, tx or run is wanted; table only in a file that begins with (stm 3); \
+            here stands t; did you mean tx?\n",
     ),
     (
         "(stm 2)(ruu t 1)",
-        "line 1, column 9: F3 Shape: var, always, tx or run is wanted; here stands ruu; did you mean run?\n",
+        "line 1, column 9: F3 Shape: var, always, tx or run is wanted; table only in a file that begins with (stm 3); \
+            here stands ruu; did you mean run?\n",
     ),
     (
         "(stm 2)(smt 2)",
-        "line 1, column 9: F3 Shape: var, always, tx or run is wanted; here stands smt\n",
+        "line 1, column 9: F3 Shape: var, always, tx or run is wanted; table only in a file that begins with (stm 3); \
+            here stands smt\n",
     ),
     (
         "(stm 2)(always a (eq 0 0))(alwas b (eq 0 0))",

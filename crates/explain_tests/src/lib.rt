@@ -18,6 +18,8 @@ mod file_places;
 #[cfg(test)]
 mod file_shapes;
 #[cfg(test)]
+mod file_tables;
+#[cfg(test)]
 mod file_texts;
 #[cfg(test)]
 mod report_lines;
@@ -25,6 +27,8 @@ mod report_lines;
 mod report_parts;
 #[cfg(test)]
 mod report_refusals;
+#[cfg(test)]
+mod schedule_cells;
 #[cfg(test)]
 mod schedule_kinds;
 #[cfg(test)]

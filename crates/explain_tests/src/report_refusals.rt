@@ -14,7 +14,7 @@ fn the_kind_is_told_where_a_report_is_not_read(rt: HostRuntime) {
         ),
         (
             "base 0\nx 5 0\nz -1 0\nnow 0\nx 5 0\ny -1 0\nend\n",
-            "bad 1\na name is not the one that the file has\n",
+            "bad 1\na name is not one that may stand in its place\n",
         ),
         (
             "base 65537\nx 5 0\ny -1 0\nnow 0\nx 5 0\ny -1 0\nend\n",

@@ -22,7 +22,7 @@ const BOTH: &str = "the number of a task is wanted, and then the name of a varia
 const VARIABLE: &str = "the name of a variable is wanted, and then the end of the line";
 
 /// A schedule, the line and the column where it is refused, what is wrong there and what stands there.
-type Case = (&'static str, &'static str, &'static str, &'static str);
+pub(crate) type Case = (&'static str, &'static str, &'static str, &'static str);
 
 const SHAPES: &[Case] = &[
     ("\n", "line 1, column 1", LINE, "; here stands "),
@@ -157,16 +157,22 @@ const LIMITS: &[Case] = &[
     ),
 ];
 
-/// Whether a schedule is told so, with a line of this text.
-fn is_told(alloc: Global, schedule: &str, told: Judgement, line: &str) -> bool {
+/// Whether a schedule of the file is told so, with a line of this text.
+pub(crate) fn is_told(
+    alloc: Global,
+    file: &str,
+    schedule: &str,
+    told: Judgement,
+    line: &str,
+) -> bool {
     let mut out = Out::new(Vec::new(alloc));
-    let found = explain_bytes(alloc, FILE.as_bytes(), schedule.as_bytes(), &mut out).ok();
+    let found = explain_bytes(alloc, file.as_bytes(), schedule.as_bytes(), &mut out).ok();
     found == Some(told) && out.into_inner().as_slice() == line.as_bytes()
 }
 
-/// Whether the reader refuses the schedule by this kind.
-fn is_refused(alloc: Global, schedule: &str, kind: ReadFault) -> bool {
-    match read_file(alloc, FILE.as_bytes()) {
+/// Whether the reader refuses the schedule of the file by this kind.
+fn is_refused(alloc: Global, file: &str, schedule: &str, kind: ReadFault) -> bool {
+    match read_file(alloc, file.as_bytes()) {
         Ok(catalogue) => match read_schedule(alloc, schedule.as_bytes(), &catalogue) {
             Ok(_) => false,
             Err(found) => found == kind,
@@ -175,10 +181,11 @@ fn is_refused(alloc: Global, schedule: &str, kind: ReadFault) -> bool {
     }
 }
 
-/// Each schedule is refused at its place for a fault of this kind, which is the reader's.
-fn all_told(
+/// Each schedule of the file is refused at its place for a fault of this kind, which is the reader's.
+pub(crate) fn all_told(
     rt: &(impl Abort + Eprint),
     alloc: Global,
+    file: &str,
     kind: ReadFault,
     name: &str,
     cases: &[Case],
@@ -187,9 +194,15 @@ fn all_told(
         let Ok(line) = format!(in alloc; "{place}: {name}: {what}{stands}\n") else {
             panic!(rt; "no memory")
         };
-        let told = is_told(alloc, schedule, Judgement::Refused(kind), line.as_str());
+        let told = is_told(
+            alloc,
+            file,
+            schedule,
+            Judgement::Refused(kind),
+            line.as_str(),
+        );
         assert!(rt; told, "of {schedule}");
-        assert!(rt; is_refused(alloc, schedule, kind), "of {schedule}");
+        assert!(rt; is_refused(alloc, file, schedule, kind), "of {schedule}");
     }
 }
 
@@ -197,7 +210,7 @@ fn all_told(
 fn good_schedules(rt: HostRuntime) {
     for schedule in ["", "word\n", "begin 0\nread 1 x\nfirst 0 x\ncommit 1\n"] {
         assert!(rt;
-            is_told(rt.alloc(), schedule, Judgement::Good, "good\n"),
+            is_told(rt.alloc(), FILE, schedule, Judgement::Good, "good\n"),
             "of {schedule}"
         );
     }
@@ -205,22 +218,29 @@ fn good_schedules(rt: HostRuntime) {
 
 #[test]
 fn shapes(rt: HostRuntime) {
-    all_told(&rt, rt.alloc(), ReadFault::Shape, "F3 Shape", SHAPES);
+    all_told(&rt, rt.alloc(), FILE, ReadFault::Shape, "F3 Shape", SHAPES);
 }
 
 #[test]
 fn bad_bytes(rt: HostRuntime) {
-    all_told(&rt, rt.alloc(), ReadFault::BadByte, "F2 BadByte", BAD_BYTES);
+    all_told(
+        &rt,
+        rt.alloc(),
+        FILE,
+        ReadFault::BadByte,
+        "F2 BadByte",
+        BAD_BYTES,
+    );
 }
 
 #[test]
 fn names(rt: HostRuntime) {
-    all_told(&rt, rt.alloc(), ReadFault::Name, "F4 Name", NAMES);
+    all_told(&rt, rt.alloc(), FILE, ReadFault::Name, "F4 Name", NAMES);
 }
 
 #[test]
 fn limits(rt: HostRuntime) {
-    all_told(&rt, rt.alloc(), ReadFault::Limit, "F5 Limit", LIMITS);
+    all_told(&rt, rt.alloc(), FILE, ReadFault::Limit, "F5 Limit", LIMITS);
 }
 
 /// Of a file that is refused nothing is written.

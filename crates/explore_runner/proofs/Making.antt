@@ -16,6 +16,7 @@ use Rattle.txn_programs.specs.Standing.{Upholds}
 use Rattle.txn_programs.specs.Listing.{Listing, tasks, task_arguments, transaction_at, call_program, program_as}
 use Rattle.txn_programs.specs.Replay.{Snapshot, Applies, Replays, applied, opening, entered, Stands, Once}
 use Rattle.txn_programs.specs.Told.{Told, snapshot_at, base_of, now_of}
+use Rattle.txn_programs.proofs.Unwritten.{opening_begun, replays_begun, cells_begin}
 use Rattle.txn_programs.specs.LawfulReport.{LawfulReport, FitsCatalogue, OutcomeKnown, Ascends, HasOwn}
 use Rattle.txn_programs.specs.Limits.{most_tasks, limits_hold}
 use Rattle.txn_programs.specs.Tree.{Program, Transaction}
@@ -325,6 +326,9 @@ module _ (l : Listing) (names : names_hold l ≡ true) (limits : limits_hold l �
         current = few;
         base_versions = paired_below 0 most_tasks l.initial none (omega arith) (zeros_below 0 (length l.initial));
         current_versions = paired_below c.now.number most_tasks c.now.state c.now.versions few c.sound.recent;
+        base_cells = cells_begin l 0 (paired l.initial none) (opening l) base_is (opening_begun l);
+        current_cells =
+            cells_begin l c.now.number (paired c.now.state c.now.versions) c.now now_is (replays_begun l (opening l) c.now c.entries c.replays (opening_begun l));
         numbers = λ k d w. (sound k d w).0;
         ends = λ k d w. (sound k d w).1;
         faults = λ k d w. (sound k d w).2;

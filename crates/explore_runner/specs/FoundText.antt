@@ -1,14 +1,15 @@
 -- The text of what is found. The calls cs are those of the instances.
-use Rattle.std.specs.Prelude.{ℕ, zero, suc, ◌+◌, ℤ, pos, Bool, true, false, nat_lt, ◌==◌, ◌&&◌, ◌||◌, List, [], ◌∷◌, ◌++◌, codes, length, flat_map, Option, Some, None, slice_get, slice_index_or}
+use Rattle.std.specs.Prelude.{not, ℕ, zero, suc, ◌+◌, ℤ, pos, Bool, true, false, nat_lt, ◌==◌, ◌&&◌, ◌||◌, List, [], ◌∷◌, ◌++◌, codes, length, flat_map, Option, Some, None, slice_get, slice_index_or}
 use Rattle.std.specs.List.{list_any}
 use Rattle.std.specs.Fmt.{decimal, signed_decimal}
+use Rattle.std.specs.Ordering.{int_eq}
 use Rattle.txn_programs.specs.declared.arguments.Call.{Call}
 use Rattle.txn_programs.specs.Listing.{Listing, always_name}
 use Rattle.explore_law.specs.declared.found.End.{End}
 use Rattle.explore_law.specs.declared.found.Kinds.{Kinds}
 use Rattle.explore_law.specs.declared.found.Found.{Found}
 use Rattle.explore_law.specs.Instances.{instances}
-use Rattle.text_report_printer.specs.Names.{transaction_name, variable_name}
+use Rattle.text_report_printer.specs.Names.{transaction_name, value_name}
 use Rattle.text_words.specs.Words.{line}
 
 -- the text where that is so
@@ -65,9 +66,15 @@ tx_line l k waits (Some ks) = codes "tx " ++ (transaction_name l k ++ (flag_word
 abbrev pub tx_part : Listing → List Call → Found → ℕ → List ℕ
 tx_part l cs f k = only (has_calls cs k) (tx_line l k (parks cs f.ends.items k) (slice_get f.kinds.items k))
 
--- a variable and its value
+-- of a cell that has its initial value nothing is told
+abbrev pub is_told : Listing → List ℤ → ℕ → Bool
+is_told l values k =
+    nat_lt k (length l.names) || not (int_eq (slice_index_or values k (pos 0)) (slice_index_or l.initial k (pos 0)))
+
+-- a variable or a cell, and its value
 abbrev pub value_words : Listing → List ℤ → ℕ → List ℕ
-value_words l values k = codes " " ++ (variable_name l k ++ (codes " " ++ signed_decimal (slice_index_or values k (pos 0))))
+value_words l values k =
+    only (is_told l values k) (codes " " ++ (value_name l k ++ (codes " " ++ signed_decimal (slice_index_or values k (pos 0)))))
 
 -- the arguments of a call, each behind a space
 abbrev pub argument_words : List ℤ → List ℕ

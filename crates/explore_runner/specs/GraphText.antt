@@ -10,9 +10,9 @@ use Rattle.explore_law.specs.declared.graph.Turn.{Turn}
 use Rattle.explore_law.specs.declared.graph.Node.{Node}
 use Rattle.explore_law.specs.declared.graph.Graph.{Graph}
 use Rattle.explore_law.specs.Instances.{instances}
-use Rattle.text_report_printer.specs.Names.{transaction_name, variable_name}
+use Rattle.text_report_printer.specs.Names.{transaction_name, value_name}
 use Rattle.text_report_printer.specs.ReportText.{outcome_text}
-use Rattle.explore_runner.specs.FoundText.{only, each_below, some_wait, call_at, argument_words, run_words}
+use Rattle.explore_runner.specs.FoundText.{only, is_told, each_below, some_wait, call_at, argument_words, run_words}
 
 -- both have the same values, but other counts
 abbrev pub has_same_values : Node → Node → Bool
@@ -22,9 +22,10 @@ has_same_values m n = pointwise int_eq m.values.items n.values.items && not (poi
 abbrev pub shares_values : List Node → Node → Bool
 shares_values ns n = list_any (λ (m : Node). has_same_values m n) ns
 
--- a variable and its value, on a line of the label
+-- a variable or a cell, and its value, on a line of the label
 abbrev pub value_row : Listing → List ℤ → ℕ → List ℕ
-value_row l values k = variable_name l k ++ (codes " " ++ (signed_decimal (slice_index_or values k (pos 0)) ++ codes "\\n"))
+value_row l values k =
+    only (is_told l values k) (value_name l k ++ (codes " " ++ (signed_decimal (slice_index_or values k (pos 0)) ++ codes "\\n")))
 
 -- how many tasks of the instance of number i are left, and what they are, where some are left
 abbrev pub count_row : Listing → List Call → List ℕ → List ℕ → ℕ → List ℕ

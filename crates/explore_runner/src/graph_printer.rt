@@ -10,12 +10,12 @@ ghost use Rattle.explore_runner.specs.GraphText.{is_end, mark};
 ghost use Rattle.explore_runner.specs.GraphText.{node_label, node_line, shares_values};
 ghost use Rattle.explore_runner.specs.GraphText.{turn_line, turn_lines, value_row};
 
-use crate::words::{call_at, count_at, put_arguments, put_run, some_wait, value_or_zero};
+use crate::words::{call_at, count_at, is_told, put_arguments, put_run, some_wait, value_or_zero};
 use explore_law::{Graph, Node, Turn};
 use explore_search::instances_of;
 use std::alloc::{AllocError, Global};
 use std::fmt::Write;
-use text_report_printer::{put_outcome, transaction_name, variable_name};
+use text_report_printer::{put_outcome, put_value_name, transaction_name};
 use txn::{Call, Catalogue};
 
 /// The text of a graph: a line for each node, with its values, and then a line for each turn, by the node where it
@@ -112,10 +112,12 @@ fn put_value(
 ) -> Result<(), AllocError>
     ensures { OnOk result (string_bytes out.new ≡ string_bytes out.old ++ value_row catalogue.now values.now k) }
 {
+    if !is_told(catalogue, values, k) {
+        return Ok(());
+    }
     let value = value_or_zero(values, k);
-    out.push_str(variable_name(catalogue, k))?;
-    write!(out, " {value}\\n")?;
-    Ok(())
+    put_value_name(out, catalogue, k)?;
+    write!(out, " {value}\\n")
 }
 
 fn put_counts(

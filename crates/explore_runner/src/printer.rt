@@ -8,13 +8,13 @@ ghost use Rattle.explore_runner.specs.FoundText.{broke_word, each_below, end_lin
 ghost use Rattle.explore_runner.specs.FoundText.{parked_words, tx_line, tx_part, value_words, waiting_words};
 
 use crate::words::{
-    call_at, count_at, has_calls, parks, put_only, put_run, some_wait, value_or_zero,
+    call_at, count_at, has_calls, is_told, parks, put_only, put_run, some_wait, value_or_zero,
 };
 use explore_law::{End, Found, Kinds};
 use explore_search::instances_of;
 use std::alloc::{AllocError, Global};
 use std::fmt::Write;
-use text_report_printer::{put_number, transaction_name, variable_name};
+use text_report_printer::{put_number, put_value_name, transaction_name};
 use txn::{AlwaysId, Call, Catalogue};
 
 /// The text of what is found of a catalogue: how many configurations are reached, a line for each
@@ -179,11 +179,13 @@ fn put_value(
 ) -> Result<(), AllocError>
     ensures { OnOk result (string_bytes out.new ≡ string_bytes out.old ++ value_words catalogue.now values.now k) }
 {
+    if !is_told(catalogue, values, k) {
+        return Ok(());
+    }
     let value = value_or_zero(values, k);
     out.push_str(" ")?;
-    out.push_str(variable_name(catalogue, k))?;
-    write!(out, " {value}")?;
-    Ok(())
+    put_value_name(out, catalogue, k)?;
+    write!(out, " {value}")
 }
 
 fn put_parked(

@@ -2,8 +2,8 @@
 
 ghost use Rattle.std.specs.Prelude.{◌≡◌, ◌++◌, ℕ, OnOk, flat_map, nat_lt, pos, slice_index_or, string_bytes};
 ghost use Rattle.std.specs.List.{list_any};
-ghost use Rattle.explore_runner.specs.FoundText.{argument_words, call_at, has_calls, only, parks, run_words};
-ghost use Rattle.explore_runner.specs.FoundText.{some_wait, waits};
+ghost use Rattle.explore_runner.specs.FoundText.{argument_words, call_at, has_calls, is_told, only, parks};
+ghost use Rattle.explore_runner.specs.FoundText.{run_words, some_wait, waits};
 
 use explore_law::End;
 use std::alloc::AllocError;
@@ -39,6 +39,13 @@ pub(crate) fn value_or_zero(values: &[i64], i: usize) -> i64
         Some(value) => *value,
         None => 0,
     }
+}
+
+/// Whether the value of this number is told: of a cell that has its initial value nothing is.
+pub(crate) fn is_told(catalogue: &Catalogue, values: &[i64], i: usize) -> bool
+    ensures { result ≡ is_told catalogue.now values.now i }
+{
+    i < catalogue.var_count() || value_or_zero(values, i) != value_or_zero(catalogue.initial(), i)
 }
 
 /// Whether some of the numbers is not 0.

@@ -4,6 +4,7 @@ use Rattle.std.specs.Io.KnownBytes.{Appends, Keeps}
 use Rattle.txn_programs.specs.Listing.{Listing}
 use Rattle.txn_programs.specs.Told.{Told}
 use Rattle.txn_programs.specs.LawfulReport.{LawfulReport}
+use Rattle.txn_text.specs.Tree.{longest}
 use Rattle.txn_text.specs.Spelling.{Spells, first_fault}
 use Rattle.txn_text.specs.Canonical.{file_text}
 use Rattle.text_line_reader.specs.Reports.{IsReport}
@@ -17,14 +18,10 @@ use Rattle.checker.specs.Verdicts.{IsVerdictOn}
 use Rattle.file_chains.specs.declared.next.Next.{Next}
 use Rattle.file_chains.specs.GoingOn.{next_of}
 
--- the longest file, in bytes
-abbrev pub longest : ℕ
-longest = 1048576
-
 -- the text is the canonical one of the listing, and is read as it, unless it is too long
 pub record IsTextOf (l : Listing) (text : List ℕ) : Type 0 where
   pub canonical : text ≡ file_text l
-  pub read : length text ≤ longest → Spells text l
+  pub read : length text ≤ longest text → Spells text l
 
 -- the text is the canonical one of the file that the bytes spell
 pub record IsPrinted (input text : List ℕ) : Type 0 where

@@ -5,18 +5,19 @@ ghost use Rattle.txn_programs.specs.Listing.{Listing};
 ghost use Rattle.txn_programs.specs.Standing.{Upholds};
 ghost use Rattle.txn_programs.specs.Told.{Told};
 ghost use Rattle.txn_programs.specs.LawfulReport.{LawfulReport};
+ghost use Rattle.txn_text.specs.Tree.{longest};
 ghost use Rattle.txn_text.specs.Spelling.{Spells};
 ghost use Rattle.checker.specs.Chapters.{Follows, GoesOnAfter};
 ghost use Rattle.file_chains.specs.declared.next.Next.TheVariants as next;
 ghost use Rattle.file_chains.specs.GoingOn.{going_on};
-ghost use Rattle.file_chains.specs.Printing.{IsPrinted, IsPrintedOn, longest};
+ghost use Rattle.file_chains.specs.Printing.{IsPrinted, IsPrintedOn};
 
 use checker::laws::{lawful_reports_uphold, next_chapters_go_on};
 use txn_text::laws::spells_one;
 
 /// What is printed of a printed text is that text, unless it is too long to be read.
 pub fn printed_again_is_the_same()
-    ensures { (input text again : List ℕ) → IsPrinted input text → length text ≤ longest → IsPrinted text again
+    ensures { (input text again : List ℕ) → IsPrinted input text → length text ≤ longest text → IsPrinted text again
         → again ≡ text }
 {
     spells_one();
@@ -33,7 +34,7 @@ pub fn goes_on_upheld()
 /// long to be read.
 pub fn printed_chapters_go_on()
     ensures { (input report text : List ℕ) (l : Listing) → IsPrintedOn next.Chapter input report text
-        → length text ≤ longest → Spells text l → Follows GoesOnAfter input report l }
+        → length text ≤ longest text → Spells text l → Follows GoesOnAfter input report l }
 {
     spells_one();
     next_chapters_go_on();

@@ -98,7 +98,7 @@ lines_none f a p all = record {
 }
 
 -- what is left after some lines, as the code cuts it off
-cut : {X : Type 0} (n : ℕ) (rest : List X) → take (length rest - n) (drop n rest) ≡ drop n rest
+pub cut : {X : Type 0} (n : ℕ) (rest : List X) → take (length rest - n) (drop n rest) ≡ drop n rest
 cut n rest = take_all (length rest - n) (drop n rest) (omega (arith, length-drop n rest))
 
 -- so many lines more
@@ -133,3 +133,28 @@ lines_done f a b p q all rest l e =
     let none : drop l.count all ≡ [] = sym l.left ∙ e in
     let whole : done ≡ flat_map f all = sym (append-nil done) ∙ ap (λ xs. done ++ flat_map f xs) (sym none) ∙ both f l.count all in
     subst (Gathers a p b q) whole l.gathers
+
+-- of some bytes a part was put, and this is still to come
+pub record Puts (old : Option (List ℕ)) (waited : List ℕ) (new : Option (List ℕ)) (waits whole rest : List ℕ) : Type 0 where
+  pub part : List ℕ
+  pub gathers : Gathers old waited new waits part
+  pub split : part ++ rest ≡ whole
+
+pub puts_none : (a : Option (List ℕ)) (p whole : List ℕ) → Puts a p a p whole whole
+puts_none a p whole = record { part = []; gathers = gathers_none a p; split = refl }
+
+pub puts_more : (a b c : Option (List ℕ)) (p q r whole rest t more : List ℕ) → Puts a p b q whole rest → Gathers b q c r t → rest ≡ t ++ more → Puts a p c r whole more
+puts_more a b c p q r whole rest t more h g e = record {
+  part = h.part ++ t;
+  gathers = gathers_then a b c p q r h.part t h.gathers g;
+  split = append_assoc h.part t more ∙ ap (λ x. h.part ++ x) (sym e) ∙ h.split;
+}
+
+pub puts_break : (a b c : Option (List ℕ)) (p q whole rest t more : List ℕ) → Puts a p b q whole rest → Breaks b q c t → rest ≡ t ++ more → Breaks a p c whole
+puts_break a b c p q whole rest t more h g e =
+    let split : (h.part ++ t) ++ more ≡ whole = append_assoc h.part t more ∙ ap (λ x. h.part ++ x) (sym e) ∙ h.split in
+    subst (Breaks a p c) split (breaks_before a c p (h.part ++ t) more (then_breaks a b c p q h.part t h.gathers g))
+
+pub puts_done : (a b : Option (List ℕ)) (p q whole rest : List ℕ) → Puts a p b q whole rest → rest ≡ [] → Gathers a p b q whole
+puts_done a b p q whole rest h e =
+    subst (Gathers a p b q) (sym (append-nil h.part) ∙ ap (λ x. h.part ++ x) (sym e) ∙ h.split) h.gathers

@@ -6,16 +6,16 @@ use Rattle.std.specs.List.{flat_map}
 use Rattle.txn_programs.specs.Listing.{Listing}
 use Rattle.txn_programs.specs.Told.{Told}
 use Rattle.text_words.specs.Words.{line}
-use Rattle.text_report_printer.specs.ReportText.{variable_lines, entry_line, task_line, report_text}
+use Rattle.text_report_printer.specs.ReportText.{value_lines, entry_line, task_line, report_text}
 
 abbrev pub base_part : Listing → Told → List ℕ
-base_part l r = line (codes "base" ∷ decimal r.base ∷ []) ++ variable_lines l.names r.base_vars
+base_part l r = line (codes "base" ∷ decimal r.base ∷ []) ++ value_lines l r.base_vars
 
 abbrev pub journal_part : Listing → Told → List ℕ
 journal_part l r = flat_map (entry_line l) r.entries
 
 abbrev pub now_part : Listing → Told → List ℕ
-now_part l r = line (codes "now" ∷ decimal r.current ∷ []) ++ variable_lines l.names r.current_vars
+now_part l r = line (codes "now" ∷ decimal r.current ∷ []) ++ value_lines l r.current_vars
 
 abbrev pub parked_part : Listing → Told → List ℕ
 parked_part l r = flat_map (task_line l (codes "parked")) r.parked
@@ -47,4 +47,4 @@ regroup a b c d e rest = simp append_assoc
 
 pub parts_are_text : (l : Listing) (r : Told) → base_part l r ++ behind_base l r ≡ report_text l r
 parts_are_text l r =
-    regroup (line (codes "base" ∷ decimal r.base ∷ [])) (variable_lines l.names r.base_vars) (journal_part l r) (line (codes "now" ∷ decimal r.current ∷ [])) (variable_lines l.names r.current_vars) (behind_now l r)
+    regroup (line (codes "base" ∷ decimal r.base ∷ [])) (value_lines l r.base_vars) (journal_part l r) (line (codes "now" ∷ decimal r.current ∷ [])) (value_lines l r.current_vars) (behind_now l r)

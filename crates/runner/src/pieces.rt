@@ -9,13 +9,15 @@ ghost use Rattle.std.specs.Prelude.{string_capacity, string_len, true, IfErr, Is
 ghost use Rattle.std.specs.Fmt.{decimal};
 ghost use Rattle.std.specs.Io.KnownBytes.{Appends, Keeps};
 ghost use Rattle.std.specs.List.{flat_map};
-ghost use Rattle.txn_programs.specs.declared.limits.TheConstants.{MAX_NAME};
+ghost use Rattle.txn_programs.specs.declared.limits.TheConstants.{MAX_CELLS, MAX_NAME};
 ghost use Rattle.txn_programs.specs.LawfulReport.{FitsCatalogue};
+ghost use Rattle.txn_programs.specs.Listing.{cells, values};
 ghost use Rattle.book_storage.specs.PackedEntries.{told_run};
 ghost use Rattle.text_words.specs.Words.{line};
 ghost use Rattle.text_report_printer.specs.declared.report.TheConstants.{LONGEST};
 ghost use Rattle.text_report_printer.specs.ReportFits.{OutcomesFit, ReportFits};
-ghost use Rattle.text_report_printer.specs.ReportText.{variable_lines, entry_line, task_line, report_text};
+ghost use Rattle.text_report_printer.specs.ReportText.{cell_lines, table_lines, value_lines, entry_line};
+ghost use Rattle.text_report_printer.specs.ReportText.{task_line, report_text};
 ghost use Rattle.run_interface.specs.Counts.{FewFailed};
 ghost use Rattle.run_interface.specs.Failures.{output_failures};
 ghost use Rattle.runner.specs.Pieces.{Gathers, Breaks};
@@ -25,7 +27,7 @@ use book_storage::{PackedEntry, RunReport};
 use run_interface::{RunFault, Sink, SinkFault, put_all, put_bytes};
 use std::alloc::{AllocError, Global};
 use text_report_printer::{
-    LONGEST, put_entry, put_number, put_tasks, put_variables, value_fits, values_fit,
+    LONGEST, put_cells, put_entry, put_number, put_tasks, put_variables, value_fits, values_fit,
 };
 use txn::limits::MAX_VARIABLES;
 use txn::{Catalogue, TaskId, TxId};
@@ -57,7 +59,73 @@ fn make_room<S: Sink>(sink: &mut S, text: &mut String) -> Result<(), SinkFault>
     Ok(())
 }
 
-/// Puts the line of a word and a number, and a line for each variable.
+/// Puts a line for each cell of a table that an entry wrote.
+fn put_table<S: Sink>(
+    sink: &mut S,
+    text: &mut String,
+    table: &str,
+    cells: &[(i64, u64)],
+) -> Result<(), SinkFault>
+    requires failed { FewFailed (S.failed sink.old) }
+    requires room { TEXT_ROOM ≤ string_capacity text.old }
+    requires short { length table.now ≤ MAX_NAME }
+    requires few { length cells.now ≤ MAX_CELLS }
+    ensures gathers { OnOk result
+        (Gathers (S.bytes sink.old) (string_bytes text.old) (S.bytes sink.new) (string_bytes text.new)
+        (cell_lines table.now 0 cells.now)) }
+    ensures none_failed { OnOk result (S.failed sink.new ≡ S.failed sink.old) }
+    ensures breaks { OnErr result
+        (Breaks (S.bytes sink.old) (string_bytes text.old) (S.bytes sink.new) (cell_lines table.now 0 cells.now)) }
+    ensures one_failed { OnErr result (S.failed sink.new ≡ S.failed sink.old + 1) }
+    ensures capacity { string_capacity text.old ≤ string_capacity text.new }
+{
+    let mut first: usize = 0;
+    let mut rest = cells;
+    while !rest.is_empty() {
+        make_room(sink, text)?;
+        let count = rest.len().min(AT_ONCE);
+        let Ok(()) = put_cells(text, table, first, &rest[..count]) else {
+            unreachable!()
+        };
+        first += count;
+        rest = &rest[count..];
+    }
+    Ok(())
+}
+
+/// Puts a line for each cell that an entry wrote, table after table.
+fn put_tables<S: Sink>(
+    sink: &mut S,
+    text: &mut String,
+    catalogue: &Catalogue,
+    vars: &[(i64, u64)],
+) -> Result<(), SinkFault>
+    requires failed { FewFailed (S.failed sink.old) }
+    requires room { TEXT_ROOM ≤ string_capacity text.old }
+    requires each { length vars.now ≡ cells catalogue.now }
+    ensures gathers { OnOk result
+        (Gathers (S.bytes sink.old) (string_bytes text.old) (S.bytes sink.new) (string_bytes text.new)
+        (table_lines catalogue.now.tables vars.now)) }
+    ensures none_failed { OnOk result (S.failed sink.new ≡ S.failed sink.old) }
+    ensures breaks { OnErr result
+        (Breaks (S.bytes sink.old) (string_bytes text.old) (S.bytes sink.new)
+        (table_lines catalogue.now.tables vars.now)) }
+    ensures one_failed { OnErr result (S.failed sink.new ≡ S.failed sink.old + 1) }
+    ensures capacity { string_capacity text.old ≤ string_capacity text.new }
+{
+    catalogue.rules();
+    let tables = catalogue.tables();
+    let mut rest = vars;
+    for (name, count) in tables {
+        let (cells, more) = rest.split_at(*count as usize);
+        put_table(sink, text, name.as_str(), cells)?;
+        rest = more;
+    }
+    Ok(())
+}
+
+/// Puts the line of a word and a number, a line for each variable, and one for each cell that an entry
+/// wrote.
 fn put_values<S: Sink>(
     sink: &mut S,
     text: &mut String,
@@ -69,15 +137,14 @@ fn put_values<S: Sink>(
     requires failed { FewFailed (S.failed sink.old) }
     requires room { TEXT_ROOM ≤ string_capacity text.old }
     requires short { length word.now ≤ MAX_NAME }
-    requires few { length vars.now ≤ MAX_VARIABLES }
-    requires named { length vars.now ≡ length catalogue.now.names }
+    requires each { length vars.now ≡ values catalogue.now }
     ensures gathers { OnOk result
         (Gathers (S.bytes sink.old) (string_bytes text.old) (S.bytes sink.new) (string_bytes text.new)
-        (line (word.now ∷ decimal number ∷ []) ++ variable_lines catalogue.now.names vars.now)) }
+        (line (word.now ∷ decimal number ∷ []) ++ value_lines catalogue.now vars.now)) }
     ensures none_failed { OnOk result (S.failed sink.new ≡ S.failed sink.old) }
     ensures breaks { OnErr result
         (Breaks (S.bytes sink.old) (string_bytes text.old) (S.bytes sink.new)
-        (line (word.now ∷ decimal number ∷ []) ++ variable_lines catalogue.now.names vars.now)) }
+        (line (word.now ∷ decimal number ∷ []) ++ value_lines catalogue.now vars.now)) }
     ensures one_failed { OnErr result (S.failed sink.new ≡ S.failed sink.old + 1) }
     ensures capacity { string_capacity text.old ≤ string_capacity text.new }
 {
@@ -85,10 +152,11 @@ fn put_values<S: Sink>(
     let Ok(()) = put_number(text, word, number) else {
         unreachable!()
     };
-    let Ok(()) = put_variables(text, catalogue, vars) else {
+    let (variables, cells) = vars.split_at(catalogue.var_count());
+    let Ok(()) = put_variables(text, catalogue, variables) else {
         unreachable!()
     };
-    Ok(())
+    put_tables(sink, text, catalogue, cells)
 }
 
 /// Puts a line for each of so few lines that the text has room for them.

@@ -2,10 +2,10 @@
 use Rattle.std.proofs.Common.{◌≡◌, List, [], ◌∷◌, ◌++◌, refl, sym, ap, subst, ◌∙◌}
 use seplogic.Ra.Ura.{Ura}
 use mir.Val.{Val, vstruct, vcons, vnil, of_list}
-use base.Logic.{SProp, ent, sep, emp, id⊢}
+use base.Logic.{SProp, ent, sep, emp}
 use base.Fml.{ftrue, feq}
 use types.Logic.{Logic, sem}
-use types.Kit.{‵, ◌⊛◌, raw, ◌$◌, ◌∵◌, !, qed, move, drop, use0, use1, split, fsplit, fjoin, fpick, fpack, feq_l, feq_i, rewrite, done}
+use types.Kit.{‵, ◌⊛◌, ◌$◌, ◌∵◌, !, qed, move, drop, use0, use1, split, fsplit, fjoin, fpick, fpack, feq_l, feq_i, done}
 use denote.RattleType.{RattleType}
 use denote.Laws.{Is, Tells, Copy, shows}
 use denote.Steps.{peeks, nothing}
@@ -20,7 +20,7 @@ use denote.Struct.Owning.{shape}
 use Rattle.std.specs.Prelude.{Option, None, Some}
 use Rattle.stm_store.specs.contracts.program.Program.{the_row as T}
 use Rattle.stm_store.proofs.program.Program.TheLaws.{the_row_laws as L}
-use Rattle.stm_c.specs.ProgramHandle.{handle_owns, is_testable}
+use Rattle.stm_c.specs.ProgramHandle.{handle_owns}
 use Rattle.stm_c.specs.contracts.program_handle.ProgramHandle as handle
 
 abbrev pub word : Ptr → Val

@@ -1,5 +1,5 @@
 -- Calls on one task, by its ticket.
-use Rattle.std.specs.Prelude.{◌≡◌, ℤ, pos, negsuc, Option, Some, None, ◌⊎◌, Bool, true, false}
+use Rattle.std.specs.Prelude.{◌≡◌, ℤ, pos, Option, Some, None, ◌⊎◌, Bool, true, false}
 use Rattle.txn_programs.specs.declared.ast.Outcome.{Outcome}
 use Rattle.book.specs.declared.standing.Standing.{Standing}
 use Rattle.stm_store.specs.declared.job.Job.{Job}

@@ -1,9 +1,8 @@
 -- What the calls on stores and workers leave, and what they answer in numbers.
-use Rattle.std.specs.Prelude.{◌≡◌, ℕ, ℤ, pos, ◌<◌, ◌≤◌, ◌<ℤ◌, ◌⊎◌, List, take, length, Option, Some, None}
+use Rattle.std.specs.Prelude.{◌≡◌, ℕ, ℤ, pos, ◌<◌, ◌≤◌, ◌<ℤ◌, ◌⊎◌, List, take, length, Option, None}
 use Rattle.txn_programs.specs.declared.limits.TheConstants.{MAX_PARAMETERS}
 use Rattle.txn_programs.specs.Listing.{tasks, task_tx, task_arguments, IsCallable}
 use Rattle.txn_programs.specs.declared.ast.TaskId.{TaskId}
-use Rattle.txn_programs.specs.declared.ast.TxId.{TxId}
 use Rattle.run_observer.specs.declared.observation.Observed.{Observed}
 use Rattle.run_observer.specs.Observing.{ObservesBy, IsObserved}
 use Rattle.book.specs.View.{checkpointed}
@@ -16,7 +15,7 @@ use Rattle.stm_store.specs.declared.answers.Called.{Called}
 use Rattle.stm_store.specs.declared.store.Store.{Store}
 use Rattle.stm_store.specs.declared.worker.Tried.{Tried}
 use Rattle.stm_store.specs.declared.worker.Worker.{Worker}
-use Rattle.stm_store.specs.Asking.{TakesJob, IsUnchanged}
+use Rattle.stm_store.specs.Asking.{TakesJob}
 use Rattle.stm_store.specs.Bringing.{Brings}
 use Rattle.stm_store.specs.Keeping.{KeepsStore, KeepsTasks, IsLent}
 use Rattle.stm_store.specs.Tickets.{kept_tickets}

@@ -1,8 +1,8 @@
--- The numbers of names, where a program declares them, and how many parameters a transaction has.
-use Rattle.std.specs.Prelude.{◌≡◌, ◌<◌, ◌≤◌, ℕ, ℤ, pos, List, length, Option, Some, None, ◌⊎◌, IsUtf8}
+-- The numbers of names, where a program declares them; how many cells a table has, and how many parameters a transaction.
+use Rattle.std.specs.Prelude.{◌≡◌, ◌<◌, ◌≤◌, ℕ, ℤ, pos, List, [], length, slice_index_or, Some, None, ◌⊎◌, IsUtf8}
 use Rattle.txn_programs.specs.declared.ast.TxId.{TxId}
 use Rattle.txn_programs.specs.declared.ast.VarId.{VarId}
-use Rattle.txn_programs.specs.Listing.{Listing, arity, transaction_at, variable_named, transaction_named}
+use Rattle.txn_programs.specs.Listing.{Listing, arity, table_named, transaction_at, variable_named, transaction_named}
 use Rattle.stm_c.specs.Numbers.{not_there}
 
 -- the number of the variable of this name; else -9, where there is none; a name that is no text is none's
@@ -14,6 +14,17 @@ IsVariable l name n =
 abbrev pub IsTransaction : Listing → List ℕ → ℤ → Type 0
 IsTransaction l name n =
     ((t : TxId) × (transaction_named l name ≡ Some t) × (n ≡ pos t.0)) ⊎ ((n ≡ not_there) × (IsUtf8 name → transaction_named l name ≡ None))
+
+-- the place of the table of this name; else -9, where there is none; a name that is no text is none's
+abbrev pub IsTable : Listing → List ℕ → ℤ → Type 0
+IsTable l name n =
+    ((place : ℕ) × (table_named l name ≡ Some place) × (n ≡ pos place)) ⊎ ((n ≡ not_there) × (IsUtf8 name → table_named l name ≡ None))
+
+-- how many cells the table at this place has; else -9, where there is none
+abbrev pub AreCells : Listing → ℕ → ℤ → Type 0
+AreCells l table n =
+    ((table < length l.tables) × (n ≡ pos (slice_index_or l.tables table ([], 0)).1))
+    ⊎ ((length l.tables ≤ table) × (n ≡ not_there))
 
 -- how many parameters the transaction has; else -9, where there is none
 abbrev pub AreParameters : Listing → ℕ → ℤ → Type 0

@@ -1,5 +1,5 @@
 -- What the calls answer, in the numbers of the header.
-use Rattle.std.specs.Prelude.{ℕ, ℤ, pos, negsuc, ◌<◌, ◌-◌, ◌++◌, List, [], length, replicate, Option, Some, None, Result, Ok, Err}
+use Rattle.std.specs.Prelude.{ℤ, pos, negsuc, ◌<◌, ◌-◌, ◌++◌, List, [], length, replicate, Option, Some, None, Result, Ok, Err}
 use Rattle.txn_programs.specs.declared.limits.TheConstants.{MAX_PARAMETERS}
 use Rattle.txn_programs.specs.declared.ast.Fault.{Fault}
 use Rattle.txn_programs.specs.declared.ast.Fault.TheVariants as fault

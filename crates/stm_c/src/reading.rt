@@ -8,7 +8,7 @@ ghost use Rattle.stm_c.specs.Files.{IsRefused};
 ghost use Rattle.stm_c.specs.Held.{Asked, HoldsSome};
 ghost use Rattle.stm_c.specs.Long.{AreFlags, long_flag};
 ghost use Rattle.stm_c.specs.Made.{IsRead};
-ghost use Rattle.stm_c.specs.Named.{AreParameters, IsVariable, IsTransaction};
+ghost use Rattle.stm_c.specs.Named.{AreCells, AreParameters, IsTable, IsTransaction, IsVariable};
 ghost use Rattle.stm_c.specs.Rooms.{Holds, TooShort};
 
 use crate::codes::{EMPTY, FULL, MEMORY, SHORT, UNKNOWN, file_fault};
@@ -84,6 +84,17 @@ pub extern "C" fn stm_program_variables(program: &ProgramHandle) -> usize
     }
 }
 
+/// How many tables it has, each at its place from 0 on as declared. 0 of an empty handle.
+#[unsafe(no_mangle)]
+pub extern "C" fn stm_program_tables(program: &ProgramHandle) -> usize
+    ensures value { Asked program.now.value 0 result (λ p n. n ≡ length p.catalogue.now.tables) }
+{
+    match program.get() {
+        Some(program) => program.catalogue().tables().len(),
+        None => 0,
+    }
+}
+
 /// How many transactions it has, numbered from 0 as declared. 0 of an empty handle.
 #[unsafe(no_mangle)]
 pub extern "C" fn stm_program_transactions(program: &ProgramHandle) -> usize
@@ -114,6 +125,51 @@ fn variable(catalogue: &Catalogue, name: &[u8]) -> i64
     };
     match catalogue.var_id(name) {
         Some(id) => i64::from(id.0),
+        None => i64::from(UNKNOWN),
+    }
+}
+
+/// The place of the table of this name, or -9. -12: the handle is empty.
+#[unsafe(no_mangle)]
+pub extern "C" fn stm_program_table(program: &ProgramHandle, name: &[u8]) -> i64
+    ensures found { Asked program.now.value EMPTY result (λ p n. IsTable p.catalogue.now name.now n) }
+{
+    match program.get() {
+        Some(program) => table(program.catalogue(), name),
+        None => i64::from(EMPTY),
+    }
+}
+
+fn table(catalogue: &Catalogue, name: &[u8]) -> i64
+    ensures { IsTable catalogue.now name.now result }
+{
+    let Ok(name) = str::from_utf8(name) else {
+        return i64::from(UNKNOWN);
+    };
+    // There are few tables.
+    catalogue.rules();
+    match catalogue.table_place(name) {
+        Some(place) => i64::from(place as u32),
+        None => i64::from(UNKNOWN),
+    }
+}
+
+/// How many cells the table at this place has, or -9. -12: the handle is empty.
+#[unsafe(no_mangle)]
+pub extern "C" fn stm_program_cells(program: &ProgramHandle, table: u32) -> i64
+    ensures { Asked program.now.value EMPTY result (λ p n. AreCells p.catalogue.now table n) }
+{
+    match program.get() {
+        Some(program) => cells(program.catalogue(), table),
+        None => i64::from(EMPTY),
+    }
+}
+
+fn cells(catalogue: &Catalogue, table: u32) -> i64
+    ensures { AreCells catalogue.now table result }
+{
+    match catalogue.tables().get(table as usize) {
+        Some((_, length)) => i64::from(*length),
         None => i64::from(UNKNOWN),
     }
 }

@@ -15,8 +15,8 @@ pub use txn_declarations::copy::copied_transaction;
 pub use txn_declarations::same::same_transactions;
 // Files, reports and schedules as text.
 pub use txn_text::{
-    MAX_FILE, MAX_REPORT, MAX_SCHEDULE, ReadFault, print_file, print_report, read_file,
-    read_report, read_schedule,
+    MAX_FILE, MAX_FILE_OF_FORM_3, MAX_REPORT, MAX_SCHEDULE, ReadFault, longest_file, print_file,
+    print_report, read_file, read_report, read_schedule,
 };
 // All tasks of a file, by workers side by side; and what a transaction would end as, meanwhile.
 pub use runner::{

@@ -17,7 +17,7 @@ use Rattle.book.specs.Turns.{kept_short}
 use Rattle.book.specs.Recorded.{HasEntry}
 use Rattle.book.specs.LawfulBook.{LawfulBook}
 use Rattle.book.proofs.Recording.{entry_done}
-use Rattle.stm_store.specs.Entering.{IsEntered, Tells, Enters}
+use Rattle.stm_store.specs.Entering.{IsEntered, Enters}
 use Rattle.stm_store.specs.declared.answers.Entered.{Entered}
 
 pub get_append_at : {A : Type 0} (xs : List A) (y : A) → slice_get (xs ++ y ∷ []) (length xs) ≡ Some y

@@ -1,5 +1,5 @@
 -- Tickets rise with their tasks, so that one is found by halving.
-use Rattle.std.proofs.Common.{◌≡◌, ◌≢◌, ◌⊎◌, inl, inr, ℕ, zero, suc, ◌+◌, ◌<◌, ◌≤◌, List, [], ◌∷◌, ◌++◌, length, Some, None, Option, Result, Ok, Err, get_or, refl, sym, ◌∙◌, ap, subst, arith, cond}
+use Rattle.std.proofs.Common.{◌≡◌, ◌⊎◌, inl, inr, ℕ, zero, suc, ◌+◌, ◌<◌, ◌≤◌, List, [], ◌∷◌, ◌++◌, length, Some, None, Ok, Err, get_or, refl, sym, ◌∙◌, ap, subst, arith}
 use Rattle.std.specs.List.{slice_get, All, AllPairs}
 use Rattle.std.specs.Ordering.{nat_cmp}
 use Rattle.std.specs.List.Sorted.{IsBinarySearchResult}
@@ -13,7 +13,7 @@ use Rattle.txn_programs.specs.declared.ast.TaskId.{TaskId}
 use Rattle.book.specs.Tasks.{Task}
 use Rattle.book.specs.Carrying.{stays, staying}
 use Rattle.book.proofs.Staying.{staying_all}
-use Rattle.stm_store.specs.Tickets.{TicketsView, AreTickets, AreNumbers, HasTicket, IsTaskOf, with_next, most_tickets}
+use Rattle.stm_store.specs.Tickets.{TicketsView, AreTickets, AreNumbers, IsTaskOf, with_next, most_tickets}
 use Rattle.stm_store.specs.declared.job.Ticket.{Ticket}
 use Rattle.stm_store.proofs.Entries.{get_append_at}
 

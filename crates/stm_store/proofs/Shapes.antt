@@ -1,6 +1,5 @@
 -- Whatever a book is told, its cells, its room and the number of its tasks stay the same.
-use Rattle.std.proofs.Common.{◌≡◌, ◌∙◌, ℕ, ◌+◌, Bool, true, false, MatchBool, if◌then◌else◌, Option, None, Some, length, map, set, refl, sym, ap, subst}
-use Rattle.std.specs.List.{slice_get}
+use Rattle.std.proofs.Common.{◌≡◌, ◌∙◌, ℕ, ◌+◌, Bool, true, false, if◌then◌else◌, Option, None, Some, set, refl, sym, subst}
 use Rattle.std.proofs.lemmas.List.{length-set, length-map}
 use Rattle.txn_programs.specs.declared.ast.TaskId.{TaskId}
 use Rattle.txn_programs.specs.Meaning.{after}

@@ -1,17 +1,17 @@
 -- Calls on one task.
-use Rattle.std.specs.Prelude.{◌≡◌, ◌⊎◌, ◌<◌, ◌+◌, ℕ, ℤ, List, Bool, true, false, length, map, Option, Some, None, slice_get}
+use Rattle.std.specs.Prelude.{◌≡◌, ◌⊎◌, ◌<◌, ℤ, List, Bool, true, false, map, Option, Some, None, slice_get}
 use Rattle.txn_programs.specs.declared.ast.TaskId.{TaskId}
 use Rattle.txn_programs.specs.declared.ast.TxId.{TxId}
 use Rattle.txn_programs.specs.declared.ast.Outcome.{Outcome}
 use Rattle.txn_programs.specs.Listing.{tasks, task_arguments}
-use Rattle.book.specs.View.{BookView, IsRunning, stands}
+use Rattle.book.specs.View.{IsRunning, stands}
 use Rattle.book.specs.Tasks.{Running, GivenUp}
 use Rattle.book.specs.Table.{IsWaiting}
 use Rattle.book.specs.Turns.{Taken}
 use Rattle.book.specs.Submitted.{submitted}
 use Rattle.book.specs.Recorded.{IsReady, IsRecorded, told_as}
 use Rattle.book.specs.declared.standing.Standing.{Standing}
-use Rattle.stm_store.specs.Tickets.{TicketsView, HasTicket, with_next, most_tickets}
+use Rattle.stm_store.specs.Tickets.{HasTicket, with_next, most_tickets}
 use Rattle.stm_store.specs.declared.job.Ticket.{Ticket}
 use Rattle.stm_store.specs.declared.job.Job.{Job}
 use Rattle.stm_store.specs.declared.store.Store.{Store}

@@ -1,5 +1,5 @@
 -- The tickets of a book's tasks: numbers that stay a task's own through all chapters.
-use Rattle.std.specs.Prelude.{◌≡◌, ◌≢◌, ℕ, ◌+◌, ◌<◌, ◌≤◌, ◌^◌, List, [], ◌∷◌, ◌++◌, length, Option, Some, None, slice_get, All, AllPairs}
+use Rattle.std.specs.Prelude.{◌≡◌, ℕ, ◌+◌, ◌<◌, ◌≤◌, ◌^◌, List, [], ◌∷◌, ◌++◌, length, Option, Some, None, slice_get, All, AllPairs}
 use Rattle.txn_programs.specs.declared.ast.TaskId.{TaskId}
 use Rattle.book.specs.View.{BookView}
 use Rattle.book.specs.Carrying.{staying}

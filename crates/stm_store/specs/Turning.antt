@@ -15,7 +15,7 @@ use Rattle.book.specs.Submitted.{submitted}
 use Rattle.book.specs.declared.task.Serial.TheVariants as serial
 use Rattle.stm_store.specs.Tickets.{HasTicket, with_next}
 use Rattle.stm_store.specs.Entering.{Enters}
-use Rattle.stm_store.specs.Asking.{HasRoom, IsFull, IsUnchanged, IsPresentJob, IsJob}
+use Rattle.stm_store.specs.Asking.{HasRoom, IsFull, IsUnchanged, IsPresentJob}
 use Rattle.stm_store.specs.declared.job.Ticket.{Ticket}
 use Rattle.stm_store.specs.declared.job.Job.{Job}
 use Rattle.stm_store.specs.declared.answers.Served.{Served}

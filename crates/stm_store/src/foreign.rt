@@ -1,6 +1,6 @@
 //! Attempts that workers of other stores bring, of whatever program they are.
 
-ghost use Rattle.std.specs.Prelude.{◌≡◌, ◌<◌, ◌↔◌, IsTrue, length};
+ghost use Rattle.std.specs.Prelude.{◌<◌, ◌↔◌, IsTrue, length};
 ghost use Rattle.stm_store.specs.Bringing.{AgreeOn, Brings};
 ghost use Rattle.stm_store.specs.Keeping.{KeepsTasks, IsLent};
 

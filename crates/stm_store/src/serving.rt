@@ -1,6 +1,6 @@
 //! Turns on a book, and ends of attempts, each with what its entry tells.
 
-ghost use Rattle.std.specs.Prelude.{◌≡◌, ◌≢◌, ◌<◌, ℕ, length};
+ghost use Rattle.std.specs.Prelude.{◌≡◌, ◌≢◌, ◌<◌, length};
 ghost use Rattle.attempt.specs.Frame.{Agrees};
 ghost use Rattle.book.specs.View.{IsRunning};
 ghost use Rattle.book.specs.Recorded.{HasEntry};

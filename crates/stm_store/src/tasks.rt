@@ -6,7 +6,6 @@ ghost use Rattle.book.specs.Counting.{AreCounts};
 ghost use Rattle.stm_store.specs.Asking.{IsJob, Submits, TakesJob, Claims, Withdraws, GivesUp, TellsOutcome};
 ghost use Rattle.stm_store.specs.Asking.{TellsStanding};
 ghost use Rattle.stm_store.specs.Keeping.{KeepsStore, KeepsTasks};
-ghost use Rattle.stm_store.specs.Tickets.{HasTicket};
 
 use crate::job::{Job, Ticket};
 use crate::store::Store;

@@ -18,6 +18,10 @@ mod programs;
 #[cfg(test)]
 mod rows;
 #[cfg(test)]
+mod tables;
+#[cfg(test)]
 mod tasks;
 #[cfg(test)]
 mod texts;
+#[cfg(test)]
+mod waits;

@@ -17,6 +17,10 @@ pub(crate) enum Look {
     Outcome(u64, Option<Outcome>),
     Standing(u64, Option<Standing>),
     Value(&'static str, Option<(i64, u64)>),
+    /// The cell of this number in the table at this place.
+    Cell(usize, u32, Option<(i64, u64)>),
+    /// What is copied of the table at this place from the cell of this number on, into room for four.
+    Cells(usize, u32, &'static [i64]),
     /// Its present values.
     Values(&'static [i64]),
     /// Its file is this text.
@@ -57,6 +61,15 @@ fn has_values(store: &Store, values: &[i64]) -> bool {
     }
 }
 
+/// Whether these are copied, and what is behind them stays.
+fn has_cells(store: &Store, table: usize, from: u32, cells: &[i64]) -> bool {
+    let mut room = [-9; 4];
+    let count = store.cells(table, from, &mut room);
+    count == cells.len()
+        && room.starts_with(cells)
+        && room.iter().skip(count).all(|value| *value == -9)
+}
+
 fn has_file(store: &Store, text: &str) -> bool {
     match store.file() {
         Ok(file) => file.as_str() == text,
@@ -89,6 +102,8 @@ pub(crate) fn shows(alloc: Global, store: &Store, look: &Look) -> bool {
         Look::Outcome(ticket, outcome) => store.outcome_of(Ticket(*ticket)) == *outcome,
         Look::Standing(ticket, standing) => store.standing_of(Ticket(*ticket)) == *standing,
         Look::Value(name, value) => store.value(name) == *value,
+        Look::Cell(table, index, cell) => store.cell(*table, *index) == *cell,
+        Look::Cells(table, from, cells) => has_cells(store, *table, *from, cells),
         Look::Values(values) => has_values(store, values),
         Look::File(text) => has_file(store, text),
         Look::Report(text) => has_report(store, text),

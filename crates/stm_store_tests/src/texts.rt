@@ -48,5 +48,11 @@ pub(crate) const WIDER: &str = "(var n 5)(var m 0)(tx inc (set n (add n 1)) n)(r
 pub(crate) const ALIKE: &str =
     "(var k 9)(tx inc (set k (add k 1)) k)(tx dec (set k (sub k 1)) k)(run dec 1)(run inc 1)";
 
+/// Two tables behind a variable. The transactions: one moves 60 out of the last cell of the first table, and makes the
+/// first cell of the second one -1; the other waits until that is so, and returns it.
+pub(crate) const TABLES: &str =
+    "(stm 3)(var spare 9)(table acct 5 100)(table rate 2 5 6)(tx pay () (seq (put acct 4 (sub (at acct 4) 60)) (put \
+        rate 0 -1)) (sum acct))(tx wait () (if (lt (at rate 0) 0) (skip) (retry)) (at rate 0))(run wait 1)";
+
 /// A transaction, and no variable and no task.
 pub(crate) const NOTHING_READY: &str = "(tx t (skip) 0)";

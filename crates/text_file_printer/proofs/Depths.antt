@@ -14,7 +14,7 @@ pub expr_deep : (names : Scope) (e : Expression) → expr_depth (written_express
 expr_deep names (t.Int n) = omega arith
 expr_deep names (t.Var x) = omega arith
 expr_deep names (t.Param p) = omega arith
-expr_deep names (t.Cell tb a) = omega arith
+expr_deep names (t.Cell tb a) = omega (arith, expr_deep names a)
 expr_deep names (t.OfAll f tb) = omega arith
 expr_deep names (t.Add a b) = both _ _ _ _ (expr_deep names a) (expr_deep names b)
 expr_deep names (t.Sub a b) = both _ _ _ _ (expr_deep names a) (expr_deep names b)
@@ -34,7 +34,7 @@ mutual
   pub stmt_deep : (names : Scope) (s : Statement) → stmt_depth (written_statement names s) ≤ statement_depth s
   stmt_deep names t.Skip = omega arith
   stmt_deep names (t.Set x e) = omega (arith, expr_deep names e)
-  stmt_deep names (t.Put tb a b) = omega arith
+  stmt_deep names (t.Put tb a b) = both _ _ _ _ (expr_deep names a) (expr_deep names b)
   stmt_deep names (t.Seq parts) = omega (arith, stmts_deep names parts)
   stmt_deep names (t.If c a b) = omega (arith, cond_deep names c, stmt_deep names a, stmt_deep names b)
   stmt_deep names (t.Repeat n s) = omega (arith, stmt_deep names s)

@@ -1,18 +1,16 @@
--- The conditions and transactions of a catalogue name only its variables and their own parameters, and its runs only its transactions.
-use Rattle.std.proofs.Common.{◌≡◌, ◌∙◌, ℕ, Bool, true, ◌&&◌, List, [], length, Some, sym, subst}
-use Rattle.std.specs.List.{slice_get, list_all}
+-- The conditions and transactions of a catalogue name only its variables and tables and their own parameters, and its runs only its transactions.
+use Rattle.std.proofs.Common.{◌≡◌, ◌∙◌, ℕ, Bool, true, ◌&&◌, List, length, Some, sym}
+use Rattle.std.specs.List.{slice_get}
 use Rattle.std.proofs.lemmas.Bool.{and_parts, ltb-true, eqb-true}
 use Rattle.std.proofs.lemmas.List.Folds.{list_all-map}
 use Rattle.txn_programs.specs.declared.arguments.Call.{Call}
-use Rattle.txn_programs.specs.declared.ast.Span.{Span}
 use Rattle.txn_programs.specs.Tree.{Expression, Condition, Statement, Statements, Transaction}
 use Rattle.txn_programs.specs.Tree as t
-use Rattle.txn_programs.specs.Listing.{Listing, conditions, IsCallable}
-use Rattle.txn_programs.specs.Names.{names_hold, is_callable, knows_expression, knows_condition, knows_standing, knows_statement, knows_statements, knows_transaction}
-use Rattle.txn_programs.specs.Limits.{limits_hold}
+use Rattle.txn_programs.specs.Listing.{Listing, spans, IsCallable}
+use Rattle.txn_programs.specs.Names.{names_hold, is_callable, knows_table, knows_expression, knows_condition, knows_standing, knows_statement, knows_statements, knows_transaction}
 use Rattle.txn_programs.proofs.Lawful.{names_parts, passes_at}
-use Rattle.txn_programs.proofs.Untabled.{no_spans}
-use Rattle.text_grammar.specs.Scope.{Scope, standing, inside}
+use Rattle.text_grammar.specs.Scope.{Scope, inside}
+use Rattle.text_grammar.specs.Written.{scope_of}
 use Rattle.text_file_printer.specs.Named.{ExpressionNamed, ConditionNamed, StatementNamed, StatementsNamed}
 
 -- ---- what is known is named
@@ -20,19 +18,19 @@ use Rattle.text_file_printer.specs.Named.{ExpressionNamed, ConditionNamed, State
 known_both : {A B : Type 0} (a b : Bool) → (a ≡ true → A) → (b ≡ true → B) → (a && b) ≡ true → A × B
 known_both a b f g h = let p = and_parts a b h in (f p.0, g p.1)
 
-expression : (s : Scope) (e : Expression) → knows_expression (length s.variables) [] (length s.parameters) e ≡ true → ExpressionNamed s e
+expression : (s : Scope) (e : Expression) → knows_expression (length s.variables) s.spans (length s.parameters) e ≡ true → ExpressionNamed s e
 expression s (t.Int v) h = tt
 expression s (t.Var x) h = ltb-true _ _ h
 expression s (t.Param p) h = ltb-true _ _ h
-expression s (t.Cell tb a) h = absurd (cc)
-expression s (t.OfAll f tb) h = absurd (cc)
+expression s (t.Cell tb a) h = known_both _ _ (λ k. k) (expression s a) h
+expression s (t.OfAll f tb) h = h
 expression s (t.Add a b) h = known_both _ _ (expression s a) (expression s b) h
 expression s (t.Sub a b) h = known_both _ _ (expression s a) (expression s b) h
 expression s (t.Mul a b) h = known_both _ _ (expression s a) (expression s b) h
 expression s (t.Div a b) h = known_both _ _ (expression s a) (expression s b) h
 expression s (t.Rem a b) h = known_both _ _ (expression s a) (expression s b) h
 
-condition : (s : Scope) (c : Condition) → knows_condition (length s.variables) [] (length s.parameters) c ≡ true → ConditionNamed s c
+condition : (s : Scope) (c : Condition) → knows_condition (length s.variables) s.spans (length s.parameters) c ≡ true → ConditionNamed s c
 condition s (t.Eq a b) h = known_both _ _ (expression s a) (expression s b) h
 condition s (t.Lt a b) h = known_both _ _ (expression s a) (expression s b) h
 condition s (t.Le a b) h = known_both _ _ (expression s a) (expression s b) h
@@ -41,44 +39,44 @@ condition s (t.And c d) h = known_both _ _ (condition s c) (condition s d) h
 condition s (t.Or c d) h = known_both _ _ (condition s c) (condition s d) h
 
 mutual
-  statement : (s : Scope) (p : Statement) → knows_statement (length s.variables) [] (length s.parameters) p ≡ true → StatementNamed s p
+  statement : (s : Scope) (p : Statement) → knows_statement (length s.variables) s.spans (length s.parameters) p ≡ true → StatementNamed s p
   statement s t.Skip h = tt
   statement s (t.Set x e) h = known_both _ _ (ltb-true _ _) (expression s e) h
-  statement s (t.Put tb a b) h = absurd (cc)
+  statement s (t.Put tb a b) h =
+      let k = and_parts (knows_table s.spans tb) _ h in
+      let l = and_parts (knows_expression _ s.spans _ a) _ k.1 in
+      (k.0, expression s a l.0, expression s b l.1)
   statement s (t.Seq parts) h = statements s parts h
   statement s (t.If c p q) h =
-      let a = and_parts (knows_condition _ [] _ c) _ h in
-      let b = and_parts (knows_statement _ [] _ p) _ a.1 in
+      let a = and_parts (knows_condition _ s.spans _ c) _ h in
+      let b = and_parts (knows_statement _ s.spans _ p) _ a.1 in
       (condition s c a.0, statement s p b.0, statement s q b.1)
   statement s (t.Repeat n p) h = statement s p h
   statement s t.Retry h = tt
   statement s (t.OrElse p q) h = known_both _ _ (statement s p) (statement s q) h
   statement s (t.Throw e) h = expression s e h
 
-  statements : (s : Scope) (ps : Statements) → knows_statements (length s.variables) [] (length s.parameters) ps ≡ true → StatementsNamed s ps
+  statements : (s : Scope) (ps : Statements) → knows_statements (length s.variables) s.spans (length s.parameters) ps ≡ true → StatementsNamed s ps
   statements s t.End h = tt
   statements s (t.More p rest) h = known_both _ _ (statement s p) (statements s rest) h
 
 -- each condition of the listing
-pub condition_named_at : (l : Listing) (i : ℕ) (a : List ℕ × Condition) → names_hold l ≡ true → limits_hold l ≡ true → slice_get l.always i ≡ Some a → ConditionNamed (standing l.names) a.1
-condition_named_at l i a h k e =
-    let known : list_all (knows_standing (length l.names) []) (conditions l) ≡ true =
-    subst (λ (ts : List Span). list_all (knows_standing (length l.names) ts) (conditions l) ≡ true) (no_spans l k) (names_parts l h).always_known in
-    let all = sym (list_all-map (knows_standing (length l.names) []) (λ (b : List ℕ × Condition). b.1) l.always) ∙ known in
-    condition (standing l.names) a.1 (passes_at (λ (b : List ℕ × Condition). knows_standing (length l.names) [] b.1) l.always i a all e)
+pub condition_named_at : (l : Listing) (i : ℕ) (a : List ℕ × Condition) → names_hold l ≡ true → slice_get l.always i ≡ Some a → ConditionNamed (scope_of l) a.1
+condition_named_at l i a h e =
+    let knows = knows_standing (length l.names) (spans l) in
+    let all = sym (list_all-map knows (λ (b : List ℕ × Condition). b.1) l.always) ∙ (names_parts l h).always_known in
+    condition (scope_of l) a.1 (passes_at (λ (b : List ℕ × Condition). knows b.1) l.always i a all e)
 
 -- what a transaction names
-pub record IsNamed (variables : List (List ℕ)) (p : Transaction) : Type 0 where
-  pub body : StatementNamed (inside variables p.parameters) p.body
-  pub value : ExpressionNamed (inside variables p.parameters) p.result
+pub record IsNamed (s : Scope) (p : Transaction) : Type 0 where
+  pub body : StatementNamed (inside s p.parameters) p.body
+  pub value : ExpressionNamed (inside s p.parameters) p.result
 
 -- each transaction of the listing
-pub transaction_named_at : (l : Listing) (i : ℕ) (p : Transaction) → names_hold l ≡ true → limits_hold l ≡ true → slice_get l.transactions i ≡ Some p → IsNamed l.names p
-transaction_named_at l i p h k e =
-    let s = inside l.names p.parameters in
-    let all : list_all (knows_transaction (length l.names) []) l.transactions ≡ true =
-    subst (λ (ts : List Span). list_all (knows_transaction (length l.names) ts) l.transactions ≡ true) (no_spans l k) (names_parts l h).known in
-    let known = and_parts _ _ (passes_at (knows_transaction (length l.names) []) l.transactions i p all e) in
+pub transaction_named_at : (l : Listing) (i : ℕ) (p : Transaction) → names_hold l ≡ true → slice_get l.transactions i ≡ Some p → IsNamed (scope_of l) p
+transaction_named_at l i p h e =
+    let s = inside (scope_of l) p.parameters in
+    let known = and_parts _ _ (passes_at (knows_transaction (length l.names) (spans l)) l.transactions i p (names_parts l h).known e) in
     record { body = statement s p.body known.0; value = expression s p.result known.1 }
 
 -- the call of each run

@@ -6,12 +6,12 @@ use Rattle.std.specs.List.{flat_map}
 use Rattle.std.proofs.lemmas.List.{append-nil}
 use Rattle.text_words.specs.Tokens.{Lexeme, Opens, Closes}
 use Rattle.text_words.specs.Tokens as token
-use Rattle.text_grammar.specs.Tree.{Expr, Cond, Stmt, Stmts, NoStmts, MoreStmts, Pair, Always, Declaration, Run, File, form, expr_tokens, cond_tokens, stmt_tokens, stmts_tokens, pair_tokens, always_tokens, list_tokens, tx_tokens, run_tokens, heading_tokens, file_tokens, operator_word, comparison_word, connective_word, keyword_word}
+use Rattle.text_grammar.specs.Tree.{Expr, Cond, Stmt, Stmts, NoStmts, MoreStmts, Pair, Table, Always, Declaration, Run, File, form, expr_tokens, cond_tokens, stmt_tokens, stmts_tokens, pair_tokens, table_tokens, always_tokens, list_tokens, tx_tokens, run_tokens, heading_tokens, file_tokens, operator_word, fold_word, comparison_word, connective_word, keyword_word}
 use Rattle.text_grammar.specs.Tree as f
 use Rattle.text_grammar.specs.declared.words.Keyword.TheVariants as keyword
 use Rattle.text_grammar.specs.declared.file.FileForm.{FileForm}
 use Rattle.text_grammar.specs.declared.file.FileForm.TheVariants.{One, Two, Three}
-use Rattle.text_file_printer.specs.Canonical.{form_text, spaced, expr_text, cond_text, stmt_text, stmts_text, pair_line, always_line, list_text, tx_line, spaced_integer, run_line, heading_text, text_of}
+use Rattle.text_file_printer.specs.Canonical.{form_text, spaced, expr_text, cond_text, stmt_text, stmts_text, pair_line, numbers_told, table_line, always_line, list_text, tx_line, spaced_integer, run_line, heading_text, text_of}
 use Rattle.text_file_printer.specs.Layout.{space_before, laid_out_in, laid_out}
 use Rattle.text_file_printer.proofs.Spellings.{two_printed, three_printed}
 
@@ -58,6 +58,8 @@ form_laid word parts text p =
 expr_laid : (e : Expr) → Laid (expr_tokens e) (spaced (expr_text e))
 expr_laid (f.Int value) = int value
 expr_laid (f.Name text) = name text
+expr_laid (f.At table e) = form_laid (codes "at") (token.Name table ∷ expr_tokens e) _ (both (token.Name table ∷ []) (expr_tokens e) _ _ (name table) (expr_laid e))
+expr_laid (f.OfAll fold table) = form_laid (fold_word fold) (token.Name table ∷ []) _ (name table)
 expr_laid (f.Binary op l r) = form_laid (operator_word op) (expr_tokens l ++ expr_tokens r) _ (both (expr_tokens l) (expr_tokens r) _ _ (expr_laid l) (expr_laid r))
 
 cond_laid : (c : Cond) → Laid (cond_tokens c) (spaced (cond_text c))
@@ -69,6 +71,9 @@ mutual
   stmt_laid : (s : Stmt) → Laid (stmt_tokens s) (spaced (stmt_text s))
   stmt_laid f.Skip = form_laid (keyword_word keyword.Skip) [] [] none
   stmt_laid (f.Set text e) = form_laid (keyword_word keyword.Set) (token.Name text ∷ expr_tokens e) _ (both (token.Name text ∷ []) (expr_tokens e) _ _ (name text) (expr_laid e))
+  stmt_laid (f.Put table e v) =
+      form_laid (keyword_word keyword.Put) (token.Name table ∷ (expr_tokens e ++ expr_tokens v)) _
+      (both (token.Name table ∷ []) (expr_tokens e ++ expr_tokens v) _ _ (name table) (both (expr_tokens e) (expr_tokens v) _ _ (expr_laid e) (expr_laid v)))
   stmt_laid (f.Seq parts) = form_laid (keyword_word keyword.Seq) (stmts_tokens parts) _ (stmts_laid parts)
   stmt_laid (f.If c a b) =
       form_laid (keyword_word keyword.If) (cond_tokens c ++ (stmt_tokens a ++ stmt_tokens b)) _
@@ -113,9 +118,6 @@ line_laid word parts text p =
 pair_laid : (word : List ℕ) (p : Pair) → Lines (pair_tokens word p) (pair_line word p)
 pair_laid word p = line_laid word (token.Name p.name ∷ token.Int p.value ∷ []) _ (both (token.Name p.name ∷ []) (token.Int p.value ∷ []) _ _ (name p.name) (int p.value))
 
-always_laid : (a : Always) → Lines (always_tokens a) (always_line a)
-always_laid a = line_laid (codes "always") (token.Name a.name ∷ cond_tokens a.condition) _ (both (token.Name a.name ∷ []) (cond_tokens a.condition) _ _ (name a.name) (cond_laid a.condition))
-
 -- names and integers, each behind a space
 names_laid : (names : List (List ℕ)) → Laid (map token.Name names) (flat_map spaced names)
 names_laid [] = none
@@ -124,6 +126,16 @@ names_laid (text ∷ names) = both (token.Name text ∷ []) (map token.Name name
 integers_laid : (values : List ℤ) → Laid (map token.Int values) (flat_map spaced_integer values)
 integers_laid [] = none
 integers_laid (value ∷ values) = both (token.Int value ∷ []) (map token.Int values) _ _ (int value) (integers_laid values)
+
+table_laid : (t : Table) → Lines (table_tokens t) (table_line t)
+table_laid t =
+    let numbers = numbers_told t in
+    line_laid (codes "table") (token.Name t.name ∷ token.Int t.count ∷ map token.Int numbers) _
+    (both (token.Name t.name ∷ []) (token.Int t.count ∷ map token.Int numbers) _ _ (name t.name)
+    (both (token.Int t.count ∷ []) (map token.Int numbers) _ _ (int t.count) (integers_laid numbers)))
+
+always_laid : (a : Always) → Lines (always_tokens a) (always_line a)
+always_laid a = line_laid (codes "always") (token.Name a.name ∷ cond_tokens a.condition) _ (both (token.Name a.name ∷ []) (cond_tokens a.condition) _ _ (name a.name) (cond_laid a.condition))
 
 list_laid : (announced : FileForm) (names : List (List ℕ)) → Laid (list_tokens announced names) (list_text announced names)
 list_laid One names = none
@@ -157,10 +169,11 @@ file_laid : (file : File) → Lines (file_tokens file) (text_of file)
 file_laid file =
     both_lines (heading_tokens file.form) _ (heading_text file.form) _ (heading_laid file.form)
     (both_lines (flat_map (pair_tokens (codes "var")) file.vars) _ (flat_map (pair_line (codes "var")) file.vars) _ (lines_of (pair_line (codes "var")) (pair_tokens (codes "var")) (pair_laid (codes "var")) file.vars)
+    (both_lines (flat_map table_tokens file.tables) _ (flat_map table_line file.tables) _ (lines_of table_line table_tokens table_laid file.tables)
     (both_lines (flat_map always_tokens file.always) _ (flat_map always_line file.always) _ (lines_of always_line always_tokens always_laid file.always)
     (both_lines (flat_map (tx_tokens file.form) file.txs) (flat_map run_tokens file.runs) (flat_map (tx_line file.form) file.txs) (flat_map run_line file.runs)
     (lines_of (tx_line file.form) (tx_tokens file.form) (tx_laid file.form) file.txs)
-    (lines_of run_line run_tokens run_laid file.runs))))
+    (lines_of run_line run_tokens run_laid file.runs)))))
 
 pub text_is_laid_out : (file : File) → text_of file ≡ laid_out (file_tokens file)
 text_is_laid_out file = sym (ap laid_out (sym (append-nil (file_tokens file))) ∙ (file_laid file).by [] ∙ append-nil (text_of file))

@@ -1,10 +1,12 @@
 pub mod Variables
+pub mod Tables
 pub mod Known
 pub mod Listed
 pub mod Spelled
 pub mod WordForms
 pub mod Spellings
 pub mod Depths
+pub mod Formed
 pub mod Printed
 pub mod Integers
 pub mod Parts

@@ -9,7 +9,8 @@ use Rattle.text_file_printer.specs.Canonical.{spaced, stmt_text, stmts_text}
 use Rattle.text_file_printer.specs.Named.{StatementsNamed}
 use Rattle.text_file_printer.specs.Fits.{StmtFits, StmtsFit}
 
-next_part : (xs : List Stmt) (i : ℕ) (x : Stmt) → i < length xs → x ≡ get_or xs i x → drop i xs ≡ x ∷ drop (i + 1) xs
+-- an item and those behind it
+pub next_part : {X : Type 0} (xs : List X) (i : ℕ) (x : X) → i < length xs → x ≡ get_or xs i x → drop i xs ≡ x ∷ drop (i + 1) xs
 next_part xs i x lt is = drop-cons xs i x lt ∙ ap (λ y. y ∷ drop (suc i) xs) (sym is) ∙ ap (λ k. x ∷ drop k xs) (sym (add-one i))
 
 pub parts_text : (names : Scope) (xs : List Stmt) (i : ℕ) (x : Stmt) (out after total : List ℕ) → i < length xs → x ≡ get_or xs i x

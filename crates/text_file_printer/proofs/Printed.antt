@@ -1,5 +1,5 @@
 -- The canonical text of a listing spells the file that declares it.
-use Rattle.std.proofs.Common.{◌≡◌, ◌∙◌, ℕ, suc, ◌<◌, ◌≤◌, Bool, true, nat_le, false, cond, List, [], ◌∷◌, length, map, Some, refl, sym, ap, arith}
+use Rattle.std.proofs.Common.{◌≡◌, ◌∙◌, ℕ, suc, ◌<◌, ◌≤◌, Bool, true, nat_le, false, cond, List, [], ◌∷◌, length, map, take, drop, Some, refl, sym, ap, arith}
 use Rattle.std.specs.Prelude.{ℤ, codes}
 use Rattle.std.specs.List.{slice_get, list_all, list_any, flat_map, AllByRecursion}
 use Rattle.std.proofs.lemmas.Bool.{and_parts, and_from, leb-true}
@@ -13,18 +13,20 @@ use Rattle.txn_programs.specs.Depth.{statement_depth, expression_depth, conditio
 use Rattle.txn_programs.specs.Listing.{Listing, conditions}
 use Rattle.txn_programs.proofs.Lawful.{names_parts, limits_parts, passes_at}
 use Rattle.text_words.specs.Tokens as token
-use Rattle.text_grammar.specs.Scope.{standing, inside}
+use Rattle.text_grammar.specs.Scope.{inside}
 use Rattle.text_grammar.specs.declared.file.FileForm.{FileForm}
 use Rattle.text_grammar.specs.declared.file.FileForm.TheVariants.{One, Two, Three}
-use Rattle.text_grammar.specs.Tree.{Pair, Declaration, Run, HasNoLists, IsOfForm, IsShallowAlways, IsShallow, SpellsTree, max_len, heading_tokens, pair_tokens, always_tokens, tx_tokens, run_tokens, file_tokens}
-use Rattle.text_grammar.specs.Written.{form_for_conditions, has_list, form_for, written_vars, written_always, written_transaction, written_run, written_in, written}
-use Rattle.text_file_printer.specs.Canonical.{heading_text, pair_line, always_line, tx_line, run_line, file_text}
-use Rattle.text_file_printer.specs.Fits.{PairFits, AlwaysFits, DeclarationFits, RunFits, FileFits}
+use Rattle.text_grammar.specs.Tree.{Pair, Table, Declaration, Run, HasNoLists, IsOfForm, IsAlways, IsTx, SpellsTree, longest, heading_tokens, pair_tokens, table_tokens, always_tokens, tx_tokens, run_tokens, file_tokens}
+use Rattle.text_grammar.specs.Written.{form_for_conditions, has_list, form_with, form_for, scope_of, written_vars, written_table, written_tables, written_always, written_transaction, written_run, written_in, written}
+use Rattle.text_file_printer.specs.Canonical.{heading_text, pair_line, table_line, always_line, tx_line, run_line, file_text}
+use Rattle.text_file_printer.specs.Fits.{PairFits, TableFits, AlwaysFits, DeclarationFits, RunFits, FileFits}
 use Rattle.text_file_printer.proofs.Spelled.{IsWord, Lines, none_lines, both_lines, lines_of, spelled_by}
-use Rattle.text_file_printer.proofs.Spellings.{name_at_is, var_is_word, heading_lines, pair_lines, always_lines, tx_lines, run_lines}
+use Rattle.text_file_printer.proofs.Spellings.{AreNames, name_at_is, var_is_word, heading_lines, pair_lines, table_lines, always_lines, tx_lines, run_lines}
 use Rattle.text_file_printer.proofs.Depths.{expr_deep, cond_deep, stmt_deep}
 use Rattle.text_file_printer.proofs.Known.{condition_named_at, IsNamed, transaction_named_at, run_callable}
-use Rattle.text_file_printer.proofs.Listed.{no_parameters, no_arguments}
+use Rattle.text_file_printer.proofs.Listed.{no_parameters, no_arguments, knows_form}
+use Rattle.text_file_printer.proofs.Formed.{expr_formed_in, cond_formed_in, stmt_formed_in}
+use Rattle.text_file_printer.proofs.Tables.{length-spans}
 use Rattle.text_file_printer.specs.Named.{ConditionNamed}
 
 all_at : {X : Type 0} (P : X → Type 0) (xs : List X) → ((i : ℕ) (x : X) → slice_get xs i ≡ Some x → P x) → AllByRecursion P xs
@@ -79,30 +81,57 @@ pair_list : (word : List ℕ) → IsWord word (token.Name word) → (ps : List P
 pair_list word w ps named fits =
     lines_of (pair_line word) (pair_tokens word) (λ p. HasName p × PairFits p) (λ p h. pair_lines word p w h.0 h.1) ps (all_both HasName PairFits ps named fits)
 
--- the conditions, each of which has a name, names only variables, and fits
-always_list : (l : Listing) → names_hold l ≡ true → limits_hold l ≡ true → AllByRecursion AlwaysFits (map (written_always l.names) l.always)
-    → Lines (flat_map always_line (map (written_always l.names) l.always)) (flat_map always_tokens (map (written_always l.names) l.always))
-always_list l h k fits =
-    let parts = names_parts l h in
-    let P : List ℕ × Condition → Type 0 = λ a. (is_name a.0 ≡ true) × ConditionNamed (standing l.names) a.1 in
-    let Q : List ℕ × Condition → Type 0 = λ a. AlwaysFits (written_always l.names a) in
-    let forms : list_all (λ (a : List ℕ × Condition). is_name a.0) l.always ≡ true = sym (list_all-map is_name (λ (a : List ℕ × Condition). a.0) l.always) ∙ parts.always_forms in
-    let here : (i : ℕ) (a : List ℕ × Condition) → slice_get l.always i ≡ Some a → P a =
-    λ i a e. (passes_at (λ (a : List ℕ × Condition). is_name a.0) l.always i a forms e, condition_named_at l i a h k e) in
-    map_lines always_line always_tokens (written_always l.names) (λ a. P a × Q a)
-    (λ a k. always_lines l.names parts.forms a k.0.0 k.0.1 k.1) l.always
-    (all_both P Q l.always (all_at P l.always here) (unmapped AlwaysFits (written_always l.names) l.always fits))
+-- the tables, each of which has a name
+tables_named : (ts : List (List ℕ × ℕ)) (values : List ℤ) → list_all is_name (map (λ (t : List ℕ × ℕ). t.0) ts) ≡ true → AllByRecursion (λ (t : Table). is_name t.name ≡ true) (written_tables ts values)
+tables_named [] values h = tt
+tables_named (t ∷ ts) values h =
+    let parts = and_parts (is_name t.0) (list_all is_name (map (λ (u : List ℕ × ℕ). u.0) ts)) h in
+    (one (take t.1 values) parts.0, tables_named ts (drop t.1 values) parts.1)
+  where
+    one : (vs : List ℤ) → is_name t.0 ≡ true → is_name (written_table t vs).name ≡ true
+    one [] k = k
+    one (v ∷ vs) k = k
 
-tx_list : (l : Listing) (form : FileForm) → names_hold l ≡ true → limits_hold l ≡ true → AllByRecursion DeclarationFits (map (written_transaction l.names) l.transactions)
-    → Lines (flat_map (tx_line form) (map (written_transaction l.names) l.transactions)) (flat_map (tx_tokens form) (map (written_transaction l.names) l.transactions))
-tx_list l form h k fits =
+table_list : (l : Listing) → names_hold l ≡ true → (ts : List Table) → AllByRecursion (λ (t : Table). is_name t.name ≡ true) ts → AllByRecursion TableFits ts → Lines (flat_map table_line ts) (flat_map table_tokens ts)
+table_list l h ts named fits =
+    let HasName : Table → Type 0 = λ t. is_name t.name ≡ true in
+    lines_of table_line table_tokens (λ t. HasName t × TableFits t) (λ t k. table_lines t k.0 k.1) ts (all_both HasName TableFits ts named fits)
+
+-- each name that a condition knows has the form of one
+all_names : (l : Listing) → names_hold l ≡ true → AreNames (scope_of l)
+all_names l h =
     let parts = names_parts l h in
-    let P : Transaction → Type 0 = λ t. (are_formed t ≡ true) × IsNamed l.names t in
-    let Q : Transaction → Type 0 = λ t. DeclarationFits (written_transaction l.names t) in
-    let here : (i : ℕ) (t : Transaction) → slice_get l.transactions i ≡ Some t → P t = λ i t e. (passes_at are_formed l.transactions i t parts.tx_forms e, transaction_named_at l i t h k e) in
-    map_lines (tx_line form) (tx_tokens form) (written_transaction l.names) (λ t. P t × Q t)
-    (λ t k. let formed = and_parts (is_name t.name) (list_all is_name t.parameters) k.0.0 in tx_lines form l.names parts.forms t formed.0 formed.1 k.0.1.body k.0.1.value k.1) l.transactions
-    (all_both P Q l.transactions (all_at P l.transactions here) (unmapped DeclarationFits (written_transaction l.names) l.transactions fits))
+    record {
+      variables = parts.forms;
+      tables = parts.table_forms;
+      spans = omega (arith, length-spans (length l.names) l.tables, length-map l.tables (λ (t : List ℕ × ℕ). t.0));
+      parameters = refl;
+    }
+
+-- the conditions, each of which has a name, names only what it knows, and fits
+always_list : (l : Listing) → names_hold l ≡ true → AllByRecursion AlwaysFits (map (written_always (scope_of l)) l.always)
+    → Lines (flat_map always_line (map (written_always (scope_of l)) l.always)) (flat_map always_tokens (map (written_always (scope_of l)) l.always))
+always_list l h fits =
+    let s = scope_of l in
+    let P : List ℕ × Condition → Type 0 = λ a. (is_name a.0 ≡ true) × ConditionNamed s a.1 in
+    let Q : List ℕ × Condition → Type 0 = λ a. AlwaysFits (written_always s a) in
+    let forms : list_all (λ (a : List ℕ × Condition). is_name a.0) l.always ≡ true = sym (list_all-map is_name (λ (a : List ℕ × Condition). a.0) l.always) ∙ (names_parts l h).always_forms in
+    let here : (i : ℕ) (a : List ℕ × Condition) → slice_get l.always i ≡ Some a → P a =
+    λ i a e. (passes_at (λ (a : List ℕ × Condition). is_name a.0) l.always i a forms e, condition_named_at l i a h e) in
+    map_lines always_line always_tokens (written_always s) (λ a. P a × Q a)
+    (λ a k. always_lines s (all_names l h) a k.0.0 k.0.1 k.1) l.always
+    (all_both P Q l.always (all_at P l.always here) (unmapped AlwaysFits (written_always s) l.always fits))
+
+tx_list : (l : Listing) (form : FileForm) → names_hold l ≡ true → AllByRecursion DeclarationFits (map (written_transaction (scope_of l)) l.transactions)
+    → Lines (flat_map (tx_line form) (map (written_transaction (scope_of l)) l.transactions)) (flat_map (tx_tokens form) (map (written_transaction (scope_of l)) l.transactions))
+tx_list l form h fits =
+    let s = scope_of l in
+    let P : Transaction → Type 0 = λ t. (are_formed t ≡ true) × IsNamed s t in
+    let Q : Transaction → Type 0 = λ t. DeclarationFits (written_transaction s t) in
+    let here : (i : ℕ) (t : Transaction) → slice_get l.transactions i ≡ Some t → P t = λ i t e. (passes_at are_formed l.transactions i t (names_parts l h).tx_forms e, transaction_named_at l i t h e) in
+    map_lines (tx_line form) (tx_tokens form) (written_transaction s) (λ t. P t × Q t)
+    (λ t k. let formed = and_parts (is_name t.name) (list_all is_name t.parameters) k.0.0 in tx_lines form s (all_names l h) t formed.0 formed.1 k.0.1.body k.0.1.value k.1) l.transactions
+    (all_both P Q l.transactions (all_at P l.transactions here) (unmapped DeclarationFits (written_transaction s) l.transactions fits))
 
 run_list : (l : Listing) → names_hold l ≡ true → AllByRecursion RunFits (map (written_run l.transactions) l.runs)
     → Lines (flat_map run_line (map (written_run l.transactions) l.runs)) (flat_map run_tokens (map (written_run l.transactions) l.runs))
@@ -112,76 +141,88 @@ run_list l h fits =
     map_lines run_line run_tokens (written_run l.transactions) (λ r. P r × Q r) (λ r k. run_lines (written_run l.transactions r) k.0 k.1) l.runs
     (all_both P Q l.runs (all_at P l.runs (run_named l h)) (unmapped RunFits (written_run l.transactions) l.runs fits))
 
-file_lines : (l : Listing) → names_hold l ≡ true → limits_hold l ≡ true → FileFits (written l) → Lines (file_text l) (file_tokens (written l))
+file_lines : (l : Listing) → names_hold l ≡ true → FileFits (written l) → Lines (file_text l) (file_tokens (written l))
 unfolding written_in
-file_lines l h k fits =
-    let forms = (names_parts l h).forms in
+file_lines l h fits =
     let vars = written_vars l.names l.initial in
-    let always = map (written_always l.names) l.always in
-    let txs = map (written_transaction l.names) l.transactions in
+    let behind = drop (length l.names) l.initial in
+    let tables = written_tables l.tables behind in
+    let always = map (written_always (scope_of l)) l.always in
+    let txs = map (written_transaction (scope_of l)) l.transactions in
     let runs = map (written_run l.transactions) l.runs in
     let form = form_for l in
     let heading = heading_lines form in
-    let a = pair_list (codes "var") var_is_word vars (vars_named l.names l.initial forms) fits.vars in
-    let b = always_list l h k fits.always in
-    let c = tx_list l form h k fits.txs in
-    let d = run_list l h fits.runs in
+    let a = pair_list (codes "var") var_is_word vars (vars_named l.names l.initial (names_parts l h).forms) fits.vars in
+    let b = table_list l h tables (tables_named l.tables behind (names_parts l h).table_forms) fits.tables in
+    let c = always_list l h fits.always in
+    let d = tx_list l form h fits.txs in
+    let e = run_list l h fits.runs in
     both_lines (heading_text form) _ (heading_tokens form) _ heading
     (both_lines (flat_map (pair_line (codes "var")) vars) _ (flat_map (pair_tokens (codes "var")) vars) _ a
-    (both_lines (flat_map always_line always) _ (flat_map always_tokens always) _ b
-    (both_lines (flat_map (tx_line form) txs) (flat_map run_line runs) (flat_map (tx_tokens form) txs) (flat_map run_tokens runs) c d)))
+    (both_lines (flat_map table_line tables) _ (flat_map table_tokens tables) _ b
+    (both_lines (flat_map always_line always) _ (flat_map always_tokens always) _ c
+    (both_lines (flat_map (tx_line form) txs) (flat_map run_line runs) (flat_map (tx_tokens form) txs) (flat_map run_tokens runs) d e))))
 
-always_shallow : (l : Listing) → limits_hold l ≡ true → (i : ℕ) (a : List ℕ × Condition) → slice_get l.always i ≡ Some a → IsShallowAlways (written_always l.names a)
-always_shallow l h i a e =
+-- a condition as it is written stands in the form that is told, and is not too deep
+always_formed : (l : Listing) → names_hold l ≡ true → limits_hold l ≡ true → (i : ℕ) (a : List ℕ × Condition) → slice_get l.always i ≡ Some a → IsAlways (form_for l) (written_always (scope_of l) a)
+always_formed l h k i a e =
     let shallow : Condition → Bool = λ c. nat_le (condition_depth c) deepest in
-    let all = (and_parts (list_all shallow (conditions l)) _ (limits_parts l h).conditions_fitting).0 in
+    let all = (and_parts (list_all shallow (conditions l)) _ (limits_parts l k).conditions_fitting).0 in
     let deep = leb-true _ _ (passes_at (λ (a : List ℕ × Condition). shallow a.1) l.always i a (sym (list_all-map shallow (λ (a : List ℕ × Condition). a.1) l.always) ∙ all) e) in
-    omega (arith, cond_deep (standing l.names) a.1, deep)
+    (omega (arith, cond_deep (scope_of l) a.1, deep), cond_formed_in (form_for l) (scope_of l) (knows_form l) a.1 (condition_named_at l i a h e))
 
-transaction_shallow : (l : Listing) → limits_hold l ≡ true → (i : ℕ) (t : Transaction) → slice_get l.transactions i ≡ Some t → IsShallow (written_transaction l.names t)
-transaction_shallow l h i t e =
-    let fits = passes_at (λ (t : Transaction). program_fits (under (conditions l) t)) l.transactions i t (limits_parts l h).programs e in
+transaction_formed : (l : Listing) → names_hold l ≡ true → limits_hold l ≡ true → (i : ℕ) (t : Transaction) → slice_get l.transactions i ≡ Some t → IsTx (form_for l) (written_transaction (scope_of l) t)
+transaction_formed l h k i t e =
+    let fits = passes_at (λ (t : Transaction). program_fits (under (conditions l) t)) l.transactions i t (limits_parts l k).programs e in
     let body = and_parts (nat_le (statement_depth t.body) deepest) _ fits in
     let result = and_parts (nat_le (expression_depth t.result) deepest) _ body.1 in
     let deep = leb-true _ _ body.0 in
     let deep' = leb-true _ _ result.0 in
-    let names = inside l.names t.parameters in
-    (omega (arith, stmt_deep names t.body, deep), omega (arith, expr_deep names t.result, deep'))
+    let names = inside (scope_of l) t.parameters in
+    let named = transaction_named_at l i t h e in (
+      (omega (arith, stmt_deep names t.body, deep), stmt_formed_in (form_for l) names (knows_form l) t.body named.body),
+      (omega (arith, expr_deep names t.result, deep'), expr_formed_in (form_for l) names (knows_form l) t.result named.value),
+    )
 
--- without parameters there are no arguments either
-no_lists : (l : Listing) → names_hold l ≡ true → list_any has_list l.transactions ≡ false → (form : FileForm) → HasNoLists (written_in form l)
+-- without tables and parameters there are no lists
+no_lists : (l : Listing) → names_hold l ≡ true → list_any has_list l.transactions ≡ false → (form : FileForm) → HasNoLists (written_in form [] l)
 unfolding written_in
 no_lists l h none form =
     let given : (i : ℕ) (r : Call × ℕ) → slice_get l.runs i ≡ Some r → r.0.arguments ≡ [] = λ i r e. no_arguments l r.0 none (run_callable l i r h e) in (
-      all_map (λ (d : Declaration). d.parameters ≡ []) (written_transaction l.names) l.transactions (no_parameters l.transactions none),
+      refl,
+      all_map (λ (d : Declaration). d.parameters ≡ []) (written_transaction (scope_of l)) l.transactions (no_parameters l.transactions none),
       all_map (λ (r : Run). r.arguments ≡ []) (written_run l.transactions) l.runs (all_at (λ (r : Call × ℕ). r.0.arguments ≡ []) l.runs given),
     )
 
 without : (l : Listing) → names_hold l ≡ true → list_any has_list l.transactions ≡ false → (always : List (List ℕ × Condition)) → l.always ≡ always
-    → IsOfForm (form_for_conditions always) (written_in (form_for_conditions always) l)
+    → IsOfForm (form_for_conditions always) (written_in (form_for_conditions always) [] l)
 unfolding written_in
-without l h none [] e = (ap (map (written_always l.names)) e, no_lists l h none One)
+without l h none [] e = (ap (map (written_always (scope_of l))) e, no_lists l h none One)
 without l h none (a ∷ always) e = no_lists l h none Two
 
--- the form that is told has room for the conditions and the parameters
-in_form : (l : Listing) → names_hold l ≡ true → IsOfForm (form_for l) (written l)
-in_form l h = go (list_any has_list l.transactions) refl where
-  go : (b : Bool) → list_any has_list l.transactions ≡ b → IsOfForm (cond b Three (form_for_conditions l.always)) (written_in (cond b Three (form_for_conditions l.always)) l)
-  go true e = tt
-  go false e = without l h e l.always refl
+without_tables : (l : Listing) → names_hold l ≡ true → (b : Bool) → list_any has_list l.transactions ≡ b → IsOfForm (cond b Three (form_for_conditions l.always)) (written_in (cond b Three (form_for_conditions l.always)) [] l)
+without_tables l h true e = tt
+without_tables l h false e = without l h e l.always refl
+
+-- the form that is told has room for the tables, the conditions and the parameters
+in_form : (l : Listing) → names_hold l ≡ true → (ts : List (List ℕ × ℕ)) (values : List ℤ) → IsOfForm (form_with ts l) (written_in (form_with ts l) (written_tables ts values) l)
+in_form l h [] values = without_tables l h (list_any has_list l.transactions) refl
+in_form l h (t ∷ ts) values = tt
 
 -- the text spells the file, where it is not too long
-pub printed_spells : (l : Listing) → names_hold l ≡ true → limits_hold l ≡ true → FileFits (written l) → length (file_text l) ≤ max_len → SpellsTree (file_text l) (written l)
+pub printed_spells : (l : Listing) → names_hold l ≡ true → limits_hold l ≡ true → FileFits (written l) → length (file_text l) ≤ longest (file_text l) → SpellsTree (file_text l) (written l)
 unfolding written_in
 printed_spells l named limits fits short =
-    let lines = file_lines l named limits fits in
+    let lines = file_lines l named fits in
+    let s = scope_of l in
+    let form = form_for l in
     record {
       short = short;
       allowed = lines.allowed;
       spelled = spelled_by (file_text l) (file_tokens (written l)) lines;
-      formed = in_form l named;
-      shallow = (
-        all_map IsShallowAlways (written_always l.names) l.always (all_at (λ a. IsShallowAlways (written_always l.names a)) l.always (always_shallow l limits)),
-        all_map IsShallow (written_transaction l.names) l.transactions (all_at (λ t. IsShallow (written_transaction l.names t)) l.transactions (transaction_shallow l limits)),
+      formed = in_form l named l.tables (drop (length l.names) l.initial);
+      parts = (
+        all_map (IsAlways form) (written_always s) l.always (all_at (λ a. IsAlways form (written_always s a)) l.always (always_formed l named limits)),
+        all_map (IsTx form) (written_transaction s) l.transactions (all_at (λ t. IsTx form (written_transaction s t)) l.transactions (transaction_formed l named limits)),
       );
     }

@@ -1,5 +1,5 @@
 -- The canonical text of each form is read as the form's tokens.
-use Rattle.std.proofs.Common.{◌≡◌, ℕ, ◌<◌, true, List, [], ◌∷◌, ◌++◌, length, get_or, map, refl, subst, lit<, arith}
+use Rattle.std.proofs.Common.{◌≡◌, ℕ, ◌<◌, ◌≤◌, true, List, [], ◌∷◌, ◌++◌, length, get_or, map, refl, subst, lit<, arith}
 use Rattle.std.specs.Prelude.{ℤ, pos, codes, FitsSigned}
 use Rattle.std.specs.Int.{w64}
 use Rattle.std.specs.Fmt.{signed_decimal}
@@ -9,9 +9,12 @@ use Rattle.std.proofs.lemmas.Option.{slice_get-get_or}
 use Rattle.txn_programs.specs.Tree.{Expression, Condition, Statement, Statements, Transaction}
 use Rattle.txn_programs.specs.Tree as t
 use Rattle.std.proofs.lemmas.Bool.{and_parts}
-use Rattle.text_grammar.specs.Scope.{Scope, standing, inside}
+use Rattle.text_grammar.specs.Scope.{Scope, inside}
 use Rattle.text_file_printer.specs.Named.{ExpressionNamed, ConditionNamed, StatementNamed, StatementsNamed}
-use Rattle.txn_programs.specs.Names.{is_name}
+use Rattle.txn_programs.specs.declared.ast.Span.{Span}
+use Rattle.txn_programs.specs.declared.ast.Fold.{Fold}
+use Rattle.txn_programs.specs.declared.ast.Fold.TheVariants as all
+use Rattle.txn_programs.specs.Names.{is_name, knows_table}
 use Rattle.txn_programs.proofs.Lawful.{passes_at}
 use Rattle.text_grammar.specs.declared.words.Operator.{Operator}
 use Rattle.text_grammar.specs.declared.words.Operator.TheVariants as operator
@@ -25,13 +28,14 @@ use Rattle.text_grammar.specs.declared.file.FileForm.{FileForm}
 use Rattle.text_grammar.specs.declared.file.FileForm.TheVariants.{One, Two, Three}
 use Rattle.text_words.specs.Tokens.{Lexeme, Opens, Closes}
 use Rattle.text_words.specs.Tokens as token
-use Rattle.text_grammar.specs.Tree.{Expr, Cond, Stmt, Stmts, Pair, Always, Declaration, Run, form, operator_word, comparison_word, connective_word, keyword_word, expr_tokens, cond_tokens, stmt_tokens, stmts_tokens, pair_tokens, always_tokens, list_tokens, tx_tokens, run_tokens, heading_tokens}
+use Rattle.text_grammar.specs.Tree.{Expr, Cond, Stmt, Stmts, Pair, Table, Always, Declaration, Run, form, operator_word, fold_word, comparison_word, connective_word, keyword_word, expr_tokens, cond_tokens, stmt_tokens, stmts_tokens, pair_tokens, table_tokens, always_tokens, list_tokens, tx_tokens, run_tokens, heading_tokens}
 use Rattle.text_grammar.specs.Tree as f
-use Rattle.text_grammar.specs.Written.{name_at, written_expression, written_condition, written_statement, written_statements, written_always, written_transaction}
-use Rattle.text_file_printer.specs.Canonical.{form_text, spaced, expr_text, cond_text, stmt_text, stmts_text, heading_text, pair_line, always_line, list_text, tx_line, spaced_integer, run_line}
-use Rattle.text_file_printer.specs.Fits.{ExprFits, CondFits, StmtFits, StmtsFit, PairFits, AlwaysFits, DeclarationFits, RunFits}
+use Rattle.text_grammar.specs.Written.{name_at, name_of, written_expression, written_condition, written_statement, written_statements, written_always, written_transaction}
+use Rattle.text_file_printer.specs.Canonical.{form_text, spaced, expr_text, cond_text, stmt_text, stmts_text, heading_text, pair_line, numbers_told, table_line, always_line, list_text, tx_line, spaced_integer, run_line}
+use Rattle.text_file_printer.specs.Fits.{ExprFits, CondFits, StmtFits, StmtsFit, PairFits, TableFits, AlwaysFits, DeclarationFits, RunFits}
 use Rattle.text_file_printer.proofs.Spelled.{IsWord, Reads, Follows, Lines, word_reads, empty_reads, spaced_follows, none_follows, both_follow, form_reads, line_of, none_lines}
 use Rattle.text_file_printer.proofs.WordForms.{name_word, int_word}
+use Rattle.text_file_printer.proofs.Tables.{known_named}
 
 -- ---- words
 
@@ -42,6 +46,16 @@ operator_is_word operator.Sub = name_word (codes "sub") refl
 operator_is_word operator.Mul = name_word (codes "mul") refl
 operator_is_word operator.Div = name_word (codes "div") refl
 operator_is_word operator.Rem = name_word (codes "rem") refl
+
+fold_is_word : (fold : Fold) → IsWord (fold_word fold) (token.Name (fold_word fold))
+unfolding is_name
+fold_is_word all.Sum = name_word (codes "sum") refl
+fold_is_word all.Min = name_word (codes "min") refl
+fold_is_word all.Max = name_word (codes "max") refl
+
+at_is_word : IsWord (codes "at") (token.Name (codes "at"))
+unfolding is_name
+at_is_word = name_word (codes "at") refl
 
 comparison_is_word : (op : Comparison) → IsWord (comparison_word op) (token.Name (comparison_word op))
 unfolding is_name
@@ -62,6 +76,7 @@ keyword_is_word : (k : Keyword) → IsWord (keyword_word k) (token.Name (keyword
 unfolding is_name
 keyword_is_word keyword.Skip = name_word (codes "skip") refl
 keyword_is_word keyword.Set = name_word (codes "set") refl
+keyword_is_word keyword.Put = name_word (codes "put") refl
 keyword_is_word keyword.Seq = name_word (codes "seq") refl
 keyword_is_word keyword.If = name_word (codes "if") refl
 keyword_is_word keyword.Repeat = name_word (codes "repeat") refl
@@ -76,6 +91,10 @@ var_is_word = name_word (codes "var") refl
 pub run_is_word : IsWord (codes "run") (token.Name (codes "run"))
 unfolding is_name
 run_is_word = name_word (codes "run") refl
+
+table_is_word : IsWord (codes "table") (token.Name (codes "table"))
+unfolding is_name
+table_is_word = name_word (codes "table") refl
 
 stm_is_word : IsWord (codes "stm") (token.Name (codes "stm"))
 unfolding is_name
@@ -112,7 +131,21 @@ three a b c ts us vs p q r = both_follow (spaced a) (spaced b ++ spaced c) ts (u
 -- each name of a scope has the form of one
 pub record AreNames (names : Scope) : Type 0 where
   pub variables : list_all is_name names.variables ≡ true
+  pub tables : list_all is_name names.tables ≡ true
+  pub spans : length names.spans ≤ length names.tables
   pub parameters : list_all is_name names.parameters ≡ true
+
+-- a table that is known
+table_reads : (names : Scope) → AreNames names → (tb : Span) → knows_table names.spans tb ≡ true → Reads (name_of names tb) (token.Name (name_of names tb) ∷ [])
+table_reads names forms tb k = word_reads (name_of names tb) (token.Name (name_of names tb)) (name_word (name_of names tb) (known_named names.tables names.spans tb forms.tables forms.spans k))
+
+cell_reads : (table : List ℕ) (index : Expr) → Reads table (token.Name table ∷ []) → Reads (expr_text index) (expr_tokens index) → Reads (expr_text (f.At table index)) (expr_tokens (f.At table index))
+cell_reads table index p q =
+    form_reads (codes "at") (spaced table ++ spaced (expr_text index)) (token.Name table ∷ expr_tokens index) at_is_word
+    (two table (expr_text index) (token.Name table ∷ []) (expr_tokens index) p q)
+
+all_reads : (fold : Fold) (table : List ℕ) → Reads table (token.Name table ∷ []) → Reads (expr_text (f.OfAll fold table)) (expr_tokens (f.OfAll fold table))
+all_reads fold table p = form_reads (fold_word fold) (spaced table) (token.Name table ∷ []) (fold_is_word fold) (spaced_follows table (token.Name table ∷ []) p)
 
 binary : (op : Operator) (l r : Expr) → Reads (expr_text l) (expr_tokens l) → Reads (expr_text r) (expr_tokens r) → Reads (expr_text (f.Binary op l r)) (expr_tokens (f.Binary op l r))
 binary op l r p q =
@@ -123,8 +156,8 @@ pub expr_reads : (names : Scope) → AreNames names → (e : Expression) → Exp
 expr_reads names forms (t.Int n) k h = number n h
 expr_reads names forms (t.Var x) k h = named names.variables x.0 forms.variables k
 expr_reads names forms (t.Param p) k h = named names.parameters p.0 forms.parameters k
-expr_reads names forms (t.Cell tb a) k h = absurd k
-expr_reads names forms (t.OfAll f tb) k h = absurd k
+expr_reads names forms (t.Cell tb a) k h = cell_reads (name_of names tb) (written_expression names a) (table_reads names forms tb k.0) (expr_reads names forms a k.1 h)
+expr_reads names forms (t.OfAll fold tb) k h = all_reads fold (name_of names tb) (table_reads names forms tb k)
 expr_reads names forms (t.Add a b) k h = binary operator.Add (written_expression names a) (written_expression names b) (expr_reads names forms a k.0 h.0) (expr_reads names forms b k.1 h.1)
 expr_reads names forms (t.Sub a b) k h = binary operator.Sub (written_expression names a) (written_expression names b) (expr_reads names forms a k.0 h.0) (expr_reads names forms b k.1 h.1)
 expr_reads names forms (t.Mul a b) k h = binary operator.Mul (written_expression names a) (written_expression names b) (expr_reads names forms a k.0 h.0) (expr_reads names forms b k.1 h.1)
@@ -160,6 +193,11 @@ set_reads name e p q =
     form_reads (codes "set") (spaced name ++ spaced (expr_text e)) (token.Name name ∷ expr_tokens e) (keyword_is_word keyword.Set)
     (two name (expr_text e) (token.Name name ∷ []) (expr_tokens e) p q)
 
+put_reads : (table : List ℕ) (index value : Expr) → Reads table (token.Name table ∷ []) → Reads (expr_text index) (expr_tokens index) → Reads (expr_text value) (expr_tokens value) → Reads (stmt_text (f.Put table index value)) (stmt_tokens (f.Put table index value))
+put_reads table index value p q r =
+    form_reads (codes "put") (spaced table ++ (spaced (expr_text index) ++ spaced (expr_text value))) (token.Name table ∷ (expr_tokens index ++ expr_tokens value)) (keyword_is_word keyword.Put)
+    (three table (expr_text index) (expr_text value) (token.Name table ∷ []) (expr_tokens index) (expr_tokens value) p q r)
+
 if_reads : (c : Cond) (a b : Stmt) → Reads (cond_text c) (cond_tokens c) → Reads (stmt_text a) (stmt_tokens a) → Reads (stmt_text b) (stmt_tokens b) → Reads (stmt_text (f.If c a b)) (stmt_tokens (f.If c a b))
 if_reads c a b p q r =
     form_reads (codes "if") (spaced (cond_text c) ++ (spaced (stmt_text a) ++ spaced (stmt_text b))) (cond_tokens c ++ (stmt_tokens a ++ stmt_tokens b)) (keyword_is_word keyword.If)
@@ -182,7 +220,8 @@ mutual
   pub stmt_reads : (names : Scope) → AreNames names → (s : Statement) → StatementNamed names s → StmtFits (written_statement names s) → Reads (stmt_text (written_statement names s)) (stmt_tokens (written_statement names s))
   stmt_reads names forms t.Skip k h = form_reads (codes "skip") [] [] (keyword_is_word keyword.Skip) none_follows
   stmt_reads names forms (t.Set x e) k h = set_reads (name_at names.variables x.0) (written_expression names e) (named names.variables x.0 forms.variables k.0) (expr_reads names forms e k.1 h)
-  stmt_reads names forms (t.Put tb a b) k h = absurd k
+  stmt_reads names forms (t.Put tb a b) k h =
+      put_reads (name_of names tb) (written_expression names a) (written_expression names b) (table_reads names forms tb k.0) (expr_reads names forms a k.1 h.0) (expr_reads names forms b k.2 h.1)
   stmt_reads names forms (t.Seq parts) k h =
       form_reads (codes "seq") (stmts_text (written_statements names parts)) (stmts_tokens (written_statements names parts)) (keyword_is_word keyword.Seq) (stmts_follow names forms parts k h)
   stmt_reads names forms (t.If c a b) k h =
@@ -224,13 +263,13 @@ heading_lines One = none_lines
 heading_lines Two = subst (λ (digits : List ℕ). Lines (form_text (codes "stm") (spaced digits) ++ codes "\n") (f.form (codes "stm") (token.Int (pos 2) ∷ []))) two_printed (number_line (pos 2) (omega arith))
 heading_lines Three = subst (λ (digits : List ℕ). Lines (form_text (codes "stm") (spaced digits) ++ codes "\n") (f.form (codes "stm") (token.Int (pos 3) ∷ []))) three_printed (number_line (pos 3) (omega arith))
 
-pub always_lines : (ns : List (List ℕ)) → list_all is_name ns ≡ true → (a : List ℕ × Condition) → is_name a.0 ≡ true → ConditionNamed (standing ns) a.1 → AlwaysFits (written_always ns a) → Lines (always_line (written_always ns a)) (always_tokens (written_always ns a))
-always_lines ns forms a name k h =
-    let c = written_condition (standing ns) a.1 in
-    line_of (form_text (codes "always") (spaced a.0 ++ spaced (cond_text c))) (always_tokens (written_always ns a))
+pub always_lines : (names : Scope) → AreNames names → (a : List ℕ × Condition) → is_name a.0 ≡ true → ConditionNamed names a.1 → AlwaysFits (written_always names a) → Lines (always_line (written_always names a)) (always_tokens (written_always names a))
+always_lines names forms a name k h =
+    let c = written_condition names a.1 in
+    line_of (form_text (codes "always") (spaced a.0 ++ spaced (cond_text c))) (always_tokens (written_always names a))
     (form_reads (codes "always") (spaced a.0 ++ spaced (cond_text c)) (token.Name a.0 ∷ cond_tokens c) always_is_word
     (two a.0 (cond_text c) (token.Name a.0 ∷ []) (cond_tokens c) (word_reads a.0 (token.Name a.0) (name_word a.0 name))
-    (cond_reads (standing ns) (record { variables = forms; parameters = refl }) a.1 k h)))
+    (cond_reads names forms a.1 k h)))
 
 one_name : (name : List ℕ) → is_name name ≡ true → Follows (spaced name) (token.Name name ∷ [])
 one_name name h = spaced_follows name (token.Name name ∷ []) (word_reads name (token.Name name) (name_word name h))
@@ -250,17 +289,17 @@ list_follows Three (name ∷ names) h =
     let parts = and_parts (is_name name) (list_all is_name names) h in
     spaced_follows (form_text name (flat_map spaced names)) (f.form name (map token.Name names)) (form_reads name (flat_map spaced names) (map token.Name names) (name_word name parts.0) (names_follow names parts.1))
 
-pub tx_lines : (announced : FileForm) (ns : List (List ℕ)) → list_all is_name ns ≡ true → (t : Transaction) → is_name t.name ≡ true → list_all is_name t.parameters ≡ true
-    → StatementNamed (inside ns t.parameters) t.body → ExpressionNamed (inside ns t.parameters) t.result
-    → DeclarationFits (written_transaction ns t) → Lines (tx_line announced (written_transaction ns t)) (tx_tokens announced (written_transaction ns t))
-tx_lines announced ns forms p name named known valued h =
-    let names = inside ns p.parameters in
-    let all : AreNames names = record { variables = forms; parameters = named } in
+pub tx_lines : (announced : FileForm) (s : Scope) → AreNames s → (t : Transaction) → is_name t.name ≡ true → list_all is_name t.parameters ≡ true
+    → StatementNamed (inside s t.parameters) t.body → ExpressionNamed (inside s t.parameters) t.result
+    → DeclarationFits (written_transaction s t) → Lines (tx_line announced (written_transaction s t)) (tx_tokens announced (written_transaction s t))
+tx_lines announced s forms p name named known valued h =
+    let names = inside s p.parameters in
+    let all : AreNames names = record { variables = forms.variables; tables = forms.tables; spans = forms.spans; parameters = named } in
     let body = written_statement names p.body in
     let value = written_expression names p.result in
     let list = list_text announced p.parameters in
     let listed = list_tokens announced p.parameters in
-    line_of (form_text (codes "tx") (spaced p.name ++ (list ++ (spaced (stmt_text body) ++ spaced (expr_text value))))) (tx_tokens announced (written_transaction ns p))
+    line_of (form_text (codes "tx") (spaced p.name ++ (list ++ (spaced (stmt_text body) ++ spaced (expr_text value))))) (tx_tokens announced (written_transaction s p))
     (form_reads (codes "tx") (spaced p.name ++ (list ++ (spaced (stmt_text body) ++ spaced (expr_text value)))) (token.Name p.name ∷ (listed ++ (stmt_tokens body ++ expr_tokens value))) tx_is_word
     (both_follow (spaced p.name) (list ++ (spaced (stmt_text body) ++ spaced (expr_text value))) (token.Name p.name ∷ []) (listed ++ (stmt_tokens body ++ expr_tokens value)) (one_name p.name name)
     (both_follow list (spaced (stmt_text body) ++ spaced (expr_text value)) listed (stmt_tokens body ++ expr_tokens value) (list_follows announced p.parameters named)
@@ -281,3 +320,12 @@ run_lines r name h =
     (form_reads (codes "run") (spaced r.name ++ behind) (token.Name r.name ∷ token.Int r.count ∷ map token.Int r.arguments) run_is_word
     (both_follow (spaced r.name) behind (token.Name r.name ∷ []) (token.Int r.count ∷ map token.Int r.arguments) (one_name r.name name)
     (both_follow (spaced_integer r.count) (flat_map spaced_integer r.arguments) (token.Int r.count ∷ []) (map token.Int r.arguments) (one_integer r.count h.0) (integers_follow r.arguments h.1))))
+
+pub table_lines : (t : Table) → is_name t.name ≡ true → TableFits t → Lines (table_line t) (table_tokens t)
+table_lines t name h =
+    let numbers = numbers_told t in
+    let behind = spaced_integer t.count ++ flat_map spaced_integer numbers in
+    line_of (form_text (codes "table") (spaced t.name ++ behind)) (table_tokens t)
+    (form_reads (codes "table") (spaced t.name ++ behind) (token.Name t.name ∷ token.Int t.count ∷ map token.Int numbers) table_is_word
+    (both_follow (spaced t.name) behind (token.Name t.name ∷ []) (token.Int t.count ∷ map token.Int numbers) (one_name t.name name)
+    (both_follow (spaced_integer t.count) (flat_map spaced_integer numbers) (token.Int t.count ∷ []) (map token.Int numbers) (one_integer t.count h.0) (integers_follow numbers h.1))))

@@ -1,5 +1,5 @@
 -- Variables and their initial values, side by side.
-use Rattle.std.proofs.Common.{◌≡◌, ℕ, zero, suc, ◌<◌, ℤ, List, [], ◌∷◌, length, get_or, Some, refl, ap, arith}
+use Rattle.std.proofs.Common.{◌≡◌, ℕ, zero, suc, ◌<◌, ◌≤◌, ℤ, List, [], ◌∷◌, length, get_or, Some, refl, ap, arith}
 use Rattle.std.specs.List.{slice_get}
 use Rattle.std.proofs.lemmas.Option.{same_Some}
 use Rattle.text_grammar.specs.Tree.{Pair}
@@ -14,8 +14,8 @@ vars_at (n ∷ names) (v ∷ values) zero name d lt e =
     ap (λ m. Some (pair m)) (same_Some _ _ e)
 vars_at (n ∷ names) (v ∷ values) (suc i) name d lt e = vars_at names values i name d (omega arith) e
 
-pub length-vars : (names : List (List ℕ)) (values : List ℤ) → length names ≡ length values → length (written_vars names values) ≡ length values
-length-vars [] [] e = refl
-length-vars [] (v ∷ values) e = absurd (omega arith)
-length-vars (n ∷ names) [] e = refl
-length-vars (n ∷ names) (v ∷ values) e = ap suc (length-vars names values (omega arith))
+-- as many as there are names
+pub length-vars : (names : List (List ℕ)) (values : List ℤ) → length names ≤ length values → length (written_vars names values) ≡ length names
+length-vars [] values few = refl
+length-vars (n ∷ names) [] few = absurd (omega arith)
+length-vars (n ∷ names) (v ∷ values) few = ap suc (length-vars names values (omega arith))

@@ -3,7 +3,7 @@ use Rattle.std.specs.Prelude.{ℕ, ℤ, List, [], ◌∷◌, ◌++◌, codes}
 use Rattle.std.specs.Fmt.{signed_decimal}
 use Rattle.std.specs.List.{flat_map}
 use Rattle.txn_programs.specs.Listing.{Listing}
-use Rattle.text_grammar.specs.Tree.{Expr, Int, Name, Binary, Cond, Compare, Not, Connect, Stmt, Skip, Set, Seq, If, Repeat, Retry, OrElse, Throw, Stmts, NoStmts, MoreStmts, Pair, Always, Declaration, Run, File, operator_word, comparison_word, connective_word, keyword_word}
+use Rattle.text_grammar.specs.Tree.{Expr, Int, Name, At, OfAll, Binary, Cond, Compare, Not, Connect, Stmt, Skip, Set, Put, Seq, If, Repeat, Retry, OrElse, Throw, Stmts, NoStmts, MoreStmts, Pair, Table, Always, Declaration, Run, File, operator_word, fold_word, comparison_word, connective_word, keyword_word}
 use Rattle.text_grammar.specs.declared.words.Keyword.TheVariants as keyword
 use Rattle.text_grammar.specs.declared.file.FileForm.{FileForm}
 use Rattle.text_grammar.specs.declared.file.FileForm.TheVariants.{One, Two, Three}
@@ -20,6 +20,8 @@ spaced part = codes " " ++ part
 abbrev pub expr_text : Expr → List ℕ
 expr_text (Int value) = signed_decimal value
 expr_text (Name name) = name
+expr_text (At table index) = form_text (codes "at") (spaced table ++ spaced (expr_text index))
+expr_text (OfAll fold table) = form_text (fold_word fold) (spaced table)
 expr_text (Binary op left right) = form_text (operator_word op) (spaced (expr_text left) ++ spaced (expr_text right))
 
 abbrev pub cond_text : Cond → List ℕ
@@ -31,6 +33,7 @@ abbrev mutual
   pub stmt_text : Stmt → List ℕ
   stmt_text Skip = form_text (keyword_word keyword.Skip) []
   stmt_text (Set name value) = form_text (keyword_word keyword.Set) (spaced name ++ spaced (expr_text value))
+  stmt_text (Put table index value) = form_text (keyword_word keyword.Put) (spaced table ++ (spaced (expr_text index) ++ spaced (expr_text value)))
   stmt_text (Seq parts) = form_text (keyword_word keyword.Seq) (stmts_text parts)
   stmt_text (If test first second) = form_text (keyword_word keyword.If) (spaced (cond_text test) ++ (spaced (stmt_text first) ++ spaced (stmt_text second)))
   stmt_text (Repeat count body) = form_text (keyword_word keyword.Repeat) (spaced (signed_decimal count) ++ spaced (stmt_text body))
@@ -46,6 +49,18 @@ abbrev mutual
 -- a variable on a line
 abbrev pub pair_line : List ℕ → Pair → List ℕ
 pair_line word p = form_text word (spaced p.name ++ spaced (signed_decimal p.value)) ++ codes "\n"
+
+-- an integer behind a space
+abbrev pub spaced_integer : ℤ → List ℕ
+spaced_integer value = spaced (signed_decimal value)
+
+-- the numbers that are told of a table's cells
+abbrev pub numbers_told : Table → List ℤ
+numbers_told t = t.first ∷ t.others
+
+-- a table on a line
+abbrev pub table_line : Table → List ℕ
+table_line t = form_text (codes "table") (spaced t.name ++ (spaced_integer t.count ++ flat_map spaced_integer (numbers_told t))) ++ codes "\n"
 
 -- a condition that has to stand, on a line
 abbrev pub always_line : Always → List ℕ
@@ -67,10 +82,6 @@ abbrev pub tx_line : FileForm → Declaration → List ℕ
 tx_line announced t =
     form_text (codes "tx") (spaced t.name ++ (list_text announced t.parameters ++ (spaced (stmt_text t.body) ++ spaced (expr_text t.value)))) ++ codes "\n"
 
--- an integer behind a space
-abbrev pub spaced_integer : ℤ → List ℕ
-spaced_integer value = spaced (signed_decimal value)
-
 -- a run, on a line
 abbrev pub run_line : Run → List ℕ
 run_line r = form_text (codes "run") (spaced r.name ++ (spaced_integer r.count ++ flat_map spaced_integer r.arguments)) ++ codes "\n"
@@ -81,11 +92,11 @@ heading_text One = []
 heading_text Two = codes "(stm 2)\n"
 heading_text Three = codes "(stm 3)\n"
 
--- the form, then the variables, then the conditions, then the transactions, then the runs
+-- the form, then the variables, then the tables, then the conditions, then the transactions, then the runs
 abbrev pub text_of : File → List ℕ
 text_of f =
-    heading_text f.form ++ (flat_map (pair_line (codes "var")) f.vars ++ (flat_map always_line f.always
-    ++ (flat_map (tx_line f.form) f.txs ++ flat_map run_line f.runs)))
+    heading_text f.form ++ (flat_map (pair_line (codes "var")) f.vars ++ (flat_map table_line f.tables
+    ++ (flat_map always_line f.always ++ (flat_map (tx_line f.form) f.txs ++ flat_map run_line f.runs))))
 
 abbrev pub file_text : Listing → List ℕ
 file_text l = text_of (written l)

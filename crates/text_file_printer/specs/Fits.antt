@@ -2,11 +2,14 @@
 use Rattle.std.specs.Prelude.{FitsSigned}
 use Rattle.std.specs.Int.{w64}
 use Rattle.std.specs.List.{AllByRecursion}
-use Rattle.text_grammar.specs.Tree.{Expr, Int, Name, Binary, Cond, Compare, Not, Connect, Stmt, Skip, Set, Seq, If, Repeat, Retry, OrElse, Throw, Stmts, NoStmts, MoreStmts, Pair, Always, Declaration, Run, File}
+use Rattle.text_grammar.specs.Tree.{Expr, Int, Name, At, OfAll, Binary, Cond, Compare, Not, Connect, Stmt, Skip, Set, Put, Seq, If, Repeat, Retry, OrElse, Throw, Stmts, NoStmts, MoreStmts, Pair, Table, Always, Declaration, Run, File}
+use Rattle.text_file_printer.specs.Canonical.{numbers_told}
 
 abbrev pub ExprFits : Expr → Type 0
 ExprFits (Int value) = FitsSigned w64 value
 ExprFits (Name name) = Unit {0}
+ExprFits (At table index) = ExprFits index
+ExprFits (OfAll fold table) = Unit {0}
 ExprFits (Binary op left right) = ExprFits left × ExprFits right
 
 abbrev pub CondFits : Cond → Type 0
@@ -18,6 +21,7 @@ abbrev mutual
   pub StmtFits : Stmt → Type 0
   StmtFits Skip = Unit {0}
   StmtFits (Set name value) = ExprFits value
+  StmtFits (Put table index value) = ExprFits index × ExprFits value
   StmtFits (Seq parts) = StmtsFit parts
   StmtFits (If test first second) = CondFits test × StmtFits first × StmtFits second
   StmtFits (Repeat count body) = FitsSigned w64 count × StmtFits body
@@ -32,6 +36,9 @@ abbrev mutual
 abbrev pub PairFits : Pair → Type 0
 PairFits p = FitsSigned w64 p.value
 
+abbrev pub TableFits : Table → Type 0
+TableFits t = FitsSigned w64 t.count × AllByRecursion (FitsSigned w64) (numbers_told t)
+
 abbrev pub AlwaysFits : Always → Type 0
 AlwaysFits a = CondFits a.condition
 
@@ -43,6 +50,7 @@ RunFits r = FitsSigned w64 r.count × AllByRecursion (FitsSigned w64) r.argument
 
 pub record FileFits (f : File) : Type 0 where
   pub vars : AllByRecursion PairFits f.vars
+  pub tables : AllByRecursion TableFits f.tables
   pub always : AllByRecursion AlwaysFits f.always
   pub txs : AllByRecursion DeclarationFits f.txs
   pub runs : AllByRecursion RunFits f.runs

@@ -1,20 +1,23 @@
 //! The canonical text of a catalogue.
 
-ghost use Rattle.std.specs.Prelude.{◌≡◌, ◌<◌, ◌≤◌, ◌++◌, FitsSigned, IfOk, OnOk, codes, length, map, pos, string_bytes};
+ghost use Rattle.std.specs.Prelude.{◌≡◌, ◌<◌, ◌≤◌, ◌++◌, FitsSigned, IfOk, List, OnOk, codes, drop, length, map, pos};
+ghost use Rattle.std.specs.Prelude.{string_bytes, ℕ};
 ghost use Rattle.std.specs.Int.{w64};
-ghost use Rattle.std.specs.List.{AllByRecursion, flat_map};
+ghost use Rattle.std.specs.List.{AllByRecursion, flat_map, list_all};
+ghost use Rattle.std.specs.Ordering.{int_eq};
 ghost use Rattle.txn_programs.specs.Tree.{condition_of, transaction_of};
 ghost use Rattle.txn_declarations.specs.Conditions.{standing_of};
-ghost use Rattle.text_grammar.specs.Scope.{standing, inside};
+ghost use Rattle.text_grammar.specs.Scope.{inside};
 ghost use Rattle.text_grammar.specs.Written.{form_for, written_vars, written_always, written_transaction, written_run};
-ghost use Rattle.text_grammar.specs.Written.{written_in, written};
+ghost use Rattle.text_grammar.specs.Written.{scope_of, written_in, written_table, written_tables, written};
 ghost use Rattle.text_grammar.specs.Spelling.{Spells};
-ghost use Rattle.text_grammar.specs.Tree.{file_tokens};
-ghost use Rattle.text_file_printer.specs.Canonical.{spaced, heading_text, pair_line, always_line, names_text};
-ghost use Rattle.text_file_printer.specs.Canonical.{list_text, tx_line, spaced_integer, run_line, file_text};
+ghost use Rattle.text_grammar.specs.Tree.{file_tokens, longest};
+ghost use Rattle.text_file_printer.specs.Canonical.{spaced, heading_text, pair_line, numbers_told, table_line};
+ghost use Rattle.text_file_printer.specs.Canonical.{always_line, names_text, list_text, tx_line, spaced_integer};
+ghost use Rattle.text_file_printer.specs.Canonical.{run_line, file_text};
 ghost use Rattle.text_file_printer.specs.Layout.{laid_out};
 ghost use Rattle.text_file_printer.specs.Named.{ExpressionNamed, ConditionNamed, StatementNamed};
-ghost use Rattle.text_file_printer.specs.Fits.{PairFits, AlwaysFits, DeclarationFits, RunFits, FileFits};
+ghost use Rattle.text_file_printer.specs.Fits.{PairFits, TableFits, AlwaysFits, DeclarationFits, RunFits, FileFits};
 
 use crate::forms::{Scope, put_last_condition, put_last_expression, put_part};
 use std::alloc::{AllocError, Global};
@@ -22,16 +25,18 @@ use std::fmt::Write;
 use text_grammar::file::FileForm;
 use txn::{Call, Catalogue, Cond, Memory, Tx, TxId, VarId};
 
-/// The canonical text of a catalogue: one form a line, each line ended by a newline, the
-/// variables first, then the standing conditions, then the transactions, then the runs. Where a transaction
-/// has parameters, the line `(stm 3)` stands before all others and each transaction has its list of
-/// parameters, else where there are conditions, the line `(stm 2)`. One space stands between two tokens,
-/// none after `(` and none before `)`. `Err` means that memory was refused.
+/// The canonical text of a catalogue: one form a line, each line ended by a newline, the variables first, then the
+/// tables, then the standing conditions, then the transactions, then the runs. Where there is a table or a transaction
+/// has parameters, the line `(stm 3)` stands before all others and each transaction has its list of parameters, else
+/// where there are conditions, the line `(stm 2)`. A table has one number where all its cells begin at the same, else
+/// one for each cell. One space stands between two tokens, none after `(` and none before `)`. `Err` means that memory
+/// was refused.
 pub fn print_file(alloc: Global, catalogue: &Catalogue) -> Result<String, Memory>
     ensures text { IfOk result (λ s. string_bytes s ≡ file_text catalogue.now) }
     // The same, said of the tokens alone.
     ensures layout { IfOk result (λ s. string_bytes s ≡ laid_out (file_tokens (written catalogue.now))) }
-    ensures again { IfOk result (λ s. length (string_bytes s) ≤ 1048576 → Spells (string_bytes s) catalogue.now) }
+    ensures again { IfOk result
+        (λ s. length (string_bytes s) ≤ longest (string_bytes s) → Spells (string_bytes s) catalogue.now) }
 {
     catalogue.rules();
     let mut out = String::new(alloc);
@@ -47,16 +52,18 @@ fn put_file(out: &mut String, catalogue: &Catalogue) -> Result<(), AllocError>
     let form = form_of(catalogue);
     put_heading(out, form)?;
     put_vars(out, catalogue)?;
+    put_tables(out, catalogue)?;
     put_conditions(out, catalogue)?;
     put_txs(out, catalogue, form)?;
     put_runs(out, catalogue)
 }
 
-/// The first form that has room for the conditions and the parameters.
+/// The first form that has room for the tables, the conditions and the parameters.
 fn form_of(catalogue: &Catalogue) -> FileForm
     ensures { result ≡ form_for catalogue.now }
 {
-    if catalogue.most_parameters() > 0 {
+    let (tables, parameters) = (catalogue.tables().len(), catalogue.most_parameters());
+    if tables > 0 || parameters > 0 {
         FileForm::Three
     } else if catalogue.always().is_empty() {
         FileForm::One
@@ -92,8 +99,60 @@ fn put_vars(out: &mut String, catalogue: &Catalogue) -> Result<(), AllocError>
     ensures fits { OnOk result (AllByRecursion PairFits (written_vars catalogue.now.names catalogue.now.initial)) }
 {
     catalogue.rules();
-    'vars: for (i, value) in catalogue.initial().iter().enumerate() {
-        put_var(out, catalogue.var_name(VarId(i as u32)), value)?;
+    let values = catalogue.initial();
+    'vars: for i in 0..catalogue.var_count() {
+        put_var(out, catalogue.var_name(VarId(i as u32)), &values[i])?;
+    }
+    Ok(())
+}
+
+/// Whether each of the numbers is this one.
+fn are_all(numbers: &[i64], n: &i64) -> bool
+    ensures { result ≡ list_all (int_eq n.now) numbers.now }
+{
+    numbers.iter().all(|m| *n == *m)
+}
+
+/// The numbers that are written of a table whose cells begin at these values: the first alone where all are the same.
+fn told(values: &[i64]) -> &[i64]
+    requires { 0 < length values.now }
+    ensures { (t : List ℕ × ℕ) → result.now ≡ numbers_told (written_table t values.now) }
+{
+    let (first, others) = values.split_at(1);
+    if are_all(others, &first[0]) {
+        first
+    } else {
+        values
+    }
+}
+
+/// A table whose cells begin at these values.
+fn put_table(out: &mut String, name: &str, count: u32, values: &[i64]) -> Result<(), AllocError>
+    requires { 0 < length values.now }
+    ensures text { OnOk result (string_bytes out.new
+        ≡ string_bytes out.old ++ table_line (written_table (name.now, count) values.now)) }
+    ensures fits { OnOk result (TableFits (written_table (name.now, count) values.now)) }
+{
+    put_counted(out, "table", name, count)?;
+    put_integers(out, told(values))?;
+    out.push_str(")\n")
+}
+
+/// The tables, each with its part of the values behind those of the variables.
+fn put_tables(out: &mut String, catalogue: &Catalogue) -> Result<(), AllocError>
+    ensures text { OnOk result (string_bytes out.new
+        ≡ string_bytes out.old
+        ++ flat_map table_line (written_tables catalogue.now.tables
+        (drop (length catalogue.now.names) catalogue.now.initial))) }
+    ensures fits { OnOk result (AllByRecursion TableFits (written_tables catalogue.now.tables
+        (drop (length catalogue.now.names) catalogue.now.initial))) }
+{
+    catalogue.rules();
+    let (_, mut rest) = catalogue.initial().split_at(catalogue.var_count());
+    'tables: for (name, count) in catalogue.tables() {
+        let (values, more) = rest.split_at(*count as usize);
+        put_table(out, name.as_str(), *count, values)?;
+        rest = more;
     }
     Ok(())
 }
@@ -103,10 +162,10 @@ fn put_condition(
     catalogue: &Catalogue,
     condition: &(String, Cond),
 ) -> Result<(), AllocError>
-    requires { ConditionNamed (standing catalogue.now.names) (condition_of condition.now.1) }
+    requires { ConditionNamed (scope_of catalogue.now) (condition_of condition.now.1) }
     ensures text { OnOk result (string_bytes out.new
-        ≡ string_bytes out.old ++ always_line (written_always catalogue.now.names (standing_of condition.now))) }
-    ensures fits { OnOk result (AlwaysFits (written_always catalogue.now.names (standing_of condition.now))) }
+        ≡ string_bytes out.old ++ always_line (written_always (scope_of catalogue.now) (standing_of condition.now))) }
+    ensures fits { OnOk result (AlwaysFits (written_always (scope_of catalogue.now) (standing_of condition.now))) }
 {
     let (name, condition) = condition;
     let scope = Scope {
@@ -122,9 +181,9 @@ fn put_condition(
 fn put_conditions(out: &mut String, catalogue: &Catalogue) -> Result<(), AllocError>
     ensures text { OnOk result (string_bytes out.new
         ≡ string_bytes out.old
-        ++ flat_map always_line (map (written_always catalogue.now.names) catalogue.now.always)) }
+        ++ flat_map always_line (map (written_always (scope_of catalogue.now)) catalogue.now.always)) }
     ensures fits { OnOk result
-        (AllByRecursion AlwaysFits (map (written_always catalogue.now.names) catalogue.now.always)) }
+        (AllByRecursion AlwaysFits (map (written_always (scope_of catalogue.now)) catalogue.now.always)) }
 {
     catalogue.rules();
     'conditions: for condition in catalogue.always() {
@@ -178,13 +237,14 @@ fn put_tx(
     form: FileForm,
     tx: &Tx,
 ) -> Result<(), AllocError>
-    requires body { StatementNamed (inside catalogue.now.names (transaction_of tx.now).parameters)
+    requires body { StatementNamed (inside (scope_of catalogue.now) (transaction_of tx.now).parameters)
         (transaction_of tx.now).body }
-    requires value { ExpressionNamed (inside catalogue.now.names (transaction_of tx.now).parameters)
+    requires value { ExpressionNamed (inside (scope_of catalogue.now) (transaction_of tx.now).parameters)
         (transaction_of tx.now).result }
     ensures text { OnOk result (string_bytes out.new
-        ≡ string_bytes out.old ++ tx_line form (written_transaction catalogue.now.names (transaction_of tx.now))) }
-    ensures fits { OnOk result (DeclarationFits (written_transaction catalogue.now.names (transaction_of tx.now))) }
+        ≡ string_bytes out.old ++ tx_line form (written_transaction (scope_of catalogue.now) (transaction_of tx.now))) }
+    ensures fits { OnOk result
+        (DeclarationFits (written_transaction (scope_of catalogue.now) (transaction_of tx.now))) }
 {
     let params = tx.params.as_slice();
     let scope = Scope { catalogue, params };
@@ -199,9 +259,9 @@ fn put_tx(
 fn put_txs(out: &mut String, catalogue: &Catalogue, form: FileForm) -> Result<(), AllocError>
     ensures text { OnOk result (string_bytes out.new
         ≡ string_bytes out.old
-        ++ flat_map (tx_line form) (map (written_transaction catalogue.now.names) catalogue.now.transactions)) }
-    ensures fits { OnOk result
-        (AllByRecursion DeclarationFits (map (written_transaction catalogue.now.names) catalogue.now.transactions)) }
+        ++ flat_map (tx_line form) (map (written_transaction (scope_of catalogue.now)) catalogue.now.transactions)) }
+    ensures fits { OnOk result (AllByRecursion DeclarationFits
+        (map (written_transaction (scope_of catalogue.now)) catalogue.now.transactions)) }
 {
     catalogue.rules();
     'txs: for i in 0..catalogue.tx_count() {
@@ -229,13 +289,13 @@ fn put_integers(out: &mut String, numbers: &[i64]) -> Result<(), AllocError>
     Ok(())
 }
 
-/// The beginning of a run, to its count.
-fn put_task_count(out: &mut String, name: &str, count: u32) -> Result<(), AllocError>
+/// The beginning of a table or of a run: a parenthesis, the word, the name and the count.
+fn put_counted(out: &mut String, word: &str, name: &str, count: u32) -> Result<(), AllocError>
     ensures text { OnOk result (string_bytes out.new
-        ≡ string_bytes out.old ++ (codes "(run " ++ (name.now ++ spaced_integer (pos count)))) }
+        ≡ string_bytes out.old ++ (codes "(" ++ (word.now ++ (spaced name.now ++ spaced_integer (pos count))))) }
     ensures fits { FitsSigned w64 (pos count) }
 {
-    write!(out, "(run {name} {count}")
+    write!(out, "({word} {name} {count}")
 }
 
 fn put_run(out: &mut String, catalogue: &Catalogue, run: &(Call, u32)) -> Result<(), AllocError>
@@ -245,7 +305,7 @@ fn put_run(out: &mut String, catalogue: &Catalogue, run: &(Call, u32)) -> Result
     ensures fits { OnOk result (RunFits (written_run catalogue.now.transactions run.now)) }
 {
     let (call, count) = run;
-    put_task_count(out, catalogue.tx_name(call.tx), *count)?;
+    put_counted(out, "run", catalogue.tx_name(call.tx), *count)?;
     put_integers(out, call.arguments.as_slice())?;
     out.push_str(")\n")
 }

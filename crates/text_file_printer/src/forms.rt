@@ -4,8 +4,8 @@ ghost use Rattle.std.specs.Prelude.{◌≡◌, ◌<◌, ◌++◌, FitsSigned, On
 ghost use Rattle.std.specs.Fmt.{decimal, signed_decimal};
 ghost use Rattle.std.specs.Int.{w64};
 ghost use Rattle.txn_programs.specs.Tree.{expression_of, condition_of, statement_of, statements_of_list};
-ghost use Rattle.text_grammar.specs.Written.{name_at, written_expression, written_condition, written_statement};
-ghost use Rattle.text_grammar.specs.Written.{written_statements};
+ghost use Rattle.text_grammar.specs.Written.{name_at, name_of, scope_of, written_expression, written_condition};
+ghost use Rattle.text_grammar.specs.Written.{written_statement, written_statements};
 ghost use Rattle.text_file_printer.specs.Canonical.{form_text, spaced, expr_text, cond_text, stmt_text, stmts_text};
 ghost use Rattle.text_grammar.specs.Tree.{Seq};
 ghost use Rattle.text_file_printer.specs.Named.{ExpressionNamed, ConditionNamed, StatementNamed, StatementsNamed};
@@ -14,9 +14,9 @@ ghost use Rattle.text_file_printer.specs.Fits.{ExprFits, CondFits, StmtFits, Stm
 
 use std::alloc::AllocError;
 use std::fmt::Write;
-use txn::{Catalogue, Cond, Expr, ParamId, Stmt, VarId};
+use txn::{Catalogue, Cond, Expr, ParamId, Span, Stmt, VarId};
 
-/// The names that are written: those of the catalogue's variables, and those of a transaction's parameters.
+/// The names that are written: those of the catalogue's variables and tables, and those of a transaction's parameters.
 #[derive(Clone, Copy)]
 pub(crate) struct Scope<'a> {
     pub(crate) catalogue: &'a Catalogue,
@@ -61,6 +61,31 @@ fn put_param(out: &mut String, scope: &Scope<'_>, p: ParamId) -> Result<(), Allo
     out.push_str(scope.params[p.0 as usize].as_str())
 }
 
+/// The name of the table with these cells, found among the few that there are.
+fn table_name<'a>(catalogue: &'a Catalogue, table: Span) -> &'a str
+    ensures { result.now ≡ name_of (scope_of catalogue.now) table }
+{
+    catalogue.rules();
+    let mut first = catalogue.var_count() as u32;
+    'tables: for (name, count) in catalogue.tables() {
+        if table.first == first && table.length == *count {
+            return name.as_str();
+        }
+        first += *count;
+    }
+    ""
+}
+
+/// All cells of a table, behind a word.
+fn put_fold(out: &mut String, scope: &Scope<'_>, word: &str, table: Span) -> Result<(), AllocError>
+    ensures { OnOk result (string_bytes out.new
+        ≡ string_bytes out.old ++ form_text word.now (spaced (name_of (view_scope scope.now) table))) }
+{
+    put_opening(out, word)?;
+    out.push_str(table_name(scope.catalogue, table))?;
+    out.push_str(")")
+}
+
 #[cycle(exprs)]
 fn put_expr(out: &mut String, scope: &Scope<'_>, e: &Expr) -> Result<(), AllocError>
     requires { ExpressionNamed (view_scope scope.now) (expression_of e.now) }
@@ -72,14 +97,36 @@ fn put_expr(out: &mut String, scope: &Scope<'_>, e: &Expr) -> Result<(), AllocEr
         Expr::Int(n) => put_int(out, *n),
         Expr::Var(x) => put_name(out, scope, *x),
         Expr::Param(p) => put_param(out, scope, *p),
-        // No catalogue has a table.
-        Expr::At(_, _) | Expr::Sum(_) | Expr::Min(_) | Expr::Max(_) => unreachable!(),
+        Expr::At(table, index) => put_cell(out, scope, *table, index),
+        Expr::Sum(table) => put_fold(out, scope, "sum", *table),
+        Expr::Min(table) => put_fold(out, scope, "min", *table),
+        Expr::Max(table) => put_fold(out, scope, "max", *table),
         Expr::Add(a, b) => put_operation(out, scope, "add", a, b),
         Expr::Sub(a, b) => put_operation(out, scope, "sub", a, b),
         Expr::Mul(a, b) => put_operation(out, scope, "mul", a, b),
         Expr::Div(a, b) => put_operation(out, scope, "div", a, b),
         Expr::Rem(a, b) => put_operation(out, scope, "rem", a, b),
     }
+}
+
+/// A cell of a table, by its number.
+#[cycle(exprs)]
+fn put_cell(
+    out: &mut String,
+    scope: &Scope<'_>,
+    table: Span,
+    index: &Expr,
+) -> Result<(), AllocError>
+    requires { ExpressionNamed (view_scope scope.now) (expression_of index.now) }
+    ensures text { OnOk result (string_bytes out.new
+        ≡ string_bytes out.old
+        ++ form_text (codes "at") (spaced (name_of (view_scope scope.now) table)
+        ++ spaced (expr_text (written_expression (view_scope scope.now) (expression_of index.now))))) }
+    ensures fits { OnOk result (ExprFits (written_expression (view_scope scope.now) (expression_of index.now))) }
+{
+    out.push_str("(at ")?;
+    out.push_str(table_name(scope.catalogue, table))?;
+    put_last_expression(out, scope, index)
 }
 
 /// A parenthesis, a word, and an expression as the first part.
@@ -234,6 +281,31 @@ fn put_set(out: &mut String, scope: &Scope<'_>, x: VarId, e: &Expr) -> Result<()
     put_last_expression(out, scope, e)
 }
 
+/// A cell of a table becomes a number.
+fn put_put(
+    out: &mut String,
+    scope: &Scope<'_>,
+    table: Span,
+    index: &Expr,
+    value: &Expr,
+) -> Result<(), AllocError>
+    requires index { ExpressionNamed (view_scope scope.now) (expression_of index.now) }
+    requires value { ExpressionNamed (view_scope scope.now) (expression_of value.now) }
+    ensures text { OnOk result (string_bytes out.new
+        ≡ string_bytes out.old
+        ++ form_text (codes "put") (spaced (name_of (view_scope scope.now) table)
+        ++ (spaced (expr_text (written_expression (view_scope scope.now) (expression_of index.now)))
+        ++ spaced (expr_text (written_expression (view_scope scope.now) (expression_of value.now)))))) }
+    ensures index_fits { OnOk result (ExprFits (written_expression (view_scope scope.now) (expression_of index.now))) }
+    ensures value_fits { OnOk result (ExprFits (written_expression (view_scope scope.now) (expression_of value.now))) }
+{
+    out.push_str("(put ")?;
+    out.push_str(table_name(scope.catalogue, table))?;
+    out.push_str(" ")?;
+    put_expr(out, scope, index)?;
+    put_last_expression(out, scope, value)
+}
+
 #[cycle(put_stmt)]
 fn put_stmt(out: &mut String, scope: &Scope<'_>, s: &Stmt) -> Result<(), AllocError>
     requires { StatementNamed (view_scope scope.now) (statement_of s.now) }
@@ -244,8 +316,7 @@ fn put_stmt(out: &mut String, scope: &Scope<'_>, s: &Stmt) -> Result<(), AllocEr
     match s {
         Stmt::Skip => out.push_str("(skip)"),
         Stmt::Set(x, e) => put_set(out, scope, *x, e),
-        // No catalogue has a table.
-        Stmt::Put(_, _, _) => unreachable!(),
+        Stmt::Put(table, index, value) => put_put(out, scope, *table, index, value),
         Stmt::Seq(parts) => put_seq(out, scope, parts.as_slice()),
         Stmt::If(c, a, b) => {
             put_first_condition(out, scope, "if", c)?;

@@ -5,6 +5,7 @@ use Rattle.std.specs.List.{list_all}
 use Rattle.std.proofs.lemmas.List.{map_push}
 use Rattle.txn_programs.specs.declared.arguments.Call.{Call}
 use Rattle.txn_programs.specs.Tree.{Condition, Transaction}
+use Rattle.txn_programs.specs.declared.ast.Span.{Span}
 use Rattle.txn_programs.specs.Listing.{Listing}
 use Rattle.text_words.specs.Tokens.{Lexeme}
 use Rattle.text_words.specs.TokenReading.{Read, begins, all_of}
@@ -13,12 +14,13 @@ use Rattle.text_words.specs.declared.fault.ReadFault.{ReadFault}
 use Rattle.text_words.proofs.Steps.{bind_ok, ok_is, done}
 use Rattle.text_words.proofs.Many.{Shortens, with_front, goes_on, is_done}
 use Rattle.text_grammar.specs.declared.file.FileForm.{FileForm}
-use Rattle.text_grammar.specs.Tree.{Pair, Always, Declaration, Run, File}
-use Rattle.text_grammar.specs.Reading.{pair_at, conditions_at, tx_at, run_at, heading_at, end_at, file_of, tree_of}
-use Rattle.text_grammar.specs.Resolving.{each, declared_one, declared_after, pair_name, condition_name, tx_name, variable_of, always_in, run_in, listing, resolved}
+use Rattle.text_grammar.specs.Tree.{Pair, Table, Always, Declaration, Run, File}
+use Rattle.text_grammar.specs.Scope.{standing}
+use Rattle.text_grammar.specs.Reading.{pair_at, tables_at, conditions_at, tx_at, run_at, heading_at, end_at, file_of, tree_of}
+use Rattle.text_grammar.specs.Resolving.{each, declared_one, declared_after, pair_name, table_name, condition_name, tx_name, variable_of, table_of, spans_in, always_in, run_in, listing, resolved}
 use Rattle.text_grammar.specs.Spelling.{lawful, listing_at}
 use Rattle.text_resolver.proofs.Parts.{converted_is}
-use Rattle.text_file_reader.specs.Resolved.{MakesNamed, Resolves, own_transaction_in, parameters_of, is_wanted}
+use Rattle.text_file_reader.specs.Resolved.{MakesBehind, MakesNamed, Resolves, own_transaction_in, parameters_of, is_wanted}
 use Rattle.text_file_reader.proofs.Known.{own_transactions, uses_are_known}
 use Rattle.text_file_reader.proofs.Declared.{declared_is}
 
@@ -106,33 +108,39 @@ tx_items form ts = all_of (begins (codes "tx")) (tx_at form) ts
 abbrev run_items : FileForm → List Lexeme → Read (List Run)
 run_items form ts = all_of (begins (codes "run")) (run_at form) ts
 
-file_is : (ts behind_heading behind_vars behind_always behind_txs behind_runs : List Lexeme) (form : FileForm) (vars : List Pair) (always : List Always) (txs : List Declaration) (runs : List Run)
-    → heading_at ts ≡ Ok (form, behind_heading) → var_items behind_heading ≡ Ok (vars, behind_vars) → conditions_at form behind_vars ≡ Ok (always, behind_always) → tx_items form behind_always ≡ Ok (txs, behind_txs)
-    → run_items form behind_txs ≡ Ok (runs, behind_runs) → end_at behind_runs ≡ Ok tt → file_of ts ≡ Ok (record { form = form; vars = vars; always = always; txs = txs; runs = runs })
+file_is : (ts behind_heading behind_vars behind_tables behind_always behind_txs behind_runs : List Lexeme) (form : FileForm) (vars : List Pair) (tables : List Table) (always : List Always) (txs : List Declaration) (runs : List Run)
+    → heading_at ts ≡ Ok (form, behind_heading) → var_items behind_heading ≡ Ok (vars, behind_vars) → tables_at form behind_vars ≡ Ok (tables, behind_tables) → conditions_at form behind_tables ≡ Ok (always, behind_always)
+    → tx_items form behind_always ≡ Ok (txs, behind_txs) → run_items form behind_txs ≡ Ok (runs, behind_runs) → end_at behind_runs ≡ Ok tt
+    → file_of ts ≡ Ok (record { form = form; vars = vars; tables = tables; always = always; txs = txs; runs = runs })
 unfolding file_of
-file_is ts behind_heading behind_vars behind_always behind_txs behind_runs form vars always txs runs h v a t r e = rw (h, v, a, t, r, e) refl
+file_is ts behind_heading behind_vars behind_tables behind_always behind_txs behind_runs form vars tables always txs runs h v n a t r e = rw (h, v, n, a, t, r, e) refl
 
-resolved_is : (file : File) (vars conditions txs : List (List ℕ)) (values : List (List ℕ × ℤ)) (always : List (List ℕ × Condition)) (transactions : List Transaction) (runs : List (Call × ℕ))
-    → declared_after [] (map pair_name file.vars) ≡ Ok vars → declared_after [] (map condition_name file.always) ≡ Ok conditions → declared_after [] (map tx_name file.txs) ≡ Ok txs
-    → each variable_of file.vars ≡ Ok values → each (always_in vars) file.always ≡ Ok always → each (own_transaction_in vars) file.txs ≡ Ok transactions → each (run_in txs) file.runs ≡ Ok runs
-    → list_all (λ (run : Call × ℕ). is_wanted (map parameters_of transactions) run.0) runs ≡ true → resolved file ≡ Ok (listing values always transactions runs)
+resolved_is : (file : File) (vars names conditions txs : List (List ℕ)) (values : List (List ℕ × ℤ)) (tables : List ((List ℕ × ℕ) × List ℤ)) (spans : List Span)
+    (always : List (List ℕ × Condition)) (transactions : List Transaction) (runs : List (Call × ℕ))
+    → declared_after [] (map pair_name file.vars) ≡ Ok vars → declared_after [] (map table_name file.tables) ≡ Ok names → declared_after [] (map condition_name file.always) ≡ Ok conditions → declared_after [] (map tx_name file.txs) ≡ Ok txs
+    → each variable_of file.vars ≡ Ok values → each table_of file.tables ≡ Ok tables → spans_in (length vars) (map (λ t. t.0) tables) ≡ Ok spans
+    → each (always_in (standing vars names spans)) file.always ≡ Ok always → each (own_transaction_in (standing vars names spans)) file.txs ≡ Ok transactions → each (run_in txs) file.runs ≡ Ok runs
+    → list_all (λ (run : Call × ℕ). is_wanted (map parameters_of transactions) run.0) runs ≡ true → resolved file ≡ Ok (listing values tables always transactions runs)
 unfolding resolved
-resolved_is file vars conditions txs values always transactions runs d e g v a t r w =
-    let names : txs ≡ map tx_name file.txs = declared_is [] (map tx_name file.txs) txs g in
-    let made : each (run_in (map tx_name file.txs)) file.runs ≡ Ok runs = ap (λ (ns : List (List ℕ)). each (run_in ns) file.runs) (sym names) ∙ r in
-    rw (d, e, g, uses_are_known vars file always transactions runs a t made w) (converted_is vars txs file values always transactions runs v a (own_transactions vars file.txs transactions t) r)
+resolved_is file vars names conditions txs values tables spans always transactions runs d n e g v b s a t r w =
+    let scope = standing vars names spans in
+    let called : txs ≡ map tx_name file.txs = declared_is [] (map tx_name file.txs) txs g in
+    let made : each (run_in (map tx_name file.txs)) file.runs ≡ Ok runs = ap (λ (ns : List (List ℕ)). each (run_in ns) file.runs) (sym called) ∙ r in
+    rw (d, n, e, g, uses_are_known scope file always transactions runs a t made w) (converted_is vars names txs file values tables spans always transactions runs v b s a (own_transactions scope file.txs transactions t) r)
 
 -- what is resolved as it is read is what the whole tree is resolved to
-pub at_once_is : (ts behind_heading behind_vars behind_always behind_txs behind_runs : List Lexeme) (form : FileForm) (vars conditions txs : List (List ℕ)) (items : List Run)
-    (values : List (List ℕ × ℤ)) (always : List (List ℕ × Condition)) (transactions : List Transaction) (runs : List (Call × ℕ))
-    → heading_at ts ≡ Ok (form, behind_heading) → Resolves (var_items behind_heading) variable_of pair_name values vars behind_vars
-    → Resolves (conditions_at form behind_vars) (always_in vars) condition_name always conditions behind_always → Resolves (tx_items form behind_always) (own_transaction_in vars) tx_name transactions txs behind_txs
-    → run_items form behind_txs ≡ Ok (items, behind_runs) → end_at behind_runs ≡ Ok tt → each (run_in txs) items ≡ Ok runs → list_all (λ (run : Call × ℕ). is_wanted (map parameters_of transactions) run.0) runs ≡ true
-    → (file_of ts >>= λ file. resolved file) ≡ Ok (listing values always transactions runs)
-at_once_is ts behind_heading behind_vars behind_always behind_txs behind_runs form vars conditions txs items values always transactions runs h v a t r e m w =
-    let file : File = record { form = form; vars = v.items; always = a.items; txs = t.items; runs = items } in
-    rw (file_is ts behind_heading behind_vars behind_always behind_txs behind_runs form v.items a.items t.items items h v.are_read a.are_read t.are_read r e)
-    (resolved_is file vars conditions txs values always transactions runs v.are_declared a.are_declared t.are_declared v.are_made a.are_made t.are_made m w)
+pub at_once_is : (ts behind_heading behind_vars behind_tables : List Lexeme) (form : FileForm) (vars names : List (List ℕ))
+    (values : List (List ℕ × ℤ)) (tables : List ((List ℕ × ℕ) × List ℤ)) (always : List (List ℕ × Condition)) (transactions : List Transaction) (runs : List (Call × ℕ))
+    → heading_at ts ≡ Ok (form, behind_heading) → Resolves (var_items behind_heading) variable_of pair_name values vars behind_vars → Resolves (tables_at form behind_vars) table_of table_name tables names behind_tables
+    → MakesBehind form vars names (map (λ t. t.0) tables) behind_tables always transactions runs → (file_of ts >>= λ file. resolved file) ≡ Ok (listing values tables always transactions runs)
+at_once_is ts behind_heading behind_vars behind_tables form vars names values tables always transactions runs h v n behind =
+    let p = behind.makes in
+    let a = p.makes_always in
+    let t = p.makes_txs in
+    let r = p.makes_runs in
+    let file : File = record { form = form; vars = v.items; tables = n.items; always = a.items; txs = t.items; runs = r.items } in
+    rw (file_is ts behind_heading behind_vars behind_tables p.behind_always p.behind_txs p.behind_runs form v.items n.items a.items t.items r.items h v.are_read n.are_read a.are_read t.are_read r.are_read p.ends)
+    (resolved_is file vars names p.conditions p.names values tables behind.spans always transactions runs v.are_declared n.are_declared a.are_declared t.are_declared v.are_made n.are_made behind.are_spans a.are_made t.are_made r.are_made r.are_wanted)
 
 regroup : (r : Result File ReadFault) → (r >>= λ file. resolved file >>= λ l. lawful l) ≡ ((r >>= λ file. resolved file) >>= λ l. lawful l)
 regroup (Ok file) = refl

@@ -13,7 +13,8 @@ use Rattle.txn_programs.specs.Names.{are_new, are_distinct}
 use Rattle.text_words.specs.declared.fault.ReadFault.TheVariants as faults
 use Rattle.text_grammar.specs.Tree.{File}
 use Rattle.text_grammar.specs.Written.{name_at}
-use Rattle.text_grammar.specs.Resolving.{declared_one, declared_after, is_known, placed, place_in, variable_in, parameter_in, pair_name, condition_name, tx_name, uses_known, converted, resolved}
+use Rattle.text_grammar.specs.Scope.{standing}
+use Rattle.text_grammar.specs.Resolving.{declared_one, declared_after, is_known, placed, place_in, variable_in, parameter_in, pair_name, table_name, condition_name, tx_name, uses_known, converted, resolved}
 use Rattle.text_words.proofs.Steps.{bind_ok, ok_is, done, chosen}
 
 pub both : (a b : Bool) → (a && b) ≡ true → (a ≡ true) × (b ≡ true)
@@ -161,27 +162,38 @@ declared_new earlier (name ∷ rest) all e =
 -- no name is declared twice, only declared ones are used, and the rest is as converted
 pub record IsResolved (file : File) (l : Listing) : Type 0 where
   pub vars_new : are_distinct (map pair_name file.vars) ≡ true
+  pub tables_new : are_distinct (map table_name file.tables) ≡ true
   pub always_new : are_distinct (map condition_name file.always) ≡ true
   pub txs_new : are_distinct (map tx_name file.txs) ≡ true
-  pub used : uses_known (map pair_name file.vars) file ≡ true
-  pub is_converted : converted (map pair_name file.vars) (map tx_name file.txs) file ≡ Ok l
+  pub used : uses_known (standing (map pair_name file.vars) (map table_name file.tables) []) file ≡ true
+  pub is_converted : converted (map pair_name file.vars) (map table_name file.tables) (map tx_name file.txs) file ≡ Ok l
 
-used_step : (file : File) (l : Listing) (v x vars txs : List (List ℕ)) → v ≡ vars → x ≡ txs → cond (uses_known v file) (converted v x file) (Err faults.Name) ≡ Ok l
-    → (uses_known vars file ≡ true) × (converted vars txs file ≡ Ok l)
-used_step file l v x vars txs p q h =
-    elim (chosen (uses_known v file) (converted v x file) (Err faults.Name) (Ok l) h) [
-      | inl c ↦ (ap (λ (ns : List (List ℕ)). uses_known ns file) (sym p) ∙ c.0, ap (λ (ns : List (List ℕ)). converted vars ns file) (sym q) ∙ ap (λ (ns : List (List ℕ)). converted ns x file) (sym p) ∙ c.1)
-      | inr c ↦ absurd (let g = c.1 in cc)
+used_step : (file : File) (l : Listing) (v n x vars tables txs : List (List ℕ)) → v ≡ vars → n ≡ tables → x ≡ txs → cond (uses_known (standing v n []) file) (converted v n x file) (Err faults.Name) ≡ Ok l
+    → (uses_known (standing vars tables []) file ≡ true) × (converted vars tables txs file ≡ Ok l)
+used_step file l v n x vars tables txs p o q h =
+    let g : cond (uses_known (standing vars tables []) file) (converted vars tables txs file) (Err faults.Name) ≡ Ok l = rw (p, o, q) at h in
+    elim (chosen (uses_known (standing vars tables []) file) (converted vars tables txs file) (Err faults.Name) (Ok l) g) [
+      | inl c ↦ c
+      | inr c ↦ absurd (let f = c.1 in cc)
     ]
 
 pub resolved_is : (file : File) (l : Listing) → resolved file ≡ Ok l → IsResolved file l
 unfolding resolved
 resolved_is file l h =
     let vars = map pair_name file.vars in
+    let tables = map table_name file.tables in
     let always = map condition_name file.always in
     let txs = map tx_name file.txs in
     let v = bind_ok (declared_after [] vars) _ l h in
-    let a = bind_ok (declared_after [] always) _ l v.2 in
+    let n = bind_ok (declared_after [] tables) _ l v.2 in
+    let a = bind_ok (declared_after [] always) _ l n.2 in
     let x = bind_ok (declared_after [] txs) _ l a.2 in
-    let u = used_step file l v.0 x.0 vars txs (declared_is [] vars v.0 v.1) (declared_is [] txs x.0 x.1) x.2 in
-    record { vars_new = declared_new [] vars v.0 v.1; always_new = declared_new [] always a.0 a.1; txs_new = declared_new [] txs x.0 x.1; used = u.0; is_converted = u.1 }
+    let u = used_step file l v.0 n.0 x.0 vars tables txs (declared_is [] vars v.0 v.1) (declared_is [] tables n.0 n.1) (declared_is [] txs x.0 x.1) x.2 in
+    record {
+      vars_new = declared_new [] vars v.0 v.1;
+      tables_new = declared_new [] tables n.0 n.1;
+      always_new = declared_new [] always a.0 a.1;
+      txs_new = declared_new [] txs x.0 x.1;
+      used = u.0;
+      is_converted = u.1;
+    }

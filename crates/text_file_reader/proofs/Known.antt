@@ -14,11 +14,12 @@ use Rattle.text_words.specs.Numbers.{count_of}
 use Rattle.text_words.proofs.Steps.{bind_ok, ok_is, done, chosen}
 use Rattle.text_grammar.specs.Tree.{Expr, Cond, Stmt, Stmts, NoStmts, MoreStmts, Always, Declaration, Run, File}
 use Rattle.text_grammar.specs.Tree as f
-use Rattle.text_grammar.specs.Scope.{Scope, standing, inside}
-use Rattle.text_grammar.specs.Resolving.{is_known, expr_known, cond_known, stmt_known, stmts_known, always_known, tx_known, tx_name, has_parameters, run_known, uses_known, place_in, variable_in, parameter_in, expression_in, condition_in, statement_in, statements_in, each, always_in, transaction_in, arguments_in, call_at, run_in}
+use Rattle.text_grammar.specs.Scope.{Scope, inside}
+use Rattle.text_grammar.specs.Resolving.{is_known, expr_known, cond_known, stmt_known, stmts_known, always_known, tx_known, tx_name, has_parameters, run_known, uses_known, place_in, table_in, variable_in, parameter_in, expression_in, condition_in, statement_in, statements_in, each, always_in, transaction_in, arguments_in, call_at, run_in}
 use Rattle.text_file_reader.specs.Resolved.{own_transaction_in, parameters_of, is_wanted}
 use Rattle.text_file_reader.proofs.Declared.{both, place_found}
-use Rattle.text_file_reader.proofs.Back.{both_true, arguments_back, transactions_back, declared_parameters, parameters_of_txs}
+use Rattle.text_file_reader.proofs.Spans.{names_alone, table_known}
+use Rattle.text_file_reader.proofs.Back.{both_true, arguments_back, declared_parameters, Head, heads_kept, by_heads}
 
 place_known : (names : List (List ℕ)) (name : List ℕ) (n : ℕ) → place_in names name ≡ Ok n → is_known names name ≡ true
 place_known names name n h = rw (place_found names name n h) refl
@@ -27,19 +28,24 @@ variable_known : (names : List (List ℕ)) (name : List ℕ) (x : VarId) → var
 unfolding variable_in
 variable_known names name x h = let p = bind_ok (place_in names name) _ x h in place_known names name p.0 p.1
 
-expression_known : (s : Scope) (e : Expr) (x : Expression) → expression_in s e ≡ Ok x → expr_known s e ≡ true
+expression_known : (s : Scope) (e : Expr) (x : Expression) → expression_in s e ≡ Ok x → expr_known (names_alone s) e ≡ true
 expression_known s (f.Int value) x h = refl
 expression_known s (f.Name name) x h =
     elim (chosen (is_known s.parameters name) (parameter_in s.parameters name >>= λ p. done (t.Param p)) (variable_in s.variables name >>= λ v. done (t.Var v)) (Ok x) h) [
       | inl q ↦ rw q.0 refl
       | inr q ↦ let v = bind_ok (variable_in s.variables name) _ x q.1 in rw (q.0, variable_known s.variables name v.0 v.1) refl
     ]
+expression_known s (f.At table index) x h =
+    let u = bind_ok (table_in s table) _ x h in
+    let a = bind_ok (expression_in s index) _ x u.2 in
+    both_true _ _ (table_known s table u.0 u.1) (expression_known s index a.0 a.1)
+expression_known s (f.OfAll fold table) x h = let u = bind_ok (table_in s table) _ x h in table_known s table u.0 u.1
 expression_known s (f.Binary op left right) x h =
     let a = bind_ok (expression_in s left) _ x h in
     let b = bind_ok (expression_in s right) _ x a.2 in
     both_true _ _ (expression_known s left a.0 a.1) (expression_known s right b.0 b.1)
 
-condition_known : (s : Scope) (c : Cond) (x : Condition) → condition_in s c ≡ Ok x → cond_known s c ≡ true
+condition_known : (s : Scope) (c : Cond) (x : Condition) → condition_in s c ≡ Ok x → cond_known (names_alone s) c ≡ true
 condition_known s (f.Compare op left right) x h =
     let a = bind_ok (expression_in s left) _ x h in
     let b = bind_ok (expression_in s right) _ x a.2 in
@@ -51,12 +57,17 @@ condition_known s (f.Connect op left right) x h =
     both_true _ _ (condition_known s left a.0 a.1) (condition_known s right b.0 b.1)
 
 mutual
-  statement_known : (s : Scope) (p : Stmt) (x : Statement) → statement_in s p ≡ Ok x → stmt_known s p ≡ true
+  statement_known : (s : Scope) (p : Stmt) (x : Statement) → statement_in s p ≡ Ok x → stmt_known (names_alone s) p ≡ true
   statement_known s f.Skip x h = refl
   statement_known s (f.Set name value) x h =
       let v = bind_ok (variable_in s.variables name) _ x h in
       let a = bind_ok (expression_in s value) _ x v.2 in
       both_true _ _ (variable_known s.variables name v.0 v.1) (expression_known s value a.0 a.1)
+  statement_known s (f.Put table index value) x h =
+      let u = bind_ok (table_in s table) _ x h in
+      let a = bind_ok (expression_in s index) _ x u.2 in
+      let b = bind_ok (expression_in s value) _ x a.2 in
+      both_true _ _ (table_known s table u.0 u.1) (both_true _ _ (expression_known s index a.0 a.1) (expression_known s value b.0 b.1))
   statement_known s (f.Seq parts) x h = let a = bind_ok (statements_in s parts) _ x h in statements_known s parts a.0 a.1
   statement_known s (f.If test first second) x h =
       let c = bind_ok (condition_in s test) _ x h in
@@ -74,35 +85,35 @@ mutual
       both_true _ _ (statement_known s first a.0 a.1) (statement_known s second b.0 b.1)
   statement_known s (f.Throw value) x h = let a = bind_ok (expression_in s value) _ x h in expression_known s value a.0 a.1
 
-  statements_known : (s : Scope) (ss : Stmts) (xs : Statements) → statements_in s ss ≡ Ok xs → stmts_known s ss ≡ true
+  statements_known : (s : Scope) (ss : Stmts) (xs : Statements) → statements_in s ss ≡ Ok xs → stmts_known (names_alone s) ss ≡ true
   statements_known s NoStmts xs h = refl
   statements_known s (MoreStmts first others) xs h =
       let a = bind_ok (statement_in s first) _ xs h in
       let b = bind_ok (statements_in s others) _ xs a.2 in
       both_true _ _ (statement_known s first a.0 a.1) (statements_known s others b.0 b.1)
 
-always_is_known : (names : List (List ℕ)) (a : Always) (x : List ℕ × Condition) → always_in names a ≡ Ok x → always_known names a ≡ true
-always_is_known names a x h = let c = bind_ok (condition_in (standing names) a.condition) _ x h in condition_known (standing names) a.condition c.0 c.1
+always_is_known : (s : Scope) (a : Always) (x : List ℕ × Condition) → always_in s a ≡ Ok x → always_known (names_alone s) a ≡ true
+always_is_known s a x h = let c = bind_ok (condition_in s a.condition) _ x h in condition_known s a.condition c.0 c.1
 
 -- a transaction whose parameters are its own
-own_parts : (names : List (List ℕ)) (d : Declaration) (x : Transaction) → own_transaction_in names d ≡ Ok x → (are_new names d.parameters ≡ true) × (transaction_in names d ≡ Ok x)
-own_parts names d x h =
-    elim (chosen (are_new names d.parameters) (transaction_in names d) (Err Name) (Ok x) h) [
+own_parts : (s : Scope) (d : Declaration) (x : Transaction) → own_transaction_in s d ≡ Ok x → (are_new s.variables d.parameters ≡ true) × (transaction_in s d ≡ Ok x)
+own_parts s d x h =
+    elim (chosen (are_new s.variables d.parameters) (transaction_in s d) (Err Name) (Ok x) h) [
       | inl p ↦ p
       | inr p ↦ absurd (let g = p.1 in cc)
     ]
 
-pub own_transactions : (names : List (List ℕ)) (ds : List Declaration) (ts : List Transaction) → each (own_transaction_in names) ds ≡ Ok ts → each (transaction_in names) ds ≡ Ok ts
-own_transactions names [] ts h = h
-own_transactions names (d ∷ ds) ts h =
-    let x = bind_ok (own_transaction_in names d) _ ts h in
-    let xs = bind_ok (each (own_transaction_in names) ds) _ ts x.2 in
-    rw ((own_parts names d x.0 x.1).1, own_transactions names ds xs.0 xs.1) xs.2
+pub own_transactions : (s : Scope) (ds : List Declaration) (ts : List Transaction) → each (own_transaction_in s) ds ≡ Ok ts → each (transaction_in s) ds ≡ Ok ts
+own_transactions s [] ts h = h
+own_transactions s (d ∷ ds) ts h =
+    let x = bind_ok (own_transaction_in s d) _ ts h in
+    let xs = bind_ok (each (own_transaction_in s) ds) _ ts x.2 in
+    rw ((own_parts s d x.0 x.1).1, own_transactions s ds xs.0 xs.1) xs.2
 
-tx_is_known : (names : List (List ℕ)) (d : Declaration) (x : Transaction) → own_transaction_in names d ≡ Ok x → tx_known names d ≡ true
-tx_is_known names d x h =
-    let own = own_parts names d x h in
-    let s = inside names d.parameters in
+tx_is_known : (outer : Scope) (d : Declaration) (x : Transaction) → own_transaction_in outer d ≡ Ok x → tx_known (names_alone outer) d ≡ true
+tx_is_known outer d x h =
+    let own = own_parts outer d x h in
+    let s = inside outer d.parameters in
     let body = bind_ok (statement_in s d.body) _ x own.1 in
     let value = bind_ok (expression_in s d.value) _ x body.2 in
     both_true _ _ own.0 (both_true _ _ (statement_known s d.body body.0 body.1) (expression_known s d.value value.0 value.1))
@@ -135,16 +146,12 @@ runs_are_known txs (r ∷ rs) runs h w =
     let wanted = both _ _ (subst (λ (all : List (Call × ℕ)). list_all (λ (run : Call × ℕ). is_wanted (map declared_parameters txs) run.0) all ≡ true) (sym (ok_is (x.0 ∷ xs.0) runs xs.2)) w) in
     both_true _ _ (run_is_known txs r x.0 x.1 wanted.0) (runs_are_known txs rs xs.0 xs.1 wanted.1)
 
--- a transaction keeps its parameters
-parameters_kept : (names : List (List ℕ)) (ds : List Declaration) (ts : List Transaction) → each (transaction_in names) ds ≡ Ok ts → map parameters_of ts ≡ map declared_parameters ds
-parameters_kept names ds ts h = sym (parameters_of_txs names ts) ∙ ap (map declared_parameters) (transactions_back names ds ts h)
-
-pub uses_are_known : (vars : List (List ℕ)) (file : File) (always : List (List ℕ × Condition)) (transactions : List Transaction) (runs : List (Call × ℕ))
-    → each (always_in vars) file.always ≡ Ok always → each (own_transaction_in vars) file.txs ≡ Ok transactions → each (run_in (map tx_name file.txs)) file.runs ≡ Ok runs
-    → list_all (λ (run : Call × ℕ). is_wanted (map parameters_of transactions) run.0) runs ≡ true → uses_known vars file ≡ true
+pub uses_are_known : (s : Scope) (file : File) (always : List (List ℕ × Condition)) (transactions : List Transaction) (runs : List (Call × ℕ))
+    → each (always_in s) file.always ≡ Ok always → each (own_transaction_in s) file.txs ≡ Ok transactions → each (run_in (map tx_name file.txs)) file.runs ≡ Ok runs
+    → list_all (λ (run : Call × ℕ). is_wanted (map parameters_of transactions) run.0) runs ≡ true → uses_known (names_alone s) file ≡ true
 unfolding uses_known
-uses_are_known vars file always transactions runs a t r w =
-    let kept = parameters_kept vars file.txs transactions (own_transactions vars file.txs transactions t) in
+uses_are_known s file always transactions runs a t r w =
+    let kept : map parameters_of transactions ≡ map declared_parameters file.txs = by_heads (λ (h : Head). h.1) transactions file.txs (heads_kept s file.txs transactions (own_transactions s file.txs transactions t)) in
     let wanted = subst (λ (ps : List (List (List ℕ))). list_all (λ (run : Call × ℕ). is_wanted ps run.0) runs ≡ true) kept w in
-    both_true _ _ (all_known (always_in vars) (always_known vars) (always_is_known vars) file.always always a)
-    (both_true _ _ (all_known (own_transaction_in vars) (tx_known vars) (tx_is_known vars) file.txs transactions t) (runs_are_known file.txs file.runs runs r wanted))
+    both_true _ _ (all_known (always_in s) (always_known (names_alone s)) (always_is_known s) file.always always a)
+    (both_true _ _ (all_known (own_transaction_in s) (tx_known (names_alone s)) (tx_is_known s) file.txs transactions t) (runs_are_known file.txs file.runs runs r wanted))

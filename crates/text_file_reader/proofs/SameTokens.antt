@@ -6,30 +6,33 @@ use Rattle.std.proofs.lemmas.List.Folds.{list_all-append}
 use Rattle.txn_programs.specs.Listing.{Listing}
 use Rattle.text_words.specs.Bytes.{is_allowed}
 use Rattle.text_words.specs.Tokens.{tokens}
-use Rattle.text_grammar.specs.Tree.{max_len}
+use Rattle.text_grammar.specs.Tree.{longest}
 use Rattle.text_grammar.specs.Reading.{tree_of}
 use Rattle.text_grammar.specs.Spelling.{Declares, Spells, listing_at, fault_in}
 use Rattle.text_file_reader.specs.Gaps.{IsGap, SplitsNoToken, ReadsAs}
+use Rattle.text_file_reader.proofs.Begun.{longest_still}
 use Rattle.text_file_reader.proofs.Gaps.{gap-between}
 
-pub reads_as : (bytes others : List ℕ) → tokens bytes ≡ tokens others → list_all is_allowed bytes ≡ list_all is_allowed others → length bytes ≤ max_len → length others ≤ max_len → ReadsAs bytes others
+pub reads_as : (bytes others : List ℕ) → tokens bytes ≡ tokens others → list_all is_allowed bytes ≡ list_all is_allowed others → length bytes ≤ longest bytes → length others ≤ longest others → ReadsAs bytes others
 unfolding listing_at tree_of
 reads_as bytes others same allowed short others_short = record {
   spelled = λ l. (spells bytes others same allowed others_short l, spells others bytes (sym same) (sym allowed) short l);
   fault = ap fault_in (listed same allowed);
 }
   where
-    declares : (a b : List ℕ) → tokens a ≡ tokens b → list_all is_allowed a ≡ list_all is_allowed b → length b ≤ max_len → (l : Listing) → Declares a l → Declares b l
+    declares : (a b : List ℕ) → tokens a ≡ tokens b → list_all is_allowed a ≡ list_all is_allowed b → length b ≤ longest b → (l : Listing) → Declares a l → Declares b l
     declares a b t v le l d = record {
       form = d.form;
-      spelled = record { short = le; allowed = sym v ∙ d.spelled.allowed; spelled = sym t ∙ d.spelled.spelled; formed = d.spelled.formed; shallow = d.spelled.shallow };
+      tables = d.tables;
+      spelled = record { short = le; allowed = sym v ∙ d.spelled.allowed; spelled = sym t ∙ d.spelled.spelled; formed = d.spelled.formed; parts = d.spelled.parts };
+      tabled = d.tabled;
       valued = d.valued;
       names = d.names;
       limits = d.limits;
       integers = d.integers;
     }
 
-    spells : (a b : List ℕ) → tokens a ≡ tokens b → list_all is_allowed a ≡ list_all is_allowed b → length b ≤ max_len → (l : Listing) → Spells a l → Spells b l
+    spells : (a b : List ℕ) → tokens a ≡ tokens b → list_all is_allowed a ≡ list_all is_allowed b → length b ≤ longest b → (l : Listing) → Spells a l → Spells b l
     spells a b t v le l s = record {
       declared = declares a b t v le l s.declared;
       upheld = s.upheld;
@@ -44,7 +47,7 @@ allowed-between a gap b h =
     ∙ ap (λ (v : Bool). list_all is_allowed a && v) (list_all-append is_allowed gap b ∙ ap (λ (v : Bool). v && list_all is_allowed b) h)
     ∙ sym (list_all-append is_allowed a b)
 
-pub reads_as-gap : (a gap b : List ℕ) → IsGap gap → SplitsNoToken a b → list_all is_allowed gap ≡ true → length (a ++ (gap ++ b)) ≤ max_len → ReadsAs (a ++ (gap ++ b)) (a ++ b)
+pub reads_as-gap : (a gap b : List ℕ) → IsGap gap → SplitsNoToken a b → list_all is_allowed gap ≡ true → length (a ++ (gap ++ b)) ≤ longest (a ++ (gap ++ b)) → ReadsAs (a ++ (gap ++ b)) (a ++ b)
 reads_as-gap a gap b g h allowed short =
     reads_as (a ++ (gap ++ b)) (a ++ b) (gap-between a gap b g h) (allowed-between a gap b allowed) short
-    (omega (arith, short, length-append a (gap ++ b), length-append gap b, length-append a b))
+    (omega (arith, short, longest_still a gap b g h, length-append a (gap ++ b), length-append gap b, length-append a b))

@@ -5,6 +5,7 @@ use Rattle.txn_programs.specs.Listing.{Listing}
 use Rattle.txn_programs.specs.Names.{names_hold}
 use Rattle.txn_programs.specs.Limits.{limits_hold}
 use Rattle.txn_programs.specs.Standing.{upholds}
+use Rattle.txn_programs.proofs.Lawful.{limits_parts}
 use Rattle.text_grammar.specs.Tree.{File, SpellsTree}
 use Rattle.text_words.specs.Answers.{Gives, Fails}
 use Rattle.text_grammar.specs.Reading.{tree_of}
@@ -15,17 +16,18 @@ use Rattle.text_words.specs.declared.fault.ReadFault.{ReadFault}
 use Rattle.text_words.specs.declared.fault.ReadFault.TheVariants as faults
 use Rattle.text_words.proofs.Steps.{bind_ok, ok_is, done, chosen}
 use Rattle.text_grammar.proofs.Files.{tree_takes, tree_again}
-use Rattle.text_file_reader.proofs.Back.{resolved_back}
+use Rattle.text_file_reader.proofs.Declared.{resolved_is}
+use Rattle.text_file_reader.proofs.Back.{kept, converted_parts, converted_back}
 use Rattle.text_file_reader.proofs.Again.{resolved_again}
 
 -- the listing, where its conditions are true of its initial values
-abbrev pub kept : Listing → Result Listing ReadFault
-kept l = cond (upholds l l.initial) (Ok l) (Err faults.Broken)
+abbrev pub upheld : Listing → Result Listing ReadFault
+upheld l = cond (upholds l l.initial) (Ok l) (Err faults.Broken)
 
 lawful_is : (l c : Listing) → lawful l ≡ Ok c → (l ≡ c) × (names_hold l ≡ true) × (limits_hold l ≡ true) × (upholds l l.initial ≡ true)
 lawful_is l c e =
-    elim (chosen (names_hold l) (cond (limits_hold l) (kept l) (Err faults.Limit)) (Err faults.Name) (Ok c) e) [
-      | inl p ↦ elim (chosen (limits_hold l) (kept l) (Err faults.Limit) (Ok c) p.1) [
+    elim (chosen (names_hold l) (cond (limits_hold l) (upheld l) (Err faults.Limit)) (Err faults.Name) (Ok c) e) [
+      | inl p ↦ elim (chosen (limits_hold l) (upheld l) (Err faults.Limit) (Ok c) p.1) [
         | inl q ↦ elim (chosen (upholds l l.initial) (done l) (Err faults.Broken) (Ok c) q.1) [
           | inl u ↦ (ok_is l c u.1, p.0, q.0, u.0)
           | inr u ↦ absurd (let h = u.1 in cc)
@@ -38,11 +40,14 @@ lawful_is l c e =
 -- a listing that a file is resolved to is declared by its bytes
 pub resolved_declares : (bytes : List ℕ) (file : File) (l : Listing) → tree_of bytes ≡ Ok file → resolved file ≡ Ok l → names_hold l ≡ true → limits_hold l ≡ true → Declares bytes l
 resolved_declares bytes file l read r names limits =
-    let w = resolved_back file l r in
+    let c = converted_parts file l (resolved_is file l r).is_converted in
+    let w = converted_back file l (limits_parts l limits).each_table c in
     record {
       form = file.form;
+      tables = file.tables;
       spelled = subst (SpellsTree bytes) (sym w.same) (tree_takes bytes file read);
-      valued = w.valued;
+      tabled = w.tabled;
+      valued = (kept file l c).valued;
       names = names;
       limits = limits;
       integers = w.integers;
@@ -57,9 +62,9 @@ listing_spells bytes c e =
     subst (Spells bytes) p.0 (record { declared = resolved_declares bytes t.0 r.0 t.1 r.1 p.1 p.2; upheld = p.3 })
 
 -- what is declared is read, if its conditions are true
-pub declared_listing : (bytes : List ℕ) (l : Listing) → Declares bytes l → listing_at bytes ≡ kept l
+pub declared_listing : (bytes : List ℕ) (l : Listing) → Declares bytes l → listing_at bytes ≡ upheld l
 unfolding listing_at
-declared_listing bytes l d = rw (tree_again bytes (written_in d.form l) d.spelled, resolved_again d.form l d.valued d.names d.limits d.integers, d.names, d.limits) refl
+declared_listing bytes l d = rw (tree_again bytes (written_in d.form d.tables l) d.spelled, resolved_again d.form d.tables l d.tabled d.valued d.names d.limits d.integers, d.names, d.limits) refl
 
 pub spelled_listing : (bytes : List ℕ) (l : Listing) → Spells bytes l → listing_at bytes ≡ Ok l
 spelled_listing bytes l s = declared_listing bytes l s.declared ∙ rw s.upheld refl

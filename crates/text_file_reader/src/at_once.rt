@@ -3,18 +3,20 @@
 
 ghost use Rattle.std.specs.Prelude.{◌≡◌, ℕ, List, Ok, IfOk, map, codes};
 ghost use Rattle.std.specs.List.{list_all};
+ghost use Rattle.txn_programs.specs.Listing.{table_of as listed};
 ghost use Rattle.txn_programs.specs.Tree.{expression_of, statement_of, transaction_of};
 ghost use Rattle.text_words.specs.Tokens.{tokens};
 ghost use Rattle.text_words.specs.TokenReading.{begins, all_of};
 ghost use Rattle.text_words.specs.Answers.{◌>>=◌ as ◌>>=ᴿ◌};
-ghost use Rattle.text_grammar.specs.Reading.{pair_at, always_at, conditions_at, tx_at, run_at, file_of, tree_of};
-ghost use Rattle.text_grammar.specs.Resolving.{variable_of, always_in, pair_name, condition_name};
+ghost use Rattle.text_grammar.specs.Reading.{pair_at, tables_at, always_at, conditions_at, tx_at, run_at, file_of};
+ghost use Rattle.text_grammar.specs.Reading.{tree_of};
+ghost use Rattle.text_grammar.specs.Resolving.{variable_of, table_of, always_in, pair_name, table_name, condition_name};
 ghost use Rattle.text_grammar.specs.Resolving.{tx_name, resolved};
 ghost use Rattle.text_resolver.specs.Texts.{texts};
 ghost use Rattle.text_resolver.specs.Scopes.{view_scope};
-ghost use Rattle.text_resolver.specs.Parts.{view_variable, view_condition, view_parts};
-ghost use Rattle.text_file_reader.specs.Resolved.{MakesBody, MakesNamed, MakesRuns, Resolves};
-ghost use Rattle.text_file_reader.specs.Resolved.{own_transaction_in, parameters_of, is_wanted};
+ghost use Rattle.text_resolver.specs.Parts.{view_variable, view_table, view_condition, view_parts};
+ghost use Rattle.text_file_reader.specs.Resolved.{Resolves, MakesBody, MakesNamed, MakesRuns, MakesPrograms};
+ghost use Rattle.text_file_reader.specs.Resolved.{MakesBehind, own_transaction_in, parameters_of, is_wanted};
 
 use crate::conditions::condition_at_once;
 use crate::expressions::last_expression_at_once;
@@ -22,13 +24,16 @@ use crate::statements::statement_at_once;
 use indexmap::IndexSet;
 use std::alloc::Global;
 use text_grammar::file::FileForm;
-use text_parser::file::{INNER_DEPTH, MAX_FILE, end, heading_of, pairs_of, parameters_of, runs_of};
+use text_parser::file::{
+    INNER_DEPTH, end, heading_of, longest_file, pairs_of, parameters_of, runs_of, tables_of,
+};
 use text_resolver::names::{Scope, declare, param_names, var_names};
 use text_resolver::resolve::{Parts, owned, runs, variables};
+use text_resolver::tables::{spans, table_names, tables};
 use text_words::ReadFault;
 use text_words::bytes::are_allowed;
 use text_words::tokens::{begins, close, form, name_of};
-use txn_programs::{Call, Cond, Expr, Stmt, Tx};
+use txn_programs::{Call, Cond, Expr, Stmt, Table, Tx};
 
 /// The variables that stand next: their names, their first values, and the bytes behind them.
 fn variables_at_once<'a>(
@@ -45,25 +50,37 @@ fn variables_at_once<'a>(
     Ok((names, made, rest))
 }
 
+/// The tables that stand next, which only form 3 has: their names, what they are, and the bytes behind them.
+fn tables_at_once<'a>(
+    alloc: Global,
+    file_form: FileForm,
+    bytes: &'a [u8],
+) -> Result<(IndexSet<&'a str>, Vec<Table>, &'a [u8]), ReadFault>
+    ensures { IfOk result
+        (λ x. Resolves (tables_at file_form (tokens bytes.now)) table_of table_name (map view_table x.1.items)
+        (texts x.0.keys) (tokens x.2.now)) }
+{
+    let (raw, rest) = tables_of(alloc, file_form, bytes)?;
+    let names = table_names(alloc, &raw)?;
+    let made = tables(alloc, &raw)?;
+    Ok((names, made, rest))
+}
+
 /// A condition that has to stand: its name, the condition with its name, and the bytes behind it.
 fn always_at_once<'a>(
     alloc: Global,
-    vars: &IndexSet<&str>,
+    file_form: FileForm,
+    outer: &Scope<'_, '_>,
     bytes: &'a [u8],
 ) -> Result<(&'a str, (String, Cond), &'a [u8]), ReadFault>
     ensures { IfOk result
-        (λ x. MakesNamed (always_at (tokens bytes.now)) (always_in (texts vars.now.keys)) condition_name
+        (λ x. MakesNamed (always_at file_form (tokens bytes.now)) (always_in (view_scope outer.now)) condition_name
         (view_condition x.1) x.0.now (tokens x.2.now)) }
 {
     let rest = form(bytes, "always")?;
     let (name, rest) = name_of(rest)?;
     let held = String::from_str(alloc, name)?;
-    let params = IndexSet::new(alloc);
-    let scope = Scope {
-        vars,
-        params: &params,
-    };
-    let (condition, rest) = condition_at_once(alloc, &scope, INNER_DEPTH, rest)?;
+    let (condition, rest) = condition_at_once(alloc, file_form, outer, INNER_DEPTH, rest)?;
     match close(rest) {
         Ok(rest) => Ok((name, (held, condition), rest)),
         Err(fault) => {
@@ -76,18 +93,19 @@ fn always_at_once<'a>(
 /// The conditions that stand next, and the bytes behind them.
 fn standing_at_once<'a>(
     alloc: Global,
-    vars: &IndexSet<&str>,
+    file_form: FileForm,
+    outer: &Scope<'_, '_>,
     bytes: &'a [u8],
 ) -> Result<(Vec<(String, Cond)>, &'a [u8]), ReadFault>
     ensures { IfOk result (λ x. (names : List (List ℕ))
-        × Resolves (all_of (begins (codes "always")) always_at (tokens bytes.now))
-        (always_in (texts vars.now.keys)) condition_name (map view_condition x.0.items) names (tokens x.1.now)) }
+        × Resolves (all_of (begins (codes "always")) (always_at file_form) (tokens bytes.now))
+        (always_in (view_scope outer.now)) condition_name (map view_condition x.0.items) names (tokens x.1.now)) }
 {
     let mut made = Vec::new(alloc);
     let mut names = IndexSet::new(alloc);
     let mut rest = bytes;
     'standing: while begins(rest, "always") {
-        let (name, condition, after) = always_at_once(alloc, vars, rest)?;
+        let (name, condition, after) = always_at_once(alloc, file_form, outer, rest)?;
         made.push(condition)?;
         declare(&mut names, name)?;
         rest = after;
@@ -100,31 +118,32 @@ fn standing_at_once<'a>(
 fn conditions_at_once<'a>(
     alloc: Global,
     file_form: FileForm,
-    vars: &IndexSet<&str>,
+    outer: &Scope<'_, '_>,
     bytes: &'a [u8],
 ) -> Result<(Vec<(String, Cond)>, &'a [u8]), ReadFault>
     ensures { IfOk result (λ x. (names : List (List ℕ))
-        × Resolves (conditions_at file_form (tokens bytes.now)) (always_in (texts vars.now.keys)) condition_name
+        × Resolves (conditions_at file_form (tokens bytes.now)) (always_in (view_scope outer.now)) condition_name
         (map view_condition x.0.items) names (tokens x.1.now)) }
 {
     match file_form {
         FileForm::One => Ok((Vec::new(alloc), bytes)),
-        FileForm::Two | FileForm::Three => standing_at_once(alloc, vars, bytes),
+        FileForm::Two | FileForm::Three => standing_at_once(alloc, file_form, outer, bytes),
     }
 }
 
 /// The body and the result of a transaction, and the bytes behind it.
 fn body_at_once<'a>(
     alloc: Global,
+    file_form: FileForm,
     scope: &Scope<'_, '_>,
     bytes: &'a [u8],
 ) -> Result<(Stmt, Expr, &'a [u8]), ReadFault>
     ensures { IfOk result
-        (λ x. MakesBody (view_scope scope.now) (tokens bytes.now) (statement_of x.0) (expression_of x.1)
+        (λ x. MakesBody file_form (view_scope scope.now) (tokens bytes.now) (statement_of x.0) (expression_of x.1)
         (tokens x.2.now)) }
 {
-    let (body, rest) = statement_at_once(alloc, scope, INNER_DEPTH, bytes)?;
-    match last_expression_at_once(alloc, scope, INNER_DEPTH, rest) {
+    let (body, rest) = statement_at_once(alloc, file_form, scope, INNER_DEPTH, bytes)?;
+    match last_expression_at_once(alloc, file_form, scope, INNER_DEPTH, rest) {
         Ok((result, rest)) => Ok((body, result, rest)),
         Err(fault) => {
             drop(body);
@@ -138,24 +157,26 @@ fn body_at_once<'a>(
 fn tx_at_once<'a>(
     alloc: Global,
     file_form: FileForm,
-    vars: &IndexSet<&str>,
+    outer: &Scope<'_, '_>,
     bytes: &'a [u8],
 ) -> Result<(&'a str, Tx, &'a [u8]), ReadFault>
     ensures { IfOk result
-        (λ x. MakesNamed (tx_at file_form (tokens bytes.now)) (own_transaction_in (texts vars.now.keys)) tx_name
+        (λ x. MakesNamed (tx_at file_form (tokens bytes.now)) (own_transaction_in (view_scope outer.now)) tx_name
         (transaction_of x.1) x.0.now (tokens x.2.now)) }
 {
     let rest = form(bytes, "tx")?;
     let (name, rest) = name_of(rest)?;
     let held = String::from_str(alloc, name)?;
     let (raw, rest) = parameters_of(alloc, file_form, rest)?;
-    let names = param_names(alloc, vars, &raw)?;
+    let names = param_names(alloc, outer.vars, &raw)?;
     let params = owned(alloc, &raw)?;
     let scope = Scope {
-        vars,
+        vars: outer.vars,
+        tables: outer.tables,
+        spans: outer.spans,
         params: &names,
     };
-    let (body, result, rest) = body_at_once(alloc, &scope, rest)?;
+    let (body, result, rest) = body_at_once(alloc, file_form, &scope, rest)?;
     let tx = Tx {
         name: held,
         params,
@@ -169,19 +190,19 @@ fn tx_at_once<'a>(
 fn transactions_at_once<'a>(
     alloc: Global,
     file_form: FileForm,
-    vars: &IndexSet<&str>,
+    outer: &Scope<'_, '_>,
     bytes: &'a [u8],
 ) -> Result<(IndexSet<&'a str>, Vec<Tx>, &'a [u8]), ReadFault>
     ensures { IfOk result
         (λ x. Resolves (all_of (begins (codes "tx")) (tx_at file_form) (tokens bytes.now))
-        (own_transaction_in (texts vars.now.keys)) tx_name (map transaction_of x.1.items) (texts x.0.keys)
+        (own_transaction_in (view_scope outer.now)) tx_name (map transaction_of x.1.items) (texts x.0.keys)
         (tokens x.2.now)) }
 {
     let mut made = Vec::new(alloc);
     let mut names = IndexSet::new(alloc);
     let mut rest = bytes;
     'txs: while begins(rest, "tx") {
-        let (name, tx, after) = tx_at_once(alloc, file_form, vars, rest)?;
+        let (name, tx, after) = tx_at_once(alloc, file_form, outer, rest)?;
         made.push(tx)?;
         declare(&mut names, name)?;
         rest = after;
@@ -227,18 +248,66 @@ fn runs_at_once<'a>(
     Ok((made, rest))
 }
 
+/// The conditions, the transactions and the runs of a file of this form, which end it.
+fn programs_at_once(
+    alloc: Global,
+    file_form: FileForm,
+    outer: &Scope<'_, '_>,
+    bytes: &[u8],
+) -> Result<(Vec<(String, Cond)>, Vec<Tx>, Vec<(Call, u32)>), ReadFault>
+    ensures { IfOk result
+        (λ x. MakesPrograms file_form (view_scope outer.now) (tokens bytes.now) (map view_condition x.0.items)
+        (map transaction_of x.1.items) x.2.items) }
+{
+    let (always, rest) = conditions_at_once(alloc, file_form, outer, bytes)?;
+    let (names, txs, rest) = transactions_at_once(alloc, file_form, outer, rest)?;
+    let (runs, rest) = runs_at_once(alloc, file_form, &names, &txs, rest)?;
+    end(rest)?;
+    Ok((always, txs, runs))
+}
+
+/// The same, where the variables and the tables have these names.
+fn behind_tables(
+    alloc: Global,
+    file_form: FileForm,
+    vars: &IndexSet<&str>,
+    names: &IndexSet<&str>,
+    tables: &[Table],
+    bytes: &[u8],
+) -> Result<(Vec<(String, Cond)>, Vec<Tx>, Vec<(Call, u32)>), ReadFault>
+    ensures { IfOk result
+        (λ x. MakesBehind file_form (texts vars.now.keys) (texts names.now.keys) (map listed tables.now)
+        (tokens bytes.now) (map view_condition x.0.items) (map transaction_of x.1.items) x.2.items) }
+{
+    let spans = spans(alloc, vars.len(), tables)?;
+    let params = IndexSet::new(alloc);
+    let outer = Scope {
+        vars,
+        tables: names,
+        spans: &spans,
+        params: &params,
+    };
+    programs_at_once(alloc, file_form, &outer, bytes)
+}
+
 /// What the bytes declare.
 fn file_at_once(alloc: Global, bytes: &[u8]) -> Result<Parts, ReadFault>
     ensures { IfOk result (λ parts. (file_of (tokens bytes.now) >>=ᴿ λ file. resolved file) ≡ Ok (view_parts parts)) }
 {
     let (file_form, rest) = heading_of(bytes)?;
     let (var_names, vars, rest) = variables_at_once(alloc, rest)?;
-    let (always, rest) = conditions_at_once(alloc, file_form, &var_names, rest)?;
-    let (tx_names, txs, rest) = transactions_at_once(alloc, file_form, &var_names, rest)?;
-    let (runs, rest) = runs_at_once(alloc, file_form, &tx_names, &txs, rest)?;
-    end(rest)?;
+    let (table_names, tables, rest) = tables_at_once(alloc, file_form, rest)?;
+    let (always, txs, runs) = behind_tables(
+        alloc,
+        file_form,
+        &var_names,
+        &table_names,
+        &tables,
+        rest,
+    )?;
     Ok(Parts {
         vars,
+        tables,
         always,
         txs,
         runs,
@@ -251,7 +320,7 @@ fn file_at_once(alloc: Global, bytes: &[u8]) -> Result<Parts, ReadFault>
 pub(crate) fn parts_at_once(alloc: Global, bytes: &[u8]) -> Result<Parts, ReadFault>
     ensures { IfOk result (λ parts. (tree_of bytes.now >>=ᴿ λ file. resolved file) ≡ Ok (view_parts parts)) }
 {
-    if bytes.len() > MAX_FILE {
+    if bytes.len() > longest_file(bytes) {
         return Err(ReadFault::TooLong);
     }
     if !are_allowed(bytes) {

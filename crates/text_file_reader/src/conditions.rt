@@ -11,6 +11,7 @@ ghost use Rattle.text_file_reader.specs.Resolved.{Makes};
 
 use crate::expressions::{expression_at_once, last_expression_at_once};
 use std::alloc::Global;
+use text_grammar::file::FileForm;
 use text_grammar::words::{Comparison, Connective, Test, test_of};
 use text_resolver::names::Scope;
 use text_resolver::resolve::{compare, connect};
@@ -22,13 +23,14 @@ use txn_programs::Cond;
 #[cycle(conditions)]
 pub(crate) fn condition_at_once<'a>(
     alloc: Global,
+    file_form: FileForm,
     scope: &Scope<'_, '_>,
     depth: u32,
     bytes: &'a [u8],
 ) -> Result<(Cond, &'a [u8]), ReadFault>
     ensures { IfOk result
-        (λ x. Makes (cond_at depth (tokens bytes.now)) (condition_in (view_scope scope.now)) (condition_of x.0)
-        (tokens x.1.now)) }
+        (λ x. Makes (cond_at file_form depth (tokens bytes.now)) (condition_in (view_scope scope.now))
+        (condition_of x.0) (tokens x.1.now)) }
 {
     if depth == 0 {
         return Err(ReadFault::Shape);
@@ -37,28 +39,30 @@ pub(crate) fn condition_at_once<'a>(
     let test = test_of(word)?;
     match test {
         Test::Compares(comparison) => {
-            comparison_at_once(alloc, scope, depth - 1, comparison, rest)
+            comparison_at_once(alloc, file_form, scope, depth - 1, comparison, rest)
         }
-        Test::Negates => negation_at_once(alloc, scope, depth - 1, rest),
+        Test::Negates => negation_at_once(alloc, file_form, scope, depth - 1, rest),
         Test::Connects(connective) => {
-            connection_at_once(alloc, scope, depth - 1, connective, rest)
+            connection_at_once(alloc, file_form, scope, depth - 1, connective, rest)
         }
     }
 }
 
 fn comparison_at_once<'a>(
     alloc: Global,
+    file_form: FileForm,
     scope: &Scope<'_, '_>,
     depth: u32,
     comparison: Comparison,
     bytes: &'a [u8],
 ) -> Result<(Cond, &'a [u8]), ReadFault>
     ensures { IfOk result
-        (λ x. Makes (cond_with (expr_at depth) (cond_at depth) (Compares comparison) (tokens bytes.now))
+        (λ x. Makes
+        (cond_with (expr_at file_form depth) (cond_at file_form depth) (Compares comparison) (tokens bytes.now))
         (condition_in (view_scope scope.now)) (condition_of x.0) (tokens x.1.now)) }
 {
-    let (left, rest) = expression_at_once(alloc, scope, depth, bytes)?;
-    match last_expression_at_once(alloc, scope, depth, rest) {
+    let (left, rest) = expression_at_once(alloc, file_form, scope, depth, bytes)?;
+    match last_expression_at_once(alloc, file_form, scope, depth, rest) {
         Ok((right, rest)) => Ok((compare(comparison, left, right), rest)),
         Err(fault) => {
             drop(left);
@@ -70,15 +74,16 @@ fn comparison_at_once<'a>(
 #[cycle(conditions)]
 fn negation_at_once<'a>(
     alloc: Global,
+    file_form: FileForm,
     scope: &Scope<'_, '_>,
     depth: u32,
     bytes: &'a [u8],
 ) -> Result<(Cond, &'a [u8]), ReadFault>
     ensures { IfOk result
-        (λ x. Makes (cond_with (expr_at depth) (cond_at depth) Negates (tokens bytes.now))
+        (λ x. Makes (cond_with (expr_at file_form depth) (cond_at file_form depth) Negates (tokens bytes.now))
         (condition_in (view_scope scope.now)) (condition_of x.0) (tokens x.1.now)) }
 {
-    let (inner, rest) = boxed(alloc, scope, depth, bytes)?;
+    let (inner, rest) = boxed(alloc, file_form, scope, depth, bytes)?;
     let rest = close(rest)?;
     Ok((Cond::Not(inner), rest))
 }
@@ -86,17 +91,19 @@ fn negation_at_once<'a>(
 #[cycle(conditions)]
 fn connection_at_once<'a>(
     alloc: Global,
+    file_form: FileForm,
     scope: &Scope<'_, '_>,
     depth: u32,
     connective: Connective,
     bytes: &'a [u8],
 ) -> Result<(Cond, &'a [u8]), ReadFault>
     ensures { IfOk result
-        (λ x. Makes (cond_with (expr_at depth) (cond_at depth) (Connects connective) (tokens bytes.now))
+        (λ x. Makes
+        (cond_with (expr_at file_form depth) (cond_at file_form depth) (Connects connective) (tokens bytes.now))
         (condition_in (view_scope scope.now)) (condition_of x.0) (tokens x.1.now)) }
 {
-    let (left, rest) = boxed(alloc, scope, depth, bytes)?;
-    let (right, rest) = boxed(alloc, scope, depth, rest)?;
+    let (left, rest) = boxed(alloc, file_form, scope, depth, bytes)?;
+    let (right, rest) = boxed(alloc, file_form, scope, depth, rest)?;
     let rest = close(rest)?;
     Ok((connect(connective, left, right), rest))
 }
@@ -106,15 +113,16 @@ fn connection_at_once<'a>(
 #[cycle(conditions)]
 fn boxed<'a>(
     alloc: Global,
+    file_form: FileForm,
     scope: &Scope<'_, '_>,
     depth: u32,
     bytes: &'a [u8],
 ) -> Result<(Box<Cond>, &'a [u8]), ReadFault>
     ensures { IfOk result
-        (λ x. Makes (cond_at depth (tokens bytes.now)) (condition_in (view_scope scope.now)) (condition_of x.0.value)
-        (tokens x.1.now)) }
+        (λ x. Makes (cond_at file_form depth (tokens bytes.now)) (condition_in (view_scope scope.now))
+        (condition_of x.0.value) (tokens x.1.now)) }
 {
-    let (made, rest) = condition_at_once(alloc, scope, depth, bytes)?;
+    let (made, rest) = condition_at_once(alloc, file_form, scope, depth, bytes)?;
     let held = Box::new(alloc, made)?;
     Ok((held, rest))
 }

@@ -5,7 +5,7 @@ ghost use Rattle.std.specs.List.{list_all, prefix_len};
 ghost use Rattle.txn_programs.specs.Listing.{Listing};
 ghost use Rattle.text_words.specs.Bytes.{is_allowed, is_atom_byte, is_in_line};
 ghost use Rattle.text_words.specs.Tokens.{Lexeme, atom, tokens};
-ghost use Rattle.text_grammar.specs.Tree.{max_len};
+ghost use Rattle.text_grammar.specs.Tree.{longest};
 ghost use Rattle.text_grammar.specs.Spelling.{Spells, first_fault};
 ghost use Rattle.text_file_reader.specs.Faults.{IsFirst};
 ghost use Rattle.text_file_reader.specs.Gaps.{IsGap, SplitsNoToken, Division, ReadsAs};
@@ -37,7 +37,7 @@ pub fn atoms_stand_apart()
 pub fn tokens_are_all()
     ensures { (bytes others : List ℕ) → tokens bytes ≡ tokens others
         → list_all is_allowed bytes ≡ list_all is_allowed others
-        → length bytes ≤ max_len → length others ≤ max_len → ReadsAs bytes others }
+        → length bytes ≤ longest bytes → length others ≤ longest others → ReadsAs bytes others }
 {}
 
 /// A blank or a comment between two tokens changes nothing, wherever in a file it is added.
@@ -46,7 +46,7 @@ pub fn gaps_are_nothing()
     ensures tokens { (a gap b : List ℕ) → IsGap gap → SplitsNoToken a b → tokens (a ++ (gap ++ b)) ≡ tokens (a ++ b) }
     // So does what the file says, unless the gap makes it too long.
     ensures file { (a gap b : List ℕ) → IsGap gap → SplitsNoToken a b → list_all is_allowed gap ≡ true
-        → length (a ++ (gap ++ b)) ≤ max_len → ReadsAs (a ++ (gap ++ b)) (a ++ b) }
+        → length (a ++ (gap ++ b)) ≤ longest (a ++ (gap ++ b)) → ReadsAs (a ++ (gap ++ b)) (a ++ b) }
     // There is such a place between any two tokens: wherever the tokens are divided, the bytes can be.
     ensures places { (bytes : List ℕ) (front back : List Lexeme) → tokens bytes ≡ front ++ back
         → Division bytes front back }

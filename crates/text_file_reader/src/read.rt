@@ -22,11 +22,10 @@ fn built(alloc: Global, parts: Parts) -> Result<Catalogue, ReadFault>
     requires { ids_hold (view_parts parts) ≡ true }
     ensures { Gives (λ c. c) result (lawful (view_parts parts)) }
 {
-    let tables = Vec::new(alloc);
     match Catalogue::build_known(
         alloc,
         parts.vars,
-        tables,
+        parts.tables,
         parts.always,
         parts.txs,
         parts.runs,
@@ -61,18 +60,19 @@ fn read(alloc: Global, bytes: &[u8]) -> Result<Catalogue, ReadFault>
     }
 }
 
-/// Reads a file. It is `Ok` exactly where the bytes spell a catalogue by the rules of the language: at
-/// most 1,048,576 bytes; a reading by the grammar of its form with at most 32 parentheses open at a
-/// time; only declared names used, none declared twice among variables, among conditions or among
-/// transactions; all limits kept; and each standing condition true of the initial values. A file of
-/// form 2 may have standing conditions. One of form 3 may have parameters as well: none with the name
-/// of a variable or of one before it, and each run with as many arguments as its transaction has
-/// parameters.
+/// Reads a file. It is `Ok` exactly where the bytes spell a catalogue by the rules of the language:
+/// at most 1,048,576 bytes, or 67,108,864 where it begins with `(stm 3)`; a reading by the grammar
+/// of its form with at most 32 parentheses open at a time; only declared names used, none declared
+/// twice among variables, among tables, among conditions or among transactions; all limits kept;
+/// and each standing condition true of the initial values. A file of form 2 may have standing
+/// conditions. One of form 3 may have tables and parameters as well: each table with one number for
+/// all its cells or with one for each; no parameter with the name of a variable or of one before
+/// it; and each run with as many arguments as its transaction has parameters.
 ///
 /// Otherwise the fault is the first of `TooLong`, `BadByte`, `Shape`, `Name`, `Limit` and `Broken`
 /// that applies, each judged over all the bytes before the next is; a wrong number of arguments is a
-/// fault of `Name`. `Memory` may come in place of any answer, where a growth was refused. It takes
-/// time and memory linear in the input.
+/// fault of `Name`, and a wrong number of a table's numbers is one of `Limit`. `Memory` may come in
+/// place of any answer, where a growth was refused. It takes time and memory linear in the input.
 pub fn read_file(alloc: Global, bytes: &[u8]) -> Result<Catalogue, ReadFault>
     // What is read is spelled so.
     ensures found { IfOk result (λ c. Spells bytes.now c) }

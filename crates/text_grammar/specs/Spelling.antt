@@ -4,13 +4,13 @@ use Rattle.std.specs.List.{list_all}
 use Rattle.txn_programs.specs.Arithmetic.{fits}
 use Rattle.txn_programs.specs.Tree.{Expression, Condition, Statement, Statements, Transaction}
 use Rattle.txn_programs.specs.Tree as t
-use Rattle.txn_programs.specs.Listing.{Listing, conditions}
+use Rattle.txn_programs.specs.Listing.{Listing, values, conditions}
 use Rattle.txn_programs.specs.declared.arguments.Call.{Call}
 use Rattle.txn_programs.specs.Standing.{upholds}
 use Rattle.txn_programs.specs.Names.{names_hold}
 use Rattle.txn_programs.specs.Limits.{limits_hold}
-use Rattle.text_grammar.specs.Tree.{SpellsTree}
-use Rattle.text_grammar.specs.Written.{written_in}
+use Rattle.text_grammar.specs.Tree.{Table, SpellsTree}
+use Rattle.text_grammar.specs.Written.{DeclareTables, written_in}
 use Rattle.text_words.specs.Answers.{◌>>=◌}
 use Rattle.text_grammar.specs.Reading.{tree_of}
 use Rattle.text_grammar.specs.Resolving.{resolved}
@@ -23,8 +23,7 @@ abbrev pub expression_integers : Expression → Bool
 expression_integers (t.Int n) = fits n
 expression_integers (t.Var x) = true
 expression_integers (t.Param p) = true
--- no file says a table yet, and no listing has one
-expression_integers (t.Cell table a) = true
+expression_integers (t.Cell table a) = expression_integers a
 expression_integers (t.OfAll fold table) = true
 expression_integers (t.Add a b) = expression_integers a && expression_integers b
 expression_integers (t.Sub a b) = expression_integers a && expression_integers b
@@ -44,7 +43,7 @@ abbrev mutual
   pub statement_integers : Statement → Bool
   statement_integers t.Skip = true
   statement_integers (t.Set x a) = expression_integers a
-  statement_integers (t.Put table a b) = true
+  statement_integers (t.Put table a b) = expression_integers a && expression_integers b
   statement_integers (t.Seq parts) = statements_integers parts
   statement_integers (t.If c p q) = condition_integers c && (statement_integers p && statement_integers q)
   statement_integers (t.Repeat n p) = statement_integers p
@@ -70,9 +69,11 @@ integers_fit l =
 -- the bytes spell a file that declares the listing, whose names, limits and integers hold
 pub record Declares (bytes : List ℕ) (l : Listing) : Type 0 where
   pub form : FileForm
-  pub spelled : SpellsTree bytes (written_in form l)
-  -- each variable has one initial value
-  pub valued : length l.initial ≡ length l.names
+  pub tables : List Table
+  pub spelled : SpellsTree bytes (written_in form tables l)
+  pub tabled : DeclareTables tables l
+  -- each variable and each cell has one initial value
+  pub valued : length l.initial ≡ values l
   pub names : names_hold l ≡ true
   pub limits : limits_hold l ≡ true
   pub integers : integers_fit l ≡ true

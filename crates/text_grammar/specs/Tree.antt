@@ -1,9 +1,11 @@
 -- Files as trees, and the tokens that spell them: the grammar, one clause a form.
-use Rattle.std.specs.Prelude.{◌≡◌, ℕ, suc, ◌≤◌, ℤ, pos, true, List, [], ◌∷◌, ◌++◌, map, length, max, codes}
-use Rattle.std.specs.List.{flat_map, list_all, AllByRecursion}
+use Rattle.std.specs.Prelude.{◌≡◌, ℕ, suc, ◌≤◌, ℤ, pos, Bool, true, false, ◌&&◌, List, [], ◌∷◌, ◌++◌, map, length, max, codes, nat_eq, if◌then◌else◌}
+use Rattle.std.specs.List.{flat_map, list_all, AllByRecursion, starts_with}
 use Rattle.text_words.specs.Bytes.{is_allowed}
 use Rattle.text_words.specs.Tokens.{Lexeme, Opens, Closes, tokens}
 use Rattle.text_words.specs.Tokens as token
+use Rattle.txn_programs.specs.declared.ast.Fold.{Fold}
+use Rattle.txn_programs.specs.declared.ast.Fold.TheVariants as fold
 use Rattle.text_grammar.specs.declared.words.Operator.{Operator}
 use Rattle.text_grammar.specs.declared.words.Operator.TheVariants as operator
 use Rattle.text_grammar.specs.declared.words.Comparison.{Comparison}
@@ -19,6 +21,8 @@ use Rattle.text_grammar.specs.declared.file.FileForm.TheVariants.{One, Two, Thre
 pub data Expr : Type 0 where
   Int : (value : ℤ) → Expr
   Name : (name : List ℕ) → Expr
+  At : (table : List ℕ) → (index : Expr) → Expr
+  OfAll : (fold : Fold) → (table : List ℕ) → Expr
   Binary : (op : Operator) → (left right : Expr) → Expr
 
 pub data Cond : Type 0 where
@@ -30,6 +34,7 @@ mutual
   pub data Stmt : Type 0 where
     Skip : Stmt
     Set : (name : List ℕ) (value : Expr) → Stmt
+    Put : (table : List ℕ) (index value : Expr) → Stmt
     Seq : (parts : Stmts) → Stmt
     If : (test : Cond) (first second : Stmt) → Stmt
     Repeat : (count : ℤ) (body : Stmt) → Stmt
@@ -45,6 +50,13 @@ mutual
 pub record Pair : Type 0 where
   pub name : List ℕ
   pub value : ℤ
+
+-- a table, how many cells it has, and what they are at first: all the one number, or each one of the numbers
+pub record Table : Type 0 where
+  pub name : List ℕ
+  pub count : ℤ
+  pub first : ℤ
+  pub others : List ℤ
 
 -- a standing condition
 pub record Always : Type 0 where
@@ -67,6 +79,7 @@ pub record Run : Type 0 where
 pub record File : Type 0 where
   pub form : FileForm
   pub vars : List Pair
+  pub tables : List Table
   pub always : List Always
   pub txs : List Declaration
   pub runs : List Run
@@ -77,6 +90,11 @@ operator_word operator.Sub = codes "sub"
 operator_word operator.Mul = codes "mul"
 operator_word operator.Div = codes "div"
 operator_word operator.Rem = codes "rem"
+
+abbrev pub fold_word : Fold → List ℕ
+fold_word fold.Sum = codes "sum"
+fold_word fold.Min = codes "min"
+fold_word fold.Max = codes "max"
 
 abbrev pub comparison_word : Comparison → List ℕ
 comparison_word comparison.Eq = codes "eq"
@@ -90,6 +108,7 @@ connective_word connective.Or = codes "or"
 abbrev pub keyword_word : Keyword → List ℕ
 keyword_word keyword.Skip = codes "skip"
 keyword_word keyword.Set = codes "set"
+keyword_word keyword.Put = codes "put"
 keyword_word keyword.Seq = codes "seq"
 keyword_word keyword.If = codes "if"
 keyword_word keyword.Repeat = codes "repeat"
@@ -104,6 +123,8 @@ form word parts = Opens ∷ token.Name word ∷ (parts ++ (Closes ∷ []))
 abbrev pub expr_tokens : Expr → List Lexeme
 expr_tokens (Int value) = token.Int value ∷ []
 expr_tokens (Name name) = token.Name name ∷ []
+expr_tokens (At table index) = form (codes "at") (token.Name table ∷ expr_tokens index)
+expr_tokens (OfAll fold table) = form (fold_word fold) (token.Name table ∷ [])
 expr_tokens (Binary op left right) = form (operator_word op) (expr_tokens left ++ expr_tokens right)
 
 abbrev pub cond_tokens : Cond → List Lexeme
@@ -115,6 +136,7 @@ abbrev mutual
   pub stmt_tokens : Stmt → List Lexeme
   stmt_tokens Skip = form (keyword_word keyword.Skip) []
   stmt_tokens (Set name value) = form (keyword_word keyword.Set) (token.Name name ∷ expr_tokens value)
+  stmt_tokens (Put table index value) = form (keyword_word keyword.Put) (token.Name table ∷ (expr_tokens index ++ expr_tokens value))
   stmt_tokens (Seq parts) = form (keyword_word keyword.Seq) (stmts_tokens parts)
   stmt_tokens (If test first second) = form (keyword_word keyword.If) (cond_tokens test ++ (stmt_tokens first ++ stmt_tokens second))
   stmt_tokens (Repeat count body) = form (keyword_word keyword.Repeat) (token.Int count ∷ stmt_tokens body)
@@ -128,6 +150,9 @@ abbrev mutual
 
 abbrev pub pair_tokens : List ℕ → Pair → List Lexeme
 pair_tokens word p = form word (token.Name p.name ∷ token.Int p.value ∷ [])
+
+abbrev pub table_tokens : Table → List Lexeme
+table_tokens t = form (codes "table") (token.Name t.name ∷ token.Int t.count ∷ token.Int t.first ∷ map token.Int t.others)
 
 abbrev pub always_tokens : Always → List Lexeme
 always_tokens a = form (codes "always") (token.Name a.name ∷ cond_tokens a.condition)
@@ -151,17 +176,53 @@ heading_tokens One = []
 heading_tokens Two = form (codes "stm") (token.Int (pos 2) ∷ [])
 heading_tokens Three = form (codes "stm") (token.Int (pos 3) ∷ [])
 
--- the form, then the variables, then the conditions, then the transactions, then the runs
+-- the form, then the variables, then the tables, then the conditions, then the transactions, then the runs
 abbrev pub file_tokens : File → List Lexeme
 file_tokens f =
-    heading_tokens f.form ++ (flat_map (pair_tokens (codes "var")) f.vars ++ (flat_map always_tokens f.always
-    ++ (flat_map (tx_tokens f.form) f.txs ++ flat_map run_tokens f.runs)))
+    heading_tokens f.form ++ (flat_map (pair_tokens (codes "var")) f.vars ++ (flat_map table_tokens f.tables
+    ++ (flat_map always_tokens f.always ++ (flat_map (tx_tokens f.form) f.txs ++ flat_map run_tokens f.runs))))
 
--- no transaction has parameters, and no run has arguments
+-- whether files of the form can have tables
+abbrev pub has_tables : FileForm → Bool
+has_tables One = false
+has_tables Two = false
+has_tables Three = true
+
+-- only in such a file a table is named
+abbrev pub expr_formed : FileForm → Expr → Bool
+expr_formed form (Int value) = true
+expr_formed form (Name name) = true
+expr_formed form (At table index) = has_tables form && expr_formed form index
+expr_formed form (OfAll fold table) = has_tables form
+expr_formed form (Binary op left right) = expr_formed form left && expr_formed form right
+
+abbrev pub cond_formed : FileForm → Cond → Bool
+cond_formed form (Compare op left right) = expr_formed form left && expr_formed form right
+cond_formed form (Not inner) = cond_formed form inner
+cond_formed form (Connect op left right) = cond_formed form left && cond_formed form right
+
+abbrev mutual
+  pub stmt_formed : FileForm → Stmt → Bool
+  stmt_formed form Skip = true
+  stmt_formed form (Set name value) = expr_formed form value
+  stmt_formed form (Put table index value) = has_tables form && (expr_formed form index && expr_formed form value)
+  stmt_formed form (Seq parts) = stmts_formed form parts
+  stmt_formed form (If test first second) = cond_formed form test && (stmt_formed form first && stmt_formed form second)
+  stmt_formed form (Repeat count body) = stmt_formed form body
+  stmt_formed form Retry = true
+  stmt_formed form (OrElse first second) = stmt_formed form first && stmt_formed form second
+  stmt_formed form (Throw value) = expr_formed form value
+
+  pub stmts_formed : FileForm → Stmts → Bool
+  stmts_formed form NoStmts = true
+  stmts_formed form (MoreStmts first others) = stmt_formed form first && stmts_formed form others
+
+-- there are no tables, no transaction has parameters, and no run has arguments
 abbrev pub HasNoLists : File → Type 0
-HasNoLists f = AllByRecursion (λ (t : Declaration). t.parameters ≡ []) f.txs × AllByRecursion (λ (r : Run). r.arguments ≡ []) f.runs
+HasNoLists f =
+    (f.tables ≡ []) × AllByRecursion (λ (t : Declaration). t.parameters ≡ []) f.txs × AllByRecursion (λ (r : Run). r.arguments ≡ []) f.runs
 
--- form 1 has no conditions, and only form 3 has parameters and arguments
+-- form 1 has no conditions, and only form 3 has tables, parameters and arguments
 abbrev pub IsOfForm : FileForm → File → Type 0
 IsOfForm One f = (f.always ≡ []) × HasNoLists f
 IsOfForm Two f = HasNoLists f
@@ -171,6 +232,8 @@ IsOfForm Three f = Unit {0}
 abbrev pub expr_depth : Expr → ℕ
 expr_depth (Int value) = 0
 expr_depth (Name name) = 0
+expr_depth (At table index) = suc (expr_depth index)
+expr_depth (OfAll fold table) = 1
 expr_depth (Binary op left right) = suc (max (expr_depth left) (expr_depth right))
 
 abbrev pub cond_depth : Cond → ℕ
@@ -182,6 +245,7 @@ abbrev mutual
   pub stmt_depth : Stmt → ℕ
   stmt_depth Skip = 1
   stmt_depth (Set name value) = suc (expr_depth value)
+  stmt_depth (Put table index value) = suc (max (expr_depth index) (expr_depth value))
   stmt_depth (Seq parts) = suc (stmts_depth parts)
   stmt_depth (If test first second) = suc (max (cond_depth test) (max (stmt_depth first) (stmt_depth second)))
   stmt_depth (Repeat count body) = suc (stmt_depth body)
@@ -193,24 +257,35 @@ abbrev mutual
   stmts_depth NoStmts = 0
   stmts_depth (MoreStmts first others) = max (stmt_depth first) (stmts_depth others)
 
+-- an expression in a file of this form, with at most so many parentheses open
+abbrev pub IsExpr : FileForm → ℕ → Expr → Type 0
+IsExpr form depth e = (expr_depth e ≤ depth) × (expr_formed form e ≡ true)
+
+abbrev pub IsCond : FileForm → ℕ → Cond → Type 0
+IsCond form depth c = (cond_depth c ≤ depth) × (cond_formed form c ≡ true)
+
+abbrev pub IsStmt : FileForm → ℕ → Stmt → Type 0
+IsStmt form depth s = (stmt_depth s ≤ depth) × (stmt_formed form s ≡ true)
+
 -- the parenthesis of the condition or of the transaction is one more, so that at most 32 are open
-abbrev pub IsShallowAlways : Always → Type 0
-IsShallowAlways a = cond_depth a.condition ≤ 31
+abbrev pub IsAlways : FileForm → Always → Type 0
+IsAlways form a = IsCond form 31 a.condition
 
-abbrev pub IsShallow : Declaration → Type 0
-IsShallow t = (stmt_depth t.body ≤ 31) × (expr_depth t.value ≤ 31)
+abbrev pub IsTx : FileForm → Declaration → Type 0
+IsTx form t = IsStmt form 31 t.body × IsExpr form 31 t.value
 
-abbrev pub AreShallow : File → Type 0
-AreShallow f = AllByRecursion IsShallowAlways f.always × AllByRecursion IsShallow f.txs
+-- each condition and each transaction is one of the form, and none is too deep
+abbrev pub HasParts : File → Type 0
+HasParts f = AllByRecursion (IsAlways f.form) f.always × AllByRecursion (IsTx f.form) f.txs
 
--- the longest file, in bytes
-abbrev pub max_len : ℕ
-max_len = 1048576
+-- how many bytes a file that begins so has at most: one of form 3, which may have tables, has room for their cells
+unfoldable pub longest : List ℕ → ℕ
+longest bytes = if starts_with nat_eq bytes (codes "(stm 3)") then 67108864 else 1048576
 
 -- the bytes spell the tree
 pub record SpellsTree (bytes : List ℕ) (f : File) : Type 0 where
-  pub short : length bytes ≤ max_len
+  pub short : length bytes ≤ longest bytes
   pub allowed : list_all is_allowed bytes ≡ true
   pub spelled : tokens bytes ≡ file_tokens f
   pub formed : IsOfForm f.form f
-  pub shallow : AreShallow f
+  pub parts : HasParts f

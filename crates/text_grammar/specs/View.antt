@@ -3,7 +3,7 @@ use Rattle.std.specs.Prelude.{ℕ, ℤ, List, map}
 use Rattle.std.proofs.Common.{Bor}
 use Rattle.text_words.specs.declared.numeral.Numeral.{Numeral}
 use Rattle.text_words.specs.Bytes.{int_value}
-use Rattle.text_grammar.specs.Tree.{Expr, Cond, Stmt, Stmts, NoStmts, MoreStmts, Pair, Always, Declaration, Run, File}
+use Rattle.text_grammar.specs.Tree.{Expr, Cond, Stmt, Stmts, NoStmts, MoreStmts, Pair, Table, Always, Declaration, Run, File}
 use Rattle.text_grammar.specs.Tree as tree
 use Rattle.text_grammar.specs.declared.expr.RawExpr.{RawExpr}
 use Rattle.text_grammar.specs.declared.expr.RawExpr as expr
@@ -12,6 +12,7 @@ use Rattle.text_grammar.specs.declared.cond.RawCond as cond
 use Rattle.text_grammar.specs.declared.stmt.RawStmt.{RawStmt, Row_of-RawStmt, end_of-RawStmt, more_of-RawStmt}
 use Rattle.text_grammar.specs.declared.stmt.RawStmt as stmt
 use Rattle.text_grammar.specs.declared.file.RawPair.{RawPair}
+use Rattle.text_grammar.specs.declared.file.RawTable.{RawTable}
 use Rattle.text_grammar.specs.declared.file.RawAlways.{RawAlways}
 use Rattle.text_grammar.specs.declared.file.RawTx.{RawTx}
 use Rattle.text_grammar.specs.declared.file.RawRun.{RawRun}
@@ -20,6 +21,8 @@ use Rattle.text_grammar.specs.declared.file.RawFile.{RawFile}
 abbrev pub view_expr : RawExpr → Expr
 view_expr (expr.Int numeral) = tree.Int (int_value numeral.text.now)
 view_expr (expr.Name name) = tree.Name name.now
+view_expr (expr.At' table p index) = tree.At table.now (view_expr index)
+view_expr (expr.OfAll fold table) = tree.OfAll fold table.now
 view_expr (expr.Binary' op p left q right) = tree.Binary op (view_expr left) (view_expr right)
 
 abbrev pub view_cond : RawCond → Cond
@@ -31,6 +34,7 @@ abbrev mutual
   pub view_stmt : RawStmt → Stmt
   view_stmt stmt.Skip = tree.Skip
   view_stmt (stmt.Set name value) = tree.Set name.now (view_expr value)
+  view_stmt (stmt.Put table index value) = tree.Put table.now (view_expr index) (view_expr value)
   view_stmt (stmt.Seq' shape parts) = tree.Seq (view_row parts)
   view_stmt (stmt.If' test p first q second) = tree.If (view_cond test) (view_stmt first) (view_stmt second)
   view_stmt (stmt.Repeat' count p body) = tree.Repeat (int_value count.text.now) (view_stmt body)
@@ -70,6 +74,18 @@ view_txs ts = map view_tx ts
 abbrev pub view_numbers : List Numeral → List ℤ
 view_numbers numerals = map (λ n. int_value n.text.now) numerals
 
+abbrev pub view_table : RawTable → Table
+view_table t =
+    record {
+      name = t.name.now;
+      count = int_value t.count.text.now;
+      first = int_value t.first.text.now;
+      others = view_numbers t.others.items;
+    }
+
+abbrev pub view_tables : List RawTable → List Table
+view_tables ts = map view_table ts
+
 abbrev pub view_run : RawRun → Run
 view_run r = record { name = r.name.now; count = int_value r.count.text.now; arguments = view_numbers r.arguments.items }
 
@@ -81,6 +97,7 @@ view_file f =
     record {
       form = f.form;
       vars = view_pairs f.vars.items;
+      tables = view_tables f.tables.items;
       always = view_conditions f.always.items;
       txs = view_txs f.txs.items;
       runs = view_runs f.runs.items;

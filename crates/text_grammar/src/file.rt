@@ -12,12 +12,21 @@ pub struct RawPair<'a> {
     pub value: Numeral<'a>,
 }
 
-/// The form of a file: the second can have standing conditions, and the third parameters as well.
+/// The form of a file: the second can have standing conditions, and the third tables and parameters as well.
 #[derive(Clone, Copy, Debug, PartialEq, Eq)]
 pub enum FileForm {
     One,
     Two,
     Three,
+}
+
+/// A table: its name, how many cells it has, and the first number of what they are at first, with the others that are given.
+#[derive(Drop)]
+pub struct RawTable<'a> {
+    pub name: &'a str,
+    pub count: Numeral<'a>,
+    pub first: Numeral<'a>,
+    pub others: Vec<Numeral<'a>>,
 }
 
 /// A standing condition.
@@ -49,6 +58,7 @@ pub struct RawRun<'a> {
 pub struct RawFile<'a> {
     pub form: FileForm,
     pub vars: Vec<RawPair<'a>>,
+    pub tables: Vec<RawTable<'a>>,
     pub always: Vec<RawAlways<'a>>,
     pub txs: Vec<RawTx<'a>>,
     pub runs: Vec<RawRun<'a>>,

@@ -9,6 +9,8 @@ use text_words::numeral::Numeral;
 pub enum RawStmt<'a> {
     Skip,
     Set(&'a str, RawExpr<'a>),
+    /// The table, the number of the cell, and what is put there.
+    Put(&'a str, RawExpr<'a>, RawExpr<'a>),
     Seq(Vec<RawStmt<'a>>),
     If(RawCond<'a>, Box<RawStmt<'a>>, Box<RawStmt<'a>>),
     Repeat(Numeral<'a>, Box<RawStmt<'a>>),

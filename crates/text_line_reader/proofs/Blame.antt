@@ -13,8 +13,8 @@ use Rattle.text_words.specs.declared.fault.ReadFault.{ReadFault}
 use Rattle.text_words.specs.declared.fault.ReadFault.TheVariants as faults
 use Rattle.text_words.proofs.Steps.{done}
 use Rattle.text_line_reader.specs.Lines.{Line, Whole, Cut, first_line, parted}
-use Rattle.text_line_reader.specs.Words.{is_number, given, first_word, name_in, int_in, number_in, expect, behind, after_word, begins}
-use Rattle.text_line_reader.specs.Rows.{line_at, lines_at, all_at, end_at, each}
+use Rattle.text_line_reader.specs.Words.{is_number, given, first_word, name_in, int_in, number_in, expect, behind, after_word, cell_in}
+use Rattle.text_line_reader.specs.Rows.{line_at, lines_at, all_by, end_at, each}
 use Rattle.text_line_reader.specs.Counts.{below, task_id}
 
 -- a fault of the result is of this kind
@@ -72,6 +72,12 @@ pub after_shape : (wanted text : List ℕ) → IsShape (after_word wanted text)
 unfolding after_word
 after_shape wanted text = given_shape (behind wanted text)
 
+pub cell_shape : (text : List ℕ) → IsShape (cell_in text)
+unfolding cell_in
+cell_shape text =
+    then faults.Shape _ _ (given_shape (parted 91 text)) (λ first. then faults.Shape _ _ (given_shape (parted 93 first.1)) (λ second. then faults.Shape _ _ (expect_shape [] second.1)
+    (λ nothing. then faults.Shape _ _ (name_shape first.0) (λ name. then faults.Shape _ _ (number_shape second.0) (λ index. ok faults.Shape _)))))
+
 pub line_shape : {A : Type 0} (one : List ℕ → Result A ReadFault) → ((text : List ℕ) → IsShape (one text)) → (ls : List Line) → IsShape (line_at one ls)
 unfolding line_at
 line_shape one h ls = then faults.Shape _ _ (given_shape (first_line ls)) (λ first. then faults.Shape _ _ (h first.0) (λ x. ok faults.Shape _))
@@ -80,11 +86,11 @@ pub lines_shape : {A : Type 0} (one : List ℕ → Result A ReadFault) → ((tex
 lines_shape one h zero ls = ok faults.Shape _
 lines_shape one h (suc n) ls = then faults.Shape _ _ (line_shape one h ls) (λ first. then faults.Shape _ _ (lines_shape one h n first.1) (λ others. ok faults.Shape _))
 
-pub all_shape : {A : Type 0} (wanted : List ℕ) (one : List ℕ → Result A ReadFault) → ((text : List ℕ) → IsShape (one text)) → (ls : List Line) → IsShape (all_at wanted one ls)
-all_shape wanted one h [] = ok faults.Shape _
-all_shape wanted one h (Cut text ∷ ls) = ok faults.Shape _
-all_shape wanted one h (Whole text ∷ ls) =
-    either faults.Shape (begins wanted text) _ _ (then faults.Shape _ _ (h text) (λ x. then faults.Shape _ _ (all_shape wanted one h ls) (λ others. ok faults.Shape _))) (ok faults.Shape _)
+pub all_shape : {A : Type 0} (test : List ℕ → Bool) (one : List ℕ → Result A ReadFault) → ((text : List ℕ) → IsShape (one text)) → (ls : List Line) → IsShape (all_by test one ls)
+all_shape test one h [] = ok faults.Shape _
+all_shape test one h (Cut text ∷ ls) = ok faults.Shape _
+all_shape test one h (Whole text ∷ ls) =
+    either faults.Shape (test text) _ _ (then faults.Shape _ _ (h text) (λ x. then faults.Shape _ _ (all_shape test one h ls) (λ others. ok faults.Shape _))) (ok faults.Shape _)
 
 pub end_shape : (ls : List Line) → IsShape (end_at ls)
 unfolding end_at

@@ -31,7 +31,7 @@ pub each_fails : {A B : Type 0} (e : ReadFault) (one : A → Result B ReadFault)
 each_fails e one front x xs total fails so_far =
     failed e (one x) (λ y. joined front (each one xs >>= λ ys. done (y ∷ ys))) total fails (sym (twice front (one x) (λ y. each one xs >>= λ ys. done (y ∷ ys))) ∙ so_far)
 
-next_item : {X : Type 0} (xs : List X) (i : ℕ) (x : X) → i < length xs → x ≡ get_or xs i x → drop i xs ≡ x ∷ drop (i + 1) xs
+pub next_item : {X : Type 0} (xs : List X) (i : ℕ) (x : X) → i < length xs → x ≡ get_or xs i x → drop i xs ≡ x ∷ drop (i + 1) xs
 next_item xs i x lt is = drop-cons xs i x lt ∙ ap (λ y. y ∷ drop (suc i) xs) (sym is) ∙ ap (λ k. x ∷ drop k xs) (sym (add-one i))
 
 -- one turn of the loop, which keeps what is made so far behind the front

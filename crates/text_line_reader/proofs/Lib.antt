@@ -13,6 +13,13 @@ pub mod Agains
 pub mod Reading
 pub mod ReportSteps
 pub mod ReportKnown
+pub mod CellSteps
+pub mod Spots
+pub mod CellPlaces
+pub mod WordsTold
+pub mod CellBacks
+pub mod CellAgains
+pub mod Filling
 pub mod Shapes
 pub mod Counted
 pub mod ReportTexts

@@ -5,18 +5,17 @@ use Rattle.std.proofs.lemmas.Bool.Decides.{nat_tests}
 use Rattle.txn_programs.specs.Limits.{limits_hold}
 use Rattle.txn_programs.specs.Listing.{Listing, values}
 use Rattle.txn_programs.specs.Names.{names_hold}
-use Rattle.txn_programs.proofs.Untabled.{untabled_valued}
 use Rattle.text_words.specs.Answers.{◌>>=◌}
 use Rattle.text_words.specs.declared.fault.ReadFault.{ReadFault}
 
 -- what a catalogue keeps
 pub record Rules (l : Listing) : Type 0 where
-  pub named : length l.names ≡ length l.initial
+  pub valued : values l ≡ length l.initial
   pub names : names_hold l ≡ true
   pub limits : limits_hold l ≡ true
 
 pub rules_of : (l : Listing) → values l ≡ length l.initial → names_hold l ≡ true → limits_hold l ≡ true → Rules l
-rules_of l valued names limits = record { named = untabled_valued l limits valued; names = names; limits = limits }
+rules_of l valued names limits = record { valued = valued; names = names; limits = limits }
 
 pub at_most : (n m : ℕ) → nat_lt m n ≡ false → n ≤ m
 at_most n m h = grind (arith, nat_tests)

@@ -1,55 +1,47 @@
 -- The words of a report that fits the catalogue tell that report.
-use Rattle.std.proofs.Common.{◌≡◌, ◌≢◌, ◌∙◌, ℕ, suc, ◌+◌, ◌<◌, ◌≤◌, ◌^◌, true, List, [], ◌∷◌, ◌++◌, length, map, get_or, Ok, refl, sym, ap, arith}
-use Rattle.std.specs.Prelude.{ℤ, pos, negsuc, FitsSigned, All, codes, is_some}
+use Rattle.std.proofs.Common.{◌≡◌, ◌≢◌, ◌∙◌, ℕ, zero, suc, ◌<◌, ◌≤◌, ◌||◌, Bool, true, false, List, [], ◌∷◌, ◌++◌, length, map, take, drop, get_or, Ok, refl, sym, ap, append_assoc, length-drop, arith}
+use Rattle.std.specs.Prelude.{ℤ, pos, FitsSigned, All, codes, is_some, nat_lt}
 use Rattle.std.specs.Int.{w64}
 use Rattle.std.specs.Fmt.{decimal, signed_decimal}
 use Rattle.std.specs.List.{flat_map, list_all, AllByRecursion}
 use Rattle.std.proofs.lemmas.Bool.{and_parts, and_from, lt-ltb}
-use Rattle.std.proofs.lemmas.List.{length-map}
+use Rattle.std.proofs.lemmas.List.{length-map, take-append-drop}
 use Rattle.std.proofs.lemmas.List.Elements.{recursion_from_All}
 use Rattle.std.proofs.lemmas.Option.{slice_get-get_or}
 use Rattle.std.proofs.lemmas.Slice.Eq.{bytes_eq-Decides}
-use Rattle.txn_programs.specs.Arithmetic.{fits}
+use Rattle.txn.specs.Arities.{most_arity}
 use Rattle.txn_programs.specs.declared.ast.AlwaysId.{AlwaysId}
 use Rattle.txn_programs.specs.declared.ast.TaskId.{TaskId}
 use Rattle.txn_programs.specs.declared.ast.TxId.{TxId}
+use Rattle.txn_programs.specs.declared.ast.VarId.{VarId}
 use Rattle.txn_programs.specs.declared.ast.Fault.TheVariants as fault
 use Rattle.txn_programs.specs.declared.ast.Outcome.{Outcome}
 use Rattle.txn_programs.specs.declared.ast.Outcome.TheVariants as outcome
 use Rattle.txn_programs.specs.declared.limits.TheConstants.{MAX_TASKS}
 use Rattle.txn_programs.specs.declared.report.Entry as told
-use Rattle.txn_programs.specs.LawfulReport.{OutcomeKnown, FitsCatalogue}
-use Rattle.txn_programs.specs.Listing.{Listing, always_name, always_names, tasks, program_at}
+use Rattle.txn_programs.specs.LawfulReport.{OutcomeKnown, CellsBegin, FitsCatalogue}
+use Rattle.txn_programs.specs.Listing.{Listing, values, always_name, always_names, tasks, program_at}
+use Rattle.txn_programs.specs.Limits.{limits_hold}
 use Rattle.txn_programs.specs.Names.{is_name, are_formed, names_hold}
 use Rattle.txn_programs.specs.Told.{Told}
 use Rattle.txn_programs.specs.Tree.{Transaction, Skip, Int}
 use Rattle.txn_programs.proofs.Lawful.{names_parts, passes_at}
-use Rattle.text_words.specs.Bytes.{int_value}
 use Rattle.text_report_printer.specs.ReportFits.{OutcomeFits, ReportFits}
-use Rattle.text_report_printer.specs.ReportText.{variable_line, variable_lines, outcome_text, entry_line, task_line, report_text}
-use Rattle.text_words.specs.Numbers.{number_of}
+use Rattle.text_report_printer.specs.ReportText.{variable_line, variable_lines, table_lines, value_lines, outcome_text, entry_line, task_line, report_text}
 use Rattle.text_words.specs.Words.{line}
-use Rattle.text_line_reader.specs.ReportRaw.{Variable, Ending, Returned, Threw, Overflow, DivideByZero, Outside, Broke, Entry, Task, Raw, variable_words, ending_words, entry_words, task_words, raw_text, IsVariable, IsEnding, IsEntry, IsTask, IsRaw}
-use Rattle.text_line_reader.specs.Counts.{below}
-use Rattle.text_line_reader.specs.Reports.{knows_outside}
-use Rattle.text_line_reader.specs.ReportResolving.{named_as, is_known, entries_known, tasks_known, variables_known, transactions_known, condition_known, conditions_known, names_known, count_in, variable_told, outcome_told, entry_told, task_told, told_of, resolved}
+use Rattle.text_line_reader.specs.ReportRaw.{Variable, Cell, Ending, Returned, Threw, Overflow, DivideByZero, Outside, Broke, Entry, Task, Raw, variable_words, cell_words, ending_words, entry_words, task_words, raw_text, IsVariable, IsCell, HasCells, IsEnding, IsEntry, IsTask, IsRaw}
+use Rattle.text_line_reader.specs.Reports.{knows_cells}
+use Rattle.text_line_reader.specs.ReportResolving.{named_as, cells_known, cell_told, values_told, is_known, entries_known, tasks_known, variables_known, transactions_known, condition_known, conditions_known, names_known, count_in, variable_told, outcome_told, entry_told, task_told, told_of, resolved}
 use Rattle.text_line_reader.specs.Rows.{each}
-use Rattle.text_line_reader.proofs.Numbers.{decimal_value, int_printed, printed_value, below_is}
+use Rattle.text_line_reader.proofs.Numbers.{int_printed}
+use Rattle.text_line_reader.proofs.WordsTold.{value_again, count_again}
+use Rattle.text_line_reader.proofs.Spots.{spots, spots_length, tables_lined}
+use Rattle.text_line_reader.proofs.CellPlaces.{all_spelled}
+use Rattle.text_line_reader.proofs.CellAgains.{written_cells, told_cells, cells_again}
 use Rattle.text_line_reader.proofs.ReportPlaces.{tx_named, tx_again, condition_is, always_again}
 use Rattle.text_line_reader.proofs.Agains.{task_id_again, small, each_again, all_again, tests_again, text_again}
 
 -- ---- words
-
-fits_is : (z : ℤ) → FitsSigned w64 z → fits z ≡ true
-fits_is (pos n) h = lt-ltb n (2 ^ 63) h.sfits
-fits_is (negsuc n) h = lt-ltb n (2 ^ 63) (let g = h.sfits in omega arith)
-
-value_again : (z : ℤ) → FitsSigned w64 z → number_of (int_value (signed_decimal z)) ≡ Ok z
-unfolding number_of
-value_again z h = rw (printed_value z h, fits_is z h) refl
-
-count_again : (n : ℕ) → n ≤ MAX_TASKS → count_in (decimal n) ≡ Ok n
-count_again n h = ap (below (MAX_TASKS + 1)) (decimal_value n (omega arith)) ∙ below_is (MAX_TASKS + 1) n (omega arith)
 
 abbrev nothing : Transaction
 nothing = record { name = []; parameters = []; body = Skip; result = Int (pos 0) }
@@ -78,21 +70,21 @@ record VariablesAgain (names : List (List ℕ)) (xs : List (ℤ × ℕ)) : Type 
   count : length (written_variables names xs) ≡ length names
   words : AllByRecursion IsVariable (written_variables names xs)
   named : named_as names (written_variables names xs) ≡ true
-  told : each variable_told (written_variables names xs) ≡ Ok xs
+  told : each variable_told (written_variables names xs) ≡ Ok (take (length names) xs)
   text : variable_lines names xs ≡ flat_map (λ v. line (variable_words v)) (written_variables names xs)
 
 variable_again : (name : List ℕ) (x : ℤ × ℕ) → FitsSigned w64 x.0 → x.1 ≤ MAX_TASKS → variable_told (record { name = name; value = signed_decimal x.0; version = decimal x.1 }) ≡ Ok x
 unfolding variable_told
 variable_again name x f m = rw (value_again x.0 f, count_again x.1 m) refl
 
-variables_again : (names : List (List ℕ)) (xs : List (ℤ × ℕ)) → length xs ≡ length names → list_all is_name names ≡ true → AllByRecursion (λ x. FitsSigned w64 x.0) xs → AllByRecursion (λ x. x.1 ≤ MAX_TASKS) xs → VariablesAgain names xs
+variables_again : (names : List (List ℕ)) (xs : List (ℤ × ℕ)) → length names ≤ length xs → list_all is_name names ≡ true → AllByRecursion (λ x. FitsSigned w64 x.0) xs → AllByRecursion (λ x. x.1 ≤ MAX_TASKS) xs → VariablesAgain names xs
 unfolding written_variables
 variables_again [] [] count forms values versions = record { count = refl; words = tt; named = refl; told = refl; text = refl }
-variables_again [] (x ∷ xs) count forms values versions = absurd (omega arith)
-variables_again (name ∷ names) [] count forms values versions = absurd (omega arith)
+variables_again [] (x ∷ xs) count forms values versions = record { count = refl; words = tt; named = refl; told = refl; text = refl }
+variables_again (name ∷ names) [] count forms values versions = absurd (omega (arith, count))
 variables_again (name ∷ names) (x ∷ xs) count forms values versions =
     let p = and_parts (is_name name) (list_all is_name names) forms in
-    let rest = variables_again names xs (omega arith) p.1 values.1 versions.1 in
+    let rest = variables_again names xs (omega (arith, count)) p.1 values.1 versions.1 in
     record {
       count = ap suc rest.count;
       words = (record { name = p.0; value = int_printed x.0 values.0; version = small x.1 versions.0 }, rest.words);
@@ -114,10 +106,10 @@ written_ending l outcome.Retries = Overflow
 
 -- it is outside only where the listing knows it
 abbrev IsOutside : Listing → Outcome → Type 0
-IsOutside l o = o ≡ outcome.Thrown fault.Outside → knows_outside l ≡ true
+IsOutside l o = o ≡ outcome.Thrown fault.Outside → knows_cells l ≡ true
 
 record OutcomeAgain (l : Listing) (o : Outcome) : Type 0 where
-  words : IsEnding (knows_outside l) (written_ending l o)
+  words : IsEnding (knows_cells l) (written_ending l o)
   known : condition_known l (written_ending l o) ≡ true
   told : outcome_told l (written_ending l o) ≡ Ok o
   text : (word : List ℕ) → line (word ∷ outcome_text l o ∷ []) ≡ line (word ∷ ending_words (written_ending l o))
@@ -146,7 +138,7 @@ record EntryFits (l : Listing) (e : told.Entry) : Type 0 where
   outside : IsOutside l e.outcome
 
 record EntryAgain (l : Listing) (e : told.Entry) : Type 0 where
-  words : IsEntry (knows_outside l) (written_entry l e)
+  words : IsEntry (knows_cells l) (written_entry l e)
   known : is_known l (written_entry l e).name ≡ true
   condition : condition_known l (written_entry l e).ending ≡ true
   told : entry_told l (written_entry l e) ≡ Ok e
@@ -196,6 +188,58 @@ entries_fit : (l : Listing) (es : List told.Entry) → AllByRecursion (λ (e : t
 entries_fit l [] a b c d k o = tt
 entries_fit l (e ∷ es) a b c d k o = (record { number = a.0; ends = b.0; ids = c.0; value = d.0; fault_known = k.0; outside = o.0 }, entries_fit l es a.1 b.1 c.1 d.1 k.1 o.1)
 
+-- ---- the lines of variables, and those of cells behind them
+
+abbrev pub cells_written : Listing → List (ℤ × ℕ) → List Cell
+cells_written l xs = written_cells (spots l.tables) (drop (length l.names) xs)
+
+-- there is no line of a cell where there are no tables
+no_tables : (ts : List (List ℕ × ℕ)) (b : Bool) (vs : List (ℤ × ℕ)) → AllByRecursion IsCell (written_cells (spots ts) vs) → HasCells (nat_lt 0 (length ts) || b) (written_cells (spots ts) vs)
+no_tables [] true vs h = tt
+no_tables [] false vs h = refl
+no_tables (t ∷ ts) b vs h = rw (lt-ltb 0 (suc (length ts)) (omega arith)) h
+
+record ValuesAgain (l : Listing) (xs : List (ℤ × ℕ)) : Type 0 where
+  count : length (written_variables l.names xs) ≡ length l.names
+  words : AllByRecursion IsVariable (written_variables l.names xs)
+  cells : HasCells (knows_cells l) (cells_written l xs)
+  named : named_as l.names (written_variables l.names xs) ≡ true
+  order : cells_known l (cells_written l xs) ≡ true
+  variables_are : each variable_told (written_variables l.names xs) ≡ Ok (take (length l.names) xs)
+  cells_are : each (cell_told l) (cells_written l xs) ≡ Ok (told_cells (length l.names) (drop (length l.names) xs))
+  told : values_told l (take (length l.names) xs) (told_cells (length l.names) (drop (length l.names) xs)) ≡ xs
+  text : (rest : List ℕ) → value_lines l xs ++ rest ≡ flat_map (λ v. line (variable_words v)) (written_variables l.names xs) ++ (flat_map (λ c. line (cell_words c)) (cells_written l xs) ++ rest)
+
+behind_all : {X : Type 0} (P : X → Type 0) (n : ℕ) (xs : List X) → AllByRecursion P xs → AllByRecursion P (drop n xs)
+behind_all P zero xs h = h
+behind_all P (suc n) [] h = h
+behind_all P (suc n) (x ∷ xs) h = behind_all P n xs h.1
+
+values_again : (l : Listing) (xs : List (ℤ × ℕ)) → values l ≡ length l.initial → names_hold l ≡ true → limits_hold l ≡ true → length xs ≡ length l.initial → CellsBegin l xs
+    → AllByRecursion (λ x. FitsSigned w64 x.0) xs → AllByRecursion (λ x. x.1 ≤ MAX_TASKS) xs → ValuesAgain l xs
+values_again l xs valued names limits long begin values versions =
+    let n = length l.names in
+    let a = variables_again l.names xs (omega (arith, valued, long)) (names_parts l names).forms values versions in
+    let s = spots_length l.tables in
+    let d = length-drop n l.initial in
+    let e = length-drop n xs in
+    let b = cells_again l n (spots l.tables) (drop n l.initial) (drop n xs) (omega (arith, valued, s, d)) (omega (arith, valued, long, s, e)) (all_spelled l names limits) begin
+    (behind_all (λ x. FitsSigned w64 x.0) n xs values) (behind_all (λ x. x.1 ≤ MAX_TASKS) n xs versions) in
+    let v : List ℕ = flat_map (λ (x : Variable). line (variable_words x)) (written_variables l.names xs) in
+    record {
+      count = a.count;
+      words = a.words;
+      cells = no_tables l.tables (nat_lt 0 (most_arity l.transactions)) (drop n xs) b.words;
+      named = a.named;
+      order = b.order 0 (omega arith);
+      variables_are = a.told;
+      cells_are = b.told;
+      told = ap (λ (us : List (ℤ × ℕ)). take n xs ++ us) b.filled_is ∙ take-append-drop n xs;
+      text = λ rest. append_assoc (variable_lines l.names xs) (table_lines l.tables (drop n xs)) rest
+          ∙ ap (λ (t : List ℕ). t ++ (table_lines l.tables (drop n xs) ++ rest)) a.text
+          ∙ ap (λ (t : List ℕ). v ++ (t ++ rest)) (sym (tables_lined l.tables (drop n xs)) ∙ b.text);
+    }
+
 -- ---- all lines
 
 abbrev pub written_report : Listing → Told → Raw
@@ -203,47 +247,74 @@ written_report l t =
     record {
       base = decimal t.base;
       base_vars = written_variables l.names t.base_vars;
+      base_cells = cells_written l t.base_vars;
       entries = map (written_entry l) t.entries;
       current = decimal t.current;
       current_vars = written_variables l.names t.current_vars;
+      current_cells = cells_written l t.current_vars;
       parked = map (written_task l) t.parked;
       memory = map (written_task l) t.memory;
     }
 
 pub record ReportAgain (l : Listing) (t : Told) : Type 0 where
-  pub words : IsRaw (knows_outside l) (length l.names) (written_report l t)
+  pub words : IsRaw (knows_cells l) (length l.names) (written_report l t)
   pub told : resolved l (written_report l t) ≡ Ok t
   pub text : report_text l t ≡ raw_text (written_report l t)
 
-given_told : (l : Listing) (r : Raw) (t : Told) → count_in r.base ≡ Ok t.base → each variable_told r.base_vars ≡ Ok t.base_vars → each (entry_told l) r.entries ≡ Ok t.entries
-    → count_in r.current ≡ Ok t.current → each variable_told r.current_vars ≡ Ok t.current_vars → each (task_told l) r.parked ≡ Ok t.parked → each (task_told l) r.memory ≡ Ok t.memory → told_of l r ≡ Ok t
-unfolding told_of
-given_told l r t a b c d e f g = rw (a, b, c, d, e, f, g) refl
+-- what a report tells that is read so
+module _ (l : Listing) (r : Raw) (t : Told) (bv cv : List (ℤ × ℕ)) (bc cc' : List (VarId × (ℤ × ℕ))) where
+  made : List (ℤ × ℕ) → List (ℤ × ℕ) → Told
+  made b c = record { base = t.base; base_vars = b; entries = t.entries; current = t.current; current_vars = c; parked = t.parked; memory = t.memory }
 
-all_known : (l : Listing) (r : Raw) → named_as l.names r.base_vars ≡ true → named_as l.names r.current_vars ≡ true → entries_known l r.entries ≡ true → tasks_known l r.parked ≡ true → tasks_known l r.memory ≡ true → conditions_known l r.entries ≡ true → names_known l r ≡ true
+  given_told : count_in r.base ≡ Ok t.base → each variable_told r.base_vars ≡ Ok bv → each (cell_told l) r.base_cells ≡ Ok bc → each (entry_told l) r.entries ≡ Ok t.entries
+      → count_in r.current ≡ Ok t.current → each variable_told r.current_vars ≡ Ok cv → each (cell_told l) r.current_cells ≡ Ok cc' → each (task_told l) r.parked ≡ Ok t.parked → each (task_told l) r.memory ≡ Ok t.memory
+      → values_told l bv bc ≡ t.base_vars → values_told l cv cc' ≡ t.current_vars → told_of l r ≡ Ok t
+  unfolding told_of made
+  given_told a b b' c d e e' f g v w = rw (a, b, b', c, d, e, e', f, g) (ap (λ (x : List (ℤ × ℕ)). Ok (made x (values_told l cv cc'))) v ∙ ap (λ (x : List (ℤ × ℕ)). Ok (made t.base_vars x)) w)
+
+all_known : (l : Listing) (r : Raw) → named_as l.names r.base_vars ≡ true → named_as l.names r.current_vars ≡ true → cells_known l r.base_cells ≡ true → cells_known l r.current_cells ≡ true
+    → entries_known l r.entries ≡ true → tasks_known l r.parked ≡ true → tasks_known l r.memory ≡ true → conditions_known l r.entries ≡ true → names_known l r ≡ true
 unfolding names_known variables_known transactions_known
-all_known l r a b c d e f = and_from _ _ (and_from _ _ a b) (and_from _ _ (and_from _ _ c (and_from _ _ d e)) f)
+all_known l r a b p q c d e f = and_from _ _ (and_from _ _ a (and_from _ _ b (and_from _ _ p q))) (and_from _ _ (and_from _ _ c (and_from _ _ d e)) f)
 
 resolved_by : (l : Listing) (r : Raw) (t : Told) → names_known l r ≡ true → told_of l r ≡ Ok t → resolved l r ≡ Ok t
 unfolding resolved
 resolved_by l r t a b = rw a b
 
-five : {b b' c c' e e' f f' g g' : List ℕ} → (a d h : List ℕ) → b ≡ b' → c ≡ c' → e ≡ e' → f ≡ f' → g ≡ g' → a ++ (b ++ (c ++ (d ++ (e ++ (f ++ (g ++ h)))))) ≡ a ++ (b' ++ (c' ++ (d ++ (e' ++ (f' ++ (g' ++ h))))))
-five a d h p q r s u = rw (p, q, r, s, u) refl
+-- the text of values, whatever follows
+abbrev SameText : Listing → List (ℤ × ℕ) → Type 0
+SameText l xs = (rest : List ℕ) → value_lines l xs ++ rest ≡ flat_map (λ v. line (variable_words v)) (written_variables l.names xs) ++ (flat_map (λ c. line (cell_words c)) (cells_written l xs) ++ rest)
 
-all_text : (l : Listing) (t : Told) → variable_lines l.names t.base_vars ≡ flat_map (λ v. line (variable_words v)) (written_variables l.names t.base_vars) → variable_lines l.names t.current_vars ≡ flat_map (λ v. line (variable_words v)) (written_variables l.names t.current_vars)
+all_text : (l : Listing) (t : Told) → SameText l t.base_vars → SameText l t.current_vars
     → flat_map (entry_line l) t.entries ≡ flat_map (λ e. line (entry_words e)) (map (written_entry l) t.entries)
     → flat_map (task_line l (codes "parked")) t.parked ≡ flat_map (λ x. line (task_words (codes "parked") x)) (map (written_task l) t.parked)
     → flat_map (task_line l (codes "memory")) t.memory ≡ flat_map (λ x. line (task_words (codes "memory") x)) (map (written_task l) t.memory)
     → report_text l t ≡ raw_text (written_report l t)
-all_text l t b e c f g = five (line (codes "base" ∷ decimal t.base ∷ [])) (line (codes "now" ∷ decimal t.current ∷ [])) (line (codes "end" ∷ [])) b c e f g
+all_text l t b e c f g =
+    let last : List ℕ = line (codes "end" ∷ []) in
+    let now : List ℕ = line (codes "now" ∷ decimal t.current ∷ []) in
+    let old_parked : List ℕ = flat_map (task_line l (codes "parked")) t.parked in
+    let old_memory : List ℕ = flat_map (task_line l (codes "memory")) t.memory in
+    let parked : List ℕ = flat_map (λ (x : Task). line (task_words (codes "parked") x)) (map (written_task l) t.parked) in
+    let entries : List ℕ = flat_map (λ (x : Entry). line (entry_words x)) (map (written_entry l) t.entries) in
+    let v : List ℕ = flat_map (λ (x : Variable). line (variable_words x)) (written_variables l.names t.base_vars) in
+    let v' : List ℕ = flat_map (λ (x : Cell). line (cell_words x)) (cells_written l t.base_vars) in
+    let w : List ℕ = flat_map (λ (x : Variable). line (variable_words x)) (written_variables l.names t.current_vars) in
+    let w' : List ℕ = flat_map (λ (x : Cell). line (cell_words x)) (cells_written l t.current_vars) in
+    ap (λ (z : List ℕ). line (codes "base" ∷ decimal t.base ∷ []) ++ z)
+    (b (flat_map (entry_line l) t.entries ++ (now ++ (value_lines l t.current_vars ++ (old_parked ++ (old_memory ++ last)))))
+    ∙ ap (λ (z : List ℕ). v ++ (v' ++ z))
+    (ap (λ (z : List ℕ). z ++ (now ++ (value_lines l t.current_vars ++ (old_parked ++ (old_memory ++ last))))) c
+    ∙ ap (λ (z : List ℕ). entries ++ (now ++ z))
+    (e (old_parked ++ (old_memory ++ last))
+    ∙ ap (λ (z : List ℕ). w ++ (w' ++ z))
+    (ap (λ (z : List ℕ). z ++ (old_memory ++ last)) f ∙ ap (λ (z : List ℕ). parked ++ (z ++ last)) g))))
 
-pub report_again : (l : Listing) (t : Told) → length l.names ≡ length l.initial → names_hold l ≡ true → length (tasks l) ≤ MAX_TASKS → FitsCatalogue l t → ReportFits t
-    → All (λ (e : told.Entry). e.outcome ≡ outcome.Thrown fault.Outside → knows_outside l ≡ true) t.entries → ReportAgain l t
-report_again l t named names few f v out =
-    let forms = (names_parts l names).forms in
-    let base_vars = variables_again l.names t.base_vars (f.base_vars ∙ sym named) forms (recursion_from_All (λ (x : ℤ × ℕ). FitsSigned w64 x.0) t.base_vars v.base) (recursion_from_All (λ (x : ℤ × ℕ). x.1 ≤ MAX_TASKS) t.base_vars f.base_versions) in
-    let current_vars = variables_again l.names t.current_vars (f.current_vars ∙ sym named) forms (recursion_from_All (λ (x : ℤ × ℕ). FitsSigned w64 x.0) t.current_vars v.current) (recursion_from_All (λ (x : ℤ × ℕ). x.1 ≤ MAX_TASKS) t.current_vars f.current_versions) in
+pub report_again : (l : Listing) (t : Told) → values l ≡ length l.initial → names_hold l ≡ true → limits_hold l ≡ true → length (tasks l) ≤ MAX_TASKS → FitsCatalogue l t → ReportFits t
+    → All (λ (e : told.Entry). e.outcome ≡ outcome.Thrown fault.Outside → knows_cells l ≡ true) t.entries → ReportAgain l t
+report_again l t valued names limits few f v out =
+    let base_vars = values_again l t.base_vars valued names limits f.base_vars f.base_cells (recursion_from_All (λ (x : ℤ × ℕ). FitsSigned w64 x.0) t.base_vars v.base) (recursion_from_All (λ (x : ℤ × ℕ). x.1 ≤ MAX_TASKS) t.base_vars f.base_versions) in
+    let current_vars = values_again l t.current_vars valued names limits f.current_vars f.current_cells (recursion_from_All (λ (x : ℤ × ℕ). FitsSigned w64 x.0) t.current_vars v.current) (recursion_from_All (λ (x : ℤ × ℕ). x.1 ≤ MAX_TASKS) t.current_vars f.current_versions) in
     let entries = entries_fit l t.entries
     (recursion_from_All (λ (e : told.Entry). e.number ≤ MAX_TASKS) t.entries f.numbers)
     (recursion_from_All (λ (e : told.Entry). e.outcome ≢ outcome.Retries) t.entries f.ends)
@@ -256,7 +327,7 @@ report_again l t named names few f v out =
     let entry = λ (e : told.Entry) (h : EntryFits l e). entry_again l e names few h in
     let task = λ (x : TaskId × TxId) (h : IdsFit l x). task_again l x names few h in
     let r : Raw = written_report l t in
-    let known = all_known l r base_vars.named current_vars.named
+    let known = all_known l r base_vars.named current_vars.named base_vars.order current_vars.order
     (tests_again (EntryFits l) (λ (e : Entry). is_known l e.name) (written_entry l) (λ e h. (entry e h).known) t.entries entries)
     (tests_again (IdsFit l) (λ (x : Task). is_known l x.name) (written_task l) (λ x h. (task x h).known) t.parked parked)
     (tests_again (IdsFit l) (λ (x : Task). is_known l x.name) (written_task l) (λ x h. (task x h).known) t.memory memory)
@@ -266,18 +337,22 @@ report_again l t named names few f v out =
         base = small t.base f.base;
         base_count = base_vars.count;
         base_vars = base_vars.words;
-        entries = all_again (EntryFits l) (IsEntry (knows_outside l)) (written_entry l) (λ e h. (entry e h).words) t.entries entries;
+        base_cells = base_vars.cells;
+        entries = all_again (EntryFits l) (IsEntry (knows_cells l)) (written_entry l) (λ e h. (entry e h).words) t.entries entries;
         current = small t.current f.current;
         current_count = current_vars.count;
         current_vars = current_vars.words;
+        current_cells = current_vars.cells;
         parked = all_again (IdsFit l) IsTask (written_task l) (λ x h. (task x h).words) t.parked parked;
         memory = all_again (IdsFit l) IsTask (written_task l) (λ x h. (task x h).words) t.memory memory;
       };
-      told = resolved_by l r t known (given_told l r t (count_again t.base f.base) base_vars.told
+      told = resolved_by l r t known (given_told l r t (take (length l.names) t.base_vars) (take (length l.names) t.current_vars)
+          (told_cells (length l.names) (drop (length l.names) t.base_vars)) (told_cells (length l.names) (drop (length l.names) t.current_vars))
+          (count_again t.base f.base) base_vars.variables_are base_vars.cells_are
           (each_again (EntryFits l) (written_entry l) (entry_told l) (λ e h. (entry e h).told) t.entries entries)
-          (count_again t.current f.current) current_vars.told
+          (count_again t.current f.current) current_vars.variables_are current_vars.cells_are
           (each_again (IdsFit l) (written_task l) (task_told l) (λ x h. (task x h).told) t.parked parked)
-          (each_again (IdsFit l) (written_task l) (task_told l) (λ x h. (task x h).told) t.memory memory));
+          (each_again (IdsFit l) (written_task l) (task_told l) (λ x h. (task x h).told) t.memory memory) base_vars.told current_vars.told);
       text = all_text l t base_vars.text current_vars.text
           (text_again (EntryFits l) (written_entry l) (entry_line l) (λ (e : Entry). line (entry_words e)) (λ e h. (entry e h).text) t.entries entries)
           (text_again (IdsFit l) (written_task l) (task_line l (codes "parked")) (λ (x : Task). line (task_words (codes "parked") x)) (λ x h. refl) t.parked parked)

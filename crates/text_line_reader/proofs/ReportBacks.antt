@@ -1,70 +1,43 @@
 -- What is told of words is written as these words.
-use Rattle.std.proofs.Common.{◌≡◌, ◌≢◌, ◌∙◌, ℕ, suc, ◌+◌, ◌<◌, ◌≤◌, ◌^◌, true, List, [], ◌∷◌, ◌++◌, length, Ok, refl, sym, ap, subst, arith}
-use Rattle.std.specs.Prelude.{ℤ, pos, negsuc, FitsSigned, All, codes}
+use Rattle.std.proofs.Common.{◌≡◌, ◌≢◌, ◌∙◌, ℕ, suc, ◌<◌, ◌≤◌, ◌&&◌, true, List, [], ◌∷◌, ◌++◌, length, drop, Ok, refl, sym, ap, subst, append_assoc, length-drop, arith}
+use Rattle.std.specs.Prelude.{ℤ, FitsSigned, All, codes}
 use Rattle.std.specs.Int.{w64}
 use Rattle.std.specs.Fmt.{decimal, signed_decimal}
 use Rattle.std.specs.List.{flat_map, AllByRecursion}
 use Rattle.std.specs.Str.{bytes_eq}
-use Rattle.std.specs.Str.Parse.{digits_value}
-use Rattle.std.proofs.lemmas.Bool.{and_parts, ltb-true}
+use Rattle.std.proofs.lemmas.Bool.{and_parts}
+use Rattle.std.proofs.lemmas.List.{length-append, drop_at}
 use Rattle.std.proofs.lemmas.List.Elements.{All-from_recursion}
 use Rattle.std.proofs.lemmas.Slice.Eq.{bytes_eq-Decides}
-use Rattle.txn_programs.specs.Arithmetic.{fits}
 use Rattle.txn_programs.specs.declared.ast.TaskId.{TaskId}
 use Rattle.txn_programs.specs.declared.ast.TxId.{TxId}
+use Rattle.txn_programs.specs.declared.ast.VarId.{VarId}
 use Rattle.txn_programs.specs.declared.ast.Fault.TheVariants as fault
 use Rattle.txn_programs.specs.declared.ast.Outcome.{Outcome}
 use Rattle.txn_programs.specs.declared.ast.Outcome.TheVariants as outcome
 use Rattle.txn_programs.specs.declared.limits.TheConstants.{MAX_TASKS}
 use Rattle.txn_programs.specs.declared.report.Entry as told
-use Rattle.txn_programs.specs.LawfulReport.{OutcomeKnown, FitsCatalogue}
-use Rattle.txn_programs.specs.Listing.{Listing, tasks}
+use Rattle.txn_programs.specs.LawfulReport.{OutcomeKnown, UnwrittenBegin, CellsBegin, FitsCatalogue}
+use Rattle.txn_programs.specs.Limits.{limits_hold}
+use Rattle.txn_programs.specs.Listing.{Listing, values, cells, tasks}
 use Rattle.txn_programs.specs.Told.{Told}
-use Rattle.text_words.specs.Bytes.{is_int, int_value}
+use Rattle.text_words.specs.Bytes.{int_value}
 use Rattle.text_report_printer.specs.ReportFits.{OutcomeFits, ReportFits}
-use Rattle.text_report_printer.specs.ReportText.{variable_line, variable_lines, outcome_text, entry_line, task_line, report_text}
+use Rattle.text_report_printer.specs.ReportText.{variable_line, variable_lines, table_lines, value_lines, outcome_text, entry_line, task_line, report_text}
 use Rattle.text_words.specs.Numbers.{number_of}
 use Rattle.text_words.specs.Words.{line}
-use Rattle.text_words.proofs.Numerals.{number_is}
 use Rattle.text_words.proofs.Steps.{bind_ok, ok_is}
-use Rattle.text_line_reader.specs.ReportRaw.{Variable, Ending, Returned, Threw, Overflow, DivideByZero, Outside, Broke, Entry, Task, Raw, variable_words, ending_words, entry_words, task_words, number_words, raw_text, IsVariable, IsEnding, IsEntry, IsTask, IsRaw}
-use Rattle.text_line_reader.specs.Words.{is_number}
-use Rattle.text_line_reader.specs.ReportResolving.{named_as, variables_known, names_known, count_in, tx_id, always_id, variable_told, outcome_told, entry_told, task_told, told_of}
+use Rattle.text_line_reader.specs.ReportRaw.{Variable, Cell, Ending, Returned, Threw, Overflow, DivideByZero, Outside, Broke, Entry, Task, Raw, variable_words, cell_words, ending_words, entry_words, task_words, number_words, raw_text, IsVariable, IsCell, IsEnding, IsEntry, IsTask, IsRaw}
+use Rattle.text_line_reader.specs.ReportResolving.{named_as, cells_known, variables_known, transactions_known, conditions_known, names_known, count_in, tx_id, always_id, variable_told, cell_told, filled, values_told, outcome_told, entry_told, task_told, told_of}
 use Rattle.text_line_reader.specs.Counts.{task_id}
-use Rattle.text_line_reader.specs.Reports.{knows_outside}
+use Rattle.text_line_reader.specs.Reports.{knows_cells}
 use Rattle.text_line_reader.specs.Rows.{each}
-use Rattle.text_line_reader.proofs.Numbers.{number_written, int_written, below_gives}
+use Rattle.text_line_reader.proofs.WordsTold.{value_back, count_back}
+use Rattle.text_line_reader.proofs.CellSteps.{are_cells}
+use Rattle.text_line_reader.proofs.CellBacks.{tables_back}
+use Rattle.text_line_reader.proofs.Spots.{tables_lined}
 use Rattle.text_line_reader.proofs.ReportPlaces.{tx_back, always_back}
 use Rattle.text_line_reader.proofs.Backs.{task_id_back, each_back, pairs_text, pairs_all}
-
-fits_signed : (z : ℤ) → fits z ≡ true → FitsSigned w64 z
-fits_signed (pos n) h = record { sfits = ltb-true n (2 ^ 63) h }
-fits_signed (negsuc n) h = record { sfits = ltb-true n (2 ^ 63) h }
-
--- ---- words
-
--- a value, as it was written
-record ValueBack (text : List ℕ) (z : ℤ) : Type 0 where
-  written : signed_decimal z ≡ text
-  fits : FitsSigned w64 z
-
-value_back : (text : List ℕ) (z : ℤ) → is_int text ≡ true → number_of (int_value text) ≡ Ok z → ValueBack text z
-value_back text z h e =
-    let n = number_is (int_value text) z e in
-    record { written = ap signed_decimal (sym n.1) ∙ int_written text h n.0; fits = fits_signed z (subst (λ (y : ℤ). fits y ≡ true) n.1 n.0) }
-
--- a number or a version, as it was written
-record CountBack (text : List ℕ) (n : ℕ) : Type 0 where
-  written : decimal n ≡ text
-  most : n ≤ MAX_TASKS
-
-count_back : (text : List ℕ) (n : ℕ) → is_number text ≡ true → count_in text ≡ Ok n → CountBack text n
-count_back text n h e =
-    let b = below_gives (MAX_TASKS + 1) (digits_value 10 text) n e in
-    let same = b.0 in
-    let lt = b.1 in
-    let small : digits_value 10 text < 2 ^ 64 = omega arith in
-    record { written = ap decimal (sym same) ∙ number_written text h small; most = omega arith }
 
 -- ---- lines
 
@@ -93,9 +66,9 @@ pub record OutcomeBack (l : Listing) (e : Ending) (o : Outcome) : Type 0 where
   pub fits : OutcomeFits o
   pub known : OutcomeKnown (length l.always) o
   pub ends : o ≢ outcome.Retries
-  pub outside : o ≡ outcome.Thrown fault.Outside → knows_outside l ≡ true
+  pub outside : o ≡ outcome.Thrown fault.Outside → knows_cells l ≡ true
 
-outcome_back : (l : Listing) (e : Ending) (o : Outcome) → IsEnding (knows_outside l) e → outcome_told l e ≡ Ok o → OutcomeBack l e o
+outcome_back : (l : Listing) (e : Ending) (o : Outcome) → IsEnding (knows_cells l) e → outcome_told l e ≡ Ok o → OutcomeBack l e o
 outcome_back l (Returned value) o is e =
     let a = bind_ok (number_of (int_value value)) _ o e in
     let v = value_back value a.0 is a.1 in
@@ -139,10 +112,10 @@ pub record EntryBack (l : Listing) (e : Entry) (x : told.Entry) : Type 0 where
   pub fits : OutcomeFits x.outcome
   pub fault_known : OutcomeKnown (length l.always) x.outcome
   pub ends : x.outcome ≢ outcome.Retries
-  pub outside : x.outcome ≡ outcome.Thrown fault.Outside → knows_outside l ≡ true
+  pub outside : x.outcome ≡ outcome.Thrown fault.Outside → knows_cells l ≡ true
   pub ids : (x.task.0 < length (tasks l)) × (x.tx.0 < length l.transactions)
 
-entry_back : (l : Listing) → length (tasks l) ≤ MAX_TASKS → (e : Entry) (x : told.Entry) → IsEntry (knows_outside l) e → entry_told l e ≡ Ok x → EntryBack l e x
+entry_back : (l : Listing) → length (tasks l) ≤ MAX_TASKS → (e : Entry) (x : told.Entry) → IsEntry (knows_cells l) e → entry_told l e ≡ Ok x → EntryBack l e x
 unfolding entry_told
 entry_back l few e x is h =
     let a = bind_ok (count_in e.number) _ x h in
@@ -208,6 +181,53 @@ variables_back (name ∷ names) (v ∷ vs) xs is named e =
       versions = (first.version, others.versions);
     })
 
+-- ---- the lines of variables, and those of cells behind them
+
+more_lines : (names : List (List ℕ)) (xs ys : List (ℤ × ℕ)) → length xs ≡ length names → variable_lines names (xs ++ ys) ≡ variable_lines names xs
+more_lines [] [] [] e = refl
+more_lines [] [] (y ∷ ys) e = refl
+more_lines [] (x ∷ xs) ys e = absurd (omega (arith, e))
+more_lines (name ∷ names) [] ys e = absurd (omega (arith, e))
+more_lines (name ∷ names) (x ∷ xs) ys e = ap (λ (t : List ℕ). variable_line name x ++ t) (more_lines names xs ys (omega (arith, e)))
+
+both_all : {X : Type 0} (P : X → Type 0) (xs ys : List X) → AllByRecursion P xs → AllByRecursion P ys → AllByRecursion P (xs ++ ys)
+both_all P [] ys h k = k
+both_all P (x ∷ xs) ys h k = (h.0, both_all P xs ys h.1 k)
+
+record ValuesBack (l : Listing) (vs : List Variable) (cs : List Cell) (xs : List (ℤ × ℕ)) : Type 0 where
+  text : (rest : List ℕ) → flat_map (λ v. line (variable_words v)) vs ++ (flat_map (λ c. line (cell_words c)) cs ++ rest) ≡ value_lines l xs ++ rest
+  count : length xs ≡ length l.initial
+  begin : CellsBegin l xs
+  values : AllByRecursion (λ x. FitsSigned w64 x.0) xs
+  versions : AllByRecursion (λ x. x.1 ≤ MAX_TASKS) xs
+
+-- the initial values of cells
+abbrev pub cells_initial : Listing → List ℤ
+cells_initial l = drop (length l.names) l.initial
+
+values_back : (l : Listing) (vs : List Variable) (cs : List Cell) (xs : List (ℤ × ℕ)) (bs : List (VarId × (ℤ × ℕ))) → values l ≡ length l.initial → limits_hold l ≡ true → AllByRecursion (FitsSigned w64) (cells_initial l)
+    → length vs ≡ length l.names → AllByRecursion IsVariable vs → named_as l.names vs ≡ true → each variable_told vs ≡ Ok xs
+    → AllByRecursion IsCell cs → cells_known l cs ≡ true → each (cell_told l) cs ≡ Ok bs → ValuesBack l vs cs (values_told l xs bs)
+values_back l vs cs xs bs valued limits fit count are named told cs_are order cs_told =
+    let a = variables_back l.names vs xs are named told in
+    let long : length (cells_initial l) ≡ cells l = let n = length-drop (length l.names) l.initial in omega (arith, valued, n) in
+    let b = tables_back l (cells_initial l) cs bs limits long fit cs_are order cs_told in
+    let told : List (ℤ × ℕ) = filled (cells_initial l) (length l.names) bs in
+    let as_many : length xs ≡ length l.names = a.count ∙ count in
+    let rest_is : drop (length l.names) (xs ++ told) ≡ told = drop_at xs told (length l.names) as_many in
+    let v : List ℕ = flat_map (λ (x : Variable). line (variable_words x)) vs in
+    let c : List ℕ = flat_map (λ (x : Cell). line (cell_words x)) cs in
+    let cells_text : c ≡ table_lines l.tables (drop (length l.names) (xs ++ told)) = b.text ∙ tables_lined l.tables told ∙ ap (table_lines l.tables) (sym rest_is) in
+    record {
+      text = λ rest. ap (λ (t : List ℕ). t ++ (c ++ rest)) (a.text ∙ sym (more_lines l.names xs told as_many))
+          ∙ ap (λ (t : List ℕ). variable_lines l.names (xs ++ told) ++ (t ++ rest)) cells_text
+          ∙ sym (append_assoc (variable_lines l.names (xs ++ told)) (table_lines l.tables (drop (length l.names) (xs ++ told))) rest);
+      count = let n = length-append xs told in let m = b.count in omega (arith, n, m, as_many, long, valued);
+      begin = subst (UnwrittenBegin (cells_initial l)) (sym rest_is) b.begin;
+      values = both_all (λ x. FitsSigned w64 x.0) xs told a.values b.values;
+      versions = both_all (λ x. x.1 ≤ MAX_TASKS) xs told a.versions b.versions;
+    }
+
 -- ---- all lines
 
 -- the report has the text of these words, and fits the catalogue
@@ -215,55 +235,66 @@ pub record ReportBack (l : Listing) (r : Raw) (t : Told) : Type 0 where
   pub text : raw_text r ≡ report_text l t
   pub fits : FitsCatalogue l t
   pub values : ReportFits t
-  pub outside : All (λ (x : told.Entry). x.outcome ≡ outcome.Thrown fault.Outside → knows_outside l ≡ true) t.entries
+  pub outside : All (λ (x : told.Entry). x.outcome ≡ outcome.Thrown fault.Outside → knows_cells l ≡ true) t.entries
 
-pub told_back : (l : Listing) (r : Raw) (t : Told) → length l.names ≡ length l.initial → length (tasks l) ≤ MAX_TASKS → IsRaw (knows_outside l) (length l.names) r → names_known l r ≡ true → told_of l r ≡ Ok t → ReportBack l r t
+pub told_back : (l : Listing) (r : Raw) (t : Told) → values l ≡ length l.initial → limits_hold l ≡ true → AllByRecursion (FitsSigned w64) (cells_initial l) → length (tasks l) ≤ MAX_TASKS → IsRaw (knows_cells l) (length l.names) r → names_known l r ≡ true → told_of l r ≡ Ok t → ReportBack l r t
 unfolding told_of names_known variables_known
-told_back l r t named few is known e =
-    let n = and_parts _ _ (and_parts _ _ known).0 in
+told_back l r t valued limits fit few is known e =
+    let all = and_parts (variables_known l r) (transactions_known l r && conditions_known l r.entries) known in
+    let n = and_parts (named_as l.names r.base_vars) (named_as l.names r.current_vars && (cells_known l r.base_cells && cells_known l r.current_cells)) all.0 in
+    let n2 = and_parts (named_as l.names r.current_vars) (cells_known l r.base_cells && cells_known l r.current_cells) n.1 in
+    let n3 = and_parts (cells_known l r.base_cells) (cells_known l r.current_cells) n2.1 in
     let a = bind_ok (count_in r.base) _ t e in
     let b = bind_ok (each variable_told r.base_vars) _ t a.2 in
-    let c = bind_ok (each (entry_told l) r.entries) _ t b.2 in
+    let b' = bind_ok (each (cell_told l) r.base_cells) _ t b.2 in
+    let c = bind_ok (each (entry_told l) r.entries) _ t b'.2 in
     let d = bind_ok (count_in r.current) _ t c.2 in
     let f = bind_ok (each variable_told r.current_vars) _ t d.2 in
-    let g = bind_ok (each (task_told l) r.parked) _ t f.2 in
+    let f' = bind_ok (each (cell_told l) r.current_cells) _ t f.2 in
+    let g = bind_ok (each (task_told l) r.parked) _ t f'.2 in
     let h = bind_ok (each (task_told l) r.memory) _ t g.2 in
     let base = count_back r.base a.0 is.base a.1 in
-    let base_vars = variables_back l.names r.base_vars b.0 is.base_vars n.0 b.1 in
-    let entries = each_back (IsEntry (knows_outside l)) (EntryBack l) (entry_told l) (entry_back l few) r.entries c.0 is.entries c.1 in
+    let base_vars = values_back l r.base_vars r.base_cells b.0 b'.0 valued limits fit is.base_count is.base_vars n.0 b.1 (are_cells (knows_cells l) r.base_cells is.base_cells) n3.0 b'.1 in
+    let entries = each_back (IsEntry (knows_cells l)) (EntryBack l) (entry_told l) (entry_back l few) r.entries c.0 is.entries c.1 in
     let current = count_back r.current d.0 is.current d.1 in
-    let current_vars = variables_back l.names r.current_vars f.0 is.current_vars n.1 f.1 in
+    let current_vars = values_back l r.current_vars r.current_cells f.0 f'.0 valued limits fit is.current_count is.current_vars n2.0 f.1 (are_cells (knows_cells l) r.current_cells is.current_cells) n3.1 f'.1 in
     let parked = each_back IsTask (TaskLineBack l (codes "parked")) (task_told l) (task_back l few (codes "parked")) r.parked g.0 is.parked g.1 in
     let memory = each_back IsTask (TaskLineBack l (codes "memory")) (task_told l) (task_back l few (codes "memory")) r.memory h.0 is.memory h.1 in
-    let made : Told = record { base = a.0; base_vars = b.0; entries = c.0; current = d.0; current_vars = f.0; parked = g.0; memory = h.0 } in
+    let base_told : List (ℤ × ℕ) = values_told l b.0 b'.0 in
+    let current_told : List (ℤ × ℕ) = values_told l f.0 f'.0 in
+    let made : Told = record { base = a.0; base_vars = base_told; entries = c.0; current = d.0; current_vars = current_told; parked = g.0; memory = h.0 } in
     let t7 : List ℕ = line (codes "end" ∷ []) in
     let m : List ℕ = flat_map (λ (x : Task). line (task_words (codes "memory") x)) r.memory in
     let p : List ℕ = flat_map (λ (x : Task). line (task_words (codes "parked") x)) r.parked in
     let w : List ℕ = flat_map (λ (x : Variable). line (variable_words x)) r.current_vars in
+    let w' : List ℕ = flat_map (λ (x : Cell). line (cell_words x)) r.current_cells in
     let k : List ℕ = line (number_words (codes "now") r.current) in
     let s : List ℕ = flat_map (λ (x : Entry). line (entry_words x)) r.entries in
     let v : List ℕ = flat_map (λ (x : Variable). line (variable_words x)) r.base_vars in
+    let v' : List ℕ = flat_map (λ (x : Cell). line (cell_words x)) r.base_cells in
     subst (ReportBack l r) (ok_is made t h.2) (record {
-      text = ap (λ (z : List ℕ). line (codes "base" ∷ z ∷ []) ++ (v ++ (s ++ (k ++ (w ++ (p ++ (m ++ t7))))))) (sym base.written)
+      text = ap (λ (z : List ℕ). line (codes "base" ∷ z ∷ []) ++ (v ++ (v' ++ (s ++ (k ++ (w ++ (w' ++ (p ++ (m ++ t7))))))))) (sym base.written)
           ∙ ap (λ (z : List ℕ). line (codes "base" ∷ decimal a.0 ∷ []) ++ z)
-          (ap (λ (z : List ℕ). z ++ (s ++ (k ++ (w ++ (p ++ (m ++ t7)))))) base_vars.text
-          ∙ ap (λ (z : List ℕ). variable_lines l.names b.0 ++ z)
-          (ap (λ (z : List ℕ). z ++ (k ++ (w ++ (p ++ (m ++ t7))))) (pairs_text (EntryBack l) (λ (x : Entry). line (entry_words x)) (entry_line l) (λ x y q. q.text) r.entries c.0 entries)
+          (base_vars.text (s ++ (k ++ (w ++ (w' ++ (p ++ (m ++ t7))))))
+          ∙ ap (λ (z : List ℕ). value_lines l base_told ++ z)
+          (ap (λ (z : List ℕ). z ++ (k ++ (w ++ (w' ++ (p ++ (m ++ t7)))))) (pairs_text (EntryBack l) (λ (x : Entry). line (entry_words x)) (entry_line l) (λ x y q. q.text) r.entries c.0 entries)
           ∙ ap (λ (z : List ℕ). flat_map (entry_line l) c.0 ++ z)
-          (ap (λ (z : List ℕ). line (codes "now" ∷ z ∷ []) ++ (w ++ (p ++ (m ++ t7)))) (sym current.written)
+          (ap (λ (z : List ℕ). line (codes "now" ∷ z ∷ []) ++ (w ++ (w' ++ (p ++ (m ++ t7))))) (sym current.written)
           ∙ ap (λ (z : List ℕ). line (codes "now" ∷ decimal d.0 ∷ []) ++ z)
-          (ap (λ (z : List ℕ). z ++ (p ++ (m ++ t7))) current_vars.text
-          ∙ ap (λ (z : List ℕ). variable_lines l.names f.0 ++ z)
+          (current_vars.text (p ++ (m ++ t7))
+          ∙ ap (λ (z : List ℕ). value_lines l current_told ++ z)
           (ap (λ (z : List ℕ). z ++ (m ++ t7)) (pairs_text (TaskLineBack l (codes "parked")) (λ (x : Task). line (task_words (codes "parked") x)) (task_line l (codes "parked")) (λ x y q. q.text) r.parked g.0 parked)
           ∙ ap (λ (z : List ℕ). flat_map (task_line l (codes "parked")) g.0 ++ z)
           (ap (λ (z : List ℕ). z ++ t7) (pairs_text (TaskLineBack l (codes "memory")) (λ (x : Task). line (task_words (codes "memory") x)) (task_line l (codes "memory")) (λ x y q. q.text) r.memory h.0 memory)))))));
       fits = record {
-        base_vars = base_vars.count ∙ is.base_count ∙ named;
-        current_vars = current_vars.count ∙ is.current_count ∙ named;
+        base_vars = base_vars.count;
+        current_vars = current_vars.count;
+        base_cells = base_vars.begin;
+        current_cells = current_vars.begin;
         base = base.most;
         current = current.most;
-        base_versions = All-from_recursion (λ (x : ℤ × ℕ). x.1 ≤ MAX_TASKS) b.0 base_vars.versions;
-        current_versions = All-from_recursion (λ (x : ℤ × ℕ). x.1 ≤ MAX_TASKS) f.0 current_vars.versions;
+        base_versions = All-from_recursion (λ (x : ℤ × ℕ). x.1 ≤ MAX_TASKS) base_told base_vars.versions;
+        current_versions = All-from_recursion (λ (x : ℤ × ℕ). x.1 ≤ MAX_TASKS) current_told current_vars.versions;
         numbers = All-from_recursion (λ (x : told.Entry). x.number ≤ MAX_TASKS) c.0 (pairs_all (EntryBack l) (λ (x : told.Entry). x.number ≤ MAX_TASKS) (λ x y q. q.number) r.entries c.0 entries);
         ends = All-from_recursion (λ (x : told.Entry). x.outcome ≢ outcome.Retries) c.0 (pairs_all (EntryBack l) (λ (x : told.Entry). x.outcome ≢ outcome.Retries) (λ x y q. q.ends) r.entries c.0 entries);
         faults = All-from_recursion (λ (x : told.Entry). OutcomeKnown (length l.always) x.outcome) c.0 (pairs_all (EntryBack l) (λ (x : told.Entry). OutcomeKnown (length l.always) x.outcome) (λ x y q. q.fault_known) r.entries c.0 entries);
@@ -272,10 +303,10 @@ told_back l r t named few is known e =
         memory = All-from_recursion (λ (x : TaskId × TxId). (x.0.0 < length (tasks l)) × (x.1.0 < length l.transactions)) h.0 (pairs_all (TaskLineBack l (codes "memory")) (λ (x : TaskId × TxId). (x.0.0 < length (tasks l)) × (x.1.0 < length l.transactions)) (λ x y q. q.ids) r.memory h.0 memory);
       };
       values = record {
-        base = All-from_recursion (λ (x : ℤ × ℕ). FitsSigned w64 x.0) b.0 base_vars.values;
+        base = All-from_recursion (λ (x : ℤ × ℕ). FitsSigned w64 x.0) base_told base_vars.values;
         entries = All-from_recursion (λ (x : told.Entry). OutcomeFits x.outcome) c.0 (pairs_all (EntryBack l) (λ (x : told.Entry). OutcomeFits x.outcome) (λ x y q. q.fits) r.entries c.0 entries);
-        current = All-from_recursion (λ (x : ℤ × ℕ). FitsSigned w64 x.0) f.0 current_vars.values;
+        current = All-from_recursion (λ (x : ℤ × ℕ). FitsSigned w64 x.0) current_told current_vars.values;
       };
-      outside = All-from_recursion (λ (x : told.Entry). x.outcome ≡ outcome.Thrown fault.Outside → knows_outside l ≡ true) c.0
-          (pairs_all (EntryBack l) (λ (x : told.Entry). x.outcome ≡ outcome.Thrown fault.Outside → knows_outside l ≡ true) (λ x y q. q.outside) r.entries c.0 entries);
+      outside = All-from_recursion (λ (x : told.Entry). x.outcome ≡ outcome.Thrown fault.Outside → knows_cells l ≡ true) c.0
+          (pairs_all (EntryBack l) (λ (x : told.Entry). x.outcome ≡ outcome.Thrown fault.Outside → knows_cells l ≡ true) (λ x y q. q.outside) r.entries c.0 entries);
     })

@@ -7,8 +7,8 @@ use Rattle.text_words.specs.declared.fault.ReadFault.{ReadFault}
 use Rattle.text_words.proofs.Steps.{bind_ok, done, ok_is, chosen}
 use Rattle.text_words.proofs.Many.{failed}
 use Rattle.text_line_reader.specs.Lines.{Line, Whole, Cut, first_line}
-use Rattle.text_line_reader.specs.Rows.{Read, line_at, with_first, lines_at, next_at, all_at}
-use Rattle.text_line_reader.specs.Words.{given, begins}
+use Rattle.text_line_reader.specs.Rows.{Read, line_at, with_first, lines_at, next_by, all_by}
+use Rattle.text_line_reader.specs.Words.{given}
 use Rattle.text_line_reader.proofs.Steps.{text_of, Takes, given_ok}
 
 abbrev pub with_front : {A : Type 0} → List A → Read (List A) → Read (List A)
@@ -40,39 +40,39 @@ pub lines_done : {A : Type 0} (one : List ℕ → Result A ReadFault) (front : L
     → with_front front (lines_at one 0 ls) ≡ total → total ≡ Ok (front, ls)
 lines_done one front ls total so_far = sym so_far ∙ ap (λ (xs : List _). Ok (xs, ls)) (append-nil front)
 
--- ---- the lines that begin with a word
+-- ---- the lines for which a test holds
 
-abbrev go_on : {A : Type 0} → List ℕ → (List ℕ → Result A ReadFault) → List Line → Option (A × List Line) → Read (List A)
-go_on wanted one ls None = Ok ([], ls)
-go_on wanted one ls (Some x) = with_first x.0 (all_at wanted one x.1)
+abbrev go_on : {A : Type 0} → (List ℕ → Bool) → (List ℕ → Result A ReadFault) → List Line → Option (A × List Line) → Read (List A)
+go_on test one ls None = Ok ([], ls)
+go_on test one ls (Some x) = with_first x.0 (all_by test one x.1)
 
-whole_is : {A : Type 0} (wanted : List ℕ) (one : List ℕ → Result A ReadFault) (b : Bool) (r : Result A ReadFault) (ls all : List Line)
-    → cond b (r >>= λ x. with_first x (all_at wanted one ls)) (Ok ([], all)) ≡ ((cond b (r >>= λ x. Ok (Some (x, ls))) (Ok None)) >>= go_on wanted one all)
-whole_is wanted one true (Ok x) ls all = refl
-whole_is wanted one true (Err e) ls all = refl
-whole_is wanted one false r ls all = refl
+whole_is : {A : Type 0} (test : List ℕ → Bool) (one : List ℕ → Result A ReadFault) (b : Bool) (r : Result A ReadFault) (ls all : List Line)
+    → cond b (r >>= λ x. with_first x (all_by test one ls)) (Ok ([], all)) ≡ ((cond b (r >>= λ x. Ok (Some (x, ls))) (Ok None)) >>= go_on test one all)
+whole_is test one true (Ok x) ls all = refl
+whole_is test one true (Err e) ls all = refl
+whole_is test one false r ls all = refl
 
-all_is : {A : Type 0} (wanted : List ℕ) (one : List ℕ → Result A ReadFault) (ls : List Line) → all_at wanted one ls ≡ (next_at wanted one ls >>= go_on wanted one ls)
-all_is wanted one [] = refl
-all_is wanted one (Cut text ∷ ls) = refl
-all_is wanted one (Whole text ∷ ls) = whole_is wanted one (begins wanted text) (one text) ls (Whole text ∷ ls)
+all_is : {A : Type 0} (test : List ℕ → Bool) (one : List ℕ → Result A ReadFault) (ls : List Line) → all_by test one ls ≡ (next_by test one ls >>= go_on test one ls)
+all_is test one [] = refl
+all_is test one (Cut text ∷ ls) = refl
+all_is test one (Whole text ∷ ls) = whole_is test one (test text) (one text) ls (Whole text ∷ ls)
 
-pub all_more : {A : Type 0} (wanted : List ℕ) (one : List ℕ → Result A ReadFault) (front : List A) (ls : List Line) (x : A × List Line) (total : Read (List A))
-    → next_at wanted one ls ≡ Ok (Some x) → with_front front (all_at wanted one ls) ≡ total → with_front (front ++ x.0 ∷ []) (all_at wanted one x.1) ≡ total
-all_more wanted one front ls x total is so_far =
-    let step : all_at wanted one ls ≡ with_first x.0 (all_at wanted one x.1) = all_is wanted one ls ∙ ap (λ r. r >>= go_on wanted one ls) is in
-    sym (regroup front x.0 (all_at wanted one x.1)) ∙ ap (with_front front) (sym step) ∙ so_far
+pub all_more : {A : Type 0} (test : List ℕ → Bool) (one : List ℕ → Result A ReadFault) (front : List A) (ls : List Line) (x : A × List Line) (total : Read (List A))
+    → next_by test one ls ≡ Ok (Some x) → with_front front (all_by test one ls) ≡ total → with_front (front ++ x.0 ∷ []) (all_by test one x.1) ≡ total
+all_more test one front ls x total is so_far =
+    let step : all_by test one ls ≡ with_first x.0 (all_by test one x.1) = all_is test one ls ∙ ap (λ r. r >>= go_on test one ls) is in
+    sym (regroup front x.0 (all_by test one x.1)) ∙ ap (with_front front) (sym step) ∙ so_far
 
-pub all_fail : {A : Type 0} (e : ReadFault) (wanted : List ℕ) (one : List ℕ → Result A ReadFault) (front : List A) (ls : List Line) (total : Read (List A))
-    → Fails e (next_at wanted one ls) → with_front front (all_at wanted one ls) ≡ total → Fails e total
-all_fail e wanted one front ls total fails so_far =
-    failed e (next_at wanted one ls) (λ o. with_front front (go_on wanted one ls o)) total fails
-    (sym (twice front (next_at wanted one ls) (go_on wanted one ls)) ∙ ap (with_front front) (sym (all_is wanted one ls)) ∙ so_far)
+pub all_fail : {A : Type 0} (e : ReadFault) (test : List ℕ → Bool) (one : List ℕ → Result A ReadFault) (front : List A) (ls : List Line) (total : Read (List A))
+    → Fails e (next_by test one ls) → with_front front (all_by test one ls) ≡ total → Fails e total
+all_fail e test one front ls total fails so_far =
+    failed e (next_by test one ls) (λ o. with_front front (go_on test one ls o)) total fails
+    (sym (twice front (next_by test one ls) (go_on test one ls)) ∙ ap (with_front front) (sym (all_is test one ls)) ∙ so_far)
 
-pub all_done : {A : Type 0} (wanted : List ℕ) (one : List ℕ → Result A ReadFault) (front : List A) (ls : List Line) (total : Read (List A))
-    → next_at wanted one ls ≡ Ok None → with_front front (all_at wanted one ls) ≡ total → total ≡ Ok (front, ls)
-all_done wanted one front ls total is so_far =
-    let step : all_at wanted one ls ≡ done ([], ls) = all_is wanted one ls ∙ ap (λ r. r >>= go_on wanted one ls) is in
+pub all_done : {A : Type 0} (test : List ℕ → Bool) (one : List ℕ → Result A ReadFault) (front : List A) (ls : List Line) (total : Read (List A))
+    → next_by test one ls ≡ Ok None → with_front front (all_by test one ls) ≡ total → total ≡ Ok (front, ls)
+all_done test one front ls total is so_far =
+    let step : all_by test one ls ≡ done ([], ls) = all_is test one ls ∙ ap (λ r. r >>= go_on test one ls) is in
     sym so_far ∙ ap (with_front front) step ∙ ap (λ (xs : List _). done (xs, ls)) (append-nil front)
 
 -- ---- what is read is written so, and what is written so is read
@@ -145,36 +145,36 @@ lines_again words Is one reads [] rest h = refl
 lines_again words Is one reads (x ∷ xs) rest h =
     rw (line_again words Is one reads x (map (line_of words) xs ++ rest) h.0, lines_again words Is one reads xs rest h.1) refl
 
-pub all_take : {A : Type 0} (words : A → List (List ℕ)) (Is : A → Type 0) (wanted : List ℕ) (one : List ℕ → Result A ReadFault) → Reads words Is one
-    → (ls : List Line) (x : List A × List Line) → all_at wanted one ls ≡ Ok x → TakesLines words Is ls x
-all_take words Is wanted one reads [] x e = subst (TakesLines words Is []) (ok_is ([], []) x e) (nothing_taken words Is [])
-all_take words Is wanted one reads (Cut text ∷ ls) x e = subst (TakesLines words Is (Cut text ∷ ls)) (ok_is ([], Cut text ∷ ls) x e) (nothing_taken words Is (Cut text ∷ ls))
-all_take {A} words Is wanted one reads (Whole text ∷ ls) x e =
-    elim (chosen (begins wanted text) (one text >>= λ y. with_first y (all_at wanted one ls)) (done ([], Whole text ∷ ls)) (Ok x) e) [
+pub all_take : {A : Type 0} (words : A → List (List ℕ)) (Is : A → Type 0) (test : List ℕ → Bool) (one : List ℕ → Result A ReadFault) → Reads words Is one
+    → (ls : List Line) (x : List A × List Line) → all_by test one ls ≡ Ok x → TakesLines words Is ls x
+all_take words Is test one reads [] x e = subst (TakesLines words Is []) (ok_is ([], []) x e) (nothing_taken words Is [])
+all_take words Is test one reads (Cut text ∷ ls) x e = subst (TakesLines words Is (Cut text ∷ ls)) (ok_is ([], Cut text ∷ ls) x e) (nothing_taken words Is (Cut text ∷ ls))
+all_take {A} words Is test one reads (Whole text ∷ ls) x e =
+    elim (chosen (test text) (one text >>= λ y. with_first y (all_by test one ls)) (done ([], Whole text ∷ ls)) (Ok x) e) [
       | inr p ↦ subst (TakesLines words Is (Whole text ∷ ls)) (ok_is ([], Whole text ∷ ls) x p.1) (nothing_taken words Is (Whole text ∷ ls))
       | inl p ↦
-          let f = bind_ok (one text) (λ y. with_first y (all_at wanted one ls)) x p.1 in
-          let o = bind_ok (all_at wanted one ls) (λ others. done (f.0 ∷ others.0, others.1)) x f.2 in
+          let f = bind_ok (one text) (λ y. with_first y (all_by test one ls)) x p.1 in
+          let o = bind_ok (all_by test one ls) (λ others. done (f.0 ∷ others.0, others.1)) x f.2 in
           let t = reads.takes text f.0 f.1 in
-          let others = all_take words Is wanted one reads ls o.0 o.1 in
+          let others = all_take words Is test one reads ls o.0 o.1 in
           let made : List A × List Line = (f.0 ∷ o.0.0, o.0.1) in
           subst (TakesLines words Is (Whole text ∷ ls)) (ok_is made x o.2) (one_more words Is (Whole text ∷ ls) ls f.0 o.0 (ap (λ (t : List ℕ). Whole t ∷ ls) t.same) t.is others)
     ]
 
--- the first line, if there is one, does not begin with the word
-abbrev pub stops : List ℕ → List Line → Type 0
-stops wanted [] = Unit {0}
-stops wanted (Cut text ∷ ls) = Unit {0}
-stops wanted (Whole text ∷ ls) = begins wanted text ≡ false
+-- the test does not hold for the first line, if there is one
+abbrev pub stops : (List ℕ → Bool) → List Line → Type 0
+stops test [] = Unit {0}
+stops test (Cut text ∷ ls) = Unit {0}
+stops test (Whole text ∷ ls) = test text ≡ false
 
-all_stop : {A : Type 0} (wanted : List ℕ) (one : List ℕ → Result A ReadFault) (ls : List Line) → stops wanted ls → all_at wanted one ls ≡ Ok ([], ls)
-all_stop wanted one [] h = refl
-all_stop wanted one (Cut text ∷ ls) h = refl
-all_stop wanted one (Whole text ∷ ls) h = rw h refl
+all_stop : {A : Type 0} (test : List ℕ → Bool) (one : List ℕ → Result A ReadFault) (ls : List Line) → stops test ls → all_by test one ls ≡ Ok ([], ls)
+all_stop test one [] h = refl
+all_stop test one (Cut text ∷ ls) h = refl
+all_stop test one (Whole text ∷ ls) h = rw h refl
 
-pub all_again : {A : Type 0} (words : A → List (List ℕ)) (Is : A → Type 0) (wanted : List ℕ) (one : List ℕ → Result A ReadFault) → Reads words Is one
-    → ((x : A) → begins wanted (text_of (words x)) ≡ true) → (xs : List A) (rest : List Line) → AllByRecursion Is xs → stops wanted rest
-    → all_at wanted one (map (line_of words) xs ++ rest) ≡ Ok (xs, rest)
-all_again words Is wanted one reads going [] rest h stop = all_stop wanted one rest stop
-all_again words Is wanted one reads going (x ∷ xs) rest h stop =
-    rw (going x, reads.again x h.0, all_again words Is wanted one reads going xs rest h.1 stop) refl
+pub all_again : {A : Type 0} (words : A → List (List ℕ)) (Is : A → Type 0) (test : List ℕ → Bool) (one : List ℕ → Result A ReadFault) → Reads words Is one
+    → ((x : A) → Is x → test (text_of (words x)) ≡ true) → (xs : List A) (rest : List Line) → AllByRecursion Is xs → stops test rest
+    → all_by test one (map (line_of words) xs ++ rest) ≡ Ok (xs, rest)
+all_again words Is test one reads going [] rest h stop = all_stop test one rest stop
+all_again words Is test one reads going (x ∷ xs) rest h stop =
+    rw (going x h.0, reads.again x h.0, all_again words Is test one reads going xs rest h.1 stop) refl

@@ -1,5 +1,5 @@
 -- What is read are the moves of the text, and which fault comes first where there are none.
-use Rattle.std.proofs.Common.{◌≡◌, ◌∙◌, ℕ, ◌<◌, ◌≤◌, Bool, true, false, cond, List, length, Result, Ok, Err, refl, sym, ap, subst, arith, ◌⊎◌, inl, inr}
+use Rattle.std.proofs.Common.{◌≡◌, ◌∙◌, ℕ, ◌≤◌, true, false, cond, List, length, Result, Ok, Err, refl, sym, subst, ◌⊎◌, inl, inr}
 use Rattle.std.specs.Prelude.{nat_lt, IfOk, IfErr}
 use Rattle.std.specs.List.{list_all}
 use Rattle.std.proofs.lemmas.Bool.{ltb-true}
@@ -10,12 +10,13 @@ use Rattle.text_words.specs.Bytes.{is_allowed}
 use Rattle.text_words.specs.Answers.{◌>>=◌, Gives, Fails}
 use Rattle.text_words.specs.declared.fault.ReadFault.{ReadFault}
 use Rattle.text_words.specs.declared.fault.ReadFault.TheVariants as faults
-use Rattle.text_words.proofs.Steps.{bind_ok, done, ok_is, chosen}
+use Rattle.text_words.proofs.Steps.{bind_ok, chosen}
 use Rattle.text_line_reader.specs.Lines.{lines}
 use Rattle.text_line_reader.proofs.Reading.{Rules, at_most, not_over, failed_in}
 use Rattle.text_line_reader.specs.ScheduleRaw.{Raw}
 use Rattle.text_line_reader.specs.ScheduleReading.{raws_at}
 use Rattle.text_line_reader.specs.ScheduleResolving.{names_known, moves_told, resolved}
+use Rattle.text_line_reader.specs.Reports.{knows_cells}
 use Rattle.text_line_reader.specs.Schedules.{max_len, IsSchedule, IsWritten, IsFirst, schedule_at}
 use Rattle.text_line_reader.proofs.Written.{written_is_read, read_is_written, written_allowed}
 use Rattle.text_line_reader.proofs.ScheduleBacks.{told_back}
@@ -28,7 +29,7 @@ record Passed (bytes : List ℕ) : Type 0 where
   allowed : list_all is_allowed bytes ≡ true
 
 abbrev rest_at : Listing → List ℕ → Result (List Move) ReadFault
-rest_at l bytes = raws_at (lines bytes) >>= λ raws. resolved l raws
+rest_at l bytes = raws_at (knows_cells l) (lines bytes) >>= λ raws. resolved l raws
 
 passed : (l : Listing) (bytes : List ℕ) (moves : List Move) → schedule_at l bytes ≡ Ok moves → Passed bytes × (rest_at l bytes ≡ Ok moves)
 unfolding schedule_at
@@ -52,10 +53,10 @@ by_names l raws moves e =
 schedule_back : (l : Listing) (bytes : List ℕ) (moves : List Move) → Rules l → schedule_at l bytes ≡ Ok moves → IsSchedule l bytes moves
 schedule_back l bytes moves rules e =
     let p = passed l bytes moves e in
-    let r = bind_ok (raws_at (lines bytes)) _ moves p.1 in
-    let w = read_is_written bytes r.0 p.0.short r.1 in
+    let r = bind_ok (raws_at (knows_cells l) (lines bytes)) _ moves p.1 in
+    let w = read_is_written l bytes r.0 p.0.short r.1 in
     let n = by_names l r.0 moves r.2 in
-    let b = told_back l r.0 moves (few_tasks l rules.limits) w.words n.1 in
+    let b = told_back l r.0 moves rules.limits (few_tasks l rules.limits) w.words n.1 in
     record { short = p.0.short; text = w.text ∙ b.text; fits = b.fits }
 
 passes : (l : Listing) (bytes : List ℕ) → length bytes ≤ max_len → list_all is_allowed bytes ≡ true → schedule_at l bytes ≡ rest_at l bytes
@@ -64,9 +65,9 @@ passes l bytes short allowed = rw (not_over (length bytes) max_len short, allowe
 
 schedule_read : (l : Listing) (bytes : List ℕ) (moves : List Move) → Rules l → IsSchedule l bytes moves → schedule_at l bytes ≡ Ok moves
 schedule_read l bytes moves rules is =
-    let a = moves_again l moves rules.names (few_tasks l rules.limits) is.fits in
-    let w : IsWritten bytes (written_moves l moves) = record { short = is.short; text = is.text ∙ a.text; words = a.words } in
-    passes l bytes is.short (written_allowed bytes (written_moves l moves) w) ∙ rw (written_is_read bytes (written_moves l moves) w) a.told
+    let a = moves_again l moves rules.names rules.limits (few_tasks l rules.limits) is.fits in
+    let w : IsWritten l bytes (written_moves l moves) = record { short = is.short; text = is.text ∙ a.text; words = a.words } in
+    passes l bytes is.short (written_allowed l bytes (written_moves l moves) w) ∙ rw (written_is_read l bytes (written_moves l moves) w) a.told
 
 -- ---- the first fault
 
@@ -78,8 +79,8 @@ in_names l raws e h =
       | inr p ↦ inr (p.0, cc)
     ]
 
-no_raws : (bytes : List ℕ) (e : ReadFault) → raws_at (lines bytes) ≡ Err e → (raws : List Raw) → IsWritten bytes raws → ⊥
-no_raws bytes e h raws w = let k = written_is_read bytes raws w in absurd cc
+no_raws : (l : Listing) (bytes : List ℕ) (e : ReadFault) → raws_at (knows_cells l) (lines bytes) ≡ Err e → (raws : List Raw) → IsWritten l bytes raws → ⊥
+no_raws l bytes e h raws w = let k = written_is_read l bytes raws w in absurd cc
 
 no_schedule : (l : Listing) (bytes : List ℕ) (e : ReadFault) → Rules l → schedule_at l bytes ≡ Err e → (moves : List Move) → IsSchedule l bytes moves → ⊥
 no_schedule l bytes e rules h moves is = let k = schedule_read l bytes moves rules is in absurd cc
@@ -93,10 +94,10 @@ first_is l bytes e rules h =
           let short = at_most (length bytes) max_len p.0 in
           elim (chosen (list_all is_allowed bytes) (rest_at l bytes) (Err faults.BadByte) (Err e) p.1) [
             | inr q ↦ subst (IsFirst l bytes) (let s : faults.BadByte ≡ e = cc in s) (short, q.0)
-            | inl q ↦ elim (failed_in (raws_at (lines bytes)) (λ raws. resolved l raws) e q.1) [
-              | inl s ↦ subst (IsFirst l bytes) (sym ((raws_shape (lines bytes)).by e s)) (short, q.0, no_raws bytes e s)
+            | inl q ↦ elim (failed_in (raws_at (knows_cells l) (lines bytes)) (λ raws. resolved l raws) e q.1) [
+              | inl s ↦ subst (IsFirst l bytes) (sym ((raws_shape (knows_cells l) (lines bytes)).by e s)) (short, q.0, no_raws l bytes e s)
               | inr s ↦
-                  let w = read_is_written bytes s.0 short s.1 in
+                  let w = read_is_written l bytes s.0 short s.1 in
                   elim (in_names l s.0 e s.2) [
                     | inl n ↦ subst (IsFirst l bytes) (sym n.1) (s.0, (w, n.0, no_schedule l bytes e rules h))
                     | inr n ↦ subst (IsFirst l bytes) (sym n.1) (s.0, (w, n.0))

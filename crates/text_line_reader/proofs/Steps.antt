@@ -1,6 +1,9 @@
 -- What single words are read as, and what is read again.
-use Rattle.std.proofs.Common.{◌≡◌, ◌∙◌, ℕ, Bool, true, false, cond, List, [], ◌∷◌, ◌++◌, Option, Some, None, Result, Ok, Err, refl, ap, subst, inl, inr}
+use Rattle.std.proofs.Common.{◌≡◌, ◌∙◌, ℕ, Bool, true, false, not, cond, eqb, List, [], ◌∷◌, ◌++◌, Option, Some, None, Result, Ok, Err, refl, ap, subst, inl, inr}
+use Rattle.std.specs.List.{list_all}
 use Rattle.std.specs.Str.{bytes_eq}
+use Rattle.std.proofs.lemmas.Bool.{and_parts, and_from}
+use Rattle.std.proofs.lemmas.List.Folds.{list_all-append}
 use Rattle.std.proofs.lemmas.Slice.Eq.{bytes_eq-Decides}
 use Rattle.txn_programs.specs.Names.{is_name}
 use Rattle.text_words.specs.Bytes.{is_int}
@@ -16,6 +19,14 @@ abbrev pub text_of : List (List ℕ) → List ℕ
 text_of [] = []
 text_of (word ∷ []) = word
 text_of (word ∷ next ∷ words) = word ++ 32 ∷ text_of (next ∷ words)
+
+-- no word of a line has such a byte, nor has the line
+pub text_lacks : (sep : ℕ) → eqb 32 sep ≡ false → (words : List (List ℕ)) → list_all (lacks sep) words ≡ true → lacks sep (text_of words) ≡ true
+text_lacks sep space [] h = refl
+text_lacks sep space (word ∷ []) h = (and_parts (lacks sep word) true h).0
+text_lacks sep space (word ∷ next ∷ words) h =
+    let p = and_parts (lacks sep word) (list_all (lacks sep) (next ∷ words)) h in
+    list_all-append (λ b. not (eqb b sep)) word (32 ∷ text_of (next ∷ words)) ∙ and_from _ _ p.0 (and_from _ _ (ap not space) (text_lacks sep space (next ∷ words) p.1))
 
 pub given_ok : {A : Type 0} (o : Option A) (x : A) → given o ≡ Ok x → o ≡ Some x
 given_ok None x e = absurd cc

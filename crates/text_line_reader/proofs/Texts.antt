@@ -1,28 +1,16 @@
 -- The text of lines, and the lines of the text.
-use Rattle.std.proofs.Common.{◌≡◌, ◌∙◌, ℕ, Bool, true, false, not, eqb, ◌&&◌, List, [], ◌∷◌, ◌++◌, map, refl, sym, ap, append_assoc}
+use Rattle.std.proofs.Common.{◌≡◌, ◌∙◌, ℕ, Bool, true, List, [], ◌∷◌, ◌++◌, map, refl, sym, ap, append_assoc}
 use Rattle.std.specs.List.{list_all, flat_map, AllByRecursion}
 use Rattle.std.proofs.lemmas.Bool.{and_from}
-use Rattle.std.proofs.lemmas.List.Folds.{list_all-append}
 use Rattle.text_words.specs.Words.{line}
 use Rattle.text_line_reader.specs.Lines.{Line, Whole, lines}
 use Rattle.text_line_reader.proofs.Parting.{lacks, lines_text}
-use Rattle.text_line_reader.proofs.Steps.{text_of}
+use Rattle.text_line_reader.proofs.Steps.{text_of, text_lacks}
 use Rattle.text_line_reader.proofs.Rows.{line_of}
 
 -- no word has a newline
 abbrev pub all_lack : List (List ℕ) → Bool
 all_lack words = list_all (lacks 10) words
-
-both : (a b : Bool) → (a && b) ≡ true → (a ≡ true) × (b ≡ true)
-both true b h = (refl, h)
-both false b h = absurd cc
-
-text_lacks : (words : List (List ℕ)) → all_lack words ≡ true → lacks 10 (text_of words) ≡ true
-text_lacks [] h = refl
-text_lacks (word ∷ []) h = (both (lacks 10 word) true h).0
-text_lacks (word ∷ next ∷ words) h =
-    let p = both (lacks 10 word) (all_lack (next ∷ words)) h in
-    list_all-append (λ b. not (eqb b 10)) word (32 ∷ text_of (next ∷ words)) ∙ and_from _ _ p.0 (text_lacks (next ∷ words) p.1)
 
 line_text : (word : List ℕ) (words rest : List (List ℕ)) → line (word ∷ words) ≡ text_of (word ∷ words) ++ 10 ∷ []
 line_text word [] rest = refl
@@ -36,7 +24,7 @@ pub record Makes (bytes : List ℕ) (ls : List Line) : Type 0 where
 pub one_line : (word : List ℕ) (words : List (List ℕ)) → all_lack (word ∷ words) ≡ true → Makes (line (word ∷ words)) (Whole (text_of (word ∷ words)) ∷ [])
 one_line word words h =
     record {
-      by = λ rest. ap (λ (t : List ℕ). lines (t ++ rest)) (line_text word words []) ∙ ap lines (append_assoc (text_of (word ∷ words)) (10 ∷ []) rest) ∙ lines_text (text_of (word ∷ words)) rest (text_lacks (word ∷ words) h);
+      by = λ rest. ap (λ (t : List ℕ). lines (t ++ rest)) (line_text word words []) ∙ ap lines (append_assoc (text_of (word ∷ words)) (10 ∷ []) rest) ∙ lines_text (text_of (word ∷ words)) rest (text_lacks 10 refl (word ∷ words) h);
     }
 
 pub two_parts : (a b : List ℕ) (x y : List Line) → Makes a x → Makes b y → Makes (a ++ b) (x ++ y)

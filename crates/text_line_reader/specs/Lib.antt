@@ -1,6 +1,7 @@
 pub mod Lines
 pub mod Words
 pub mod Rows
+pub mod CellNames
 pub mod Counts
 pub mod View
 pub mod ReportRaw

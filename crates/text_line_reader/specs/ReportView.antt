@@ -1,8 +1,9 @@
 -- What the code's parts of bytes and raw reports say, and not where they lie in memory.
 use Rattle.std.specs.Prelude.{List, map}
-use Rattle.text_line_reader.specs.ReportRaw.{Variable, Ending, Entry, Task, Raw}
+use Rattle.text_line_reader.specs.ReportRaw.{Variable, Cell, Ending, Entry, Task, Raw}
 use Rattle.text_line_reader.specs.ReportRaw as raw
 use Rattle.text_line_reader.specs.declared.report.raw.RawVariable.{RawVariable}
+use Rattle.text_line_reader.specs.declared.report.raw.RawCell.{RawCell}
 use Rattle.text_line_reader.specs.declared.report.raw.RawEnding.{RawEnding}
 use Rattle.text_line_reader.specs.declared.report.raw.RawEnding.TheVariants as code
 use Rattle.text_line_reader.specs.declared.report.raw.RawEntry.{RawEntry}
@@ -12,6 +13,9 @@ pub use Rattle.text_line_reader.specs.View.{view_text}
 
 abbrev pub view_variable : RawVariable → Variable
 view_variable v = record { name = v.name.now; value = v.value.text.now; version = v.version.text.now }
+
+abbrev pub view_cell : RawCell → Cell
+view_cell c = record { table = c.table.now; index = c.index.text.now; value = c.value.text.now; version = c.version.text.now }
 
 abbrev pub view_ending : RawEnding → Ending
 view_ending (code.Returned value) = raw.Returned value.text.now
@@ -30,6 +34,9 @@ view_task t = record { task = t.task.text.now; name = t.name.now }
 abbrev pub view_variables : List RawVariable → List Variable
 view_variables vs = map view_variable vs
 
+abbrev pub view_cells : List RawCell → List Cell
+view_cells cs = map view_cell cs
+
 abbrev pub view_entries : List RawEntry → List Entry
 view_entries es = map view_entry es
 
@@ -41,9 +48,11 @@ view_raw r =
     record {
       base = r.base.text.now;
       base_vars = view_variables r.base_vars.items;
+      base_cells = view_cells r.base_cells.items;
       entries = view_entries r.entries.items;
       current = r.now.text.now;
       current_vars = view_variables r.now_vars.items;
+      current_cells = view_cells r.now_cells.items;
       parked = view_tasks r.parked.items;
       memory = view_tasks r.memory.items;
     }

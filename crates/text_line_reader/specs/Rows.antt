@@ -1,5 +1,5 @@
 -- Reading one line after another, each step with what it reads and the lines left.
-use Rattle.std.specs.Prelude.{ℕ, zero, suc, if◌then◌else◌, Option, Some, None, Result, Ok, Err, List, [], ◌∷◌}
+use Rattle.std.specs.Prelude.{ℕ, zero, suc, Bool, if◌then◌else◌, Option, Some, None, Result, Ok, Err, List, [], ◌∷◌}
 use Rattle.text_words.specs.Answers.{◌>>=◌}
 use Rattle.text_words.specs.declared.fault.ReadFault.{ReadFault}
 use Rattle.text_words.specs.declared.fault.ReadFault.TheVariants.{Shape}
@@ -25,17 +25,24 @@ abbrev pub lines_at : {A : Type 0} → (List ℕ → Result A ReadFault) → ℕ
 lines_at one zero ls = Ok ([], ls)
 lines_at one (suc n) ls = line_at one ls >>= λ first. with_first first.0 (lines_at one n first.1)
 
--- the next line, if there is one that begins with this word
-abbrev pub next_at : {A : Type 0} → List ℕ → (List ℕ → Result A ReadFault) → List Line → Result (Option (A × List Line)) ReadFault
-next_at wanted one [] = Ok None
-next_at wanted one (Cut text ∷ ls) = Ok None
-next_at wanted one (Whole text ∷ ls) = if begins wanted text then (one text >>= λ x. Ok (Some (x, ls))) else Ok None
+-- the next line, if there is one for which the test holds
+abbrev pub next_by : {A : Type 0} → (List ℕ → Bool) → (List ℕ → Result A ReadFault) → List Line → Result (Option (A × List Line)) ReadFault
+next_by test one [] = Ok None
+next_by test one (Cut text ∷ ls) = Ok None
+next_by test one (Whole text ∷ ls) = if test text then (one text >>= λ x. Ok (Some (x, ls))) else Ok None
 
--- the lines that begin with this word
+-- the lines for which the test holds
+abbrev pub all_by : {A : Type 0} → (List ℕ → Bool) → (List ℕ → Result A ReadFault) → List Line → Read (List A)
+all_by test one [] = Ok ([], [])
+all_by test one (Cut text ∷ ls) = Ok ([], Cut text ∷ ls)
+all_by test one (Whole text ∷ ls) = if test text then (one text >>= λ x. with_first x (all_by test one ls)) else Ok ([], Whole text ∷ ls)
+
+-- the same by the word with which they begin
+abbrev pub next_at : {A : Type 0} → List ℕ → (List ℕ → Result A ReadFault) → List Line → Result (Option (A × List Line)) ReadFault
+next_at wanted one ls = next_by (begins wanted) one ls
+
 abbrev pub all_at : {A : Type 0} → List ℕ → (List ℕ → Result A ReadFault) → List Line → Read (List A)
-all_at wanted one [] = Ok ([], [])
-all_at wanted one (Cut text ∷ ls) = Ok ([], Cut text ∷ ls)
-all_at wanted one (Whole text ∷ ls) = if begins wanted text then (one text >>= λ x. with_first x (all_at wanted one ls)) else Ok ([], Whole text ∷ ls)
+all_at wanted one ls = all_by (begins wanted) one ls
 
 -- no line is left
 unfoldable pub end_at : List Line → Result Unit ReadFault

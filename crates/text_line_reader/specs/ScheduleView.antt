@@ -8,6 +8,7 @@ use Rattle.text_line_reader.specs.declared.schedule.raw.RawMove.TheVariants as c
 abbrev pub view_move : RawMove → Raw
 view_move (code.OfTask verb number) = raw.OfTask verb number.text.now
 view_move (code.OfVariable verb number name) = raw.OfVariable verb number.text.now name.now
+view_move (code.OfCell verb number table index) = raw.OfCell verb number.text.now table.now index.text.now
 view_move code.Word = raw.Word
 
 abbrev pub view_moves : List RawMove → List Raw

@@ -1,14 +1,15 @@
 -- Single words of a line: what each is read as.
-use Rattle.std.specs.Prelude.{ℕ, Bool, not, ◌&&◌, List, is_some, if◌then◌else◌, Option, Some, None, Result, Ok, Err}
+use Rattle.std.specs.Prelude.{ℕ, Bool, not, ◌&&◌, List, [], is_some, if◌then◌else◌, Option, Some, None, Result, Ok, Err}
 use Rattle.std.specs.Str.Parse.{starts_with_minus}
 use Rattle.txn_programs.specs.Names.{is_name}
 use Rattle.text_words.specs.Bytes.{is_int}
+use Rattle.text_words.specs.Answers.{◌>>=◌}
 use Rattle.std.specs.Str.{bytes_eq}
 use Rattle.text_words.specs.declared.fault.ReadFault.{ReadFault}
 use Rattle.text_words.specs.declared.fault.ReadFault.TheVariants.{Shape}
 use Rattle.text_line_reader.specs.Lines.{parted}
 
--- an integer without a sign
+-- an integer without a sign, and so without a leading zero
 abbrev pub is_number : List ℕ → Bool
 is_number text = not (starts_with_minus text) && is_int text
 
@@ -30,6 +31,10 @@ int_in text = if is_int text then Ok text else Err Shape
 unfoldable pub number_in : List ℕ → Result (List ℕ) ReadFault
 number_in text = if is_number text then Ok text else Err Shape
 
+-- it names a cell, and no variable
+unfoldable pub is_bracketed : List ℕ → Bool
+is_bracketed text = is_some (parted 91 text)
+
 -- this word
 unfoldable pub expect : List ℕ → List ℕ → Result Unit ReadFault
 expect wanted text = if bytes_eq text wanted then Ok tt else Err Shape
@@ -48,3 +53,13 @@ after_word wanted text = given (behind wanted text)
 -- the line begins with this word
 unfoldable pub begins : List ℕ → List ℕ → Bool
 begins wanted text = is_some (behind wanted text)
+
+-- NAME[INDEX], with nothing behind it
+unfoldable pub cell_in : List ℕ → Result (List ℕ × List ℕ) ReadFault
+cell_in text = do
+  first ← given (parted 91 text)
+  second ← given (parted 93 first.1)
+  nothing ← expect [] second.1
+  name ← name_in first.0
+  index ← number_in second.0
+  Ok (name, index)

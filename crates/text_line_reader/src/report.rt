@@ -1,3 +1,4 @@
+pub(crate) mod cells;
 pub(crate) mod raw;
 pub(crate) mod read;
 pub(crate) mod resolve;

@@ -5,20 +5,21 @@ ghost use Rattle.text_words.specs.Bytes.{int_value};
 ghost use Rattle.text_words.specs.Tokens.{Lexeme, tokens};
 ghost use Rattle.text_words.specs.Answers.{Gives, ◌>>=◌ as ◌>>=ᴿ◌};
 ghost use Rattle.text_words.specs.declared.fault.ReadFault.TheVariants.{Shape};
-ghost use Rattle.text_grammar.specs.Tree.{Declaration};
-ghost use Rattle.text_grammar.specs.Reading.{pair_at, pair_behind, always_at, conditions_at, list_at, parameters_at};
-ghost use Rattle.text_grammar.specs.Reading.{tx_at, arguments_at, run_behind, run_at, end_at};
+ghost use Rattle.text_grammar.specs.Tree.{Declaration, longest};
+ghost use Rattle.text_grammar.specs.Reading.{pair_at, pair_behind, table_at, tables_at, always_at, conditions_at};
+ghost use Rattle.text_grammar.specs.Reading.{list_at, parameters_at, tx_at, arguments_at, run_behind, run_at, end_at};
 ghost use Rattle.text_grammar.specs.Reading.{form_numbered, announced_at, heading_at, file_of, tree_of};
 ghost use Rattle.text_words.specs.TokenReading.{begins, all_of, is_name, name_at, is_int, int_at, close_at};
 ghost use Rattle.text_grammar.specs.View.{view_expr, view_stmt, view_pair, view_pairs, view_always, view_conditions};
-ghost use Rattle.text_grammar.specs.View.{view_names, view_tx, view_txs, view_numbers, view_run, view_runs, view_file};
+ghost use Rattle.text_grammar.specs.View.{view_names, view_tx, view_txs, view_numbers, view_table, view_tables};
+ghost use Rattle.text_grammar.specs.View.{view_run, view_runs, view_file};
 
 use crate::cond::cond_of;
 use crate::expr::expr_of;
 use crate::stmt::stmt_of;
 use std::alloc::Global;
 use text_grammar::expr::RawExpr;
-use text_grammar::file::{FileForm, RawAlways, RawFile, RawPair, RawRun, RawTx};
+use text_grammar::file::{FileForm, RawAlways, RawFile, RawPair, RawRun, RawTable, RawTx};
 use text_grammar::stmt::RawStmt;
 use text_words::ReadFault;
 use text_words::bytes::are_allowed;
@@ -41,16 +42,20 @@ fn pair_behind(bytes: &[u8]) -> Result<(RawPair<'_>, &[u8]), ReadFault>
 /// The most parentheses that may be open inside the one of a condition or of a transaction.
 pub const INNER_DEPTH: u32 = 31;
 
-/// A standing condition, and the bytes behind it. It fails by `Shape` where none stands next, or one
-/// that is too deep.
+/// A standing condition of a file of this form, and the bytes behind it. It fails by `Shape` where none
+/// stands next, or one that is too deep.
 #[tactic(auto, unfolding(text_grammar::specs::Reading::always_at))]
-pub fn always_of(alloc: Global, bytes: &[u8]) -> Result<(RawAlways<'_>, &[u8]), ReadFault>
-    ensures value { Gives (λ x. (view_always x.0, tokens x.1.now)) result (always_at (tokens bytes.now)) }
+pub fn always_of(
+    alloc: Global,
+    file_form: FileForm,
+    bytes: &[u8],
+) -> Result<(RawAlways<'_>, &[u8]), ReadFault>
+    ensures value { Gives (λ x. (view_always x.0, tokens x.1.now)) result (always_at file_form (tokens bytes.now)) }
     ensures shorter { IfOk result (λ x. length x.1.now < length bytes.now) }
 {
     let rest = form(bytes, "always")?;
     let (name, rest) = name_of(rest)?;
-    let (condition, rest) = cond_of(alloc, INNER_DEPTH, rest)?;
+    let (condition, rest) = cond_of(alloc, file_form, INNER_DEPTH, rest)?;
     match close(rest) {
         Ok(rest) => Ok((RawAlways { name, condition }, rest)),
         Err(fault) => {
@@ -119,8 +124,8 @@ pub fn tx_of(
     let rest = form(bytes, "tx")?;
     let (name, rest) = name_of(rest)?;
     let (params, rest) = parameters_of(alloc, file_form, rest)?;
-    let (body, rest) = stmt_of(alloc, INNER_DEPTH, rest)?;
-    match expr_of(alloc, INNER_DEPTH, rest) {
+    let (body, rest) = stmt_of(alloc, file_form, INNER_DEPTH, rest)?;
+    match expr_of(alloc, file_form, INNER_DEPTH, rest) {
         Ok((value, rest)) => closed_tx(name, params, body, value, rest),
         Err(fault) => {
             drop(body);
@@ -189,14 +194,18 @@ pub fn pairs_of<'a>(
     Ok((pairs, rest))
 }
 
-fn standing_of(alloc: Global, bytes: &[u8]) -> Result<(Vec<RawAlways<'_>>, &[u8]), ReadFault>
+fn standing_of(
+    alloc: Global,
+    file_form: FileForm,
+    bytes: &[u8],
+) -> Result<(Vec<RawAlways<'_>>, &[u8]), ReadFault>
     ensures { Gives (λ x. (view_conditions x.0.items, tokens x.1.now)) result
-        (all_of (begins (codes "always")) always_at (tokens bytes.now)) }
+        (all_of (begins (codes "always")) (always_at file_form) (tokens bytes.now)) }
 {
     let mut standing = Vec::new(alloc);
     let mut rest = bytes;
     'standing: while begins(rest, "always") {
-        let (always, after) = always_of(alloc, rest)?;
+        let (always, after) = always_of(alloc, file_form, rest)?;
         standing.push(always)?;
         rest = after;
     }
@@ -215,7 +224,7 @@ fn conditions_of(
 {
     match file_form {
         FileForm::One => Ok((Vec::new(alloc), bytes)),
-        FileForm::Two | FileForm::Three => standing_of(alloc, bytes),
+        FileForm::Two | FileForm::Three => standing_of(alloc, file_form, bytes),
     }
 }
 
@@ -250,6 +259,61 @@ fn numbers_of(alloc: Global, bytes: &[u8]) -> Result<(Vec<Numeral<'_>>, &[u8]), 
         rest = after;
     }
     Ok((numbers, rest))
+}
+
+/// A table, and the bytes behind it.
+#[tactic(auto, unfolding(text_grammar::specs::Reading::table_at))]
+fn table_of(alloc: Global, bytes: &[u8]) -> Result<(RawTable<'_>, &[u8]), ReadFault>
+    ensures value { Gives (λ x. (view_table x.0, tokens x.1.now)) result (table_at (tokens bytes.now)) }
+    ensures shorter { IfOk result (λ x. length x.1.now < length bytes.now) }
+{
+    let rest = form(bytes, "table")?;
+    let (name, rest) = name_of(rest)?;
+    let (count, rest) = int_of(rest)?;
+    let (first, rest) = int_of(rest)?;
+    let (others, rest) = numbers_of(alloc, rest)?;
+    let rest = close(rest)?;
+    Ok((
+        RawTable {
+            name,
+            count,
+            first,
+            others,
+        },
+        rest,
+    ))
+}
+
+/// Tables, as long as one stands next.
+fn all_tables_of(alloc: Global, bytes: &[u8]) -> Result<(Vec<RawTable<'_>>, &[u8]), ReadFault>
+    ensures { Gives (λ x. (view_tables x.0.items, tokens x.1.now)) result
+        (all_of (begins (codes "table")) table_at (tokens bytes.now)) }
+{
+    let mut tables = Vec::new(alloc);
+    let mut rest = bytes;
+    'tables: while begins(rest, "table") {
+        let (table, after) = table_of(alloc, rest)?;
+        tables.push(table)?;
+        rest = after;
+    }
+    Ok((tables, rest))
+}
+
+/// The tables of a file of this form, which only form 3 has, and the bytes behind them. It fails by `Shape`
+/// where the word begins what is no table.
+#[tactic(auto, unfolding(text_grammar::specs::Reading::tables_at))]
+pub fn tables_of(
+    alloc: Global,
+    file_form: FileForm,
+    bytes: &[u8],
+) -> Result<(Vec<RawTable<'_>>, &[u8]), ReadFault>
+    ensures { Gives (λ x. (view_tables x.0.items, tokens x.1.now)) result
+        (tables_at file_form (tokens bytes.now)) }
+{
+    match file_form {
+        FileForm::One | FileForm::Two => Ok((Vec::new(alloc), bytes)),
+        FileForm::Three => all_tables_of(alloc, bytes),
+    }
 }
 
 /// Arguments, which only form 3 has.
@@ -369,6 +433,7 @@ fn file_of(alloc: Global, bytes: &[u8]) -> Result<RawFile<'_>, ReadFault>
 {
     let (form, rest) = heading_of(bytes)?;
     let (vars, rest) = pairs_of(alloc, rest, "var")?;
+    let (tables, rest) = tables_of(alloc, form, rest)?;
     let (always, rest) = conditions_of(alloc, form, rest)?;
     let (txs, rest) = txs_of(alloc, form, rest)?;
     let (runs, rest) = runs_of(alloc, form, rest)?;
@@ -376,21 +441,37 @@ fn file_of(alloc: Global, bytes: &[u8]) -> Result<RawFile<'_>, ReadFault>
     Ok(RawFile {
         form,
         vars,
+        tables,
         always,
         txs,
         runs,
     })
 }
 
-/// The longest file, in bytes.
+/// The longest file that does not begin with `(stm 3)`, in bytes.
 pub const MAX_FILE: usize = 1_048_576;
+
+/// The longest file that begins with `(stm 3)`, in bytes: it may have tables, and tell each of their cells.
+pub const MAX_FILE_OF_FORM_3: usize = 67_108_864;
+
+/// How many bytes a file that begins so has at most.
+#[tactic(auto, unfolding(text_grammar::specs::Tree::longest))]
+pub fn longest_file(bytes: &[u8]) -> usize
+    ensures { result ≡ longest bytes.now }
+{
+    if bytes.starts_with(b"(stm 3)") {
+        MAX_FILE_OF_FORM_3
+    } else {
+        MAX_FILE
+    }
+}
 
 /// The tree of the bytes, or the first fault of length, bytes and shape, judged over all of them.
 #[tactic(auto, unfolding(text_grammar::specs::Reading::tree_of))]
 pub fn tree_of(alloc: Global, bytes: &[u8]) -> Result<RawFile<'_>, ReadFault>
     ensures { Gives view_file result (tree_of bytes.now) }
 {
-    if bytes.len() > MAX_FILE {
+    if bytes.len() > longest_file(bytes) {
         return Err(ReadFault::TooLong);
     }
     if !are_allowed(bytes) {

@@ -1,5 +1,5 @@
 -- The text of a report, line by line.
-use Rattle.std.specs.Prelude.{ℕ, ℤ, ◌+◌, ◌≤◌, List, [], ◌∷◌, ◌++◌, length, codes}
+use Rattle.std.specs.Prelude.{ℕ, suc, ℤ, ◌+◌, ◌≤◌, ◌==◌, if◌then◌else◌, List, [], ◌∷◌, ◌++◌, length, take, drop, codes}
 use Rattle.std.specs.List.{flat_map}
 use Rattle.std.specs.Fmt.{decimal, signed_decimal}
 use Rattle.txn_programs.specs.declared.ast.Fault.TheVariants.{User, Overflow, DivideByZero, Broken, Outside}
@@ -23,6 +23,31 @@ variable_lines names [] = []
 variable_lines [] (v ∷ vs) = []
 variable_lines (name ∷ names) (v ∷ vs) = variable_line name v ++ variable_lines names vs
 
+-- NAME[INDEX]
+abbrev pub cell_text : List ℕ → List ℕ → List ℕ
+cell_text name index = name ++ (91 ∷ (index ++ (93 ∷ [])))
+
+abbrev pub cell_name : List ℕ → ℕ → List ℕ
+cell_name name index = cell_text name (decimal index)
+
+-- a line for a cell that an entry wrote, and none for another
+abbrev pub cell_line : List ℕ → ℕ → ℤ × ℕ → List ℕ
+cell_line name index v = if v.1 == 0 then [] else variable_line (cell_name name index) v
+
+-- those of a table's cells from this one on
+abbrev pub cell_lines : List ℕ → ℕ → List (ℤ × ℕ) → List ℕ
+cell_lines name index [] = []
+cell_lines name index (v ∷ vs) = cell_line name index v ++ cell_lines name (suc index) vs
+
+-- those of each table, one behind the other
+abbrev pub table_lines : List (List ℕ × ℕ) → List (ℤ × ℕ) → List ℕ
+table_lines [] vs = []
+table_lines (t ∷ ts) vs = cell_lines t.0 0 (take t.1 vs) ++ table_lines ts (drop t.1 vs)
+
+-- the lines of the variables, and behind them those of the cells
+abbrev pub value_lines : Listing → List (ℤ × ℕ) → List ℕ
+value_lines l vs = variable_lines l.names vs ++ table_lines l.tables (drop (length l.names) vs)
+
 -- how a transaction ended; a condition that it broke is told by its name
 abbrev pub outcome_text : Listing → Outcome → List ℕ
 outcome_text l (Returned v) = codes "returned " ++ signed_decimal v
@@ -45,10 +70,10 @@ task_line l word t = line (word ∷ decimal t.0.0 ∷ (program_at l t.1).name �
 abbrev pub report_text : Listing → Told → List ℕ
 report_text l r =
     line (codes "base" ∷ decimal r.base ∷ [])
-    ++ (variable_lines l.names r.base_vars
+    ++ (value_lines l r.base_vars
     ++ (flat_map (entry_line l) r.entries
     ++ (line (codes "now" ∷ decimal r.current ∷ [])
-    ++ (variable_lines l.names r.current_vars
+    ++ (value_lines l r.current_vars
     ++ (flat_map (task_line l (codes "parked")) r.parked
     ++ (flat_map (task_line l (codes "memory")) r.memory
     ++ line (codes "end" ∷ [])))))))

@@ -1,10 +1,13 @@
 //! The names of what a catalogue declares, none of which is longer than a name may be.
 
-ghost use Rattle.std.specs.Prelude.{◌≡◌, ◌≤◌, length};
+ghost use Rattle.std.specs.Prelude.{◌≡◌, ◌≤◌, ◌++◌, OnOk, length, string_bytes};
 ghost use Rattle.txn_programs.specs.declared.limits.TheConstants.{MAX_NAME};
 ghost use Rattle.txn_programs.specs.Listing.{always_name};
-ghost use Rattle.text_report_printer.specs.Names.{transaction_name, variable_name};
+ghost use Rattle.text_report_printer.specs.Names.{transaction_name, value_name, variable_name};
+ghost use Rattle.text_report_printer.specs.ReportText.{cell_name};
 
+use crate::line::LineEnd;
+use std::alloc::AllocError;
 use txn::{AlwaysId, Catalogue, TxId, VarId};
 
 /// The name of the variable of this number, or nothing where there is none.
@@ -18,6 +21,42 @@ pub fn variable_name(catalogue: &Catalogue, number: usize) -> &str
     } else {
         ""
     }
+}
+
+/// Puts the name of the variable of this number behind the text, or of the cell, which has its index in brackets;
+/// or nothing where there is neither.
+pub fn put_value_name(
+    out: &mut String,
+    catalogue: &Catalogue,
+    number: usize,
+) -> Result<(), AllocError>
+    ensures { OnOk result (string_bytes out.new ≡ string_bytes out.old ++ value_name catalogue.now number) }
+{
+    let variables = catalogue.var_count();
+    if number < variables {
+        return out.push_str(variable_name(catalogue, number));
+    }
+    let tables = catalogue.tables();
+    let mut place = number - variables;
+    for (name, count) in tables {
+        let count = *count as usize;
+        if place < count {
+            return put_cell_name(out, name.as_str(), place);
+        }
+        place -= count;
+    }
+    Ok(())
+}
+
+fn put_cell_name(out: &mut String, table: &str, index: usize) -> Result<(), AllocError>
+    ensures { OnOk result (string_bytes out.new ≡ string_bytes out.old ++ cell_name table.now index) }
+{
+    let mut end = LineEnd::new();
+    end.byte(b']');
+    end.number(index as u64);
+    end.byte(b'[');
+    out.push_str(table)?;
+    out.push_str(end.text())
 }
 
 /// The name of the transaction of this number, or nothing where there is none.

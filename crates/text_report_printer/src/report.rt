@@ -7,6 +7,7 @@ ghost use Rattle.std.specs.Int.{w64};
 ghost use Rattle.std.specs.List.{flat_map};
 ghost use Rattle.txn_programs.specs.declared.limits.TheConstants.{MAX_NAME, MAX_VARIABLES};
 ghost use Rattle.txn_programs.specs.LawfulReport.{FitsCatalogue};
+ghost use Rattle.txn_programs.specs.Listing.{cells};
 ghost use Rattle.txn_programs.specs.Told.{told};
 ghost use Rattle.text_words.specs.Words.{line};
 ghost use Rattle.text_report_printer.specs.ReportText.{variable_line, variable_lines, outcome_text, entry_line};
@@ -14,6 +15,7 @@ ghost use Rattle.text_report_printer.specs.ReportText.{task_line, report_text, C
 ghost use Rattle.text_report_printer.specs.ReportFits.{OutcomeFits, OutcomesFit, ReportFits, ValuesFit};
 ghost use Rattle.text_report_printer.specs.declared.report.TheConstants.{LONGEST};
 
+use crate::cells::put_values;
 use crate::line::LineEnd;
 use crate::names::{transaction_name, variable_name};
 use std::alloc::{AllocError, Global};
@@ -26,48 +28,62 @@ const LINE: usize = 40;
 pub const LONGEST: usize = 128;
 
 /// The text of a report of a catalogue, which fits it: the line `base`, a line for each variable
-/// in declared order, the entries, the line `now`, a line for each variable, the parked tasks,
-/// the tasks given up as memory ran out, and the line `end`. Each line ends with a newline, and
-/// one space stands between two words. `Err` means that memory was refused.
+/// in declared order, a line for each cell that an entry wrote, the entries, the line `now`, the
+/// lines of variables and cells again, the parked tasks, the tasks given up as memory ran out, and
+/// the line `end`. Each line ends with a newline, and one space stands between two words. `Err`
+/// means that memory was refused.
 pub fn print_report(alloc: Global, catalogue: &Catalogue, report: &Report) -> Result<String, Memory>
     requires { FitsCatalogue catalogue.now (told report.now) }
     ensures text { IfOk result (λ s. string_bytes s ≡ report_text catalogue.now (told report.entry.now)) }
-    ensures at_most { CountsTasks (told report.entry.now) → IfOk result (λ s. length (string_bytes s) ≤ 8388608) }
+    ensures at_most { CountsTasks (told report.entry.now) → IfOk result (λ s. length (string_bytes s)
+        ≤ 8388608 + 160 * cells catalogue.now) }
     ensures fits { OnOk result (ReportFits (told report.entry.now)) }
 {
     catalogue.rules();
-    let mut out = String::with_capacity(alloc, room(report))?;
+    let mut out = String::with_capacity(alloc, room(catalogue, report))?;
     put_report(&mut out, catalogue, report)?;
+    values_fit(report);
     Ok(out)
 }
 
 fn put_report(out: &mut String, catalogue: &Catalogue, report: &Report) -> Result<(), AllocError>
     requires { FitsCatalogue catalogue.now (told report.now) }
-    ensures text { OnOk result
+    ensures { OnOk result
         (string_bytes out.new ≡ string_bytes out.old ++ report_text catalogue.now (told report.entry.now)) }
-    ensures fits { OnOk result (ReportFits (told report.entry.now)) }
 {
     catalogue.rules();
     put_number(out, "base", report.base)?;
-    put_variables(out, catalogue, &report.base_vars)?;
+    put_values(out, catalogue, &report.base_vars)?;
     put_entries(out, catalogue, &report.entries)?;
     put_number(out, "now", report.now)?;
-    put_variables(out, catalogue, &report.now_vars)?;
+    put_values(out, catalogue, &report.now_vars)?;
     put_tasks(out, catalogue, "parked", &report.parked)?;
     put_tasks(out, catalogue, "memory", &report.memory)?;
     out.push_str("end\n")?;
     Ok(())
 }
 
+/// How many of these an entry wrote.
+fn written(vars: &[(i64, u64)]) -> usize {
+    let mut count: usize = 0;
+    for (_, version) in vars {
+        if *version != 0 {
+            count = count.saturating_add(1);
+        }
+    }
+    count
+}
+
 /// About as many bytes as the text has.
-fn room(report: &Report) -> usize {
+fn room(catalogue: &Catalogue, report: &Report) -> usize {
     let lines = report
         .entries
         .len()
         .saturating_add(report.parked.len())
         .saturating_add(report.memory.len())
-        .saturating_add(report.base_vars.len())
-        .saturating_add(report.now_vars.len());
+        .saturating_add(written(&report.base_vars))
+        .saturating_add(written(&report.now_vars))
+        .saturating_add(2 * catalogue.var_count());
     lines.saturating_add(3).saturating_mul(LINE)
 }
 

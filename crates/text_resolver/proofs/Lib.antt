@@ -1,3 +1,4 @@
 pub mod Texts
 pub mod Each
 pub mod Parts
+pub mod Judged

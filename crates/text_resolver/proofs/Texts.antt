@@ -11,6 +11,7 @@ use Rattle.txn_programs.specs.Names.{are_new}
 use Rattle.txn_programs.proofs.Lawful.{position-map}
 use Rattle.text_words.specs.declared.numeral.Numeral.{Numeral}
 use Rattle.text_words.specs.Bytes.{int_value}
+use Rattle.text_grammar.specs.Scope.{Scope}
 use Rattle.text_grammar.specs.Tree.{Declaration, File}
 use Rattle.text_grammar.specs.declared.file.RawTx.{RawTx}
 use Rattle.text_grammar.specs.declared.file.RawRun.{RawRun}
@@ -25,23 +26,29 @@ use Rattle.text_grammar.specs.Resolving.{is_known, always_known, tx_known, tx_na
 use Rattle.text_words.specs.Answers.{◌>>=◌, Fails}
 use Rattle.text_words.proofs.Many.{failed}
 use Rattle.text_resolver.specs.Texts.{texts}
-use Rattle.text_resolver.specs.Scopes.{parameters_behind}
+use Rattle.text_resolver.specs.Scopes.{parameters_behind, has_own_parameters}
 use Rattle.text_grammar.specs.View.{view_names, view_always, view_tx, view_txs, view_run, view_file}
 
 pub position_texts : (name : List ℕ) (names : List (Bor (List ℕ))) → position (bytes_eq name) (texts names) ≡ position (λ n. bytes_eq name n.now) names
 position_texts name names = position-map (bytes_eq name) (λ (n : Bor (List ℕ)). n.now) names
 
-pub uses_are : (vars : List (List ℕ)) (file : RawFile) → uses_known vars (view_file file)
-    ≡ (list_all (λ c. always_known vars (view_always c)) file.always.items && (list_all (λ tx. tx_known vars (view_tx tx)) file.txs.items && list_all (λ run. run_known (view_txs file.txs.items) (view_run run)) file.runs.items))
+pub uses_are : (s : Scope) (file : RawFile) → uses_known s (view_file file)
+    ≡ (list_all (λ c. always_known s (view_always c)) file.always.items && (list_all (λ tx. tx_known s (view_tx tx)) file.txs.items && list_all (λ run. run_known (view_txs file.txs.items) (view_run run)) file.runs.items))
 unfolding uses_known
-uses_are vars file = rw (list_all-map (always_known vars) view_always file.always.items, list_all-map (tx_known vars) view_tx file.txs.items, list_all-map (run_known (view_txs file.txs.items)) view_run file.runs.items) refl
+uses_are s file = rw (list_all-map (always_known s) view_always file.always.items, list_all-map (tx_known s) view_tx file.txs.items, list_all-map (run_known (view_txs file.txs.items)) view_run file.runs.items) refl
 
-pub txs_are_known : (vars : List (List ℕ)) (file : File) → uses_known vars file ≡ true → list_all (tx_known vars) file.txs ≡ true
+known_are_own : (s : Scope) (txs : List Declaration) → list_all (tx_known s) txs ≡ true → list_all (has_own_parameters s) txs ≡ true
+known_are_own s [] h = refl
+known_are_own s (tx ∷ txs) h =
+    let both = and_parts (tx_known s tx) (list_all (tx_known s) txs) h in
+    rw (and_parts (has_own_parameters s tx) _ both.0).0 (known_are_own s txs both.1)
+
+pub txs_are_own : (s : Scope) (file : File) → uses_known s file ≡ true → list_all (has_own_parameters s) file.txs ≡ true
 unfolding uses_known
-txs_are_known vars file h =
-    let txs = list_all (tx_known vars) file.txs in
+txs_are_own s file h =
+    let txs = list_all (tx_known s) file.txs in
     let runs = list_all (run_known file.txs) file.runs in
-    (and_parts txs runs (and_parts (list_all (always_known vars) file.always) (txs && runs) h).1).0
+    known_are_own s file.txs (and_parts txs runs (and_parts (list_all (always_known s) file.always) (txs && runs) h).1).0
 
 list_any-map : {X Y : Type 0} (p : Y → Bool) (f : X → Y) (xs : List X) → list_any p (map f xs) ≡ list_any (λ x. p (f x)) xs
 list_any-map p f [] = refl
@@ -94,12 +101,6 @@ declared_are earlier (name ∷ rest) all e =
     let b = bind_ok (declared_one earlier name) (λ more. declared_after more rest) all e in
     let first = one_declared earlier b.0 name b.1 in
     declared_are b.0 rest all b.2 ∙ ap (λ xs. xs ++ rest) first.1 ∙ append_assoc earlier (name ∷ []) rest
-
--- names that are declared behind other names that are
-pub later_are : (conditions names all : List (List ℕ)) → (declared_after [] conditions >>= λ others. declared_after [] names) ≡ Ok all → all ≡ names
-later_are conditions names all e =
-    let b = bind_ok (declared_after [] conditions) (λ others. declared_after [] names) all e in
-    declared_are [] names all b.2
 
 -- ---- parameters
 

@@ -1,3 +1,4 @@
 pub mod Texts
 pub mod Scopes
+pub mod DeclaredNames
 pub mod Parts

@@ -5,7 +5,6 @@ ghost use Rattle.std.specs.List.{list_all};
 ghost use Rattle.text_words.specs.Answers.{Gives};
 ghost use Rattle.text_grammar.specs.Reading.{row};
 ghost use Rattle.text_grammar.specs.Resolving.{declared_one, declared_after, pair_name, condition_name, tx_name};
-ghost use Rattle.text_grammar.specs.Scope.{standing};
 ghost use Rattle.text_grammar.specs.Resolving.{is_known, expr_known, cond_known, stmt_known, stmts_known, always_known};
 ghost use Rattle.text_grammar.specs.Resolving.{tx_known, run_known, uses_known};
 ghost use Rattle.text_resolver.specs.Texts.{texts};
@@ -21,12 +20,16 @@ use text_grammar::expr::RawExpr;
 use text_grammar::file::{RawAlways, RawFile, RawPair, RawRun, RawTx};
 use text_grammar::stmt::RawStmt;
 use text_words::ReadFault;
+use txn_programs::Span;
 
-/// The names that may stand in a condition, a statement or an expression: those of variables and, in a transaction,
-/// those of its parameters.
+/// The names that may stand in a condition, a statement or an expression: those of variables, those of tables and, in a
+/// transaction, those of its parameters.
 #[derive(Clone, Copy)]
 pub struct Scope<'s, 'a> {
     pub vars: &'s IndexSet<&'a str>,
+    pub tables: &'s IndexSet<&'a str>,
+    /// The cells of each table. There are none while names alone are judged.
+    pub spans: &'s [Span],
     pub params: &'s IndexSet<&'a str>,
 }
 
@@ -124,6 +127,8 @@ fn expr_known(scope: &Scope<'_, '_>, e: &RawExpr<'_>) -> bool
     match e {
         RawExpr::Int(_) => true,
         RawExpr::Name(name) => is_known(scope.params, *name) || is_known(scope.vars, *name),
+        RawExpr::At(table, index) => is_known(scope.tables, *table) && expr_known(scope, index),
+        RawExpr::OfAll(_, table) => is_known(scope.tables, *table),
         RawExpr::Binary(_, left, right) => expr_known(scope, left) && expr_known(scope, right),
     }
 }
@@ -145,6 +150,9 @@ fn stmt_known(scope: &Scope<'_, '_>, s: &RawStmt<'_>) -> bool
     match s {
         RawStmt::Skip | RawStmt::Retry => true,
         RawStmt::Set(name, value) => is_known(scope.vars, *name) && expr_known(scope, value),
+        RawStmt::Put(table, index, value) => {
+            is_known(scope.tables, *table) && expr_known(scope, index) && expr_known(scope, value)
+        }
         RawStmt::Seq(parts) => stmts_known(scope, parts.as_slice()),
         RawStmt::If(test, first, second) => {
             cond_known(scope, test) && stmt_known(scope, first) && stmt_known(scope, second)
@@ -167,34 +175,22 @@ fn stmts_known(scope: &Scope<'_, '_>, parts: &[RawStmt<'_>]) -> bool
     true
 }
 
-/// Whether a condition that has to stand names only variables.
-fn standing_known(alloc: Global, vars: &IndexSet<&str>, c: &RawCond<'_>) -> bool
-    ensures { result ≡ cond_known (standing (texts vars.now.keys)) (view_cond c.now) }
+fn conditions_known(outer: &Scope<'_, '_>, conditions: &[RawAlways<'_>]) -> bool
+    ensures { result ≡ list_all (λ c. always_known (view_scope outer.now) (view_always c)) conditions.now }
 {
-    let params = IndexSet::new(alloc);
-    let scope = Scope {
-        vars,
-        params: &params,
-    };
-    cond_known(&scope, c)
-}
-
-fn conditions_known(alloc: Global, vars: &IndexSet<&str>, conditions: &[RawAlways<'_>]) -> bool
-    ensures { result ≡ list_all (λ c. always_known (texts vars.now.keys) (view_always c)) conditions.now }
-{
-    conditions
-        .iter()
-        .all(|c| standing_known(alloc, vars, &c.condition))
+    conditions.iter().all(|c| cond_known(outer, &c.condition))
 }
 
 /// Whether the parameters are new names, and all names that are used are known. Memory alone can fail it.
-fn tx_known(alloc: Global, vars: &IndexSet<&str>, tx: &RawTx<'_>) -> Result<bool, ReadFault>
-    ensures { Gives (λ known. known) result (Ok (tx_known (texts vars.now.keys) (view_tx tx.now))) }
+fn tx_known(alloc: Global, outer: &Scope<'_, '_>, tx: &RawTx<'_>) -> Result<bool, ReadFault>
+    ensures { Gives (λ known. known) result (Ok (tx_known (view_scope outer.now) (view_tx tx.now))) }
 {
-    match param_names(alloc, vars, &tx.params) {
+    match param_names(alloc, outer.vars, &tx.params) {
         Ok(params) => {
             let scope = Scope {
-                vars,
+                vars: outer.vars,
+                tables: outer.tables,
+                spans: outer.spans,
                 params: &params,
             };
             Ok(stmt_known(&scope, &tx.body) && expr_known(&scope, &tx.value))
@@ -205,12 +201,12 @@ fn tx_known(alloc: Global, vars: &IndexSet<&str>, tx: &RawTx<'_>) -> Result<bool
 }
 
 /// The same of all of them.
-fn txs_known(alloc: Global, vars: &IndexSet<&str>, txs: &[RawTx<'_>]) -> Result<bool, ReadFault>
+fn txs_known(alloc: Global, outer: &Scope<'_, '_>, txs: &[RawTx<'_>]) -> Result<bool, ReadFault>
     ensures { Gives (λ known. known) result
-        (Ok (list_all (λ tx. tx_known (texts vars.now.keys) (view_tx tx)) txs.now)) }
+        (Ok (list_all (λ tx. tx_known (view_scope outer.now) (view_tx tx)) txs.now)) }
 {
     'txs: for tx in txs {
-        if !tx_known(alloc, vars, tx)? {
+        if !tx_known(alloc, outer, tx)? {
             return Ok(false);
         }
     }
@@ -241,14 +237,14 @@ fn runs_known(names: &IndexSet<&str>, txs: &[RawTx<'_>], runs: &[RawRun<'_>]) ->
 #[tactic(auto, using(crate::proofs::Texts::uses_are))]
 pub(crate) fn uses_known(
     alloc: Global,
-    vars: &IndexSet<&str>,
+    outer: &Scope<'_, '_>,
     txs: &IndexSet<&str>,
     file: &RawFile<'_>,
 ) -> Result<bool, ReadFault>
     requires named { texts txs.now.keys ≡ map tx_name (view_file file.now).txs }
-    ensures { Gives (λ known. known) result (Ok (uses_known (texts vars.now.keys) (view_file file.now))) }
+    ensures { Gives (λ known. known) result (Ok (uses_known (view_scope outer.now) (view_file file.now))) }
 {
-    if !conditions_known(alloc, vars, &file.always) || !txs_known(alloc, vars, &file.txs)? {
+    if !conditions_known(outer, &file.always) || !txs_known(alloc, outer, &file.txs)? {
         return Ok(false);
     }
     Ok(runs_known(txs, &file.txs, &file.runs))

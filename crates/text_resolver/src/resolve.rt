@@ -1,30 +1,29 @@
 //! From the tree of a file to conditions and transactions: names as ids, and integers as numbers of
 //! the machine.
 
-ghost use Rattle.std.specs.Prelude.{◌≡◌, ◌⊎◌, true, Ok, IfOk, IfErr, [], map, string_bytes};
+ghost use Rattle.std.specs.Prelude.{◌≡◌, ◌⊎◌, true, Ok, IfErr, map, string_bytes};
 ghost use Rattle.std.specs.List.{list_all};
-ghost use Rattle.txn_programs.specs.Tree.{expression_of, condition_of, statement_of, transaction_of};
-ghost use Rattle.text_words.specs.Answers.{Gives, Fails, ◌>>=◌ as ◌>>=ᴿ◌};
+ghost use Rattle.txn_programs.specs.Tree.{OfAll, expression_of, condition_of, statement_of, transaction_of};
+ghost use Rattle.text_words.specs.Answers.{Gives};
 ghost use Rattle.text_words.specs.declared.fault.ReadFault.TheVariants.{Name, Limit};
-ghost use Rattle.text_grammar.specs.Scope.{standing};
-ghost use Rattle.text_grammar.specs.Resolving.{declared_after, condition_name, tx_name, tx_known};
 ghost use Rattle.text_grammar.specs.Resolving.{uses_known, place_in};
 ghost use Rattle.text_grammar.specs.Resolving.{variable_in, parameter_in, named_in, binary, compare, connect};
 ghost use Rattle.text_grammar.specs.Resolving.{expression_in, condition_in, statement_in, variable_of, always_in};
-ghost use Rattle.text_grammar.specs.Resolving.{transaction_in, arguments_in, run_in, each, converted, resolved};
+ghost use Rattle.text_grammar.specs.Resolving.{transaction_in, arguments_in, run_in, each, resolved};
 ghost use Rattle.text_words.specs.Bytes.{int_value};
 ghost use Rattle.text_grammar.specs.Reading.{row};
-ghost use Rattle.text_grammar.specs.Tree.{Compare, Set, Seq, Repeat, Throw};
+ghost use Rattle.text_grammar.specs.Tree.{Compare, Set, Put, Seq, Repeat, Throw};
 ghost use Rattle.text_resolver.specs.Texts.{texts};
-ghost use Rattle.text_resolver.specs.Scopes.{view_scope};
+ghost use Rattle.text_resolver.specs.Scopes.{view_scope, has_own_parameters};
+ghost use Rattle.text_resolver.specs.DeclaredNames.{view_declared, known_scope, converted_by};
 ghost use Rattle.text_grammar.specs.View.{view_expr, view_cond, view_stmt, view_stmts, view_pair, view_pairs};
 ghost use Rattle.text_grammar.specs.View.{view_always, view_conditions, view_names, view_tx, view_txs, view_numbers};
 ghost use Rattle.text_grammar.specs.View.{view_run, view_runs, view_file};
 ghost use Rattle.text_resolver.specs.Parts.{view_variable, view_condition, view_parts};
 
-use crate::names::{
-    Scope, condition_names, is_known, param_names, place_of, tx_names, uses_known, var_names,
-};
+use crate::judging::{DeclaredNames, judged_names};
+use crate::names::{Scope, is_known, param_names, place_of};
+use crate::tables::{spans, table, tables};
 use indexmap::IndexSet;
 use std::alloc::Global;
 use text_grammar::cond::RawCond;
@@ -35,7 +34,9 @@ use text_grammar::words::{Comparison, Connective, Operator};
 use text_words::ReadFault;
 use text_words::numeral::Numeral;
 use txn_programs::limits::MAX_PARAMETERS;
-use txn_programs::{Arguments, Call, Cond, Expr, ParamId, Stmt, Tx, TxId, VarId};
+use txn_programs::{
+    Arguments, Call, Cond, Expr, Fold, ParamId, Span, Stmt, Table, Tx, TxId, VarId,
+};
 
 /// The place of a declared name.
 #[tactic(auto, unfolding(text_grammar::specs::Resolving::place_in))]
@@ -95,6 +96,17 @@ pub fn binary(op: Operator, left: Box<Expr>, right: Box<Expr>) -> Expr
     }
 }
 
+/// What is made of all cells of a table.
+pub fn of_all(fold: Fold, span: Span) -> Expr
+    ensures { expression_of result ≡ OfAll fold span }
+{
+    match fold {
+        Fold::Sum => Expr::Sum(span),
+        Fold::Min => Expr::Min(span),
+        Fold::Max => Expr::Max(span),
+    }
+}
+
 #[cycle(expressions)]
 fn expression(alloc: Global, scope: &Scope<'_, '_>, e: &RawExpr<'_>) -> Result<Expr, ReadFault>
     ensures { Gives expression_of result (expression_in (view_scope scope.now) (view_expr e.now)) }
@@ -107,6 +119,15 @@ fn expression(alloc: Global, scope: &Scope<'_, '_>, e: &RawExpr<'_>) -> Result<E
         RawExpr::Name(name) => {
             let made = named(scope, *name)?;
             Ok(made)
+        }
+        RawExpr::At(name, index) => {
+            let span = table(scope, *name)?;
+            let index = boxed_expression(alloc, scope, index)?;
+            Ok(Expr::At(span, index))
+        }
+        RawExpr::OfAll(fold, name) => {
+            let span = table(scope, *name)?;
+            Ok(of_all(*fold, span))
         }
         RawExpr::Binary(op, left, right) => {
             let left = boxed_expression(alloc, scope, left)?;
@@ -210,6 +231,22 @@ fn setting(
     Ok(Stmt::Set(id, value))
 }
 
+fn putting(
+    alloc: Global,
+    scope: &Scope<'_, '_>,
+    name: &str,
+    index: &RawExpr<'_>,
+    value: &RawExpr<'_>,
+) -> Result<Stmt, ReadFault>
+    ensures { Gives statement_of result
+        (statement_in (view_scope scope.now) (Put name.now (view_expr index.now) (view_expr value.now))) }
+{
+    let span = table(scope, name)?;
+    let index = expression(alloc, scope, index)?;
+    let value = expression(alloc, scope, value)?;
+    Ok(Stmt::Put(span, index, value))
+}
+
 fn throwing(alloc: Global, scope: &Scope<'_, '_>, value: &RawExpr<'_>) -> Result<Stmt, ReadFault>
     ensures { Gives statement_of result (statement_in (view_scope scope.now) (Throw (view_expr value.now))) }
 {
@@ -224,6 +261,7 @@ fn statement(alloc: Global, scope: &Scope<'_, '_>, s: &RawStmt<'_>) -> Result<St
     match s {
         RawStmt::Skip => Ok(Stmt::Skip),
         RawStmt::Set(name, value) => setting(alloc, scope, *name, value),
+        RawStmt::Put(name, index, value) => putting(alloc, scope, *name, index, value),
         RawStmt::Seq(parts) => sequence(alloc, scope, parts.as_slice()),
         RawStmt::If(test, first, second) => {
             let test = condition(alloc, scope, test)?;
@@ -329,28 +367,16 @@ pub fn variables(alloc: Global, pairs: &[RawPair<'_>]) -> Result<Vec<(String, i6
     Ok(made)
 }
 
-/// A condition that has to stand: it names only variables.
-fn standing(alloc: Global, vars: &IndexSet<&str>, c: &RawCond<'_>) -> Result<Cond, ReadFault>
-    ensures { Gives condition_of result (condition_in (standing (texts vars.now.keys)) (view_cond c.now)) }
-{
-    let params = IndexSet::new(alloc);
-    let scope = Scope {
-        vars,
-        params: &params,
-    };
-    condition(alloc, &scope, c)
-}
-
 /// A condition that has to stand, with its name.
 fn always(
     alloc: Global,
-    vars: &IndexSet<&str>,
+    outer: &Scope<'_, '_>,
     raw: &RawAlways<'_>,
 ) -> Result<(String, Cond), ReadFault>
-    ensures { Gives view_condition result (always_in (texts vars.now.keys) (view_always raw.now)) }
+    ensures { Gives view_condition result (always_in (view_scope outer.now) (view_always raw.now)) }
 {
     let name = String::from_str(alloc, raw.name)?;
-    let condition = standing(alloc, vars, &raw.condition)?;
+    let condition = condition(alloc, outer, &raw.condition)?;
     Ok((name, condition))
 }
 
@@ -358,12 +384,12 @@ fn always(
 /// declared, and by `Limit` where 64 signed bits have no room for an integer.
 fn always_from(
     alloc: Global,
-    vars: &IndexSet<&str>,
+    outer: &Scope<'_, '_>,
     raw: RawAlways<'_>,
 ) -> Result<(String, Cond), ReadFault>
-    ensures { Gives view_condition result (always_in (texts vars.now.keys) (view_always raw.entry)) }
+    ensures { Gives view_condition result (always_in (view_scope outer.now) (view_always raw.entry)) }
 {
-    let made = always(alloc, vars, &raw);
+    let made = always(alloc, outer, &raw);
     drop(raw);
     made
 }
@@ -371,15 +397,15 @@ fn always_from(
 /// The conditions that have to stand. The tree of each is let go as soon as it is made.
 fn conditions(
     alloc: Global,
-    vars: &IndexSet<&str>,
+    outer: &Scope<'_, '_>,
     conditions: Vec<RawAlways<'_>>,
 ) -> Result<Vec<(String, Cond)>, ReadFault>
     ensures { Gives (λ made. map view_condition made.items) result
-        (each (always_in (texts vars.now.keys)) (view_conditions conditions.entry.items)) }
+        (each (always_in (view_scope outer.now)) (view_conditions conditions.entry.items)) }
 {
     let mut made = Vec::new(alloc);
     'conditions: for raw in conditions {
-        let condition = always_from(alloc, vars, raw)?;
+        let condition = always_from(alloc, outer, raw)?;
         made.push(condition)?;
     }
     Ok(made)
@@ -400,7 +426,7 @@ pub fn owned(alloc: Global, names: &[&str]) -> Result<Vec<String>, ReadFault>
 /// A transaction in its scope.
 fn transaction_inside(alloc: Global, scope: &Scope<'_, '_>, tx: &RawTx<'_>) -> Result<Tx, ReadFault>
     requires own { (view_scope scope.now).parameters ≡ (view_tx tx.now).parameters }
-    ensures { Gives transaction_of result (transaction_in (view_scope scope.now).variables (view_tx tx.now)) }
+    ensures { Gives transaction_of result (transaction_in (view_scope scope.now) (view_tx tx.now)) }
 {
     let name = String::from_str(alloc, tx.name)?;
     let params = owned(alloc, &tx.params)?;
@@ -419,14 +445,16 @@ fn transaction_inside(alloc: Global, scope: &Scope<'_, '_>, tx: &RawTx<'_>) -> R
     }
 }
 
-/// A transaction whose names are known.
-fn transaction(alloc: Global, vars: &IndexSet<&str>, tx: &RawTx<'_>) -> Result<Tx, ReadFault>
-    requires known { tx_known (texts vars.now.keys) (view_tx tx.now) ≡ true }
-    ensures { Gives transaction_of result (transaction_in (texts vars.now.keys) (view_tx tx.now)) }
+/// A transaction whose parameters are new names.
+fn transaction(alloc: Global, outer: &Scope<'_, '_>, tx: &RawTx<'_>) -> Result<Tx, ReadFault>
+    requires own { has_own_parameters (view_scope outer.now) (view_tx tx.now) ≡ true }
+    ensures { Gives transaction_of result (transaction_in (view_scope outer.now) (view_tx tx.now)) }
 {
-    let params = param_names(alloc, vars, &tx.params)?;
+    let params = param_names(alloc, outer.vars, &tx.params)?;
     let scope = Scope {
-        vars,
+        vars: outer.vars,
+        tables: outer.tables,
+        spans: outer.spans,
         params: &params,
     };
     transaction_inside(alloc, &scope, tx)
@@ -434,11 +462,11 @@ fn transaction(alloc: Global, vars: &IndexSet<&str>, tx: &RawTx<'_>) -> Result<T
 
 /// A transaction, whose tree is let go. It fails by `Name` where a name is not declared, and by
 /// `Limit` where the machine has no room for a number.
-fn transaction_from(alloc: Global, vars: &IndexSet<&str>, tx: RawTx<'_>) -> Result<Tx, ReadFault>
-    requires known { tx_known (texts vars.now.keys) (view_tx tx) ≡ true }
-    ensures { Gives transaction_of result (transaction_in (texts vars.now.keys) (view_tx tx.entry)) }
+fn transaction_from(alloc: Global, outer: &Scope<'_, '_>, tx: RawTx<'_>) -> Result<Tx, ReadFault>
+    requires own { has_own_parameters (view_scope outer.now) (view_tx tx) ≡ true }
+    ensures { Gives transaction_of result (transaction_in (view_scope outer.now) (view_tx tx.entry)) }
 {
-    let made = transaction(alloc, vars, &tx);
+    let made = transaction(alloc, outer, &tx);
     drop(tx);
     made
 }
@@ -447,16 +475,16 @@ fn transaction_from(alloc: Global, vars: &IndexSet<&str>, tx: RawTx<'_>) -> Resu
 /// them stands twice.
 fn transactions(
     alloc: Global,
-    vars: &IndexSet<&str>,
+    outer: &Scope<'_, '_>,
     txs: Vec<RawTx<'_>>,
 ) -> Result<Vec<Tx>, ReadFault>
-    requires known { list_all (tx_known (texts vars.now.keys)) (view_txs txs.items) ≡ true }
+    requires own { list_all (has_own_parameters (view_scope outer.now)) (view_txs txs.items) ≡ true }
     ensures { Gives (λ made. map transaction_of made.items) result
-        (each (transaction_in (texts vars.now.keys)) (view_txs txs.entry.items)) }
+        (each (transaction_in (view_scope outer.now)) (view_txs txs.entry.items)) }
 {
     let mut made = Vec::new(alloc);
     'txs: for tx in txs {
-        let transaction = transaction_from(alloc, vars, tx)?;
+        let transaction = transaction_from(alloc, outer, tx)?;
         made.push(transaction)?;
     }
     Ok(made)
@@ -514,70 +542,37 @@ pub fn runs(
 #[derive(Drop)]
 pub struct Parts {
     pub vars: Vec<(String, i64)>,
+    pub tables: Vec<Table>,
     pub always: Vec<(String, Cond)>,
     pub txs: Vec<Tx>,
     pub runs: Vec<(Call, u32)>,
 }
 
 #[tactic(auto, unfolding(text_grammar::specs::Resolving::converted))]
-fn convert(
-    alloc: Global,
-    vars: &IndexSet<&str>,
-    txs: &IndexSet<&str>,
-    file: RawFile<'_>,
-) -> Result<Parts, ReadFault>
-    requires known { uses_known (texts vars.now.keys) (view_file file) ≡ true }
-    ensures { Gives view_parts result (converted (texts vars.now.keys) (texts txs.now.keys) (view_file file.entry)) }
+fn convert(alloc: Global, names: &DeclaredNames<'_>, file: RawFile<'_>) -> Result<Parts, ReadFault>
+    requires known { uses_known (known_scope (view_declared names.now)) (view_file file) ≡ true }
+    ensures { Gives view_parts result (converted_by (view_declared names.now) (view_file file.entry)) }
 {
     let variables = variables(alloc, &file.vars)?;
-    let conditions = conditions(alloc, vars, file.always)?;
-    let transactions = transactions(alloc, vars, file.txs)?;
-    let runs = runs(alloc, txs, &file.runs)?;
+    let tables = tables(alloc, &file.tables)?;
+    let spans = spans(alloc, names.vars.len(), &tables)?;
+    let params = IndexSet::new(alloc);
+    let outer = Scope {
+        vars: &names.vars,
+        tables: &names.tables,
+        spans: &spans,
+        params: &params,
+    };
+    let conditions = conditions(alloc, &outer, file.always)?;
+    let transactions = transactions(alloc, &outer, file.txs)?;
+    let runs = runs(alloc, &names.txs, &file.runs)?;
     Ok(Parts {
         vars: variables,
+        tables,
         always: conditions,
         txs: transactions,
         runs,
     })
-}
-
-/// The names of variables and of transactions, where each name is declared once and only declared
-/// ones are used.
-#[tactic(auto, unfolding(text_grammar::specs::Resolving::resolved))]
-fn judged_names<'a>(
-    alloc: Global,
-    file: &RawFile<'a>,
-) -> Result<(IndexSet<&'a str>, IndexSet<&'a str>), ReadFault>
-    ensures known { IfOk result (λ names. uses_known (texts names.0.keys) (view_file file.now) ≡ true) }
-    ensures named { IfOk result (λ names. resolved (view_file file.now)
-        ≡ converted (texts names.0.keys) (texts names.1.keys) (view_file file.now)) }
-    ensures fault { IfErr result (λ fault. Fails fault (resolved (view_file file.now))) }
-{
-    let vars = var_names(alloc, &file.vars)?;
-    match later_names(alloc, file) {
-        Ok(txs) => {
-            if !uses_known(alloc, &vars, &txs, file)? {
-                drop(vars);
-                drop(txs);
-                return Err(ReadFault::Name);
-            }
-            Ok((vars, txs))
-        }
-        Err(fault) => {
-            drop(vars);
-            Err(fault)
-        }
-    }
-}
-
-/// The names of transactions, where those of conditions are declared once too.
-fn later_names<'a>(alloc: Global, file: &RawFile<'a>) -> Result<IndexSet<&'a str>, ReadFault>
-    ensures { Gives (λ names. texts names.keys) result
-        (declared_after [] (map condition_name (view_file file.now).always)
-        >>=ᴿ λ _. declared_after [] (map tx_name (view_file file.now).txs)) }
-{
-    condition_names(alloc, &file.always)?;
-    tx_names(alloc, &file.txs)
 }
 
 /// What the file declares, or its first fault: names are judged over the whole file before any
@@ -586,10 +581,9 @@ pub fn resolve(alloc: Global, file: RawFile<'_>) -> Result<Parts, ReadFault>
     ensures { Gives view_parts result (resolved (view_file file.entry)) }
 {
     match judged_names(alloc, &file) {
-        Ok((vars, txs)) => {
-            let parts = convert(alloc, &vars, &txs, file);
-            drop(vars);
-            drop(txs);
+        Ok(names) => {
+            let parts = convert(alloc, &names, file);
+            drop(names);
             parts
         }
         Err(fault) => {

@@ -10,7 +10,7 @@ use thiserror::Error;
 /// this order, but that `Memory` may come in place of any other answer.
 #[derive(Clone, Copy, Debug, PartialEq, Eq, Error)]
 pub enum ReadFault {
-    /// More than 1,048,576 bytes, or of a report 8,388,608.
+    /// More bytes than a file, a report or a schedule of its kind may have.
     #[error("F1 TooLong")]
     TooLong,
     /// A byte that is neither a newline nor one of 32 to 126.

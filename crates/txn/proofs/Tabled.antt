@@ -36,7 +36,7 @@ values_are vars tables always txs runs =
     let numbers = flat_map (λ (t : Table). values_of t.cells) tables in
     omega (arith, length-map vars (λ (v : String Global × ℤ). string_bytes v.0), length-map vars (λ (v : String Global × ℤ). v.1), cells_are tables, length-append (map (λ (v : String Global × ℤ). v.1) vars) numbers)
 
-counted_cells : (tables : List (String Global × ℕ)) → sum_by (λ (t : Counted). t.1) (map counted tables) ≡ sum_by (λ (t : String Global × ℕ). t.1) tables
+pub counted_cells : (tables : List (String Global × ℕ)) → sum_by (λ (t : Counted). t.1) (map counted tables) ≡ sum_by (λ (t : String Global × ℕ). t.1) tables
 counted_cells [] = refl
 counted_cells (t ∷ ts) =
     sum_by-cons (λ (t : Counted). t.1) (counted t) (map counted ts)

@@ -188,6 +188,13 @@ fn table_fits(table: &Table) -> bool
     table.name.len() <= MAX_NAME && table.cells.count() > 0
 }
 
+/// Whether each table is within the limits of one.
+fn each_fits(tables: &[Table]) -> bool
+    ensures { result ≡ list_all (λ t. table_fits (table_of t)) tables.now }
+{
+    tables.iter().all(table_fits)
+}
+
 /// Whether there are not too many cells in all.
 fn cells_fit(tables: &[Table]) -> bool
     ensures { result ≡ nat_le (sum_by (λ t. t.1) (map table_of tables.now)) MAX_CELLS }
@@ -209,7 +216,7 @@ pub fn tables_within(tables: &[Table]) -> bool
     ensures { result ≡ (nat_le (length tables.now) MAX_TABLES && (list_all (λ t. table_fits (table_of t)) tables.now
         && nat_le (sum_by (λ t. t.1) (map table_of tables.now)) MAX_CELLS)) }
 {
-    tables.len() <= MAX_TABLES && tables.iter().all(table_fits) && cells_fit(tables)
+    tables.len() <= MAX_TABLES && each_fits(tables) && cells_fit(tables)
 }
 
 /// Whether no name of a standing condition is too long.

@@ -1,5 +1,5 @@
 -- What a report promises: its journal explains every value, and each task is accounted for once.
-use Rattle.std.specs.Prelude.{◌≡◌, ◌≢◌, ℕ, ◌+◌, ◌<◌, ◌≤◌, List, ◌++◌, map, length, Some, slice_get, All}
+use Rattle.std.specs.Prelude.{◌≡◌, ◌≢◌, ℕ, ◌+◌, ◌<◌, ◌≤◌, ℤ, List, [], ◌∷◌, ◌++◌, map, length, drop, Some, slice_get, All}
 use Rattle.txn_programs.specs.declared.ast.TxId.{TxId}
 use Rattle.txn_programs.specs.declared.ast.TaskId.{TaskId}
 use Rattle.txn_programs.specs.declared.report.Entry.{Entry}
@@ -39,6 +39,16 @@ OutcomeKnown n (Returned v) = Unit {0}
 OutcomeKnown n (Thrown f) = FaultKnown n f
 OutcomeKnown n Retries = Unit {0}
 
+-- each that no entry wrote is as it was at first
+abbrev pub UnwrittenBegin : List ℤ → List (ℤ × ℕ) → Type 0
+UnwrittenBegin [] vs = Unit {0}
+UnwrittenBegin (first ∷ initial) [] = Unit {0}
+UnwrittenBegin (first ∷ initial) (v ∷ vs) = (v.1 ≡ 0 → v.0 ≡ first) × UnwrittenBegin initial vs
+
+-- so it is of the cells, which stand behind the variables
+abbrev pub CellsBegin : Listing → List (ℤ × ℕ) → Type 0
+CellsBegin l vars = UnwrittenBegin (drop (length l.names) l.initial) (drop (length l.names) vars)
+
 -- what can be written down of the catalogue's variables, conditions, tasks and transactions
 pub record FitsCatalogue (l : Listing) (r : Told) : Type 0 where
   pub base_vars : length r.base_vars ≡ length l.initial
@@ -47,6 +57,8 @@ pub record FitsCatalogue (l : Listing) (r : Told) : Type 0 where
   pub current : r.current ≤ most_tasks
   pub base_versions : All (λ v. v.1 ≤ most_tasks) r.base_vars
   pub current_versions : All (λ v. v.1 ≤ most_tasks) r.current_vars
+  pub base_cells : CellsBegin l r.base_vars
+  pub current_cells : CellsBegin l r.current_vars
   pub numbers : All (λ (e : Entry). e.number ≤ most_tasks) r.entries
   pub ends : All (λ (e : Entry). e.outcome ≢ Retries) r.entries
   pub faults : All (λ (e : Entry). OutcomeKnown (length l.always) e.outcome) r.entries

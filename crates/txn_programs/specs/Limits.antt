@@ -9,9 +9,8 @@ use Rattle.txn_programs.specs.Listing.{Listing, cells, conditions, always_names}
 abbrev pub most_variables : ℕ
 most_variables = 256
 
--- no text has tables yet, so no listing does
 abbrev pub most_tables : ℕ
-most_tables = 0
+most_tables = 64
 
 -- of all tables
 abbrev pub most_cells : ℕ

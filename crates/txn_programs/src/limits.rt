@@ -5,8 +5,8 @@ ghost use Rattle.std.specs.Prelude.{◌≡◌};
 /// The most variables.
 pub const MAX_VARIABLES: usize = 256;
 
-/// The most tables: no text has them yet, so no catalogue does.
-pub const MAX_TABLES: usize = 0;
+/// The most tables.
+pub const MAX_TABLES: usize = 64;
 
 /// The most cells of all tables.
 pub const MAX_CELLS: usize = 1_048_576;
@@ -42,7 +42,7 @@ pub const MAX_COST: u32 = 1_000_000;
 /// those of the definitions.
 pub fn limits_are()
     ensures variables { MAX_VARIABLES ≡ 256 }
-    ensures tables { MAX_TABLES ≡ 0 }
+    ensures tables { MAX_TABLES ≡ 64 }
     ensures cells { MAX_CELLS ≡ 1048576 }
     ensures values { MAX_VALUES ≡ 1048832 }
     ensures transactions { MAX_TRANSACTIONS ≡ 256 }

@@ -42,15 +42,12 @@ const BEHIND: Span = Span {
     length: 3,
 };
 
-/// So far no table is within the limits.
-const NO_TABLE_YET: Option<BuildFault> = LIMIT;
-
 /// A table may be named as a variable or a transaction is: these names are apart.
 const NAMES: &[(Of, Option<BuildFault>)] = &[
     (Of::Tables(&[], Body::Skips), None),
-    (Of::Tables(TWO, Body::Skips), NO_TABLE_YET),
-    (Of::Tables(&[("x", 1), ("t", 1)], Body::Skips), NO_TABLE_YET),
-    (Of::Tables(&[(LONG, 1)], Body::Skips), NO_TABLE_YET),
+    (Of::Tables(TWO, Body::Skips), None),
+    (Of::Tables(&[("x", 1), ("t", 1)], Body::Skips), None),
+    (Of::Tables(&[(LONG, 1)], Body::Skips), None),
     (Of::Tables(&[("1a", 1)], Body::Skips), NAME),
     (Of::Tables(&[("", 1)], Body::Skips), NAME),
     (Of::Tables(&[("a", 1), ("a", 2)], Body::Skips), NAME),
@@ -68,9 +65,12 @@ fn names_of_tables_are_their_own(rt: HostRuntime) {
     expect_known(&rt, rt.alloc(), NAMES);
 }
 
-/// A table has a cell, and all have 1,048,576 at most.
+/// A table has a cell, and all have 1,048,576 at most; there are 64 tables at most.
 const COUNTS: &[(Of, Option<BuildFault>)] = &[
+    (Of::ManyTables(64), None),
+    (Of::ManyTables(65), LIMIT),
     (Of::Tables(&[("a", 0)], Body::Skips), LIMIT),
+    (Of::Tables(&[("a", 1_048_576)], Body::Skips), None),
     (Of::Tables(&[("a", 1_048_577)], Body::Skips), LIMIT),
     (
         Of::Tables(&[("a", 1_048_576), ("b", 1)], Body::Skips),
@@ -89,15 +89,12 @@ fn cells_are_a_power_of_two_at_most(rt: HostRuntime) {
 
 /// Only the cells of a whole table are one.
 const USES: &[(Of, Option<BuildFault>)] = &[
-    (Of::Tables(TWO, Body::Throws(Read::First, A)), NO_TABLE_YET),
-    (Of::Tables(TWO, Body::Throws(Read::Sum, B)), NO_TABLE_YET),
-    (Of::Tables(TWO, Body::Throws(Read::Min, A)), NO_TABLE_YET),
-    (Of::Tables(TWO, Body::Throws(Read::Max, B)), NO_TABLE_YET),
-    (Of::Tables(TWO, Body::Puts(B)), NO_TABLE_YET),
-    (
-        Of::TablesUnder(TWO, Holds::Reads(Read::Sum, A)),
-        NO_TABLE_YET,
-    ),
+    (Of::Tables(TWO, Body::Throws(Read::First, A)), None),
+    (Of::Tables(TWO, Body::Throws(Read::Sum, B)), None),
+    (Of::Tables(TWO, Body::Throws(Read::Min, A)), None),
+    (Of::Tables(TWO, Body::Throws(Read::Max, B)), None),
+    (Of::Tables(TWO, Body::Puts(B)), None),
+    (Of::TablesUnder(TWO, Holds::Reads(Read::Sum, A)), None),
     (Of::Tables(TWO, Body::Throws(Read::First, ALL)), NAME),
     (Of::Tables(TWO, Body::Throws(Read::First, PART)), NAME),
     (Of::Tables(TWO, Body::Throws(Read::Sum, BEFORE)), NAME),

@@ -89,6 +89,7 @@ fn entry(task: u32, outcome: Outcome) -> Entry
 }
 
 /// Five entries, one for each way to end, and two tasks that are left.
+#[tactic(auto, using(txn_programs::proofs::Unwritten::none_begin))]
 fn report(alloc: Global) -> Result<Report, AllocError>
     ensures { (l : Listing) → length l.initial ≡ 0 → length l.transactions ≡ 1 → length (tasks l) ≡ 7
         → IfOk result (λ r. FitsCatalogue l (told r)) }

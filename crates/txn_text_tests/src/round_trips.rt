@@ -5,9 +5,10 @@ ghost use Rattle.txn_programs.specs.declared.ast.Fault.TheVariants.{Outside};
 ghost use Rattle.txn_programs.specs.declared.ast.Outcome.TheVariants.{Thrown};
 ghost use Rattle.txn_programs.specs.LawfulReport.{FitsCatalogue};
 ghost use Rattle.txn_programs.specs.Told.{told};
+ghost use Rattle.txn_text.specs.Tree.{longest};
 ghost use Rattle.txn_text.specs.Canonical.{file_text};
 ghost use Rattle.txn_text.specs.ReportText.{report_text};
-ghost use Rattle.txn_text.specs.Reports.{IsReport, knows_outside};
+ghost use Rattle.txn_text.specs.Reports.{IsReport, knows_cells, max_len};
 ghost use Rattle.txn_text.specs.Spelling.{Spells};
 ghost use Rattle.txn_text.specs.fault.ReadFault.TheVariants.{Memory, TooLong};
 
@@ -20,9 +21,9 @@ use txn_text::{ReadFault, print_file, print_report, read_file, read_report};
 
 /// Reads bytes that spell the catalogue, if they are short enough.
 fn file_of(alloc: Global, bytes: &[u8], catalogue: &Catalogue) -> Result<Catalogue, ReadFault>
-    requires { length bytes.now ≤ 1048576 → Spells bytes.now catalogue.now }
+    requires { length bytes.now ≤ longest bytes.now → Spells bytes.now catalogue.now }
     ensures same { IfOk result (λ again. again ≡ catalogue.now) }
-    ensures fault { IfErr result (λ e. (e ≡ Memory) ⊎ ((e ≡ TooLong) × (1048576 < length bytes.now))) }
+    ensures fault { IfErr result (λ e. (e ≡ Memory) ⊎ ((e ≡ TooLong) × (longest bytes.now < length bytes.now))) }
 {
     // Only the contract names it.
     let _wanted = catalogue;
@@ -33,7 +34,8 @@ fn file_of(alloc: Global, bytes: &[u8], catalogue: &Catalogue) -> Result<Catalog
 fn file_again(alloc: Global, catalogue: &Catalogue) -> Result<Catalogue, ReadFault>
     ensures same { IfOk result (λ again. again ≡ catalogue.now) }
     // Nothing else keeps it from coming back than running out of memory, or a text longer than a file may be.
-    ensures fault { IfErr result (λ e. (e ≡ Memory) ⊎ ((e ≡ TooLong) × (1048576 < length (file_text catalogue.now)))) }
+    ensures fault { IfErr result (λ e. (e ≡ Memory)
+        ⊎ ((e ≡ TooLong) × (longest (file_text catalogue.now) < length (file_text catalogue.now)))) }
 {
     match print_file(alloc, catalogue) {
         Ok(text) => match file_of(alloc, text.as_bytes(), catalogue) {
@@ -51,9 +53,9 @@ fn report_of(
     catalogue: &Catalogue,
     report: &Report,
 ) -> Result<Report, ReadFault>
-    requires { length bytes.now ≤ 8388608 → IsReport catalogue.now bytes.now (told report.now) }
+    requires { length bytes.now ≤ max_len catalogue.now → IsReport catalogue.now bytes.now (told report.now) }
     ensures same { IfOk result (λ again. told again ≡ told report.entry.now) }
-    ensures fault { IfErr result (λ e. (e ≡ Memory) ⊎ ((e ≡ TooLong) × (8388608 < length bytes.now))) }
+    ensures fault { IfErr result (λ e. (e ≡ Memory) ⊎ ((e ≡ TooLong) × (max_len catalogue.now < length bytes.now))) }
 {
     // Only the contract names it.
     let _wanted = report;
@@ -63,11 +65,11 @@ fn report_of(
 /// The report, printed and read again.
 fn report_again(alloc: Global, catalogue: &Catalogue, report: &Report) -> Result<Report, ReadFault>
     requires fits { FitsCatalogue catalogue.now (told report.now) }
-    requires outside { All (λ e. e.outcome ≡ Thrown Outside → knows_outside catalogue.now ≡ true)
+    requires outside { All (λ e. e.outcome ≡ Thrown Outside → knows_cells catalogue.now ≡ true)
         (told report.now).entries }
     ensures same { IfOk result (λ again. told again ≡ told report.entry.now) }
-    ensures fault { IfErr result
-        (λ e. (e ≡ Memory) ⊎ ((e ≡ TooLong) × (8388608 < length (report_text catalogue.now (told report.entry.now))))) }
+    ensures fault { IfErr result (λ e. (e ≡ Memory)
+        ⊎ ((e ≡ TooLong) × (max_len catalogue.now < length (report_text catalogue.now (told report.entry.now))))) }
 {
     match print_report(alloc, catalogue, report) {
         Ok(text) => match report_of(alloc, text.as_bytes(), catalogue, report) {
@@ -86,7 +88,7 @@ fn both_again(
     report: &Report,
 ) -> Result<(Catalogue, Report), ReadFault>
     requires fits { FitsCatalogue catalogue.now (told report.now) }
-    requires outside { All (λ e. e.outcome ≡ Thrown Outside → knows_outside catalogue.now ≡ true)
+    requires outside { All (λ e. e.outcome ≡ Thrown Outside → knows_cells catalogue.now ≡ true)
         (told report.now).entries }
     ensures file { IfOk result (λ again. again.0 ≡ catalogue.now) }
     ensures report { IfOk result (λ again. told again.1 ≡ told report.entry.now) }

@@ -2,7 +2,7 @@
 use Rattle.std.specs.Prelude.{ℕ, ◌+◌, List, [], ◌∷◌, ◌++◌, codes}
 use Rattle.std.specs.Fmt.{decimal}
 use Rattle.txn_programs.specs.Listing.{Listing}
-use Rattle.text_report_printer.specs.Names.{variable_name}
+use Rattle.text_report_printer.specs.Names.{value_name}
 use Rattle.text_report_printer.specs.ReportText.{outcome_text}
 use Rattle.text_words.specs.Words.{line}
 use Rattle.world_law.specs.declared.events.Seen.{Seen}
@@ -10,7 +10,7 @@ use Rattle.world_law.specs.declared.events.Seen.TheVariants.{Idle, Needs, Ended,
 
 abbrev pub seen_text : Listing → Seen → List ℕ
 seen_text l Idle = codes "idle"
-seen_text l (Needs x) = codes "needs " ++ variable_name l x.0
+seen_text l (Needs x) = codes "needs " ++ value_name l x.0
 seen_text l (Ended o) = codes "ended " ++ outcome_text l o
 seen_text l Loaded = codes "loaded"
 seen_text l Stale = codes "stale"
@@ -20,7 +20,7 @@ seen_text l Stored = codes "stored"
 seen_text l (Committed n) = codes "committed " ++ decimal n
 seen_text l Dropped = codes "dropped"
 seen_text l Spent = codes "memory"
-seen_text l (Checks x) = codes "checks " ++ variable_name l x.0
+seen_text l (Checks x) = codes "checks " ++ value_name l x.0
 seen_text l Changed = codes "changed"
 
 -- K SEEN

@@ -7,8 +7,8 @@ use Rattle.txn_programs.specs.declared.ast.VarId.{VarId}
 use Rattle.txn_programs.specs.Listing.{Listing, values}
 use Rattle.txn_words.specs.Words.{IsLastChange, last_state, state_value}
 use Rattle.text_words.specs.Words.{line}
-use Rattle.text_report_printer.specs.Names.{variable_name}
-use Rattle.text_report_printer.specs.ReportText.{variable_lines}
+use Rattle.text_report_printer.specs.Names.{value_name}
+use Rattle.text_report_printer.specs.ReportText.{value_lines}
 use Rattle.attempt.specs.Asking.{Known}
 use Rattle.world_law.specs.declared.events.Fate.{Fate}
 use Rattle.world_law.specs.declared.events.Fate.TheVariants.{Running, Committed, Parked, Stale, Dropped, Spent}
@@ -27,9 +27,9 @@ fate_text Stale = codes "stale"
 fate_text Dropped = codes "dropped"
 fate_text Spent = codes "memory"
 
--- a variable that was read, and its value
+-- a variable or a cell that was read, and its value
 abbrev pub pair_text : Listing → VarId × ℤ → List ℕ
-pair_text l p = codes " " ++ (variable_name l p.0.0 ++ (codes " " ++ signed_decimal p.1))
+pair_text l p = codes " " ++ (value_name l p.0.0 ++ (codes " " ++ signed_decimal p.1))
 
 -- attempt TASK RV FATE, and what was read, in this order
 abbrev pub told_line : Listing → TaskId → ℕ → Known → Fate → List ℕ
@@ -44,7 +44,7 @@ pub record PutsWorld (l : Listing) (w : World) (old new : List ℕ) : Type 0 whe
   pub vars : List (ℤ × ℕ)
   pub present : ArePresent w.history (values l) vars
   pub text : new ≡ old ++ (line (codes "now" ∷ decimal (length w.history - 1) ∷ [])
-      ++ (variable_lines l.names vars ++ (flat_map (attempt_line l) w.attempts ++ line (codes "end" ∷ []))))
+      ++ (value_lines l vars ++ (flat_map (attempt_line l) w.attempts ++ line (codes "end" ∷ []))))
 
 -- the text is the last lines of the world
 abbrev pub IsWorldText : Listing → World → List ℕ → Type 0

@@ -9,7 +9,7 @@ use crate::Scene;
 use crate::telling::{Begun, begun_at};
 use std::alloc::AllocError;
 use std::fmt::Write;
-use text_report_printer::variable_name;
+use text_report_printer::put_value_name;
 use txn::{Catalogue, VarId};
 use world_law::Fate;
 
@@ -30,8 +30,9 @@ fn put_fate(out: &mut String, fate: Fate) -> Result<(), AllocError>
 fn put_pair(out: &mut String, catalogue: &Catalogue, x: VarId, value: i64) -> Result<(), AllocError>
     ensures { OnOk result (string_bytes out.new ≡ string_bytes out.old ++ pair_text catalogue.now (x, value)) }
 {
-    let name = variable_name(catalogue, x.0 as usize);
-    write!(out, " {name} {value}")
+    out.push_str(" ")?;
+    put_value_name(out, catalogue, x.0 as usize)?;
+    write!(out, " {value}")
 }
 
 fn put_log(out: &mut String, catalogue: &Catalogue, log: &[(VarId, i64)]) -> Result<(), AllocError>

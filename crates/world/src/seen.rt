@@ -1,13 +1,13 @@
 //! What is seen of a line.
 
 ghost use Rattle.std.specs.Prelude.{◌≡◌, ◌++◌, OnOk, codes, string_bytes};
-ghost use Rattle.text_report_printer.specs.Names.{variable_name};
+ghost use Rattle.text_report_printer.specs.Names.{value_name};
 ghost use Rattle.text_report_printer.specs.ReportText.{outcome_text};
 ghost use Rattle.world.specs.SeenText.{seen_text, seen_line};
 
 use std::alloc::AllocError;
 use std::fmt::Write;
-use text_report_printer::{put_outcome, variable_name};
+use text_report_printer::{put_outcome, put_value_name};
 use txn::{Catalogue, Outcome, VarId};
 use world_law::Seen;
 
@@ -47,17 +47,17 @@ fn put_what(out: &mut String, catalogue: &Catalogue, seen: Seen) -> Result<(), A
     }
 }
 
-/// A word and the name of a variable.
+/// A word and the name of a variable or of a cell.
 fn put_named(
     out: &mut String,
     catalogue: &Catalogue,
     word: &str,
     x: VarId,
 ) -> Result<(), AllocError>
-    ensures { OnOk result (string_bytes out.new ≡ string_bytes out.old ++ word.now ++ variable_name catalogue.now x.0) }
+    ensures { OnOk result (string_bytes out.new ≡ string_bytes out.old ++ word.now ++ value_name catalogue.now x.0) }
 {
     out.push_str(word)?;
-    out.push_str(variable_name(catalogue, x.0 as usize))
+    put_value_name(out, catalogue, x.0 as usize)
 }
 
 /// That an attempt ended, and how.

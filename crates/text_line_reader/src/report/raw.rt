@@ -11,6 +11,15 @@ pub(crate) struct RawVariable<'a> {
     pub(crate) version: Count<'a>,
 }
 
+/// The line of a cell.
+#[derive(Clone, Copy)]
+pub(crate) struct RawCell<'a> {
+    pub(crate) table: &'a str,
+    pub(crate) index: Count<'a>,
+    pub(crate) value: Numeral<'a>,
+    pub(crate) version: Count<'a>,
+}
+
 /// How an entry's transaction ended.
 #[derive(Clone, Copy)]
 pub(crate) enum RawEnding<'a> {
@@ -43,9 +52,11 @@ pub(crate) struct RawTask<'a> {
 pub(crate) struct RawReport<'a> {
     pub(crate) base: Count<'a>,
     pub(crate) base_vars: Vec<RawVariable<'a>>,
+    pub(crate) base_cells: Vec<RawCell<'a>>,
     pub(crate) entries: Vec<RawEntry<'a>>,
     pub(crate) now: Count<'a>,
     pub(crate) now_vars: Vec<RawVariable<'a>>,
+    pub(crate) now_cells: Vec<RawCell<'a>>,
     pub(crate) parked: Vec<RawTask<'a>>,
     pub(crate) memory: Vec<RawTask<'a>>,
 }

@@ -1,7 +1,9 @@
 //! From the words of a report to what it tells: names as ids, and integers as numbers.
 
-ghost use Rattle.std.specs.Prelude.{◌≡◌, ◌⊎◌, IfErr, length};
+ghost use Rattle.std.specs.Prelude.{◌≡◌, ◌⊎◌, All, FitsSigned, IfErr, OnOk, drop, length};
+ghost use Rattle.std.specs.Int.{w64};
 ghost use Rattle.std.specs.List.{list_all};
+ghost use Rattle.txn_programs.specs.Listing.{spans};
 ghost use Rattle.txn_programs.specs.Told.{told};
 ghost use Rattle.text_words.specs.Answers.{Gives};
 ghost use Rattle.text_words.specs.declared.fault.ReadFault.TheVariants.{Name, Limit};
@@ -14,12 +16,14 @@ ghost use Rattle.text_line_reader.specs.ReportView.{view_variable, view_variable
 ghost use Rattle.text_line_reader.specs.ReportView.{view_entries};
 ghost use Rattle.text_line_reader.specs.ReportView.{view_task, view_tasks, view_raw};
 
+use crate::cells::spans_of;
+use crate::report::cells::{cells_known, cells_told, values_told};
 use crate::report::raw::{RawEnding, RawEntry, RawReport, RawTask, RawVariable};
 use crate::{Count, task_id};
 use std::alloc::Global;
 use text_words::ReadFault;
 use txn::limits::MAX_TASKS;
-use txn::{AlwaysId, Catalogue, Entry, Fault, Outcome, Report, TaskId, TxId, VarId};
+use txn::{AlwaysId, Catalogue, Entry, Fault, Outcome, Report, Span, TaskId, TxId, VarId};
 
 /// Whether each line has the name of the variable at its place.
 fn named_as(catalogue: &Catalogue, vars: &[RawVariable<'_>]) -> bool
@@ -73,14 +77,18 @@ fn conditions_known(catalogue: &Catalogue, entries: &[RawEntry<'_>]) -> bool
     entries.iter().all(|e| condition_known(catalogue, e.ending))
 }
 
-/// Whether each variable's lines have its name.
+/// Whether each variable's lines have its name, and those of cells name cells in their order.
 #[tactic(auto, unfolding(crate::specs::ReportResolving::variables_known))]
-fn variables_known(catalogue: &Catalogue, report: &RawReport<'_>) -> bool
+fn variables_known(catalogue: &Catalogue, tables: &[Span], report: &RawReport<'_>) -> bool
+    requires tables { tables.now ≡ spans catalogue.now }
     requires base { length report.now.base_vars.items ≡ length catalogue.now.names }
     requires current { length report.now.now_vars.items ≡ length catalogue.now.names }
     ensures { result ≡ variables_known catalogue.now (view_raw report.entry.now) }
 {
-    named_as(catalogue, &report.base_vars) && named_as(catalogue, &report.now_vars)
+    named_as(catalogue, &report.base_vars)
+        && named_as(catalogue, &report.now_vars)
+        && cells_known(catalogue, tables, &report.base_cells)
+        && cells_known(catalogue, tables, &report.now_cells)
 }
 
 /// Whether only the catalogue's transactions are named.
@@ -101,12 +109,13 @@ fn transactions_known(catalogue: &Catalogue, report: &RawReport<'_>) -> bool
 
 /// Whether all names are known.
 #[tactic(auto, unfolding(crate::specs::ReportResolving::names_known))]
-fn names_known(catalogue: &Catalogue, report: &RawReport<'_>) -> bool
+fn names_known(catalogue: &Catalogue, tables: &[Span], report: &RawReport<'_>) -> bool
+    requires tables { tables.now ≡ spans catalogue.now }
     requires base { length report.now.base_vars.items ≡ length catalogue.now.names }
     requires current { length report.now.now_vars.items ≡ length catalogue.now.names }
     ensures { result ≡ names_known catalogue.now (view_raw report.entry.now) }
 {
-    if !variables_known(catalogue, report) {
+    if !variables_known(catalogue, tables, report) {
         return false;
     }
     if !transactions_known(catalogue, report) {
@@ -116,7 +125,7 @@ fn names_known(catalogue: &Catalogue, report: &RawReport<'_>) -> bool
 }
 
 /// A number or a version.
-fn count_in(count: Count<'_>) -> Result<u64, ReadFault>
+pub(crate) fn count_in(count: Count<'_>) -> Result<u64, ReadFault>
     ensures value { Gives (λ x. x) result (count_in count.entry.text.now) }
     ensures kind { IfErr result (λ e. e ≡ Limit) }
 {
@@ -149,10 +158,15 @@ fn variable_told(v: RawVariable<'_>) -> Result<(i64, u64), ReadFault>
     Ok((value, version))
 }
 
-fn variables_told(alloc: Global, vars: &[RawVariable<'_>]) -> Result<Vec<(i64, u64)>, ReadFault>
+/// The variables, with room for so many values.
+fn variables_told(
+    alloc: Global,
+    room: usize,
+    vars: &[RawVariable<'_>],
+) -> Result<Vec<(i64, u64)>, ReadFault>
     ensures { Gives (λ x. x.items) result (each variable_told (view_variables vars.now)) }
 {
-    let mut made = Vec::with_capacity(alloc, vars.len())?;
+    let mut made = Vec::with_capacity(alloc, room)?;
     'vars: for v in vars {
         made.push(variable_told(*v)?)?;
     }
@@ -242,17 +256,25 @@ fn tasks_told(
 fn told_of(
     alloc: Global,
     catalogue: &Catalogue,
+    tables: &[Span],
     report: &RawReport<'_>,
 ) -> Result<Report, ReadFault>
-    ensures { Gives told result (told_of catalogue.now (view_raw report.entry.now)) }
+    requires { tables.now ≡ spans catalogue.now }
+    ensures value { Gives told result (told_of catalogue.now (view_raw report.entry.now)) }
+    ensures fit { OnOk result (All (FitsSigned w64) (drop (length catalogue.now.names) catalogue.now.initial)) }
 {
+    let values = catalogue.initial().len();
     let base = count_in(report.base)?;
-    let base_vars = variables_told(alloc, &report.base_vars)?;
+    let base_vars = variables_told(alloc, values, &report.base_vars)?;
+    let base_cells = cells_told(alloc, catalogue, tables, &report.base_cells)?;
     let entries = entries_told(alloc, catalogue, &report.entries)?;
     let now = count_in(report.now)?;
-    let now_vars = variables_told(alloc, &report.now_vars)?;
+    let now_vars = variables_told(alloc, values, &report.now_vars)?;
+    let now_cells = cells_told(alloc, catalogue, tables, &report.now_cells)?;
     let parked = tasks_told(alloc, catalogue, &report.parked)?;
     let memory = tasks_told(alloc, catalogue, &report.memory)?;
+    let base_vars = values_told(catalogue, base_vars, &base_cells)?;
+    let now_vars = values_told(catalogue, now_vars, &now_cells)?;
     Ok(Report {
         base,
         base_vars,
@@ -273,10 +295,12 @@ pub(crate) fn resolved(
 ) -> Result<Report, ReadFault>
     requires base { length report.now.base_vars.items ≡ length catalogue.now.names }
     requires current { length report.now.now_vars.items ≡ length catalogue.now.names }
-    ensures { Gives told result (resolved catalogue.now (view_raw report.entry.now)) }
+    ensures value { Gives told result (resolved catalogue.now (view_raw report.entry.now)) }
+    ensures fit { OnOk result (All (FitsSigned w64) (drop (length catalogue.now.names) catalogue.now.initial)) }
 {
-    if names_known(catalogue, report) {
-        told_of(alloc, catalogue, report)
+    let tables = spans_of(alloc, catalogue)?;
+    if names_known(catalogue, &tables, report) {
+        told_of(alloc, catalogue, &tables, report)
     } else {
         Err(ReadFault::Name)
     }

@@ -9,12 +9,13 @@ ghost use Rattle.text_line_reader.specs.Rows.{line_at, lines_at, next_at, all_at
 ghost use Rattle.text_line_reader.specs.View.{view_next};
 ghost use Rattle.text_line_reader.specs.ReportReading.{variable_in, valued_in, broke_in, worded_in, ending_in};
 ghost use Rattle.text_line_reader.specs.ReportReading.{entry_in};
-ghost use Rattle.text_line_reader.specs.ReportReading.{task_in, numbered_in, raw_at};
+ghost use Rattle.text_line_reader.specs.ReportReading.{task_in, numbered_in, values_at, raw_at};
 ghost use Rattle.text_line_reader.specs.ReportView.{view_variable, view_variables, view_ending, view_entry};
-ghost use Rattle.text_line_reader.specs.ReportView.{view_entries};
+ghost use Rattle.text_line_reader.specs.ReportView.{view_cells, view_entries};
 ghost use Rattle.text_line_reader.specs.ReportView.{view_task, view_tasks, view_raw};
 
-use crate::report::raw::{RawEnding, RawEntry, RawReport, RawTask, RawVariable};
+use crate::report::cells::cells_at;
+use crate::report::raw::{RawCell, RawEnding, RawEntry, RawReport, RawTask, RawVariable};
 use crate::words::after_word;
 use crate::{
     Count, begins, end, expect, first_word, int_in, is_word, name_in, next_line, number_in,
@@ -256,7 +257,26 @@ fn last_at(bytes: &[u8]) -> Result<&[u8], ReadFault>
     Ok(rest)
 }
 
-/// All lines of a report of so many variables; where `cells` is true, an entry may end `outside`.
+/// What the next lines have of variables, so many, and of cells.
+type RawValues<'a> = (Vec<RawVariable<'a>>, Vec<RawCell<'a>>);
+
+#[tactic(auto, unfolding(crate::specs::ReportReading::values_at))]
+fn values_at(
+    alloc: Global,
+    bytes: &[u8],
+    variables: usize,
+    cells: bool,
+) -> Result<(RawValues<'_>, &[u8]), ReadFault>
+    ensures { Gives (λ x. ((view_variables x.0.0.items, view_cells x.0.1.items), lines x.1.now)) result
+        (values_at cells variables (lines bytes.now)) }
+{
+    let (variables, rest) = variables_at(alloc, bytes, variables)?;
+    let (cells, rest) = cells_at(alloc, rest, cells)?;
+    Ok(((variables, cells), rest))
+}
+
+/// All lines of a report of so many variables; where `cells` is true there may be lines of cells, and
+/// an entry may end `outside`.
 #[tactic(auto, unfolding(crate::specs::ReportReading::raw_at))]
 pub(crate) fn raw_of(
     alloc: Global,
@@ -267,10 +287,10 @@ pub(crate) fn raw_of(
     ensures { Gives view_raw result (raw_at cells variables (lines bytes.now)) }
 {
     let (base, rest) = number_at(bytes, "base")?;
-    let (base_vars, rest) = variables_at(alloc, rest, variables)?;
+    let ((base_vars, base_cells), rest) = values_at(alloc, rest, variables, cells)?;
     let (entries, rest) = entries_at(alloc, rest, cells)?;
     let (now, rest) = number_at(rest, "now")?;
-    let (now_vars, rest) = variables_at(alloc, rest, variables)?;
+    let ((now_vars, now_cells), rest) = values_at(alloc, rest, variables, cells)?;
     let (parked, rest) = tasks_at(alloc, rest, "parked")?;
     let (memory, rest) = tasks_at(alloc, rest, "memory")?;
     let rest = last_at(rest)?;
@@ -278,9 +298,11 @@ pub(crate) fn raw_of(
     Ok(RawReport {
         base,
         base_vars,
+        base_cells,
         entries,
         now,
         now_vars,
+        now_cells,
         parked,
         memory,
     })

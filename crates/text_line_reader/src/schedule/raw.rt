@@ -15,7 +15,7 @@ pub(crate) enum TaskVerb {
     Move,
 }
 
-/// The first word of a line that names a task and a variable.
+/// The first word of a line that names a task, and a variable or a cell.
 #[derive(Clone, Copy, Debug)]
 pub(crate) enum VariableVerb {
     Read,
@@ -27,5 +27,6 @@ pub(crate) enum VariableVerb {
 pub(crate) enum RawMove<'a> {
     OfTask(TaskVerb, Count<'a>),
     OfVariable(VariableVerb, Count<'a>, &'a str),
+    OfCell(VariableVerb, Count<'a>, &'a str, Count<'a>),
     Word,
 }

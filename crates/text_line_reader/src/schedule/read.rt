@@ -6,6 +6,7 @@ ghost use Rattle.text_words.specs.Answers.{Gives};
 ghost use Rattle.text_words.specs.declared.fault.ReadFault.TheVariants.{Memory};
 ghost use Rattle.text_line_reader.specs.Schedules.{IsSchedule, IsFirst, schedule_at};
 
+use crate::cells::knows_cells;
 use crate::schedule::resolve::resolved;
 use crate::schedule::shape::raws_of;
 use std::alloc::Global;
@@ -26,17 +27,18 @@ fn read(alloc: Global, bytes: &[u8], catalogue: &Catalogue) -> Result<Vec<Move>,
     if !are_allowed(bytes) {
         return Err(ReadFault::BadByte);
     }
-    let lines = raws_of(alloc, bytes)?;
+    let lines = raws_of(alloc, bytes, knows_cells(catalogue))?;
     resolved(alloc, catalogue, &lines)
 }
 
 /// Reads a schedule of a catalogue. It is `Ok` exactly where the bytes, at most 1,048,576, are the
 /// text of moves: a line for each, one of `begin A`, `read A X`, `commit A`, `drop A`, `first A X`,
 /// `value A`, `second A`, `ask A`, `word`, `again A` and `move A`, with A one of the catalogue's
-/// tasks and X the name of one of its variables; the empty text is that of no move. Otherwise the fault is the first of
-/// `TooLong`, `BadByte`, `Shape`, `Name` (an unknown variable) and `Limit` (a task out of range)
-/// that applies, each judged over all the bytes before the next is. `Memory` may come in place of
-/// any answer, where a growth was refused. It takes time and memory linear in the input.
+/// tasks and X the name of one of its variables, or that of a table and the number of one of its
+/// cells, as `stock[3]`; the empty text is that of no move. Otherwise the fault is the first of
+/// `TooLong`, `BadByte`, `Shape`, `Name` (an unknown variable or cell) and `Limit` (a task out of
+/// range) that applies, each judged over all the bytes before the next is. `Memory` may come in
+/// place of any answer, where a growth was refused. It takes time and memory linear in the input.
 pub fn read_schedule(
     alloc: Global,
     bytes: &[u8],

@@ -2,33 +2,40 @@
 
 ghost use Rattle.std.specs.Prelude.{◌≡◌, ◌⊎◌, IfErr};
 ghost use Rattle.std.specs.List.{list_all};
+ghost use Rattle.txn_programs.specs.Listing.{spans};
 ghost use Rattle.text_words.specs.Answers.{Gives};
 ghost use Rattle.text_words.specs.declared.fault.ReadFault.TheVariants.{Name, Limit};
-ghost use Rattle.text_line_reader.specs.ScheduleResolving.{is_known, task_move, variable_move, variable_id, move_told};
-ghost use Rattle.text_line_reader.specs.ScheduleResolving.{moves_told, resolved};
+ghost use Rattle.text_line_reader.specs.ScheduleResolving.{is_known, task_move, variable_move, cell_id, variable_id};
+ghost use Rattle.text_line_reader.specs.ScheduleResolving.{move_told, moves_told, resolved};
 ghost use Rattle.text_line_reader.specs.ScheduleView.{view_move, view_moves};
 
+use crate::cells::{cell_named, spans_of};
 use crate::schedule::raw::{RawMove, TaskVerb, VariableVerb};
-use crate::task_id;
+use crate::{Count, task_id};
 use std::alloc::Global;
 use text_words::ReadFault;
-use txn::{Catalogue, Move, TaskId, VarId};
+use txn::{Catalogue, Move, Span, TaskId, VarId};
 
-/// Whether a line's variable is known, if it names one.
-fn is_known(catalogue: &Catalogue, line: RawMove<'_>) -> bool
+/// Whether a line's variable or cell is known, if it names one.
+fn is_known(catalogue: &Catalogue, tables: &[Span], line: RawMove<'_>) -> bool
+    requires { tables.now ≡ spans catalogue.now }
     ensures { result ≡ is_known catalogue.now (view_move line.entry) }
 {
     match line {
         RawMove::OfTask(_, _) | RawMove::Word => true,
         RawMove::OfVariable(_, _, name) => catalogue.var_id(name).is_some(),
+        RawMove::OfCell(_, _, table, index) => {
+            cell_named(catalogue, tables, table, index).is_some()
+        }
     }
 }
 
 /// Whether all names are known.
-fn names_known(catalogue: &Catalogue, lines: &[RawMove<'_>]) -> bool
+fn names_known(catalogue: &Catalogue, tables: &[Span], lines: &[RawMove<'_>]) -> bool
+    requires { tables.now ≡ spans catalogue.now }
     ensures { result ≡ list_all (λ line. is_known catalogue.now (view_move line)) lines.now }
 {
-    lines.iter().all(|line| is_known(catalogue, *line))
+    lines.iter().all(|line| is_known(catalogue, tables, *line))
 }
 
 fn task_move(verb: TaskVerb, task: TaskId) -> Move
@@ -63,8 +70,23 @@ fn variable_id(catalogue: &Catalogue, name: &str) -> Result<VarId, ReadFault>
     catalogue.var_id(name).ok_or(ReadFault::Name)
 }
 
+#[tactic(auto, unfolding(crate::specs::ScheduleResolving::cell_id))]
+fn cell_id(
+    catalogue: &Catalogue,
+    tables: &[Span],
+    table: &str,
+    index: Count<'_>,
+) -> Result<VarId, ReadFault>
+    requires { tables.now ≡ spans catalogue.now }
+    ensures value { Gives (λ x. x) result (cell_id catalogue.now table.now index.entry.text.now) }
+    ensures kind { IfErr result (λ e. e ≡ Name) }
+{
+    cell_named(catalogue, tables, table, index).ok_or(ReadFault::Name)
+}
+
 /// The move of a line.
-fn move_told(catalogue: &Catalogue, line: RawMove<'_>) -> Result<Move, ReadFault>
+fn move_told(catalogue: &Catalogue, tables: &[Span], line: RawMove<'_>) -> Result<Move, ReadFault>
+    requires { tables.now ≡ spans catalogue.now }
     ensures value { Gives (λ x. x) result (move_told catalogue.now (view_move line.entry)) }
     ensures kind { IfErr result (λ e. (e ≡ Name) ⊎ (e ≡ Limit)) }
 {
@@ -78,6 +100,11 @@ fn move_told(catalogue: &Catalogue, line: RawMove<'_>) -> Result<Move, ReadFault
             let variable = variable_id(catalogue, name)?;
             Ok(variable_move(verb, task, variable))
         }
+        RawMove::OfCell(verb, number, table, index) => {
+            let task = task_id(catalogue, number)?;
+            let cell = cell_id(catalogue, tables, table, index)?;
+            Ok(variable_move(verb, task, cell))
+        }
         RawMove::Word => Ok(Move::Word),
     }
 }
@@ -85,13 +112,15 @@ fn move_told(catalogue: &Catalogue, line: RawMove<'_>) -> Result<Move, ReadFault
 fn moves_told(
     alloc: Global,
     catalogue: &Catalogue,
+    tables: &[Span],
     lines: &[RawMove<'_>],
 ) -> Result<Vec<Move>, ReadFault>
+    requires { tables.now ≡ spans catalogue.now }
     ensures { Gives (λ x. x.items) result (moves_told catalogue.now (view_moves lines.now)) }
 {
     let mut made = Vec::with_capacity(alloc, lines.len())?;
     'lines: for line in lines {
-        made.push(move_told(catalogue, *line)?)?;
+        made.push(move_told(catalogue, tables, *line)?)?;
     }
     Ok(made)
 }
@@ -104,8 +133,9 @@ pub(crate) fn resolved(
 ) -> Result<Vec<Move>, ReadFault>
     ensures { Gives (λ x. x.items) result (resolved catalogue.now (view_moves lines.now)) }
 {
-    if names_known(catalogue, lines) {
-        moves_told(alloc, catalogue, lines)
+    let tables = spans_of(alloc, catalogue)?;
+    if names_known(catalogue, &tables, lines) {
+        moves_told(alloc, catalogue, &tables, lines)
     } else {
         Err(ReadFault::Name)
     }

@@ -1,6 +1,6 @@
-use Rattle.std.proofs.Common.{◌≡◌, ◌≤◌, ◌<◌, ◌∙◌, Some, ap, sym, length, arith}
+use Rattle.std.proofs.Common.{◌≤◌, ◌<◌, ◌∙◌, Some, ap, sym, length, arith}
 use Rattle.std.proofs.lemmas.Option.{same_Some, slice_get_within}
-use Rattle.txn_programs.specs.Listing.{calls, tasks}
+use Rattle.txn_programs.specs.Listing.{calls}
 use Rattle.checker.proofs.Chaptered.{calls_count}
 use Rattle.checker.proofs.chapter.is_task.Goals as goal
 

@@ -1,13 +1,13 @@
 use Rattle.std.proofs.Common.{inl, inr}
-use Rattle.commands.specs.Files.{file_limit, report_limit}
-use Rattle.commands.proofs.BytesRead.{keeps_same, read_as}
+use Rattle.commands.specs.Files.{file_limit}
+use Rattle.commands.proofs.BytesRead.{keeps_same, read_as, report_as}
 use Rattle.commands.proofs.checking.check_inputs.Goals as goal
 
 pub returns-in-Ok-clause-checked : goal.returns-in-Ok-clause-checked
 returns-in-Ok-clause-checked g c =
     let file = read_as file_limit (g.I.Read.remaining c.args.file) c.in-Ok.file.items c.as_slice.result.now c.as_slice.ensures.value c.in-Ok.ensures.first in
-    let other = read_as report_limit (g.J.Read.remaining c.args.report) c.in-Ok.report.items c.as_slice-in-Ok.result.now c.as_slice-in-Ok.ensures.value c.in-Ok.ensures.second in
-    inr (c.as_slice.result.now, file, (c.as_slice-in-Ok.result.now, other, c.check_bytes.ensures.checked))
+    let report = report_as (g.J.Read.remaining c.args.report) c.in-Ok.file.items c.as_slice.result.now c.in-Ok.report.items c.as_slice-in-Ok.result.now c.as_slice.ensures.value c.as_slice-in-Ok.ensures.value c.in-Ok.ensures.second in
+    inr (c.as_slice.result.now, file, (c.as_slice-in-Ok.result.now, report, c.check_bytes.ensures.checked))
 
 pub returns-in-Err-clause-checked : goal.returns-in-Err-clause-checked
 returns-in-Err-clause-checked g c = inl (c.in-Err.ensures.unread, keeps_same (g.S.Sink.bytes c.args.sink.now))

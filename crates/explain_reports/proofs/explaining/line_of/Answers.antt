@@ -9,8 +9,8 @@ use Rattle.explain_reports.proofs.Letters.{line_is_ascii}
 use Rattle.explain_reports.proofs.Numbered.{is_at}
 use Rattle.explain_reports.proofs.explaining.line_of.Goals as goal
 
-pub place_of_flaw-place-requires : goal.place_of_flaw-place-requires
-place_of_flaw-place-requires c =
+pub place_of_flaw-place-requires-clause-few : goal.place_of_flaw-place-requires-clause-few
+place_of_flaw-place-requires-clause-few c =
     let there = is_at c.args.catalogue.now c.args.bytes.now (told c.args.report.now) c.args.flaw c.rules.ensures.valued c.rules.ensures.names c.rules.ensures.limits c.requires.read c.requires.flaw in
     let within = there.within in
     omega arith
@@ -34,7 +34,7 @@ as_text-requires c =
     let there = is_at l c.args.bytes.now r c.args.flaw c.rules.ensures.valued c.rules.ensures.names c.rules.ensures.limits c.requires.read c.requires.flaw in
     let same = same_Some c.in-Some.text.now there.text (c.in-Some.ensures ∙ (ap (λ (n : ℕ). whole_at n (lines c.args.bytes.now)) c.place_of_flaw-place.ensures ∙ there.whole)) in
     subst (λ (t : List ℕ). IsAscii t) (sym same)
-    (line_is_ascii l c.args.bytes.now r (place_of_flaw r c.args.flaw) there.text c.rules.ensures.valued c.rules.ensures.names c.rules.ensures.limits c.requires.read there.stands)
+    (line_is_ascii l c.args.bytes.now r (place_of_flaw l r c.args.flaw) there.text c.rules.ensures.valued c.rules.ensures.names c.rules.ensures.limits c.requires.read there.stands)
 
 pub returns-clause-stands : goal.returns-clause-stands
 returns-clause-stands c =

@@ -4,7 +4,7 @@ use Rattle.explain_schedules.proofs.Lines.{alone_line, alone_stops}
 use Rattle.explain_schedules.proofs.line.alone.Goals as goal
 
 pub returns-then-is_word-clause-line : goal.returns-then-is_word-clause-line
-returns-then-is_word-clause-line c = record { raw = Word; read = alone_line c.args.text.now c.requires (sym c.is_word.ensures ∙ c.if-is_word.true); says = tt }
+returns-then-is_word-clause-line c cells = record { raw = Word; read = alone_line cells c.args.text.now c.requires (sym c.is_word.ensures ∙ c.if-is_word.true); says = tt }
 
 pub returns-else-is_word-clause-stop : goal.returns-else-is_word-clause-stop
-returns-else-is_word-clause-stop c = alone_stops c.args.text.now c.requires (sym c.is_word.ensures ∙ c.if-is_word.false)
+returns-else-is_word-clause-stop c cells = alone_stops cells c.args.text.now c.requires (sym c.is_word.ensures ∙ c.if-is_word.false)

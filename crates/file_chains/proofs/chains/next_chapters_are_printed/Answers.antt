@@ -18,7 +18,8 @@ pub returns : goal.returns
 returns c b file report text fits idle pair printed =
     let same : printed.file ≡ b.catalogue = c.spells_one.ensures file printed.file b.catalogue printed.spelled pair.spelled in
     let read : IsReport b.catalogue report printed.told = subst (λ (l : Listing). IsReport l report printed.told) same printed.read in
-    let rules : Rules b.catalogue = record { named = sym pair.spelled.declared.valued; names = pair.spelled.declared.names; limits = pair.spelled.declared.limits } in
+    let declared = pair.spelled.declared in
+    let rules : Rules b.catalogue = record { valued = sym declared.valued; names = declared.names; limits = declared.limits } in
     let told : printed.told ≡ pair.told = same_told printed.told pair.told (sym (report_read b.catalogue report printed.told rules read) ∙ report_read b.catalogue report pair.told rules pair.read) in
     printed.printed.canonical
     ∙ ap file_text (ap (λ (l : Listing). next_chapter l printed.told) same ∙ (ap (next_chapter b.catalogue) told ∙ sym (c.next_chapters_are_told.ensures b pair.told fits idle pair.tells)))

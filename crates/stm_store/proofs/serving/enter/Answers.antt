@@ -1,4 +1,3 @@
-use Rattle.std.proofs.Common.{refl}
 use Rattle.book.specs.declared.task.Serial.TheVariants as serial
 use Rattle.stm_store.proofs.Entries.{entered_new, enters}
 use Rattle.stm_store.proofs.Shapes.{entered_shape}

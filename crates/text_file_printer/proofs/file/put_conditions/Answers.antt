@@ -7,7 +7,7 @@ use Rattle.txn_programs.specs.declared.ast.Cond.{Cond}
 use Rattle.txn_declarations.specs.Conditions.{standing_of}
 use Rattle.text_file_printer.specs.Canonical.{always_line}
 use Rattle.text_file_printer.specs.Fits.{AlwaysFits}
-use Rattle.text_grammar.specs.Written.{written_always}
+use Rattle.text_grammar.specs.Written.{scope_of, written_always}
 use Rattle.text_words.proofs.Pieces.{piece_more, all_more}
 use Rattle.text_file_printer.proofs.Known.{condition_named_at}
 use Rattle.text_file_printer.proofs.file.put_conditions.Goals as goal
@@ -21,12 +21,12 @@ pub put_condition-requires : goal.put_condition-requires
 put_condition-requires c =
     let l = c.args.catalogue.now in
     let at = at_place c.always-condition-items.result.now l.always c.conditions.condition-index c.condition-item.result c.always-condition-items.ensures.value c.conditions-test.true c.condition-item.is in
-    condition_named_at l c.conditions.condition-index (standing_of c.condition-item.result) c.rules.ensures.names c.rules.ensures.limits at
+    condition_named_at l c.conditions.condition-index (standing_of c.condition-item.result) c.rules.ensures.names at
 
 pub conditions-preserved : goal.conditions-preserved
 conditions-preserved c =
     let l = c.args.catalogue.now in
-    let g = written_always l.names in
+    let g = written_always (scope_of l) in
     let i = c.conditions.condition-index in
     let x = standing_of c.condition-item.result in
     let here = at_place c.always-condition-items.result.now l.always i c.condition-item.result c.always-condition-items.ensures.value c.conditions-test.true c.condition-item.is in

@@ -14,3 +14,6 @@ decreases-put_last_expression l = 3 * expression_depth (expression_of l.e.now) +
 
 abbrev pub decreases-put_operation : goal.decreases-put_operation
 decreases-put_operation l = 3 * max (expression_depth (expression_of l.left.now)) (expression_depth (expression_of l.right.now)) + 2
+
+abbrev pub decreases-put_cell : goal.decreases-put_cell
+decreases-put_cell l = 3 * expression_depth (expression_of l.index.now) + 2

@@ -16,7 +16,7 @@ abbrev pub decreases-seq_at_once : goal.decreases-seq_at_once
 decreases-seq_at_once l = 4 * l.depth + 3
 
 abbrev pub invariant-seq_at_once-parts : goal.invariant-seq_at_once-parts
-invariant-seq_at_once-parts l = (items : List Stmt) × GoesOn is_open (stmt_at l.fn.depth) (statement_in (view_scope l.fn.scope)) (all_of is_open (stmt_at l.fn.depth) (tokens l.fn.bytes)) items (map statement_of l.parts.items) (tokens l.rest)
+invariant-seq_at_once-parts l = (items : List Stmt) × GoesOn is_open (stmt_at l.fn.file_form l.fn.depth) (statement_in (view_scope l.fn.scope)) (all_of is_open (stmt_at l.fn.file_form l.fn.depth) (tokens l.fn.bytes)) items (map statement_of l.parts.items) (tokens l.rest)
 
 abbrev pub decreases-seq_at_once-parts : goal.decreases-seq_at_once-parts
 decreases-seq_at_once-parts l = length (tokens l.rest)

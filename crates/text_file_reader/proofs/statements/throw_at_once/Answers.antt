@@ -7,5 +7,5 @@ use Rattle.text_file_reader.proofs.statements.throw_at_once.Goals as goal
 
 pub returns : goal.returns
 returns c =
-    throw_makes (view_scope c.args.scope.now) (expr_at c.args.depth) (tokens c.args.bytes.now) (tokens c.in_ok-value.rest.now) (expression_of c.in_ok-value.value)
+    throw_makes (view_scope c.args.scope.now) (expr_at c.args.file_form c.args.depth) (tokens c.args.bytes.now) (tokens c.in_ok-value.rest.now) (expression_of c.in_ok-value.value)
     c.in_ok-value.ensures

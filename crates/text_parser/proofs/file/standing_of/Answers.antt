@@ -14,16 +14,16 @@ pub returns-in_err-always : goal.returns-in_err-always
 returns-in_err-always c =
     let p = err_from_is_err_and c.from_residual.result c.from_residual.ensures.1 in
     let word = codes "always" in
-    rw (p.1, p.2) (ends_at_item c.in_err-always.field-0.0 (begins word) always_at always_shortens (view_conditions c.standing.standing.items) (tokens c.standing.rest.now) (all_of (begins word) always_at (tokens c.args.bytes.now)) (sym c.begins.ensures ∙ c.standing-test.true) c.in_err-always.ensures.value c.standing.invariant)
+    rw (p.1, p.2) (ends_at_item c.in_err-always.field-0.0 (begins word) (always_at c.args.file_form) (always_shortens c.args.file_form) (view_conditions c.standing.standing.items) (tokens c.standing.rest.now) (all_of (begins word) (always_at c.args.file_form) (tokens c.args.bytes.now)) (sym c.begins.ensures ∙ c.standing-test.true) c.in_err-always.ensures.value c.standing.invariant)
 
 pub standing-preserved : goal.standing-preserved
 standing-preserved c =
     let always = c.in_ok-always.always in
     let word = codes "always" in
     let e : view_conditions c.push.new.self.items ≡ view_conditions c.standing.standing.items ++ view_always always ∷ [] = rw c.in_ok-push.ensures.items (map_push _ c.standing.standing.items always) in
-    rw e (goes_on (begins word) always_at always_shortens (view_conditions c.standing.standing.items) (tokens c.standing.rest.now) (view_always always, tokens c.in_ok-always.after.now) (all_of (begins word) always_at (tokens c.args.bytes.now)) (sym c.begins.ensures ∙ c.standing-test.true) c.in_ok-always.ensures.value c.standing.invariant)
+    rw e (goes_on (begins word) (always_at c.args.file_form) (always_shortens c.args.file_form) (view_conditions c.standing.standing.items) (tokens c.standing.rest.now) (view_always always, tokens c.in_ok-always.after.now) (all_of (begins word) (always_at c.args.file_form) (tokens c.args.bytes.now)) (sym c.begins.ensures ∙ c.standing-test.true) c.in_ok-always.ensures.value c.standing.invariant)
 
 pub returns : goal.returns
 returns c =
     let word = codes "always" in
-    is_done (begins word) always_at (view_conditions c.standing.standing.items) (tokens c.standing.rest.now) (all_of (begins word) always_at (tokens c.args.bytes.now)) (sym c.begins.ensures ∙ c.standing-test.false) c.standing.invariant
+    is_done (begins word) (always_at c.args.file_form) (view_conditions c.standing.standing.items) (tokens c.standing.rest.now) (all_of (begins word) (always_at c.args.file_form) (tokens c.args.bytes.now)) (sym c.begins.ensures ∙ c.standing-test.false) c.standing.invariant

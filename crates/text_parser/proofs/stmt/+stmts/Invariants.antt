@@ -14,8 +14,8 @@ decreases-seq_of l = 4 * l.depth + 3
 
 abbrev pub invariant-seq_of-parts : goal.invariant-seq_of-parts
 invariant-seq_of-parts l = record {
-  so_far : with_front (view_stmts l.parts.items) (all_of is_open (stmt_at l.depth) (tokens l.rest)) ≡ all_of is_open (stmt_at l.fn.depth) (tokens l.fn.bytes);
-  same : l.depth ≡ l.fn.depth;
+  so_far : with_front (view_stmts l.parts.items) (all_of is_open (stmt_at l.file_form l.depth) (tokens l.rest)) ≡ all_of is_open (stmt_at l.fn.file_form l.fn.depth) (tokens l.fn.bytes);
+  same : (l.file_form ≡ l.fn.file_form) × (l.depth ≡ l.fn.depth);
   within : length l.rest ≤ length l.fn.bytes;
 }
 

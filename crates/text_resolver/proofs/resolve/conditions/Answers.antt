@@ -3,14 +3,14 @@ use Rattle.std.specs.Vec.Iter.{into_iter_items}
 use Rattle.std.proofs.lemmas.List.{map_push}
 use Rattle.text_resolver.specs.Parts.{view_condition}
 use Rattle.text_grammar.specs.Resolving.{each, always_in}
-use Rattle.text_resolver.specs.Texts.{texts}
+use Rattle.text_resolver.specs.Scopes.{view_scope}
 use Rattle.text_grammar.specs.View.{view_always, view_conditions}
 use Rattle.text_resolver.proofs.Each.{joined, each_more, each_done, nothing_left}
 use Rattle.text_resolver.proofs.resolve.conditions.Goals as goal
 
 pub conditions-preserved : goal.conditions-preserved
 conditions-preserved c =
-    let one = always_in (texts c.args.vars.now.keys) in
+    let one = always_in (view_scope c.args.outer.now) in
     let front = map view_condition c.conditions.made.items in
     let made = c.in_ok-condition.condition in
     let more = into_iter_items c.next.new.self in
@@ -26,7 +26,7 @@ conditions-preserved c =
 
 pub returns : goal.returns
 returns c =
-    let one = always_in (texts c.args.vars.now.keys) in
+    let one = always_in (view_scope c.args.outer.now) in
     let front = map view_condition c.conditions.made.items in
     let empty : into_iter_items c.conditions.raw-iterator ≡ [] = nothing_left _ (sym c.conditions.invariant.1 ∙ c.in-None.ensures.steps.0) in
     let total = each one (view_conditions (into_iter_items c.into_iter-raw-iterator.result)) in

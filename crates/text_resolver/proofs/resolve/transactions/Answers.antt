@@ -1,22 +1,23 @@
-use Rattle.std.proofs.Common.{ℕ, List, true, ◌&&◌, ◌≡◌, ◌∙◌, ◌++◌, ◌∷◌, [], length, map, sym, ap, arith}
+use Rattle.std.proofs.Common.{List, true, ◌&&◌, ◌≡◌, ◌∙◌, ◌++◌, ◌∷◌, [], length, map, sym, ap, arith}
 use Rattle.std.specs.List.{list_all}
 use Rattle.std.proofs.lemmas.Bool.{and_parts}
 use Rattle.text_grammar.specs.declared.file.RawTx.{RawTx}
+use Rattle.text_grammar.specs.Scope.{Scope}
 use Rattle.std.specs.Vec.Iter.{into_iter_items}
 use Rattle.std.proofs.lemmas.List.{map_push}
 use Rattle.txn_programs.specs.Tree.{transaction_of}
-use Rattle.text_grammar.specs.Resolving.{each, transaction_in, tx_known}
-use Rattle.text_resolver.specs.Texts.{texts}
+use Rattle.text_grammar.specs.Resolving.{each, transaction_in}
+use Rattle.text_resolver.specs.Scopes.{view_scope, has_own_parameters}
 use Rattle.text_grammar.specs.View.{view_tx, view_txs}
 use Rattle.text_resolver.proofs.Each.{joined, each_more, each_done, nothing_left}
 use Rattle.text_resolver.proofs.resolve.transactions.Goals as goal
 
-known_here : (vars : List (List ℕ)) (txs more : List RawTx) (tx : RawTx) → list_all (tx_known vars) (view_txs txs) ≡ true → txs ≡ tx ∷ more → (tx_known vars (view_tx tx) && list_all (tx_known vars) (view_txs more)) ≡ true
-known_here vars txs more tx h steps = rw steps at h
+own_here : (s : Scope) (txs more : List RawTx) (tx : RawTx) → list_all (has_own_parameters s) (view_txs txs) ≡ true → txs ≡ tx ∷ more → (has_own_parameters s (view_tx tx) && list_all (has_own_parameters s) (view_txs more)) ≡ true
+own_here s txs more tx h steps = rw steps at h
 
 pub txs-preserved : goal.txs-preserved
 txs-preserved c =
-    let one = transaction_in (texts c.args.vars.now.keys) in
+    let one = transaction_in (view_scope c.args.outer.now) in
     let front = map transaction_of c.txs.made.items in
     let made = c.in_ok-transaction.transaction in
     let more = into_iter_items c.next.new.self in
@@ -28,15 +29,15 @@ txs-preserved c =
           let gone = c.in-Some.ensures.steps.1 in
           let short = ap length steps in
           omega arith,
-      (and_parts _ _ (known_here _ _ _ _ c.txs.invariant.2 steps)).1,
+      (and_parts _ _ (own_here (view_scope c.args.outer.now) _ _ _ c.txs.invariant.2 steps)).1,
     )
 
 pub transaction_from-requires : goal.transaction_from-requires
-transaction_from-requires c = record { known = (and_parts _ _ (known_here _ _ _ _ c.txs.invariant.2 c.in-Some.ensures.steps.0)).0 }
+transaction_from-requires c = record { own = (and_parts _ _ (own_here (view_scope c.args.outer.now) _ _ _ c.txs.invariant.2 c.in-Some.ensures.steps.0)).0 }
 
 pub returns : goal.returns
 returns c =
-    let one = transaction_in (texts c.args.vars.now.keys) in
+    let one = transaction_in (view_scope c.args.outer.now) in
     let front = map transaction_of c.txs.made.items in
     let empty : into_iter_items c.txs.tx-iterator ≡ [] = nothing_left _ (sym c.txs.invariant.1 ∙ c.in-None.ensures.steps.0) in
     let total = each one (view_txs (into_iter_items c.into_iter-tx-iterator.result)) in

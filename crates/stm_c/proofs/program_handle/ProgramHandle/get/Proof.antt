@@ -2,16 +2,16 @@
 use mathlib.Core.Path.{◌≡◌, refl, sym, ap, ◌∙◌}
 use mathlib.Core.List.{List, [], ◌∷◌}
 use lib.Dec.{lit<}
-use Prim.Native.Nat.{ℕ, ◌+◌}
+use Prim.Native.Nat.{ℕ}
 use seplogic.Ra.Ura.{Ura}
-use mir.Syntax.{named, ty_ptr}
-use mir.Val.{Val, vptr, vnull, of_list}
-use base.Logic.{SProp, ent, sep, emp, via, fst∗}
-use base.Fml.{Lft, Share, Fml, ftrue, fat, fhide, flft}
+use mir.Syntax.{named}
+use mir.Val.{Val, vptr, of_list}
+use base.Logic.{SProp, ent, emp, via, fst∗}
+use base.Fml.{Lft, Share, ftrue, flft}
 use prog.Memory.{Memory}
 use prog.Routine.{Routine}
 use prog.Wp.{Calls, Loops, WpFn, Tables}
-use types.Logic.{Logic, sem}
+use types.Logic.{Logic}
 use contract.Monad.{Fun, fact}
 use contract.Running.{tables, tables_of}
 use sound.WpLaws.{WpFn-mono}
@@ -21,17 +21,13 @@ use types.Run.{stop, fld, load, addr, lit, bin, no_more, and_then, of_opd, first
 use types.ByLocal.{alloc_all, pass_all, free_all, look_at, get, through, sets, sets_last, env}
 use types.Part.{agg, sub, whole, look_in}
 use denote.Exit.{yes}
-use denote.RattleType.{RattleType, RowLaws, owns}
+use denote.RattleType.{RattleType, owns}
 use denote.Memory.{cell_at, shared_of, hidden_shr}
-use denote.Copied.{plain_Copied}
 use denote.Opens.{hide}
-use denote.RawPtr.{Ptr, RawPtr, coded_ptr, ptr_own, rawptr_pure, ptr_val, block_of, count_of, at_block, InBlock, null_ptr, block_ptr, tests_null, ptr_row_laws}
+use denote.RawPtr.{Ptr, block_of, count_of, at_block, InBlock, null_ptr, block_ptr, tests_null}
 use denote.Ref.{Bor, ShrRef, shr_vals, shr_Tells}
 use denote.Signature.{plain}
 use denote.Steps.{heard, nothing, peeks, looks, shuts}
-use denote.Struct.Laws.{RawPtr-laws}
-use denote.Struct.Struct.{Struct, Struct-row_laws}
-use denote.Struct.Owning.{shape, to}
 use denote.Struct.Lending.{in_block_says}
 use denote.Triple.Entry.{on_entry}
 use denote.Triple.Spec.{Meets, triple_of}

@@ -1,12 +1,12 @@
 -- `of_parts` moves the pointer on; what lies there is lent for ever.
-use mathlib.Core.Path.{◌≡◌, refl, sym, subst}
+use mathlib.Core.Path.{refl, sym, subst}
 use mathlib.Core.List.{List, [], ◌∷◌, ◌++◌}
 use seplogic.Ra.Ura.{Ura}
 use mir.Raw.{raw as bare}
 use mir.Val.{Val}
 use base.Fraction.{full_share}
-use base.Logic.{SProp, ent, sep, emp, id⊢, guard, guard_i}
-use base.Fml.{ftrue, fsep, flft}
+use base.Logic.{SProp, ent, emp, id⊢, guard, guard_i}
+use base.Fml.{ftrue, fsep}
 use contract.BorrowLft.{⊑_static}
 use prog.Memory.{Memory}
 use prog.Routine.{Routine}
@@ -22,7 +22,6 @@ use types.ByLocal.{alloc_all, pass_all, free_all, look_at, get, get_in, sets}
 use types.Tokens.{bor_new}
 use denote.Exit.{no}
 use denote.RawPtr.{Ptr, block_ptr, lies_at, Testable}
-use denote.Shares.{Shares-less}
 use denote.Signature.{type_at}
 use denote.Steps.{nothing}
 use denote.Struct.Lending.{lent_at, Lends-lies}
@@ -32,7 +31,7 @@ use denote.Triple.Walked.{says, Stays, stay_dropped, walk_of, ends_at, walk_Meet
 use Rattle.core.proofs.alloc.Calls.{Goes-blank, token}
 use Rattle.std.specs.Prelude.{Some}
 use Rattle.std_heap.proofs.GlobalToken.{dealloc_token-Testable}
-use Rattle.std_alloc.proofs.BoxSteps.Form.{D, B, R, τ, word as box_word, box_typed}
+use Rattle.std_alloc.proofs.BoxSteps.Form.{D, B, τ, word as box_word, box_typed}
 use Rattle.std_alloc.proofs.BoxSteps.Steps.{box_out}
 use Rattle.stm_c.proofs.ProgramHandle.{E, FromParts as From}
 use Rattle.stm_c.proofs.ProgramReads.{Data, word, made}

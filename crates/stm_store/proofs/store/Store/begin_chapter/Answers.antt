@@ -1,4 +1,4 @@
-use Rattle.std.proofs.Common.{◌≡◌, ◌∙◌, ◌≤◌, ◌+◌, length, sym, ap, subst}
+use Rattle.std.proofs.Common.{◌∙◌, ◌≤◌, ◌+◌, length, sym, ap, subst}
 use Rattle.book.specs.View.{BookView}
 use Rattle.stm_store.specs.Tickets.{TicketsView}
 use Rattle.stm_store.specs.Working.{declaring}

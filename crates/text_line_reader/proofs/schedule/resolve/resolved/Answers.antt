@@ -7,5 +7,5 @@ pub returns-then-names_known : goal.returns-then-names_known
 returns-then-names_known c =
     subst (Gives (λ x. x.items) c.moves_told.result) (sym (resolved_known c.args.catalogue.now c.args.lines.now c.names_known.result c.names_known.ensures c.if-names_known.true)) c.moves_told.ensures
 
-pub returns-else-names_known : goal.returns-else-names_known
-returns-else-names_known c = resolved_unknown c.args.catalogue.now c.args.lines.now c.names_known.result c.names_known.ensures c.if-names_known.false
+pub returns : goal.returns
+returns c = resolved_unknown c.args.catalogue.now c.args.lines.now c.names_known.result c.names_known.ensures c.if-names_known.false

@@ -6,7 +6,7 @@ use Rattle.text_line_reader.specs.ScheduleView.{view_moves}
 use Rattle.text_line_reader.proofs.schedule.shape.raws_of.Given as goal
 
 abbrev pub invariant-moves : goal.invariant-moves
-invariant-moves l = joined (view_moves l.moves.items) (raws_at (lines l.rest)) ≡ raws_at (lines l.fn.bytes)
+invariant-moves l = joined (view_moves l.moves.items) (raws_at l.fn.cells (lines l.rest)) ≡ raws_at l.fn.cells (lines l.fn.bytes)
 
 abbrev pub decreases-moves : goal.decreases-moves
 decreases-moves l = length l.rest
