@@ -1,7 +1,9 @@
 /* Tables, of a store and of a service: cells by their numbers and by their names. Prints `good`. */
 #include "judging.h"
 
+#include <pthread.h>
 #include <stdio.h>
+#include <unistd.h>
 
 static const char TEXT[] =
     "(stm 3)(var spare 9)(table acct 4 100)(table rate 2 5 6)"
@@ -9,7 +11,14 @@ static const char TEXT[] =
     " (put acct to (add (at acct to) n))) (at acct from))"
     "(tx audit () (skip) (sum acct))";
 
+/* Who takes a cell waits until one is given there. */
+static const char PLACES[] =
+    "(stm 3)(table q 10000 0)(tx give (i) (put q i (add (at q i) 1)) (at q i))"
+    "(tx take (i) (seq (if (eq (at q i) 0) (retry) (skip)) (put q i (sub (at q i) 1))) i)"
+    "(tx take_any () (if (eq (max q) 0) (retry) (skip)) (max q))";
+
 enum { PAY, AUDIT, PAID = 100 };
+enum { GIVE, TAKE, TAKE_ANY, TAKERS = 20, APART = 256 };
 
 static stm_program program;
 static stm_store store;
@@ -46,7 +55,9 @@ static void declared(void) {
 }
 
 static void single(void) {
-    const char *none[] = {"acct", "acct[4]", "acct[03]", "acct[-0]", "acct[3", "acct[3]]", "acct[]", "spare[0]", "\xff[0]"};
+    const char *none[] = {
+        "acct", "acct[4]", "acct[03]", "acct[-0]", "acct[3", "acct[3]]", "acct[]", "spare[0]", "\xff[0]",
+    };
     const int64_t given[] = {0, 3, 60};
     wants(stm_call(&store, &lender, PAY, given, 3).code == STM_DONE);
     wants(is(stm_cell(&store, 0, 0, &value, &version), 40, 1) && is(stm_cell(&store, 0, 3, &value, &version), 160, 1));
@@ -78,6 +89,32 @@ static void faults(void) {
     wants(stm_call(&store, &lender, AUDIT, NULL, 0).value == 400);
 }
 
+/* The same of a service, which is looked at also once it is closed. */
+static void cells_of_a_service(void) {
+    const uint8_t acct[] = "acct", wrong[] = "acct[0]";
+    const int64_t given[] = {0, 3, 60};
+    int64_t values[3] = {-7, -7, -7};
+    stm_service *service = opens(TEXT, NULL);
+    wants(stm_atomically(service, PAY, given, 3).value == 40);
+    for (int closed = 0; closed < 2; closed++) {
+        wants(stm_service_table(service, acct, 4) == 0 && stm_service_table(service, wrong, 7) == STM_UNKNOWN);
+        wants(stm_service_table_length(service, 0) == 4 && stm_service_table_length(service, 1) == 2);
+        wants(stm_service_table_length(service, 2) == STM_UNKNOWN);
+        wants(is(stm_service_cell(service, 0, 3, &value, &version), 160, 1));
+        wants(is(stm_service_cell(service, 1, 1, &value, &version), 6, 0));
+        value = -7, version = 77;
+        wants(is_none(stm_service_cell(service, 0, 4, &value, &version)));
+        wants(is_none(stm_service_cell(service, 2, 0, &value, &version)));
+        wants(stm_service_cells(service, 0, 2, values, 3) == 2 && values[0] == 100 && values[1] == 160);
+        wants(values[2] == (closed ? 100 : -7));
+        wants(stm_service_cells(service, 0, 0, values, 3) == 3 && values[0] == 40 && values[2] == 100);
+        wants(stm_service_cells(service, 0, 4, values, 3) == 0 && stm_service_cells(service, 0, 0, NULL, 0) == 0);
+        wants(stm_service_cells(service, 2, 0, values, 3) == STM_UNKNOWN && values[0] == 40);
+        stm_service_close(service);
+    }
+    stm_service_free(service);
+}
+
 /* A service's chapters end while the values of cells get longer, and each is good. */
 static void of_a_service(void) {
     struct judged judged = {{" pay returned ", NULL}, {0}, 0};
@@ -93,7 +130,46 @@ static void of_a_service(void) {
     stm_service_free(service);
 }
 
+static stm_service *places;
+
+static void *takes(void *own) {
+    const int64_t *cell = own;
+    wants(stm_atomically(places, TAKE, cell, 1).value == *cell);
+    return NULL;
+}
+
+static void *takes_any(void *own) {
+    wants(stm_atomically(places, TAKE_ANY, NULL, 0).value == 1);
+    return own;
+}
+
+static void starts(pthread_t *thread, void *(*run)(void *), void *own) {
+    wants(pthread_create(thread, NULL, run, own) == 0);
+}
+
+/* Threads wait for cells whose numbers have the same low bits, and one for all cells: each is woken by its own. */
+static void woken_by_their_own(void) {
+    struct judged judged = {{" take returned ", " take_any returned "}, {0}, 0};
+    pthread_t takers[TAKERS], any;
+    int64_t cells[TAKERS], other = 7;
+    places = opens(PLACES, NULL);
+    for (int i = 0; i < TAKERS; i++) cells[i] = 3 + i * APART, starts(&takers[i], takes, &cells[i]);
+    starts(&any, takes_any, NULL);
+    wants(stm_atomically(places, GIVE, &other, 1).value == 1);
+    pthread_join(any, NULL);
+    for (int i = TAKERS - 1; i >= 0; i--) {
+        wants(stm_atomically(places, GIVE, &cells[i], 1).code == STM_DONE);
+        pthread_join(takers[i], NULL);
+        wants(value_of(places, "q[3]") == 0 && stm_service_entered(places) == (uint64_t)(2 + 2 * (TAKERS - i)));
+    }
+    stm_service_close(places);
+    judges_the_last(places, &judged);
+    wants(judged.lines[0] == TAKERS && judged.lines[1] == 1 && value_of(places, "q[7]") == 1);
+    stm_service_free(places);
+}
+
 int main(void) {
+    alarm(300);
     wants(stm_read((const uint8_t *)TEXT, strlen(TEXT), &program) == STM_DONE);
     wants(stm_open_with_room(&program, 0, 0, 4, &store) == STM_DONE && stm_open_lender(&store, &lender) == STM_DONE);
     declared();
@@ -103,7 +179,9 @@ int main(void) {
     stm_lender_free(&lender);
     stm_store_free(&store);
     stm_program_free(&program);
+    cells_of_a_service();
     of_a_service();
+    woken_by_their_own();
     puts("good");
     return 0;
 }

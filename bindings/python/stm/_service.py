@@ -4,6 +4,7 @@ from __future__ import annotations
 
 import ctypes
 import re
+import struct
 import threading
 import weakref
 from types import TracebackType
@@ -28,6 +29,7 @@ from ._faults import (
 from ._files import bounded, copied, refused, signed, taken
 from ._declared import Answer
 from ._library import library, word
+from ._table import Table
 
 _SAME = {
     _declared.OVERFLOW: Overflow,
@@ -48,6 +50,23 @@ _LONGEST = 1e9
 class _Transaction(NamedTuple):
     number: int
     parameters: int
+    # Makes of its arguments what the library takes.
+    packed: Callable[[Sequence[int]], Any]
+
+
+def _packing(parameters: int) -> Callable[[Sequence[int]], Any]:
+    """What makes an array of so many arguments. Each has to fit into 64 signed bits."""
+    array: Any = ctypes.c_int64 * parameters
+    pack = struct.Struct(f"{parameters}q").pack
+
+    def packed(arguments: Sequence[int]) -> Any:
+        try:
+            return array.from_buffer_copy(pack(*arguments))
+        except struct.error:
+            # One of them is no such number, and `signed` says which.
+            return array(*map(signed, arguments))
+
+    return packed if parameters > 0 else lambda arguments: None
 
 
 class _Keeper:
@@ -79,12 +98,12 @@ class _Keeper:
             raise error
 
 
-def _conditions(text: str) -> List[str]:
-    """The names of the standing conditions that the file declares, in order."""
+def _declared_by(word: str, text: str) -> List[str]:
+    """The names that the file declares by this word, in order."""
     tokens = re.findall(r"[()]|[^\s()]+", re.sub(r";[^\n]*", "", text))
     names, depth = [], 0
     for at, token in enumerate(tokens):
-        if token == "(" and depth == 0 and tokens[at + 1] == "always":
+        if token == "(" and depth == 0 and tokens[at + 1] == word:
             names.append(tokens[at + 2])
         depth += (token == "(") - (token == ")")
     return names
@@ -169,6 +188,18 @@ class Service:
         return self._present(name)[1]
 
     @property
+    def tables(self) -> List[str]:
+        """The names of the tables, as declared."""
+        return _declared_by("table", self._text)
+
+    def table(self, name: str) -> Table:
+        """The cells of a table, as a list that is only read: `bank.table("acct")[5]`."""
+        number = int(library.stm_service_table(self._at, *taken(name)))
+        if number < 0:
+            raise Unknown(name)
+        return Table(self, self._at, name, number)
+
+    @property
     def chapter(self) -> int:
         """The number of the chapter, from 0 on."""
         told: int = library.stm_service_chapter(self._at)
@@ -210,19 +241,17 @@ class Service:
             number = int(library.stm_service_transaction(self._at, *taken(name)))
             if number < 0:
                 raise Unknown(name)
-            found = _Transaction(number, int(library.stm_service_parameters(self._at, number)))
+            parameters = int(library.stm_service_parameters(self._at, number))
+            found = _Transaction(number, parameters, _packing(parameters))
             self._found[name] = found
         return found
 
     def _call(self, name: str, arguments: Sequence[int]) -> tuple[ctypes.c_void_p, int, Any, int]:
         """The service, the number of the transaction, and its arguments, as the library takes them."""
-        number, parameters = self._transaction(name)
+        number, parameters, packed = self._found.get(name) or self._transaction(name)
         if len(arguments) != parameters:
             raise WrongArguments(f"arguments of {name}: {parameters} wanted, {len(arguments)} given")
-        if parameters == 0:
-            return self._at, number, None, 0
-        given = (ctypes.c_int64 * parameters)(*(signed(argument) for argument in arguments))
-        return self._at, number, given, parameters
+        return self._at, number, packed(arguments), parameters
 
     def _returned(self, answer: Answer) -> int:
         keeper = self._keeper
@@ -238,7 +267,7 @@ class Service:
             return Thrown(answer.value, answer.entry)
         if answer.code == _declared.BROKEN:
             if self._names is None:
-                self._names = _conditions(self._text)
+                self._names = _declared_by("always", self._text)
             return Broken(self._names[answer.value], answer.entry)
         return _SAME[answer.code](word(answer.code), entry=answer.entry)
 
