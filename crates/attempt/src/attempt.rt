@@ -97,6 +97,7 @@ impl<'a> Attempt<'a> {
 
     /// Makes it a fresh attempt of a transaction of the catalogue with these arguments, as many as it has
     /// parameters, in the room that it has. It takes no memory.
+    #[inline(always)]
     pub fn restart(&mut self, catalogue: &'a Catalogue, id: TxId, arguments: &[i64])
         requires { IsCallable catalogue.now id arguments.now }
         ensures { self.new ≡ fresh_attempt catalogue.now id arguments.now }

@@ -150,6 +150,8 @@ impl FarWrites {
     }
 
     /// The value of a variable's own write, if there is one.
+    #[cold]
+    #[inline(never)]
     pub fn find(&self, x: VarId) -> Option<i64>
         ensures { result ≡ known_at (far_now self.now) x }
     {
