@@ -1,5 +1,5 @@
-/* stack FILE: makes each kind of call on the file, on a stack that was painted before, and prints the bytes of it that the
- * most greedy call has touched. */
+/* stack FILE [refused]: makes each kind of call on the file, on a stack that was painted before, and prints the bytes of it
+ * that the most greedy call has touched. With a second word each call has to refuse the file for a name. */
 #include "stm.h"
 
 #include <pthread.h>
@@ -13,14 +13,16 @@ enum { SIZE = 1 << 20, PAINT = 0xa5, CALLS = 6 };
 static uint8_t file[1 << 20], report[8388608], *room;
 static size_t length, report_length, wanted;
 static const char schedule[] = "begin 0\ncommit 0\n";
-static int call;
+static int call, refused;
 
 /* A store, each of whose tasks is tried, brought and observed, and given a turn. */
-static void host(void) {
+static int32_t host(void) {
     stm_program program = {0};
     stm_store store = {0};
     stm_worker worker = {0};
-    if (stm_read(file, length, &program) != STM_DONE || stm_open(&program, 1, 3, &store) != STM_DONE) exit(2);
+    int32_t code = stm_read(file, length, &program);
+    if (refused) return code;
+    if (code != STM_DONE || stm_open(&program, 1, 3, &store) != STM_DONE) exit(2);
     if (stm_open_worker(&store, &worker) == STM_DONE) {
         for (stm_job job; (job = stm_take_job(&store)).ticket >= 0;) {
             stm_observe(&worker, job.transaction, NULL, 0);
@@ -35,6 +37,7 @@ static void host(void) {
     stm_worker_free(&worker);
     stm_store_free(&store);
     stm_program_free(&program);
+    return STM_DONE;
 }
 
 static void *makes(void *unused) {
@@ -45,9 +48,9 @@ static void *makes(void *unused) {
     case 2: code = stm_world(file, length, (const uint8_t *)schedule, strlen(schedule), room, sizeof report, &wanted); break;
     case 3: code = stm_explore(file, length, 100, room, sizeof report, &wanted); break;
     case 4: code = stm_explore_to(file, length, 100, 1, room, sizeof report, &wanted); break;
-    default: host();
+    default: code = host();
     }
-    if (code < 0) fprintf(stderr, "call %d answers %d\n", call, (int)code), exit(2);
+    if (refused ? code != STM_FILE_NAME : code < 0) fprintf(stderr, "call %d answers %d\n", call, (int)code), exit(2);
     return unused;
 }
 
@@ -74,7 +77,8 @@ int main(int count, char **words) {
     length = fread(file, 1, sizeof file, input);
     fclose(input);
     room = malloc(sizeof report);
-    if (!room || stm_run_one(file, length, 0, report, sizeof report, &report_length) != STM_DONE) return 2;
+    refused = count > 2;
+    if (!room || (!refused && stm_run_one(file, length, 0, report, sizeof report, &report_length) != STM_DONE)) return 2;
     for (call = 0; call < CALLS; call++) {
         size_t bytes = used();
         if (bytes > most) most = bytes;
