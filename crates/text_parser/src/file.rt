@@ -466,8 +466,10 @@ pub fn longest_file(bytes: &[u8]) -> usize
     }
 }
 
-/// The tree of the bytes, or the first fault of length, bytes and shape, judged over all of them.
+/// The tree of the bytes, or the first fault of length, bytes and shape, judged over all of them. It is a call, so
+/// that who reads a file takes little stack where its statements nest.
 #[tactic(auto, unfolding(text_grammar::specs::Reading::tree_of))]
+#[inline(never)]
 pub fn tree_of(alloc: Global, bytes: &[u8]) -> Result<RawFile<'_>, ReadFault>
     ensures { Gives view_file result (tree_of bytes.now) }
 {
