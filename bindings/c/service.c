@@ -44,10 +44,11 @@ enum {
     ROUNDS = 16,
     /* A processor's line of memory. */
     LINE = 64,
-    /* The longest file, and the longest of form 3; in it the longest value; the longest run of one task, `(run NAME 1)`, with its newline; and the
-       longest argument, with the space before it. */
-    MOST_FILE = 1048576,
-    MOST_FILE_OF_FORM_3 = 67108864,
+    /* The longest file, which is of form 3; the line that begins it; an empty list of parameters, with the space before it; the longest value;
+       the longest run of one task, `(run NAME 1)`, with its newline; and the longest argument, with the space before it. */
+    MOST_FILE = 67108864,
+    FORM = 8,
+    LIST = 3,
     MOST_VALUE = 20,
     MOST_RUN = 41,
     MOST_ARGUMENT = 21
@@ -671,12 +672,6 @@ static size_t most_run(stm_service *s) {
     return MOST_RUN + (size_t)most * MOST_ARGUMENT;
 }
 
-/* The longest file that the program can have: it is of form 3 where it has a table, or a transaction with parameters. */
-static size_t most_file(stm_service *s) {
-    bool is_of_form_3 = stm_program_tables(&s->program) > 0 || most_run(s) > MOST_RUN;
-    return is_of_form_3 ? MOST_FILE_OF_FORM_3 : MOST_FILE;
-}
-
 /* How many bytes the values of a chapter's file can take more than as declared; that of a cell has a space before it. */
 static size_t most_values(stm_service *s) {
     size_t most = stm_program_variables(&s->program) * MOST_VALUE, tables = stm_program_tables(&s->program);
@@ -695,8 +690,9 @@ static int32_t most_tasks(stm_service *s, size_t *most) {
     code = stm_file(&as_declared, NULL, 0, &length);
     stm_store_free(&as_declared);
     if (code != STM_SHORT) return code;
-    length += most_values(s);
-    size_t longest = most_file(s), fit = length < longest ? (longest - length) / most_run(s) : 0;
+    /* A file that has become too long for form 1 or 2 is of form 3. */
+    length += most_values(s) + FORM + s->transactions * LIST;
+    size_t fit = length < MOST_FILE ? (MOST_FILE - length) / most_run(s) : 0;
     if (fit < *most) *most = fit;
     return STM_DONE;
 }
