@@ -36,13 +36,15 @@ const LONG: &[Long] = &[
 /// Whether the file is printed as a text of this length, and that as it stands.
 fn is_printed_long(
     alloc: Global,
-    before: &str,
+    before: &'static str,
     count: usize,
-    printed: &str,
+    printed: &'static str,
     length: usize,
 ) -> bool {
-    let input = repeated(alloc, &[(1, before), (count, "(skip)"), (1, ")0)")]);
-    let text = repeated(alloc, &[(1, printed), (count, " (skip)"), (1, ") 0)\n")]);
+    let parts = [(1, before), (count, "(skip)"), (1, ")0)")];
+    let input = repeated(alloc, &parts);
+    let parts = [(1, printed), (count, " (skip)"), (1, ") 0)\n")];
+    let text = repeated(alloc, &parts);
     match (input, text) {
         (Ok(input), Ok(text)) => {
             text.len() == length
