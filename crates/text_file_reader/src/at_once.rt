@@ -23,9 +23,9 @@ use crate::expressions::last_expression_at_once;
 use crate::statements::statement_at_once;
 use indexmap::IndexSet;
 use std::alloc::Global;
-use text_grammar::file::FileForm;
+use text_grammar::file::{FileForm, longest_file};
 use text_parser::file::{
-    INNER_DEPTH, end, heading_of, longest_file, pairs_of, parameters_of, runs_of, tables_of,
+    INNER_DEPTH, end, heading_of, pairs_of, parameters_of, runs_of, tables_of,
 };
 use text_resolver::names::{Scope, declare, param_names, var_names};
 use text_resolver::resolve::{Parts, owned, runs, variables};
