@@ -12,6 +12,7 @@
 enum { STALE_TRIES = 8, MOST = 32 };
 
 static pthread_mutex_t lock = PTHREAD_MUTEX_INITIALIZER;
+static stm_program program;
 static stm_store store;
 static size_t transactions;
 static int ended;
@@ -48,10 +49,13 @@ static void *work(void *argument) {
     }
 }
 
+/* Observes each transaction, with arguments of 0. */
 static void *watch(void *argument) {
+    static const int64_t zeros[8];
     while (!is_ended()) {
         for (size_t tx = 0; tx < transactions; tx++) {
-            if (stm_observe(argument, (uint32_t)tx, NULL, 0).code < 0) exit(8);
+            size_t parameters = (size_t)stm_program_parameters(&program, (uint32_t)tx);
+            if (stm_observe(argument, (uint32_t)tx, zeros, parameters).code < 0) exit(8);
         }
     }
     return NULL;
@@ -89,7 +93,6 @@ int main(int count, char **words) {
     size_t length = fread(file, 1, sizeof file, input), wanted = 0;
     fclose(input);
     int threads = atoi(words[2]);
-    stm_program program = {0};
     stm_worker observer = {0};
     if (stm_read(file, length, &program) != STM_DONE || stm_read(file, length, &program) != STM_FULL) return 2;
     transactions = stm_program_transactions(&program);
