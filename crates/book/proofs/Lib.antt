@@ -20,6 +20,7 @@ mod Storing
 mod Changed
 mod Raising
 mod Committing
+mod Noting
 mod Reporting
 mod Listed
 pub mod Accounts

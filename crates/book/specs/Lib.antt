@@ -9,6 +9,7 @@ pub mod Changed
 pub mod ChapterInside
 pub mod BookInside
 pub mod Turns
+pub mod Written
 pub mod GivingUp
 pub mod Submitted
 pub mod Table

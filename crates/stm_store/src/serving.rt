@@ -56,6 +56,11 @@ pub(crate) fn give_turn(
     ensures shape { IsSameShape book.old book.new }
 {
     book.law();
+    if let Some((outcome, number)) = book.turn_plainly(task) {
+        book.law();
+        book.keep_short(every, Serial::Committed(number));
+        return End::Entered(Entered { number, outcome });
+    }
     let how = book.serial_lent(attempt, task);
     book.law();
     match how {
@@ -166,7 +171,7 @@ pub(crate) fn give_turns(
         let Some(task) = book.take() else {
             return given;
         };
-        let how = book.serial_lent(attempt, task);
+        let how = book.serve(attempt, task);
         book.keep_short(every, how);
         given += 1;
     }
