@@ -21,6 +21,7 @@ mod Changed
 mod Raising
 mod Committing
 mod Noting
+mod PlainEnds
 mod Reporting
 mod Listed
 pub mod Accounts
