@@ -22,6 +22,7 @@ mod Raising
 mod Committing
 mod Noting
 mod PlainEnds
+mod PlainKept
 mod Reporting
 mod Listed
 pub mod Accounts

@@ -8,8 +8,8 @@ pub mod Openings
 pub mod Changed
 pub mod ChapterInside
 pub mod BookInside
-pub mod Turns
 pub mod Written
+pub mod Turns
 pub mod GivingUp
 pub mod Submitted
 pub mod Table

@@ -6,7 +6,7 @@ ghost use Rattle.txn_programs.specs.Listing.{IsCallable, call_program, task_tx};
 ghost use Rattle.txn_programs.specs.Meaning.{outcome, after};
 ghost use Rattle.txn_evaluator.specs.Notes.{undone, AreInside};
 ghost use Rattle.attempt.specs.Room.{TakesMemory};
-ghost use Rattle.book.specs.Turns.{CommitsAs, Served};
+ghost use Rattle.book.specs.Turns.{CommitsAs, Served, TaskEndsPlainly};
 ghost use Rattle.book.specs.View.{IsRunning};
 ghost use Rattle.book.specs.Written.{EndsPlainly};
 
@@ -17,7 +17,7 @@ use crate::written::Written;
 use attempt::Attempt;
 use std::alloc::AllocError;
 use std::mem;
-use txn::{Catalogue, Outcome, TaskId, TxId, evaluate};
+use txn::{Catalogue, Outcome, TaskId, TxId, VarId, evaluate};
 use txn_evaluator::notes::{Note, undo};
 
 /// How a transaction ends with these arguments on the values, where the values after it stand then, and the notes hold
@@ -99,6 +99,19 @@ impl<'a> Book<'a> {
         ensures committed { IfSome result (λ r. CommitsAs self.old task r.0 r.1 self.new) }
         ensures unchanged { IfNone result (self.new ≡ self.old) }
     {
+        let (how, writes) = self.end_here(task)?;
+        let number = self.commit(task, how, &writes);
+        self.keep(writes);
+        Some((how, number))
+    }
+
+    /// How a task ends by plain evaluation on the present values, and what it writes. `None` where it retries, or a
+    /// growth was refused.
+    fn end_here(&mut self, task: TaskId) -> Option<(Outcome, Vec<(VarId, i64)>)>
+        requires exists { task.0 < length self.old.tasks }
+        ensures same { self.new ≡ self.old }
+        ensures ends { IfSome result (λ r. TaskEndsPlainly self.old task r.0 r.1.items) }
+    {
         let chapter = &self.chapter;
         let tx = chapter.transaction(task);
         let arguments = chapter.arguments(task);
@@ -106,9 +119,14 @@ impl<'a> Book<'a> {
         let how = end_plainly(&mut self.written, chapter, tx, arguments, values)?;
         let alloc = *self.written.writes.allocator();
         let writes = mem::replace(&mut self.written.writes, Vec::new(alloc));
-        let number = self.commit(task, how, &writes);
+        Some((how, writes))
+    }
+
+    /// The room of what was written is kept for the next turn.
+    fn keep(&mut self, writes: Vec<(VarId, i64)>)
+        ensures { self.new ≡ self.old }
+    {
         self.written.writes = writes;
-        Some((how, number))
     }
 
     /// As `serial_lent`, where the outcome of a commit need not be told: where that can be, the turn is a plain one,

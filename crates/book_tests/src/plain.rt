@@ -31,7 +31,11 @@ const PAID: &[Step] = &[
     // A fault after a write leaves all as it was.
     Step::TurnsPlainly(TaskId(4), Some((Outcome::Thrown(Fault::Outside), 4))),
     Step::Shows(Look::Present(VarId(1), Some((100, 0)))),
-    Step::Shows(Look::Task(TaskId(4), Standing::Done(4), Some(Outcome::Thrown(Fault::Outside)))),
+    Step::Shows(Look::Task(
+        TaskId(4),
+        Standing::Done(4),
+        Some(Outcome::Thrown(Fault::Outside)),
+    )),
     Step::TurnsPlainly(TaskId(4), None),
     // What is left is ready, and the last cell is written twice.
     Step::Drains(0),

@@ -4,7 +4,7 @@ use Rattle.txn_programs.specs.Meaning.{outcome}
 use Rattle.book.specs.declared.task.Serial.TheVariants as serial
 use Rattle.stm_store.proofs.Entries.{enters_told, same_end}
 use Rattle.stm_store.proofs.Shapes.{entered_shape}
-use Rattle.stm_store.proofs.serving.give_turn.Goals as goal
+use Rattle.stm_store.proofs.serving.give_turn_by_attempt.Goals as goal
 
 pub told_by-told-requires : goal.told_by-told-requires
 told_by-told-requires c =
