@@ -32,4 +32,4 @@ pub record EndsPlainly (l : Listing) (tx : TxId) (arguments : List ℤ) (m : Sta
   pub ends : how ≢ Retries
   pub after_is : after (call_program l tx arguments) m ≡ with_changes m writes
   pub ascending : Ascending writes
-  pub known : AllKnown (length m) writes
+  pub known : AllKnown (length l.initial) writes

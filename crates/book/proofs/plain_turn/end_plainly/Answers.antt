@@ -17,5 +17,5 @@ returns-clause-ends c =
     let notes = c.execute_call-ended.new.notes.items in
     let ends : c.in-Ok.how ≢ Retries = search rules in
     let told : TellNoted notes c.deref.result.now c.list-listed.new.self.writes.items = on_ok_known c.list-listed.result (sym c.is_err.ensures.value ∙ c.if-is_err.false) c.list-listed.ensures.listed in
-    ends_plainly c.opened.result.now c.args.chapter.now.listing c.args.tx c.args.arguments.now c.args.values.now.items c.execute_call-ended.new.values.items c.in-Ok.how notes c.list-listed.new.self.writes.items c.opened.ensures.same run.outcome run.after run.undone run.sized
+    ends_plainly c.opened.result.now c.args.chapter.now.listing c.args.tx c.args.arguments.now c.args.values.now.items c.execute_call-ended.new.values.items c.in-Ok.how notes c.list-listed.new.self.writes.items c.opened.ensures.same run.outcome run.after run.undone run.sized c.requires.values
     (subst (λ (m : State). TellNoted notes m c.list-listed.new.self.writes.items) c.deref.ensures.value told) ends
