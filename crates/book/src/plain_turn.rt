@@ -103,7 +103,9 @@ impl<'a> Book<'a> {
         ensures committed { IfSome result (λ r. CommitsAs self.old task r.0 r.1 self.new) }
         ensures unchanged { IfNone result (self.new ≡ self.old) }
     {
-        let (how, writes) = self.end_here(task)?;
+        let Some((how, writes)) = self.end_here(task) else {
+            return None;
+        };
         let number = self.commit(task, how, &writes);
         self.keep(writes);
         Some((how, number))
@@ -120,7 +122,9 @@ impl<'a> Book<'a> {
         let tx = chapter.transaction(task);
         let arguments = chapter.arguments(task);
         let values = &mut self.present.values;
-        let how = end_plainly(&mut self.written, chapter, tx, arguments, values)?;
+        let Some(how) = end_plainly(&mut self.written, chapter, tx, arguments, values) else {
+            return None;
+        };
         let alloc = *self.written.writes.allocator();
         let writes = mem::replace(&mut self.written.writes, Vec::new(alloc));
         Some((how, writes))
