@@ -9,8 +9,8 @@ use Rattle.book.proofs.book.Book.end_here.Goals as goal
 pub end_plainly-requires-clause-few : goal.end_plainly-requires-clause-few
 end_plainly-requires-clause-few c = omega (arith, c.self.invariant.fits.values, c.self.invariant.fits.few_values)
 
-pub invariant_of-self-in_default : goal.invariant_of-self-in_default
-invariant_of-self-in_default c =
+pub invariant_of-self : goal.invariant_of-self
+invariant_of-self c =
     let s = c.self.inside in
     let p : Stored = record { number = s.present.number; values = c.end_plainly.new.values; versions = s.present.versions } in
     same_kept s p c.end_plainly.new.written refl c.end_plainly.ensures.same refl c.self.invariant
@@ -21,8 +21,8 @@ returns-in_default-clause-same c =
     let p : Stored = record { number = s.present.number; values = c.end_plainly.new.values; versions = s.present.versions } in
     same_view s p c.end_plainly.new.written refl c.end_plainly.ensures.same refl ∙ c.self.view_is
 
-pub invariant_of-self : goal.invariant_of-self
-invariant_of-self c =
+pub invariant_of-self-2 : goal.invariant_of-self-2
+invariant_of-self-2 c =
     let s = c.self.inside in
     let p : Stored = record { number = s.present.number; values = c.end_plainly.new.values; versions = s.present.versions } in
     same_kept s p _ refl c.end_plainly.ensures.same refl c.self.invariant
