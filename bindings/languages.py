@@ -9,12 +9,13 @@ HERE = os.path.dirname(os.path.abspath(__file__))
 WARN = ["-Wall", "-Wextra", "-Wpedantic", "-Wconversion", "-Wshadow", "-Werror"]
 COMPILERS = ("g++", "clang++")
 # The tests of stm.hpp.
-TESTS = ("service", "arguments")
+TESTS = ("service", "arguments", "tables")
 # How many minutes the simulations are run: many chapters.
 MINUTES = 2_000_000
 BANK = "4000 transfers, each paid or refused\nthe journals of 3 chapters are good\n"
 QUEUE = "2000 orders, each taken once\nthe journals of all chapters are good: 4000 entries\n"
-TRANSFERS = "2000 transfers, each paid or refused\nalice and bob have 1000\nthe journal is good\n"
+JOBS = "the first is job 10\n99 jobs are done\nthe journal is good\n"
+TRANSFERS = "4000 transfers, each paid or refused\nall accounts have 100000\nthe journal is good\n"
 CALLS = """pay: returned 40, entry 1
 pay: threw 60, entry 2
 get: waits with ticket 2
@@ -92,7 +93,7 @@ def python(case, run, library):
     words = [sys.executable, "-W", "error"]
     done = run(*words, "-m", "unittest", "discover", "-s", f"{HERE}/python/tests", env=there, timeout=400)
     case("the tests in Python", done.returncode == 0, told_by(done))
-    for name, wanted in (("bank", BANK), ("bounded_queue", QUEUE), ("transfers", TRANSFERS)):
+    for name, wanted in (("bank", BANK), ("bounded_queue", QUEUE), ("jobs", JOBS), ("transfers", TRANSFERS)):
         done = run(*words, f"{HERE}/examples/{name}.py", env=there, timeout=400)
         case(f"{name}.py", done.stdout.decode() == wanted, told_by(done))
     if run(sys.executable, "-m", "mypy", "--version", env=there).returncode:

@@ -37,6 +37,14 @@ def transactions(count):
     return "".join(f"(tx t{i} (skip) {i})\n" for i in range(count))
 
 
+def tables(count, length=1):
+    return "(stm 3)" + "".join(f"(table t{i} {length} {i})\n" for i in range(count))
+
+
+# A table of four cells, and a transaction that puts into one and tells another.
+CELLS = "(stm 3)(table a 4 7)(table b 1 9)(tx t (i v j) (put a i v) (at a j))"
+
+
 def standing(count):
     return "(stm 2)" + "".join(f"(always c{i} (le {i} {i}))\n" for i in range(count))
 
@@ -94,6 +102,45 @@ FILES = {
     "one argument fewer": ("(stm 3)(tx t (a b) (skip) 0)(run t 1 2)", NAME),
     "one argument more": ("(stm 3)(tx t (a b) (skip) 0)(run t 0 1 2 3)", NAME),
     "an argument of 20 digits": ("(stm 3)(tx t (a) (skip) a)(run t 1 99999999999999999999)", LIMIT),
+    "64 tables": (tables(64), "=" + EMPTY),
+    "65 tables": (tables(65), LIMIT),
+    "64 tables of 16,384 cells": (tables(64, 16384), "=" + EMPTY),
+    "64 tables of 16,385 cells": (tables(64, 16385), LIMIT),
+    "1,048,576 cells": ("(stm 3)(table a 1048576 7)", "=" + EMPTY),
+    "1,048,577 cells": ("(stm 3)(table a 1048577 7)", LIMIT),
+    "1,048,576 cells and one more": ("(stm 3)(table a 1048576 7)(table b 1 7)", LIMIT),
+    "the last of 1,048,576 cells": (
+        "(stm 3)(table a 1048576 7)(tx t (i) (put a i 9) (at a 0))(run t 1 1048575)(run t 1 1048576)",
+        "=base 0\nentry 1 0 t returned 7\nentry 2 1 t outside\nnow 2\na[1048575] 9 1\nend\n",
+    ),
+    "100,000 cells of their own numbers": (f"(stm 3)(table a 100000 {' '.join(map(str, range(100000)))})", "=" + EMPTY),
+    "a table of no cell": ("(stm 3)(table a 0 7)", LIMIT),
+    "a table of less than no cell": ("(stm 3)(table a -1 7)", LIMIT),
+    "a length of 20 digits": ("(stm 3)(table a 99999999999999999999 7)", LIMIT),
+    "a table without a number": ("(stm 3)(table a 1)", SHAPE),
+    "a number fewer than cells": ("(stm 3)(table a 3 7 8)", LIMIT),
+    "a number more than cells": ("(stm 3)(table a 3 7 8 9 10)", LIMIT),
+    "a table in form 2": ("(stm 2)(table a 1 7)", SHAPE),
+    "a table twice": ("(stm 3)(table a 1 7)(table a 1 7)", NAME),
+    "a table's name of 32 bytes": (f"(stm 3)(table {'a' * 32} 1 7)", "=" + EMPTY),
+    "a table's name of 33 bytes": (f"(stm 3)(table {'a' * 33} 1 7)", LIMIT),
+    "an unknown table": ("(stm 3)(table a 1 7)(tx t () (skip) (at b 0))", NAME),
+    "a variable for a table": ("(stm 3)(var x 1)(tx t () (skip) (sum x))", NAME),
+    "a sum of 999,998 cells": (
+        "(stm 3)(table a 999998 1)(tx t () (skip) (sum a))(run t 1)",
+        "=base 0\nentry 1 0 t returned 999998\nnow 1\nend\n",
+    ),
+    "a sum of 999,999 cells": ("(stm 3)(table a 999999 1)(tx t () (skip) (sum a))(run t 1)", LIMIT),
+    "the last cell": (CELLS + "(run t 1 3 8 3)", "=base 0\nentry 1 0 t returned 8\nnow 1\na[3] 8 1\nend\n"),
+    "a cell behind the last": (CELLS + "(run t 1 4 8 3)(run t 1 3 8 4)", "=base 0\nentry 1 0 t outside\nentry 2 1 t outside\nnow 2\nend\n"),
+    "a cell before the first": (CELLS + "(run t 1 -1 8 3)(run t 1 3 8 -1)", "=base 0\nentry 1 0 t outside\nentry 2 1 t outside\nnow 2\nend\n"),
+    "a cell of a number that has its low bits": (CELLS + "(run t 1 4294967296 8 3)", "=base 0\nentry 1 0 t outside\nnow 1\nend\n"),
+    "a sum that is too great": (
+        "(stm 3)(table a 3 9223372036854775807 1 -1)(tx t () (skip) (sum a))(tx m () (skip) (sub (max a) (min a)))(run t 1)(run m 1)",
+        "=base 0\nentry 1 0 t overflow\nentry 2 1 m overflow\nnow 2\nend\n",
+    ),
+    "a condition on all cells that is not true": ("(stm 3)(table a 300 1)(always c (eq (sum a) 299))", BROKEN),
+    "a condition on a cell that is none": ("(stm 3)(table a 300 1)(always c (eq (at a 300) 1))", BROKEN),
     "form 2 twice": ("(stm 2)(stm 2)", SHAPE),
     "a condition in form 1": ("(always c (eq 0 0))", SHAPE),
     "a condition behind a transaction": ("(stm 2)(tx t (skip) 0)(always c (eq 0 0))", SHAPE),
@@ -166,22 +213,26 @@ def try_file(trials, program, what, text, wanted):
     return ended
 
 
-def try_beginnings(trials, program):
-    """Each beginning of a file and of its report, and of a schedule."""
+def try_each_beginning(trials, program, text, report, wholes):
+    """Each beginning of a file, of which those of so many bytes are whole files, and of its report."""
     by = os.path.basename(program)
+    names = [trials.write(f"first-{n}", text[:n]) for n in range(len(text) + 1)]
+    ends = list(trials.pool.map(lambda name: run([program, "run", name, "--workers", "1"], trials.folder), names))
+    read = [n for n, it in enumerate(ends) if (it.status, it.err) == (0, b"")]
+    faults = [f"the first {n} bytes: {shown(it)}" for n, it in enumerate(ends) if n not in read and it[:3] != (2, b"", b"stm: file: F3 Shape\n")]
+    faults += [] if read == wholes else [f"read are the beginnings of {read}"]
+    trials.tell(f"{by} run, each beginning of a file", faults, f"of {len(ends)} the ones of {wholes} bytes are read, each other is F3")
+    trials.write("input", text)
+    names = [trials.write(f"first-{n}", report[:n]) for n in range(len(report))]
+    ends = list(trials.pool.map(lambda name: run([program, "check", "input", name], trials.folder), names))
+    faults = [f"the first {n} bytes: {shown(it)}" for n, it in enumerate(ends) if it[:3] != (1, b"bad 1\n", b"")]
+    trials.tell(f"{by} check, each beginning of a report", faults, f"all {len(ends)} are bad 1")
+
+
+def try_beginnings(trials, program):
     moves = RUNS["conditions that are broken"]
-    for text, report, wholes in (INCREMENTS, REPORTS[0], [0, 9, 37, 48]), (moves, BROKEN_REPORTS[0][0], [0, 7, 18, 27, 58, 79, 134, 155, 167, 179]):
-        names = [trials.write(f"first-{n}", text[:n]) for n in range(len(text) + 1)]
-        ends = list(trials.pool.map(lambda name: run([program, "run", name, "--workers", "1"], trials.folder), names))
-        read = [n for n, it in enumerate(ends) if (it.status, it.err) == (0, b"")]
-        faults = [f"the first {n} bytes: {shown(it)}" for n, it in enumerate(ends) if n not in read and it[:3] != (2, b"", b"stm: file: F3 Shape\n")]
-        faults += [] if read == wholes else [f"read are the beginnings of {read}"]
-        trials.tell(f"{by} run, each beginning of a file", faults, f"of {len(ends)} the ones of {wholes} bytes are read, each other is F3")
-        trials.write("input", text)
-        names = [trials.write(f"first-{n}", report[:n]) for n in range(len(report))]
-        ends = list(trials.pool.map(lambda name: run([program, "check", "input", name], trials.folder), names))
-        faults = [f"the first {n} bytes: {shown(it)}" for n, it in enumerate(ends) if it[:3] != (1, b"bad 1\n", b"")]
-        trials.tell(f"{by} check, each beginning of a report", faults, f"all {len(ends)} are bad 1")
+    try_each_beginning(trials, program, INCREMENTS, REPORTS[0], [0, 9, 37, 48])
+    try_each_beginning(trials, program, moves, BROKEN_REPORTS[0][0], [0, 7, 18, 27, 58, 79, 134, 155, 167, 179])
 
 
 def tampered(text, chance):
@@ -196,7 +247,7 @@ def tampered(text, chance):
         elif how == 1:
             bytes_[at:at] = bytes_[at:to]
         elif how == 2:
-            bytes_[at:at] = chance.choice([b"(", b")", b" ", b"\n", b";", b"-", b"0", b"9", b"(seq ", b"(retry)", b"99999999999999999999", b"end\n"])
+            bytes_[at:at] = chance.choice([b"(", b")", b" ", b"\n", b";", b"-", b"0", b"9", b"(seq ", b"(retry)", b"99999999999999999999", b"[", b"]", b"[0] 1 1\n", b"end\n"])
         elif how == 3:
             del bytes_[at:]
         else:

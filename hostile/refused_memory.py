@@ -22,6 +22,10 @@ FILES = {
     "a condition with a fault": "(stm 2)(var x 1)(always ok (le 0 (div 1 x)))(tx z (set x 0) x)(run z 1)",
     "twelve variables": "".join(f"(var v{i} 0)" for i in range(12))
     + "(tx t (seq" + "".join(f" (orelse (seq (set v{i} 1) (retry)) (set v{i} (add v{i} 1)))" for i in range(12)) + ") v0)(run t 2)",
+    # More cells than an attempt has room for are read, noted in a branch that retries, and written, and they wait for all.
+    "far cells": "(stm 3)(table t 600 0)(tx all () (seq (orelse (seq" + "".join(f" (put t {i} (add (at t {i}) 1))" for i in range(290, 310))
+    + " (retry)) (put t 44 1))" + "".join(f" (put t {i} (add (at t {i}) 1))" for i in range(290, 310)) + ") (at t 309))"
+    + "(tx wait () (if (lt (sum t) 20) (retry) (skip)) (at t 44))(run wait 2)(run all 1)",
     # They only read, in some 300 instructions each, and keep more variables than a log has room for.
     "light tasks": "".join(f"(var v{i} 0)" for i in range(12))
     + "(tx look (seq (repeat 40 (if (lt v0 0) (throw 1) (skip))) (orelse (if (eq v1 0) (retry) (skip)) (skip))) "
@@ -74,6 +78,7 @@ SCHEDULES = {
         FILES["conditions that are broken"],
         "begin 0\nread 0 a\nread 0 b\nask 0\nword\nbegin 2\nread 2 b\nword\nword\nword\nword\nword\nword\ncommit 2\nbegin 1\nread 1 a\nread 1 b\ncommit 1\n",
     ),
+    "far cells": (FILES["far cells"], "begin 2\nbegin 0\n" + "".join(f"read 2 t[{i}]\n" for i in range(290, 310)) + "read 0 t[0]\nread 0 t[1]\ncommit 2\ncommit 0\n"),
     "branches that retry": (FILES["twelve variables"], "begin 0\n" + "".join(f"read 0 v{i}\n" for i in range(12)) + "commit 0\n"),
 }
 

@@ -17,9 +17,9 @@ SOURCES = ("src", "specs", "proofs")
 # Where the version of all of it stands.
 VERSION_SOURCE, NUMBER = "crates/command_line/src/words.rt", r"\d+\.\d+\.\d+"
 
-# The parts of the library that are in C, the headers that a host includes, each with its folder of bindings/, and what is
-# made of all of it.
-PARTS, SONAME = ("heap.c", "service.c", "words.c"), "libstm.so.0"
+# The parts of the library that are in C, and what they include of their own; the headers that a host includes, each with
+# its folder of bindings/; and what is made of all of it.
+PARTS, INCLUDED, SONAME = ("heap.c", "service.c", "words.c"), ("chapter_room.h",), "libstm.so.0"
 HEADERS = {"service.h": "c", "stm.h": "c", "stm.hpp": "cpp"}
 LIBRARY_FILES = ("libstm.a", SONAME, *HEADERS, "stm_version.h")
 
@@ -51,7 +51,7 @@ class Product:
 
 def library_in(folder):
     """The library for hosts, in this folder."""
-    places = {**dict.fromkeys(PARTS, "c"), **HEADERS}
+    places = {**dict.fromkeys((*PARTS, *INCLUDED), "c"), **HEADERS}
     more = [os.path.join(ROOT, "bindings", place, name) for name, place in places.items()]
     made = [os.path.join(folder, name) for name in LIBRARY_FILES]
     return Product("stm_c", os.path.join(folder, "stamp"), made, [*more, os.path.join(ROOT, VERSION_SOURCE)])

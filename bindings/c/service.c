@@ -14,6 +14,7 @@
 #ifndef _POSIX_C_SOURCE
 #define _POSIX_C_SOURCE 200809L
 #endif
+#include "chapter_room.h"
 #include "service.h"
 
 #include <errno.h>
@@ -31,7 +32,6 @@ struct block rattle_alloc(size_t size, size_t align);
 void rattle_dealloc(void *old);
 
 enum {
-    MOST_TASKS = 65536,
     MOST_OBSERVERS = 32,
     OBSERVERS = 4,
     /* How often a transaction is observed or tried beside the commits, before it is evaluated under the lock. */
@@ -43,14 +43,7 @@ enum {
     /* For how many rounds a thread makes the calls of others. */
     ROUNDS = 16,
     /* A processor's line of memory. */
-    LINE = 64,
-    /* The longest file, and the longest of form 3; in it the longest value; the longest run of one task, `(run NAME 1)`, with its newline; and the
-       longest argument, with the space before it. */
-    MOST_FILE = 1048576,
-    MOST_FILE_OF_FORM_3 = 67108864,
-    MOST_VALUE = 20,
-    MOST_RUN = 41,
-    MOST_ARGUMENT = 21
+    LINE = 64
 };
 
 typedef stm_turned makes(stm_store *, stm_lender *, uint32_t, const int64_t *, size_t);
@@ -632,6 +625,26 @@ int32_t stm_service_value(stm_service *s, const uint8_t *name, size_t name_lengt
     return code;
 }
 
+int64_t stm_service_table(const stm_service *s, const uint8_t *name, size_t name_length) {
+    return stm_program_table(&s->program, name, name_length);
+}
+
+int64_t stm_service_table_length(const stm_service *s, uint32_t table) { return stm_program_cells(&s->program, table); }
+
+int32_t stm_service_cell(stm_service *s, uint32_t table, uint32_t index, int64_t *value, uint64_t *version) {
+    lock(s);
+    int32_t code = stm_cell(&s->store, table, index, value, version);
+    unlock_and_leave(s);
+    return code;
+}
+
+int64_t stm_service_cells(stm_service *s, uint32_t table, uint32_t from, int64_t *values, size_t count) {
+    lock(s);
+    int64_t copied = stm_cells(&s->store, table, from, values, count);
+    unlock_and_leave(s);
+    return copied;
+}
+
 static uint64_t number_of(stm_service *s, uint64_t (*of)(stm_store *)) {
     lock(s);
     uint64_t number = of(&s->store);
@@ -661,49 +674,9 @@ int32_t stm_service_file(stm_service *s, uint8_t *room, size_t room_length, size
 
 /* ---- Its begin ---- */
 
-/* The longest run of one task that the program can have. */
-static size_t most_run(stm_service *s) {
-    int64_t most = 0;
-    for (size_t i = 0; i < s->transactions; i++) {
-        int64_t parameters = stm_program_parameters(&s->program, (uint32_t)i);
-        if (parameters > most) most = parameters;
-    }
-    return MOST_RUN + (size_t)most * MOST_ARGUMENT;
-}
-
-/* The longest file that the program can have: it is of form 3 where it has a table, or a transaction with parameters. */
-static size_t most_file(stm_service *s) {
-    bool is_of_form_3 = stm_program_tables(&s->program) > 0 || most_run(s) > MOST_RUN;
-    return is_of_form_3 ? MOST_FILE_OF_FORM_3 : MOST_FILE;
-}
-
-/* How many bytes the values of a chapter's file can take more than as declared; that of a cell has a space before it. */
-static size_t most_values(stm_service *s) {
-    size_t most = stm_program_variables(&s->program) * MOST_VALUE, tables = stm_program_tables(&s->program);
-    for (size_t i = 0; i < tables; i++) most += (size_t)stm_program_cells(&s->program, (uint32_t)i) * (MOST_VALUE + 1);
-    return most;
-}
-
-/* How many tasks a chapter may have: where the host keeps the chapters, no more than fit into a file. */
-static int32_t most_tasks(stm_service *s, size_t *most) {
-    *most = MOST_TASKS;
-    if (!s->options.ended) return STM_DONE;
-    stm_store as_declared = {0};
-    int32_t code = stm_open(&s->program, 0, 0, &as_declared);
-    if (code != STM_DONE) return code;
-    size_t length = 0;
-    code = stm_file(&as_declared, NULL, 0, &length);
-    stm_store_free(&as_declared);
-    if (code != STM_SHORT) return code;
-    length += most_values(s);
-    size_t longest = most_file(s), fit = length < longest ? (longest - length) / most_run(s) : 0;
-    if (fit < *most) *most = fit;
-    return STM_DONE;
-}
-
 static int32_t open_store(stm_service *s) {
     size_t most, own = stm_program_tasks(&s->program), room = s->options.room;
-    int32_t code = most_tasks(s, &most);
+    int32_t code = most_tasks(&s->program, s->options.ended != NULL, &most);
     if (code != STM_DONE) return code;
     if (own > most || room > most - own) return STM_NO_ROOM;
     if (room == 0) room = most - own;

@@ -78,6 +78,17 @@ stm_answer stm_service_observe(stm_service *service, uint32_t transaction, const
 int32_t stm_service_value(stm_service *service, const uint8_t *name, size_t name_length, int64_t *value,
                           uint64_t *version);
 
+/* The number of the table of this name, or STM_UNKNOWN; and how many cells it has, numbered from 0, or STM_UNKNOWN. */
+int64_t stm_service_table(const stm_service *service, const uint8_t *name, size_t name_length);
+int64_t stm_service_table_length(const stm_service *service, uint32_t table);
+
+/* As `stm_service_value`, of the cell `index` of a table. */
+int32_t stm_service_cell(stm_service *service, uint32_t table, uint32_t index, int64_t *value, uint64_t *version);
+
+/* Copies the present values of a table's cells from the number `from` on into the room, which is for `count` numbers, as
+ * `stm_cells` does: how many, or STM_UNKNOWN. All are of one state. */
+int64_t stm_service_cells(stm_service *service, uint32_t table, uint32_t from, int64_t *values, size_t count);
+
 /* How many entries there were in all chapters; and the number of the chapter, from 0 on. */
 uint64_t stm_service_entered(stm_service *service);
 uint64_t stm_service_chapter(stm_service *service);

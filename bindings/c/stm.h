@@ -1,4 +1,4 @@
-/* stm: transactions over named variables, for hosts in C and C++.
+/* stm: transactions over named variables and tables, for hosts in C and C++.
  *
  * Link with libstm.a or libstm.so, which `./stm --library` builds; heap.c and words.c are inside both.
  *
@@ -86,7 +86,7 @@ enum stm_code {
        another number of parameters than it is given arguments; or (`finish`) the store has no such task, or makes another
        call as it. */
     STM_UNKNOWN = -9,
-    /* `open`: more than 32 workers. `hire`: no worker is left. `hire`, `lend`: the program has no transaction. */
+    /* `open`: more than 32 workers. `open_worker`: none is left. It and `open_lender`: there is no transaction. */
     STM_NO_WORKER = -10,
     /* The worker has no ended attempt to bring. */
     STM_NOT_ENDED = -11,
@@ -155,7 +155,7 @@ const char *stm_word(int32_t code);
 
 /* Whole files. `wanted` is how long the text is; with STM_SHORT, how long the room has to be; 0 with any other
  * answer, for there is no text. The room is written only where there is one. No report is longer than 8388608
- * bytes. */
+ * bytes, and 160 more for each cell of the file's tables. */
 
 /* Runs all tasks of the file on the calling thread, and copies the report into the room. A journal of
  * `checkpoint` entries is followed by a checkpoint; 0: never. */
@@ -250,7 +250,7 @@ int32_t stm_cell(stm_store *store, uint32_t table, uint32_t index, int64_t *valu
  * with nothing written. Under the lock. */
 int64_t stm_cells(stm_store *store, uint32_t table, uint32_t from, int64_t *values, size_t count);
 
-/* A worker of the store, for one thread; STM_NO_WORKER where all were hired, or there is no transaction.
+/* A worker of the store, for one thread; STM_NO_WORKER where all were opened, or there is no transaction.
  * Where it answers STM_MEMORY, the store can make one worker less. Under the lock. */
 int32_t stm_open_worker(stm_store *store, stm_worker *out);
 

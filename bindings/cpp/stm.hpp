@@ -29,6 +29,7 @@
 #include <string>
 #include <string_view>
 #include <utility>
+#include <vector>
 
 namespace stm {
 
@@ -267,15 +268,12 @@ public:
 
     /// The number of a transaction. A call by its number finds it sooner than one by its name.
     std::optional<std::uint32_t> transaction(std::string_view name) const noexcept {
-        if (!held_) return std::nullopt;
-        std::int64_t number = stm_service_transaction(held_->at, detail::bytes(name), name.size());
-        return number < 0 ? std::nullopt : std::optional<std::uint32_t>(static_cast<std::uint32_t>(number));
+        return counted<std::uint32_t>(stm_service_transaction, detail::bytes(name), name.size());
     }
 
     /// How many parameters a transaction has, at most 8.
     std::optional<std::size_t> parameters(std::uint32_t transaction) const noexcept {
-        std::int64_t count = held_ ? stm_service_parameters(held_->at, transaction) : std::int64_t{STM_EMPTY};
-        return count < 0 ? std::nullopt : std::optional<std::size_t>(static_cast<std::size_t>(count));
+        return counted<std::size_t>(stm_service_parameters, transaction);
     }
 
     /// Runs the transaction as one atomic step. Where it retries the thread waits until a commit changed what it read,
@@ -327,6 +325,34 @@ public:
         return code == STM_DONE ? std::optional<present>(told) : std::nullopt;
     }
 
+    /// The number of a table, and how many cells it has, numbered from 0.
+    std::optional<std::uint32_t> table(std::string_view name) const noexcept {
+        return counted<std::uint32_t>(stm_service_table, detail::bytes(name), name.size());
+    }
+    std::optional<std::size_t> table_length(std::uint32_t table) const noexcept {
+        return counted<std::size_t>(stm_service_table_length, table);
+    }
+
+    /// As `value`, of a cell by the number of its table and its own.
+    std::optional<present> cell(std::uint32_t table, std::uint32_t index) const noexcept {
+        present told = {0, 0};
+        if (!held_) return std::nullopt;
+        auto code = stm_service_cell(held_->at, table, index, &told.value, &told.version);
+        return code == STM_DONE ? std::optional<present>(told) : std::nullopt;
+    }
+
+    /// The present values of a table's cells from the number `from` on, all of one state: so many, or fewer where the
+    /// table ends before.
+    answer<std::vector<std::int64_t>> cells(std::uint32_t table, std::uint32_t from = 0,
+                                            std::size_t count = std::numeric_limits<std::size_t>::max()) const {
+        using values = std::vector<std::int64_t>;
+        auto length = table_length(table);
+        if (!length) return answer<values>::none(held_ ? STM_UNKNOWN : STM_EMPTY);
+        values room(std::min(count, *length - std::min<std::size_t>(from, *length)));
+        stm_service_cells(held_->at, table, from, room.data(), room.size());
+        return answer<values>(std::move(room));
+    }
+
     /// The number of the chapter, from 0 on, and how many entries there were in all chapters.
     std::uint64_t chapter() const noexcept { return held_ ? stm_service_chapter(held_->at) : 0; }
     std::uint64_t entered() const noexcept { return held_ ? stm_service_entered(held_->at) : 0; }
@@ -355,6 +381,13 @@ private:
     explicit service(std::unique_ptr<held> made) noexcept : held_(std::move(made)) {}
 
     static stm_answer none(std::int32_t code) noexcept { return {code, 0, 0}; }
+
+    /// The number that a call answers, where it is not below 0.
+    template <class Number, class Call, class... Given>
+    std::optional<Number> counted(Call call, Given... given) const noexcept {
+        std::int64_t number = held_ ? call(held_->at, given...) : std::int64_t{STM_EMPTY};
+        return number < 0 ? std::nullopt : std::optional<Number>(static_cast<Number>(number));
+    }
 
     template <class Call> outcome by_name(std::string_view name, Call call) const noexcept {
         auto number = transaction(name);

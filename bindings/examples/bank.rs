@@ -1,42 +1,36 @@
-//! A bank: four threads transfer money through one service, and an auditor looks on beside them. Two standing
-//! conditions hold in every state. In the end the journals of all chapters are judged, and say what the threads were
-//! answered.
+//! A bank of 1,000 accounts in a table: four threads transfer money through one service, and an auditor looks on beside
+//! them. In the end the journals of all chapters are judged, and say what the threads were answered.
 
 use std::error::Error;
 use std::sync::atomic::{AtomicBool, Ordering};
 use std::sync::mpsc;
-use stm::{and, eq, int, le, lt, seq, set, skip, sum, throw, var, when};
-use stm::{Declare, Fault, Service, ServiceOptions, Var, Verdict};
+use stm::{lt, param, seq, skip, throw, when, Declare, Fault, Service, ServiceOptions, Verdict};
 
-const ACCOUNTS: usize = 8;
+const ACCOUNTS: usize = 1000;
 const EACH: i64 = 100;
 const THREADS: usize = 4;
-const TRANSFERS: u32 = 1000;
+const TRANSFERS: usize = 1000;
 
-/// A transfer from each account; its payer has the amount, or it throws what is missing.
+/// A payer has the amount, or the transfer throws what is missing.
 fn declared() -> Declare {
     let mut bank = Declare::new();
-    let accounts: Vec<Var> = (0..ACCOUNTS).map(|i| bank.var(&format!("account{i}"), EACH)).collect();
-    bank.always("total", eq(sum(&accounts), ACCOUNTS as i64 * EACH));
-    let solvent = accounts[1..].iter().fold(le(0, &accounts[0]), |all, one| and(all, le(0, one)));
-    bank.always("solvent", solvent);
-    for (from, payer) in accounts.iter().enumerate() {
-        let (payee, amount) = (&accounts[(from + 3) % ACCOUNTS], 7 + from as i64);
-        let pay = seq([set(payer, var(payer) - amount), set(payee, var(payee) + amount)]);
-        let missing = throw(int(amount) - var(payer));
-        bank.tx(&format!("transfer{from}"), when(lt(payer, amount), missing, pay), payer);
-    }
-    bank.tx("audit", skip(), sum(&accounts));
+    let acct = bank.table("acct", ACCOUNTS, EACH);
+    bank.tx_with("pay", ["from", "to", "n"], |[from, to, n]| {
+        let missing = throw(param(&n) - acct.at(&from));
+        let paid = seq([acct.put(&from, acct.at(&from) - &n), acct.put(&to, acct.at(&to) + &n)]);
+        (when(lt(acct.at(&from), &n), missing, paid), acct.at(&from))
+    });
+    bank.tx("audit", skip(), acct.sum());
     bank
 }
 
-/// Transfers from one account after the other: how many were paid.
+/// Transfers between all accounts: how many were paid.
 fn teller(bank: &Service, first: usize) -> Result<usize, Fault> {
+    let pay = bank.transaction("pay").expect("it is declared");
     let mut paid = 0;
-    for turn in 0..TRANSFERS as usize {
-        let from = (first + turn) % ACCOUNTS;
-        let transfer = bank.transaction(&format!("transfer{from}")).expect("it is declared");
-        match bank.atomically(transfer, &[]) {
+    for turn in first..first + TRANSFERS {
+        let [from, to, n] = [turn * 7 % ACCOUNTS, turn * 13 % ACCOUNTS, turn % 150].map(|one| one as i64);
+        match bank.atomically(pay, &[from, to, n]) {
             Ok(_left) => paid += 1,
             Err(Fault::Thrown(missing)) => assert!(missing > 0),
             Err(fault) => return Err(fault),
@@ -55,7 +49,8 @@ fn main() -> Result<(), Box<dyn Error>> {
     let is_open = AtomicBool::new(true);
     let paid: Result<Vec<usize>, Fault> = std::thread::scope(|scope| {
         let bank = &bank;
-        let tellers: Vec<_> = (0..THREADS).map(|first| scope.spawn(move || teller(bank, first))).collect();
+        let tellers: Vec<_> =
+            (0..THREADS).map(|i| scope.spawn(move || teller(bank, i * ACCOUNTS / THREADS))).collect();
         scope.spawn(|| {
             while is_open.load(Ordering::SeqCst) {
                 assert_eq!(bank.observe(audit, &[]), Ok(ACCOUNTS as i64 * EACH));

@@ -1,5 +1,6 @@
-// A bounded queue: producers wait while it is full, consumers while it is empty. Orders are taken as they were put,
-// each once. In the end the journals of all chapters are judged.
+// A bounded queue in a table: producers wait while it is full, consumers while it is empty. Each order is taken once, and
+// those of a producer as it put them. In the end the journals of all chapters are judged.
+#include <cstdint>
 #include <cstdio>
 #include <cstdlib>
 #include <string>
@@ -9,16 +10,16 @@
 
 #include "stm.hpp"
 
-static const char QUEUE[] = R"((stm 2)
-(var made 0) (var length 0) (var first 0) (var second 0) (var third 0) (var out 0)
-(always bounded (and (le 0 length) (le length 3)))
-(tx put (if (eq length 3) (retry) (seq
-    (set made (add made 1))
-    (if (eq length 0) (set first made) (if (eq length 1) (set second made) (set third made)))
-    (set length (add length 1)))) made)
-(tx get (if (eq length 0) (retry) (seq
-    (set out first) (set first second) (set second third)
-    (set length (sub length 1)))) out))";
+static const char QUEUE[] = R"((stm 3)
+(var taken 0) (var made 0) (table place 64 0)
+(always bounded (and (le taken made) (le (sub made taken) 64)))
+(tx put (order)
+    (seq (if (eq (sub made taken) 64) (retry) (skip))
+         (put place (rem made 64) order) (set made (add made 1)))
+    made)
+(tx get ()
+    (seq (if (eq made taken) (retry) (skip)) (set taken (add taken 1)))
+    (at place (rem (sub taken 1) 64))))";
 
 enum { PRODUCERS = 2, CONSUMERS = 2, EACH = 1000, ROOM = 1500 };
 
@@ -28,15 +29,18 @@ static void holds(bool so, const char *what) {
     std::exit(1);
 }
 
-static void produce(stm::service &queue) {
-    for (int i = 0; i < EACH; i++) queue.atomically("put").value();
+static void produce(stm::service &queue, std::int64_t first) {
+    for (std::int64_t order = first; order < first + EACH; order++) queue.atomically("put", {order}).value();
 }
 
-/// The numbers that it takes, which grow.
+/// What it takes, of each producer: its orders grow.
 static void consume(stm::service &queue, std::vector<bool> &taken) {
-    for (long long last = 0, order, i = 0; i < EACH; i++, last = order) {
-        order = queue.atomically("get").value();
-        holds(order > last, "orders are taken as they were put");
+    std::vector<std::int64_t> last(PRODUCERS, -1);
+    for (int i = 0; i < EACH; i++) {
+        std::int64_t order = queue.atomically("get").value();
+        std::int64_t &before = last[static_cast<std::size_t>(order / EACH)];
+        holds(order > before, "orders are taken as they were put");
+        before = order;
         taken[static_cast<std::size_t>(order)] = true;
     }
 }
@@ -51,13 +55,13 @@ int main() {
     };
     stm::service queue = stm::service::open(QUEUE, options).value();
 
-    std::vector<std::vector<bool>> taken(CONSUMERS, std::vector<bool>(PRODUCERS * EACH + 1));
+    std::vector<std::vector<bool>> taken(CONSUMERS, std::vector<bool>(PRODUCERS * EACH));
     std::vector<std::thread> threads;
-    for (int i = 0; i < PRODUCERS; i++) threads.emplace_back([&] { produce(queue); });
+    for (int i = 0; i < PRODUCERS; i++) threads.emplace_back([&queue, i] { produce(queue, i * EACH); });
     for (auto &own : taken) threads.emplace_back([&] { consume(queue, own); });
     for (auto &thread : threads) thread.join();
 
-    for (std::size_t order = 1; order <= PRODUCERS * EACH; order++) {
+    for (std::size_t order = 0; order < PRODUCERS * EACH; order++) {
         holds(taken[0][order] != taken[1][order], "each order is taken once");
     }
     queue.close();

@@ -64,7 +64,7 @@ static void run(stm::service &service, long minutes) {
 }
 
 int main(int count, char **words) {
-    const long minutes = count > 1 ? std::atol(words[1]) : 2'000'000;
+    const long minutes = count > 1 ? std::atol(words[1]) : 10'000'000;
     stm::options options;
     // A chapter whose journal is not good is not left: then a call finds no room, and the simulation ends.
     options.on_chapter = [](std::string_view file, std::string_view report) { return bool(stm::check(file, report)); };

@@ -6,7 +6,7 @@ use stm::{
     and, eq, le, lt, rem, seq, set, skip, var, when, Declare, Fault, Service, ServiceOptions, Verdict,
 };
 
-const MINUTES: u64 = 2_000_000;
+const MINUTES: u64 = 10_000_000;
 /// In so many parts of the time memory is looked at. A thread that judges its first journal takes room of its own, so
 /// some parts may see it grow, but not all.
 const PARTS: u64 = 5;

@@ -1,5 +1,5 @@
-/* A bank whose transactions have parameters: two tellers pay amounts from one account to the other and back, each as many
- * as it likes. A standing condition holds in every state. In the end the journal is judged. */
+/* A bank of 1,000 accounts in a table: four tellers pay amounts from account to account, and meanwhile audits look at all
+ * accounts of one moment. In the end the journal is judged. */
 #include "service.h"
 
 #include <pthread.h>
@@ -9,13 +9,15 @@
 
 static const char BANK[] =
     "(stm 3)"
-    "(var alice 500) (var bob 500)"
-    "(always solvent (and (le 0 alice) (le 0 bob)))"
-    "(tx pay (n) (if (lt alice n) (throw (sub n alice)) (seq (set alice (sub alice n)) (set bob (add bob n)))) alice)"
-    "(tx repay (n) (if (lt bob n) (throw (sub n bob)) (seq (set bob (sub bob n)) (set alice (add alice n)))) bob)"
-    "(tx sum () (skip) (add alice bob))";
+    "(table acct 1000 100)"
+    "(tx pay (from to n)"
+    "    (if (lt (at acct from) n)"
+    "        (throw (sub n (at acct from)))"
+    "        (seq (put acct from (sub (at acct from) n)) (put acct to (add (at acct to) n))))"
+    "    (at acct from))"
+    "(tx audit () (skip) (sum acct))";
 
-enum { EACH = 1000 };
+enum { ACCOUNTS = 1000, EACH = 100, TELLERS = 4, TRANSFERS = 1000 };
 
 static stm_service *bank;
 
@@ -29,25 +31,31 @@ static void holds(int so, const char *what) {
     exit(1);
 }
 
-/* Transfers of all amounts from 1 to EACH: each is paid, or throws what is missing. */
-static void *teller(void *name) {
-    uint32_t transfer = transaction(name);
-    for (int64_t amount = 1; amount <= EACH; amount++) {
-        stm_answer answer = stm_atomically(bank, transfer, &amount, 1);
-        holds(answer.code == STM_DONE || (answer.code == STM_THROWN && answer.value > 0), "paid or refused");
+/* Each transfer is paid, or throws what is missing. */
+static void *teller(void *first) {
+    uint32_t pay = transaction("pay");
+    for (int64_t turn = *(int64_t *)first, i = 0; i < TRANSFERS; turn++, i++) {
+        const int64_t arguments[] = {turn * 7 % ACCOUNTS, turn * 13 % ACCOUNTS, turn % 150};
+        stm_answer left = stm_atomically(bank, pay, arguments, 3);
+        holds(left.code == STM_DONE || (left.code == STM_THROWN && left.value > 0), "paid or refused");
     }
     return NULL;
 }
 
+static int64_t audit(void) { return stm_service_observe(bank, transaction("audit"), NULL, 0).value; }
+
 int main(void) {
     holds(stm_service_open((const uint8_t *)BANK, strlen(BANK), NULL, &bank) == STM_DONE, "a bank is opened");
-    pthread_t tellers[2];
-    holds(pthread_create(&tellers[0], NULL, teller, "pay") == 0, "a teller begins");
-    holds(pthread_create(&tellers[1], NULL, teller, "repay") == 0, "a teller begins");
-    for (int i = 0; i < 2; i++) pthread_join(tellers[i], NULL);
+    pthread_t tellers[TELLERS];
+    int64_t first[TELLERS];
+    for (int i = 0; i < TELLERS; i++) {
+        first[i] = i * ACCOUNTS / TELLERS;
+        holds(pthread_create(&tellers[i], NULL, teller, &first[i]) == 0, "a teller begins");
+    }
+    while (stm_service_entered(bank) < TELLERS * TRANSFERS) holds(audit() == ACCOUNTS * EACH, "no money is lost");
+    for (int i = 0; i < TELLERS; i++) pthread_join(tellers[i], NULL);
     printf("%llu transfers, each paid or refused\n", (unsigned long long)stm_service_entered(bank));
-    printf("alice and bob have %lld\n", (long long)stm_service_observe(bank, transaction("sum"), NULL, 0).value);
-    holds(stm_atomically(bank, transaction("pay"), NULL, 0).code == STM_UNKNOWN, "a payment has an amount");
+    printf("all accounts have %lld\n", (long long)audit());
 
     static uint8_t file[1 << 20], report[1 << 20];
     size_t file_length, report_length;

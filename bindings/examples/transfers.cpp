@@ -1,21 +1,23 @@
-// A bank whose transactions have parameters: two tellers pay amounts from one account to the other and back, each as many
-// as it likes. A standing condition holds in every state. In the end the journal is judged.
+// A bank of 1,000 accounts in a table: four tellers pay amounts from account to account, and meanwhile audits look at all
+// accounts of one moment. In the end the journal is judged.
 #include <cstdint>
 #include <cstdio>
 #include <cstdlib>
-#include <string_view>
 #include <thread>
+#include <vector>
 
 #include "stm.hpp"
 
 static const char BANK[] = R"((stm 3)
-(var alice 500) (var bob 500)
-(always solvent (and (le 0 alice) (le 0 bob)))
-(tx pay (n) (if (lt alice n) (throw (sub n alice)) (seq (set alice (sub alice n)) (set bob (add bob n)))) alice)
-(tx repay (n) (if (lt bob n) (throw (sub n bob)) (seq (set bob (sub bob n)) (set alice (add alice n)))) bob)
-(tx sum () (skip) (add alice bob)))";
+(table acct 1000 100)
+(tx pay (from to n)
+    (if (lt (at acct from) n)
+        (throw (sub n (at acct from)))
+        (seq (put acct from (sub (at acct from) n)) (put acct to (add (at acct to) n))))
+    (at acct from))
+(tx audit () (skip) (sum acct)))";
 
-enum { EACH = 1000 };
+enum { ACCOUNTS = 1000, EACH = 100, TELLERS = 4, TRANSFERS = 1000 };
 
 static void holds(bool so, const char *what) {
     if (so) return;
@@ -23,23 +25,26 @@ static void holds(bool so, const char *what) {
     std::exit(1);
 }
 
-/// Transfers of all amounts from 1 to EACH: each is paid, or throws what is missing.
-static void teller(stm::service &bank, std::string_view name) {
-    auto transfer = bank.transaction(name).value();
-    for (std::int64_t amount = 1; amount <= EACH; amount++) {
-        stm::outcome paid = bank.atomically(transfer, {amount});
-        holds(paid || paid.thrown() > 0, "paid or refused");
+/// Each transfer is paid, or throws what is missing.
+static void teller(stm::service &bank, std::int64_t first) {
+    auto pay = bank.transaction("pay").value();
+    for (std::int64_t turn = first; turn < first + TRANSFERS; turn++) {
+        stm::outcome left = bank.atomically(pay, {turn * 7 % ACCOUNTS, turn * 13 % ACCOUNTS, turn % 150});
+        holds(left || left.thrown() > 0, "paid or refused");
     }
 }
 
 int main() {
     stm::service bank = stm::service::open(BANK).value();
-    std::thread pays([&] { teller(bank, "pay"); }), repays([&] { teller(bank, "repay"); });
-    pays.join();
-    repays.join();
-    std::printf("%llu transfers, each paid or refused\n", (unsigned long long)bank.entered());
-    std::printf("alice and bob have %lld\n", (long long)bank.observe("sum").value());
-    holds(bank.atomically("pay").code() == STM_UNKNOWN, "a payment has an amount");
+    std::vector<std::thread> tellers;
+    for (int i = 0; i < TELLERS; i++) tellers.emplace_back([&bank, i] { teller(bank, i * ACCOUNTS / TELLERS); });
+    while (bank.entered() < TELLERS * TRANSFERS) {
+        holds(bank.observe("audit").value() == ACCOUNTS * EACH, "no money is lost");
+    }
+    for (auto &teller : tellers) teller.join();
+    std::printf("%llu transfers, each paid or refused\n", static_cast<unsigned long long>(bank.entered()));
+    std::printf("all accounts have %lld\n", static_cast<long long>(bank.observe("audit").value()));
+    for (std::int64_t balance : bank.cells(bank.table("acct").value()).value()) holds(balance >= 0, "none owes");
     bank.close();
     holds(bool(stm::check(bank.file().value(), bank.report().value())), "the journal is good");
     std::printf("the journal is good\n");

@@ -1,34 +1,31 @@
-//! A bank whose transactions have parameters: two tellers pay amounts from one account to the other and back, each as
-//! many as it likes. A standing condition holds in every state. In the end the journal is judged.
-use stm::{and, le, lt, param, seq, set, skip, sum, throw, var, when};
-use stm::{Declare, Error, Fault, Service, Var, Verdict};
+//! A bank of 1,000 accounts in a table: four tellers pay amounts from account to account, and meanwhile audits look at
+//! all accounts of one moment. In the end the journal is judged.
+use stm::{lt, param, seq, skip, throw, when, Declare, Error, Fault, Service, Verdict};
 
-const EACH: i64 = 1000;
+const ACCOUNTS: usize = 1000;
+const EACH: i64 = 100;
+const TELLERS: usize = 4;
+const TRANSFERS: usize = 1000;
 
-/// A transfer of so much as the call says; its payer has it, or it throws what is missing.
-fn transfer(bank: &mut Declare, name: &str, payer: &Var, payee: &Var) {
-    bank.tx_with(name, ["n"], |[n]| {
-        let missing = throw(param(&n) - payer);
-        let pay = seq([set(payer, var(payer) - &n), set(payee, var(payee) + &n)]);
-        (when(lt(payer, &n), missing, pay), payer)
-    });
-}
-
+/// A payer has the amount, or the transfer throws what is missing.
 fn declared() -> Declare {
     let mut bank = Declare::new();
-    let (alice, bob) = (bank.var("alice", 500), bank.var("bob", 500));
-    bank.always("solvent", and(le(0, &alice), le(0, &bob)));
-    transfer(&mut bank, "pay", &alice, &bob);
-    transfer(&mut bank, "repay", &bob, &alice);
-    bank.tx("sum", skip(), sum([&alice, &bob]));
+    let acct = bank.table("acct", ACCOUNTS, EACH);
+    bank.tx_with("pay", ["from", "to", "n"], |[from, to, n]| {
+        let missing = throw(param(&n) - acct.at(&from));
+        let paid = seq([acct.put(&from, acct.at(&from) - &n), acct.put(&to, acct.at(&to) + &n)]);
+        (when(lt(acct.at(&from), &n), missing, paid), acct.at(&from))
+    });
+    bank.tx("audit", skip(), acct.sum());
     bank
 }
 
-/// Transfers of all amounts from 1 to `EACH`: each is paid, or throws what is missing.
-fn teller(bank: &Service, name: &str) {
-    let transfer = bank.transaction(name).expect("it is declared");
-    for amount in 1..=EACH {
-        match bank.atomically(transfer, &[amount]) {
+/// Each transfer is paid, or throws what is missing.
+fn teller(bank: &Service, first: usize) {
+    let pay = bank.transaction("pay").expect("it is declared");
+    for turn in first..first + TRANSFERS {
+        let arguments = [turn * 7 % ACCOUNTS, turn * 13 % ACCOUNTS, turn % 150].map(|number| number as i64);
+        match bank.atomically(pay, &arguments) {
             Ok(_left) => {}
             Err(Fault::Thrown(missing)) => assert!(missing > 0),
             Err(fault) => panic!("{fault}"),
@@ -38,15 +35,19 @@ fn teller(bank: &Service, name: &str) {
 
 fn main() -> Result<(), Error> {
     let bank = declared().service()?;
+    let audit = bank.transaction("audit").expect("it is declared");
     std::thread::scope(|scope| {
-        scope.spawn(|| teller(&bank, "pay"));
-        scope.spawn(|| teller(&bank, "repay"));
+        let (bank, begin) = (&bank, |i| i * ACCOUNTS / TELLERS);
+        let tellers: Vec<_> = (0..TELLERS).map(|i| scope.spawn(move || teller(bank, begin(i)))).collect();
+        while !tellers.iter().all(|one| one.is_finished()) {
+            assert_eq!(bank.observe(audit, &[]), Ok(ACCOUNTS as i64 * EACH));
+        }
     });
     println!("{} transfers, each paid or refused", bank.entered());
-    let sum = bank.transaction("sum").expect("it is declared");
-    println!("alice and bob have {}", bank.observe(sum, &[]).expect("it returns"));
-    let without = Err(Fault::WrongArguments { transaction: 0, parameters: 1, given: 0 });
-    assert_eq!(bank.atomically(0, &[]), without);
+    println!("all accounts have {}", bank.observe(audit, &[]).expect("it returns"));
+    let mut balances = [0; ACCOUNTS];
+    assert_eq!(bank.cells(0, 0, &mut balances), Some(ACCOUNTS));
+    assert!(balances.iter().all(|balance| *balance >= 0));
     bank.close();
     assert_eq!(stm::check(&bank.file()?, &bank.report()?)?, Verdict::Good);
     println!("the journal is good");

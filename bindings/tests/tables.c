@@ -46,7 +46,9 @@ static void declared(void) {
 }
 
 static void single(void) {
-    const char *none[] = {"acct", "acct[4]", "acct[03]", "acct[-0]", "acct[3", "acct[3]]", "acct[]", "spare[0]", "\xff[0]"};
+    const char *none[] = {
+        "acct", "acct[4]", "acct[03]", "acct[-0]", "acct[3", "acct[3]]", "acct[]", "spare[0]", "\xff[0]",
+    };
     const int64_t given[] = {0, 3, 60};
     wants(stm_call(&store, &lender, PAY, given, 3).code == STM_DONE);
     wants(is(stm_cell(&store, 0, 0, &value, &version), 40, 1) && is(stm_cell(&store, 0, 3, &value, &version), 160, 1));
@@ -78,6 +80,32 @@ static void faults(void) {
     wants(stm_call(&store, &lender, AUDIT, NULL, 0).value == 400);
 }
 
+/* The same of a service, which is looked at also once it is closed. */
+static void cells_of_a_service(void) {
+    const uint8_t acct[] = "acct", wrong[] = "acct[0]";
+    const int64_t given[] = {0, 3, 60};
+    int64_t values[3] = {-7, -7, -7};
+    stm_service *service = opens(TEXT, NULL);
+    wants(stm_atomically(service, PAY, given, 3).value == 40);
+    for (int closed = 0; closed < 2; closed++) {
+        wants(stm_service_table(service, acct, 4) == 0 && stm_service_table(service, wrong, 7) == STM_UNKNOWN);
+        wants(stm_service_table_length(service, 0) == 4 && stm_service_table_length(service, 1) == 2);
+        wants(stm_service_table_length(service, 2) == STM_UNKNOWN);
+        wants(is(stm_service_cell(service, 0, 3, &value, &version), 160, 1));
+        wants(is(stm_service_cell(service, 1, 1, &value, &version), 6, 0));
+        value = -7, version = 77;
+        wants(is_none(stm_service_cell(service, 0, 4, &value, &version)));
+        wants(is_none(stm_service_cell(service, 2, 0, &value, &version)));
+        wants(stm_service_cells(service, 0, 2, values, 3) == 2 && values[0] == 100 && values[1] == 160);
+        wants(values[2] == (closed ? 100 : -7));
+        wants(stm_service_cells(service, 0, 0, values, 3) == 3 && values[0] == 40 && values[2] == 100);
+        wants(stm_service_cells(service, 0, 4, values, 3) == 0 && stm_service_cells(service, 0, 0, NULL, 0) == 0);
+        wants(stm_service_cells(service, 2, 0, values, 3) == STM_UNKNOWN && values[0] == 40);
+        stm_service_close(service);
+    }
+    stm_service_free(service);
+}
+
 /* A service's chapters end while the values of cells get longer, and each is good. */
 static void of_a_service(void) {
     struct judged judged = {{" pay returned ", NULL}, {0}, 0};
@@ -103,6 +131,7 @@ int main(void) {
     stm_lender_free(&lender);
     stm_store_free(&store);
     stm_program_free(&program);
+    cells_of_a_service();
     of_a_service();
     puts("good");
     return 0;

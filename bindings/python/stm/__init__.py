@@ -8,6 +8,10 @@
     with stm.Service("(stm 3) (var n 0) (tx add (k) (set n (add n k)) n)") as counter:
         counter.atomically("add", [5])  # 5
 
+    with stm.Service("(stm 3) (table acct 9 0) (tx add (i k) (put acct i (add (at acct i) k)) 0)") as bank:
+        bank.atomically("add", [3, 5])
+        bank.value("acct[3]"), bank.table("acct")[3], sum(bank.table("acct"))  # 5, 5, 5
+
 `run`, `check`, `world`, `explore` and `explore_to` take whole files.
 """
 
@@ -32,6 +36,7 @@ from ._faults import (
 )
 from ._files import Verdict, check, explore, explore_to, run, version, world
 from ._service import Service
+from ._table import Table
 
 __all__ = [
     "Broken",
@@ -48,6 +53,7 @@ __all__ = [
     "Refused",
     "Retries",
     "Service",
+    "Table",
     "Thrown",
     "TimedOut",
     "Unknown",

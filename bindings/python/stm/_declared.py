@@ -62,6 +62,16 @@ CALLS: Dict[str, Tuple[Any, List[Any]]] = {
         _CODE,
         [_SERVICE, *_TEXT, ctypes.POINTER(ctypes.c_int64), ctypes.POINTER(ctypes.c_uint64)],
     ),
+    "stm_service_table": (ctypes.c_int64, [_SERVICE, *_TEXT]),
+    "stm_service_table_length": (ctypes.c_int64, [_SERVICE, ctypes.c_uint32]),
+    "stm_service_cell": (
+        _CODE,
+        [_SERVICE, ctypes.c_uint32, ctypes.c_uint32, ctypes.POINTER(ctypes.c_int64), ctypes.POINTER(ctypes.c_uint64)],
+    ),
+    "stm_service_cells": (
+        ctypes.c_int64,
+        [_SERVICE, ctypes.c_uint32, ctypes.c_uint32, ctypes.POINTER(ctypes.c_int64), ctypes.c_size_t],
+    ),
     "stm_service_entered": (_COUNT, [_SERVICE]),
     "stm_service_chapter": (_COUNT, [_SERVICE]),
     "stm_service_report": (_CODE, [_SERVICE, *_ROOM]),

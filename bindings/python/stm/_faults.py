@@ -88,7 +88,7 @@ class OutOfMemory(Fault, MemoryError):
 
 
 class Unknown(Fault, KeyError):
-    """There is no transaction, or no variable, of this name."""
+    """There is no transaction, table, variable or cell of this name."""
 
 
 class WrongArguments(Fault, TypeError):

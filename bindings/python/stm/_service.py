@@ -28,6 +28,7 @@ from ._faults import (
 from ._files import bounded, copied, refused, signed, taken
 from ._declared import Answer
 from ._library import library, word
+from ._table import Table
 
 _SAME = {
     _declared.OVERFLOW: Overflow,
@@ -79,12 +80,12 @@ class _Keeper:
             raise error
 
 
-def _conditions(text: str) -> List[str]:
-    """The names of the standing conditions that the file declares, in order."""
+def _declared_by(word: str, text: str) -> List[str]:
+    """The names that the file declares by this word, in order."""
     tokens = re.findall(r"[()]|[^\s()]+", re.sub(r";[^\n]*", "", text))
     names, depth = [], 0
     for at, token in enumerate(tokens):
-        if token == "(" and depth == 0 and tokens[at + 1] == "always":
+        if token == "(" and depth == 0 and tokens[at + 1] == word:
             names.append(tokens[at + 2])
         depth += (token == "(") - (token == ")")
     return names
@@ -169,6 +170,18 @@ class Service:
         return self._present(name)[1]
 
     @property
+    def tables(self) -> List[str]:
+        """The names of the tables, as declared."""
+        return _declared_by("table", self._text)
+
+    def table(self, name: str) -> Table:
+        """The cells of a table, as a list that is only read: `bank.table("acct")[5]`."""
+        number = int(library.stm_service_table(self._at, *taken(name)))
+        if number < 0:
+            raise Unknown(name)
+        return Table(self, self._at, name, number)
+
+    @property
     def chapter(self) -> int:
         """The number of the chapter, from 0 on."""
         told: int = library.stm_service_chapter(self._at)
@@ -238,7 +251,7 @@ class Service:
             return Thrown(answer.value, answer.entry)
         if answer.code == _declared.BROKEN:
             if self._names is None:
-                self._names = _conditions(self._text)
+                self._names = _declared_by("always", self._text)
             return Broken(self._names[answer.value], answer.entry)
         return _SAME[answer.code](word(answer.code), entry=answer.entry)
 

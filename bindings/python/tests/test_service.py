@@ -231,7 +231,7 @@ class Calls(unittest.TestCase):
 
     def test_the_names_of_conditions(self):
         text = "(stm 3) (always a (le 0 x)) ; (always b\n( always\n c (le 0 x)) (tx t (always d) (skip) always)"
-        self.assertEqual(_service._conditions(text), ["a", "c"])
+        self.assertEqual(_service._declared_by("always", text), ["a", "c"])
 
     def test_the_tasks_of_the_file_have_their_turns_first(self):
         with stm.Service(TEXT + " (run inc 3) (run wait 1)") as service:

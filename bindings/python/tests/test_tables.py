@@ -1,10 +1,11 @@
-"""Tables: calls that choose a cell by a number, and cells that are told by name."""
+"""Tables: calls that choose a cell by a number; cells that are told by name, by number, and many at once."""
 
+import threading
 import unittest
 
 import stm
 
-TEXT = """(stm 3) (var spare 9) (table acct 4 100) (table rate 2 5 6)
+TEXT = """(stm 3) (var spare 9) (table acct 4 100) (table rate 2 5 6) ; (table none 1 0)
 (always solvent (le 0 (min acct)))
 (tx pay (from to n) (seq (put acct from (sub (at acct from) n)) (put acct to (add (at acct to) n))) (at acct from))
 (tx audit () (skip) (sum acct))"""
@@ -27,3 +28,53 @@ class Tables(unittest.TestCase):
         report = bank.report()
         self.assertIn("\nacct[0] 40 1\nacct[3] 160 1\nend\n", report)
         self.assertTrue(stm.check(bank.file(), report))
+
+    def test_tables(self):
+        with stm.Service(TEXT) as bank:
+            self.assertEqual(bank.tables, ["acct", "rate"])
+            acct, rate = bank.table("acct"), bank.table("rate")
+            self.assertEqual([(table.name, len(table)) for table in (acct, rate)], [("acct", 4), ("rate", 2)])
+            for name in ("none", "spare", "acct[0]", ""):
+                with self.assertRaises(stm.Unknown):
+                    bank.table(name)
+            bank.atomically("pay", [0, 3, 60])
+        # A table goes on once its service is closed, and its service stays for as long as it.
+        del bank
+        self.assertEqual((acct[0], acct[3], acct[-1], rate[0], rate[-2]), (40, 160, 160, 5, 5))
+        self.assertEqual((acct.version(3), acct.version(1), acct.version(-4)), (1, 0, 1))
+        for index in (4, -5, 1 << 32, 1 << 64):
+            for call in (acct.__getitem__, acct.version):
+                with self.assertRaises(stm.Outside) as outside:
+                    call(index)
+                self.assertIsInstance(outside.exception, IndexError)
+                self.assertEqual(str(outside.exception), f"acct[{index}]")
+        with self.assertRaises(TypeError):
+            acct["0"]
+
+    def test_many_at_once(self):
+        with stm.Service(TEXT) as bank:
+            bank.atomically("pay", [0, 3, 60])
+            acct, plain = bank.table("acct"), [40, 100, 100, 160]
+            self.assertEqual((list(acct), sum(acct), min(acct), 160 in acct), (plain, 400, 40, True))
+            ends = [None, *range(-6, 7), 1 << 70]
+            for first in ends:
+                for last in ends:
+                    for step in (None, 1, 2, 3, -1, -2):
+                        self.assertEqual(acct[first:last:step], plain[first:last:step])
+
+    def test_one_state(self):
+        with stm.Service(TEXT) as bank:
+            pays = threading.Thread(
+                target=lambda: [bank.atomically("pay", [i % 4, (i + 1) % 4, 50]) for i in range(3000)]
+            )
+            pays.start()
+            acct, copies = bank.table("acct"), 0
+            while pays.is_alive() or copies < 100:
+                self.assertEqual(sum(acct), 400)
+                copies += 1
+            pays.join()
+        self.assertTrue(stm.check(bank.file(), bank.report()))
+
+
+if __name__ == "__main__":
+    unittest.main()

@@ -162,6 +162,27 @@ impl Service {
         self.raw.value(name)
     }
 
+    /// The number of a table.
+    pub fn table(&self, name: &str) -> Option<u32> {
+        self.raw.table(name)
+    }
+
+    /// How many cells a table has, numbered from 0.
+    pub fn table_length(&self, table: u32) -> Option<u32> {
+        self.raw.table_length(table)
+    }
+
+    /// As `value`, of a cell by the number of its table and its own.
+    pub fn cell(&self, table: u32, index: u32) -> Option<(i64, u64)> {
+        self.raw.cell(table, index)
+    }
+
+    /// Copies the present values of a table's cells, from the one of this number on, to the begin of the slice: as
+    /// many as there are and it has room for, all of one state. How many; `None` where there is no such table.
+    pub fn cells(&self, table: u32, from: u32, values: &mut [i64]) -> Option<usize> {
+        self.raw.cells(table, from, values)
+    }
+
     /// The number of the chapter, from 0 on.
     pub fn chapter(&self) -> u64 {
         self.raw.chapter()

@@ -70,6 +70,26 @@ fn calls_on_cells() {
 }
 
 #[test]
+fn cells_of_a_service() {
+    let bank = declared().service().unwrap();
+    assert_eq!(bank.atomically(PAY, &[0, 3, 60]), Ok(40));
+    for _closed in [false, true] {
+        assert_eq!((bank.table("acct"), bank.table("rate"), bank.table("acct[0]")), (Some(0), Some(1), None));
+        assert_eq!(
+            (bank.table_length(0), bank.table_length(1), bank.table_length(2)),
+            (Some(4), Some(3), None)
+        );
+        assert_eq!((bank.cell(0, 3), bank.cell(1, 1)), (Some((160, 1)), Some((-6, 0))));
+        assert_eq!((bank.cell(0, 4), bank.cell(2, 0)), (None, None));
+        let mut values = [0; 3];
+        assert_eq!((bank.cells(0, 2, &mut values), values), (Some(2), [100, 160, 0]));
+        assert_eq!((bank.cells(0, 0, &mut values), values), (Some(3), [40, 100, 100]));
+        assert_eq!((bank.cells(0, 4, &mut values), bank.cells(2, 0, &mut values)), (Some(0), None));
+        bank.close();
+    }
+}
+
+#[test]
 fn limits() {
     let refused = |make: &dyn Fn(&mut Declare)| {
         let mut declare = Declare::new();

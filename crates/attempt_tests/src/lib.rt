@@ -6,6 +6,8 @@ mod again;
 #[cfg(test)]
 mod branches;
 #[cfg(test)]
+mod cells;
+#[cfg(test)]
 mod counted;
 #[cfg(test)]
 mod ends;

@@ -25,22 +25,22 @@ pub struct Earlier<'a> {
 }
 
 const CHECK: &str =
-    "Checks a report of a file: replays its journal and says whether the report is lawful, without trust in \
-     who made it.";
+    "Checks a report of a file: replays its journal and says whether the report is lawful, without trusting \
+     whoever made it.";
 
 const VERDICTS: &str = "Prints `good`, or `bad` and the first part that fails:\n\n    \
-     1  the text is that of no report of the file\n    \
+     1  the text is no report of the file\n    \
      2  the base: of number 0 and not the initial values, or a version above its number\n    \
      3  an entry: its number, or its outcome in the replay\n    \
      4  the present number, values or versions: not those at the end of the replay\n    \
      5  the tasks: another's transaction, two lines, out of order, or not all accounted for\n    \
      6  a parked task, which would not retry on the present values\n\n\
      With --after the file is a chapter that begins where REPORT0, a report of FILE0, ended.\n\
-     A report that is lawful is then `good` only where that is so:\n\n    \
+     A lawful report is then `good` only if that is so:\n\n    \
      before bad K  REPORT0 is not lawful for FILE0, by the part K\n    \
-     bad 7         the file declares something else than FILE0, a variable does not begin\n                  \
-     at its value at the present of REPORT0, or the first tasks are not\n                  \
-     those of its parked lines\n\n\
+     bad 7         the file does not declare the same as FILE0, a variable or cell does not\n                  \
+     begin at its value at the present of REPORT0, or the first tasks are\n                  \
+     not those of its parked lines\n\n\
      Status: 0 good, 1 bad, 2 a file is refused, 3 the command line is refused,\n\
      4 a file cannot be read or the output cannot be written, 5 out of memory.\n\n\
      Example: stm run a.stm > a.report; stm check a.stm a.report\n    \
@@ -48,7 +48,7 @@ const VERDICTS: &str = "Prints `good`, or `bad` and the first part that fails:\n
      stm check b.stm b.report --after a.stm a.report";
 
 const AFTER: &str =
-    "The paths of the file and the report of the chapter before, where this one is to go on";
+    "The paths of file and report of the chapter before, where this one should go on";
 
 /// The names of the two.
 const NAMES: [&str; 2] = ["FILE0", "REPORT0"];

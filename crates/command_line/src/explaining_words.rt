@@ -28,30 +28,31 @@ pub enum Explained<'a> {
 }
 
 const EXPLAIN: &str =
-    "Tells where and why a file or a schedule is refused, or which line of a report is not as replay has it.";
+    "Says where and why a file or a schedule is refused, or which line of a report is the first that replay \
+     does not have.";
 
-const EXPLAINED: &str = "Prints `good`, or of a file that is refused a line:\n\n    \
+const EXPLAINED: &str = "Prints `good`, or a line if the file is refused:\n\n    \
      line 3, column 12: F3 Shape: an expression is wanted: INT, NAME, ..; here stands )\n\n    \
-     F1 TooLong  the place of the first byte that no file has room for\n    \
-     F2 BadByte  the first byte that no file has\n    \
+     F1 TooLong  the first byte past the limit\n    \
+     F2 BadByte  the first byte that no file may have\n    \
      F3 Shape    the first token with which the file is no longer the beginning of one\n    \
      F4 Name     the first name that is declared twice or not at all\n    \
      F5 Limit    a name, a number or a declaration that goes over a limit\n    \
      F7 Broken   the first standing condition that is not true of the initial values\n\n\
-     With --schedule it says the same of a schedule of the file, which has to be read:\n\n    \
+     With --schedule it says the same of a schedule of the file, if the file is read:\n\n    \
      line 2, column 8: F4 Name: no variable of this name is declared; here stands y\n\n    \
-     F3 Shape    the first word that is none of a schedule's there, or a missing newline\n    \
-     F4 Name     the first name of a variable that is not declared\n    \
-     F5 Limit    the first number of a task that the file does not have\n\n\
-     Of a report that is not good it prints the verdict of stm check, the first line on which\n\
-     that shows, and what replay has in its place:\n\n    \
+     F3 Shape    the first word that may not stand there, or a missing newline\n    \
+     F4 Name     the first variable that is not declared, or cell that does not exist\n    \
+     F5 Limit    the first task that the file does not have\n\n\
+     If a report is not good it prints the verdict of stm check, the first wrong line, and\n\
+     what replay has in its place:\n\n    \
      bad 3\n    \
      line 4: entry 2 1 inc returned 8\n    \
      replay has entry 2 1 inc returned 7\n\n\
-     With --after it says the same of the earlier report, behind `before`, and of a file that\n\
-     does not go on where that one ended what is wanted and what stands there:\n\n    \
+     With --after it says the same of the earlier report, after the word `before`. If the file\n\
+     does not go on where that report ended, it prints the first line that differs:\n\n    \
      bad 7\n    \
-     x 7 is wanted; here stands x 5\n\n\
+     (var x 7) is wanted; here stands (var x 5)\n\n\
      Lines and columns are counted from 1, columns in bytes.\n\n\
      Status: 0 good, 1 the report is not good, 2 a file or the schedule is refused,\n\
      3 the command line is refused, 4 a file cannot be read or the output cannot be written,\n\
@@ -60,7 +61,7 @@ const EXPLAINED: &str = "Prints `good`, or of a file that is refused a line:\n\n
      stm explain a.stm --schedule a.schedule";
 
 const AFTER: &str =
-    "The paths of the file and the report of the chapter before, where the report's file is to go on";
+    "The paths of file and report of the chapter before, where the report's file should go on";
 
 /// The command `stm explain`.
 #[inline(never)]
@@ -74,7 +75,7 @@ pub(crate) fn explain_command<'a>(alloc: Global) -> Result<Command<'a>, AllocErr
 
 /// The argument `REPORT`.
 fn report<'a>(alloc: Global) -> Arg<'a> {
-    Arg::new(alloc, "REPORT").help("The path of a report of it, which is explained in its place")
+    Arg::new(alloc, "REPORT").help("The path of a report of it, to explain in its place")
 }
 
 /// The option `--schedule SCHEDULE`, which no report goes with.
@@ -82,7 +83,7 @@ fn schedule<'a>(alloc: Global) -> Result<Arg<'a>, AllocError> {
     Arg::new(alloc, "schedule")
         .long("schedule")
         .value_name("SCHEDULE")
-        .help("The path of a schedule of it, which is explained in its place")
+        .help("The path of a schedule of it, to explain in its place")
         .conflicts_with("REPORT")?
         .conflicts_with("after")
 }

@@ -36,25 +36,25 @@ const EXPLORE: &str =
      possible and which tasks can wait for ever.";
 
 const FOUND: &str =
-    "A state is the present values, and how many tasks of each transaction are done. Prints how\n\
-     many states are reached, and then:\n\n    \
-     tx NAME ..      in which ways turns of it end somewhere: returned, threw, overflow,\n                    \
-     zerodiv, outside, broke CONDITION; parks where it waits at some end\n    \
+    "A state is the present values, and how many tasks of each call are done. Prints how many\n\
+     states are reached, and then:\n\n    \
+     tx NAME ..      how turns of it can end: returned, threw, overflow, zerodiv,\n                    \
+     outside, broke CONDITION; parks if it waits at some end\n    \
      ends N          how many states have no turn left, each on a line of its own:\n    \
      1 x 7           the first, with its values: all tasks are done\n    \
      2 x 0 parked t 3    the second, where three tasks of t wait for ever\n\n\
-     Where more states are reached than --states allows it prints `more than N states`.\n\
+     If more states are reached than --states allows it prints `more than N states`.\n\
      --to 2 prints a report, as stm run does, of a run that comes to the second end.\n\n\
-     --find pay 'threw 1' prints that of a run which stops at a turn of pay that ends so, or\n\
-     `never`. An OUTCOME is returned V, threw V, overflow, zerodiv, outside, broke CONDITION, or\n\
-     its first word alone; or parks, which is to come to where a task of it would wait. In the\n\
-     report the tasks that are left are parked where they would wait, else on lines `memory`.\n\n\
-     With --deny the text is the same. Where some order comes to what is denied the status is 1,\n\
+     --find pay 'threw 1' prints that of a run that stops at such a turn of pay, or `never`. An\n\
+     OUTCOME is returned V, threw V, overflow, zerodiv, outside, broke CONDITION, or its first\n\
+     word alone; or parks: a task of it is left and would wait. In the report the tasks that\n\
+     are left are parked if they would wait, otherwise on lines `memory`.\n\n\
+     With --deny the text is the same. If some order comes to what is denied the status is 1,\n\
      and the standard error names the first, in the order parked, threw, broke, overflow, zerodiv,\n\
      outside:\n\n    \
      stm: denied: parked: see --to 2\n\n\
      --dot prints the graph of the states for Graphviz: a line for each state with its values, and\n\
-     one for each turn. An end has a double border, and is filled where a task waits for ever.\n\n\
+     one for each turn. An end has a double border, and is filled if a task waits for ever.\n\n\
      Status: 0 done, 1 more states, never or denied, 2 the file is refused, 3 the command line is\n\
      refused, 4 a file cannot be read or the output cannot be written, 5 out of memory.\n\n\
      Example: stm explore examples/forks.stm; stm explore examples/forks.stm --to 1\n    \
@@ -64,18 +64,18 @@ const TO: &str =
     "Prints the report of a run that comes to the end of this number, by as few turns as any order";
 
 const FIND: &str =
-    "Prints the report of a run that comes by as few turns as any order to a turn of the transaction TX \
-     that ends so, its last entry";
+    "Prints the report of a run whose last entry is a turn of the transaction TX that ends so, by as few turns \
+     as any order";
 
 /// The names of the two words.
 const SOUGHT: [&str; 2] = ["TX", "OUTCOME"];
 
 const DENY: &str =
-    "Ends with status 1 where some order comes to it: parked, an end at which a task waits, or a turn that \
-     ends so; may be given more than once";
+    "Ends with status 1 if some order comes to it: parked, an end at which a task waits, or a turn that ends \
+     so; may be given more than once";
 
 const DOT: &str =
-    "Prints the graph of the states and turns in DOT, the language of Graphviz, where no more than 2000 states \
+    "Prints the graph of the states and turns in DOT, the language of Graphviz, if no more than 2000 states \
      are reached";
 
 /// What can be denied.

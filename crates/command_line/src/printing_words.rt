@@ -25,15 +25,14 @@ pub enum Printed<'a> {
 }
 
 const PRINT: &str =
-    "Prints the one text of a file that says what it says: one form a line, one space between two tokens, no comments.";
+    "Prints a file in canonical form: one form a line, one space between two tokens, no comments.";
 
-const PRINTED: &str =
-    "Printing what was printed changes nothing. Comments are no part of it: they are left out.\n\n\
-     With --from each variable begins at the value that it has at the report's present, so\n\
-     that work goes on where the report ended. With --after it does so too, and the runs are\n\
-     one of one task for each task that the report says is parked: the next chapter, as it\n\
-     begins. The report has to be lawful for the file, else `bad` and the first part that\n\
-     fails are printed, as `stm check` does.\n\n\
+const PRINTED: &str = "Printing what was printed changes nothing. Comments are left out.\n\n\
+     With --from each variable and cell begins at its value at the report's present, so that\n\
+     work goes on where the report ended. With --after it does so too, and there is a run of\n\
+     one task for each task that the report lists as parked: the next chapter, as it begins.\n\
+     The report has to be lawful for the file; otherwise `bad` and the first part that fails\n\
+     are printed, as by `stm check`.\n\n\
      Status: 0 done, 1 the report is not good, 2 the file is refused, 3 the command line is\n\
      refused, 4 a file cannot be read or the output cannot be written, 5 out of memory.\n\n\
      Example: stm run a.stm > a.report; stm print a.stm --from a.report > b.stm\n    \
@@ -53,7 +52,7 @@ fn from<'a>(alloc: Global) -> Arg<'a> {
     Arg::new(alloc, "from")
         .long("from")
         .value_name("REPORT")
-        .help("The path of a report of the file, whose present values the variables begin at")
+        .help("The path of a report of the file, at whose present values variables and cells begin")
 }
 
 /// The option `--after REPORT`, which `--from` does not go with.

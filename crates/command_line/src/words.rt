@@ -53,7 +53,7 @@ const VERSION: &str = "0.2.0";
 const ABOUT: &str =
     "Software transactional memory with retry and orElse: runs the transactions of a file, reports what they \
      did, checks such reports, plays schedules on the stepped world, sees every order of a file's tasks, \
-     prints files in their one form, and tells what is wrong with a file, a report or a schedule.";
+     prints files in canonical form, and says what is wrong with a file, a report or a schedule.";
 
 const STATUSES: &str =
     "Status: 0 done, the report is good; 1 the report is not good, more states are reached\n\
@@ -64,7 +64,7 @@ const STATUSES: &str =
      standard error names it, as in `stm: file: F3 Shape`:\n\n    \
      F1 TooLong    more than 1048576 bytes; more than 67108864, if it begins with (stm 3)\n    \
      F2 BadByte    a byte that is neither a newline nor printable ASCII\n    \
-     F3 Shape      not of the form of a file, or a line that is none of a schedule's\n    \
+     F3 Shape      not of the grammar of a file, or a line of no known form in a schedule\n    \
      F4 Name       a name that is declared twice, or not declared; a wrong number of arguments\n    \
      F5 Limit      a number, a count, a name or a cost past its limit\n    \
      F7 Broken     a standing condition that is not true of the initial values";
@@ -80,11 +80,13 @@ const EXAMPLE: &str = "A file declares variables, transactions and runs:\n\n    
      In a file that begins with (stm 2) standing conditions may follow the variables. A\n\
      transaction that would leave one of them untrue has no effect:\n\n    \
      (always small (lt x 7))\n\n\
-     In one that begins with (stm 3) each transaction also has a list of parameters, and each\n\
-     run gives their values behind its count:\n\n    \
-     (tx grow (n) (set x (add x n)) x)\n    \
-     (run grow 1 5)\n\n\
-     The statements are skip, set, seq, if, repeat, retry, orelse and throw.\n\n\
+     In one that begins with (stm 3) each transaction also has a list of parameters, each run\n\
+     gives their values after its count, and tables may follow the variables. This one has\n\
+     1,000 cells that begin at 100:\n\n    \
+     (table acct 1000 100)\n    \
+     (tx grow (i n) (put acct i (add (at acct i) n)) (sum acct))\n    \
+     (run grow 1 5 20)\n\n\
+     The statements are skip, set, put, seq, if, repeat, retry, orelse and throw.\n\n\
      Status: 0 done, 2 the file is refused, 3 the command line is refused,\n\
      4 a file cannot be read or the output cannot be written, 5 out of memory.";
 
@@ -94,10 +96,10 @@ const WORLD: &str =
 
 const SCHEDULE: &str =
     "The path of the schedule to play: a line for each move. A is the number of a task,\n\
-     counted from 0, and X a variable:\n\n    \
+     counted from 0, and X a variable, or a cell as acct[5]:\n\n    \
      begin A       an attempt of the task begins: it loads the clock\n    \
      read A X      it reads the variable: first, value and second\n    \
-     commit A      it asks, and all its words are stored\n    \
+     commit A      it asks to commit, and all its words are stored\n    \
      drop A        its attempt is dropped\n    \
      first A X     it loads the version of the variable\n    \
      value A       it loads the value\n    \
@@ -118,10 +120,10 @@ const SEEN: &str =
 
 const WORKERS: &str = "How many workers run the tasks, 1 to 16";
 
-const TRIES: &str = "After how many stale tries a task is run alone, 1 to 64";
+const TRIES: &str = "After how many stale tries a task has its turn under the lock, 1 to 64";
 
 const CHECKPOINT: &str =
-    "After this many journal entries the report begins anew from the values reached; at most 65536, and 0 for never";
+    "After this many entries the journal begins anew from the values reached; at most 65536, and 0 for never";
 
 const SEED: &str =
     "Draws the order of the tasks, for one worker: the same number, 0 to 2^64 - 1, draws the same order";

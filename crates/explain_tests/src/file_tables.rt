@@ -124,6 +124,21 @@ const SHAPE_LINES: &[Told] = &[
             or max; here stands summ; did you mean sum?\n",
     ),
     (
+        "(tx t (skip) (sum a))",
+        "line 1, column 15: F3 Shape: the word of an expression is wanted: add, sub, mul, div or rem; here stands \
+            sum; did you mean a file that begins with (stm 3)?\n",
+    ),
+    (
+        "(stm 2)(tx t (put a 0 1) 0)",
+        "line 1, column 15: F3 Shape: the word of a statement is wanted: skip, set, seq, if, repeat, retry, orelse \
+            or throw; here stands put; did you mean a file that begins with (stm 3)?\n",
+    ),
+    (
+        "(tx t (skip) (att a 0))",
+        "line 1, column 15: F3 Shape: the word of an expression is wanted: add, sub, mul, div or rem; here stands \
+            att\n",
+    ),
+    (
         "(stm 3)(table a 3 0)(tx t () (skip) ))",
         "line 1, column 37: F3 Shape: an expression is wanted: INT, NAME, (add EXPR EXPR), (sub ..), (mul ..), \
             (div ..), (rem ..), (at NAME EXPR), (sum NAME), (min NAME) or (max NAME); here stands )\n",

@@ -1,6 +1,6 @@
-//! What is done with the catalogue of the tests, where memory may be refused.
+//! What is done with the catalogues of the tests, where memory may be refused.
 
-use crate::parts::MANY;
+use crate::parts::{FAR, MANY};
 use crate::refused_attempt::drives;
 use crate::refused_book::{Script, over};
 use crate::refused_world::opens;
@@ -45,9 +45,18 @@ fn is_used(rt: &impl Abort, alloc: Global, catalogue: &Catalogue, how: Use) -> b
     }
 }
 
-/// The catalogue is used so, where memory for it is not refused.
+/// The catalogue of `MANY` is used so, where memory for it is not refused.
 pub(crate) fn on_many(rt: &impl Abort, alloc: Global, how: Use) {
-    match read_file(alloc, MANY.as_bytes()) {
+    on(rt, alloc, MANY, how);
+}
+
+/// That of `FAR` is.
+pub(crate) fn on_far(rt: &impl Abort, alloc: Global, how: Use) {
+    on(rt, alloc, FAR, how);
+}
+
+fn on(rt: &impl Abort, alloc: Global, text: &str, how: Use) {
+    match read_file(alloc, text.as_bytes()) {
         Ok(catalogue) => assert!(rt; is_used(rt, alloc, &catalogue, how)),
         Err(fault) => assert!(rt; fault == ReadFault::Memory),
     }

@@ -1,4 +1,4 @@
-//! The file of the tests.
+//! The files of the tests.
 
 use txn::TaskId;
 
@@ -9,6 +9,9 @@ pub(crate) const B: TaskId = TaskId(1);
 /// How many variables `MANY` has. An attempt has room for the first eight.
 pub(crate) const VARIABLES: u32 = 10;
 
+/// How many cells a task of `FAR` reads: more than an index of 16 buckets has room for.
+pub(crate) const CELLS: u32 = 18;
+
 /// Two tasks, which add 1 to each variable, the first of them in a branch that takes the place of one
 /// that retries.
 pub(crate) const MANY: &str =
@@ -16,3 +19,10 @@ pub(crate) const MANY: &str =
     (tx all (seq (orelse (seq (set a 1) (retry)) (set a (add a 1))) (set b (add b 1)) (set c (add c 1)) \
     (set d (add d 1)) (set e (add e 1)) (set f (add f 1)) (set g (add g 1)) (set h (add h 1)) (set i (add i 1)) \
     (set j (add j 1))) a)(run all 2)";
+
+/// Two tasks, which add 1 to each of so many cells, once in a branch that retries, and then for good. An index finds
+/// these cells in the log and among the writes.
+pub(crate) const FAR: &str =
+    "(stm 3)(var i 290)(table t 400 6)(tx all () (seq (orelse (seq (set i 290) (repeat 18 (seq \
+    (put t i (add (at t i) 1)) (set i (add i 1)))) (retry)) (set i 290)) \
+    (repeat 18 (seq (put t i (add (at t i) 1)) (set i (add i 1))))) (at t 290))(run all 2)";

@@ -2,8 +2,8 @@
 
 ghost use Rattle.std.specs.Prelude.{◌≡◌};
 
-use crate::on_many::{Use, on_many};
-use crate::parts::VARIABLES;
+use crate::on_many::{Use, on_far, on_many};
+use crate::parts::CELLS;
 use crate::uses::{advanced_twice, supplied_or_asked};
 use attempt::{Attempt, Next, Stand};
 use std::alloc::Global;
@@ -32,7 +32,7 @@ fn supplies(attempt: &mut Attempt<'_>, x: VarId) -> bool
 /// Drives the attempt to its end. Whether each refusal left what it has to: after a refused advance
 /// each later one is refused.
 fn is_driven(attempt: &mut Attempt<'_>) -> bool {
-    for _variable in 0..=VARIABLES {
+    for _variable in 0..=CELLS {
         match attempt.advance() {
             Next::Need(x) => {
                 if !supplies(attempt, x) {
@@ -56,4 +56,9 @@ pub(crate) fn drives(rt: &impl Abort, alloc: Global, catalogue: &Catalogue) {
 #[test]
 fn an_attempt_goes_on_or_is_spent(rt: HostRuntime) {
     on_many(&rt, rt.alloc(), Use::Attempt);
+}
+
+#[test]
+fn an_attempt_on_far_cells_goes_on_or_is_spent(rt: HostRuntime) {
+    on_far(&rt, rt.alloc(), Use::Attempt);
 }

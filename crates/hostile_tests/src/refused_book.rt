@@ -2,7 +2,7 @@
 
 ghost use Rattle.std.specs.Prelude.{◌<◌, length};
 
-use crate::on_many::{Use, on_many};
+use crate::on_many::{Use, on_far, on_many};
 use crate::parts::A;
 use crate::uses::{entries_after_report, given_up_twice};
 use attempt::{Attempt, Next};
@@ -129,6 +129,11 @@ fn a_task_without_memory_is_given_up_once(rt: HostRuntime) {
 #[test]
 fn a_turn_without_memory_gives_its_task_up(rt: HostRuntime) {
     on_many(&rt, rt.alloc(), Use::Book(Script::Serves));
+}
+
+#[test]
+fn a_turn_on_far_cells_without_memory_gives_its_task_up(rt: HostRuntime) {
+    on_far(&rt, rt.alloc(), Use::Book(Script::Serves));
 }
 
 #[test]

@@ -23,3 +23,5 @@ mod tables;
 mod tasks;
 #[cfg(test)]
 mod texts;
+#[cfg(test)]
+mod waits;

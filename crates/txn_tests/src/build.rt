@@ -33,6 +33,8 @@ pub(crate) enum Of {
     AlwaysAlone(&'static [(&'static str, Holds)]),
     /// x, tables of these names and so many cells, each of which is 0, and a transaction of this body.
     Tables(&'static [(&'static str, u32)], Body),
+    /// x, and so many tables of one cell, named `t0`, `t1` and so on.
+    ManyTables(u32),
     /// x, tables, and a condition `a` over them.
     TablesUnder(&'static [(&'static str, u32)], Holds),
 }
@@ -65,6 +67,7 @@ fn vars_of(alloc: Global, of: Of) -> Result<Vec<(String, i64)>, AllocError> {
         | Of::AlwaysAlone(_)
         | Of::Params(_, _, _)
         | Of::Tables(_, _)
+        | Of::ManyTables(_)
         | Of::TablesUnder(_, _) => named(alloc, &[("x", 5)]),
         Of::Tx(_) | Of::ManyTxs(_) | Of::Runs(_) | Of::RunOfNone(_) => Ok(Vec::new(alloc)),
     }
@@ -81,9 +84,21 @@ fn tables(alloc: Global, of: &[(&str, u32)]) -> Result<Vec<Table>, AllocError> {
     Ok(all)
 }
 
+fn many_tables(alloc: Global, count: u32) -> Result<Vec<Table>, AllocError> {
+    let mut all = Vec::new(alloc);
+    for i in 0..count {
+        all.push(Table {
+            name: format!(in alloc; "t{i}")?,
+            cells: Cells::Same(1, 0),
+        })?;
+    }
+    Ok(all)
+}
+
 fn tables_of(alloc: Global, of: Of) -> Result<Vec<Table>, AllocError> {
     match of {
         Of::Tables(of, _) | Of::TablesUnder(of, _) => tables(alloc, of),
+        Of::ManyTables(count) => many_tables(alloc, count),
         _ => Ok(Vec::new(alloc)),
     }
 }
@@ -162,8 +177,12 @@ fn txs_of(alloc: Global, of: Of) -> Result<Vec<Tx>, AllocError> {
         Of::Params(names, place, _) => tx_with(alloc, names, place),
         Of::ManyTxs(count) => many_txs(alloc, count),
         Of::RunOfNone(_) | Of::AlwaysAlone(_) => Ok(Vec::new(alloc)),
-        Of::Vars(_) | Of::ManyVars(_) | Of::Runs(_) | Of::ManyAlways(_) | Of::TablesUnder(_, _) =>
-            one_tx(alloc, Body::Skips),
+        Of::Vars(_)
+        | Of::ManyVars(_)
+        | Of::Runs(_)
+        | Of::ManyAlways(_)
+        | Of::ManyTables(_)
+        | Of::TablesUnder(_, _) => one_tx(alloc, Body::Skips),
     }
 }
 

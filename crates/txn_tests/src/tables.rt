@@ -65,8 +65,10 @@ fn names_of_tables_are_their_own(rt: HostRuntime) {
     expect_known(&rt, rt.alloc(), NAMES);
 }
 
-/// A table has a cell, and all have 1,048,576 at most.
+/// A table has a cell, and all have 1,048,576 at most; there are 64 tables at most.
 const COUNTS: &[(Of, Option<BuildFault>)] = &[
+    (Of::ManyTables(64), None),
+    (Of::ManyTables(65), LIMIT),
     (Of::Tables(&[("a", 0)], Body::Skips), LIMIT),
     (Of::Tables(&[("a", 1_048_576)], Body::Skips), None),
     (Of::Tables(&[("a", 1_048_577)], Body::Skips), LIMIT),

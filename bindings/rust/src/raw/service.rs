@@ -56,6 +56,16 @@ extern "C" {
         value: *mut i64,
         version: *mut u64,
     ) -> i32;
+    fn stm_service_table(service: *const c_void, name: *const u8, name_length: usize) -> i64;
+    fn stm_service_table_length(service: *const c_void, table: u32) -> i64;
+    fn stm_service_cell(
+        service: *mut c_void,
+        table: u32,
+        index: u32,
+        value: *mut i64,
+        version: *mut u64,
+    ) -> i32;
+    fn stm_service_cells(service: *mut c_void, table: u32, from: u32, values: *mut i64, count: usize) -> i64;
     fn stm_service_entered(service: *mut c_void) -> u64;
     fn stm_service_chapter(service: *mut c_void) -> u64;
     fn stm_service_report(service: *mut c_void, room: *mut u8, room_length: usize, wanted: *mut usize)
@@ -195,6 +205,29 @@ impl RawService {
         // SAFETY: from any thread; a slice that is borrowed for the call; both numbers are only written.
         let code = unsafe { stm_service_value(self.at, name.as_ptr(), name.len(), &mut value, &mut version) };
         (code == code::DONE).then_some((value, version))
+    }
+
+    pub fn table(&self, name: &str) -> Option<u32> {
+        // SAFETY: a slice that is borrowed for the call.
+        u32::try_from(unsafe { stm_service_table(self.at, name.as_ptr(), name.len()) }).ok()
+    }
+
+    pub fn table_length(&self, table: u32) -> Option<u32> {
+        // SAFETY: the library tests the number.
+        u32::try_from(unsafe { stm_service_table_length(self.at, table) }).ok()
+    }
+
+    pub fn cell(&self, table: u32, index: u32) -> Option<(i64, u64)> {
+        let (mut value, mut version) = (0, 0);
+        // SAFETY: from any thread; the library tests both numbers; what is told is only written.
+        let code = unsafe { stm_service_cell(self.at, table, index, &mut value, &mut version) };
+        (code == code::DONE).then_some((value, version))
+    }
+
+    pub fn cells(&self, table: u32, from: u32, values: &mut [i64]) -> Option<usize> {
+        // SAFETY: from any thread; the library tests both numbers; a slice that is borrowed for the call.
+        let told = unsafe { stm_service_cells(self.at, table, from, values.as_mut_ptr(), values.len()) };
+        usize::try_from(told).ok()
     }
 
     pub fn entered(&self) -> u64 {
