@@ -26,6 +26,8 @@ pub(crate) enum Begun {
     Over(Outcome),
     /// It retries: the task of the call waits.
     Waits(Ticket, Call),
+    /// It is long: its task is submitted, and the thread that calls evaluates it.
+    Runs(Ticket, Call),
     /// There was no room, and the chapter could not end, since the host did not keep it.
     NotKept,
     Refused(CallFault),
@@ -35,14 +37,15 @@ pub(crate) enum Begun {
 #[derive(Clone, Copy, PartialEq, Eq)]
 pub(crate) enum Way {
     Waits,
-    /// Where its transaction retries nothing is submitted.
+    /// Where its transaction retries nothing is submitted, but for a long one.
     Tries,
 }
 
 impl<N: Naming, K: Archive + Drop> Desk<N, K> {
-    /// A task of the call, which has its turn at once; then all that it woke have theirs. Where the room is used up
-    /// the next chapter begins before, if that makes room and the host keeps the present one. What cannot be called
-    /// is `Unknown`, and nothing changes.
+    /// A task of the call, which has its turn at once; then all that it woke have theirs. A long one is submitted, for
+    /// its thread to evaluate. Where the room is used up the next chapter begins before, if that makes room and the
+    /// host keeps the present one: then a long call has its turn at once too. What cannot be called is `Unknown`, and
+    /// nothing changes.
     pub(crate) fn call(&mut self, tx: TxId, arguments: &[i64], way: Way) -> Begun
         ensures begins { Begins N.catalogue self.old.closed (next_ticket self.old.store)
             (record { tx = tx; arguments = arguments.now }) result self.new.store }
@@ -66,6 +69,10 @@ impl<N: Naming, K: Archive + Drop> Desk<N, K> {
             tx,
             arguments: Arguments::of(arguments),
         };
+        self.settle_if_full();
+        if let Some(ticket) = self.submit_long(&call) {
+            return Begun::Runs(ticket, call);
+        }
         let begun = self.turn_in_room(&call, way);
         if matches!(begun, Begun::Over(_)) {
             self.serve();

@@ -1,14 +1,17 @@
 -- What is asked by a ticket is answered of the one task that has it.
-use Rattle.std.proofs.Common.{◌≡◌, ◌<◌, Bool, true, false, MatchBool, Option, Some, None, length, sym, ap, subst, arith}
+use Rattle.std.proofs.Common.{◌≡◌, ◌≢◌, ◌∙◌, ℕ, ◌<◌, Bool, true, false, MatchBool, List, Option, Some, None, length, map, sym, ap, subst, arith}
 use Rattle.std.specs.List.{slice_get}
 use Rattle.std.proofs.lemmas.List.{length-set}
-use Rattle.std.proofs.lemmas.Option.{slice_get_within}
+use Rattle.std.proofs.lemmas.Option.{same_Some, slice_get_within}
 use Rattle.txn_programs.specs.declared.ast.TaskId.{TaskId}
 use Rattle.txn_programs.specs.declared.ast.Outcome.{Outcome}
-use Rattle.book.specs.Tasks.{Ready, Running, GivenUp}
+use Rattle.book.specs.Tasks.{Task, Ready, Running, Parked, Done, GivenUp}
 use Rattle.book.specs.View.{BookView, IsRunning, stands}
 use Rattle.book.specs.Table.{IsWaiting}
-use Rattle.book.specs.Recorded.{IsReady, IsRecorded}
+use Rattle.book.specs.Recorded.{IsReady, IsRecorded, told_as}
+use Rattle.book.specs.declared.standing.Standing.{Standing}
+use Rattle.book.specs.declared.standing.Standing.TheVariants as told
+use Rattle.book.proofs.Lists.{get_map, map_get}
 use Rattle.stm_store.specs.Tickets.{TicketsView, HasTicket, IsTaskOf}
 use Rattle.stm_store.specs.Asking.{Withdraws, GivesUp, TellsOutcome}
 use Rattle.stm_store.specs.Turning.{Serves, ServesTask}
@@ -43,3 +46,18 @@ serves old new ticket task served.NotRunning of h = (of_none (IsRunning old.book
 serves old new ticket task served.Parked of h = (task, of.0, h)
 serves old new ticket task served.Abandoned of h = (task, of.0, h)
 serves old new ticket task (served.Committed e) of h = (task, of.0, h)
+
+told_running_one : (t : Task) → told_as t ≡ told.Running → t ≡ Running
+told_running_one Ready e = absurd (cc)
+told_running_one Running e = cc
+told_running_one (Parked log) e = absurd (cc)
+told_running_one (Done n) e = absurd (cc)
+told_running_one GivenUp e = absurd (cc)
+
+-- a task of which it is told that it runs does
+pub told_running : (ts : List Task) (k : ℕ) → slice_get (map told_as ts) k ≡ Some told.Running → slice_get ts k ≡ Some Running
+told_running ts k e = let g = get_map told_as ts k told.Running e in g.1 ∙ ap Some (told_running_one g.0 g.2)
+
+-- and no other one
+pub told_other : (ts : List Task) (k : ℕ) (how : Standing) → slice_get (map told_as ts) k ≡ Some how → how ≢ told.Running → slice_get ts k ≡ Some Running → ⊥
+told_other ts k how e other runs = other (same_Some how told.Running (sym e ∙ map_get told_as ts k Running runs))
