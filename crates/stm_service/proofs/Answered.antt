@@ -1,5 +1,5 @@
 -- What a turn enters is an answer.
-use Rattle.std.proofs.Common.{◌≡◌, ◌∙◌, inl, inr, ℕ, ◌+◌, ◌*◌, ◌<◌, List, Option, Some, length, set, refl, sym, ap, subst, arith}
+use Rattle.std.proofs.Common.{◌≡◌, ◌∙◌, inl, inr, ℕ, ◌+◌, ◌*◌, ◌<◌, List, Option, Some, None, length, set, refl, sym, ap, subst, arith}
 use Rattle.std.specs.List.{slice_get}
 use Rattle.std.proofs.lemmas.List.{length-set}
 use Rattle.std.proofs.lemmas.Option.{get_or_from_slice_get, same_Some}
@@ -77,6 +77,11 @@ pub turn_enters : (old new : Store) (job : Job) (r : Option End) (e : Entered) �
 turn_enters old new job r e h is =
     let k : ServesJob old job (Some (end.Entered e)) new = subst (λ (x : Option End). ServesJob old job x new) is h in
     (k.0.0, k.2)
+
+-- what came of a turn, or that there was none
+pub turn_told : (old new : Store) (job : Job) (r : Option End) → new.tickets ≡ old.tickets → ServesJob old job r new → HasTurn old job new
+turn_told old new job None same h = (same, inl h.1)
+turn_told old new job (Some how) same h = (same, inr (how, h))
 
 -- by what a worker brought
 pub brought_enters : (old new : Store) (w : Worker) (job : Job) (e : Entered) → w.ended ≡ Some job → Brings old w (brought.Committed e) new → IsJob old job × Enters old.every old.book job.task e new.book

@@ -1,5 +1,5 @@
 -- What came of a call's own task.
-use Rattle.std.proofs.Common.{◌≡◌, ◌∙◌, ℕ, ℤ, zero, suc, ◌+◌, ◌<◌, Bool, List, [], ◌∷◌, ◌++◌, Option, Some, None, length, set, refl, sym, ap, arith, length-append}
+use Rattle.std.proofs.Common.{◌≡◌, ◌∙◌, ℕ, ℤ, zero, suc, ◌+◌, ◌<◌, Bool, List, [], ◌∷◌, ◌++◌, Option, Some, None, length, set, refl, sym, ap, subst, arith, length-append}
 use Rattle.std.specs.List.{slice_get}
 use Rattle.std.proofs.lemmas.List.{length-set}
 use Rattle.txn_programs.specs.declared.ast.TaskId.{TaskId}
@@ -24,6 +24,7 @@ use Rattle.stm_store.specs.declared.store.Store.{Store}
 use Rattle.stm_service.specs.Answering.{call_of}
 use Rattle.stm_service.specs.Calling.{next_ticket, Begins, IsSubmitted, begun_by}
 use Rattle.stm_service.specs.declared.answer.CallFault.TheVariants as fault
+use Rattle.stm_service.specs.declared.calls.Begun.{Begun}
 use Rattle.stm_service.specs.declared.calls.Begun.TheVariants as begun
 use Rattle.stm_store.proofs.Submitted.{submitted_runs, submitted_given}
 use Rattle.stm_service.proofs.Answered.{entered_answer}
@@ -122,3 +123,9 @@ submits_long old new call (Some ticket) fits each h =
       },
       ap (λ (x : BookView). x.history) h.3,
     )
+
+-- which ticket is the next one is told by the tickets
+pub begins_so_far : (l : Listing) (closed was : Bool) (old mid : Store) (call : Call) (b : Begun) (new : Store) → mid.tickets ≡ old.tickets → was ≡ closed → Begins l was (next_ticket mid) call b new → Begins l closed (next_ticket old) call b new
+begins_so_far l closed was old mid call b new same shut h =
+    subst (λ (x : Bool). Begins l x (next_ticket old) call b new) shut
+    (subst (λ (t : TicketsView). let ticket : Ticket = record { 0 = t.given } in Begins l was ticket call b new) same h)

@@ -73,7 +73,18 @@ impl<N: Naming, K: Archive + Drop> Desk<N, K> {
         if let Some(ticket) = self.submit_long(&call) {
             return Begun::Runs(ticket, call);
         }
-        let begun = self.turn_in_room(&call, way);
+        self.turn_and_serve(&call, way)
+    }
+
+    /// The turn of a call, and then of all that it woke.
+    fn turn_and_serve(&mut self, call: &Call, way: Way) -> Begun
+        requires { IsCallable N.catalogue call.now.tx call.now.arguments }
+        ensures begins { Begins N.catalogue self.old.closed (next_ticket self.old.store)
+            call.now result self.new.store }
+        ensures way { IsOfWay way result }
+        ensures served { (o : Outcome) → result ≡ Begun.Over o → IsServed self.new.store }
+    {
+        let begun = self.turn_in_room(call, way);
         if matches!(begun, Begun::Over(_)) {
             self.serve();
         }

@@ -72,13 +72,13 @@ impl<N: Naming> Client<N> {
     }
     /// Evaluates the job on one state of the cells, with no lock. `true`: it ended there, and is to be brought to the
     /// store. `false`: others changed meanwhile what it read, or a growth was refused.
-    pub(crate) fn try_job(&mut self, job: Job) -> bool
-        ensures { result ≡ true → self.new.worker.ended ≡ Some job }
+    pub(crate) fn try_job(&mut self, job: &Job) -> bool
+        ensures { result ≡ true → self.new.worker.ended ≡ Some job.now }
     {
         if !self.can_call(job.tx, job.arguments.as_slice()) {
             return false;
         }
-        match self.worker.try_job(job) {
+        match self.worker.try_job(*job) {
             Tried::Ended => true,
             Tried::Stale | Tried::Memory => false,
         }

@@ -64,7 +64,7 @@ impl<N: Naming, K: Archive + Drop> Desk<N, K> {
     ghost use Rattle.stm_store.specs.declared.answers.Entered.{Entered};
     ghost use Rattle.stm_store.specs.declared.answers.End.TheVariants as End;
     ghost use Rattle.stm_service.specs.Answering.{IsAnswer, call_of};
-    ghost use Rattle.stm_store.specs.Asking.{TakesJob};
+    ghost use Rattle.stm_store.specs.Asking.{TakesJob, Withdraws, GivesUp};
     ghost use Rattle.stm_store.specs.Turning.{ServesJob};
     ghost use Rattle.stm_store.specs.Keeping.{KeepsTasks};
     ghost use Rattle.stm_service.specs.Calling.{IsServed, IsWithdrawn, HasTurn};
@@ -104,7 +104,7 @@ impl<N: Naming, K: Archive + Drop> Desk<N, K> {
         ensures closed { self.new.closed ≡ self.old.closed }
     {
         while let Some(job) = self.take() {
-            self.serve_one(job);
+            self.serve_one(&job);
         }
     }
 
@@ -119,8 +119,8 @@ impl<N: Naming, K: Archive + Drop> Desk<N, K> {
     }
 
     /// The running task has its turn, or its thread evaluates it.
-    fn serve_one(&mut self, job: Job)
-        ensures turn { HasTurn self.old.store job self.new.store }
+    fn serve_one(&mut self, job: &Job)
+        ensures turn { HasTurn self.old.store job.now self.new.store }
         ensures closed { self.new.closed ≡ self.old.closed }
     {
         if !self.hand_over(job) {
@@ -129,8 +129,8 @@ impl<N: Naming, K: Archive + Drop> Desk<N, K> {
     }
 
     /// The running task has its turn under the lock, and its thread is told what came of it.
-    pub(crate) fn turn(&mut self, job: Job)
-        ensures turn { HasTurn self.old.store job self.new.store }
+    pub(crate) fn turn(&mut self, job: &Job)
+        ensures turn { HasTurn self.old.store job.now self.new.store }
         ensures closed { self.new.closed ≡ self.old.closed }
         ensures running { self.new.running ≡ self.old.running }
     {
@@ -140,12 +140,12 @@ impl<N: Naming, K: Archive + Drop> Desk<N, K> {
     }
 
     /// A turn of the job's task, where it is running: how it ended.
-    fn turn_of(&mut self, job: Job) -> Option<End>
-        ensures turn { HasTurn self.old.store job self.new.store }
+    fn turn_of(&mut self, job: &Job) -> Option<End>
+        ensures turn { HasTurn self.old.store job.now self.new.store }
         ensures answer { (e : Entered) → result ≡ Some (End.Entered e)
-            → ∥ IsAnswer N.catalogue job.ticket (call_of job) e.outcome ∥₁ }
+            → ∥ IsAnswer N.catalogue job.now.ticket (call_of job.now) e.outcome ∥₁ }
         ensures entered { (e : Entered) → result ≡ Some (End.Entered e)
-            → IsEntryAt N.catalogue (call_of job) e.outcome (entered_in_all self.new.store.book)
+            → IsEntryAt N.catalogue (call_of job.now) e.outcome (entered_in_all self.new.store.book)
             self.new.store.book.history }
         ensures closed { self.new.closed ≡ self.old.closed }
         ensures running { self.new.running ≡ self.old.running }
@@ -155,17 +155,17 @@ impl<N: Naming, K: Archive + Drop> Desk<N, K> {
         let Some(lender) = &mut self.lender else {
             return None;
         };
-        let end = self.store.serial_lent(lender, job);
+        let end = self.store.serial_lent(lender, *job);
         self.store.law();
         end
     }
 
     /// The thread that waits for this task is told what came of it.
-    pub(crate) fn hand(&mut self, job: Job, end: End)
+    pub(crate) fn hand(&mut self, job: &Job, end: End)
         requires answer { (e : Entered) → end ≡ End.Entered e
-            → ∥ IsAnswer N.catalogue job.ticket (call_of job) e.outcome ∥₁ }
+            → ∥ IsAnswer N.catalogue job.now.ticket (call_of job.now) e.outcome ∥₁ }
         requires entered { (e : Entered) → end ≡ End.Entered e
-            → IsEntryAt N.catalogue (call_of job) e.outcome (entered_in_all self.old.store.book)
+            → IsEntryAt N.catalogue (call_of job.now) e.outcome (entered_in_all self.old.store.book)
             self.old.store.book.history }
         ensures closed { self.new.closed ≡ self.old.closed }
         ensures store { self.new.store ≡ self.old.store }
@@ -179,7 +179,7 @@ impl<N: Naming, K: Archive + Drop> Desk<N, K> {
         let Some(seat) = self.seats.get_mut(&job.ticket.0) else {
             return;
         };
-        let Some(bell) = seat.tell(job.ticket, &call_of(job), told) else {
+        let Some(bell) = seat.tell(job.ticket, &call_of(*job), told) else {
             return;
         };
         self.note(bell);
@@ -306,7 +306,22 @@ impl<N: Naming, K: Archive + Drop> Desk<N, K> {
         ensures { result ≡ true → IsWithdrawn self.old.store self.new.store ticket }
     {
         self.is_over(ticket);
-        self.store.withdraw(ticket) || self.store.give_up(ticket)
+        self.withdraw(ticket) || self.give_up(ticket)
+    }
+
+    /// Whether the task waited: it is given up then.
+    fn withdraw(&mut self, ticket: Ticket) -> bool
+        ensures withdrawn { Withdraws self.old.store ticket result self.new.store }
+        ensures tickets { self.new.store.tickets ≡ self.old.store.tickets }
+    {
+        self.store.withdraw(ticket)
+    }
+
+    /// Whether the task was running: it is given up then.
+    fn give_up(&mut self, ticket: Ticket) -> bool
+        ensures { GivesUp self.old.store ticket result self.new.store }
+    {
+        self.store.give_up(ticket)
     }
 
     /// The seat is free.

@@ -1,16 +1,16 @@
 //! Long transactions: their threads evaluate them beside the commits, and take the lock only to submit and to enter
 //! them.
 
-ghost use Rattle.std.specs.Prelude.{◌≡◌, Some, length, IfOk, IfSome};
+ghost use Rattle.std.specs.Prelude.{◌≡◌, ◌≢◌, Some, length, IfOk};
 ghost use Rattle.txn_programs.specs.Listing.{IsCallable};
 ghost use Rattle.txn_programs.specs.declared.ast.Outcome.{Outcome};
 ghost use Rattle.book.specs.Chapters.{entered_in_all};
 ghost use Rattle.stm_store.specs.declared.answers.End.TheVariants as End;
 ghost use Rattle.stm_store.specs.declared.answers.Entered.{Entered};
-ghost use Rattle.stm_store.specs.declared.job.Ticket.{Ticket};
 ghost use Rattle.stm_service.specs.Answering.{IsAnswer, call_of};
-ghost use Rattle.stm_service.specs.Calling.{IsSubmitted, next_ticket};
+ghost use Rattle.stm_service.specs.Calling.{IsSubmitted};
 ghost use Rattle.stm_service.specs.Seeing.{IsEntryAt};
+ghost use Rattle.stm_service.specs.declared.desk.Found.TheVariants as Found;
 
 use crate::answer::Naming;
 use crate::archive::Archive;
@@ -53,7 +53,7 @@ impl<N: Naming, K: Archive + Drop> Desk<N, K> {
     }
 
     /// Whether a thread waits for the task and its transaction is long: then the thread evaluates it.
-    pub(crate) fn hand_over(&mut self, job: Job) -> bool
+    pub(crate) fn hand_over(&mut self, job: &Job) -> bool
         ensures store { self.new.store ≡ self.old.store }
         ensures closed { self.new.closed ≡ self.old.closed }
     {
@@ -63,7 +63,7 @@ impl<N: Naming, K: Archive + Drop> Desk<N, K> {
         let Some(bell) = self.bell_of(job.ticket) else {
             return false;
         };
-        if self.running.insert(job.ticket.0, job).is_err() {
+        if self.running.insert(job.ticket.0, *job).is_err() {
             return false;
         }
         self.note(bell);
@@ -90,7 +90,7 @@ impl<N: Naming, K: Archive + Drop> Desk<N, K> {
     }
 
     /// The task has its turn under the lock, where it is running still, and then all that it woke have theirs.
-    pub(crate) fn run_now(&mut self, job: Job) {
+    pub(crate) fn run_now(&mut self, job: &Job) {
         self.is_over(job.ticket);
         self.turn(job);
         self.serve();
@@ -98,8 +98,8 @@ impl<N: Naming, K: Archive + Drop> Desk<N, K> {
 
     /// What a worker found of the task beside the commits is brought: the task is entered, or it waits. Where others
     /// changed what it read, or it is running no more, or the service is closed, nothing changes.
-    pub(crate) fn bring(&mut self, client: &mut Client<N>, job: Job)
-        requires { client.old.worker.ended ≡ Some job }
+    pub(crate) fn bring(&mut self, client: &mut Client<N>, job: &Job)
+        requires { client.old.worker.ended ≡ Some job.now }
     {
         if self.closed {
             return;
@@ -113,12 +113,12 @@ impl<N: Naming, K: Archive + Drop> Desk<N, K> {
     }
 
     /// The same: how the task ended, if it did.
-    fn finish(&mut self, client: &mut Client<N>, job: Job) -> Option<End>
-        requires { client.old.worker.ended ≡ Some job }
+    fn finish(&mut self, client: &mut Client<N>, job: &Job) -> Option<End>
+        requires { client.old.worker.ended ≡ Some job.now }
         ensures answer { (e : Entered) → result ≡ Some (End.Entered e)
-            → ∥ IsAnswer N.catalogue job.ticket (call_of job) e.outcome ∥₁ }
+            → ∥ IsAnswer N.catalogue job.now.ticket (call_of job.now) e.outcome ∥₁ }
         ensures entered { (e : Entered) → result ≡ Some (End.Entered e)
-            → IsEntryAt N.catalogue (call_of job) e.outcome (entered_in_all self.new.store.book)
+            → IsEntryAt N.catalogue (call_of job.now) e.outcome (entered_in_all self.new.store.book)
             self.new.store.book.history }
         ensures closed { self.new.closed ≡ self.old.closed }
     {
@@ -144,10 +144,10 @@ impl<N: Naming, K: Archive + Drop> Desk<N, K> {
         ensures closed { self.new.closed ≡ self.old.closed }
     {
         while let Some((_, job)) = self.running.pop_first() {
-            self.turn(job);
+            self.turn(&job);
         }
         while let Some(job) = self.take() {
-            self.turn(job);
+            self.turn(&job);
         }
         self.ring();
     }

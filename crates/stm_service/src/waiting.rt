@@ -65,7 +65,7 @@ fn wait_at<'g, R: Wait, N: Naming, K: Archive + Drop>(
                 desk = bell.wait(rt, desk);
             }
             Found::Runs(job) => {
-                desk = go_on(rt, service, desk, job, tries);
+                desk = go_on(rt, service, desk, &job, tries);
                 tries = tries.saturating_add(1);
             }
             Found::Over(outcome) => return (desk, Ok(outcome)),
@@ -99,7 +99,7 @@ pub(crate) fn try_long<'g, R: Wait, N: Naming, K: Archive + Drop>(
                 return stop_waiting(rt, service, desk, &bell, awaited, CallFault::Retries);
             }
             Found::Runs(job) => {
-                desk = go_on(rt, service, desk, job, tries);
+                desk = go_on(rt, service, desk, &job, tries);
                 tries = tries.saturating_add(1);
             }
             Found::Over(outcome) => return (desk, Ok(outcome)),
@@ -142,7 +142,7 @@ pub(crate) fn wait_within<'g, R: Wait + Clock, N: Naming, K: Archive + Drop>(
                 if time.left(rt).is_none() {
                     return stop_waiting(rt, service, desk, &bell, awaited, CallFault::TimedOut);
                 }
-                desk = go_on_within(rt, service, desk, job, tries, time);
+                desk = go_on_within(rt, service, desk, &job, tries, time);
                 tries = tries.saturating_add(1);
             }
             Found::Over(outcome) => return (desk, Ok(outcome)),
@@ -182,7 +182,7 @@ fn go_on<'g, R: Wait, N: Naming, K: Archive + Drop>(
     rt: &R,
     service: &'g Service<N, K>,
     desk: MutexGuard<'g, Desk<N, K>>,
-    job: Job,
+    job: &Job,
     tries: u32,
 ) -> MutexGuard<'g, Desk<N, K>> {
     let (mut desk, worker) = evaluate(rt, service, desk, job, tries);
@@ -199,7 +199,7 @@ fn go_on_within<'g, R: Wait + Clock, N: Naming, K: Archive + Drop>(
     rt: &R,
     service: &'g Service<N, K>,
     desk: MutexGuard<'g, Desk<N, K>>,
-    job: Job,
+    job: &Job,
     tries: u32,
     time: Time,
 ) -> MutexGuard<'g, Desk<N, K>> {
@@ -220,10 +220,10 @@ fn evaluate<'g, R: Wait, N: Naming, K: Archive + Drop>(
     rt: &R,
     service: &'g Service<N, K>,
     desk: MutexGuard<'g, Desk<N, K>>,
-    job: Job,
+    job: &Job,
     tries: u32,
 ) -> Evaluated<'g, N, K>
-    ensures { IfSome result.1 (λ worker. worker.worker.ended ≡ Some job) }
+    ensures { IfSome result.1 (λ worker. worker.worker.ended ≡ Some job.now) }
 {
     let Some(mut worker) = service.reader(rt, tries) else {
         let mut desk = desk;
