@@ -15,6 +15,7 @@ MINUTES = 2_000_000
 BANK = "4000 transfers, each paid or refused\nthe journals of 3 chapters are good\n"
 QUEUE = "2000 orders, each taken once\nthe journals of all chapters are good: 4000 entries\n"
 JOBS = "the first is job 10\n99 jobs are done\nthe journal is good\n"
+TELLERS = "done 40\nthrown 60\n"
 TRANSFERS = "4000 transfers, each paid or refused\nall accounts have 100000\nthe journal is good\n"
 CALLS = """pay: returned 40, entry 1
 pay: threw 60, entry 2
@@ -30,6 +31,7 @@ IN_RUST = {
     "bank": BANK,
     "calls": CALLS,
     "chapters": "1000 minutes\n5 good\n",
+    "tellers": "Ok(80)\nErr(Thrown(90))\n",
     "transfers": TRANSFERS,
     "workers": "4000 transfers, each paid or refused\nGood\n",
 }

@@ -57,16 +57,22 @@ void rattle_dealloc(void *old) {
     free((char *)old - FRONT);
 }
 
-enum { INC, WAIT, GO, WIDE, LONG, LONG_WAIT, WAITERS = 8 };
-/* `wide` and `long` read and write so much that evaluating them takes memory, a long one outside the lock. */
+enum { INC, WAIT, GO, WIDE, LONG, LONG_WAIT, FAR, FAR_WAIT, KINDS = 3, WAITERS = 9 };
+/* `wide` and `long` read and write so much that evaluating them takes memory, a long one outside the lock; `far` and
+ * `far_wait` read more cells than an attempt has room for by itself, of which some have the same place there. */
 #define WORK "(repeat 10 (repeat 100 (set a (add a 1))))"
 static const char TEXT[] =
+    "(stm 3)"
     "(var n 0)(var out 0)(var a 0)(var b 0)(var c 0)(var d 0)(var e 0)(var f 0)(var g 0)(var h 0)(var i 0)(var j 0)"
-    "(tx inc (set n (add n 1)) n)(tx wait (if (eq out 0) (retry) (skip)) out)(tx go (set out 1) out)"
-    "(tx wide (orelse (seq (set a n) (set b 1) (retry)) (seq (set a b) (set b c) (set c d) (set d e) (set e f) (set f g)"
-    "(set g h) (set h i) (set i j) (set j (add j 1)))) j)"
-    "(tx long (seq " WORK " (orelse (seq (set a n) (set b 1) (retry)) (set j (add j 1)))) j)"
-    "(tx long_wait (seq " WORK " (if (eq out 0) (retry) (skip))) out)(run inc 1)(run wait 1)";
+    "(table t 300 0)"
+    "(tx inc () (set n (add n 1)) n)(tx wait () (if (eq out 0) (retry) (skip)) out)(tx go () (set out 1) out)"
+    "(tx wide () (orelse (seq (set a n) (set b 1) (retry)) (seq (set a b) (set b c) (set c d) (set d e) (set e f)"
+    "(set f g) (set g h) (set h i) (set i j) (set j (add j 1)))) j)"
+    "(tx long () (seq " WORK " (orelse (seq (set a n) (set b 1) (retry)) (set j (add j 1)))) j)"
+    "(tx long_wait () (seq " WORK " (if (eq out 0) (retry) (skip))) out)"
+    "(tx far () (seq (put t 3 1) (put t 259 1) (put t 299 1)) (sum t))"
+    "(tx far_wait () (if (eq (sum t) 0) (retry) (skip)) (at t 3))"
+    "(run inc 1)(run wait 1)";
 
 typedef stm_answer calls(stm_service *, uint32_t, const int64_t *, size_t);
 
@@ -112,11 +118,16 @@ static int lives(void) {
     told_of += is_refused(s, stm_try_atomically, WAIT, STM_RETRIES, 0);
     told_of += is_refused(s, within, LONG_WAIT, STM_TIMED_OUT, 0);
     told_of += is_refused(s, stm_try_atomically, LONG_WAIT, STM_RETRIES, 0);
+    told_of += is_refused(s, within, FAR_WAIT, STM_TIMED_OUT, 0);
+    told_of += is_refused(s, stm_try_atomically, FAR_WAIT, STM_RETRIES, 0);
     told_of += is_refused(s, stm_try_atomically, GO, STM_DONE, 1);
     told_of += is_refused(s, stm_atomically, WAIT, STM_DONE, 1);
     told_of += is_refused(s, stm_atomically, WIDE, STM_DONE, 1);
     told_of += is_refused(s, stm_atomically, LONG, STM_DONE, 2);
     told_of += is_refused(s, stm_atomically, LONG_WAIT, STM_DONE, 1);
+    told_of += is_refused(s, stm_service_observe, FAR, STM_DONE, 3);
+    told_of += is_refused(s, stm_atomically, FAR, STM_DONE, 3);
+    told_of += is_refused(s, stm_atomically, FAR_WAIT, STM_DONE, 1);
     size_t length = 0;
     code = stm_service_report(s, room, sizeof room, &length);
     if (code != STM_DONE) wants(code == STM_MEMORY && ++told_of == 1);
@@ -165,16 +176,27 @@ static void by_two(void) {
     for (int i = 0; i < 2; i++) pthread_join(threads[i], NULL);
 }
 
+static void until_all_wait(void) {
+    static uint8_t report[MOST_REPORT];
+    for (long parked = 0; parked < WAITERS; nanosleep(&(struct timespec){0, 1000000}, NULL)) {
+        size_t length;
+        wants(stm_service_report(service, report, sizeof report, &length) == STM_DONE);
+        /* One is the file's own. */
+        parked = lines_with((const char *)report, length, "\nparked ") - 1;
+    }
+}
+
 /* Threads wait from the first chapter to the last. After the first tenth of the calls the peak of memory grows no more, but
  * for some bytes where chapters are kept, as numbers become longer. */
 static void a_life(hook *ended, long all) {
     struct judged judged = {{"\nentry "}, {0}, 0};
     stm_service_options options = {100, 0, 0, ended, &judged};
-    uint32_t waited_with[2] = {WAIT, LONG_WAIT};
+    uint32_t waited_with[KINDS] = {WAIT, LONG_WAIT, FAR_WAIT};
     pthread_t threads[WAITERS];
     service = opens(TEXT, &options);
     most_bytes = bytes;
-    for (int i = 0; i < WAITERS; i++) wants(pthread_create(&threads[i], NULL, waits, &waited_with[i % 2]) == 0);
+    for (int i = 0; i < WAITERS; i++) wants(pthread_create(&threads[i], NULL, waits, &waited_with[i % KINDS]) == 0);
+    until_all_wait();
     rounds = all / 10;
     by_two();
     long before = most_bytes;
@@ -182,12 +204,12 @@ static void a_life(hook *ended, long all) {
     by_two();
     wants(most_bytes <= before + (ended ? 10000 : 0));
     wants(stm_service_chapter(service) >= (uint64_t)all / 100 && stm_service_entered(service) == (uint64_t)all + 1);
-    wants(stm_atomically(service, GO, NULL, 0).code == STM_DONE);
+    wants(stm_atomically(service, GO, NULL, 0).code == STM_DONE && stm_atomically(service, FAR, NULL, 0).value == 3);
     for (int i = 0; i < WAITERS; i++) pthread_join(threads[i], NULL);
-    wants(stm_service_entered(service) == (uint64_t)all + 3 + WAITERS && value_of(service, "n") == all + 1);
+    wants(stm_service_entered(service) == (uint64_t)all + 4 + WAITERS && value_of(service, "n") == all + 1);
     if (ended) {
         judges_the_last(service, &judged);
-        wants(judged.lines[0] == all + 3 + WAITERS && judged.chapters == (long)stm_service_chapter(service) + 1);
+        wants(judged.lines[0] == all + 4 + WAITERS && judged.chapters == (long)stm_service_chapter(service) + 1);
     }
     stm_service_free(service);
 }

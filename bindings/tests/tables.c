@@ -1,7 +1,9 @@
 /* Tables, of a store and of a service: cells by their numbers and by their names. Prints `good`. */
 #include "judging.h"
 
+#include <pthread.h>
 #include <stdio.h>
+#include <unistd.h>
 
 static const char TEXT[] =
     "(stm 3)(var spare 9)(table acct 4 100)(table rate 2 5 6)"
@@ -9,7 +11,14 @@ static const char TEXT[] =
     " (put acct to (add (at acct to) n))) (at acct from))"
     "(tx audit () (skip) (sum acct))";
 
+/* Who takes a cell waits until one is given there. */
+static const char PLACES[] =
+    "(stm 3)(table q 10000 0)(tx give (i) (put q i (add (at q i) 1)) (at q i))"
+    "(tx take (i) (seq (if (eq (at q i) 0) (retry) (skip)) (put q i (sub (at q i) 1))) i)"
+    "(tx take_any () (if (eq (max q) 0) (retry) (skip)) (max q))";
+
 enum { PAY, AUDIT, PAID = 100 };
+enum { GIVE, TAKE, TAKE_ANY, TAKERS = 20, APART = 256 };
 
 static stm_program program;
 static stm_store store;
@@ -121,7 +130,46 @@ static void of_a_service(void) {
     stm_service_free(service);
 }
 
+static stm_service *places;
+
+static void *takes(void *own) {
+    const int64_t *cell = own;
+    wants(stm_atomically(places, TAKE, cell, 1).value == *cell);
+    return NULL;
+}
+
+static void *takes_any(void *own) {
+    wants(stm_atomically(places, TAKE_ANY, NULL, 0).value == 1);
+    return own;
+}
+
+static void starts(pthread_t *thread, void *(*run)(void *), void *own) {
+    wants(pthread_create(thread, NULL, run, own) == 0);
+}
+
+/* Threads wait for cells whose numbers have the same low bits, and one for all cells: each is woken by its own. */
+static void woken_by_their_own(void) {
+    struct judged judged = {{" take returned ", " take_any returned "}, {0}, 0};
+    pthread_t takers[TAKERS], any;
+    int64_t cells[TAKERS], other = 7;
+    places = opens(PLACES, NULL);
+    for (int i = 0; i < TAKERS; i++) cells[i] = 3 + i * APART, starts(&takers[i], takes, &cells[i]);
+    starts(&any, takes_any, NULL);
+    wants(stm_atomically(places, GIVE, &other, 1).value == 1);
+    pthread_join(any, NULL);
+    for (int i = TAKERS - 1; i >= 0; i--) {
+        wants(stm_atomically(places, GIVE, &cells[i], 1).code == STM_DONE);
+        pthread_join(takers[i], NULL);
+        wants(value_of(places, "q[3]") == 0 && stm_service_entered(places) == (uint64_t)(2 + 2 * (TAKERS - i)));
+    }
+    stm_service_close(places);
+    judges_the_last(places, &judged);
+    wants(judged.lines[0] == TAKERS && judged.lines[1] == 1 && value_of(places, "q[7]") == 1);
+    stm_service_free(places);
+}
+
 int main(void) {
+    alarm(300);
     wants(stm_read((const uint8_t *)TEXT, strlen(TEXT), &program) == STM_DONE);
     wants(stm_open_with_room(&program, 0, 0, 4, &store) == STM_DONE && stm_open_lender(&store, &lender) == STM_DONE);
     declared();
@@ -133,6 +181,7 @@ int main(void) {
     stm_program_free(&program);
     cells_of_a_service();
     of_a_service();
+    woken_by_their_own();
     puts("good");
     return 0;
 }

@@ -4,6 +4,7 @@ from __future__ import annotations
 
 import ctypes
 import re
+import struct
 import threading
 import weakref
 from types import TracebackType
@@ -49,6 +50,23 @@ _LONGEST = 1e9
 class _Transaction(NamedTuple):
     number: int
     parameters: int
+    # Makes of its arguments what the library takes.
+    packed: Callable[[Sequence[int]], Any]
+
+
+def _packing(parameters: int) -> Callable[[Sequence[int]], Any]:
+    """What makes an array of so many arguments. Each has to fit into 64 signed bits."""
+    array: Any = ctypes.c_int64 * parameters
+    pack = struct.Struct(f"{parameters}q").pack
+
+    def packed(arguments: Sequence[int]) -> Any:
+        try:
+            return array.from_buffer_copy(pack(*arguments))
+        except struct.error:
+            # One of them is no such number, and `signed` says which.
+            return array(*map(signed, arguments))
+
+    return packed if parameters > 0 else lambda arguments: None
 
 
 class _Keeper:
@@ -223,19 +241,17 @@ class Service:
             number = int(library.stm_service_transaction(self._at, *taken(name)))
             if number < 0:
                 raise Unknown(name)
-            found = _Transaction(number, int(library.stm_service_parameters(self._at, number)))
+            parameters = int(library.stm_service_parameters(self._at, number))
+            found = _Transaction(number, parameters, _packing(parameters))
             self._found[name] = found
         return found
 
     def _call(self, name: str, arguments: Sequence[int]) -> tuple[ctypes.c_void_p, int, Any, int]:
         """The service, the number of the transaction, and its arguments, as the library takes them."""
-        number, parameters = self._transaction(name)
+        number, parameters, packed = self._found.get(name) or self._transaction(name)
         if len(arguments) != parameters:
             raise WrongArguments(f"arguments of {name}: {parameters} wanted, {len(arguments)} given")
-        if parameters == 0:
-            return self._at, number, None, 0
-        given = (ctypes.c_int64 * parameters)(*(signed(argument) for argument in arguments))
-        return self._at, number, given, parameters
+        return self._at, number, packed(arguments), parameters
 
     def _returned(self, answer: Answer) -> int:
         keeper = self._keeper

@@ -3,6 +3,7 @@
 
 #![allow(unsafe_code)]
 
+mod code;
 mod service;
 
 pub use service::{Keep, RawService};
@@ -13,56 +14,6 @@ use crate::answers::{
 use crate::error::{Error, ScheduleFault};
 use std::ffi::c_void;
 use std::sync::Arc;
-
-/// What the calls answer, by the names of the header.
-mod code {
-    pub const DONE: i32 = 0;
-    pub const RETRIES: i32 = 1;
-    pub const STALE: i32 = 2;
-    pub const NOT_RUNNING: i32 = 3;
-    pub const GIVEN_UP: i32 = 4;
-    pub const THROWN: i32 = 5;
-    pub const OVERFLOW: i32 = 6;
-    pub const DIVIDE_BY_ZERO: i32 = 7;
-    pub const BROKEN: i32 = 8;
-    pub const MORE: i32 = 9;
-    pub const NO_END: i32 = 10;
-    pub const IDLE: i32 = 11;
-    pub const NO_ENTRY: i32 = 12;
-    pub const READY: i32 = 13;
-    pub const RUNNING: i32 = 14;
-    pub const NOT_WAITING: i32 = 15;
-    pub const OUTSIDE: i32 = 16;
-    pub const BAD_TEXT: i32 = 101;
-    pub const BAD_BASE: i32 = 102;
-    pub const BAD_ENTRIES: i32 = 103;
-    pub const BAD_PRESENT: i32 = 104;
-    pub const BAD_TASKS: i32 = 105;
-    pub const BAD_PARKED: i32 = 106;
-    pub const FILE_TOO_LONG: i32 = -1;
-    pub const FILE_BAD_BYTE: i32 = -2;
-    pub const FILE_SHAPE: i32 = -3;
-    pub const FILE_NAME: i32 = -4;
-    pub const FILE_LIMIT: i32 = -5;
-    pub const MEMORY: i32 = -6;
-    pub const FILE_BROKEN: i32 = -7;
-    pub const SHORT: i32 = -8;
-    pub const UNKNOWN: i32 = -9;
-    pub const NO_WORKER: i32 = -10;
-    pub const NOT_ENDED: i32 = -11;
-    pub const NO_ROOM: i32 = -14;
-    pub const WORK_LEFT: i32 = -15;
-    pub const STATES: i32 = -16;
-    pub const OTHER_PROGRAM: i32 = -17;
-    pub const OTHER_CHAPTER: i32 = -18;
-    pub const CLOSED: i32 = -19;
-    pub const TIMED_OUT: i32 = -20;
-    pub const SCHEDULE_TOO_LONG: i32 = -21;
-    pub const SCHEDULE_BAD_BYTE: i32 = -22;
-    pub const SCHEDULE_SHAPE: i32 = -23;
-    pub const SCHEDULE_NAME: i32 = -24;
-    pub const SCHEDULE_LIMIT: i32 = -25;
-}
 
 #[repr(C)]
 struct Handle {

@@ -6,35 +6,24 @@ use std::cell::Cell;
 use std::io::{self, Read};
 use std::process::Abort;
 
-/// A reader of so many spaces, which counts those that it hands out.
+/// A reader of these bytes, which are handed out in pieces of this length, and of so many spaces behind them, of which
+/// it counts those that it hands out.
 #[derive(Drop)]
 struct Spaces<'a> {
+    front: &'a [u8],
+    piece: usize,
     left: usize,
     handed: &'a Cell<usize>,
 }
 
 impl Read for Spaces<'_> {
     fn read(&mut self, buf: &mut [u8]) -> io::Result<usize> {
-        let count = buf.len().min(self.left);
-        buf[..count].fill(b' ');
-        self.left -= count;
-        self.handed.set(self.handed.get().saturating_add(count));
-        Ok(count)
-    }
-}
-
-/// The same of a file of so many spaces behind these bytes, which are handed out in pieces of this length.
-#[derive(Drop)]
-struct Begun<'a> {
-    front: &'a [u8],
-    piece: usize,
-    spaces: Spaces<'a>,
-}
-
-impl Read for Begun<'_> {
-    fn read(&mut self, buf: &mut [u8]) -> io::Result<usize> {
         if self.front.is_empty() {
-            return self.spaces.read(buf);
+            let count = buf.len().min(self.left);
+            buf[..count].fill(b' ');
+            self.left -= count;
+            self.handed.set(self.handed.get().saturating_add(count));
+            return Ok(count);
         }
         let count = buf.len().min(self.front.len()).min(self.piece);
         buf[..count].copy_from_slice(&self.front[..count]);
@@ -53,14 +42,11 @@ fn expect_file(
     count: usize,
 ) {
     let handed = Cell::new(0);
-    let spaces = Spaces {
-        left: size,
-        handed: &handed,
-    };
-    let input = Begun {
+    let input = Spaces {
         front,
         piece,
-        spaces,
+        left: size,
+        handed: &handed,
     };
     match read_file_up_to(alloc, input) {
         Ok(bytes) => assert_eq!(rt; bytes.len(), front.len().saturating_add(count)),
@@ -73,6 +59,8 @@ fn expect_file(
 fn expect_read(rt: &impl Abort, alloc: Global, size: usize, limit: u32, count: usize) {
     let handed = Cell::new(0);
     let input = Spaces {
+        front: b"",
+        piece: 1,
         left: size,
         handed: &handed,
     };

@@ -33,6 +33,22 @@ fn those_who_wait_are_told_with_their_arguments(rt: HostRuntime) {
     );
 }
 
+/// One waits for a cell that is written, and one for a cell that is not; two cells have the same low bits.
+const CELLS: &str = "(stm 3)(var n 0)(table t 300 0)(tx put (i v) (put t i v) v)\
+    (tx wait (i) (if (eq (at t i) 0) (retry) (put t i 0)) i)\
+    (run put 1 299 1)(run put 1 43 2)(run put 1 300 3)(run wait 1 299)(run wait 1 0)";
+
+#[test]
+fn cells_that_have_changed_are_told(rt: HostRuntime) {
+    expect_found(
+        &rt,
+        rt.alloc(),
+        CELLS,
+        "states 12\ntx put returned outside\ntx wait returned parks\nends 1\n\
+            1 n 0 t[43] 2 parked wait 1 0\nend\n",
+    );
+}
+
 #[test]
 fn each_turn_goes_to_a_task_of_its_call(rt: HostRuntime) {
     let alloc = rt.alloc();

@@ -111,6 +111,55 @@ fn standing_conditions(rt: HostRuntime) {
 }
 
 #[test]
+fn cells_of_tables(rt: HostRuntime) {
+    let alloc = rt.alloc();
+    for (input, report) in [
+        (
+            "(stm 3)(table acct 4 100)(tx pay (from to n) (seq (if (lt (at acct from) n) (throw n) (skip)) (put \
+                acct from (sub (at acct from) n)) (put acct to (add (at acct to) n))) (at acct from))(run pay 2 0 1 \
+                60)(run pay 1 1 2 150)",
+            "base 0\nentry 1 0 pay returned 40\nentry 2 1 pay threw 60\nentry 3 2 pay returned 10\nnow 3\nacct[0] \
+                40 1\nacct[1] 10 3\nacct[2] 250 3\nend\n",
+        ),
+        (
+            "(stm 3)(table acct 4 100)(tx pay (from to n) (seq (if (lt (at acct from) n) (throw n) (skip)) (put \
+                acct from (sub (at acct from) n)) (put acct to (add (at acct to) n))) (at acct from))(run pay 1 0 4 \
+                60)(run pay 1 0 0 0)",
+            "base 0\nentry 1 0 pay outside\nentry 2 1 pay returned 100\nnow 2\nend\n",
+        ),
+        (
+            "(stm 3)(table t 3 5 6 7)(always all (le 0 (min t)))(tx s () (put t 1 -1) (sum t))(tx r () (put t 1 9) \
+                (max t))(run s 1)(run r 1)",
+            "base 0\nentry 1 0 s broke all\nentry 2 1 r returned 9\nnow 2\nt[1] 9 2\nend\n",
+        ),
+        (
+            "(stm 3)(table a 2 9223372036854775807)(tx t () (skip) (sum a))(run t 1)",
+            "base 0\nentry 1 0 t overflow\nnow 1\nend\n",
+        ),
+        (
+            "(stm 3)(table a 2 5)(table b 2 8)(tx p (i v) (put a i (div 1 v)) (at b 0))(tx q () (put a 1 6) (at b \
+                1))(run p 1 9 0)(run p 1 -1 1)(run p 1 2 1)(run q 1)",
+            "base 0\nentry 1 0 p zerodiv\nentry 2 1 p outside\nentry 3 2 p outside\nentry 4 3 q returned 8\nnow \
+                4\na[1] 6 4\nend\n",
+        ),
+        (
+            "(stm 3)(table q 3 0)(tx get (i) (seq (if (eq (at q i) 0) (retry) (skip)) (put q i 0)) i)(tx put1 (i v) \
+                (put q i v) v)(run get 1 2)(run put1 1 1 8)(run put1 1 2 9)",
+            "base 0\nentry 1 1 put1 returned 8\nentry 2 2 put1 returned 9\nentry 3 0 get returned 2\nnow 3\nq[1] 8 \
+                1\nq[2] 0 3\nend\n",
+        ),
+        (
+            "(stm 3)(var x 1)(table t 300 7)(tx put (i v) (put t i v) (sum t))(run put 1 299 8)(run put 1 43 6)(run \
+                put 1 299 7)(run put 1 299 7)",
+            "base 0\nx 1 0\nentry 1 0 put returned 2101\nentry 2 1 put returned 2100\nentry 3 2 put returned \
+                2099\nentry 4 3 put returned 2099\nnow 4\nx 1 0\nt[43] 6 2\nt[299] 7 3\nend\n",
+        ),
+    ] {
+        expect_report(&rt, alloc, input, report);
+    }
+}
+
+#[test]
 fn a_checkpoint_moves_the_base(rt: HostRuntime) {
     let input = "(var x 5)(tx inc (set x (add x 1)) x)(run inc 3)";
     let (text, fault) = run_with(&rt, rt.alloc(), input.as_bytes(), options(&rt, 1, 8, 2));

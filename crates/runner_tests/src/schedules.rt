@@ -52,6 +52,22 @@ fn the_middle_of_a_publish(rt: HostRuntime) {
     expect_text(&rt, rt.alloc(), PAIR, schedule, wanted);
 }
 
+/// A task waits for a cell, another cell with the same low bits is written, and then this one.
+#[test]
+fn a_cell_is_waited_for(rt: HostRuntime) {
+    let file =
+        "(stm 3)(table q 600 0)(tx get (i) (seq (if (eq (at q i) 0) (retry) (skip)) (put q i 0)) i)\
+        (tx put1 (i v) (put q i v) v)(run get 1 300)(run put1 1 44 8)(run put1 1 300 9)";
+    let schedule =
+        "begin 0\nread 0 q[300]\nbegin 1\ncommit 1\nbegin 2\ncommit 2\ncommit 0\nbegin 0\n\
+        read 0 q[300]\ncommit 0\n";
+    let wanted = b"1 needs q[300]\n2 ended retries\n3 ended returned 8\n4 committed 1\n\
+        5 ended returned 9\n6 committed 2\n7 stale\n8 needs q[300]\n9 ended returned 300\n\
+        10 committed 3\nnow 3\nq[44] 8 1\nq[300] 0 3\nattempt 0 0 stale q[300] 0\n\
+        attempt 1 0 committed 1\nattempt 2 1 committed 2\nattempt 0 2 committed 3 q[300] 9\nend\n";
+    expect_text(&rt, rt.alloc(), file, schedule, wanted);
+}
+
 #[test]
 fn a_second_look_and_what_is_not_possible(rt: HostRuntime) {
     let schedule = "word\ndrop 0\nbegin 0\nfirst 0 x\nbegin 1\ncommit 1\nvalue 0\n\

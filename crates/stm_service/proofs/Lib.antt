@@ -1,6 +1,7 @@
 mod Answered
 mod Begun
 mod Pages
+mod Paired
 mod Asked
 mod Observed
 mod Seen
