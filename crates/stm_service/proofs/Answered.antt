@@ -83,6 +83,10 @@ pub turn_told : (old new : Store) (job : Job) (r : Option End) → new.tickets �
 turn_told old new job None same h = (same, inl h.1)
 turn_told old new job (Some how) same h = (same, inr (how, h))
 
+-- nothing became of it
+pub no_turn : (old new : Store) (job : Job) → new ≡ old → HasTurn old job new
+no_turn old new job same = (ap (λ (s : Store). s.tickets) same, inl (ap (λ (s : Store). s.book) same))
+
 -- by what a worker brought
 pub brought_enters : (old new : Store) (w : Worker) (job : Job) (e : Entered) → w.ended ≡ Some job → Brings old w (brought.Committed e) new → IsJob old job × Enters old.every old.book job.task e new.book
 brought_enters old new w job e ended h =

@@ -124,6 +124,10 @@ submits_long old new call (Some ticket) fits each h =
       ap (λ (x : BookView). x.history) h.3,
     )
 
+-- a long call that was submitted begins so
+pub long_begins : (l : Listing) (closed : Bool) (old new : Store) (call : Call) (ticket : Ticket) → IsSubmitted old call (Some ticket) new → Begins l closed (next_ticket old) call (begun.Runs ticket call) new
+long_begins l closed old new call ticket h = (h.0, refl, h.1)
+
 -- which ticket is the next one is told by the tickets
 pub begins_so_far : (l : Listing) (closed was : Bool) (old mid : Store) (call : Call) (b : Begun) (new : Store) → mid.tickets ≡ old.tickets → was ≡ closed → Begins l was (next_ticket mid) call b new → Begins l closed (next_ticket old) call b new
 begins_so_far l closed was old mid call b new same shut h =

@@ -16,9 +16,11 @@ use Rattle.txn_programs.specs.Standing.{Upholds}
 use Rattle.txn_programs.specs.Listing.{Listing, tasks, task_arguments, call_program, task_program}
 use Rattle.txn_words.specs.Words.{state_of, last_state, StartsWith}
 use Rattle.txn_words.proofs.Words.{starts_whole, seen_state, seen_shorter, last_pushed}
-use Rattle.book.specs.View.{BookView}
+use Rattle.book.specs.View.{BookView, IsRunning, stands}
+use Rattle.book.specs.Tasks.{GivenUp}
 use Rattle.book.specs.LawfulBook.{LawfulBook}
 use Rattle.book.specs.Chapters.{entered_in_all}
+use Rattle.stm_store.specs.Tickets.{TicketsView, HasTicket}
 use Rattle.stm_store.specs.Asking.{IsJob, Submits, TakesJob, Withdraws, GivesUp}
 use Rattle.stm_store.specs.Bringing.{Brings}
 use Rattle.stm_store.specs.Entering.{Enters}
@@ -36,6 +38,7 @@ use Rattle.stm_store.specs.declared.answers.Brought.TheVariants as brought
 use Rattle.stm_store.specs.declared.worker.Worker.{Worker}
 use Rattle.stm_store.specs.declared.store.Store.{Store}
 use Rattle.stm_service.specs.Answering.{call_of}
+use Rattle.stm_service.specs.Calling.{IsWithdrawn}
 use Rattle.stm_service.specs.Seeing.{IsEnteredOn, EntryAt, IsHeard, IsEnteredSince, IsSeen}
 use Rattle.stm_service.specs.declared.seat.Told.{Told}
 use Rattle.stm_service.specs.declared.seat.Told.TheVariants as told
@@ -166,6 +169,19 @@ withdraw_same old new ticket false h = ap (λ (x : BookView). x.history) h.1
 pub give_up_same : (old new : Store) (ticket : Ticket) (r : Bool) → GivesUp old ticket r new → new.book.history ≡ old.book.history
 give_up_same old new ticket true h = ap (λ (x : BookView). x.history) h.3
 give_up_same old new ticket false h = ap (λ (x : BookView). x.history) h.1
+
+pub withdrawn_waiting : (old new : Store) (ticket : Ticket) → Withdraws old ticket true new → IsWithdrawn old new ticket
+withdrawn_waiting old new ticket h = record { task = h.0; own = h.1; waited = inl h.2; withdrawn = h.3 }
+
+-- what did not wait was running
+pub withdrawn_running : (old mid new : Store) (ticket : Ticket) → mid.book ≡ old.book → mid.tickets ≡ old.tickets → GivesUp mid ticket true new → IsWithdrawn old new ticket
+withdrawn_running old mid new ticket book tickets h =
+    record {
+      task = h.0;
+      own = subst (λ (t : TicketsView). HasTicket t h.0 ticket) tickets h.1;
+      waited = inr (subst (λ (b : BookView). IsRunning b h.0) book h.2);
+      withdrawn = h.3 ∙ ap (λ (b : BookView). stands b h.0 GivenUp) book;
+    }
 
 pub submit_same : (old new : Store) (tx : TxId) (arguments : List ℤ) (r : Option Ticket) → Submits old tx arguments r new → new.book.history ≡ old.book.history
 submit_same old new tx arguments None h = ap (λ (x : BookView). x.history) h.1.0

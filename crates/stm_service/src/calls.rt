@@ -69,30 +69,55 @@ impl<N: Naming, K: Archive + Drop> Desk<N, K> {
             tx,
             arguments: Arguments::of(arguments),
         };
-        self.settle_if_full();
-        if let Some(ticket) = self.submit_long(&call) {
-            return Begun::Runs(ticket, call);
-        }
-        self.turn_and_serve(&call, way)
+        self.settle_and_begin(&call, way)
     }
 
-    /// The turn of a call, and then of all that it woke.
-    fn turn_and_serve(&mut self, call: &Call, way: Way) -> Begun
+    /// The beginning of a call, and then the turns of all that it woke. Where the chapter has no room left, what threads
+    /// evaluate just then has its turn before.
+    fn settle_and_begin(&mut self, call: &Call, way: Way) -> Begun
         requires { IsCallable N.catalogue call.now.tx call.now.arguments }
         ensures begins { Begins N.catalogue self.old.closed (next_ticket self.old.store)
             call.now result self.new.store }
         ensures way { IsOfWay way result }
         ensures served { (o : Outcome) → result ≡ Begun.Over o → IsServed self.new.store }
     {
-        let begun = self.turn_in_room(call, way);
+        self.settle_if_full();
+        self.begin_and_serve(call, way)
+    }
+
+    /// The beginning of a call, and then the turns of all that it woke.
+    fn begin_and_serve(&mut self, call: &Call, way: Way) -> Begun
+        requires { IsCallable N.catalogue call.now.tx call.now.arguments }
+        ensures begins { Begins N.catalogue self.old.closed (next_ticket self.old.store)
+            call.now result self.new.store }
+        ensures way { IsOfWay way result }
+        ensures served { (o : Outcome) → result ≡ Begun.Over o → IsServed self.new.store }
+    {
+        let begun = self.begin(call, way);
         if matches!(begun, Begun::Over(_)) {
             self.serve();
         }
         begun
     }
 
+    /// The beginning of a call: a long one is submitted, and a short one has its first turn. So has a long one that there
+    /// is no room for in the chapter, in the next one.
+    pub(crate) fn begin(&mut self, call: &Call, way: Way) -> Begun
+        requires { IsCallable N.catalogue call.now.tx call.now.arguments }
+        ensures begins { Begins N.catalogue self.old.closed (next_ticket self.old.store)
+            call.now result self.new.store }
+        ensures way { IsOfWay way result }
+        ensures entered { (o : Outcome) → result ≡ Begun.Over o
+            → ∥ IsEnteredOn N.catalogue call.now o self.old.store.book.history self.new.store.book.history ∥₁ }
+    {
+        if let Some(ticket) = self.submit_long(call) {
+            return Begun::Runs(ticket, *call);
+        }
+        self.turn_in_room(call, way)
+    }
+
     /// The first turn of a call, in a chapter that has room for it.
-    pub(crate) fn turn_in_room(&mut self, call: &Call, way: Way) -> Begun
+    fn turn_in_room(&mut self, call: &Call, way: Way) -> Begun
         requires { IsCallable N.catalogue call.now.tx call.now.arguments }
         ensures begins { Begins N.catalogue self.old.closed (next_ticket self.old.store)
             call.now result self.new.store }

@@ -65,10 +65,7 @@ impl<N: Naming, K: Archive + Drop> Desk<N, K> {
             tx,
             arguments: Arguments::of(arguments),
         };
-        if let Some(ticket) = self.submit_long(&call) {
-            return Begun::Runs(ticket, call);
-        }
-        let begun = self.turn_in_room(&call, way);
+        let begun = self.begin(&call, way);
         self.show(client);
         if matches!(begun, Begun::Over(_)) {
             self.serve();

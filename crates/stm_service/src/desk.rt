@@ -123,9 +123,10 @@ impl<N: Naming, K: Archive + Drop> Desk<N, K> {
         ensures turn { HasTurn self.old.store job.now self.new.store }
         ensures closed { self.new.closed ≡ self.old.closed }
     {
-        if !self.hand_over(job) {
-            self.turn(job);
+        if self.hand_over(job) {
+            return;
         }
+        self.turn(job);
     }
 
     /// The running task has its turn under the lock, and its thread is told what came of it.
@@ -134,9 +135,10 @@ impl<N: Naming, K: Archive + Drop> Desk<N, K> {
         ensures closed { self.new.closed ≡ self.old.closed }
         ensures running { self.new.running ≡ self.old.running }
     {
-        if let Some(end) = self.turn_of(job) {
-            self.hand(job, end);
-        }
+        let Some(end) = self.turn_of(job) else {
+            return;
+        };
+        self.hand(job, end);
     }
 
     /// A turn of the job's task, where it is running: how it ended.
@@ -306,7 +308,10 @@ impl<N: Naming, K: Archive + Drop> Desk<N, K> {
         ensures { result ≡ true → IsWithdrawn self.old.store self.new.store ticket }
     {
         self.is_over(ticket);
-        self.withdraw(ticket) || self.give_up(ticket)
+        if self.withdraw(ticket) {
+            return true;
+        }
+        self.give_up(ticket)
     }
 
     /// Whether the task waited: it is given up then.

@@ -107,8 +107,8 @@ impl<N: Naming, K: Archive + Drop> Desk<N, K> {
         let Some(end) = self.finish(client, job) else {
             return;
         };
-        self.is_over(job.ticket);
         self.hand(job, end);
+        self.is_over(job.ticket);
         self.serve();
     }
 
@@ -143,13 +143,29 @@ impl<N: Naming, K: Archive + Drop> Desk<N, K> {
         ensures tickets { self.new.store.tickets ≡ self.old.store.tickets }
         ensures closed { self.new.closed ≡ self.old.closed }
     {
+        self.turn_running();
+        self.turn_ready();
+        self.ring();
+    }
+
+    /// What threads evaluate just then has its turn under the lock.
+    fn turn_running(&mut self)
+        ensures tickets { self.new.store.tickets ≡ self.old.store.tickets }
+        ensures closed { self.new.closed ≡ self.old.closed }
+    {
         while let Some((_, job)) = self.running.pop_first() {
             self.turn(&job);
         }
+    }
+
+    /// All that is ready has its turn under the lock, also what is long.
+    fn turn_ready(&mut self)
+        ensures tickets { self.new.store.tickets ≡ self.old.store.tickets }
+        ensures closed { self.new.closed ≡ self.old.closed }
+    {
         while let Some(job) = self.take() {
             self.turn(&job);
         }
-        self.ring();
     }
 
     /// Where the chapter has no room left, no task is ready or running in it: it can end then.

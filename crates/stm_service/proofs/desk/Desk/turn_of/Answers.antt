@@ -1,3 +1,4 @@
+use Rattle.std.proofs.Common.{inl, refl}
 use Rattle.std.specs.BTreeMap.{values}
 use Rattle.stm_service.proofs.Answered.{job_answer, turn_enters, turn_told}
 use Rattle.stm_service.proofs.Heard.{all_heard_on, job_starts, job_entered}
@@ -9,6 +10,10 @@ invariant_of-self-clause-heard g c =
     let new = c.serial_lent-end.new.self in
     all_heard_on (values s.seats) g.N.Naming.catalogue (λ x. x.call) (λ x. x.told) s.store.book.history new.book.history
     (job_starts s.store new c.args.job.now c.serial_lent-end.result c.serial_lent-end.ensures.served) s.heard
+
+-- there is no lender
+pub returns-in_default-clause-turn : goal.returns-in_default-clause-turn
+returns-in_default-clause-turn g c = (refl, inl refl)
 
 pub returns-clause-answer : goal.returns-clause-answer
 returns-clause-answer g c e is =
