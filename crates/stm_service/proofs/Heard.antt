@@ -171,7 +171,7 @@ give_up_same old new ticket true h = ap (λ (x : BookView). x.history) h.3
 give_up_same old new ticket false h = ap (λ (x : BookView). x.history) h.1
 
 pub withdrawn_waiting : (old new : Store) (ticket : Ticket) → Withdraws old ticket true new → IsWithdrawn old new ticket
-withdrawn_waiting old new ticket h = record { task = h.0; own = h.1; waited = inl h.2; withdrawn = h.3 }
+withdrawn_waiting old new ticket h = record { task = h.0; own = h.1; unended = inl h.2; withdrawn = h.3 }
 
 -- what did not wait was running
 pub withdrawn_running : (old mid new : Store) (ticket : Ticket) → mid.book ≡ old.book → mid.tickets ≡ old.tickets → GivesUp mid ticket true new → IsWithdrawn old new ticket
@@ -179,7 +179,7 @@ withdrawn_running old mid new ticket book tickets h =
     record {
       task = h.0;
       own = subst (λ (t : TicketsView). HasTicket t h.0 ticket) tickets h.1;
-      waited = inr (subst (λ (b : BookView). IsRunning b h.0) book h.2);
+      unended = inr (subst (λ (b : BookView). IsRunning b h.0) book h.2);
       withdrawn = h.3 ∙ ap (λ (b : BookView). stands b h.0 GivenUp) book;
     }
 

@@ -74,11 +74,11 @@ pub record IsGivenUp (s : Store) (ticket : Ticket) : Type 0 where
   pub own : HasTicket s.tickets task ticket
   pub given_up : slice_get s.book.tasks task.0 ≡ Some GivenUp
 
--- the task with the ticket waited or was running, and is given up: it had no effect, and never will
+-- the task with the ticket had not ended, so that no entry is of it, and is given up, so that none ever will be
 pub record IsWithdrawn (old new : Store) (ticket : Ticket) : Type 0 where
   pub task : TaskId
   pub own : HasTicket old.tickets task ticket
-  pub waited : IsWaiting (slice_get old.book.tasks task.0) ⊎ IsRunning old.book task
+  pub unended : IsWaiting (slice_get old.book.tasks task.0) ⊎ IsRunning old.book task
   pub withdrawn : new.book ≡ stands old.book task GivenUp
 
 -- there is no room for a task more, and another chapter would have none, since each task would come over to it

@@ -25,7 +25,7 @@ returns-in-Committed-clause-answer g c e is =
     let new = c.finish-brought.new.self in
     let k = brought_enters s.store new c.args.client.now.worker c.args.job.now c.in-Committed.entered c.requires c.in-Committed.ensures.brought in
     subst (λ (x : Entered). ∥ IsAnswer g.N.Naming.catalogue c.args.job.now.ticket (call_of c.args.job.now) x.outcome ∥₁) (same_entered c.in-Committed.entered e is)
-    ∣ job_answer g.N.Naming.catalogue s.store new c.args.job.now c.in-Committed.entered s.named c.law.ensures.declared c.law.ensures.tickets c.law.ensures.each k.0 k.1 ∣₁
+    (∣ job_answer g.N.Naming.catalogue s.store new c.args.job.now c.in-Committed.entered s.named c.law.ensures.declared c.law.ensures.tickets c.law.ensures.each k.0 k.1 ∣₁)
 
 pub returns-in-Committed-clause-entered : goal.returns-in-Committed-clause-entered
 returns-in-Committed-clause-entered g c e is =
@@ -33,4 +33,4 @@ returns-in-Committed-clause-entered g c e is =
     let new = c.finish-brought.new.self in
     let k = brought_enters s.store new c.args.client.now.worker c.args.job.now c.in-Committed.entered c.requires c.in-Committed.ensures.brought in
     subst (λ (x : Entered). IsEntryAt g.N.Naming.catalogue (call_of c.args.job.now) x.outcome (entered_in_all new.book) new.book.history) (same_entered c.in-Committed.entered e is)
-    ∣ job_entered g.N.Naming.catalogue s.store new c.args.job.now c.in-Committed.entered s.named c.law.ensures.declared c.law-2.ensures.lawful k.0 k.1 ∣₁
+    (∣ job_entered g.N.Naming.catalogue s.store new c.args.job.now c.in-Committed.entered s.named c.law.ensures.declared c.law-2.ensures.lawful k.0 k.1 ∣₁)

@@ -1,4 +1,4 @@
-use Rattle.std.proofs.Common.{◌≡◌, ◌∙◌, Bool, true, ap, subst}
+use Rattle.std.proofs.Common.{◌∙◌, Bool, ap, subst}
 use Rattle.stm_store.specs.Asking.{Withdraws, GivesUp}
 use Rattle.stm_store.specs.declared.store.Store.{Store}
 use Rattle.stm_service.specs.Calling.{IsWithdrawn}
@@ -17,7 +17,7 @@ returns g c is =
     let old = c.args.self.now.store in
     let mid = c.withdraw.new.self.store in
     let new = c.give_up.new.self.store in
-    let none = c.if-withdraw.ensures.withdrawn in
+    let none = subst (λ (r : Bool). Withdraws c.is_over.new.self.store c.args.ticket r mid) c.if-withdraw.false c.withdraw.ensures.withdrawn in
     withdrawn_running old mid new c.args.ticket
     (none.1 ∙ ap (λ (s : Store). s.book) c.is_over.ensures.store)
     (c.withdraw.ensures.tickets ∙ ap (λ (s : Store). s.tickets) c.is_over.ensures.store)

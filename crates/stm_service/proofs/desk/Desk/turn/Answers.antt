@@ -5,4 +5,4 @@ use Rattle.stm_service.proofs.desk.Desk.turn.Goals as goal
 
 pub returns-clause-turn : goal.returns-clause-turn
 returns-clause-turn g c =
-    subst (λ (s : Store). HasTurn c.args.self.now.store c.args.job.now s) (sym c.hand.ensures.store) c.turn_of-end.ensures.turn
+    subst (λ (s : Store). HasTurn c.args.self.now.store c.args.job.now s) (sym c.hand.ensures.store) c.turn_of.ensures.turn
