@@ -1,4 +1,4 @@
-use Rattle.std.proofs.Common.{◌≡◌, Some, map, refl, subst}
+use Rattle.std.proofs.Common.{◌≡◌, Some, map, refl, subst, arith}
 use Rattle.std.specs.List.{slice_get}
 use Rattle.book.specs.Recorded.{told_as}
 use Rattle.book.specs.declared.standing.Standing.{Standing}
@@ -15,3 +15,11 @@ give_turn-requires c =
     record {
       running = told_running ts c.args.job.task.0 (subst (λ (s : Standing). slice_get (map told_as ts) c.args.job.task.0 ≡ Some s) c.in-Running.is c.standing.ensures);
     }
+
+pub returns-clause-served : goal.returns-clause-served
+returns-clause-served c =
+    let ts = c.args.self.now.book.tasks in (
+      (c.has.ensures.0 c.if-not-has.false, omega arith),
+      told_running ts c.args.job.task.0 (subst (λ (s : Standing). slice_get (map told_as ts) c.args.job.task.0 ≡ Some s) c.in-Running.is c.standing.ensures),
+      c.give_turn.ensures.ends,
+    )
