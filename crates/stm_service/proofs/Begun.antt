@@ -22,7 +22,7 @@ use Rattle.stm_store.specs.declared.answers.Called.TheVariants as called
 use Rattle.stm_store.specs.declared.answers.Turned.{Turned}
 use Rattle.stm_store.specs.declared.store.Store.{Store}
 use Rattle.stm_service.specs.Answering.{call_of}
-use Rattle.stm_service.specs.Calling.{next_ticket, Begins, IsSubmitted, begun_by}
+use Rattle.stm_service.specs.Calling.{next_ticket, Begins, IsReadyTask, IsSubmitted, begun_by}
 use Rattle.stm_service.specs.declared.answer.CallFault.TheVariants as fault
 use Rattle.stm_service.specs.declared.calls.Begun.{Begun}
 use Rattle.stm_service.specs.declared.calls.Begun.TheVariants as begun
@@ -126,7 +126,7 @@ submits_long old new call (Some ticket) fits each h =
 
 -- a long call that was submitted begins so
 pub long_begins : (l : Listing) (closed : Bool) (old new : Store) (call : Call) (ticket : Ticket) → IsSubmitted old call (Some ticket) new → Begins l closed (next_ticket old) call (begun.Runs ticket call) new
-long_begins l closed old new call ticket h = (h.0, refl, h.1)
+long_begins l closed old new call ticket h = (h.0, refl, subst (λ (t : Ticket). IsReadyTask new t call) h.0 h.1)
 
 -- which ticket is the next one is told by the tickets
 pub begins_so_far : (l : Listing) (closed was : Bool) (old mid : Store) (call : Call) (b : Begun) (new : Store) → mid.tickets ≡ old.tickets → was ≡ closed → Begins l was (next_ticket mid) call b new → Begins l closed (next_ticket old) call b new

@@ -4,8 +4,8 @@ use Rattle.stm_service.proofs.Answered.{job_answer, turn_enters, turn_told}
 use Rattle.stm_service.proofs.Heard.{all_heard_on, job_starts, job_entered}
 use Rattle.stm_service.proofs.desk.Desk.turn_of.Goals as goal
 
-pub invariant_of-self-clause-heard : goal.invariant_of-self-clause-heard
-invariant_of-self-clause-heard g c =
+pub invariant_of-self-2-clause-heard : goal.invariant_of-self-2-clause-heard
+invariant_of-self-2-clause-heard g c =
     let s = c.args.self.now in
     let new = c.serial_lent-end.new.self in
     all_heard_on (values s.seats) g.N.Naming.catalogue (λ x. x.call) (λ x. x.told) s.store.book.history new.book.history
