@@ -34,9 +34,11 @@ fn reads_every_form(rt: HostRuntime) {
     assert!(rt; is_file(rt.alloc(), EVERY_FORM, has_every_form));
 }
 
-const LONG_NUMBERS: &str = "(var a 99999999999999999)(var b 999999999999999999)(var c 9999999999999999999)";
+const LONG_NUMBERS: &str =
+    "(var a 99999999999999999)(var b 999999999999999999)(var c 9999999999999999999)";
 
-const NUMBERS: &str = "(var a 0)(var b -1)(var c 99999999999999999)(var d -99999999999999999)(var e 999999999999999999)
+const NUMBERS: &str =
+    "(var a 0)(var b -1)(var c 99999999999999999)(var d -99999999999999999)(var e 999999999999999999)
         (var f -999999999999999999)(var g 1000000000000000000)(var h -1000000000000000000)(var i 123456789012345678)
         (var j -12345678901234567)(var k 9223372036854775807)(var l -9223372036854775807)(var m -9223372036854775808)";
 
