@@ -23,7 +23,7 @@ use crate::keeping::park;
 use crate::listing::{given_up, parked};
 use crate::since::Since;
 use crate::standing::Standing;
-use crate::stored::{Stored, openings, pairs, rebase, start_anew, store};
+use crate::stored::{Stored, openings, pair, pairs, rebase, start_anew, store};
 use crate::table::TaskTable;
 use crate::task::{Finish, Serial};
 use crate::validate::agrees;
@@ -329,7 +329,7 @@ impl<'a> Book<'a> {
         if place >= self.present.values.len() {
             return None;
         }
-        Some((self.present.values[place], self.present.versions[place]))
+        Some(pair(&self.present, place))
     }
 
     /// The present values, one for each variable, in their order.
