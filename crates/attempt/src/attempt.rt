@@ -193,8 +193,8 @@ impl<'a> Attempt<'a> {
     /// Tells the attempt the value of the variable that it needs: the last `advance` answered
     /// `Need` of it, and it was not supplied since.
     ///
-    /// Refused by `Memory` where the log has to grow and can't; then nothing changed. The first
-    /// eight variables take no memory.
+    /// Refused by `Memory` where the log has to grow and can't; then nothing changed. The first eight
+    /// variables and cells take no memory.
     pub fn supply(&mut self, x: VarId, v: i64) -> Result<(), Memory>
         requires needed { self.old.stand ≡ Stand.Needs x }
         ensures ok { OnOk result (self.new ≡ supplied self.old x v) }
@@ -308,7 +308,7 @@ impl<'a> Attempt<'a> {
     ///
     /// `Memory` where a growth was refused: of the log, then the attempt waits for the variable that
     /// it needs; or as in `advance`, then it is spent. A transaction without an `orelse` that writes no cell
-    /// never meets it over at most eight variables.
+    /// never meets it over at most eight variables and cells together.
     pub fn evaluate_on(&mut self, values: &[i64]) -> Result<Outcome, Memory>
         requires fresh { self.old.stand ≡ Stand.Fresh }
         requires values { length values.now ≡ self.old.variables }
