@@ -121,7 +121,8 @@ impl Model for FarWrites {
 
     ghost Value = { Far };
 
-    ghost view = { λ f. record { numbers = f.numbers; table = f.table.items; notes = f.notes.items; pairs = f.pairs.items } };
+    ghost view = { λ f.
+        record { numbers = f.numbers; table = f.table.items; notes = f.notes.items; pairs = f.pairs.items } };
 
     ghost invariant = { HaveLines };
 }

@@ -20,7 +20,8 @@ pub enum FileForm {
     Three,
 }
 
-/// A table: its name, how many cells it has, and the first number of what they are at first, with the others that are given.
+/// A table: its name, how many cells it has, and the first number of what they are at first, with the others that are
+/// given.
 #[derive(Drop)]
 pub struct RawTable<'a> {
     pub name: &'a str,
