@@ -8,10 +8,12 @@
 
 enum {
     MOST_TASKS = 65536,
-    /* The longest file, and the longest of form 3; in it the longest value; the longest run of one task, `(run NAME 1)`,
-       with its newline; and the longest argument, with the space before it. */
-    MOST_FILE = 1048576,
-    MOST_FILE_OF_FORM_3 = 67108864,
+    /* The longest file, which is of form 3; the line that begins it; an empty list of parameters, with the space before
+       it; the longest value; the longest run of one task, `(run NAME 1)`, with its newline; and the longest argument,
+       with the space before it. */
+    MOST_FILE = 67108864,
+    FORM = 8,
+    LIST = 3,
     MOST_VALUE = 20,
     MOST_RUN = 41,
     MOST_ARGUMENT = 21
@@ -26,12 +28,6 @@ static size_t most_run(const stm_program *program) {
         if (parameters > most) most = parameters;
     }
     return MOST_RUN + (size_t)most * MOST_ARGUMENT;
-}
-
-/* The longest file that the program can have: it is of form 3 where it has a table, or a transaction with parameters. */
-static size_t most_file(const stm_program *program) {
-    bool is_of_form_3 = stm_program_tables(program) > 0 || most_run(program) > MOST_RUN;
-    return is_of_form_3 ? MOST_FILE_OF_FORM_3 : MOST_FILE;
 }
 
 /* How many bytes the values of a chapter's file can take more than as declared; that of a cell has a space before it. */
@@ -52,8 +48,9 @@ static int32_t most_tasks(const stm_program *program, bool are_kept, size_t *mos
     code = stm_file(&as_declared, NULL, 0, &length);
     stm_store_free(&as_declared);
     if (code != STM_SHORT) return code;
-    length += most_values(program);
-    size_t longest = most_file(program), fit = length < longest ? (longest - length) / most_run(program) : 0;
+    /* A file that has become too long for form 1 or 2 is of form 3. */
+    length += most_values(program) + FORM + stm_program_transactions(program) * LIST;
+    size_t fit = length < MOST_FILE ? (MOST_FILE - length) / most_run(program) : 0;
     if (fit < *most) *most = fit;
     return STM_DONE;
 }

@@ -97,6 +97,7 @@ impl<'a> Attempt<'a> {
 
     /// Makes it a fresh attempt of a transaction of the catalogue with these arguments, as many as it has
     /// parameters, in the room that it has. It takes no memory.
+    #[inline(always)]
     pub fn restart(&mut self, catalogue: &'a Catalogue, id: TxId, arguments: &[i64])
         requires { IsCallable catalogue.now id arguments.now }
         ensures { self.new ≡ fresh_attempt catalogue.now id arguments.now }
@@ -193,8 +194,8 @@ impl<'a> Attempt<'a> {
     /// Tells the attempt the value of the variable that it needs: the last `advance` answered
     /// `Need` of it, and it was not supplied since.
     ///
-    /// Refused by `Memory` where the log has to grow and can't; then nothing changed. The first
-    /// eight variables take no memory.
+    /// Refused by `Memory` where the log has to grow and can't; then nothing changed. The first eight
+    /// variables and cells take no memory.
     pub fn supply(&mut self, x: VarId, v: i64) -> Result<(), Memory>
         requires needed { self.old.stand ≡ Stand.Needs x }
         ensures ok { OnOk result (self.new ≡ supplied self.old x v) }
@@ -308,7 +309,7 @@ impl<'a> Attempt<'a> {
     ///
     /// `Memory` where a growth was refused: of the log, then the attempt waits for the variable that
     /// it needs; or as in `advance`, then it is spent. A transaction without an `orelse` that writes no cell
-    /// never meets it over at most eight variables.
+    /// never meets it over at most eight variables and cells together.
     pub fn evaluate_on(&mut self, values: &[i64]) -> Result<Outcome, Memory>
         requires fresh { self.old.stand ≡ Stand.Fresh }
         requires values { length values.now ≡ self.old.variables }

@@ -121,7 +121,8 @@ impl Model for FarWrites {
 
     ghost Value = { Far };
 
-    ghost view = { λ f. record { numbers = f.numbers; table = f.table.items; notes = f.notes.items; pairs = f.pairs.items } };
+    ghost view = { λ f.
+        record { numbers = f.numbers; table = f.table.items; notes = f.notes.items; pairs = f.pairs.items } };
 
     ghost invariant = { HaveLines };
 }
@@ -149,6 +150,8 @@ impl FarWrites {
     }
 
     /// The value of a variable's own write, if there is one.
+    #[cold]
+    #[inline(never)]
     pub fn find(&self, x: VarId) -> Option<i64>
         ensures { result ≡ known_at (far_now self.now) x }
     {

@@ -20,6 +20,9 @@ mod Storing
 mod Changed
 mod Raising
 mod Committing
+mod Noting
+mod PlainEnds
+mod PlainKept
 mod Reporting
 mod Listed
 pub mod Accounts

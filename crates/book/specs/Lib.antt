@@ -8,6 +8,7 @@ pub mod Openings
 pub mod Changed
 pub mod ChapterInside
 pub mod BookInside
+pub mod Written
 pub mod Turns
 pub mod GivingUp
 pub mod Submitted

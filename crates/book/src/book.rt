@@ -9,7 +9,6 @@ ghost use Rattle.attempt.specs.Asking.{Known};
 ghost use Rattle.attempt.specs.Frame.{Agrees};
 ghost use Rattle.attempt.specs.Order.{Ascending, AllKnown};
 ghost use Rattle.cells.specs.Passing.{MeetsBy};
-ghost use Rattle.book.specs.Turns.{is_committed};
 ghost use Rattle.book.specs.Openings.{IsOpening};
 ghost use Rattle.book.specs.Changed.{Follows};
 
@@ -25,8 +24,9 @@ use crate::since::Since;
 use crate::standing::Standing;
 use crate::stored::{Stored, openings, pairs, rebase, start_anew, store};
 use crate::table::TaskTable;
-use crate::task::{Finish, Serial};
+use crate::task::{Finish, Serial, is_committed};
 use crate::validate::agrees;
+use crate::written::Written;
 use attempt::{Attempt, Next, frame};
 use book_storage::{PackedEntry, RunReport, entries_of};
 use cells::{Cells, Pass, Publisher, SharedCells};
@@ -41,18 +41,20 @@ use txn::{Catalogue, Entry, Memory, Outcome, Report, TaskId, TxId, VarId};
 #[derive(Drop)]
 pub struct Book<'a> {
     /// The catalogue of the present chapter.
-    chapter: Chapter<'a>,
+    pub(crate) chapter: Chapter<'a>,
     cells: SharedCells<'a>,
     publisher: Publisher,
     base: Stored,
     journal: Vec<PackedEntry>,
-    present: Stored,
+    pub(crate) present: Stored,
     /// Which variables changed since when, where that is listed.
     since: Since,
     /// What the last commit changed. Its room is for one change a variable.
     changes: Vec<(VarId, i64)>,
+    /// What the last plain turn wrote.
+    pub(crate) written: Written,
     /// How each task stands.
-    table: TaskTable,
+    pub(crate) table: TaskTable,
     /// For how many tasks there is room in a chapter.
     room: usize,
     /// How many tasks more this chapter can have: all that there is room for, as far as the clock reaches.
@@ -157,9 +159,11 @@ impl<'a> Book<'a> {
         let (base, present, since) = openings(alloc, catalogue)?;
         let journal = Vec::with_capacity(alloc, room)?;
         let changes = Vec::with_capacity(alloc, variables)?;
+        let written = Written::new(alloc);
         let table = TaskTable::open(alloc, count, spare, variables)?;
         Ok(Book::of_parts(
-            chapter, cells, publisher, base, present, since, journal, changes, table, spare,
+            chapter, cells, publisher, base, present, since, journal, changes, written, table,
+            spare,
         ))
     }
 
@@ -173,6 +177,7 @@ impl<'a> Book<'a> {
         since: Since,
         journal: Vec<PackedEntry>,
         changes: Vec<(VarId, i64)>,
+        written: Written,
         table: TaskTable,
         spare: usize,
     ) -> Book<'a>
@@ -203,6 +208,7 @@ impl<'a> Book<'a> {
             present,
             since,
             changes,
+            written,
             table,
             room,
             spare,
@@ -641,7 +647,7 @@ impl<'a> Book<'a> {
         ensures turn { Turn every self.old task self.new }
         ensures memory { GivesUpForMemory self.old → GivesUpForMemory self.new }
     {
-        let how = self.serial_lent(attempt, task);
+        let how = self.serve(attempt, task);
         self.keep_short(every, how);
     }
 
@@ -750,7 +756,7 @@ impl<'a> Book<'a> {
     }
 
     /// The task commits with this outcome and these writes. The number of its entry.
-    fn commit(&mut self, task: TaskId, how: Outcome, writes: &[(VarId, i64)]) -> u64
+    pub(crate) fn commit(&mut self, task: TaskId, how: Outcome, writes: &[(VarId, i64)]) -> u64
         requires running { IsRunning self.old task }
         requires outcome { how ≡ outcome (task_program self.old.catalogue task) self.old.present.state }
         requires after { after (task_program self.old.catalogue task) self.old.present.state
@@ -790,10 +796,4 @@ impl<'a> Book<'a> {
         );
         number
     }
-}
-
-fn is_committed(how: Serial) -> bool
-    ensures { result ≡ is_committed how }
-{
-    matches!(how, Serial::Committed(_))
 }

@@ -16,6 +16,7 @@ mod journal;
 mod keeping;
 mod listing;
 mod names;
+mod plain_turn;
 mod since;
 mod sleepers;
 mod standing;
@@ -23,6 +24,7 @@ mod stored;
 mod table;
 mod task;
 mod validate;
+mod written;
 
 pub use book::Book;
 pub use counting::Counts;

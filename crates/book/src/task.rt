@@ -5,6 +5,7 @@ ghost use Rattle.txn_programs.specs.declared.limits.TheConstants.{MAX_TASKS};
 ghost use Rattle.book.specs.Standings.{bare};
 ghost use Rattle.book.specs.Carrying.{stays};
 ghost use Rattle.book.specs.Counting.{IsTally};
+ghost use Rattle.book.specs.Turns.{is_committed};
 
 use crate::counting::{Tally, with_one_more, without_one};
 use txn::TaskId;
@@ -48,6 +49,13 @@ pub enum Serial {
     Committed(u64),
     /// Out of memory: the task is given up, and nothing else changed.
     Abandoned,
+}
+
+/// Whether a turn committed.
+pub fn is_committed(how: Serial) -> bool
+    ensures { result ≡ is_committed how }
+{
+    matches!(how, Serial::Committed(_))
 }
 
 /// A task that stood so stands otherwise from now on, and is counted so.

@@ -20,6 +20,8 @@ mod lines;
 #[cfg(test)]
 mod looks;
 #[cfg(test)]
+mod plain;
+#[cfg(test)]
 mod results;
 #[cfg(test)]
 mod rows;

@@ -10,7 +10,7 @@ use book::{Book, Finish, Serial};
 use cells::{Cells, Pass, Publisher};
 use std::alloc::Global;
 use std::process::Abort;
-use txn::{Catalogue, Memory, TaskId, TxId};
+use txn::{Catalogue, Memory, Outcome, TaskId, TxId};
 use txn_text::read_file;
 
 /// A step, with what it has to answer.
@@ -21,6 +21,8 @@ pub(crate) enum Step {
     TakesFrom(usize, Option<TaskId>),
     /// A turn of the task answers so.
     Turns(TaskId, Serial),
+    /// A plain turn of the task answers so.
+    TurnsPlainly(TaskId, Option<(Outcome, u64)>),
     /// To give the task up answers so.
     GivesUp(TaskId, bool),
     /// To claim the task answers so.
@@ -100,6 +102,16 @@ fn turns(
     has(book, catalogue, task) && book.serial(alloc, task) == how
 }
 
+/// Whether a plain turn of the task answers so.
+fn turns_plainly(
+    book: &mut Book<'_>,
+    catalogue: &Catalogue,
+    task: TaskId,
+    how: Option<(Outcome, u64)>,
+) -> bool {
+    has(book, catalogue, task) && book.turn_plainly(task) == how
+}
+
 /// Whether to give the task up answers so.
 fn gives_up(book: &mut Book<'_>, catalogue: &Catalogue, task: TaskId, how: bool) -> bool {
     has(book, catalogue, task) && book.give_up(task) == how
@@ -121,6 +133,7 @@ fn goes(alloc: Global, book: &mut Book<'_>, catalogue: &Catalogue, step: &Step) 
         Step::Takes(task) => book.take() == *task,
         Step::TakesFrom(number, task) => book.take_from(*number) == *task,
         Step::Turns(task, how) => turns(alloc, book, catalogue, *task, *how),
+        Step::TurnsPlainly(task, how) => turns_plainly(book, catalogue, *task, *how),
         Step::GivesUp(task, how) => gives_up(book, catalogue, *task, *how),
         Step::Claims(task, how) => claims(book, catalogue, *task, *how),
         Step::Withdraws(task, how) => withdraws(book, catalogue, *task, *how),

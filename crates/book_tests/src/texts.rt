@@ -55,3 +55,11 @@ pub(crate) const FAR_APART: &str =
 pub(crate) const GIVING: &str =
     "(stm 3)(var x 0)(tx none () (skip) 0)(tx add (n) (set x (add x n)) x)(tx take (n m) (if (lt x n) (retry) (set x \
         (sub x m))) (sub n m))(run add 1 5)(run take 1 9 2)(run none 1)(run take 1 7 3)";
+
+/// Four accounts with 100 each. `pay` moves so much from one to another, `all` tells the sum, and `wait` waits for the
+/// first to have so much.
+pub(crate) const BANK: &str =
+    "(stm 3)(table acct 4 100)(tx pay (from to n) (seq (put acct from (sub (at acct from) n)) (put acct to (add (at \
+        acct to) n))) (at acct to))(tx all () (skip) (sum acct))(tx wait (n) (if (lt (at acct 0) n) (retry) (seq (put \
+        acct 3 1) (put acct 3 2))) n)(run wait 1 105)(run pay 1 3 0 7)(run all 1)(run pay 1 2 2 5)(run pay 1 1 4 9)(run \
+        pay 1 2 2 0)";

@@ -3,23 +3,23 @@ use Rattle.std.proofs.Common.{◌≡◌, ℕ, zero, suc, ◌<◌, ℤ, pos, cond
 use Rattle.std.specs.Ordering.{int_eq}
 use Rattle.std.proofs.lemmas.Bool.{cond-true}
 use Rattle.std.proofs.lemmas.Bool.Decides.{Decides-int_eq}
-use Rattle.txn_programs.specs.Meaning.{State, value_at}
+use Rattle.txn_programs.specs.Meaning.{State}
 use Rattle.txn_programs.specs.Replay.{versions_after}
 use Rattle.txn_evaluator.specs.declared.notes.Note.{Note}
 use Rattle.txn_evaluator.specs.Notes.{undone, AreInside}
 use Rattle.std.proofs.Math.ListN.{length-set}
 use Rattle.txn_evaluator.proofs.GoingBack.{length-undone}
 
--- the versions after the notes, the first note last: where its variable has the value from before it has the version
+-- the versions after the notes, the first note last: where its place has the value from before it has the version
 -- from before, else the number
 abbrev pub raised : ℕ → State → List ℕ → List Note → List ℕ
 raised n new ks [] = ks
 raised n new ks (note ∷ later) =
-    set (raised n new ks later) note.x.0 (cond (int_eq note.old (value_at new note.x)) (get_or ks note.x.0 0) n)
+    set (raised n new ks later) note.place (cond (int_eq note.old (get_or new note.place (pos 0))) (get_or ks note.place 0) n)
 
 pub raised_length : (n : ℕ) (new : State) (ks : List ℕ) (notes : List Note) → length (raised n new ks notes) ≡ length ks
 raised_length n new ks [] = refl
-raised_length n new ks (note ∷ later) = length-set _ note.x.0 _ ∙ raised_length n new ks later
+raised_length n new ks (note ∷ later) = length-set _ note.place _ ∙ raised_length n new ks later
 
 -- where nothing was written nothing is raised
 none_raised : (n : ℕ) (m : State) (ks : List ℕ) → length ks ≡ length m → versions_after n m m ks ≡ ks
@@ -44,11 +44,11 @@ pub raised_all : (n : ℕ) (new : State) (ks : List ℕ) (notes : List Note) →
 raised_all n new ks [] e inside = sym (none_raised n new ks e)
 raised_all n new ks (note ∷ later) e inside =
     let long = length-undone later new in
-    ap (λ (zs : List ℕ). set zs note.x.0 (cond (int_eq note.old (value_at new note.x)) (get_or ks note.x.0 0) n)) (raised_all n new ks later e inside.1)
-    ∙ one_raised n note.x.0 note.old (undone later new) new ks (omega (arith, long, inside.0)) (sym long) (e ∙ sym long)
+    ap (λ (zs : List ℕ). set zs note.place (cond (int_eq note.old (get_or new note.place (pos 0))) (get_or ks note.place 0) n)) (raised_all n new ks later e inside.1)
+    ∙ one_raised n note.place note.old (undone later new) new ks (omega (arith, long, inside.0)) (sym long) (e ∙ sym long)
 
--- each note is of a variable that is there
-pub inside_at : (k i : ℕ) (notes : List Note) (d : Note) → AreInside k notes → i < length notes → (get_or notes i d).x.0 < k
+-- each note is of a place that is there
+pub inside_at : (k i : ℕ) (notes : List Note) (d : Note) → AreInside k notes → i < length notes → (get_or notes i d).place < k
 inside_at k i [] d inside lt = absurd (omega (arith, lt))
 inside_at k zero (note ∷ later) d inside lt = inside.0
 inside_at k (suc i) (note ∷ later) d inside lt = inside_at k i later d inside.1 (omega (arith, lt))

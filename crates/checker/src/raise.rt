@@ -1,36 +1,36 @@
 //! The versions after an entry.
 
-ghost use Rattle.std.specs.Prelude.{◌≡◌, ◌<◌, length, map, get_or, set, if◌then◌else◌, IfOk, OnOk};
+ghost use Rattle.std.specs.Prelude.{◌≡◌, ◌<◌, length, map, get_or, pos, set, if◌then◌else◌, IfOk, OnOk};
 ghost use Rattle.std.specs.Ordering.{int_eq};
-ghost use Rattle.txn_programs.specs.Meaning.{value_at};
 ghost use Rattle.txn_programs.specs.Replay.{versions_after};
 ghost use Rattle.txn_evaluator.specs.Notes.{AreInside, undone};
 
 use std::alloc::{AllocError, Global};
 use txn_evaluator::notes::Note;
 
-/// The version of each variable that was noted.
+/// The version at each place that was noted.
 fn versions_of(alloc: Global, notes: &[Note], versions: &[u64]) -> Result<Vec<u64>, AllocError>
     requires { AreInside (length versions.now) notes.now }
-    ensures { IfOk result (λ v. v.items ≡ map (λ n. get_or versions.now n.x.0 0) notes.now) }
+    ensures { IfOk result (λ v. v.items ≡ map (λ n. get_or versions.now n.place 0) notes.now) }
 {
     let mut found = Vec::new(alloc);
     'notes: for note in notes {
-        found.push(versions[note.x.0 as usize])?;
+        found.push(versions[note.place])?;
     }
     Ok(found)
 }
 
-/// Sets the version of a variable that was noted: to that from before where the value is the one from before too, else
+/// Sets the version at a place that was noted: to that from before where the value is the one from before too, else
 /// to the number.
 fn settle(number: u64, note: Note, before: u64, values: &[i64], versions: &mut Vec<u64>)
-    requires inside { note.x.0 < length values.now }
+    requires inside { note.place < length values.now }
     requires sizes { length versions.old.items ≡ length values.now }
     ensures { versions.new.items
-        ≡ set versions.old.items note.x.0 (if int_eq note.old (value_at values.now note.x) then before else number) }
+        ≡ set versions.old.items note.place
+        (if int_eq note.old (get_or values.now note.place (pos 0)) then before else number) }
 {
-    let place = note.x.0 as usize;
-    if note.old == values[place] {
+    let Note { place, old } = note;
+    if old == values[place] {
         versions[place] = before;
     } else {
         versions[place] = number;

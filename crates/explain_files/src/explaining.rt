@@ -14,7 +14,7 @@ use crate::walk::first_stop;
 use crate::wanted::Wanted;
 use std::alloc::Global;
 use text_file_reader::read_file;
-use text_parser::file::longest_file;
+use text_grammar::file::longest_file;
 use text_words::ReadFault;
 use txn::Memory;
 

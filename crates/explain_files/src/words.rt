@@ -4,8 +4,7 @@ ghost use Rattle.explain_files.specs.Telling.{IsInLine};
 
 use crate::wanted::{NameUse, NumberUse, Section, Wanted};
 use crate::{Finding, LimitFault, NameFault, Refusal};
-use text_grammar::file::FileForm;
-use text_parser::file::MAX_FILE;
+use text_grammar::file::{FileForm, MAX_FILE};
 
 /// What is wrong, in words.
 pub(crate) fn words(refusal: &Refusal) -> &'static str

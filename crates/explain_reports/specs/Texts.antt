@@ -24,7 +24,7 @@ kind_text l TooLong = codes "it has more than " ++ (decimal (max_len l) ++ codes
 kind_text l BadByte = codes "it has a byte that is neither a newline nor printable ASCII\n"
 kind_text l Shape = codes "a line has not the form of the one that stands in its place\n"
 kind_text l Name = codes "a name is not one that may stand in its place\n"
-kind_text l Limit = codes "a number is larger than may stand in its place\n"
+kind_text l Limit = codes "a number is not one that may stand in its place\n"
 -- these are no faults of a report
 kind_text l Broken = codes "\n"
 kind_text l Memory = codes "\n"

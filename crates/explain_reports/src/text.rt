@@ -30,7 +30,7 @@ fn put_kind(out: &mut String, catalogue: &Catalogue, kind: ReadFault) -> Result<
             out.push_str("a line has not the form of the one that stands in its place\n")
         }
         ReadFault::Name => out.push_str("a name is not one that may stand in its place\n"),
-        ReadFault::Limit => out.push_str("a number is larger than may stand in its place\n"),
+        ReadFault::Limit => out.push_str("a number is not one that may stand in its place\n"),
         ReadFault::Broken => out.push_str("\n"),
         ReadFault::Memory => out.push_str("\n"),
     }

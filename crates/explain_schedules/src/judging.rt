@@ -35,7 +35,8 @@ fn has_task(catalogue: &Catalogue, task: Count<'_>) -> bool
 
 /// Where the task is named that there is not, and what is said of it.
 fn wrong_task(catalogue: &Catalogue, at: usize, task: Count<'_>) -> Option<(usize, Finding)>
-    ensures { result ≡ wrong_at (nat_lt (digits_value 10 task.entry.text.now) (length (tasks catalogue.now))) at NoTask }
+    ensures { result
+        ≡ wrong_at (nat_lt (digits_value 10 task.entry.text.now) (length (tasks catalogue.now))) at NoTask }
 {
     if has_task(catalogue, task) {
         None
@@ -93,8 +94,8 @@ fn wrong_in(
     line: Line<'_>,
 ) -> Option<(usize, Finding)>
     requires { tables.now ≡ spans catalogue.now }
-    ensures { (raw : Raw) → Says raw line.entry
-        → result ≡ wrong_at (right_of catalogue.now judged raw) (place_of judged raw) (said_of catalogue.now judged raw) }
+    ensures { (raw : Raw) → Says raw line.entry → result
+        ≡ wrong_at (right_of catalogue.now judged raw) (place_of judged raw) (said_of catalogue.now judged raw) }
 {
     match (judged, line) {
         (Judged::Tasks, Line::OfTask(at, task)) => wrong_task(catalogue, at, task),

@@ -1,6 +1,7 @@
 //! One line of a schedule: what it says, or where it stops being a line. Where `cells` is true it may name a cell.
 
-ghost use Rattle.std.specs.Prelude.{◌≡◌, ◌≤◌, ◌+◌, ◌&&◌, Bool, IfOk, IfErr, IfSome, is_some, true, false, length, ◌++◌, ◌∷◌};
+ghost use Rattle.std.specs.Prelude.{◌≡◌, ◌≤◌, ◌+◌, ◌&&◌, Bool, IfOk, IfErr, IfSome, is_some, true, false, length};
+ghost use Rattle.std.specs.Prelude.{◌++◌, ◌∷◌};
 ghost use Rattle.text_line_reader.specs.ScheduleReading.{task_verb, variable_verb};
 ghost use Rattle.text_line_reader.specs.Words.{is_bracketed};
 ghost use Rattle.explain_schedules.specs.Words.{lacks, IsParted};

@@ -18,7 +18,7 @@ fn the_kind_is_told_where_a_report_is_not_read(rt: HostRuntime) {
         ),
         (
             "base 65537\nx 5 0\ny -1 0\nnow 0\nx 5 0\ny -1 0\nend\n",
-            "bad 1\na number is larger than may stand in its place\n",
+            "bad 1\na number is not one that may stand in its place\n",
         ),
         (
             "base\t0\n",

@@ -18,6 +18,7 @@ pub(crate) enum Script {
     Takes,
     GivesUp,
     Serves,
+    ServesPlainly,
     Reports,
 }
 
@@ -44,6 +45,7 @@ fn follow(
         Script::Takes => assert_eq!(rt; book.take(), Some(A)),
         Script::GivesUp => gives_up(rt, alloc, book, catalogue),
         Script::Serves => serves(rt, alloc, book, catalogue),
+        Script::ServesPlainly => serves_plainly(rt, book, catalogue),
         Script::Reports => reports(rt, alloc, book),
     }
 }
@@ -105,6 +107,30 @@ fn serves(rt: &impl Abort, alloc: Global, book: &mut Book<'_>, catalogue: &Catal
     assert!(rt; !book.give_up(A));
 }
 
+/// Whether these are the values of `FAR` at first.
+fn is_at_first(values: &[i64]) -> bool {
+    for place in 0..values.len() {
+        if values[place] != if place == 0 { 290 } else { 6 } {
+            return false;
+        }
+    }
+    true
+}
+
+/// A plain turn that is refused memory changes nothing, and the second one commits, since one request is refused at
+/// most.
+fn serves_plainly(rt: &impl Abort, book: &mut Book<'_>, catalogue: &Catalogue) {
+    assert!(rt; book.take() == Some(A));
+    exists(rt, book, catalogue);
+    if book.turn_plainly(A).is_none() {
+        assert_eq!(rt; book.journal_len(), 0);
+        assert!(rt; is_at_first(book.values()));
+        exists(rt, book, catalogue);
+        assert!(rt; book.turn_plainly(A).is_some());
+    }
+    assert_eq!(rt; book.journal_len(), 1);
+}
+
 /// Of two reports one is refused at most, and the journal stays.
 fn reports(rt: &impl Abort, alloc: Global, book: &mut Book<'_>) {
     book.drain(alloc, 0);
@@ -134,6 +160,11 @@ fn a_turn_without_memory_gives_its_task_up(rt: HostRuntime) {
 #[test]
 fn a_turn_on_far_cells_without_memory_gives_its_task_up(rt: HostRuntime) {
     on_far(&rt, rt.alloc(), Use::Book(Script::Serves));
+}
+
+#[test]
+fn a_plain_turn_without_memory_changes_nothing(rt: HostRuntime) {
+    on_far(&rt, rt.alloc(), Use::Book(Script::ServesPlainly));
 }
 
 #[test]

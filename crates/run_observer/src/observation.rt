@@ -39,8 +39,8 @@ pub enum Observed {
 /// `Outcome` is the transaction's outcome on the state at which the pass then is, all of it, and
 /// the pass is open. `Stale` where the pass could not move: the loads of the last read, or the
 /// value that they gave, show why, and the pass is closed. `Memory` only where a growth was
-/// refused, which a transaction without an `orelse` over at most eight variables never meets; the
-/// pass is open. Nothing is written, no lock is taken, and it waits for nobody.
+/// refused, which a transaction without an `orelse` that writes no cell never meets over at most eight
+/// variables and cells; the pass is open. Nothing is written, no lock is taken, and it waits for nobody.
 ///
 /// The pass has to be one of these cells, the cells have to have a variable for each of the
 /// catalogue's, and the transaction has to exist and to have as many parameters as there are arguments.
@@ -80,8 +80,8 @@ pub enum Cut {
 /// moved, the variable is read once more. So what the attempt has read stays what it is in one state.
 ///
 /// `Stale` where the extension did not move, or the second read was stale too: the pass is closed,
-/// and its last read shows why. `Memory` only where the log had to grow and couldn't, which the
-/// first eight variables never meet; the pass is open. Where it answers an error the attempt is as
+/// and its last read shows why. `Memory` only where the log had to grow and couldn't, which the first
+/// eight variables and cells never meet; the pass is open. Where it answers an error the attempt is as
 /// it was. The pass has to be one of these cells, and the variables have to exist.
 pub fn tell(attempt: &mut Attempt<'_>, x: VarId, cells: &Cells, pass: &mut Pass) -> Result<(), Cut>
     requires needed { attempt.old.stand ≡ Stand.Needs x }

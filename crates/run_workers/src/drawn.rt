@@ -83,7 +83,7 @@ fn give_turns<'a>(book: &mut Book<'a>, attempt: &mut Attempt<'a>, every: u32, se
 {
     let mut draws = SplitMix64::seed_from_u64(seed);
     while let Some(task) = draw(book, &mut draws) {
-        let how = book.serial_lent(attempt, task);
+        let how = book.serve(attempt, task);
         book.keep_short(every, how);
     }
 }

@@ -246,7 +246,7 @@ pub(crate) fn turn<'b, N: Naming>(
 {
     let book = &mut named.book;
     book.law();
-    let how = book.serial_lent(attempt, task);
+    let how = book.serve(attempt, task);
     book.keep_short(every, how);
 }
 

@@ -44,8 +44,8 @@ struct Ways<'g, G: Gate> {
 /// has fewer than N, and the base is a multiple of N; with none the base is 0.
 ///
 /// A task is given up only where memory ran out, and only where its transaction takes some: where it has an
-/// `orelse`, or there are more than eight variables. So a catalogue with no `orelse` and at most eight variables
-/// has none given up, however much memory is refused.
+/// `orelse` or writes a cell, or there are more than eight variables and cells. So a catalogue without either and
+/// with at most eight has none given up, however much memory is refused.
 ///
 /// Where the options have a seed, there are no workers, whatever the gate is, and none calls it: one task after another
 /// has its turn, in an order that a generator draws, which begins at the seed.

@@ -1,14 +1,16 @@
 -- What is asked by a ticket is answered of the one task that has it.
-use Rattle.std.proofs.Common.{◌≡◌, ◌<◌, Bool, true, false, MatchBool, Option, Some, None, length, sym, ap, subst, arith}
+use Rattle.std.proofs.Common.{◌≡◌, ◌≢◌, ◌∙◌, ℕ, zero, suc, ◌<◌, Bool, true, false, MatchBool, List, [], ◌∷◌, Option, Some, None, length, map, refl, sym, ap, subst, arith}
 use Rattle.std.specs.List.{slice_get}
 use Rattle.std.proofs.lemmas.List.{length-set}
-use Rattle.std.proofs.lemmas.Option.{slice_get_within}
+use Rattle.std.proofs.lemmas.Option.{same_Some, slice_get_within}
 use Rattle.txn_programs.specs.declared.ast.TaskId.{TaskId}
 use Rattle.txn_programs.specs.declared.ast.Outcome.{Outcome}
-use Rattle.book.specs.Tasks.{Ready, Running, GivenUp}
+use Rattle.book.specs.Tasks.{Task, Ready, Running, Parked, Done, GivenUp}
 use Rattle.book.specs.View.{BookView, IsRunning, stands}
 use Rattle.book.specs.Table.{IsWaiting}
-use Rattle.book.specs.Recorded.{IsReady, IsRecorded}
+use Rattle.book.specs.Recorded.{IsReady, IsRecorded, told_as}
+use Rattle.book.specs.declared.standing.Standing.{Standing}
+use Rattle.book.specs.declared.standing.Standing.TheVariants as told
 use Rattle.stm_store.specs.Tickets.{TicketsView, HasTicket, IsTaskOf}
 use Rattle.stm_store.specs.Asking.{Withdraws, GivesUp, TellsOutcome}
 use Rattle.stm_store.specs.Turning.{Serves, ServesTask}
@@ -43,3 +45,23 @@ serves old new ticket task served.NotRunning of h = (of_none (IsRunning old.book
 serves old new ticket task served.Parked of h = (task, of.0, h)
 serves old new ticket task served.Abandoned of h = (task, of.0, h)
 serves old new ticket task (served.Committed e) of h = (task, of.0, h)
+
+-- a task of which it is told that it runs does
+pub told_running : (ts : List Task) (k : ℕ) → slice_get (map told_as ts) k ≡ Some told.Running → slice_get ts k ≡ Some Running
+told_running [] k e = absurd (cc)
+told_running (t ∷ ts) (suc k) e = told_running ts k e
+told_running (t ∷ ts) zero e = ap Some (by t (same_Some (told_as t) told.Running e))
+  where
+    by : (t : Task) → told_as t ≡ told.Running → t ≡ Running
+    by Ready e = absurd (cc)
+    by Running e = refl
+    by (Parked log) e = absurd (cc)
+    by (Done n) e = absurd (cc)
+    by GivenUp e = absurd (cc)
+
+-- and no other one
+pub told_other : (ts : List Task) (k : ℕ) (how : Standing) → slice_get (map told_as ts) k ≡ Some how → how ≢ told.Running → slice_get ts k ≡ Some Running → ⊥
+told_other [] k how e other runs = absurd (cc)
+told_other (t ∷ ts) (suc k) how e other runs = told_other ts k how e other runs
+told_other (t ∷ ts) zero how e other runs =
+    other (sym (same_Some (told_as t) how e) ∙ ap told_as (same_Some t Running runs))

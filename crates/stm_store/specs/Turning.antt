@@ -51,6 +51,12 @@ Serves old ticket served.Abandoned new =
 Serves old ticket (served.Committed e) new =
     (task : TaskId) × HasTicket old.tickets task ticket × Ends old.every old.book task (end.Entered e) new.book
 
+-- `serial_lent`: where the job's task is running in the present chapter, it has its turn; else nothing changed
+abbrev pub ServesJob : Store → Job → Option End → Store → Type 0
+ServesJob old job None new = (IsPresentJob old job → IsRunning old.book job.task → ⊥) × (new.book ≡ old.book)
+ServesJob old job (Some how) new =
+    IsPresentJob old job × IsRunning old.book job.task × Ends old.every old.book job.task how new.book
+
 -- `turn`: where a task is ready, the lowest has its turn
 abbrev pub GivesTurn : Store → Option Turned → Store → Type 0
 GivesTurn old None new = Taken old.book None new.book

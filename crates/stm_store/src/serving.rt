@@ -42,9 +42,32 @@ fn entered(book: &Book<'static>, task: TaskId, number: u64) -> Entered
     }
 }
 
-/// A turn of a running task on the present values, and a checkpoint where one is due: how it ended.
+/// A turn of a running task on the present values, and a checkpoint where one is due: how it ended. Where it can be a
+/// plain one it is, and the attempt stays as it is.
 #[inline(always)]
 pub(crate) fn give_turn(
+    book: &mut Book<'static>,
+    attempt: &mut Attempt<'static>,
+    every: u32,
+    task: TaskId,
+) -> End
+    requires running { IsRunning book.old task }
+    ensures ends { Ends every book.old task result book.new }
+    ensures listing { book.new.catalogue ≡ book.old.catalogue }
+    ensures shape { IsSameShape book.old book.new }
+{
+    book.law();
+    let Some((outcome, number)) = book.turn_plainly(task) else {
+        return give_turn_by_attempt(book, attempt, every, task);
+    };
+    book.law();
+    book.keep_short(every, Serial::Committed(number));
+    End::Entered(Entered { number, outcome })
+}
+
+/// As `give_turn`, by the attempt.
+#[inline(always)]
+fn give_turn_by_attempt(
     book: &mut Book<'static>,
     attempt: &mut Attempt<'static>,
     every: u32,
@@ -166,7 +189,7 @@ pub(crate) fn give_turns(
         let Some(task) = book.take() else {
             return given;
         };
-        let how = book.serial_lent(attempt, task);
+        let how = book.serve(attempt, task);
         book.keep_short(every, how);
         given += 1;
     }

@@ -130,3 +130,40 @@ const GIVES: &[Step] = &[
 fn turns_are_given_until_none_is_ready(rt: HostRuntime) {
     expect(&rt, rt.alloc(), TWO, 1, GIVES);
 }
+
+/// A job has its turn where its task runs, in the chapter in which it was taken.
+const SERVES_JOBS: &[Step] = &[
+    Step::ServesJob(At(0, 0, 0, 0), None),
+    Step::Takes(Some(At(0, 0, 0, 0))),
+    Step::ServesJob(At(1, 0, 0, 0), None),
+    Step::ServesJob(At(0, 1, 0, 0), None),
+    Step::ServesJob(At(0, 0, 0, 1), None),
+    Step::ServesJob(At(0, 0, 7, 0), None),
+    Step::ServesJob(At(0, 0, 0, 0), Some(How::Returns(1, 6))),
+    Step::ServesJob(At(0, 0, 0, 0), None),
+    Step::Claims(1, Some(At(1, 0, 1, 0))),
+    Step::BeginsChapter,
+    Step::ServesJob(At(1, 0, 1, 0), None),
+    Step::Claims(1, Some(At(1, 1, 0, 0))),
+    Step::ServesJob(At(1, 0, 0, 0), None),
+    Step::ServesJob(At(1, 1, 0, 0), Some(How::Returns(1, 7))),
+    Step::Shows(Look::Good),
+];
+
+#[test]
+fn a_job_has_its_turn(rt: HostRuntime) {
+    expect(&rt, rt.alloc(), TWO, 1, SERVES_JOBS);
+}
+
+/// What retries is parked.
+const SERVES_ONE_THAT_RETRIES: &[Step] = &[
+    Step::Takes(Some(At(0, 0, 0, 0))),
+    Step::ServesJob(At(0, 0, 0, 0), Some(How::Parks)),
+    Step::Shows(Look::Standing(0, Some(Standing::Parked))),
+    Step::ServesJob(At(0, 0, 0, 0), None),
+];
+
+#[test]
+fn a_job_that_retries_waits(rt: HostRuntime) {
+    expect(&rt, rt.alloc(), WAITS, 1, SERVES_ONE_THAT_RETRIES);
+}

@@ -36,6 +36,8 @@ pub(crate) enum Step {
     GivesUp(u64, bool),
     /// The task was not running, or its turn ended so.
     Serves(u64, Option<How>),
+    /// The job's task was not running, or its turn by a lender's attempt ended so.
+    ServesJob(At, Option<How>),
     Turns(Option<(At, How)>),
     /// At most so many turns, and how many were given.
     Gives(u32, u32),
@@ -116,6 +118,14 @@ fn submits(store: &mut Store, tx: TxId, ticket: Option<u64>) -> bool {
     has(store, tx) && store.submit(tx, &[]) == ticket.map(Ticket)
 }
 
+/// Whether a turn of the job by a lender's attempt ends so.
+fn serves_job(store: &mut Store, at: At, how: Option<How>) -> bool {
+    let Some(mut lender) = store.lender() else {
+        return false;
+    };
+    store.serial_lent(&mut lender, job(at)) == how.map(end)
+}
+
 /// Whether the call on one task is answered so.
 fn asks(store: &mut Store, step: &Step) -> bool {
     match step {
@@ -125,6 +135,7 @@ fn asks(store: &mut Store, step: &Step) -> bool {
         Step::Withdraws(ticket, how) => store.withdraw(Ticket(*ticket)) == *how,
         Step::GivesUp(ticket, how) => store.give_up(Ticket(*ticket)) == *how,
         Step::Serves(ticket, how) => store.serial(Ticket(*ticket)) == served(*how),
+        Step::ServesJob(at, how) => serves_job(store, *at, *how),
         _ => false,
     }
 }

@@ -13,6 +13,7 @@ use Rattle.txn_programs.specs.Limits.{limits_hold}
 use Rattle.txn_programs.specs.Tree.{Expression, Condition, Statement, Statements, Transaction}
 use Rattle.txn_programs.specs.Tree as t
 use Rattle.txn_programs.specs.declared.arguments.Call.{Call}
+use Rattle.text_grammar.specs.declared.file.FileForm.{FileForm}
 use Rattle.text_grammar.specs.Scope.{Scope, inside}
 use Rattle.text_grammar.specs.Tree.{Table}
 use Rattle.text_file_printer.specs.Fits.{ExprFits, CondFits, StmtFits, StmtsFit, PairFits, TableFits, AlwaysFits, DeclarationFits, RunFits, FileFits}
@@ -109,9 +110,9 @@ runs : (ts : List Transaction) (rs : List (Call × ℕ)) → AllByRecursion RunF
 runs ts [] h = refl
 runs ts (r ∷ rs) h = and_from _ _ (integers r.0.arguments h.0.1) (runs ts rs h.1)
 
-pub integers_of : (l : Listing) → limits_hold l ≡ true → values l ≡ length l.initial → FileFits (written l) → integers_fit l ≡ true
+pub integers_of : (form : FileForm) (l : Listing) → limits_hold l ≡ true → values l ≡ length l.initial → FileFits (written form l) → integers_fit l ≡ true
 unfolding integers_fit written_in
-integers_of l limits valued h =
+integers_of form l limits valued h =
     let few : length l.names ≤ length l.initial = omega (arith, valued) in
     and_from _ _ (initial l few (tables_declared l limits valued) h.vars h.tables) (and_from _ _ (standing (scope_of l) l.always h.always)
     (and_from _ _ (transactions (scope_of l) l.transactions h.txs) (runs l.transactions l.runs h.runs)))

@@ -7,6 +7,7 @@ pub mod WordForms
 pub mod Spellings
 pub mod Depths
 pub mod Formed
+pub mod Told
 pub mod Printed
 pub mod Integers
 pub mod Parts

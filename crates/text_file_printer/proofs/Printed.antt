@@ -7,18 +7,19 @@ use Rattle.std.proofs.lemmas.List.{length-map}
 use Rattle.std.proofs.lemmas.List.Folds.{list_all-map}
 use Rattle.txn_programs.specs.declared.arguments.Call.{Call}
 use Rattle.txn_programs.specs.Tree.{Condition, Transaction, under}
-use Rattle.txn_programs.specs.Names.{is_name, are_formed, names_hold}
+use Rattle.txn_programs.specs.declared.ast.Span.{Span}
+use Rattle.txn_programs.specs.Names.{is_name, are_formed, names_hold, knows_table}
 use Rattle.txn_programs.specs.Limits.{limits_hold, deepest, program_fits}
 use Rattle.txn_programs.specs.Depth.{statement_depth, expression_depth, condition_depth}
-use Rattle.txn_programs.specs.Listing.{Listing, conditions}
+use Rattle.txn_programs.specs.Listing.{Listing, conditions, spans}
 use Rattle.txn_programs.proofs.Lawful.{names_parts, limits_parts, passes_at}
 use Rattle.text_words.specs.Tokens as token
 use Rattle.text_grammar.specs.Scope.{inside}
 use Rattle.text_grammar.specs.declared.file.FileForm.{FileForm}
 use Rattle.text_grammar.specs.declared.file.FileForm.TheVariants.{One, Two, Three}
-use Rattle.text_grammar.specs.Tree.{Pair, Table, Declaration, Run, HasNoLists, IsOfForm, IsAlways, IsTx, SpellsTree, longest, heading_tokens, pair_tokens, table_tokens, always_tokens, tx_tokens, run_tokens, file_tokens}
+use Rattle.text_grammar.specs.Tree.{Pair, Table, Declaration, Run, HasNoLists, IsOfForm, IsAlways, IsTx, SpellsTree, longest, has_tables, heading_tokens, pair_tokens, table_tokens, always_tokens, tx_tokens, run_tokens, file_tokens}
 use Rattle.text_grammar.specs.Written.{form_for_conditions, has_list, form_with, form_for, scope_of, written_vars, written_table, written_tables, written_always, written_transaction, written_run, written_in, written}
-use Rattle.text_file_printer.specs.Canonical.{heading_text, pair_line, table_line, always_line, tx_line, run_line, file_text}
+use Rattle.text_file_printer.specs.Canonical.{heading_text, pair_line, table_line, always_line, tx_line, run_line, text_in}
 use Rattle.text_file_printer.specs.Fits.{PairFits, TableFits, AlwaysFits, DeclarationFits, RunFits, FileFits}
 use Rattle.text_file_printer.proofs.Spelled.{IsWord, Lines, none_lines, both_lines, lines_of, spelled_by}
 use Rattle.text_file_printer.proofs.Spellings.{AreNames, name_at_is, var_is_word, heading_lines, pair_lines, table_lines, always_lines, tx_lines, run_lines}
@@ -141,16 +142,15 @@ run_list l h fits =
     map_lines run_line run_tokens (written_run l.transactions) (λ r. P r × Q r) (λ r k. run_lines (written_run l.transactions r) k.0 k.1) l.runs
     (all_both P Q l.runs (all_at P l.runs (run_named l h)) (unmapped RunFits (written_run l.transactions) l.runs fits))
 
-file_lines : (l : Listing) → names_hold l ≡ true → FileFits (written l) → Lines (file_text l) (file_tokens (written l))
+file_lines : (form : FileForm) (l : Listing) → names_hold l ≡ true → FileFits (written form l) → Lines (text_in form l) (file_tokens (written form l))
 unfolding written_in
-file_lines l h fits =
+file_lines form l h fits =
     let vars = written_vars l.names l.initial in
     let behind = drop (length l.names) l.initial in
     let tables = written_tables l.tables behind in
     let always = map (written_always (scope_of l)) l.always in
     let txs = map (written_transaction (scope_of l)) l.transactions in
     let runs = map (written_run l.transactions) l.runs in
-    let form = form_for l in
     let heading = heading_lines form in
     let a = pair_list (codes "var") var_is_word vars (vars_named l.names l.initial (names_parts l h).forms) fits.vars in
     let b = table_list l h tables (tables_named l.tables behind (names_parts l h).table_forms) fits.tables in
@@ -163,16 +163,21 @@ file_lines l h fits =
     (both_lines (flat_map always_line always) _ (flat_map always_tokens always) _ c
     (both_lines (flat_map (tx_line form) txs) (flat_map run_line runs) (flat_map (tx_tokens form) txs) (flat_map run_tokens runs) d e))))
 
--- a condition as it is written stands in the form that is told, and is not too deep
-always_formed : (l : Listing) → names_hold l ≡ true → limits_hold l ≡ true → (i : ℕ) (a : List ℕ × Condition) → slice_get l.always i ≡ Some a → IsAlways (form_for l) (written_always (scope_of l) a)
-always_formed l h k i a e =
+-- the form has room for the tables, the conditions and the parameters
+pub record HasRoom (form : FileForm) (l : Listing) : Type 0 where
+  pub tabled : (u : Span) → knows_table (spans l) u ≡ true → has_tables form ≡ true
+  pub formed : IsOfForm form (written form l)
+
+-- a condition as it is written stands in this form, and is not too deep
+always_formed : (form : FileForm) (l : Listing) → HasRoom form l → names_hold l ≡ true → limits_hold l ≡ true → (i : ℕ) (a : List ℕ × Condition) → slice_get l.always i ≡ Some a → IsAlways form (written_always (scope_of l) a)
+always_formed form l room h k i a e =
     let shallow : Condition → Bool = λ c. nat_le (condition_depth c) deepest in
     let all = (and_parts (list_all shallow (conditions l)) _ (limits_parts l k).conditions_fitting).0 in
     let deep = leb-true _ _ (passes_at (λ (a : List ℕ × Condition). shallow a.1) l.always i a (sym (list_all-map shallow (λ (a : List ℕ × Condition). a.1) l.always) ∙ all) e) in
-    (omega (arith, cond_deep (scope_of l) a.1, deep), cond_formed_in (form_for l) (scope_of l) (knows_form l) a.1 (condition_named_at l i a h e))
+    (omega (arith, cond_deep (scope_of l) a.1, deep), cond_formed_in form (scope_of l) room.tabled a.1 (condition_named_at l i a h e))
 
-transaction_formed : (l : Listing) → names_hold l ≡ true → limits_hold l ≡ true → (i : ℕ) (t : Transaction) → slice_get l.transactions i ≡ Some t → IsTx (form_for l) (written_transaction (scope_of l) t)
-transaction_formed l h k i t e =
+transaction_formed : (form : FileForm) (l : Listing) → HasRoom form l → names_hold l ≡ true → limits_hold l ≡ true → (i : ℕ) (t : Transaction) → slice_get l.transactions i ≡ Some t → IsTx form (written_transaction (scope_of l) t)
+transaction_formed form l room h k i t e =
     let fits = passes_at (λ (t : Transaction). program_fits (under (conditions l) t)) l.transactions i t (limits_parts l k).programs e in
     let body = and_parts (nat_le (statement_depth t.body) deepest) _ fits in
     let result = and_parts (nat_le (expression_depth t.result) deepest) _ body.1 in
@@ -180,8 +185,8 @@ transaction_formed l h k i t e =
     let deep' = leb-true _ _ result.0 in
     let names = inside (scope_of l) t.parameters in
     let named = transaction_named_at l i t h e in (
-      (omega (arith, stmt_deep names t.body, deep), stmt_formed_in (form_for l) names (knows_form l) t.body named.body),
-      (omega (arith, expr_deep names t.result, deep'), expr_formed_in (form_for l) names (knows_form l) t.result named.value),
+      (omega (arith, stmt_deep names t.body, deep), stmt_formed_in form names room.tabled t.body named.body),
+      (omega (arith, expr_deep names t.result, deep'), expr_formed_in form names room.tabled t.result named.value),
     )
 
 -- without tables and parameters there are no lists
@@ -204,25 +209,30 @@ without_tables : (l : Listing) → names_hold l ≡ true → (b : Bool) → list
 without_tables l h true e = tt
 without_tables l h false e = without l h e l.always refl
 
--- the form that is told has room for the tables, the conditions and the parameters
 in_form : (l : Listing) → names_hold l ≡ true → (ts : List (List ℕ × ℕ)) (values : List ℤ) → IsOfForm (form_with ts l) (written_in (form_with ts l) (written_tables ts values) l)
 in_form l h [] values = without_tables l h (list_any has_list l.transactions) refl
 in_form l h (t ∷ ts) values = tt
 
--- the text spells the file, where it is not too long
-pub printed_spells : (l : Listing) → names_hold l ≡ true → limits_hold l ≡ true → FileFits (written l) → length (file_text l) ≤ longest (file_text l) → SpellsTree (file_text l) (written l)
+-- the first form that has room, and form 3, which has room for all
+pub first_has_room : (l : Listing) → names_hold l ≡ true → HasRoom (form_for l) l
+first_has_room l named = record { tabled = knows_form l; formed = in_form l named l.tables (drop (length l.names) l.initial) }
+
+pub three_has_room : (l : Listing) → HasRoom Three l
+three_has_room l = record { tabled = λ u k. refl; formed = tt }
+
+-- the text in a form that has room spells the file, where it is not too long
+pub printed_spells : (form : FileForm) (l : Listing) → HasRoom form l → names_hold l ≡ true → limits_hold l ≡ true → FileFits (written form l) → length (text_in form l) ≤ longest (text_in form l) → SpellsTree (text_in form l) (written form l)
 unfolding written_in
-printed_spells l named limits fits short =
-    let lines = file_lines l named fits in
+printed_spells form l room named limits fits short =
+    let lines = file_lines form l named fits in
     let s = scope_of l in
-    let form = form_for l in
     record {
       short = short;
       allowed = lines.allowed;
-      spelled = spelled_by (file_text l) (file_tokens (written l)) lines;
-      formed = in_form l named l.tables (drop (length l.names) l.initial);
+      spelled = spelled_by (text_in form l) (file_tokens (written form l)) lines;
+      formed = room.formed;
       parts = (
-        all_map (IsAlways form) (written_always s) l.always (all_at (λ a. IsAlways form (written_always s a)) l.always (always_formed l named limits)),
-        all_map (IsTx form) (written_transaction s) l.transactions (all_at (λ t. IsTx form (written_transaction s t)) l.transactions (transaction_formed l named limits)),
+        all_map (IsAlways form) (written_always s) l.always (all_at (λ a. IsAlways form (written_always s a)) l.always (always_formed form l room named limits)),
+        all_map (IsTx form) (written_transaction s) l.transactions (all_at (λ t. IsTx form (written_transaction s t)) l.transactions (transaction_formed form l room named limits)),
       );
     }

@@ -1,13 +1,13 @@
 -- The canonical text: one form a line, one space between two tokens, but none after ( and none before ).
-use Rattle.std.specs.Prelude.{ℕ, ℤ, List, [], ◌∷◌, ◌++◌, codes}
+use Rattle.std.specs.Prelude.{ℕ, ℤ, Bool, List, [], ◌∷◌, ◌++◌, codes, length, nat_le, if◌then◌else◌}
 use Rattle.std.specs.Fmt.{signed_decimal}
 use Rattle.std.specs.List.{flat_map}
 use Rattle.txn_programs.specs.Listing.{Listing}
-use Rattle.text_grammar.specs.Tree.{Expr, Int, Name, At, OfAll, Binary, Cond, Compare, Not, Connect, Stmt, Skip, Set, Put, Seq, If, Repeat, Retry, OrElse, Throw, Stmts, NoStmts, MoreStmts, Pair, Table, Always, Declaration, Run, File, operator_word, fold_word, comparison_word, connective_word, keyword_word}
+use Rattle.text_grammar.specs.Tree.{Expr, Int, Name, At, OfAll, Binary, Cond, Compare, Not, Connect, Stmt, Skip, Set, Put, Seq, If, Repeat, Retry, OrElse, Throw, Stmts, NoStmts, MoreStmts, Pair, Table, Always, Declaration, Run, File, longest, operator_word, fold_word, comparison_word, connective_word, keyword_word}
 use Rattle.text_grammar.specs.declared.words.Keyword.TheVariants as keyword
 use Rattle.text_grammar.specs.declared.file.FileForm.{FileForm}
 use Rattle.text_grammar.specs.declared.file.FileForm.TheVariants.{One, Two, Three}
-use Rattle.text_grammar.specs.Written.{written}
+use Rattle.text_grammar.specs.Written.{form_for, written}
 
 -- a word in parentheses, with its parts behind it
 abbrev pub form_text : List ℕ → List ℕ → List ℕ
@@ -98,5 +98,17 @@ text_of f =
     heading_text f.form ++ (flat_map (pair_line (codes "var")) f.vars ++ (flat_map table_line f.tables
     ++ (flat_map always_line f.always ++ (flat_map (tx_line f.form) f.txs ++ flat_map run_line f.runs))))
 
+-- the text of a listing in this form
+abbrev pub text_in : FileForm → Listing → List ℕ
+text_in form l = text_of (written form l)
+
+-- no longer than a file that begins so may be
+abbrev pub is_short_enough : List ℕ → Bool
+is_short_enough text = nat_le (length text) (longest text)
+
+-- the first form that has room for the tables, the conditions and the parameters, but form 3 where the text in that one is too long
+unfoldable pub form_told : Listing → FileForm
+form_told l = if is_short_enough (text_in (form_for l) l) then form_for l else Three
+
 abbrev pub file_text : Listing → List ℕ
-file_text l = text_of (written l)
+file_text l = text_in (form_told l) l

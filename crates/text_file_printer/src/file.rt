@@ -14,7 +14,7 @@ ghost use Rattle.text_grammar.specs.Spelling.{Spells};
 ghost use Rattle.text_grammar.specs.Tree.{file_tokens, longest};
 ghost use Rattle.text_file_printer.specs.Canonical.{spaced, heading_text, pair_line, numbers_told, table_line};
 ghost use Rattle.text_file_printer.specs.Canonical.{always_line, names_text, list_text, tx_line, spaced_integer};
-ghost use Rattle.text_file_printer.specs.Canonical.{run_line, file_text};
+ghost use Rattle.text_file_printer.specs.Canonical.{run_line, text_in, is_short_enough, form_told, file_text};
 ghost use Rattle.text_file_printer.specs.Layout.{laid_out};
 ghost use Rattle.text_file_printer.specs.Named.{ExpressionNamed, ConditionNamed, StatementNamed};
 ghost use Rattle.text_file_printer.specs.Fits.{PairFits, TableFits, AlwaysFits, DeclarationFits, RunFits, FileFits};
@@ -22,34 +22,49 @@ ghost use Rattle.text_file_printer.specs.Fits.{PairFits, TableFits, AlwaysFits, 
 use crate::forms::{Scope, put_last_condition, put_last_expression, put_part};
 use std::alloc::{AllocError, Global};
 use std::fmt::Write;
-use text_grammar::file::FileForm;
+use text_grammar::file::{FileForm, longest_file};
 use txn::{Call, Catalogue, Cond, Memory, Tx, TxId, VarId};
 
 /// The canonical text of a catalogue: one form a line, each line ended by a newline, the variables first, then the
 /// tables, then the standing conditions, then the transactions, then the runs. Where there is a table or a transaction
 /// has parameters, the line `(stm 3)` stands before all others and each transaction has its list of parameters, else
-/// where there are conditions, the line `(stm 2)`. A table has one number where all its cells begin at the same, else
-/// one for each cell. One space stands between two tokens, none after `(` and none before `)`. `Err` means that memory
-/// was refused.
+/// where there are conditions, the line `(stm 2)`. Where this text would be longer than a file of its form may be, the
+/// form is 3 nevertheless, which may be longer, and each list of parameters is empty. A table has one number where all
+/// its cells begin at the same, else one for each cell. One space stands between two tokens, none after `(` and none
+/// before `)`. `Err` means that memory was refused.
 pub fn print_file(alloc: Global, catalogue: &Catalogue) -> Result<String, Memory>
     ensures text { IfOk result (λ s. string_bytes s ≡ file_text catalogue.now) }
     // The same, said of the tokens alone.
-    ensures layout { IfOk result (λ s. string_bytes s ≡ laid_out (file_tokens (written catalogue.now))) }
+    ensures layout { IfOk result (λ s. string_bytes s
+        ≡ laid_out (file_tokens (written (form_told catalogue.now) catalogue.now))) }
     ensures again { IfOk result
         (λ s. length (string_bytes s) ≤ longest (string_bytes s) → Spells (string_bytes s) catalogue.now) }
 {
     catalogue.rules();
+    let form = form_of(catalogue);
     let mut out = String::new(alloc);
-    put_file(&mut out, catalogue)?;
+    put_file(&mut out, catalogue, form)?;
+    if is_short_enough(out.as_str()) {
+        return Ok(out);
+    }
+    out.clear();
+    put_file(&mut out, catalogue, FileForm::Three)?;
     Ok(out)
 }
 
-#[tactic(auto, unfolding(text_grammar::specs::Written::written_in))]
-fn put_file(out: &mut String, catalogue: &Catalogue) -> Result<(), AllocError>
-    ensures text { OnOk result (string_bytes out.new ≡ string_bytes out.old ++ file_text catalogue.now) }
-    ensures fits { OnOk result (FileFits (written catalogue.now)) }
+/// Whether the text is no longer than a file that begins so may be.
+fn is_short_enough(text: &str) -> bool
+    ensures { result ≡ is_short_enough text.now }
 {
-    let form = form_of(catalogue);
+    text.len() <= longest_file(text.as_bytes())
+}
+
+/// The text in this form.
+#[tactic(auto, unfolding(text_grammar::specs::Written::written_in))]
+fn put_file(out: &mut String, catalogue: &Catalogue, form: FileForm) -> Result<(), AllocError>
+    ensures text { OnOk result (string_bytes out.new ≡ string_bytes out.old ++ text_in form catalogue.now) }
+    ensures fits { OnOk result (FileFits (written form catalogue.now)) }
+{
     put_heading(out, form)?;
     put_vars(out, catalogue)?;
     put_tables(out, catalogue)?;

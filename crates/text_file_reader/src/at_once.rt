@@ -23,9 +23,9 @@ use crate::expressions::last_expression_at_once;
 use crate::statements::statement_at_once;
 use indexmap::IndexSet;
 use std::alloc::Global;
-use text_grammar::file::FileForm;
+use text_grammar::file::{FileForm, longest_file};
 use text_parser::file::{
-    INNER_DEPTH, end, heading_of, longest_file, pairs_of, parameters_of, runs_of, tables_of,
+    INNER_DEPTH, end, heading_of, pairs_of, parameters_of, runs_of, tables_of,
 };
 use text_resolver::names::{Scope, declare, param_names, var_names};
 use text_resolver::resolve::{Parts, owned, runs, variables};
@@ -315,8 +315,10 @@ fn file_at_once(alloc: Global, bytes: &[u8]) -> Result<Parts, ReadFault>
 }
 
 /// What a file declares, where it is without a fault up to its limits. A fault is one of those that
-/// the file has, and may not be its first.
+/// the file has, and may not be its first. It is a call, so that who reads a file takes little
+/// stack where its statements nest.
 #[tactic(auto, unfolding(text_grammar::specs::Reading::tree_of))]
+#[inline(never)]
 pub(crate) fn parts_at_once(alloc: Global, bytes: &[u8]) -> Result<Parts, ReadFault>
     ensures { IfOk result (λ parts. (tree_of bytes.now >>=ᴿ λ file. resolved file) ≡ Ok (view_parts parts)) }
 {

@@ -98,6 +98,7 @@ fn compound_at_once<'a>(
     }
 }
 
+#[inline(always)]
 #[cycle(expressions)]
 fn binary_at_once<'a>(
     alloc: Global,

@@ -17,7 +17,8 @@ use text_words::ReadFault;
 use txn::{BuildFault, Catalogue};
 
 /// The catalogue of the parts, whose ids are those of names that were looked up, or which of names,
-/// limits and conditions does not hold.
+/// limits and conditions does not hold. It is a call, so that the catalogue takes no stack while the parts are read.
+#[inline(never)]
 fn built(alloc: Global, parts: Parts) -> Result<Catalogue, ReadFault>
     requires { ids_hold (view_parts parts) ≡ true }
     ensures { Gives (λ c. c) result (lawful (view_parts parts)) }
@@ -41,6 +42,7 @@ fn built(alloc: Global, parts: Parts) -> Result<Catalogue, ReadFault>
 /// The catalogue of a file, or its first fault: its whole tree is read first, and its names are judged
 /// before its numbers.
 #[tactic(auto, unfolding(text_grammar::specs::Spelling::listing_at))]
+#[inline(never)]
 fn read_in_passes(alloc: Global, bytes: &[u8]) -> Result<Catalogue, ReadFault>
     ensures { Gives (λ c. c) result (listing_at bytes.now) }
 {

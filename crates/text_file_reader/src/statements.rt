@@ -1,6 +1,6 @@
 //! Statements, made as they are read.
 
-ghost use Rattle.std.specs.Prelude.{IfOk};
+ghost use Rattle.std.specs.Prelude.{◌≡◌, ◌++◌, ◌∷◌, [], IfOk, OnOk};
 ghost use Rattle.txn_programs.specs.Tree.{statement_of};
 ghost use Rattle.text_words.specs.Tokens.{tokens};
 ghost use Rattle.text_grammar.specs.Reading.{expr_at, cond_at, stmt_at, set_with, put_with, seq_with};
@@ -11,7 +11,7 @@ ghost use Rattle.text_file_reader.specs.Resolved.{Makes, MakesTwo};
 
 use crate::conditions::condition_at_once;
 use crate::expressions::{expression_at_once, last_expression_at_once};
-use std::alloc::Global;
+use std::alloc::{AllocError, Global};
 use text_grammar::file::FileForm;
 use text_grammar::words::{Keyword, keyword_of};
 use text_resolver::names::Scope;
@@ -97,6 +97,16 @@ fn put_at_once<'a>(
     }
 }
 
+/// One part more. It is a call, so that what a statement is moved through takes no stack while another is read
+/// within it.
+#[inline(never)]
+fn keep(parts: &mut Vec<Stmt>, part: Stmt) -> Result<(), AllocError>
+    ensures { OnOk result (parts.new.items ≡ parts.old.items ++ part ∷ []) }
+{
+    parts.push(part)?;
+    Ok(())
+}
+
 /// The parts of a sequence, as long as a parenthesis opens, and its end.
 #[cycle(statements)]
 fn seq_at_once<'a>(
@@ -114,7 +124,7 @@ fn seq_at_once<'a>(
     let mut rest = bytes;
     'parts: while is_open(rest) {
         let (part, after) = statement_at_once(alloc, file_form, scope, depth, rest)?;
-        parts.push(part)?;
+        keep(&mut parts, part)?;
         rest = after;
     }
     let rest = close(rest)?;

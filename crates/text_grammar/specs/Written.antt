@@ -144,6 +144,6 @@ abbrev pub written_tables : List (List ℕ × ℕ) → List ℤ → List Table
 written_tables [] vs = []
 written_tables (t ∷ ts) vs = written_table t (take t.1 vs) ∷ written_tables ts (drop t.1 vs)
 
--- the file as it is printed
-abbrev pub written : Listing → File
-written l = written_in (form_for l) (written_tables l.tables (drop (length l.names) l.initial)) l
+-- the file as it is printed in this form
+abbrev pub written : FileForm → Listing → File
+written form l = written_in form (written_tables l.tables (drop (length l.names) l.initial)) l

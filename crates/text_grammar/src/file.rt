@@ -1,5 +1,8 @@
 //! Files as trees of texts.
 
+ghost use Rattle.std.specs.Prelude.{◌≡◌};
+ghost use Rattle.text_grammar.specs.Tree.{longest};
+
 use crate::cond::RawCond;
 use crate::expr::RawExpr;
 use crate::stmt::RawStmt;
@@ -20,7 +23,8 @@ pub enum FileForm {
     Three,
 }
 
-/// A table: its name, how many cells it has, and the first number of what they are at first, with the others that are given.
+/// A table: its name, how many cells it has, and the first number of what they are at first, with the others that are
+/// given.
 #[derive(Drop)]
 pub struct RawTable<'a> {
     pub name: &'a str,
@@ -62,4 +66,22 @@ pub struct RawFile<'a> {
     pub always: Vec<RawAlways<'a>>,
     pub txs: Vec<RawTx<'a>>,
     pub runs: Vec<RawRun<'a>>,
+}
+
+/// The longest file that does not begin with `(stm 3)`, in bytes.
+pub const MAX_FILE: usize = 1_048_576;
+
+/// The longest file that begins with `(stm 3)`, in bytes: it may have tables, and tell each of their cells.
+pub const MAX_FILE_OF_FORM_3: usize = 67_108_864;
+
+/// How many bytes a file that begins so has at most.
+#[tactic(auto, unfolding(crate::specs::Tree::longest))]
+pub fn longest_file(bytes: &[u8]) -> usize
+    ensures { result ≡ longest bytes.now }
+{
+    if bytes.starts_with(b"(stm 3)") {
+        MAX_FILE_OF_FORM_3
+    } else {
+        MAX_FILE
+    }
 }

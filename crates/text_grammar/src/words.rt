@@ -101,6 +101,7 @@ pub fn has_tables(file_form: FileForm) -> bool
 }
 
 /// The kind of expression that a word begins in a file of this form.
+#[inline(always)]
 pub fn head_of(file_form: FileForm, word: &str) -> Result<Head, ReadFault>
     ensures value { Gives (λ x. x) result (head_of file_form word.now) }
     ensures kind { IfErr result (λ e. e ≡ Shape) }
@@ -135,6 +136,7 @@ pub fn test_of(word: &str) -> Result<Test, ReadFault>
 }
 
 /// The kind of statement that a word begins in a file of this form.
+#[inline(always)]
 pub fn keyword_of(file_form: FileForm, word: &str) -> Result<Keyword, ReadFault>
     ensures value { Gives (λ x. x) result (keyword_of file_form word.now) }
     ensures kind { IfErr result (λ e. e ≡ Shape) }

@@ -5,7 +5,7 @@ ghost use Rattle.text_words.specs.Bytes.{int_value};
 ghost use Rattle.text_words.specs.Tokens.{Lexeme, tokens};
 ghost use Rattle.text_words.specs.Answers.{Gives, ◌>>=◌ as ◌>>=ᴿ◌};
 ghost use Rattle.text_words.specs.declared.fault.ReadFault.TheVariants.{Shape};
-ghost use Rattle.text_grammar.specs.Tree.{Declaration, longest};
+ghost use Rattle.text_grammar.specs.Tree.{Declaration};
 ghost use Rattle.text_grammar.specs.Reading.{pair_at, pair_behind, table_at, tables_at, always_at, conditions_at};
 ghost use Rattle.text_grammar.specs.Reading.{list_at, parameters_at, tx_at, arguments_at, run_behind, run_at, end_at};
 ghost use Rattle.text_grammar.specs.Reading.{form_numbered, announced_at, heading_at, file_of, tree_of};
@@ -19,7 +19,9 @@ use crate::expr::expr_of;
 use crate::stmt::stmt_of;
 use std::alloc::Global;
 use text_grammar::expr::RawExpr;
-use text_grammar::file::{FileForm, RawAlways, RawFile, RawPair, RawRun, RawTable, RawTx};
+use text_grammar::file::{
+    FileForm, RawAlways, RawFile, RawPair, RawRun, RawTable, RawTx, longest_file,
+};
 use text_grammar::stmt::RawStmt;
 use text_words::ReadFault;
 use text_words::bytes::are_allowed;
@@ -448,26 +450,10 @@ fn file_of(alloc: Global, bytes: &[u8]) -> Result<RawFile<'_>, ReadFault>
     })
 }
 
-/// The longest file that does not begin with `(stm 3)`, in bytes.
-pub const MAX_FILE: usize = 1_048_576;
-
-/// The longest file that begins with `(stm 3)`, in bytes: it may have tables, and tell each of their cells.
-pub const MAX_FILE_OF_FORM_3: usize = 67_108_864;
-
-/// How many bytes a file that begins so has at most.
-#[tactic(auto, unfolding(text_grammar::specs::Tree::longest))]
-pub fn longest_file(bytes: &[u8]) -> usize
-    ensures { result ≡ longest bytes.now }
-{
-    if bytes.starts_with(b"(stm 3)") {
-        MAX_FILE_OF_FORM_3
-    } else {
-        MAX_FILE
-    }
-}
-
-/// The tree of the bytes, or the first fault of length, bytes and shape, judged over all of them.
+/// The tree of the bytes, or the first fault of length, bytes and shape, judged over all of them. It is a call, so
+/// that who reads a file takes little stack where its statements nest.
 #[tactic(auto, unfolding(text_grammar::specs::Reading::tree_of))]
+#[inline(never)]
 pub fn tree_of(alloc: Global, bytes: &[u8]) -> Result<RawFile<'_>, ReadFault>
     ensures { Gives view_file result (tree_of bytes.now) }
 {

@@ -1,6 +1,6 @@
 //! Statements as the file has them.
 
-ghost use Rattle.std.specs.Prelude.{◌≡◌, ◌<◌, ◌≤◌, List, Ok, IfOk, length};
+ghost use Rattle.std.specs.Prelude.{◌≡◌, ◌<◌, ◌≤◌, ◌++◌, ◌∷◌, [], List, Ok, IfOk, OnOk, length};
 ghost use Rattle.text_words.specs.Tokens.{Lexeme, tokens};
 ghost use Rattle.text_words.specs.Answers.{Gives, ◌>>=◌ as ◌>>=ᴿ◌};
 ghost use Rattle.text_words.specs.TokenReading.{close_at};
@@ -11,7 +11,7 @@ ghost use Rattle.text_grammar.specs.View.{view_cond, view_stmt};
 
 use crate::cond::cond_of;
 use crate::expr::expr_of;
-use std::alloc::Global;
+use std::alloc::{AllocError, Global};
 use text_grammar::cond::RawCond;
 use text_grammar::file::FileForm;
 use text_grammar::stmt::RawStmt;
@@ -89,6 +89,16 @@ fn put_of(
     Ok((RawStmt::Put(table, index, value), rest))
 }
 
+/// One part more. It is a call, so that what a statement is moved through takes no stack while another is read
+/// within it.
+#[inline(never)]
+fn keep<'a>(parts: &mut Vec<RawStmt<'a>>, part: RawStmt<'a>) -> Result<(), AllocError>
+    ensures { OnOk result (parts.new.items ≡ parts.old.items ++ part.entry ∷ []) }
+{
+    parts.push(part)?;
+    Ok(())
+}
+
 /// The parts of a sequence, as long as a parenthesis opens, and its end.
 #[cycle(stmts)]
 fn seq_of(
@@ -105,7 +115,7 @@ fn seq_of(
     let mut rest = bytes;
     'parts: while is_open(rest) {
         let (part, after) = stmt_of(alloc, file_form, depth, rest)?;
-        parts.push(part)?;
+        keep(&mut parts, part)?;
         rest = after;
     }
     let rest = close(rest)?;

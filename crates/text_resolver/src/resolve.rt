@@ -576,7 +576,8 @@ fn convert(alloc: Global, names: &DeclaredNames<'_>, file: RawFile<'_>) -> Resul
 }
 
 /// What the file declares, or its first fault: names are judged over the whole file before any
-/// number is.
+/// number is. It is a call, so that it takes no stack while the file's tree is read.
+#[inline(never)]
 pub fn resolve(alloc: Global, file: RawFile<'_>) -> Result<Parts, ReadFault>
     ensures { Gives view_parts result (resolved (view_file file.entry)) }
 {

@@ -14,7 +14,7 @@ tells true = inl refl
 tells false = inr refl
 
 -- where q passes whatever p passes, a scan by p stops where one by q does exactly where p passes all of it
-reaches : (p q : ℕ → Bool) → ((b : ℕ) → p b ≡ true → q b ≡ true) → (bytes : List ℕ) → eqb (prefix_len q (drop (prefix_len p bytes) bytes)) 0 ≡ list_all p (take_while q bytes)
+pub reaches : (p q : ℕ → Bool) → ((b : ℕ) → p b ≡ true → q b ≡ true) → (bytes : List ℕ) → eqb (prefix_len q (drop (prefix_len p bytes) bytes)) 0 ≡ list_all p (take_while q bytes)
 reaches p q within [] = refl
 reaches p q within (b ∷ bytes) =
     elim (tells (p b)) [
@@ -26,7 +26,7 @@ reaches p q within (b ∷ bytes) =
     ]
 
 -- and then both have looked at as many
-same_len : (p q : ℕ → Bool) → ((b : ℕ) → p b ≡ true → q b ≡ true) → (bytes : List ℕ) → prefix_len q (drop (prefix_len p bytes) bytes) ≡ 0 → prefix_len q bytes ≡ prefix_len p bytes
+pub same_len : (p q : ℕ → Bool) → ((b : ℕ) → p b ≡ true → q b ≡ true) → (bytes : List ℕ) → prefix_len q (drop (prefix_len p bytes) bytes) ≡ 0 → prefix_len q bytes ≡ prefix_len p bytes
 same_len p q within [] h = refl
 same_len p q within (b ∷ bytes) stop =
     elim (tells (p b)) [

@@ -6,3 +6,5 @@ pub mod Many
 pub mod Pieces
 pub mod Fronts
 pub mod Nexts
+pub mod Fronting
+pub mod Shorts

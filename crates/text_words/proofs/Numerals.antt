@@ -1,10 +1,10 @@
 -- What names and integers of the tokens are as texts.
-use Rattle.std.proofs.Common.{◌≡◌, ℕ, suc, ◌<◌, Bool, true, false, cond, eqb, leb, ◌&&◌, List, [], ◌∷◌, length, get_or, Option, Result, Ok, Err, refl, sym, ap, subst, arith, lit<, inl, inr, Bor}
+use Rattle.std.proofs.Common.{◌≡◌, ℕ, zero, suc, ◌-ℤ◌, ◌<◌, ◌≤◌, Bool, true, false, cond, eqb, leb, ◌&&◌, List, [], ◌∷◌, length, get_or, take, drop, ◌∙◌, ◌-◌, Option, Result, Ok, Err, refl, sym, ap, subst, arith, lit<, inl, inr, Bor}
 use Rattle.std.specs.Prelude.{IsOk, MatchResult, FitsSigned}
 use Rattle.std.specs.Int.{w64}
 use Rattle.std.specs.Result.{result_ok}
 use Rattle.std.specs.Str.{IsAscii, IsUtf8}
-use Rattle.std.specs.Str.Parse.{ParsesSigned, IsNumeral, AllDigits, without_leading_sign}
+use Rattle.std.specs.Str.Parse.{ParsesSigned, IsNumeral, AllDigits, digits_value, without_leading_sign}
 use Rattle.std.specs.Char.{is_ascii_digit, digit_value}
 use Rattle.std.specs.List.{list_all}
 use Rattle.std.proofs.lemmas.Str.{IsUtf8-from_ascii}
@@ -12,15 +12,18 @@ use Rattle.std.proofs.lemmas.Bool.{eqb-true, leb-true, ne_eqb}
 use Rattle.std.proofs.lemmas.Bool.Decides.{eqb_tells}
 use Rattle.std.proofs.lemmas.Grind.{common_steps}
 use Rattle.text_words.specs.Bytes.{is_int, is_positive}
-use Rattle.std.specs.Prelude.{ℤ, pos, negsuc, ◌^◌, unsigned_abs, nat_lt}
+use Rattle.std.specs.Prelude.{ℤ, pos, negsuc, neg_ℤ, ◌^◌, unsigned_abs, nat_lt}
 use Rattle.std.specs.Int.{FitsUnsignedBits}
 use Rattle.std.specs.Result.{OkIff}
 use mir.Val.{to_z, of_z}
-use mir.ValLaws.{to_z-of_z}
+use mir.ValLaws.{to_z-of_z, to_z_pos}
 use Rattle.std.specs.Option.{ok_or}
 use Rattle.std.proofs.lemmas.Bool.{lt-ltb, ltb-true}
+use Rattle.std.proofs.lemmas.Int.{ints}
+use Rattle.std.proofs.lemmas.List.{take_all, length-drop}
 use Rattle.txn_programs.specs.Arithmetic.{fits}
 use Rattle.text_words.specs.Bytes.{int_value}
+use Rattle.text_words.proofs.Shorts.{few_digits}
 use Rattle.text_words.specs.Answers.{Gives, Fails}
 use Rattle.text_words.specs.Numbers.{number_of, count_of}
 use Rattle.text_words.specs.declared.fault.ReadFault.{ReadFault}
@@ -76,6 +79,101 @@ numeral (c ∷ cs) h =
       ]
     ]
 
+-- an integer has a byte, and begins with no plus
+pub some_byte : (text : List ℕ) → is_int text ≡ true → 0 < length text
+unfolding is_int
+some_byte [] h = absurd cc
+some_byte (c ∷ cs) h = omega arith
+
+no_plus : (text : List ℕ) → is_int text ≡ true → eqb (get_or text 0 0) 43 ≡ false
+unfolding is_int
+no_plus [] h = absurd cc
+no_plus (c ∷ cs) h =
+    elim (eqb_tells c 48) [
+      | inl p ↦ rw p.1 refl
+      | inr p ↦ elim (eqb_tells c 45) [
+        | inl q ↦ rw q.1 refl
+        | inr q ↦
+            let g : is_positive (c ∷ cs) ≡ true = rw (p.0, q.0) at h in
+            let low = (positive (c ∷ cs) g).1 in
+            ne_eqb c 43 (λ e. absurd (omega arith))
+      ]
+    ]
+
+-- the digits of an integer, with a minus in front and without
+pub minus_digits : (text : List ℕ) → is_int text ≡ true → eqb (get_or text 0 0) 45 ≡ true → AllDigits 10 (drop 1 text)
+minus_digits text h minus = let g : AllDigits 10 (without_leading_sign text) = (numeral text h).1 in let same : without_leading_sign text ≡ drop 1 text = rw minus refl in subst (AllDigits 10) same g
+
+pub plain_digits : (text : List ℕ) → is_int text ≡ true → eqb (get_or text 0 0) 45 ≡ false → AllDigits 10 text
+plain_digits text h none = subst (AllDigits 10) (plain text none (no_plus text h)) (numeral text h).1
+
+pub minus_value : (text : List ℕ) → eqb (get_or text 0 0) 45 ≡ true → int_value text ≡ neg_ℤ (pos (digits_value 10 (drop 1 text)))
+minus_value text minus = rw minus refl
+
+pub plain_value : (text : List ℕ) → is_int text ≡ true → eqb (get_or text 0 0) 45 ≡ false → int_value text ≡ pos (digits_value 10 text)
+plain_value text h none = rw (none, no_plus text h) refl
+
+-- few digits, with a minus or without, as 64 signed bits
+pub few_fits : (v : ℕ) → v < 1000000000000000000 → FitsSigned w64 (pos v)
+few_fits v few = record { sfits = omega arith }
+
+zero_less : (v : ℕ) → (pos 0 -ℤ pos v) ≡ neg_ℤ (pos v)
+zero_less v = omega (arith, ints)
+
+neg_fits : (v : ℕ) → v < 1000000000000000000 → FitsSigned w64 (neg_ℤ (pos v))
+neg_fits zero few = record { sfits = omega arith }
+neg_fits (suc k) few = record { sfits = omega arith }
+
+pub minus_fits : (v : ℕ) → v < 1000000000000000000 → FitsSigned w64 (pos 0 -ℤ pos v)
+minus_fits v few = subst (FitsSigned w64) (sym (zero_less v)) (neg_fits v few)
+
+pub few_back : (v : ℕ) → v < 1000000000000000000 → to_z w64 v ≡ pos v
+few_back v few = to_z_pos w64 v (omega arith)
+
+pub minus_back : (v : ℕ) → v < 1000000000000000000 → to_z w64 (of_z w64 (pos 0 -ℤ pos v)) ≡ neg_ℤ (pos v)
+minus_back v few = to_z-of_z w64 (pos 0 -ℤ pos v) (minus_fits v few) ∙ zero_less v
+
+-- the digits behind a minus: few of them, and what they are worth
+pub record MinusShape (text : List ℕ) : Type 0 where
+  pub digits : AllDigits 10 (take (length text - 1) (drop 1 text))
+  pub few : (v : ℕ) → v ≡ digits_value 10 (take (length text - 1) (drop 1 text)) → v < 1000000000000000000
+  pub fits : (v : ℕ) → v ≡ digits_value 10 (take (length text - 1) (drop 1 text)) → FitsSigned w64 (pos 0 -ℤ to_z w64 v)
+  pub value : (v : ℕ) → v ≡ digits_value 10 (take (length text - 1) (drop 1 text)) → to_z w64 (of_z w64 (pos 0 -ℤ to_z w64 v)) ≡ int_value text
+
+whole_rest : (text : List ℕ) → take (length text - 1) (drop 1 text) ≡ drop 1 text
+whole_rest text = take_all (length text - 1) (drop 1 text) (omega (arith, length-drop 1 text))
+
+pub minus_shape : (text : List ℕ) → is_int text ≡ true → length text ≤ 18 → get_or text 0 0 ≡ 45 → MinusShape text
+minus_shape text h short e =
+    let minus : eqb (get_or text 0 0) 45 ≡ true = rw e refl in
+    let whole = whole_rest text in
+    let are = minus_digits text h minus in
+    let under : digits_value 10 (drop 1 text) < 1000000000000000000 = few_digits (drop 1 text) are (omega (arith, length-drop 1 text)) in
+    let below : (v : ℕ) → v ≡ digits_value 10 (take (length text - 1) (drop 1 text)) → v < 1000000000000000000 = λ v is. subst (λ (n : ℕ). n < 1000000000000000000) (sym (is ∙ ap (digits_value 10) whole)) under in
+    record {
+      digits = subst (AllDigits 10) (sym whole) are;
+      few = below;
+      fits = λ v is. rw (few_back v (below v is)) (minus_fits v (below v is));
+      value = λ v is. rw (few_back v (below v is)) (minus_back v (below v is) ∙ ap (λ (n : ℕ). neg_ℤ (pos n)) (is ∙ ap (digits_value 10) whole) ∙ sym (minus_value text minus));
+    }
+
+-- the digits with none
+pub record PlainShape (text : List ℕ) : Type 0 where
+  pub digits : AllDigits 10 text
+  pub few : (v : ℕ) → v ≡ digits_value 10 text → v < 1000000000000000000
+  pub value : (v : ℕ) → v ≡ digits_value 10 text → to_z w64 v ≡ int_value text
+
+pub plain_shape : (text : List ℕ) → is_int text ≡ true → length text ≤ 18 → (get_or text 0 0 ≡ 45 → ⊥) → PlainShape text
+plain_shape text h short other =
+    let none = ne_eqb (get_or text 0 0) 45 other in
+    let are = plain_digits text h none in
+    let below : (v : ℕ) → v ≡ digits_value 10 text → v < 1000000000000000000 = λ v is. subst (λ (n : ℕ). n < 1000000000000000000) (sym is) (few_digits text are short) in
+    record {
+      digits = are;
+      few = below;
+      value = λ v is. few_back v (below v is) ∙ ap (λ (n : ℕ). let z : ℤ = pos n in z) is ∙ sym (plain_value text h none);
+    }
+
 same_bool : (b : Bool) → (b ≡ true → ⊥) → b ≡ false
 same_bool true h = absurd (h refl)
 same_bool false h = refl
@@ -94,6 +192,11 @@ pub number_given : {E : Type 0} (text : List ℕ) (r : Result ℤ E) (o : Option
 unfolding number_of
 number_given text (Ok x) o given h p e g = let is_value : x ≡ int_value text = p.1 in rw (g, e, fits_is (int_value text) p.0.1) (ap (λ (y : ℤ). let made : Result ℤ ReadFault = Ok y in made) (sym is_value))
 number_given text (Err x) o given h p e g = rw (g, e, same_bool (fits (int_value text)) (λ f. p (numeral text h, is_fits (int_value text) f))) refl
+
+-- a number that 64 signed bits have room for
+pub number_self : (z r : ℤ) → z ≡ r → FitsSigned w64 r → number_of z ≡ Ok (to_z w64 (of_z w64 r))
+unfolding number_of
+number_self z r e f = rw (e, fits_is r f, to_z-of_z w64 r f) refl
 
 chosen_number : (b : Bool) (z x : ℤ) → (let r : Result ℤ ReadFault = cond b (Ok z) (Err faults.Limit) in r) ≡ Ok x → (b ≡ true) × (z ≡ x)
 chosen_number true z x e = (refl, cc)

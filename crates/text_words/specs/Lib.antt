@@ -5,3 +5,4 @@ pub mod TokenReading
 pub mod TokenView
 pub mod Numbers
 pub mod Words
+pub mod Fronts

@@ -71,6 +71,14 @@ pub(crate) fn line_len(bytes: &[u8]) -> usize
     bytes.iter().take_while(|b| is_in_line(**b)).count()
 }
 
+/// How many digits stand at the front.
+pub(crate) fn digits_len(bytes: &[u8]) -> usize
+    ensures value { result ≡ prefix_len is_ascii_digit bytes.now }
+    ensures bound { result ≤ length bytes.now }
+{
+    bytes.iter().take_while(|b| b.is_ascii_digit()).count()
+}
+
 fn are_digits(text: &[u8]) -> bool
     ensures { result ≡ list_all is_ascii_digit text.now }
 {

@@ -3,11 +3,12 @@
 ghost use Rattle.std.specs.Prelude.{◌≡◌, true, false, ◌||◌, ◌==◌, ◌<◌, ◌≤◌, [], ◌∷◌, IfSome, IfNone, length};
 ghost use Rattle.std.specs.List.{prefix_len, take_while};
 ghost use Rattle.txn_programs.specs.Names.{is_name};
-ghost use Rattle.text_words.specs.Bytes.{is_atom_byte, is_blank, is_int};
+ghost use Rattle.text_words.specs.Bytes.{is_atom_byte, is_blank, is_int, is_positive};
+ghost use Rattle.text_words.specs.Fronts.{IsFront};
 ghost use Rattle.text_words.specs.Tokens.{atom, after, tokens};
 ghost use Rattle.text_words.specs.TokenView.{view};
 
-use crate::bytes::{as_text, atom_len, is_atom_byte, is_int, line_len, name_len};
+use crate::bytes::{as_text, atom_len, digits_len, is_atom_byte, line_len, name_len};
 use crate::numeral::Numeral;
 
 /// A parenthesis, or an atom.
@@ -70,15 +71,41 @@ pub(crate) fn name_at(bytes: &[u8]) -> Option<(&str, &[u8])>
     }
 }
 
-/// The atom at the front and what follows it, where it is an integer.
-#[tactic(auto, using(crate::proofs::Ascii::int_is_ascii))]
+/// How many bytes at the front an integer from 1 on has; the atom is one where no other byte of it follows.
+fn positive_len(bytes: &[u8]) -> Option<usize>
+    ensures none { IfNone result (is_positive (take_while is_atom_byte bytes.now) ≡ false) }
+    ensures some { IfSome result (λ n. IsFront is_positive n bytes.now) }
+    ensures bound { IfSome result (λ n. n ≤ length bytes.now) }
+{
+    let (first, rest) = bytes.split_first()?;
+    match *first {
+        b'1'..=b'9' => Some(1 + digits_len(rest)),
+        _ => None,
+    }
+}
+
+/// The same of any integer.
+fn int_len(bytes: &[u8]) -> Option<usize>
+    ensures none { IfNone result (is_int (take_while is_atom_byte bytes.now) ≡ false) }
+    ensures some { IfSome result (λ n. IsFront is_int n bytes.now) }
+    ensures bound { IfSome result (λ n. n ≤ length bytes.now) }
+{
+    let (first, rest) = bytes.split_first()?;
+    match *first {
+        b'0' => Some(1),
+        b'-' => Some(1 + positive_len(rest)?),
+        _ => positive_len(bytes),
+    }
+}
+
+/// The atom at the front and what follows it, where it is an integer: its bytes are looked at once.
 pub(crate) fn int_at(bytes: &[u8]) -> Option<(Numeral<'_>, &[u8])>
     ensures none { IfNone result (is_int (take_while is_atom_byte bytes.now) ≡ false) }
     ensures atom { IfSome result (λ x. x.0.text.now ≡ take_while is_atom_byte bytes.now) }
     ensures rest { IfSome result (λ x. x.1.now ≡ after is_atom_byte bytes.now) }
 {
-    let (text, rest) = bytes.split_at(atom_len(bytes));
-    if is_int(text) {
+    let (text, rest) = bytes.split_at(int_len(bytes)?);
+    if ends_atom(rest) {
         let numeral = Numeral {
             text: as_text(text),
         };

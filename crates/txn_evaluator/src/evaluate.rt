@@ -21,7 +21,7 @@ ghost use Rattle.txn_evaluator.specs.Always.{conditions_of};
 use crate::cells::{all_cells, cell, sum};
 use crate::notes::{Note, undo, write};
 use std::alloc::AllocError;
-use txn_programs::{AlwaysId, Cond, Expr, Fault, Fold, Outcome, ParamId, Span, Stmt, Tx, VarId};
+use txn_programs::{AlwaysId, Cond, Expr, Fault, Fold, Outcome, ParamId, Span, Stmt, Tx};
 
 fn difference(x: i64, y: i64) -> Result<i64, Fault>
     ensures { result ≡ difference_of x y }
@@ -86,27 +86,25 @@ pub fn value(arguments: &[i64], e: &Expr, state: &[i64]) -> Result<i64, Fault>
     }
 }
 
-/// The cell that a `put` writes, and what it becomes.
+/// Where in the state the cell that a `put` writes stands, and what it becomes.
 fn target(
     arguments: &[i64],
     table: Span,
     a: &Expr,
     b: &Expr,
     state: &[i64],
-) -> Result<(VarId, i64), Fault>
+) -> Result<(usize, i64), Fault>
     requires table { TableKnown (length state.now) table }
     requires index { ExpressionKnown (length state.now) (instance_expression arguments.now (expression_of a.now)) }
     requires value { ExpressionKnown (length state.now) (instance_expression arguments.now (expression_of b.now)) }
-    requires valued { length state.now ≤ 2 ^ 32 }
     ensures target { result ≡ then_value (value (instance_expression arguments.now (expression_of a.now)) state.now)
         (λ i. then_value (value (instance_expression arguments.now (expression_of b.now)) state.now)
-        (λ v. then_value (cell_of table i) (λ x. Ok (x, v)))) }
-    ensures inside { IfOk result (λ t. t.0.0 < length state.now) }
+        (λ v. then_value (cell_of table i) (λ x. Ok (x.0, v)))) }
+    ensures inside { IfOk result (λ t. t.0 < length state.now) }
 {
     let i = value(arguments, a, state)?;
     let v = value(arguments, b, state)?;
-    let place = cell(table, i)?;
-    Ok((VarId(place as u32), v))
+    Ok((cell(table, i)?, v))
 }
 
 /// Whether a condition holds with these arguments.
@@ -149,8 +147,7 @@ fn perform(
     state: &mut [i64],
     notes: &mut Vec<Note>,
 ) -> Result<Flow, AllocError>
-    requires known { StatementKnown (length state.old) (instance_statement arguments.now (statement_of s.now)) }
-    requires valued { length state.old ≤ 2 ^ 32 }
+    requires { StatementKnown (length state.old) (instance_statement arguments.now (statement_of s.now)) }
     ensures ends { IfOk result (λ flow. ending_of flow state.new
         ≡ run (instance_statement arguments.now (statement_of s.now)) state.old) }
     ensures back { LeadBack notes.old.items state.old notes.new.items state.new }
@@ -159,14 +156,14 @@ fn perform(
         Stmt::Skip => Ok(Flow::Done),
         Stmt::Set(x, e) => match value(arguments, e, state) {
             Ok(v) => {
-                write(state, notes, *x, v)?;
+                write(state, notes, x.0 as usize, v)?;
                 Ok(Flow::Done)
             }
             Err(f) => Ok(Flow::Threw(f)),
         },
         Stmt::Put(table, a, b) => match target(arguments, *table, a, b, state) {
-            Ok((x, v)) => {
-                write(state, notes, x, v)?;
+            Ok((place, v)) => {
+                write(state, notes, place, v)?;
                 Ok(Flow::Done)
             }
             Err(f) => Ok(Flow::Threw(f)),
@@ -203,9 +200,8 @@ fn perform_all(
     state: &mut [i64],
     notes: &mut Vec<Note>,
 ) -> Result<Flow, AllocError>
-    requires known { StatementsKnown (length state.old)
+    requires { StatementsKnown (length state.old)
         (instance_statements arguments.now (statements_of_list parts.now)) }
-    requires valued { length state.old ≤ 2 ^ 32 }
     ensures ends { IfOk result (λ flow. ending_of flow state.new
         ≡ run_all (instance_statements arguments.now (statements_of_list parts.now)) state.old) }
     ensures back { LeadBack notes.old.items state.old notes.new.items state.new }
@@ -228,8 +224,7 @@ fn repeat(
     state: &mut [i64],
     notes: &mut Vec<Note>,
 ) -> Result<Flow, AllocError>
-    requires known { StatementKnown (length state.old) (instance_statement arguments.now (statement_of s.now)) }
-    requires valued { length state.old ≤ 2 ^ 32 }
+    requires { StatementKnown (length state.old) (instance_statement arguments.now (statement_of s.now)) }
     ensures ends { IfOk result (λ flow. ending_of flow state.new
         ≡ repeated n (run (instance_statement arguments.now (statement_of s.now))) state.old) }
     ensures back { LeadBack notes.old.items state.old notes.new.items state.new }
@@ -290,7 +285,6 @@ pub fn execute_noting(
     requires known { ProgramKnown (length state.old)
         (instance arguments.now (under (conditions_of always.now) (transaction_of t.now))) }
     requires numbered { length always.now ≤ 2 ^ 32 }
-    requires valued { length state.old ≤ 2 ^ 32 }
     ensures outcome { IfOk result (λ o. o
         ≡ outcome (instance arguments.now (under (conditions_of always.now) (transaction_of t.now))) state.old) }
     ensures after { OnOk result (state.new
@@ -323,7 +317,6 @@ pub fn execute(
     requires known { ProgramKnown (vec_len state.old)
         (instance arguments.now (under (conditions_of always.now) (transaction_of t.now))) }
     requires numbered { length always.now ≤ 2 ^ 32 }
-    requires valued { vec_len state.old ≤ 2 ^ 32 }
     ensures outcome { IfOk result (λ o. o
         ≡ outcome (instance arguments.now (under (conditions_of always.now) (transaction_of t.now))) state.old.items) }
     ensures after { OnOk result (state.new.items

@@ -13,6 +13,8 @@ mod checked_texts;
 #[cfg(test)]
 mod conditions;
 #[cfg(test)]
+mod long_texts;
+#[cfg(test)]
 mod many;
 #[cfg(test)]
 mod names;

@@ -34,6 +34,40 @@ fn reads_every_form(rt: HostRuntime) {
     assert!(rt; is_file(rt.alloc(), EVERY_FORM, has_every_form));
 }
 
+const LONG_NUMBERS: &str =
+    "(var a 99999999999999999)(var b 999999999999999999)(var c 9999999999999999999)";
+
+const NUMBERS: &str =
+    "(var a 0)(var b -1)(var c 99999999999999999)(var d -99999999999999999)(var e 999999999999999999)
+        (var f -999999999999999999)(var g 1000000000000000000)(var h -1000000000000000000)(var i 123456789012345678)
+        (var j -12345678901234567)(var k 9223372036854775807)(var l -9223372036854775807)(var m -9223372036854775808)";
+
+fn has_all_numbers(file: &Catalogue) -> bool {
+    file.initial()
+        == [
+            0,
+            -1,
+            99_999_999_999_999_999,
+            -99_999_999_999_999_999,
+            999_999_999_999_999_999,
+            -999_999_999_999_999_999,
+            1_000_000_000_000_000_000,
+            -1_000_000_000_000_000_000,
+            123_456_789_012_345_678,
+            -12_345_678_901_234_567,
+            i64::MAX,
+            -i64::MAX,
+            i64::MIN,
+        ]
+        .as_slice()
+}
+
+#[test]
+fn reads_numbers_of_each_length(rt: HostRuntime) {
+    assert!(rt; is_file(rt.alloc(), NUMBERS, has_all_numbers));
+    assert!(rt; fault(rt.alloc(), Kind::File, LONG_NUMBERS.as_bytes()) == Some(ReadFault::Limit));
+}
+
 #[test]
 fn reads_beginnings(rt: HostRuntime) {
     let text = INCREMENTS.as_bytes();

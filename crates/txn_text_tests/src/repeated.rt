@@ -6,7 +6,7 @@ use std::process::Abort;
 use txn_text::{MAX_FILE, ReadFault};
 
 /// Each part so many times, one after the other.
-fn repeated(alloc: Global, parts: &[(usize, &str)]) -> Result<String, AllocError> {
+pub(crate) fn repeated(alloc: Global, parts: &[(usize, &str)]) -> Result<String, AllocError> {
     let mut text = String::new(alloc);
     for (times, part) in parts {
         for _time in 0..*times {

@@ -1,9 +1,8 @@
-use Rattle.std.proofs.Common.{◌≡◌, ◌∙◌, ℕ, List, ap, sym, subst, length, arith}
+use Rattle.std.proofs.Common.{◌≡◌, ◌∙◌, ℕ, List, ap, sym, subst, length}
 use Rattle.txn_programs.specs.Instance.{instance}
 use Rattle.txn_programs.specs.Listing.{conditions}
 use Rattle.txn_programs.specs.Scope.{ProgramKnown}
 use Rattle.txn_programs.specs.Tree.{Condition, Program, transaction_of, under}
-use Rattle.txn_programs.proofs.Lawful.{limits_parts}
 use Rattle.txn_evaluator.specs.Always.{conditions_of}
 use Rattle.checker.proofs.evaluating.execute_call.Goals as goal
 
@@ -19,10 +18,3 @@ execute_noting-requires-clause-known c =
     let known : ProgramKnown n (instance given here) = c.tx.ensures.known given in
     let same : instance given there ≡ instance given here = ap (λ (cs : List Condition). instance given (under cs read)) c.always.ensures.conditions in
     subst (λ (k : ℕ). ProgramKnown k (instance given there)) (sym long) (subst (ProgramKnown n) (sym same) known)
-
-pub execute_noting-requires-clause-valued : goal.execute_noting-requires-clause-valued
-execute_noting-requires-clause-valued c =
-    let l = c.args.catalogue.now in
-    let long : length c.as_mut_slice.result.now ≡ length l.initial = ap length c.as_mut_slice.ensures.value ∙ c.requires.values in
-    let most = limits_parts l c.rules.ensures.limits in
-    omega (arith, long, c.rules.ensures.valued, most.variables, most.cells)

@@ -15,8 +15,8 @@ loop-task-init c = (
   refl,
 )
 
-pub serial_lent-how-requires : goal.serial_lent-how-requires
-serial_lent-how-requires c =
+pub serve-how-requires : goal.serve-how-requires
+serve-how-requires c =
     let s = starts (drawn_number c.loop-task.draws c.loop-task.book) c.loop-task.book c.draw.new.book c.in-Some.task c.in-Some.ensures.taken in
     record { exists = slice_get_within c.draw.new.book.tasks c.in-Some.task.0 Running (runs_now c.loop-task.book c.draw.new.book c.in-Some.task s) }
 
@@ -24,7 +24,7 @@ pub loop-task-smaller : goal.loop-task-smaller
 loop-task-smaller c =
     let s = starts (drawn_number c.loop-task.draws c.loop-task.book) c.loop-task.book c.draw.new.book c.in-Some.task c.in-Some.ensures.taken in
     started_falls c.loop-task.book c.draw.new.book c.in-Some.task s c.args.every c.keep_short.new.self
-    (c.serial_lent-how.result, (c.serial_lent-how.new.self, c.serial_lent-how.ensures.served, c.keep_short.ensures.kept_short))
+    (c.serve-how.result, (c.serve-how.new.self, c.serve-how.ensures.served, c.keep_short.ensures.kept_short))
 
 pub loop-task-preserved : goal.loop-task-preserved
 loop-task-preserved c =
@@ -35,11 +35,11 @@ loop-task-preserved c =
     let inv = c.loop-task.invariant in (
       subst (λ (n : ℕ). DrawnTurns c.args.every c.args.seed c.args.book.now n c.keep_short.new.self) (sym c.in-Some.ensures.draws)
           (DrawnTurns.OneMore b task inv.0 c.in-Some.ensures.taken
-          (c.serial_lent-how.result, (c.serial_lent-how.new.self, c.serial_lent-how.ensures.served, c.keep_short.ensures.kept_short))),
+          (c.serve-how.result, (c.serve-how.new.self, c.serve-how.ensures.served, c.keep_short.ensures.kept_short))),
       started_idle a b task s c.args.every c.keep_short.new.self inv.1
-          (c.serial_lent-how.result, (c.serial_lent-how.new.self, c.serial_lent-how.ensures.served, c.keep_short.ensures.kept_short)),
+          (c.serve-how.result, (c.serve-how.new.self, c.serve-how.ensures.served, c.keep_short.ensures.kept_short)),
       λ h.
-          turned_gives c.args.every b task c.serial_lent-how.result c.serial_lent-how.new.self c.keep_short.new.self c.serial_lent-how.ensures.served c.serial_lent-how.ensures.memory c.keep_short.ensures.kept_short
+          turned_gives c.args.every b task c.serve-how.result c.serve-how.new.self c.keep_short.new.self c.serve-how.ensures.served c.serve-how.ensures.memory c.keep_short.ensures.kept_short
           (gives_started a b task s (inv.2 h)),
-      c.keep_short.ensures.catalogue ∙ (c.serial_lent-how.ensures.catalogue ∙ (c.in-Some.ensures.catalogue ∙ inv.3)),
+      c.keep_short.ensures.catalogue ∙ (c.serve-how.ensures.catalogue ∙ (c.in-Some.ensures.catalogue ∙ inv.3)),
     )

@@ -8,14 +8,14 @@ pub invariant_of-named : goal.invariant_of-named
 invariant_of-named g c =
     let named = c.args.named.now in
     record {
-      of_catalogue = c.keep_short.ensures.catalogue ∙ (c.serial_lent-how.ensures.catalogue ∙ named.of_catalogue);
-      short = serial_short c.args.every g.N.Naming.every c.requires.every named.book c.law.ensures.lawful named.short _ _ c.args.task c.serial_lent-how.result c.serial_lent-how.ensures.served c.keep_short.ensures.kept_short;
-      given_up = turned_gives c.args.every named.book c.args.task c.serial_lent-how.result _ _ c.serial_lent-how.ensures.served c.serial_lent-how.ensures.memory c.keep_short.ensures.kept_short named.given_up;
+      of_catalogue = c.keep_short.ensures.catalogue ∙ (c.serve-how.ensures.catalogue ∙ named.of_catalogue);
+      short = serial_short c.args.every g.N.Naming.every c.requires.every named.book c.law.ensures.lawful named.short _ _ c.args.task c.serve-how.result c.serve-how.ensures.served c.keep_short.ensures.kept_short;
+      given_up = turned_gives c.args.every named.book c.args.task c.serve-how.result _ _ c.serve-how.ensures.served c.serve-how.ensures.memory c.keep_short.ensures.kept_short named.given_up;
       exist = named.exist;
       room = named.room;
     }
 
 pub returns : goal.returns
 returns g c =
-    kept_over c.args.every c.serial_lent-how.result _ _ c.args.task c.keep_short.ensures.kept_short
-    (served_over _ _ c.args.task c.serial_lent-how.result c.serial_lent-how.ensures.served)
+    kept_over c.args.every c.serve-how.result _ _ c.args.task c.keep_short.ensures.kept_short
+    (served_over _ _ c.args.task c.serve-how.result c.serve-how.ensures.served)

@@ -22,15 +22,15 @@ returns-in_default-clause-given c =
 pub returns-in_default-clause-listing : goal.returns-in_default-clause-listing
 returns-in_default-clause-listing c = c.take.ensures.catalogue ∙ c.loop-given.invariant.1
 
-pub serial_lent-how-requires : goal.serial_lent-how-requires
-serial_lent-how-requires c =
+pub serve-how-requires : goal.serve-how-requires
+serve-how-requires c =
     record { exists = slice_get_within c.take.new.self.tasks c.in-Some.task.0 Running (taken_running _ _ c.in-Some.task c.in-Some.ensures.taken) }
 
 pub loop-given-preserved : goal.loop-given-preserved
 loop-given-preserved c = (
   TurnsGiven.OneMore _ c.in-Some.task c.loop-given.invariant.0 c.in-Some.ensures.taken
-      (c.serial_lent-how.result, (c.serial_lent-how.new.self, c.serial_lent-how.ensures.served, c.keep_short.ensures.kept_short)),
-  c.keep_short.ensures.catalogue ∙ (c.serial_lent-how.ensures.catalogue ∙ (c.take.ensures.catalogue ∙ c.loop-given.invariant.1)),
+      (c.serve-how.result, (c.serve-how.new.self, c.serve-how.ensures.served, c.keep_short.ensures.kept_short)),
+  c.keep_short.ensures.catalogue ∙ (c.serve-how.ensures.catalogue ∙ (c.take.ensures.catalogue ∙ c.loop-given.invariant.1)),
   omega (arith, c.loop-given-test.true),
 )
 

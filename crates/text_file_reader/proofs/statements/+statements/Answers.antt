@@ -112,7 +112,7 @@ seq_at_once-parts-preserved t c =
     let front = map statement_of c.parts.parts.items in
     let so_far = c.parts.invariant in
     let more = c.in_ok-part.ensures in
-    let e : map statement_of c.push.new.self.items ≡ front ++ statement_of c.in_ok-part.part ∷ [] = rw c.in_ok-push.ensures.items (map_push statement_of c.parts.parts.items c.in_ok-part.part) in
+    let e : map statement_of c.keep.new.parts.items ≡ front ++ statement_of c.in_ok-part.part ∷ [] = rw c.in_ok-keep.ensures (map_push statement_of c.parts.parts.items c.in_ok-part.part) in
     rw e (
       so_far.0 ++ more.item ∷ [],
       one_more_item is_open part one (stmt_shortens c.args.file_form c.args.depth) (all_of is_open part (tokens c.args.bytes.now)) so_far.0 front (tokens c.parts.rest.now) (tokens c.in_ok-part.after.now) more.item (statement_of c.in_ok-part.part) so_far.1

@@ -56,7 +56,7 @@ seq_of-returns-in_err-part-clause-value t c =
 pub seq_of-parts-preserved : goal.seq_of-parts-preserved
 seq_of-parts-preserved t c =
     let part = c.in_ok-part.part in
-    let e : view_stmts c.push.new.self.items ≡ view_stmts c.parts.parts.items ++ view_stmt part ∷ [] = rw c.in_ok-push.ensures.items (map_push _ c.parts.parts.items part) in
+    let e : view_stmts c.keep.new.parts.items ≡ view_stmts c.parts.parts.items ++ view_stmt part ∷ [] = rw c.in_ok-keep.ensures (map_push _ c.parts.parts.items part) in
     record {
       so_far = rw e (goes_on is_open (stmt_at c.args.file_form c.args.depth) (stmt_shortens c.args.file_form c.args.depth) (view_stmts c.parts.parts.items) (tokens c.parts.rest.now) (view_stmt part, tokens c.in_ok-part.after.now) (all_of is_open (stmt_at c.args.file_form c.args.depth) (tokens c.args.bytes.now)) (sym c.is_open.ensures ∙ c.parts-test.true) c.in_ok-part.ensures.value c.parts.invariant.so_far);
       same = (refl, refl);

@@ -13,7 +13,7 @@ use Rattle.txn_evaluator.proofs.evaluate.+perform.Goals as goal
 pub perform-perform_all-requires : goal.perform-perform_all-requires
 perform-perform_all-requires t c =
     let e : statement_of c.args.s.now ≡ Seq (statements_of_list c.as_slice.result.now) = ap statement_of c.in-Seq.is ∙ statement_Seq c.in-Seq.parts ∙ ap (λ l. Seq (statements_of_list l)) (sym c.as_slice.ensures.value) in
-    (search (rules, the_lemmas), (subst (λ s. StatementKnown (length c.args.state.now) (instance_statement c.args.arguments.now s)) e c.requires.known, c.requires.valued))
+    (search (rules, the_lemmas), subst (λ s. StatementKnown (length c.args.state.now) (instance_statement c.args.arguments.now s)) e c.requires)
 
 pub perform-returns-in-Seq-clause-ends : goal.perform-returns-in-Seq-clause-ends
 perform-returns-in-Seq-clause-ends t c =

@@ -1,12 +1,12 @@
-use Rattle.std.proofs.Common.{◌≡◌, ◌∙◌, ◌≤◌, ◌∷◌, ◌++◌, [], List, length, subst, sym, ap, drop, take, arith, length-append, rules, to_z, of_z, w64, ℤ, slice_set}
+use Rattle.std.proofs.Common.{◌≡◌, ◌∙◌, ◌≤◌, ◌∷◌, ◌++◌, [], List, length, subst, sym, ap, drop, take, arith, length-append}
 use Rattle.std.proofs.Math.ListN.{length-set}
 use Rattle.txn_evaluator.specs.declared.notes.Note.{Note}
 use Rattle.txn_evaluator.specs.Notes.{undone, AreInside}
 use Rattle.txn_evaluator.proofs.GoingBack.{back_step, front_step, inside_step}
 use Rattle.txn_evaluator.proofs.notes.undo.Goals as goal
 
-pub bounds-state-x : goal.bounds-state-x
-bounds-state-x c =
+pub put_back-requires : goal.put_back-requires
+put_back-requires c =
     let h = c.args.height in
     let m = c.loop-notes.state in
     let ns = c.pop.new.self.items in
@@ -30,10 +30,9 @@ loop-notes-preserved c =
     let whole : length c.loop-notes.notes.items ≡ length (ns ++ n ∷ []) = ap length split in
     let above : h ≤ length ns = omega (arith, whole, long, c.loop-notes-test.true, c.len.ensures) in
     let inside = inside_step (length m) h ns n above (subst (λ (l : List Note). AreInside (length m) (drop h l)) split k.inside) in
-    let same : to_z w64 (of_z w64 n.old) ≡ n.old = search rules in
     record {
       above = above;
       front = front_step h ns n above ∙ ap (λ (l : List Note). take h l) (sym split) ∙ k.front;
-      inside = subst (λ j. AreInside j (drop h ns)) (sym (length-set m n.x.0 (to_z w64 (of_z w64 n.old)))) inside.1;
-      to = ap (λ (v : ℤ). undone (drop h ns) (slice_set m n.x.0 v)) same ∙ back_step h ns n m above ∙ ap (λ (l : List Note). undone (drop h l) m) (sym split) ∙ k.to;
+      inside = subst (λ j. AreInside j (drop h ns)) (sym (ap length c.put_back.ensures ∙ length-set m n.place n.old)) inside.1;
+      to = ap (undone (drop h ns)) c.put_back.ensures ∙ back_step h ns n m above ∙ ap (λ (l : List Note). undone (drop h l) m) (sym split) ∙ k.to;
     }

@@ -9,4 +9,4 @@ returns-clause-back c =
     let ns = c.args.notes.now.items in
     let v = to_z w64 (of_z w64 c.args.v) in
     let e = c.in_ok-push.ensures.items in
-    subst (λ notes. LeadBack ns m notes (slice_set m c.args.x.0 v)) (sym e) (lead_back_write ns m _ v c.requires (search rules))
+    subst (λ notes. LeadBack ns m notes (slice_set m c.args.place v)) (sym e) (lead_back_write ns m _ v c.requires (search rules))

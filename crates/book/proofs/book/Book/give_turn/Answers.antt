@@ -6,4 +6,4 @@ use Rattle.book.proofs.book.Book.give_turn.Goals as goal
 pub returns-clause-memory : goal.returns-clause-memory
 returns-clause-memory c = λ h.
     subst GivesUpForMemory (sym c.keep_short.ensures.kept_short)
-    (gives_kept c.args.every c.serial_lent-how.result c.serial_lent-how.new.self (gives_served c.args.self.now c.args.task c.serial_lent-how.result c.serial_lent-how.new.self c.serial_lent-how.ensures.served c.serial_lent-how.ensures.memory h))
+    (gives_kept c.args.every c.serve-how.result c.serve-how.new.self (gives_served c.args.self.now c.args.task c.serve-how.result c.serve-how.new.self c.serve-how.ensures.served c.serve-how.ensures.memory h))

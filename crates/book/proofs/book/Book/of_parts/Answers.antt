@@ -27,6 +27,7 @@ inside c =
       present = c.args.present;
       since = c.args.since;
       changes = c.args.changes;
+      written = c.args.written;
       table = c.args.table;
       room = c.len.result + c.args.spare;
       spare = c.args.spare;

@@ -1,0 +1,21 @@
+use Rattle.std.proofs.Common.{rules, ◌≡◌, ◌≢◌, ◌∙◌, false, List, Result, Ok, Err, OnOk, ap, sym, subst}
+use Rattle.std.specs.Result.{is_err}
+use Rattle.txn_programs.specs.declared.ast.Outcome.TheVariants.{Retries}
+use Rattle.txn_programs.specs.Meaning.{State}
+use Rattle.txn_evaluator.specs.declared.notes.Note.{Note}
+use Rattle.book.specs.Written.{TellNoted}
+use Rattle.book.proofs.PlainEnds.{ends_plainly}
+use Rattle.book.proofs.plain_turn.end_plainly.Goals as goal
+
+on_ok_known : {T E P : Type 0} (r : Result T E) → is_err r ≡ false → OnOk r P → P
+on_ok_known (Ok x) e h = h
+on_ok_known (Err x) e h = absurd (cc)
+
+pub returns-clause-ends : goal.returns-clause-ends
+returns-clause-ends c =
+    let run = c.in-Ok.ensures in
+    let notes = c.execute_call-ended.new.notes.items in
+    let ends : c.in-Ok.how ≢ Retries = search rules in
+    let told : TellNoted notes c.deref.result.now c.list-listed.new.self.writes.items = on_ok_known c.list-listed.result (sym c.is_err.ensures.value ∙ c.if-is_err.false) c.list-listed.ensures.listed in
+    ends_plainly c.opened.result.now c.args.chapter.now.listing c.args.tx c.args.arguments.now c.args.values.now.items c.execute_call-ended.new.values.items c.in-Ok.how notes c.list-listed.new.self.writes.items c.opened.ensures.same run.outcome run.after run.undone run.sized c.requires.values
+    (subst (λ (m : State). TellNoted notes m c.list-listed.new.self.writes.items) c.deref.ensures.value told) ends

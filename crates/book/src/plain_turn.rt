@@ -1,0 +1,154 @@
+//! Turns by plain evaluation: a transaction is evaluated in place on the present values, and no log is kept.
+
+ghost use Rattle.std.specs.Prelude.{◌≡◌, ◌<◌, ◌≤◌, length, IfOk, IfSome, IfNone, OnOk};
+ghost use Rattle.txn_programs.specs.declared.limits.TheConstants.{MAX_VALUES};
+ghost use Rattle.txn_programs.specs.Listing.{IsCallable, call_program, task_tx};
+ghost use Rattle.txn_programs.specs.Meaning.{outcome, after};
+ghost use Rattle.txn_evaluator.specs.Notes.{undone, AreInside};
+ghost use Rattle.attempt.specs.Room.{TakesMemory};
+ghost use Rattle.book.specs.Turns.{CommitsAs, Served, TaskEndsPlainly};
+ghost use Rattle.book.specs.View.{IsRunning};
+ghost use Rattle.book.specs.Written.{EndsPlainly};
+
+use crate::book::Book;
+use crate::chapter::Chapter;
+use crate::task::Serial;
+use crate::written::Written;
+use attempt::Attempt;
+use std::alloc::AllocError;
+use std::mem;
+use txn::{Catalogue, Outcome, TaskId, TxId, VarId, evaluate};
+use txn_evaluator::notes::{Note, undo};
+
+/// How a transaction ends with these arguments on the values, where the values after it stand then, and the notes hold
+/// what it wrote.
+fn execute_call(
+    catalogue: &Catalogue,
+    tx: TxId,
+    arguments: &[i64],
+    values: &mut Vec<i64>,
+    notes: &mut Vec<Note>,
+) -> Result<Outcome, AllocError>
+    requires known { tx.0 < length catalogue.now.transactions }
+    requires values { length values.old.items ≡ length catalogue.now.initial }
+    ensures outcome { IfOk result (λ o. o ≡ outcome (call_program catalogue.now tx arguments.now) values.old.items) }
+    ensures after { OnOk result
+        (values.new.items ≡ after (call_program catalogue.now tx arguments.now) values.old.items) }
+    ensures undone { undone notes.new.items values.new.items ≡ values.old.items }
+    ensures inside { AreInside (length values.new.items) notes.new.items }
+    ensures sized { length values.new.items ≡ length values.old.items }
+{
+    catalogue.rules();
+    evaluate::execute_noting(
+        arguments,
+        catalogue.tx(tx),
+        catalogue.always(),
+        values.as_mut_slice(),
+        notes,
+    )
+}
+
+/// How a transaction ends with these arguments on the values, which stay as they are, and what it writes. `None` where
+/// it retries, or a growth was refused.
+fn end_plainly(
+    written: &mut Written,
+    chapter: &Chapter<'_>,
+    tx: TxId,
+    arguments: &[i64],
+    values: &mut Vec<i64>,
+) -> Option<Outcome>
+    requires known { IsCallable chapter.now.listing tx arguments.now }
+    requires values { length values.old.items ≡ length chapter.now.listing.initial }
+    requires few { length values.old.items ≤ MAX_VALUES }
+    ensures same { values.new.items ≡ values.old.items }
+    ensures ends { IfSome result (λ how. EndsPlainly chapter.now.listing tx arguments.now values.old.items how
+        written.new.writes.items) }
+{
+    let ended = execute_call(chapter.opened(), tx, arguments, values, &mut written.notes);
+    let listed = written.list(values);
+    undo(values.as_mut_slice(), &mut written.notes, 0);
+    let Ok(how) = ended else {
+        return None;
+    };
+    if listed.is_err() || matches!(how, Outcome::Retries) {
+        return None;
+    }
+    Some(how)
+}
+
+impl<'a> Book<'a> {
+    /// A turn of the task on the present values by plain evaluation: the outcome and the number of its entry, as
+    /// `serial` would enter it. `None` and no change where the task is not running, the catalogue declares no table,
+    /// the program retries, or a growth was refused.
+    #[inline(always)]
+    pub fn turn_plainly(&mut self, task: TaskId) -> Option<(Outcome, u64)>
+        requires exists { task.0 < length self.old.tasks }
+        ensures committed { IfSome result (λ r. CommitsAs self.old task r.0 r.1 self.new) }
+        ensures unchanged { IfNone result (self.new ≡ self.old) }
+        ensures catalogue { self.new.catalogue ≡ self.old.catalogue }
+    {
+        if self.chapter.opened().tables().is_empty() {
+            return None;
+        }
+        if !self.table.is_running(task) {
+            return None;
+        }
+        self.commit_plainly(task)
+    }
+
+    /// As `turn_plainly`, of a running task. It is a call, so that a turn without it stays as short as it was.
+    #[inline(never)]
+    fn commit_plainly(&mut self, task: TaskId) -> Option<(Outcome, u64)>
+        requires running { IsRunning self.old task }
+        ensures committed { IfSome result (λ r. CommitsAs self.old task r.0 r.1 self.new) }
+        ensures unchanged { IfNone result (self.new ≡ self.old) }
+    {
+        let Some((how, writes)) = self.end_here(task) else {
+            return None;
+        };
+        let number = self.commit(task, how, &writes);
+        self.keep(writes);
+        Some((how, number))
+    }
+
+    /// How a task ends by plain evaluation on the present values, and what it writes. `None` where it retries, or a
+    /// growth was refused.
+    fn end_here(&mut self, task: TaskId) -> Option<(Outcome, Vec<(VarId, i64)>)>
+        requires exists { task.0 < length self.old.tasks }
+        ensures same { self.new ≡ self.old }
+        ensures ends { IfSome result (λ r. TaskEndsPlainly self.old task r.0 r.1.items) }
+    {
+        let chapter = &self.chapter;
+        let tx = chapter.transaction(task);
+        let arguments = chapter.arguments(task);
+        let values = &mut self.present.values;
+        let Some(how) = end_plainly(&mut self.written, chapter, tx, arguments, values) else {
+            return None;
+        };
+        let alloc = *self.written.writes.allocator();
+        let writes = mem::replace(&mut self.written.writes, Vec::new(alloc));
+        Some((how, writes))
+    }
+
+    /// The room of what was written is kept for the next turn.
+    fn keep(&mut self, writes: Vec<(VarId, i64)>)
+        ensures { self.new ≡ self.old }
+    {
+        self.written.writes = writes;
+    }
+
+    /// As `serial_lent`, where the outcome of a commit need not be told: where that can be, the turn is a plain one,
+    /// and the attempt stays as it is.
+    #[inline(always)]
+    pub fn serve(&mut self, attempt: &mut Attempt<'a>, task: TaskId) -> Serial
+        requires exists { task.0 < length self.old.tasks }
+        ensures served { Served self.old task result self.new }
+        ensures memory { result ≡ Serial.Abandoned → TakesMemory self.old.catalogue (task_tx self.old.catalogue task) }
+        ensures catalogue { self.new.catalogue ≡ self.old.catalogue }
+    {
+        match self.turn_plainly(task) {
+            Some((_, number)) => Serial::Committed(number),
+            None => self.serial_lent(attempt, task),
+        }
+    }
+}
