@@ -8,6 +8,14 @@ ghost use Rattle.txn_evaluator.specs.Notes.{AreInside, undone};
 use std::alloc::{AllocError, Global};
 use txn_evaluator::notes::Note;
 
+/// The version at a place.
+fn version_at(versions: &[u64], place: usize) -> u64
+    requires { place < length versions.now }
+    ensures { result ≡ get_or versions.now place 0 }
+{
+    versions[place]
+}
+
 /// The version at each place that was noted.
 fn versions_of(alloc: Global, notes: &[Note], versions: &[u64]) -> Result<Vec<u64>, AllocError>
     requires { AreInside (length versions.now) notes.now }
@@ -15,7 +23,7 @@ fn versions_of(alloc: Global, notes: &[Note], versions: &[u64]) -> Result<Vec<u6
 {
     let mut found = Vec::new(alloc);
     'notes: for note in notes {
-        found.push(versions[note.place])?;
+        found.push(version_at(versions, note.place))?;
     }
     Ok(found)
 }
