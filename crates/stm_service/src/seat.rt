@@ -115,11 +115,6 @@ impl<N: Naming> Seat<N> {
         None
     }
 
-    /// Its bell. `None` where that is known to too many.
-    pub(crate) fn bell(&self) -> Option<Arc<Condvar>> {
-        Arc::clone(&self.bell).ok()
-    }
-
     /// Calls its thread.
     pub(crate) fn ring(&self) {
         self.bell.notify_one();

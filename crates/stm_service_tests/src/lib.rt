@@ -14,8 +14,6 @@ mod counter;
 #[cfg(test)]
 mod limits;
 #[cfg(test)]
-mod long;
-#[cfg(test)]
 mod observed;
 #[cfg(test)]
 mod played;
