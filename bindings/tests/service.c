@@ -110,10 +110,10 @@ static void what_is_not_opened(void) {
     wants(opened("(stm 2)(var x 0)(always a (eq x 1))", 0, 0, NULL) == STM_FILE_BROKEN);
     wants(opened(one, 65535, 32, NULL) == STM_DONE && opened(one, 65536, 0, NULL) == STM_NO_ROOM);
     wants(opened(one, SIZE_MAX, 0, NULL) == STM_NO_ROOM && opened(one, 0, 33, NULL) == STM_NO_WORKER);
-    wants(opened(one, 25000, 1, judges) == STM_DONE && opened(one, 65535, 1, judges) == STM_NO_ROOM);
-    /* A file of more runs than a chapter's file has room for, each by itself. */
-    static const char runs[] = "(var x 0)(tx inc (set x (add x 1)) x)(run inc 30000)";
-    wants(opened(runs, 0, 0, judges) == STM_NO_ROOM && opened(runs, 0, 0, NULL) == STM_DONE);
+    /* A host that keeps chapters has room for as many tasks: what is too long for form 1 is of form 3. */
+    wants(opened(one, 65535, 1, judges) == STM_DONE && opened(one, 65536, 1, judges) == STM_NO_ROOM);
+    static const char runs[] = "(var x 0)(tx inc (set x (add x 1)) x)(run inc 65536)";
+    wants(opened(runs, 0, 0, judges) == STM_DONE && opened(runs, 0, 0, NULL) == STM_DONE);
     stm_service *s = opens("(var x 0)", NULL);
     wants(is(stm_atomically(s, 0, NULL, 0), STM_UNKNOWN, 0, 0));
     wants(is(stm_service_observe(s, 0, NULL, 0), STM_UNKNOWN, 0, 0));
@@ -124,15 +124,15 @@ static const char LONG_NAMES[] =
     "(var x 0)(tx a2345678901234567890123456789012 (set x (add x -4611686018427387904)) x)"
     "(tx b2345678901234567890123456789012 (set x 0) x)";
 
-/* The longest chapters that a host can keep: by names of 32 bytes, by turns, their files have just room. */
+/* The longest chapters, by names of 32 bytes, by turns: their files are too long for form 1, and are of form 3. */
 static void the_longest_chapters(void) {
     struct judged judged = {{"\nentry "}, {0}, 0};
     stm_service_options options = {0, 0, 0, judges, &judged};
     stm_service *s = opens(LONG_NAMES, &options);
-    for (uint32_t i = 0; i < 52000; i++) wants(stm_atomically(s, i % 2, NULL, 0).code == STM_DONE);
-    wants(judged.chapters == 2 && stm_service_chapter(s) == 2 && judged.lines[0] > 50000);
+    for (uint32_t i = 0; i < 132000; i++) wants(stm_atomically(s, i % 2, NULL, 0).code == STM_DONE);
+    wants(judged.chapters == 2 && stm_service_chapter(s) == 2 && judged.lines[0] == 131072);
     judges_the_last(s, &judged);
-    wants(judged.lines[0] == 52000 && stm_service_entered(s) == 52000);
+    wants(judged.lines[0] == 132000 && stm_service_entered(s) == 132000);
     stm_service_free(s);
 }
 
