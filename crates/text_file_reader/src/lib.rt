@@ -9,4 +9,4 @@ mod read;
 mod runs;
 mod statements;
 
-pub use read::read_file;
+pub use read::{announces_tables, read_file};
