@@ -22,7 +22,7 @@ use crate::keeping::park;
 use crate::listing::{given_up, parked};
 use crate::since::Since;
 use crate::standing::Standing;
-use crate::stored::{Stored, openings, pairs, rebase, start_anew, store};
+use crate::stored::{Stored, openings, pair, pairs, rebase, start_anew, store};
 use crate::table::TaskTable;
 use crate::task::{Finish, Serial, is_committed};
 use crate::validate::agrees;
@@ -335,7 +335,7 @@ impl<'a> Book<'a> {
         if place >= self.present.values.len() {
             return None;
         }
-        Some((self.present.values[place], self.present.versions[place]))
+        Some(pair(&self.present, place))
     }
 
     /// The present values, one for each variable, in their order.
