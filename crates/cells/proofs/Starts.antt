@@ -68,7 +68,7 @@ first_more m words k b low h is = let wide = h.wide in record {
   versions = λ x. get_or-set_other words (value_word k) (version_word x) b 0 (λ e. omega arith) ∙ h.versions x;
   values = λ x l. dite (ℕ_discrete x k)
       (λ e. ap (cast_signed w64) (ap (λ (z : ℕ). get_or (set words (value_word k) b) (value_word z) 0) e ∙ get_or-set_same words (value_word k) b 0 (omega (arith, wide, low))) ∙ (is ∙ ap (state_value m) (sym e)))
-      (λ n. ap (cast_signed w64) (get_or-set_other words (value_word k) (value_word x) b 0 (λ e. n (omega (arith, e)))) ∙ h.values x (omega (arith, l, n)));
+      (λ n. ap (cast_signed w64) (get_or-set_other words (value_word k) (value_word x) b 0 (λ e. n (omega arith))) ∙ h.values x (omega arith));
 }
 
 pub rests_first : (m : List ℤ) → IsResting (opened m) 0

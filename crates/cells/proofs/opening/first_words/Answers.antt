@@ -11,6 +11,10 @@ loop-x-init c =
     let zero : c.in_ok-words.words.items ≡ replicate (2 * length m + 1) 0 = search rules in
     first_blank m c.in_ok-words.words.items zero
 
+pub index_mut-requires : goal.index_mut-requires
+index_mut-requires c =
+    let wide = c.loop-x.invariant.wide in let low = c.loop-x-test.true in let valid = c.loop-x.words.ok in omega arith
+
 pub loop-x-preserved : goal.loop-x-preserved
 loop-x-preserved c =
     let m = c.args.values.now in let k = c.loop-x.x in

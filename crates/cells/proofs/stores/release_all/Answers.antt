@@ -42,8 +42,8 @@ release_version-requires-clause-may c =
       within = omega (arith, c.requires.writes.exist k l, c.requires.size);
       locked = lock;
       after_clock = c.requires.moved;
-      older = let old = c.requires.versions x in omega (arith, old, version, many);
-      changed = subst (λ (z : ℕ). state_value (last_state r.history) x ≢ state_value (state_of r.history (z - 1)) x) (omega (arith, many)) moved;
+      older = let old = c.requires.versions x in omega arith;
+      changed = subst (λ (z : ℕ). state_value (last_state r.history) x ≢ state_value (state_of r.history (z - 1)) x) (omega arith) moved;
     }
 
 pub release_version-requires-clause-number : goal.release_version-requires-clause-number
@@ -59,7 +59,7 @@ loop-write-preserved c =
           let new : state_value m x ≢ new_of ws k = λ e. w.if-values-write.true (ap (of_z w64) e) in
           let e = differs m (get_or ws k no_change) new in
           let now : Commit = all_released n (changes_of m (take k ws)) r in
-          let last : length r.history - 1 ≡ n = omega (arith, many) in
+          let last : length r.history - 1 ≡ n = omega arith in
           let locked = sym (sets_next (λ (_ : Change). false) r.locked m ws k l e) in let versions = sym (sets_next (λ (_ : Change). n) r.versions m ws k l e) in
           let stores = sym (count_next m ws r.stores k l e) in
           subst (λ (s : CellsSeat). IsSameSeat c.args.seat.now s × (s.me.0 ≡ publishing (all_released n (changes_of m (take (k + 1) ws)) r))) (sym w.seat-is) (
