@@ -30,14 +30,12 @@ changes_of m writes = filter (is_change m) writes
 abbrev pub stores_of : CellsId → ℕ → ℕ
 stores_of z changes = if z.are_read then 3 * changes + 1 else 0
 
-abbrev pub published : TableId → ℕ → Commit → Publishing
-published table variables c = record { cells = record { table = table; variables = variables; are_read = true }; history = c.history; stores = c.stores }
+abbrev pub published : TableId → Commit → Publishing
+published table c = record { cells = record { table = table; variables = length c.values; are_read = true }; history = c.history; stores = c.stores }
 
--- No commit is pending: no version word is locked, the value words are the last state, `number` is its number, and
--- `versions` are the numbers of the last changes.
-pub record IsResting (c : Commit) (number : ℕ) (versions : List ℕ) : Type 0 where
+-- No commit is pending: no version word is locked, the value words are the last state, and `number` is its number.
+pub record IsResting (c : Commit) (number : ℕ) : Type 0 where
   pub counted : number + 1 ≡ length c.history
-  pub versions_are : c.versions ≡ versions
   pub past : (x : ℕ) → slice_index c.versions x ≤ number
   pub free : (x : ℕ) → slice_index_or c.locked x false ≡ false
   pub in_order : c.late ≡ false

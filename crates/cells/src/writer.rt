@@ -18,22 +18,20 @@ use txn_programs::VarId;
 pub(crate) struct Writer {
     pub(crate) seat: Seat<(), Sight>,
     pub(crate) number: u64,
-    pub(crate) versions: Vec<u64>,
 }
 
 impl Model for Writer {
-    ghost use Rattle.std.specs.Prelude.{◌≡◌, length};
+    ghost use Rattle.std.specs.Prelude.{◌≡◌};
     ghost use Rattle.cells.specs.Sight.{publishing, commit_of};
     ghost use Rattle.cells.specs.Publishing.{Publishing, published, IsResting};
 
     ghost Value = { Publishing };
 
-    ghost view = { λ p.
-        published p.seat.table_id (length p.versions.items) (commit_of p.seat.me.0) };
+    ghost view = { λ p. published p.seat.table_id (commit_of p.seat.me.0) };
 
     ghost invariant = { λ p.
         (p.seat.me.0 ≡ publishing (commit_of p.seat.me.0))
-        × IsResting (commit_of p.seat.me.0) p.number p.versions.items };
+        × IsResting (commit_of p.seat.me.0) p.number };
 }
 
 impl Writer {
