@@ -12,7 +12,7 @@ use Rattle.book.specs.Recorded.{IsReady}
 use Rattle.book.specs.Carrying.{stays}
 use Rattle.book.specs.Chapters.{chapter_of}
 use Rattle.stm_store.specs.Tickets.{HasTicket, kept_tickets}
-use Rattle.stm_store.specs.Asking.{IsFull, IsUnchanged}
+use Rattle.stm_store.specs.Asking.{IsFull, IsUnchanged, Withdraws}
 use Rattle.stm_store.specs.Turning.{ServesJob}
 use Rattle.stm_store.specs.declared.job.Ticket.{Ticket}
 use Rattle.stm_store.specs.declared.job.Job.{Job}
@@ -80,6 +80,10 @@ pub record IsWithdrawn (old new : Store) (ticket : Ticket) : Type 0 where
   pub own : HasTicket old.tickets task ticket
   pub unended : IsWaiting (slice_get old.book.tasks task.0) ⊎ IsRunning old.book task
   pub withdrawn : new.book ≡ stands old.book task GivenUp
+
+-- where the task with the ticket waited, it is given up
+abbrev pub IsLeft : Store → Ticket → Store → Type 0
+IsLeft old ticket new = (waited : Bool) × Withdraws old ticket waited new
 
 -- there is no room for a task more, and another chapter would have none, since each task would come over to it
 pub record IsFullOfTasks (s : Store) : Type 0 where

@@ -1,6 +1,6 @@
 //! What the lock guards: the store, and a seat for each thread that waits.
 
-ghost use Rattle.std.specs.Prelude.{◌≡◌, ◌≢◌, ◌+◌, length, true, Some, None, All};
+ghost use Rattle.std.specs.Prelude.{◌≡◌, ◌≢◌, ◌+◌, length, true, Some, None, All, IfSome};
 ghost use Rattle.std.specs.Option.{ForNone};
 ghost use Rattle.std.specs.Coded.{codes};
 ghost use Rattle.std.specs.BTreeMap.{values};
@@ -67,7 +67,7 @@ impl<N: Naming, K: Archive + Drop> Desk<N, K> {
     ghost use Rattle.stm_store.specs.Asking.{TakesJob, Withdraws, GivesUp};
     ghost use Rattle.stm_store.specs.Turning.{ServesJob};
     ghost use Rattle.stm_store.specs.Keeping.{KeepsTasks};
-    ghost use Rattle.stm_service.specs.Calling.{IsServed, IsWithdrawn, HasTurn};
+    ghost use Rattle.stm_service.specs.Calling.{IsServed, IsLeft, IsWithdrawn, HasTurn};
     ghost use Rattle.stm_service.specs.Seeing.{IsEntryAt, IsEnteredSince};
     ghost use Rattle.book.specs.Chapters.{entered_in_all};
     ghost use Rattle.cells.specs.Passing.{MeetsBy};
@@ -213,14 +213,18 @@ impl<N: Naming, K: Archive + Drop> Desk<N, K> {
     }
 
     /// A seat for the thread of a task that waits, and its bell; a long one that is ready is that thread's to evaluate
-    /// then. `None` where a growth was refused: then the task is given up.
-    pub(crate) fn sit(&mut self, awaited: &Awaited) -> Option<Arc<Condvar>> {
-        let bell = self.seat_for(awaited);
-        if bell.is_none() {
-            let _ = self.leave(awaited);
+    /// once all are served. `None` where a growth was refused: then the task is given up.
+    pub(crate) fn sit(&mut self, awaited: &Awaited) -> Option<Arc<Condvar>>
+        ensures seated { IfSome result (λ _. self.new.store ≡ self.old.store) }
+        ensures withdrawn { result ≡ None → IsLeft self.old.store awaited.now.ticket self.new.store }
+    {
+        match self.seat_for(awaited) {
+            Some(bell) => Some(bell),
+            None => {
+                let _waited = self.withdraw(awaited.ticket);
+                None
+            }
         }
-        self.serve();
-        bell
     }
 
     /// The bell of the seat of this task. `None` where no thread waits for it.

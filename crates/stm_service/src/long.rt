@@ -27,7 +27,18 @@ pub(crate) fn long_ones(alloc: Global, catalogue: &Catalogue) -> Result<Vec<bool
     ensures { IfOk result (λ v. length v.items ≡ length catalogue.now.transactions) }
 {
     let sizes = sizes_of(alloc, catalogue, Weights::LEAST_TIME)?;
-    sizes.iter().map(|size| *size == Size::Long).collect(alloc)
+    marked(alloc, &sizes)
+}
+
+/// Whether each is long.
+fn marked(alloc: Global, sizes: &[Size]) -> Result<Vec<bool>, AllocError>
+    ensures { IfOk result (λ v. length v.items ≡ length sizes.now) }
+{
+    let mut marks = Vec::with_capacity(alloc, sizes.len())?;
+    for size in sizes {
+        marks.push(matches!(*size, Size::Long))?;
+    }
+    Ok(marks)
 }
 
 impl<N: Naming, K: Archive + Drop> Desk<N, K> {
@@ -173,9 +184,10 @@ impl<N: Naming, K: Archive + Drop> Desk<N, K> {
         ensures tickets { self.new.store.tickets ≡ self.old.store.tickets }
         ensures closed { self.new.closed ≡ self.old.closed }
     {
-        if self.store.spare() == 0 && !self.closed {
-            self.settle();
+        if self.closed || self.store.spare() > 0 {
+            return;
         }
+        self.settle();
     }
 
     /// Rings the bells that are to be rung.

@@ -36,7 +36,9 @@ pub(crate) fn wait_for<'g, R: Wait, N: Naming, K: Archive + Drop>(
     ensures fault { IfErr result.1 (λ e. (e ≡ CallFault.Memory) ⊎ (e ≡ CallFault.Closed)) }
 {
     let mut desk = desk;
-    match desk.sit(awaited) {
+    let bell = desk.sit(awaited);
+    desk.serve();
+    match bell {
         Some(bell) => wait_at(rt, service, desk, &bell, awaited),
         None => (desk, Err(CallFault::Memory)),
     }
@@ -89,7 +91,9 @@ pub(crate) fn try_long<'g, R: Wait, N: Naming, K: Archive + Drop>(
     ensures fault { IfErr result.1 (λ e. (e ≡ CallFault.Memory) ⊎ (e ≡ CallFault.Closed) ⊎ (e ≡ CallFault.Retries)) }
 {
     let mut desk = desk;
-    let Some(bell) = desk.sit(awaited) else {
+    let bell = desk.sit(awaited);
+    desk.serve();
+    let Some(bell) = bell else {
         return (desk, Err(CallFault::Memory));
     };
     let mut tries: u32 = 0;
@@ -124,7 +128,9 @@ pub(crate) fn wait_within<'g, R: Wait + Clock, N: Naming, K: Archive + Drop>(
     ensures fault { IfErr result.1 (λ e. (e ≡ CallFault.Memory) ⊎ (e ≡ CallFault.Closed) ⊎ (e ≡ CallFault.TimedOut)) }
 {
     let mut desk = desk;
-    let Some(bell) = desk.sit(awaited) else {
+    let bell = desk.sit(awaited);
+    desk.serve();
+    let Some(bell) = bell else {
         return (desk, Err(CallFault::Memory));
     };
     let mut tries: u32 = 0;
@@ -186,11 +192,11 @@ fn go_on<'g, R: Wait, N: Naming, K: Archive + Drop>(
     tries: u32,
 ) -> MutexGuard<'g, Desk<N, K>> {
     let (mut desk, worker) = evaluate(rt, service, desk, job, tries);
-    if let Some(worker) = worker {
-        let mut worker = worker;
-        desk.bring(&mut worker, job);
-        service.give_back(rt, worker);
-    }
+    let Some(mut worker) = worker else {
+        return desk;
+    };
+    desk.bring(&mut worker, job);
+    service.give_back(rt, worker);
     desk
 }
 
@@ -204,13 +210,13 @@ fn go_on_within<'g, R: Wait + Clock, N: Naming, K: Archive + Drop>(
     time: Time,
 ) -> MutexGuard<'g, Desk<N, K>> {
     let (mut desk, worker) = evaluate(rt, service, desk, job, tries);
-    if let Some(worker) = worker {
-        let mut worker = worker;
-        if time.left(rt).is_some() {
-            desk.bring(&mut worker, job);
-        }
-        service.give_back(rt, worker);
+    let Some(mut worker) = worker else {
+        return desk;
+    };
+    if time.left(rt).is_some() {
+        desk.bring(&mut worker, job);
     }
+    service.give_back(rt, worker);
     desk
 }
 

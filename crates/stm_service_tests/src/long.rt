@@ -108,7 +108,7 @@ fn closed_while_it_runs(rt: HostRuntime) {
     let all = played(&rt, rt.alloc(), OPENING, NoArchive, &[slow, slow, closes]);
     let (count, sum) = added(&all, 3);
     assert_eq!(rt; sum, sum_to(count));
-    assert_eq!(rt; all.entered as i64, count);
+    assert_eq!(rt; all.entered.cast_signed(), count);
     assert_eq!(rt; all.of(2).returned, 45);
     for thread in 0..2 {
         let answered = all.of(thread);
@@ -135,7 +135,7 @@ fn time_is_up_while_it_runs(rt: HostRuntime) {
     let all = played(&rt, rt.alloc(), OPENING, NoArchive, &[slow, quick, slow]);
     let (count, sum) = added(&all, 3);
     assert_eq!(rt; sum, sum_to(count));
-    assert_eq!(rt; all.entered as i64, count);
+    assert_eq!(rt; all.entered.cast_signed(), count);
     let late = all.of(0).timed_out.wrapping_add(all.of(2).timed_out);
     assert_eq!(rt; count.wrapping_add(late), 900);
 }
