@@ -76,7 +76,6 @@ kept_begins b chapter table base present since journal before spare h k =
       fits = subst BookFits (sym view) (chapter_fits v k.lawful k.fits);
       room = omega (arith, k.room, h.capacity);
       submit_room = omega (arith, k.submit_room, h.room);
-      changes_room = omega (arith, k.changes_room, wide);
       whole = omega (arith, size, left, k.whole, shorter);
       spared = omega (arith, h.spare_is, size, left, k.whole, shorter);
       few = k.few;

@@ -137,8 +137,8 @@ new_is l b n =
     ∙ (ap (λ (t : List Task). made l b.cells (l.initial ∷ []) (opening l) [] (opening l) t) (ap (map (with_values b.present.values.items)) n.tasks ∙ all_ready b.present.values.items (length (tasks l)))
     ∙ (ap (λ (r : ℕ). ended r b.before) n.room ∙ ap (ended (length (tasks l) + b.spare)) n.before)))))))
 
-pub kept_opened : (l : Listing) (b : Inside) → IsNew l b → length (tasks l) + b.spare ≤ MAX_TASKS → length l.initial ≤ MAX_VALUES → AllKnow l → Upholds l l.initial → b.room ≤ vec_capacity b.journal → b.room ≤ b.chapter.room → length l.initial ≤ vec_capacity b.changes → b.table.spare ≡ b.spare → b.table.variables ≡ length l.initial → Follows b.base b.present b.since → IsKept b
-kept_opened l b n few few_values known stands room submit_room changes_room spare variables since =
+pub kept_opened : (l : Listing) (b : Inside) → IsNew l b → length (tasks l) + b.spare ≤ MAX_TASKS → length l.initial ≤ MAX_VALUES → AllKnow l → Upholds l l.initial → b.room ≤ vec_capacity b.journal → b.room ≤ b.chapter.room → b.table.spare ≡ b.spare → b.table.variables ≡ length l.initial → Follows b.base b.present b.since → IsKept b
+kept_opened l b n few few_values known stands room submit_room spare variables since =
     let is = new_is l b n in
     let size : length b.table.tasks ≡ length (tasks l) = ap length n.tasks ∙ length-replicate (length (tasks l)) Ready in
     record {
@@ -146,7 +146,6 @@ kept_opened l b n few few_values known stands room submit_room changes_room spar
       fits = subst BookFits (sym is) (fits_opened l b.cells b.spare (omega (arith, few)) few_values known);
       room = room;
       submit_room = submit_room;
-      changes_room = omega (arith, changes_room, ap (λ (m : Listing). length m.initial) n.listing);
       whole = omega (arith, size, spare, n.room);
       spared = omega (arith, spare);
       few = omega (arith, few, n.room);
@@ -169,7 +168,6 @@ kept_stand b table task was is k e at was_open is_open is_awake same =
       fits = subst BookFits (sym view) (fits_stand v task (with_values m was) (with_values m is) k.fits there same);
       room = k.room;
       submit_room = k.submit_room;
-      changes_room = k.changes_room;
       whole = omega (arith, k.whole, length-set b.table.tasks task.0 is);
       spared = k.spared;
       few = k.few;
@@ -227,7 +225,6 @@ kept_park b table task log k e at waits =
       fits = subst BookFits (sym view) (fits_stand v task Running (Parked log) k.fits there refl);
       room = k.room;
       submit_room = k.submit_room;
-      changes_room = k.changes_room;
       whole = omega (arith, k.whole, length-set b.table.tasks task.0 (Parked (unvalued log)));
       spared = k.spared;
       few = k.few;
@@ -252,7 +249,6 @@ kept_readied b table k e =
       fits = subst BookFits (sym view) (readied_fits v k.fits);
       room = k.room;
       submit_room = k.submit_room;
-      changes_room = k.changes_room;
       whole = omega (arith, k.whole, length-map b.table.tasks readied_one);
       spared = k.spared;
       few = k.few;
@@ -272,7 +268,6 @@ kept_checkpoint b base since journal k follows e none capacity =
       fits = subst BookFits (sym view) (fits_checkpoint v k.fits);
       room = omega (arith, k.room, capacity);
       submit_room = k.submit_room;
-      changes_room = k.changes_room;
       whole = k.whole;
       spared = k.spared;
       few = k.few;
@@ -318,7 +313,6 @@ kept_submitted b chapter table c k e spare more same program =
       fits = subst BookFits (sym view) (fits_submitted v c k.fits (omega (arith, k.whole, k.spared, k.few, spare, length-map b.table.tasks (with_values b.present.values.items))) program);
       room = k.room;
       submit_room = omega (arith, k.submit_room, same);
-      changes_room = omega (arith, k.changes_room, wide);
       whole = omega (arith, k.whole, size, left, k.spared, spare);
       spared = omega (arith, k.spared, left);
       few = k.few;

@@ -37,7 +37,6 @@ module _ (b : Inside) (p : Stored) (w : Written) (number : p.number ≡ b.presen
         fits = subst BookFits (sym same_view) k.fits;
         room = k.room;
         submit_room = k.submit_room;
-        changes_room = k.changes_room;
         whole = k.whole;
         spared = k.spared;
         few = k.few;

@@ -12,7 +12,6 @@ ghost use Rattle.cells.specs.Passing.{MeetsBy};
 ghost use Rattle.book.specs.Openings.{IsOpening};
 ghost use Rattle.book.specs.Changed.{Follows};
 
-use crate::changing::note_changes;
 use crate::chapter::Chapter;
 use crate::clock::reach;
 use crate::counting::Counts;
@@ -22,7 +21,7 @@ use crate::keeping::park;
 use crate::listing::{given_up, parked};
 use crate::since::Since;
 use crate::standing::Standing;
-use crate::stored::{Stored, openings, pairs, rebase, start_anew, store};
+use crate::stored::{Stored, openings, pair, pairs, rebase, start_anew, store};
 use crate::table::TaskTable;
 use crate::task::{Finish, Serial, is_committed};
 use crate::validate::agrees;
@@ -49,8 +48,6 @@ pub struct Book<'a> {
     pub(crate) present: Stored,
     /// Which variables changed since when, where that is listed.
     since: Since,
-    /// What the last commit changed. Its room is for one change a variable.
-    changes: Vec<(VarId, i64)>,
     /// What the last plain turn wrote.
     pub(crate) written: Written,
     /// How each task stands.
@@ -104,8 +101,8 @@ impl<'a> Book<'a> {
 
     /// All tasks ready, number 0, the initial values, an empty journal. `Memory` only where a growth was refused.
     ///
-    /// Room for how each task stands, for one entry a task, for one change a variable, and for each variable's set of
-    /// the tasks that wait for it is taken here, and for what each of these has read, so that no commit takes any.
+    /// Room for how each task stands, for one entry a task, and for each variable's set of the tasks that wait for it
+    /// is taken here, and for what each of these has read, so that no commit takes any.
     /// The cells and the publisher have to have been opened together on the catalogue's initial values, and nothing
     /// published since.
     pub fn open(
@@ -158,12 +155,10 @@ impl<'a> Book<'a> {
         let chapter = Chapter::first(alloc, catalogue, room)?;
         let (base, present, since) = openings(alloc, catalogue)?;
         let journal = Vec::with_capacity(alloc, room)?;
-        let changes = Vec::with_capacity(alloc, variables)?;
         let written = Written::new(alloc);
         let table = TaskTable::open(alloc, count, spare, variables)?;
         Ok(Book::of_parts(
-            chapter, cells, publisher, base, present, since, journal, changes, written, table,
-            spare,
+            chapter, cells, publisher, base, present, since, journal, written, table, spare,
         ))
     }
 
@@ -176,7 +171,6 @@ impl<'a> Book<'a> {
         present: Stored,
         since: Since,
         journal: Vec<PackedEntry>,
-        changes: Vec<(VarId, i64)>,
         written: Written,
         table: TaskTable,
         spare: usize,
@@ -188,7 +182,6 @@ impl<'a> Book<'a> {
         requires since { Follows base present since }
         requires journal { journal.items ≡ [] }
         requires journal_room { length (tasks chapter.listing) + spare ≤ vec_capacity journal }
-        requires changes_room { length chapter.listing.initial ≤ vec_capacity changes }
         requires room { length (tasks chapter.listing) + spare ≤ chapter.room }
         requires few { length (tasks chapter.listing) + spare ≤ MAX_TASKS }
         requires few_values { length chapter.listing.initial ≤ MAX_VALUES }
@@ -207,7 +200,6 @@ impl<'a> Book<'a> {
             journal,
             present,
             since,
-            changes,
             written,
             table,
             room,
@@ -335,7 +327,7 @@ impl<'a> Book<'a> {
         if place >= self.present.values.len() {
             return None;
         }
-        Some((self.present.values[place], self.present.versions[place]))
+        Some(pair(&self.present, place))
     }
 
     /// The present values, one for each variable, in their order.
@@ -773,18 +765,18 @@ impl<'a> Book<'a> {
         self.chapter.rules();
         let number = self.present.number + 1;
         let tx = self.chapter.transaction(task);
-        note_changes(&mut self.changes, writes, &self.present.values);
-        self.publisher.publish(self.cells.get(), &self.changes);
+        let values = self.present.values.as_slice();
+        self.publisher.publish(self.cells.get(), writes, values);
+        self.table.finish(task, number);
+        self.table.wake(writes, values);
         store(
             &mut self.present,
             number,
-            &self.changes,
+            writes,
             &self.base,
             &mut self.since,
         );
         self.present.number = number;
-        self.table.finish(task, number);
-        self.table.wake(&self.changes);
         enter(
             &mut self.journal,
             Entry {

@@ -234,7 +234,7 @@ fn behind(alloc: Global, calls: &Calls, from: usize) -> Result<Vec<Call>, AllocE
 fn copied(alloc: Global, values: &[i64]) -> Result<Vec<i64>, AllocError>
     ensures { IfOk result (λ v. v.items ≡ values.now) }
 {
-    values.to_vec(alloc)
+    Vec::from_slice(alloc, values)
 }
 
 /// The calls of the catalogue's tasks, with room for so many. There is room for the arguments of any call of it.

@@ -40,14 +40,14 @@ pub fn unchanged(alloc: Global, variables: usize) -> Result<Since, AllocError>
 }
 
 /// The variable's version goes above this number: it is listed, where it is not yet. There is room.
-pub fn note(list: &mut Vec<u32>, past: u64, versions: &[u64], variable: VarId)
+pub fn note(list: &mut Vec<u32>, past: u64, versions: &[u32], variable: VarId)
     requires listed { AreAbove past versions.now list.old.items }
     requires known { variable.0 < length versions.now }
     requires room { length versions.now ≤ vec_capacity list.old }
     ensures listed { (n : ℕ) → past < n → AreAbove past (slice_set versions.now variable.0 n) list.new.items }
     ensures capacity { vec_capacity list.old ≤ vec_capacity list.new }
 {
-    if versions[variable.0 as usize] > past {
+    if u64::from(versions[variable.0 as usize]) > past {
         return;
     }
     add(list, variable.0);

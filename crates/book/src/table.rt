@@ -9,9 +9,9 @@ ghost use Rattle.std.specs.Prelude.{◌≡◌, ◌≢◌, ◌<◌, ◌≤◌, �
 ghost use Rattle.std.specs.Prelude.{MatchBool, MatchOption, Some, All, true, false, slice_get, slice_set};
 ghost use Rattle.std.specs.Prelude.{slice_index_or, cond, drop, take, ◌-◌, ◌+◌, ◌++◌, ◌∷◌, [], vec_len, vec_capacity};
 ghost use Rattle.txn_programs.specs.declared.limits.TheConstants.{MAX_TASKS, MAX_VALUES};
-ghost use Rattle.txn_words.specs.Stores.{id_of};
 ghost use Rattle.book.specs.declared.sleepers.TheConstants.{MAX_SETS};
 ghost use Rattle.attempt.specs.Order.{AllKnown, Apart};
+ghost use Rattle.cells.specs.Publishing.{AreWrites, changes_of};
 ghost use Rattle.book.specs.Tasks as Task;
 ghost use Rattle.book.specs.Standings.{bare, unlogged};
 ghost use Rattle.book.specs.Turns.{readied_one};
@@ -584,30 +584,36 @@ impl TaskTable {
         self.standings.truncate(count);
     }
 
-    /// The parked tasks whose log names a changed variable are ready.
-    pub fn wake(&mut self, changes: &[(VarId, i64)])
-        requires { (i : ℕ) → i < length changes.now → id_of changes.now i < self.old.variables }
-        ensures { self.new ≡ with_tasks self.old (map (woken_by changes.now) self.old.tasks) }
+    /// The parked tasks whose log names a variable that a write changes are ready.
+    pub fn wake(&mut self, writes: &[(VarId, i64)], values: &[i64])
+        requires writes { AreWrites values.now writes.now }
+        requires valued { length values.now ≡ self.old.variables }
+        ensures { self.new ≡ with_tasks self.old (map (woken_by (changes_of values.now writes.now)) self.old.tasks) }
     {
         if self.variables > MAX_SETS {
-            self.wake_each_among(changes);
+            self.wake_each_among(writes, values);
             return;
         }
-        for change in changes {
-            self.wake_for(change.0.0 as usize);
+        for write in writes {
+            if values[write.0.0 as usize] != write.1 {
+                self.wake_for(write.0.0 as usize);
+            }
         }
     }
 
     /// As `wake`, where variables share sets.
     #[cold]
     #[inline(never)]
-    fn wake_each_among(&mut self, changes: &[(VarId, i64)])
+    fn wake_each_among(&mut self, writes: &[(VarId, i64)], values: &[i64])
         requires wide { MAX_SETS < self.old.variables }
-        requires known { (i : ℕ) → i < length changes.now → id_of changes.now i < self.old.variables }
-        ensures { self.new ≡ with_tasks self.old (map (woken_by changes.now) self.old.tasks) }
+        requires writes { AreWrites values.now writes.now }
+        requires valued { length values.now ≡ self.old.variables }
+        ensures { self.new ≡ with_tasks self.old (map (woken_by (changes_of values.now writes.now)) self.old.tasks) }
     {
-        for change in changes {
-            self.wake_among(change.0.0 as usize);
+        for write in writes {
+            if values[write.0.0 as usize] != write.1 {
+                self.wake_among(write.0.0 as usize);
+            }
         }
     }
 

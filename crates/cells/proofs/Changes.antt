@@ -2,14 +2,11 @@
 use Rattle.std.proofs.Common.{◌≡◌, ◌≢◌, ℕ, zero, suc, ◌+◌, ◌<◌, ◌≤◌, List, [], ◌∷◌, fold, length, take, get_or, set, sym, refl, ap, ◌∙◌, subst, arith, add-one, length-set, get_or-set_other, get_or-set_same}
 use mathlib.Core.Logic.{dite}
 use native.Mathlib.Decide.{ℕ_discrete}
-use Rattle.std.proofs.lemmas.List.{length-take-le}
+use lib.Seq.{take-length}
 use Rattle.std.proofs.lemmas.List.Sums.{fold_more}
 use Rattle.txn_words.specs.Stores.{Change, no_change, id_of}
 
--- the count of stores, from one change to the next
-pub one_more : (cs : List Change) (n k : ℕ) → k < length cs → n + length (take (k + 1) cs) ≡ n + length (take k cs) + 1
-one_more cs n k h = let a = length-take-le k cs (omega arith) in let b = length-take-le (k + 1) cs (omega arith) in omega arith
-
+-- the count of stores, before the first change
 pub none_yet : (n : ℕ) → n ≡ n + 0
 none_yet n = omega arith
 
@@ -30,6 +27,9 @@ module _ {A : Type 0} (v : Change → A) where
       subst (λ (z : ℕ). get_or (sets l (take z cs)) x d ≡ get_or l x d) (add-one k)
       (ap (λ (z : List A). get_or z x d) (sets_more l cs k (omega arith))
       ∙ (get_or-set_other (sets l (take k cs)) (id_of cs k) x (v (get_or cs k no_change)) d (n k (omega arith)) ∙ sets_else l cs x d k (omega arith) (λ i l. n i (omega arith))))
+
+  pub unwritten : (l : List A) (cs : List Change) (x : ℕ) (d : A) → ((i : ℕ) → i < length cs → x ≢ id_of cs i) → get_or (sets l cs) x d ≡ get_or l x d
+  unwritten l cs x d n = subst (λ (z : List Change). get_or (sets l z) x d ≡ get_or l x d) (take-length cs) (sets_else l cs x d (length cs) (omega arith) n)
 
   pub sets_here : (l : List A) (cs : List Change) (d : A) (k : ℕ) → k ≤ length cs → ((i j : ℕ) → i < j → j < length cs → id_of cs i < id_of cs j)
       → ((i : ℕ) → i < length cs → id_of cs i < length l) → (i : ℕ) → i < k → get_or (sets l (take k cs)) (id_of cs i) d ≡ v (get_or cs i no_change)

@@ -1,6 +1,8 @@
 -- Each store of the publisher keeps the rule.
-use Rattle.std.proofs.Common.{◌≡◌, ◌≢◌, ℕ, ◌+◌, ◌-◌, ◌*◌, ◌/◌, List, [], ◌∷◌, length, get_or, set, sym, refl, ap, ◌∙◌, subst, arith, Option, Some, None, IfSome}
-use mathlib.Core.Option.{none}
+use Rattle.std.proofs.Common.{◌≡◌, ◌≢◌, ℕ, ◌+◌, ◌-◌, ◌*◌, ◌/◌, ◌<◌, false, if◌then◌else◌, List, [], ◌∷◌, length, get_or, set, sym, refl, ap, ◌∙◌, subst, arith, Option, Some, None, IfSome}
+use mathlib.Core.Option.{none, some}
+use lib.ListN.{get_elem?}
+use lib.Seq.{set-get_or}
 use Rattle.std.specs.Int.{w64, cast_signed}
 use Rattle.atomic_table.specs.Table.{step, keeps, stepped, Allows}
 use Rattle.txn_words.specs.Words.{Commit, version_word, value_word, StartsWith, WordsMean}
@@ -11,7 +13,7 @@ use Rattle.txn_words.proofs.Stores.{Keeps, lock_keeps, value_keeps, clock_keeps,
 use Rattle.txn_words.proofs.Loads.{reader_stays}
 use Rattle.cells.specs.Sight.{Sight, publishing, commit_of}
 use Rattle.cells.specs.Rule.{WordsHold}
-use Rattle.cells.specs.Steps.{Seated, Moves, locks, stores_value, stores_clock, releases}
+use Rattle.cells.specs.Steps.{Seated, Moves, locks, stores_value, stores_clock, releases, loads_own}
 use Rattle.cells.proofs.Seats.{Board, seats_stay, if_some, known, same_commit}
 
 no_other : (a b : Commit) (j w : ℕ) → j ≢ w → (o : Option Commit) → IfSome o (λ c. (c ≡ a) × (j ≡ w)) → IfSome o (λ c. (c ≡ b) × (j ≡ w))
@@ -71,3 +73,22 @@ pub releases_kept : (slots id : ℕ) (me : Seated) (c : Commit) (x b : ℕ) → 
 releases_kept slots id me c x b is may stored =
     subst (λ (z : ℕ). Allows WordsHold slots id me (version_word x) (λ _. b) (λ _. Moves (after_release z) me)) (sym (half_version x))
     (publishes slots id me (version_word x) b c (after_release x) is (starts_whole c.history) (λ ws. release_keeps ws c x b may stored))
+
+-- the publisher's load of the word i
+own_step : (s : Board) (r : WordsHold s) (i id : ℕ) (slots : List (ℕ × Unit)) (d : Sight) → get_elem? s.views id ≡ some d → WordsHold (stepped s i (get_or s.words i 0) id slots d keeps)
+own_step s r i id slots d at = subst (λ (ws : List ℕ). WordsHold record { words = ws; homes = s.homes; views = set s.views id d }) (sym (set-get_or s.words i 0)) record {
+  commit = r.commit;
+  writer = r.writer;
+  words = r.words;
+  publisher = seats_stay (λ j d. IfSome d.publisher (λ c. (c ≡ r.commit) × (j ≡ r.writer))) s.views id d (r.publisher id d at) (λ j d _. r.publisher j d);
+  reader = seats_stay (λ j d. IfSome d.reader (ReaderHolds s.words r.commit.history)) s.views id d (r.reader id d at) (λ j d _. r.reader j d);
+}
+
+pub own_version_read : (slots id : ℕ) (me : Seated) (c : Commit) (x : ℕ) → me.0 ≡ publishing c → x < length c.values → Allows WordsHold slots id me (version_word x) (λ n. n) (loads_own (step slots (version_word x) 0 0 none) me)
+own_version_read slots id me c x is inside s r _ at _ =
+    let n : ℕ = get_or s.words (version_word x) 0 in
+    let within : x < length r.commit.values = subst (λ (z : Commit). x < length z.values) (known s r id me.0 c at is).0 inside in
+    let here : n ≡ 2 * get_or r.commit.versions x 0 + (if get_or r.commit.locked x false then 1 else 0) = (r.words.each x within).version in
+    let told : (z : Commit) → me.0 ≡ publishing z → n ≡ 2 * get_or z.versions (version_word x / 2) 0 + (if get_or z.locked (version_word x / 2) false then 1 else 0) = λ z is'.
+    subst (λ (t : Commit × ℕ). n ≡ 2 * get_or t.0.versions t.1 0 + (if get_or t.0.locked t.1 false then 1 else 0)) (λ i. (sym (known s r id me.0 z at is').0 i, sym (half_version x) i)) here in
+    (me.0, keeps, tt, own_step s r (version_word x) id me.1 me.0 at, (refl, told))

@@ -2,6 +2,7 @@ pub mod Seats
 pub mod Commits
 pub mod Readers
 pub mod Changes
+pub mod Writes
 pub mod Publish
 pub mod Starts
 pub mod Meeting

@@ -7,8 +7,8 @@ use Rattle.txn_words.specs.Words.{Commit, state_value, state_of, last_state}
 use Rattle.txn_words.specs.Stores.{Change, no_change, id_of, new_of, with_changes, AreChanges, after_clock}
 use Rattle.txn_words.proofs.Words.{last_pushed, state_before}
 use Rattle.cells.specs.Publishing.{IsResting}
-use Rattle.cells.specs.Private.{locked_by, numbered_by, all_locked, all_stored, all_released}
-use Rattle.cells.proofs.Changes.{sets, sets_length, sets_else, sets_here}
+use Rattle.cells.specs.Private.{locked_by, all_locked, all_stored, all_released}
+use Rattle.cells.proofs.Changes.{sets, sets_length, sets_here, unwritten}
 
 set_all : {A : Type 0} (P : A → Type 0) (l : List A) (i : ℕ) (a d : A) → P a → ((y : ℕ) → P (get_or l y d)) → (y : ℕ) → P (get_or (set l i a) y d)
 set_all P [] i a d here all y = all y
@@ -31,9 +31,6 @@ module _ {A : Type 0} (v : Change → A) (l : List A) (cs : List Change) (d : A)
   written : ((i j : ℕ) → i < j → j < length cs → id_of cs i < id_of cs j) → ((i : ℕ) → i < length cs → id_of cs i < length l) → (i : ℕ) → i < length cs → get_or (sets v l cs) (id_of cs i) d ≡ v (get_or cs i no_change)
   written up inside i low = subst (λ (z : List Change). get_or (sets v l z) (id_of cs i) d ≡ v (get_or cs i no_change)) (take-length cs) (sets_here v l cs d (length cs) (omega arith) up inside i low)
 
-  unwritten : (x : ℕ) → ((i : ℕ) → i < length cs → x ≢ id_of cs i) → get_or (sets v l cs) x d ≡ get_or l x d
-  unwritten x n = subst (λ (z : List Change). get_or (sets v l z) x d ≡ get_or l x d) (take-length cs) (sets_else v l cs x d (length cs) (omega arith) n)
-
 module _ (c : Commit) (cs : List Change) where
   -- every variable that changes is locked, every new value stored
   abbrev pub stored : Bool → Commit
@@ -47,7 +44,7 @@ module _ (c : Commit) (cs : List Change) where
   abbrev pub released : ℕ → Commit
   released n = all_released n cs counted
 
-module _ (c : Commit) (n : ℕ) (vs : List ℕ) (cs : List Change) (r : IsResting c n vs) (a : AreChanges (last_state c.history) cs) where
+module _ (c : Commit) (n : ℕ) (cs : List Change) (r : IsResting c n) (a : AreChanges (last_state c.history) cs) where
   pub inside : (i : ℕ) → i < length cs → id_of cs i < length c.values
   inside i l = subst (λ (m : List ℤ). id_of cs i < length m) (sym r.settled.1) (a.exist i l)
 
@@ -67,15 +64,14 @@ module _ (c : Commit) (n : ℕ) (vs : List ℕ) (cs : List Change) (r : IsRestin
   pub longer_by_one : n + 1 + 1 ≡ length (c.history ++ with_changes c.values cs ∷ [])
   longer_by_one = let many = r.counted in omega (arith, length-append c.history (with_changes c.values cs ∷ []))
 
-  pub rests_again : IsResting (released c cs (n + 1)) (n + 1) (numbered_by (n + 1) vs cs)
+  pub rests_again : IsResting (released c cs (n + 1)) (n + 1)
   rests_again = record {
     counted = longer_by_one;
-    versions_are = ap (λ (l : List ℕ). numbered_by (n + 1) l cs) r.versions_are;
     past = sets_all (λ (_ : Change). n + 1) (λ (k : ℕ). k ≤ n + 1) c.versions cs 0 (λ _. omega arith) (λ y. let old = r.past y in omega arith);
     free = λ x. ⊎_elim (λ (t : (i : ℕ) × (i < length cs) × (x ≡ id_of cs i)).
         ap (λ (z : ℕ). get_or (locked_by false (locked_by true c.locked cs) cs) z false) t.2
         ∙ written (λ (_ : Change). false) (locked_by true c.locked cs) cs false a.ascend (λ j h. omega (arith, inside j h, r.sized.1, sets_length (λ (_ : Change). true) c.locked cs)) t.0 t.1)
-        (λ (t : (i : ℕ) → i < length cs → x ≢ id_of cs i). unwritten (λ (_ : Change). false) (locked_by true c.locked cs) cs false x t ∙ (unwritten (λ (_ : Change). true) c.locked cs false x t ∙ r.free x))
+        (λ (t : (i : ℕ) → i < length cs → x ≢ id_of cs i). unwritten (λ (_ : Change). false) (locked_by true c.locked cs) cs x false t ∙ (unwritten (λ (_ : Change). true) c.locked cs x false t ∙ r.free x))
         (among cs x (length cs));
     in_order = r.in_order;
     settled = (refl, sym (last_pushed c.history (with_changes c.values cs)));

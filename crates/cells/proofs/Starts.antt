@@ -1,9 +1,10 @@
 -- The rule holds at the start, and as readers get their seats.
-use Rattle.std.proofs.Common.{◌≡◌, ℕ, zero, suc, ◌+◌, ◌<◌, List, [], ◌∷◌, ◌++◌, map, length, get_or, set, ℤ, sym, refl, ap, ◌∙◌, subst, ⊎_elim, arith, IfSome, length-append, replicate}
+use Rattle.std.proofs.Common.{◌≡◌, ℕ, zero, suc, ◌+◌, ◌*◌, ◌<◌, List, [], ◌∷◌, length, get_or, set, ℤ, sym, refl, ap, ◌∙◌, subst, ⊎_elim, arith, IfSome, replicate, length-set, get_or-set_other, get_or-set_same}
 use mathlib.Core.Option.{some, some-injective, some-ne-none}
 use mathlib.Core.Logic.{dite}
 use native.Mathlib.Decide.{ℕ_discrete}
-use lib.ListN.{get_elem?, get_or-append}
+use Rattle.std.proofs.lemmas.List.{length-replicate}
+use lib.ListN.{get_elem?}
 use Rattle.std.specs.Int.{w64, cast_signed}
 use Rattle.atomic_table.specs.Table.{opening, Splits}
 use Rattle.atomic_table.proofs.Lists.{at_snoc}
@@ -25,7 +26,7 @@ pub starts : (m : List ℤ) (words : List ℕ) → AreFirstWords m words (length
 starts m words h = record {
   commit = opened m;
   writer = 0;
-  words = opens m words h.wide h.clock h.each;
+  words = opens m words h.wide h.clock (λ x l. (h.versions x, h.values x l));
   publisher = only (λ j d. IfSome d.publisher (λ c. (c ≡ opened m) × (j ≡ 0))) (publishing (opened m)) (refl, refl);
   reader = only (λ j d. IfSome d.reader (ReaderHolds words (m ∷ []))) (publishing (opened m)) tt;
 }
@@ -45,35 +46,34 @@ enrolls id d c is s r at = let k = known s r id d c at is in let same = ap (λ (
       }) (at_snoc (set s.views id d) (reading (enrolled c.history)) e j p);
 }
 
-pushed : (l : List ℕ) (a n : ℕ) → n ≡ length l → get_or (l ++ a ∷ []) n 0 ≡ a
-pushed [] a zero e = refl
-pushed [] a (suc n) e = absurd (omega arith)
-pushed (x ∷ xs) a zero e = absurd (omega arith)
-pushed (x ∷ xs) a (suc n) e = pushed xs a n (omega arith)
+blank : (n i : ℕ) → ◌≡◌ {A = ℕ} (get_or (replicate n 0) i 0) 0
+blank zero i = refl
+blank (suc n) zero = refl
+blank (suc n) (suc i) = blank n i
 
--- two words more, for one variable more
-pub first_more : (m : List ℤ) (words : List ℕ) (k b : ℕ) → AreFirstWords m words k → cast_signed w64 b ≡ state_value m k → AreFirstWords m ((words ++ 0 ∷ []) ++ b ∷ []) (k + 1)
-first_more m words k b h is = let wide = h.wide in let one : length (words ++ 0 ∷ []) ≡ length words + 1 = length-append words (0 ∷ []) in let two = length-append (words ++ 0 ∷ []) (b ∷ []) in
-    let before : (n : ℕ) → n < length words → get_or ((words ++ 0 ∷ []) ++ b ∷ []) n 0 ≡ get_or words n 0 =
-    λ n l. get_or-append (words ++ 0 ∷ []) (b ∷ []) 0 n (omega arith) ∙ get_or-append words (0 ∷ []) 0 n l in record {
-      wide = omega arith;
-      clock = before 0 (omega arith) ∙ h.clock;
-      each = λ x l. dite (ℕ_discrete x k)
-          (λ e. (
-            get_or-append (words ++ 0 ∷ []) (b ∷ []) 0 (version_word x) (omega arith) ∙ pushed words 0 (version_word x) (omega arith),
-            ap (cast_signed w64) (pushed (words ++ 0 ∷ []) b (value_word x) (omega arith)) ∙ (is ∙ ap (state_value m) (sym e)),
-          ))
-          (λ n. let t = h.each x (omega arith) in (before (version_word x) (omega arith) ∙ t.0, ap (cast_signed w64) (before (value_word x) (omega arith)) ∙ t.1));
-    }
+-- with all words 0 no value is there yet
+pub first_blank : (m : List ℤ) (words : List ℕ) → words ≡ replicate (2 * length m + 1) 0 → AreFirstWords m words 0
+first_blank m words e = subst (λ (ws : List ℕ). AreFirstWords m ws 0) (sym e) record {
+  wide = length-replicate (2 * length m + 1) 0;
+  clock = blank (2 * length m + 1) 0;
+  versions = λ x. blank (2 * length m + 1) (version_word x);
+  values = λ x l. absurd (omega (arith, l));
+}
 
-zeros : (m : List ℤ) → map {B = ℕ} (λ _. 0) m ≡ replicate (length m) 0
-zeros [] = refl
-zeros (z ∷ zs) = ap (λ (l : List ℕ). 0 ∷ l) (zeros zs)
+-- one value more
+pub first_more : (m : List ℤ) (words : List ℕ) (k b : ℕ) → k < length m → AreFirstWords m words k → cast_signed w64 b ≡ state_value m k → AreFirstWords m (set words (value_word k) b) (k + 1)
+first_more m words k b low h is = let wide = h.wide in record {
+  wide = length-set words (value_word k) b ∙ h.wide;
+  clock = get_or-set_other words (value_word k) 0 b 0 (λ e. omega arith) ∙ h.clock;
+  versions = λ x. get_or-set_other words (value_word k) (version_word x) b 0 (λ e. omega arith) ∙ h.versions x;
+  values = λ x l. dite (ℕ_discrete x k)
+      (λ e. ap (cast_signed w64) (ap (λ (z : ℕ). get_or (set words (value_word k) b) (value_word z) 0) e ∙ get_or-set_same words (value_word k) b 0 (omega (arith, wide, low))) ∙ (is ∙ ap (state_value m) (sym e)))
+      (λ n. ap (cast_signed w64) (get_or-set_other words (value_word k) (value_word x) b 0 (λ e. n (omega arith))) ∙ h.values x (omega arith));
+}
 
-pub rests_first : (m : List ℤ) → IsResting (opened m) 0 (replicate (length m) 0)
+pub rests_first : (m : List ℤ) → IsResting (opened m) 0
 rests_first m = record {
   counted = refl;
-  versions_are = zeros m;
   past = λ x. let e = all_zero m x in omega arith;
   free = all_free m;
   in_order = refl;

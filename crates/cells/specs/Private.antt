@@ -86,9 +86,9 @@ abbrev pub AreLocked : Commit → List Change → Type 0
 AreLocked c changes = (i : ℕ) → i < length changes
     → (id_of changes i < length c.values) × (slice_index_or c.locked (id_of changes i) false ≡ true)
 
--- the words at the start, as far as the first k variables: the clock and the versions are 0, and the values are those of m
+-- the words at the start: the clock and the versions are 0, and the first k values are those of m
 pub record AreFirstWords (m : List ℤ) (words : List ℕ) (k : ℕ) : Type 0 where
-  pub wide : length words ≡ 2 * k + 1
+  pub wide : length words ≡ 2 * length m + 1
   pub clock : slice_index words 0 ≡ 0
-  pub each : (x : ℕ) → x < k
-      → (slice_index words (version_word x) ≡ 0) × (cast_signed w64 (slice_index words (value_word x)) ≡ state_value m x)
+  pub versions : (x : ℕ) → slice_index words (version_word x) ≡ 0
+  pub values : (x : ℕ) → x < k → cast_signed w64 (slice_index words (value_word x)) ≡ state_value m x

@@ -1,7 +1,7 @@
 -- What each load and store tells its thread: kinds 1 to 4 are the loads of a reader, 5 to 8 the
--- stores of the publisher. In each, s is the step, n the word that was loaded or stored, and m and m' the seat before
+-- stores of the publisher, and 9 is its one load. In each, s is the step, n the word that was loaded or stored, and m and m' the seat before
 -- and after.
-use Rattle.std.specs.Prelude.{◌≡◌, ℕ, ◌+◌, ◌-◌, ◌*◌, ◌%◌, ◌/◌, ◌<◌, ◌≤◌, List, [], ◌∷◌, length, ℤ}
+use Rattle.std.specs.Prelude.{◌≡◌, ℕ, ◌+◌, ◌-◌, ◌*◌, ◌%◌, ◌/◌, ◌<◌, ◌≤◌, false, if◌then◌else◌, List, [], ◌∷◌, length, slice_index, slice_index_or, ℤ}
 use Rattle.std.specs.Int.{w64, cast_signed}
 use Rattle.atomic_table.specs.Table.{Me, Step}
 use Rattle.txn_words.specs.Words.{Commit, state_of, last_state, StartsWith}
@@ -61,3 +61,10 @@ stores_clock s m n m' = Moves after_clock m m'
 -- 8. ReleaseVersion: a version word gets the last number, and no lock bit
 abbrev pub releases : Step Unit → Seated → ℕ → Seated → Type 0
 releases s m n m' = Moves (after_release (s.word / 2)) m m'
+
+-- 9. LoadOwnVersion: a version word is loaded, which is what the publisher stored there last
+abbrev pub loads_own : Step Unit → Seated → ℕ → Seated → Type 0
+loads_own s m n m' =
+    (m'.0 ≡ m.0)
+    × ((c : Commit) → m.0 ≡ publishing c
+    → n ≡ 2 * slice_index c.versions (s.word / 2) + (if slice_index_or c.locked (s.word / 2) false then 1 else 0))

@@ -1,11 +1,11 @@
-//! The words as the rest of the crate has them: the eight kinds of step, and the seats that take
+//! The words as the rest of the crate has them: the nine kinds of step, and the seats that take
 //! them. The table of words is this module's alone, so no other module can load or store a word but
 //! by these calls. Each has one line of code, and its contract says what the step tells.
 //!
 //! The kinds of step, in the one order in which they are named everywhere: 1 `LoadClock`,
 //! 2 `LoadVersion`, 3 `LoadValue`, 4 `LoadVersionAgain`; 5 `LockVersion`, 6 `StoreValue`,
-//! 7 `StoreClock`, 8 `ReleaseVersion`.
-ghost use Rattle.std.specs.Prelude.{◌≡◌, ◌+◌, ◌^◌, ◌<◌, ◌≤◌, true, length, slice_index, IfOk};
+//! 7 `StoreClock`, 8 `ReleaseVersion`; 9 `LoadOwnVersion`.
+ghost use Rattle.std.specs.Prelude.{◌≡◌, ◌+◌, ◌*◌, ◌^◌, ◌<◌, ◌≤◌, true, length, slice_index, IfOk};
 ghost use Rattle.txn_programs.specs.declared.limits.TheConstants.{MAX_VALUES};
 ghost use Rattle.txn_words.specs.Words.{StartsWith};
 ghost use Rattle.txn_words.specs.Stores.{opened, MayLock, MayStore, MayRelease, after_lock, after_value, after_clock};
@@ -16,8 +16,8 @@ ghost use Rattle.cells.specs.Private.{AreFirstWords, IsPublisher, IsReader, IsSa
 ghost use Rattle.cells.specs.Private.{HasVersion, HasValue, reader_cells};
 
 use crate::rule::{
-    Enroll, Leave, LoadClock, LoadClockTogether, LoadValue, LoadVersion, LoadVersionAgain,
-    LockVersion, Part, ReleaseVersion, StoreClock, StoreValue, Take, WordsRule,
+    Enroll, Leave, LoadClock, LoadClockTogether, LoadOwnVersion, LoadValue, LoadVersion,
+    LoadVersionAgain, LockVersion, Part, ReleaseVersion, StoreClock, StoreValue, Take, WordsRule,
 };
 use crate::sight::Sight;
 use atomic_table::{Seat, Table};
@@ -120,20 +120,20 @@ impl Board {
         self.table.shared.load::<LoadVersionAgain>(seat, 2 * x + 1)
     }
 
-    /// 5. The publisher locks a version word, which held this version.
-    pub(crate) fn lock_version(&self, seat: &mut Seat<(), Sight>, x: usize, version: u64)
+    /// 5. The publisher locks a version word, in which this was.
+    pub(crate) fn lock_version(&self, seat: &mut Seat<(), Sight>, x: usize, stamp: u64)
         requires own { seat.old.table_id ≡ self.now.table }
         requires publisher { IsPublisher seat.old }
         requires exists { x < self.now.variables }
         requires may { MayLock (commit_of seat.old.me.0) x }
-        requires version { (version ≡ slice_index (commit_of seat.old.me.0).versions x)
-            × (version < 2 ^ 62) }
+        requires stamp { (stamp ≡ 2 * slice_index (commit_of seat.old.me.0).versions x)
+            × (stamp < 2 ^ 63) }
         ensures seat { IsSameSeat seat.old seat.new }
         ensures told { seat.new.me.0 ≡ publishing (after_lock x (commit_of seat.old.me.0)) }
     {
         self.table
             .shared
-            .store::<LockVersion>(seat, 2 * x + 1, 2 * version + 1);
+            .store::<LockVersion>(seat, 2 * x + 1, stamp + 1);
     }
 
     /// 6. The publisher stores a value.
@@ -176,6 +176,19 @@ impl Board {
         self.table
             .shared
             .store::<ReleaseVersion>(seat, 2 * x + 1, 2 * number);
+    }
+
+    /// 9. The publisher loads a version word that it has not locked.
+    pub(crate) fn load_own_version(&self, seat: &mut Seat<(), Sight>, x: usize) -> u64
+        requires own { seat.old.table_id ≡ self.now.table }
+        requires publisher { IsPublisher seat.old }
+        requires exists { x < self.now.variables }
+        requires may { MayLock (commit_of seat.old.me.0) x }
+        ensures seat { IsSameSeat seat.old seat.new }
+        ensures same { seat.new.me.0 ≡ seat.old.me.0 }
+        ensures told { result ≡ 2 * slice_index (commit_of seat.old.me.0).versions x }
+    {
+        self.table.shared.load::<LoadOwnVersion>(seat, 2 * x + 1)
     }
 
     /// A seat for a new reader, which is told of the publisher's history. The table loads the clock

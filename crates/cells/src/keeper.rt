@@ -1,8 +1,8 @@
 //! What publishes to cells that nobody reads.
 ghost use Rattle.std.specs.Prelude.{◌≡◌, ◌<◌, ◌+◌, ◌^◌, ◌≤◌, [], ◌∷◌, ◌++◌, ℕ, false, length};
 ghost use Rattle.txn_words.specs.Words.{last_state};
-ghost use Rattle.txn_words.specs.Stores.{AreChanges, id_of, with_changes};
-ghost use Rattle.cells.specs.Publishing.{stores_of};
+ghost use Rattle.txn_words.specs.Stores.{id_of, with_changes};
+ghost use Rattle.cells.specs.Publishing.{stores_of, AreWrites, changes_of};
 
 use crate::cells::Cells;
 use crate::history::History;
@@ -59,28 +59,28 @@ impl Keeper {
         self.number
     }
 
-    /// Adds one state to the history, the last one with these changes.
-    pub(crate) fn publish(&mut self, changes: &[(VarId, i64)])
-        requires changes { AreChanges (last_state self.old.history) changes.now }
+    /// Adds one state to the history, the last one with these writes.
+    pub(crate) fn publish(&mut self, writes: &[(VarId, i64)])
+        requires writes { AreWrites (last_state self.old.history) writes.now }
         requires room { length self.old.history ≤ 2 ^ 62 }
         ensures cells { self.new.cells ≡ self.old.cells }
         ensures history { self.new.history
-            ≡ self.old.history ++ with_changes (last_state self.old.history) changes.now ∷ [] }
-        ensures stores { self.new.stores
-            ≡ self.old.stores + stores_of self.old.cells (length changes.now) }
+            ≡ self.old.history ++ with_changes (last_state self.old.history) writes.now ∷ [] }
+        ensures stores { self.new.stores ≡ self.old.stores + stores_of self.old.cells
+            (length (changes_of (last_state self.old.history) writes.now)) }
     {
-        put(&mut self.values, changes);
+        put(&mut self.values, writes);
         self.history.add(&self.values);
         self.number += 1;
     }
 }
 
-/// Puts the changes into the values.
-fn put(values: &mut Vec<i64>, changes: &[(VarId, i64)])
-    requires { (i : ℕ) → i < length changes.now → id_of changes.now i < length values.old.items }
-    ensures { values.new.items ≡ with_changes values.old.items changes.now }
+/// Puts the writes into the values.
+fn put(values: &mut Vec<i64>, writes: &[(VarId, i64)])
+    requires { (i : ℕ) → i < length writes.now → id_of writes.now i < length values.old.items }
+    ensures { values.new.items ≡ with_changes values.old.items writes.now }
 {
-    for change in changes {
-        values[change.0.0 as usize] = change.1;
+    for write in writes {
+        values[write.0.0 as usize] = write.1;
     }
 }

@@ -39,13 +39,8 @@ impl Cells {
             r.2.items ≡ replicate readers (new_pass r.0.table (values.now ∷ []))) }
     {
         let (cells, mut seat, _) = lay(alloc, values, true)?;
-        let versions = vec![in alloc; 0; values.len()]?;
         let passes = enroll(alloc, &cells.board, &mut seat, readers)?;
-        let writer = Writer {
-            seat,
-            number: 0,
-            versions,
-        };
+        let writer = Writer { seat, number: 0 };
         let how = How::Stores(writer);
         Ok((cells, Publisher { how }, passes))
     }
@@ -93,11 +88,9 @@ fn first_words(alloc: Global, values: &[i64]) -> Result<Vec<u64>, AllocError>
     requires { length values.now ≤ MAX_VALUES }
     ensures { IfOk result (λ v. AreFirstWords values.now v.items (length values.now)) }
 {
-    let mut words = Vec::with_capacity(alloc, 2 * values.len() + 1)?;
-    words.push(0)?;
-    for value in values {
-        words.push(0)?;
-        words.push(value.cast_unsigned())?;
+    let mut words = vec![in alloc; 0; 2 * values.len() + 1]?;
+    for x in 0..values.len() {
+        words[2 * x + 2] = values[x].cast_unsigned();
     }
     Ok(words)
 }

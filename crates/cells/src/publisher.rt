@@ -1,9 +1,9 @@
 //! What changes the cells, one state at a time.
 ghost use Rattle.std.specs.Prelude.{◌≡◌, ◌+◌, ◌*◌, ◌^◌, ◌≤◌, [], ◌∷◌, ◌++◌, length};
 ghost use Rattle.txn_words.specs.Words.{last_state};
-ghost use Rattle.txn_words.specs.Stores.{AreChanges, with_changes};
+ghost use Rattle.txn_words.specs.Stores.{with_changes};
 ghost use Rattle.cells.specs.Passing.{MeetsBy};
-ghost use Rattle.cells.specs.Publishing.{stores_of};
+ghost use Rattle.cells.specs.Publishing.{stores_of, AreWrites, changes_of};
 
 use crate::cells::Cells;
 use crate::keeper::Keeper;
@@ -50,25 +50,26 @@ impl Publisher {
         }
     }
 
-    /// Adds one state to the history: the last one with these changes, of which there may be none.
-    /// It always succeeds, by `3k + 1` stores for `k` changes, and by none where nobody reads.
+    /// Adds one state to the history: the last one, which has these values, with these writes, of
+    /// which there may be none. It always succeeds, by `3k + 1` stores where `k` of the writes change
+    /// a value, and by none where nobody reads.
     ///
-    /// The variables have to exist and to ascend, each new value has to differ from the present
-    /// one, and fewer than 2^62 states may have been published before. The publisher has to be that
-    /// of these cells.
-    pub fn publish(&mut self, cells: &Cells, changes: &[(VarId, i64)])
+    /// The variables have to exist and to ascend, and fewer than 2^62 states may have been published
+    /// before. The publisher has to be that of these cells.
+    pub fn publish(&mut self, cells: &Cells, writes: &[(VarId, i64)], values: &[i64])
         requires own { self.old.cells ≡ cells.now }
-        requires changes { AreChanges (last_state self.old.history) changes.now }
+        requires present { values.now ≡ last_state self.old.history }
+        requires writes { AreWrites (last_state self.old.history) writes.now }
         requires room { length self.old.history ≤ 2 ^ 62 }
         ensures cells { self.new.cells ≡ self.old.cells }
         ensures history { self.new.history
-            ≡ self.old.history ++ with_changes (last_state self.old.history) changes.now ∷ [] }
-        ensures stores { self.new.stores
-            ≡ self.old.stores + stores_of self.old.cells (length changes.now) }
+            ≡ self.old.history ++ with_changes (last_state self.old.history) writes.now ∷ [] }
+        ensures stores { self.new.stores ≡ self.old.stores + stores_of self.old.cells
+            (length (changes_of (last_state self.old.history) writes.now)) }
     {
         match &mut self.how {
-            How::Stores(writer) => writer.publish(cells, changes),
-            How::Keeps(keeper) => keeper.publish(changes),
+            How::Stores(writer) => writer.publish(cells, writes, values),
+            How::Keeps(keeper) => keeper.publish(writes),
         }
     }
 

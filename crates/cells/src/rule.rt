@@ -1,4 +1,4 @@
-//! The rule of the shared words, and the eight kinds of step on them. What a step tells is in
+//! The rule of the shared words, and the nine kinds of step on them. What a step tells is in
 //! `specs/Steps.antt`.
 use crate::sight::Sight;
 use atomic_table::{Join, Play, Split, TableRule};
@@ -60,6 +60,15 @@ impl Play<(), Sight> for LoadVersionAgain {
     ghost use Rattle.cells.specs.Steps.{samples_again};
 
     ghost then = { samples_again };
+}
+
+/// The publisher loads a version word.
+pub struct LoadOwnVersion;
+
+impl Play<(), Sight> for LoadOwnVersion {
+    ghost use Rattle.cells.specs.Steps.{loads_own};
+
+    ghost then = { loads_own };
 }
 
 /// The publisher locks a version word.

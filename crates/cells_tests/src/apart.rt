@@ -1,6 +1,7 @@
 //! Publishes and reads one after another.
 
-ghost use Rattle.std.specs.Prelude.{◌≡◌, ◌<◌, ◌≤◌, ◌^◌, [], ◌∷◌, pos, length};
+ghost use Rattle.std.specs.Prelude.{◌≡◌, ◌+◌, ◌<◌, ◌≤◌, [], ◌∷◌, pos, length};
+ghost use Rattle.cells.specs.Publishing.{stores_of};
 
 use crate::parts::{X, Y, begins, is_stale, publish_six, sees, sees_both};
 use cells::{Cells, Pass, Publisher};
@@ -12,17 +13,19 @@ fn publish_twos(cells: &Cells, publisher: &mut Publisher)
     requires own { publisher.old.cells ≡ cells.now }
     requires start { publisher.old.history ≡ (pos 1 ∷ pos 1 ∷ []) ∷ [] }
     ensures own { publisher.new.cells ≡ publisher.old.cells }
-    ensures two { length publisher.new.history ≡ 2 }
+    ensures twos { publisher.new.history ≡ (pos 1 ∷ pos 1 ∷ []) ∷ (pos 2 ∷ pos 2 ∷ []) ∷ [] }
 {
-    publisher.publish(cells, &[(X, 2), (Y, 2)]);
+    publisher.publish(cells, &[(X, 2), (Y, 2)], &[1, 1]);
 }
 
+/// Publishes that x and y, which are both 2, are both 2.
 fn publish_nothing(cells: &Cells, publisher: &mut Publisher)
     requires own { publisher.old.cells ≡ cells.now }
-    requires room { length publisher.old.history ≤ 2 ^ 62 }
+    requires start { publisher.old.history ≡ (pos 1 ∷ pos 1 ∷ []) ∷ (pos 2 ∷ pos 2 ∷ []) ∷ [] }
     ensures own { publisher.new.cells ≡ publisher.old.cells }
+    ensures stores { publisher.new.stores ≡ publisher.old.stores + stores_of cells.now 0 }
 {
-    publisher.publish(cells, &[]);
+    publisher.publish(cells, &[(X, 2), (Y, 2)], &[2, 2]);
 }
 
 /// What a pass that is open reads of the state before the twos is stale; the twos are read after
@@ -52,7 +55,7 @@ fn a_read_of_a_later_state_is_stale(rt: HostRuntime) {
     }
 }
 
-/// The twos are read beside a publish of no changes, and after it.
+/// The twos are read beside a publish that changes nothing, and after it.
 fn twos_stay(rt: &impl Abort, cells: &Cells, publisher: &mut Publisher, pass: &mut Pass)
     requires own { pass.old.cells ≡ cells.now }
     requires publisher { publisher.old.cells ≡ cells.now }
@@ -83,7 +86,7 @@ fn publish_five(cells: &Cells, publisher: &mut Publisher)
     requires own { publisher.old.cells ≡ cells.now }
     requires start { publisher.old.history ≡ (pos 3 ∷ pos 4 ∷ []) ∷ [] }
 {
-    publisher.publish(cells, &[(Y, 5)]);
+    publisher.publish(cells, &[(Y, 5)], &[3, 4]);
 }
 
 fn x_is_read_beside_y(rt: &impl Abort, cells: &Cells, publisher: &mut Publisher, pass: &mut Pass)
@@ -153,7 +156,7 @@ fn the_least_and_the_greatest_values_are_kept(rt: HostRuntime) {
     let pass = &mut passes[0];
     let last = VarId(2);
     sees_three(&rt, &cells, pass, last, first);
-    publisher.publish(&cells, &[(X, i64::MAX), (Y, i64::MIN), (last, -1)]);
+    publisher.publish(&cells, &[(X, i64::MAX), (Y, i64::MIN), (last, -1)], &first);
     sees_three(&rt, &cells, pass, last, [i64::MAX, i64::MIN, -1]);
 }
 
@@ -163,7 +166,7 @@ fn no_variables_and_no_readers_are_allowed(rt: HostRuntime) {
         panic!(rt; "no cells")
     };
     assert!(rt; passes.is_empty());
-    publisher.publish(&cells, &[]);
+    publisher.publish(&cells, &[], &[]);
     assert!(rt; publisher.number() == 1);
 }
 
@@ -174,6 +177,6 @@ fn as_many_variables_and_readers_as_may_be(rt: HostRuntime) {
     };
     assert!(rt; passes.len() == 32);
     let last = VarId(255);
-    publisher.publish(&cells, &[(X, 8), (last, 9)]);
+    publisher.publish(&cells, &[(X, 8), (last, 9)], &[7; 256]);
     sees_three(&rt, &cells, &mut passes[31], last, [8, 7, 9]);
 }

@@ -16,7 +16,7 @@ pub(crate) fn publish_some(cells: &Cells, mut publisher: Publisher, count: u32) 
 {
     for n in 0..count {
         let value = i64::from(n) + 2;
-        publisher.publish(cells, &[(X, value), (Y, value)]);
+        publisher.publish(cells, &[(X, value), (Y, value)], &[value - 1, value - 1]);
     }
     publisher
 }

@@ -17,7 +17,7 @@ fn publish(rt: &impl Abort, cells: &Cells, publisher: &mut Publisher, pass: &mut
 {
     pass.begin(cells);
     assert!(rt; pass.read(cells, X) == Read::Value(5));
-    publisher.publish(cells, &[(X, 6)]);
+    publisher.publish(cells, &[(X, 6)], &[5]);
     assert!(rt; pass.extend(cells, &[(X, 5)]) == Extend::Changed);
     publisher.meet(cells, pass);
 }

@@ -29,7 +29,7 @@ fn publish_y(cells: &Cells, publisher: &mut Publisher)
     requires start { publisher.old.history ≡ (pos 3 ∷ pos 4 ∷ []) ∷ [] }
     ensures own { publisher.new.cells ≡ publisher.old.cells }
 {
-    publisher.publish(cells, &[(Y, -5)]);
+    publisher.publish(cells, &[(Y, -5)], &[3, 4]);
 }
 
 /// A pass that read x and found y to be stale moves, and reads y. It does not move with what y was,
@@ -78,9 +78,9 @@ fn publish_other(cells: &Cells, publisher: &mut Publisher, both: bool)
     requires start { publisher.old.history ≡ (pos 3 ∷ pos 4 ∷ []) ∷ [] }
 {
     if both {
-        publisher.publish(cells, &[(X, 6), (Y, -5)]);
+        publisher.publish(cells, &[(X, 6), (Y, -5)], &[3, 4]);
     } else {
-        publisher.publish(cells, &[(Y, -5)]);
+        publisher.publish(cells, &[(Y, -5)], &[3, 4]);
     }
 }
 

@@ -40,6 +40,7 @@ fn publish_some(cells: &Cells, mut publisher: Publisher, count: u32) -> Publishe
                 (VarId(7), v),
                 (VarId(8), v),
             ],
+            &[v - 1; 9],
         );
     }
     publisher

@@ -66,5 +66,5 @@ pub(crate) fn publish_six(cells: &Cells, publisher: &mut Publisher)
     requires start { publisher.old.history ≡ (pos 5 ∷ []) ∷ [] }
     ensures own { publisher.new.cells ≡ publisher.old.cells }
 {
-    publisher.publish(cells, &[(X, 6)]);
+    publisher.publish(cells, &[(X, 6)], &[5]);
 }

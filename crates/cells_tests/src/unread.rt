@@ -17,9 +17,9 @@ fn publish_thrice(cells: &Cells, publisher: &mut Publisher)
         ≡ (pos 1 ∷ pos 1 ∷ []) ∷ (pos 2 ∷ pos 2 ∷ []) ∷ (pos 2 ∷ pos 2 ∷ []) ∷ (pos 2 ∷ pos 3 ∷ []) ∷ [] }
     ensures stores { publisher.new.stores ≡ publisher.old.stores }
 {
-    publisher.publish(cells, &[(X, 2), (Y, 2)]);
-    publisher.publish(cells, &[]);
-    publisher.publish(cells, &[(Y, 3)]);
+    publisher.publish(cells, &[(X, 2), (Y, 2)], &[1, 1]);
+    publisher.publish(cells, &[], &[2, 2]);
+    publisher.publish(cells, &[(Y, 3)], &[2, 2]);
 }
 
 #[test]
@@ -37,7 +37,7 @@ fn no_variables_are_allowed(rt: HostRuntime) {
     let Ok((cells, mut publisher)) = Cells::unread(rt.alloc(), &[]) else {
         panic!(rt; "no cells")
     };
-    publisher.publish(&cells, &[]);
+    publisher.publish(&cells, &[], &[]);
     assert!(rt; publisher.number() == 1);
 }
 
@@ -46,6 +46,6 @@ fn as_many_variables_as_may_be(rt: HostRuntime) {
     let Ok((cells, mut publisher)) = Cells::unread(rt.alloc(), &[7; 256]) else {
         panic!(rt; "no cells")
     };
-    publisher.publish(&cells, &[(X, 8), (VarId(255), 9)]);
+    publisher.publish(&cells, &[(X, 8), (VarId(255), 9)], &[7; 256]);
     assert!(rt; publisher.number() == 1);
 }

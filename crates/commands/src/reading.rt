@@ -11,7 +11,8 @@ use std::io::Read;
 use std::rt::Files;
 use std::{fs, io};
 use text_line_reader::{MAX_REPORT, MAX_SCHEDULE, max_report};
-use txn_text::{MAX_FILE, MAX_FILE_OF_FORM_3};
+use txn_text::laws::faults_where_none_is_spelled;
+use txn_text::{MAX_FILE, MAX_FILE_OF_FORM_3, announces_tables};
 
 /// What the reader has left, of which at most one byte past the limit is read: with it, what has more
 /// bytes than the limit is known to be too long. `Err` is the reader's, or out of memory.
@@ -133,12 +134,16 @@ pub(crate) fn with_schedule<I: Read + Drop, J: Read + Drop>(
 }
 
 /// How many bytes a report of the file of these bytes has at most: as many as its catalogue gives, or where the file is
-/// refused as many as one without cells does.
+/// refused as many as one without cells does. Only a file that announces tables is read for it.
 fn report_limit(alloc: Global, file: &[u8]) -> Result<usize, Answer>
     ensures limit { IfOk result (IsReportLimit file.now) }
     ensures small { IfOk result (λ limit. limit < 2 ^ 32) }
     ensures unread { IfErr result IsUnread }
 {
+    if !announces_tables(file) {
+        faults_where_none_is_spelled();
+        return Ok(MAX_REPORT);
+    }
     match catalogue_of(alloc, file) {
         Ok(catalogue) => {
             catalogue.rules();

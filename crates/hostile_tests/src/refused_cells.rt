@@ -26,7 +26,7 @@ fn publish(cells: &Cells, publisher: &mut Publisher)
     requires own { publisher.old.cells ≡ cells.now }
     requires start { publisher.old.history ≡ (pos 5 ∷ []) ∷ [] }
 {
-    publisher.publish(cells, &[(VarId(0), 6)]);
+    publisher.publish(cells, &[(VarId(0), 6)], &[5]);
 }
 
 /// How many states were published to new cells that nobody reads, `None` where the opening is refused.

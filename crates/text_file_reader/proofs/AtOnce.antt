@@ -1,14 +1,16 @@
 -- Items that are resolved as they are read are those of the whole tree.
-use Rattle.std.proofs.Common.{◌≡◌, ◌<◌, ℕ, ℤ, Bool, true, false, List, [], ◌∷◌, ◌++◌, map, length, Result, Ok, Err, refl, sym, ap, ◌∙◌}
+use Rattle.std.proofs.Common.{◌≡◌, ◌<◌, ◌≤◌, ℕ, suc, ℤ, arith, Bool, true, false, List, [], ◌∷◌, ◌++◌, map, length, Result, Ok, Err, refl, sym, ap, ◌∙◌}
 use Rattle.std.specs.Prelude.{codes}
 use Rattle.std.specs.List.{list_all}
+use Rattle.std.proofs.lemmas.Bool.{le-leb}
 use Rattle.std.proofs.lemmas.List.{map_push}
 use Rattle.txn_programs.specs.declared.arguments.Call.{Call}
 use Rattle.txn_programs.specs.Tree.{Condition, Transaction}
 use Rattle.txn_programs.specs.declared.ast.Span.{Span}
 use Rattle.txn_programs.specs.Listing.{Listing}
 use Rattle.text_words.specs.Tokens.{Lexeme}
-use Rattle.text_words.specs.TokenReading.{Read, begins, all_of}
+use Rattle.text_words.specs.TokenReading.{Read, form_at, begins, all_of}
+use Rattle.text_words.specs.Numbers.{number_of}
 use Rattle.text_words.specs.Answers.{◌>>=◌}
 use Rattle.text_words.specs.declared.fault.ReadFault.{ReadFault}
 use Rattle.text_words.proofs.Steps.{bind_ok, ok_is, done}
@@ -16,11 +18,11 @@ use Rattle.text_words.proofs.Many.{Shortens, with_front, goes_on, is_done}
 use Rattle.text_grammar.specs.declared.file.FileForm.{FileForm}
 use Rattle.text_grammar.specs.Tree.{Pair, Table, Always, Declaration, Run, File}
 use Rattle.text_grammar.specs.Scope.{standing}
-use Rattle.text_grammar.specs.Reading.{pair_at, tables_at, conditions_at, tx_at, run_at, heading_at, end_at, file_of, tree_of}
-use Rattle.text_grammar.specs.Resolving.{each, declared_one, declared_after, pair_name, table_name, condition_name, tx_name, variable_of, table_of, spans_in, always_in, run_in, listing, resolved}
+use Rattle.text_grammar.specs.Reading.{pair_at, tables_at, conditions_at, tx_at, run_at, run_behind, heading_at, end_at, file_of, tree_of}
+use Rattle.text_grammar.specs.Resolving.{each, declared_one, declared_after, pair_name, table_name, condition_name, tx_name, variable_of, table_of, spans_in, always_in, run_in, arguments_in, listing, resolved}
 use Rattle.text_grammar.specs.Spelling.{lawful, listing_at}
 use Rattle.text_resolver.proofs.Parts.{converted_is}
-use Rattle.text_file_reader.specs.Resolved.{MakesBehind, MakesNamed, Resolves, own_transaction_in, parameters_of, is_wanted}
+use Rattle.text_file_reader.specs.Resolved.{Makes, MakesBehind, MakesNamed, Resolves, own_transaction_in, parameters_of, is_wanted}
 use Rattle.text_file_reader.proofs.Known.{own_transactions, uses_are_known}
 use Rattle.text_file_reader.proofs.Declared.{declared_is}
 
@@ -92,6 +94,54 @@ no_more word item_at one name total made names rest so_far stop =
       are_made = so_far.goes_on.are_made;
       are_declared = so_far.are_declared;
     }
+
+-- such items, whatever they are
+pub record MadeSoFar {A B : Type 0} (goes : List Lexeme → Bool) (item_at : List Lexeme → Read A) (one : A → Result B ReadFault) (total : Read (List A)) (made : List B) (rest : List Lexeme) : Type 0 where
+  pub items : List A
+  pub goes_on : GoesOn goes item_at one total items made rest
+
+pub none_made : {A B : Type 0} (goes : List Lexeme → Bool) (item_at : List Lexeme → Read A) (one : A → Result B ReadFault) (ts : List Lexeme) → MadeSoFar goes item_at one (all_of goes item_at ts) [] ts
+none_made goes item_at one ts = record { items = []; goes_on = begun goes item_at one ts }
+
+pub one_made : {A B : Type 0} (goes : List Lexeme → Bool) (item_at : List Lexeme → Read A) (one : A → Result B ReadFault) → Shortens item_at
+    → (total : Read (List A)) (made : List B) (rest after : List Lexeme) (y : B) → MadeSoFar goes item_at one total made rest
+    → goes rest ≡ true → Makes (item_at rest) one y after → MadeSoFar goes item_at one total (made ++ y ∷ []) after
+one_made goes item_at one shortens total made rest after y so_far going makes =
+    record {
+      items = so_far.items ++ makes.item ∷ [];
+      goes_on = one_more_item goes item_at one shortens total so_far.items made rest after makes.item y so_far.goes_on going makes.is_read makes.is_made;
+    }
+
+pub all_made : {A B : Type 0} (goes : List Lexeme → Bool) (item_at : List Lexeme → Read A) (one : A → Result B ReadFault) (total : Read (List A)) (made : List B) (rest : List Lexeme)
+    → MadeSoFar goes item_at one total made rest → goes rest ≡ false → Makes total (each one) made rest
+all_made goes item_at one total made rest so_far stop =
+    record {
+      item = so_far.items;
+      is_read = is_done goes item_at so_far.items rest total stop so_far.goes_on.are_read;
+      is_made = so_far.goes_on.are_made;
+    }
+
+pub each_length : {A B : Type 0} (one : A → Result B ReadFault) (xs : List A) (ys : List B) → each one xs ≡ Ok ys → length xs ≡ length ys
+each_length {A} {B} one [] ys h = ap length (ok_is [] ys h)
+each_length {A} {B} one (x ∷ xs) ys h =
+    let a = bind_ok (one x) _ ys h in
+    let b = bind_ok (each one xs) _ ys a.2 in
+    ap suc (each_length one xs b.0 b.1) ∙ ap length (ok_is (a.0 ∷ b.0) ys b.2)
+
+-- as many arguments as a call may have, and no more
+pub all_given : (total : Read (List ℤ)) (made : List ℤ) (rest : List Lexeme) → length made ≤ 8 → Makes total (each number_of) made rest → Makes total arguments_in made rest
+all_given total made rest few makes =
+    let short : length makes.item ≤ 8 = omega (arith, few, each_length number_of makes.item made makes.is_made) in
+    record {
+      item = makes.item;
+      is_read = makes.is_read;
+      is_made = rw (le-leb (length makes.item) 8 short) makes.is_made;
+    }
+
+-- a run is what stands behind its parenthesis and its word
+pub behind_word : (form : FileForm) (one : Run → Result (Call × ℕ) ReadFault) (ts inside after : List Lexeme) (made : Call × ℕ) → form_at (codes "run") ts ≡ Ok inside → Makes (run_behind form inside) one made after → Makes (run_at form ts) one made after
+unfolding run_at
+behind_word form one ts inside after made e makes = record { item = makes.item; is_read = rw e makes.is_read; is_made = makes.is_made }
 
 -- an item takes a token at least
 pub takes_one : {A B : Type 0} (item_at : List Lexeme → Read A) (one : A → Result B ReadFault) (name : A → List ℕ) → Shortens item_at → (rest after : List Lexeme) (y : B) (called : List ℕ) → MakesNamed (item_at rest) one name y called after → length after < length rest

@@ -13,3 +13,4 @@ pub mod Again
 pub mod Spelt
 pub mod Blame
 pub mod FirstFault
+mod Announced

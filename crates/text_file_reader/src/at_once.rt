@@ -20,15 +20,14 @@ ghost use Rattle.text_file_reader.specs.Resolved.{MakesBehind, own_transaction_i
 
 use crate::conditions::condition_at_once;
 use crate::expressions::last_expression_at_once;
+use crate::runs::calls_at_once;
 use crate::statements::statement_at_once;
 use indexmap::IndexSet;
 use std::alloc::Global;
 use text_grammar::file::{FileForm, longest_file};
-use text_parser::file::{
-    INNER_DEPTH, end, heading_of, pairs_of, parameters_of, runs_of, tables_of,
-};
+use text_parser::file::{INNER_DEPTH, end, heading_of, pairs_of, parameters_of, tables_of};
 use text_resolver::names::{Scope, declare, param_names, var_names};
-use text_resolver::resolve::{Parts, owned, runs, variables};
+use text_resolver::resolve::{Parts, owned, variables};
 use text_resolver::tables::{spans, table_names, tables};
 use text_words::ReadFault;
 use text_words::bytes::are_allowed;
@@ -240,8 +239,7 @@ fn runs_at_once<'a>(
         (λ x. MakesRuns (all_of (begins (codes "run")) (run_at file_form) (tokens bytes.now)) (texts names.now.keys)
         (map parameters_of (map transaction_of txs.now)) x.0.items (tokens x.1.now)) }
 {
-    let (raw, rest) = runs_of(alloc, file_form, bytes)?;
-    let made = runs(alloc, names, &raw)?;
+    let (made, rest) = calls_at_once(alloc, file_form, names, bytes)?;
     if !are_wanted(txs, &made) {
         return Err(ReadFault::Name);
     }

@@ -6,6 +6,7 @@ mod conditions;
 mod expressions;
 pub mod laws;
 mod read;
+mod runs;
 mod statements;
 
-pub use read::read_file;
+pub use read::{announces_tables, read_file};

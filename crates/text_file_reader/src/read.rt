@@ -1,17 +1,22 @@
 //! Files read as catalogues.
 
-ghost use Rattle.std.specs.Prelude.{◌≡◌, true, Some, IfOk, IfErr, ◌⊎◌};
-ghost use Rattle.txn_programs.specs.Listing.{Listing};
+ghost use Rattle.std.specs.Prelude.{◌≡◌, ◌↔◌, true, List, Ok, Some, IfOk, IfErr, IsTrue, ◌⊎◌};
+ghost use Rattle.std.specs.Bool.{OnFalse};
+ghost use Rattle.txn_programs.specs.Listing.{Listing, cells};
 ghost use Rattle.txn.specs.Ids.{ids_hold};
 ghost use Rattle.text_words.specs.Answers.{Gives};
+ghost use Rattle.text_words.specs.Tokens.{Lexeme, tokens};
+ghost use Rattle.text_grammar.specs.Reading.{heading_at};
 ghost use Rattle.text_grammar.specs.Spelling.{Spells, listing_at, lawful, first_fault};
 ghost use Rattle.text_file_reader.specs.Faults.{IsFirst};
 ghost use Rattle.text_resolver.specs.Parts.{view_parts};
 ghost use Rattle.text_words.specs.declared.fault.ReadFault.TheVariants.{Memory};
+ghost use Rattle.text_grammar.specs.declared.file.FileForm.TheVariants.{Three};
 
 use crate::at_once::parts_at_once;
 use std::alloc::Global;
-use text_parser::file::tree_of;
+use text_grammar::words::has_tables;
+use text_parser::file::{heading_of, tree_of};
 use text_resolver::resolve::{Parts, resolve};
 use text_words::ReadFault;
 use txn::{BuildFault, Catalogue};
@@ -86,4 +91,18 @@ pub fn read_file(alloc: Global, bytes: &[u8]) -> Result<Catalogue, ReadFault>
     ensures as_read { IfErr result (λ e. (e ≡ Memory) ⊎ (first_fault bytes.now ≡ Some e)) }
 {
     read(alloc, bytes)
+}
+
+/// Whether the bytes begin with the announcement of form 3, as those of a file with tables do. It takes no memory, and
+/// looks at no more than the first tokens.
+pub fn announces_tables(bytes: &[u8]) -> bool
+    ensures announced { IsTrue result
+        ↔ (rest : List Lexeme) × (heading_at (tokens bytes.now) ≡ Ok (Three, rest)) }
+    // A file that does not has no cells.
+    ensures cells { OnFalse result ((l : Listing) → Spells bytes.now l → cells l ≡ 0) }
+{
+    match heading_of(bytes) {
+        Ok((file_form, _)) => has_tables(file_form),
+        Err(_) => false,
+    }
 }

@@ -360,7 +360,7 @@ fn run_behind(
 
 /// The runs of a file of this form, as long as one stands next, and the bytes behind them. It fails by
 /// `Shape` where the word begins what is no run.
-pub fn runs_of(
+fn runs_of(
     alloc: Global,
     file_form: FileForm,
     bytes: &[u8],

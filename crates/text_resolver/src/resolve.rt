@@ -38,9 +38,10 @@ use txn_programs::{
     Arguments, Call, Cond, Expr, Fold, ParamId, Span, Stmt, Table, Tx, TxId, VarId,
 };
 
-/// The place of a declared name.
+/// The place of a declared name. It fails by `Name` where none of this name is declared, and by `Limit` where 32 bits
+/// have no room for its place.
 #[tactic(auto, unfolding(text_grammar::specs::Resolving::place_in))]
-fn place_in(names: &IndexSet<&str>, name: &str) -> Result<u32, ReadFault>
+pub fn place_in(names: &IndexSet<&str>, name: &str) -> Result<u32, ReadFault>
     ensures value { Gives (λ x. x) result (place_in (texts names.now.keys) name.now) }
     ensures kind { IfErr result (λ e. (e ≡ Name) ⊎ (e ≡ Limit)) }
 {
@@ -523,7 +524,7 @@ fn run(names: &IndexSet<&str>, raw: &RawRun<'_>) -> Result<(Call, u32), ReadFaul
 
 /// The calls to make, each with how often. It fails by `Name` where a transaction is not
 /// declared, and by `Limit` where the machine has no room for a count or an argument, or a call none for its arguments.
-pub fn runs(
+fn runs(
     alloc: Global,
     names: &IndexSet<&str>,
     raw: &[RawRun<'_>],

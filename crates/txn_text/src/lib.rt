@@ -8,7 +8,7 @@
 #![tactic(auto)]
 
 pub use text_file_printer::{print_file, text_is_laid_out};
-pub use text_file_reader::{laws, read_file};
+pub use text_file_reader::{announces_tables, laws, read_file};
 pub use text_grammar::file::{MAX_FILE, MAX_FILE_OF_FORM_3, longest_file};
 pub use text_line_reader::{MAX_REPORT, MAX_SCHEDULE, max_report, read_report, read_schedule};
 pub use text_report_printer::print_report;

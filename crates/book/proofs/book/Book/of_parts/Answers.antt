@@ -26,7 +26,6 @@ inside c =
       journal = c.args.journal;
       present = c.args.present;
       since = c.args.since;
-      changes = c.args.changes;
       written = c.args.written;
       table = c.args.table;
       room = c.len.result + c.args.spare;
@@ -58,7 +57,7 @@ invariant_of-result c =
     let l = c.args.chapter.listing in
     let r = c.requires in
     let k = size c in
-    kept_opened l (inside c) (is c) r.few r.few_values (all_know l c.rules.ensures.valued c.rules.ensures.names) c.rules.ensures.upheld (omega (arith, r.journal_room, k)) (omega (arith, r.room, k)) r.changes_room r.spare r.variables r.since
+    kept_opened l (inside c) (is c) r.few r.few_values (all_know l c.rules.ensures.valued c.rules.ensures.names) c.rules.ensures.upheld (omega (arith, r.journal_room, k)) (omega (arith, r.room, k)) r.spare r.variables r.since
 
 pub returns : goal.returns
 returns c = new_is c.args.chapter.listing (inside c) (is c)

@@ -1,4 +1,4 @@
-use Rattle.std.proofs.Common.{ℕ, ◌+◌, ◌*◌, sym, ap, ◌∙◌, arith}
+use Rattle.std.proofs.Common.{ℕ, ◌+◌, sym, ap, ◌∙◌, arith}
 use Rattle.txn_words.specs.Words.{Commit}
 use Rattle.txn_words.specs.Stores.{after_lock}
 use Rattle.cells.specs.Sight.{publishing, commit_of}
@@ -10,7 +10,7 @@ pub store-requires : goal.store-requires
 store-requires c =
     let table = c.requires.own ∙ sym (ap (λ (z : CellsId). z.table) c.self.view_is) in let wide = c.self.invariant.0 in
     let exists = c.requires.exists in let all = ap (λ (z : CellsId). z.variables) (sym c.self.view_is) in
-    (table, omega arith, locks_kept _ _ _ (commit_of c.args.seat.now.me.0) c.args.x _ c.requires.publisher c.requires.may (ap (λ (v : ℕ). 2 * v + 1) c.requires.version.0))
+    (table, omega arith, locks_kept _ _ _ (commit_of c.args.seat.now.me.0) c.args.x _ c.requires.publisher c.requires.may (ap (λ (v : ℕ). v + 1) c.requires.stamp.0))
 
 pub returns-clause-told : goal.returns-clause-told
 returns-clause-told c =

@@ -17,7 +17,7 @@ meet-requires-clause-own c = (
 
 pub invariant_of-self : goal.invariant_of-self
 invariant_of-self c =
-    subst (λ (d : Sight). (d ≡ publishing (commit_of d)) × IsResting (commit_of d) c.self.inside.number c.self.inside.versions.items) (sym c.meet.ensures.publisher.1) c.self.invariant
+    subst (λ (d : Sight). (d ≡ publishing (commit_of d)) × IsResting (commit_of d) c.self.inside.number) (sym c.meet.ensures.publisher.1) c.self.invariant
 
 pub invariant_of-pass : goal.invariant_of-pass
 invariant_of-pass c =
@@ -28,7 +28,7 @@ invariant_of-pass c =
 pub returns-clause-same : goal.returns-clause-same
 returns-clause-same c =
     let place = c.meet.ensures.publisher.0.0 in let seen = c.meet.ensures.publisher.1 in
-    (λ i. published (place i) (length c.self.inside.versions.items) (commit_of (seen i))) ∙ c.self.view_is
+    (λ i. published (place i) (commit_of (seen i))) ∙ c.self.view_is
 
 pub returns-clause-met : goal.returns-clause-met
 returns-clause-met c =

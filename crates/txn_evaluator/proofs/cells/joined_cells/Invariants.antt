@@ -2,7 +2,7 @@ use Rattle.std.proofs.Common.{◌≡◌, ◌+◌}
 use Rattle.txn_programs.specs.Meaning.{value}
 use Rattle.txn_programs.specs.Tree.{OfAll}
 use Rattle.txn_evaluator.proofs.Joining.{cells_from}
-use Rattle.txn_evaluator.proofs.cells.all_cells.Given as goal
+use Rattle.txn_evaluator.proofs.cells.joined_cells.Given as goal
 
 abbrev pub invariant-loop-place : goal.invariant-loop-place
 invariant-loop-place l = record {

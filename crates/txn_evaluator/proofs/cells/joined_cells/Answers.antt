@@ -3,7 +3,7 @@ use Rattle.txn_programs.specs.declared.ast.VarId.{VarId}
 use Rattle.txn_programs.specs.Meaning.{value_at}
 use Rattle.txn_programs.specs.Tables.{joined}
 use Rattle.txn_evaluator.proofs.Joining.{cells_from, next_cell, last_cell}
-use Rattle.txn_evaluator.proofs.cells.all_cells.Goals as goal
+use Rattle.txn_evaluator.proofs.cells.joined_cells.Goals as goal
 
 pub returns-in_err-all : goal.returns-in_err-all
 returns-in_err-all c =
