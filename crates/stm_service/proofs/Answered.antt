@@ -1,8 +1,8 @@
 -- What a turn enters is an answer.
-use Rattle.std.proofs.Common.{◌≡◌, ◌∙◌, ℕ, ◌<◌, Some, length, refl, sym, ap, subst}
+use Rattle.std.proofs.Common.{◌≡◌, ◌∙◌, inl, inr, ℕ, ◌+◌, ◌*◌, ◌<◌, List, Option, Some, None, length, set, refl, sym, ap, subst, arith}
 use Rattle.std.specs.List.{slice_get}
 use Rattle.std.proofs.lemmas.List.{length-set}
-use Rattle.std.proofs.lemmas.Option.{get_or_from_slice_get}
+use Rattle.std.proofs.lemmas.Option.{get_or_from_slice_get, same_Some}
 use Rattle.txn_programs.specs.declared.ast.TaskId.{TaskId}
 use Rattle.txn_programs.specs.declared.ast.TxId.{TxId}
 use Rattle.txn_programs.specs.declared.arguments.Call.{Call}
@@ -11,21 +11,26 @@ use Rattle.txn_programs.specs.Tree.{Program}
 use Rattle.txn_programs.specs.Standing.{Upholds}
 use Rattle.txn_programs.specs.Listing.{Listing, tasks, task_tx, task_arguments, call_program, task_program}
 use Rattle.book.specs.View.{BookView, committed}
-use Rattle.book.specs.Tasks.{Running}
+use Rattle.book.specs.Tasks.{Task, Ready, Running}
 use Rattle.book.specs.Turns.{Turn}
 use Rattle.book.specs.declared.task.Serial.TheVariants as serial
-use Rattle.book.proofs.Draining.{weight_of, turn_falls}
+use Rattle.book.proofs.Draining.{weigh, live_one, ready_one, weight_of, weigh-set, turn_falls}
 use Rattle.stm_store.specs.Tickets.{TicketsView, AreTickets, HasTicket}
 use Rattle.stm_store.specs.Working.{declaring}
 use Rattle.stm_store.specs.Entering.{Enters}
-use Rattle.stm_store.specs.Turning.{Ends, GivesTurn}
+use Rattle.stm_store.specs.Asking.{IsJob, TakesJob}
+use Rattle.stm_store.specs.Bringing.{Brings}
+use Rattle.stm_store.specs.Turning.{Ends, ServesJob}
 use Rattle.stm_store.specs.declared.job.Ticket.{Ticket}
+use Rattle.stm_store.specs.declared.job.Job.{Job}
 use Rattle.stm_store.specs.declared.answers.Entered.{Entered}
 use Rattle.stm_store.specs.declared.answers.End.{End}
 use Rattle.stm_store.specs.declared.answers.End.TheVariants as end
-use Rattle.stm_store.specs.declared.answers.Turned.{Turned}
+use Rattle.stm_store.specs.declared.answers.Brought.TheVariants as brought
+use Rattle.stm_store.specs.declared.worker.Worker.{Worker}
 use Rattle.stm_store.specs.declared.store.Store.{Store}
 use Rattle.stm_service.specs.Answering.{IsAnswer, call_of}
+use Rattle.stm_service.specs.Calling.{HasTurn}
 
 -- what declares the same has the same programs
 pub same_program : (a l : Listing) (call : Call) → declaring a ≡ declaring l → call_program a call.tx call.arguments ≡ call_program l call.tx call.arguments
@@ -62,22 +67,53 @@ entered_answer l every b new tickets ticket task call e declared numbered each o
       lawful_after = h.lawful_after;
     }
 
--- the turn of the lowest ready task
-pub turn_answer : (l : Listing) (old new : Store) (t : Turned) (e : Entered) → old.catalogue.now ≡ l → declaring old.book.catalogue ≡ declaring old.catalogue.now → AreTickets old.tickets → length old.tickets.held ≡ length old.book.tasks → GivesTurn old (Some t) new → t.end ≡ end.Entered e
-    → IsAnswer l t.job.ticket (call_of t.job) e.outcome
-turn_answer l old new t e named declared numbered each h is =
-    let b = h.0 in
-    let same : b.catalogue ≡ old.book.catalogue = ap (λ (x : BookView). x.catalogue) h.1.2 in
-    let many : length b.tasks ≡ length old.book.tasks = ap (λ (x : BookView). length x.tasks) h.1.2 ∙ length-set old.book.tasks t.job.task.0 Running in
-    entered_answer l old.every b new.book old.tickets t.job.ticket t.job.task (call_of t.job) e
-    (ap declaring same ∙ (declared ∙ ap declaring named)) numbered (each ∙ sym many) h.2.0.ticket
-    (ap (λ (c : Listing). slice_get (tasks c) t.job.task.0) same ∙ h.2.0.runs)
-    (ap (λ (c : Listing). task_arguments c t.job.task) same ∙ h.2.0.given)
-    (subst (λ (x : End). Ends old.every b t.job.task x new.book) is h.3)
+-- the task of a job was entered
+pub job_answer : (l : Listing) (old new : Store) (job : Job) (e : Entered) → old.catalogue.now ≡ l → declaring old.book.catalogue ≡ declaring old.catalogue.now → AreTickets old.tickets → length old.tickets.held ≡ length old.book.tasks → IsJob old job → Enters old.every old.book job.task e new.book → IsAnswer l job.ticket (call_of job) e.outcome
+job_answer l old new job e named declared numbered each is h =
+    entered_answer l old.every old.book new.book old.tickets job.ticket job.task (call_of job) e (declared ∙ ap declaring named) numbered each is.ticket is.runs is.given h
 
--- a turn leaves a book that weighs less
-pub turn_lighter : (old new : Store) (t : Turned) → GivesTurn old (Some t) new → weight_of new.book.tasks < weight_of old.book.tasks
-turn_lighter old new t h = turn_falls old.book h.0 t.job.task h.1 old.every new.book (turned old.every h.0 t.job.task t.end new.book h.3)
+-- by a turn
+pub turn_enters : (old new : Store) (job : Job) (r : Option End) (e : Entered) → ServesJob old job r new → r ≡ Some (end.Entered e) → IsJob old job × Enters old.every old.book job.task e new.book
+turn_enters old new job r e h is =
+    let k : ServesJob old job (Some (end.Entered e)) new = subst (λ (x : Option End). ServesJob old job x new) is h in
+    (k.0.0, k.2)
+
+-- what came of a turn, or that there was none
+pub turn_told : (old new : Store) (job : Job) (r : Option End) → new.tickets ≡ old.tickets → ServesJob old job r new → HasTurn old job new
+turn_told old new job None same h = (same, inl h.1)
+turn_told old new job (Some how) same h = (same, inr (how, h))
+
+-- nothing became of it
+pub no_turn : (old new : Store) (job : Job) → new ≡ old → HasTurn old job new
+no_turn old new job same = (ap (λ (s : Store). s.tickets) same, inl (ap (λ (s : Store). s.book) same))
+
+-- by what a worker brought
+pub brought_enters : (old new : Store) (w : Worker) (job : Job) (e : Entered) → w.ended ≡ Some job → Brings old w (brought.Committed e) new → IsJob old job × Enters old.every old.book job.task e new.book
+brought_enters old new w job e ended h =
+    let same : h.0 ≡ job = same_Some h.0 job (sym h.1.ended ∙ ended) in
+    subst (λ (j : Job). IsJob old j × Enters old.every old.book j.task e new.book) same (h.1.present.0, h.2.1)
+
+ready_lighter : (ts : List Task) (k : ℕ) → slice_get ts k ≡ Some Ready → weight_of (set ts k Running) < weight_of ts
+ready_lighter ts k at =
+    let us = set ts k Running in
+    let len : length us ≡ length ts = length-set ts k Running in
+    let live : weigh live_one us ≡ weigh live_one ts = omega (arith, weigh-set live_one ts k Ready Running at) in
+    let ready : weigh ready_one ts ≡ weigh ready_one us + 1 = omega (arith, weigh-set ready_one ts k Ready Running at) in
+    let p : weigh live_one us * (length us + 1) ≡ weigh live_one ts * (length ts + 1) =
+    ap (λ (n : ℕ). weigh live_one us * (n + 1)) len ∙ ap (λ (l : ℕ). l * (length ts + 1)) live in
+    omega (arith, p, ready)
+
+-- a book in which a ready task runs weighs less
+pub taken_lighter : (old new : Store) (job : Job) → TakesJob old (Some job) new → weight_of new.book.tasks < weight_of old.book.tasks
+taken_lighter old new job h =
+    subst (λ (b : BookView). weight_of b.tasks < weight_of old.book.tasks) (sym h.0.2) (ready_lighter old.book.tasks job.task.0 h.0.0)
+
+-- and also after its turn
+pub turned_lighter : (old mid new : Store) (job : Job) → TakesJob old (Some job) mid → HasTurn mid job new → weight_of new.book.tasks < weight_of old.book.tasks
+turned_lighter old mid new job taken (same, inl e) =
+    subst (λ (b : BookView). weight_of b.tasks < weight_of old.book.tasks) (sym e) (taken_lighter old mid job taken)
+turned_lighter old mid new job taken (same, inr h) =
+    turn_falls old.book mid.book job.task taken.0 mid.every new.book (turned mid.every mid.book job.task h.0 new.book h.1.2)
   where
     turned : (every : ℕ) (b : BookView) (task : TaskId) (how : End) (d : BookView) → Ends every b task how d → Turn every b task d
     turned every b task (end.Entered e) d h = (serial.Committed e.number, (committed b task, (h.running, h.ends, h.tells.number, refl), h.kept))

@@ -1,5 +1,5 @@
 -- What came of a call's own task.
-use Rattle.std.proofs.Common.{◌≡◌, ◌∙◌, ℕ, ℤ, zero, suc, ◌+◌, ◌<◌, Bool, List, [], ◌∷◌, ◌++◌, Some, length, set, refl, sym, ap, arith, length-append}
+use Rattle.std.proofs.Common.{◌≡◌, ◌∙◌, ℕ, ℤ, zero, suc, ◌+◌, ◌<◌, Bool, List, [], ◌∷◌, ◌++◌, Option, Some, None, length, set, refl, sym, ap, subst, arith, length-append}
 use Rattle.std.specs.List.{slice_get}
 use Rattle.std.proofs.lemmas.List.{length-set}
 use Rattle.txn_programs.specs.declared.ast.TaskId.{TaskId}
@@ -13,6 +13,7 @@ use Rattle.book.specs.Tasks.{Ready, Running, Parked, GivenUp}
 use Rattle.book.specs.LawfulBook.{BookFits}
 use Rattle.stm_store.specs.Tickets.{TicketsView, AreTickets, HasTicket}
 use Rattle.stm_store.specs.Working.{declaring}
+use Rattle.stm_store.specs.Asking.{Submits}
 use Rattle.stm_store.specs.Turning.{Ends, Runs, called_book, TriesCall}
 use Rattle.stm_store.specs.declared.job.Ticket.{Ticket}
 use Rattle.stm_store.specs.declared.answers.End.{End}
@@ -21,8 +22,9 @@ use Rattle.stm_store.specs.declared.answers.Called.TheVariants as called
 use Rattle.stm_store.specs.declared.answers.Turned.{Turned}
 use Rattle.stm_store.specs.declared.store.Store.{Store}
 use Rattle.stm_service.specs.Answering.{call_of}
-use Rattle.stm_service.specs.Calling.{next_ticket, Begins, begun_by}
+use Rattle.stm_service.specs.Calling.{next_ticket, Begins, IsReadyTask, IsSubmitted, begun_by}
 use Rattle.stm_service.specs.declared.answer.CallFault.TheVariants as fault
+use Rattle.stm_service.specs.declared.calls.Begun.{Begun}
 use Rattle.stm_service.specs.declared.calls.Begun.TheVariants as begun
 use Rattle.stm_store.proofs.Submitted.{submitted_runs, submitted_given}
 use Rattle.stm_service.proofs.Answered.{entered_answer}
@@ -105,3 +107,29 @@ retries_begins l closed old new call named declared h =
       ap (λ (x : TicketsView). let y : Ticket = record { 0 = x.given } in y) h.1.1,
       ap (λ (x : BookView). outcome (call_program l call.tx call.arguments) x.present.state) h.1.0 ∙ (ap (λ (p : Program). outcome p old.book.present.state) (sym same) ∙ h.0),
     )
+
+-- a long call that was submitted, or was not
+pub submits_long : (old new : Store) (call : Call) (r : Option Ticket) → BookFits old.book → length old.tickets.held ≡ length old.book.tasks → Submits old call.tx call.arguments r new → IsSubmitted old call r new
+submits_long old new call None fits each h = h.1
+submits_long old new call (Some ticket) fits each h =
+    let task : TaskId = record { 0 = length old.book.tasks } in (
+      ap (λ n. let x : Ticket = record { 0 = n } in x) h.1,
+      record {
+        task = task;
+        own = ap (λ (t : TicketsView). slice_get t.held task.0) h.2 ∙ (get_last old.tickets.held old.tickets.given task.0 (sym each) ∙ ap Some (sym h.1));
+        runs = ap (λ (x : BookView). slice_get (tasks x.catalogue) task.0) h.3 ∙ submitted_runs old.book call task fits refl;
+        given = ap (λ (x : BookView). task_arguments x.catalogue task) h.3 ∙ submitted_given old.book call task fits refl;
+        ready = ap (λ (x : BookView). slice_get x.tasks task.0) h.3 ∙ get_last old.book.tasks Ready task.0 refl;
+      },
+      ap (λ (x : BookView). x.history) h.3,
+    )
+
+-- a long call that was submitted begins so
+pub long_begins : (l : Listing) (closed : Bool) (old new : Store) (call : Call) (ticket : Ticket) → IsSubmitted old call (Some ticket) new → Begins l closed (next_ticket old) call (begun.Runs ticket call) new
+long_begins l closed old new call ticket h = (h.0, refl, subst (λ (t : Ticket). IsReadyTask new t call) h.0 h.1)
+
+-- which ticket is the next one is told by the tickets
+pub begins_so_far : (l : Listing) (closed was : Bool) (old mid : Store) (call : Call) (b : Begun) (new : Store) → mid.tickets ≡ old.tickets → was ≡ closed → Begins l was (next_ticket mid) call b new → Begins l closed (next_ticket old) call b new
+begins_so_far l closed was old mid call b new same shut h =
+    subst (λ (x : Bool). Begins l x (next_ticket old) call b new) shut
+    (subst (λ (t : TicketsView). let ticket : Ticket = record { 0 = t.given } in Begins l was ticket call b new) same h)

@@ -6,6 +6,7 @@ use Rattle.std.proofs.Crossing.{crosses}
 use Rattle.std.proofs.MapsCrossing as maps
 use Rattle.std.specs.contracts.sync.Mutex as mutex
 use Rattle.stm_store.proofs.Crossing.{store_send, lender_send, worker_send}
+use Rattle.stm_store.proofs.job.Job.TheSendSync as job
 use Rattle.stm_service.specs.declared.answer.Naming.{Ghosts}
 use Rattle.stm_service.proofs.seat.Seat.TheSendSync as seat
 use Rattle.stm_service.specs.contracts.client.Client as client
@@ -16,6 +17,7 @@ pub desk_send : (N K : RattleType) (n : Ghosts N.Denot) → IsSend N → IsSend 
 desk_send N K n s k =
     let e = seat.the_send N n in
     let d = lender_send in
+    let j = job.the_send in
     declared_send (desk.the_type N K n) (
       search (sendable, crosses) depth 20,
       (
@@ -24,7 +26,13 @@ desk_send N K n s k =
           search (sendable, crosses) depth 20,
           (
             search (sendable, crosses, maps.crosses) depth 30,
-            (search (sendable, crosses) depth 30, (search sendable, (search (sendable, crosses) depth 20, (search sendable, tt)))),
+            (
+              search (sendable, crosses) depth 20,
+              (
+                search (sendable, crosses, maps.crosses) depth 30,
+                (search (sendable, crosses) depth 30, (search sendable, (search (sendable, crosses) depth 20, (search sendable, tt)))),
+              ),
+            ),
           ),
         ),
       ),

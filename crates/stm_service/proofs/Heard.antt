@@ -16,12 +16,16 @@ use Rattle.txn_programs.specs.Standing.{Upholds}
 use Rattle.txn_programs.specs.Listing.{Listing, tasks, task_arguments, call_program, task_program}
 use Rattle.txn_words.specs.Words.{state_of, last_state, StartsWith}
 use Rattle.txn_words.proofs.Words.{starts_whole, seen_state, seen_shorter, last_pushed}
-use Rattle.book.specs.View.{BookView}
+use Rattle.book.specs.View.{BookView, IsRunning, stands}
+use Rattle.book.specs.Tasks.{GivenUp}
 use Rattle.book.specs.LawfulBook.{LawfulBook}
 use Rattle.book.specs.Chapters.{entered_in_all}
-use Rattle.stm_store.specs.Asking.{TakesJob, Withdraws}
+use Rattle.stm_store.specs.Tickets.{TicketsView, HasTicket}
+use Rattle.stm_store.specs.Asking.{IsJob, Submits, TakesJob, Withdraws, GivesUp}
+use Rattle.stm_store.specs.Bringing.{Brings}
+use Rattle.stm_store.specs.Entering.{Enters}
 use Rattle.stm_store.specs.Working.{declaring}
-use Rattle.stm_store.specs.Turning.{Ends, GivesTurn, Calls, TriesCall, called_book}
+use Rattle.stm_store.specs.Turning.{Ends, ServesJob, Calls, TriesCall, called_book}
 use Rattle.stm_store.specs.declared.job.Ticket.{Ticket}
 use Rattle.stm_store.specs.declared.job.Job.{Job}
 use Rattle.stm_store.specs.declared.answers.Entered.{Entered}
@@ -29,9 +33,12 @@ use Rattle.stm_store.specs.declared.answers.End.{End}
 use Rattle.stm_store.specs.declared.answers.End.TheVariants as end
 use Rattle.stm_store.specs.declared.answers.Called.{Called}
 use Rattle.stm_store.specs.declared.answers.Called.TheVariants as called
-use Rattle.stm_store.specs.declared.answers.Turned.{Turned}
+use Rattle.stm_store.specs.declared.answers.Brought.{Brought}
+use Rattle.stm_store.specs.declared.answers.Brought.TheVariants as brought
+use Rattle.stm_store.specs.declared.worker.Worker.{Worker}
 use Rattle.stm_store.specs.declared.store.Store.{Store}
 use Rattle.stm_service.specs.Answering.{call_of}
+use Rattle.stm_service.specs.Calling.{IsWithdrawn}
 use Rattle.stm_service.specs.Seeing.{IsEnteredOn, EntryAt, IsHeard, IsEnteredSince, IsSeen}
 use Rattle.stm_service.specs.declared.seat.Told.{Told}
 use Rattle.stm_service.specs.declared.seat.Told.TheVariants as told
@@ -136,10 +143,20 @@ ends_starts every b new task (end.Entered e) h = (after (task_program b.catalogu
 ends_starts every b new task end.Parked h = starts_same b.history new.history (ap (λ (x : BookView). x.history) h.2.2)
 ends_starts every b new task end.Abandoned h = starts_same b.history new.history (ap (λ (x : BookView). x.history) h.1)
 
-pub turn_starts : (old new : Store) (r : Option Turned) → GivesTurn old r new → StartsWith new.book.history old.book.history
-turn_starts old new None h = starts_same old.book.history new.book.history (ap (λ (x : BookView). x.history) h.1)
-turn_starts old new (Some t) h =
-    subst (λ (s : List State). StartsWith new.book.history s) (ap (λ (x : BookView). x.history) h.1.2) (ends_starts old.every h.0 new.book t.job.task t.end h.3)
+pub job_starts : (old new : Store) (job : Job) (r : Option End) → ServesJob old job r new → StartsWith new.book.history old.book.history
+job_starts old new job None h = starts_same old.book.history new.book.history (ap (λ (x : BookView). x.history) h.1)
+job_starts old new job (Some how) h = ends_starts old.every old.book new.book job.task how h.2
+
+-- and with what a worker brings
+pub brings_starts : (old new : Store) (w : Worker) (how : Brought) → Brings old w how new → StartsWith new.book.history old.book.history
+brings_starts old new w brought.NotEnded h = starts_same old.book.history new.book.history (ap (λ (x : BookView). x.history) h.1)
+brings_starts old new w brought.OtherChapter h = starts_same old.book.history new.book.history (ap (λ (x : BookView). x.history) h.3)
+brings_starts old new w brought.OtherTask h = starts_same old.book.history new.book.history (ap (λ (x : BookView). x.history) h.4)
+brings_starts old new w brought.OtherProgram h = starts_same old.book.history new.book.history (ap (λ (x : BookView). x.history) h.4)
+brings_starts old new w brought.NotRunning h = starts_same old.book.history new.book.history (ap (λ (x : BookView). x.history) h.2.1)
+brings_starts old new w brought.Stale h = starts_same old.book.history new.book.history (ap (λ (x : BookView). x.history) h.2.2)
+brings_starts old new w brought.Parked h = starts_same old.book.history new.book.history (ap (λ (x : BookView). x.history) h.2.3)
+brings_starts old new w (brought.Committed e) h = ends_starts old.every old.book new.book h.0.task (end.Entered e) h.2.1
 
 pub take_same : (old new : Store) (r : Option Job) → TakesJob old r new → new.book.history ≡ old.book.history
 take_same old new None h = ap (λ (x : BookView). x.history) h.1
@@ -148,6 +165,27 @@ take_same old new (Some job) h = ap (λ (x : BookView). x.history) h.0.2
 pub withdraw_same : (old new : Store) (ticket : Ticket) (r : Bool) → Withdraws old ticket r new → new.book.history ≡ old.book.history
 withdraw_same old new ticket true h = ap (λ (x : BookView). x.history) h.3
 withdraw_same old new ticket false h = ap (λ (x : BookView). x.history) h.1
+
+pub give_up_same : (old new : Store) (ticket : Ticket) (r : Bool) → GivesUp old ticket r new → new.book.history ≡ old.book.history
+give_up_same old new ticket true h = ap (λ (x : BookView). x.history) h.3
+give_up_same old new ticket false h = ap (λ (x : BookView). x.history) h.1
+
+pub withdrawn_waiting : (old new : Store) (ticket : Ticket) → Withdraws old ticket true new → IsWithdrawn old new ticket
+withdrawn_waiting old new ticket h = record { task = h.0; own = h.1; unended = inl h.2; withdrawn = h.3 }
+
+-- what did not wait was running
+pub withdrawn_running : (old mid new : Store) (ticket : Ticket) → mid.book ≡ old.book → mid.tickets ≡ old.tickets → GivesUp mid ticket true new → IsWithdrawn old new ticket
+withdrawn_running old mid new ticket book tickets h =
+    record {
+      task = h.0;
+      own = subst (λ (t : TicketsView). HasTicket t h.0 ticket) tickets h.1;
+      unended = inr (subst (λ (b : BookView). IsRunning b h.0) book h.2);
+      withdrawn = h.3 ∙ ap (λ (b : BookView). stands b h.0 GivenUp) book;
+    }
+
+pub submit_same : (old new : Store) (tx : TxId) (arguments : List ℤ) (r : Option Ticket) → Submits old tx arguments r new → new.book.history ≡ old.book.history
+submit_same old new tx arguments None h = ap (λ (x : BookView). x.history) h.1.0
+submit_same old new tx arguments (Some ticket) h = ap (λ (x : BookView). x.history) h.3
 
 pub call_starts : (old new : Store) (call : Call) (r : Called) → Calls old call.tx call.arguments r new → StartsWith new.book.history old.book.history
 call_starts old new call called.Retries h = absurd h
@@ -159,18 +197,12 @@ try_starts old new call called.Retries h = starts_same old.book.history new.book
 try_starts old new call called.NoRoom h = starts_same old.book.history new.book.history (ap (λ (x : BookView). x.history) h.1.0)
 try_starts old new call (called.Ran t) h = ends_starts old.every (called_book old.book call.tx call.arguments t.job.task) new.book t.job.task t.end h.0.ends
 
--- the turn of the lowest ready task, which was entered
-pub turn_entered : (l : Listing) (old new : Store) (t : Turned) (e : Entered) → old.catalogue.now ≡ l → declaring old.book.catalogue ≡ declaring old.catalogue.now → LawfulBook new.book → GivesTurn old (Some t) new → t.end ≡ end.Entered e
-    → EntryAt l (call_of t.job) e.outcome (entered_in_all new.book) new.book.history
-turn_entered l old new t e named declared lawful h is =
-    let b = h.0 in
-    let same : b.catalogue ≡ old.book.catalogue = ap (λ (x : BookView). x.catalogue) h.1.2 in
-    entered_at l (call_of t.job) e.outcome (entered_in_all new.book) b.history new.book.history lawful.numbered
-    (entered_on l old.every b new.book t.job.task (call_of t.job) e
-    (ap declaring same ∙ (declared ∙ ap declaring named))
-    (ap (λ (c : Listing). slice_get (tasks c) t.job.task.0) same ∙ h.2.0.runs)
-    (ap (λ (c : Listing). task_arguments c t.job.task) same ∙ h.2.0.given)
-    (subst (λ (x : End). Ends old.every b t.job.task x new.book) is h.3))
+-- the task of a job, which was entered
+pub job_entered : (l : Listing) (old new : Store) (job : Job) (e : Entered) → old.catalogue.now ≡ l → declaring old.book.catalogue ≡ declaring old.catalogue.now → LawfulBook new.book → IsJob old job → Enters old.every old.book job.task e new.book
+    → EntryAt l (call_of job) e.outcome (entered_in_all new.book) new.book.history
+job_entered l old new job e named declared lawful is h =
+    entered_at l (call_of job) e.outcome (entered_in_all new.book) old.book.history new.book.history lawful.numbered
+    (entered_on l old.every old.book new.book job.task (call_of job) e (declared ∙ ap declaring named) is.runs is.given h)
 
 -- what a client sees that had seen less when it sat down
 entry_seen : (l : Listing) (call : Call) (o : Outcome) (since : ℕ) (old h : List State) → length old ≤ since + 1 → (n : ℕ) × (since < n) × EntryAt l call o n h → IsSeen l call.tx call.arguments o old h

@@ -1,17 +1,19 @@
 -- What calls leave of the store behind a service's lock.
-use Rattle.std.specs.Prelude.{◌≡◌, ◌≢◌, ℕ, Bool, true, Some, slice_get, All}
+use Rattle.std.specs.Prelude.{◌≡◌, ◌≢◌, ◌⊎◌, ℕ, Bool, true, Option, Some, None, slice_get, All}
 use Rattle.txn_programs.specs.declared.ast.TaskId.{TaskId}
 use Rattle.txn_programs.specs.declared.arguments.Call.{Call}
 use Rattle.txn_programs.specs.declared.ast.Outcome.TheVariants.{Retries}
 use Rattle.txn_programs.specs.Meaning.{outcome}
 use Rattle.txn_programs.specs.Listing.{Listing, IsCallable, tasks, task_arguments, call_program}
-use Rattle.book.specs.View.{stands}
+use Rattle.book.specs.View.{IsRunning, stands}
 use Rattle.book.specs.Tasks.{Ready, GivenUp}
 use Rattle.book.specs.Table.{IsParked, IsWaiting}
+use Rattle.book.specs.Recorded.{IsReady}
 use Rattle.book.specs.Carrying.{stays}
 use Rattle.book.specs.Chapters.{chapter_of}
 use Rattle.stm_store.specs.Tickets.{HasTicket, kept_tickets}
-use Rattle.stm_store.specs.Asking.{IsFull, IsUnchanged}
+use Rattle.stm_store.specs.Asking.{IsFull, IsUnchanged, Withdraws}
+use Rattle.stm_store.specs.Turning.{ServesJob}
 use Rattle.stm_store.specs.declared.job.Ticket.{Ticket}
 use Rattle.stm_store.specs.declared.job.Job.{Job}
 use Rattle.stm_store.specs.declared.answers.End.{End}
@@ -47,18 +49,41 @@ pub record IsParkedTask (s : Store) (ticket : Ticket) (call : Call) : Type 0 whe
   pub given : task_arguments s.book.catalogue task ≡ call.arguments
   pub parked : IsParked (slice_get s.book.tasks task.0)
 
+-- the task with the ticket, which is of this call, is ready
+pub record IsReadyTask (s : Store) (ticket : Ticket) (call : Call) : Type 0 where
+  pub task : TaskId
+  pub own : HasTicket s.tickets task ticket
+  pub runs : slice_get (tasks s.book.catalogue) task.0 ≡ Some call.tx
+  pub given : task_arguments s.book.catalogue task ≡ call.arguments
+  pub ready : IsReady s.book task
+
+-- a task of the call more, which is ready, has the next ticket; or nothing changed
+abbrev pub IsSubmitted : Store → Call → Option Ticket → Store → Type 0
+IsSubmitted old call None new = IsUnchanged old new
+IsSubmitted old call (Some ticket) new =
+    (ticket ≡ next_ticket old) × IsReadyTask new ticket call × (new.book.history ≡ old.book.history)
+
+-- the job's task had its turn, or none, and no task is another one
+abbrev pub HasTurn : Store → Job → Store → Type 0
+HasTurn old job new =
+    (new.tickets ≡ old.tickets) × ((new.book ≡ old.book) ⊎ ((how : End) × ServesJob old job (Some how) new))
+
 -- the task with the ticket is given up: it is entered nowhere, and never will be
 pub record IsGivenUp (s : Store) (ticket : Ticket) : Type 0 where
   pub task : TaskId
   pub own : HasTicket s.tickets task ticket
   pub given_up : slice_get s.book.tasks task.0 ≡ Some GivenUp
 
--- the task with the ticket waited, and is given up: it had no effect, and never will
+-- the task with the ticket had not ended, so that no entry is of it, and is given up, so that none ever will be
 pub record IsWithdrawn (old new : Store) (ticket : Ticket) : Type 0 where
   pub task : TaskId
   pub own : HasTicket old.tickets task ticket
-  pub waited : IsWaiting (slice_get old.book.tasks task.0)
+  pub unended : IsWaiting (slice_get old.book.tasks task.0) ⊎ IsRunning old.book task
   pub withdrawn : new.book ≡ stands old.book task GivenUp
+
+-- where the task with the ticket waited, it is given up
+abbrev pub IsLeft : Store → Ticket → Store → Type 0
+IsLeft old ticket new = (waited : Bool) × Withdraws old ticket waited new
 
 -- there is no room for a task more, and another chapter would have none, since each task would come over to it
 pub record IsFullOfTasks (s : Store) : Type 0 where
@@ -79,6 +104,7 @@ Refuses l closed ticket call fault.TimedOut new = ⊥
 abbrev pub Begins : Listing → Bool → Ticket → Call → Begun → Store → Type 0
 Begins l closed ticket call (begun.Over o) new = ∥ IsAnswer l ticket call o ∥₁
 Begins l closed ticket call (begun.Waits own of) new = (own ≡ ticket) × (of ≡ call) × IsParkedTask new ticket call
+Begins l closed ticket call (begun.Runs own of) new = (own ≡ ticket) × (of ≡ call) × IsReadyTask new ticket call
 Begins l closed ticket call begun.NotKept new = IsStillToGive ticket new
 Begins l closed ticket call (begun.Refused why) new = Refuses l closed ticket call why new
 

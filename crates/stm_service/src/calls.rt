@@ -26,6 +26,8 @@ pub(crate) enum Begun {
     Over(Outcome),
     /// It retries: the task of the call waits.
     Waits(Ticket, Call),
+    /// It is long: its task is submitted, and the thread that calls evaluates it.
+    Runs(Ticket, Call),
     /// There was no room, and the chapter could not end, since the host did not keep it.
     NotKept,
     Refused(CallFault),
@@ -35,14 +37,15 @@ pub(crate) enum Begun {
 #[derive(Clone, Copy, PartialEq, Eq)]
 pub(crate) enum Way {
     Waits,
-    /// Where its transaction retries nothing is submitted.
+    /// Where its transaction retries nothing is submitted, but for a long one.
     Tries,
 }
 
 impl<N: Naming, K: Archive + Drop> Desk<N, K> {
-    /// A task of the call, which has its turn at once; then all that it woke have theirs. Where the room is used up
-    /// the next chapter begins before, if that makes room and the host keeps the present one. What cannot be called
-    /// is `Unknown`, and nothing changes.
+    /// A task of the call, which has its turn at once; then all that it woke have theirs. A long one is submitted, for
+    /// its thread to evaluate. Where the room is used up the next chapter begins before, if that makes room and the
+    /// host keeps the present one: then a long call has its turn at once too. What cannot be called is `Unknown`, and
+    /// nothing changes.
     pub(crate) fn call(&mut self, tx: TxId, arguments: &[i64], way: Way) -> Begun
         ensures begins { Begins N.catalogue self.old.closed (next_ticket self.old.store)
             (record { tx = tx; arguments = arguments.now }) result self.new.store }
@@ -66,15 +69,55 @@ impl<N: Naming, K: Archive + Drop> Desk<N, K> {
             tx,
             arguments: Arguments::of(arguments),
         };
-        let begun = self.turn_in_room(&call, way);
+        self.settle_and_begin(&call, way)
+    }
+
+    /// The beginning of a call, and then the turns of all that it woke. Where the chapter has no room left, what threads
+    /// evaluate just then has its turn before.
+    fn settle_and_begin(&mut self, call: &Call, way: Way) -> Begun
+        requires { IsCallable N.catalogue call.now.tx call.now.arguments }
+        ensures begins { Begins N.catalogue self.old.closed (next_ticket self.old.store)
+            call.now result self.new.store }
+        ensures way { IsOfWay way result }
+        ensures served { (o : Outcome) → result ≡ Begun.Over o → IsServed self.new.store }
+    {
+        self.settle_if_full();
+        self.begin_and_serve(call, way)
+    }
+
+    /// The beginning of a call, and then the turns of all that it woke.
+    fn begin_and_serve(&mut self, call: &Call, way: Way) -> Begun
+        requires { IsCallable N.catalogue call.now.tx call.now.arguments }
+        ensures begins { Begins N.catalogue self.old.closed (next_ticket self.old.store)
+            call.now result self.new.store }
+        ensures way { IsOfWay way result }
+        ensures served { (o : Outcome) → result ≡ Begun.Over o → IsServed self.new.store }
+    {
+        let begun = self.begin(call, way);
         if matches!(begun, Begun::Over(_)) {
             self.serve();
         }
         begun
     }
 
+    /// The beginning of a call: a long one is submitted, and a short one has its first turn. So has a long one that there
+    /// is no room for in the chapter, in the next one.
+    pub(crate) fn begin(&mut self, call: &Call, way: Way) -> Begun
+        requires { IsCallable N.catalogue call.now.tx call.now.arguments }
+        ensures begins { Begins N.catalogue self.old.closed (next_ticket self.old.store)
+            call.now result self.new.store }
+        ensures way { IsOfWay way result }
+        ensures entered { (o : Outcome) → result ≡ Begun.Over o
+            → ∥ IsEnteredOn N.catalogue call.now o self.old.store.book.history self.new.store.book.history ∥₁ }
+    {
+        if let Some(ticket) = self.submit_long(call) {
+            return Begun::Runs(ticket, *call);
+        }
+        self.turn_in_room(call, way)
+    }
+
     /// The first turn of a call, in a chapter that has room for it.
-    pub(crate) fn turn_in_room(&mut self, call: &Call, way: Way) -> Begun
+    fn turn_in_room(&mut self, call: &Call, way: Way) -> Begun
         requires { IsCallable N.catalogue call.now.tx call.now.arguments }
         ensures begins { Begins N.catalogue self.old.closed (next_ticket self.old.store)
             call.now result self.new.store }

@@ -49,10 +49,11 @@ impl<N: Naming, K: Archive + Drop> Desk<N, K> {
         self.archive.keep(self.store.chapter(), file, report)
     }
 
-    /// The report of the present chapter.
-    pub(crate) fn report(&self) -> Result<String, ReportFault>
+    /// The report of the present chapter. What threads evaluate just then has its turn before.
+    pub(crate) fn report(&mut self) -> Result<String, ReportFault>
         ensures { IfOk result (λ text. ∥ IsReportOfSome N.catalogue (string_bytes text) ∥₁) }
     {
+        self.settle();
         self.store.law();
         match self.store.report_now() {
             Ok(text) => Ok(text),
@@ -60,10 +61,12 @@ impl<N: Naming, K: Archive + Drop> Desk<N, K> {
         }
     }
 
-    /// The file of the present chapter.
-    pub(crate) fn file(&self) -> Result<String, FileFault>
+    /// The file of the present chapter. What threads evaluate just then has its turn before, so that it is of one
+    /// moment with a report that is asked for next.
+    pub(crate) fn file(&mut self) -> Result<String, FileFault>
         ensures { IfOk result (λ text. ∥ IsFileOfSome N.catalogue (string_bytes text) ∥₁) }
     {
+        self.settle();
         self.store.law();
         match self.store.file() {
             Ok(text) => Ok(text),

@@ -1,6 +1,6 @@
 //! Who reads the cells of a service beside the commits.
 
-ghost use Rattle.std.specs.Prelude.{◌≡◌, ◌+◌, ◌↔◌, IsTrue, length};
+ghost use Rattle.std.specs.Prelude.{◌≡◌, ◌+◌, ◌↔◌, IsTrue, Some, length, true};
 ghost use Rattle.std.specs.Coded.{codes};
 ghost use Rattle.txn.specs.Codes.{coded_listing};
 ghost use Rattle.txn_programs.specs.Listing.{IsCallable};
@@ -10,11 +10,11 @@ ghost use Rattle.stm_service.specs.Observations.{EndsAt};
 use crate::answer::Naming;
 use run_observer::Observed;
 use std::marker::PhantomData;
-use stm_store::Worker;
+use stm_store::{Job, Tried, Worker};
 use txn::TxId;
 
-/// How often a call is observed beside the commits before it is under the lock.
-const TRIES: u32 = 8;
+/// How often a call is evaluated beside the commits before it is under the lock.
+pub(crate) const TRIES: u32 = 8;
 
 /// A reader of a service's cells, for one thread at a time.
 #[derive(Drop)]
@@ -69,5 +69,18 @@ impl<N: Naming> Client<N> {
         ensures ends { EndsAt N.catalogue tx arguments.now self.new.worker.pass result }
     {
         self.worker.observe(tx, arguments)
+    }
+    /// Evaluates the job on one state of the cells, with no lock. `true`: it ended there, and is to be brought to the
+    /// store. `false`: others changed meanwhile what it read, or a growth was refused.
+    pub(crate) fn try_job(&mut self, job: &Job) -> bool
+        ensures { result ≡ true → self.new.worker.ended ≡ Some job.now }
+    {
+        if !self.can_call(job.tx, job.arguments.as_slice()) {
+            return false;
+        }
+        match self.worker.try_job(*job) {
+            Tried::Ended => true,
+            Tried::Stale | Tried::Memory => false,
+        }
     }
 }

@@ -20,7 +20,7 @@ use crate::calls::{Begun, Way};
 use crate::client::Client;
 use crate::desk::Desk;
 use crate::service::{Service, let_go};
-use crate::waiting::{Time, wait_for, wait_within};
+use crate::waiting::{Time, try_long, wait_for, wait_within};
 use std::sync::{MutexGuard, Wait};
 use std::time::{Clock, Duration};
 use stm_store::Ticket;
@@ -39,6 +39,9 @@ impl<N: Naming, K: Archive + Drop> Desk<N, K> {
         ensures waits { (ticket : Ticket) (call : Call) → result ≡ Begun.Waits ticket call
             → (call ≡ (record { tx = tx; arguments = arguments.now }))
             × (self.new.store.book.history ≡ client.new.worker.pass.seen) }
+        ensures runs { (ticket : Ticket) (call : Call) → result ≡ Begun.Runs ticket call
+            → (call ≡ (record { tx = tx; arguments = arguments.now }))
+            × (self.new.store.book.history ≡ client.new.worker.pass.seen) }
         ensures way { IsOfWay way result }
         ensures unknown { result ≡ Begun.Refused CallFault.Unknown → ¬ (IsCallable N.catalogue tx arguments.now) }
         ensures tries { result ≢ Begun.Refused CallFault.TimedOut }
@@ -48,6 +51,7 @@ impl<N: Naming, K: Archive + Drop> Desk<N, K> {
         ensures refused { ¬ (IsCallable N.catalogue tx arguments.now)
             → (result ≡ Begun.Refused CallFault.Unknown) ⊎ (result ≡ Begun.Refused CallFault.Closed) }
     {
+        self.settle_if_full();
         self.show(client);
         if self.closed {
             return Begun::Refused(CallFault::Closed);
@@ -61,7 +65,7 @@ impl<N: Naming, K: Archive + Drop> Desk<N, K> {
             tx,
             arguments: Arguments::of(arguments),
         };
-        let begun = self.turn_in_room(&call, way);
+        let begun = self.begin(&call, way);
         self.show(client);
         if matches!(begun, Begun::Over(_)) {
             self.serve();
@@ -85,7 +89,8 @@ impl<N: Naming, K: Archive + Drop> Service<N, K> {
 impl<N: Naming> Client<N> {
     /// As `Service::atomically`. What the client has seen of the history of the service grows with each call. The
     /// outcome is that on a state that it has seen then, the state behind that one is what the transaction left, and
-    /// that is behind all that it had seen before.
+    /// that is behind all that it had seen before. A long transaction is evaluated by a worker that is free, and not by
+    /// the client's own.
     ///
     /// The service has to be the client's.
     pub fn atomically<R: Wait, K: Archive + Drop>(
@@ -110,9 +115,9 @@ impl<N: Naming> Client<N> {
                 let_go(desk);
                 Ok(outcome)
             }
-            Begun::Waits(ticket, call) => {
+            Begun::Waits(ticket, call) | Begun::Runs(ticket, call) => {
                 let awaited = desk.awaited(ticket, &call);
-                let (desk, answer) = wait_for(rt, desk, &awaited);
+                let (desk, answer) = wait_for(rt, service, desk, &awaited);
                 self.learn(desk);
                 answer
             }
@@ -121,7 +126,7 @@ impl<N: Naming> Client<N> {
         }
     }
 
-    /// As `atomically`, but where the transaction retries nothing is submitted, and the answer is `Retries`.
+    /// As `atomically`, but where the transaction retries the answer is `Retries`, as of `Service::try_atomically`.
     pub fn try_atomically<R: Wait, K: Archive + Drop>(
         &mut self,
         rt: &R,
@@ -144,6 +149,12 @@ impl<N: Naming> Client<N> {
                 let_go(desk);
                 Ok(outcome)
             }
+            Begun::Runs(ticket, call) => {
+                let awaited = desk.awaited(ticket, &call);
+                let (desk, answer) = try_long(rt, service, desk, &awaited);
+                self.learn(desk);
+                answer
+            }
             Begun::Waits(_, _) => unreachable!(),
             Begun::NotKept => Err(CallFault::NoRoom),
             Begun::Refused(fault) => Err(fault),
@@ -151,7 +162,7 @@ impl<N: Naming> Client<N> {
     }
 
     /// As `atomically`, for at most this time: then the answer is `TimedOut`, and the call has had no effect
-    /// and never will. Where its task can no longer be withdrawn, its outcome is the answer.
+    /// and never will. Where its task was entered before, its outcome is the answer.
     pub fn atomically_within<R: Wait + Clock, K: Archive + Drop>(
         &mut self,
         rt: &R,
@@ -176,9 +187,9 @@ impl<N: Naming> Client<N> {
                 let_go(desk);
                 Ok(outcome)
             }
-            Begun::Waits(ticket, call) => {
+            Begun::Waits(ticket, call) | Begun::Runs(ticket, call) => {
                 let awaited = desk.awaited(ticket, &call);
-                let (desk, answer) = wait_within(rt, desk, &awaited, time);
+                let (desk, answer) = wait_within(rt, service, desk, &awaited, time);
                 self.learn(desk);
                 answer
             }
@@ -193,5 +204,6 @@ impl<N: Naming> Client<N> {
     {
         let mut desk = desk;
         desk.show(self);
+        let_go(desk);
     }
 }

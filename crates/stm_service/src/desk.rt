@@ -1,6 +1,6 @@
 //! What the lock guards: the store, and a seat for each thread that waits.
 
-ghost use Rattle.std.specs.Prelude.{◌≡◌, ◌≢◌, ◌+◌, length, true, Some, None, All};
+ghost use Rattle.std.specs.Prelude.{◌≡◌, ◌≢◌, ◌+◌, length, true, Some, None, All, IfSome};
 ghost use Rattle.std.specs.Option.{ForNone};
 ghost use Rattle.std.specs.Coded.{codes};
 ghost use Rattle.std.specs.BTreeMap.{values};
@@ -18,7 +18,7 @@ use std::collections::BTreeMap;
 use std::marker::PhantomData;
 use std::mem::replace;
 use std::sync::{Arc, Condvar};
-use stm_store::{End, Job, Lender, Store, Ticket, Turned};
+use stm_store::{End, Job, Lender, Store, Ticket};
 use txn::{Call, Outcome};
 
 /// What a thread finds at its seat.
@@ -26,10 +26,12 @@ use txn::{Call, Outcome};
 pub(crate) enum Found {
     /// It goes on waiting.
     Nothing,
+    /// Its task runs, and is the thread's to evaluate.
+    Runs(Job),
     Over(Outcome),
     /// Its task ran out of memory.
     GivenUp,
-    /// Its task is withdrawn.
+    /// Its task is given up.
     Left,
 }
 
@@ -42,6 +44,10 @@ pub struct Desk<N: Naming, K: Archive + Drop> {
     pub(crate) lender: Option<Lender>,
     /// By ticket.
     seats: BTreeMap<u64, Seat<N>>,
+    /// Whether a transaction is long, for each; empty where none is.
+    pub(crate) long: Vec<bool>,
+    /// The tasks that their threads evaluate just now, beside the commits: by ticket.
+    pub(crate) running: BTreeMap<u64, Job>,
     /// The bells that are to be rung once the lock is let go.
     rung: Vec<Arc<Condvar>>,
     pub(crate) closed: bool,
@@ -58,17 +64,18 @@ impl<N: Naming, K: Archive + Drop> Desk<N, K> {
     ghost use Rattle.stm_store.specs.declared.answers.Entered.{Entered};
     ghost use Rattle.stm_store.specs.declared.answers.End.TheVariants as End;
     ghost use Rattle.stm_service.specs.Answering.{IsAnswer, call_of};
-    ghost use Rattle.stm_store.specs.Turning.{GivesTurn};
+    ghost use Rattle.stm_store.specs.Asking.{TakesJob, Withdraws, GivesUp};
+    ghost use Rattle.stm_store.specs.Turning.{ServesJob};
     ghost use Rattle.stm_store.specs.Keeping.{KeepsTasks};
-    ghost use Rattle.stm_store.specs.declared.answers.Turned.{Turned};
-    ghost use Rattle.stm_service.specs.Calling.{IsServed, IsWithdrawn};
+    ghost use Rattle.stm_service.specs.Calling.{IsServed, IsLeft, IsWithdrawn, HasTurn};
     ghost use Rattle.stm_service.specs.Seeing.{IsEntryAt, IsEnteredSince};
     ghost use Rattle.book.specs.Chapters.{entered_in_all};
     ghost use Rattle.cells.specs.Passing.{MeetsBy};
     ghost use Rattle.stm_service.specs.declared.desk.Found.TheVariants as Found;
 
-    /// The desk of a store, whose tasks have had their turns then.
-    pub(crate) fn open(alloc: Global, store: Store, archive: K) -> Desk<N, K>
+    /// The desk of a store, whose tasks have had their turns then. Which transactions are long is told in their
+    /// order.
+    pub(crate) fn open(alloc: Global, store: Store, archive: K, long: Vec<bool>) -> Desk<N, K>
         requires named { store.catalogue.now ≡ N.catalogue }
         requires placed { store.cells ≡ N.cells }
         ensures served { IsServed result.store }
@@ -79,6 +86,8 @@ impl<N: Naming, K: Archive + Drop> Desk<N, K> {
             store,
             lender,
             seats: BTreeMap::new(alloc),
+            long,
+            running: BTreeMap::new(alloc),
             rung: Vec::new(alloc),
             closed: false,
             archive,
@@ -89,59 +98,80 @@ impl<N: Naming, K: Archive + Drop> Desk<N, K> {
     }
 
     /// Gives the ready tasks their turns, the lowest first, until none is ready, and tells each thread what came
-    /// of its own.
+    /// of its own. A long one is its thread's to evaluate, where one waits for it.
     pub(crate) fn serve(&mut self)
         ensures served { IsServed self.new.store }
         ensures closed { self.new.closed ≡ self.old.closed }
     {
-        while let Some(turned) = self.one_turn() {
-            self.hand(turned.job, turned.end);
+        while let Some(job) = self.take() {
+            self.serve_one(&job);
         }
     }
 
-    /// A turn of the lowest ready task. `None` exactly where none is ready.
-    fn one_turn(&mut self) -> Option<Turned>
-        ensures given { GivesTurn self.old.store result self.new.store }
-        ensures answer { (t : Turned) (e : Entered) → result ≡ Some t → t.end ≡ End.Entered e
-            → ∥ IsAnswer N.catalogue t.job.ticket (call_of t.job) e.outcome ∥₁ }
-        ensures entered { (t : Turned) (e : Entered) → result ≡ Some t → t.end ≡ End.Entered e
-            → IsEntryAt N.catalogue (call_of t.job) e.outcome (entered_in_all self.new.store.book)
+    /// The lowest ready task, which is then running. `None` exactly where none is ready.
+    pub(crate) fn take(&mut self) -> Option<Job>
+        ensures taken { TakesJob self.old.store result self.new.store }
+        ensures tickets { self.new.store.tickets ≡ self.old.store.tickets }
+        ensures closed { self.new.closed ≡ self.old.closed }
+        ensures running { self.new.running ≡ self.old.running }
+    {
+        self.store.take()
+    }
+
+    /// The running task has its turn, or its thread evaluates it.
+    fn serve_one(&mut self, job: &Job)
+        ensures turn { HasTurn self.old.store job.now self.new.store }
+        ensures closed { self.new.closed ≡ self.old.closed }
+    {
+        if self.hand_over(job) {
+            return;
+        }
+        self.turn(job);
+    }
+
+    /// The running task has its turn under the lock, and its thread is told what came of it.
+    pub(crate) fn turn(&mut self, job: &Job)
+        ensures turn { HasTurn self.old.store job.now self.new.store }
+        ensures closed { self.new.closed ≡ self.old.closed }
+        ensures running { self.new.running ≡ self.old.running }
+    {
+        let Some(end) = self.turn_of(job) else {
+            return;
+        };
+        self.hand(job, end);
+    }
+
+    /// A turn of the job's task, where it is running: how it ended.
+    fn turn_of(&mut self, job: &Job) -> Option<End>
+        ensures turn { HasTurn self.old.store job.now self.new.store }
+        ensures answer { (e : Entered) → result ≡ Some (End.Entered e)
+            → ∥ IsAnswer N.catalogue job.now.ticket (call_of job.now) e.outcome ∥₁ }
+        ensures entered { (e : Entered) → result ≡ Some (End.Entered e)
+            → IsEntryAt N.catalogue (call_of job.now) e.outcome (entered_in_all self.new.store.book)
             self.new.store.book.history }
         ensures closed { self.new.closed ≡ self.old.closed }
+        ensures running { self.new.running ≡ self.old.running }
     {
         self.store.law();
-        match &mut self.lender {
-            Some(lender) => {
-                let turned = self.store.turn_lent(lender);
-                self.store.law();
-                turned
-            }
-            None => self.no_turn(),
-        }
-    }
-
-    /// A program without transactions has no task.
-    fn no_turn(&mut self) -> Option<Turned>
-        requires { length self.old.store.catalogue.now.transactions ≡ 0 }
-        ensures none { result ≡ None }
-        ensures given { GivesTurn self.old.store None self.new.store }
-        ensures closed { self.new.closed ≡ self.old.closed }
-    {
-        match self.store.take() {
-            Some(_) => unreachable!(),
-            None => None,
-        }
+        // A program without transactions has no task.
+        let Some(lender) = &mut self.lender else {
+            return None;
+        };
+        let end = self.store.serial_lent(lender, *job);
+        self.store.law();
+        end
     }
 
     /// The thread that waits for this task is told what came of it.
-    fn hand(&mut self, job: Job, end: End)
+    pub(crate) fn hand(&mut self, job: &Job, end: End)
         requires answer { (e : Entered) → end ≡ End.Entered e
-            → ∥ IsAnswer N.catalogue job.ticket (call_of job) e.outcome ∥₁ }
+            → ∥ IsAnswer N.catalogue job.now.ticket (call_of job.now) e.outcome ∥₁ }
         requires entered { (e : Entered) → end ≡ End.Entered e
-            → IsEntryAt N.catalogue (call_of job) e.outcome (entered_in_all self.old.store.book)
+            → IsEntryAt N.catalogue (call_of job.now) e.outcome (entered_in_all self.old.store.book)
             self.old.store.book.history }
         ensures closed { self.new.closed ≡ self.old.closed }
         ensures store { self.new.store ≡ self.old.store }
+        ensures running { self.new.running ≡ self.old.running }
     {
         let told = match end {
             End::Entered(entered) => Told::Entered(entered.outcome, self.store.entered()),
@@ -151,16 +181,17 @@ impl<N: Naming, K: Archive + Drop> Desk<N, K> {
         let Some(seat) = self.seats.get_mut(&job.ticket.0) else {
             return;
         };
-        let Some(bell) = seat.tell(job.ticket, &call_of(job), told) else {
+        let Some(bell) = seat.tell(job.ticket, &call_of(*job), told) else {
             return;
         };
         self.note(bell);
     }
 
     /// A bell more is to be rung. Out of memory, it is rung at once.
-    fn note(&mut self, bell: Arc<Condvar>)
+    pub(crate) fn note(&mut self, bell: Arc<Condvar>)
         ensures closed { self.new.closed ≡ self.old.closed }
         ensures store { self.new.store ≡ self.old.store }
+        ensures running { self.new.running ≡ self.old.running }
     {
         if let Err(refused) = self.rung.push(bell) {
             refused.value.notify_one();
@@ -181,14 +212,24 @@ impl<N: Naming, K: Archive + Drop> Desk<N, K> {
         }
     }
 
-    /// A seat for the thread of a task that waits, and its bell. `None` where a growth was refused: then the task is
-    /// withdrawn.
-    pub(crate) fn sit(&mut self, awaited: &Awaited) -> Option<Arc<Condvar>> {
-        let bell = self.seat_for(awaited);
-        if bell.is_none() {
-            let _ = self.leave(awaited);
+    /// A seat for the thread of a task that waits, and its bell; a long one that is ready is that thread's to evaluate
+    /// once all are served. `None` where a growth was refused: then the task is given up.
+    pub(crate) fn sit(&mut self, awaited: &Awaited) -> Option<Arc<Condvar>>
+        ensures seated { IfSome result (λ _. self.new.store ≡ self.old.store) }
+        ensures withdrawn { result ≡ None → IsLeft self.old.store awaited.now.ticket self.new.store }
+    {
+        match self.seat_for(awaited) {
+            Some(bell) => Some(bell),
+            None => {
+                let _waited = self.withdraw(awaited.ticket);
+                None
+            }
         }
-        bell
+    }
+
+    /// The bell of the seat of this task. `None` where no thread waits for it.
+    pub(crate) fn bell_of(&self, ticket: Ticket) -> Option<Arc<Condvar>> {
+        self.seats.get(&ticket.0)?.bell()
     }
 
     fn seat_for(&mut self, awaited: &Awaited) -> Option<Arc<Condvar>>
@@ -224,7 +265,7 @@ impl<N: Naming, K: Archive + Drop> Desk<N, K> {
         }
     }
 
-    /// What the thread of this task finds: where it is anything it leaves its seat, and so it does where the
+    /// What the thread of this task finds: where its task is over it leaves its seat, and so it does where the
     /// service is closed.
     pub(crate) fn look(&mut self, awaited: &Awaited) -> Found
         ensures over { (o : Outcome) → result ≡ Found.Over o
@@ -238,13 +279,14 @@ impl<N: Naming, K: Archive + Drop> Desk<N, K> {
             return self.leave(awaited);
         }
         let found = self.told(awaited);
-        if !matches!(found, Found::Nothing) {
-            self.rise(awaited.ticket);
+        if matches!(found, Found::Nothing) {
+            return self.running_of(awaited.ticket);
         }
+        self.rise(awaited.ticket);
         found
     }
 
-    /// The thread of this task waits no longer: it is told what came of the task, and else the task is withdrawn,
+    /// The thread of this task waits no longer: it is told what came of the task, and else the task is given up,
     /// so that it had no effect and never will.
     pub(crate) fn leave(&mut self, awaited: &Awaited) -> Found
         ensures over { (o : Outcome) → result ≡ Found.Over o
@@ -258,11 +300,37 @@ impl<N: Naming, K: Archive + Drop> Desk<N, K> {
             self.rise(awaited.ticket);
             return found;
         }
-        if !self.store.withdraw(awaited.ticket) {
+        if !self.stop(awaited.ticket) {
             return Found::Nothing;
         }
         self.rise(awaited.ticket);
         Found::Left
+    }
+
+    /// Whether the task waited or was running: it is given up then.
+    fn stop(&mut self, ticket: Ticket) -> bool
+        ensures { result ≡ true → IsWithdrawn self.old.store self.new.store ticket }
+    {
+        self.is_over(ticket);
+        if self.withdraw(ticket) {
+            return true;
+        }
+        self.give_up(ticket)
+    }
+
+    /// Whether the task waited: it is given up then.
+    fn withdraw(&mut self, ticket: Ticket) -> bool
+        ensures withdrawn { Withdraws self.old.store ticket result self.new.store }
+        ensures tickets { self.new.store.tickets ≡ self.old.store.tickets }
+    {
+        self.store.withdraw(ticket)
+    }
+
+    /// Whether the task was running: it is given up then.
+    fn give_up(&mut self, ticket: Ticket) -> bool
+        ensures { GivesUp self.old.store ticket result self.new.store }
+    {
+        self.store.give_up(ticket)
     }
 
     /// The seat is free.
@@ -295,7 +363,10 @@ impl<N: Naming, K: Archive + Drop> Desk<N, K> {
     }
 
     /// The bells that are to be rung, which are none then.
-    pub(crate) fn rung(&mut self) -> Vec<Arc<Condvar>> {
+    pub(crate) fn rung(&mut self) -> Vec<Arc<Condvar>>
+        ensures store { self.new.store ≡ self.old.store }
+        ensures closed { self.new.closed ≡ self.old.closed }
+    {
         replace(&mut self.rung, Vec::new(self.alloc))
     }
 }

@@ -2,8 +2,8 @@
 //! lets the thread that called wait while the transaction retries.
 //!
 //! `answer` has what a call answers, and what an outcome is known by; `seat` is where a thread that waits is
-//! told what came of its task; `desk` is what the lock guards, a store and the seats, with `calls` and
-//! `chapters`; `service` has the calls for threads.
+//! told what came of its task; `desk` is what the lock guards, a store and the seats, with `calls`, `chapters`
+//! and `long`, the transactions that their threads evaluate beside the commits; `service` has the calls for threads.
 #![tactic(auto)]
 
 mod answer;
@@ -13,6 +13,7 @@ mod chapters;
 mod client;
 mod clients;
 mod desk;
+mod long;
 mod observing;
 mod seat;
 mod service;

@@ -115,6 +115,11 @@ impl<N: Naming> Seat<N> {
         None
     }
 
+    /// Its bell. `None` where that is known to too many.
+    pub(crate) fn bell(&self) -> Option<Arc<Condvar>> {
+        Arc::clone(&self.bell).ok()
+    }
+
     /// Calls its thread.
     pub(crate) fn ring(&self) {
         self.bell.notify_one();

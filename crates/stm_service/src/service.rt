@@ -10,9 +10,10 @@ ghost use Rattle.stm_service.specs.declared.answer.CallFault.TheVariants as Call
 use crate::answer::{CallFault, Naming};
 use crate::archive::Archive;
 use crate::calls::{Begun, Way};
-use crate::client::Client;
+use crate::client::{Client, TRIES};
 use crate::desk::Desk;
-use crate::waiting::{Time, wait_for, wait_within};
+use crate::long::long_ones;
+use crate::waiting::{Time, try_long, wait_for, wait_within};
 use run_observer::Observed;
 use std::alloc::Global;
 use std::sync::{Mutex, MutexGuard, Wait};
@@ -30,8 +31,9 @@ pub struct Service<N: Naming, K: Archive + Drop> {
 
 impl<N: Naming, K: Archive + Drop> Service<N, K> {
     /// The service of a store, whose ready tasks have had their turns then. So many calls can wait as the store has
-    /// room for, and so many can be observed beside the commits as it has workers left; all others are observed
-    /// under the lock. `Memory` only where a growth was refused; then the store is let go.
+    /// room for. The workers that the store has left are the service's: each observes, or evaluates a long transaction,
+    /// beside the commits, for one thread at a time; what finds none free is evaluated under the lock. `Memory` only
+    /// where a growth was refused; then the store is let go.
     ///
     /// A host is generic in the name `N`, and calls itself with the store's catalogue and cells for it.
     pub fn open(alloc: Global, store: Store, archive: K) -> Result<Service<N, K>, Memory>
@@ -40,16 +42,32 @@ impl<N: Naming, K: Archive + Drop> Service<N, K> {
     {
         let mut store = store;
         let free = readers(alloc, &mut store)?;
+        // Without workers each call is evaluated under the lock.
+        let long = if free.is_empty() {
+            Vec::new(alloc)
+        } else {
+            long_ones(alloc, store.catalogue())?
+        };
         Ok(Service {
-            desk: Mutex::new(Desk::open(alloc, store, archive)),
+            desk: Mutex::new(Desk::open(alloc, store, archive, long)),
             free: Mutex::new(free),
         })
     }
 
     /// Runs the transaction with these arguments as one atomic step, and answers its outcome, `Returned` or `Thrown`.
     /// Where it retries, the calling thread waits until its task has been entered. It never answers `Retries` or
-    /// `TimedOut`. `Unknown` exactly where there is no such transaction, or it has not as many parameters as there
-    /// are arguments (`Catalogue::is_callable`), unless the service is closed: then nothing changed.
+    /// `TimedOut`.
+    ///
+    /// A short transaction runs under the lock. A long one, by its weight, is evaluated by the calling thread beside
+    /// what others commit, and again when it is woken: the lock is taken only to submit and to enter it. It runs under
+    /// the lock where no worker is free, where others changed what it read in eight tries, and where, before it is
+    /// entered, a chapter ends or the report or the file is asked for. Where the service is closed before that, it is
+    /// given up.
+    ///
+    /// `Memory`: its task was given up, since a growth was refused. `NoRoom`: every task of the room waits, or the host
+    /// could not keep the chapter that had to end. `Unknown` exactly where there is no such transaction, or it has not
+    /// as many parameters as there are arguments (`Catalogue::is_callable`), unless the service is closed: then nothing
+    /// changed.
     pub fn atomically<R: Wait>(
         &self,
         rt: &R,
@@ -68,16 +86,19 @@ impl<N: Naming, K: Archive + Drop> Service<N, K> {
                 let_go(desk);
                 Ok(outcome)
             }
-            Begun::Waits(ticket, call) => {
+            Begun::Waits(ticket, call) | Begun::Runs(ticket, call) => {
                 let awaited = desk.awaited(ticket, &call);
-                wait_for(rt, desk, &awaited).1
+                let (desk, answer) = wait_for(rt, self, desk, &awaited);
+                let_go(desk);
+                answer
             }
             Begun::NotKept => Err(CallFault::NoRoom),
             Begun::Refused(fault) => Err(fault),
         }
     }
 
-    /// As `atomically`, but where the transaction retries nothing is submitted, and the answer is `Retries`.
+    /// As `atomically`, but where the transaction retries the answer is `Retries`: it was not entered, and never will
+    /// be. A short one was not submitted then; the task of a long one is given up.
     pub fn try_atomically<R: Wait>(
         &self,
         rt: &R,
@@ -96,6 +117,12 @@ impl<N: Naming, K: Archive + Drop> Service<N, K> {
                 let_go(desk);
                 Ok(outcome)
             }
+            Begun::Runs(ticket, call) => {
+                let awaited = desk.awaited(ticket, &call);
+                let (desk, answer) = try_long(rt, self, desk, &awaited);
+                let_go(desk);
+                answer
+            }
             Begun::Waits(_, _) => unreachable!(),
             Begun::NotKept => Err(CallFault::NoRoom),
             Begun::Refused(fault) => Err(fault),
@@ -103,7 +130,7 @@ impl<N: Naming, K: Archive + Drop> Service<N, K> {
     }
 
     /// As `atomically`, for at most this time: then the answer is `TimedOut`, and the call has had no effect
-    /// and never will. Where its task can no longer be withdrawn, its outcome is the answer.
+    /// and never will. Where its task was entered before, its outcome is the answer.
     pub fn atomically_within<R: Wait + Clock>(
         &self,
         rt: &R,
@@ -124,9 +151,11 @@ impl<N: Naming, K: Archive + Drop> Service<N, K> {
                 let_go(desk);
                 Ok(outcome)
             }
-            Begun::Waits(ticket, call) => {
+            Begun::Waits(ticket, call) | Begun::Runs(ticket, call) => {
                 let awaited = desk.awaited(ticket, &call);
-                wait_within(rt, desk, &awaited, time).1
+                let (desk, answer) = wait_within(rt, self, desk, &awaited, time);
+                let_go(desk);
+                answer
             }
             Begun::NotKept => Err(CallFault::NoRoom),
             Begun::Refused(fault) => Err(fault),
@@ -185,6 +214,14 @@ impl<N: Naming, K: Archive + Drop> Service<N, K> {
         }
     }
 
+    /// A reader that is free, for this try of a long call. `None` where none is, or it was tried often enough.
+    pub(crate) fn reader<R: Wait>(&self, rt: &R, tries: u32) -> Option<Client<N>> {
+        if tries >= TRIES {
+            return None;
+        }
+        self.free.lock(rt).pop()
+    }
+
     /// The reader is free again.
     pub(crate) fn give_back<R: Wait>(&self, rt: &R, reader: Client<N>) {
         // There is room for each: it was one of them.
@@ -192,20 +229,22 @@ impl<N: Naming, K: Archive + Drop> Service<N, K> {
     }
 
     /// Every call that waits and every later one is answered `Closed`, but for those whose task was entered
-    /// already. What was entered stays. A report right after it may list as parked the tasks of calls whose
-    /// threads have not woken yet.
+    /// already, also those that evaluate a long transaction just then. What was entered stays. A report right after it
+    /// may list as parked the tasks of calls whose threads have not woken yet.
     pub fn close<R: Wait>(&self, rt: &R) {
         self.desk.lock(rt).close();
     }
 
-    /// The report of the present chapter at this moment.
+    /// The report of the present chapter at this moment. Long transactions that are evaluated beside the commits just
+    /// then have their turns before.
     pub fn report<R: Wait>(&self, rt: &R) -> Result<String, ReportFault>
         ensures { IfOk result (λ text. ∥ IsReportOfSome N.catalogue (string_bytes text) ∥₁) }
     {
         self.desk.lock(rt).report()
     }
 
-    /// The file of the present chapter at this moment.
+    /// The file of the present chapter at this moment. Long transactions that are evaluated beside the commits just
+    /// then have their turns before.
     pub fn file<R: Wait>(&self, rt: &R) -> Result<String, FileFault>
         ensures { IfOk result (λ text. ∥ IsFileOfSome N.catalogue (string_bytes text) ∥₁) }
     {

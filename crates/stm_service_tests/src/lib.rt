@@ -14,6 +14,8 @@ mod counter;
 #[cfg(test)]
 mod limits;
 #[cfg(test)]
+mod long;
+#[cfg(test)]
 mod observed;
 #[cfg(test)]
 mod played;

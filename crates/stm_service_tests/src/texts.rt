@@ -40,3 +40,19 @@ pub(crate) const TWINS: &str =
 
 /// No transaction.
 pub(crate) const NONE: &str = "(var x 3)";
+
+/// `add` and `add_slowly` tell how often anything was added; `slow_get` waits until there is something that `go` gave,
+/// and tells which number it took. Those named slow are long transactions.
+pub(crate) const SLOW: &str = "(var n 0) (var out 0) (var taken 0) (tx add (set n (add n 1)) n) \
+    (tx add_slowly (seq (repeat 1000 (seq (set n (add n 1)) (set n (sub n 1)))) (set n (add n 1))) n) \
+    (tx go (set out (add out 1)) out) \
+    (tx slow_get (seq (repeat 1000 (seq (set n (add n 1)) (set n (sub n 1)))) \
+    (if (eq out 0) (retry) (seq (set out (sub out 1)) (set taken (add taken 1))))) taken)";
+
+pub(crate) const ADD: TxId = TxId(0);
+
+pub(crate) const ADD_SLOWLY: TxId = TxId(1);
+
+pub(crate) const GO: TxId = TxId(2);
+
+pub(crate) const SLOW_GET: TxId = TxId(3);

@@ -9,9 +9,9 @@ of-requires g c = few_arguments c.catalogue-catalogue.result.now c.args.tx c.arg
 
 pub returns-then-matches-clause-answer : goal.returns-then-matches-clause-answer
 returns-then-matches-clause-answer g c o is =
-    over_answer _ _ _ _ _ _ _ o _ c.turn_in_room-begun.ensures.begins is refl c.of.ensures
+    over_answer _ _ _ _ _ _ _ o _ c.begin-begun.ensures.begins is refl c.of.ensures
 
 pub returns-then-matches-clause-seen : goal.returns-then-matches-clause-seen
 returns-then-matches-clause-seen g c o is =
     tried_seen _ _ _ _ o _ _ _ _ _ _ c.show.ensures.met c.show-2.ensures.met
-    (ap (λ (b : BookView). b.history) c.show.ensures.same) refl c.of.ensures (c.turn_in_room-begun.ensures.entered o is)
+    (ap (λ (b : BookView). b.history) c.show.ensures.same) refl c.of.ensures (c.begin-begun.ensures.entered o is)

@@ -26,8 +26,8 @@ tell-requires-after_bounds g c κs within o n e =
     elim c.match-end.branch [
       | in-Entered w ↦
           let same = same_outcome c.match-end.told w.in-Entered.entered.outcome o _ n w.told-is e in
-          subst (λ (k : Call). ∥ IsAnswer l c.args.job.ticket k o ∥₁) (sym c.call_of.ensures)
-          (subst (λ (x : Outcome). ∥ IsAnswer l c.args.job.ticket (call_of c.args.job) x ∥₁) same (c.requires.answer w.in-Entered.entered w.in-Entered.is))
+          subst (λ (k : Call). ∥ IsAnswer l c.args.job.now.ticket k o ∥₁) (sym c.call_of.ensures)
+          (subst (λ (x : Outcome). ∥ IsAnswer l c.args.job.now.ticket (call_of c.args.job.now) x ∥₁) same (c.requires.answer w.in-Entered.entered w.in-Entered.is))
       | in-Abandoned w ↦ absurd (not_given_up c.match-end.told o n w.told-is e)
     ]
 
@@ -43,7 +43,7 @@ invariant_of-self-2-clause-heard g c =
     let s = c.args.self.now in
     let l = g.N.Naming.catalogue in
     let h = s.store.book.history in
-    let job = call_of c.args.job in
+    let job = call_of c.args.job.now in
     let seat = c.in-Some.seat.now in
     let new = c.tell.new.self in
     let here : IsHeard l job c.match-end.told h =

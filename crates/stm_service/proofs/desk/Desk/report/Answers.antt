@@ -4,5 +4,5 @@ use Rattle.stm_service.proofs.desk.Desk.report.Goals as goal
 
 pub returns-in-Ok : goal.returns-in-Ok
 returns-in-Ok g c =
-    let s = c.args.self.now in
+    let s = c.settle.new.self in
     ∣ (record { book = s.store.book; declared = c.law.ensures.declared ∙ ap declaring s.named; report_is = c.in-Ok.ensures.text }) ∣₁

@@ -1,6 +1,6 @@
 use Rattle.std.specs.BTreeMap.{values}
 use Rattle.stm_service.proofs.Heard.{take_same, all_heard_same}
-use Rattle.stm_service.proofs.desk.Desk.no_turn.Goals as goal
+use Rattle.stm_service.proofs.desk.Desk.take.Goals as goal
 
 pub invariant_of-self-clause-heard : goal.invariant_of-self-clause-heard
 invariant_of-self-clause-heard g c =
