@@ -60,6 +60,6 @@ pub(crate) const GIVING: &str =
 /// first to have so much.
 pub(crate) const BANK: &str =
     "(stm 3)(table acct 4 100)(tx pay (from to n) (seq (put acct from (sub (at acct from) n)) (put acct to (add (at \
-        acct to) n))) (at acct to))(tx all () (skip) (sum acct))(tx wait (n) (if (lt (at acct 0) n) (retry) (seq (put \
-        acct 3 1) (put acct 3 2))) n)(run wait 1 105)(run pay 1 3 0 7)(run all 1)(run pay 1 2 2 5)(run pay 1 1 4 9)(run \
-        pay 1 2 2 0)";
+        acct to) n))) (at acct to)) (tx all () (skip) (sum acct)) (tx wait (n) (if (lt (at acct 0) n) (retry) (seq \
+        (put acct 3 1) (put acct 3 2))) n) (run wait 1 105) (run pay 1 3 0 7)(run all 1)(run pay 1 2 2 5)(run pay 1 \
+        1 4 9)(run pay 1 2 2 0)";

@@ -122,6 +122,27 @@ fn cells_of_tables(rt: HostRuntime) {
                 40 1\nacct[1] 10 3\nacct[2] 250 3\nend\n",
         ),
         (
+            "(stm 3)(table q 3 0)(tx get (i) (seq (if (eq (at q i) 0) (retry) (skip)) (put q i 0)) i)(tx put1 (i v) \
+                (put q i v) v)(run get 1 2)(run put1 1 1 8)(run put1 1 2 9)",
+            "base 0\nentry 1 1 put1 returned 8\nentry 2 2 put1 returned 9\nentry 3 0 get returned 2\nnow 3\nq[1] 8 \
+                1\nq[2] 0 3\nend\n",
+        ),
+        (
+            "(stm 3)(var x 1)(table t 300 7)(tx put (i v) (put t i v) (sum t))(run put 1 299 8)(run put 1 43 6)(run \
+                put 1 299 7)(run put 1 299 7)",
+            "base 0\nx 1 0\nentry 1 0 put returned 2101\nentry 2 1 put returned 2100\nentry 3 2 put returned \
+                2099\nentry 4 3 put returned 2099\nnow 4\nx 1 0\nt[43] 6 2\nt[299] 7 3\nend\n",
+        ),
+    ] {
+        expect_report(&rt, alloc, input, report);
+    }
+}
+
+#[test]
+fn faults_of_tables(rt: HostRuntime) {
+    let alloc = rt.alloc();
+    for (input, report) in [
+        (
             "(stm 3)(table acct 4 100)(tx pay (from to n) (seq (if (lt (at acct from) n) (throw n) (skip)) (put \
                 acct from (sub (at acct from) n)) (put acct to (add (at acct to) n))) (at acct from))(run pay 1 0 4 \
                 60)(run pay 1 0 0 0)",
@@ -141,18 +162,6 @@ fn cells_of_tables(rt: HostRuntime) {
                 1))(run p 1 9 0)(run p 1 -1 1)(run p 1 2 1)(run q 1)",
             "base 0\nentry 1 0 p zerodiv\nentry 2 1 p outside\nentry 3 2 p outside\nentry 4 3 q returned 8\nnow \
                 4\na[1] 6 4\nend\n",
-        ),
-        (
-            "(stm 3)(table q 3 0)(tx get (i) (seq (if (eq (at q i) 0) (retry) (skip)) (put q i 0)) i)(tx put1 (i v) \
-                (put q i v) v)(run get 1 2)(run put1 1 1 8)(run put1 1 2 9)",
-            "base 0\nentry 1 1 put1 returned 8\nentry 2 2 put1 returned 9\nentry 3 0 get returned 2\nnow 3\nq[1] 8 \
-                1\nq[2] 0 3\nend\n",
-        ),
-        (
-            "(stm 3)(var x 1)(table t 300 7)(tx put (i v) (put t i v) (sum t))(run put 1 299 8)(run put 1 43 6)(run \
-                put 1 299 7)(run put 1 299 7)",
-            "base 0\nx 1 0\nentry 1 0 put returned 2101\nentry 2 1 put returned 2100\nentry 3 2 put returned \
-                2099\nentry 4 3 put returned 2099\nnow 4\nx 1 0\nt[43] 6 2\nt[299] 7 3\nend\n",
         ),
     ] {
         expect_report(&rt, alloc, input, report);

@@ -72,8 +72,8 @@ impl<N: Naming, K: Archive + Drop> Desk<N, K> {
         self.settle_and_begin(&call, way)
     }
 
-    /// The beginning of a call, and then the turns of all that it woke. Where the chapter has no room left, what threads
-    /// evaluate just then has its turn before.
+    /// The beginning of a call, and then the turns of all that it woke. Where the chapter has no room left, what
+    /// threads evaluate just then has its turn before.
     fn settle_and_begin(&mut self, call: &Call, way: Way) -> Begun
         requires { IsCallable N.catalogue call.now.tx call.now.arguments }
         ensures begins { Begins N.catalogue self.old.closed (next_ticket self.old.store)
@@ -100,8 +100,8 @@ impl<N: Naming, K: Archive + Drop> Desk<N, K> {
         begun
     }
 
-    /// The beginning of a call: a long one is submitted, and a short one has its first turn. So has a long one that there
-    /// is no room for in the chapter, in the next one.
+    /// The beginning of a call: a long one is submitted, and a short one has its first turn. So has a long one that
+    /// there is no room for in the chapter, in the next one.
     pub(crate) fn begin(&mut self, call: &Call, way: Way) -> Begun
         requires { IsCallable N.catalogue call.now.tx call.now.arguments }
         ensures begins { Begins N.catalogue self.old.closed (next_ticket self.old.store)
