@@ -5,7 +5,7 @@
 //! The kinds of step, in the one order in which they are named everywhere: 1 `LoadClock`,
 //! 2 `LoadVersion`, 3 `LoadValue`, 4 `LoadVersionAgain`; 5 `LockVersion`, 6 `StoreValue`,
 //! 7 `StoreClock`, 8 `ReleaseVersion`; 9 `LoadOwnVersion`.
-ghost use Rattle.std.specs.Prelude.{◌≡◌, ◌+◌, ◌*◌, ◌^◌, ◌<◌, ◌≤◌, true, length, slice_index, IfOk};
+ghost use Rattle.std.specs.Prelude.{◌≡◌, ◌+◌, ◌*◌, ◌^◌, ◌<◌, ◌≤◌, false, true, length, slice_index, IfOk};
 ghost use Rattle.txn_programs.specs.declared.limits.TheConstants.{MAX_VALUES};
 ghost use Rattle.txn_words.specs.Words.{StartsWith};
 ghost use Rattle.txn_words.specs.Stores.{opened, MayLock, MayStore, MayRelease, after_lock, after_value, after_clock};
@@ -25,8 +25,8 @@ use std::alloc::{AllocError, Global};
 use std::marker::Model;
 use std::snapshot::Snapshot;
 
-/// The words under their rule. The table's key is a copy of the first values, which costs nothing
-/// when it runs.
+/// The words under their rule: where nobody reads, the clock's alone. The table's key is a copy of the
+/// first values, which costs nothing when it runs.
 #[derive(Drop)]
 pub(crate) struct Board {
     table: Table<(), Sight, Snapshot<Vec<i64>>, WordsRule, Global>,
@@ -36,7 +36,7 @@ pub(crate) struct Board {
 }
 
 impl Model for Board {
-    ghost use Rattle.std.specs.Prelude.{◌≡◌, ◌+◌, ◌*◌, ◌≤◌};
+    ghost use Rattle.std.specs.Prelude.{◌≡◌, ◌+◌, ◌*◌, ◌<◌, ◌≤◌, true};
     ghost use Rattle.txn_programs.specs.declared.limits.TheConstants.{MAX_VALUES};
     ghost use Rattle.cells.specs.Cells.{CellsId};
 
@@ -44,22 +44,21 @@ impl Model for Board {
 
     ghost view = { λ b. record { table = b.table.shared.table_id; variables = b.variables; are_read = b.are_read } };
 
-    ghost invariant = { λ b.
-        (b.table.shared.table_id.words ≡ 2 * b.variables + 1) × (b.variables ≤ MAX_VALUES) };
+    ghost invariant = { λ b. let words = b.table.shared.table_id.words in
+        (0 < words) × (b.are_read ≡ true → words ≡ 2 * b.variables + 1) × (b.variables ≤ MAX_VALUES) };
 }
 
 impl Board {
-    /// The words of these values, that readers may have seats at or nobody, and the publisher's seat.
+    /// The words of these values, at which readers may have seats, and the publisher's seat.
     pub(crate) fn open(
         alloc: Global,
         words: &[u64],
         values: &Vec<i64>,
-        are_read: bool,
     ) -> Result<(Board, Seat<(), Sight>), AllocError>
         requires words { AreFirstWords values.now.items words.now (length values.now.items) }
         requires variables { length values.now.items ≤ MAX_VALUES }
         ensures board { IfOk result (λ b. b.0.variables ≡ length values.now.items) }
-        ensures read { IfOk result (λ b. b.0.are_read ≡ are_read) }
+        ensures read { IfOk result (λ b. b.0.are_read ≡ true) }
         ensures seat { IfOk result (λ b. (b.1.table_id ≡ b.0.table)
             × (b.1.me.0 ≡ publishing (opened values.now.items))) }
     {
@@ -69,10 +68,24 @@ impl Board {
             Board {
                 table,
                 variables,
-                are_read,
+                are_read: true,
             },
             seat,
         ))
+    }
+
+    /// So many variables that nobody reads: they have no words.
+    pub(crate) fn unread(alloc: Global, variables: usize) -> Result<Board, AllocError>
+        requires { variables ≤ MAX_VALUES }
+        ensures board { IfOk result (λ b. b.variables ≡ variables) }
+        ensures unread { IfOk result (λ b. b.are_read ≡ false) }
+    {
+        let (table, _) = Table::of_words(alloc, &[0], &Snapshot::of(&Vec::new(alloc)))?;
+        Ok(Board {
+            table,
+            variables,
+            are_read: false,
+        })
     }
 
     /// 1. A reader loads the clock, as it begins.
@@ -124,6 +137,7 @@ impl Board {
     pub(crate) fn lock_version(&self, seat: &mut Seat<(), Sight>, x: usize, stamp: u64)
         requires own { seat.old.table_id ≡ self.now.table }
         requires publisher { IsPublisher seat.old }
+        requires read { self.now.are_read ≡ true }
         requires exists { x < self.now.variables }
         requires may { MayLock (commit_of seat.old.me.0) x }
         requires stamp { (stamp ≡ 2 * slice_index (commit_of seat.old.me.0).versions x)
@@ -140,6 +154,7 @@ impl Board {
     pub(crate) fn store_value(&self, seat: &mut Seat<(), Sight>, x: usize, value: i64)
         requires own { seat.old.table_id ≡ self.now.table }
         requires publisher { IsPublisher seat.old }
+        requires read { self.now.are_read ≡ true }
         requires exists { x < self.now.variables }
         requires may { MayStore (commit_of seat.old.me.0) x }
         ensures seat { IsSameSeat seat.old seat.new }
@@ -166,6 +181,7 @@ impl Board {
     pub(crate) fn release_version(&self, seat: &mut Seat<(), Sight>, x: usize, number: u64)
         requires own { seat.old.table_id ≡ self.now.table }
         requires publisher { IsPublisher seat.old }
+        requires read { self.now.are_read ≡ true }
         requires exists { x < self.now.variables }
         requires may { MayRelease (commit_of seat.old.me.0) x }
         requires number { (number + 1 ≡ length (commit_of seat.old.me.0).history)
@@ -182,6 +198,7 @@ impl Board {
     pub(crate) fn load_own_version(&self, seat: &mut Seat<(), Sight>, x: usize) -> u64
         requires own { seat.old.table_id ≡ self.now.table }
         requires publisher { IsPublisher seat.old }
+        requires read { self.now.are_read ≡ true }
         requires exists { x < self.now.variables }
         requires may { MayLock (commit_of seat.old.me.0) x }
         ensures seat { IsSameSeat seat.old seat.new }

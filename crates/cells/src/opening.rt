@@ -38,7 +38,7 @@ impl Cells {
         ensures passes { IfOk result (λ r.
             r.2.items ≡ replicate readers (new_pass r.0.table (values.now ∷ []))) }
     {
-        let (cells, mut seat, _) = lay(alloc, values, true)?;
+        let (cells, mut seat) = lay(alloc, values)?;
         let passes = enroll(alloc, &cells.board, &mut seat, readers)?;
         let writer = Writer { seat, number: 0 };
         let how = How::Stores(writer);
@@ -58,29 +58,26 @@ impl Cells {
         ensures publisher { IfOk result (λ r.
             r.1 ≡ record { cells = r.0; history = values.now ∷ []; stores = 0 }) }
     {
-        let (cells, _, first) = lay(alloc, values, false)?;
+        let board = Board::unread(alloc, values.len())?;
+        let cells = Cells { board };
+        let mut first = Vec::with_capacity(alloc, values.len())?;
+        first.extend_from_slice(values)?;
         let how = How::Keeps(Keeper::open(&cells, first));
         Ok((cells, Publisher { how }))
     }
 }
 
-// The cells of these values, which are read or not, with the publisher's seat, and a copy of the
-// values.
-fn lay(
-    alloc: Global,
-    values: &[i64],
-    are_read: bool,
-) -> Result<(Cells, Seat<(), Sight>, Vec<i64>), AllocError>
+// The cells of these values, which are read, and the publisher's seat.
+fn lay(alloc: Global, values: &[i64]) -> Result<(Cells, Seat<(), Sight>), AllocError>
     requires { length values.now ≤ MAX_VALUES }
-    ensures cells { IfOk result (λ r. (r.0.variables ≡ length values.now) × (r.0.are_read ≡ are_read)) }
+    ensures cells { IfOk result (λ r. (r.0.variables ≡ length values.now) × (r.0.are_read ≡ true)) }
     ensures seat { IfOk result (λ r. (r.1.table_id ≡ r.0.table) × (r.1.me.0 ≡ publishing (opened values.now))) }
-    ensures values { IfOk result (λ r. r.2.items ≡ values.now) }
 {
     let words = first_words(alloc, values)?;
     let mut first = Vec::with_capacity(alloc, values.len())?;
     first.extend_from_slice(values)?;
-    let (board, seat) = Board::open(alloc, &words, &first, are_read)?;
-    Ok((Cells { board }, seat, first))
+    let (board, seat) = Board::open(alloc, &words, &first)?;
+    Ok((Cells { board }, seat))
 }
 
 // The words of these values: the clock and each version are 0.

@@ -1,6 +1,6 @@
 //! The stores of a publish, kind by kind. In each contract `c` is what was stored before the call. A
 //! write whose value is the present one stores nothing.
-ghost use Rattle.std.specs.Prelude.{◌≡◌, ◌≢◌, ℕ, ◌+◌, ◌-◌, ◌^◌, ◌<◌, ◌≤◌, false, Bool, length, slice_index};
+ghost use Rattle.std.specs.Prelude.{◌≡◌, ◌≢◌, ℕ, ◌+◌, ◌-◌, ◌^◌, ◌<◌, ◌≤◌, false, true, Bool, length, slice_index};
 ghost use Rattle.std.specs.Prelude.{slice_index_or};
 ghost use Rattle.txn_words.specs.Words.{state_value, state_of, last_state};
 ghost use Rattle.txn_words.specs.Stores.{MayLock, id_of, after_lock};
@@ -23,6 +23,7 @@ pub(crate) fn lock_all(
 )
     requires table { IsSeated seat.old board.now.table
         × (board.now.variables ≡ length values.now) }
+    requires read { board.now.are_read ≡ true }
     requires present { values.now ≡ (commit_of seat.old.me.0).values }
     requires writes { AreWrites values.now writes.now }
     requires free { let c = commit_of seat.old.me.0 in
@@ -44,6 +45,7 @@ pub(crate) fn lock_all(
 fn lock(board: &Board, seat: &mut Seat<(), Sight>, x: usize)
     requires own { seat.old.table_id ≡ board.now.table }
     requires publisher { IsPublisher seat.old }
+    requires read { board.now.are_read ≡ true }
     requires exists { x < board.now.variables }
     requires may { MayLock (commit_of seat.old.me.0) x }
     requires version { slice_index (commit_of seat.old.me.0).versions x < 2 ^ 62 }
@@ -63,6 +65,7 @@ pub(crate) fn store_all(
 )
     requires table { IsSeated seat.old board.now.table
         × (board.now.variables ≡ length values.now) }
+    requires read { board.now.are_read ≡ true }
     requires size { length (commit_of seat.old.me.0).values ≡ length values.now }
     requires writes { AreWrites values.now writes.now }
     requires locked { AreLocked (commit_of seat.old.me.0) (changes_of values.now writes.now) }
@@ -87,6 +90,7 @@ pub(crate) fn release_all(
 )
     requires table { IsSeated seat.old board.now.table
         × (board.now.variables ≡ length values.now) }
+    requires read { board.now.are_read ≡ true }
     requires size { length (commit_of seat.old.me.0).values ≡ length values.now }
     requires writes { AreWrites values.now writes.now }
     requires locked { AreLocked (commit_of seat.old.me.0) (changes_of values.now writes.now) }

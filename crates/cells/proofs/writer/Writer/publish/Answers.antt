@@ -271,3 +271,15 @@ returns-clause-stores c =
     let each : stores_of c.args.self.now.cells (length (changes_of (last_state c.args.self.now.history) c.args.writes.now)) ≡ 3 * length (changes_of (last_state c.args.self.now.history) c.args.writes.now) + 1 =
     ap (λ v. stores_of v.cells (length (changes_of (last_state c.args.self.now.history) c.args.writes.now))) (sym c.self.view_is) in
     omega (arith, count, before, here, each)
+
+pub lock_all-requires-clause-read : goal.lock_all-requires-clause-read
+lock_all-requires-clause-read c =
+    let ids = ap (λ v. v.cells) c.self.view_is ∙ (c.requires.own ∙ sym c.cells.view_is) in sym (ap (λ (z : CellsId). z.are_read) ids)
+
+pub store_all-requires-clause-read : goal.store_all-requires-clause-read
+store_all-requires-clause-read c =
+    let ids = ap (λ v. v.cells) c.self.view_is ∙ (c.requires.own ∙ sym c.cells.view_is) in sym (ap (λ (z : CellsId). z.are_read) ids)
+
+pub release_all-requires-clause-read : goal.release_all-requires-clause-read
+release_all-requires-clause-read c =
+    let ids = ap (λ v. v.cells) c.self.view_is ∙ (c.requires.own ∙ sym c.cells.view_is) in sym (ap (λ (z : CellsId). z.are_read) ids)
