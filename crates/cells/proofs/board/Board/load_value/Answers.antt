@@ -7,7 +7,7 @@ use Rattle.cells.proofs.board.Board.load_value.Goals as goal
 pub load-requires : goal.load-requires
 load-requires c =
     let ids = c.requires.own ∙ sym c.self.view_is in let table = ap (λ (z : CellsId). z.table) ids in let count = ap (λ (z : CellsId). z.variables) ids in
-    let wide = c.self.invariant.1.0 (sym (ap (λ (z : CellsId). z.are_read) (c.requires.own ∙ sym c.self.view_is))) in let exists = c.requires.exists in let all = ap (λ (z : CellsId). z.variables) (sym c.self.view_is) in
+    let wide = c.self.invariant.1 (sym (ap (λ (z : CellsId). z.are_read) (c.requires.own ∙ sym c.self.view_is))) in let exists = c.requires.exists in let all = ap (λ (z : CellsId). z.variables) (sym c.self.view_is) in
     let after = c.requires.after in
     (table, omega arith, values_read _ _ _ (record_of c.args.seat.now.me.0) c.args.x after.1.0 c.requires.reader after.0 after.1.1)
 

@@ -8,7 +8,7 @@ use Rattle.cells.proofs.board.Board.lock_version.Goals as goal
 
 pub store-requires : goal.store-requires
 store-requires c =
-    let table = c.requires.own ∙ sym (ap (λ (z : CellsId). z.table) c.self.view_is) in let wide = c.self.invariant.1.0 (ap (λ (z : CellsId). z.are_read) c.self.view_is ∙ c.requires.read) in
+    let table = c.requires.own ∙ sym (ap (λ (z : CellsId). z.table) c.self.view_is) in let wide = c.self.invariant.1 (ap (λ (z : CellsId). z.are_read) c.self.view_is ∙ c.requires.read) in
     let exists = c.requires.exists in let all = ap (λ (z : CellsId). z.variables) (sym c.self.view_is) in
     (table, omega arith, locks_kept _ _ _ (commit_of c.args.seat.now.me.0) c.args.x _ c.requires.publisher c.requires.may (ap (λ (v : ℕ). v + 1) c.requires.stamp.0))
 
