@@ -63,7 +63,10 @@ fn run_at_once<'a>(
 {
     let (name, rest) = name_of(bytes)?;
     let (numeral, rest) = int_of(rest)?;
-    let (arguments, rest) = arguments_at_once(file_form, rest)?;
+    let (arguments, rest) = match arguments_at_once(file_form, rest) {
+        Ok(read) => read,
+        Err(fault) => return Err(fault),
+    };
     let rest = close(rest)?;
     let place = place_in(names, name)?;
     let count = numeral.count()?;
@@ -89,9 +92,13 @@ pub(crate) fn calls_at_once<'a>(
     let mut made = Vec::new(alloc);
     let mut rest = bytes;
     'runs: while let Ok(inside) = form(rest, "run") {
-        let (call, after) = run_at_once(file_form, names, inside)?;
-        made.push(call)?;
-        rest = after;
+        match run_at_once(file_form, names, inside) {
+            Ok((call, after)) => {
+                made.push(call)?;
+                rest = after;
+            }
+            Err(fault) => return Err(fault),
+        }
     }
     Ok((made, rest))
 }
