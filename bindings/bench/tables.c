@@ -1,8 +1,8 @@
 /* What tables cost a host: prints one line of names and numbers.
  *
  *     tables      a store of 1,000,000 cells: milliseconds to read its file and to open it, and how many bytes a cell its
- *                 blocks have, and had at most while it was opened, more than those of a store of 1,000 cells;
- *                 nanoseconds of a turn that transfers between 1,000 accounts, between 1,000,000, and of one that does
+ *                 blocks have, and had at most while it was opened, more than those of a store of 1,000 cells, both for
+ *                 no worker and for one; nanoseconds of a turn that transfers between 1,000 accounts, between 1,000,000, and of one that does
  *                 nothing; and how many more a turn takes for each cell of 1,000 that it sums, or whose least or
  *                 greatest it finds
  *     tables TURN TIMES      only has this turn so often, for who counts instructions: idle, sum, min, max, pay or large
@@ -73,15 +73,15 @@ static stm_lender lender;
 static size_t opened_with;
 static double read_ns, open_ns;
 
-/* A bank of so many accounts, of which few enough can be summed too. */
-static void opens(int accounts) {
+/* A bank of so many accounts, of which few enough can be summed too, for so many workers. */
+static void opens(int accounts, size_t workers) {
     static char text[2048];
     snprintf(text, sizeof text, "(stm 3)(table acct %d 100)%s%s", accounts, PAY, accounts <= FEW ? FOLDS : "");
     opened_with = most = held;
     double begin = now();
     if (stm_read((const uint8_t *)text, strlen(text), &program) != STM_DONE) fails("no program");
     double read = now();
-    if (stm_open_with_room(&program, 1, 0, ROOM, &store) != STM_DONE) fails("no store");
+    if (stm_open_with_room(&program, workers, 0, ROOM, &store) != STM_DONE) fails("no store");
     open_ns = now() - read;
     read_ns = read - begin;
     if (stm_open_lender(&store, &lender) != STM_DONE) fails("no lender");
@@ -128,27 +128,35 @@ static double transfers(uint64_t accounts, int times) {
 }
 
 /* How many bytes the blocks of a store have, and had at most. */
-static void weighs(int accounts, double *bytes, double *most_bytes) {
-    opens(accounts);
+static void weighs(int accounts, size_t workers, double *bytes, double *most_bytes) {
+    opens(accounts, workers);
     *bytes = (double)(held - opened_with);
     *most_bytes = (double)(most - opened_with);
     lets_go();
 }
 
-static void prints_large(void) {
+/* The same for each cell of many; and how long the store takes. The name of each number begins so. */
+static void prints_opening(const char *name, size_t workers) {
     double few, most_few, many, most_many, more = CELLS - FEW;
-    weighs(FEW, &few, &most_few);
-    weighs(CELLS, &many, &most_many);
-    printf("cell_bytes %.1f most_cell_bytes %.1f", (many - few) / more, (most_many - most_few) / more);
-    opens(CELLS);
-    printf(" read_ms %.3f open_ms %.3f", read_ns / 1e6, open_ns / 1e6);
+    weighs(FEW, workers, &few, &most_few);
+    weighs(CELLS, workers, &many, &most_many);
+    printf("%scell_bytes %.1f %smost_cell_bytes %.1f ", name, (many - few) / more, name, (most_many - most_few) / more);
+    opens(CELLS, workers);
+    printf("%sread_ms %.3f %sopen_ms %.3f ", name, read_ns / 1e6, name, open_ns / 1e6);
+    lets_go();
+}
+
+static void prints_large(void) {
+    prints_opening("", 0);
+    prints_opening("worker_", 1);
+    opens(CELLS, 0);
     transfers(CELLS, TIMES / 4);
-    printf(" large_ns %.1f", transfers(CELLS, TIMES));
+    printf("large_ns %.1f", transfers(CELLS, TIMES));
     lets_go();
 }
 
 static void prints_small(void) {
-    opens(FEW);
+    opens(FEW, 0);
     double idle = each("idle", TIMES);
     printf(" transfer_ns %.1f idle_ns %.1f", transfers(FEW, TIMES), idle);
     printf(" sum_ns %.3f", (each("sum", SUMS) - idle) / FEW);
@@ -166,7 +174,7 @@ int main(int count, char **words) {
     int is_large = count == 3 && strcmp(words[1], "large") == 0, is_pay = count == 3 && strcmp(words[1], "pay") == 0;
     int times = count == 3 ? atoi(words[2]) : 0;
     if (times < 1) fails("tables [TURN TIMES]");
-    opens(is_large ? CELLS : FEW);
+    opens(is_large ? CELLS : FEW, 0);
     if (is_large || is_pay) transfers(is_large ? CELLS : FEW, times);
     else each(words[1], times);
     lets_go();
