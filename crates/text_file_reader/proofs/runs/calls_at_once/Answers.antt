@@ -19,7 +19,7 @@ runs-preserved c =
     let form = c.args.file_form in
     let ts = tokens c.runs.rest.now in
     let inside = tokens c.in-Ok.inside.now in
-    rw c.in_ok-push.ensures.items (one_made (begins word) (run_at form) (run_in (texts c.args.names.now.keys)) (run_shortens form) (all_of (begins word) (run_at form) (tokens c.args.bytes.now)) c.runs.made.items ts (tokens c.in-Ok-run_at_once.after.now) c.in-Ok-run_at_once.call c.runs.invariant
+    rw c.in_ok-push-in-Ok-run_at_once.ensures.items (one_made (begins word) (run_at form) (run_in (texts c.args.names.now.keys)) (run_shortens form) (all_of (begins word) (run_at form) (tokens c.args.bytes.now)) c.runs.made.items ts (tokens c.in-Ok-run_at_once.after.now) c.in-Ok-run_at_once.call c.runs.invariant
     (begun word ts inside c.in-Ok.ensures.value) (behind_word form (run_in (texts c.args.names.now.keys)) ts inside (tokens c.in-Ok-run_at_once.after.now) c.in-Ok-run_at_once.call c.in-Ok.ensures.value c.in-Ok-run_at_once.ensures.value))
 
 pub returns : goal.returns
