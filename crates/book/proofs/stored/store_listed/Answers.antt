@@ -7,7 +7,7 @@ use Rattle.book.specs.Changed.{AreAbove, AreListed}
 use Rattle.book.specs.declared.since.Since.{Since}
 use Rattle.book.specs.declared.stored.Stored.{Stored as Kept}
 use Rattle.book.proofs.Changed.{listed_next}
-use Rattle.book.proofs.Storing.{Stored, stored_first, stored_next, stored_same, stored_as}
+use Rattle.book.proofs.Storing.{present_value, Stored, stored_first, stored_next, stored_same, stored_as}
 use Rattle.book.proofs.stored.store_listed.Goals.{then-index-write, else-index-write}
 use Rattle.book.proofs.stored.store_listed.Goals as goal
 
@@ -29,9 +29,11 @@ loop-write-preserved c =
     let so_far = c.loop-write.invariant.0 in
     let both : Kept → Since → Type 0 = λ p s. Stored n writes old was (i + 1) p.values.items p.versions.items × AreListed base p.values.items p.versions.items s in
     let exact : to_z w64 (of_z w64 (new_of writes i)) ≡ new_of writes i = grind (arith, to_z-of_z) in
+    let within : x < length values = omega (arith, c.requires.writes.exist i c.loop-write-test.true, so_far.size) in
+    let read : state_value values x ≡ c.index.result.now = present_value values x c.index.result.now within c.index.ensures in
     elim c.if-index-write.branch [
       | then-index-write w ↦
-          let changed : state_value values x ≢ new_of writes i = λ e. w.if-index-write.true (ap (of_z w64) e) in
+          let changed : state_value values x ≢ new_of writes i = λ e. w.if-index-write.true (ap (of_z w64) (sym read ∙ e)) in
           let known : x < length versions = omega (arith, c.requires.writes.exist i c.loop-write-test.true, so_far.versions_size) in
           let of_base = subst (λ (vs : List ℕ). AreAbove base.number (set vs x n) w.note.new.list.items) w.deref.ensures.value (w.note.ensures.listed n c.requires.later) in
           let of_chapter = subst (λ (vs : List ℕ). AreAbove 0 (set vs x n) w.note-then-index-write.new.list.items) w.deref-then-index-write.ensures.value (w.note-then-index-write.ensures.listed n (omega (arith, c.requires.later))) in
@@ -42,7 +44,8 @@ loop-write-preserved c =
             listed_next base values versions c.loop-write.since now x n _ c.loop-write.invariant.1 known (omega (arith, so_far.size, so_far.versions_size)) c.requires.later of_base of_chapter w.note.ensures.capacity w.note-then-index-write.ensures.capacity,
           ))
       | else-index-write w ↦
-          let same : state_value values x ≡ new_of writes i = grind (arith, to_z-of_z, w.if-index-write.false) in
+          let agrees : c.index.result.now ≡ new_of writes i = grind (arith, to_z-of_z, w.if-index-write.false) in
+          let same : state_value values x ≡ new_of writes i = read ∙ agrees in
           subst (λ (p : Kept). both p c.if-index-write.since) (sym w.present-is)
           (subst (λ (s : Since). both c.loop-write.present s) (sym w.since-is)
           (stored_same n writes old was i values versions c.loop-write-test.true same so_far, c.loop-write.invariant.1))
