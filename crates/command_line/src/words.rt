@@ -48,7 +48,7 @@ pub struct Played<'a> {
     pub schedule: &'a str,
 }
 
-const VERSION: &str = "0.2.0";
+const VERSION: &str = "0.3.0";
 
 const ABOUT: &str =
     "Software transactional memory with retry and orElse: runs the transactions of a file, reports what they \

@@ -402,7 +402,7 @@ fn expect_version(rt: &impl Abort, alloc: Global, line: &str, version: &str) {
 
 #[test]
 fn the_version_is_shown(rt: HostRuntime) {
-    expect_version(&rt, rt.alloc(), "stm --version", "stm 0.2.0\n");
+    expect_version(&rt, rt.alloc(), "stm --version", "stm 0.3.0\n");
 }
 
 /// A command line asks to see the orders of `a.stm`, of so many states, or for a report to this end.
