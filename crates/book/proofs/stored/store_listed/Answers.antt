@@ -11,6 +11,10 @@ use Rattle.book.proofs.Storing.{present_value, Stored, stored_first, stored_next
 use Rattle.book.proofs.stored.store_listed.Goals.{then-index-write, else-index-write}
 use Rattle.book.proofs.stored.store_listed.Goals as goal
 
+-- what holds of both holds of what they are
+moved : (both : Kept → Since → Type 0) (p q : Kept) (s t : Since) → p ≡ q → s ≡ t → both q t → both p s
+moved both p q s t e f h = subst (λ (z : Kept). both z s) (sym e) (subst (λ (z : Since). both q z) (sym f) h)
+
 pub loop-write-init : goal.loop-write-init
 loop-write-init c =
     (stored_first c.args.number c.args.writes.now c.args.present.now.values.items c.args.present.now.versions.items c.requires.sizes, c.requires.since)
@@ -38,15 +42,12 @@ loop-write-preserved c =
           let of_base = subst (λ (vs : List ℕ). AreAbove base.number (set vs x n) w.note.new.list.items) w.deref.ensures.value (w.note.ensures.listed n c.requires.later) in
           let of_chapter = subst (λ (vs : List ℕ). AreAbove 0 (set vs x n) w.note-then-index-write.new.list.items) w.deref-then-index-write.ensures.value (w.note-then-index-write.ensures.listed n (omega (arith, c.requires.later))) in
           let now : Since = record c.loop-write.since { base = w.note.new.list; chapter = w.note-then-index-write.new.list } in
-          subst (λ (p : Kept). both p c.if-index-write.since) (sym w.present-is)
-          (subst (λ (s : Since). both _ s) (sym w.since-is) (
+          moved both _ _ _ _ w.present-is w.since-is (
             subst (λ (v : ℤ). Stored n writes old was (i + 1) (set values x v) (set versions x n)) (sym exact) (stored_next n writes old was i values versions c.requires.writes c.loop-write-test.true changed so_far),
-            listed_next base values versions c.loop-write.since now x n _ c.loop-write.invariant.1 known (omega (arith, so_far.size, so_far.versions_size)) c.requires.later of_base of_chapter w.note.ensures.capacity w.note-then-index-write.ensures.capacity,
-          ))
+            listed_next base values versions c.loop-write.since now x n (to_z w64 (of_z w64 (new_of writes i))) c.loop-write.invariant.1 known (omega (arith, so_far.size, so_far.versions_size)) c.requires.later of_base of_chapter w.note.ensures.capacity w.note-then-index-write.ensures.capacity,
+          )
       | else-index-write w ↦
           let agrees : c.index.result.now ≡ new_of writes i = grind (arith, to_z-of_z, w.if-index-write.false) in
           let same : state_value values x ≡ new_of writes i = read ∙ agrees in
-          subst (λ (p : Kept). both p c.if-index-write.since) (sym w.present-is)
-          (subst (λ (s : Since). both c.loop-write.present s) (sym w.since-is)
-          (stored_same n writes old was i values versions c.loop-write-test.true same so_far, c.loop-write.invariant.1))
+          moved both _ _ _ _ w.present-is w.since-is (stored_same n writes old was i values versions c.loop-write-test.true same so_far, c.loop-write.invariant.1)
     ]
