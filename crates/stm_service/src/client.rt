@@ -70,6 +70,7 @@ impl<N: Naming> Client<N> {
     {
         self.worker.observe(tx, arguments)
     }
+
     /// Evaluates the job on one state of the cells, with no lock. `true`: it ended there, and is to be brought to the
     /// store. `false`: others changed meanwhile what it read, or a growth was refused.
     pub(crate) fn try_job(&mut self, job: &Job) -> bool
