@@ -1,9 +1,21 @@
--- The history of states that nobody reads.
-use Rattle.std.specs.Prelude.{[], ◌∷◌, ◌++◌, List, ℤ}
+-- A history of states, told by how the last of them came about.
+use Rattle.std.specs.Prelude.{[], ◌∷◌, ◌++◌, List, ℤ, slice_set}
 use Rattle.cells.specs.declared.history.Past.{Past}
-use Rattle.cells.specs.declared.history.Past.TheVariants.{First, After'}
+use Rattle.cells.specs.declared.history.Past.TheVariants.{Empty, Grown', Again', Put'}
 
--- the states that there were, the oldest first
+-- the last state
+abbrev pub latest : Past → List ℤ
+latest Empty = []
+latest (Grown' marker past value) = latest past ++ value ∷ []
+latest (Again' marker past) = latest past
+latest (Put' marker past variable value) = slice_set (latest past) variable.0 value
+
+-- those before it, the oldest first
+abbrev pub earlier : Past → List (List ℤ)
+earlier Empty = []
+earlier (Grown' marker past value) = earlier past
+earlier (Again' marker past) = earlier past ++ latest past ∷ []
+earlier (Put' marker past variable value) = earlier past
+
 abbrev pub states : Past → List (List ℤ)
-states (First values) = values.value.items ∷ []
-states (After' marker past values) = states past ++ values.value.items ∷ []
+states past = earlier past ++ latest past ∷ []

@@ -42,8 +42,7 @@ pub record IsResting (c : Commit) (number : ℕ) : Type 0 where
   pub settled : (c.storing ≡ false) × (c.values ≡ last_state c.history)
   pub sized : (length c.versions ≡ length c.values) × (length c.locked ≡ length c.values)
 
--- Nobody reads the cells z. `values` are the last state of the history, and `number` is its number.
-pub record IsUnread (z : CellsId) (history : List (List ℤ)) (number : ℕ) (values : List ℤ) : Type 0 where
+-- Nobody reads the cells z, and `number` is that of the last state of the history.
+pub record IsUnread (z : CellsId) (history : List (List ℤ)) (number : ℕ) : Type 0 where
   pub unread : z.are_read ≡ false
   pub counted : number + 1 ≡ length history
-  pub settled : values ≡ last_state history

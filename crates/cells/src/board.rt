@@ -15,6 +15,7 @@ ghost use Rattle.cells.specs.Sight.{publishing, reading, commit_of, record_of};
 ghost use Rattle.cells.specs.Private.{AreFirstWords, IsPublisher, IsReader, IsSameSeat, HasBegun, HasSampled};
 ghost use Rattle.cells.specs.Private.{HasVersion, HasValue, reader_cells};
 
+use crate::history::History;
 use crate::rule::{
     Enroll, Leave, LoadClock, LoadClockTogether, LoadOwnVersion, LoadValue, LoadVersion,
     LoadVersionAgain, LockVersion, Part, ReleaseVersion, StoreClock, StoreValue, Take, WordsRule,
@@ -23,13 +24,12 @@ use crate::sight::Sight;
 use atomic_table::{Seat, Table};
 use std::alloc::{AllocError, Global};
 use std::marker::Model;
-use std::snapshot::Snapshot;
 
-/// The words under their rule: where nobody reads, the clock's alone. The table's key is a copy of the
-/// first values, which costs nothing when it runs.
+/// The words under their rule: where nobody reads, the clock's alone. The table's key is the first
+/// state, which costs nothing when it runs.
 #[derive(Drop)]
 pub(crate) struct Board {
-    table: Table<(), Sight, Snapshot<Vec<i64>>, WordsRule, Global>,
+    table: Table<(), Sight, History, WordsRule, Global>,
     variables: usize,
     /// Whether readers may have seats.
     are_read: bool,
@@ -53,16 +53,16 @@ impl Board {
     pub(crate) fn open(
         alloc: Global,
         words: &[u64],
-        values: &Vec<i64>,
+        values: &[i64],
     ) -> Result<(Board, Seat<(), Sight>), AllocError>
-        requires words { AreFirstWords values.now.items words.now (length values.now.items) }
-        requires variables { length values.now.items ≤ MAX_VALUES }
-        ensures board { IfOk result (λ b. b.0.variables ≡ length values.now.items) }
+        requires words { AreFirstWords values.now words.now (length values.now) }
+        requires variables { length values.now ≤ MAX_VALUES }
+        ensures board { IfOk result (λ b. b.0.variables ≡ length values.now) }
         ensures read { IfOk result (λ b. b.0.are_read ≡ true) }
         ensures seat { IfOk result (λ b. (b.1.table_id ≡ b.0.table)
-            × (b.1.me.0 ≡ publishing (opened values.now.items))) }
+            × (b.1.me.0 ≡ publishing (opened values.now))) }
     {
-        let (table, seat) = Table::of_words(alloc, words, &Snapshot::of(values))?;
+        let (table, seat) = Table::of_words(alloc, words, &History::open(values))?;
         let variables = values.len();
         Ok((
             Board {
@@ -80,7 +80,7 @@ impl Board {
         ensures board { IfOk result (λ b. b.variables ≡ variables) }
         ensures unread { IfOk result (λ b. b.are_read ≡ false) }
     {
-        let (table, _) = Table::of_words(alloc, &[0], &Snapshot::of(&Vec::new(alloc)))?;
+        let (table, _) = Table::of_words(alloc, &[0], &History::open(&[]))?;
         Ok(Board {
             table,
             variables,

@@ -1,8 +1,8 @@
 //! What publishes to cells that nobody reads.
-ghost use Rattle.std.specs.Prelude.{◌≡◌, ◌<◌, ◌+◌, ◌^◌, ◌≤◌, [], ◌∷◌, ◌++◌, ℕ, false, length};
+ghost use Rattle.std.specs.Prelude.{◌≡◌, ◌+◌, ◌^◌, ◌≤◌, [], ◌∷◌, ◌++◌, false, length};
 ghost use Rattle.txn_words.specs.Words.{last_state};
-ghost use Rattle.txn_words.specs.Stores.{id_of, with_changes};
-ghost use Rattle.cells.specs.Publishing.{stores_of, AreWrites, changes_of};
+ghost use Rattle.txn_words.specs.Stores.{with_changes};
+ghost use Rattle.cells.specs.Publishing.{stores_of, changes_of};
 
 use crate::cells::Cells;
 use crate::history::History;
@@ -10,13 +10,12 @@ use std::marker::Model;
 use std::snapshot::Snapshot;
 use txn_programs::VarId;
 
-/// The publisher of cells that nobody reads. It keeps the last state, and all others for clauses
-/// alone. It stores no word.
+/// The publisher of cells that nobody reads. It keeps the number of the last state, and the states
+/// for clauses alone. It stores no word.
 #[derive(Drop)]
 pub(crate) struct Keeper {
     cells: Snapshot<Cells>,
     number: u64,
-    values: Vec<i64>,
     history: History,
 }
 
@@ -27,20 +26,19 @@ impl Model for Keeper {
 
     ghost view = { λ k. record { cells = k.cells.value; history = k.history; stores = 0 } };
 
-    ghost invariant = { λ k. IsUnread k.cells.value k.history k.number k.values.items };
+    ghost invariant = { λ k. IsUnread k.cells.value k.history k.number };
 }
 
 impl Keeper {
     /// The publisher of these cells, to which nothing but these values was published.
-    pub(crate) fn open(cells: &Cells, values: Vec<i64>) -> Keeper
+    pub(crate) fn open(cells: &Cells, values: &[i64]) -> Keeper
         requires unread { cells.now.are_read ≡ false }
-        ensures { result ≡ record { cells = cells.now; history = values.items ∷ []; stores = 0 } }
+        ensures { result ≡ record { cells = cells.now; history = values.now ∷ []; stores = 0 } }
     {
         Keeper {
             cells: Snapshot::of(cells),
             number: 0,
-            history: History::open(&values),
-            values,
+            history: History::open(values),
         }
     }
 
@@ -61,7 +59,6 @@ impl Keeper {
 
     /// Adds one state to the history, the last one with these writes.
     pub(crate) fn publish(&mut self, writes: &[(VarId, i64)])
-        requires writes { AreWrites (last_state self.old.history) writes.now }
         requires room { length self.old.history ≤ 2 ^ 62 }
         ensures cells { self.new.cells ≡ self.old.cells }
         ensures history { self.new.history
@@ -69,18 +66,7 @@ impl Keeper {
         ensures stores { self.new.stores ≡ self.old.stores + stores_of self.old.cells
             (length (changes_of (last_state self.old.history) writes.now)) }
     {
-        put(&mut self.values, writes);
-        self.history.add(&self.values);
+        self.history.add(writes);
         self.number += 1;
-    }
-}
-
-/// Puts the writes into the values.
-fn put(values: &mut Vec<i64>, writes: &[(VarId, i64)])
-    requires { (i : ℕ) → i < length writes.now → id_of writes.now i < length values.old.items }
-    ensures { values.new.items ≡ with_changes values.old.items writes.now }
-{
-    for write in writes {
-        values[write.0.0 as usize] = write.1;
     }
 }

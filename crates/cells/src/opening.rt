@@ -60,9 +60,7 @@ impl Cells {
     {
         let board = Board::unread(alloc, values.len())?;
         let cells = Cells { board };
-        let mut first = Vec::with_capacity(alloc, values.len())?;
-        first.extend_from_slice(values)?;
-        let how = How::Keeps(Keeper::open(&cells, first));
+        let how = How::Keeps(Keeper::open(&cells, values));
         Ok((cells, Publisher { how }))
     }
 }
@@ -74,9 +72,7 @@ fn lay(alloc: Global, values: &[i64]) -> Result<(Cells, Seat<(), Sight>), AllocE
     ensures seat { IfOk result (λ r. (r.1.table_id ≡ r.0.table) × (r.1.me.0 ≡ publishing (opened values.now))) }
 {
     let words = first_words(alloc, values)?;
-    let mut first = Vec::with_capacity(alloc, values.len())?;
-    first.extend_from_slice(values)?;
-    let (board, seat) = Board::open(alloc, &words, &first)?;
+    let (board, seat) = Board::open(alloc, &words, values)?;
     Ok((Cells { board }, seat))
 }
 

@@ -1,20 +1,21 @@
 //! The rule of the shared words, and the nine kinds of step on them. What a step tells is in
 //! `specs/Steps.antt`.
+use crate::history::History;
 use crate::sight::Sight;
 use atomic_table::{Join, Play, Split, TableRule};
-use std::snapshot::Snapshot;
 
 /// Its rule is `WordsHold`, and the first publisher has stored one state.
 pub struct WordsRule;
 
-impl TableRule<(), Sight, Snapshot<Vec<i64>>> for WordsRule {
+impl TableRule<(), Sight, History> for WordsRule {
+    ghost use Rattle.txn_words.specs.Words.{last_state};
     ghost use Rattle.txn_words.specs.Stores.{opened};
     ghost use Rattle.cells.specs.Rule.{WordsHold};
     ghost use Rattle.cells.specs.Sight.{publishing};
 
     ghost holds = { λ _. WordsHold };
 
-    ghost first = { λ key. publishing (opened key.value.items) };
+    ghost first = { λ key. publishing (opened (last_state key)) };
 }
 
 /// A reader loads the clock, as it begins.

@@ -1,7 +1,7 @@
-use Rattle.std.proofs.Common.{◌≡◌, ◌≢◌, ℕ, ◌+◌, ◌-◌, ◌*◌, ◌<◌, [], ◌∷◌, ◌++◌, Bool, true, false, List, ℤ, length, get_or, sym, refl, ap, ◌∙◌, subst, arith}
+use Rattle.std.proofs.Common.{◌≡◌, ◌≢◌, ℕ, ◌+◌, ◌-◌, ◌*◌, ◌<◌, [], ◌∷◌, ◌++◌, Bool, true, false, List, ℤ, length, get_or, sym, ap, ◌∙◌, subst, arith}
 use Rattle.txn_words.specs.Words.{Commit, state_value, state_of, last_state}
 use Rattle.txn_words.specs.Stores.{Change, AreChanges, with_changes, id_of, after_clock}
-use Rattle.cells.specs.Sight.{Sight, publishing, commit_of}
+use Rattle.cells.specs.Sight.{publishing, commit_of}
 use Rattle.cells.specs.Cells.{CellsId}
 use Rattle.cells.specs.Publishing.{stores_of, IsResting, AreWrites, changes_of}
 use Rattle.cells.specs.Private.{all_locked, all_stored, all_released}
