@@ -16,7 +16,7 @@ use Rattle.txn.specs.Grown.{grown}
 use Rattle.txn.proofs.Growing.{calls_grown, names_grown, limits_grown}
 use Rattle.txn.proofs.Beginning.{names_begun, limits_begun}
 use Rattle.txn.proofs.Standing.{names_stay, limits_stay}
-use Rattle.book.specs.ChapterInside.{runs_of, one_each, listing_of, chapter_view}
+use Rattle.book.specs.ChapterInside.{runs_of, one_each, initial_of, listing_of, chapter_view}
 use Rattle.book.specs.Chapters.{ChapterView}
 use Rattle.book.specs.declared.chapter.Chapter.TheInside.{Inside}
 use Rattle.book.proofs.TaskCalls.{AreKnown, length-calls, drop_before}
@@ -70,8 +70,8 @@ pub opened_within : (c : Inside) → c.is_first ≡ true → calls (listing_of c
 opened_within c first h =
     let l = c.opened.now in
     let cs = c.calls.calls in
-    let e : calls (listed true l c.initial.items cs) ≡ cs = subst (λ (b : Bool). calls (listed b l c.initial.items cs) ≡ cs) first h in
-    omega (arith, rest_length l c.initial.items cs e)
+    let e : calls (listed true l (initial_of c) cs) ≡ cs = subst (λ (b : Bool). calls (listed b l (initial_of c) cs) ≡ cs) first h in
+    omega (arith, rest_length l (initial_of c) cs e)
 
 -- the runs of the first chapter, and of a later one
 pub first_runs : (c : Inside) → c.is_first ≡ true → (listing_of c).runs ≡ c.opened.now.runs ++ one_each (drop (length (tasks c.opened.now)) c.calls.calls)
@@ -79,14 +79,6 @@ first_runs c first = ap (λ (b : Bool). runs_of b c.opened.now c.calls.calls) fi
 
 pub later_runs : (c : Inside) → c.is_first ≡ false → (listing_of c).runs ≡ one_each c.calls.calls
 later_runs c later = ap (λ (b : Bool). runs_of b c.opened.now c.calls.calls) later
-
--- what the first chapter lists
-pub first_is : (c : Inside) → c.is_first ≡ true → c.initial.items ≡ c.opened.now.initial → grown c.opened.now (drop (length (tasks c.opened.now)) c.calls.calls) ≡ listing_of c
-first_is c first from =
-    let l = c.opened.now in
-    let runs = l.runs ++ one_each (drop (length (tasks l)) c.calls.calls) in
-    ap (λ (m : State). let r : Listing = record l { initial = m; runs = runs } in r) (sym from)
-    ∙ ap (λ (rs : List (Call × ℕ)). let r : Listing = record l { initial = c.initial.items; runs = rs } in r) (sym (first_runs c first))
 
 -- what is read of the calls is the task's
 pub tx_own : (c : Inside) (v : ChapterView) (k : ℕ) (tx : TxId) → chapter_view c ≡ v → calls (listing_of c) ≡ c.calls.calls → slice_get (map (λ (x : Call). x.tx) c.calls.calls) k ≡ Some tx → slice_get (tasks v.listing) k ≡ Some tx

@@ -2,7 +2,7 @@
 //! which the chapter begins, and the calls of its tasks.
 
 ghost use Rattle.std.specs.Prelude.{true, IsTrue, ◌↔◌, ◌≡◌, ◌<◌, ◌≤◌, ◌++◌, ◌∷◌, [], length, map, drop, IfOk};
-ghost use Rattle.std.specs.Prelude.{Some, slice_get};
+ghost use Rattle.std.specs.Prelude.{Some, slice_get, vec_capacity};
 ghost use Rattle.txn_programs.specs.declared.limits.TheConstants.{MAX_TASKS};
 ghost use Rattle.txn_programs.specs.Listing.{values, calls, tasks, task_tx, task_arguments, IsCallable};
 ghost use Rattle.txn_programs.specs.Standing.{Upholds};
@@ -28,8 +28,8 @@ pub struct Chapter<'a> {
     opened: &'a Catalogue,
     /// Whether the runs of that catalogue are this chapter's: of the first alone.
     is_first: bool,
-    /// The values at which the chapter begins.
-    initial: Vec<i64>,
+    /// The values at which a later chapter begins, in room that the first one leaves empty.
+    later: Vec<i64>,
     /// What each task calls.
     calls: Calls,
 }
@@ -66,7 +66,7 @@ impl<'a> Chapter<'a> {
         Ok(Chapter {
             opened,
             is_first: true,
-            initial: copied(alloc, opened.initial())?,
+            later: Vec::with_capacity(alloc, opened.initial().len())?,
             calls: calls_of(alloc, opened, room)?,
         })
     }
@@ -133,7 +133,7 @@ impl<'a> Chapter<'a> {
         ensures room { self.new.room ≡ self.old.room }
     {
         self.is_first = false;
-        self.initial.copy_from_slice(values);
+        put(&mut self.later, values);
         self.calls.keep_staying(standings, count);
     }
 
@@ -144,10 +144,20 @@ impl<'a> Chapter<'a> {
         if !self.opened.same_program(catalogue) {
             return false;
         }
-        if !same_values(&self.initial, catalogue.initial()) {
+        if !same_values(self.initial(), catalogue.initial()) {
             return false;
         }
         self.has_runs(catalogue.runs())
+    }
+
+    /// The values at which the chapter begins.
+    fn initial(&self) -> &[i64]
+        ensures { result.now ≡ self.now.listing.initial }
+    {
+        if self.is_first {
+            return self.opened.initial();
+        }
+        &self.later
     }
 
     /// Whether its runs are these.
@@ -169,7 +179,7 @@ impl<'a> Chapter<'a> {
             return self.opened.grown(alloc, &more);
         }
         let calls = behind(alloc, &self.calls, 0)?;
-        begun(alloc, self.opened, &self.initial, &calls)
+        begun(alloc, self.opened, &self.later, &calls)
     }
 }
 
@@ -231,10 +241,17 @@ fn behind(alloc: Global, calls: &Calls, from: usize) -> Result<Vec<Call>, AllocE
     Ok(more)
 }
 
-fn copied(alloc: Global, values: &[i64]) -> Result<Vec<i64>, AllocError>
-    ensures { IfOk result (λ v. v.items ≡ values.now) }
+/// These values in place of those that stood there. There is room for them.
+fn put(later: &mut Vec<i64>, values: &[i64])
+    requires { length values.now ≤ vec_capacity later.old }
+    ensures values { later.new.items ≡ values.now }
+    ensures capacity { vec_capacity later.old ≤ vec_capacity later.new }
 {
-    Vec::from_slice(alloc, values)
+    later.clear();
+    match later.extend_from_slice(values) {
+        Ok(()) => {}
+        Err(_) => unreachable!(),
+    }
 }
 
 /// The calls of the catalogue's tasks, with room for so many. There is room for the arguments of any call of it.
