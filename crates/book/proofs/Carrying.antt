@@ -281,6 +281,7 @@ rows_cut w names ss n rows =
     record {
       fits = λ t m e. rows.fits t m (before t m e);
       whole = λ few t m e. rows.whole few t m (before t m e);
+      logged = λ wide t m e. rows.logged wide t m (before t m e);
     } where
       before : (t m : ℕ) → slice_get (take n ss) t ≡ Some (standing.Parked m) → slice_get ss t ≡ Some (standing.Parked m)
       before t m e = ap (λ (xs : List Slot). slice_get xs t) (sym (take-append-drop n ss)) ∙ get_append_left (take n ss) (drop n ss) t (standing.Parked m) e

@@ -92,17 +92,17 @@ few_of s v view narrow = omega (arith, narrow, ap (λ (b : TableView). b.variabl
 pub many_of : (s : Inside) (v : TableView) → table_of s ≡ v → 256 < v.variables → 256 < s.variables
 many_of s v view wide = omega (arith, wide, ap (λ (b : TableView). b.variables) view)
 
--- with many variables there is a log for each task
-pub log_within : (s : Inside) (t : ℕ) (was : Slot) → IsSorted s → 256 < s.variables → slice_get s.standings.items t ≡ Some was → t < length s.logs.items
-log_within s t was k wide at = omega (arith, slice_get_within s.standings.items t was at, k.names_room.logs wide)
+-- with many variables there is a log for each parked task
+pub log_within : (s : Inside) (t : ℕ) (h : Waiting s t) → IsSorted s → 256 < s.variables → t < length s.logs.items
+log_within s t h k wide = k.rows.logged wide t h.count h.stands
 
 pub as_many : (n : ℕ) → n ≤ n
 as_many n = omega arith
 
 -- all but a task's log are kept, where another one is put
-pub log_put : (s : Inside) (t : ℕ) (l : Known) → 256 < s.variables → RowWritten s.variables t (let k : Kept = record { bytes = s.names.items; logs = set s.logs.items t l } in k) (kept_of s)
-log_put s t l wide =
-    log_written s.variables t _ (kept_of s) wide (as_many (length s.names.items)) (λ u other. get_or-set_other s.logs.items t u l [] other)
+pub log_put : (s : Inside) (t : ℕ) (l : Known) → 256 < s.variables → t < length s.logs.items → RowWritten s.variables t (let k : Kept = record { bytes = s.names.items; logs = set s.logs.items t l } in k) (kept_of s)
+log_put s t l wide low =
+    log_written s.variables t _ (kept_of s) wide (as_many (length s.names.items)) (omega (arith, low, length-set s.logs.items t l)) (omega (arith, length-set s.logs.items t l)) (λ u other. get_or-set_other s.logs.items t u l [] other)
 
 pub log_read : (logs : List Known) (t : ℕ) (l : Known) → t < length logs → l ≡ get_or logs t l → l ≡ get_or logs t []
 log_read logs t l low e = sym (get_or_from_slice_get logs t l [] (slice_get_read logs (length logs) t l refl low e))
@@ -140,13 +140,14 @@ moved_logs s from to gone log = record { bytes = s.names.items; logs = set (set 
 abbrev left_log : Inside → ℕ → Known → Kept
 left_log s from gone = record { bytes = s.names.items; logs = set s.logs.items from gone }
 
-put_there : (s : Inside) (from to : ℕ) (gone log : Known) → 256 < s.variables → RowWritten s.variables to (moved_logs s from to gone log) (left_log s from gone)
-put_there s from to gone log wide =
-    log_written s.variables to (moved_logs s from to gone log) (left_log s from gone) wide (as_many (length s.names.items)) (λ u other. get_or-set_other (set s.logs.items from gone) to u log [] other)
+put_there : (s : Inside) (from to : ℕ) (gone log : Known) → 256 < s.variables → to < length s.logs.items → RowWritten s.variables to (moved_logs s from to gone log) (left_log s from gone)
+put_there s from to gone log wide low =
+    let size = length-set (set s.logs.items from gone) to log in
+    log_written s.variables to (moved_logs s from to gone log) (left_log s from gone) wide (as_many (length s.names.items)) (omega (arith, low, size, length-set s.logs.items from gone)) (omega (arith, size)) (λ u other. get_or-set_other (set s.logs.items from gone) to u log [] other)
 
 rows_left : (s : Inside) (from : ℕ) (h : Waiting s from) (gone : Known) → IsSorted s → HaveRows s.variables (left_log s from gone) (set s.standings.items from standing.Running)
 rows_left s from h gone k =
-    rows_kept s.variables (left_log s from gone) (kept_of s) (set s.standings.items from standing.Running) (as_many (length s.names.items))
+    rows_kept s.variables (left_log s from gone) (kept_of s) (set s.standings.items from standing.Running) (as_many (length s.names.items)) (omega (arith, length-set s.logs.items from gone))
     (rows_awake s.variables from (kept_of s) s.standings.items (standing.Parked h.count) standing.Running k.rows h.stands (λ m e. cc))
 
 free_there : (s : Inside) (from to : ℕ) → to < from → slice_get s.standings.items to ≡ Some standing.Running → slice_get (set s.standings.items from standing.Running) to ≡ Some standing.Running
@@ -159,15 +160,16 @@ pub shown_moved : (s : Inside) (from to : ℕ) (h : Waiting s from) (gone log : 
 shown_moved s from to h gone log k wide free less same =
     let w = s.variables in
     let n = h.count in
-    let low : to < length (set s.logs.items from gone) = omega (arith, log_within s to standing.Running k wide free, length-set s.logs.items from gone) in
+    let there = log_within s from h k wide in
+    let low : to < length (set s.logs.items from gone) = omega (arith, there, less, length-set s.logs.items from gone) in
     let told : kept_log w (moved_logs s from to gone log) to n ≡ kept_log w (kept_of s) from n =
     log_of_list w (moved_logs s from to gone log) to n wide
     ∙ (ap unvalued (get_or-set_same (set s.logs.items from gone) to log [] low ∙ same) ∙ sym (log_of_list w (kept_of s) from n wide)) in
-    shown_parked w to n (moved_logs s from to gone log) (left_log s from gone) (set s.standings.items from standing.Running) (kept_log w (kept_of s) from n) (put_there s from to gone log wide) (rows_left s from h gone k) (free_there s from to less free) told
+    shown_parked w to n (moved_logs s from to gone log) (left_log s from gone) (set s.standings.items from standing.Running) (kept_log w (kept_of s) from n) (put_there s from to gone log wide (omega (arith, there, less))) (rows_left s from h gone k) (free_there s from to less free) told
     ∙ ap (λ (ts : List Task). set ts to (Parked (kept_log w (kept_of s) from n)))
-    (shown_awake w from (left_log s from gone) (kept_of s) s.standings.items (standing.Parked n) standing.Running (log_put s from gone wide) k.rows h.stands (λ m e. cc))
+    (shown_awake w from (left_log s from gone) (kept_of s) s.standings.items (standing.Parked n) standing.Running (log_put s from gone wide there) k.rows h.stands (λ m e. cc))
 
 pub rows_moved : (s : Inside) (from to : ℕ) (h : Waiting s from) (gone log : Known) → IsSorted s → 256 < s.variables → slice_get s.standings.items to ≡ Some standing.Running → to < from
     → HaveRows s.variables (moved_logs s from to gone log) (set (set s.standings.items from standing.Running) to (standing.Parked h.count))
 rows_moved s from to h gone log k wide free less =
-    rows_parked s.variables to h.count (moved_logs s from to gone log) (left_log s from gone) (set s.standings.items from standing.Running) (put_there s from to gone log wide) (rows_left s from h gone k) (k.rows.fits from h.count h.stands) (free_there s from to less free)
+    rows_parked s.variables to h.count (moved_logs s from to gone log) (left_log s from gone) (set s.standings.items from standing.Running) (put_there s from to gone log wide (omega (arith, log_within s from h k wide, less))) (rows_left s from h gone k) (k.rows.fits from h.count h.stands) (free_there s from to less free)

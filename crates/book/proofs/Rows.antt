@@ -13,7 +13,7 @@ use Rattle.book.specs.Tasks.{Task, Ready, Running, Parked}
 use Rattle.book.specs.declared.task.Slot.{Slot}
 use Rattle.book.specs.declared.task.Slot.TheVariants as standing
 use Rattle.book.specs.Table.{unvalued, low_bits, names, names_low, flagged}
-use Rattle.book.specs.Standings.{row, named_by, naming, Kept, kept_log, shown, shown_from, HaveRows, HaveRoom, bare, unlogged}
+use Rattle.book.specs.Standings.{row, named_by, naming, Kept, kept_log, shown, shown_from, HaveRows, bare, unlogged}
 use Rattle.book.proofs.Lists.{get_set_same, get_set_other, get_replicate, get_append_last}
 use Rattle.book.proofs.Sleeping.{no_pair}
 
@@ -275,16 +275,20 @@ all_bare w names ss = bare_from w names 0 ss
 pub record RowWritten (w t : ℕ) (now was : Kept) : Type 0 where
   pub whole : w ≤ 256 → t * w + w ≤ length now.bytes
   pub longer : length was.bytes ≤ length now.bytes
+  pub logged : 256 < w → t < length now.logs
+  pub more_logs : length was.logs ≤ length now.logs
   pub others : (u n : ℕ) → u ≢ t → n ≤ w → (w ≤ 256 → u * w + w ≤ length was.bytes) → kept_log w now u n ≡ kept_log w was u n
 
 -- as its row is written
-pub row_written : (w t : ℕ) (now was : Kept) → w ≤ 256 → t * w + w ≤ length now.bytes → length was.bytes ≤ length now.bytes
+pub row_written : (w t : ℕ) (now was : Kept) → w ≤ 256 → t * w + w ≤ length now.bytes → length was.bytes ≤ length now.bytes → length was.logs ≤ length now.logs
     → ((k : ℕ) → k < length was.bytes → k < t * w → get_or now.bytes k 0 ≡ get_or was.bytes k 0)
     → ((k : ℕ) → k < length was.bytes → t * w + w ≤ k → get_or now.bytes k 0 ≡ get_or was.bytes k 0) → RowWritten w t now was
-row_written w t now was narrow whole longer before after =
+row_written w t now was narrow whole longer more before after =
     record {
       whole = λ few. whole;
       longer = longer;
+      logged = λ wide. absurd (omega (arith, narrow, wide));
+      more_logs = more;
       others = λ u n other fits there.
           let all = there narrow in
           log_of_row w now u n narrow
@@ -297,11 +301,13 @@ row_written w t now was narrow whole longer before after =
     }
 
 -- as its log is
-pub log_written : (w t : ℕ) (now was : Kept) → 256 < w → length was.bytes ≤ length now.bytes → ((u : ℕ) → u ≢ t → get_or now.logs u [] ≡ get_or was.logs u []) → RowWritten w t now was
-log_written w t now was wide longer others =
+pub log_written : (w t : ℕ) (now was : Kept) → 256 < w → length was.bytes ≤ length now.bytes → t < length now.logs → length was.logs ≤ length now.logs → ((u : ℕ) → u ≢ t → get_or now.logs u [] ≡ get_or was.logs u []) → RowWritten w t now was
+log_written w t now was wide longer logged more others =
     record {
       whole = λ few. absurd (omega (arith, few, wide));
       longer = longer;
+      logged = λ many. logged;
+      more_logs = more;
       others = λ u n other fits there. log_of_list w now u n wide ∙ (ap unvalued (others u other) ∙ sym (log_of_list w was u n wide));
     }
 
@@ -324,11 +330,16 @@ shown_parked w t n now was ss log h rows at written =
     ∙ (ap (λ (ts : List Task). set ts t (Parked (kept_log w now t n))) (written_same w t now was ss h rows at)
     ∙ ap (λ (l : Known). set (shown_from w was 0 ss) t (Parked l)) written)
 
--- as long as the rows are there, other logs take no row away
-pub rows_kept : (w : ℕ) (now was : Kept) (ss : List Slot) → length was.bytes ≤ length now.bytes → HaveRows w was ss → HaveRows w now ss
-rows_kept w now was ss longer h = record { fits = h.fits; whole = λ narrow t n e. omega (arith, h.whole narrow t n e, longer) }
+-- as long as there are no fewer, other rows and logs take none away
+pub rows_kept : (w : ℕ) (now was : Kept) (ss : List Slot) → length was.bytes ≤ length now.bytes → length was.logs ≤ length now.logs → HaveRows w was ss → HaveRows w now ss
+rows_kept w now was ss longer more h =
+    record {
+      fits = h.fits;
+      whole = λ narrow t n e. omega (arith, h.whole narrow t n e, longer);
+      logged = λ wide t n e. omega (arith, h.logged wide t n e, more);
+    }
 
--- each parked task still has its row
+-- each parked task still has its row, or its log
 pub rows_parked : (w t n : ℕ) (now was : Kept) (ss : List Slot) → RowWritten w t now was → HaveRows w was ss → n ≤ w → slice_get ss t ≡ Some standing.Running → HaveRows w now (set ss t (standing.Parked n))
 rows_parked w t n now was ss h rows few at =
     record {
@@ -345,14 +356,20 @@ rows_parked w t n now was ss h rows few at =
             | inl same ↦ subst (λ (k : ℕ). k * w + w ≤ length now.bytes) (sym same) (h.whole narrow)
             | inr other ↦ omega (arith, rows.whole narrow u m (sym (get_set_other ss t u (standing.Parked n) other) ∙ parked), h.longer)
           ];
+      logged = λ wide u m parked.
+          elim (cases_eq u t) [
+            | inl same ↦ subst (λ (k : ℕ). k < length now.logs) (sym same) (h.logged wide)
+            | inr other ↦ omega (arith, rows.logged wide u m (sym (get_set_other ss t u (standing.Parked n) other) ∙ parked), h.more_logs)
+          ];
     }
 
--- a task that is not parked has no row
+-- a task that is not parked needs no row and no log
 pub rows_awake : (w t : ℕ) (names : Kept) (ss : List Slot) (was is : Slot) → HaveRows w names ss → slice_get ss t ≡ Some was → ((n : ℕ) → is ≢ standing.Parked n) → HaveRows w names (set ss t is)
 rows_awake w t names ss was is rows at awake =
     record {
       fits = λ u m parked. rows.fits u m (still u m parked);
       whole = λ narrow u m parked. rows.whole narrow u m (still u m parked);
+      logged = λ wide u m parked. rows.logged wide u m (still u m parked);
     } where
       still : (u m : ℕ) → slice_get (set ss t is) u ≡ Some (standing.Parked m) → slice_get ss u ≡ Some (standing.Parked m)
       still u m parked =
@@ -372,6 +389,7 @@ rows_ready w n names =
     record {
       fits = λ t m e. let bad : standing.Ready ≡ standing.Parked m = get_replicate n t standing.Ready (standing.Parked m) e in absurd (cc);
       whole = λ narrow t m e. let bad : standing.Ready ≡ standing.Parked m = get_replicate n t standing.Ready (standing.Parked m) e in absurd (cc);
+      logged = λ wide t m e. let bad : standing.Ready ≡ standing.Parked m = get_replicate n t standing.Ready (standing.Parked m) e in absurd (cc);
     }
 
 pub rows_more : (w : ℕ) (names : Kept) (ss : List Slot) → HaveRows w names ss → HaveRows w names (ss ++ standing.Ready ∷ [])
@@ -379,6 +397,7 @@ rows_more w names ss rows =
     record {
       fits = λ t m e. rows.fits t m (before t m e);
       whole = λ narrow t m e. rows.whole narrow t m (before t m e);
+      logged = λ wide t m e. rows.logged wide t m (before t m e);
     } where
       before : (t m : ℕ) → slice_get (ss ++ standing.Ready ∷ []) t ≡ Some (standing.Parked m) → slice_get ss t ≡ Some (standing.Parked m)
       before t m e =

@@ -25,7 +25,8 @@ ghost use Rattle.book.specs.Table.{waits_for, woken_for, woken_by, unvalued};
 use crate::bits::lowest_bit;
 use crate::counting::Tally;
 use crate::names::{
-    forget, has_name, keep_names, move_log, move_row, room_for_logs, room_for_rows, row_of,
+    forget, has_name, keep_log, keep_names, move_log, move_row, room_for_logs, room_for_rows,
+    row_of,
 };
 use crate::sleepers::{MAX_SETS, enter, enter_row, leave, leave_log, none_asleep};
 use crate::standing::{Standing, told};
@@ -54,8 +55,8 @@ pub struct TaskTable {
     /// A row for each task, as far up as tasks have been parked: a byte for each variable. None with more
     /// variables than sets.
     names: Vec<u8>,
-    /// With more variables than sets what each parked task read, and an empty log for each other one that there
-    /// is room for. Else there are none.
+    /// With more variables than sets what each parked task read, as far up as tasks have been parked: an empty
+    /// log for each other one. Else there are none.
     logs: Vec<Log>,
 }
 
@@ -383,7 +384,7 @@ impl TaskTable {
         let pairs = log.as_slice();
         enter(&mut self.sleepers, pairs, at);
         let count = pairs.len() as u32;
-        self.logs[at] = log;
+        keep_log(&mut self.logs, at, log);
         stand(
             &mut self.standings,
             &mut self.tally,

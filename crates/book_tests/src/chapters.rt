@@ -2,7 +2,7 @@
 
 use crate::looks::{Look, Said};
 use crate::rows::{Step, What, expect};
-use crate::texts::{ALL_TASKS, FAR_APART, HOLDING, MIXED};
+use crate::texts::{ALL_TASKS, FAR_APART, HOLDING, MANY_CELLS, MIXED};
 use book::{Serial, Standing};
 use txn::{Outcome, TaskId, TxId, VarId};
 
@@ -149,4 +149,35 @@ const FAR_ONES: &[Step] = &[
 #[test]
 fn those_far_apart_come_over(rt: HostRuntime) {
     expect(&rt, rt.alloc(), FAR_APART, None, &What::Steps(FAR_ONES));
+}
+
+/// The higher of two tasks is parked first. Both come over, and each is woken by its own cell.
+const HIGHER_FIRST: &[Step] = &[
+    Step::TakesFrom(5, Some(TaskId(5))),
+    Step::Turns(TaskId(5), Serial::Parked),
+    Step::TakesFrom(2, Some(TaskId(2))),
+    Step::Turns(TaskId(2), Serial::Parked),
+    Step::Drains(0),
+    Step::Shows(Look::Stand([0, 0, 2, 4, 0])),
+    Step::BeginsChapter,
+    Step::Shows(Look::Stand([0, 0, 2, 0, 0])),
+    Step::Calls(TxId(2), &[43], Some(TaskId(2))),
+    Step::Drains(0),
+    Step::Says(Said::Entered(&[TaskId(2), TaskId(1)])),
+    Step::BeginsChapter,
+    Step::Says(Said::Parked(&[(TaskId(0), TxId(0))])),
+    Step::Calls(TxId(2), &[299], Some(TaskId(1))),
+    Step::Drains(0),
+    Step::Says(Said::Entered(&[TaskId(1), TaskId(0)])),
+];
+
+#[test]
+fn those_that_wait_for_cells_come_over(rt: HostRuntime) {
+    expect(
+        &rt,
+        rt.alloc(),
+        MANY_CELLS,
+        None,
+        &What::Steps(HIGHER_FIRST),
+    );
 }

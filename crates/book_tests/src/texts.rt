@@ -63,3 +63,8 @@ pub(crate) const BANK: &str =
         acct to) n))) (at acct to)) (tx all () (skip) (sum acct)) (tx wait (n) (if (lt (at acct 0) n) (retry) (seq \
         (put acct 3 1) (put acct 3 2))) n) (run wait 1 105) (run pay 1 3 0 7)(run all 1)(run pay 1 2 2 5)(run pay 1 \
         1 4 9)(run pay 1 2 2 0)";
+
+/// 300 cells, all 0. Task 2 waits for the cell 299 and task 5 for the cell 43, whose number has the same low bits.
+pub(crate) const MANY_CELLS: &str =
+    "(stm 3)(table t 300 0)(tx wait (i) (if (eq (at t i) 0) (retry) (skip)) (at t i))(tx none () (skip) 0)(tx fill \
+        (i) (put t i 7) 0)(run none 2)(run wait 1 299)(run none 2)(run wait 1 43)";

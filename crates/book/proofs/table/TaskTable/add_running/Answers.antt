@@ -1,4 +1,4 @@
-use Rattle.std.proofs.Common.{map, ◌≡◌, ◌<◌, ◌≤◌, ◌+◌, ◌*◌, ◌-◌, ◌++◌, ℕ, suc, List, length, length-append, [], ◌∷◌, set, Some, ◌∙◌, sym, ap, subst, arith, vec_capacity}
+use Rattle.std.proofs.Common.{map, ◌≡◌, ◌<◌, ◌+◌, ◌-◌, ◌++◌, ℕ, suc, List, length, length-append, [], ◌∷◌, set, Some, ◌∙◌, sym, ap, subst, arith, vec_capacity}
 use Rattle.std.specs.List.{slice_get}
 use Rattle.std.proofs.lemmas.List.{length-set}
 use Rattle.book.specs.declared.task.Slot.{Slot}
@@ -82,5 +82,5 @@ invariant_of-self c =
       few_variables = c.self.invariant.few_variables;
       tallied = c.stand.ensures.tallied;
       room = omega (arith, c.self.invariant.room, same, c.add_ready.ensures.capacity, c.stand.ensures.capacity);
-      names_room = subst (λ (k : ℕ). HaveRoom w k (vec_capacity s.names) (kept_of s)) same c.self.invariant.names_room;
+      names_room = subst (λ (k : ℕ). HaveRoom w k (vec_capacity s.names) (vec_capacity s.logs)) same c.self.invariant.names_room;
     }

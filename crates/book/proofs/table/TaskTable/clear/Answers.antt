@@ -1,4 +1,4 @@
-use Rattle.std.proofs.Common.{◌≡◌, ◌<◌, ◌+◌, ◌*◌, ◌≤◌, ℕ, false, Some, get_or, refl, vec_capacity, ◌∙◌, ap, arith, length, List, subst, sym}
+use Rattle.std.proofs.Common.{◌≡◌, ◌<◌, ◌+◌, ℕ, false, Some, get_or, refl, vec_capacity, ◌∙◌, ap, arith, length, List, subst, sym}
 use Rattle.std.specs.List.{slice_get}
 use Rattle.std.proofs.lemmas.List.{length-set}
 use Rattle.std.proofs.lemmas.Option.{same_Some, slice_get_read, slice_get-get_or}
@@ -64,7 +64,7 @@ invariant_of-self c =
       few_variables = c.self.invariant.few_variables;
       tallied = c.stand.ensures.tallied;
       room = omega (arith, c.self.invariant.room, size, c.stand.ensures.capacity);
-      names_room = subst (λ (k : ℕ). HaveRoom w (k + s.spare) (vec_capacity s.names) (kept_of s)) (sym size) c.self.invariant.names_room;
+      names_room = subst (λ (k : ℕ). HaveRoom w (k + s.spare) (vec_capacity s.names) (vec_capacity s.logs)) (sym size) c.self.invariant.names_room;
     }
 
 pub returns : goal.returns

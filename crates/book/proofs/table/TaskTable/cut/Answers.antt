@@ -1,4 +1,4 @@
-use Rattle.std.proofs.Common.{map, refl, ◌≡◌, ◌+◌, ◌-◌, ◌*◌, ◌≤◌, ℕ, List, length, take, drop, vec_capacity, sym, ◌∙◌, ap, subst, arith}
+use Rattle.std.proofs.Common.{map, refl, ◌≡◌, ◌+◌, ◌-◌, ◌≤◌, ℕ, List, length, take, drop, vec_capacity, sym, ◌∙◌, ap, subst, arith}
 use Rattle.std.specs.List.{All}
 use Rattle.std.proofs.lemmas.List.{length-take-le}
 use Rattle.book.specs.declared.task.Slot.{Slot}
@@ -59,7 +59,7 @@ invariant_of-self c =
       tallied = subst (λ (ss : List Slot). IsTally (map bare ss) left) (sym c.truncate.ensures.items)
           (tally_cut w (kept_of s) s.standings.items k s.tally left (waiting c) (free c) c.self.invariant.tallied refl refl refl);
       room = omega (arith, c.self.invariant.room, same, c.truncate.ensures.capacity);
-      names_room = subst (λ (n : ℕ). HaveRoom w n (vec_capacity s.names) (kept_of s)) same c.self.invariant.names_room;
+      names_room = subst (λ (n : ℕ). HaveRoom w n (vec_capacity s.names) (vec_capacity s.logs)) same c.self.invariant.names_room;
     }
 
 pub returns-clause-tasks : goal.returns-clause-tasks

@@ -1,6 +1,6 @@
 use Rattle.std.proofs.Common.{◌≡◌, ◌<◌, ◌+◌, ℕ, true, List, [], Some, length, set, get_or, refl, sym, ◌∙◌, ap, subst, arith, vec_capacity}
 use Rattle.std.specs.List.{slice_get}
-use Rattle.std.proofs.lemmas.List.{length-set, get_or-set_same}
+use Rattle.std.proofs.lemmas.List.{length-set}
 use Rattle.std.proofs.lemmas.Option.{slice_get_within}
 use Rattle.attempt.specs.Asking.{Known}
 use Rattle.attempt.specs.Order.{AllKnown, Apart}
@@ -12,8 +12,8 @@ use Rattle.book.specs.Tasks.{Running, Parked}
 use Rattle.book.specs.Standings.{Kept, shown_from, HaveRows, HaveRoom}
 use Rattle.book.specs.Table.{TableView, unvalued, flagged}
 use Rattle.book.specs.TableInside.{table_of, tasks_of, kept_of, places}
-use Rattle.book.proofs.Rows.{RowWritten, log_of_list, shown_parked, rows_parked, stands_running, flagged_unvalued, known_unvalued}
-use Rattle.book.proofs.Parking.{many_of, log_within, log_put}
+use Rattle.book.proofs.Rows.{RowWritten, log_written, log_of_list, shown_parked, rows_parked, stands_running, flagged_unvalued, known_unvalued}
+use Rattle.book.proofs.Parking.{many_of, as_many}
 use Rattle.book.proofs.Sets.{few_slots, in_a_set, sets_park, placed_stand, at_place, roomy, table_is}
 use Rattle.book.proofs.table.TaskTable.park_wide.Goals as goal
 use Rattle.book.proofs.table.TaskTable.park_wide.Goals.{After-stand}
@@ -46,11 +46,11 @@ overflow_cast-count c =
     let told = c.as_slice-pairs.result.now in
     omega (arith, few_apart s.variables told c.as_slice-pairs.ensures.apart (known_here s c.args.self.now c.args.log told c.self.view_is c.requires.known c.as_slice-pairs.ensures.value), c.self.invariant.few_variables)
 
-pub index_mut-requires : goal.index_mut-requires
-index_mut-requires c =
+pub keep_log-requires : goal.keep_log-requires
+keep_log-requires c =
     let s = c.self.inside in
     let t = c.args.task.0 in
-    omega (arith, log_within s t standing.Running c.self.invariant (many_of s c.args.self.now c.self.view_is c.requires.wide) (runs s c.args.self.now t c.self.view_is c.requires.running), s.logs.ok.0)
+    omega (arith, slice_get_within s.standings.items t standing.Running (runs s c.args.self.now t c.self.view_is c.requires.running), c.self.invariant.names_room.logs (many_of s c.args.self.now c.self.view_is c.requires.wide))
 
 pub stand-requires-clause-few : goal.stand-requires-clause-few
 stand-requires-clause-few c = few_slots c.self.inside c.self.invariant
@@ -59,7 +59,7 @@ pub stand-requires-clause-was : goal.stand-requires-clause-was
 stand-requires-clause-was c = runs c.self.inside c.args.self.now c.args.task.0 c.self.view_is c.requires.running
 
 abbrev now_kept : After-stand → Kept
-now_kept c = record { bytes = c.self.inside.names.items; logs = set c.self.inside.logs.items c.args.task.0 c.args.log }
+now_kept c = record { bytes = c.self.inside.names.items; logs = c.keep_log.new.logs.items }
 
 wide : (c : After-stand) → 256 < c.self.inside.variables
 wide c = many_of c.self.inside c.args.self.now c.self.view_is c.requires.wide
@@ -71,15 +71,16 @@ stands : (c : After-stand) → c.stand.new.standings.items ≡ set c.self.inside
 stands c = c.stand.ensures.items ∙ ap (λ (l : Known). set c.self.inside.standings.items c.args.task.0 (standing.Parked (length l))) c.as_slice-pairs.ensures.value
 
 put_here : (c : After-stand) → RowWritten c.self.inside.variables c.args.task.0 (now_kept c) (kept_of c.self.inside)
-put_here c = log_put c.self.inside c.args.task.0 c.args.log (wide c)
+put_here c =
+    let s = c.self.inside in
+    log_written s.variables c.args.task.0 (now_kept c) (kept_of s) (wide c) (as_many (length s.names.items)) c.keep_log.ensures.whole c.keep_log.ensures.longer c.keep_log.ensures.others
 
 now_shown : (c : After-stand) → shown_from c.self.inside.variables (now_kept c) 0 c.stand.new.standings.items ≡ set (tasks_of c.self.inside) c.args.task.0 (Parked (unvalued c.args.log))
 now_shown c =
     let s = c.self.inside in
     let w = s.variables in
     let t = c.args.task.0 in
-    let low = log_within s t standing.Running c.self.invariant (wide c) (running c) in
-    let told = log_of_list w (now_kept c) t (length c.args.log) (wide c) ∙ ap unvalued (get_or-set_same s.logs.items t c.args.log [] low) in
+    let told = log_of_list w (now_kept c) t (length c.args.log) (wide c) ∙ ap unvalued c.keep_log.ensures.log in
     ap (shown_from w (now_kept c) 0) (stands c)
     ∙ shown_parked w t (length c.args.log) (now_kept c) (kept_of s) s.standings.items (unvalued c.args.log) (put_here c) c.self.invariant.rows (running c) told
 
@@ -104,8 +105,8 @@ invariant_of-self c =
       few_variables = c.self.invariant.few_variables;
       tallied = c.stand.ensures.tallied;
       room = omega (arith, c.self.invariant.room, size, c.stand.ensures.capacity);
-      names_room = subst (λ (k : ℕ). HaveRoom w (k + s.spare) (vec_capacity s.names) (now_kept c)) (sym size)
-          (record { rows = c.self.invariant.names_room.rows; logs = λ many. length-set s.logs.items t log ∙ c.self.invariant.names_room.logs many });
+      names_room = subst (λ (k : ℕ). HaveRoom w (k + s.spare) (vec_capacity s.names) (vec_capacity c.keep_log.new.logs)) (sym size)
+          (record { rows = c.self.invariant.names_room.rows; logs = λ many. omega (arith, c.self.invariant.names_room.logs many, c.keep_log.ensures.capacity) });
     }
 
 pub returns : goal.returns

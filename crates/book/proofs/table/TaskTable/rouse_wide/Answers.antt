@@ -1,16 +1,13 @@
-use Rattle.std.proofs.Common.{◌≡◌, ◌<◌, ◌+◌, ℕ, false, List, [], Some, length, set, get_or, refl, sym, ◌∙◌, ap, subst, arith, vec_capacity}
-use Rattle.std.specs.List.{slice_get}
+use Rattle.std.proofs.Common.{◌≡◌, ◌<◌, ◌+◌, ℕ, false, List, [], Some, length, set, get_or, sym, ◌∙◌, ap, subst, arith, vec_capacity}
 use Rattle.std.proofs.lemmas.List.{length-set}
 use Rattle.std.proofs.lemmas.Option.{same_Some, slice_get_within}
 use Rattle.attempt.specs.Asking.{Known}
-use Rattle.attempt.specs.Order.{AllKnown}
 use Rattle.book.specs.declared.task.Slot.{Slot}
 use Rattle.book.specs.declared.task.Slot.TheVariants as standing
-use Rattle.book.specs.declared.table.TaskTable.TheInside.{Inside}
 use Rattle.book.specs.Tasks.{Ready, Parked}
 use Rattle.book.specs.Standings.{Kept, kept_log, shown_from, HaveRows, HaveRoom}
-use Rattle.book.specs.Table.{TableView, unvalued, flagged}
-use Rattle.book.specs.TableInside.{table_of, tasks_of, kept_of, places}
+use Rattle.book.specs.Table.{TableView, flagged}
+use Rattle.book.specs.TableInside.{tasks_of, kept_of, places}
 use Rattle.book.proofs.Rows.{RowWritten, log_of_list, shown_awake, rows_awake, rows_kept, flagged_unvalued}
 use Rattle.book.proofs.Parking.{Waiting, waiting, read_at, same_count, many_of, as_many, log_within, log_put, known_log, waiting_within}
 use Rattle.book.proofs.Sets.{few_slots, in_a_set, sets_rouse, placed_stand, at_place, roomy, ready_room, table_is}
@@ -35,7 +32,7 @@ forget-requires-clause-within c =
     let s = c.self.inside in
     let t = c.args.task.0 in
     let w = waiting s c.args.self.now t c.self.view_is c.requires.parked in
-    log_within s t (standing.Parked w.count) c.self.invariant (many_of s c.args.self.now c.self.view_is c.requires.wide) w.stands
+    log_within s t w c.self.invariant (many_of s c.args.self.now c.self.view_is c.requires.wide)
 
 pub forget-requires-clause-known : goal.forget-requires-clause-known
 forget-requires-clause-known c =
@@ -84,7 +81,8 @@ wide c = many_of c.self.inside c.args.self.now c.self.view_is c.requires.wide
 put_here : (c : After-insert) → RowWritten c.self.inside.variables c.args.task.0 (now_kept c) (kept_of c.self.inside)
 put_here c =
     let s = c.self.inside in
-    subst (λ (ls : List Known). RowWritten s.variables c.args.task.0 (let k : Kept = record { bytes = s.names.items; logs = ls } in k) (kept_of s)) (sym c.forget.ensures.logs) (log_put s c.args.task.0 [] (wide c))
+    let low = log_within s c.args.task.0 (h c) c.self.invariant (wide c) in
+    subst (λ (ls : List Known). RowWritten s.variables c.args.task.0 (let k : Kept = record { bytes = s.names.items; logs = ls } in k) (kept_of s)) (sym c.forget.ensures.logs) (log_put s c.args.task.0 [] (wide c) low)
 
 now_shown : (c : After-insert) → shown_from c.self.inside.variables (now_kept c) 0 c.stand.new.standings.items ≡ set (tasks_of c.self.inside) c.args.task.0 Ready
 now_shown c =
@@ -106,13 +104,13 @@ invariant_of-self c =
           (sets_rouse (places (tasks_of s) s.spare) s.ready c.insert.new.self s.sleepers.items c.forget.new.sleepers.items t (log c) c.self.invariant.sets (at_place (tasks_of s) s.spare t (Parked (log c)) (h c).shown_is) c.insert.ensures c.forget.ensures.size
           (λ x. c.forget.ensures.each x ∙ (flagged_unvalued false told t x (get_or s.sleepers.items x []) ∙ ap (λ (l : Known). flagged false l t x (get_or s.sleepers.items x [])) (sym (log_of_list w (kept_of s) t (h c).count (wide c))))));
       rows = subst (λ (ss : List Slot). HaveRows w (now_kept c) ss) (sym c.stand.ensures.items)
-          (rows_kept w (now_kept c) (kept_of s) (set s.standings.items t standing.Ready) (as_many (length s.names.items))
+          (rows_kept w (now_kept c) (kept_of s) (set s.standings.items t standing.Ready) (as_many (length s.names.items)) (omega (arith, logs))
           (rows_awake w t (kept_of s) s.standings.items (standing.Parked (h c).count) standing.Ready c.self.invariant.rows (h c).stands (λ n e. cc)));
       few_variables = c.self.invariant.few_variables;
       tallied = c.stand.ensures.tallied;
       room = omega (arith, c.self.invariant.room, size, c.stand.ensures.capacity);
-      names_room = subst (λ (k : ℕ). HaveRoom w (k + s.spare) (vec_capacity s.names) (now_kept c)) (sym size)
-          (record { rows = c.self.invariant.names_room.rows; logs = λ many. logs ∙ c.self.invariant.names_room.logs many });
+      names_room = subst (λ (k : ℕ). HaveRoom w (k + s.spare) (vec_capacity s.names) (vec_capacity c.forget.new.logs)) (sym size)
+          (record { rows = c.self.invariant.names_room.rows; logs = λ many. omega (arith, c.self.invariant.names_room.logs many, c.forget.ensures.capacity) });
     }
 
 pub returns : goal.returns

@@ -16,7 +16,7 @@ use Rattle.book.specs.Table.{TableView, IsParked, flagged, low_bits}
 use Rattle.book.specs.TableInside.{AreSets, IsSorted, table_of, tasks_of, places, kept_of}
 use Rattle.book.proofs.Rows.{log_of_row, RowWritten, row_written, stands_running}
 use Rattle.book.proofs.Sets.{at_place, roomy, table_is, named_set}
-use Rattle.book.proofs.Parking.{few_of, Waiting, waiting, read_at, same_count, flagged_length, sets_shifted, shown_shifted, rows_shifted}
+use Rattle.book.proofs.Parking.{few_of, as_many, Waiting, waiting, read_at, same_count, flagged_length, sets_shifted, shown_shifted, rows_shifted}
 use Rattle.book.proofs.table.TaskTable.shift_row.Goals as goal
 use Rattle.book.proofs.table.TaskTable.shift_row.Goals.{After-trade}
 
@@ -150,7 +150,7 @@ written c =
     let whole = c.self.invariant.rows.whole (narrow c) c.args.from (h c).count (h c).stands in
     row_written k c.args.to (now_kept c) (kept_of s) (narrow c)
     (omega (arith, row_fits c.args.to k c.args.from k (omega (arith, c.requires.below)) (omega arith), whole, c.move_row.ensures.size))
-    (omega (arith, c.move_row.ensures.size)) (λ j low less. c.move_row.ensures.before j less) (λ j low more. c.move_row.ensures.after j more)
+    (omega (arith, c.move_row.ensures.size)) (as_many (length s.logs.items)) (λ j low less. c.move_row.ensures.before j less) (λ j low more. c.move_row.ensures.after j more)
 
 stood : (c : After-trade) → c.trade.new.standings.items ≡ set (set c.self.inside.standings.items c.args.from standing.Running) c.args.to (standing.Parked (h c).count)
 stood c =
@@ -195,7 +195,7 @@ invariant_of-self c =
       tallied = subst (λ (xs : List Slot). IsTally (map bare xs) s.tally) (sym (stood c))
           (tally_traded s.standings.items c.args.from c.args.to (h c).count s.tally (h c).stands (free c) c.requires.below c.self.invariant.tallied);
       room = omega (arith, c.self.invariant.room, size, c.trade.ensures.capacity);
-      names_room = subst (λ (k : ℕ). HaveRoom s.variables (k + s.spare) (vec_capacity c.move_row.new.names) (now_kept c)) (sym size)
+      names_room = subst (λ (k : ℕ). HaveRoom s.variables (k + s.spare) (vec_capacity c.move_row.new.names) (vec_capacity s.logs)) (sym size)
           (record { rows = λ low. omega (arith, c.self.invariant.names_room.rows low, c.move_row.ensures.capacity); logs = c.self.invariant.names_room.logs });
     }
 

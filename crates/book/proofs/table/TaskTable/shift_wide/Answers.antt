@@ -13,7 +13,7 @@ use Rattle.book.specs.Standings.{Kept, kept_log, bare, shown_from, HaveRows, Hav
 use Rattle.book.specs.Table.{TableView, IsParked, unvalued, flagged}
 use Rattle.book.specs.TableInside.{AreSets, IsSorted, table_of, tasks_of, kept_of, places}
 use Rattle.book.proofs.Tallies.{tally_traded}
-use Rattle.book.proofs.Rows.{log_of_list, stands_running, flagged_unvalued, known_unvalued}
+use Rattle.book.proofs.Rows.{log_of_list, stands_running, flagged_unvalued}
 use Rattle.book.proofs.Parking.{Waiting, waiting, read_at, same_count, flagged_length, sets_shifted, many_of, log_within, log_read, known_log, waiting_within, moved_logs, shown_moved, rows_moved}
 use Rattle.book.proofs.Sets.{in_a_set, at_place, roomy, table_is}
 use Rattle.book.proofs.table.TaskTable.shift_wide.Goals as goal
@@ -35,19 +35,19 @@ pub index-requires-2 : goal.index-requires-2
 index-requires-2 c =
     let s = c.self.inside in
     let w = waiting s c.args.self.now c.args.from c.self.view_is c.requires.parked in
-    omega (arith, log_within s c.args.from (standing.Parked w.count) c.self.invariant (many_of s c.args.self.now c.self.view_is c.requires.wide) w.stands, s.logs.ok.0)
+    omega (arith, log_within s c.args.from w c.self.invariant (many_of s c.args.self.now c.self.view_is c.requires.wide), s.logs.ok.0)
 
 pub index-requires-3 : goal.index-requires-3
 index-requires-3 c =
     let s = c.self.inside in
     let w = waiting s c.args.self.now c.args.from c.self.view_is c.requires.parked in
-    omega (arith, log_within s c.args.from (standing.Parked w.count) c.self.invariant (many_of s c.args.self.now c.self.view_is c.requires.wide) w.stands, s.logs.ok.0)
+    omega (arith, log_within s c.args.from w c.self.invariant (many_of s c.args.self.now c.self.view_is c.requires.wide), s.logs.ok.0)
 
 -- the log that is read is the task's
 told_is : (s : Inside) (v : TableView) (from : ℕ) → table_of s ≡ v → (k : IsSorted s) → 256 < v.variables → IsParked (slice_get v.tasks from) → (there told : Known) → there ≡ get_or s.logs.items from there → told ≡ there → told ≡ get_or s.logs.items from []
 told_is s v from view k wide parked there told e same =
     let w = waiting s v from view parked in
-    same ∙ log_read s.logs.items from there (log_within s from (standing.Parked w.count) k (many_of s v view wide) w.stands) e
+    same ∙ log_read s.logs.items from there (log_within s from w k (many_of s v view wide)) e
 
 -- and its variables have their sets
 known_told : (s : Inside) (v : TableView) (from : ℕ) → table_of s ≡ v → (k : IsSorted s) → 256 < v.variables → IsParked (slice_get v.tasks from) → (told : Known) → told ≡ get_or s.logs.items from [] → AllKnown s.variables told
@@ -86,13 +86,13 @@ pub move_log-requires-clause-from : goal.move_log-requires-clause-from
 move_log-requires-clause-from c =
     let s = c.self.inside in
     let w = waiting s c.args.self.now c.args.from c.self.view_is c.requires.parked in
-    log_within s c.args.from (standing.Parked w.count) c.self.invariant (many_of s c.args.self.now c.self.view_is c.requires.wide) w.stands
+    log_within s c.args.from w c.self.invariant (many_of s c.args.self.now c.self.view_is c.requires.wide)
 
 pub move_log-requires-clause-to : goal.move_log-requires-clause-to
 move_log-requires-clause-to c =
     let s = c.self.inside in
     let w = waiting s c.args.self.now c.args.from c.self.view_is c.requires.parked in
-    omega (arith, log_within s c.args.from (standing.Parked w.count) c.self.invariant (many_of s c.args.self.now c.self.view_is c.requires.wide) w.stands, c.requires.below)
+    omega (arith, log_within s c.args.from w c.self.invariant (many_of s c.args.self.now c.self.view_is c.requires.wide), c.requires.below)
 
 pub trade-requires-clause-from : goal.trade-requires-clause-from
 trade-requires-clause-from c =
@@ -135,7 +135,7 @@ now_kept c = record { bytes = c.self.inside.names.items; logs = c.move_log.new.l
 kept_is : (c : After-trade) → moved_logs c.self.inside c.args.from c.args.to [] (told c) ≡ now_kept c
 kept_is c =
     let s = c.self.inside in
-    ap (λ (ls : List Known). let k : Kept = record { bytes = s.names.items; logs = ls } in k) (sym c.move_log.ensures)
+    ap (λ (ls : List Known). let k : Kept = record { bytes = s.names.items; logs = ls } in k) (sym c.move_log.ensures.logs)
 
 stood : (c : After-trade) → c.trade.new.standings.items ≡ set (set c.self.inside.standings.items c.args.from standing.Running) c.args.to (standing.Parked (h c).count)
 stood c =
@@ -167,7 +167,6 @@ invariant_of-self c =
     let k = c.self.invariant in
     let known = k.sets.known c.args.from (log c) (at_place (tasks_of s) s.spare c.args.from (Parked (log c)) (h c).shown_is) in
     let size = ap length (stood c) ∙ (length-set (set s.standings.items c.args.from standing.Running) c.args.to (standing.Parked (h c).count) ∙ length-set s.standings.items c.args.from standing.Running) in
-    let logs = ap length c.move_log.ensures ∙ (length-set (set s.logs.items c.args.from []) c.args.to (told c) ∙ length-set s.logs.items c.args.from []) in
     record {
       sets = subst (λ (ts : List Task). AreSets w (places ts s.spare) s.ready c.enter.new.sleepers.items) (sym (now_shown c))
           (sets_shifted (tasks_of s) s.spare s.ready s.sleepers.items c.leave_log.new.sleepers.items c.enter.new.sleepers.items c.args.from c.args.to (log c) k.sets (h c).shown_is (free_at c) c.requires.below known
@@ -180,8 +179,8 @@ invariant_of-self c =
       tallied = subst (λ (xs : List Slot). IsTally (map bare xs) s.tally) (sym (stood c))
           (tally_traded s.standings.items c.args.from c.args.to (h c).count s.tally (h c).stands (free c) c.requires.below k.tallied);
       room = omega (arith, k.room, size, c.trade.ensures.capacity);
-      names_room = subst (λ (n : ℕ). HaveRoom w (n + s.spare) (vec_capacity s.names) (now_kept c)) (sym size)
-          (record { rows = k.names_room.rows; logs = λ many. logs ∙ k.names_room.logs many });
+      names_room = subst (λ (n : ℕ). HaveRoom w (n + s.spare) (vec_capacity s.names) (vec_capacity c.move_log.new.logs)) (sym size)
+          (record { rows = k.names_room.rows; logs = λ many. omega (arith, k.names_room.logs many, c.move_log.ensures.capacity) });
     }
 
 pub returns : goal.returns
