@@ -19,6 +19,8 @@ from sources import say, size_of
 
 LOG = os.path.join(OUT, "log")
 LIBRARIES = os.path.join(OUT, "libraries")
+# What is begun of proofs that nobody waits for, so that they go on where they were stopped.
+BEGUN = os.path.join(OUT, "begun")
 
 
 class Progress:
@@ -66,13 +68,16 @@ def processors_and_memory():
 class Proofs:
     """The proofs of the crates that are named, side by side: which are done, which are under way, and what to begin
     next. Those that are named as `beside` are proved meanwhile, one at a time, with what the processors have to spare;
-    nobody waits for them. What is kept of others stays as long as they are crates of the program or of the library."""
+    nobody waits for them, and where they are stopped the next call goes on from there. What is kept of others stays as
+    long as they are crates of the program or of the library."""
 
     def __init__(self, tree, names, kit, beside=()):
         self.tree, self.names, self.kit, self.beside = tree, names, kit, list(beside)
         self.listed, self.crates = read_listed(tree), read_crates(tree)
         products = [product.crate for product in (PROGRAM, LIBRARY) if product.crate in self.crates]
         self.others = {name for crate in products for name in names_of(crate, tree)}
+        # Those that the library alone wants: their proofs may be stopped, and go on later.
+        self.resumable = self.others.difference(names_of(PROGRAM.crate, tree))
         self.sums, self.done, self.running, self.meanwhile = self.digests(), set(), {}, {}
         self.lanes, self.memory = processors_and_memory()
         self.sizes = {name: size_of(name, tree) for name in [*names, *beside]}
@@ -115,6 +120,7 @@ class Proofs:
                 kept = False
             if kept:
                 self.done.add(name)
+                shutil.rmtree(os.path.join(BEGUN, name), ignore_errors=True)
 
     def need(self, name, jobs):
         return (1_200_000_000 + 6_000 * self.sizes[name]) * (1 + 0.6 * (jobs - 1))
@@ -144,8 +150,9 @@ class Proofs:
         """Begins what nobody waits for, where nothing of it is under way and there is room."""
         for name in self.beside if self.running and not self.meanwhile else []:
             ready = name not in self.done and all(below in self.done for below in self.crates[name])
-            if ready and self.need(name, 1) <= self.room():
-                self.meanwhile[name] = Run(self, name, 1, spare=True)
+            jobs = 2 if self.need(name, 2) <= self.room() else 1
+            if ready and self.need(name, jobs) <= self.room():
+                self.meanwhile[name] = Run(self, name, jobs, spare=True)
                 return
 
     def end_beside(self, log):
@@ -211,6 +218,7 @@ class Run:
     def keep(self):
         with open(os.path.join(self.place, "stamp"), "w") as stamp:
             stamp.write(self.sum)
+        shutil.rmtree(os.path.join(BEGUN, self.name), ignore_errors=True)
 
     def stop(self):
         try:
@@ -246,6 +254,9 @@ class Kit:
             words += ["-L", f"dependency={os.path.join(LIBRARIES, below)}"]
         words += ["--antt-project", os.path.join(self.at, "rattle", "logic", "antt-project.json")]
         words += ["--logic-built", os.path.join(self.at, "logic_built"), "--links", f"{name}=", "--jobs", str(jobs)]
+        if name in proofs.resumable:
+            os.makedirs(os.path.join(BEGUN, name), exist_ok=True)
+            words += ["--incremental", os.path.join(BEGUN, name)]
         tools = ["--toolchain", os.path.join(self.at, "toolchain")]
         if is_program:
             return [*words, *tools, "-o", os.path.join(place, name + ".o")]
