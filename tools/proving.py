@@ -19,7 +19,7 @@ from sources import say, size_of
 
 LOG = os.path.join(OUT, "log")
 LIBRARIES = os.path.join(OUT, "libraries")
-# What is begun of proofs that nobody waits for, so that they go on where they were stopped.
+# What is begun of the exports' proof, so that it goes on where it was stopped.
 BEGUN = os.path.join(OUT, "begun")
 
 
@@ -68,16 +68,14 @@ def processors_and_memory():
 class Proofs:
     """The proofs of the crates that are named, side by side: which are done, which are under way, and what to begin
     next. Those that are named as `beside` are proved meanwhile, one at a time, with what the processors have to spare;
-    nobody waits for them, and where they are stopped the next call goes on from there. What is kept of others stays as
-    long as they are crates of the program or of the library."""
+    nobody waits for them, and where the proof of a static library is stopped the next call goes on from there. What is
+    kept of others stays as long as they are crates of the program or of the library."""
 
     def __init__(self, tree, names, kit, beside=()):
         self.tree, self.names, self.kit, self.beside = tree, names, kit, list(beside)
         self.listed, self.crates = read_listed(tree), read_crates(tree)
         products = [product.crate for product in (PROGRAM, LIBRARY) if product.crate in self.crates]
         self.others = {name for crate in products for name in names_of(crate, tree)}
-        # Those that the library alone wants: their proofs may be stopped, and go on later.
-        self.resumable = self.others.difference(names_of(PROGRAM.crate, tree))
         self.sums, self.done, self.running, self.meanwhile = self.digests(), set(), {}, {}
         self.lanes, self.memory = processors_and_memory()
         self.sizes = {name: size_of(name, tree) for name in [*names, *beside]}
@@ -254,14 +252,13 @@ class Kit:
             words += ["-L", f"dependency={os.path.join(LIBRARIES, below)}"]
         words += ["--antt-project", os.path.join(self.at, "rattle", "logic", "antt-project.json")]
         words += ["--logic-built", os.path.join(self.at, "logic_built"), "--links", f"{name}=", "--jobs", str(jobs)]
-        if name in proofs.resumable:
-            os.makedirs(os.path.join(BEGUN, name), exist_ok=True)
-            words += ["--incremental", os.path.join(BEGUN, name)]
         tools = ["--toolchain", os.path.join(self.at, "toolchain")]
         if is_program:
             return [*words, *tools, "-o", os.path.join(place, name + ".o")]
         if is_static(name, proofs.tree):
-            return [*words, "--crate-type", "staticlib", *tools, "-o", os.path.join(place, f"lib{name}.a")]
+            os.makedirs(os.path.join(BEGUN, name), exist_ok=True)
+            words += ["--incremental", os.path.join(BEGUN, name), "--crate-type", "staticlib"]
+            return [*words, *tools, "-o", os.path.join(place, f"lib{name}.a")]
         return [*words, "--statements", "-o", os.path.join(place, name + ".rlib")]
 
     def link(self, made, program):
