@@ -67,9 +67,9 @@ def processors_and_memory():
 
 class Proofs:
     """The proofs of the crates that are named, side by side: which are done, which are under way, and what to begin
-    next. Those that are named as `beside` are proved meanwhile, one at a time, with what the processors have to spare;
-    nobody waits for them, and where the proof of a static library is stopped the next call goes on from there. What is
-    kept of others stays as long as they are crates of the program or of the library."""
+    next. Those that are named as `beside` are proved meanwhile, one at a time, where there is memory for them; nobody
+    waits for them, and where the proof of a static library is stopped the next call goes on from there. What is kept of
+    others stays as long as they are crates of the program or of the library."""
 
     def __init__(self, tree, names, kit, beside=()):
         self.tree, self.names, self.kit, self.beside = tree, names, kit, list(beside)
@@ -147,10 +147,14 @@ class Proofs:
     def begin_beside(self):
         """Begins what nobody waits for, where nothing of it is under way and there is room."""
         for name in self.beside if self.running and not self.meanwhile else []:
-            ready = name not in self.done and all(below in self.done for below in self.crates[name])
-            jobs = 2 if self.need(name, 2) <= self.room() else 1
-            if ready and self.need(name, jobs) <= self.room():
-                self.meanwhile[name] = Run(self, name, jobs, spare=True)
+            if name in self.done or any(below not in self.done for below in self.crates[name]):
+                continue
+            # The exports' proof begins late, when lanes are idle.
+            jobs = 4 if is_static(name, self.tree) else 2
+            while jobs > 1 and self.need(name, jobs) > self.room():
+                jobs -= 1
+            if self.need(name, jobs) <= self.room():
+                self.meanwhile[name] = Run(self, name, jobs)
                 return
 
     def end_beside(self, log):
@@ -195,9 +199,9 @@ class Proofs:
 
 
 class Run:
-    """The proof of one crate, under way; with what the processors have to spare, where it says so."""
+    """The proof of one crate, under way."""
 
-    def __init__(self, proofs, name, jobs, spare=False):
+    def __init__(self, proofs, name, jobs):
         self.name, self.jobs, self.need, self.sum = name, jobs, proofs.need(name, jobs), proofs.sums[name]
         self.place = os.path.join(LIBRARIES, name)
         shutil.rmtree(self.place, ignore_errors=True)
@@ -206,8 +210,7 @@ class Run:
         words = proofs.kit.words(proofs, name, jobs, self.place)
         where = os.path.join(proofs.tree, "crates", name)
         quiet = {"stdin": subprocess.DEVNULL, "stdout": self.output, "stderr": subprocess.STDOUT}
-        last = {"preexec_fn": lambda: os.nice(19)} if spare else {}
-        self.child = subprocess.Popen(words, cwd=where, start_new_session=True, **quiet, **last)
+        self.child = subprocess.Popen(words, cwd=where, start_new_session=True, **quiet)
 
     def told(self):
         self.output.seek(0)
