@@ -295,7 +295,7 @@ def prove(proofs, log):
     try:
         proofs.begin_ready()
         while proofs.running:
-            progress.done = len(proofs.done)
+            progress.done = sum(name in proofs.done for name in proofs.names)
             progress.show(list(proofs.running))
             time.sleep(0.1)
             if proofs.end_ended(log):
