@@ -242,8 +242,8 @@ class Kit:
         return os.path.join(self.at, "rlibs", name + ".rlib")
 
     def words(self, proofs, name, jobs, place):
-        """The call that proves a crate from nothing, and builds its library, its archive or the program's object
-        file."""
+        """The call that proves a crate from nothing, a static library from what was begun of it, and builds its library,
+        its archive or the program's object file."""
         is_program = os.path.isfile(os.path.join(proofs.tree, "crates", name, "src", "main.rt"))
         words = [self.prover, "build", "--crate-name", name, "src/main.rt" if is_program else "src/lib.rt"]
         for other in ["std", *(other for other in proofs.listed[name] if other not in proofs.crates)]:

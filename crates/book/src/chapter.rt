@@ -26,7 +26,7 @@ use txn_declarations::same::{same_runs, same_values};
 pub struct Chapter<'a> {
     /// The catalogue that the book was opened on.
     opened: &'a Catalogue,
-    /// Whether the runs of that catalogue are this chapter's: of the first alone.
+    /// Whether this is the first chapter, which has the runs and the initial values of that catalogue.
     is_first: bool,
     /// The values at which a later chapter begins, in room that the first one leaves empty.
     later: Vec<i64>,

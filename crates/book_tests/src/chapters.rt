@@ -2,7 +2,7 @@
 
 use crate::looks::{Look, Said};
 use crate::rows::{Step, What, expect};
-use crate::texts::{ALL_TASKS, FAR_APART, HOLDING, MANY_CELLS, MIXED};
+use crate::texts::{ALL_TASKS, FAR_APART, FAR_APART_WIDE, HOLDING, MANY_CELLS, MIXED};
 use book::{Serial, Standing};
 use txn::{Outcome, TaskId, TxId, VarId};
 
@@ -149,6 +149,17 @@ const FAR_ONES: &[Step] = &[
 #[test]
 fn those_far_apart_come_over(rt: HostRuntime) {
     expect(&rt, rt.alloc(), FAR_APART, None, &What::Steps(FAR_ONES));
+}
+
+#[test]
+fn those_far_apart_come_over_where_there_are_cells(rt: HostRuntime) {
+    expect(
+        &rt,
+        rt.alloc(),
+        FAR_APART_WIDE,
+        None,
+        &What::Steps(FAR_ONES),
+    );
 }
 
 /// The higher of two tasks is parked first. Both come over, and each is woken by its own cell.

@@ -51,6 +51,11 @@ pub(crate) const FAR_APART: &str =
     "(var n 0)(tx wait (if (lt n 9) (retry) (skip)) n)(tx none (set n (add n 0)) n)(tx to_9 (set n 9) 9)(run wait \
         1)(run none 62)(run wait 2)(run none 65470)(run wait 1)";
 
+/// The same, where n is the last of 300 cells.
+pub(crate) const FAR_APART_WIDE: &str =
+    "(stm 3)(table n 300 0)(tx wait () (if (lt (at n 299) 9) (retry) (skip)) (at n 299))(tx none () (put n 299 (add (at \
+        n 299) 0)) (at n 299))(tx to_9 () (put n 299 9) 9)(run wait 1)(run none 62)(run wait 2)(run none 65470)(run wait 1)";
+
 /// `add` gives x so much. `take` waits for x to be so much, takes so much of it, and tells what was left over.
 pub(crate) const GIVING: &str =
     "(stm 3)(var x 0)(tx none () (skip) 0)(tx add (n) (set x (add x n)) x)(tx take (n m) (if (lt x n) (retry) (set x \
