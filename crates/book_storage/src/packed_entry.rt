@@ -7,7 +7,7 @@ use std::marker::Model;
 use txn_programs::{AlwaysId, Entry, Fault, Outcome, TaskId, TxId};
 
 /// How a task ended; what is told with it is the packed entry's value.
-#[derive(Clone, Copy, Debug, PartialEq, Eq)]
+#[derive(Clone, Copy)]
 pub(crate) enum How {
     Returned,
     User,

@@ -20,7 +20,7 @@ use txn_text::laws::spells_one;
 use txn_text::{ReadFault, read_file};
 
 /// What is said of a file and its report, which are to go on where an earlier file and its report ended.
-#[derive(Clone, Copy, Debug, PartialEq, Eq)]
+#[derive(Clone, Copy, PartialEq, Eq)]
 pub enum ChapterVerdict {
     /// Both reports are lawful, and the file goes on where the earlier one ended.
     Good,
@@ -33,7 +33,7 @@ pub enum ChapterVerdict {
 }
 
 /// Why there is no verdict on a chapter.
-#[derive(Clone, Copy, Debug, PartialEq, Eq)]
+#[derive(Clone, Copy, PartialEq, Eq)]
 pub enum ChapterFault {
     /// The file is refused, by a fault of this kind, which is never `Memory`.
     File(ReadFault),

@@ -7,7 +7,7 @@ ghost use Rattle.checker.specs.View.{view};
 use std::alloc::{AllocError, Global};
 
 /// A number, with the values and versions that stand at it.
-#[derive(Debug, Drop)]
+#[derive(Drop)]
 pub struct Stage {
     pub number: u64,
     pub values: Vec<i64>,

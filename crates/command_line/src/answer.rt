@@ -7,7 +7,7 @@ use run_interface::RunFault;
 use text_words::ReadFault;
 
 /// What came of the command line.
-#[derive(Clone, Copy, Debug, PartialEq, Eq)]
+#[derive(Clone, Copy, PartialEq, Eq)]
 pub enum Answer {
     /// A report was printed or found lawful, or the text of a world, or the help or the version that
     /// was asked for, was printed.

@@ -16,7 +16,7 @@ pub struct Check<'a> {
 }
 
 /// An earlier file, and a report of it.
-#[derive(Clone, Copy, Debug, PartialEq, Eq)]
+#[derive(Clone, Copy, PartialEq, Eq)]
 pub struct Earlier<'a> {
     /// The path of the file.
     pub file: &'a str,

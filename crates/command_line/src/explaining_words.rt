@@ -15,7 +15,7 @@ pub struct Explain<'a> {
 }
 
 /// A file, or what is of a file.
-#[derive(Clone, Copy, Debug, PartialEq, Eq)]
+#[derive(Clone, Copy, PartialEq, Eq)]
 pub enum Explained<'a> {
     /// The file itself.
     File,

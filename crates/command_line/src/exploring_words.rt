@@ -23,7 +23,7 @@ pub struct Orders<'a> {
 }
 
 /// What is sought of a transaction.
-#[derive(Clone, Copy, Debug, PartialEq, Eq)]
+#[derive(Clone, Copy, PartialEq, Eq)]
 pub struct Find<'a> {
     /// The transaction's name.
     pub transaction: &'a str,

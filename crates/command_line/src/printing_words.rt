@@ -14,7 +14,7 @@ pub struct Print<'a> {
 }
 
 /// A file, or what comes behind it.
-#[derive(Clone, Copy, Debug, PartialEq, Eq)]
+#[derive(Clone, Copy, PartialEq, Eq)]
 pub enum Printed<'a> {
     /// The file itself.
     File,

@@ -13,7 +13,7 @@ use text_words::ReadFault;
 use txn::Memory;
 
 /// What was told of a file.
-#[derive(Clone, Copy, Debug, PartialEq, Eq)]
+#[derive(Clone, Copy, PartialEq, Eq)]
 pub enum Judgement {
     /// It is read.
     Good,

@@ -19,7 +19,7 @@ use text_words::ReadFault;
 use txn::Memory;
 
 /// What is wrong at the place.
-#[derive(Clone, Copy, Debug, PartialEq, Eq)]
+#[derive(Clone, Copy, PartialEq, Eq)]
 pub enum Finding {
     /// The file has this byte, which is one too many.
     TooLong,
@@ -39,7 +39,7 @@ pub enum Finding {
 }
 
 /// Why a file is refused.
-#[derive(Clone, Copy, Debug, PartialEq, Eq)]
+#[derive(Clone, Copy, PartialEq, Eq)]
 pub struct Refusal {
     /// The kind of its first fault.
     pub kind: ReadFault,
@@ -49,7 +49,7 @@ pub struct Refusal {
 }
 
 /// Whether a file is read, or why it is refused.
-#[derive(Clone, Copy, Debug, PartialEq, Eq)]
+#[derive(Clone, Copy, PartialEq, Eq)]
 pub enum Explanation {
     Good,
     Refused(Refusal),

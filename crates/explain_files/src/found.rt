@@ -10,7 +10,7 @@ use crate::tokens::{token_len, token_place};
 use text_words::lexer::{Token, next_token};
 
 /// A token, where it begins, and where the text goes on behind it.
-#[derive(Clone, Copy, Debug)]
+#[derive(Clone, Copy)]
 pub(crate) struct Found<'a> {
     pub place: usize,
     pub token: Token<'a>,

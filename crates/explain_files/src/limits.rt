@@ -20,7 +20,7 @@ use text_words::numeral::Numeral;
 use txn_programs::limits::{MAX_CELLS, MAX_TABLES};
 
 /// Which limit is gone over.
-#[derive(Clone, Copy, Debug, PartialEq, Eq)]
+#[derive(Clone, Copy, PartialEq, Eq)]
 pub enum LimitFault {
     /// A number needs more than 64 signed bits.
     Number,
@@ -51,7 +51,7 @@ pub enum LimitFault {
 }
 
 /// How many of each kind there were so far.
-#[derive(Clone, Copy, Debug)]
+#[derive(Clone, Copy)]
 struct Counts {
     variables: usize,
     tables: usize,
@@ -216,7 +216,7 @@ fn judged(counts: &mut Counts, role: Role, token: Token<'_>, behind: &[u8]) -> O
 }
 
 /// What goes over a limit, and its place.
-#[derive(Clone, Copy, Debug)]
+#[derive(Clone, Copy)]
 pub(crate) struct Excess {
     pub place: usize,
     pub fault: LimitFault,

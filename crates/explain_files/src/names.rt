@@ -21,7 +21,7 @@ use text_words::lexer::{Token, next_token};
 use txn::Memory;
 
 /// What is wrong with a name.
-#[derive(Clone, Copy, Debug, PartialEq, Eq)]
+#[derive(Clone, Copy, PartialEq, Eq)]
 pub enum NameFault {
     /// This declares it a second time.
     Twice(NameUse),
@@ -253,7 +253,7 @@ fn judged<'a>(
 }
 
 /// A name that is wrong, and its place.
-#[derive(Clone, Copy, Debug)]
+#[derive(Clone, Copy)]
 pub(crate) struct WrongName {
     pub place: usize,
     pub fault: NameFault,

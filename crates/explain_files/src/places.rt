@@ -6,7 +6,7 @@ ghost use Rattle.text_words.specs.Bytes.{is_in_line};
 ghost use Rattle.explain_files.specs.Places.{line_at, column_at};
 
 /// A line and a column, both from 1, in bytes.
-#[derive(Clone, Copy, Debug, PartialEq, Eq)]
+#[derive(Clone, Copy, PartialEq, Eq)]
 pub struct Position {
     pub line: usize,
     pub column: usize,

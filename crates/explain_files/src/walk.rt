@@ -13,7 +13,7 @@ use std::alloc::{AllocError, Global};
 use text_words::lexer::{Token, next_token};
 
 /// What stands at the next place.
-#[derive(Clone, Copy, Debug)]
+#[derive(Clone, Copy)]
 pub(crate) struct Step<'a> {
     /// Where the token begins, or the end.
     pub place: usize,
@@ -72,7 +72,7 @@ pub(crate) fn next_step<'a>(
 }
 
 /// Where the bytes stop being the beginning of a file.
-#[derive(Clone, Copy, Debug)]
+#[derive(Clone, Copy)]
 pub(crate) struct Stop {
     pub place: usize,
     pub wanted: Option<Wanted>,

@@ -3,7 +3,7 @@
 use text_grammar::file::FileForm;
 
 /// What a name is for.
-#[derive(Clone, Copy, Debug, PartialEq, Eq)]
+#[derive(Clone, Copy, PartialEq, Eq)]
 pub enum NameUse {
     /// It declares a variable.
     Variable,
@@ -24,7 +24,7 @@ pub enum NameUse {
 }
 
 /// What a number is for.
-#[derive(Clone, Copy, Debug, PartialEq, Eq)]
+#[derive(Clone, Copy, PartialEq, Eq)]
 pub enum NumberUse {
     /// The initial value of a variable.
     Initial,
@@ -41,7 +41,7 @@ pub enum NumberUse {
 }
 
 /// What a declaration declares, by its word.
-#[derive(Clone, Copy, Debug, PartialEq, Eq)]
+#[derive(Clone, Copy, PartialEq, Eq)]
 pub enum Kind {
     /// `var`
     Variable,
@@ -56,7 +56,7 @@ pub enum Kind {
 }
 
 /// The part of a file in which a declaration stands: what may come there and behind it.
-#[derive(Clone, Copy, Debug, PartialEq, Eq)]
+#[derive(Clone, Copy, PartialEq, Eq)]
 pub enum Section {
     /// The beginning: variables, transactions and runs, or the announcement of form 2 or 3.
     Start,
@@ -74,7 +74,7 @@ pub enum Section {
 
 /// What is wanted at a place. With an expression, a condition or a statement goes the form of the file, and how many
 /// more parentheses may be open inside.
-#[derive(Clone, Copy, Debug, PartialEq, Eq)]
+#[derive(Clone, Copy, PartialEq, Eq)]
 pub enum Wanted {
     /// A declaration, or the end.
     Declarations(Section),
@@ -106,7 +106,7 @@ pub enum Wanted {
 }
 
 /// What a token is for, as those before it say.
-#[derive(Clone, Copy, Debug, PartialEq, Eq)]
+#[derive(Clone, Copy, PartialEq, Eq)]
 pub enum Role {
     /// It stands behind an opening parenthesis: the word of what is in it.
     Word,

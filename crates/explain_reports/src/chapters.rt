@@ -24,7 +24,7 @@ use txn_text::laws::spells_one;
 use txn_text::{ReadFault, read_file};
 
 /// Why nothing is said of a chapter, or not all of it.
-#[derive(Clone, Copy, Debug, PartialEq, Eq)]
+#[derive(Clone, Copy, PartialEq, Eq)]
 pub enum ChapterUntold {
     /// There is no verdict. Nothing was written.
     Unjudged(ChapterFault),

@@ -23,14 +23,14 @@ use text_words::bytes::as_text;
 use txn::{Catalogue, Memory, Report};
 
 /// A line of a report: its number, counted from 1, and its text without the newline.
-#[derive(Clone, Copy, Debug)]
+#[derive(Clone, Copy)]
 pub struct Line<'a> {
     pub number: usize,
     pub text: &'a str,
 }
 
 /// What is said of the bytes of a report.
-#[derive(Clone, Copy, Debug)]
+#[derive(Clone, Copy)]
 pub enum ReportExplanation<'a> {
     /// The report is lawful.
     Good,

@@ -7,7 +7,7 @@ use checker::Part;
 use txn::{AlwaysId, Entry, Outcome, TxId};
 
 /// A line of a report that names a task: which it is among those of its kind, counted from 0.
-#[derive(Clone, Copy, Debug, PartialEq, Eq)]
+#[derive(Clone, Copy, PartialEq, Eq)]
 pub enum TaskLine {
     Entry(usize),
     Parked(usize),
@@ -16,7 +16,7 @@ pub enum TaskLine {
 
 /// The first thing that does not hold of a report, in the first part that does not hold. Variables
 /// and entries are counted from 0.
-#[derive(Clone, Copy, Debug, PartialEq, Eq)]
+#[derive(Clone, Copy, PartialEq, Eq)]
 pub enum Flaw {
     /// This standing condition is not true on the base's values, and those before it are.
     Untrue(AlwaysId),

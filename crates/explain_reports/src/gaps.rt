@@ -14,7 +14,7 @@ use txn::{Catalogue, Memory, Report};
 use txn_text::print_file;
 
 /// The first lines at which two texts differ, if they do.
-#[derive(Clone, Copy, Debug)]
+#[derive(Clone, Copy)]
 pub(crate) enum Difference<'a> {
     /// The two have the same lines.
     None,

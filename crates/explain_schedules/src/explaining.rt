@@ -15,7 +15,7 @@ use text_words::ReadFault;
 use txn::{Catalogue, Memory, Span};
 
 /// What is wrong at the place.
-#[derive(Clone, Copy, Debug, PartialEq, Eq)]
+#[derive(Clone, Copy, PartialEq, Eq)]
 pub enum Finding {
     /// The schedule has this byte, which is one too many.
     TooLong,
@@ -34,7 +34,7 @@ pub enum Finding {
 }
 
 /// Why a schedule is refused.
-#[derive(Clone, Copy, Debug, PartialEq, Eq)]
+#[derive(Clone, Copy, PartialEq, Eq)]
 pub struct Refusal {
     /// The kind of its first fault.
     pub kind: ReadFault,
@@ -44,7 +44,7 @@ pub struct Refusal {
 }
 
 /// Whether a schedule is read, or why it is refused.
-#[derive(Clone, Copy, Debug, PartialEq, Eq)]
+#[derive(Clone, Copy, PartialEq, Eq)]
 pub enum ScheduleExplanation {
     Good,
     Refused(Refusal),

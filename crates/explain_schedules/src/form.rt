@@ -8,7 +8,7 @@ ghost use Rattle.explain_schedules.specs.Walking.{IsWalked};
 use crate::line::{Wanted, line_of, split_once};
 
 /// Where bytes stop being the beginning of a schedule.
-#[derive(Clone, Copy, Debug)]
+#[derive(Clone, Copy)]
 pub(crate) struct Stop {
     pub place: usize,
     pub wanted: Wanted,

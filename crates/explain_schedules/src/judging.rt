@@ -17,7 +17,7 @@ use text_line_reader::{Count, cell_named, knows_cells, task_id};
 use txn::{Catalogue, Span};
 
 /// Which words are judged.
-#[derive(Clone, Copy, Debug)]
+#[derive(Clone, Copy)]
 pub(crate) enum Judged {
     /// The names of variables and cells.
     Names,

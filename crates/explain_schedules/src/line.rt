@@ -10,7 +10,7 @@ ghost use Rattle.explain_schedules.specs.Lines.{IsLine, StopsAt};
 use text_line_reader::{Count, cell_in, is_bracketed, is_word, name_in, number_in, part};
 
 /// What is wanted where a line stops being one.
-#[derive(Clone, Copy, Debug, PartialEq, Eq)]
+#[derive(Clone, Copy, PartialEq, Eq)]
 pub enum Wanted {
     /// A line: a verb with what belongs to it.
     Line,
@@ -25,7 +25,7 @@ pub enum Wanted {
 }
 
 /// A line.
-#[derive(Clone, Copy, Debug)]
+#[derive(Clone, Copy)]
 pub(crate) enum Line<'a> {
     /// The place of its task in it, and the task.
     OfTask(usize, Count<'a>),
@@ -37,7 +37,7 @@ pub(crate) enum Line<'a> {
 }
 
 /// The first word of a line that is none of a line's there.
-#[derive(Clone, Copy, Debug)]
+#[derive(Clone, Copy)]
 pub(crate) struct WrongWord {
     /// How many bytes of the line stand before it.
     pub at: usize,

@@ -3,14 +3,14 @@
 use txn_programs::limits::MAX_CONDITIONS;
 
 /// A configuration without a turn: the values, and for each instance how many of its tasks wait.
-#[derive(Debug, PartialEq, Eq, PartialOrd, Ord, Drop)]
+#[derive(PartialEq, Eq, PartialOrd, Ord, Drop)]
 pub struct End {
     pub values: Vec<i64>,
     pub waiting: Vec<u32>,
 }
 
 /// Which outcomes the turns of a transaction have.
-#[derive(Clone, Copy, Debug, PartialEq, Eq)]
+#[derive(Clone, Copy, PartialEq, Eq)]
 pub struct Kinds {
     pub returned: bool,
     pub threw: bool,
@@ -23,7 +23,7 @@ pub struct Kinds {
 }
 
 /// What is found of all orders of a file's tasks.
-#[derive(Debug, PartialEq, Eq, Drop)]
+#[derive(Drop)]
 pub struct Found {
     /// How many configurations are reached.
     pub states: usize,

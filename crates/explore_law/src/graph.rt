@@ -4,7 +4,7 @@ use crate::instance::InstanceId;
 use txn_programs::Outcome;
 
 /// A turn of a configuration.
-#[derive(Clone, Copy, Debug, PartialEq, Eq)]
+#[derive(Clone, Copy, PartialEq, Eq)]
 pub struct Turn {
     /// Whose it is.
     pub instance: InstanceId,
@@ -15,7 +15,7 @@ pub struct Turn {
 }
 
 /// A configuration that is reached: the values, for each instance how many of its tasks are left, and the turns.
-#[derive(Debug, PartialEq, Eq, Drop)]
+#[derive(Drop)]
 pub struct Node {
     pub values: Vec<i64>,
     pub left: Vec<u32>,
@@ -23,7 +23,7 @@ pub struct Node {
 }
 
 /// Every configuration that is reached, and the turns that lead from one to another.
-#[derive(Debug, PartialEq, Eq, Drop)]
+#[derive(Drop)]
 pub struct Graph {
     pub nodes: Vec<Node>,
 }

@@ -4,7 +4,7 @@ use crate::instance::InstanceId;
 use txn_programs::ast::AlwaysId;
 
 /// What is sought of a transaction with a task left: how its turn ends, or that it has none.
-#[derive(Clone, Copy, Debug, PartialEq, Eq)]
+#[derive(Clone, Copy)]
 pub enum Sought {
     /// It returns: this value, or any.
     Returned(Option<i64>),
@@ -23,7 +23,7 @@ pub enum Sought {
 }
 
 /// Turns that lead to where what is sought shows, and the instance by which it shows there.
-#[derive(Debug, PartialEq, Eq, Drop)]
+#[derive(Drop)]
 pub struct WayWhere {
     pub turns: Vec<InstanceId>,
     pub instance: InstanceId,

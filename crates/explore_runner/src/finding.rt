@@ -24,7 +24,7 @@ use text_report_printer::print_report;
 use txn::{Catalogue, Memory};
 
 /// What came of looking for a turn.
-#[derive(Clone, Copy, Debug, PartialEq, Eq)]
+#[derive(Clone, Copy, PartialEq, Eq)]
 pub enum Sighted {
     /// There is one, and a report that comes to it.
     Report,

@@ -17,7 +17,7 @@ use text_words::numeral::Numeral;
 use txn::names::is_name;
 
 /// How a turn ends, in the words of a report's entry or by its kind alone, or that there is none.
-#[derive(Clone, Copy, Debug, PartialEq, Eq)]
+#[derive(Clone, Copy, PartialEq, Eq)]
 pub enum OutcomeWords<'a> {
     /// `returned V`, or `returned`.
     Returned(Option<i64>),

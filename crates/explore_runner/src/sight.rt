@@ -1,7 +1,7 @@
 //! How much was seen.
 
 /// Whether all orders were seen.
-#[derive(Clone, Copy, Debug, PartialEq, Eq)]
+#[derive(Clone, Copy, PartialEq, Eq)]
 pub enum Sight {
     /// All were.
     Whole,
@@ -10,7 +10,7 @@ pub enum Sight {
 }
 
 /// Whether all orders were seen, and whether they come to what is denied.
-#[derive(Debug, PartialEq, Eq, Drop)]
+#[derive(PartialEq, Eq, Drop)]
 pub enum Judged {
     /// All were, and none comes to anything that is denied.
     Clear,
@@ -21,7 +21,7 @@ pub enum Judged {
 }
 
 /// What came of asking for a report that comes to an end.
-#[derive(Clone, Copy, Debug, PartialEq, Eq)]
+#[derive(Clone, Copy, PartialEq, Eq)]
 pub enum Witnessed {
     /// There is one.
     Report,

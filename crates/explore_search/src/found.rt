@@ -27,7 +27,7 @@ use txn::{Catalogue, Memory};
 pub const MAX_STATES: u32 = 16_777_216;
 
 /// Why orders were not seen whole.
-#[derive(Clone, Copy, Debug, PartialEq, Eq, Error)]
+#[derive(Clone, Copy, Debug, Error)]
 pub enum Unexplored {
     /// More configurations are reached than were asked for.
     #[error("more states")]

@@ -12,7 +12,7 @@ use std::alloc::Global;
 use txn::{Catalogue, Memory, Report, with_upheld_values};
 
 /// With which catalogue work goes on where a report ended.
-#[derive(Clone, Copy, Debug, PartialEq, Eq)]
+#[derive(Clone, Copy)]
 pub enum Next {
     /// With that of the report, whose variables begin at the present values: all its tasks once more.
     Again,

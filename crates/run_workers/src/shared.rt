@@ -63,7 +63,7 @@ pub(crate) struct Named<'a, N: Naming> {
 }
 
 /// How a try ended.
-#[derive(Clone, Copy, Debug, PartialEq, Eq)]
+#[derive(Clone, Copy)]
 pub(crate) enum TryEnd {
     /// The task is over: no worker has it any more. The next one, where it was taken at the same time under
     /// the lock.

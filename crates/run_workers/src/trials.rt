@@ -24,7 +24,7 @@ use txn::{Catalogue, TaskId};
 const TOGETHER: usize = 6;
 
 /// How a trial stands.
-#[derive(Clone, Copy, Debug, PartialEq, Eq)]
+#[derive(Clone, Copy)]
 pub(crate) enum How {
     /// It has no task.
     Idle,

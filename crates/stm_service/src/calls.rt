@@ -34,7 +34,7 @@ pub(crate) enum Begun {
 }
 
 /// Whether a call may wait for its task.
-#[derive(Clone, Copy, PartialEq, Eq)]
+#[derive(Clone, Copy)]
 pub(crate) enum Way {
     Waits,
     /// Where its transaction retries nothing is submitted, but for a long one.

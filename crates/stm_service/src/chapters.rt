@@ -10,7 +10,7 @@ use crate::desk::Desk;
 use stm_store::{FileFault, ReportFault};
 
 /// Whether the next chapter has begun.
-#[derive(Clone, Copy, PartialEq, Eq)]
+#[derive(Clone, Copy)]
 pub(crate) enum Page {
     Begun,
     /// It would have no more room: each task still waits.

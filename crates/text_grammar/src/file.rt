@@ -16,7 +16,7 @@ pub struct RawPair<'a> {
 }
 
 /// The form of a file: the second can have standing conditions, and the third tables and parameters as well.
-#[derive(Clone, Copy, Debug, PartialEq, Eq)]
+#[derive(Clone, Copy, PartialEq, Eq)]
 pub enum FileForm {
     One,
     Two,

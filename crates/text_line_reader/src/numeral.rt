@@ -10,7 +10,7 @@ ghost use Rattle.text_line_reader.specs.Counts.{below};
 use text_words::ReadFault;
 
 /// The text of an integer without a sign, of any length.
-#[derive(Clone, Copy, Debug)]
+#[derive(Clone, Copy)]
 pub struct Count<'a> {
     pub text: &'a str,
     ghost written: { is_number text.now ≡ true },

@@ -12,7 +12,7 @@ use crate::bytes::{as_text, atom_len, digits_len, is_atom_byte, line_len, name_l
 use crate::numeral::Numeral;
 
 /// A parenthesis, or an atom.
-#[derive(Clone, Copy, Debug)]
+#[derive(Clone, Copy)]
 pub enum Token<'a> {
     Open,
     Close,

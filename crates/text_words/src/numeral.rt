@@ -39,7 +39,7 @@ fn short_int(text: &[u8]) -> i64
 }
 
 /// The text of an integer, of any length.
-#[derive(Clone, Copy, Debug)]
+#[derive(Clone, Copy)]
 pub struct Numeral<'a> {
     pub text: &'a str,
     ghost written: { is_int text.now ≡ true },

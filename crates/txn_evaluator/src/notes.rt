@@ -9,7 +9,7 @@ ghost use Rattle.txn_evaluator.specs.Notes.{undone, AreInside, LeadBack};
 use std::alloc::AllocError;
 
 /// Where in a state a value was written, and the value before.
-#[derive(Clone, Copy, Debug, PartialEq, Eq)]
+#[derive(Clone, Copy)]
 pub struct Note {
     pub place: usize,
     pub old: i64,

@@ -4,7 +4,7 @@ use crate::ast::{TaskId, VarId};
 
 /// A line of a schedule. `Read`, `Commit` and `Move` are several single steps played in a row, each
 /// other line is one.
-#[derive(Clone, Copy, Debug, PartialEq, Eq)]
+#[derive(Clone, Copy, PartialEq, Eq)]
 pub enum Move {
     /// The task begins an attempt.
     Begin(TaskId),

@@ -10,7 +10,7 @@ use world_law::Fate;
 
 /// An attempt that began: its task, the number of the state that it reads, what it has read, in
 /// this order, and what became of it.
-#[derive(Clone, Copy, Debug)]
+#[derive(Clone, Copy)]
 pub struct Begun<'a> {
     pub task: TaskId,
     pub rv: u64,

@@ -21,7 +21,7 @@ use world_law::{Fate, Loads, Seen};
 
 /// The state that an attempt which runs again checks: its number, and how many of the pairs that it
 /// read it has found to be so there.
-#[derive(Clone, Copy, Debug, PartialEq, Eq)]
+#[derive(Clone, Copy)]
 pub struct Checking {
     pub candidate: u64,
     pub checked: usize,

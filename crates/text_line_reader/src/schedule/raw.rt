@@ -3,7 +3,7 @@
 use crate::Count;
 
 /// The first word of a line that names a task alone.
-#[derive(Clone, Copy, Debug)]
+#[derive(Clone, Copy)]
 pub(crate) enum TaskVerb {
     Begin,
     Commit,
@@ -16,14 +16,14 @@ pub(crate) enum TaskVerb {
 }
 
 /// The first word of a line that names a task, and a variable or a cell.
-#[derive(Clone, Copy, Debug)]
+#[derive(Clone, Copy)]
 pub(crate) enum VariableVerb {
     Read,
     First,
 }
 
 /// A line.
-#[derive(Clone, Copy, Debug)]
+#[derive(Clone, Copy)]
 pub(crate) enum RawMove<'a> {
     OfTask(TaskVerb, Count<'a>),
     OfVariable(VariableVerb, Count<'a>, &'a str),
