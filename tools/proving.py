@@ -155,6 +155,7 @@ class Proofs:
                 jobs -= 1
             if self.need(name, jobs) <= self.room():
                 self.meanwhile[name] = Run(self, name, jobs)
+                self.meanwhile[name].give_way()
                 return
 
     def end_beside(self, log):
@@ -211,6 +212,15 @@ class Run:
         where = os.path.join(proofs.tree, "crates", name)
         quiet = {"stdin": subprocess.DEVNULL, "stdout": self.output, "stderr": subprocess.STDOUT}
         self.child = subprocess.Popen(words, cwd=where, start_new_session=True, **quiet)
+
+    def give_way(self):
+        """All others go first, also where the system shares its time out by sessions."""
+        try:
+            os.setpriority(os.PRIO_PROCESS, self.child.pid, 19)
+            with open(f"/proc/{self.child.pid}/autogroup", "w") as group:
+                group.write("19")
+        except OSError:
+            pass
 
     def told(self):
         self.output.seek(0)

@@ -1,8 +1,7 @@
 -- A call that was evaluated in place, and undone.
-use Rattle.std.proofs.Common.{◌≡◌, ◌≢◌, ◌∙◌, ℤ, List, length, ap, sym, subst}
+use Rattle.std.proofs.Common.{◌≡◌, ◌∙◌, ℤ, List, length, ap, sym, subst}
 use Rattle.txn_programs.specs.declared.ast.TxId.{TxId}
 use Rattle.txn_programs.specs.declared.ast.Outcome.{Outcome}
-use Rattle.txn_programs.specs.declared.ast.Outcome.TheVariants.{Retries}
 use Rattle.txn_programs.specs.Listing.{Listing, call_program}
 use Rattle.txn_programs.specs.Meaning.{State, outcome, after}
 use Rattle.txn_programs.specs.Tree.{Program}
@@ -16,12 +15,11 @@ use Rattle.book.proofs.Noting.{told_back}
 use Rattle.book.proofs.Programs.{same_call}
 
 -- by a listing of the same program, from the state m to the state n
-pub ends_plainly : (a l : Listing) (tx : TxId) (given : List ℤ) (m n : State) (how : Outcome) (ns : List Note) (w : Known) → SameProgram a l → how ≡ outcome (call_program a tx given) m → n ≡ after (call_program a tx given) m → undone ns n ≡ m → length n ≡ length m → length m ≡ length l.initial → TellNoted ns n w → how ≢ Retries → EndsPlainly l tx given m how w
-ends_plainly a l tx given m n how ns w same o e back long wide told ends =
+pub ends_plainly : (a l : Listing) (tx : TxId) (given : List ℤ) (m n : State) (how : Outcome) (ns : List Note) (w : Known) → SameProgram a l → how ≡ outcome (call_program a tx given) m → n ≡ after (call_program a tx given) m → undone ns n ≡ m → length n ≡ length m → length m ≡ length l.initial → TellNoted ns n w → EndsPlainly l tx given m how w
+ends_plainly a l tx given m n how ns w same o e back long wide told =
     let p = same_call a l tx given same in
     record {
       outcome_is = o ∙ ap (λ (t : Program). outcome t m) p;
-      ends = ends;
       after_is = sym (ap (λ (t : Program). after t m) p) ∙ (sym e ∙ told_back ns n m w back long told);
       ascending = told.ascending;
       known = subst (λ k. AllKnown k w) (long ∙ wide) told.known;

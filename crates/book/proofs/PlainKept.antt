@@ -1,14 +1,15 @@
 -- A book in which a run in place was undone.
-use Rattle.std.proofs.Common.{◌≡◌, ◌≢◌, ◌∙◌, ◌+◌, ℕ, ℤ, List, Option, Some, None, IfSome, map, ap, sym, subst}
-use Rattle.std.specs.Option.{IfNone}
+use Rattle.std.proofs.Common.{◌≡◌, ◌≢◌, ◌∙◌, ◌+◌, ℕ, ℤ, List, Result, Ok, Err, IfOk, OnErr, map, ap, sym, subst}
 use Rattle.txn_programs.specs.declared.ast.TaskId.{TaskId}
 use Rattle.txn_programs.specs.declared.ast.TxId.{TxId}
 use Rattle.txn_programs.specs.declared.ast.Outcome.{Outcome}
+use Rattle.txn_programs.specs.declared.ast.Outcome.TheVariants.{Retries}
 use Rattle.txn_programs.specs.Listing.{task_tx, task_arguments, task_program}
 use Rattle.txn_programs.specs.Meaning.{State, outcome}
 use Rattle.attempt.specs.Asking.{Known}
 use Rattle.book.specs.declared.book.Book.TheInside.{Inside}
 use Rattle.book.specs.declared.stored.Stored.{Stored}
+use Rattle.book.specs.declared.task.NotPlain.{NotPlain}
 use Rattle.book.specs.declared.written.Written.{Written}
 use Rattle.book.specs.BookInside.{book_of, with_values, IsKept}
 use Rattle.book.specs.Changed.{AreListed}
@@ -55,12 +56,12 @@ ends_here b v task tx given how w view own own_given h =
     (subst (λ (x : TxId). EndsPlainly b.chapter.listing x given b.present.values.items how w) own h))
 
 -- a commit of what was written, behind which the room is kept
-pub commits_as : (old b c new : BookView) (task : TaskId) (how : Outcome) (w : Known) (n : ℕ) → IsRunning old task → b ≡ old → TaskEndsPlainly old task how w → n ≡ b.present.number + 1 → c ≡ committed b task → new ≡ c → CommitsAs old task how n new
-commits_as old b c new task how w n runs same h number is kept =
+pub commits_as : (old b c new : BookView) (task : TaskId) (how : Outcome) (w : Known) (n : ℕ) → IsRunning old task → b ≡ old → TaskEndsPlainly old task how w → how ≢ Retries → n ≡ b.present.number + 1 → c ≡ committed b task → new ≡ c → CommitsAs old task how n new
+commits_as old b c new task how w n runs same h ends number is kept =
     record {
       served = (
         runs,
-        (λ e. h.ends (h.outcome_is ∙ e)),
+        (λ e. ends (h.outcome_is ∙ e)),
         number ∙ ap (λ (x : BookView). x.present.number + 1) same,
         kept ∙ (is ∙ ap (λ (x : BookView). committed x task) same),
       );
@@ -68,6 +69,6 @@ commits_as old b c new task how w n runs same h number is kept =
     }
 
 -- neither a commit nor no turn changes the catalogue
-pub turned_catalogue : (old new : BookView) (task : TaskId) (r : Option (Outcome × ℕ)) → IfSome r (λ p. CommitsAs old task p.0 p.1 new) → IfNone r (new ≡ old) → new.catalogue ≡ old.catalogue
-turned_catalogue old new task (Some p) h g = ap (λ (b : BookView). b.catalogue) h.served.3 ∙ committed_catalogue old task
-turned_catalogue old new task None h g = ap (λ (b : BookView). b.catalogue) g
+pub turned_catalogue : (old new : BookView) (task : TaskId) (r : Result (Outcome × ℕ) NotPlain) → IfOk r (λ p. CommitsAs old task p.0 p.1 new) → OnErr r (new ≡ old) → new.catalogue ≡ old.catalogue
+turned_catalogue old new task (Ok p) h g = ap (λ (b : BookView). b.catalogue) h.served.3 ∙ committed_catalogue old task
+turned_catalogue old new task (Err why) h g = ap (λ (b : BookView). b.catalogue) g

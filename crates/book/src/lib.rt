@@ -29,4 +29,4 @@ mod written;
 pub use book::Book;
 pub use counting::Counts;
 pub use standing::Standing;
-pub use task::{Finish, Serial};
+pub use task::{Finish, NotPlain, Serial};

@@ -1,18 +1,18 @@
 //! Turns by plain evaluation: a transaction is evaluated in place on the present values, and no log is kept.
 
-ghost use Rattle.std.specs.Prelude.{◌≡◌, ◌<◌, ◌≤◌, length, IfOk, IfSome, IfNone, OnOk};
+ghost use Rattle.std.specs.Prelude.{◌≡◌, ◌<◌, ◌≤◌, length, IfOk, IfErr, OnOk, OnErr};
 ghost use Rattle.txn_programs.specs.declared.limits.TheConstants.{MAX_VALUES};
 ghost use Rattle.txn_programs.specs.Listing.{IsCallable, call_program, task_tx};
 ghost use Rattle.txn_programs.specs.Meaning.{outcome, after};
 ghost use Rattle.txn_evaluator.specs.Notes.{undone, AreInside};
 ghost use Rattle.attempt.specs.Room.{TakesMemory};
-ghost use Rattle.book.specs.Turns.{CommitsAs, Served, TaskEndsPlainly};
+ghost use Rattle.book.specs.Turns.{CommitsAs, IsNotPlain, Served, TaskEndsPlainly};
 ghost use Rattle.book.specs.View.{IsRunning};
 ghost use Rattle.book.specs.Written.{EndsPlainly};
 
 use crate::book::Book;
 use crate::chapter::Chapter;
-use crate::task::Serial;
+use crate::task::{NotPlain, Serial};
 use crate::written::Written;
 use attempt::Attempt;
 use std::alloc::AllocError;
@@ -48,86 +48,90 @@ fn execute_call(
     )
 }
 
-/// How a transaction ends with these arguments on the values, which stay as they are, and what it writes. `None` where
-/// it retries, or a growth was refused.
+/// How a transaction ends with these arguments on the values, which stay as they are, and what it writes, unless a
+/// growth was refused.
 fn end_plainly(
     written: &mut Written,
     chapter: &Chapter<'_>,
     tx: TxId,
     arguments: &[i64],
     values: &mut Vec<i64>,
-) -> Option<Outcome>
+) -> Result<Outcome, AllocError>
     requires known { IsCallable chapter.now.listing tx arguments.now }
     requires values { length values.old.items ≡ length chapter.now.listing.initial }
     requires few { length values.old.items ≤ MAX_VALUES }
     ensures same { values.new.items ≡ values.old.items }
-    ensures ends { IfSome result (λ how. EndsPlainly chapter.now.listing tx arguments.now values.old.items how
+    ensures ends { IfOk result (λ how. EndsPlainly chapter.now.listing tx arguments.now values.old.items how
         written.new.writes.items) }
 {
     let ended = execute_call(chapter.opened(), tx, arguments, values, &mut written.notes);
     let listed = written.list(values);
     undo(values.as_mut_slice(), &mut written.notes, 0);
     let Ok(how) = ended else {
-        return None;
+        return Err(AllocError);
     };
-    if listed.is_err() || matches!(how, Outcome::Retries) {
-        return None;
+    if listed.is_err() {
+        return Err(AllocError);
     }
-    Some(how)
+    Ok(how)
 }
 
 impl<'a> Book<'a> {
     /// A turn of the task on the present values by plain evaluation: the outcome and the number of its entry, as
-    /// `serial` would enter it. `None` and no change where the task is not running, the catalogue declares no table,
-    /// the program retries, or a growth was refused.
+    /// `serial` would enter it; or why there is none, where nothing changed.
     #[inline(always)]
-    pub fn turn_plainly(&mut self, task: TaskId) -> Option<(Outcome, u64)>
+    pub fn turn_plainly(&mut self, task: TaskId) -> Result<(Outcome, u64), NotPlain>
         requires exists { task.0 < length self.old.tasks }
-        ensures committed { IfSome result (λ r. CommitsAs self.old task r.0 r.1 self.new) }
-        ensures unchanged { IfNone result (self.new ≡ self.old) }
+        ensures committed { IfOk result (λ r. CommitsAs self.old task r.0 r.1 self.new) }
+        ensures refused { IfErr result (λ why. IsNotPlain self.old task why) }
+        ensures unchanged { OnErr result (self.new ≡ self.old) }
         ensures catalogue { self.new.catalogue ≡ self.old.catalogue }
     {
         if self.chapter.opened().tables().is_empty() {
-            return None;
+            return Err(NotPlain::NoTable);
         }
         if !self.table.is_running(task) {
-            return None;
+            return Err(NotPlain::NotRunning);
         }
         self.commit_plainly(task)
     }
 
     /// As `turn_plainly`, of a running task. It is a call, so that a turn without it stays as short as it was.
     #[inline(never)]
-    fn commit_plainly(&mut self, task: TaskId) -> Option<(Outcome, u64)>
+    fn commit_plainly(&mut self, task: TaskId) -> Result<(Outcome, u64), NotPlain>
         requires running { IsRunning self.old task }
-        ensures committed { IfSome result (λ r. CommitsAs self.old task r.0 r.1 self.new) }
-        ensures unchanged { IfNone result (self.new ≡ self.old) }
+        ensures committed { IfOk result (λ r. CommitsAs self.old task r.0 r.1 self.new) }
+        ensures refused { IfErr result (λ why. IsNotPlain self.old task why) }
+        ensures unchanged { OnErr result (self.new ≡ self.old) }
     {
-        let Some((how, writes)) = self.end_here(task) else {
-            return None;
+        let Ok((how, writes)) = self.end_here(task) else {
+            return Err(NotPlain::Memory);
         };
+        if matches!(how, Outcome::Retries) {
+            self.keep(writes);
+            return Err(NotPlain::Retries);
+        }
         let number = self.commit(task, how, &writes);
         self.keep(writes);
-        Some((how, number))
+        Ok((how, number))
     }
 
-    /// How a task ends by plain evaluation on the present values, and what it writes. `None` where it retries, or a
-    /// growth was refused.
-    fn end_here(&mut self, task: TaskId) -> Option<(Outcome, Vec<(VarId, i64)>)>
+    /// How a task ends by plain evaluation on the present values, and what it writes, unless a growth was refused.
+    fn end_here(&mut self, task: TaskId) -> Result<(Outcome, Vec<(VarId, i64)>), AllocError>
         requires exists { task.0 < length self.old.tasks }
         ensures same { self.new ≡ self.old }
-        ensures ends { IfSome result (λ r. TaskEndsPlainly self.old task r.0 r.1.items) }
+        ensures ends { IfOk result (λ r. TaskEndsPlainly self.old task r.0 r.1.items) }
     {
         let chapter = &self.chapter;
         let tx = chapter.transaction(task);
         let arguments = chapter.arguments(task);
         let values = &mut self.present.values;
-        let Some(how) = end_plainly(&mut self.written, chapter, tx, arguments, values) else {
-            return None;
+        let Ok(how) = end_plainly(&mut self.written, chapter, tx, arguments, values) else {
+            return Err(AllocError);
         };
         let alloc = *self.written.writes.allocator();
         let writes = mem::replace(&mut self.written.writes, Vec::new(alloc));
-        Some((how, writes))
+        Ok((how, writes))
     }
 
     /// The room of what was written is kept for the next turn.
@@ -147,8 +151,8 @@ impl<'a> Book<'a> {
         ensures catalogue { self.new.catalogue ≡ self.old.catalogue }
     {
         match self.turn_plainly(task) {
-            Some((_, number)) => Serial::Committed(number),
-            None => self.serial_lent(attempt, task),
+            Ok((_, number)) => Serial::Committed(number),
+            Err(_) => self.serial_lent(attempt, task),
         }
     }
 }

@@ -51,6 +51,19 @@ pub enum Serial {
     Abandoned,
 }
 
+/// Why a task has no plain turn. Nothing changed.
+#[derive(Clone, Copy, Debug, PartialEq, Eq)]
+pub enum NotPlain {
+    /// The catalogue declares no table.
+    NoTable,
+    /// The task is not running.
+    NotRunning,
+    /// The program retries on the present values.
+    Retries,
+    /// Out of memory.
+    Memory,
+}
+
 /// Whether a turn committed.
 pub fn is_committed(how: Serial) -> bool
     ensures { result ≡ is_committed how }

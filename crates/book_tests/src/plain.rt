@@ -3,40 +3,40 @@
 use crate::looks::{Look, Said};
 use crate::rows::{Step, What, expect};
 use crate::texts::{BANK, ONE};
-use book::{Serial, Standing};
+use book::{NotPlain, Serial, Standing};
 use txn::{Fault, Outcome, TaskId, TxId, VarId};
 
 /// Each of these is running. One that retries has no plain turn, and nothing changes.
 const PAID: &[Step] = &[
-    Step::TurnsPlainly(TaskId(0), None),
+    Step::TurnsPlainly(TaskId(0), Err(NotPlain::NotRunning)),
     Step::Claims(TaskId(0), true),
     Step::Claims(TaskId(1), true),
     Step::Claims(TaskId(2), true),
     Step::Claims(TaskId(3), true),
     Step::Claims(TaskId(4), true),
-    Step::TurnsPlainly(TaskId(0), None),
+    Step::TurnsPlainly(TaskId(0), Err(NotPlain::Retries)),
     Step::Shows(Look::Task(TaskId(0), Standing::Running, None)),
     Step::Turns(TaskId(0), Serial::Parked),
     // What is written last has the lower number.
-    Step::TurnsPlainly(TaskId(1), Some((Outcome::Returned(107), 1))),
+    Step::TurnsPlainly(TaskId(1), Ok((Outcome::Returned(107), 1))),
     Step::Shows(Look::Present(VarId(0), Some((107, 1)))),
     Step::Shows(Look::Present(VarId(2), Some((100, 0)))),
     Step::Shows(Look::Present(VarId(3), Some((93, 1)))),
     // That woke the task that waits.
     Step::Shows(Look::Task(TaskId(0), Standing::Ready, None)),
-    Step::TurnsPlainly(TaskId(2), Some((Outcome::Returned(400), 2))),
+    Step::TurnsPlainly(TaskId(2), Ok((Outcome::Returned(400), 2))),
     // A cell that is written twice is as it was.
-    Step::TurnsPlainly(TaskId(3), Some((Outcome::Returned(100), 3))),
+    Step::TurnsPlainly(TaskId(3), Ok((Outcome::Returned(100), 3))),
     Step::Shows(Look::Present(VarId(2), Some((100, 0)))),
     // A fault after a write leaves all as it was.
-    Step::TurnsPlainly(TaskId(4), Some((Outcome::Thrown(Fault::Outside), 4))),
+    Step::TurnsPlainly(TaskId(4), Ok((Outcome::Thrown(Fault::Outside), 4))),
     Step::Shows(Look::Present(VarId(1), Some((100, 0)))),
     Step::Shows(Look::Task(
         TaskId(4),
         Standing::Done(4),
         Some(Outcome::Thrown(Fault::Outside)),
     )),
-    Step::TurnsPlainly(TaskId(4), None),
+    Step::TurnsPlainly(TaskId(4), Err(NotPlain::NotRunning)),
     // What is left is ready, and the last cell is written twice.
     Step::Drains(0),
     Step::Shows(Look::Task(TaskId(0), Standing::Done(5), Some(Outcome::Returned(105)))),
@@ -60,7 +60,7 @@ fn what_a_plain_turn_writes_is_committed(rt: HostRuntime) {
 /// Where no table is declared a turn is given by an attempt.
 const WITHOUT_TABLES: &[Step] = &[
     Step::Takes(Some(TaskId(0))),
-    Step::TurnsPlainly(TaskId(0), None),
+    Step::TurnsPlainly(TaskId(0), Err(NotPlain::NoTable)),
     Step::Turns(TaskId(0), Serial::Committed(1)),
     Step::Shows(Look::Runs(TaskId(0), TxId(0), true)),
     Step::Shows(Look::Present(VarId(0), Some((6, 1)))),

@@ -6,7 +6,7 @@ use crate::attempts::{ends, has};
 use crate::beside::goes_beside;
 use crate::lent::{Lent, lends};
 use crate::looks::{Look, Said, says, shows};
-use book::{Book, Finish, Serial};
+use book::{Book, Finish, NotPlain, Serial};
 use cells::{Cells, Pass, Publisher};
 use std::alloc::Global;
 use std::process::Abort;
@@ -22,7 +22,7 @@ pub(crate) enum Step {
     /// A turn of the task answers so.
     Turns(TaskId, Serial),
     /// A plain turn of the task answers so.
-    TurnsPlainly(TaskId, Option<(Outcome, u64)>),
+    TurnsPlainly(TaskId, Result<(Outcome, u64), NotPlain>),
     /// To give the task up answers so.
     GivesUp(TaskId, bool),
     /// To claim the task answers so.
@@ -107,7 +107,7 @@ fn turns_plainly(
     book: &mut Book<'_>,
     catalogue: &Catalogue,
     task: TaskId,
-    how: Option<(Outcome, u64)>,
+    how: Result<(Outcome, u64), NotPlain>,
 ) -> bool {
     has(book, catalogue, task) && book.turn_plainly(task) == how
 }

@@ -1,5 +1,6 @@
 //! The program: words and files in, a report and a status out.
 
+ghost use Rattle.std.specs.Prelude.{◌≤◌};
 ghost use Rattle.run_interface.specs.Counts.{FewFailed};
 
 use crate::checking::check_as;
@@ -18,12 +19,14 @@ use std::rt::{Env, Files};
 use std::sync::Wait;
 use std::thread::Threads;
 
-/// Does what the command line asks for, and tells the status to end with. Threads come from the
+/// Does what the command line asks for, and tells the status to end with, as `told` has it. Threads come from the
 /// first runtime, and all else from the second.
 pub fn run<T: Threads + Wait + Sync, R: Files + Env + Print + Eprint + AllocGlobal>(
     threads: &T,
     rt: &R,
-) -> u8 {
+) -> u8
+    ensures { result ≤ 5 }
+{
     run_by(threads, rt, &OpenGate)
 }
 
@@ -32,7 +35,9 @@ pub fn run_by<T: Threads + Wait + Sync, R: Files + Env + Print + Eprint + AllocG
     threads: &T,
     rt: &R,
     gate: &G,
-) -> u8 {
+) -> u8
+    ensures { result ≤ 5 }
+{
     told(rt, answer(threads, rt, gate))
 }
 

@@ -130,7 +130,7 @@ impl<N: Planned> Scheduler<N> {
         self.at_work = self.at_work.saturating_sub(1);
     }
 
-    /// A task is given up, if memory runs out,.
+    /// A task is given up, where memory ran out.
     pub fn give_up(&mut self, job: Job) {
         self.store.give_up(job.ticket);
         self.at_work = self.at_work.saturating_sub(1);

@@ -6,7 +6,7 @@ use crate::on_many::{Use, on_far, on_many};
 use crate::parts::A;
 use crate::uses::{entries_after_report, given_up_twice};
 use attempt::{Attempt, Next};
-use book::{Book, Serial};
+use book::{Book, NotPlain, Serial};
 use cells::Cells;
 use std::alloc::Global;
 use std::process::Abort;
@@ -122,11 +122,13 @@ fn is_at_first(values: &[i64]) -> bool {
 fn serves_plainly(rt: &impl Abort, book: &mut Book<'_>, catalogue: &Catalogue) {
     assert!(rt; book.take() == Some(A));
     exists(rt, book, catalogue);
-    if book.turn_plainly(A).is_none() {
+    let first = book.turn_plainly(A);
+    if first.is_err() {
+        assert!(rt; first == Err(NotPlain::Memory));
         assert_eq!(rt; book.journal_len(), 0);
         assert!(rt; is_at_first(book.values()));
         exists(rt, book, catalogue);
-        assert!(rt; book.turn_plainly(A).is_some());
+        assert!(rt; book.turn_plainly(A).is_ok());
     }
     assert_eq!(rt; book.journal_len(), 1);
 }

@@ -34,7 +34,7 @@ pub use stm_store::{
 pub use stm_service::{Archive, CallFault, Client, Naming, NoArchive, Service};
 // What stands under a store: cells that are read with no lock, attempts, and the book.
 pub use attempt::{Attempt, Next, Stand};
-pub use book::{Book, Counts, Finish, Serial, Standing};
+pub use book::{Book, Counts, Finish, NotPlain, Serial, Standing};
 pub use cells::{Cells, Extend, Pass, Publisher, Read, SharedCells};
 // Schedules of single loads and stores.
 pub use world::{Event, Fate, Seen, World};

@@ -57,7 +57,7 @@ pub(crate) fn give_turn(
     ensures shape { IsSameShape book.old book.new }
 {
     book.law();
-    let Some((outcome, number)) = book.turn_plainly(task) else {
+    let Ok((outcome, number)) = book.turn_plainly(task) else {
         return give_turn_by_attempt(book, attempt, every, task);
     };
     book.law();

@@ -1,6 +1,5 @@
-use Rattle.std.proofs.Common.{rules, ◌≡◌, ◌≢◌, ◌∙◌, false, List, Result, Ok, Err, OnOk, ap, sym, subst}
+use Rattle.std.proofs.Common.{◌≡◌, ◌∙◌, false, List, Result, Ok, Err, OnOk, ap, sym, subst}
 use Rattle.std.specs.Result.{is_err}
-use Rattle.txn_programs.specs.declared.ast.Outcome.TheVariants.{Retries}
 use Rattle.txn_programs.specs.Meaning.{State}
 use Rattle.txn_evaluator.specs.declared.notes.Note.{Note}
 use Rattle.book.specs.Written.{TellNoted}
@@ -15,7 +14,6 @@ pub returns-clause-ends : goal.returns-clause-ends
 returns-clause-ends c =
     let run = c.in-Ok.ensures in
     let notes = c.execute_call-ended.new.notes.items in
-    let ends : c.in-Ok.how ≢ Retries = search rules in
     let told : TellNoted notes c.deref.result.now c.list-listed.new.self.writes.items = on_ok_known c.list-listed.result (sym c.is_err.ensures.value ∙ c.if-is_err.false) c.list-listed.ensures.listed in
     ends_plainly c.opened.result.now c.args.chapter.now.listing c.args.tx c.args.arguments.now c.args.values.now.items c.execute_call-ended.new.values.items c.in-Ok.how notes c.list-listed.new.self.writes.items c.opened.ensures.same run.outcome run.after run.undone run.sized c.requires.values
-    (subst (λ (m : State). TellNoted notes m c.list-listed.new.self.writes.items) c.deref.ensures.value told) ends
+    (subst (λ (m : State). TellNoted notes m c.list-listed.new.self.writes.items) c.deref.ensures.value told)

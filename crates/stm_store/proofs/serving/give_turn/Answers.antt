@@ -23,9 +23,9 @@ returns-in_default-clause-shape c =
 
 pub returns-clause-ends : goal.returns-clause-ends
 returns-clause-ends c =
-    let h = c.in-Some.ensures.committed in
-    enters_told c.args.every c.args.book.now c.turn_plainly.new.self c.keep_short.new.self c.args.task c.in-Some.number (record { number = c.in-Some.number; outcome = c.in-Some.outcome }) h.served.0 h.served.2 h.served.3 refl h.outcome_is c.law.ensures.lawful c.law-2.ensures.lawful c.keep_short.ensures.kept_short
+    let h = c.in-Ok.ensures.committed in
+    enters_told c.args.every c.args.book.now c.turn_plainly.new.self c.keep_short.new.self c.args.task c.in-Ok.number (record { number = c.in-Ok.number; outcome = c.in-Ok.outcome }) h.served.0 h.served.2 h.served.3 refl h.outcome_is c.law.ensures.lawful c.law-2.ensures.lawful c.keep_short.ensures.kept_short
 
 pub returns-clause-shape : goal.returns-clause-shape
 returns-clause-shape c =
-    entered_shape c.args.every (serial.Committed c.in-Some.number) c.args.book.now c.turn_plainly.new.self c.keep_short.new.self c.args.task c.in-Some.ensures.committed.served.3 c.keep_short.ensures.kept_short
+    entered_shape c.args.every (serial.Committed c.in-Ok.number) c.args.book.now c.turn_plainly.new.self c.keep_short.new.self c.args.task c.in-Ok.ensures.committed.served.3 c.keep_short.ensures.kept_short

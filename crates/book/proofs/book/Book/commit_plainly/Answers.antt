@@ -1,6 +1,7 @@
-use Rattle.std.proofs.Common.{◌≡◌, ◌∙◌, ap, sym, subst, ℤ, List}
+use Rattle.std.proofs.Common.{rules, ◌≡◌, ◌≢◌, ap, sym, subst, ℤ, List}
 use Rattle.std.proofs.lemmas.Option.{slice_get_within}
 use Rattle.txn_programs.specs.declared.ast.VarId.{VarId}
+use Rattle.txn_programs.specs.declared.ast.Outcome.TheVariants.{Retries}
 use Rattle.book.specs.Tasks.{Running}
 use Rattle.book.specs.Turns.{TaskEndsPlainly}
 use Rattle.book.specs.View.{BookView, IsRunning}
@@ -14,17 +15,18 @@ pub commit-number-requires : goal.commit-number-requires
 commit-number-requires c =
     let task = c.args.task in
     let here = c.end_here.new.self in
-    let ends = subst (λ (ws : List (VarId × ℤ)). TaskEndsPlainly c.args.self.now task c.in-Some.how ws) (sym c.deref.ensures.value) c.in-Some.ensures.ends in
-    let h = subst (λ (b : BookView). TaskEndsPlainly b task c.in-Some.how c.deref.result.now) (sym c.in-Some.ensures.same) ends in
+    let ends = subst (λ (ws : List (VarId × ℤ)). TaskEndsPlainly c.args.self.now task c.in-Ok.how ws) (sym c.deref.ensures.value) c.in-Ok.ensures.ends in
+    let h = subst (λ (b : BookView). TaskEndsPlainly b task c.in-Ok.how c.deref.result.now) (sym c.in-Ok.ensures.same) ends in
     record {
-      running = subst (λ (b : BookView). IsRunning b task) (sym c.in-Some.ensures.same) c.requires.running;
+      running = subst (λ (b : BookView). IsRunning b task) (sym c.in-Ok.ensures.same) c.requires.running;
       outcome = h.outcome_is;
       after = h.after_is;
-      ends = h.ends;
+      ends = search rules;
       ascending = h.ascending;
       known = h.known;
     }
 
 pub returns-clause-committed : goal.returns-clause-committed
 returns-clause-committed c =
-    commits_as c.args.self.now c.end_here.new.self c.commit-number.new.self c.keep.new.self c.args.task c.in-Some.how c.in-Some.writes.items c.commit-number.result c.requires.running c.in-Some.ensures.same c.in-Some.ensures.ends c.commit-number.ensures.number c.commit-number.ensures.committed c.keep.ensures
+    let ends : c.in-Ok.how ≢ Retries = search rules in
+    commits_as c.args.self.now c.end_here.new.self c.commit-number.new.self c.keep-2.new.self c.args.task c.in-Ok.how c.in-Ok.writes.items c.commit-number.result c.requires.running c.in-Ok.ensures.same c.in-Ok.ensures.ends ends c.commit-number.ensures.number c.commit-number.ensures.committed c.keep-2.ensures

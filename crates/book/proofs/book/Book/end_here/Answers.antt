@@ -35,5 +35,5 @@ returns-clause-same c =
 
 pub returns-clause-ends : goal.returns-clause-ends
 returns-clause-ends c =
-    let ends = ends_here c.self.inside c.args.self.now c.args.task c.transaction-tx.result c.arguments-arguments.result.now c.in-Some.how c.end_plainly.new.written.writes.items c.self.view_is c.transaction-tx.ensures.value c.arguments-arguments.ensures.value c.in-Some.ensures.ends in
-    subst (λ (ws : List (VarId × ℤ)). TaskEndsPlainly c.args.self.now c.args.task c.in-Some.how ws) (sym (ap (λ ws. ws.items) c.replace-writes.ensures.value)) ends
+    let ends = ends_here c.self.inside c.args.self.now c.args.task c.transaction-tx.result c.arguments-arguments.result.now c.in-Ok.how c.end_plainly.new.written.writes.items c.self.view_is c.transaction-tx.ensures.value c.arguments-arguments.ensures.value c.in-Ok.ensures.ends in
+    subst (λ (ws : List (VarId × ℤ)). TaskEndsPlainly c.args.self.now c.args.task c.in-Ok.how ws) (sym (ap (λ ws. ws.items) c.replace-writes.ensures.value)) ends
