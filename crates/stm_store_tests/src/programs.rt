@@ -1,11 +1,40 @@
 //! Workers that are brought to a store: of it, of another chapter, and of other programs.
 
-use crate::rows::{At, job, returned};
+use crate::rows::{At, job};
 use crate::texts::{ALIKE, GUARDED, OTHER, TWO, WAITS, WIDER};
 use std::alloc::Global;
 use std::process::Abort;
-use stm_store::{Brought, Job, Program, Served, Store, Tried, Worker};
-use txn::TxId;
+use stm_store::{Brought, Entered, Program, Served, Store, Ticket, Tried, Worker};
+use txn::Outcome;
+
+/// What is done with a store and a worker, with what it has to answer.
+enum Act {
+    /// The next task is this job's.
+    Takes(At),
+    /// The worker tries this job to its end.
+    Tries(At),
+    /// What the worker has tried is answered so.
+    Brings(Brought),
+    /// The task of this ticket commits by a turn.
+    Serves(u64),
+    BeginsChapter,
+}
+
+/// The job of the first task that was declared.
+const FIRST: At = At(0, 0, 0, 0);
+
+/// The job of the second task that was declared.
+const SECOND: At = At(1, 0, 1, 0);
+
+const FIRST_ENTERED: Brought = Brought::Committed(Entered {
+    number: 1,
+    outcome: Outcome::Returned(6),
+});
+
+const SECOND_ENTERED: Brought = Brought::Committed(Entered {
+    number: 2,
+    outcome: Outcome::Returned(7),
+});
 
 /// A store of the file with room for two tasks more, and a worker of it.
 fn opened(rt: &impl Abort, alloc: Global, file: &str) -> (Store, Worker) {
@@ -22,113 +51,161 @@ fn opened(rt: &impl Abort, alloc: Global, file: &str) -> (Store, Worker) {
     }
 }
 
-/// The job of the first task that was declared.
-fn first() -> Job {
-    job(At(0, 0, 0, 0))
+/// Whether the worker tries this job to its end.
+fn tries(worker: &mut Worker, at: At) -> bool {
+    let job = job(at);
+    worker
+        .catalogue()
+        .is_callable(job.tx, job.arguments.as_slice())
+        && worker.try_job(job) == Tried::Ended
 }
 
-/// The job of the second task that was declared, of the second transaction.
-fn second() -> Job {
-    job(At(1, 0, 1, 0))
+/// Whether it is answered so.
+fn goes(store: &mut Store, worker: &mut Worker, act: &Act) -> bool {
+    match act {
+        Act::Takes(at) => store.take() == Some(job(*at)),
+        Act::Tries(at) => tries(worker, *at),
+        Act::Brings(how) => store.finish_of_any(worker) == *how,
+        Act::Serves(ticket) => matches!(store.serial(Ticket(*ticket)), Served::Committed(_)),
+        Act::BeginsChapter => {
+            store.begin_chapter();
+            true
+        }
+    }
 }
 
-/// The worker tries this job to its end.
-fn tries(rt: &impl Abort, worker: &mut Worker, job: Job) {
-    assert!(rt;
-        worker
-            .catalogue()
-            .is_callable(job.tx, job.arguments.as_slice())
-    );
-    assert!(rt; worker.try_job(job) == Tried::Ended);
+fn follows(rt: &(impl Abort + Eprint), store: &mut Store, worker: &mut Worker, acts: &[Act]) {
+    for place in 0..acts.len() {
+        assert!(rt; goes(store, worker, &acts[place]), "act {place}");
+    }
 }
 
-/// The worker tries this job, and what the store then answers it.
-fn brought(rt: &impl Abort, store: &mut Store, worker: &mut Worker, job: Job) -> Brought {
-    tries(rt, worker, job);
-    store.finish_of_any(worker)
+/// So it goes with a store of the file and a worker of it.
+fn expect(rt: &(impl Abort + Eprint), alloc: Global, file: &str, acts: &[Act]) {
+    let (mut store, mut worker) = opened(rt, alloc, file);
+    follows(rt, &mut store, &mut worker, acts);
 }
+
+/// So it goes with a store of two increments and a worker of the file.
+fn expect_of(rt: &(impl Abort + Eprint), alloc: Global, file: &str, acts: &[Act]) {
+    let (mut store, _own) = opened(rt, alloc, TWO);
+    let (_other, mut worker) = opened(rt, alloc, file);
+    follows(rt, &mut store, &mut worker, acts);
+}
+
+const BROUGHT_ONCE: &[Act] = &[
+    Act::Brings(Brought::NotEnded),
+    // It was not taken.
+    Act::Tries(FIRST),
+    Act::Brings(Brought::NotRunning),
+    Act::Takes(FIRST),
+    Act::Tries(FIRST),
+    Act::Brings(FIRST_ENTERED),
+    Act::Brings(Brought::NotEnded),
+    Act::Tries(FIRST),
+    Act::Brings(Brought::NotRunning),
+];
 
 #[test]
 fn an_attempt_is_brought_once(rt: HostRuntime) {
-    let (mut store, mut worker) = opened(&rt, rt.alloc(), TWO);
-    assert!(rt; store.finish_of_any(&mut worker) == Brought::NotEnded);
-    // It was not taken.
-    assert!(rt; brought(&rt, &mut store, &mut worker, first()) == Brought::NotRunning);
-    assert!(rt; store.take() == Some(first()));
-    assert!(rt;
-        brought(&rt, &mut store, &mut worker, first()) == Brought::Committed(returned(1, 6))
-    );
-    assert!(rt; store.finish_of_any(&mut worker) == Brought::NotEnded);
-    assert!(rt; brought(&rt, &mut store, &mut worker, first()) == Brought::NotRunning);
+    expect(&rt, rt.alloc(), TWO, BROUGHT_ONCE);
 }
+
+const CHANGED_MEANWHILE: &[Act] = &[
+    Act::Takes(FIRST),
+    Act::Takes(SECOND),
+    Act::Tries(SECOND),
+    Act::Serves(0),
+    Act::Brings(Brought::Stale),
+    Act::Tries(SECOND),
+    Act::Brings(SECOND_ENTERED),
+];
 
 #[test]
 fn what_was_changed_meanwhile_is_stale(rt: HostRuntime) {
-    let (mut store, mut worker) = opened(&rt, rt.alloc(), TWO);
-    assert!(rt; store.take() == Some(first()));
-    assert!(rt; store.take() == Some(second()));
-    tries(&rt, &mut worker, second());
-    assert!(rt; matches!(store.serial(first().ticket), Served::Committed(_)));
-    assert!(rt; store.finish_of_any(&mut worker) == Brought::Stale);
-    assert!(rt;
-        brought(&rt, &mut store, &mut worker, second()) == Brought::Committed(returned(2, 7))
-    );
+    expect(&rt, rt.alloc(), TWO, CHANGED_MEANWHILE);
 }
+
+const RETRIES: &[Act] = &[
+    Act::Takes(FIRST),
+    Act::Tries(FIRST),
+    Act::Brings(Brought::Parked),
+    Act::Tries(FIRST),
+    Act::Brings(Brought::NotRunning),
+];
 
 #[test]
 fn an_attempt_that_retries_is_parked(rt: HostRuntime) {
-    let (mut store, mut worker) = opened(&rt, rt.alloc(), WAITS);
-    assert!(rt; store.take() == Some(first()));
-    assert!(rt; brought(&rt, &mut store, &mut worker, first()) == Brought::Parked);
-    assert!(rt; brought(&rt, &mut store, &mut worker, first()) == Brought::NotRunning);
+    expect(&rt, rt.alloc(), WAITS, RETRIES);
 }
+
+/// Another ticket, another transaction, another task and another chapter are each refused.
+const OTHER_JOBS: &[Act] = &[
+    Act::Takes(FIRST),
+    Act::Tries(At(1, 0, 0, 0)),
+    Act::Brings(Brought::OtherTask),
+    Act::Tries(At(0, 0, 0, 1)),
+    Act::Brings(Brought::OtherTask),
+    Act::Tries(At(0, 0, 1, 0)),
+    Act::Brings(Brought::OtherTask),
+    Act::Tries(At(0, 1, 0, 0)),
+    Act::Brings(Brought::OtherChapter),
+    Act::Tries(FIRST),
+    Act::Brings(Brought::Parked),
+];
 
 #[test]
 fn a_job_is_of_its_task_and_its_ticket(rt: HostRuntime) {
-    let (mut store, mut worker) = opened(&rt, rt.alloc(), WAITS);
-    assert!(rt; store.take() == Some(job(At(0, 0, 0, 0))));
-    assert!(rt; brought(&rt, &mut store, &mut worker, job(At(1, 0, 0, 0))) == Brought::OtherTask);
-    assert!(rt; brought(&rt, &mut store, &mut worker, job(At(0, 0, 0, 1))) == Brought::OtherTask);
-    assert!(rt; brought(&rt, &mut store, &mut worker, job(At(0, 0, 1, 0))) == Brought::OtherTask);
-    assert!(rt;
-        brought(&rt, &mut store, &mut worker, job(At(0, 1, 0, 0))) == Brought::OtherChapter
-    );
-    assert!(rt; brought(&rt, &mut store, &mut worker, job(At(0, 0, 0, 0))) == Brought::Parked);
+    expect(&rt, rt.alloc(), WAITS, OTHER_JOBS);
 }
 
 /// The job of a task that has the same number in the next chapter is refused there.
+const EARLIER_CHAPTER: &[Act] = &[
+    Act::Takes(FIRST),
+    Act::BeginsChapter,
+    Act::Takes(At(0, 1, 0, 0)),
+    Act::Tries(FIRST),
+    Act::Brings(Brought::OtherChapter),
+    Act::Tries(At(0, 1, 0, 0)),
+    Act::Brings(FIRST_ENTERED),
+];
+
 #[test]
 fn a_job_of_an_earlier_chapter_is_refused(rt: HostRuntime) {
-    let (mut store, mut worker) = opened(&rt, rt.alloc(), TWO);
-    assert!(rt; store.take() == Some(first()));
-    store.begin_chapter();
-    assert!(rt; store.take() == Some(job(At(0, 1, 0, 0))));
-    assert!(rt; brought(&rt, &mut store, &mut worker, first()) == Brought::OtherChapter);
-    assert!(rt;
-        brought(&rt, &mut store, &mut worker, job(At(0, 1, 0, 0)))
-            == Brought::Committed(returned(1, 6))
-    );
+    expect(&rt, rt.alloc(), TWO, EARLIER_CHAPTER);
 }
 
-/// What a worker of another program tried is brought to a store of two increments.
-fn from(rt: &impl Abort, alloc: Global, file: &str, tx: TxId) -> Brought {
-    let (mut store, _worker) = opened(rt, alloc, TWO);
-    let (_other, mut worker) = opened(rt, alloc, file);
-    assert!(rt; store.take() == Some(job(At(0, 0, 0, 0))));
-    let foreign = Job {
-        tx,
-        ..job(At(0, 0, 0, 0))
-    };
-    brought(rt, &mut store, &mut worker, foreign)
-}
+const OF_THE_SAME: &[Act] = &[
+    Act::Takes(FIRST),
+    Act::Tries(FIRST),
+    Act::Brings(FIRST_ENTERED),
+];
+
+const OF_ONE_THAT_DIFFERS: &[Act] = &[
+    Act::Takes(FIRST),
+    Act::Tries(FIRST),
+    Act::Brings(Brought::Stale),
+];
+
+const OF_ANOTHER_TRANSACTION: &[Act] = &[
+    Act::Takes(FIRST),
+    Act::Tries(At(0, 0, 0, 1)),
+    Act::Brings(Brought::OtherTask),
+];
+
+const OF_ANOTHER_PROGRAM: &[Act] = &[
+    Act::Takes(FIRST),
+    Act::Tries(FIRST),
+    Act::Brings(Brought::OtherProgram),
+];
 
 #[test]
 fn a_worker_of_another_program_is_refused(rt: HostRuntime) {
     let alloc = rt.alloc();
-    assert!(rt; from(&rt, alloc, TWO, TxId(0)) == Brought::Committed(returned(1, 6)));
-    assert!(rt; from(&rt, alloc, ALIKE, TxId(0)) == Brought::Stale);
-    assert!(rt; from(&rt, alloc, ALIKE, TxId(1)) == Brought::OtherTask);
-    assert!(rt; from(&rt, alloc, OTHER, TxId(0)) == Brought::OtherProgram);
-    assert!(rt; from(&rt, alloc, GUARDED, TxId(0)) == Brought::OtherProgram);
-    assert!(rt; from(&rt, alloc, WIDER, TxId(0)) == Brought::OtherProgram);
+    expect_of(&rt, alloc, TWO, OF_THE_SAME);
+    expect_of(&rt, alloc, ALIKE, OF_ONE_THAT_DIFFERS);
+    expect_of(&rt, alloc, ALIKE, OF_ANOTHER_TRANSACTION);
+    expect_of(&rt, alloc, OTHER, OF_ANOTHER_PROGRAM);
+    expect_of(&rt, alloc, GUARDED, OF_ANOTHER_PROGRAM);
+    expect_of(&rt, alloc, WIDER, OF_ANOTHER_PROGRAM);
 }
