@@ -18,15 +18,6 @@ fn opened(rt: &impl Abort, alloc: Global, file: &str, workers: usize) -> Store {
     }
 }
 
-/// A store of the file for no worker, and a lender.
-fn lent(rt: &impl Abort, alloc: Global, file: &str) -> (Store, Lender) {
-    let store = opened(rt, alloc, file, 0);
-    match store.lender() {
-        Some(lender) => (store, lender),
-        None => panic!(rt; "no lender"),
-    }
-}
-
 /// The store's report is this text.
 fn reports(rt: &impl Abort, store: &mut Store, text: &str) {
     match store.report() {
@@ -35,13 +26,21 @@ fn reports(rt: &impl Abort, store: &mut Store, text: &str) {
     }
 }
 
+/// Whether the store had a worker to hand out.
+fn hires(store: &mut Store) -> bool {
+    store.worker().is_some()
+}
+
+fn lends(store: &Store) -> bool {
+    store.lender().is_some()
+}
+
 /// There are so many workers of the store, and a lender.
 fn has_workers(rt: &impl Abort, store: &mut Store, count: usize) {
     for _ in 0..count {
-        assert!(rt; store.worker().is_some());
+        assert!(rt; hires(store));
     }
-    assert!(rt; store.worker().is_none());
-    assert!(rt; store.lender().is_some());
+    assert!(rt; !hires(store) && lends(store));
 }
 
 #[test]
@@ -50,20 +49,27 @@ fn a_store_has_up_to_32_workers(rt: HostRuntime) {
 }
 
 /// There is no worker of the store, and so many turns are given by the lender.
-fn lends(rt: &impl Abort, store: &mut Store, lender: &mut Lender, turns: u32) {
-    assert!(rt; store.worker().is_none());
+fn gives(rt: &impl Abort, store: &mut Store, lender: &mut Lender, turns: u32) {
+    assert!(rt; !hires(store));
     assert!(rt; store.turns_lent(lender, 200) == turns);
+}
+
+/// A lender of the first store gives its two turns, and those of the other one.
+fn gives_in_both(rt: &impl Abort, store: &mut Store, other: &mut Store) {
+    let Some(mut lender) = store.lender() else {
+        panic!(rt; "no lender")
+    };
+    gives(rt, store, &mut lender, 2);
+    gives(rt, other, &mut lender, 83);
 }
 
 /// A lender may lend to another store, of another program.
 #[test]
 fn a_store_for_no_worker_lends(rt: HostRuntime) {
-    let (mut store, mut lender) = lent(&rt, rt.alloc(), TWO);
-    lends(&rt, &mut store, &mut lender, 2);
-    lends(&rt, &mut opened(&rt, rt.alloc(), MIXED, 0), &mut lender, 83);
+    let mut store = opened(&rt, rt.alloc(), TWO, 0);
+    gives_in_both(&rt, &mut store, &mut opened(&rt, rt.alloc(), MIXED, 0));
 }
 
-/// What the calls would end as is told, and nothing changes. `set` is the second transaction.
 fn tells_ends(rt: &impl Abort, store: &mut Store, lender: &mut Lender) {
     assert!(rt; store.catalogue().is_callable(TxId(0), &[]));
     assert!(rt; store.catalogue().is_callable(TxId(1), &[]));
@@ -73,16 +79,22 @@ fn tells_ends(rt: &impl Abort, store: &mut Store, lender: &mut Lender) {
     reports(rt, store, "base 0\nx 0 0\nnow 0\nx 0 0\nparked 0 t\nend\n");
 }
 
+fn tells_ends_by_a_lender(rt: &impl Abort, store: &mut Store) {
+    match store.lender() {
+        Some(mut lender) => tells_ends(rt, store, &mut lender),
+        None => panic!(rt; "no lender"),
+    }
+}
+
+/// What the calls would end as is told, and nothing changes. `set` is the second transaction.
 #[test]
 fn what_would_end_is_told_and_not_entered(rt: HostRuntime) {
-    let (mut store, mut lender) = lent(&rt, rt.alloc(), WAITS);
-    tells_ends(&rt, &mut store, &mut lender);
+    tells_ends_by_a_lender(&rt, &mut opened(&rt, rt.alloc(), WAITS, 0));
 }
 
 /// Nobody is hired or lent to and nothing is ready, and a chapter passes.
 fn has_nothing(rt: &impl Abort, store: &mut Store) {
-    assert!(rt; store.worker().is_none());
-    assert!(rt; store.lender().is_none());
+    assert!(rt; !hires(store) && !lends(store));
     assert!(rt; store.take().is_none());
     store.begin_chapter();
     assert!(rt; store.chapter() == 1);

@@ -29,6 +29,28 @@ fn opens(rt: &impl Abort, store: &mut Store, ticket: Ticket) {
     assert!(rt; matches!(store.serial(ticket), Served::Committed(_)));
 }
 
+/// So many chapters are filled, one after another, beside 40 tasks that wait.
+fn fills_chapters(rt: &impl Abort, store: &mut Store, by: &mut By, chapters: u64) {
+    for chapter in 0..chapters {
+        assert!(rt; store.chapter() == chapter);
+        assert!(rt; fills(store, by, TASK_ROOM));
+        store.begin_chapter();
+        assert!(rt; store.spare() == TASK_ROOM);
+        assert!(rt; store.tasks() == 40);
+    }
+}
+
+/// The tickets before the one that opens are those of the 40 tasks and of the 100,000 calls.
+fn outlives(rt: &impl Abort, store: &mut Store, by: &mut By) {
+    assert!(rt; turns(store, by, 40) == 40);
+    fills_chapters(rt, store, by, 100);
+    assert!(rt; store.entered() == 100000);
+    assert!(rt; store.value("n") == Some((100000, 0)));
+    opens(rt, store, Ticket(100040));
+    assert!(rt; turns(store, by, 100) == 40);
+    assert!(rt; store.value("out") == Some((4000000, 41)));
+}
+
 /// 100,000 calls in chapters of 1,000, beside 40 tasks that wait all the time, and are then woken by their tickets.
 #[test]
 fn what_waits_stays_through_many_chapters(rt: HostRuntime) {
@@ -39,18 +61,5 @@ fn what_waits_stays_through_many_chapters(rt: HostRuntime) {
         spare: TASK_ROOM,
     };
     let Host { mut store, mut by } = opened(&rt, rt.alloc(), opening, false);
-    assert!(rt; turns(&mut store, &mut by, 40) == 40);
-    for chapter in 0..100 {
-        assert!(rt; store.chapter() == chapter);
-        assert!(rt; fills(&mut store, &mut by, TASK_ROOM));
-        store.begin_chapter();
-        assert!(rt; store.spare() == TASK_ROOM);
-        assert!(rt; store.tasks() == 40);
-    }
-    assert!(rt; store.entered() == 100000);
-    assert!(rt; store.value("n") == Some((100000, 0)));
-    // The tickets before it are those of the 40 tasks and of the 100,000 calls.
-    opens(&rt, &mut store, Ticket(100040));
-    assert!(rt; turns(&mut store, &mut by, 100) == 40);
-    assert!(rt; store.value("out") == Some((4000000, 41)));
+    outlives(&rt, &mut store, &mut by);
 }
