@@ -140,14 +140,31 @@ fn asks(store: &mut Store, step: &Step) -> bool {
     }
 }
 
+/// Whether the next turn is this one, or there is none.
+fn gives_turn(host: &mut Host, how: Option<(At, How)>) -> bool {
+    match (turn(&mut host.store, &mut host.by), how) {
+        (Some(given), Some((at, how))) => given == turned(at, how),
+        (None, None) => true,
+        _ => false,
+    }
+}
+
+/// Whether a call was answered so.
+fn is_called(answer: Option<Called>, how: Answer) -> bool {
+    match answer {
+        Some(answer) => answer == called(how),
+        None => false,
+    }
+}
+
 /// Whether the step is answered so.
 fn goes(alloc: Global, host: &mut Host, step: &Step) -> bool {
     let store = &mut host.store;
     match step {
-        Step::Turns(how) => turn(store, &mut host.by) == how.map(|t| turned(t.0, t.1)),
+        Step::Turns(how) => gives_turn(host, *how),
         Step::Gives(most, given) => turns(store, &mut host.by, *most) == *given,
-        Step::Calls(tx, how) => call(store, &mut host.by, *tx) == Some(called(*how)),
-        Step::TriesToCall(tx, how) => try_call(store, &mut host.by, *tx) == Some(called(*how)),
+        Step::Calls(tx, how) => is_called(call(store, &mut host.by, *tx), *how),
+        Step::TriesToCall(tx, how) => is_called(try_call(store, &mut host.by, *tx), *how),
         Step::Checkpoints => {
             store.checkpoint();
             true
