@@ -29,7 +29,6 @@ use txn_programs::limits::MAX_VALUES;
 
 /// One evaluation of a transaction with its arguments over what it was told, as far as it has come. A clause
 /// sees an `AttemptView`.
-#[derive(Drop)]
 pub struct Attempt<'a> {
     catalogue: &'a Catalogue,
     id: TxId,
@@ -59,6 +58,24 @@ impl<'a> Model for Attempt<'a> {
     ghost view = { viewed };
 
     ghost invariant = { IsKept };
+}
+
+/// Written by hand, so that its end is one call wherever an attempt is owned.
+impl Drop for Attempt<'_> {
+    fn drop(self) {
+        let Attempt {
+            catalogue: _,
+            id: _,
+            arguments: _,
+            machine: _machine,
+            count: _,
+            log: _log,
+            stand: _,
+            steps: _,
+            total: _,
+            again: _,
+        } = self;
+    }
 }
 
 /// Puts these arguments, of which there are at most `MAX_PARAMETERS`, in the place of those before. Where there
@@ -143,8 +160,20 @@ impl<'a> Attempt<'a> {
     pub fn into_log(self) -> Log
         ensures { result ≡ self.entry.log }
     {
+        let Attempt {
+            catalogue: _,
+            id: _,
+            arguments: _,
+            machine: _machine,
+            count: _,
+            log,
+            stand: _,
+            steps: _,
+            total: _,
+            again: _,
+        } = self;
         Log {
-            pairs: self.log.into_pairs(),
+            pairs: log.into_pairs(),
         }
     }
 
