@@ -37,11 +37,21 @@ pub enum Extend {
 /// loaded the clock and other words, what the last begin or extension loaded from the clock (`rv`),
 /// and the variable and the loads of the last read since then. State `rv` of what was seen is the
 /// state of the last begin or extension (`at`).
-#[derive(Drop)]
 pub struct Pass {
     pub(crate) seat: Seat<(), Sight>,
     pub(crate) rv: u64,
     pub(crate) ready: bool,
+}
+
+/// Written by hand, so that its end is one call wherever a pass is owned.
+impl Drop for Pass {
+    fn drop(self) {
+        let Pass {
+            seat: _seat,
+            rv: _,
+            ready: _,
+        } = self;
+    }
 }
 
 impl Model for Pass {

@@ -16,9 +16,15 @@ use txn_programs::VarId;
 ///
 /// A caller sees its cells, the history of all states that it published, the oldest first, and how
 /// many words it has stored.
-#[derive(Drop)]
 pub struct Publisher {
     pub(crate) how: How,
+}
+
+/// Written by hand, so that its end is one call wherever a publisher is owned.
+impl Drop for Publisher {
+    fn drop(self) {
+        let Publisher { how: _how } = self;
+    }
 }
 
 /// How it publishes.

@@ -11,9 +11,15 @@ use txn_programs::Memory;
 /// of their holders, in whichever thread that is.
 ///
 /// A caller sees which cells they are.
-#[derive(Drop)]
 pub struct SharedCells<'a> {
     held: Held<'a>,
+}
+
+/// Written by hand, so that its end is one call wherever they are owned.
+impl Drop for SharedCells<'_> {
+    fn drop(self) {
+        let SharedCells { held: _held } = self;
+    }
 }
 
 /// How they are held.
