@@ -24,6 +24,8 @@ pub(crate) enum Step {
     /// Goes on when so many tasks wait.
     UntilWaiting(usize),
     Closes,
+    /// Closes the service, and asks for its file and its report: notes how many entries came of that.
+    ClosesAndAsks,
 }
 
 /// How a service is called.
@@ -49,6 +51,8 @@ pub(crate) struct Answered {
     pub(crate) unknown: i64,
     pub(crate) retries: i64,
     pub(crate) timed_out: i64,
+    /// How many entries there were after the service was closed.
+    pub(crate) late: i64,
 }
 
 /// Nothing was answered.
@@ -63,6 +67,7 @@ pub(crate) const NOTHING: Answered = Answered {
     unknown: 0,
     retries: 0,
     timed_out: 0,
+    late: 0,
 };
 
 fn one_more(count: &mut i64) {

@@ -116,6 +116,23 @@ fn closed_while_it_runs(rt: HostRuntime) {
     }
 }
 
+/// What runs when the service is closed is given up, also where its file and its report are asked for first.
+#[test]
+fn nothing_is_entered_once_it_is_closed(rt: HostRuntime) {
+    let slow: &[Step] = &[Step::Calls(ADD_SLOWLY, 100)];
+    let closes: &[Step] = &[Step::Calls(ADD_SLOWLY, 1), Step::ClosesAndAsks];
+    let mut late: i64 = 0;
+    for _life in 0..8 {
+        let all = played(&rt, rt.alloc(), OPENING, NoArchive, &[slow, slow, closes]);
+        late = late.wrapping_add(all.of(2).late);
+        for thread in 0..2 {
+            let answered = all.of(thread);
+            assert_eq!(rt; answered.returned.wrapping_add(answered.closed), 100);
+        }
+    }
+    assert_eq!(rt; late, 0);
+}
+
 /// Nor was one whose time was up, before it ran or while it did.
 #[test]
 fn time_is_up_while_it_runs(rt: HostRuntime) {

@@ -144,7 +144,17 @@ fn play<R: Wait + Clock, N: Naming, K: Archive + Drop>(
         Step::ObservesWith(tx, argument) => answered.note(service.observe(rt, tx, &[argument])),
         Step::UntilWaiting(count) => wait_until(rt, service, count),
         Step::Closes => service.close(rt),
+        Step::ClosesAndAsks => answered.late = entered_late(rt, service),
     }
+}
+
+/// Closes the service, and asks for its file and its report: how many entries came of that.
+fn entered_late<R: Wait, N: Naming, K: Archive + Drop>(rt: &R, service: &Service<N, K>) -> i64 {
+    service.close(rt);
+    let before = service.entered(rt);
+    let _file = service.file(rt);
+    let _report = service.report(rt);
+    service.entered(rt).wrapping_sub(before).cast_signed()
 }
 
 /// A step of one of the threads.
