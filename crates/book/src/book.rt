@@ -37,7 +37,6 @@ use txn::{Catalogue, Entry, Memory, Outcome, Report, TaskId, TxId, VarId};
 /// At all times the journal replays from the base to the present, no task is entered twice, the program of each
 /// parked task retries on the present values, the present values are the last state that was published, and every
 /// state keeps the standing conditions.
-#[derive(Drop)]
 pub struct Book<'a> {
     /// The catalogue of the present chapter.
     pub(crate) chapter: Chapter<'a>,
@@ -58,6 +57,26 @@ pub struct Book<'a> {
     spare: usize,
     /// How many entries the chapters before this one had.
     before: u64,
+}
+
+/// Written by hand, so that its end is one call wherever a book is owned.
+impl Drop for Book<'_> {
+    fn drop(self) {
+        let Book {
+            chapter: _chapter,
+            cells: _cells,
+            publisher: _publisher,
+            base: _base,
+            journal: _journal,
+            present: _present,
+            since: _since,
+            written: _written,
+            table: _table,
+            room: _,
+            spare: _,
+            before: _,
+        } = self;
+    }
 }
 
 impl<'a> Model for Book<'a> {
@@ -700,7 +719,20 @@ impl<'a> Book<'a> {
         ensures { IfOk result (λ r. ReportIs self.entry (told_run r)) }
     {
         let rest = self.all_but_entries(alloc)?;
-        let journal = self.journal;
+        let Book {
+            chapter: _chapter,
+            cells: _cells,
+            publisher: _publisher,
+            base: _base,
+            journal,
+            present: _present,
+            since: _since,
+            written: _written,
+            table: _table,
+            room: _,
+            spare: _,
+            before: _,
+        } = self;
         Ok(RunReport { journal, rest })
     }
 

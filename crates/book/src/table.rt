@@ -39,7 +39,6 @@ use txn::{TaskId, VarId};
 
 /// How each task stands. A clause sees the tasks, and for how many variables they can wait; the log
 /// of a parked task names its variables, and tells 0 of each.
-#[derive(Drop)]
 pub struct TaskTable {
     standings: Vec<Slot>,
     /// How many of them stand how.
@@ -58,6 +57,22 @@ pub struct TaskTable {
     /// With more variables than sets what each parked task read, as far up as tasks have been parked: an empty
     /// log for each other one. Else there are none.
     logs: Vec<Log>,
+}
+
+/// Written by hand, so that its end is one call wherever a table is owned.
+impl Drop for TaskTable {
+    fn drop(self) {
+        let TaskTable {
+            standings: _standings,
+            tally: _,
+            spare: _,
+            ready: _ready,
+            variables: _,
+            sleepers: _sleepers,
+            names: _names,
+            logs: _logs,
+        } = self;
+    }
 }
 
 impl Model for TaskTable {
