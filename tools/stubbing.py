@@ -84,25 +84,27 @@ def body_of(lines, at, indent):
     return None, at
 
 
-def stubbed(lines, functions):
-    """The lines of a file with stubs for these of its functions."""
-    lines = [*lines]
+def stubbed(lines, functions, padded=True):
+    """The lines of a file with stubs for these of its functions; if they are not padded, with no line for what is left out."""
+    lines, gone = [*lines], set()
     for function in functions:
         for n in range(function.lines.start, function.at):
-            lines[n] = re.sub(r" *#\[(tactic|cycle)\(.*\)\]$", "", lines[n])
+            lines[n], count = re.subn(r" *#\[(tactic|cycle)\(.*\)\]$", "", lines[n])
+            gone |= {n} if count else set()
         if lines[function.opens].endswith("}"):
             lines[function.opens] = re.sub(r"\{[^{]*\}$", f"{{ {STUB} }}", lines[function.opens])
         else:
             lines[function.opens] += f" {STUB}"
         for n in range(function.opens + 1, function.lines.stop - 1):
             lines[n] = ""
-    return lines
+            gone.add(n)
+    return lines if padded else [line for n, line in enumerate(lines) if n not in gone]
 
 
-def stub_room(room, kept):
+def stub_room(room, kept, padded=True):
     """Puts stubs into the crate's sources that lie in the room, for all functions but those whose proofs are in these
     folders, and takes the proofs of the others away; the names of those that are left as they are. The lemmas stay, of
-    which the prover reads those that it needs."""
+    which the prover reads those that it needs. Stubs that are not padded are the same for bodies of every length."""
     names, homes = set(), homes_of(room)
     for path in glob.glob(os.path.join(room, "src", "**", "*.rt"), recursive=True):
         name = os.path.relpath(path, room)
@@ -112,7 +114,7 @@ def stub_room(room, kept):
         others = [one for one in functions if one.folder not in kept and one.opens is not None and "const fn " not in lines[one.at]]
         names.update(one.name for one in functions if one not in others)
         with open(path, "w", encoding="utf-8") as file:
-            file.write("\n".join(stubbed(lines, others)) + (DECLARED if name in ("src/lib.rt", "src/main.rt") else ""))
+            file.write("\n".join(stubbed(lines, others, padded)) + (DECLARED if name in ("src/lib.rt", "src/main.rt") else ""))
         for proof in (os.path.join(room, one.folder, file) for one in others for file in PROOF_FILES):
             if os.path.exists(proof):
                 os.remove(proof)

@@ -1,0 +1,153 @@
+"""Edits that the prover has refused, kept on this machine in ~/.cache/stm-edits/, so that a changed body costs only the
+edits of its own function. That folder may be removed at any time.
+
+Only one verdict is kept: that a goal of the very function that the edit changes is left open. It is found again by a
+checksum of all that the check of this edit by itself reads:
+
+- the room, with this edit alone: the contracts, definitions and lemmas of the crate, and the one body, since all others
+  are stubs; where the edit was tried over the crate itself, all bodies and their proofs;
+- of each library below, as it lies there when the edit is tried and not as its sources stand, what the kit keeps in it to
+  be read from above: its declarations with contracts and no bodies, its definitions, its lemmas, and the facts of its
+  functions and types that its file `format` lists;
+- the crate's line of crates.txt and those below it, the kit, and these tools.
+
+So none hides an edit that would be proved now. Whatever could prove it has to stand in what the check reads: another
+contract, definition or lemma, here or below, another prover, or another text of the function, and each gives another
+checksum. What is left out can prove nothing of it: the bodies and proofs of other functions, which a proof never reads,
+and the code of a library, which is for the linker. Edits are tried in rounds, but a round has one edit of a function, and
+each changes only what stands in its own function's body: the contracts over which the others are tried stay (an edit that
+reaches beyond a body has a round to itself). A file that changes while it is tried is seen, and then nothing is kept.
+"""
+
+import functools
+import hashlib
+import os
+import subprocess
+import tempfile
+import time
+
+import proved_libraries
+from sources import ROOT, is_static
+from stubbing import PROOF_FILES
+
+KEPT = os.path.join(os.path.expanduser("~"), ".cache", "stm-edits")
+# Those that no run asked for in so many days go, and the oldest beyond so many.
+DAYS, MOST = 60, 20_000
+# How a line of a library's `format` begins that is a sum of its files, or of those below it.
+SUMS = ("needs ", "over ", "checked ", "sum ")
+
+
+def sum_of(*parts):
+    """A checksum of these texts and bytes, each with its length."""
+    found = hashlib.sha256()
+    for part in parts:
+        data = part if isinstance(part, bytes) else str(part).encode()
+        found.update(f"{len(data)} ".encode() + data)
+    return found.hexdigest()
+
+
+def read(path):
+    with open(path, "rb") as file:
+        return file.read()
+
+
+def files_in(place):
+    """The files below the folder, by their paths from there, in order."""
+    found = [os.path.join(folder, name) for folder, _, names in os.walk(place) for name in names]
+    return sorted(os.path.relpath(path, place) for path in found)
+
+
+def contents(place, names):
+    return [part for name in names for part in (name, read(os.path.join(place, name)))]
+
+
+def statements_of(library):
+    """A checksum of what is read of a library from above: all but its code and the proofs of its functions."""
+    names = [f"lang/src/{name}" for name in files_in(os.path.join(library, "lang", "src"))]
+    names += [f"lang/antt/{name}" for name in files_in(os.path.join(library, "lang", "antt")) if name.endswith(".antt")]
+    facts = [line for line in read(os.path.join(library, "format")).split(b"\n") if not line.startswith(tuple(one.encode() for one in SUMS))]
+    return sum_of(*contents(library, [name for name in names if os.path.basename(name) not in PROOF_FILES]), *facts)
+
+
+@functools.cache
+def kit_sum():
+    """What names the kit, and the prover's size and date."""
+    place = proved_libraries.kit()
+    texts = [read(os.path.join(place, name)) for name in ("KIT-ID", "WHAT") if os.path.exists(os.path.join(place, name))]
+    stat = os.stat(os.path.join(place, "bin", "rattle"))
+    version = subprocess.run(["rt", "version"], capture_output=True, check=False).stdout
+    return sum_of(version, stat.st_size, stat.st_mtime_ns, *texts)
+
+
+@functools.cache
+def tools_sum():
+    """The text of what reads edits, puts rooms together and judges what the prover says."""
+    here = os.path.dirname(os.path.realpath(__file__))
+    return sum_of(*contents(here, ["proved_libraries.py", "sources.py", "stubbing.py", "try-edits", "verdicts.py"]))
+
+
+def base_of(crates, crate):
+    """A checksum of all that the checks of the crate's edits read besides its own sources."""
+    below = proved_libraries.below(crates, crate)
+    lines = [(name, is_static(name), crates[name]) for name in [*below, crate]]
+    return sum_of(kit_sum(), tools_sum(), lines, *(part for name in below for part in (name, statements_of(proved_libraries.library_of(name)))))
+
+
+class Verdicts:
+    """Those of one crate. `plant` puts the crate with an edit into a room, over stubs or not."""
+
+    def __init__(self, crates, crate, plant, anew=False):
+        self.crates, self.crate, self.plant, self.anew = crates, crate, plant, anew
+        self.base, self.keys = base_of(crates, crate), {}
+
+    def key(self, edit, over_stubs):
+        with tempfile.TemporaryDirectory(prefix="stm-edit-") as room:
+            # How many lines a stub has only moves the lines behind it.
+            self.plant(room, [edit], over_stubs, padded=False)
+            asked = (over_stubs, edit.function, edit.folder, sorted(edit.texts))
+            return sum_of(self.base, asked, *contents(room, files_in(room)))
+
+    def known(self, edit):
+        """The goal that this edit left open when it was tried before."""
+        if edit.function is None:
+            return None
+        for over_stubs in (True, False):
+            key = self.keys[edit.path, over_stubs] = self.key(edit, over_stubs)
+            path = os.path.join(KEPT, key)
+            if not self.anew and os.path.exists(path):
+                os.utime(path)
+                return read(path).decode()
+        return None
+
+    def keep(self, refused):
+        """Keeps the goals of these edits, with whether each was tried over stubs, by what their checks read: nothing of it has
+        changed since the verdicts were asked for."""
+        if not refused or base_of(self.crates, self.crate) != self.base:
+            return
+        os.makedirs(KEPT, 0o700, exist_ok=True)
+        for edit, over_stubs, goal in refused:
+            key = self.keys[edit.path, over_stubs]
+            if self.key(edit, over_stubs) == key:
+                with tempfile.NamedTemporaryFile("w", dir=KEPT, delete=False, encoding="utf-8") as file:
+                    file.write(goal)
+                os.replace(file.name, os.path.join(KEPT, key))
+
+
+def shrink():
+    """Removes what no run has asked for in a long time."""
+    if not os.path.isdir(KEPT):
+        return
+    dates = []
+    for entry in os.scandir(KEPT):
+        try:
+            dates.append((entry.stat().st_mtime, entry.path))
+        except OSError:
+            continue
+    oldest = time.time() - DAYS * 24 * 60 * 60
+    dates.sort(reverse=True)
+    for at, (date, path) in enumerate(dates):
+        if at >= MOST or date < oldest:
+            try:
+                os.remove(path)
+            except OSError:
+                continue
