@@ -14,6 +14,7 @@ import sys
 import tempfile
 import time
 
+from measured import note, processor, read_seconds
 from sources import LIBRARY, OUT, PROGRAM, Failed, all_below, files_of, is_static, names_of, read_crates, read_listed
 from sources import say, size_of
 
@@ -79,11 +80,19 @@ class Proofs:
         self.sums, self.done, self.running, self.meanwhile = self.digests(), set(), {}, {}
         self.lanes, self.memory = processors_and_memory()
         self.sizes = {name: size_of(name, tree) for name in [*names, *beside]}
-        # how long the longest chain takes that begins with a crate, in bytes of code; each crate is loaded, too
-        self.behind = {}
+        # how long the longest chain takes that begins with a crate, in seconds
+        self.behind, seconds, self.measured = {}, self.seconds(), {}
         for name in reversed(names):
             above = [self.behind[other] for other in names if name in self.crates[other] and other in self.behind]
-            self.behind[name] = size_of(name, tree, ".rt") + 10_000 + max(above, default=0)
+            self.behind[name] = seconds[name] + max(above, default=0)
+
+    def seconds(self):
+        """How long each proof takes of one processor, as it was measured; for one that was not, as for its size of code."""
+        measured, codes = read_seconds(), {name: size_of(name, self.tree, ".rt") for name in self.names}
+        known = [name for name in self.names if ("proof", name) in measured]
+        # Measured are the dear ones.
+        rate = 0.6 * sum(measured["proof", name] for name in known) / max(1, sum(codes[name] for name in known)) or 0.005
+        return {name: measured.get(("proof", name), 10 + rate * codes[name]) for name in self.names}
 
     def digests(self):
         """What each crate's proof rests on: the kit, its sources, and those of the crates below it."""
@@ -160,7 +169,7 @@ class Proofs:
 
     def end_beside(self, log):
         """Takes out what has ended of what nobody waits for. Where it is refused it is not tried again."""
-        for name in [name for name, run in self.meanwhile.items() if run.child.poll() is not None]:
+        for name in [name for name, run in self.meanwhile.items() if run.has_ended()]:
             run = self.meanwhile.pop(name)
             told = run.told()
             log.write(f"== {name}\n{told}")
@@ -175,7 +184,7 @@ class Proofs:
         """Takes out what has ended, and keeps what is proved of it, also where another crate is refused. Whether any
         has."""
         self.end_beside(log)
-        ended, refused = [name for name, run in self.running.items() if run.child.poll() is not None], None
+        ended, refused = [name for name, run in self.running.items() if run.has_ended()], None
         for name in ended:
             run = self.running.pop(name)
             told = run.told()
@@ -188,6 +197,7 @@ class Proofs:
             if run.child.returncode == 0 and is_proved(told):
                 run.keep()
                 self.done.add(name)
+                self.measured[name] = run.seconds
             else:
                 refused = refused or refusal(name, told)
         if refused:
@@ -204,6 +214,7 @@ class Run:
 
     def __init__(self, proofs, name, jobs):
         self.name, self.jobs, self.need, self.sum = name, jobs, proofs.need(name, jobs), proofs.sums[name]
+        self.seconds = 0
         self.place = os.path.join(LIBRARIES, name)
         shutil.rmtree(self.place, ignore_errors=True)
         os.makedirs(self.place)
@@ -221,6 +232,13 @@ class Run:
                 group.write("19")
         except OSError:
             pass
+
+    def has_ended(self):
+        """Whether it has; what it took is known then."""
+        before = processor()
+        if self.child.returncode is None and self.child.poll() is not None:
+            self.seconds = processor() - before
+        return self.child.returncode is not None
 
     def told(self):
         self.output.seek(0)
@@ -313,6 +331,7 @@ def prove(proofs, log):
     finally:
         proofs.stop()
         progress.clear()
+        note("proof", proofs.measured)
     return progress.gone()
 
 
