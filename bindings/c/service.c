@@ -14,14 +14,16 @@
 #ifndef _POSIX_C_SOURCE
 #define _POSIX_C_SOURCE 200809L
 #endif
+#include "bell.h"
 #include "chapter_room.h"
 #include "service.h"
 
-#include <errno.h>
 #include <pthread.h>
 #include <stdbool.h>
 #include <string.h>
+#include <sys/types.h>
 #include <time.h>
+#include <unistd.h>
 
 /* The memory of the library: heap.c, or the host's own. */
 struct block {
@@ -69,10 +71,7 @@ struct call {
     /* Whether its bell is to be rung, or was and its thread has not seen it yet; and the next one to ring. */
     bool owed;
     struct call *next_owed;
-    /* Whether it was rung, under a lock of its own. */
-    pthread_mutex_t lock;
-    pthread_cond_t bell;
-    bool rung;
+    struct bell bell;
 };
 
 /* Workers that observe and evaluate long transactions, each for one thread at a time. */
@@ -113,6 +112,8 @@ struct stm_service {
     stm_service_options options;
     struct text file, report;
     struct workers workers;
+    /* The process that has opened it. */
+    pid_t process;
 };
 
 static stm_answer bare(int32_t code) { return (stm_answer){code, 0, 0}; }
@@ -173,13 +174,6 @@ static void hand(stm_service *s, int64_t ticket, stm_answer answer) {
     is_to_be_rung(s, call);
 }
 
-static void ring(struct call *call) {
-    pthread_mutex_lock(&call->lock);
-    call->rung = true;
-    pthread_cond_signal(&call->bell);
-    pthread_mutex_unlock(&call->lock);
-}
-
 /* Those whose bells are to be rung. */
 static struct call *take_owed(stm_service *s) {
     struct call *first = s->to_ring;
@@ -190,22 +184,8 @@ static struct call *take_owed(stm_service *s) {
 static void ring_all(struct call *call) {
     for (struct call *next; call; call = next) {
         next = call->next_owed;
-        ring(call);
+        ring(&call->bell);
     }
-}
-
-/* Sleeps until the bell was rung, or the time is up: whether it was rung. NULL: without end. */
-static bool is_rung(struct call *call, const struct timespec *until) {
-    int late = 0;
-    pthread_mutex_lock(&call->lock);
-    while (!call->rung && late != ETIMEDOUT) {
-        if (until) late = pthread_cond_timedwait(&call->bell, &call->lock, until);
-        else pthread_cond_wait(&call->bell, &call->lock);
-    }
-    bool rung = call->rung;
-    call->rung = false;
-    pthread_mutex_unlock(&call->lock);
-    return rung;
 }
 
 /* ---- Turns of tasks, under the lock ---- */
@@ -298,6 +278,17 @@ static int32_t hand_over(stm_service *s) {
     return failed ? STM_NO_ROOM : STM_DONE;
 }
 
+int stm_ask_keeper(void *own, const uint8_t *file, size_t file_length, const uint8_t *report, size_t report_length) {
+    stm_keeper *keeper = own;
+    keeper->file = file;
+    keeper->file_length = file_length;
+    keeper->report = report;
+    keeper->report_length = report_length;
+    keeper->kept = 0;
+    keeper->asked(keeper->own);
+    return keeper->kept ? 0 : 1;
+}
+
 /* Begins a chapter, if that makes room. */
 static int32_t next_chapter(stm_service *s) {
     stm_counts counts;
@@ -330,18 +321,12 @@ static stm_turned turn_of(stm_service *s, const struct call *call) {
     return turn;
 }
 
-static bool makes_bell(stm_service *s, struct call *call) {
-    call->rung = false;
-    call->lock = (pthread_mutex_t)PTHREAD_MUTEX_INITIALIZER;
-    return pthread_cond_init(&call->bell, &s->monotonic) == 0;
-}
-
 /* Makes the call. Its thread may go on at once where it does not wait. */
 static void make(stm_service *s, struct call *call) {
     stm_turned turn = turn_of(s, call);
     enum state state = turn.code == STM_RETRIES && turn.ticket >= 0 ? WAITS : ANSWERED;
     call->answer = told(turn.code, turn.value, turn.entry);
-    if (state == WAITS && !makes_bell(s, call)) {
+    if (state == WAITS && !makes_bell(&call->bell, &s->monotonic)) {
         stm_withdraw(&s->store, turn.ticket);
         call->answer = bare(STM_MEMORY);
         state = ANSWERED;
@@ -397,13 +382,6 @@ static void give_back(struct workers *w, stm_worker *worker) {
 
 /* ---- Long calls: the lock is held, but while a task is evaluated or its thread sleeps ---- */
 
-static bool is_past(const struct timespec *until) {
-    struct timespec now;
-    if (!until) return false;
-    clock_gettime(CLOCK_MONOTONIC, &now);
-    return now.tv_sec != until->tv_sec ? now.tv_sec > until->tv_sec : now.tv_nsec >= until->tv_nsec;
-}
-
 /* Has a running task of the call, in a new chapter where the present one has no room; or an answer. */
 static void begin(stm_service *s, struct call *call) {
     int64_t ticket = STM_CLOSED;
@@ -448,10 +426,10 @@ static void evaluate(stm_service *s, struct call *call, const struct timespec *u
     if (worker) give_back(&s->workers, worker);
 }
 
-/* Sleeps until the task is over or running again. Where the time is up before it is withdrawn. */
+/* Sleeps until the task is over or running again. Where the thread waits no longer it is withdrawn. */
 static void sleep_long(stm_service *s, struct call *call, const struct timespec *until) {
     unlock(s);
-    bool rung = is_rung(call, until);
+    bool rung = is_rung(&call->bell, until);
     pthread_mutex_lock(&s->lock);
     if (rung) call->owed = false;
     if (rung || !call->listed || call->running) return;
@@ -463,17 +441,16 @@ static void run_long(stm_service *s, struct call *call, const struct timespec *u
     int before;
     call->listed = call->running = call->owed = false;
     call->answer = bare(STM_MEMORY);
-    if (!makes_bell(s, call)) return;
+    if (!makes_bell(&call->bell, &s->monotonic)) return;
     pthread_setcancelstate(PTHREAD_CANCEL_DISABLE, &before);
     pthread_mutex_lock(&s->lock);
     begin(s, call);
     while (call->listed) call->running ? evaluate(s, call, until) : sleep_long(s, call, until);
     bool owed = call->owed;
     unlock(s);
-    if (owed) is_rung(call, NULL);
+    if (owed) is_rung_by(&call->bell, NULL);
     pthread_setcancelstate(before, &before);
-    pthread_cond_destroy(&call->bell);
-    pthread_mutex_destroy(&call->lock);
+    drop_bell(&call->bell);
 }
 
 /* ---- Calls ---- */
@@ -508,11 +485,11 @@ static void line_up(stm_service *s, struct call *call) {
     }
 }
 
-/* Waits for the answer. Where the time is up and there is none yet the task is withdrawn. */
+/* Waits for the answer. Where the thread waits no longer and there is none yet the task is withdrawn. */
 static void wait_for(stm_service *s, struct call *call, const struct timespec *until) {
     int before;
     pthread_setcancelstate(PTHREAD_CANCEL_DISABLE, &before);
-    if (!is_rung(call, until)) {
+    if (!is_rung(&call->bell, until)) {
         pthread_mutex_lock(&s->lock);
         bool late = call->listed;
         if (late) {
@@ -521,11 +498,10 @@ static void wait_for(stm_service *s, struct call *call, const struct timespec *u
             call->answer = bare(STM_TIMED_OUT);
         }
         unlock(s);
-        if (!late) is_rung(call, NULL);
+        if (!late) is_rung_by(&call->bell, NULL);
     }
     pthread_setcancelstate(before, &before);
-    pthread_cond_destroy(&call->bell);
-    pthread_mutex_destroy(&call->lock);
+    drop_bell(&call->bell);
 }
 
 /* Runs the transaction; where it waits, at most until then; NULL: without end. */
@@ -561,13 +537,11 @@ stm_answer stm_try_atomically(stm_service *s, uint32_t transaction, const int64_
 
 stm_answer stm_atomically_within(stm_service *s, uint32_t transaction, const int64_t *arguments, size_t count,
                                  uint64_t nanoseconds) {
-    struct timespec until;
-    clock_gettime(CLOCK_MONOTONIC, &until);
-    uint64_t rest = (uint64_t)until.tv_nsec + nanoseconds % 1000000000;
-    until.tv_sec += (time_t)(nanoseconds / 1000000000 + rest / 1000000000);
-    until.tv_nsec = (long)(rest % 1000000000);
+    const struct timespec until = time_in(nanoseconds);
     return run(s, stm_call, transaction, arguments, count, &until);
 }
+
+void stm_wait_by(stm_waiter *waiter) { waiter_here = waiter; }
 
 /* ---- Observers ---- */
 
@@ -610,12 +584,26 @@ static void unlock_and_leave(stm_service *s) {
     leave(s);
 }
 
-int64_t stm_service_transaction(const stm_service *s, const uint8_t *name, size_t name_length) {
-    return stm_program_transaction(&s->program, name, name_length);
+/* A look at the program takes no lock, but the thread is in a call: what it looks at stays until it leaves. */
+static stm_service *entered(const stm_service *service) {
+    stm_service *s = (stm_service *)service;
+    enter(s);
+    return s;
 }
 
-int64_t stm_service_parameters(const stm_service *s, uint32_t transaction) {
-    return stm_program_parameters(&s->program, transaction);
+static int64_t left(stm_service *s, int64_t number) {
+    leave(s);
+    return number;
+}
+
+int64_t stm_service_transaction(const stm_service *service, const uint8_t *name, size_t name_length) {
+    stm_service *s = entered(service);
+    return left(s, stm_program_transaction(&s->program, name, name_length));
+}
+
+int64_t stm_service_parameters(const stm_service *service, uint32_t transaction) {
+    stm_service *s = entered(service);
+    return left(s, stm_program_parameters(&s->program, transaction));
 }
 
 int32_t stm_service_value(stm_service *s, const uint8_t *name, size_t name_length, int64_t *value, uint64_t *version) {
@@ -625,11 +613,15 @@ int32_t stm_service_value(stm_service *s, const uint8_t *name, size_t name_lengt
     return code;
 }
 
-int64_t stm_service_table(const stm_service *s, const uint8_t *name, size_t name_length) {
-    return stm_program_table(&s->program, name, name_length);
+int64_t stm_service_table(const stm_service *service, const uint8_t *name, size_t name_length) {
+    stm_service *s = entered(service);
+    return left(s, stm_program_table(&s->program, name, name_length));
 }
 
-int64_t stm_service_table_length(const stm_service *s, uint32_t table) { return stm_program_cells(&s->program, table); }
+int64_t stm_service_table_length(const stm_service *service, uint32_t table) {
+    stm_service *s = entered(service);
+    return left(s, stm_program_cells(&s->program, table));
+}
 
 int32_t stm_service_cell(stm_service *s, uint32_t table, uint32_t index, int64_t *value, uint64_t *version) {
     lock(s);
@@ -745,6 +737,7 @@ int32_t stm_service_open(const uint8_t *file, size_t file_length, const stm_serv
     if (!block.got) return STM_MEMORY;
     stm_service *s = block.at;
     memset(s, 0, sizeof *s);
+    s->process = getpid();
     if (pthread_condattr_init(&s->monotonic) != 0) return rattle_dealloc(s), STM_MEMORY;
     s->lock = s->workers.lock = (pthread_mutex_t)PTHREAD_MUTEX_INITIALIZER;
     s->workers.changed = (pthread_cond_t)PTHREAD_COND_INITIALIZER;
@@ -757,7 +750,12 @@ int32_t stm_service_open(const uint8_t *file, size_t file_length, const stm_serv
 
 /* ---- Its end ---- */
 
+/* Whether it is another process's, of which this one is a child. The threads that were in a call there are not here, so
+ * their locks stay taken, and they stay in their calls. */
+static bool is_of_another_process(const stm_service *s) { return s->process != getpid(); }
+
 void stm_service_close(stm_service *s) {
+    if (is_of_another_process(s)) return;
     lock(s);
     s->closed = true;
     for (size_t i = 0; i < BUCKETS; i++) {
@@ -776,7 +774,7 @@ void stm_service_close(stm_service *s) {
 }
 
 void stm_service_free(stm_service *s) {
-    if (!s) return;
+    if (!s || is_of_another_process(s)) return;
     stm_service_close(s);
     int before;
     pthread_setcancelstate(PTHREAD_CANCEL_DISABLE, &before);

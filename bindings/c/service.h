@@ -10,8 +10,13 @@
  *
  * What the host owes is what C leaves to it: pointers are to what is there; a thread that calls has 64 KB of stack;
  * no call is made from a signal handler, nor from `ended`; none is made after `stm_service_free`; and none in a
- * forked child, for another thread may have held the lock, and no child has that thread. Else all calls may be made
- * by any thread at any time, and none is a point where a thread is cancelled. It is over pthreads: link with -pthread.
+ * forked child, for another thread may have held the lock, and no child has that thread. There `stm_service_close` and
+ * `stm_service_free` do nothing, so a child can let go what it has of its parent; what it wants to call it opens itself.
+ * Else all calls may be made by any thread at any time, and none is a point where a thread is cancelled. It is over
+ * pthreads: link with -pthread.
+ *
+ * A thread that has the lock makes the calls of those in line too. So any call may end a chapter, and takes as long as
+ * `ended` does; and so does each call that wants the lock then.
  *
  * What a file says stays in memory until the process ends, once for each `stm_service_open`. */
 #ifndef STM_SERVICE_H
@@ -35,11 +40,27 @@ typedef struct stm_service_options {
      * evaluates a long transaction. */
     uint32_t observers;
     /* Called with file and report of each chapter that ends, under the lock: so it makes no call of the service, and
-     * returns. Not 0: the chapter goes on, and each call that finds no room asks again. NULL: none. The last chapter
+     * returns. Not 0: the chapter goes on, and each call that finds no room asks again: so who has written the chapter
+     * down and fails then is told it twice, the second time perhaps with more entries. NULL: none. The last chapter
      * does not end: ask for its file and report when the service is closed. */
     int (*ended)(void *own, const uint8_t *file, size_t file_length, const uint8_t *report, size_t report_length);
     void *own;
 } stm_service_options;
+
+/* For a host in a language whose callback can be stopped before its first line, so that what it answers is not known: a
+ * keeper of chapters, with `stm_ask_keeper` as `ended` and the keeper as `own`. It is asked with the texts here, and the
+ * chapter was kept where `asked` has set `kept`, which is 0 before, to another number. */
+typedef struct stm_keeper {
+    void (*asked)(void *own);
+    void *own;
+    const uint8_t *file;
+    size_t file_length;
+    const uint8_t *report;
+    size_t report_length;
+    int32_t kept;
+} stm_keeper;
+
+int stm_ask_keeper(void *own, const uint8_t *file, size_t file_length, const uint8_t *report, size_t report_length);
 
 /* Opens a service of the file, with these options or, with NULL, with 0 for each; and gives the runs of the file their
  * turns: STM_DONE, and `out` has the service. Else `out` has NULL: STM_FILE_TOO_LONG .. STM_FILE_BROKEN, STM_MEMORY;
@@ -64,10 +85,23 @@ stm_answer stm_atomically(stm_service *service, uint32_t transaction, const int6
  * given up then, so the report has it on a line `memory`. */
 stm_answer stm_try_atomically(stm_service *service, uint32_t transaction, const int64_t *arguments, size_t count);
 
-/* As `stm_atomically`, but a thread that has waited for so long goes on with STM_TIMED_OUT. A long one whose time is up
- * before it is entered is given up; where it is evaluated just then, when that ends. */
+/* As `stm_atomically`, but a thread that has waited for so long goes on with STM_TIMED_OUT. It is looked at while the
+ * transaction waits, and not while the thread waits for the lock: so a call may take longer, as where `ended` is slow.
+ * A long one whose time is up before it is entered is given up; where it is evaluated just then, when that ends. */
 stm_answer stm_atomically_within(stm_service *service, uint32_t transaction, const int64_t *arguments, size_t count,
                                  uint64_t nanoseconds);
+
+/* Who is asked, each 50 milliseconds, while a transaction that a thread has called waits: the thread waits no longer
+ * where `asked` has set `stopped`, which is 0 before, to another number. It is called by the thread, under no lock. */
+typedef struct stm_waiter {
+    void (*asked)(void *own);
+    void *own;
+    int32_t stopped;
+} stm_waiter;
+
+/* From now on the waiter is asked while this thread waits; NULL: nobody, as at first. Where it stops, the answer is
+ * STM_TIMED_OUT, but where the transaction was entered before it can be withdrawn. While it is asked nobody is. */
+void stm_wait_by(stm_waiter *waiter);
 
 /* How the call would end on one state, beside what others commit: an outcome with no entry, STM_RETRIES,
  * STM_CLOSED, STM_MEMORY or STM_UNKNOWN. */
@@ -103,7 +137,8 @@ int32_t stm_service_file(stm_service *service, uint8_t *room, size_t room_length
  * evaluated just then is given up. The calls from `stm_service_value` to `stm_service_file` go on. */
 void stm_service_close(stm_service *service);
 
-/* Closes it, waits until no thread is in a call, and lets it go. NULL is none. */
+/* Closes it, waits until no thread is in a call, and lets it go. NULL is none. In a child of the process that has opened
+ * it nothing is let go. */
 void stm_service_free(stm_service *service);
 
 #ifdef __cplusplus

@@ -36,6 +36,25 @@ class Options(ctypes.Structure):
     ]
 
 
+Asked = ctypes.CFUNCTYPE(None, ctypes.c_void_p)
+
+
+class Keeper(ctypes.Structure):
+    _fields_ = [
+        ("asked", Asked),
+        ("own", ctypes.c_void_p),
+        ("file", ctypes.c_void_p),
+        ("file_length", ctypes.c_size_t),
+        ("report", ctypes.c_void_p),
+        ("report_length", ctypes.c_size_t),
+        ("kept", ctypes.c_int32),
+    ]
+
+
+class Waiter(ctypes.Structure):
+    _fields_ = [("asked", Asked), ("own", ctypes.c_void_p), ("stopped", ctypes.c_int32)]
+
+
 _TEXT = [ctypes.c_char_p, ctypes.c_size_t]
 _ROOM = [ctypes.c_char_p, ctypes.c_size_t, ctypes.POINTER(ctypes.c_size_t)]
 _SERVICE, _TX, _CODE, _COUNT = ctypes.c_void_p, ctypes.c_uint32, ctypes.c_int32, ctypes.c_uint64
@@ -51,12 +70,14 @@ CALLS: Dict[str, Tuple[Any, List[Any]]] = {
     "stm_world": (_CODE, [*_TEXT, *_TEXT, *_ROOM]),
     "stm_explore": (_CODE, [*_TEXT, ctypes.c_uint32, *_ROOM]),
     "stm_explore_to": (_CODE, [*_TEXT, ctypes.c_uint32, ctypes.c_size_t, *_ROOM]),
+    "stm_ask_keeper": (ctypes.c_int, [ctypes.c_void_p, *_TEXT, *_TEXT]),
     "stm_service_open": (_CODE, [*_TEXT, ctypes.POINTER(Options), ctypes.POINTER(_SERVICE)]),
     "stm_service_transaction": (ctypes.c_int64, [_SERVICE, *_TEXT]),
     "stm_service_parameters": (ctypes.c_int64, [_SERVICE, _TX]),
     "stm_atomically": (Answer, _CALL),
     "stm_try_atomically": (Answer, _CALL),
     "stm_atomically_within": (Answer, [*_CALL, ctypes.c_uint64]),
+    "stm_wait_by": (None, [ctypes.POINTER(Waiter)]),
     "stm_service_observe": (Answer, _CALL),
     "stm_service_value": (
         _CODE,

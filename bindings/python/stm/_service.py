@@ -5,12 +5,11 @@ from __future__ import annotations
 import ctypes
 import re
 import struct
-import threading
 import weakref
 from types import TracebackType
 from typing import Any, Callable, Dict, List, NamedTuple, Optional, Sequence, Type
 
-from . import _declared
+from . import _asked, _declared
 from ._faults import (
     Broken,
     Closed,
@@ -69,35 +68,6 @@ def _packing(parameters: int) -> Callable[[Sequence[int]], Any]:
     return packed if parameters > 0 else lambda arguments: None
 
 
-class _Keeper:
-    """What is called with file and report of each chapter that ends, by a thread that calls; and why it failed last."""
-
-    def __init__(self, keep: Callable[[str, str], object]) -> None:
-        self.keep = keep
-        self.call = _declared.Ended(self._ended)
-        self.failed: Optional[BaseException] = None
-        # KeyboardInterrupt and its like, by thread: each goes on when the thread's own call ends.
-        self.interrupts: Dict[int, BaseException] = {}
-
-    def _ended(self, _own: Any, file: Any, file_length: int, report: Any, report_length: int) -> int:
-        try:
-            spelled = (ctypes.string_at(file, file_length), ctypes.string_at(report, report_length))
-            self.keep(*(text.decode("ascii") for text in spelled))
-            self.failed = None
-            return 0
-        except BaseException as error:
-            self.failed = error
-            if not isinstance(error, Exception):
-                self.interrupts[threading.get_ident()] = error
-            return 1
-
-    def go_on(self) -> None:
-        """Raises what has interrupted this thread."""
-        error = self.interrupts.pop(threading.get_ident(), None)
-        if error is not None:
-            raise error
-
-
 def _declared_by(word: str, text: str) -> List[str]:
     """The names that the file declares by this word, in order."""
     tokens = re.findall(r"[()]|[^\s()]+", re.sub(r";[^\n]*", "", text))
@@ -109,7 +79,7 @@ def _declared_by(word: str, text: str) -> List[str]:
     return names
 
 
-def _let_go(service: ctypes.c_void_p, _keeper: Optional[_Keeper]) -> None:
+def _let_go(service: ctypes.c_void_p, _callback: object) -> None:
     library.stm_service_free(service)
 
 
@@ -120,16 +90,23 @@ class Service:
             counter.atomically("inc")  # 1
 
     A call gives its transaction a number of 64 signed bits for each of its parameters: `atomically("pay", [3, 5, 20])`;
-    with more or fewer, `WrongArguments`. A call that waits lets other threads go on. Ctrl-C reaches the main thread when
-    its call ends: give it a `timeout`. What a file says stays in memory until the process ends.
+    with more or fewer, `WrongArguments`. A call that waits lets other threads go on. Where the main thread waits for
+    others' commits, what a signal's handler raises, as Ctrl-C does, comes within a twentieth of a second, and the call is
+    given up, if it has not been entered just then. A handler that raises nothing ends no wait. What a file says stays in
+    memory until the process ends.
 
     `room`: how many tasks a chapter has room for beside those of the file; 0: as many as there can be. `checkpoint`: a
     journal of so many entries is followed by a checkpoint; 0: never. `observers`: how many workers there are, at most
     32; 0: 4; a thread takes one while it observes or evaluates a long transaction. `on_chapter` is called with file and
-    report of each chapter that ends, under the lock, so it makes no call of the service; where it raises the chapter
-    goes on, and each call that finds no room asks it again, and raises `NoRoom` from its error. The last chapter does
-    not end: ask for its file and report once the service is closed. `Refused` where the file is refused, or there can't
-    be so much room or so many observers.
+    report of each chapter that ends, under the lock, so it makes no call of the service, and all wait for it; any call
+    of the service may be the one that it is called in. Where it raises the chapter goes on, and each call that finds no
+    room asks it again, and raises `NoRoom` from its error: so it may be told a chapter twice. Where an interrupt, a
+    `SystemExit` or a `MemoryError` stops it, that is raised by the call of the thread that it was called in, in place of
+    what the call answered. The last chapter does not end: ask for its file and report once the service is closed.
+    `Refused` where the file is refused, or there can't be so much room or so many observers.
+
+    In a child that `os.fork` has made, a service of the parent is not called; to close it or to leave its `with` does
+    nothing there.
     """
 
     def __init__(
@@ -144,24 +121,27 @@ class Service:
         self._text = text
         self._names: Optional[List[str]] = None
         self._found: Dict[str, _Transaction] = {}
-        self._keeper = None if on_chapter is None else _Keeper(on_chapter)
-        ended = _declared.Ended() if self._keeper is None else self._keeper.call
+        self._keeper = keeper = None if on_chapter is None else _asked.Keeper(on_chapter)
+        asked = (_declared.Ended(), None) if keeper is None else keeper.options()
         sizes = (bounded(room, 64), bounded(checkpoint, 32), bounded(observers, 32))
-        options = _declared.Options(*sizes, ended, None)
+        options = _declared.Options(*sizes, *asked)
         self._at = ctypes.c_void_p()
         code = library.stm_service_open(*taken(text), ctypes.byref(options), ctypes.byref(self._at))
         if code != _declared.DONE:
             raise refused(code)
-        # At exit threads may be in calls still, so nothing is let go then.
-        weakref.finalize(self, _let_go, self._at, self._keeper).atexit = False
+        # What C calls stays until C has let the service go, but not the keeper, which may have the service. At exit
+        # threads may be in calls still, so nothing is let go then.
+        weakref.finalize(self, _let_go, self._at, None if keeper is None else keeper.callback).atexit = False
 
     def atomically(
         self, transaction: str, arguments: Sequence[int] = (), *, timeout: Optional[float] = None
     ) -> int:
         """Runs the transaction as one atomic step: what it returned; else a `Fault`. Where it retries the thread waits
         until a commit changed what it read, and it was entered; with a timeout, in seconds, at most so long, and then
-        `TimedOut`."""
+        `TimedOut`. The time that it waits for the lock, as while `on_chapter` is called, is not cut short."""
         call = self._call(transaction, arguments)
+        if not _asked.is_ready:
+            _asked.be_ready()
         if timeout is None:
             return self._returned(library.stm_atomically(*call))
         nanoseconds = int(min(max(timeout, 0.0), _LONGEST) * 1e9)
@@ -197,19 +177,17 @@ class Service:
         number = int(library.stm_service_table(self._at, *taken(name)))
         if number < 0:
             raise Unknown(name)
-        return Table(self, self._at, name, number)
+        return Table(self._asks, name, number)
 
     @property
     def chapter(self) -> int:
         """The number of the chapter, from 0 on."""
-        told: int = library.stm_service_chapter(self._at)
-        return told
+        return self._asks(library.stm_service_chapter)
 
     @property
     def entered(self) -> int:
         """How many entries there were in all chapters."""
-        told: int = library.stm_service_entered(self._at)
-        return told
+        return self._asks(library.stm_service_entered)
 
     def report(self) -> str:
         """The report of the present chapter."""
@@ -222,7 +200,7 @@ class Service:
 
     def close(self) -> None:
         """Every call that waits and every later one raises `Closed`. What was entered stays."""
-        library.stm_service_close(self._at)
+        self._asks(library.stm_service_close)
 
     def __enter__(self) -> Service:
         return self
@@ -254,13 +232,21 @@ class Service:
         return self._at, number, packed(arguments), parameters
 
     def _returned(self, answer: Answer) -> int:
-        keeper = self._keeper
-        if keeper is not None and keeper.interrupts:
-            keeper.go_on()
+        if _asked.stops:
+            _asked.go_on()
         if answer.code == _declared.DONE:
             value: int = answer.value
             return value
-        raise self._fault(answer) from (keeper.failed if keeper and answer.code == _declared.NO_ROOM else None)
+        _asked.begin_again()
+        keeper = self._keeper
+        raise self._fault(answer) from (keeper.failed() if keeper and answer.code == _declared.NO_ROOM else None)
+
+    def _asks(self, call: Callable[..., int], *given: object) -> int:
+        """What the library answers to a question. It may make calls of other threads meanwhile, and so end chapters."""
+        told = call(self._at, *given)
+        if _asked.stops:
+            _asked.go_on()
+        return told
 
     def _fault(self, answer: Answer) -> Fault:
         if answer.code == _declared.THROWN:
@@ -273,13 +259,13 @@ class Service:
 
     def _present(self, name: str) -> tuple[int, int]:
         value, version = ctypes.c_int64(), ctypes.c_uint64()
-        code = library.stm_service_value(self._at, *taken(name), ctypes.byref(value), ctypes.byref(version))
+        code = self._asks(library.stm_service_value, *taken(name), ctypes.byref(value), ctypes.byref(version))
         if code != _declared.DONE:
             raise Unknown(name)
         return value.value, version.value
 
     def _copied(self, call: Callable[..., int]) -> str:
-        code, text = copied(call, self._at)
+        code, text = copied(self._asks, call)
         if code != _declared.DONE:
             raise refused(code)
         return text

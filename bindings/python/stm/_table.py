@@ -3,7 +3,7 @@
 from __future__ import annotations
 
 import ctypes
-from typing import Iterator, List, Sequence, Union, overload
+from typing import Any, Callable, Iterator, List, Sequence, Union, overload
 
 from ._faults import Outside
 from ._library import library
@@ -11,15 +11,15 @@ from ._library import library
 
 class Table(Sequence[int]):
     """The present values of a service's table, as a list that is only read: `acct[5]`, `acct[10:20]`, `len(acct)`,
-    `sum(acct)`. The values of a slice, and of a table that is gone through, are all of one state. `Outside` where there
-    is no such cell."""
+    `sum(acct)`. The values of a slice, and of a table that is gone through, by `reversed`, `in`, `index` and `count`
+    too, are all of one state. `Outside` where there is no such cell."""
 
-    def __init__(self, service: object, at: ctypes.c_void_p, name: str, number: int) -> None:
-        # The service stays for as long as its table.
-        self._service, self._at = service, at
+    def __init__(self, asks: Callable[..., int], name: str, number: int) -> None:
+        # It is a service's, which stays for as long as its table.
+        self._asks = asks
         self.name = name
         self._number = number
-        self._length = int(library.stm_service_table_length(at, number))
+        self._length = asks(library.stm_service_table_length, number)
 
     def __len__(self) -> int:
         return self._length
@@ -38,6 +38,13 @@ class Table(Sequence[int]):
     def __iter__(self) -> Iterator[int]:
         return iter(self[:])
 
+    def __reversed__(self) -> Iterator[int]:
+        return iter(self[::-1])
+
+    def index(self, value: Any, *bounds: int) -> int:
+        """The number of the first cell that has this value, as a list's; `ValueError` where none has it."""
+        return self[:].index(value, *bounds)
+
     def version(self, index: int) -> int:
         """The number of the last entry of the chapter that changed a cell, 0 where none did."""
         return self._present(index)[1]
@@ -48,7 +55,7 @@ class Table(Sequence[int]):
         except IndexError:
             raise Outside(f"{self.name}[{index}]") from None
         value, version = ctypes.c_int64(), ctypes.c_uint64()
-        library.stm_service_cell(self._at, self._number, cell, ctypes.byref(value), ctypes.byref(version))
+        self._asks(library.stm_service_cell, self._number, cell, ctypes.byref(value), ctypes.byref(version))
         return value.value, version.value
 
     def _values(self, cells: range) -> List[int]:
@@ -56,5 +63,5 @@ class Table(Sequence[int]):
             return []
         first, last = min(cells[0], cells[-1]), max(cells[0], cells[-1])
         values = (ctypes.c_int64 * (last - first + 1))()
-        library.stm_service_cells(self._at, self._number, first, values, len(values))
+        self._asks(library.stm_service_cells, self._number, first, values, len(values))
         return [values[cell - first] for cell in cells]

@@ -1,0 +1,169 @@
+/* The end of a service: it waits for each thread that is in a call, also for one that only looks up a name; and in a child
+ * of its process nothing is closed, nothing is let go, and nothing hangs. Prints `good`. */
+#include "judging.h"
+
+#include <fcntl.h>
+#include <pthread.h>
+#include <signal.h>
+#include <stdbool.h>
+#include <sys/mman.h>
+#include <sys/wait.h>
+#include <time.h>
+#include <unistd.h>
+
+enum { PAGE_ROOM = 1 << 16, CHILD = 7, MILLISECONDS = 100 };
+
+static const char TEXT[] = "(stm 3)(var n 0)(table inc 5 0)(tx inc () (set n (add n 1)) n)(tx get () (if (lt n 5) (retry) (skip)) n)";
+static const char ONE[] = "(var n 0)(tx inc (set n (add n 1)) n)(tx get (if (lt n 5) (retry) (skip)) n)";
+
+static bool is_in, goes_on, is_free;
+static uint8_t *page;
+
+static void set(bool *flag) { __atomic_store_n(flag, true, __ATOMIC_RELEASE); }
+static bool is_set(bool *flag) { return __atomic_load_n(flag, __ATOMIC_ACQUIRE); }
+static void sleep_shortly(void) { nanosleep(&(struct timespec){0, 1000000}, NULL); }
+
+static void until(bool *flag) {
+    while (!is_set(flag)) sleep_shortly();
+}
+
+static void begins(void) { is_in = goes_on = is_free = false; }
+
+/* ---- A thread that looks up a name, which it cannot read yet ---- */
+
+static void reads(int number) {
+    (void)number;
+    set(&is_in);
+    until(&goes_on);
+    mprotect(page, PAGE_ROOM, PROT_READ);
+}
+
+typedef int64_t looks_up(const stm_service *, const uint8_t *, size_t);
+
+struct look {
+    stm_service *service;
+    looks_up *by;
+    int64_t found;
+};
+
+static void *looks(void *its) {
+    struct look *look = its;
+    look->found = look->by(look->service, page, 3);
+    return NULL;
+}
+
+static void *lets_go(void *service) {
+    stm_service_free(service);
+    set(&is_free);
+    return NULL;
+}
+
+static void a_look_is_a_call(looks_up *by) {
+    begins();
+    int zero = open("/dev/zero", O_RDWR);
+    page = mmap(NULL, PAGE_ROOM, PROT_READ | PROT_WRITE, MAP_PRIVATE, zero, 0);
+    wants(page != MAP_FAILED && close(zero) == 0);
+    memcpy(page, "inc", 3);
+    wants(mprotect(page, PAGE_ROOM, PROT_NONE) == 0);
+    struct look look = {opens(TEXT, NULL), by, -1};
+    pthread_t looking, letting;
+    wants(pthread_create(&looking, NULL, looks, &look) == 0);
+    until(&is_in);
+    wants(pthread_create(&letting, NULL, lets_go, look.service) == 0);
+    for (int i = 0; i < MILLISECONDS; i++) sleep_shortly();
+    wants(!is_set(&is_free));
+    set(&goes_on);
+    pthread_join(looking, NULL);
+    pthread_join(letting, NULL);
+    wants(look.found == 0 && is_free);
+    munmap(page, PAGE_ROOM);
+}
+
+/* ---- A child ---- */
+
+static int waits_in_it(void *own, const uint8_t *file, size_t file_length, const uint8_t *report, size_t report_length) {
+    (void)own, (void)file, (void)file_length, (void)report, (void)report_length;
+    set(&is_in);
+    until(&goes_on);
+    return 0;
+}
+
+static void *calls(void *service) {
+    wants(stm_atomically(service, 0, NULL, 0).code == STM_DONE);
+    return NULL;
+}
+
+static void *get(void *service) {
+    wants(stm_atomically(service, 1, NULL, 0).code == STM_CLOSED);
+    return NULL;
+}
+
+/* The child lets go what it has of its parent, and has a service of its own. */
+static void is_child(stm_service *s) {
+    stm_service_close(s);
+    stm_service_free(s);
+    stm_service *own = opens(ONE, NULL);
+    wants(stm_atomically(own, 0, NULL, 0).value == 1);
+    stm_service_free(own);
+    _exit(CHILD);
+}
+
+static void child_of(stm_service *s) {
+    int status = 0;
+    pid_t child = fork(), ended = 0;
+    if (child == 0) is_child(s);
+    for (int i = 0; i < 10000 && ended == 0; i++) {
+        sleep_shortly();
+        ended = waitpid(child, &status, WNOHANG);
+    }
+    if (ended == 0) kill(child, SIGKILL);
+    wants(ended == child && WIFEXITED(status) && WEXITSTATUS(status) == CHILD);
+}
+
+/* Another thread of the parent has the lock. */
+static void a_child_while_a_chapter_ends(void) {
+    begins();
+    stm_service *s = opens(ONE, &(stm_service_options){1, 0, 0, waits_in_it, NULL});
+    calls(s);
+    pthread_t other;
+    wants(pthread_create(&other, NULL, calls, s) == 0);
+    until(&is_in);
+    child_of(s);
+    set(&goes_on);
+    pthread_join(other, NULL);
+    struct judged judged = {{"\nentry "}, {0}, 0};
+    judges_the_last(s, &judged);
+    wants(stm_service_entered(s) == 2 && value_of(s, "n") == 2 && judged.lines[0] == 1);
+    stm_service_free(s);
+}
+
+/* Another thread of the parent is in a call, in which it sleeps. */
+static void a_child_while_a_call_waits(void) {
+    stm_service *s = opens(ONE, NULL);
+    pthread_t other;
+    wants(pthread_create(&other, NULL, get, s) == 0);
+    char report[1000];
+    size_t length;
+    do {
+        sleep_shortly();
+        wants(stm_service_report(s, (uint8_t *)report, sizeof report - 1, &length) == STM_DONE);
+        report[length] = 0;
+    } while (!strstr(report, "\nparked "));
+    child_of(s);
+    wants(stm_atomically(s, 0, NULL, 0).value == 1);
+    stm_service_close(s);
+    pthread_join(other, NULL);
+    stm_service_free(s);
+}
+
+int main(void) {
+    struct sigaction fault = {.sa_handler = reads}, before;
+    wants(sigaction(SIGSEGV, &fault, &before) == 0);
+    a_look_is_a_call(stm_service_transaction);
+    a_look_is_a_call(stm_service_table);
+    wants(sigaction(SIGSEGV, &before, NULL) == 0);
+    a_child_while_a_chapter_ends();
+    a_child_while_a_call_waits();
+    puts("good");
+    return 0;
+}
