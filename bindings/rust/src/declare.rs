@@ -1,7 +1,7 @@
 //! A program declared in Rust: its parts make the text of a file, which the library reads.
 
 use crate::error::Error;
-use crate::service::Service;
+use crate::service::{Service, ServiceOptions};
 use crate::store::Program;
 use std::fmt::Write;
 use std::ops::{Add, Div, Mul, Rem, Sub};
@@ -422,5 +422,24 @@ impl Declare {
     /// ```
     pub fn service(&self) -> Result<Service, Error> {
         Service::open(&self.text()?)
+    }
+
+    /// As `service`, by options of one's own.
+    ///
+    /// ```
+    /// use stm::{set, var, Declare, ServiceOptions};
+    ///
+    /// let mut declare = Declare::new();
+    /// let n = declare.var("n", 0);
+    /// declare.tx("inc", set(&n, var(&n) + 1), var(&n));
+    /// let service = declare.service_with(ServiceOptions::new().room(2))?;
+    /// for _ in 0..5 {
+    ///     service.atomically(0, &[]).expect("it returns");
+    /// }
+    /// assert_eq!((service.chapter(), service.entered()), (2, 5));
+    /// # Ok::<(), stm::Error>(())
+    /// ```
+    pub fn service_with(&self, options: ServiceOptions) -> Result<Service, Error> {
+        Service::open_with(&self.text()?, options)
     }
 }

@@ -124,7 +124,7 @@ pub enum Fault {
     TimedOut,
     /// The service was closed.
     Closed,
-    /// All room is taken by calls that wait, or the chapter could not be ended.
+    /// All room is taken by calls that wait, or the chapter could not be ended: `Service::not_kept` says why.
     NoRoom,
     /// A growth was refused.
     Memory,
@@ -163,3 +163,23 @@ impl fmt::Display for Fault {
 }
 
 impl std::error::Error for Fault {}
+
+/// Why the closure of `ServiceOptions::on_chapter` did not keep a chapter.
+#[derive(Clone, Debug, PartialEq, Eq)]
+pub enum NotKept {
+    /// It answered an error, which `Debug` spells so.
+    Failed(String),
+    /// It panicked with this message, which is empty where it is no text.
+    Panicked(String),
+}
+
+impl fmt::Display for NotKept {
+    fn fmt(&self, out: &mut fmt::Formatter<'_>) -> fmt::Result {
+        match self {
+            NotKept::Failed(error) => write!(out, "the chapter was not kept: {error}"),
+            NotKept::Panicked(message) => write!(out, "who keeps the chapter panicked: {message}"),
+        }
+    }
+}
+
+impl std::error::Error for NotKept {}

@@ -37,7 +37,7 @@ pub use declare::{
     and, div, eq, int, le, lt, not, or, or_else, param, rem, repeat, retry, seq, set, skip, sum, throw, var,
     when, Cond, Declare, Expr, Param, Stmt, Table, Tx, Var,
 };
-pub use error::{Error, Fault, ScheduleFault};
+pub use error::{Error, Fault, NotKept, ScheduleFault};
 pub use raw::{Counts, Part, Verdict};
 pub use service::{Service, ServiceOptions};
 pub use store::{run, run_with, Program, RunOptions, Store, Worker};

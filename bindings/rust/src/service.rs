@@ -1,7 +1,8 @@
 //! Calls from any thread.
 
-use crate::error::{Error, Fault};
+use crate::error::{Error, Fault, NotKept};
 use crate::raw::{Keep, RawService};
+use std::fmt::Debug;
 use std::time::Duration;
 
 /// A store with its lock and its waiting threads, which threads share by a reference. A call runs a transaction as one
@@ -59,9 +60,10 @@ impl ServiceOptions {
     }
 
     /// The closure is told the file and the report of each chapter that ends, before the next one begins: a pair that
-    /// `check` finds good. It is called under the lock, so it makes no call on the service. Where it fails or panics
-    /// the chapter goes on, and each call that finds no room asks it again. The last chapter does not end: ask for its
-    /// file and report once the service is closed.
+    /// `check` finds good. It is called under the lock, so it makes no call on the service, and all wait for it. Where
+    /// it fails or panics the chapter goes on, and each call that finds no room asks it again: so it may be told a
+    /// chapter twice. `Service::not_kept` says why it failed. The last chapter does not end: ask for its file and
+    /// report once the service is closed.
     ///
     /// ```
     /// use std::sync::{Arc, Mutex};
@@ -80,11 +82,12 @@ impl ServiceOptions {
     /// assert_eq!((service.chapter(), *good.lock().unwrap()), (2, 2));
     /// # Ok::<(), stm::Error>(())
     /// ```
-    pub fn on_chapter<E>(
+    pub fn on_chapter<E: Debug>(
         self,
         mut keep: impl FnMut(&str, &str) -> Result<(), E> + Send + 'static,
     ) -> ServiceOptions {
-        ServiceOptions { keep: Some(Box::new(move |file, report| keep(file, report).is_ok())), ..self }
+        let spelled = move |file: &str, report: &str| keep(file, report).map_err(|error| format!("{error:?}"));
+        ServiceOptions { keep: Some(Box::new(spelled)), ..self }
     }
 }
 
@@ -124,7 +127,8 @@ impl Service {
     }
 
     /// As `atomically`; `TimedOut` after the time, also where a long transaction is evaluated until then. It had no
-    /// effect, and never will.
+    /// effect, and never will. The time is for how long the transaction waits: that the thread waits for the lock, as
+    /// while a chapter ends, is not cut short.
     ///
     /// ```
     /// use std::time::Duration;
@@ -193,6 +197,23 @@ impl Service {
         self.raw.entered()
     }
 
+    /// Why the closure of `ServiceOptions::on_chapter` did not keep the chapter that it was told last; `None` where it
+    /// did, or was told none.
+    ///
+    /// ```
+    /// use stm::{Fault, NotKept, Service, ServiceOptions};
+    ///
+    /// let options = ServiceOptions::new().room(1).on_chapter(|_, _| Err("no disk"));
+    /// let service = Service::open_with("(var x 5) (tx inc (set x (add x 1)) x)", options)?;
+    /// assert_eq!((service.atomically(0, &[]), service.not_kept()), (Ok(6), None));
+    /// assert_eq!(service.atomically(0, &[]), Err(Fault::NoRoom));
+    /// assert_eq!(service.not_kept(), Some(NotKept::Failed("\"no disk\"".to_string())));
+    /// # Ok::<(), stm::Error>(())
+    /// ```
+    pub fn not_kept(&self) -> Option<NotKept> {
+        self.raw.not_kept()
+    }
+
     /// The report of the present chapter.
     pub fn report(&self) -> Result<String, Error> {
         self.raw.report()
@@ -205,7 +226,7 @@ impl Service {
     }
 
     /// Every call that waits and every later one answers `Closed`. What was entered stays. A service that is dropped
-    /// is closed too.
+    /// is closed too; but in a child of the process that has opened it nothing is closed or dropped.
     ///
     /// ```
     /// let service = stm::Service::open("(tx wait (retry) 0)")?;

@@ -1,9 +1,10 @@
 //! Calls from any thread, their answers, and the chapters that they leave.
 
+use std::panic::panic_any;
 use std::sync::atomic::{AtomicBool, Ordering};
 use std::sync::{Arc, Mutex};
 use std::time::{Duration, Instant};
-use stm::{check, Error, Fault, Service, ServiceOptions, Verdict};
+use stm::{check, Error, Fault, NotKept, Service, ServiceOptions, Verdict};
 
 const TEXT: &str = "(stm 2) (var n 0) (var out 0) (var most 9223372036854775807)
     (always low (le out 2))
@@ -196,19 +197,35 @@ fn fill(service: &Service, inc: u32) -> u32 {
     (0..100).find(|_| service.atomically(inc, &[]) == Err(Fault::NoRoom)).expect("it ends")
 }
 
+/// What a panic may throw, which panics again when it is dropped.
+struct Again;
+
+impl Drop for Again {
+    fn drop(&mut self) {
+        panic!("again")
+    }
+}
+
 #[test]
 fn a_chapter_that_is_not_kept_goes_on_while_there_is_room() {
     let options = ServiceOptions::new().room(3).on_chapter(|_, _| Err("no disk"));
     let service = Service::open_with(TEXT, options).unwrap();
     assert_eq!(fill(&service, number(&service, "inc")), 3);
     assert_eq!((service.chapter(), service.entered()), (0, 3));
+    assert_eq!(service.not_kept(), Some(NotKept::Failed(format!("{:?}", "no disk"))));
     let quiet = std::panic::take_hook();
     std::panic::set_hook(Box::new(|_| {}));
     let panics = ServiceOptions::new().room(3).on_chapter(|_, _| -> Result<(), Error> { panic!("no disk") });
     let service = Service::open_with(TEXT, panics).unwrap();
     assert_eq!(fill(&service, number(&service, "inc")), 3);
+    assert_eq!((service.chapter(), service.entered()), (0, 3));
+    assert_eq!(service.not_kept(), Some(NotKept::Panicked("no disk".to_string())));
+    let panics = ServiceOptions::new().room(3).on_chapter(|_, _| -> Result<(), Error> { panic_any(Again) });
+    let service = Service::open_with(TEXT, panics).unwrap();
+    assert_eq!(fill(&service, number(&service, "inc")), 3);
     std::panic::set_hook(quiet);
     assert_eq!((service.chapter(), service.entered()), (0, 3));
+    assert_eq!(service.not_kept(), Some(NotKept::Panicked(String::new())));
     // Once a chapter is kept, it goes on.
     let mut tries = 0;
     let options = ServiceOptions::new().room(3).on_chapter(move |_, _| {
@@ -221,8 +238,9 @@ fn a_chapter_that_is_not_kept_goes_on_while_there_is_room() {
     });
     let service = Service::open_with(TEXT, options).unwrap();
     let inc = number(&service, "inc");
-    assert_eq!(fill(&service, inc), 3);
-    assert_eq!(service.atomically(inc, &[]), Ok(4));
+    assert_eq!((service.not_kept(), fill(&service, inc)), (None, 3));
+    assert_eq!(service.not_kept(), Some(NotKept::Failed("()".to_string())));
+    assert_eq!((service.atomically(inc, &[]), service.not_kept()), (Ok(4), None));
     assert_eq!((service.chapter(), service.entered()), (1, 4));
 }
 
@@ -274,4 +292,67 @@ fn what_the_closure_has_goes_with_the_service() {
     let options = ServiceOptions::new().on_chapter(move |_, _| Err(own.clone()));
     assert!(Service::open_with("(var", options).is_err());
     assert_eq!(Arc::strong_count(&held), 1);
+}
+
+#[cfg(unix)]
+mod child {
+    use super::*;
+
+    extern "C" {
+        fn fork() -> i32;
+        fn _exit(status: i32) -> !;
+        fn kill(process: i32, signal: i32) -> i32;
+        fn waitpid(process: i32, status: *mut i32, options: i32) -> i32;
+    }
+
+    const NO_HANG: i32 = 1;
+    const KILLED: i32 = 9;
+
+    /// A child lets go what it has of its parent's service: how it ended, or nothing where it hangs.
+    fn ended(service: &Service) -> Option<i32> {
+        // SAFETY: the child does no more than to let go its service, of which it has the only copy there.
+        let child = unsafe { fork() };
+        if child == 0 {
+            unsafe {
+                drop(std::ptr::read(service));
+                _exit(7)
+            }
+        }
+        let (began, mut status) = (Instant::now(), 0);
+        while began.elapsed() < Duration::from_secs(10) {
+            // SAFETY: the status is borrowed for the call.
+            if unsafe { waitpid(child, &mut status, NO_HANG) } == child {
+                return Some(status >> 8);
+            }
+            std::thread::sleep(MOMENT);
+        }
+        // SAFETY: it is this process's child.
+        unsafe {
+            kill(child, KILLED);
+            waitpid(child, &mut status, 0);
+        }
+        None
+    }
+
+    #[test]
+    fn a_child_lets_nothing_go() {
+        let held = Arc::new(());
+        let own = held.clone();
+        let keep = move |_: &str, _: &str| {
+            let _ = &own;
+            Ok::<(), ()>(())
+        };
+        let service = Service::open_with(TEXT, ServiceOptions::new().on_chapter(keep)).unwrap();
+        let (inc, get) = (number(&service, "inc"), number(&service, "get"));
+        std::thread::scope(|scope| {
+            let waits = scope.spawn(|| service.atomically(get, &[]));
+            until_parked(&service);
+            assert_eq!(ended(&service), Some(7));
+            assert_eq!(service.atomically(inc, &[]), Ok(1));
+            service.close();
+            assert_eq!(waits.join().unwrap(), Err(Fault::Closed));
+        });
+        drop(service);
+        assert_eq!(Arc::strong_count(&held), 1);
+    }
 }

@@ -2,12 +2,20 @@
 
 use super::{code, error_of, outcome, text, Told};
 use crate::answers::Outcome;
-use crate::error::{Error, Fault};
+use crate::error::{Error, Fault, NotKept};
+use std::any::Any;
 use std::ffi::c_void;
 use std::panic::{catch_unwind, AssertUnwindSafe};
+use std::sync::{Mutex, MutexGuard, PoisonError};
 
-/// What is told of a chapter that ends: its file and its report. Whether they were kept.
-pub type Keep = Box<dyn FnMut(&str, &str) -> bool + Send>;
+/// What is told of a chapter that ends: its file and its report. Or how its error is spelled.
+pub type Keep = Box<dyn FnMut(&str, &str) -> Result<(), String> + Send>;
+
+/// A closure that keeps chapters, and why it has not kept the last one.
+struct Keeper {
+    keep: Mutex<Keep>,
+    not_kept: Mutex<Option<NotKept>>,
+}
 
 type Ended = extern "C" fn(*mut c_void, *const u8, usize, *const u8, usize) -> i32;
 
@@ -75,7 +83,22 @@ extern "C" {
     fn stm_service_free(service: *mut c_void);
 }
 
-/// Hands a chapter that ends to the closure behind `own`: 0 where it was kept. No panic goes on into C.
+/// No panic is known to leave a lock poisoned: each is caught before.
+fn locked<T>(mutex: &Mutex<T>) -> MutexGuard<'_, T> {
+    mutex.lock().unwrap_or_else(PoisonError::into_inner)
+}
+
+/// What a panic says, and nothing more of it is left: where its payload panics when it is dropped, that one stays.
+fn message_of(payload: Box<dyn Any + Send>) -> String {
+    let text = payload.downcast_ref::<String>().cloned();
+    let text = text.or_else(|| payload.downcast_ref::<&str>().map(|text| text.to_string()));
+    if let Err(another) = catch_unwind(AssertUnwindSafe(|| drop(payload))) {
+        std::mem::forget(another);
+    }
+    text.unwrap_or_default()
+}
+
+/// Hands a chapter that ends to the keeper behind `own`: 0 where it was kept. No panic goes on into C.
 extern "C" fn ended(
     own: *mut c_void,
     file: *const u8,
@@ -83,27 +106,34 @@ extern "C" fn ended(
     report: *const u8,
     report_length: usize,
 ) -> i32 {
-    // SAFETY: `own` is the box of `RawService::open`, which stays until the service is let go. The service calls under
-    // its lock, so one thread at a time has it. The texts are the service's, and stay for the call.
-    let (keep, file, report) = unsafe {
+    // SAFETY: `own` is the box of `RawService::open`, which stays until the service is let go, and is only shared. The
+    // texts are the service's, and stay for the call.
+    let (keeper, file, report) = unsafe {
         (
-            &mut *own.cast::<Keep>(),
+            &*own.cast::<Keeper>(),
             std::slice::from_raw_parts(file, file_length),
             std::slice::from_raw_parts(report, report_length),
         )
     };
     let spelled = |text| std::str::from_utf8(text).expect("the library's texts are ASCII");
-    let kept = catch_unwind(AssertUnwindSafe(|| keep(spelled(file), spelled(report))));
-    i32::from(!kept.unwrap_or(false))
+    let kept = catch_unwind(AssertUnwindSafe(|| locked(&keeper.keep)(spelled(file), spelled(report))));
+    let not_kept = match kept {
+        Ok(kept) => kept.err().map(NotKept::Failed),
+        Err(payload) => Some(NotKept::Panicked(message_of(payload))),
+    };
+    let answer = i32::from(not_kept.is_some());
+    *locked(&keeper.not_kept) = not_kept;
+    answer
 }
 
-/// A service's handle, never null, and the closure that it calls.
+/// A service's handle, never null, the keeper that it calls, and the process that opened it.
 pub struct RawService {
     at: *mut c_void,
-    keep: Option<*mut Keep>,
+    keeper: Option<*mut Keeper>,
+    process: u32,
 }
 
-// SAFETY: the library takes the calls from any thread at once, and the closure is `Send` and called under its lock.
+// SAFETY: the library takes the calls from any thread at once, and what is shared of the keeper is behind locks.
 unsafe impl Send for RawService {}
 // SAFETY: as for `Send`.
 unsafe impl Sync for RawService {}
@@ -138,10 +168,12 @@ impl RawService {
         observers: u32,
         keep: Option<Keep>,
     ) -> Result<RawService, Error> {
-        let keep = keep.map(|keep| Box::into_raw(Box::new(keep)));
-        let own = keep.map_or(std::ptr::null_mut(), |keep| keep.cast());
-        let options = Options { room, checkpoint, observers, ended: keep.map(|_| ended as Ended), own };
-        let mut made = RawService { at: std::ptr::null_mut(), keep };
+        let keeper = keep.map(|keep| {
+            Box::into_raw(Box::new(Keeper { keep: Mutex::new(keep), not_kept: Mutex::new(None) }))
+        });
+        let own = keeper.map_or(std::ptr::null_mut(), |keeper| keeper.cast());
+        let options = Options { room, checkpoint, observers, ended: keeper.map(|_| ended as Ended), own };
+        let mut made = RawService { at: std::ptr::null_mut(), keeper, process: std::process::id() };
         // SAFETY: a slice that is borrowed for the call, as the options are; `out` is null, and holds a service where
         // the answer is 0.
         match unsafe { stm_service_open(file.as_ptr(), file.len(), &options, &mut made.at) } {
@@ -254,6 +286,12 @@ impl RawService {
         })
     }
 
+    pub fn not_kept(&self) -> Option<NotKept> {
+        // SAFETY: the box stays for as long as this, and is only shared.
+        let keeper = unsafe { &*self.keeper? };
+        locked(&keeper.not_kept).clone()
+    }
+
     pub fn close(&self) {
         // SAFETY: from any thread.
         unsafe { stm_service_close(self.at) }
@@ -262,13 +300,17 @@ impl RawService {
 
 impl Drop for RawService {
     fn drop(&mut self) {
+        // In a child of the process another thread of the parent may have been in the closure: both stay as they are.
+        if self.process != std::process::id() {
+            return;
+        }
         // SAFETY: nobody borrows it, so no thread is in a call. After it the closure is called no more.
         unsafe {
             if !self.at.is_null() {
                 stm_service_free(self.at);
             }
-            if let Some(keep) = self.keep {
-                drop(Box::from_raw(keep));
+            if let Some(keeper) = self.keeper {
+                drop(Box::from_raw(keeper));
             }
         }
     }
