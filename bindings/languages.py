@@ -10,6 +10,21 @@ WARN = ["-Wall", "-Wextra", "-Wpedantic", "-Wconversion", "-Wshadow", "-Werror"]
 COMPILERS = ("g++", "clang++")
 # The tests of stm.hpp.
 TESTS = ("service", "arguments", "tables")
+# A host that looks at no answer: each of its statements, but for the first one, is warned of.
+CARELESS = b"""#include "stm.hpp"
+void careless(stm::service &bank) {
+    bank.close();
+    bank.atomically("pay", {5});
+    bank.try_atomically(0);
+    bank.atomically_within(std::chrono::seconds(1), "pay");
+    bank.observe("pay");
+    bank.cells(0);
+    bank.report();
+    stm::service::open("");
+    stm::check("", "");
+    stm::run("");
+}
+"""
 # How many minutes the simulations are run: many chapters.
 MINUTES = 2_000_000
 BANK = "4000 transfers, each paid or refused\nthe journals of 3 chapters are good\n"
@@ -68,6 +83,9 @@ def cpp(case, run, work, library):
         for more in (["-std=c++20"], ["-fno-exceptions", "-fno-rtti"]):
             done = run(word, "-std=c++17", *WARN, *more, "-fsyntax-only", "-I", library, f"{HERE}/examples/bounded_queue.cpp", timeout=400)
             case(f"stm.hpp by {word} {' '.join(more)}", done.returncode == 0, told_by(done))
+        done = run(word, "-std=c++17", *WARN, "-fsyntax-only", "-I", library, "-x", "c++", "-", input=CARELESS, timeout=400)
+        told = told_by(done)
+        case(f"{word} warns of answers that are not looked at", told.count("error:") == CARELESS.count(b";") - 1, told)
     for word in there[:1]:
         prints("bounded_queue.cpp", QUEUE, built(word, "examples/bounded_queue.cpp", "queue"))
         prints("transfers.cpp", TRANSFERS, built(word, "examples/transfers.cpp", "transfers"))

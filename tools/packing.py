@@ -27,7 +27,7 @@ includedir=${{prefix}}/include
 Name: stm
 Description: Software transactional memory with retry and orElse, proved
 Version: {version}
-Cflags: -I${{includedir}} -pthread
+Cflags: -I${{includedir}}/stm -pthread
 Libs: -L${{libdir}}{rpath} -lstm -pthread
 """
 PROVED = """stm {version} for x86_64-linux, made {made}
@@ -53,6 +53,9 @@ sha256 of what was made of them:
 
 {sums}
 """
+# A link of a page: its text, and where it goes. A text may have brackets of its own.
+LINK = re.compile(r"\[((?:[^\[\]]|\[[^\[\]]*\])*)\]\(([^()\s]+)\)")
+FENCED = re.compile(r"(?ms)(^```.*?^```$)")
 # What anybody can run to learn the checksum of sources: of all crates, and of the library's parts in C.
 CHECKED = "crates.txt crates/*/src crates/*/specs crates/*/proofs bindings/c"
 CHECKSUM = f"find {CHECKED} -type f | LC_ALL=C sort | xargs sha256sum | sha256sum"
@@ -124,6 +127,45 @@ def below(folder, ending=""):
                 yield os.path.relpath(os.path.join(where, name), top)
 
 
+def place_of(target, places):
+    """Where a file or a folder of the repository is put; None: nowhere. `places` has each file's place."""
+    if target in places:
+        return places[target]
+    for path, place in places.items():
+        if path.startswith(target + "/") and place.endswith(path[len(target) :]):
+            return place[: len(target) - len(path)]
+    return None
+
+
+def as_installed(page, text, places):
+    """The text of a page as it is installed: its links go to where things lie there, and where a thing lies nowhere the
+    text of its link is left."""
+
+    def linked(link):
+        said, (target, mark, part) = link[1], link[2].partition("#")
+        if not target or re.match(r"[a-z]+:", target):
+            return link[0]
+        place = place_of(os.path.normpath(os.path.join(os.path.dirname(page), target)), places)
+        if place is None:
+            return said
+        return f"[{said}]({os.path.relpath(place, os.path.dirname(places[page]))}{mark}{part})"
+
+    pieces = FENCED.split(text)
+    return "".join(piece if at % 2 else LINK.sub(linked, piece) for at, piece in enumerate(pieces))
+
+
+def places():
+    """Each file of the repository that is installed as it lies there, by its path, with its place below a prefix."""
+    documents = ["README.md", "CHANGELOG.md", *(f"docs/{path}" for path in below("docs") if not path.endswith(".1"))]
+    documents += [f"examples/{path}" for path in below("examples") if "." in path]
+    found = {path: f"share/doc/stm/{path}" for path in documents}
+    crate = ["Cargo.toml", "Cargo.lock", "build.rs", *(f"src/{path}" for path in below("bindings/rust/src", ".rs"))]
+    python = ["pyproject.toml", "stm/py.typed", *(f"stm/{path}" for path in below("bindings/python/stm", ".py"))]
+    for kind, paths in (("rust", crate), ("python", python), ("examples", below("bindings/examples"))):
+        found.update({f"bindings/{kind}/{path}": f"share/stm/{kind}/{path}" for path in paths})
+    return found
+
+
 def tree(parts, proved_at, prefix="${pcfiledir}/../..", rpath=True):
     """All that is put below a prefix: by path its bytes and its mode, or what it is a link to."""
     found = {"bin/stm": (read(parts.program), 0o755)}
@@ -132,22 +174,16 @@ def tree(parts, proved_at, prefix="${pcfiledir}/../..", rpath=True):
     found["lib/libstm.so"] = SONAME
     found["lib/pkgconfig/stm.pc"] = (pc_text(prefix, rpath).encode(), 0o644)
     for name in (*HEADERS, "stm_version.h"):
-        found[f"include/{name}"] = (read(parts.library, name), 0o644)
+        found[f"include/stm/{name}"] = (read(parts.library, name), 0o644)
     for name, text in pages(parts.program).items():
         found[f"share/man/man1/{name}"] = (text.encode(), 0o644)
     for name, path in COMPLETIONS.items():
         found[path] = (read(ROOT, "tools", "completions", name), 0o644)
-    documents = ["README.md", "CHANGELOG.md", *(f"docs/{path}" for path in below("docs") if not path.endswith(".1"))]
-    documents += [f"examples/{path}" for path in below("examples") if "." in path]
-    for path in documents:
-        found[f"share/doc/stm/{path}"] = (read(ROOT, path), 0o644)
-    crate = ["Cargo.toml", "Cargo.lock", "build.rs", *(f"src/{path}" for path in below("bindings/rust/src", ".rs"))]
-    for path in crate:
-        found[f"share/stm/rust/{path}"] = (read(ROOT, "bindings", "rust", path), 0o644)
-    for path in ("pyproject.toml", "stm/py.typed", *(f"stm/{path}" for path in below("bindings/python/stm", ".py"))):
-        found[f"share/stm/python/{path}"] = (read(ROOT, "bindings", "python", path), 0o644)
-    for path in below("bindings/examples"):
-        found[f"share/stm/examples/{path}"] = (read(ROOT, "bindings", "examples", path), 0o644)
+    as_they_lie = places()
+    linked = {**as_they_lie, **{f"bindings/{folder}/{name}": f"include/stm/{name}" for name, folder in HEADERS.items()}}
+    for path, place in as_they_lie.items():
+        content = read(ROOT, path)
+        found[place] = (as_installed(path, content.decode(), linked).encode() if path.endswith(".md") else content, 0o644)
     found[proved_at] = (proved_text(parts).encode(), 0o644)
     return dict(sorted(found.items()))
 

@@ -23,8 +23,19 @@ struct bell {
     bool rung;
 };
 
+/* Who is asked while a thread waits, by the thread, once one has somebody. */
+static pthread_key_t waiters;
+static pthread_once_t before_waiters = PTHREAD_ONCE_INIT;
+static bool has_waiters;
+
+static void make_waiters(void) {
+    if (pthread_key_create(&waiters, NULL) == 0) __atomic_store_n(&has_waiters, true, __ATOMIC_RELEASE);
+}
+
 /* Who is asked while this thread waits; NULL: nobody, as while it is asked. */
-static __thread stm_waiter *waiter_here;
+static stm_waiter *waiter_here(void) {
+    return __atomic_load_n(&has_waiters, __ATOMIC_ACQUIRE) ? pthread_getspecific(waiters) : NULL;
+}
 
 /* The time in so many nanoseconds. */
 static struct timespec time_in(uint64_t nanoseconds) {
@@ -80,20 +91,20 @@ static bool is_rung_by(struct bell *bell, const struct timespec *until) {
 
 /* Whether the waiter lets the thread go on. No lock is held, so it may do what it likes. */
 static bool goes_on(stm_waiter *waiter) {
-    waiter_here = NULL;
+    pthread_setspecific(waiters, NULL);
     waiter->stopped = 0;
     waiter->asked(waiter->own);
-    if (!waiter_here) waiter_here = waiter;
+    if (!waiter_here()) pthread_setspecific(waiters, waiter);
     return !waiter->stopped;
 }
 
 /* Sleeps until the bell was rung, or the thread waits no longer: whether it was rung. NULL: without end. */
 static bool is_rung(struct bell *bell, const struct timespec *until) {
-    while (waiter_here) {
+    for (stm_waiter *waiter; (waiter = waiter_here());) {
         struct timespec slice = time_in(SLICE);
         if (until && is_at_or_before(until, &slice)) break;
         if (is_rung_by(bell, &slice)) return true;
-        if (!goes_on(waiter_here)) return false;
+        if (!goes_on(waiter)) return false;
     }
     return is_rung_by(bell, until);
 }

@@ -541,7 +541,11 @@ stm_answer stm_atomically_within(stm_service *s, uint32_t transaction, const int
     return run(s, stm_call, transaction, arguments, count, &until);
 }
 
-void stm_wait_by(stm_waiter *waiter) { waiter_here = waiter; }
+int32_t stm_wait_by(stm_waiter *waiter) {
+    pthread_once(&before_waiters, make_waiters);
+    if (!__atomic_load_n(&has_waiters, __ATOMIC_ACQUIRE)) return STM_MEMORY;
+    return pthread_setspecific(waiters, waiter) == 0 ? STM_DONE : STM_MEMORY;
+}
 
 /* ---- Observers ---- */
 

@@ -99,9 +99,10 @@ typedef struct stm_waiter {
     int32_t stopped;
 } stm_waiter;
 
-/* From now on the waiter is asked while this thread waits; NULL: nobody, as at first. Where it stops, the answer is
- * STM_TIMED_OUT, but where the transaction was entered before it can be withdrawn. While it is asked nobody is. */
-void stm_wait_by(stm_waiter *waiter);
+/* From now on the waiter is asked while this thread waits; NULL: nobody, as at first: STM_DONE; STM_MEMORY. Where it
+ * stops, the answer is STM_TIMED_OUT, but where the transaction was entered before it can be withdrawn. While it is asked
+ * nobody is. */
+int32_t stm_wait_by(stm_waiter *waiter);
 
 /* How the call would end on one state, beside what others commit: an outcome with no entry, STM_RETRIES,
  * STM_CLOSED, STM_MEMORY or STM_UNKNOWN. */

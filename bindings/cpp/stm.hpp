@@ -5,8 +5,9 @@
 ///     stm::outcome paid = bank.atomically("pay", {20});
 ///     if (paid) std::cout << *paid;
 ///
-/// Calls answer what they found or why there is nothing. Only `value()` throws; with -fno-exceptions it ends the
-/// process. Where memory runs out, the strings of the standard library throw as ever.
+/// Calls answer what they found or why there is nothing: compilers warn of an answer that is not looked at. Only
+/// `value()` throws; with -fno-exceptions it ends the process. Where memory runs out, the strings of the standard
+/// library throw as ever.
 #ifndef STM_HPP
 #define STM_HPP
 
@@ -76,7 +77,7 @@ inline std::string_view text_of(const std::uint8_t *at, std::size_t length) noex
 } // namespace detail
 
 /// A value, or the code that says why there is none.
-template <class T> class answer {
+template <class T> class [[nodiscard]] answer {
 public:
     answer(T value, std::int32_t code = STM_DONE) : value_(std::move(value)), code_(code) {}
     static answer none(std::int32_t code) { return answer(code); }
@@ -128,7 +129,7 @@ private:
 };
 
 /// How a call ended. It is true where the transaction returned.
-class outcome {
+class [[nodiscard]] outcome {
 public:
     explicit outcome(stm_answer told) noexcept : told_(told) {}
 
@@ -161,7 +162,7 @@ private:
 
 /// Whether a report is lawful. It is true where it is; else the code tells the first part that does not hold
 /// (`STM_BAD_TEXT` .. `STM_BAD_PARKED`), or why the file is refused.
-class verdict {
+class [[nodiscard]] verdict {
 public:
     explicit verdict(std::int32_t code) noexcept : code_(code) {}
 
@@ -226,9 +227,9 @@ inline answer<std::string> explore_to(std::string_view file, std::uint32_t state
     });
 }
 
-/// Is told file and report of each chapter that ends, under the lock, so it makes no call of the service. Where it
-/// answers false or throws the chapter goes on, and each call that finds no room asks again. The last chapter does not
-/// end: ask for its file and report once the service is closed.
+/// Is told file and report of each chapter that ends, under the lock, so it makes no call of the service, and all wait
+/// for it. Where it answers false or throws the chapter goes on, and each call that finds no room asks again: so it may
+/// be told a chapter twice. The last chapter does not end: ask for its file and report once the service is closed.
 using keeper = std::function<bool(std::string_view file, std::string_view report)>;
 
 /// How a service is opened.
@@ -294,7 +295,8 @@ public:
         return by_name(name, [&](std::uint32_t number) { return try_atomically(number, given); });
     }
 
-    /// As `atomically`, but `STM_TIMED_OUT` where it still waits when the time is up.
+    /// As `atomically`, but `STM_TIMED_OUT` where it still waits when the time is up. That the thread waits for the
+    /// lock, as while a chapter ends, is not cut short.
     template <class Rep, class Period>
     outcome atomically_within(std::chrono::duration<Rep, Period> time, std::uint32_t transaction,
                               arguments given = {}) noexcept {
@@ -362,7 +364,7 @@ public:
     answer<std::string> file() const { return text(stm_service_file); }
 
     /// Every call that waits and every later one answers `STM_CLOSED`. What was entered stays. A service that goes out
-    /// of scope is closed too.
+    /// of scope is closed too; but in a child of the process that has opened it nothing is closed or let go.
     void close() noexcept {
         if (held_) stm_service_close(held_->at);
     }

@@ -74,7 +74,7 @@ static void is_asked(void *own) {
 static void a_waiter_stops(uint32_t transaction) {
     stm_service *s = opens(TEXT, NULL);
     struct asked asked = {{is_asked, &asked, 7}, s, 0, 2, false};
-    stm_wait_by(&asked.waiter);
+    wants(stm_wait_by(&asked.waiter) == STM_DONE);
     int64_t begun = now();
     wants(stm_atomically(s, transaction, NULL, 0).code == STM_TIMED_OUT);
     wants(asked.times == 2 && now() - begun >= 2 * SLICE && stm_service_entered(s) == 0);
@@ -87,7 +87,7 @@ static void a_waiter_stops(uint32_t transaction) {
     asked.puts = true;
     asked.last = 3;
     wants(stm_atomically(s, transaction, NULL, 0).code == STM_DONE && asked.times == 3);
-    stm_wait_by(NULL);
+    wants(stm_wait_by(NULL) == STM_DONE);
     wants(stm_atomically_within(s, transaction, NULL, 0, SLICE + SOON).code == STM_TIMED_OUT && asked.times == 3);
     stm_service_free(s);
 }
@@ -102,13 +102,13 @@ static void *waits(void *own) {
 static void other_threads_are_not_asked(void) {
     stm_service *s = opens(TEXT, NULL);
     struct asked asked = {{is_asked, &asked, 0}, s, 0, 1, false};
-    stm_wait_by(&asked.waiter);
+    wants(stm_wait_by(&asked.waiter) == STM_DONE);
     pthread_t other;
     wants(pthread_create(&other, NULL, waits, &asked) == 0);
     nanosleep(&(struct timespec){0, 2 * SLICE}, NULL);
     wants(asked.times == 0 && stm_atomically(s, PUT, NULL, 0).value == 1);
     pthread_join(other, NULL);
-    stm_wait_by(NULL);
+    wants(stm_wait_by(NULL) == STM_DONE);
     stm_service_free(s);
 }
 

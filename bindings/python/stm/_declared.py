@@ -77,7 +77,7 @@ CALLS: Dict[str, Tuple[Any, List[Any]]] = {
     "stm_atomically": (Answer, _CALL),
     "stm_try_atomically": (Answer, _CALL),
     "stm_atomically_within": (Answer, [*_CALL, ctypes.c_uint64]),
-    "stm_wait_by": (None, [ctypes.POINTER(Waiter)]),
+    "stm_wait_by": (_CODE, [ctypes.POINTER(Waiter)]),
     "stm_service_observe": (Answer, _CALL),
     "stm_service_value": (
         _CODE,

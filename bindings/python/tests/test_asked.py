@@ -1,6 +1,7 @@
 """What the library asks of a thread that is in a call: interrupts come out of it, and no chapter is lost by one; and what
 of a service is left in a child, and when its owner goes."""
 
+import ctypes
 import gc
 import os
 import signal
@@ -12,6 +13,7 @@ import weakref
 
 import stm
 from stm import _asked
+from stm._library import library
 
 TEXT = """(var n 0) (var out 0) (var far 0)
 (tx inc (set n (add n 1)) n)
@@ -108,46 +110,40 @@ class Asked(unittest.TestCase):
             self.are_whole(service, pairs)
 
     def test_each_question_raises_what_stops_the_keeper(self):
-        text = "(stm 3) (var n 0) (table acct 4 0) (tx inc () (set n (add n 1)) n)"
-        here = threading.current_thread()
-        ends = []
+        """A thread that asks makes the calls of others too, and so may end a chapter: here each question does."""
 
         def keep(*_pair):
-            if threading.current_thread() is here:
-                raise KeyboardInterrupt
+            raise KeyboardInterrupt
 
-        def calls():
-            while not ends:
-                try:
-                    service.atomically("inc")
-                except stm.NoRoom:
-                    pass
-
-        service = stm.Service(text, room=1, on_chapter=keep)
+        service = stm.Service("(stm 3) (var n 0) (table acct 4 0) (tx inc () (set n (add n 1)) n)", on_chapter=keep)
         acct = service.table("acct")
-        threads = [in_thread(calls) for _ in range(4)]
-        questions = {
+        keeper = ctypes.addressof(service._keeper.callback.words)
+        for name, question in {
             "value": lambda: service.value("n"),
-            "version": lambda: service.version("n"),
+            "value ": lambda: service.version("n"),
             "chapter": lambda: service.chapter,
             "entered": lambda: service.entered,
-            "report": lambda: service.report(),
-            "file": lambda: service.file(),
+            "report": service.report,
+            "file": service.file,
             "cell": lambda: acct[1],
             "cells": lambda: acct[:],
-        }
-        silent = set(questions)
-        until = time.monotonic() + 10
-        for name, question in questions.items():
-            while name in silent and time.monotonic() < until:
-                try:
-                    question()
-                except KeyboardInterrupt:
-                    silent.remove(name)
-        ends.append(True)
-        for thread in threads:
-            thread.join(LONG)
-        self.assertEqual(silent, set())
+            "cells ": lambda: list(reversed(acct)),
+            "close": service.close,
+        }.items():
+            word = f"stm_service_{name.strip()}"
+            call = getattr(library, word)
+
+            def asks(*given):
+                self.assertEqual(library.stm_ask_keeper(keeper, b"file", 4, b"report", 6), 1)
+                return call(*given)
+
+            setattr(library, word, asks)
+            try:
+                with self.subTest(word):
+                    self.assertRaises(KeyboardInterrupt, question)
+                    self.assertEqual(_asked.stops, {})
+            finally:
+                setattr(library, word, call)
 
     def test_what_stops_a_thread_stops_no_later_one(self):
         seen = []

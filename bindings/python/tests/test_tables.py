@@ -4,6 +4,7 @@ import threading
 import unittest
 
 import stm
+from stm._library import library
 
 TEXT = """(stm 3) (var spare 9) (table acct 4 100) (table rate 2 5 6) ; (table none 1 0)
 (always solvent (le 0 (min acct)))
@@ -74,6 +75,31 @@ class Tables(unittest.TestCase):
                 copies += 1
             pays.join()
         self.assertTrue(stm.check(bank.file(), bank.report()))
+
+    def test_all_ways_through_a_table_are_of_one_state(self):
+        """A one goes from the one cell to the other and back, whenever a cell is asked for."""
+        text = "(stm 3) (var at 0) (table a 4 0) (tx move () (seq (put a at 0) (set at (sub 1 at)) (put a at 1)) at)"
+        calls = {word: getattr(library, word) for word in ("stm_service_cell", "stm_service_cells")}
+
+        def moved(call):
+            return lambda *given: (service.atomically("move"), call(*given))[1]
+
+        with stm.Service(text) as service:
+            table = service.table("a")
+            service.atomically("move")
+            for word, call in calls.items():
+                setattr(library, word, moved(call))
+            try:
+                ways = (iter(table), reversed(table), table[::-1], table[:2])
+                self.assertEqual([sum(way) for way in ways], [1, 1, 1, 1])
+                self.assertTrue(1 in table and table.count(1) == 1)
+                self.assertEqual({table.index(1) for _ in range(4)}, {0, 1})
+                self.assertEqual((table.index(0, 2), list(reversed(table))[:2]), (2, [0, 0]))
+                for arguments in ((5,), (1, 2), (1, -2), (0, 4)):
+                    self.assertRaises(ValueError, table.index, *arguments)
+            finally:
+                for word, call in calls.items():
+                    setattr(library, word, call)
 
 
 if __name__ == "__main__":
