@@ -19,7 +19,6 @@ use std::alloc::{AllocError, Global};
 use std::marker::Model;
 
 /// Configs, each once, in the order found. A clause sees a `Shelf`.
-#[derive(Drop)]
 pub struct Configs {
     rows: Rows,
     /// For each bucket one more than the number of its last configuration, or 0.
@@ -39,6 +38,17 @@ impl Model for Configs {
     ghost view = { λ p. p.rows };
 
     ghost invariant = { λ p. IsIndexed p.rows.configs p.heads.items p.links.items };
+}
+
+/// Written by hand, so that its end is one call wherever a list is owned.
+impl Drop for Configs {
+    fn drop(self) {
+        let Configs {
+            rows: _rows,
+            heads: _heads,
+            links: _links,
+        } = self;
+    }
 }
 
 impl Configs {

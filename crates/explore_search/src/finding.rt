@@ -1,15 +1,18 @@
 //! The shortest way to where something shows that is sought of a transaction.
 
-ghost use Rattle.std.specs.Prelude.{◌≡◌, ◌<◌, ◌≤◌, ◌^◌, IfErr, IfOk, length, sum};
+ghost use Rattle.std.specs.Prelude.{◌≡◌, ◌<◌, ◌≤◌, ◌^◌, IfErr, IfOk, length, sum, ℕ};
 ghost use Rattle.std.specs.Bool.{Decides};
 ghost use Rattle.explore_law.specs.Explored.{ReachesMore, end_config};
 ghost use Rattle.explore_law.specs.Finding.{IsSought, Wants, WayOrNever};
 ghost use Rattle.explore_law.specs.Instances.{instances};
+ghost use Rattle.explore_search.specs.Charted.{IsCharted};
+ghost use Rattle.explore_search.specs.Searching.{IsUnderWay};
 ghost use Rattle.explore_search.specs.Nearest.{AreSized, ByOrNone, IsNearestOrNone, ShowsByOwn};
 
 use crate::Configs;
 use crate::found::{MAX_STATES, Unexplored, no_config, searched};
 use crate::instances::instances_of;
+use crate::search::Search;
 use crate::turn::outcome_on;
 use crate::way::way_to;
 use attempt::Attempt;
@@ -36,7 +39,25 @@ pub fn way_where(
 {
     let instances = instances_of(alloc, catalogue)?;
     let s = searched(alloc, catalogue, &instances, limit as usize)?;
-    let calls = instances.calls.as_slice();
+    let way = way_in(alloc, catalogue, instances.calls.as_slice(), &s, tx, sought)?;
+    Ok(way)
+}
+
+/// The same, from a search that has tried each turn at each configuration that is reached.
+fn way_in(
+    alloc: Global,
+    catalogue: &Catalogue,
+    calls: &[Call],
+    s: &Search,
+    tx: TxId,
+    sought: Sought,
+) -> Result<Option<WayWhere>, Memory>
+    requires calls { calls.now ≡ instances catalogue.now }
+    requires done { (limit : ℕ) × IsUnderWay catalogue.now limit s.now.configs s.now.kinds.items s.now.ends.items
+        (length s.now.configs.configs) 0 }
+    requires charted { IsCharted catalogue.now s.now.configs.configs s.now.came.items }
+    ensures { IfOk result (WayOrNever catalogue.now tx sought) }
+{
     let nearest = nearest(alloc, catalogue, calls, &s.configs, tx, sought)?;
     let Some((number, instance)) = nearest else {
         return Ok(None);
@@ -64,14 +85,40 @@ fn nearest(
         return Ok(None);
     };
     let mut attempt = Attempt::new(alloc, catalogue, first.tx, first.arguments.as_slice());
+    let mut here = no_config(alloc);
+    nearest_by(
+        &mut attempt,
+        &mut here,
+        catalogue,
+        calls,
+        configs,
+        tx,
+        sought,
+    )
+}
+
+/// The same, by an attempt that is made anew for each, and with room for a configuration.
+fn nearest_by<'a>(
+    attempt: &mut Attempt<'a>,
+    here: &mut End,
+    catalogue: &'a Catalogue,
+    calls: &[Call],
+    configs: &Configs,
+    tx: TxId,
+    sought: Sought,
+) -> Result<Option<(usize, InstanceId)>, Memory>
+    requires calls { calls.now ≡ instances catalogue.now }
+    requires sized { AreSized catalogue.now configs.now.configs }
+    ensures { IfOk result (IsNearestOrNone catalogue.now tx sought configs.now.configs (length configs.now.configs)) }
+{
+    catalogue.rules();
     let mut nearest = None;
     let mut most = 0;
-    let mut here = no_config(alloc);
     'configs: for i in 0..configs.len() {
-        configs.read(i, &mut here)?;
+        configs.read(i, here)?;
         let all = in_all(here.waiting.as_slice());
         if all > most {
-            let by = by_which(&mut attempt, catalogue, calls, &here, tx, sought)?;
+            let by = by_which(attempt, catalogue, calls, here, tx, sought)?;
             if let Some(instance) = by {
                 nearest = Some((i, instance));
                 most = all;

@@ -1,6 +1,6 @@
 //! All orders of a catalogue's tasks.
 
-ghost use Rattle.std.specs.Prelude.{◌≡◌, ◌≢◌, ◌+◌, ◌<◌, ◌≤◌, [], length, map, replicate, All, IfOk, IfErr, OnOk};
+ghost use Rattle.std.specs.Prelude.{◌≡◌, ◌≢◌, ◌+◌, ◌<◌, ◌≤◌, ℕ, [], length, map, replicate, All, IfOk, IfErr, OnOk};
 ghost use Rattle.std.specs.List.Sorted.{IsPermutation, IsSorted};
 ghost use Rattle.explore_law.specs.Orders.{Config};
 ghost use Rattle.explore_law.specs.Explored.{Explored, ReachesMore, end_config, config_cmp};
@@ -71,10 +71,11 @@ pub fn explore(alloc: Global, catalogue: &Catalogue, limit: u32) -> Result<Found
     let instances = instances_of(alloc, catalogue)?;
     let s = searched(alloc, catalogue, &instances, limit as usize)?;
     s.configs.law();
+    let states = s.configs.len();
     let ends = end_configs(alloc, &s.configs, s.ends.as_slice())?;
     Ok(Found {
-        states: s.configs.len(),
-        kinds: s.kinds,
+        states,
+        kinds: s.into_kinds(),
         ends,
     })
 }
@@ -96,6 +97,22 @@ pub fn way_to_end(
 {
     let instances = instances_of(alloc, catalogue)?;
     let s = searched(alloc, catalogue, &instances, limit as usize)?;
+    let way = way_in(alloc, catalogue, &s, end)?;
+    Ok(way)
+}
+
+/// The same, from a search that has tried each turn at each configuration that is reached.
+fn way_in(
+    alloc: Global,
+    catalogue: &Catalogue,
+    s: &Search,
+    end: usize,
+) -> Result<Option<Vec<InstanceId>>, AllocError>
+    requires done { (limit : ℕ) × IsUnderWay catalogue.now limit s.now.configs s.now.kinds.items s.now.ends.items
+        (length s.now.configs.configs) 0 }
+    requires charted { IsCharted catalogue.now s.now.configs.configs s.now.came.items }
+    ensures { IfOk result (WayOfEnd catalogue.now end) }
+{
     s.configs.law();
     let ends = end_configs(alloc, &s.configs, s.ends.as_slice())?;
     let Some(end) = ends.get(end) else {

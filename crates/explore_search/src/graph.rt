@@ -180,18 +180,40 @@ fn turn_of(
     let mut next = copied(alloc, state)?;
     let call = &calls[instance.0 as usize];
     let mut attempt = Attempt::new(alloc, catalogue, call.tx, call.arguments.as_slice());
+    turn_by(&mut attempt, &mut next, catalogue, calls, states, instance)
+}
+
+/// The turn of the instance at the configuration, if it has one, by an attempt that is made anew; the configuration
+/// becomes the one to which the turn leads.
+fn turn_by<'a>(
+    attempt: &mut Attempt<'a>,
+    here: &mut End,
+    catalogue: &'a Catalogue,
+    calls: &[Call],
+    states: &[End],
+    instance: InstanceId,
+) -> Result<Option<Turn>, Memory>
+    requires calls { calls.now ≡ instances catalogue.now }
+    requires reached { ListsReached catalogue.now (configs states.now) }
+    requires sized { IsSized catalogue.now (configs states.now) }
+    requires few { length states.now < 2 ^ 32 }
+    requires listed { Contains (configs states.now) (end_config here.old) }
+    requires known { instance.0 < length calls.now }
+    ensures { IfOk result
+        (λ turn. TurnOrNone catalogue.now (configs states.now) (end_config here.old) instance turn) }
+{
     let turn = take_turn(
-        &mut attempt,
+        attempt,
         catalogue,
         calls,
         instance,
-        &mut next.values,
-        &mut next.waiting,
+        &mut here.values,
+        &mut here.waiting,
     )?;
     let Some(outcome) = turn else {
         return Ok(None);
     };
-    let to = number_in(states, &next);
+    let to = number_in(states, here);
     Ok(Some(Turn {
         instance,
         outcome,

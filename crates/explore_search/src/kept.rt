@@ -24,7 +24,6 @@ pub(crate) struct Answer {
 }
 
 /// The answers that are kept, no more than there are slots.
-#[derive(Drop)]
 pub(crate) struct Kept {
     pub(crate) answers: Vec<Answer>,
     /// For each slot one more than the number of its answer, or 0.
@@ -32,6 +31,18 @@ pub(crate) struct Kept {
     /// For each instance the variables that were read of it so far: their values lead to a slot.
     looked: Vec<Vec<VarId>>,
     alloc: Global,
+}
+
+/// Written by hand, so that its end is one call wherever answers are kept.
+impl Drop for Kept {
+    fn drop(self) {
+        let Kept {
+            answers: _answers,
+            slots: _slots,
+            looked: _looked,
+            alloc: _,
+        } = self;
+    }
 }
 
 /// To how many slots values lead. There is one more, for answers that are too long to be kept.

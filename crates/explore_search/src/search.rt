@@ -33,7 +33,6 @@ pub(crate) struct Came {
 }
 
 /// What was found so far.
-#[derive(Drop)]
 pub(crate) struct Search {
     pub(crate) configs: Configs,
     /// For each configuration but the first, how it was found.
@@ -47,6 +46,39 @@ pub(crate) struct Search {
     pub(crate) here: End,
     /// The configuration to which the turn leads that is tried.
     pub(crate) next: End,
+}
+
+/// Written by hand, so that its end is one call wherever a search is owned.
+impl Drop for Search {
+    fn drop(self) {
+        let Search {
+            configs: _configs,
+            came: _came,
+            kinds: _kinds,
+            ends: _ends,
+            kept: _kept,
+            here: _here,
+            next: _next,
+        } = self;
+    }
+}
+
+impl Search {
+    /// How the turns of each transaction ended.
+    pub(crate) fn into_kinds(self) -> Vec<Kinds>
+        ensures { result ≡ self.kinds }
+    {
+        let Search {
+            configs: _configs,
+            came: _came,
+            kinds,
+            ends: _ends,
+            kept: _kept,
+            here: _here,
+            next: _next,
+        } = self;
+        kinds
+    }
 }
 
 /// Tries each turn at each configuration that is reached, from the first one on.

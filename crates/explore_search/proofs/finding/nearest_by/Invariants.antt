@@ -1,6 +1,6 @@
 use Rattle.explore_search.specs.Nearest.{IsNearestOrNone}
 use Rattle.explore_search.proofs.Nearing.{AreLeft}
-use Rattle.explore_search.proofs.finding.nearest.Given as goal
+use Rattle.explore_search.proofs.finding.nearest_by.Given as goal
 
 abbrev pub invariant-configs : goal.invariant-configs
 invariant-configs l =
