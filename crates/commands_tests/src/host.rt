@@ -68,28 +68,18 @@ impl<'a> Host<'a> {
         let _unheard = self.said.try_replace(text);
     }
 
-    /// Whether the standard error got this text last.
-    pub(crate) fn has_said(&self, text: &str) -> bool {
+    /// Whether what the standard error got last begins so, or it got nothing where this is nothing.
+    pub(crate) fn says(&self, text: &str) -> bool {
         match self.said.try_borrow() {
-            Ok(said) => said.as_str() == text,
+            Ok(said) => said.as_str().starts_with(text) && said.is_empty() == text.is_empty(),
             Err(_) => false,
         }
     }
 
-    /// Whether this is what the standard output got last.
-    pub(crate) fn has_printed(&self, text: &[u8]) -> bool {
+    /// Whether the standard output took nothing.
+    pub(crate) fn took_nothing(&self) -> bool {
         match self.printed.try_borrow() {
-            Ok(printed) => printed.as_slice() == text,
-            Err(_) => false,
-        }
-    }
-
-    /// Whether what the standard output got last has this beginning and this end.
-    pub(crate) fn has_printed_from(&self, front: &[u8], end: &[u8]) -> bool {
-        match self.printed.try_borrow() {
-            Ok(printed) => {
-                printed.as_slice().starts_with(front) && printed.as_slice().ends_with(end)
-            }
+            Ok(printed) => printed.is_empty(),
             Err(_) => false,
         }
     }

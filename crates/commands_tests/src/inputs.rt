@@ -1,7 +1,7 @@
 //! Each command of what readers have, on its happy path. The texts are those that the pages of the commands
 //! show.
 
-use crate::exploring::GRAPH;
+use crate::program::{EMPTY, FILE, NEXT, REPORT, SCHEDULE};
 use command_line::Answer;
 use commands::chapters::{check_chapter_inputs, explain_chapter_inputs};
 use commands::checking::check_inputs;
@@ -16,20 +16,13 @@ use run_interface::{Denials, Limit, Options, Out};
 use runner::OpenGate;
 use std::process::Abort;
 
-const FILE: &[u8] = b"(var x 5)(tx inc (set x (add x 1)) x)(run inc 2)";
-
-const REPORT: &[u8] =
-    b"base 0\nx 5 0\nentry 1 0 inc returned 6\nentry 2 1 inc returned 7\nnow 2\nx 7 2\nend\n";
-
-/// The next chapter, in which no task is left, and a report of it.
-const NEXT: &[u8] = b"(var x 7)\n(tx inc (set x (add x 1)) x)\n";
-
-const EMPTY: &[u8] = b"base 0\nx 7 0\nnow 0\nx 7 0\nend\n";
-
-const SCHEDULE: &[u8] = b"begin 0\nread 0 x\ncommit 0\n";
-
 const SEEN: &[u8] = b"1 needs x\n2 ended returned 6\n3 committed 1\nnow 1\nx 6 1\n\
     attempt 0 0 committed 1 x 5\nend\n";
+
+const GRAPH: &[u8] =
+    b"digraph {\n  node [shape=box]\n  1 [label=\"x 5\\n\"]\n  2 [label=\"x 6\\n\"]\n  \
+    3 [label=\"x 7\\n\", peripheries=2]\n  1 -> 2 [label=\"inc\\nreturned 6\"]\n  \
+    2 -> 3 [label=\"inc\\nreturned 7\"]\n}\n";
 
 const FOUND: &[u8] = b"states 3\ntx inc returned\nends 1\n1 x 7\nend\n";
 

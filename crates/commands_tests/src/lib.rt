@@ -1,23 +1,11 @@
-//! Tests of the public calls of `command_line`, what the words ask for, help, and refusals; and of `commands`, each
-//! status, and what is read and written on the way.
+//! Tests of the public calls of `command_line`, what the words ask for, help, and refusals; and of `commands`, how it
+//! ends and how often it reads and writes on the way. What the built program prints and says is played by `cases/`.
 #![tactic(auto)]
 
-#[cfg(test)]
-mod chapters;
-#[cfg(test)]
-mod checking;
-#[cfg(test)]
-mod explaining;
-#[cfg(test)]
-mod exploring;
 #[cfg(test)]
 mod host;
 #[cfg(test)]
 mod inputs;
-#[cfg(test)]
-mod playing;
-#[cfg(test)]
-mod printing;
 #[cfg(test)]
 mod program;
 #[cfg(test)]

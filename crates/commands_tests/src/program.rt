@@ -1,4 +1,4 @@
-//! Each status of the program, and what it reads and writes on the way.
+//! How the program ends, and how often it writes to the standard output on the way, which no case of `cases/` can see.
 
 use crate::host::{Host, Prints, Reads};
 use commands::run;
@@ -7,172 +7,210 @@ use std::process::Abort;
 use std::sync::Wait;
 use std::thread::Threads;
 
-const RUN: &[&[u8]] = &[b"stm", b"run", b"a.stm"];
+pub(crate) const FILE: &[u8] = b"(var x 5)(tx inc (set x (add x 1)) x)(run inc 2)";
 
-const INCREMENT: &[u8] = b"(var x 5)(tx inc (set x (add x 1)) x)(run inc 2)";
-
-const REPORT: &[u8] =
+pub(crate) const REPORT: &[u8] =
     b"base 0\nx 5 0\nentry 1 0 inc returned 6\nentry 2 1 inc returned 7\nnow 2\nx 7 2\nend\n";
 
-/// The program ends with this status.
-fn ends_with(rt: &(impl Threads + Wait + Sync + Abort), host: &Host<'_>, status: u8) {
-    assert_eq!(rt; run(rt, host), status);
-}
+/// The next chapter, in which no task is left, and a report of it.
+pub(crate) const NEXT: &[u8] = b"(var x 7)\n(tx inc (set x (add x 1)) x)\n";
 
-/// The program ends with this status, after so many writes to the standard output. The last text for
-/// the standard error is this one, or with `None` any.
-pub(crate) fn ends(
-    rt: &(impl Threads + Wait + Sync + Abort),
-    host: &Host<'_>,
-    status: u8,
-    writes: u32,
-    said: Option<&str>,
-) {
-    ends_with(rt, host, status);
-    assert_eq!(rt; host.writes.get(), writes);
-    match said {
-        Some(text) => assert!(rt; host.has_said(text)),
-        None => assert!(rt; !host.has_said("")),
-    }
-}
+pub(crate) const EMPTY: &[u8] = b"base 0\nx 7 0\nnow 0\nx 7 0\nend\n";
 
-#[test]
-fn a_report_is_0(rt: HostRuntime) {
-    let host = Host::new(rt.alloc(), RUN, INCREMENT);
-    ends(&rt, &host, 0, 1, Some(""));
-    assert!(rt; host.has_printed(REPORT));
-}
+pub(crate) const SCHEDULE: &[u8] = b"begin 0\nread 0 x\ncommit 0\n";
 
-/// Two more words of `stm run`, and where the report of three increments then begins.
-const OPTIONS: [(&[u8], &[u8], &[u8]); 12] = [
-    (b"--workers", b"1", b"base 0\nx 5 0\nentry 1 "),
-    (b"--workers", b"2", b"base 0\nx 5 0\nentry 1 "),
-    (b"--workers", b"16", b"base 0\nx 5 0\nentry 1 "),
-    (b"--tries", b"1", b"base 0\nx 5 0\nentry 1 "),
-    (b"--tries", b"64", b"base 0\nx 5 0\nentry 1 "),
-    (b"--checkpoint", b"0", b"base 0\nx 5 0\nentry 1 "),
-    (b"--checkpoint", b"2", b"base 2\nx 7 2\nentry 3 "),
-    (b"--checkpoint", b"3", b"base 3\nx 8 3\nnow 3\n"),
-    (b"--checkpoint", b"65536", b"base 0\nx 5 0\nentry 1 "),
-    (b"--seed", b"0", b"base 0\nx 5 0\nentry 1 1 "),
-    (b"--seed", b"1", b"base 0\nx 5 0\nentry 1 2 "),
-    (b"--seed", b"3", b"base 0\nx 5 0\nentry 1 0 "),
+/// A command line, its status, how often it writes, and how what it says begins.
+type Row = (&'static str, u8, u32, &'static str);
+
+/// What is printed is one write, and of what is refused there is none.
+const ENDS: &[Row] = &[
+    ("stm --help", 0, 1, ""),
+    ("stm --version", 0, 1, ""),
+    ("stm help", 0, 1, ""),
+    ("stm run a.stm", 0, 1, ""),
+    ("stm check a.stm a.report", 0, 1, ""),
+    ("stm check a.stm o.report", 1, 1, ""),
+    ("stm check a.stm a.report --after a.stm a.report", 1, 1, ""),
+    ("stm check o.stm o.report --after a.stm a.report", 0, 1, ""),
+    ("stm world a.stm a.schedule", 0, 1, ""),
+    ("stm print a.stm", 0, 1, ""),
+    ("stm print a.stm --from a.report", 0, 1, ""),
+    ("stm print a.stm --after a.report", 0, 1, ""),
+    ("stm print a.stm --after o.report", 1, 1, ""),
+    ("stm explain a.stm", 0, 1, ""),
+    ("stm explain a.report", 2, 1, "stm: file: F3 Shape\n"),
+    ("stm explain a.stm o.report", 1, 1, ""),
+    ("stm explain a.stm --schedule a.schedule", 0, 1, ""),
+    (
+        "stm explain a.stm --schedule a.report",
+        2,
+        1,
+        "stm: schedule: F3 Shape\n",
+    ),
+    (
+        "stm explain o.stm o.report --after a.stm a.report",
+        0,
+        1,
+        "",
+    ),
+    ("stm explore a.stm", 0, 1, ""),
+    ("stm explore a.stm --states 2", 1, 1, ""),
+    ("stm explore a.stm --to 1", 0, 1, ""),
+    ("stm explore a.stm --find inc threw", 1, 1, ""),
+    ("stm explore a.stm --dot", 0, 1, ""),
+    ("stm explore a.stm --deny parked", 0, 1, ""),
+    ("stm run a.report", 2, 0, "stm: file: F3 Shape\n"),
+    ("stm check a.report a.report", 2, 0, "stm: file: F3 Shape\n"),
+    (
+        "stm check o.stm o.report --after a.report a.report",
+        2,
+        0,
+        "stm: earlier file: F3 Shape\n",
+    ),
+    (
+        "stm world a.report a.schedule",
+        2,
+        0,
+        "stm: file: F3 Shape\n",
+    ),
+    (
+        "stm world a.stm a.report",
+        2,
+        0,
+        "stm: schedule: F3 Shape\n",
+    ),
+    ("stm print a.report", 2, 0, "stm: file: F3 Shape\n"),
+    ("stm explore a.report", 2, 0, "stm: file: F3 Shape\n"),
+    ("stm explore a.report --dot", 2, 0, "stm: file: F3 Shape\n"),
+    ("stm run a.stm b.stm", 3, 0, "error: "),
+    (
+        "stm explore a.stm --to 2",
+        3,
+        0,
+        "stm: there is no such end\n",
+    ),
+    (
+        "stm explore a.stm --find icn threw",
+        3,
+        0,
+        "stm: there is no such transaction\n",
+    ),
+    ("stm run b.stm", 4, 0, "stm: cannot read\n"),
+    ("stm check a.report b.report", 4, 0, "stm: cannot read\n"),
+    (
+        "stm check a.report a.report --after a.stm b.report",
+        4,
+        0,
+        "stm: cannot read\n",
+    ),
+    ("stm world a.report b.schedule", 4, 0, "stm: cannot read\n"),
 ];
 
-/// Each option comes through to the run: the base is that of the checkpoint, and the end is the same.
-#[test]
-fn each_option_of_a_run_is_taken(rt: HostRuntime) {
-    for (option, number, base) in OPTIONS {
-        let words = [b"stm".as_slice(), b"run", b"a.stm", option, number];
-        let file = b"(var x 5)(tx inc (set x (add x 1)) x)(run inc 3)";
-        let host = Host::new(rt.alloc(), &words, file);
-        ends(&rt, &host, 0, 1, Some(""));
-        assert!(rt; host.has_printed_from(base, b"\nnow 3\nx 8 3\nend\n"));
+/// Of a write that fails it is told, and it is not tried again.
+const UNWRITTEN: &[&str] = &[
+    "stm --help",
+    "stm run a.stm",
+    "stm check a.stm a.report",
+    "stm check o.stm o.report --after a.stm a.report",
+    "stm explain o.stm o.report --after a.stm a.report",
+    "stm world a.stm a.schedule",
+    "stm explore a.stm",
+    "stm explore a.stm --dot",
+];
+
+/// Nothing is written where there is no memory for what is read.
+const UNREAD: &[&str] = &[
+    "stm run a.stm",
+    "stm check a.stm a.report",
+    "stm check o.stm o.report --after a.stm a.report",
+    "stm explain o.stm o.report --after a.stm a.report",
+    "stm world a.stm a.schedule",
+];
+
+/// The words of a command line.
+fn words_of(alloc: Global, line: &str) -> Result<Vec<&[u8]>, AllocError> {
+    let mut words = Vec::new(alloc);
+    for word in line.split(' ') {
+        words.push(word.as_bytes())?;
+    }
+    Ok(words)
+}
+
+/// Whether a process of these words, whose file reads and whose output writes so, ends so.
+fn ends(
+    rt: &(impl Threads + Wait + Sync + Abort),
+    alloc: Global,
+    words: &[&[u8]],
+    how: (Reads, Prints),
+    wanted: (u8, u32, &str),
+) -> bool {
+    let mut host = Host::new(alloc, words, FILE);
+    host.report = REPORT;
+    host.schedule = SCHEDULE;
+    host.earlier = (NEXT, EMPTY);
+    (host.reads, host.prints) = how;
+    let status = run(rt, &host);
+    let is_taken = how.1 == Prints::All || host.took_nothing();
+    is_taken && status == wanted.0 && host.writes.get() == wanted.1 && host.says(wanted.2)
+}
+
+/// So it does of this command line.
+fn line_ends(
+    rt: &(impl Threads + Wait + Sync + Abort),
+    alloc: Global,
+    line: &str,
+    how: (Reads, Prints),
+    wanted: (u8, u32, &str),
+) -> bool {
+    match words_of(alloc, line) {
+        Ok(words) => ends(rt, alloc, words.as_slice(), how, wanted),
+        Err(_) => false,
     }
 }
 
 #[test]
-fn what_is_asked_for_is_0(rt: HostRuntime) {
-    for word in [b"--help".as_slice(), b"--version", b"help"] {
-        let words = [b"stm".as_slice(), word];
-        let host = Host::new(rt.alloc(), &words, b"");
-        ends(&rt, &host, 0, 1, Some(""));
+fn each_way_to_end_has_its_status_and_writes(rt: HostRuntime) {
+    let how = (Reads::AllBytes, Prints::All);
+    for &(line, status, writes, said) in ENDS {
+        assert!(rt;
+            line_ends(&rt, rt.alloc(), line, how, (status, writes, said)),
+            "of {line}"
+        );
     }
 }
 
 #[test]
-fn a_refused_file_is_2(rt: HostRuntime) {
-    let host = Host::new(rt.alloc(), RUN, b"(var x");
-    ends(&rt, &host, 2, 0, Some("stm: file: F3 Shape\n"));
-    let host = Host::new(rt.alloc(), RUN, b"(stm 2)(always no (eq 0 1))");
-    ends(&rt, &host, 2, 0, Some("stm: file: F7 Broken\n"));
+fn a_failing_output_is_4_and_is_not_tried_again(rt: HostRuntime) {
+    let told = (4, 1, "stm: cannot write\n");
+    for line in UNWRITTEN {
+        for prints in [Prints::Fails, Prints::Interrupted] {
+            assert!(rt;
+                line_ends(&rt, rt.alloc(), line, (Reads::AllBytes, prints), told),
+                "of {line}"
+            );
+        }
+    }
 }
 
 #[test]
-fn a_refused_command_line_is_3(rt: HostRuntime) {
-    for word in [b"b.stm".as_slice(), b"--workers", b"--tries=65"] {
-        let words = [b"stm".as_slice(), b"run", b"a.stm", word];
-        let host = Host::new(rt.alloc(), &words, INCREMENT);
-        ends(&rt, &host, 3, 0, None);
+fn what_cannot_be_read_is_4_and_want_of_memory_is_5(rt: HostRuntime) {
+    for line in UNREAD {
+        for (reads, told) in [
+            (Reads::Fails, (4, 0, "stm: cannot read\n")),
+            (Reads::WantsMemory, (5, 0, "stm: out of memory\n")),
+        ] {
+            assert!(rt;
+                line_ends(&rt, rt.alloc(), line, (reads, Prints::All), told),
+                "of {line}"
+            );
+        }
     }
 }
 
 #[test]
 fn words_that_are_not_utf8_are_refused_by_3(rt: HostRuntime) {
     let words = [b"stm".as_slice(), b"run", b"a\xffb.stm"];
-    let host = Host::new(rt.alloc(), &words, INCREMENT);
-    ends(
-        &rt,
-        &host,
-        3,
-        0,
-        Some("stm: the command line is not UTF-8\n"),
-    );
-}
-
-#[test]
-fn what_cannot_be_read_is_4(rt: HostRuntime) {
-    let words = [b"stm".as_slice(), b"run", b"b.stm"];
-    let host = Host::new(rt.alloc(), &words, INCREMENT);
-    ends(&rt, &host, 4, 0, Some("stm: cannot read\n"));
-    let mut host = Host::new(rt.alloc(), RUN, INCREMENT);
-    host.reads = Reads::Fails;
-    ends(&rt, &host, 4, 0, Some("stm: cannot read\n"));
-}
-
-#[test]
-fn a_failing_output_is_4_and_is_not_tried_again(rt: HostRuntime) {
-    for prints in [Prints::Fails, Prints::Interrupted] {
-        let mut host = Host::new(rt.alloc(), RUN, INCREMENT);
-        host.prints = prints;
-        ends(&rt, &host, 4, 1, Some("stm: cannot write\n"));
-        assert!(rt; host.has_printed(b""));
-    }
-}
-
-#[test]
-fn help_that_cannot_be_printed_is_4(rt: HostRuntime) {
-    let words = [b"stm".as_slice(), b"--help"];
-    let mut host = Host::new(rt.alloc(), &words, b"");
-    host.prints = Prints::Fails;
-    ends(&rt, &host, 4, 1, Some("stm: cannot write\n"));
-}
-
-#[test]
-fn want_of_memory_is_5(rt: HostRuntime) {
-    let mut host = Host::new(rt.alloc(), RUN, INCREMENT);
-    host.reads = Reads::WantsMemory;
-    ends(&rt, &host, 5, 0, Some("stm: out of memory\n"));
-}
-
-/// The bytes, and then so many spaces.
-fn padded(alloc: Global, front: &[u8], count: usize) -> Result<Vec<u8>, AllocError> {
-    let mut bytes = Vec::new(alloc);
-    bytes.extend_from_slice(front)?;
-    bytes.extend_from_slice(Vec::from_elem(alloc, b' ', count)?.as_slice())?;
-    Ok(bytes)
-}
-
-/// One that begins with `(stm 3)` may have more.
-#[test]
-fn a_file_of_form_3_may_have_more_bytes(rt: HostRuntime) {
-    for (front, status) in [(b"(stm 3)".as_slice(), 0), (b"(stm 2)".as_slice(), 2)] {
-        let Ok(bytes) = padded(rt.alloc(), front, 1048570) else {
-            panic!(rt; "no blanks")
-        };
-        let host = Host::new(rt.alloc(), RUN, bytes.as_slice());
-        ends_with(&rt, &host, status);
-    }
-}
-
-/// A file of the limit is run, and with one byte more it is refused.
-#[test]
-fn a_file_has_1048576_bytes_at_most(rt: HostRuntime) {
-    for (size, status) in [(1048576, 0), (1048577, 2), (1048580, 2)] {
-        let Ok(blanks) = Vec::from_elem(rt.alloc(), b' ', size) else {
-            panic!(rt; "no blanks")
-        };
-        let host = Host::new(rt.alloc(), RUN, blanks.as_slice());
-        ends_with(&rt, &host, status);
-    }
+    let how = (Reads::AllBytes, Prints::All);
+    let told = (3, 0, "stm: the command line is not UTF-8\n");
+    assert!(rt; ends(&rt, rt.alloc(), &words, how, told));
 }

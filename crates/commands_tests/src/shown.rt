@@ -50,14 +50,6 @@ impl Shown {
         is(&self.printed, text)
     }
 
-    /// Whether what was printed is what was printed there.
-    pub(crate) fn prints_as(&self, other: &Shown) -> bool {
-        match other.printed.try_borrow() {
-            Ok(printed) => is(&self.printed, printed.as_str()),
-            Err(_) => false,
-        }
-    }
-
     /// Whether what was said begins so.
     pub(crate) fn says(&self, text: &str) -> bool {
         begins(&self.said, text)
