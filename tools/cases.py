@@ -190,6 +190,10 @@ def cut(files, told, line):
     files[name] = files[name][: int(count)]
 
 
+def cut_short(text):
+    return text if len(text) < 60 else f"{text[:56]} .."
+
+
 def rows_of_case(place, head, parts, texts):
     """The rows of one case."""
     commands = [part for part in parts if part.key == "stm"]
@@ -204,7 +208,7 @@ def rows_of_case(place, head, parts, texts):
         wanted = wanted_of(parts, known)
         if "cut" in wanted:
             cut(files, wanted.pop("cut"), head.line)
-        told = ", ".join(f"{name}={value if len(value) < 60 else value[:56] + ' ..'}" for one in values for name, value in one.items())
+        told = ", ".join(f"{name}={cut_short(value)}" for one in values for name, value in one.items())
         yield Row(f"{place}:{head.line}", head.name + (f" ({told})" if told else ""), files, words, wanted)
 
 

@@ -1,10 +1,8 @@
-//! Tests of the public calls of `runner` and `world_runner`: what is printed of runs and schedules, refusals, and
-//! writers that fail; of those of `run_interface`, by writers of its own; of those of `file_chains`, and of
-//! those of `txn::weights`.
+//! Tests of the public calls of `runner` and `world_runner`: runs under gates and in lines, and writers that fail; of
+//! those of `run_interface`, by writers of its own; of those of `file_chains`, and of those of `txn::weights`. What runs
+//! and schedules print and why files are refused is played by `cases/`.
 #![tactic(auto)]
 
-#[cfg(test)]
-mod ample;
 #[cfg(test)]
 mod drawn;
 #[cfg(test)]
@@ -12,11 +10,7 @@ mod gates;
 #[cfg(test)]
 mod holds;
 #[cfg(test)]
-mod light;
-#[cfg(test)]
 mod lines;
-#[cfg(test)]
-mod long;
 #[cfg(test)]
 mod many;
 #[cfg(test)]
@@ -33,8 +27,6 @@ mod played_refusals;
 mod points;
 #[cfg(test)]
 mod printed;
-#[cfg(test)]
-mod refusals;
 #[cfg(test)]
 mod reports;
 #[cfg(test)]

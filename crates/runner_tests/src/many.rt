@@ -1,6 +1,6 @@
 //! Many workers: what they leave is the same whatever the schedule.
 
-use crate::parts::{Passing, options, run_under, run_with};
+use crate::parts::{Passing, options, writes_under};
 use runner::{Gate, Point, run_tasks};
 use std::alloc::{AllocError, Global};
 use std::process::Abort;
@@ -28,33 +28,30 @@ const MOVED_ONCE: &str =
 
 const THOUSAND: &str = "(var x 5)(tx inc (set x (add x 1)) x)(run inc 1000)";
 
-/// Any number of workers makes this report of the file, also where each task is tried.
-fn expect_of_any_number(
-    rt: &(impl Abort + Eprint + Threads + Wait + Sync),
-    alloc: Global,
-    file: &str,
-    report: &str,
-) {
-    for workers in 1..17 {
-        let options = options(rt, workers, 8, 0);
-        let (text, fault) = run_with(rt, alloc, file.as_bytes(), options);
-        let is_so = fault.is_none() && text.as_slice() == report.as_bytes();
-        assert!(rt; is_so, "of {workers}");
-        match run_under(rt, alloc, file, options, &Passing) {
-            Some(text) => assert!(rt; text.as_slice() == report.as_bytes(), "of {workers}"),
-            None => panic!(rt; "no report of {workers}"),
+/// Files, where their reports begin and how these end, and the checkpoint: of a thousand tasks a journal that begins anew
+/// at 300 entries is that of the last 100.
+const SAME: &[(&str, &str, &str, u32)] = &[
+    (BUFFER, PASSED_ON, PASSED_ON, 0),
+    (MOVES, MOVED_ONCE, MOVED_ONCE, 0),
+    (THOUSAND, "base 0\n", "\nnow 1000\nx 1005 1000\nend\n", 0),
+    (
+        THOUSAND,
+        "base 900\nx 905 900\nentry 901 ",
+        "\nnow 1000\nx 1005 1000\nend\n",
+        300,
+    ),
+];
+
+/// Any number of workers leaves the same, where each task is tried.
+#[test]
+fn any_number_of_workers_leaves_the_same(rt: HostRuntime) {
+    for &(file, front, end, checkpoint) in SAME {
+        for workers in 1..17 {
+            let options = options(&rt, workers, 8, checkpoint);
+            let is_so = writes_under(&rt, rt.alloc(), file, options, &Passing, front, end);
+            assert!(rt; is_so, "of {workers}");
         }
     }
-}
-
-#[test]
-fn any_number_of_workers_passes_a_value_on(rt: HostRuntime) {
-    expect_of_any_number(&rt, rt.alloc(), BUFFER, PASSED_ON);
-}
-
-#[test]
-fn no_number_of_workers_breaks_a_condition(rt: HostRuntime) {
-    expect_of_any_number(&rt, rt.alloc(), MOVES, MOVED_ONCE);
 }
 
 /// How often each task was at a point. At `Ended` it counts only what came between `Taken` and
@@ -162,46 +159,5 @@ fn each_of_a_thousand_tasks_goes_its_way_once(rt: HostRuntime) {
     match read_file(rt.alloc(), THOUSAND.as_bytes()) {
         Ok(catalogue) => counts_all(&rt, rt.alloc(), &catalogue),
         Err(_) => panic!(rt; "no catalogue"),
-    }
-}
-
-/// Whether the text has this beginning, and the end of a thousand increments.
-fn counts_to_a_thousand(text: &[u8], front: &[u8]) -> bool {
-    text.starts_with(front) && text.ends_with(b"\nnow 1000\nx 1005 1000\nend\n")
-}
-
-#[test]
-fn eight_workers_count_to_a_thousand(rt: HostRuntime) {
-    let options = options(&rt, 8, 8, 0);
-    let (text, fault) = run_with(&rt, rt.alloc(), THOUSAND.as_bytes(), options);
-    assert!(rt; fault.is_none());
-    assert!(rt; counts_to_a_thousand(text.as_slice(), b"base 0\n"));
-    match run_under(&rt, rt.alloc(), THOUSAND, options, &Passing) {
-        Some(text) => assert!(rt; counts_to_a_thousand(text.as_slice(), b"base 0\n")),
-        None => panic!(rt; "no report"),
-    }
-}
-
-/// A journal that begins anew at 300 entries is that of the last 100 of a thousand tasks.
-#[test]
-fn any_number_of_workers_keeps_the_journal_short(rt: HostRuntime) {
-    let front = b"base 900\nx 905 900\nentry 901 ";
-    for workers in 1..17 {
-        let options = options(&rt, workers, 8, 300);
-        let (text, fault) = run_with(&rt, rt.alloc(), THOUSAND.as_bytes(), options);
-        assert!(rt; fault.is_none());
-        assert!(rt;
-            counts_to_a_thousand(text.as_slice(), front),
-            "of {workers}"
-        );
-        match run_under(&rt, rt.alloc(), THOUSAND, options, &Passing) {
-            Some(text) => {
-                assert!(rt;
-                    counts_to_a_thousand(text.as_slice(), front),
-                    "of {workers}"
-                );
-            }
-            None => panic!(rt; "no report of {workers}"),
-        }
     }
 }

@@ -52,11 +52,3 @@ fn failing_writers(rt: HostRuntime) {
     let _rest = out.into_inner();
     assert_eq!(rt; room, *b"base 0\n");
 }
-
-#[test]
-fn failed_runs_have_their_statuses_and_lines(rt: HostRuntime) {
-    assert_eq!(rt; RunFault::Output.status(), 4);
-    assert_eq!(rt; RunFault::Output.line(), "stm: cannot write");
-    assert_eq!(rt; RunFault::Memory.status(), 5);
-    assert_eq!(rt; RunFault::Memory.line(), "stm: out of memory");
-}

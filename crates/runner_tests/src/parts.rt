@@ -6,7 +6,6 @@ use std::process::Abort;
 use std::sync::Wait;
 use std::thread::Threads;
 use txn::TaskId;
-use txn_text::ReadFault;
 
 /// Options that are allowed.
 pub(crate) fn options(rt: &impl Abort, workers: u32, tries: u32, checkpoint: u32) -> Options {
@@ -50,38 +49,21 @@ pub(crate) fn run_under<G: Gate>(
     }
 }
 
-/// What a run of the text by one worker writes, and the fault where it ends in one.
-pub(crate) fn run(
-    rt: &(impl Threads + Wait + Sync + Abort),
-    alloc: Global,
-    input: &[u8],
-) -> (Vec<u8>, Option<RunFault>) {
-    run_with(rt, alloc, input, options(rt, 1, 8, 0))
-}
-
-/// A run of the text by one worker writes this report.
-pub(crate) fn expect_report(
-    rt: &(impl Abort + Eprint + Threads + Wait + Sync),
+/// Whether a run of the text with these options under this gate writes what begins and ends so.
+pub(crate) fn writes_under<G: Gate>(
+    rt: &(impl Threads + Wait + Sync),
     alloc: Global,
     input: &str,
-    report: &str,
-) {
-    let (text, fault) = run(rt, alloc, input.as_bytes());
-    let is_so = fault.is_none() && text.as_slice() == report.as_bytes();
-    assert!(rt; is_so, "of {input}");
-}
-
-/// A run of the text by one worker writes nothing, and tells this fault of the input.
-pub(crate) fn expect_fault(
-    rt: &(impl Abort + Threads + Wait + Sync),
-    alloc: Global,
-    input: &[u8],
-    kind: ReadFault,
-    line: &str,
-) {
-    let (text, fault) = run(rt, alloc, input);
-    assert!(rt; text.len() == 0);
-    assert!(rt; fault == Some(RunFault::Input(kind)));
-    assert!(rt; RunFault::Input(kind).status() == 2);
-    assert!(rt; RunFault::Input(kind).line() == line);
+    options: Options,
+    gate: &G,
+    front: &str,
+    end: &str,
+) -> bool {
+    match run_under(rt, alloc, input, options, gate) {
+        Some(text) => {
+            text.as_slice().starts_with(front.as_bytes())
+                && text.as_slice().ends_with(end.as_bytes())
+        }
+        None => false,
+    }
 }

@@ -54,19 +54,12 @@ fn is_one_call(alloc: Global, kind: ErrorKind, bytes: &[u8]) -> bool {
 }
 
 #[test]
-fn a_write_that_fails_is_not_tried_again(rt: HostRuntime) {
-    assert!(rt; is_one_call(rt.alloc(), ErrorKind::Other, b"text"));
-}
-
-#[test]
-fn a_write_that_is_interrupted_is_not_tried_again(rt: HostRuntime) {
-    assert!(rt; is_one_call(rt.alloc(), ErrorKind::Interrupted, b"text"));
-}
-
-#[test]
-fn a_flush_that_fails_is_not_tried_again(rt: HostRuntime) {
-    assert!(rt; is_one_call(rt.alloc(), ErrorKind::Other, b""));
-    assert!(rt; is_one_call(rt.alloc(), ErrorKind::Interrupted, b""));
+fn a_write_or_flush_that_fails_is_not_tried_again(rt: HostRuntime) {
+    for kind in [ErrorKind::Other, ErrorKind::Interrupted] {
+        for bytes in [b"text".as_slice(), b""] {
+            assert!(rt; is_one_call(rt.alloc(), kind, bytes));
+        }
+    }
 }
 
 /// Whether of two puts of the text the first fails alone, and the second alone is written.

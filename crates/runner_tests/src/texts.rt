@@ -2,34 +2,65 @@
 
 use runner::RunFault;
 use std::alloc::Global;
-use std::process::Abort;
 use txn_text::ReadFault;
 
-fn expect_text(rt: &impl Abort, alloc: Global, fault: RunFault, text: &str, status: u8) {
+/// Whether the fault has this text and this status.
+fn is_told(alloc: Global, fault: RunFault, text: &str, status: u8) -> bool {
     match format!(in alloc; "{fault}") {
-        Ok(shown) => assert!(rt; shown.as_str() == text),
-        Err(_) => panic!(rt; "no text"),
+        Ok(shown) => shown.as_str() == text && fault.line() == text && fault.status() == status,
+        Err(_) => false,
     }
-    assert!(rt; fault.line() == text);
-    assert!(rt; fault.status() == status);
 }
 
 #[test]
-fn faults_of_the_input_have_their_texts(rt: HostRuntime) {
-    for (kind, text) in [
-        (ReadFault::TooLong, "stm: file: F1 TooLong"),
-        (ReadFault::BadByte, "stm: file: F2 BadByte"),
-        (ReadFault::Shape, "stm: file: F3 Shape"),
-        (ReadFault::Name, "stm: file: F4 Name"),
-        (ReadFault::Limit, "stm: file: F5 Limit"),
-        (ReadFault::Broken, "stm: file: F7 Broken"),
+fn faults_have_their_texts_and_statuses(rt: HostRuntime) {
+    for (fault, text, status) in [
+        (
+            RunFault::Input(ReadFault::TooLong),
+            "stm: file: F1 TooLong",
+            2,
+        ),
+        (
+            RunFault::Input(ReadFault::BadByte),
+            "stm: file: F2 BadByte",
+            2,
+        ),
+        (RunFault::Input(ReadFault::Shape), "stm: file: F3 Shape", 2),
+        (RunFault::Input(ReadFault::Name), "stm: file: F4 Name", 2),
+        (RunFault::Input(ReadFault::Limit), "stm: file: F5 Limit", 2),
+        (
+            RunFault::Input(ReadFault::Broken),
+            "stm: file: F7 Broken",
+            2,
+        ),
+        (
+            RunFault::Schedule(ReadFault::TooLong),
+            "stm: schedule: F1 TooLong",
+            2,
+        ),
+        (
+            RunFault::Schedule(ReadFault::BadByte),
+            "stm: schedule: F2 BadByte",
+            2,
+        ),
+        (
+            RunFault::Schedule(ReadFault::Shape),
+            "stm: schedule: F3 Shape",
+            2,
+        ),
+        (
+            RunFault::Schedule(ReadFault::Name),
+            "stm: schedule: F4 Name",
+            2,
+        ),
+        (
+            RunFault::Schedule(ReadFault::Limit),
+            "stm: schedule: F5 Limit",
+            2,
+        ),
+        (RunFault::Output, "stm: cannot write", 4),
+        (RunFault::Memory, "stm: out of memory", 5),
     ] {
-        expect_text(&rt, rt.alloc(), RunFault::Input(kind), text, 2);
+        assert!(rt; is_told(rt.alloc(), fault, text, status), "of {text}");
     }
-}
-
-#[test]
-fn other_faults_have_their_texts(rt: HostRuntime) {
-    expect_text(&rt, rt.alloc(), RunFault::Output, "stm: cannot write", 4);
-    expect_text(&rt, rt.alloc(), RunFault::Memory, "stm: out of memory", 5);
 }
