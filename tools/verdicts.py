@@ -14,7 +14,7 @@ checksum of all that the check of this edit by itself reads:
 So none hides an edit that would be proved now. Whatever could prove it has to stand in what the check reads: another
 contract, definition or lemma, here or below, another prover, or another text of the function, and each gives another
 checksum. What is left out can prove nothing of it: the bodies and proofs of other functions, which a proof never reads,
-and the code of a library, which is for the linker. Edits are tried in rounds, but a round has one edit of a function, and
+and the code of a library, which is for the linker (but where it has constant functions). Edits are tried in rounds, but a round has one edit of a function, and
 each changes only what stands in its own function's body: the contracts over which the others are tried stay (an edit that
 reaches beyond a body has a round to itself). A file that changes while it is tried is seen, and then nothing is kept.
 """
@@ -62,8 +62,10 @@ def contents(place, names):
 
 
 def statements_of(library):
-    """A checksum of what is read of a library from above: all but its code and the proofs of its functions."""
+    """A checksum of what is read of a library from above: all but its code and the proofs of its functions. Where it has a
+    constant function, whose body decides what constants are, its code too."""
     names = [f"lang/src/{name}" for name in files_in(os.path.join(library, "lang", "src"))]
+    names += ["toolchain/mir.json"] if any(b"const fn " in read(os.path.join(library, name)) for name in names) else []
     names += [f"lang/antt/{name}" for name in files_in(os.path.join(library, "lang", "antt")) if name.endswith(".antt")]
     facts = [line for line in read(os.path.join(library, "format")).split(b"\n") if not line.startswith(tuple(one.encode() for one in SUMS))]
     return sum_of(*contents(library, [name for name in names if os.path.basename(name) not in PROOF_FILES]), *facts)
