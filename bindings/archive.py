@@ -1,5 +1,5 @@
-"""The archive over which `bindings/check` builds its hosts: one that is there, one that `rt lib` builds, or one built over
-the libraries that `rt ci` left.
+"""The archive over which `bindings/check` builds its hosts: one that is there, one that `rt lib` builds, or one built
+over the libraries that `rt ci` left.
 
 `rt ci` proves the exports and builds nothing of them, so they are proved once more as they are built. What was built is
 kept in ~/.cache/stm-archive/, by a checksum of the exports' sources, the kit and each library below, and so is what was
@@ -29,8 +29,9 @@ def run(*words, **more):
 def key(crates):
     """A checksum of all that is read of it: a library's `format` has the sums of its files and of those below it."""
     own = [part for path in files_of(CRATE) for part in (os.path.relpath(path, ROOT), read(path))]
-    below = [(name, read(os.path.join(proved_libraries.library_of(name), "format"))) for name in proved_libraries.below(crates, CRATE)]
-    return sum_of(kit_sum(), crates[CRATE], *own, *(part for one in below for part in one))
+    names = proved_libraries.below(crates, CRATE)
+    below = [(name, read(os.path.join(proved_libraries.library_of(name), "format"))) for name in names]
+    return sum_of(kit_sum(), crates[CRATE], *own, below)
 
 
 def over_ci():
@@ -54,8 +55,8 @@ def over_ci():
         if built.returncode == 0:
             shutil.copy(ARCHIVE, kept + ".new")
             os.replace(kept + ".new", kept)
-        archives = sorted((entry for entry in os.scandir(KEPT) if entry.name.endswith(".a")), key=lambda entry: -entry.stat().st_mtime)
-        for entry in archives[MOST:]:
+        archives = [entry for entry in os.scandir(KEPT) if entry.name.endswith(".a")]
+        for entry in sorted(archives, key=lambda entry: -entry.stat().st_mtime)[MOST:]:
             os.remove(entry.path)
         return built
 

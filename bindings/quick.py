@@ -1,5 +1,5 @@
-"""What `bindings/check --quick` tries of hosts over a library that is there, in a minute: those in C, C++, Rust and Python,
-where their compilers are, with few calls of each. `case` and `run` are functions of bindings/check."""
+"""What `bindings/check --quick` tries of hosts over a library that is there, in a minute: those in C, C++, Rust and
+Python, where their compilers are, with few calls of each. `case` and `run` are functions of bindings/check."""
 
 import os
 import shutil
@@ -35,7 +35,8 @@ IN_CPP += [("examples/bounded_queue.cpp", languages.QUEUE), ("examples/transfers
 def compiled(case, run, work, library, word, source, *flags):
     """The host, built over the library, or nothing where it can't be."""
     out = os.path.join(work, source.replace("/", "."))
-    done = run(word, *flags, *WARN, "-I", library, os.path.join(HERE, source), f"{library}/libstm.a", "-pthread", "-o", out)
+    words = [*flags, *WARN, "-I", library, os.path.join(HERE, source), f"{library}/libstm.a", "-pthread", "-o", out]
+    done = run(word, *words)
     case(f"{source} is built by {word}", done.returncode == 0, languages.told_by(done))
     return out if done.returncode == 0 else None
 

@@ -1,5 +1,5 @@
-"""What proofs and tests take of a processor: as this clone measured it last, else as tools/seconds.txt has it. A line of
-either is a kind, a name and seconds."""
+"""What proofs and tests take of a processor: as this clone measured it last, else as tools/seconds.txt has it. A line
+of either is a kind, a name and seconds."""
 
 import os
 import resource

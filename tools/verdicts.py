@@ -4,19 +4,20 @@ edits of its own function. That folder may be removed at any time.
 Only one verdict is kept: that a goal of the very function that the edit changes is left open. It is found again by a
 checksum of all that the check of this edit by itself reads:
 
-- the room, with this edit alone: the contracts, definitions and lemmas of the crate, and the one body, since all others
-  are stubs; where the edit was tried over the crate itself, all bodies and their proofs;
-- of each library below, as it lies there when the edit is tried and not as its sources stand, what the kit keeps in it to
-  be read from above: its declarations with contracts and no bodies, its definitions, its lemmas, and the facts of its
+- the room, with this edit alone: the contracts, definitions and lemmas of the crate, and the one body, since all
+  others are stubs; where the edit was tried over the crate itself, all bodies and their proofs;
+- of each library below, as it lies there when the edit is tried and not as its sources stand, what the kit keeps in it
+  to be read from above: its declarations with contracts and no bodies, its definitions, its lemmas, and the facts of its
   functions and types that its file `format` lists;
 - the crate's line of crates.txt and those below it, the kit, and these tools.
 
 So none hides an edit that would be proved now. Whatever could prove it has to stand in what the check reads: another
 contract, definition or lemma, here or below, another prover, or another text of the function, and each gives another
-checksum. What is left out can prove nothing of it: the bodies and proofs of other functions, which a proof never reads,
-and the code of a library, which is for the linker (but where it has constant functions). Edits are tried in rounds, but a round has one edit of a function, and
-each changes only what stands in its own function's body: the contracts over which the others are tried stay (an edit that
-reaches beyond a body has a round to itself). A file that changes while it is tried is seen, and then nothing is kept.
+checksum. What is left out can prove nothing of it: the bodies and proofs of other functions, which a proof never
+reads, and the code of a library, which is for the linker (but where it has constant functions). Edits are tried in
+rounds, but a round has one edit of a function, and each changes only what stands in its own function's body: the
+contracts over which the others are tried stay (an edit that reaches beyond a body has a round to itself). A file that
+changes while it is tried is seen, and then nothing is kept.
 """
 
 import functools
@@ -34,7 +35,7 @@ KEPT = os.path.join(os.path.expanduser("~"), ".cache", "stm-edits")
 # Those that no run asked for in so many days go, and the oldest beyond so many.
 DAYS, MOST = 60, 20_000
 # How a line of a library's `format` begins that is a sum of its files, or of those below it.
-SUMS = ("needs ", "over ", "checked ", "sum ")
+SUMS = (b"needs ", b"over ", b"checked ", b"sum ")
 
 
 def sum_of(*parts):
@@ -62,12 +63,12 @@ def contents(place, names):
 
 
 def statements_of(library):
-    """A checksum of what is read of a library from above: all but its code and the proofs of its functions. Where it has a
-    constant function, whose body decides what constants are, its code too."""
+    """A checksum of what is read of a library from above: all but its code and the proofs of its functions. Where it has
+    a constant function, whose body decides what constants are, its code too."""
     names = [f"lang/src/{name}" for name in files_in(os.path.join(library, "lang", "src"))]
     names += ["toolchain/mir.json"] if any(b"const fn " in read(os.path.join(library, name)) for name in names) else []
     names += [f"lang/antt/{name}" for name in files_in(os.path.join(library, "lang", "antt")) if name.endswith(".antt")]
-    facts = [line for line in read(os.path.join(library, "format")).split(b"\n") if not line.startswith(tuple(one.encode() for one in SUMS))]
+    facts = [line for line in read(os.path.join(library, "format")).split(b"\n") if not line.startswith(SUMS)]
     return sum_of(*contents(library, [name for name in names if os.path.basename(name) not in PROOF_FILES]), *facts)
 
 
@@ -75,7 +76,8 @@ def statements_of(library):
 def kit_sum():
     """What names the kit, and the prover's size and date."""
     place = proved_libraries.kit()
-    texts = [read(os.path.join(place, name)) for name in ("KIT-ID", "WHAT") if os.path.exists(os.path.join(place, name))]
+    paths = [os.path.join(place, name) for name in ("KIT-ID", "WHAT")]
+    texts = [read(path) for path in paths if os.path.exists(path)]
     stat = os.stat(os.path.join(place, "bin", "rattle"))
     version = subprocess.run(["rt", "version"], capture_output=True, check=False).stdout
     return sum_of(version, stat.st_size, stat.st_mtime_ns, *texts)
@@ -92,7 +94,8 @@ def base_of(crates, crate):
     """A checksum of all that the checks of the crate's edits read besides its own sources."""
     below = proved_libraries.below(crates, crate)
     lines = [(name, is_static(name), crates[name]) for name in [*below, crate]]
-    return sum_of(kit_sum(), tools_sum(), lines, *(part for name in below for part in (name, statements_of(proved_libraries.library_of(name)))))
+    statements = [(name, statements_of(proved_libraries.library_of(name))) for name in below]
+    return sum_of(kit_sum(), tools_sum(), lines, statements)
 
 
 class Verdicts:
@@ -122,8 +125,8 @@ class Verdicts:
         return None
 
     def keep(self, refused):
-        """Keeps the goals of these edits, with whether each was tried over stubs, by what their checks read: nothing of it has
-        changed since the verdicts were asked for."""
+        """Keeps the goals of these edits, with whether each was tried over stubs, by what their checks read: nothing of
+        it has changed since the verdicts were asked for."""
         if not refused or base_of(self.crates, self.crate) != self.base:
             return
         os.makedirs(KEPT, 0o700, exist_ok=True)
