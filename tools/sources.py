@@ -140,11 +140,12 @@ def kit_at():
 
 
 def glance(names, more=()):
-    """What changes whenever a source does, without a look into it. `more` are files beside those of the crates."""
+    """What changes whenever a source does, without a look into it, and not where all of it is copied with its dates.
+    `more` are files beside those of the crates."""
     marks = []
     for path in [os.path.join(ROOT, "crates.txt"), *(file for name in names for file in files_of(name)), *more]:
         stat = os.stat(path)
-        marks.append(f"{path} {stat.st_size} {stat.st_mtime_ns}")
+        marks.append(f"{os.path.relpath(path, ROOT)} {stat.st_size} {stat.st_mtime_ns}")
     return hashlib.sha256("\n".join(marks).encode()).hexdigest()
 
 
