@@ -1,6 +1,6 @@
 //! What the lock guards: the store, and a seat for each thread that waits.
 
-ghost use Rattle.std.specs.Prelude.{◌≡◌, ◌≢◌, ◌+◌, length, true, Some, None, All, IfSome};
+ghost use Rattle.std.specs.Prelude.{◌≡◌, ◌≢◌, ◌+◌, ℕ, length, true, Some, None, All, IfSome};
 ghost use Rattle.std.specs.Option.{ForNone};
 ghost use Rattle.std.specs.Coded.{codes};
 ghost use Rattle.std.specs.BTreeMap.{values};
@@ -31,6 +31,8 @@ pub(crate) enum Found {
     Over(Outcome),
     /// Its task ran out of memory.
     GivenUp,
+    /// Its task ran when the service was closed, and is given up.
+    ShutOut,
     /// Its task is given up.
     Left,
 }
@@ -72,6 +74,7 @@ impl<N: Naming, K: Archive + Drop> Desk<N, K> {
     ghost use Rattle.book.specs.Chapters.{entered_in_all};
     ghost use Rattle.cells.specs.Passing.{MeetsBy};
     ghost use Rattle.stm_service.specs.declared.desk.Found.TheVariants as Found;
+    ghost use Rattle.stm_service.specs.declared.seat.Told.TheVariants as Told;
 
     /// The desk of a store, whose tasks have had their turns then. Which transactions are long is told in their
     /// order.
@@ -178,6 +181,29 @@ impl<N: Naming, K: Archive + Drop> Desk<N, K> {
             End::Abandoned => Told::GivenUp,
             End::Parked => return,
         };
+        self.tell_thread(job, told);
+    }
+
+    /// The running task is given up, and its thread is told that the service is closed.
+    pub(crate) fn shut_out(&mut self, job: &Job)
+        ensures tickets { self.new.store.tickets ≡ self.old.store.tickets }
+        ensures closed { self.new.closed ≡ self.old.closed }
+        ensures running { self.new.running ≡ self.old.running }
+    {
+        if self.give_up(job.ticket) {
+            self.tell_thread(job, Told::ShutOut);
+        }
+    }
+
+    /// The thread that waits for this task is told this of it.
+    fn tell_thread(&mut self, job: &Job, told: Told)
+        requires answer { (o : Outcome) (number : ℕ) → told ≡ Told.Entered o number
+            → ∥ IsAnswer N.catalogue job.now.ticket (call_of job.now) o ∥₁ }
+        requires heard { IsHeard N.catalogue (call_of job.now) told self.old.store.book.history }
+        ensures closed { self.new.closed ≡ self.old.closed }
+        ensures store { self.new.store ≡ self.old.store }
+        ensures running { self.new.running ≡ self.old.running }
+    {
         let Some(seat) = self.seats.get_mut(&job.ticket.0) else {
             return;
         };
@@ -262,6 +288,7 @@ impl<N: Naming, K: Archive + Drop> Desk<N, K> {
             Told::Nothing => Found::Nothing,
             Told::Entered(outcome, _) => Found::Over(outcome),
             Told::GivenUp => Found::GivenUp,
+            Told::ShutOut => Found::ShutOut,
         }
     }
 
@@ -328,7 +355,10 @@ impl<N: Naming, K: Archive + Drop> Desk<N, K> {
 
     /// Whether the task was running: it is given up then.
     fn give_up(&mut self, ticket: Ticket) -> bool
-        ensures { GivesUp self.old.store ticket result self.new.store }
+        ensures given_up { GivesUp self.old.store ticket result self.new.store }
+        ensures tickets { self.new.store.tickets ≡ self.old.store.tickets }
+        ensures closed { self.new.closed ≡ self.old.closed }
+        ensures running { self.new.running ≡ self.old.running }
     {
         self.store.give_up(ticket)
     }

@@ -148,8 +148,8 @@ impl<N: Naming, K: Archive + Drop> Desk<N, K> {
         }
     }
 
-    /// Gives what threads evaluate just then its turn, and what that woke: so no task is ready or running, and each
-    /// thread is told what came of its own.
+    /// Gives what threads evaluate just then its turn, and what that woke, or gives it up where the service is closed:
+    /// so no task is ready or running, and each thread is told what came of its own.
     pub(crate) fn settle(&mut self)
         ensures tickets { self.new.store.tickets ≡ self.old.store.tickets }
         ensures closed { self.new.closed ≡ self.old.closed }
@@ -159,14 +159,27 @@ impl<N: Naming, K: Archive + Drop> Desk<N, K> {
         self.ring();
     }
 
-    /// What threads evaluate just then has its turn under the lock.
+    /// What threads evaluate just then is at its end.
     fn turn_running(&mut self)
         ensures tickets { self.new.store.tickets ≡ self.old.store.tickets }
         ensures closed { self.new.closed ≡ self.old.closed }
     {
         while let Some((_, job)) = self.running.pop_first() {
-            self.turn(&job);
+            self.end_running(&job);
         }
+    }
+
+    /// The running task has its turn under the lock; where the service is closed it is given up.
+    fn end_running(&mut self, job: &Job)
+        ensures tickets { self.new.store.tickets ≡ self.old.store.tickets }
+        ensures closed { self.new.closed ≡ self.old.closed }
+        ensures running { self.new.running ≡ self.old.running }
+    {
+        if self.closed {
+            self.shut_out(job);
+            return;
+        }
+        self.turn(job);
     }
 
     /// All that is ready has its turn under the lock, also what is long.

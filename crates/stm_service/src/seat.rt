@@ -30,6 +30,8 @@ pub(crate) enum Told {
     Entered(Outcome, u64),
     /// Its task ran out of memory.
     GivenUp,
+    /// Its task ran when the service was closed, and is given up.
+    ShutOut,
 }
 
 /// The seat of a thread that waits: for the task of which call, and the bell that rings for it.
@@ -89,6 +91,7 @@ impl<N: Naming> Seat<N> {
                 Told::Entered(outcome, number)
             }
             Told::GivenUp => Told::GivenUp,
+            Told::ShutOut => Told::ShutOut,
             Told::Entered(_, _) | Told::Nothing => Told::Nothing,
         }
     }

@@ -236,7 +236,7 @@ impl<N: Naming, K: Archive + Drop> Service<N, K> {
     }
 
     /// The report of the present chapter at this moment. Long transactions that are evaluated beside the commits just
-    /// then have their turns before.
+    /// then have their turns before, or are given up where the service is closed.
     pub fn report<R: Wait>(&self, rt: &R) -> Result<String, ReportFault>
         ensures { IfOk result (λ text. ∥ IsReportOfSome N.catalogue (string_bytes text) ∥₁) }
     {
@@ -244,7 +244,7 @@ impl<N: Naming, K: Archive + Drop> Service<N, K> {
     }
 
     /// The file of the present chapter at this moment. Long transactions that are evaluated beside the commits just
-    /// then have their turns before.
+    /// then have their turns before, or are given up where the service is closed.
     pub fn file<R: Wait>(&self, rt: &R) -> Result<String, FileFault>
         ensures { IfOk result (λ text. ∥ IsFileOfSome N.catalogue (string_bytes text) ∥₁) }
     {

@@ -72,7 +72,7 @@ fn wait_at<'g, R: Wait, N: Naming, K: Archive + Drop>(
             }
             Found::Over(outcome) => return (desk, Ok(outcome)),
             Found::GivenUp => return (desk, Err(CallFault::Memory)),
-            Found::Left => return (desk, Err(CallFault::Closed)),
+            Found::ShutOut | Found::Left => return (desk, Err(CallFault::Closed)),
         }
     }
     unreachable!()
@@ -108,7 +108,7 @@ pub(crate) fn try_long<'g, R: Wait, N: Naming, K: Archive + Drop>(
             }
             Found::Over(outcome) => return (desk, Ok(outcome)),
             Found::GivenUp => return (desk, Err(CallFault::Memory)),
-            Found::Left => return (desk, Err(CallFault::Closed)),
+            Found::ShutOut | Found::Left => return (desk, Err(CallFault::Closed)),
         }
     }
     unreachable!()
@@ -153,7 +153,7 @@ pub(crate) fn wait_within<'g, R: Wait + Clock, N: Naming, K: Archive + Drop>(
             }
             Found::Over(outcome) => return (desk, Ok(outcome)),
             Found::GivenUp => return (desk, Err(CallFault::Memory)),
-            Found::Left => return (desk, Err(CallFault::Closed)),
+            Found::ShutOut | Found::Left => return (desk, Err(CallFault::Closed)),
         }
     }
     unreachable!()
@@ -179,6 +179,7 @@ fn stop_waiting<'g, R: Wait, N: Naming, K: Archive + Drop>(
         Found::Nothing | Found::Runs(_) => wait_at(rt, service, desk, bell, awaited),
         Found::Over(outcome) => (desk, Ok(outcome)),
         Found::GivenUp => (desk, Err(CallFault::Memory)),
+        Found::ShutOut => (desk, Err(CallFault::Closed)),
         Found::Left => (desk, Err(why)),
     }
 }

@@ -21,4 +21,4 @@ returns g c is =
     withdrawn_running old mid new c.args.ticket
     (none.1 ∙ ap (λ (s : Store). s.book) c.is_over.ensures.store)
     (c.withdraw.ensures.tickets ∙ ap (λ (s : Store). s.tickets) c.is_over.ensures.store)
-    (subst (λ (r : Bool). GivesUp mid c.args.ticket r new) is c.give_up.ensures)
+    (subst (λ (r : Bool). GivesUp mid c.args.ticket r new) is c.give_up.ensures.given_up)
