@@ -4,7 +4,7 @@
 use txn::{Outcome, TaskId, VarId};
 
 /// What may happen next. Where it is not possible it is idle, and changes nothing.
-#[derive(Clone, Copy, Debug, PartialEq, Eq)]
+#[derive(Clone, Copy, PartialEq, Eq)]
 pub enum Event {
     /// An attempt of the task begins: it loads the clock.
     Begin(TaskId),
@@ -26,7 +26,7 @@ pub enum Event {
 }
 
 /// What is seen of an event.
-#[derive(Clone, Copy, Debug, PartialEq, Eq)]
+#[derive(Clone, Copy, PartialEq, Eq)]
 pub enum Seen {
     /// It was not possible.
     Idle,
@@ -57,7 +57,7 @@ pub enum Seen {
 }
 
 /// What the read that an attempt is in has loaded.
-#[derive(Clone, Copy, Debug, PartialEq, Eq)]
+#[derive(Clone, Copy)]
 pub enum Loads {
     Nothing,
     /// The version word.
@@ -67,7 +67,7 @@ pub enum Loads {
 }
 
 /// One store of a commit.
-#[derive(Clone, Copy, Debug, PartialEq, Eq)]
+#[derive(Clone, Copy)]
 pub enum Store {
     /// A version word gets its lock bit.
     Lock(VarId),
@@ -80,7 +80,7 @@ pub enum Store {
 }
 
 /// What became of an attempt.
-#[derive(Clone, Copy, Debug, PartialEq, Eq)]
+#[derive(Clone, Copy, PartialEq, Eq)]
 pub enum Fate {
     Running,
     /// It made the state of this number.
