@@ -1,6 +1,7 @@
 -- Whether some order comes to what is denied, and what is said of it.
-use Rattle.std.specs.Prelude.{◌≡◌, ℕ, ◌+◌, true, false, List, ◌++◌, codes, Option, Some, None, All, slice_get}
+use Rattle.std.specs.Prelude.{◌≡◌, ℕ, ◌+◌, ◌<◌, true, false, List, ◌++◌, codes, Option, Some, None, All, slice_get, take}
 use Rattle.std.specs.Fmt.{decimal}
+use Rattle.txn_programs.specs.declared.ast.AlwaysId.{AlwaysId}
 use Rattle.txn_programs.specs.declared.ast.TxId.{TxId}
 use Rattle.txn_programs.specs.Listing.{Listing, always_name}
 use Rattle.text_report_printer.specs.Names.{transaction_name}
@@ -87,14 +88,26 @@ abbrev pub what : Offence → Denial
 what (Parked n) = denial.Parked
 what (Turn tx how) = denial_by how
 
--- a task waits at the end of this number, counted from 1
-abbrev pub Waits : List End → ℕ → Type 0
-Waits es n = (k : ℕ) × (n ≡ k + 1) × ((e : End) × (slice_get es k ≡ Some e) × (some_wait e.waiting.items ≡ true))
+-- a task waits at the end of this number, counted from 1, and none does at an end before it
+pub record Waits (es : List End) (n : ℕ) : Type 0 where
+  pub place : ℕ
+  pub number : n ≡ place + 1
+  pub end : End
+  pub at : slice_get es place ≡ Some end
+  pub waits : some_wait end.waiting.items ≡ true
+  pub before : All (λ e. some_wait e.waiting.items ≡ false) (take place es)
 
--- it shows there: at the end of that number, or in some turn of the transaction
+-- some turn of the transaction ends so; of no transaction before it does a turn end in a way of which the same is denied,
+-- and of its own turns none leaves a standing condition untrue that is before that one
+pub record IsFirstTurn (l : Listing) (tx : TxId) (how : Ending) : Type 0 where
+  pub somewhere : Somewhere l tx (kind_of_ending how)
+  pub transaction : (other : TxId) → other.0 < tx.0 → (kind : Kind) → denial_of kind ≡ Some (denial_by how) → Somewhere l other kind → ⊥
+  pub condition : (id other : AlwaysId) → how ≡ ending.Broke id → other.0 < id.0 → Somewhere l tx (Breaking other) → ⊥
+
+-- it shows there first: at the end of that number, or in some turn of the transaction
 abbrev pub IsSeen : Listing → Found → Offence → Type 0
 IsSeen l f (Parked n) = Waits f.ends.items n
-IsSeen l f (Turn tx how) = Somewhere l tx (kind_of_ending how)
+IsSeen l f (Turn tx how) = IsFirstTurn l tx how
 
 -- the first of what is denied that some order comes to
 pub record IsFirst (l : Listing) (f : Found) (ds : Denials) (o : Offence) : Type 0 where
@@ -140,9 +153,15 @@ NoneEnds ks denial.Overflow = ks.overflow ≡ false
 NoneEnds ks denial.ZeroDiv = ks.zerodiv ≡ false
 NoneEnds ks denial.Outside = ks.outside ≡ false
 
--- by the kinds of all transactions' turns: one of this transaction, of which this is denied
+-- by the kinds of a transaction's turns: none leaves a standing condition untrue that is before the one of this end
+abbrev pub IsFirstBroken : Kinds → Ending → Type 0
+IsFirstBroken ks how = (id other : AlwaysId) → how ≡ ending.Broke id → other.0 < id.0 → shows ks (Breaking other) ≡ false
+
+-- by the kinds of all transactions' turns: the first of this transaction, of which this is denied
 pub record Ends (kinds : List Kinds) (d : Denial) (tx : TxId) (how : Ending) : Type 0 where
   pub ks : Kinds
   pub at : slice_get kinds tx.0 ≡ Some ks
   pub shows : shows ks (kind_of_ending how) ≡ true
   pub denied : denial_by how ≡ d
+  pub first : IsFirstBroken ks how
+  pub before : All (λ k. NoneEnds k d) (take tx.0 kinds)

@@ -1,10 +1,11 @@
 //! Whether what is found of all orders is denied.
 
 ghost use Rattle.std.specs.Prelude.{◌≡◌, ◌<◌, ◌++◌, ◌^◌, All, IfNone, IfOk, IfSome, OnOk};
-ghost use Rattle.std.specs.Prelude.{Some, false, length, slice_index_or, string_bytes, true};
+ghost use Rattle.std.specs.Prelude.{Some, false, length, slice_index_or, string_bytes, take, true};
 ghost use Rattle.explore_law.specs.Explored.{Explored, shows};
 ghost use Rattle.run_interface.specs.Denied.{denies};
-ghost use Rattle.explore_runner.specs.Denying.{Ends, IsClear, IsFirst, IsPossible, IsSeen, NoneEnds, NothingDenied};
+ghost use Rattle.explore_runner.specs.Denying.{Ends, IsClear, IsFirst, IsFirstBroken, IsPossible, IsSeen, NoneEnds};
+ghost use Rattle.explore_runner.specs.Denying.{NothingDenied};
 ghost use Rattle.explore_runner.specs.Denying.{Waits, denial_by, denied_line, ending_word, ending_words};
 ghost use Rattle.explore_runner.specs.Denying.{find_words, kind_of_ending, turn_words, what};
 ghost use Rattle.explore_runner.specs.FoundText.{some_wait};
@@ -133,6 +134,7 @@ fn first_ending(catalogue: &Catalogue, kinds: &[Kinds], denial: Denial) -> Optio
 /// How some turn ends, of those whose kinds these are, of which this can be said.
 fn ending_of(kinds: &Kinds, denial: Denial) -> Option<Ending>
     ensures some { IfSome result (λ e. (shows kinds.now (kind_of_ending e) ≡ true) × (denial_by e ≡ denial)) }
+    ensures first { IfSome result (IsFirstBroken kinds.now) }
     ensures none { IfNone result (NoneEnds kinds.now denial) }
 {
     match denial {
@@ -152,6 +154,7 @@ fn ending_of(kinds: &Kinds, denial: Denial) -> Option<Ending>
 fn first_broken(broke: &[bool]) -> Option<AlwaysId>
     requires { length broke.now < 2 ^ 32 }
     ensures some { IfSome result (λ id. slice_index_or broke.now id.0 false ≡ true) }
+    ensures first { IfSome result (λ id. All (λ b. b ≡ false) (take id.0 broke.now)) }
     ensures none { IfNone result (All (λ b. b ≡ false) broke.now) }
 {
     'conditions: for k in 0..broke.len() {

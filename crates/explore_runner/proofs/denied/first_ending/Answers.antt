@@ -24,6 +24,8 @@ returns-in-Some-clause-some c =
       at = slice_get-get_or kinds k past c.transactions-test.true;
       shows = c.in-Some.ensures.some.0;
       denied = c.in-Some.ensures.some.1;
+      first = c.in-Some.ensures.first;
+      before = c.transactions.invariant;
     }
 
 pub transactions-preserved : goal.transactions-preserved

@@ -14,7 +14,14 @@ returns-then-some_wait-clause-some c =
     let e : End = c.index-ends-k.result in
     let there : some_wait (get_or ends k e).waiting.items ≡ true = ap some_wait (sym c.as_slice.ensures.value) ∙ (sym c.some_wait.ensures ∙ c.if-some_wait.true) in
     let waits : some_wait e.waiting.items ≡ true = subst (λ (x : End). some_wait x.waiting.items ≡ true) (sym c.index-ends-k.is) there in
-    (k, refl, (e, slice_get_read ends (length ends) k e refl c.ends-test.true c.index-ends-k.is, waits))
+    record {
+      place = k;
+      number = refl;
+      end = e;
+      at = slice_get_read ends (length ends) k e refl c.ends-test.true c.index-ends-k.is;
+      waits = waits;
+      before = c.ends.invariant;
+    }
 
 pub ends-preserved : goal.ends-preserved
 ends-preserved c =
