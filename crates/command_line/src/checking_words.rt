@@ -1,7 +1,8 @@
 //! The words of `stm check`, and of the pair behind which a file is to go on.
 
-use crate::words::{Request, of_file, required};
-use clap::{Arg, ArgMatches, Command};
+use crate::arguments::{Argument, command_of};
+use crate::words::Request;
+use clap::{ArgMatches, Command};
 use std::alloc::{AllocError, Global};
 
 /// A report to check.
@@ -50,24 +51,20 @@ const VERDICTS: &str = "Prints `good`, or `bad` and the first part that fails:\n
 const AFTER: &str =
     "The paths of file and report of the chapter before, where this one should go on";
 
-/// The names of the two.
-const NAMES: [&str; 2] = ["FILE0", "REPORT0"];
-
 /// The command `stm check`.
 #[inline(never)]
 pub(crate) fn check_command<'a>(alloc: Global) -> Result<Command<'a>, AllocError> {
-    let file = "The path of the file that was run";
-    let check = of_file(alloc, "check", CHECK, VERDICTS, file)?;
-    let check = check.arg(required(alloc, "REPORT", "The path of the report of it"))?;
-    check.arg(after(alloc, AFTER))
+    let arguments = [
+        Argument::required("FILE", "The path of the file that was run"),
+        Argument::required("REPORT", "The path of the report of it"),
+        after(AFTER),
+    ];
+    command_of(alloc, "check", CHECK, VERDICTS, &arguments)
 }
 
 /// The option `--after FILE0 REPORT0`.
-pub(crate) fn after<'a>(alloc: Global, help: &'a str) -> Arg<'a> {
-    Arg::new(alloc, "after")
-        .long("after")
-        .value_names(&NAMES)
-        .help(help)
+pub(crate) fn after<'a>(help: &'a str) -> Argument<'a> {
+    Argument::option("after", &["FILE0", "REPORT0"], help)
 }
 
 /// The pair that is named by `--after`, if one is.

@@ -1,8 +1,9 @@
 //! The words of `stm explain`.
 
+use crate::arguments::{Argument, command_of};
 use crate::checking_words::{Earlier, after, earlier_of};
-use crate::words::{Request, of_file};
-use clap::{Arg, ArgMatches, Command};
+use crate::words::Request;
+use clap::{ArgMatches, Command};
 use std::alloc::{AllocError, Global};
 
 /// What is to be explained.
@@ -66,26 +67,28 @@ const AFTER: &str =
 /// The command `stm explain`.
 #[inline(never)]
 pub(crate) fn explain_command<'a>(alloc: Global) -> Result<Command<'a>, AllocError> {
-    let file = "The path of the file to explain";
-    let explain = of_file(alloc, "explain", EXPLAIN, EXPLAINED, file)?;
-    let explain = explain.arg(report(alloc))?;
-    let explain = explain.arg(after(alloc, AFTER).requires_arg("REPORT")?)?;
-    explain.arg(schedule(alloc)?)
-}
-
-/// The argument `REPORT`.
-fn report<'a>(alloc: Global) -> Arg<'a> {
-    Arg::new(alloc, "REPORT").help("The path of a report of it, to explain in its place")
+    let arguments = [
+        Argument::required("FILE", "The path of the file to explain"),
+        Argument::optional(
+            "REPORT",
+            "The path of a report of it, to explain in its place",
+        ),
+        Argument {
+            needs: &["REPORT"],
+            ..after(AFTER)
+        },
+        schedule(),
+    ];
+    command_of(alloc, "explain", EXPLAIN, EXPLAINED, &arguments)
 }
 
 /// The option `--schedule SCHEDULE`, which no report goes with.
-fn schedule<'a>(alloc: Global) -> Result<Arg<'a>, AllocError> {
-    Arg::new(alloc, "schedule")
-        .long("schedule")
-        .value_name("SCHEDULE")
-        .help("The path of a schedule of it, to explain in its place")
-        .conflicts_with("REPORT")?
-        .conflicts_with("after")
+fn schedule<'a>() -> Argument<'a> {
+    let help = "The path of a schedule of it, to explain in its place";
+    Argument {
+        conflicts: &["REPORT", "after"],
+        ..Argument::option("schedule", &["SCHEDULE"], help)
+    }
 }
 
 /// A report, alone or behind an earlier pair.

@@ -1,7 +1,9 @@
 //! The words of `stm explore`.
 
-use crate::words::{Request, of_file, with_number};
-use clap::{Arg, ArgAction, ArgMatches, Command, value_parser};
+use crate::arguments::{Argument, command_of};
+use crate::words::Request;
+use clap::builder::ValueParser;
+use clap::{ArgAction, ArgMatches, Command};
 use run_interface::{Denial, Denials, Limit};
 use std::alloc::{AllocError, Global};
 
@@ -67,9 +69,6 @@ const FIND: &str =
     "Prints the report of a run whose last entry is a turn of the transaction TX that ends so, by as few turns \
      as any order";
 
-/// The names of the two words.
-const SOUGHT: [&str; 2] = ["TX", "OUTCOME"];
-
 const DENY: &str =
     "Ends with status 1 if some order comes to it: parked, an end at which a task waits, or a turn that ends \
      so; may be given more than once";
@@ -86,54 +85,44 @@ const STATES: &str = "How many states are looked at, at most, 1 to 16777216";
 /// The command `stm explore`.
 #[inline(never)]
 pub(crate) fn explore_command<'a>(alloc: Global) -> Result<Command<'a>, AllocError> {
-    let file = "The path of the file whose orders are seen";
-    let explore = of_file(alloc, "explore", EXPLORE, FOUND, file)?;
-    let explore = with_number(alloc, explore, "states", (1, 16_777_216), "1000000", STATES)?;
-    let explore = explore.arg(to(alloc))?;
-    let explore = explore.arg(finding(alloc)?)?;
-    let explore = explore.arg(deny(alloc)?)?;
-    explore.arg(dot(alloc)?)
-}
-
-/// The option `--to K`.
-fn to<'a>(alloc: Global) -> Arg<'a> {
-    Arg::new(alloc, "to")
-        .long("to")
-        .value_name("K")
-        .value_parser(value_parser!(u32).range(1..=16_777_216))
-        .help(TO)
+    let range = (1, 16_777_216);
+    let arguments = [
+        Argument::required("FILE", "The path of the file whose orders are seen"),
+        Argument::number_or("states", range, &["1000000"], STATES),
+        Argument::number("to", &["K"], range, TO),
+        finding(),
+        deny(),
+        dot(),
+    ];
+    command_of(alloc, "explore", EXPLORE, FOUND, &arguments)
 }
 
 /// The option `--find TX OUTCOME`, which no end goes with.
-fn finding<'a>(alloc: Global) -> Result<Arg<'a>, AllocError> {
-    Arg::new(alloc, "find")
-        .long("find")
-        .value_names(&SOUGHT)
-        .help(FIND)
-        .conflicts_with("to")
+fn finding<'a>() -> Argument<'a> {
+    Argument {
+        conflicts: &["to"],
+        ..Argument::option("find", &["TX", "OUTCOME"], FIND)
+    }
 }
 
 /// The option `--deny WHAT`, which neither goes with.
-fn deny<'a>(alloc: Global) -> Result<Arg<'a>, AllocError> {
-    Arg::new(alloc, "deny")
-        .long("deny")
-        .value_name("WHAT")
-        .value_parser(DENIALS.as_slice())
-        .action(ArgAction::Append)
-        .help(DENY)
-        .conflicts_with("to")?
-        .conflicts_with("find")
+fn deny<'a>() -> Argument<'a> {
+    Argument {
+        parser: ValueParser::Names(&DENIALS),
+        action: ArgAction::Append,
+        conflicts: &["to", "find"],
+        ..Argument::option("deny", &["WHAT"], DENY)
+    }
 }
 
 /// The option `--dot`, which no other of these goes with.
-fn dot<'a>(alloc: Global) -> Result<Arg<'a>, AllocError> {
-    Arg::new(alloc, "dot")
-        .long("dot")
-        .action(ArgAction::SetTrue)
-        .help(DOT)
-        .conflicts_with("to")?
-        .conflicts_with("find")?
-        .conflicts_with("deny")
+fn dot<'a>() -> Argument<'a> {
+    Argument {
+        parser: ValueParser::Bool,
+        action: ArgAction::SetTrue,
+        conflicts: &["to", "find", "deny"],
+        ..Argument::option("dot", &[], DOT)
+    }
 }
 
 /// What is denied by these words.

@@ -8,6 +8,7 @@
 #![tactic(auto)]
 
 mod answer;
+mod arguments;
 mod checking_words;
 mod errors;
 mod explaining_words;

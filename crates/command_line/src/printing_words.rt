@@ -1,7 +1,8 @@
 //! The words of `stm print`.
 
-use crate::words::{Request, of_file};
-use clap::{Arg, ArgMatches, Command};
+use crate::arguments::{Argument, command_of};
+use crate::words::Request;
+use clap::{ArgMatches, Command};
 use std::alloc::{AllocError, Global};
 
 /// A file to print.
@@ -41,29 +42,24 @@ const PRINTED: &str = "Printing what was printed changes nothing. Comments are l
 /// The command `stm print`.
 #[inline(never)]
 pub(crate) fn print_command<'a>(alloc: Global) -> Result<Command<'a>, AllocError> {
-    let file = "The path of the file to print";
-    let print = of_file(alloc, "print", PRINT, PRINTED, file)?;
-    let print = print.arg(from(alloc))?;
-    print.arg(after(alloc)?)
-}
-
-/// The option `--from REPORT`.
-fn from<'a>(alloc: Global) -> Arg<'a> {
-    Arg::new(alloc, "from")
-        .long("from")
-        .value_name("REPORT")
-        .help("The path of a report of the file, at whose present values variables and cells begin")
+    let from =
+        "The path of a report of the file, at whose present values variables and cells begin";
+    let arguments = [
+        Argument::required("FILE", "The path of the file to print"),
+        Argument::option("from", &["REPORT"], from),
+        after(),
+    ];
+    command_of(alloc, "print", PRINT, PRINTED, &arguments)
 }
 
 /// The option `--after REPORT`, which `--from` does not go with.
-fn after<'a>(alloc: Global) -> Result<Arg<'a>, AllocError> {
-    Arg::new(alloc, "after")
-        .long("after")
-        .value_name("REPORT")
-        .help(
-            "The path of a report of the file, where the next chapter begins, with the parked tasks",
-        )
-        .conflicts_with("from")
+fn after<'a>() -> Argument<'a> {
+    let help =
+        "The path of a report of the file, where the next chapter begins, with the parked tasks";
+    Argument {
+        conflicts: &["from"],
+        ..Argument::option("after", &["REPORT"], help)
+    }
 }
 
 /// What the words ask for.

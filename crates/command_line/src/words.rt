@@ -1,15 +1,13 @@
 //! The command line.
-//!
-//! What makes a command of `clap` is not inlined: it has some 700 bytes, and each step of its making takes as
-//! much of the stack for itself, which a call gives back before the next one.
 
+use crate::arguments::{Argument, command_of, described};
 use crate::checking_words::{Check, check_command, wanted_check};
 use crate::explaining_words::{Explain, explain_command, wanted_explanation};
 use crate::exploring_words::{Orders, explore_command, wanted_orders};
 use crate::printing_words::{Print, print_command, wanted_print};
 use clap::error::ErrorKind;
 use clap::parser::ValueSource;
-use clap::{Arg, ArgMatches, Command, Error, value_parser};
+use clap::{ArgMatches, Command, Error, value_parser};
 use run_interface::{MAX_CHECKPOINT, MAX_TRIES, MAX_WORKERS, Options};
 use std::alloc::{AllocError, Global};
 
@@ -152,10 +150,26 @@ fn command<'a>(alloc: Global, words: &[String]) -> Result<Command<'a>, AllocErro
     let mut stm = root(alloc, all);
     for name in NAMES {
         if all || name == named {
-            stm = stm.subcommand(subcommand(alloc, name)?)?;
+            stm = with_subcommand(alloc, stm, name)?;
         }
     }
     Ok(stm)
+}
+
+/// The command with the subcommand of this name, too.
+#[inline(never)]
+fn with_subcommand<'a>(
+    alloc: Global,
+    stm: Command<'a>,
+    name: &str,
+) -> Result<Command<'a>, AllocError> {
+    match subcommand(alloc, name) {
+        Ok(one) => stm.subcommand(one),
+        Err(error) => {
+            drop(stm);
+            Err(error)
+        }
+    }
 }
 
 /// The subcommand of one of these names.
@@ -180,88 +194,47 @@ fn root<'a>(alloc: Global, helps: bool) -> Command<'a> {
         .disable_help_subcommand(!helps)
 }
 
-/// A command of this name, what it does, and what its help ends with.
-fn described<'a>(alloc: Global, name: &'a str, about: &'a str, after: &'a str) -> Command<'a> {
-    Command::new(alloc, name).about(about).after_help(after)
-}
-
-/// The same of a command on a file, with what the file is.
-#[inline(never)]
-pub(crate) fn of_file<'a>(
-    alloc: Global,
-    name: &'a str,
-    about: &'a str,
-    after: &'a str,
-    file: &'a str,
-) -> Result<Command<'a>, AllocError> {
-    described(alloc, name, about, after).arg(required(alloc, "FILE", file))
-}
-
-/// An argument that has to be given, by its place.
-pub(crate) fn required<'a>(alloc: Global, name: &'a str, help: &'a str) -> Arg<'a> {
-    Arg::new(alloc, name).required(true).help(help)
-}
-
 /// The command `stm run`.
 #[inline(never)]
 fn run_command<'a>(alloc: Global) -> Result<Command<'a>, AllocError> {
-    let run = of_file(alloc, "run", RUN, EXAMPLE, "The path of the file to run")?;
-    let run = with_number(alloc, run, "workers", (1, MAX_WORKERS), "4", WORKERS)?;
-    let run = with_number(alloc, run, "tries", (1, MAX_TRIES), "8", TRIES)?;
-    let run = with_number(
-        alloc,
-        run,
-        "checkpoint",
-        (0, MAX_CHECKPOINT),
-        "0",
-        CHECKPOINT,
-    )?;
-    run.arg(seed(alloc))
+    let arguments = [
+        Argument::required("FILE", "The path of the file to run"),
+        Argument::number_or("workers", (1, MAX_WORKERS), &["4"], WORKERS),
+        Argument::number_or("tries", (1, MAX_TRIES), &["8"], TRIES),
+        Argument::number_or("checkpoint", (0, MAX_CHECKPOINT), &["0"], CHECKPOINT),
+        seed(),
+    ];
+    command_of(alloc, "run", RUN, EXAMPLE, &arguments)
 }
 
 /// The option `--seed N`.
-fn seed<'a>(alloc: Global) -> Arg<'a> {
-    Arg::new(alloc, "seed")
-        .long("seed")
-        .value_name("N")
-        .value_parser(value_parser!(u64))
-        .help(SEED)
-}
-
-/// The command with the option `--NAME N` of a number in this range, ends included, with this one where it
-/// is left out.
-#[inline(never)]
-pub(crate) fn with_number<'a>(
-    alloc: Global,
-    command: Command<'a>,
-    name: &'a str,
-    range: (u32, u32),
-    default: &'a str,
-    help: &'a str,
-) -> Result<Command<'a>, AllocError> {
-    command.arg(
-        Arg::new(alloc, name)
-            .long(name)
-            .value_name("N")
-            .value_parser(value_parser!(u32).range(i64::from(range.0)..=i64::from(range.1)))
-            .default_value(default)
-            .help(help),
-    )
+fn seed<'a>() -> Argument<'a> {
+    Argument {
+        parser: value_parser!(u64),
+        ..Argument::option("seed", &["N"], SEED)
+    }
 }
 
 /// The command `stm world`.
 #[inline(never)]
 fn world_command<'a>(alloc: Global) -> Result<Command<'a>, AllocError> {
-    let file = "The path of the file whose tasks take part";
-    let world = of_file(alloc, "world", WORLD, SEEN, file)?;
-    world.arg(required(alloc, "SCHEDULE", "The path of the schedule to play").long_help(SCHEDULE))
+    let arguments = [
+        Argument::required("FILE", "The path of the file whose tasks take part"),
+        Argument {
+            long_help: Some(SCHEDULE),
+            ..Argument::required("SCHEDULE", "The path of the schedule to play")
+        },
+    ];
+    command_of(alloc, "world", WORLD, SEEN, &arguments)
 }
 
 /// What the words ask for. An `Err` has the text to show: help or the version, where it was asked for,
 /// or what is wrong with the words.
 pub(crate) fn parse<'a>(alloc: Global, words: &'a [String]) -> Result<Request<'a>, Error> {
     let mut command = command(alloc, words)?;
-    request_by(&mut command, words)
+    let request = request_by(&mut command, words);
+    drop(command);
+    request
 }
 
 /// What the words ask of this command.
