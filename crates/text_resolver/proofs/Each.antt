@@ -3,8 +3,12 @@ use Rattle.std.proofs.Common.{◌≡◌, ℕ, ◌+◌, ◌<◌, List, [], ◌∷
 use Rattle.std.proofs.Math.Seq.{drop-cons}
 use Rattle.std.proofs.lemmas.List.{append-nil}
 use Rattle.text_words.specs.declared.fault.ReadFault.{ReadFault}
-use Rattle.text_words.specs.Answers.{◌>>=◌, Fails}
-use Rattle.text_grammar.specs.Resolving.{each}
+use Rattle.std.specs.Result.{result_and}
+use Rattle.text_words.specs.Answers.{◌>>=◌, Fails, Gives}
+use Rattle.txn_programs.specs.declared.ast.Span.{Span}
+use Rattle.txn_programs.specs.declared.ast.Table.{Table}
+use Rattle.txn_programs.specs.Listing.{table_of as listed}
+use Rattle.text_grammar.specs.Resolving.{each, span_behind, spans_in}
 use Rattle.text_words.proofs.Steps.{done}
 use Rattle.text_words.proofs.Many.{failed}
 
@@ -41,7 +45,7 @@ nothing_left (x ∷ xs) h = absurd (omega arith)
 pub next_at : {X : Type 0} (xs : List X) (i : ℕ) (d : X) → i < length xs → drop i xs ≡ get_or xs i d ∷ drop (i + 1) xs
 next_at xs i d lt = drop-cons xs i d lt ∙ ap (λ k. get_or xs i d ∷ drop k xs) (sym (add-one i))
 
-next_item : {X : Type 0} (xs : List X) (i : ℕ) (x : X) → i < length xs → x ≡ get_or xs i x → drop i xs ≡ x ∷ drop (i + 1) xs
+pub next_item : {X : Type 0} (xs : List X) (i : ℕ) (x : X) → i < length xs → x ≡ get_or xs i x → drop i xs ≡ x ∷ drop (i + 1) xs
 next_item xs i x lt is = next_at xs i x lt ∙ ap (λ y. y ∷ drop (i + 1) xs) (sym is)
 
 -- one turn of the loop, which keeps what is made so far behind the front
@@ -49,3 +53,22 @@ pub loop_more : {X A B : Type 0} (one : A → Result B ReadFault) (v : X → A) 
     → one (v x) ≡ Ok y → joined front (each one (map v (drop i xs))) ≡ total → joined (front ++ y ∷ []) (each one (map v (drop (i + 1) xs))) ≡ total
 loop_more one v front xs i x y total lt is given so_far =
     each_more one front (v x) (map v (drop (i + 1) xs)) y total given (ap (λ zs. joined front (each one (map v zs))) (sym (next_item xs i x lt is)) ∙ so_far)
+
+-- a turn that fails, as the whole does
+pub loop_fails : {X A B : Type 0} (e : ReadFault) (one : A → Result B ReadFault) (v : X → A) (front : List B) (xs : List X) (i : ℕ) (x : X) (total : Result (List B) ReadFault) → i < length xs → x ≡ get_or xs i x
+    → Fails e (one (v x)) → joined front (each one (map v (drop i xs))) ≡ total → Fails e total
+loop_fails e one v front xs i x total lt is fails so_far =
+    each_fails e one front (v x) (map v (drop (i + 1) xs)) total fails (ap (λ zs. joined front (each one (map v zs))) (sym (next_item xs i x lt is)) ∙ so_far)
+
+-- what was filled, where nothing failed
+pub filled : {U X Y : Type 0} (view : X → Y) (told : Result U ReadFault) (made : X) (total : Result Y ReadFault) → Gives (λ (_ : U). view made) told total → Gives view (result_and told (Ok made)) total
+filled view (Ok u) made total h = h
+filled view (Err e) made total h = h
+
+-- the same of spans, each of which begins behind the one before
+pub span_fails : (e : ReadFault) (front : List Span) (next : ℕ) (tables : List Table) (i : ℕ) (t : Table) (total : Result (List Span) ReadFault) → i < length tables → t ≡ get_or tables i t
+    → Fails e (span_behind next (listed t).1) → joined front (spans_in next (map listed (drop i tables))) ≡ total → Fails e total
+span_fails e front next tables i t total lt is fails so_far =
+    let rest = λ (span : Span). spans_in (next + (listed t).1) (map listed (drop (i + 1) tables)) >>= λ spans. Ok (span ∷ spans) in
+    failed e (span_behind next (listed t).1) (λ span. joined front (rest span)) total fails
+    (sym (twice front (span_behind next (listed t).1) rest) ∙ ap (λ zs. joined front (spans_in next (map listed zs))) (sym (next_item tables i t lt is)) ∙ so_far)

@@ -1,5 +1,5 @@
 -- Names as texts: where they stand, and where they are used.
-use Rattle.std.proofs.Common.{◌≡◌, ℕ, ◌+◌, ◌<◌, not, Bool, true, false, ◌&&◌, ◌||◌, cond, Some, None, List, [], ◌∷◌, ◌++◌, length, get_or, drop, map, Bor, String, Global, string_bytes, nat_eq, vec_len, Ok, Err, refl, sym, ap, ◌∙◌, append_assoc, arith, ◌⊎◌, inl, inr}
+use Rattle.std.proofs.Common.{◌≡◌, ℕ, ◌+◌, ◌<◌, not, Bool, true, false, ◌&&◌, ◌||◌, cond, Some, None, List, [], ◌∷◌, ◌++◌, length, get_or, drop, map, Bor, Result, String, Global, string_bytes, nat_eq, vec_len, Ok, Err, refl, sym, ap, ◌∙◌, append_assoc, arith, ◌⊎◌, inl, inr}
 use Rattle.std.specs.Prelude.{position, bytes_eq, nat_lt, is_some}
 use Rattle.std.specs.List.{list_all, list_any, position_or_len}
 use Rattle.std.proofs.lemmas.Bool.{and_parts}
@@ -21,7 +21,7 @@ use Rattle.indexmap.specs.IndexSet.{insert_key}
 use Rattle.text_words.specs.declared.fault.ReadFault.{ReadFault}
 use Rattle.text_words.specs.declared.fault.ReadFault.TheVariants as faults
 use Rattle.text_words.proofs.Steps.{bind_ok, chosen, ok_is}
-use Rattle.text_resolver.proofs.Each.{next_at}
+use Rattle.text_resolver.proofs.Each.{next_at, next_item}
 use Rattle.text_grammar.specs.Resolving.{is_known, always_known, tx_known, tx_name, run_known, uses_known, declared_one, declared_after}
 use Rattle.text_words.specs.Answers.{◌>>=◌, Fails}
 use Rattle.text_words.proofs.Many.{failed}
@@ -101,6 +101,13 @@ declared_are earlier (name ∷ rest) all e =
     let b = bind_ok (declared_one earlier name) (λ more. declared_after more rest) all e in
     let first = one_declared earlier b.0 name b.1 in
     declared_are b.0 rest all b.2 ∙ ap (λ xs. xs ++ rest) first.1 ∙ append_assoc earlier (name ∷ []) rest
+
+-- a name that is refused, as the whole list is
+pub names_fail : {A X : Type 0} (e : ReadFault) (name : A → List ℕ) (view : X → A) (earlier : List (List ℕ)) (xs : List X) (i : ℕ) (x : X) (total : Result (List (List ℕ)) ReadFault) → i < length xs → x ≡ get_or xs i x
+    → Fails e (declared_one earlier (name (view x))) → declared_after earlier (map name (map view (drop i xs))) ≡ total → Fails e total
+names_fail e name view earlier xs i x total lt is fails so_far =
+    failed e (declared_one earlier (name (view x))) (λ more. declared_after more (map name (map view (drop (i + 1) xs)))) total fails
+    (ap (λ zs. declared_after earlier (map name (map view zs))) (sym (next_item xs i x lt is)) ∙ so_far)
 
 -- ---- parameters
 

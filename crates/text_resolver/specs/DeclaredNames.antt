@@ -17,6 +17,9 @@ pub record DeclaredNames : Type 0 where
 abbrev pub view_declared : Sets → DeclaredNames
 view_declared s = record { variables = texts s.vars.keys; tables = texts s.tables.keys; transactions = texts s.txs.keys }
 
+abbrev pub no_names : DeclaredNames
+no_names = record { variables = []; tables = []; transactions = [] }
+
 -- those of a file, where none of a kind comes twice, be they of conditions
 abbrev pub declared_in : File → Result DeclaredNames ReadFault
 declared_in file =

@@ -1,13 +1,16 @@
 //! What a file declares, and whether it uses only that.
 
-ghost use Rattle.std.specs.Prelude.{◌≡◌, true, Ok, IfOk, IfErr, map};
+ghost use Rattle.std.specs.Prelude.{◌≡◌, [], true, Ok, IfOk, IfErr, map};
 ghost use Rattle.text_words.specs.Answers.{Gives, Fails};
 ghost use Rattle.text_grammar.specs.Resolving.{tx_name, uses_known, resolved};
 ghost use Rattle.text_grammar.specs.View.{view_file};
-ghost use Rattle.text_resolver.specs.DeclaredNames.{view_declared, declared_in, known_scope, converted_by};
+ghost use Rattle.text_resolver.specs.Texts.{texts};
+ghost use Rattle.text_resolver.specs.DeclaredNames.{no_names, view_declared, declared_in, known_scope, converted_by};
 
-use crate::names::{Scope, condition_names, tx_names, uses_known, var_names};
-use crate::tables::table_names;
+use crate::names::{
+    Scope, declare_conditions, declare_transactions, declare_variables, uses_known,
+};
+use crate::tables::declare_tables;
 use indexmap::IndexSet;
 use std::alloc::Global;
 use text_grammar::file::RawFile;
@@ -21,15 +24,35 @@ pub(crate) struct DeclaredNames<'a> {
     pub(crate) txs: IndexSet<&'a str>,
 }
 
+/// Adds the names of each kind. It fails by `Name` where one of a kind comes twice.
+fn declare_all<'a>(
+    names: &mut DeclaredNames<'a>,
+    conditions: &mut IndexSet<&'a str>,
+    file: &RawFile<'a>,
+) -> Result<(), ReadFault>
+    requires none { view_declared names.old ≡ no_names }
+    requires no_conditions { texts conditions.old.keys ≡ [] }
+    ensures { Gives (λ _. view_declared names.new) result (declared_in (view_file file.now)) }
+{
+    declare_variables(&mut names.vars, &file.vars)?;
+    declare_tables(&mut names.tables, &file.tables)?;
+    declare_conditions(conditions, &file.always)?;
+    declare_transactions(&mut names.txs, &file.txs)
+}
+
 /// The names of each kind, where none of a kind is declared twice.
 fn declared_names<'a>(alloc: Global, file: &RawFile<'a>) -> Result<DeclaredNames<'a>, ReadFault>
     ensures { Gives view_declared result (declared_in (view_file file.now)) }
 {
-    let vars = var_names(alloc, &file.vars)?;
-    let tables = table_names(alloc, &file.tables)?;
-    condition_names(alloc, &file.always)?;
-    let txs = tx_names(alloc, &file.txs)?;
-    Ok(DeclaredNames { vars, tables, txs })
+    let mut names = DeclaredNames {
+        vars: IndexSet::new(alloc),
+        tables: IndexSet::new(alloc),
+        txs: IndexSet::new(alloc),
+    };
+    let mut conditions = IndexSet::new(alloc);
+    let declared = declare_all(&mut names, &mut conditions, file);
+    drop(conditions);
+    declared.and(Ok(names))
 }
 
 /// Whether only declared names are used, and each as it is declared. Memory alone can fail it.
@@ -49,7 +72,9 @@ fn names_known(
         spans: &[],
         params: &params,
     };
-    uses_known(alloc, &outer, &names.txs, file)
+    let known = uses_known(alloc, &outer, &names.txs, file);
+    drop(params);
+    known
 }
 
 /// The names of each kind, where each is declared once and only declared ones are used.

@@ -45,41 +45,54 @@ pub fn declare<'a>(names: &mut IndexSet<&'a str>, name: &'a str) -> Result<(), R
     }
 }
 
+/// Adds the names of variables, in their order.
+pub(crate) fn declare_variables<'a>(
+    names: &mut IndexSet<&'a str>,
+    pairs: &[RawPair<'a>],
+) -> Result<(), ReadFault>
+    ensures { Gives (λ _. texts names.new.keys) result
+        (declared_after (texts names.old.keys) (map pair_name (view_pairs pairs.now))) }
+{
+    'pairs: for pair in pairs {
+        declare(names, pair.name)?;
+    }
+    Ok(())
+}
+
 /// The names of variables, in their order. It fails by `Name` where one comes twice.
 pub fn var_names<'a>(alloc: Global, pairs: &[RawPair<'a>]) -> Result<IndexSet<&'a str>, ReadFault>
     ensures { Gives (λ names. texts names.keys) result (declared_after [] (map pair_name (view_pairs pairs.now))) }
 {
     let mut names = IndexSet::new(alloc);
-    'pairs: for pair in pairs {
-        declare(&mut names, pair.name)?;
-    }
-    Ok(names)
+    declare_variables(&mut names, pairs).and(Ok(names))
 }
 
-/// The names of conditions, in their order.
-pub(crate) fn condition_names<'a>(
-    alloc: Global,
+/// Adds the names of conditions, in their order.
+pub(crate) fn declare_conditions<'a>(
+    names: &mut IndexSet<&'a str>,
     conditions: &[RawAlways<'a>],
-) -> Result<IndexSet<&'a str>, ReadFault>
-    ensures { Gives (λ names. texts names.keys) result
-        (declared_after [] (map condition_name (view_conditions conditions.now))) }
+) -> Result<(), ReadFault>
+    ensures { Gives (λ _. texts names.new.keys) result
+        (declared_after (texts names.old.keys) (map condition_name (view_conditions conditions.now))) }
 {
-    let mut names = IndexSet::new(alloc);
     'conditions: for condition in conditions {
-        declare(&mut names, condition.name)?;
+        declare(names, condition.name)?;
     }
-    Ok(names)
+    Ok(())
 }
 
-/// The names of transactions, in their order.
-pub(crate) fn tx_names<'a>(alloc: Global, txs: &[RawTx<'a>]) -> Result<IndexSet<&'a str>, ReadFault>
-    ensures { Gives (λ names. texts names.keys) result (declared_after [] (map tx_name (view_txs txs.now))) }
+/// Adds the names of transactions, in their order.
+pub(crate) fn declare_transactions<'a>(
+    names: &mut IndexSet<&'a str>,
+    txs: &[RawTx<'a>],
+) -> Result<(), ReadFault>
+    ensures { Gives (λ _. texts names.new.keys) result
+        (declared_after (texts names.old.keys) (map tx_name (view_txs txs.now))) }
 {
-    let mut names = IndexSet::new(alloc);
     'txs: for tx in txs {
-        declare(&mut names, tx.name)?;
+        declare(names, tx.name)?;
     }
-    Ok(names)
+    Ok(())
 }
 
 /// The place of a name.
@@ -100,6 +113,24 @@ pub(crate) fn is_known(names: &IndexSet<&str>, name: &str) -> bool
     place_of(names, name).is_some()
 }
 
+/// Adds the names of a transaction's parameters, in their order.
+fn declare_parameters<'a>(
+    names: &mut IndexSet<&'a str>,
+    vars: &IndexSet<&str>,
+    params: &[&'a str],
+) -> Result<(), ReadFault>
+    requires none { texts names.old.keys ≡ [] }
+    ensures { Gives (λ _. texts names.new.keys) result (parameters_behind (texts vars.now.keys) (view_names params.now)) }
+{
+    'params: for name in params {
+        if is_known(vars, *name) {
+            return Err(ReadFault::Name);
+        }
+        declare(names, *name)?;
+    }
+    Ok(())
+}
+
 /// The names of a transaction's parameters, in their order. It fails by `Name` where one is a variable's name or comes
 /// twice.
 pub fn param_names<'a>(
@@ -111,14 +142,7 @@ pub fn param_names<'a>(
         (parameters_behind (texts vars.now.keys) (view_names params.now)) }
 {
     let mut names = IndexSet::new(alloc);
-    'params: for name in params {
-        if is_known(vars, *name) {
-            drop(names);
-            return Err(ReadFault::Name);
-        }
-        declare(&mut names, *name)?;
-    }
-    Ok(names)
+    declare_parameters(&mut names, vars, params).and(Ok(names))
 }
 
 fn expr_known(scope: &Scope<'_, '_>, e: &RawExpr<'_>) -> bool
@@ -193,7 +217,9 @@ fn tx_known(alloc: Global, outer: &Scope<'_, '_>, tx: &RawTx<'_>) -> Result<bool
                 spans: outer.spans,
                 params: &params,
             };
-            Ok(stmt_known(&scope, &tx.body) && expr_known(&scope, &tx.value))
+            let known = stmt_known(&scope, &tx.body) && expr_known(&scope, &tx.value);
+            drop(params);
+            Ok(known)
         }
         Err(ReadFault::Name) => Ok(false),
         Err(fault) => Err(fault),

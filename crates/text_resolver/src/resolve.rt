@@ -174,8 +174,13 @@ fn comparison(
         (condition_in (view_scope scope.now) (Compare op (view_expr left.now) (view_expr right.now))) }
 {
     let left = expression(alloc, scope, left)?;
-    let right = expression(alloc, scope, right)?;
-    Ok(compare(op, left, right))
+    match expression(alloc, scope, right) {
+        Ok(right) => Ok(compare(op, left, right)),
+        Err(fault) => {
+            drop(left);
+            Err(fault)
+        }
+    }
 }
 
 /// The condition that is made of two.
@@ -244,8 +249,13 @@ fn putting(
 {
     let span = table(scope, name)?;
     let index = expression(alloc, scope, index)?;
-    let value = expression(alloc, scope, value)?;
-    Ok(Stmt::Put(span, index, value))
+    match expression(alloc, scope, value) {
+        Ok(value) => Ok(Stmt::Put(span, index, value)),
+        Err(fault) => {
+            drop(index);
+            Err(fault)
+        }
+    }
 }
 
 fn throwing(alloc: Global, scope: &Scope<'_, '_>, value: &RawExpr<'_>) -> Result<Stmt, ReadFault>

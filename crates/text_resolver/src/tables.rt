@@ -21,15 +21,26 @@ use text_words::ReadFault;
 use text_words::numeral::Numeral;
 use txn_programs::{Cells, Span, Table};
 
+/// Adds the names of tables, in their order.
+pub(crate) fn declare_tables<'a>(
+    names: &mut IndexSet<&'a str>,
+    raw: &[RawTable<'a>],
+) -> Result<(), ReadFault>
+    ensures { Gives (λ _. texts names.new.keys) result
+        (declared_after (texts names.old.keys) (map table_name (view_tables raw.now))) }
+{
+    'tables: for table in raw {
+        declare(names, table.name)?;
+    }
+    Ok(())
+}
+
 /// The names of tables, in their order. It fails by `Name` where one comes twice.
 pub fn table_names<'a>(alloc: Global, raw: &[RawTable<'a>]) -> Result<IndexSet<&'a str>, ReadFault>
     ensures { Gives (λ names. texts names.keys) result (declared_after [] (map table_name (view_tables raw.now))) }
 {
     let mut names = IndexSet::new(alloc);
-    'tables: for table in raw {
-        declare(&mut names, table.name)?;
-    }
-    Ok(names)
+    declare_tables(&mut names, raw).and(Ok(names))
 }
 
 /// The cells of a declared table. It fails by `Name` where none of this name is declared.

@@ -1,4 +1,4 @@
-use Rattle.std.proofs.Common.{◌≡◌, ◌∙◌, ap, sym}
+use Rattle.std.proofs.Common.{◌≡◌, ◌∙◌, ap, sym, map}
 use Rattle.std.proofs.lemmas.Result.{err_from_is_err_and}
 use Rattle.txn_programs.specs.Tree as plain
 use Rattle.txn_programs.proofs.Rows.{statement_Seq}
@@ -11,6 +11,8 @@ use Rattle.text_words.proofs.Many.{failed}
 use Rattle.text_words.proofs.Steps.{done}
 use Rattle.text_resolver.proofs.Parts.{seq_is, chain_is}
 use Rattle.text_grammar.proofs.Views.{view_seq}
+use Rattle.text_resolver.proofs.Each.{loop_fails}
+use Rattle.txn_programs.specs.Tree.{statement_of}
 use Rattle.text_resolver.proofs.resolve.+resolving.Goals as goal
 
 pub statement-returns-in-Seq : goal.statement-returns-in-Seq
@@ -30,3 +32,11 @@ sequence-returns t c =
     let scope = view_scope c.args.scope.now in
     let parts = c.in_ok-parts.parts in
     seq_is scope (view_stmts c.args.parts.now) ∙ rw c.in_ok-parts.ensures (ap done (ap plain.Seq (sym (chain_is parts.items)) ∙ sym (statement_Seq parts)))
+
+pub statements-returns-in_err-statement : goal.statements-returns-in_err-statement
+statements-returns-in_err-statement t c =
+    let p = err_from_is_err_and c.from_residual-in_err-statement.result c.from_residual-in_err-statement.ensures.1 in
+    let xs = c.args.parts.now in
+    let one = statement_in (view_scope c.args.scope.now) in
+    rw (p.1, p.2) (loop_fails _ one view_stmt (map statement_of c.parts.made.items) xs c.parts.part-index c.part-item.result (each one (view_stmts xs))
+    c.parts-test.true c.part-item.is c.in_err-statement.ensures c.parts.invariant)

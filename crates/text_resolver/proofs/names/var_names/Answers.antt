@@ -1,0 +1,6 @@
+use Rattle.text_resolver.proofs.Each.{filled}
+use Rattle.text_resolver.specs.Texts.{texts}
+use Rattle.text_resolver.proofs.names.var_names.Goals as goal
+
+pub returns : goal.returns
+returns c = rw c.and.ensures (filled (λ names. texts names.keys) c.declare_variables.result c.declare_variables.new.names _ (rw c.new-names.ensures.empty at c.declare_variables.ensures))
