@@ -2,7 +2,6 @@
 
 use checker::{Part, Verdict, check};
 use std::alloc::Global;
-use std::process::Abort;
 
 /// Two increments of one variable.
 pub(crate) const FILE: &str = "(var x 5)(tx inc (set x (add x 1)) x)(run inc 2)";
@@ -25,26 +24,5 @@ pub(crate) fn failed(alloc: Global, file: &str, report: &[u8]) -> Option<u8> {
         Ok(Verdict::Good) => Some(0),
         Ok(Verdict::Bad(part)) => Some(part.number()),
         Err(_) => None,
-    }
-}
-
-/// Each of these reports of a file fails this part first, and is lawful where it is 0.
-pub(crate) fn expect_parts(
-    rt: &(impl Abort + Eprint),
-    alloc: Global,
-    file: &str,
-    reports: &[(&str, u8)],
-) {
-    for (report, part) in reports {
-        let is_so = failed(alloc, file, report.as_bytes()) == Some(*part);
-        assert!(rt; is_so, "of {report}");
-    }
-}
-
-/// Whether the report of a file can't be read.
-pub(crate) fn is_unread(alloc: Global, file: &str, report: &[u8]) -> bool {
-    match check(alloc, file.as_bytes(), report) {
-        Ok(verdict) => verdict == Verdict::Bad(Part::Text),
-        Err(_) => false,
     }
 }

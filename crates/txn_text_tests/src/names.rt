@@ -28,12 +28,12 @@ fn others_have_none(catalogue: &Catalogue) -> bool {
         && always_name(catalogue, AlwaysId(u32::MAX)).is_empty()
 }
 
-#[test]
-fn names_are_those_of_the_file(rt: HostRuntime) {
-    assert!(rt; is_file(rt.alloc(), DECLARED, are_named));
+/// Whether what there is has its name, and nothing else has one.
+fn are_names_of_the_file(catalogue: &Catalogue) -> bool {
+    are_named(catalogue) && others_have_none(catalogue)
 }
 
 #[test]
-fn what_there_is_not_has_no_name(rt: HostRuntime) {
-    assert!(rt; is_file(rt.alloc(), DECLARED, others_have_none));
+fn names_are_those_of_the_file(rt: HostRuntime) {
+    assert!(rt; is_file(rt.alloc(), DECLARED, are_names_of_the_file));
 }

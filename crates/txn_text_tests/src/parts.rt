@@ -1,6 +1,6 @@
 //! Catalogues and texts of the tests, and why texts are refused.
 
-use std::alloc::{AllocError, Global};
+use std::alloc::Global;
 use std::process::Abort;
 use text_line_reader::{read_report, read_schedule};
 use txn::{Catalogue, Move};
@@ -88,51 +88,18 @@ pub(crate) fn fault(alloc: Global, kind: Kind, text: &[u8]) -> Option<ReadFault>
     }
 }
 
-/// Each text is refused so, or read where that is `None`.
+/// Each text is refused so.
 pub(crate) fn expect_faults(
     rt: &(impl Abort + Eprint),
     alloc: Global,
     kind: Kind,
-    texts: &[&str],
-    want: Option<ReadFault>,
+    texts: &[(&[u8], ReadFault)],
 ) {
-    for text in texts {
-        assert_eq!(rt; fault(alloc, kind, text.as_bytes()), want, "of {text}");
-    }
-}
-
-/// So many newlines and then these bytes.
-fn newlines(alloc: Global, count: usize, rest: &[u8]) -> Result<Vec<u8>, AllocError> {
-    let mut text = Vec::from_elem(alloc, b'\n', count)?;
-    text.extend_from_slice(rest)?;
-    Ok(text)
-}
-
-/// Why such a text is refused, if it is.
-pub(crate) fn long_fault(
-    alloc: Global,
-    kind: Kind,
-    count: usize,
-    rest: &[u8],
-) -> Option<ReadFault> {
-    match newlines(alloc, count, rest) {
-        Ok(text) => fault(alloc, kind, &text),
-        Err(_) => Some(ReadFault::Memory),
-    }
-}
-
-/// Each beginning of the text is refused by its shape, but for those of these lengths, which are
-/// read.
-pub(crate) fn expect_beginnings(
-    rt: &(impl Abort + Eprint),
-    alloc: Global,
-    kind: Kind,
-    text: &[u8],
-    read: &[usize],
-) {
-    for length in 0..text.len() {
-        let shape = Some(ReadFault::Shape);
-        let want = if read.contains(&length) { None } else { shape };
-        assert_eq!(rt; fault(alloc, kind, &text[..length]), want, "of {length}");
+    for (text, want) in texts {
+        assert!(rt;
+            fault(alloc, kind, text) == Some(*want),
+            "of {}",
+            text.len()
+        );
     }
 }

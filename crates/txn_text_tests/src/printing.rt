@@ -1,13 +1,12 @@
-//! The texts of small files and reports.
+//! The texts of a file, and of a report that no run comes to.
 
 ghost use Rattle.std.specs.Prelude.{◌≡◌, ◌+◌, IfOk, length};
 ghost use Rattle.txn_programs.specs.Listing.{Listing, tasks};
 ghost use Rattle.txn_programs.specs.LawfulReport.{FitsCatalogue};
 ghost use Rattle.txn_programs.specs.Told.{told};
 
-use crate::parts::is_file;
+use crate::parts::{INCREMENTS, is_file};
 use std::alloc::{AllocError, Global};
-use std::process::Abort;
 use txn::{Catalogue, Entry, Fault, Outcome, Report, TaskId, TxId};
 use txn_text::{print_file, print_report};
 
@@ -20,59 +19,16 @@ fn prints(alloc: Global, catalogue: &Catalogue, canonical: &str) -> bool {
 }
 
 /// Whether the file is printed so.
-pub(crate) fn is_printed(alloc: Global, input: &str, canonical: &str) -> bool {
+fn is_printed(alloc: Global, input: &str, canonical: &str) -> bool {
     is_file(alloc, input, |catalogue| {
         prints(alloc, catalogue, canonical)
     })
 }
 
-/// Each file is printed as the text beside it.
-pub(crate) fn expect_printed(rt: &(impl Abort + Eprint), alloc: Global, files: &[(&str, &str)]) {
-    for (input, canonical) in files {
-        assert!(rt; is_printed(alloc, input, canonical), "of {input}");
-    }
-}
-
-const FILES: &[(&str, &str)] = &[
-    ("", ""),
-    (
-        "(var x 5)(tx inc (set x (add x 1)) x)(run inc 2)",
-        "(var x 5)\n(tx inc (set x (add x 1)) x)\n(run inc 2)\n",
-    ),
-    (
-        "(var x 0)(tx t (orelse (seq (set x 9) (retry)) (skip)) x)(run t 1)",
-        "(var x 0)\n(tx t (orelse (seq (set x 9) (retry)) (skip)) x)\n(run t 1)\n",
-    ),
-    (
-        "(tx t ( seq ) 0) ; a comment\n(run t 1)",
-        "(tx t (seq) 0)\n(run t 1)\n",
-    ),
-    // Every word there is.
-    (
-        "(stm 2)(var y 1)(var x -2)(always c(and(eq 1 1)(or(not(lt y 0))(le 0 x))))\
-            (tx all(seq(skip)(set x(add(sub y 2)(mul(div x 3)(rem y 4))))\
-            (if(eq x 1)(retry)(throw 5))(repeat 6(orelse(retry)(skip))))(add x y))(run all 0)",
-        "(stm 2)\n(var y 1)\n(var x -2)\n(always c (and (eq 1 1) (or (not (lt y 0)) (le 0 x))))\n\
-            (tx all (seq (skip) (set x (add (sub y 2) (mul (div x 3) (rem y 4)))) \
-            (if (eq x 1) (retry) (throw 5)) (repeat 6 (orelse (retry) (skip)))) (add x y))\n\
-            (run all 0)\n",
-    ),
-    // Parameters and arguments.
-    (
-        "(stm 3)(var x 0)(tx pay(from to)(set x(add from to))x)(tx t()(skip)0)(run pay 2 3 -5)(run t 1)",
-        "(stm 3)\n(var x 0)\n(tx pay (from to) (set x (add from to)) x)\n(tx t () (skip) 0)\n(run pay 2 3 -5)\n\
-            (run t 1)\n",
-    ),
-    // Without them a smaller form says it.
-    (
-        "(stm 3)(tx t()(skip)0)(run t 1)",
-        "(tx t (skip) 0)\n(run t 1)\n",
-    ),
-];
-
 #[test]
-fn files_are_printed_in_one_way(rt: HostRuntime) {
-    expect_printed(&rt, rt.alloc(), FILES);
+fn a_file_is_printed_in_one_way(rt: HostRuntime) {
+    let canonical = "(var x 5)\n(tx inc (set x (add x 1)) x)\n(run inc 2)\n";
+    assert!(rt; is_printed(rt.alloc(), INCREMENTS, canonical));
 }
 
 /// The entry of a task of the first transaction, with the number that follows the task's.

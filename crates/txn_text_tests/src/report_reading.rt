@@ -1,6 +1,6 @@
-//! Reports that are read, and printed again as the same bytes.
+//! Reports that are read, and printed again as the same bytes, and one that is refused by each kind.
 
-use crate::parts::{INCREMENTS, is_file, on_file};
+use crate::parts::{INCREMENTS, Kind, expect_faults, is_file, on_file};
 use std::alloc::Global;
 use std::process::Abort;
 use text_line_reader::read_report;
@@ -85,6 +85,15 @@ fn what_is_read_prints_as_the_same_bytes(rt: HostRuntime) {
     ] {
         assert!(rt; increments_print_again(rt.alloc(), text), "of {text}");
     }
+    let third = "(stm 3)(tx t (k) (skip) k)(run t 1 1)";
+    let alloc = rt.alloc();
+    assert!(rt;
+        is_file(
+            alloc,
+            third,
+            |catalogue| prints_again(alloc, catalogue, OUTSIDE)
+        )
+    );
 }
 
 /// A report of which an entry ended outside a table.
@@ -103,36 +112,22 @@ fn outside_of(alloc: Global, file: &str) -> Option<Result<Outcome, ReadFault>> {
 
 #[test]
 fn outside_is_known_where_form_3_alone_can_say_the_file(rt: HostRuntime) {
-    let alloc = rt.alloc();
     let third = "(stm 3)(tx t (k) (skip) k)(run t 1 1)";
-    assert_eq!(rt;
-        outside_of(alloc, third),
-        Some(Ok(Outcome::Thrown(Fault::Outside)))
-    );
-    assert!(rt;
-        is_file(
-            alloc,
-            third,
-            |catalogue| prints_again(alloc, catalogue, OUTSIDE)
-        )
-    );
-    for file in [
-        "(tx t (skip) 0)(run t 1)",
-        "(stm 2)(always yes (eq 1 1))(tx t (skip) 0)(run t 1)",
-        "(stm 3)(tx t () (skip) 0)(run t 1)",
-    ] {
-        assert_eq!(rt;
-            outside_of(alloc, file),
-            Some(Err(ReadFault::Shape)),
-            "of {file}"
-        );
-    }
+    let outside = Some(Ok(Outcome::Thrown(Fault::Outside)));
+    assert!(rt; outside_of(rt.alloc(), third) == outside);
+    let first = "(tx t (skip) 0)(run t 1)";
+    assert!(rt; outside_of(rt.alloc(), first) == Some(Err(ReadFault::Shape)));
 }
 
+/// A report of the two increments for each kind of fault.
+const FAULTS: &[(&[u8], ReadFault)] = &[
+    (b"end\t", ReadFault::BadByte),
+    (b"base 00\nx 5 0\nnow 0\nx 5 0\nend\n", ReadFault::Shape),
+    (b"base 0\ny 5 0\nnow 0\nx 5 0\nend\n", ReadFault::Name),
+    (b"base 65537\nx 5 0\nnow 0\nx 5 0\nend\n", ReadFault::Limit),
+];
+
 #[test]
-fn variables_have_any_name(rt: HostRuntime) {
-    let file = "(var entry 1)(var now 2)(var end 3)";
-    let text = "base 0\nentry 1 0\nnow 2 0\nend 3 0\nnow 0\nentry 1 0\nnow 2 0\nend 3 0\nend\n";
-    let report = report_of(&rt, rt.alloc(), file, text);
-    assert!(rt; report.now_vars.as_slice() == [(1, 0), (2, 0), (3, 0)].as_slice());
+fn reports_are_refused_by_each_kind(rt: HostRuntime) {
+    expect_faults(&rt, rt.alloc(), Kind::Report, FAULTS);
 }
