@@ -1,22 +1,15 @@
-//! Tests of the public calls of `world`, and of the lines that `world` puts.
+//! Tests of the public calls of `world`, and of the lines that `world` puts. What is seen of which schedule is played by
+//! `cases/world.cases` and `cases/schedules.cases`.
 #![tactic(auto)]
 
-#[cfg(test)]
-mod commits;
 #[cfg(test)]
 mod counted;
 #[cfg(test)]
 mod limits;
 #[cfg(test)]
-mod lines;
-#[cfg(test)]
 mod moves;
 #[cfg(test)]
 mod parts;
-#[cfg(test)]
-mod reads;
-#[cfg(test)]
-mod runs;
 #[cfg(test)]
 mod scripts;
 #[cfg(test)]

@@ -14,15 +14,9 @@ pub(crate) const A: TaskId = TaskId(0);
 
 pub(crate) const B: TaskId = TaskId(1);
 
-pub(crate) const C: TaskId = TaskId(2);
-
 /// One task adds x and y, which are both 1; the other sets both to 2.
 pub(crate) const PAIR: &str =
     "(var x 1)(var y 1)(tx sum (skip) (add x y))(tx both (seq (set x 2) (set y 2)) 0)(run sum 1)(run both 1)";
-
-/// One task reads x, which is 1; of the others one sets it to 2 and one to 1.
-pub(crate) const BACK: &str =
-    "(var x 1)(tx get (skip) x)(tx two (set x 2) 0)(tx one (set x 1) 0)(run get 1)(run two 1)(run one 1)";
 
 /// One task, which retries.
 pub(crate) const RETRIES: &str = "(tx t (orelse (retry) (retry)) 0)(run t 1)";
