@@ -1,35 +1,12 @@
-//! Tests of files, reports and schedules explained.
+//! Tests of the public calls of `explain_files`, `explain_reports` and `explain_schedules`, each on its happy path, by
+//! each kind of fault and at its limit. What is said of which text is played by `cases/`.
 #![tactic(auto)]
 
 #[cfg(test)]
 mod chapters;
 #[cfg(test)]
-mod file_deep;
+mod files;
 #[cfg(test)]
-mod file_kinds;
+mod reports;
 #[cfg(test)]
-mod file_lines;
-#[cfg(test)]
-mod file_long;
-#[cfg(test)]
-mod file_parameters;
-#[cfg(test)]
-mod file_places;
-#[cfg(test)]
-mod file_shapes;
-#[cfg(test)]
-mod file_tables;
-#[cfg(test)]
-mod file_texts;
-#[cfg(test)]
-mod report_lines;
-#[cfg(test)]
-mod report_parts;
-#[cfg(test)]
-mod report_refusals;
-#[cfg(test)]
-mod schedule_cells;
-#[cfg(test)]
-mod schedule_kinds;
-#[cfg(test)]
-mod schedule_long;
+mod schedules;
