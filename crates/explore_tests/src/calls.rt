@@ -1,6 +1,6 @@
-//! What is found of files whose transactions have parameters.
+//! The instances of files whose transactions have parameters, and the way to where one of them shows something.
 
-use explore_search::{Found, InstanceId, Sought, WayWhere, explore, instances_of, way_where};
+use explore_search::{InstanceId, Sought, WayWhere, instances_of, way_where};
 use std::alloc::{AllocError, Global};
 use txn::TxId;
 use txn_text::read_file;
@@ -13,14 +13,6 @@ const ADDERS: &str = "(stm 3)(var n 0)(tx set_to (k) (set n k) n)(tx add (k) (se
 const WAITERS: &str =
     "(stm 3)(var n 0)(tx wait (k) (if (eq n k) (skip) (retry)) n)(tx give (k) (set n k) n)\
     (run wait 1 4)(run wait 2 9)(run give 1 9)";
-
-/// What is found of the file of this text.
-fn found(alloc: Global, text: &str) -> Option<Found> {
-    match read_file(alloc, text.as_bytes()) {
-        Ok(catalogue) => explore(alloc, &catalogue, 1_000_000).ok(),
-        Err(_) => None,
-    }
-}
 
 /// The transactions of the instances with their first arguments, and the instances of the tasks.
 fn numbered(
@@ -39,50 +31,58 @@ fn numbered(
     Ok(Some((calls, instances.of_tasks)))
 }
 
-#[test]
-fn the_instances_stand_by_transaction_and_then_by_first_task(rt: HostRuntime) {
-    match numbered(rt.alloc(), ADDERS) {
+/// Whether the calls stand by transaction and then by first task, with the instance of each task.
+fn are_numbered(alloc: Global) -> bool {
+    match numbered(alloc, ADDERS) {
         Ok(Some((calls, of_tasks))) => {
-            assert!(rt; calls.as_slice() == [(0, 7), (1, 1), (1, 5)].as_slice());
-            let expected = [1, 1, 2, 0, 1];
-            assert!(rt; of_tasks.len() == 5);
-            for task in 0..5 {
-                assert!(rt; of_tasks.as_slice()[task] == InstanceId(expected[task]));
-            }
+            let expected = [
+                InstanceId(1),
+                InstanceId(1),
+                InstanceId(2),
+                InstanceId(0),
+                InstanceId(1),
+            ];
+            calls.as_slice() == [(0, 7), (1, 1), (1, 5)].as_slice()
+                && of_tasks.as_slice() == expected.as_slice()
         }
-        _ => panic!(rt; "not read"),
+        _ => false,
+    }
+}
+
+/// Whether each of 65,536 calls is listed.
+fn are_all_listed(alloc: Global) -> bool {
+    let Ok(text) = many(alloc) else {
+        return false;
+    };
+    match numbered(alloc, text.as_str()) {
+        Ok(Some((calls, of_tasks))) => {
+            calls.len() == 65536
+                && of_tasks.len() == 65536
+                && of_tasks.last() == Some(&InstanceId(65535))
+        }
+        _ => false,
     }
 }
 
 #[test]
-fn tasks_with_the_same_arguments_are_alike(rt: HostRuntime) {
-    let alloc = rt.alloc();
-    let alike = "(stm 3)(var n 0)(tx t (k) (set n (add n k)) n)(run t 3 2)";
-    let apart = "(stm 3)(var n 0)(tx t (k) (set n (add n k)) n)(run t 1 1)(run t 1 2)(run t 1 4)";
-    match (found(alloc, alike), found(alloc, apart)) {
-        (Some(alike), Some(apart)) => {
-            assert!(rt; alike.states == 4);
-            assert!(rt; apart.states == 8);
-            assert!(rt; alike.ends.len() == 1 && apart.ends.len() == 1);
-        }
-        _ => panic!(rt; "not explored"),
-    }
+fn instances_stand_by_transaction_and_then_by_first_task(rt: HostRuntime) {
+    assert!(rt; are_numbered(rt.alloc()));
 }
 
 #[test]
-fn who_waits_is_counted_by_instance(rt: HostRuntime) {
-    let alloc = rt.alloc();
-    match found(alloc, WAITERS) {
-        Some(found) => match found.ends.first() {
-            Some(end) => {
-                assert!(rt; found.ends.len() == 1);
-                assert!(rt; end.values.as_slice() == [9].as_slice());
-                assert!(rt; end.waiting.as_slice() == [1, 0, 0].as_slice());
-            }
-            None => panic!(rt; "no end"),
-        },
-        None => panic!(rt; "not explored"),
+fn sixty_five_thousand_calls_are_listed(rt: HostRuntime) {
+    assert!(rt; are_all_listed(rt.alloc()));
+}
+
+/// A file with so many different calls.
+fn many(alloc: Global) -> Result<String, AllocError> {
+    let mut text = String::from_str(alloc, "(stm 3)(tx t (k) (skip) k)")?;
+    for k in 0..65536 {
+        text.push_str("(run t 1 ")?;
+        text.push_str(k.to_string(alloc)?.as_str())?;
+        text.push_str(")")?;
     }
+    Ok(text)
 }
 
 /// The way to where this is sought of the transaction of this number.
@@ -97,41 +97,21 @@ fn sighted(alloc: Global, text: &str, tx: u32, sought: Sought) -> Option<WayWher
     }
 }
 
+/// Whether the way goes by the third instance to the second.
+fn goes_to_the_second(way: &WayWhere) -> bool {
+    way.turns.as_slice() == [InstanceId(2)].as_slice() && way.instance == InstanceId(1)
+}
+
+/// Whether what this task returns shows where the way goes, or nowhere.
+fn shows(alloc: Global, value: i64, somewhere: bool) -> bool {
+    match sighted(alloc, WAITERS, 0, Sought::Returned(Some(value))) {
+        Some(way) => somewhere && goes_to_the_second(&way),
+        None => !somewhere,
+    }
+}
+
 #[test]
 fn the_way_to_where_it_shows_names_the_instance(rt: HostRuntime) {
-    let alloc = rt.alloc();
-    match sighted(alloc, WAITERS, 0, Sought::Returned(Some(9))) {
-        Some(way) => {
-            assert!(rt; way.turns.as_slice() == [InstanceId(2)].as_slice());
-            assert!(rt; way.instance == InstanceId(1));
-        }
-        None => panic!(rt; "no way"),
-    }
-    assert!(rt; sighted(alloc, WAITERS, 0, Sought::Returned(Some(4))).is_none());
-}
-
-#[test]
-fn sixty_five_thousand_calls_are_listed(rt: HostRuntime) {
-    let alloc = rt.alloc();
-    match many(alloc) {
-        Ok(text) => match numbered(alloc, text.as_str()) {
-            Ok(Some((calls, of_tasks))) => {
-                assert!(rt; calls.len() == 65536 && of_tasks.len() == 65536);
-                assert!(rt; of_tasks.as_slice()[65535] == InstanceId(65535));
-            }
-            _ => panic!(rt; "not read"),
-        },
-        Err(_) => panic!(rt; "no memory"),
-    }
-}
-
-/// A file with so many different calls.
-fn many(alloc: Global) -> Result<String, AllocError> {
-    let mut text = String::from_str(alloc, "(stm 3)(tx t (k) (skip) k)")?;
-    for k in 0..65536 {
-        text.push_str("(run t 1 ")?;
-        text.push_str(k.to_string(alloc)?.as_str())?;
-        text.push_str(")")?;
-    }
-    Ok(text)
+    assert!(rt; shows(rt.alloc(), 9, true));
+    assert!(rt; shows(rt.alloc(), 4, false));
 }

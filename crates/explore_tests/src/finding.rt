@@ -1,50 +1,9 @@
 //! The report of a run that comes to a turn that is sought.
 
-use checker::{Verdict, check};
 use explore_runner::{Limit, OutcomeWords, Sighted, find_bytes};
 use runner::{Out, RunFault};
 use std::alloc::Global;
 use std::process::Abort;
-
-/// What is written of the file where this is sought, of at most so many states, and the answer.
-fn finding(
-    rt: &impl Abort,
-    alloc: Global,
-    file: &str,
-    states: u32,
-    sought: (&str, &str),
-) -> (Vec<u8>, Result<Sighted, RunFault>) {
-    let (Some(limit), Some(outcome)) = (Limit::new(states), OutcomeWords::read(sought.1)) else {
-        panic!(rt; "no limit, or no outcome");
-    };
-    let mut out = Out::new(Vec::new(alloc));
-    let answer = find_bytes(alloc, file.as_bytes(), limit, sought.0, outcome, &mut out);
-    (out.into_inner(), answer)
-}
-
-/// This report is written where that is sought of the file, and it is good.
-pub(crate) fn expect_report(
-    rt: &impl Abort,
-    alloc: Global,
-    file: &str,
-    sought: (&str, &str),
-    report: &str,
-) {
-    let (bytes, answer) = finding(rt, alloc, file, 1_000_000, sought);
-    assert!(rt; answer == Ok(Sighted::Report), "of {file}");
-    assert!(rt; bytes.as_slice() == report.as_bytes(), "of {file}");
-    match check(alloc, file.as_bytes(), bytes.as_slice()) {
-        Ok(verdict) => assert!(rt; verdict == Verdict::Good),
-        Err(_) => panic!(rt; "not checked"),
-    }
-}
-
-/// No order of the file comes to what is sought.
-fn expect_never(rt: &impl Abort, alloc: Global, file: &str, sought: (&str, &str)) {
-    let (bytes, answer) = finding(rt, alloc, file, 1_000_000, sought);
-    assert!(rt; answer == Ok(Sighted::Never));
-    assert!(rt; bytes.as_slice() == b"never\n".as_slice());
-}
 
 /// One who pays twice what is there, one who puts it there, and one who waits for it.
 const SHOP: &str = "(stm 2)(var x 0)(always some (le 0 x))\
@@ -52,171 +11,49 @@ const SHOP: &str = "(stm 2)(var x 0)(always some (le 0 x))\
     (tx take (set x (sub x 3)) x)(tx wait (if (lt x 4) (retry) (skip)) x)\
     (run wait 1)(run pay 1)(run put 3)(run take 1)";
 
-#[test]
-fn the_shortest_way_to_a_turn_is_printed(rt: HostRuntime) {
-    let alloc = rt.alloc();
-    expect_report(
-        &rt,
-        alloc,
-        SHOP,
-        ("pay", "threw 2"),
+/// A transaction and an outcome that is sought of it, of at most so many states, the answer and what is written.
+type Row = (&'static str, &'static str, u32, Sighted, &'static str);
+
+const SOUGHT: &[Row] = &[
+    (
+        "pay",
+        "threw 2",
+        1_000_000,
+        Sighted::Report,
         "base 0\nx 0 0\nentry 1 2 put returned 2\nentry 2 1 pay threw 2\nnow 2\nx 2 1\n\
             parked 0 wait\nmemory 3 put\nmemory 4 put\nmemory 5 take\nend\n",
-    );
-    expect_report(
-        &rt,
-        alloc,
-        SHOP,
-        ("pay", "threw"),
-        "base 0\nx 0 0\nentry 1 1 pay threw 0\nnow 1\nx 0 0\n\
-            parked 0 wait\nmemory 2 put\nmemory 3 put\nmemory 4 put\nmemory 5 take\nend\n",
-    );
-    expect_report(
-        &rt,
-        alloc,
-        SHOP,
-        ("take", "broke some"),
-        "base 0\nx 0 0\nentry 1 5 take broke some\nnow 1\nx 0 0\n\
-            parked 0 wait\nmemory 1 pay\nmemory 2 put\nmemory 3 put\nmemory 4 put\nend\n",
-    );
-    expect_report(
-        &rt,
-        alloc,
-        SHOP,
-        ("wait", "returned"),
-        "base 0\nx 0 0\nentry 1 2 put returned 2\nentry 2 3 put returned 4\nentry 3 0 wait returned 4\nnow 3\nx 4 2\n\
-            memory 1 pay\nmemory 4 put\nmemory 5 take\nend\n",
-    );
-}
-
-#[test]
-fn the_shortest_way_to_where_a_task_parks_is_printed(rt: HostRuntime) {
-    let alloc = rt.alloc();
-    expect_report(
-        &rt,
-        alloc,
-        SHOP,
-        ("wait", "parks"),
-        "base 0\nx 0 0\nnow 0\nx 0 0\n\
-            parked 0 wait\nmemory 1 pay\nmemory 2 put\nmemory 3 put\nmemory 4 put\nmemory 5 take\nend\n",
-    );
-    let file = "(var x 1)(tx get (if (eq x 0) (retry) (set x (sub x 1))) x)(run get 3)";
-    expect_report(
-        &rt,
-        alloc,
-        file,
-        ("get", "parks"),
-        "base 0\nx 1 0\nentry 1 0 get returned 0\nnow 1\nx 0 1\nparked 1 get\nparked 2 get\nend\n",
-    );
-    expect_report(
-        &rt,
-        alloc,
-        file,
-        ("get", "returned 0"),
-        "base 0\nx 1 0\nentry 1 0 get returned 0\nnow 1\nx 0 1\nparked 1 get\nparked 2 get\nend\n",
-    );
-}
-
-/// A turn for each way to end.
-const WAYS: &str = "(tx z (skip) (div 1 0))(tx o (skip) (mul 9223372036854775807 2))\
-    (tx u (throw -4) 0)(tx r (skip) -7)(run z 1)(run o 1)(run u 1)(run r 1)";
-
-/// A transaction and an outcome of it, its entry behind its number, and the lines of the tasks that are left.
-const ENDS: [(&str, &str, &str, &str); 6] = [
-    (
-        "z",
-        "zerodiv",
-        "0 z zerodiv",
-        "memory 1 o\nmemory 2 u\nmemory 3 r\n",
     ),
-    (
-        "o",
-        "overflow",
-        "1 o overflow",
-        "memory 0 z\nmemory 2 u\nmemory 3 r\n",
-    ),
-    (
-        "u",
-        "threw",
-        "2 u threw -4",
-        "memory 0 z\nmemory 1 o\nmemory 3 r\n",
-    ),
-    (
-        "u",
-        "threw -4",
-        "2 u threw -4",
-        "memory 0 z\nmemory 1 o\nmemory 3 r\n",
-    ),
-    (
-        "r",
-        "returned",
-        "3 r returned -7",
-        "memory 0 z\nmemory 1 o\nmemory 2 u\n",
-    ),
-    (
-        "r",
-        "returned -7",
-        "3 r returned -7",
-        "memory 0 z\nmemory 1 o\nmemory 2 u\n",
-    ),
+    ("put", "broke some", 1_000_000, Sighted::Never, "never\n"),
+    ("x", "returned", 1_000_000, Sighted::NoTransaction, ""),
+    ("take", "broke none", 1_000_000, Sighted::NoCondition, ""),
+    ("pay", "threw 2", 2, Sighted::Beyond, "more than 2 states\n"),
 ];
 
-#[test]
-fn each_outcome_can_be_sought(rt: HostRuntime) {
-    let alloc = rt.alloc();
-    for (name, outcome, turn, left) in ENDS {
-        match format!(in alloc; "base 0\nentry 1 {turn}\nnow 1\n{left}end\n") {
-            Ok(report) => expect_report(&rt, alloc, WAYS, (name, outcome), &report),
-            Err(_) => panic!(rt; "no memory"),
-        }
-    }
+/// Whether what is sought of the file is answered so.
+fn is_answered(
+    alloc: Global,
+    file: &str,
+    sought: (&str, &str),
+    states: u32,
+    wanted: Option<Sighted>,
+    text: &str,
+) -> bool {
+    let (Some(limit), Some(outcome)) = (Limit::new(states), OutcomeWords::read(sought.1)) else {
+        return false;
+    };
+    let mut out = Out::new(Vec::new(alloc));
+    let found = find_bytes(alloc, file.as_bytes(), limit, sought.0, outcome, &mut out).ok();
+    found == wanted && out.into_inner().as_slice() == text.as_bytes()
 }
 
 #[test]
-fn what_no_order_comes_to_is_never(rt: HostRuntime) {
-    let alloc = rt.alloc();
-    for sought in [
-        ("z", "returned"),
-        ("z", "overflow"),
-        ("z", "threw"),
-        ("o", "zerodiv"),
-        ("u", "threw 4"),
-        ("r", "returned 7"),
-        ("r", "broke"),
-        ("r", "parks"),
-    ] {
-        expect_never(&rt, alloc, WAYS, sought);
+fn what_is_sought_is_answered(rt: HostRuntime) {
+    for &(transaction, outcome, states, answer, text) in SOUGHT {
+        let sought = (transaction, outcome);
+        let is_so = is_answered(rt.alloc(), SHOP, sought, states, Some(answer), text);
+        assert!(rt; is_so, "of {transaction}");
     }
-    expect_never(&rt, alloc, SHOP, ("put", "broke some"));
-    expect_never(&rt, alloc, SHOP, ("pay", "threw 6"));
-    expect_never(&rt, alloc, "(tx t (retry) 0)", ("t", "parks"));
-}
-
-#[test]
-fn names_that_the_file_lacks_are_told(rt: HostRuntime) {
-    let alloc = rt.alloc();
-    for (sought, wanted) in [
-        (("nobody", "broke none"), Sighted::NoTransaction),
-        (("x", "returned"), Sighted::NoTransaction),
-        (("take", "broke none"), Sighted::NoCondition),
-        (("take", "broke take"), Sighted::NoCondition),
-    ] {
-        let (bytes, answer) = finding(&rt, alloc, SHOP, 1_000_000, sought);
-        assert!(rt; bytes.is_empty() && answer == Ok(wanted));
-    }
-}
-
-#[test]
-fn nothing_is_said_beyond_the_limit(rt: HostRuntime) {
-    let alloc = rt.alloc();
-    let file = "(tx t (skip) 0)(run t 2)";
-    let (bytes, answer) = finding(&rt, alloc, file, 2, ("t", "threw"));
-    assert!(rt; answer == Ok(Sighted::Beyond));
-    assert!(rt; bytes.as_slice() == b"more than 2 states\n".as_slice());
-    let (bytes, answer) = finding(&rt, alloc, file, 3, ("t", "threw"));
-    assert!(rt; answer == Ok(Sighted::Never) && bytes.as_slice() == b"never\n".as_slice());
-    let (bytes, answer) = finding(&rt, alloc, "(var x", 3, ("t", "threw"));
-    assert!(rt; bytes.is_empty() && matches!(answer, Err(RunFault::Input(_))));
+    assert!(rt; is_answered(rt.alloc(), "(var x", ("t", "threw"), 3, None, ""));
 }
 
 #[test]

@@ -1,4 +1,4 @@
-//! The graphs of small files.
+//! The graph of a small file.
 
 ghost use Rattle.std.specs.Prelude.{◌≤◌};
 
@@ -6,77 +6,31 @@ use explore_runner::{Limit, MAX_NODES, Sight, graph_bytes, print_graph};
 use explore_search::{Graph, InstanceId, Node, Turn, Unexplored, graph_of};
 use runner::{Out, RunFault};
 use std::alloc::Global;
-use std::process::Abort;
 use txn::{Fault, Outcome};
 use txn_text::read_file;
-
-/// Two tasks, of which one has to come before the other.
-const TAKE: &str =
-    "(var x 0)(tx take (if (eq x 1) (set x 0) (retry)) x)(tx put (set x 1) x)(run take 1)(run put 1)";
 
 /// A task after which another one waits for ever.
 const STUCK: &str =
     "(var x -1)(tx no (if (lt x 0) (throw 4) (retry)) 0)(tx up (set x 2) x)(run no 1)(run up 1)";
 
-/// What is written of the file, and the answer.
-fn written(
-    rt: &impl Abort,
-    alloc: Global,
-    file: &str,
-    states: u32,
-) -> (Vec<u8>, Result<Sight, RunFault>) {
+/// Its graph as text.
+const TEXT: &str = "digraph {\n  node [shape=box]\n\
+     \x20 1 [label=\"x -1\\nup 1 left\\n\"]\n\
+     \x20 2 [label=\"x -1\\nno 1 left\\nup 1 left\\n\"]\n\
+     \x20 3 [label=\"x 2\\n\", peripheries=2]\n\
+     \x20 4 [label=\"x 2\\nno 1 parked\\n\", style=filled, fillcolor=pink]\n\
+     \x20 1 -> 3 [label=\"up\\nreturned 2\"]\n\
+     \x20 2 -> 1 [label=\"no\\nthrew 4\"]\n\
+     \x20 2 -> 4 [label=\"up\\nreturned 2\"]\n}\n";
+
+/// Whether this is written of the file, of at most so many states, with this answer.
+fn is_written(alloc: Global, file: &str, states: u32, wanted: Option<Sight>, text: &str) -> bool {
     let Some(limit) = Limit::new(states) else {
-        panic!(rt; "no limit");
+        return false;
     };
     let mut out = Out::new(Vec::new(alloc));
-    let answer = graph_bytes(alloc, file.as_bytes(), limit, &mut out);
-    (out.into_inner(), answer)
-}
-
-/// This is the graph of the file.
-pub(crate) fn expect_graph(rt: &impl Abort, alloc: Global, file: &str, text: &str) {
-    let (bytes, answer) = written(rt, alloc, file, 1_000_000);
-    assert!(rt; answer == Ok(Sight::Whole));
-    assert!(rt; bytes.as_slice() == text.as_bytes());
-}
-
-#[test]
-fn a_graph_has_a_line_for_each_state_and_each_turn(rt: HostRuntime) {
-    let alloc = rt.alloc();
-    expect_graph(
-        &rt,
-        alloc,
-        "",
-        "digraph {\n  node [shape=box]\n  1 [label=\"\", peripheries=2]\n}\n",
-    );
-    expect_graph(
-        &rt,
-        alloc,
-        TAKE,
-        "digraph {\n  node [shape=box]\n\
-         \x20 1 [label=\"x 0\\n\", peripheries=2]\n\
-         \x20 2 [label=\"x 0\\ntake 1 left\\nput 1 left\\n\"]\n\
-         \x20 3 [label=\"x 1\\n\"]\n\
-         \x20 2 -> 3 [label=\"put\\nreturned 1\"]\n\
-         \x20 3 -> 1 [label=\"take\\nreturned 0\"]\n}\n",
-    );
-}
-
-#[test]
-fn an_end_where_a_task_waits_is_marked(rt: HostRuntime) {
-    expect_graph(
-        &rt,
-        rt.alloc(),
-        STUCK,
-        "digraph {\n  node [shape=box]\n\
-         \x20 1 [label=\"x -1\\nup 1 left\\n\"]\n\
-         \x20 2 [label=\"x -1\\nno 1 left\\nup 1 left\\n\"]\n\
-         \x20 3 [label=\"x 2\\n\", peripheries=2]\n\
-         \x20 4 [label=\"x 2\\nno 1 parked\\n\", style=filled, fillcolor=pink]\n\
-         \x20 1 -> 3 [label=\"up\\nreturned 2\"]\n\
-         \x20 2 -> 1 [label=\"no\\nthrew 4\"]\n\
-         \x20 2 -> 4 [label=\"up\\nreturned 2\"]\n}\n",
-    );
+    let answer = graph_bytes(alloc, file.as_bytes(), limit, &mut out).ok();
+    answer == wanted && out.into_inner().as_slice() == text.as_bytes()
 }
 
 /// The node of these values, with so many tasks left and these turns.
@@ -104,77 +58,72 @@ fn turn(instance: u32, outcome: Outcome, to: u32) -> Turn {
     }
 }
 
-#[test]
-fn the_turns_of_each_state_are_listed(rt: HostRuntime) {
+/// Whether the node at a place is this.
+fn has_node(graph: &Graph, place: usize, values: &[i64], left: &[u32], turns: &[Turn]) -> bool {
+    match graph.nodes.get(place) {
+        Some(node) => is_node(node, values, left, turns),
+        None => false,
+    }
+}
+
+/// Whether the turns of each state are listed.
+fn has_turns(graph: &Graph) -> bool {
     let thrown = turn(0, Outcome::Thrown(Fault::User(4)), 0);
     let up = Outcome::Returned(2);
-    match graph(rt.alloc(), STUCK, 4) {
-        Ok(graph) => {
-            assert!(rt; graph.nodes.len() == 4);
-            let nodes = graph.nodes.as_slice();
-            assert!(rt; is_node(&nodes[0], &[-1], &[0, 1], &[turn(1, up, 2)]));
-            assert!(rt; is_node(&nodes[1], &[-1], &[1, 1], &[thrown, turn(1, up, 3)]));
-            assert!(rt; is_node(&nodes[2], &[2], &[0, 0], &[]));
-            assert!(rt; is_node(&nodes[3], &[2], &[1, 0], &[]));
-        }
-        Err(_) => panic!(rt; "no graph"),
+    graph.nodes.len() == 4
+        && has_node(graph, 0, &[-1], &[0, 1], &[turn(1, up, 2)])
+        && has_node(graph, 1, &[-1], &[1, 1], &[thrown, turn(1, up, 3)])
+        && has_node(graph, 2, &[2], &[0, 0], &[])
+        && has_node(graph, 3, &[2], &[1, 0], &[])
+}
+
+/// Whether the graph has its turns, or is refused where it has more states than these.
+fn is_drawn(alloc: Global, limit: u32, fits: bool) -> bool
+    requires { limit ≤ 16777216 }
+{
+    match graph(alloc, STUCK, limit) {
+        Ok(graph) => fits && has_turns(&graph),
+        Err(unexplored) => !fits && matches!(unexplored, Unexplored::More),
     }
 }
 
 #[test]
-fn a_graph_of_more_states_is_refused(rt: HostRuntime) {
-    let alloc = rt.alloc();
+fn the_turns_of_each_state_are_listed(rt: HostRuntime) {
     for (limit, fits) in [(0, false), (3, false), (4, true)] {
-        match graph(alloc, STUCK, limit) {
-            Ok(_) => assert!(rt; fits),
-            Err(Unexplored::More) => assert!(rt; !fits),
-            Err(Unexplored::Memory) => panic!(rt; "no memory"),
-        }
+        assert!(rt; is_drawn(rt.alloc(), limit, fits), "of {limit}");
     }
-    let (bytes, answer) = written(&rt, alloc, STUCK, 3);
-    assert!(rt; answer == Ok(Sight::More));
-    assert!(rt; bytes.as_slice() == b"more than 3 states\n".as_slice());
 }
 
-#[test]
-fn a_graph_has_at_most_2000_states(rt: HostRuntime) {
-    let alloc = rt.alloc();
-    assert!(rt; MAX_NODES == 2_000);
-    let (_, answer) = written(&rt, alloc, "(tx t (skip) 0)(run t 1999)", 1_000_000);
-    assert!(rt; answer == Ok(Sight::Whole));
-    let (bytes, answer) = written(&rt, alloc, "(tx t (skip) 0)(run t 2000)", 1_000_000);
-    assert!(rt; answer == Ok(Sight::More));
-    assert!(rt; bytes.as_slice() == b"more than 2000 states\n".as_slice());
-}
-
-#[test]
-fn a_graph_is_printed_by_its_catalogue(rt: HostRuntime) {
-    let alloc = rt.alloc();
-    let Ok(catalogue) = read_file(alloc, TAKE.as_bytes()) else {
-        panic!(rt; "not read");
+/// Whether the graph of a catalogue is printed so.
+fn is_printed(alloc: Global, text: &str) -> bool {
+    let Ok(catalogue) = read_file(alloc, STUCK.as_bytes()) else {
+        return false;
     };
-    let Ok(graph) = graph_of(alloc, &catalogue, 3) else {
-        panic!(rt; "no graph");
+    let Ok(graph) = graph_of(alloc, &catalogue, 4) else {
+        return false;
     };
     match print_graph(alloc, &catalogue, &graph) {
-        Ok(text) => {
-            let (bytes, _) = written(&rt, alloc, TAKE, 3);
-            assert!(rt; text.as_bytes() == bytes.as_slice());
-        }
-        Err(_) => panic!(rt; "no text"),
+        Ok(printed) => printed.as_str() == text,
+        Err(_) => false,
     }
 }
 
 #[test]
-fn no_file_and_no_room_for_a_graph_are_told(rt: HostRuntime) {
+fn a_graph_is_printed(rt: HostRuntime) {
     let alloc = rt.alloc();
-    let (bytes, answer) = written(&rt, alloc, "(var x", 5);
-    assert!(rt; bytes.is_empty());
-    assert!(rt; matches!(answer, Err(RunFault::Input(_))));
+    assert!(rt; MAX_NODES == 2_000);
+    assert!(rt; is_printed(alloc, TEXT));
+    assert!(rt; is_written(alloc, STUCK, 4, Some(Sight::Whole), TEXT));
+    assert!(rt; is_written(alloc, STUCK, 3, Some(Sight::More), "more than 3 states\n"));
+    assert!(rt; is_written(alloc, "(var x", 5, None, ""));
+}
+
+#[test]
+fn no_room_for_a_graph_is_told(rt: HostRuntime) {
     let Some(limit) = Limit::new(5) else {
         panic!(rt; "no limit");
     };
     let mut room = [0u8; 9];
     let mut out = Out::new(room.as_mut_slice());
-    assert!(rt; graph_bytes(alloc, b"", limit, &mut out) == Err(RunFault::Output));
+    assert!(rt; graph_bytes(rt.alloc(), b"", limit, &mut out) == Err(RunFault::Output));
 }

@@ -1,4 +1,5 @@
-//! Tests of the public calls of `explore_search` and of `explore_runner`.
+//! Tests of the public calls of `explore_search` and of `explore_runner`, each on its happy path and at its limits. What
+//! is found of which file is played by `cases/orders.cases`.
 #![tactic(auto)]
 
 #[cfg(test)]
@@ -9,8 +10,6 @@ mod finding;
 mod graphs;
 #[cfg(test)]
 mod orders;
-#[cfg(test)]
-mod parameters;
 #[cfg(test)]
 mod reports;
 #[cfg(test)]

@@ -26,14 +26,6 @@ fn found(alloc: Global, text: &str, limit: u32) -> Result<Found, Unexplored>
     }
 }
 
-/// How many configurations and how many ends the file of this text has.
-fn counts(alloc: Global, text: &str) -> Option<(usize, usize)> {
-    match found(alloc, text, 1_000_000) {
-        Ok(found) => Some((found.states, found.ends.len())),
-        Err(_) => None,
-    }
-}
-
 fn end(alloc: Global, values: &[i64], waiting: &[u32]) -> Result<End, AllocError> {
     let mut end = End {
         values: Vec::new(alloc),
@@ -44,137 +36,103 @@ fn end(alloc: Global, values: &[i64], waiting: &[u32]) -> Result<End, AllocError
     Ok(end)
 }
 
-#[test]
-fn configs_and_ends_are_counted(rt: HostRuntime) {
-    let alloc = rt.alloc();
-    assert!(rt; counts(alloc, "") == Some((1, 1)));
-    assert!(rt; counts(alloc, INCREMENT) == Some((3, 1)));
-    assert!(rt;
-        counts(
-            alloc,
-            "(var x 0)(tx a (set x 1) x)(tx b (set x 2) x)(run a 1)(run b 1)"
-        ) == Some((5, 2))
-    );
-    assert!(rt; counts(alloc, "(tx t (retry) 0)(run t 3)") == Some((1, 1)));
-    assert!(rt; counts(alloc, "(tx t (skip) 0)(run t 65536)") == Some((65537, 1)));
-}
-
-/// Whether the file of this text has so many configurations and one end, with this one value and no task left.
-fn ends_at(alloc: Global, text: &str, states: usize, value: i64) -> bool {
-    match (found(alloc, text, 1_000_000), end(alloc, &[value], &[0])) {
-        (Ok(found), Ok(last)) => found.states == states && found.ends.first() == Some(&last),
+/// Whether the two increments have three states and one end, where so many may be seen, and else none are told.
+fn are_seen(alloc: Global, limit: u32, fits: bool) -> bool
+    requires { limit ≤ 16777216 }
+{
+    match (found(alloc, INCREMENT, limit), end(alloc, &[7], &[0])) {
+        (Ok(found), Ok(last)) => fits && found.states == 3 && found.ends.first() == Some(&last),
+        (Err(unexplored), _) => !fits && matches!(unexplored, Unexplored::More),
         _ => false,
     }
 }
 
 #[test]
-fn numbers_that_take_more_bytes_are_kept_whole(rt: HostRuntime) {
-    let alloc = rt.alloc();
-    let up = "(var x 32765)(tx inc (set x (add x 1)) x)(run inc 4)";
-    assert!(rt; ends_at(alloc, up, 5, 32_769));
-    let down = "(var x -32766)(tx dec (set x (sub x 1)) x)(run dec 4)";
-    assert!(rt; ends_at(alloc, down, 5, -32_770));
-    let many = "(var x 0)(tx inc (set x (add x 1)) x)(run inc 256)";
-    assert!(rt; ends_at(alloc, many, 257, 256));
-    assert!(rt; counts(alloc, "(tx t (skip) 0)(run t 255)") == Some((256, 1)));
-}
-
-#[test]
-fn two_who_wait_for_one_another_are_found(rt: HostRuntime) {
-    let alloc = rt.alloc();
-    match (
-        found(alloc, FORKS, 1_000_000),
-        end(alloc, &[1, 1, 1, 1], &[0, 1, 0, 1]),
-    ) {
-        (Ok(found), Ok(stuck)) => {
-            let mut ends = found.ends.iter();
-            assert!(rt; ends.any(|end| *end == stuck));
-        }
-        _ => panic!(rt; "not explored"),
+fn no_more_states_are_seen_than_were_asked_for(rt: HostRuntime) {
+    for (limit, fits) in [(0, false), (1, false), (2, false), (3, true)] {
+        assert!(rt; are_seen(rt.alloc(), limit, fits), "of {limit}");
     }
 }
 
-#[test]
-fn the_outcomes_of_each_transaction_are_told(rt: HostRuntime) {
-    let text =
-        "(var x 10)(tx pay (seq (if (lt x 6) (throw 1) (skip)) (set x (sub x 6))) x)(tx none (retry) 0)(run pay \
-            2)(run none 1)";
-    match found(rt.alloc(), text, 1_000_000) {
-        Ok(found) => {
-            let pay = Kinds {
-                returned: true,
-                threw: true,
-                overflow: false,
-                zerodiv: false,
-                outside: false,
-                broke: [false; 64],
-            };
-            assert!(rt; found.kinds.first() == Some(&pay));
-            assert!(rt; found.states == 3);
-        }
-        Err(_) => panic!(rt; "not explored"),
-    }
-}
-
-#[test]
-fn the_condition_that_is_broken_is_told(rt: HostRuntime) {
-    let text =
-        "(stm 2)(var x 1)(always low (lt x 9))(always high (lt 0 x))(tx t (set x (sub x 1)) x)(run t 1)";
-    match found(rt.alloc(), text, 1_000_000) {
-        Ok(found) => match found.kinds.first() {
-            Some(kinds) => {
-                assert!(rt; kinds.broke[1] && !kinds.broke[0]);
-                assert!(rt; !kinds.returned && !kinds.threw);
-            }
-            None => panic!(rt; "no kinds"),
-        },
-        Err(_) => panic!(rt; "not explored"),
-    }
-}
-
-/// The turns of the way to the end of this number, if there is one.
-fn way(alloc: Global, text: &str, end: usize) -> Option<Vec<InstanceId>> {
-    match read_file(alloc, text.as_bytes()) {
-        Ok(catalogue) => way_to_end(alloc, &catalogue, 1_000_000, end).ok().flatten(),
+/// How many states are found of as many tasks as there may be.
+fn states_of_most(alloc: Global) -> Option<usize> {
+    match found(alloc, "(tx t (skip) 0)(run t 65536)", 1_000_000) {
+        Ok(found) => Some(found.states),
         Err(_) => None,
     }
 }
 
 #[test]
-fn the_way_to_where_two_wait_is_told(rt: HostRuntime) {
-    let alloc = rt.alloc();
-    match way(alloc, FORKS, 1) {
-        Some(way) => assert!(rt; way.as_slice() == [InstanceId(0), InstanceId(2)].as_slice()),
-        None => panic!(rt; "no way"),
+fn as_many_tasks_as_there_may_be_are_explored(rt: HostRuntime) {
+    assert!(rt; states_of_most(rt.alloc()) == Some(65537));
+}
+
+/// Two who pay six of ten each, and one who takes what is there and breaks the second condition.
+const PAYERS: &str = "(stm 2)(var x 10)(always low (lt x 99))(always high (lt 0 x))\
+        (tx pay (seq (if (lt x 6) (throw 1) (skip)) (set x (sub x 6))) x)(tx drain (set x 0) x)\
+        (run pay 2)(run drain 1)";
+
+/// Whether those who pay returned and threw, and who takes all broke the second condition.
+fn are_told(alloc: Global) -> bool {
+    let pay = Kinds {
+        returned: true,
+        threw: true,
+        overflow: false,
+        zerodiv: false,
+        outside: false,
+        broke: [false; 64],
+    };
+    match found(alloc, PAYERS, 1_000_000) {
+        Ok(found) => match found.kinds.get(1) {
+            Some(drain) => {
+                found.kinds.first() == Some(&pay)
+                    && drain.broke[1]
+                    && !drain.broke[0]
+                    && !drain.returned
+            }
+            None => false,
+        },
+        Err(_) => false,
     }
-    assert!(rt; way(alloc, FORKS, 2).is_none());
-    match way(alloc, "", 0) {
-        Some(way) => assert!(rt; way.is_empty()),
-        None => panic!(rt; "no way"),
+}
+
+#[test]
+fn the_outcomes_of_each_transaction_are_told(rt: HostRuntime) {
+    assert!(rt; are_told(rt.alloc()));
+}
+
+/// Whether the way to the end of this number goes by these turns, or there is none.
+fn is_way(alloc: Global, end: usize, wanted: Option<[InstanceId; 2]>) -> bool {
+    let Ok(catalogue) = read_file(alloc, FORKS.as_bytes()) else {
+        return false;
+    };
+    match (way_to_end(alloc, &catalogue, 1_000_000, end), wanted) {
+        (Ok(Some(way)), Some(wanted)) => way.as_slice() == wanted.as_slice(),
+        (Ok(None), None) => true,
+        _ => false,
+    }
+}
+
+#[test]
+fn the_way_to_where_two_wait_is_told(rt: HostRuntime) {
+    let wanted = [InstanceId(0), InstanceId(2)];
+    assert!(rt; is_way(rt.alloc(), 1, Some(wanted)));
+    assert!(rt; is_way(rt.alloc(), 2, None));
+}
+
+/// Whether the tasks of a file are counted so.
+fn are_counted(alloc: Global, text: &str, wanted: &[u32]) -> bool {
+    let Ok(catalogue) = read_file(alloc, text.as_bytes()) else {
+        return false;
+    };
+    match task_counts(alloc, &catalogue) {
+        Ok(counts) => counts.as_slice() == wanted,
+        Err(_) => false,
     }
 }
 
 #[test]
 fn tasks_are_counted_by_instance(rt: HostRuntime) {
-    let alloc = rt.alloc();
     let text = "(tx a (skip) 0)(tx b (skip) 0)(tx c (skip) 0)(run c 2)(run a 1)(run c 3)";
-    match read_file(alloc, text.as_bytes()) {
-        Ok(catalogue) => match task_counts(alloc, &catalogue) {
-            Ok(counts) => assert!(rt; counts.as_slice() == [1, 5].as_slice()),
-            Err(_) => panic!(rt; "no memory"),
-        },
-        Err(_) => panic!(rt; "not read"),
-    }
-}
-
-#[test]
-fn more_configs_than_were_asked_for_are_refused(rt: HostRuntime) {
-    let alloc = rt.alloc();
-    for (limit, fits) in [(0, false), (1, false), (2, false), (3, true)] {
-        match found(alloc, INCREMENT, limit) {
-            Ok(_) => assert!(rt; fits),
-            Err(Unexplored::More) => assert!(rt; !fits),
-            Err(Unexplored::Memory) => panic!(rt; "no memory"),
-        }
-    }
+    assert!(rt; are_counted(rt.alloc(), text, &[1, 5]));
 }

@@ -13,7 +13,6 @@ use explore_runner::{Limit, Witnessed, witness_bytes};
 use explore_search::Found;
 use runner::Out;
 use std::alloc::Global;
-use std::str;
 use txn::{Catalogue, Report};
 use txn_text::read_file;
 
@@ -21,48 +20,24 @@ use txn_text::read_file;
 const TAKERS: &str = "(var x 0)(tx take (if (eq x 0) (retry) (set x (sub x 1))) 0)\
     (tx put (set x 1) 0)(run take 2)(run put 1)";
 
-/// Three tasks that wait for ever.
-const WAITERS: &str = "(tx t (retry) 0)(run t 3)";
-
-/// The text of the report of a run of the file of this text that comes to the end of this number.
-pub(crate) fn report_to_end(alloc: Global, file: &str, end: usize) -> Option<String> {
-    let limit = Limit::new(1_000_000)?;
+/// Whether this is written of the way to the end of this number, with this answer, and a report is good.
+fn is_witnessed(alloc: Global, end: usize, wanted: Witnessed, text: &str) -> bool {
+    let Some(limit) = Limit::new(1_000_000) else {
+        return false;
+    };
     let mut out = Out::new(Vec::new(alloc));
-    if witness_bytes(alloc, file.as_bytes(), limit, end, &mut out) != Ok(Witnessed::Report) {
-        return None;
-    }
+    let answer = witness_bytes(alloc, TAKERS.as_bytes(), limit, end, &mut out);
     let bytes = out.into_inner();
-    let text = str::from_utf8(bytes.as_slice()).ok()?;
-    String::from_str(alloc, text).ok()
-}
-
-pub(crate) fn is_good(alloc: Global, file: &str, report: &str) -> bool {
-    match check(alloc, file.as_bytes(), report.as_bytes()) {
-        Ok(verdict) => verdict == Verdict::Good,
-        Err(_) => false,
-    }
+    let is_good = check(alloc, TAKERS.as_bytes(), bytes.as_slice()) == Ok(Verdict::Good);
+    answer == Ok(wanted) && bytes.as_slice() == text.as_bytes() && is_good != text.is_empty()
 }
 
 #[test]
 fn the_report_of_the_way_to_an_end_is_good(rt: HostRuntime) {
-    let alloc = rt.alloc();
     let taken =
         "base 0\nx 0 0\nentry 1 2 put returned 0\nentry 2 0 take returned 0\nnow 2\nx 0 2\nparked 1 take\nend\n";
-    let waited = "base 0\nnow 0\nparked 0 t\nparked 1 t\nparked 2 t\nend\n";
-    for (file, wanted) in [
-        (TAKERS, taken),
-        (WAITERS, waited),
-        ("", "base 0\nnow 0\nend\n"),
-    ] {
-        match report_to_end(alloc, file, 0) {
-            Some(text) => {
-                assert!(rt; text.as_str() == wanted);
-                assert!(rt; is_good(alloc, file, &text));
-            }
-            None => panic!(rt; "no report"),
-        }
-        assert!(rt; report_to_end(alloc, file, 1).is_none());
-    }
+    assert!(rt; is_witnessed(rt.alloc(), 0, Witnessed::Report, taken));
+    assert!(rt; is_witnessed(rt.alloc(), 1, Witnessed::NoEnd, ""));
 }
 
 /// Where nobody waits at any end, a report names no parked task.
