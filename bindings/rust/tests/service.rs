@@ -347,10 +347,10 @@ mod child {
         std::thread::scope(|scope| {
             let waits = scope.spawn(|| service.atomically(get, &[]));
             until_parked(&service);
-            assert_eq!(ended(&service), Some(7));
-            assert_eq!(service.atomically(inc, &[]), Ok(1));
+            let told = (ended(&service), service.atomically(inc, &[]));
             service.close();
             assert_eq!(waits.join().unwrap(), Err(Fault::Closed));
+            assert_eq!(told, (Some(7), Ok(1)));
         });
         drop(service);
         assert_eq!(Arc::strong_count(&held), 1);
