@@ -10,9 +10,15 @@ use txn::Catalogue;
 
 /// An attempt for the turns of a store, and no pass of its cells: so that the cells of a store that
 /// was opened for no worker stay as nobody reads them. It may outlive its store, and serve others.
-#[derive(Drop)]
 pub struct Lender {
     pub(crate) attempt: Attempt<'static>,
+}
+
+/// Written by hand, so that its end is one call wherever a lender is owned.
+impl Drop for Lender {
+    fn drop(self) {
+        let Lender { attempt: _attempt } = self;
+    }
 }
 
 impl Lender {

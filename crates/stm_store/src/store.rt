@@ -19,7 +19,6 @@ use txn::{Catalogue, Memory};
 /// The tasks of a program, their journal, and the present values, over cells that are let go with the
 /// last of the store and its workers. All calls are for one thread at a time: they stand under the host's
 /// lock.
-#[derive(Drop)]
 pub struct Store {
     pub(crate) alloc: Global,
     pub(crate) catalogue: &'static Catalogue,
@@ -41,6 +40,22 @@ pub struct Store {
     ghost each: { length tickets.held ≡ length book.tasks },
     ghost fits: { length book.tasks + book.spare ≤ tickets.room },
     ghost room: { book.room ≤ tickets.room },
+}
+
+/// Written by hand, so that its end is one call wherever a store is owned.
+impl Drop for Store {
+    fn drop(self) {
+        let Store {
+            alloc: _,
+            catalogue: _,
+            cells: _cells,
+            book: _book,
+            passes: _passes,
+            every: _,
+            chapter: _,
+            tickets: _tickets,
+        } = self;
+    }
 }
 
 impl Store {
