@@ -2,7 +2,7 @@
 
 use crate::parts::catalogue;
 use std::alloc::{AllocError, Global};
-use txn::evaluate::{execute, execute_noting, truth, value};
+use txn::evaluate::{execute, execute_noting, standing_truth, truth, value};
 use txn::limits::MAX_VALUES;
 use txn::{Catalogue, Cond, Expr, Fault, Outcome, ParamId, TxId};
 use txn_evaluator::notes::undo;
@@ -71,20 +71,30 @@ fn quotient(alloc: Global) -> Result<Result<i64, Fault>, AllocError> {
     Ok(value(&[], &faulty, &[]))
 }
 
-/// The truth of a condition that is false, and of one with a fault behind it.
-fn truth_of_both(alloc: Global) -> Result<Result<bool, Fault>, AllocError> {
-    let one = Box::new(alloc, Expr::Int(1))?;
-    let nothing = Box::new(alloc, Expr::Int(0))?;
-    let never = Cond::Eq(Expr::Div(one, nothing), Expr::Int(0));
-    let no = Box::new(alloc, Cond::Eq(Expr::Int(1), Expr::Int(2)))?;
-    let both = Cond::And(no, Box::new(alloc, never)?);
-    Ok(truth(&[], &both, &[]))
+/// Whether the first condition is true of the initial values.
+fn is_upheld(catalogue: &Catalogue) -> bool {
+    match catalogue.always() {
+        [(_, condition), ..] => standing_truth(condition, catalogue.initial()) == Ok(true),
+        [] => false,
+    }
 }
+
+/// So it is of the catalogue of the text.
+fn upholds(alloc: Global, text: &str) -> bool {
+    match catalogue(alloc, text) {
+        Some(catalogue) => is_upheld(&catalogue),
+        None => false,
+    }
+}
+
+/// What is denied is false at its left, and has a fault at its right.
+const DENIED: &str = "(stm 2)(always ok (not (and (eq 1 2) (eq (div 1 0) 0))))";
 
 #[test]
 fn conditions_look_right_only_where_needed(rt: HostRuntime) {
     assert!(rt; quotient(rt.alloc()) == Ok(Err(Fault::DivideByZero)));
-    assert!(rt; truth_of_both(rt.alloc()) == Ok(Ok(false)));
+    assert!(rt; truth(&[], &Cond::Eq(Expr::Int(1), Expr::Int(2)), &[]) == Ok(false));
+    assert!(rt; upholds(rt.alloc(), DENIED));
 }
 
 #[test]
