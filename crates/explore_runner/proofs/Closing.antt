@@ -1,7 +1,7 @@
 -- The book after given turns, and the report that it tells.
 use Rattle.std.proofs.Common.{◌≡◌, ℕ, zero, suc, ◌≤◌, true, List, [], ◌∷◌, ◌++◌, length, map, take, drop, refl, sym, ◌∙◌, ap, subst, arith, append_assoc}
 use Rattle.std.proofs.lemmas.List.{map-append, append-nil}
-use Rattle.std.specs.Prelude.{Result, Ok, Err, IfOk}
+use Rattle.std.specs.Prelude.{Result, Ok, Err, IfOk, OnOk}
 use Rattle.txn_programs.specs.declared.arguments.Call.{Call}
 use Rattle.txn_programs.specs.declared.ast.TaskId.{TaskId}
 use Rattle.txn_programs.specs.declared.report.Entry.{Entry}
@@ -107,6 +107,16 @@ module _ (l : Listing) (r : Told) (turns : List InstanceId) (more : List Entry) 
 pub if_all : {X E : Type 0} (r : Result X E) (A B C D F : X → Type 0) → ((x : X) → A x → B x → C x → D x → F x) → IfOk r A → IfOk r B → IfOk r C → IfOk r D → IfOk r F
 if_all (Ok x) A B C D F h a b c d = h x a b c d
 if_all (Err e) A B C D F h a b c d = tt
+
+-- what a fact of an answer says
+pub on_ok : {X E : Type 0} (r : Result X E) (A B : Type 0) → (A → B) → OnOk r A → OnOk r B
+on_ok (Ok x) A B h a = h a
+on_ok (Err e) A B h a = tt
+
+-- what three facts of an answer say together
+pub on_all : {X E : Type 0} (r : Result X E) (A B C D : Type 0) → (A → B → C → D) → OnOk r A → OnOk r B → OnOk r C → OnOk r D
+on_all (Ok x) A B C D h a b c = h a b c
+on_all (Err e) A B C D h a b c = tt
 
 pub take_all_of : {X : Type 0} (xs : List X) (i : ℕ) → length xs ≤ i → take i xs ≡ xs
 take_all_of [] zero h = refl

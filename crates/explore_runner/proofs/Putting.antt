@@ -24,7 +24,7 @@ use Rattle.book.specs.declared.standing.Standing.TheVariants as standing
 use Rattle.book.proofs.Accounts.{report_lawful}
 use Rattle.explore_law.specs.declared.instance.InstanceId.{InstanceId}
 use Rattle.explore_law.specs.Instances.{instance_at}
-use Rattle.explore_runner.specs.Giving.{IsGiving, entered_by}
+use Rattle.explore_runner.specs.Giving.{HasGiven, entered_by}
 use Rattle.explore_runner.specs.Stopping.{StopsAfter}
 use Rattle.explore_runner.specs.PuttingBy.{Stays, IsBy, WouldTurn, PutsBy, ArePutBy}
 
@@ -113,24 +113,33 @@ claimed old b task false low h =
 pub put_before : (old b : BookView) (task : TaskId) → IsClaimed old task b → slice_get b.tasks task.0 ≢ Some Running → PutsBy old task b
 put_before old b task h idle = record { stays = h.stays; others = h.others; by = (h.ready, idle); given_up = λ e. inl (h.given_up e) }
 
+-- it is put by once it is claimed
+pub put_then : (old b c : BookView) (task : TaskId) → IsClaimed old task b → PutsBy b task c → PutsBy old task c
+put_then old b c task h p =
+    record {
+      stays = stays_on old b c h.stays p.stays;
+      others = λ t apart. p.others t apart ∙ h.others t apart;
+      by = p.by;
+      given_up = λ e. ⊎_elim (λ (g : slice_get b.tasks task.0 ≡ Some GivenUp). inl (h.given_up g)) (λ (w : WouldTurn b task.0). inr (would_still old b task.0 h.stays w)) (p.given_up e);
+    }
+
 -- it stands otherwise
-put_standing : (old b c : BookView) (task : TaskId) (how : Task) → IsClaimed old task b → task.0 < length b.tasks → c ≡ stands b task how → (how ≡ Ready → ⊥) → (how ≡ Running → ⊥)
-    → (how ≡ GivenUp → WouldTurn old task.0) → PutsBy old task c
-put_standing old b c task how h low is ready running given =
-    subst (PutsBy old task) (sym is)
+put_standing : (b c : BookView) (task : TaskId) (how : Task) → task.0 < length b.tasks → c ≡ stands b task how → (how ≡ Ready → ⊥) → (how ≡ Running → ⊥)
+    → (how ≡ GivenUp → WouldTurn b task.0) → PutsBy b task c
+put_standing b c task how low is ready running given =
+    subst (PutsBy b task) (sym is)
     (record {
-      stays = stays_on old b (stands b task how) h.stays (stays_standing b task how);
-      others = λ t apart. get_set_other b.tasks task.0 t how apart ∙ h.others t apart;
+      stays = stays_standing b task how;
+      others = λ t apart. get_set_other b.tasks task.0 t how apart;
       by = (λ e. ready (same_Some how Ready (sym (get_set_same b.tasks task.0 how low) ∙ e)), λ e. running (same_Some how Running (sym (get_set_same b.tasks task.0 how low) ∙ e)));
       given_up = λ e. inr (given (same_Some how GivenUp (sym (get_set_same b.tasks task.0 how low) ∙ e)));
     })
 
-pub put_parked : (old b c : BookView) (task : TaskId) (log : Known) → IsClaimed old task b → task.0 < length b.tasks → c ≡ stands b task (Parked log) → PutsBy old task c
-put_parked old b c task log h low is = put_standing old b c task (Parked log) h low is (λ e. cc) (λ e. cc) (λ e. absurd (cc))
+pub put_parked : (b c : BookView) (task : TaskId) (log : Known) → task.0 < length b.tasks → c ≡ stands b task (Parked log) → PutsBy b task c
+put_parked b c task log low is = put_standing b c task (Parked log) low is (λ e. cc) (λ e. cc) (λ e. absurd (cc))
 
-pub put_given_up : (old b c : BookView) (task : TaskId) → IsClaimed old task b → task.0 < length b.tasks → c ≡ stands b task GivenUp → WouldTurn b task.0 → PutsBy old task c
-put_given_up old b c task h low is would =
-    put_standing old b c task GivenUp h low is (λ e. cc) (λ e. cc) (λ e. would_still old b task.0 h.stays would)
+pub put_given_up : (b c : BookView) (task : TaskId) → task.0 < length b.tasks → c ≡ stands b task GivenUp → WouldTurn b task.0 → PutsBy b task c
+put_given_up b c task low is would = put_standing b c task GivenUp low is (λ e. cc) (λ e. cc) (λ e. would)
 
 -- so of each task that is listed as given up
 abbrev So : Listing → (TaskId × TxId → Type 0) → ℕ → Type 0
@@ -172,7 +181,7 @@ gave_up b c task true runs h = h.1
 gave_up b c task false runs h = absurd (h.0 runs)
 
 -- the report of a book in which each task is put by
-module _ (l : Listing) (turns : List InstanceId) (a b : BookView) (qs : List (List ℕ)) (of : a.catalogue ≡ l) (given : IsGiving a qs) (entered : entered_by l a.journal ≡ map (instance_at l) turns)
+module _ (l : Listing) (turns : List InstanceId) (a b : BookView) (given : HasGiven l turns a)
     (put : ArePutBy a (length a.tasks) b) (lawful : LawfulBook b) (fits : BookFits b) (r : Told) (is : ReportIs b r) where
   idle : IsIdle b
   idle =
@@ -188,7 +197,7 @@ module _ (l : Listing) (turns : List InstanceId) (a b : BookView) (qs : List (Li
   would k e retries =
       let same : k ≡ 0 + k = omega arith in
       let path : outcome (task_program a.catalogue (number k)) a.present.state ≡ outcome (program_as l (number (0 + k)) (task_tx b.catalogue (number (0 + k)))) (now_of r).state =
-      ap (λ (x : Listing). outcome (program_as x (number k) (task_tx a.catalogue (number k))) a.present.state) of
+      ap (λ (x : Listing). outcome (program_as x (number k) (task_tx a.catalogue (number k))) a.present.state) given.catalogue
       ∙ (ap (λ (x : Listing). outcome (program_as l (number k) (task_tx x (number k))) a.present.state) (sym put.stays.catalogue)
       ∙ (ap (λ (m : ℕ). outcome (program_as l (number m) (task_tx b.catalogue (number m))) a.present.state) same
       ∙ ap (λ (s : Snapshot). outcome (program_as l (number (0 + k)) (task_tx b.catalogue (number (0 + k)))) s.state) (sym (is.current ∙ put.stays.present)))) in
@@ -197,8 +206,8 @@ module _ (l : Listing) (turns : List InstanceId) (a b : BookView) (qs : List (Li
   pub stops : StopsAfter l turns r
   stops =
       record {
-        lawful = subst (λ (x : Listing). LawfulReport x r) (put.stays.catalogue ∙ of) (report_lawful b r lawful fits idle is);
+        lawful = subst (λ (x : Listing). LawfulReport x r) (put.stays.catalogue ∙ given.catalogue) (report_lawful b r lawful fits idle is);
         opens = ap (λ (s : Snapshot). s.number) (is.base ∙ (put.stays.base ∙ given.base));
-        entered = ap (entered_by l) (is.entries ∙ put.stays.journal) ∙ entered;
+        entered = ap (entered_by l) (is.entries ∙ put.stays.journal) ∙ given.entered;
         given_up = subst (All Would) (sym is.memory) (given_up_listed b.catalogue 0 b.tasks Would would);
       }

@@ -22,7 +22,7 @@ use Rattle.explore_law.specs.Instances.{instances, instance_at, instance_program
 use Rattle.explore_law.specs.Orders.{HasTurn, turned, first_config, counted, count_at}
 use Rattle.explore_law.proofs.Instances.{apart_numbers, instances_apart, instance_gets}
 use Rattle.explore_runner.specs.Ends.{call_as}
-use Rattle.explore_runner.specs.Giving.{entered_by, IsTaken, queue_at, Leaves, IsOf, AreOwn, IsGiving, config_of}
+use Rattle.explore_runner.specs.Giving.{entered_by, HasGiven, IsTaken, queue_at, Leaves, IsOf, AreOwn, IsGiving, config_of}
 use Rattle.explore_runner.proofs.Leading.{call_of, instance_does, config, applied_as}
 use Rattle.explore_runner.proofs.Whole.{task_call}
 use Rattle.explore_runner.proofs.Queueing.{get_append_at, get_append_left}
@@ -130,6 +130,20 @@ all_taken l b qs h own =
 
 pub begins : (l : Listing) (b : BookView) (qs : List (List ℕ)) (n : ℕ) → IsTaken l n b → map length qs ≡ counted l (calls l) → config_of b qs ≡ first_config l
 begins l b qs n h counts = ap (λ (m : State). config m (map length qs)) (ap (λ (s : Snapshot). s.state) h.present) ∙ ap (config l.initial) counts
+
+-- the book in which these turns were given, from the one in which all tasks were taken
+pub has_given : (l : Listing) (n : ℕ) (first b : BookView) (qs : List (List ℕ)) (turns : List InstanceId) → IsTaken l n first → IsGiving b qs
+    → entered_by first.catalogue b.journal ≡ entered_by first.catalogue first.journal ++ map (instance_at first.catalogue) turns → b.catalogue ≡ first.catalogue → HasGiven l turns b
+has_given l n first b qs turns taken given entered same =
+    let of : b.catalogue ≡ l = same ∙ taken.catalogue in
+    let behind : entered_by l b.journal ≡ entered_by l first.journal ++ map (instance_at l) turns =
+    subst (λ (x : Listing). entered_by x b.journal ≡ entered_by x first.journal ++ map (instance_at x) turns) taken.catalogue entered in
+    record {
+      catalogue = of;
+      base = given.base ∙ ap opening of;
+      entered = behind ∙ ap (λ (es : List Entry). entered_by l es ++ map (instance_at l) turns) taken.journal;
+      kept = given.kept;
+    }
 
 abbrev instance : ℕ → InstanceId
 instance n = record { 0 = n }

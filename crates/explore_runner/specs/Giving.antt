@@ -9,7 +9,7 @@ use Rattle.txn_programs.specs.Replay.{opening, Once}
 use Rattle.book.specs.Tasks.{Ready, Running, GivenUp}
 use Rattle.book.specs.View.{BookView}
 use Rattle.explore_law.specs.declared.instance.InstanceId.{InstanceId}
-use Rattle.explore_law.specs.Instances.{instances}
+use Rattle.explore_law.specs.Instances.{instances, instance_at}
 use Rattle.explore_law.specs.Orders.{Config, Leads}
 use Rattle.explore_runner.specs.Ends.{call_as}
 
@@ -55,6 +55,13 @@ pub record IsGiving (b : BookView) (qs : List (List ℕ)) : Type 0 where
   pub base : b.base ≡ opening b.catalogue
   pub own : AreOwn b.catalogue qs
   pub running : (k i t : ℕ) → slice_get (queue_at qs k) i ≡ Some t → slice_get b.tasks t ≡ Some Running
+  pub kept : (t : ℕ) → slice_get b.tasks t ≢ Some GivenUp
+
+-- a book that began with the opening, whose entries are of these instances, and in which none is given up
+pub record HasGiven (l : Listing) (turns : List InstanceId) (b : BookView) : Type 0 where
+  pub catalogue : b.catalogue ≡ l
+  pub base : b.base ≡ opening l
+  pub entered : entered_by l b.journal ≡ map (instance_at l) turns
   pub kept : (t : ℕ) → slice_get b.tasks t ≢ Some GivenUp
 
 -- the place where they stand

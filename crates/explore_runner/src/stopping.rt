@@ -1,14 +1,15 @@
 //! The report of a run that stops behind given turns.
 
-ghost use Rattle.std.specs.Prelude.{◌≡◌, ◌<◌, IfOk, OnOk, length};
+ghost use Rattle.std.specs.Prelude.{◌≡◌, ◌<◌, IfOk, OnOk, Some, length, slice_get};
 ghost use Rattle.txn_programs.specs.Told.{told};
+ghost use Rattle.book.specs.Tasks.{Running};
+ghost use Rattle.book.specs.View.{opened};
 ghost use Rattle.explore_runner.specs.Giving.{GoesSomewhere};
 ghost use Rattle.explore_law.specs.Orders.{first_config};
 ghost use Rattle.explore_runner.specs.PuttingBy.{ArePutBy, PutsBy};
 ghost use Rattle.explore_runner.specs.Stopping.{StopsAfter};
 
-use crate::queues::tasks_by_instance;
-use crate::turns::{give_turns, take_all};
+use crate::turns::take_turns;
 use attempt::Attempt;
 use book::{Book, Serial, Standing};
 use cells::Cells;
@@ -28,10 +29,22 @@ pub fn stopped(alloc: Global, catalogue: &Catalogue, turns: &[InstanceId]) -> Re
     catalogue.rules();
     let (cells, publisher) = Cells::unread(alloc, catalogue.initial())?;
     let mut book = Book::open(alloc, catalogue, &cells, publisher)?;
-    take_all(&mut book, catalogue.tasks());
-    let mut waiting = tasks_by_instance(alloc, catalogue)?;
-    give_turns(alloc, &mut book, &mut waiting, turns)?;
-    stop(alloc, &mut book, catalogue)?;
+    report_behind(alloc, &mut book, catalogue, turns)
+}
+
+/// Gives these turns in a book in which none was given, puts all other tasks by, and tells the book.
+fn report_behind<'a>(
+    alloc: Global,
+    book: &mut Book<'a>,
+    catalogue: &'a Catalogue,
+    turns: &[InstanceId],
+) -> Result<Report, Memory>
+    requires opened { book.old ≡ opened catalogue.now book.old.cells 0 }
+    requires goes { GoesSomewhere catalogue.now (first_config catalogue.now) turns.now }
+    ensures { IfOk result (λ r. StopsAfter catalogue.now turns.now (told r)) }
+{
+    take_turns(alloc, book, catalogue, turns)?;
+    stop(alloc, book, catalogue)?;
     book.law();
     book.report(alloc)
 }
@@ -65,13 +78,27 @@ fn put_by<'a>(
         return Ok(());
     };
     let tx = book.task_tx(task);
+    let mut attempt = Attempt::new(alloc, catalogue, tx, book.task_arguments(task));
+    put_running_by(&mut attempt, book, task)
+}
+
+/// Puts a running task by. What the attempt was one of before does not matter.
+fn put_running_by<'a>(
+    attempt: &mut Attempt<'a>,
+    book: &mut Book<'a>,
+    task: TaskId,
+) -> Result<(), Memory>
+    requires exists { task.0 < length book.old.tasks }
+    requires runs { slice_get book.old.tasks task.0 ≡ Some Running }
+    ensures { OnOk result (PutsBy book.old task book.new) }
+{
+    let tx = book.task_tx(task);
     let arguments = book.task_arguments(task);
-    let mut attempt = Attempt::new(alloc, catalogue, tx, arguments);
-    let Outcome::Retries = book.outcome_now(&mut attempt, tx, arguments)? else {
+    let Outcome::Retries = book.outcome_now(attempt, tx, arguments)? else {
         let _is_given_up = book.give_up(task);
         return Ok(());
     };
-    match book.serial_lent(&mut attempt, task) {
+    match book.serial_lent(attempt, task) {
         Serial::Parked => Ok(()),
         Serial::Abandoned => Err(Memory),
         Serial::NotRunning | Serial::Committed(_) => unreachable!(),

@@ -10,7 +10,8 @@ ghost use Rattle.book.specs.View.{opened};
 ghost use Rattle.explore_law.specs.Instances.{instance_at};
 ghost use Rattle.explore_law.specs.Orders.{Config, HasTurn, turned, first_config, Leads};
 ghost use Rattle.explore_runner.specs.Ends.{EndsAt, LeadsToEnd};
-ghost use Rattle.explore_runner.specs.Giving.{GoesSomewhere, IsGiving, IsTaken, config_of, entered_by, queues};
+ghost use Rattle.explore_runner.specs.Giving.{GoesSomewhere, HasGiven, IsGiving, IsTaken, config_of, entered_by};
+ghost use Rattle.explore_runner.specs.Giving.{queues};
 
 use crate::queues::{next, tasks_by_instance};
 use book::{Book, Serial};
@@ -34,14 +35,46 @@ pub fn witness(alloc: Global, catalogue: &Catalogue, turns: &[InstanceId]) -> Re
     catalogue.rules();
     let (cells, publisher) = Cells::unread(alloc, catalogue.initial())?;
     let mut book = Book::open(alloc, catalogue, &cells, publisher)?;
-    take_all(&mut book, catalogue.tasks());
+    report_at_end(alloc, &mut book, catalogue, turns)
+}
+
+/// Gives these turns in a book in which none was given, and then tells it.
+fn report_at_end(
+    alloc: Global,
+    book: &mut Book<'_>,
+    catalogue: &Catalogue,
+    turns: &[InstanceId],
+) -> Result<Report, Memory>
+    requires opened { book.old ≡ opened catalogue.now book.old.cells 0 }
+    requires leads { LeadsToEnd catalogue.now turns.now }
+    ensures ends { IfOk result (λ r. (p : Config) → Leads catalogue.now (first_config catalogue.now) turns.now p
+        → EndsAt catalogue.now (told r) p) }
+    ensures turns { IfOk result
+        (λ r. entered_by catalogue.now (told r).entries ≡ map (instance_at catalogue.now) turns.now) }
+{
+    catalogue.rules();
+    take_turns(alloc, book, catalogue, turns)?;
+    close(alloc, book)
+}
+
+/// Gives these turns in a book in which none was given: each to the lowest task of its instance that is left.
+pub(crate) fn take_turns(
+    alloc: Global,
+    book: &mut Book<'_>,
+    catalogue: &Catalogue,
+    turns: &[InstanceId],
+) -> Result<(), Memory>
+    requires opened { book.old ≡ opened catalogue.now book.old.cells 0 }
+    requires goes { GoesSomewhere catalogue.now (first_config catalogue.now) turns.now }
+    ensures { OnOk result (HasGiven catalogue.now turns.now book.new) }
+{
+    take_all(book, catalogue.tasks());
     let mut waiting = tasks_by_instance(alloc, catalogue)?;
-    give_turns(alloc, &mut book, &mut waiting, turns)?;
-    close(alloc, &mut book)
+    give_turns(alloc, book, &mut waiting, turns)
 }
 
 /// Takes all tasks of a book in which none was taken.
-pub(crate) fn take_all(book: &mut Book<'_>, count: usize)
+fn take_all(book: &mut Book<'_>, count: usize)
     requires opened { book.old ≡ opened book.old.catalogue book.old.cells 0 }
     requires count { count ≡ length (tasks book.old.catalogue) }
     ensures { IsTaken book.old.catalogue count book.new }
@@ -53,7 +86,7 @@ pub(crate) fn take_all(book: &mut Book<'_>, count: usize)
 }
 
 /// Gives these turns, each to the lowest task of its instance that is left.
-pub(crate) fn give_turns(
+fn give_turns(
     alloc: Global,
     book: &mut Book<'_>,
     waiting: &mut Vec<Vec<u32>>,

@@ -1,80 +1,31 @@
-use Rattle.std.proofs.Common.{◌≡◌, ℕ, ℤ, ◌<◌, List, length, map, Some, sym, ◌∙◌, ap, subst, ⊎_elim, arith}
+use Rattle.std.proofs.Common.{◌≡◌, map, Some, sym, ◌∙◌, subst}
 use Rattle.std.specs.Prelude.{slice_get}
 use Rattle.txn_programs.specs.declared.ast.TxId.{TxId}
-use Rattle.txn_programs.specs.declared.ast.TaskId.{TaskId}
-use Rattle.txn_programs.specs.declared.ast.Outcome.TheVariants.{Retries}
-use Rattle.txn_programs.specs.Listing.{Listing, IsCallable, call_program, task_arguments, task_program, task_tx}
-use Rattle.txn_programs.specs.Meaning.{outcome}
-use Rattle.txn_programs.specs.Tree.{Program}
-use Rattle.book.specs.Tasks.{Running}
-use Rattle.book.specs.Turns.{Served}
+use Rattle.txn_programs.specs.Listing.{Listing, IsCallable}
 use Rattle.book.specs.Recorded.{told_as}
 use Rattle.book.specs.declared.standing.Standing.{Standing}
-use Rattle.book.specs.declared.task.Serial.{Serial}
-use Rattle.book.specs.declared.task.Serial.TheVariants as serial
-use Rattle.explore_runner.proofs.Putting.{IsClaimed, claimed, put_parked, put_given_up, told_running, gave_up}
+use Rattle.explore_runner.specs.PuttingBy.{PutsBy}
+use Rattle.explore_runner.proofs.Putting.{claimed, put_then, told_running}
+use Rattle.explore_runner.proofs.Closing.{on_ok}
 use Rattle.explore_runner.proofs.stopping.put_by.Goals as goal
-
--- the call is the task's
-call_is : (l : Listing) (task : TaskId) (tx : TxId) (arguments : List ℤ) → tx ≡ task_tx l task → arguments ≡ task_arguments l task → call_program l tx arguments ≡ task_program l task
-call_is l task tx arguments a b = ap (λ (x : TxId). call_program l x arguments) a ∙ ap (call_program l (task_tx l task)) b
-
-callable : (l : Listing) (task : TaskId) (tx : TxId) (arguments : List ℤ) → tx ≡ task_tx l task → IsCallable l (task_tx l task) arguments → IsCallable l tx arguments
-callable l task tx arguments a h = subst (λ (x : TxId). IsCallable l x arguments) (sym a) h
 
 pub new-attempt-requires : goal.new-attempt-requires
 new-attempt-requires c =
     let b = c.claim-was_ready.new.self in
-    let arguments = c.task_arguments-arguments.result.now in
+    let arguments = c.task_arguments.result.now in
     subst (λ (l : Listing). IsCallable l c.task_tx-tx.result arguments) (c.claim-was_ready.ensures.catalogue ∙ c.requires.catalogue)
-    (callable b.catalogue c.args.task c.task_tx-tx.result arguments c.task_tx-tx.ensures.value c.task_arguments-arguments.ensures.each)
+    (subst (λ (x : TxId). IsCallable b.catalogue x arguments) (sym c.task_tx-tx.ensures.value) c.task_arguments.ensures.each)
 
-pub outcome_now-requires : goal.outcome_now-requires
-outcome_now-requires c =
+pub put_running_by-requires-clause-runs : goal.put_running_by-requires-clause-runs
+put_running_by-requires-clause-runs c =
     let b = c.claim-was_ready.new.self in
-    callable b.catalogue c.args.task c.task_tx-tx.result c.task_arguments-arguments.result.now c.task_tx-tx.ensures.value c.task_arguments-arguments.ensures.each
+    told_running b.tasks c.args.task.0 (subst (λ (s : Standing). slice_get (map told_as b.tasks) c.args.task.0 ≡ Some s) c.in-Running.is c.standing.ensures)
 
-pub returns-in_default-2 : goal.returns-in_default-2
-returns-in_default-2 c =
+pub returns : goal.returns
+returns c =
     let old = c.args.book.now in
     let task = c.args.task in
     let b = c.claim-was_ready.new.self in
-    let at : IsClaimed old task b = claimed old b task c.claim-was_ready.result c.requires.exists c.claim-was_ready.ensures.claimed in
-    let low : task.0 < length b.tasks = omega (arith, c.requires.exists, at.stays.count) in
-    let runs : slice_get b.tasks task.0 ≡ Some Running =
-    told_running b.tasks task.0 (subst (λ (s : Standing). slice_get (map told_as b.tasks) task.0 ≡ Some s) c.in-Running.is c.standing.ensures) in
-    let is = gave_up b c.give_up-is_given_up.new.self task c.give_up-is_given_up.result runs c.give_up-is_given_up.ensures.given_up in
-    put_given_up old b c.give_up-is_given_up.new.self task at low is
-    (λ retries.
-    c.in_default-2.not-Retries
-    (sym c.in_ok-outcome_now.ensures.ends.outcome_is
-    ∙ (ap (λ (t : Program). outcome t b.present.state)
-    (call_is b.catalogue task c.task_tx-tx.result c.task_arguments-arguments.result.now c.task_tx-tx.ensures.value c.task_arguments-arguments.ensures.value)
-    ∙ retries)))
-
-pub returns-in-Parked : goal.returns-in-Parked
-returns-in-Parked c =
-    let old = c.args.book.now in
-    let task = c.args.task in
-    let b = c.claim-was_ready.new.self in
-    let new = c.serial_lent.new.self in
-    let at : IsClaimed old task b = claimed old b task c.claim-was_ready.result c.requires.exists c.claim-was_ready.ensures.claimed in
-    let low : task.0 < length b.tasks = omega (arith, c.requires.exists, at.stays.count) in
-    let s = subst (λ (r : Serial). Served b task r new) c.in-Parked.is c.serial_lent.ensures.served in
-    put_parked old b new task s.2.0 at low s.2.2
-
-pub unreachable-requires : goal.unreachable-requires
-unreachable-requires c =
-    let task = c.args.task in
-    let b = c.claim-was_ready.new.self in
-    let new = c.serial_lent.new.self in
-    let runs : slice_get b.tasks task.0 ≡ Some Running =
-    told_running b.tasks task.0 (subst (λ (s : Standing). slice_get (map told_as b.tasks) task.0 ≡ Some s) c.in-Running.is c.standing.ensures) in
-    let retries : outcome (task_program b.catalogue task) b.present.state ≡ Retries =
-    ap (λ (t : Program). outcome t b.present.state)
-    (sym (call_is b.catalogue task c.task_tx-tx.result c.task_arguments-arguments.result.now c.task_tx-tx.ensures.value c.task_arguments-arguments.ensures.value))
-    ∙ (c.in_ok-outcome_now.ensures.ends.outcome_is ∙ c.in-Retries.is) in
-    ⊎_elim
-    (λ (e : c.serial_lent.result ≡ serial.NotRunning). let s = subst (λ (r : Serial). Served b task r new) e c.serial_lent.ensures.served in s.0 runs)
-    (λ (h : (x : ℕ) × (c.serial_lent.result ≡ serial.Committed x)). let s = subst (λ (r : Serial). Served b task r new) h.1 c.serial_lent.ensures.served in s.1 retries)
-    c.in-NotRunning.is
+    let new = c.put_running_by.new.book in
+    let at = claimed old b task c.claim-was_ready.result c.requires.exists c.claim-was_ready.ensures.claimed in
+    on_ok c.put_running_by.result (PutsBy b task new) (PutsBy old task new) (put_then old b new task at) c.put_running_by.ensures
