@@ -231,7 +231,10 @@ fn refusal(alloc: Global, shown: &Shown, line: &str) -> Option<Answer> {
     let Ok(words) = words_of(alloc, line) else {
         return None;
     };
-    asked(shown, words.as_slice()).err()
+    match asked(shown, words.as_slice()) {
+        Ok(_) => None,
+        Err(answer) => Some(answer),
+    }
 }
 
 /// Whether a line asks for this version.
