@@ -38,7 +38,7 @@ get: waits with ticket 2
 put: returned 1, entry 3
 ticket 2 was woken
 get: returned 0, entry 4
-None
+get: the transaction retries
 Good
 put: returned 1, entry 1
 """

@@ -71,10 +71,16 @@ static void keep(const char *kind, const uint8_t *text, size_t length) {
 /* An increment was entered: each has the number after the one before. */
 static void counts(int64_t value) { wants(value == ++entered); }
 
-static void turned(stm_turned turn) {
-    if (turn.code == STM_RETRIES) wants(turn.transaction == SLEEP);
-    else wants(turn.code == STM_DONE);
-    if (turn.transaction == INC) counts(turn.value);
+/* A turn of a task of this chapter. */
+static void turned(uint32_t transaction, stm_answer turn) {
+    wants(turn.ticket >= 0 && turn.chapter == chapters);
+    if (turn.code == STM_RETRIES) wants(transaction == SLEEP);
+    else wants(turn.code == STM_DONE && turn.entry > 0);
+    if (transaction == INC) counts(turn.value);
+}
+
+static stm_answer calls(uint32_t transaction, uint32_t way) {
+    return stm_call(&store, &lender, transaction, NULL, 0, way);
 }
 
 /* Those that still sleep have their tickets; in the place of one that was woken another lies down. */
@@ -82,9 +88,9 @@ static void look_at_sleepers(void) {
     for (int i = 0; i < SLEEPERS; i++) {
         stm_answer how = stm_standing(&store, sleepers[i]);
         if (how.code == STM_RETRIES) continue;
-        wants(how.code == STM_UNKNOWN);
+        wants(how.code == STM_GONE);
         woken++;
-        stm_turned turn = stm_call(&store, &lender, SLEEP, NULL, 0);
+        stm_answer turn = calls(SLEEP, STM_WAITS);
         wants(turn.code == STM_RETRIES);
         sleepers[i] = turn.ticket;
     }
@@ -108,7 +114,7 @@ static void next_chapter(void) {
     look_at_sleepers();
     wants(stm_store_spare(&store) == TASK_ROOM - SLEEPERS);
     if (chapters % RINGS_EVERY == 0) {
-        turned(stm_call(&store, &lender, RING, NULL, 0));
+        turned(RING, calls(RING, STM_WAITS));
         rings++;
     }
 }
@@ -118,17 +124,16 @@ static void brings(stm_worker *worker, stm_job job) {
     pthread_mutex_unlock(&lock);
     int32_t tried = stm_try_job(worker, job);
     pthread_mutex_lock(&lock);
-    stm_answer end = tried == STM_DONE ? stm_finish(&store, worker) : (stm_answer){tried, 0, 0};
-    if (end.code == STM_STALE) end = stm_serial(&store, job.ticket);
+    stm_answer end = tried == STM_DONE ? stm_bring(&store, worker) : (stm_answer){.ticket = -1, .code = tried};
+    if (end.code == STM_STALE) end = stm_turn(&store, &lender, job);
     switch (end.code) {
     case STM_DONE:
         if (job.transaction == INC) counts(end.value);
         return;
     case STM_RETRIES: wants(job.transaction == SLEEP); return;
     /* A chapter ended meanwhile, and the task had its turn before, or has another one now. */
-    case STM_OTHER_CHAPTER:
-    case STM_NOT_RUNNING:
-    case STM_UNKNOWN: return;
+    case STM_GONE:
+    case STM_NOT_RUNNING: return;
     default: fails(stm_word(end.code), __LINE__);
     }
 }
@@ -137,13 +142,13 @@ static void brings(stm_worker *worker, stm_job job) {
 static void one_more(stm_worker *worker, long way) {
     asked++;
     if (way == 0) {
-        turned(stm_call(&store, &lender, INC, NULL, 0));
+        turned(INC, calls(INC, STM_WAITS));
     } else if (way == 1) {
-        turned(stm_try_call(&store, &lender, INC, NULL, 0));
+        turned(INC, calls(INC, STM_TRIES));
     } else {
         int64_t ticket = stm_submit(&store, INC, NULL, 0);
         wants(ticket >= 0);
-        stm_job job = way == 2 ? stm_claim(&store, ticket) : stm_take_job(&store);
+        stm_job job = way == 2 ? stm_claim(&store, ticket) : stm_take(&store);
         wants(job.ticket >= 0 && job.chapter == chapters);
         brings(worker, job);
     }
@@ -168,9 +173,9 @@ static int sleeping(void) {
 /* The bell rings until nobody sleeps. */
 static void all_wake(void) {
     for (next_chapter();; rings++) {
-        for (stm_turned turn; (turn = stm_turn(&store, &lender)).code != STM_IDLE;) turned(turn);
+        for (stm_job job; (job = stm_take(&store)).ticket >= 0;) turned(job.transaction, stm_turn(&store, &lender, job));
         if (!sleeping()) break;
-        turned(stm_call(&store, &lender, RING, NULL, 0));
+        turned(RING, calls(RING, STM_WAITS));
     }
     wants(woken + SLEEPERS == rings && entered == asked);
 }
@@ -188,7 +193,7 @@ int main(int count, char **words) {
     wants(stm_read((const uint8_t *)FILE_TEXT, strlen(FILE_TEXT), &program) == STM_DONE);
     wants(stm_open_with_room(&program, (size_t)threads, 0, TASK_ROOM, &store) == STM_DONE && stm_open_lender(&store, &lender) == STM_DONE);
     for (int i = 0; i < SLEEPERS; i++) {
-        stm_turned turn = stm_call(&store, &lender, SLEEP, NULL, 0);
+        stm_answer turn = calls(SLEEP, STM_WAITS);
         wants(turn.code == STM_RETRIES && turn.ticket == i);
         sleepers[i] = turn.ticket;
     }

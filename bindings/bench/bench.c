@@ -22,6 +22,7 @@ static const char NO_RUNS[] = "(var x 0)\n(tx inc (set x (add x 1)) x)\n";
 static pthread_mutex_t lock = PTHREAD_MUTEX_INITIALIZER;
 static pthread_barrier_t begun;
 static stm_store store;
+static stm_lender lender;
 
 static double now(void) {
     struct timespec at;
@@ -34,38 +35,39 @@ static void fails(const char *why) {
     exit(2);
 }
 
-/* One task: tries without the lock, then a turn under it. The next task is taken under the same lock as the end; the
- * answer is its number, or below 0 where none is ready. */
-static int64_t run(stm_worker *worker, uint32_t task) {
+/* One job: tries without the lock, then a turn under it. The next job is taken under the same lock as the end; its ticket
+ * is below 0 where none is ready. */
+static stm_job run(stm_worker *worker, stm_job job) {
     for (int tries = 0; tries < STALE_TRIES; tries++) {
-        if (stm_try(worker, task) != STM_DONE) continue;
+        if (stm_try_job(worker, job) != STM_DONE) continue;
         pthread_mutex_lock(&lock);
-        int is_done = stm_finish(&store, worker).code == STM_DONE;
-        int64_t after = is_done ? stm_take(&store) : -1;
+        int is_done = stm_bring(&store, worker).code == STM_DONE;
+        stm_job after = is_done ? stm_take(&store) : job;
         pthread_mutex_unlock(&lock);
         if (is_done) return after;
     }
     pthread_mutex_lock(&lock);
-    stm_serial(&store, task);
-    int64_t after = stm_take(&store);
+    stm_turn(&store, &lender, job);
+    stm_job after = stm_take(&store);
     pthread_mutex_unlock(&lock);
     return after;
 }
 
 static void *work(void *worker) {
     pthread_mutex_lock(&lock);
-    int64_t task = stm_take(&store);
+    stm_job job = stm_take(&store);
     pthread_mutex_unlock(&lock);
-    while (task >= 0) task = run(worker, (uint32_t)task);
+    while (job.ticket >= 0) job = run(worker, job);
     return NULL;
 }
 
 /* The same by turns under the lock: whoever has it gives so many. */
-static void *turn(void *worker) {
+static void *turn(void *unused) {
+    (void)unused;
     int64_t given = 1;
     while (given > 0) {
         pthread_mutex_lock(&lock);
-        given = stm_turns(&store, worker, TURNS);
+        given = stm_turns(&store, &lender, TURNS);
         pthread_mutex_unlock(&lock);
     }
     return NULL;
@@ -108,45 +110,43 @@ static double by_threads(int threads, void *(*life)(void *), stm_worker *workers
 
 /* With one thread each call by itself; what the clock costs is taken off. */
 static void each_call(stm_worker *worker) {
-    double clock = now(), taken = 0, tried = 0, finished = 0, observed = now();
+    double clock = now(), taken = 0, tried = 0, brought = 0, observed = now();
     for (int i = 0; i < TASKS; i++) now();
     clock = (now() - clock) / (TASKS + 1);
     for (int i = 0; i < TASKS; i++) {
         double a = now();
-        int64_t task = stm_take(&store);
+        stm_job job = stm_take(&store);
         double b = now();
-        if (stm_try(worker, (uint32_t)task) != STM_DONE) fails("a try did not end");
+        if (stm_try_job(worker, job) != STM_DONE) fails("a try did not end");
         double c = now();
-        if (stm_finish(&store, worker).code != STM_DONE) fails("no commit");
+        if (stm_bring(&store, worker).code != STM_DONE) fails("no commit");
         double d = now();
         taken += b - a - clock;
         tried += c - b - clock;
-        finished += d - c - clock;
+        brought += d - c - clock;
     }
     observed = now();
     for (int i = 0; i < TASKS; i++) {
         if (stm_observe(worker, 0, NULL, 0).code != STM_DONE) fails("no answer");
     }
     observed = (now() - observed) / TASKS;
-    printf(" take_ns %.0f try_ns %.0f finish_ns %.0f observe_ns %.0f", taken / TASKS, tried / TASKS, finished / TASKS, observed);
+    printf(" take_ns %.0f try_ns %.0f bring_ns %.0f observe_ns %.0f", taken / TASKS, tried / TASKS, brought / TASKS, observed);
 }
 
-/* A task by calls, and by turns of a worker, both of stores that were opened for one worker. */
+/* A task by calls, and by turns, both of stores that were opened for one worker. */
 static void calls_and_turns(const stm_program *program) {
     stm_program bare = {0};
-    stm_worker worker = {0};
-    stm_lender lender = {0};
-    if (stm_open(program, 1, 0, &store) != STM_DONE || stm_open_worker(&store, &worker) != STM_DONE) fails("no store");
+    if (stm_open(program, 1, 0, &store) != STM_DONE || stm_open_lender(&store, &lender) != STM_DONE) fails("no store");
     double turns = now();
-    if (stm_turns(&store, &worker, TASKS) != TASKS) fails("not all turns were given");
+    if (stm_turns(&store, &lender, TASKS) != TASKS) fails("not all turns were given");
     turns = (now() - turns) / TASKS;
-    stm_worker_free(&worker);
+    stm_lender_free(&lender);
     stm_store_free(&store);
     if (stm_read((const uint8_t *)NO_RUNS, strlen(NO_RUNS), &bare) != STM_DONE) fails("no program");
     if (stm_open_with_room(&bare, 1, 0, TASKS, &store) != STM_DONE || stm_open_lender(&store, &lender) != STM_DONE) fails("no store");
     double calls = now();
     for (int64_t i = 0; i < TASKS; i++) {
-        if (stm_call(&store, &lender, 0, NULL, 0).value != i + 1) fails("a call answers another number");
+        if (stm_call(&store, &lender, 0, NULL, 0, STM_WAITS).value != i + 1) fails("a call answers another number");
     }
     calls = (now() - calls) / TASKS;
     double chapter = now();
@@ -177,11 +177,13 @@ static void by_store(int threads, void *(*life)(void *)) {
     for (int i = 0; i < threads; i++) {
         if (stm_open_worker(&store, &workers[i]) != STM_DONE) fails("no worker");
     }
+    if (stm_open_lender(&store, &lender) != STM_DONE) fails("no lender");
     double open = now() - at, ran = by_threads(threads, life, workers);
     uint8_t *text = report(&told, &wanted);
     if (stm_check((const uint8_t *)FILE_TEXT, length, text, wanted) != STM_DONE) fails("the report is bad");
     printf("read_ms %.3f open_ms %.3f run_ms %.3f report_ms %.3f", read / 1e6, open / 1e6, ran / 1e6, told / 1e6);
     for (int i = 0; i < threads; i++) stm_worker_free(&workers[i]);
+    stm_lender_free(&lender);
     stm_store_free(&store);
     if (threads == 1 && life == work) {
         if (stm_open(&program, 1, 0, &store) != STM_DONE || stm_open_worker(&store, workers) != STM_DONE) fails("no store");

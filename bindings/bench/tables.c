@@ -94,10 +94,10 @@ static void lets_go(void) {
 }
 
 static void calls(uint32_t transaction, const int64_t *given, size_t count) {
-    stm_turned turn = stm_call(&store, &lender, transaction, given, count);
+    stm_answer turn = stm_call(&store, &lender, transaction, given, count, STM_WAITS);
     if (turn.code == STM_NO_ROOM) {
         stm_begin_chapter(&store);
-        turn = stm_call(&store, &lender, transaction, given, count);
+        turn = stm_call(&store, &lender, transaction, given, count, STM_WAITS);
     }
     if (turn.code != STM_DONE && turn.code != STM_THROWN) fails("a call does not end");
 }

@@ -48,14 +48,13 @@ enum {
     LINE = 64
 };
 
-typedef stm_turned makes(stm_store *, stm_lender *, uint32_t, const int64_t *, size_t);
-
 /* How far a call is: asked for; its answer is there; or it waits, and its answer is there when its bell was rung. */
 enum state { ASKED, ANSWERED, WAITS };
 
 struct call {
-    makes *by;
     uint32_t transaction;
+    /* One of `enum stm_way`. */
+    uint32_t way;
     /* They lie where its thread has them, until the call was made. */
     const int64_t *arguments;
     size_t count;
@@ -116,7 +115,8 @@ struct stm_service {
     pid_t process;
 };
 
-static stm_answer bare(int32_t code) { return (stm_answer){code, 0, 0}; }
+/* An answer of no task. */
+static stm_answer bare(int32_t code) { return (stm_answer){-1, code, 0, 0, 0}; }
 
 static bool is_long(const stm_service *s, uint32_t transaction) {
     return s->long_ones && transaction < s->transactions && s->long_ones[transaction];
@@ -191,48 +191,41 @@ static void ring_all(struct call *call) {
 /* ---- Turns of tasks, under the lock ---- */
 
 /* What the caller of the task is told. */
-static stm_answer told(int32_t code, int64_t value, uint64_t entry) {
-    return (stm_answer){code == STM_GIVEN_UP ? STM_MEMORY : code, value, entry};
-}
+static stm_answer told(stm_answer answer) { return answer.code == STM_GIVEN_UP ? bare(STM_MEMORY) : answer; }
 
-/* The lowest ready task has its turn; false: none is ready. */
-static bool give_turn(stm_service *s) {
-    stm_turned turn = stm_turn(&s->store, &s->lender);
-    if (turn.ticket < 0) return false;
-    if (turn.code != STM_RETRIES) hand(s, turn.ticket, told(turn.code, turn.value, turn.entry));
-    return true;
-}
-
-/* As `give_turn`, but a long one is handed to its thread, where one waits. */
-static bool give_turn_or_hand(stm_service *s) {
-    stm_job job = stm_take_job(&s->store);
+/* The lowest ready task has its turn. Where it may be, a long one for which a thread waits is handed to that. False: none
+ * is ready. */
+static bool give_turn(stm_service *s, bool may_hand) {
+    stm_job job = stm_take(&s->store);
     if (job.ticket < 0) return false;
-    struct call *call = is_long(s, job.transaction) ? *place_of(s, job.ticket) : NULL;
+    struct call *call = may_hand && is_long(s, job.transaction) ? *place_of(s, job.ticket) : NULL;
     if (call) {
         runs(s, call, job);
         is_to_be_rung(s, call);
         return true;
     }
-    stm_answer answer = stm_serial(&s->store, job.ticket);
-    if (answer.code != STM_RETRIES) hand(s, job.ticket, told(answer.code, answer.value, answer.entry));
+    stm_answer answer = stm_turn(&s->store, &s->lender, job);
+    if (answer.code != STM_RETRIES) hand(s, job.ticket, told(answer));
     return true;
 }
 
 /* Serves each ready task, the lowest first. */
 static void serve(stm_service *s) {
-    bool more = true;
-    while (more) more = s->long_calls > s->running ? give_turn_or_hand(s) : give_turn(s);
+    while (give_turn(s, s->long_calls > s->running)) continue;
 }
 
 /* So its running task ended: it waits, but for a try, or its thread has the answer. */
 static void ends(stm_service *s, struct call *call, stm_answer answer) {
-    if (answer.code == STM_RETRIES && call->by == stm_call) {
+    if (answer.code == STM_RETRIES && call->way == STM_WAITS) {
         call->running = false;
         s->running--;
         return;
     }
-    if (answer.code == STM_RETRIES) stm_withdraw(&s->store, call->ticket);
-    hand(s, call->ticket, told(answer.code, answer.value, answer.entry));
+    if (answer.code == STM_RETRIES) {
+        stm_give_up(&s->store, call->ticket);
+        answer = bare(STM_RETRIES);
+    }
+    hand(s, call->ticket, told(answer));
 }
 
 /* Gives what threads evaluate just then its turn, and what that woke: so no task is ready or running. */
@@ -241,10 +234,10 @@ static void settle(stm_service *s) {
     for (size_t i = 0; i < BUCKETS; i++) {
         for (struct call *next, *call = s->table[i]; call; call = next) {
             next = call->next;
-            if (call->running) ends(s, call, stm_serial(&s->store, call->ticket));
+            if (call->running) ends(s, call, stm_turn(&s->store, &s->lender, call->job));
         }
     }
-    while (give_turn(s)) continue;
+    while (give_turn(s, false)) continue;
 }
 
 /* ---- Chapters ---- */
@@ -302,20 +295,18 @@ static int32_t next_chapter(stm_service *s) {
 
 /* ---- Calls, under the lock ---- */
 
-static stm_turned turn_by(stm_service *s, const struct call *call) {
-    return call->by(&s->store, &s->lender, call->transaction, call->arguments, call->count);
+static stm_answer turn_by(stm_service *s, const struct call *call) {
+    return stm_call(&s->store, &s->lender, call->transaction, call->arguments, call->count, call->way);
 }
 
 /* A turn of the call, in a new chapter where the present one has no room; and of what it woke. */
-static stm_turned turn_of(stm_service *s, const struct call *call) {
-    stm_turned turn = {-1, call->transaction, STM_CLOSED, 0, 0};
-    if (s->closed) return turn;
-    turn.code = STM_UNKNOWN;
-    if (call->transaction >= s->transactions) return turn;
-    turn = turn_by(s, call);
+static stm_answer turn_of(stm_service *s, const struct call *call) {
+    if (s->closed) return bare(STM_CLOSED);
+    if (call->transaction >= s->transactions) return bare(STM_UNKNOWN);
+    stm_answer turn = turn_by(s, call);
     if (turn.code == STM_NO_ROOM) {
-        turn.code = next_chapter(s);
-        if (turn.code == STM_DONE) turn = turn_by(s, call);
+        int32_t code = next_chapter(s);
+        turn = code == STM_DONE ? turn_by(s, call) : bare(code);
     }
     if (turn.ticket >= 0) serve(s);
     return turn;
@@ -323,11 +314,11 @@ static stm_turned turn_of(stm_service *s, const struct call *call) {
 
 /* Makes the call. Its thread may go on at once where it does not wait. */
 static void make(stm_service *s, struct call *call) {
-    stm_turned turn = turn_of(s, call);
+    stm_answer turn = turn_of(s, call);
     enum state state = turn.code == STM_RETRIES && turn.ticket >= 0 ? WAITS : ANSWERED;
-    call->answer = told(turn.code, turn.value, turn.entry);
+    call->answer = told(turn);
     if (state == WAITS && !makes_bell(&call->bell, &s->monotonic)) {
-        stm_withdraw(&s->store, turn.ticket);
+        stm_give_up(&s->store, turn.ticket);
         call->answer = bare(STM_MEMORY);
         state = ANSWERED;
     }
@@ -405,7 +396,7 @@ static void evaluate(stm_service *s, struct call *call, const struct timespec *u
     stm_worker *worker = borrow(&s->workers, false);
     for (int tries = 0; call->running && !is_past(until); tries++) {
         if (!worker || tries == TRIES) {
-            ends(s, call, stm_serial(&s->store, call->ticket));
+            ends(s, call, stm_turn(&s->store, &s->lender, call->job));
             break;
         }
         stm_job job = call->job;
@@ -413,8 +404,8 @@ static void evaluate(stm_service *s, struct call *call, const struct timespec *u
         int32_t code = stm_try_job(worker, job);
         pthread_mutex_lock(&s->lock);
         if (!call->running || is_past(until)) break;
-        stm_answer answer = code == STM_DONE ? stm_finish(&s->store, worker) : bare(code);
-        if (answer.code == STM_STALE || answer.code == STM_OTHER_CHAPTER) continue;
+        stm_answer answer = code == STM_DONE ? stm_bring(&s->store, worker) : bare(code);
+        if (answer.code == STM_STALE || answer.code == STM_GONE) continue;
         if (answer.code == STM_MEMORY) stm_give_up(&s->store, call->ticket);
         ends(s, call, answer);
     }
@@ -426,14 +417,14 @@ static void evaluate(stm_service *s, struct call *call, const struct timespec *u
     if (worker) give_back(&s->workers, worker);
 }
 
-/* Sleeps until the task is over or running again. Where the thread waits no longer it is withdrawn. */
+/* Sleeps until the task is over or running again. Where the thread waits no longer it is given up. */
 static void sleep_long(stm_service *s, struct call *call, const struct timespec *until) {
     unlock(s);
     bool rung = is_rung(&call->bell, until);
     pthread_mutex_lock(&s->lock);
     if (rung) call->owed = false;
     if (rung || !call->listed || call->running) return;
-    stm_withdraw(&s->store, call->ticket);
+    stm_give_up(&s->store, call->ticket);
     hand(s, call->ticket, bare(STM_TIMED_OUT));
 }
 
@@ -485,7 +476,7 @@ static void line_up(stm_service *s, struct call *call) {
     }
 }
 
-/* Waits for the answer. Where the thread waits no longer and there is none yet the task is withdrawn. */
+/* Waits for the answer. Where the thread waits no longer and there is none yet the task is given up. */
 static void wait_for(stm_service *s, struct call *call, const struct timespec *until) {
     int before;
     pthread_setcancelstate(PTHREAD_CANCEL_DISABLE, &before);
@@ -494,7 +485,7 @@ static void wait_for(stm_service *s, struct call *call, const struct timespec *u
         bool late = call->listed;
         if (late) {
             unlist(s, call->ticket);
-            stm_withdraw(&s->store, call->ticket);
+            stm_give_up(&s->store, call->ticket);
             call->answer = bare(STM_TIMED_OUT);
         }
         unlock(s);
@@ -505,10 +496,10 @@ static void wait_for(stm_service *s, struct call *call, const struct timespec *u
 }
 
 /* Runs the transaction; where it waits, at most until then; NULL: without end. */
-static stm_answer run(stm_service *s, makes *by, uint32_t transaction, const int64_t *arguments, size_t count,
+static stm_answer run(stm_service *s, uint32_t way, uint32_t transaction, const int64_t *arguments, size_t count,
                       const struct timespec *until) {
     struct call call;
-    call.by = by;
+    call.way = way;
     call.transaction = transaction;
     call.arguments = arguments;
     call.count = count;
@@ -528,17 +519,17 @@ static stm_answer run(stm_service *s, makes *by, uint32_t transaction, const int
 }
 
 stm_answer stm_atomically(stm_service *s, uint32_t transaction, const int64_t *arguments, size_t count) {
-    return run(s, stm_call, transaction, arguments, count, NULL);
+    return run(s, STM_WAITS, transaction, arguments, count, NULL);
 }
 
 stm_answer stm_try_atomically(stm_service *s, uint32_t transaction, const int64_t *arguments, size_t count) {
-    return run(s, stm_try_call, transaction, arguments, count, NULL);
+    return run(s, STM_TRIES, transaction, arguments, count, NULL);
 }
 
 stm_answer stm_atomically_within(stm_service *s, uint32_t transaction, const int64_t *arguments, size_t count,
                                  uint64_t nanoseconds) {
     const struct timespec until = time_in(nanoseconds);
-    return run(s, stm_call, transaction, arguments, count, &until);
+    return run(s, STM_WAITS, transaction, arguments, count, &until);
 }
 
 int32_t stm_wait_by(stm_waiter *waiter) {
@@ -764,8 +755,7 @@ void stm_service_close(stm_service *s) {
     s->closed = true;
     for (size_t i = 0; i < BUCKETS; i++) {
         for (struct call *call; (call = s->table[i]);) {
-            if (call->running) stm_give_up(&s->store, call->ticket);
-            else stm_withdraw(&s->store, call->ticket);
+            stm_give_up(&s->store, call->ticket);
             hand(s, call->ticket, bare(STM_CLOSED));
         }
     }

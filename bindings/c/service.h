@@ -75,10 +75,10 @@ int64_t stm_service_parameters(const stm_service *service, uint32_t transaction)
 /* Runs the transaction as one atomic step; where it retries, the thread waits until it was entered. It is given a
  * number for each of its parameters, in their order, which the host leaves as they are until the call ends: `NULL, 0`
  * where it has none. The outcome is STM_DONE with what it returned, STM_THROWN with what it threw, STM_OVERFLOW,
- * STM_DIVIDE_BY_ZERO, STM_OUTSIDE, or STM_BROKEN with the condition's number; and the number of the entry in its
- * chapter. With any other answer it had no effect, and never will: STM_CLOSED; STM_MEMORY; STM_UNKNOWN: no such
- * transaction, or it has another number of parameters; STM_NO_ROOM: every task that a chapter has room for waits, or
- * `ended` failed. */
+ * STM_DIVIDE_BY_ZERO, STM_OUTSIDE, or STM_BROKEN with the condition's number; and the ticket of its task, the chapter
+ * in which it was entered, and the number of the entry there, also where it waited. With any other answer it had no
+ * effect, and never will, and there is no ticket: STM_CLOSED; STM_MEMORY; STM_UNKNOWN: no such transaction, or it has
+ * another number of parameters; STM_NO_ROOM: every task that a chapter has room for waits, or `ended` failed. */
 stm_answer stm_atomically(stm_service *service, uint32_t transaction, const int64_t *arguments, size_t count);
 
 /* As `stm_atomically`, but where it retries the answer is STM_RETRIES, at once, and nothing was entered. A long one is
@@ -100,11 +100,11 @@ typedef struct stm_waiter {
 } stm_waiter;
 
 /* From now on the waiter is asked while this thread waits; NULL: nobody, as at first: STM_DONE; STM_MEMORY. Where it
- * stops, the answer is STM_TIMED_OUT, but where the transaction was entered before it can be withdrawn. While it is asked
+ * stops, the answer is STM_TIMED_OUT, but where the transaction was entered before it can be given up. While it is asked
  * nobody is. */
 int32_t stm_wait_by(stm_waiter *waiter);
 
-/* How the call would end on one state, beside what others commit: an outcome with no entry, STM_RETRIES,
+/* How the call would end on one state, beside what others commit: an outcome with no task and no entry, STM_RETRIES,
  * STM_CLOSED, STM_MEMORY or STM_UNKNOWN. */
 stm_answer stm_service_observe(stm_service *service, uint32_t transaction, const int64_t *arguments, size_t count);
 

@@ -34,7 +34,8 @@ extern "C" {
 enum stm_code {
     /* Done: the attempt ended, the transaction returned, the task is done, the report is good. */
     STM_DONE = 0,
-    /* The program retries, and the task is parked. `observe`, `try_call`: it retries, and nothing changed. */
+    /* The program retries, and the task is parked. `observe`, and a call that only tries: it retries, and nothing
+       changed. */
     STM_RETRIES = 1,
     /* What was read is no longer so: try again. */
     STM_STALE = 2,
@@ -52,15 +53,11 @@ enum stm_code {
     STM_MORE = 9,
     /* `stm_explore_to`: there is no end of that number, and no text. */
     STM_NO_END = 10,
-    /* `turn`: no task is ready, and nothing changed. */
-    STM_IDLE = 11,
     /* `outcome`: the journal has no entry of the task, for it is not done, or a checkpoint was made since. */
     STM_NO_ENTRY = 12,
     /* `standing`: the task can be taken; it was taken. */
     STM_READY = 13,
     STM_RUNNING = 14,
-    /* `withdraw`: the task is neither ready nor parked, and nothing changed. */
-    STM_NOT_WAITING = 15,
     /* As STM_THROWN .. STM_BROKEN: the transaction named a cell outside its table. The task is done. */
     STM_OUTSIDE = 16,
     /* `stm_check`: the first part of the report that does not hold. */
@@ -82,9 +79,8 @@ enum stm_code {
     STM_FILE_BROKEN = -7,
     /* The room is too short; how long it has to be was written. */
     STM_SHORT = -8,
-    /* There is no such transaction, variable, table or cell, or no task of this ticket (any more); the transaction has
-       another number of parameters than it is given arguments; or (`finish`) the store has no such task, or makes another
-       call as it. */
+    /* There is no such transaction, variable, table or cell; or the transaction has another number of parameters than it
+       is given arguments. */
     STM_UNKNOWN = -9,
     /* `open`: more than 32 workers. `open_worker`: none is left. It and `open_lender`: there is no transaction. */
     STM_NO_WORKER = -10,
@@ -99,12 +95,12 @@ enum stm_code {
     STM_WORK_LEFT = -15,
     /* The number of states to look at is not from 1 to 16777216. */
     STM_STATES = -16,
-    /* `finish`: the worker is of a program that says otherwise of the transaction, of the standing conditions, or
+    /* `bring`: the worker is of a program that says otherwise of the transaction, of the standing conditions, or
        of how many variables there are. Nothing changed. */
     STM_OTHER_PROGRAM = -17,
-    /* `finish`: the job was taken in another chapter. Its task became ready when that one ended, if it was not
-       over. Nothing changed. */
-    STM_OTHER_CHAPTER = -18,
+    /* The store has no such task in its present chapter: no task has this ticket (any more); `turn`, `bring`: the job was
+       taken in another chapter, or the task makes another call; `give_up`: it is over. Nothing changed. */
+    STM_GONE = -18,
     /* Of a service (service.h): it was closed before there was an outcome; the time was up before. */
     STM_CLOSED = -19,
     STM_TIMED_OUT = -20,
@@ -113,19 +109,25 @@ enum stm_code {
     STM_SCHEDULE_BAD_BYTE = -22,
     STM_SCHEDULE_SHAPE = -23,
     STM_SCHEDULE_NAME = -24,
-    STM_SCHEDULE_LIMIT = -25
+    STM_SCHEDULE_LIMIT = -25,
+    /* `take`: no task is ready. `claim`: the task is not. Nothing changed. */
+    STM_NOT_READY = -26
 };
 
-/* A code; what was returned (STM_DONE), what was thrown (STM_THROWN) or the number of a condition (STM_BROKEN),
- * else 0; and the number of the task's entry, 0 where there is none. */
+/* What became of a task: its ticket; a code; what was returned (STM_DONE), what was thrown (STM_THROWN) or the number of a
+ * condition (STM_BROKEN), else 0; the chapter in which the task had its turn or stands, from 0 on; and the number of its
+ * entry there, 0 where there is none. Where the answer is about no task, as where nothing changed, the ticket is -1 and
+ * the chapter 0. */
 typedef struct stm_answer {
+    int64_t ticket;
     int32_t code;
     int64_t value;
+    uint64_t chapter;
     uint64_t entry;
 } stm_answer;
 
 /* A task that was taken: its ticket; the chapter in which it was taken, and its number there; and its call: the
- * transaction, and its arguments, of which there are `count`, with 0 behind them. The ticket is -1, STM_UNKNOWN or
+ * transaction, and its arguments, of which there are `count`, with 0 behind them. The ticket is STM_NOT_READY, STM_GONE or
  * STM_EMPTY where there is no task. */
 typedef struct stm_job {
     int64_t ticket;
@@ -136,14 +138,8 @@ typedef struct stm_job {
     int64_t arguments[8];
 } stm_job;
 
-/* A turn: the ticket of the task that had it, -1 where none had; its transaction; and how it ended. */
-typedef struct stm_turned {
-    int64_t ticket;
-    uint32_t transaction;
-    int32_t code;
-    int64_t value;
-    uint64_t entry;
-} stm_turned;
+/* What a call does where the transaction retries: its task waits; or it only tries, and there is none. */
+enum stm_way { STM_WAITS = 0, STM_TRIES = 1 };
 
 /* How many tasks are ready, running, parked, done, and given up. */
 typedef struct stm_counts {
@@ -222,7 +218,7 @@ int32_t stm_open_with_room(const stm_program *program, size_t workers, uint32_t 
 /* Tickets. The host knows a task by its ticket, a number from 0 to 2^62 that stays the task's own through all
  * chapters of the store. The tasks of the program have 0, 1, .. in the order of the runs, and each task that is
  * submitted or called has the next one. A task that was done or given up when its chapter ended is gone, and
- * its ticket is no task's any more: STM_UNKNOWN. */
+ * its ticket is no task's any more: STM_GONE. */
 
 /* Arguments. A call gives its transaction a number for each of its parameters, in their order; they are copied. With
  * more or fewer of them it is refused, and nothing changes: STM_UNKNOWN. A transaction without parameters takes
@@ -254,78 +250,56 @@ int64_t stm_cells(stm_store *store, uint32_t table, uint32_t from, int64_t *valu
  * Where it answers STM_MEMORY, the store can make one worker less. Under the lock. */
 int32_t stm_open_worker(stm_store *store, stm_worker *out);
 
-/* The lowest ready task, which is then running: its ticket; -1 where none is ready. Under the lock. */
-int64_t stm_take(stm_store *store);
+/* The lowest ready task, which is then running, with all that a worker has to be told of it: its arguments too.
+ * STM_NOT_READY. Under the lock. */
+stm_job stm_take(stm_store *store);
 
-/* As `stm_take`, with all that a worker has to be told of the task: its arguments too. Under the lock. */
-stm_job stm_take_job(stm_store *store);
-
-/* The task with the ticket, where it is ready, which is then running; -1 where it is not ready; STM_UNKNOWN.
- * Under the lock. */
+/* As `stm_take`, the task with the ticket: STM_NOT_READY, STM_GONE. Under the lock. */
 stm_job stm_claim(stm_store *store, int64_t ticket);
 
 /* Evaluates a job that was taken, with its arguments, on one state, with no lock: STM_DONE, STM_STALE, STM_MEMORY,
  * STM_UNKNOWN. */
 int32_t stm_try_job(stm_worker *worker, stm_job job);
 
-/* As `stm_try_job`, of a task of the program by its bare number, which is of the first chapter: so it serves
- * stores that begin no other, where a task of the program has its number as its ticket. */
-int32_t stm_try(stm_worker *worker, uint32_t task);
-
 /* Brings the worker's ended attempt to the store, under the lock: how the transaction ended (STM_DONE,
- * STM_THROWN .. STM_BROKEN, STM_OUTSIDE) with the number of the entry; STM_RETRIES (the task is parked),
- * STM_STALE, STM_NOT_RUNNING, STM_NOT_ENDED, STM_UNKNOWN, STM_OTHER_PROGRAM, STM_OTHER_CHAPTER. The worker
- * may be of any store: where its program says otherwise the attempt is refused. Its time grows with the
- * transaction. */
-stm_answer stm_finish(stm_store *store, stm_worker *worker);
-
-/* A turn of a running task on the present values, under the lock: as `stm_finish`, never stale;
- * STM_GIVEN_UP; STM_UNKNOWN. */
-stm_answer stm_serial(stm_store *store, int64_t ticket);
+ * STM_THROWN .. STM_BROKEN, STM_OUTSIDE) with the number of the entry; STM_RETRIES (the task is parked). Nothing
+ * changed: STM_STALE, STM_NOT_RUNNING, STM_NOT_ENDED, STM_GONE, STM_OTHER_PROGRAM. The worker may be of any store: where
+ * its program says otherwise the attempt is refused. Its time grows with the transaction. */
+stm_answer stm_bring(stm_store *store, stm_worker *worker);
 
 /* An attempt to lend to the calls below: STM_NO_WORKER where there is no transaction. It is no worker of the
  * store, and may be lent to any. Under the lock. */
 int32_t stm_open_lender(stm_store *store, stm_lender *out);
 
-/* A task of the call more, which has its turn at once, whatever else is ready: its ticket, and the code
- * STM_DONE, STM_THROWN .. STM_BROKEN or STM_OUTSIDE with the value and the number of the entry; STM_RETRIES
- * (it is parked), STM_GIVEN_UP. The ticket -1 and no change: STM_NO_ROOM, STM_UNKNOWN, STM_EMPTY. What it
- * woke is ready. Under the lock. */
-stm_turned stm_call(stm_store *store, stm_lender *lender, uint32_t transaction, const int64_t *arguments,
-                    size_t count);
-
-/* As `stm_call`, but nothing changes where the transaction retries on the present values: the ticket -1 and
- * STM_RETRIES. Under the lock. */
-stm_turned stm_try_call(stm_store *store, stm_lender *lender, uint32_t transaction, const int64_t *arguments,
-                        size_t count);
-
-/* Gives the lowest ready task a turn: as `stm_call`; the ticket -1 and STM_IDLE where none is ready. Under the
- * lock. */
-stm_turned stm_turn(stm_store *store, stm_lender *lender);
+/* A turn of a job that was taken, on the present values: as `stm_bring`, never stale; STM_GIVEN_UP. Nothing changed:
+ * STM_NOT_RUNNING, STM_GONE. What it woke is ready. Under the lock. */
+stm_answer stm_turn(stm_store *store, stm_lender *lender, stm_job job);
 
 /* Gives the lowest ready task a turn, and then the next one, until so many turns were given or none is
- * ready: how many turns were given, or STM_EMPTY. For short tasks: it costs less than to take, try and
- * finish each, but the lock is held meanwhile. The worker lends its attempt, and has no ended one to
- * bring afterwards; it may be of any store. What runs out of memory is given up. Under the lock. */
-int64_t stm_turns(stm_store *store, stm_worker *worker, uint32_t most);
+ * ready: how many turns were given, or STM_EMPTY. For short tasks: it costs less than to take each, and to try and
+ * bring it, but the lock is held meanwhile. What runs out of memory is given up. Under the lock. */
+int64_t stm_turns(stm_store *store, stm_lender *lender, uint32_t most);
 
-/* A running task is given up: STM_DONE, STM_NOT_RUNNING, STM_UNKNOWN. Under the lock. */
+/* A task of the call more, which has its turn at once, whatever else is ready: as `stm_turn`. `way` is STM_WAITS, or
+ * STM_TRIES, as any other: then nothing changes where the transaction retries on the present values, and the answer is
+ * STM_RETRIES without a task. Nothing changed: STM_NO_ROOM, STM_UNKNOWN. What it woke is ready. Under the lock. */
+stm_answer stm_call(stm_store *store, stm_lender *lender, uint32_t transaction, const int64_t *arguments,
+                    size_t count, uint32_t way);
+
+/* A task that is ready, running or parked is given up: STM_DONE, STM_GONE. Under the lock. */
 int32_t stm_give_up(stm_store *store, int64_t ticket);
 
-/* A task that is ready or parked is given up: STM_DONE, STM_NOT_WAITING, STM_UNKNOWN. Under the lock. */
-int32_t stm_withdraw(stm_store *store, int64_t ticket);
-
 /* How the task stands: STM_READY, STM_RUNNING, STM_RETRIES (it is parked), STM_DONE with the number of its entry,
- * STM_GIVEN_UP; STM_UNKNOWN. Under the lock. */
+ * STM_GIVEN_UP; STM_GONE. Under the lock. */
 stm_answer stm_standing(stm_store *store, int64_t ticket);
 
-/* What the task's entry records: as `stm_call`; STM_NO_ENTRY, STM_UNKNOWN. A checkpoint takes the entries away,
+/* What the task's entry records: as `stm_turn`; STM_NO_ENTRY, STM_GONE. A checkpoint takes the entries away,
  * so who wants an outcome asks before. Under the lock. */
 stm_answer stm_outcome(stm_store *store, int64_t ticket);
 
 /* A new chapter begins where the present one is: the tasks that are ready, running or parked come over with
  * their tickets, in their order, and are numbered anew. One that was running is ready, and a job of it that was
- * taken before is refused (STM_OTHER_CHAPTER); one that was parked waits as it did. The journal is empty, and
+ * taken before is refused (STM_GONE); one that was parked waits as it did. The journal is empty, and
  * each task that is done or given up has left its room. The file and the reports are of the chapter. It takes no
  * memory, and is never refused. Under the lock. */
 int32_t stm_begin_chapter(stm_store *store);
@@ -350,7 +324,7 @@ int32_t stm_report_now(stm_store *store, uint8_t *room, size_t room_length, size
 int32_t stm_file(stm_store *store, uint8_t *room, size_t room_length, size_t *wanted);
 
 /* How the call would end on one state, with no lock: STM_DONE with the value that it returns, STM_RETRIES,
- * STM_STALE, STM_THROWN .. STM_BROKEN, STM_OUTSIDE, STM_MEMORY, STM_UNKNOWN. It has no entry. */
+ * STM_STALE, STM_THROWN .. STM_BROKEN, STM_OUTSIDE, STM_MEMORY, STM_UNKNOWN. There is no task. */
 stm_answer stm_observe(stm_worker *worker, uint32_t transaction, const int64_t *arguments, size_t count);
 
 /* Let go, and leave the handle empty. An empty one stays so. */

@@ -39,14 +39,12 @@ const char *stm_word(int32_t code) {
     case STM_OUTSIDE: return "outside its table";
     case STM_MORE: return "more states are reached";
     case STM_NO_END: return "no such end";
-    case STM_IDLE: return "no task is ready";
     case STM_NO_ENTRY: return "no entry in the journal";
     case STM_READY: return "ready";
     case STM_RUNNING: return "running";
-    case STM_NOT_WAITING: return "neither ready nor parked";
     case STM_MEMORY: return "out of memory";
     case STM_SHORT: return "room too short";
-    case STM_UNKNOWN: return "unknown task, transaction or variable, or a wrong number of arguments";
+    case STM_UNKNOWN: return "unknown transaction or variable, or a wrong number of arguments";
     case STM_NO_WORKER: return "no worker";
     case STM_NOT_ENDED: return "no ended attempt";
     case STM_EMPTY: return "empty handle";
@@ -55,9 +53,10 @@ const char *stm_word(int32_t code) {
     case STM_WORK_LEFT: return "work left";
     case STM_STATES: return "number of states out of range";
     case STM_OTHER_PROGRAM: return "other program";
-    case STM_OTHER_CHAPTER: return "other chapter";
+    case STM_GONE: return "no such task";
     case STM_CLOSED: return "closed";
     case STM_TIMED_OUT: return "timed out";
+    case STM_NOT_READY: return "not ready";
     default: return text_word(code);
     }
 }

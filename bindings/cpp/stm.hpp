@@ -147,6 +147,12 @@ public:
     std::optional<std::int64_t> broken() const noexcept { return told_if(STM_BROKEN); }
     /// The number of its entry in its chapter, and 0 where it was not entered: then it had no effect, and never will.
     std::uint64_t entry() const noexcept { return told_.entry; }
+    /// The number of that chapter, from 0 on; 0 where it was not entered.
+    std::uint64_t chapter() const noexcept { return told_.chapter; }
+    /// The number of its task, which no other call has; nothing where it was not entered.
+    std::optional<std::uint64_t> ticket() const noexcept {
+        return told_.ticket < 0 ? std::nullopt : std::optional<std::uint64_t>(static_cast<std::uint64_t>(told_.ticket));
+    }
     /// `STM_DONE`; entered: `STM_THROWN`, `STM_OVERFLOW`, `STM_DIVIDE_BY_ZERO`, `STM_BROKEN`, `STM_OUTSIDE`; not
     /// entered: `STM_RETRIES`, `STM_TIMED_OUT`, `STM_CLOSED`, `STM_NO_ROOM`, `STM_MEMORY`, `STM_UNKNOWN`.
     std::int32_t code() const noexcept { return told_.code; }
@@ -382,7 +388,7 @@ private:
 
     explicit service(std::unique_ptr<held> made) noexcept : held_(std::move(made)) {}
 
-    static stm_answer none(std::int32_t code) noexcept { return {code, 0, 0}; }
+    static stm_answer none(std::int32_t code) noexcept { return {-1, code, 0, 0, 0}; }
 
     /// The number that a call answers, where it is not below 0.
     template <class Number, class Call, class... Given>

@@ -1,9 +1,9 @@
 //! Each way in which a call can end, what a commit wakes, and a chapter. docs/EMBEDDING.md shows what it prints.
-use stm::{lt, retry, set, throw, var, when, Declare, End, Error, Outcome, Store, Turned};
+use stm::{lt, retry, set, throw, var, when, Answer, Declare, End, Error, Outcome, Store, Way};
 
 /// Each way in which a call can end.
-fn tell(what: &str, answer: Result<Turned, Error>) {
-    match answer.map(|turned| (turned.ticket, turned.end)) {
+fn tell(what: &str, answer: Result<Answer, Error>) {
+    match answer.map(|told| (told.ticket, told.end)) {
         Ok((_, End::Entered(entered))) => match entered.outcome {
             Outcome::Returned(value) => println!("{what}: returned {value}, entry {}", entered.number),
             Outcome::Thrown(value) => println!("{what}: threw {value}, entry {}", entered.number),
@@ -12,7 +12,7 @@ fn tell(what: &str, answer: Result<Turned, Error>) {
             }
         },
         Ok((ticket, End::Parked)) => println!("{what}: waits with ticket {}", ticket.0),
-        Ok((_, End::GivenUp)) => println!("{what}: no memory"),
+        Ok((_, End::Abandoned)) => println!("{what}: no memory"),
         Err(error) => println!("{what}: {error}"),
     }
 }
@@ -29,20 +29,20 @@ fn main() -> Result<(), Error> {
     let (pay, put, get) = (number("pay"), number("put"), number("get"));
 
     let store = Store::open_with_room(&program, 0, 0, 5)?;
-    tell("pay", store.call(pay, &[]));
-    tell("pay", store.call(pay, &[]));
-    tell("get", store.call(get, &[]));
+    tell("pay", store.call(pay, &[], Way::Waits));
+    tell("pay", store.call(pay, &[], Way::Waits));
+    tell("get", store.call(get, &[], Way::Waits));
     std::thread::scope(|scope| {
-        scope.spawn(|| tell("put", store.call(put, &[])));
+        scope.spawn(|| tell("put", store.call(put, &[], Way::Waits)));
     });
-    while let Some(woken) = store.turn() {
+    while let Ok(woken) = store.take() {
         println!("ticket {} was woken", woken.ticket.0);
-        tell("get", Ok(woken));
+        tell("get", store.turn(woken));
     }
-    println!("{:?}", store.try_call(get, &[])?);
+    tell("get", store.call(get, &[], Way::Tries));
     let (report, file) = store.report_and_file()?;
     println!("{:?}", stm::check(&file, &report)?);
     store.begin_chapter();
-    tell("put", store.call(put, &[]));
+    tell("put", store.call(put, &[], Way::Waits));
     Ok(())
 }

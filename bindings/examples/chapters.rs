@@ -1,7 +1,7 @@
 //! A simulation in chapters: a queue before a counter, minute by minute, in one store that goes on for as long as it is
 //! wanted. Each chapter has a file and a report of its own, which a check judges, and begins where the one before ended.
 
-use stm::{and, le, lt, rem, seq, set, skip, var, when, Declare, Program, Store, Verdict};
+use stm::{and, le, lt, rem, seq, set, skip, var, when, Declare, Program, Store, Verdict, Way};
 
 const CHAPTERS: u32 = 5;
 const MINUTES: u32 = 200;
@@ -73,7 +73,7 @@ fn main() -> Result<(), stm::Error> {
     let mut good = 0;
     for _ in 0..CHAPTERS {
         for _ in 0..MINUTES {
-            store.call(minute, &[])?;
+            store.call(minute, &[], Way::Waits)?;
         }
         state = plainly(state);
         assert_eq!(present(&store), state);

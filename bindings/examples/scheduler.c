@@ -27,31 +27,32 @@ static const char build[] =
 enum { TASKS = 5, STALE_TRIES = 8, MOST_THREADS = 32 };
 static const char *const names[TASKS] = {"test", "link", "compile", "compile", "compile"};
 
-/* What the threads share: the store, behind the lock, and which task each entry is of. */
+/* What the threads share: the store and what is lent to its turns, behind the lock, and which task each entry is of. */
 static pthread_mutex_t lock = PTHREAD_MUTEX_INITIALIZER;
 static stm_store store;
+static stm_lender lender;
 static uint64_t entry[TASKS];
 
-static stm_answer finish(stm_worker *worker) {
+static stm_answer bring(stm_worker *worker) {
     pthread_mutex_lock(&lock);
-    stm_answer told = stm_finish(&store, worker);
+    stm_answer told = stm_bring(&store, worker);
     pthread_mutex_unlock(&lock);
     return told;
 }
 
-/* All tries of a task, and then a turn under the lock. */
-static stm_answer run(stm_worker *worker, uint32_t task) {
+/* All tries of a job, and then a turn under the lock. */
+static stm_answer run(stm_worker *worker, stm_job job) {
     for (int tries = 0; tries < STALE_TRIES; tries++) {
-        int32_t tried = stm_try(worker, task);
+        int32_t tried = stm_try_job(worker, job);
         if (tried == STM_DONE) {
-            stm_answer told = finish(worker);
+            stm_answer told = bring(worker);
             if (told.code != STM_STALE) return told;
         } else if (tried != STM_STALE) {
             break;
         }
     }
     pthread_mutex_lock(&lock);
-    stm_answer told = stm_serial(&store, task);
+    stm_answer told = stm_turn(&store, &lender, job);
     pthread_mutex_unlock(&lock);
     return told;
 }
@@ -60,13 +61,13 @@ static void *work(void *argument) {
     stm_worker *worker = argument;
     for (;;) {
         pthread_mutex_lock(&lock);
-        int64_t task = stm_take(&store);
+        stm_job job = stm_take(&store);
         pthread_mutex_unlock(&lock);
-        if (task < 0) return NULL;
-        stm_answer told = run(worker, (uint32_t)task);
+        if (job.ticket < 0) return NULL;
+        stm_answer told = run(worker, job);
         if (told.code == STM_DONE) {
             pthread_mutex_lock(&lock);
-            entry[task] = told.entry;
+            entry[told.ticket] = told.entry;
             pthread_mutex_unlock(&lock);
         }
     }
@@ -84,6 +85,7 @@ int main(int count, char **words) {
     int32_t code = stm_read((const uint8_t *)build, strlen(build), &program);
     if (code != STM_DONE) return fail("read", code);
     code = stm_open(&program, (size_t)threads, 0, &store);
+    if (code == STM_DONE) code = stm_open_lender(&store, &lender);
     if (code != STM_DONE) return fail("open", code);
 
     static stm_worker workers[MOST_THREADS];
@@ -110,6 +112,7 @@ int main(int count, char **words) {
     }
     printf("%s\n", verdict == STM_DONE ? "good" : "bad");
     for (int i = 0; i < threads; i++) stm_worker_free(&workers[i]);
+    stm_lender_free(&lender);
     stm_store_free(&store);
     stm_program_free(&program);
     return verdict == STM_DONE ? 0 : 1;

@@ -7,8 +7,8 @@
 
 use std::sync::atomic::{AtomicBool, Ordering};
 use stm::{
-    and, eq, le, lt, seq, set, skip, sum, throw, var, when, Brought, Declare, Job, Observed, Outcome,
-    Program, Store, Tried, Var, Worker,
+    and, eq, le, lt, seq, set, skip, sum, throw, var, when, Declare, End, Error, Job, Outcome, Program,
+    Store, Var, Worker,
 };
 
 const ACCOUNTS: usize = 8;
@@ -16,7 +16,7 @@ const EACH: i64 = 100;
 const TRANSFERS: u32 = 500;
 const THREADS: usize = 4;
 
-fn bank() -> Result<Program, stm::Error> {
+fn bank() -> Result<Program, Error> {
     let mut bank = Declare::new();
     let accounts: Vec<Var> = (0..ACCOUNTS).map(|i| bank.var(&format!("account{i}"), EACH)).collect();
     let total = ACCOUNTS as i64 * EACH;
@@ -55,9 +55,9 @@ struct Answered {
 }
 
 /// The life of a teller: the lowest transfer that is ready, until none is. What it was answered.
-fn serve(store: &Store, teller: &mut Worker) -> Result<Answered, stm::Error> {
+fn serve(store: &Store, teller: &mut Worker) -> Result<Answered, Error> {
     let mut answered = Answered::default();
-    while let Some(job) = store.take_job() {
+    while let Ok(job) = store.take() {
         match transfer(store, teller, job)? {
             Outcome::Returned(_) => answered.paid += 1,
             Outcome::Thrown(_) => answered.refused += 1,
@@ -68,35 +68,34 @@ fn serve(store: &Store, teller: &mut Worker) -> Result<Answered, stm::Error> {
 }
 
 /// All tries of a transfer: how it ended.
-fn transfer(store: &Store, teller: &mut Worker, job: Job) -> Result<Outcome, stm::Error> {
+fn transfer(store: &Store, teller: &mut Worker, job: Job) -> Result<Outcome, Error> {
     loop {
-        match teller.try_job(job)? {
-            Tried::Ended => match store.finish(teller)? {
-                Brought::Committed(entered) => return Ok(entered.outcome),
-                Brought::Stale => continue,
-                other => panic!("a transfer that runs is {other:?}"),
+        match teller.try_job(job).and_then(|()| store.bring(teller)) {
+            Ok(answer) => match answer.end {
+                End::Entered(entered) => return Ok(entered.outcome),
+                other => panic!("a transfer is {other:?}"),
             },
-            Tried::Stale => continue,
-            Tried::Memory => return Err(stm::Error::Memory),
+            Err(Error::Stale) => continue,
+            Err(error) => return Err(error),
         }
     }
 }
 
 /// The life of the auditor: audits while the bank is open, and one at least. How many there were.
-fn watch(auditor: &mut Worker, audit: u32, is_open: &AtomicBool) -> Result<u32, stm::Error> {
+fn watch(auditor: &mut Worker, audit: u32, is_open: &AtomicBool) -> Result<u32, Error> {
     let mut audits = 0;
     while is_open.load(Ordering::SeqCst) || audits == 0 {
-        match auditor.observe(audit, &[])? {
-            Observed::Returned(sum) => assert_eq!(sum, ACCOUNTS as i64 * EACH),
-            Observed::Stale => continue,
-            other => panic!("an audit answers {other:?}"),
+        match auditor.observe(audit, &[]) {
+            Ok(outcome) => assert_eq!(outcome, Outcome::Returned(ACCOUNTS as i64 * EACH)),
+            Err(Error::Stale) => continue,
+            Err(error) => return Err(error),
         }
         audits += 1;
     }
     Ok(audits)
 }
 
-fn main() -> Result<(), stm::Error> {
+fn main() -> Result<(), Error> {
     let program = bank()?;
     let audit = program.transaction("audit").expect("it is declared");
     let store = Store::open(&program, THREADS + 1, 0)?;
@@ -117,7 +116,7 @@ fn main() -> Result<(), stm::Error> {
             answered = Answered { paid: answered.paid + paid, refused: answered.refused + refused };
         }
         drop(opened);
-        Ok::<_, stm::Error>((watching.join().expect("the auditor ends")?, answered))
+        Ok::<_, Error>((watching.join().expect("the auditor ends")?, answered))
     })?;
     let report = store.report()?;
     assert!(audits > 0);

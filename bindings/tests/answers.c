@@ -22,11 +22,9 @@ static const struct {
     {8, "broken condition"},
     {9, "more states are reached"},
     {10, "no such end"},
-    {11, "no task is ready"},
     {12, "no entry in the journal"},
     {13, "ready"},
     {14, "running"},
-    {15, "neither ready nor parked"},
     {16, "outside its table"},
     {101, "report: text"},
     {102, "report: base"},
@@ -42,7 +40,7 @@ static const struct {
     {-6, "out of memory"},
     {-7, "file: broken condition"},
     {-8, "room too short"},
-    {-9, "unknown task, transaction or variable, or a wrong number of arguments"},
+    {-9, "unknown transaction or variable, or a wrong number of arguments"},
     {-10, "no worker"},
     {-11, "no ended attempt"},
     {-12, "empty handle"},
@@ -51,7 +49,7 @@ static const struct {
     {-15, "work left"},
     {-16, "number of states out of range"},
     {-17, "other program"},
-    {-18, "other chapter"},
+    {-18, "no such task"},
     {-19, "closed"},
     {-20, "timed out"},
     {-21, "schedule: too long"},
@@ -59,6 +57,7 @@ static const struct {
     {-23, "schedule: shape"},
     {-24, "schedule: name"},
     {-25, "schedule: limit"},
+    {-26, "not ready"},
 };
 
 /* All codes from -200 to 200: those of the table have its word, and no other has one. */
@@ -207,11 +206,10 @@ static void jobs(void) {
     wants(stm_try_job(&worker, (stm_job){.ticket = 1, .task = 1, .transaction = 2}) == STM_UNKNOWN);
     const stm_job strange[] = {
         job(1, 0, 2, 1), job(1, 0, 0, 1), job(2, 0, 1, 1), job(1, 0, 1, 0), job(1, 0, 65536, 1), job(1, 0, UINT32_MAX, 1),
-        job(INT64_MAX, 0, 1, 1)};
+        job(INT64_MAX, 0, 1, 1), job(1, 1, 1, 1)};
     for (size_t i = 0; i < sizeof strange / sizeof *strange; i++)
-        wants(stm_try_job(&worker, strange[i]) == STM_DONE && stm_finish(&store, &worker).code == STM_UNKNOWN);
-    wants(stm_try_job(&worker, job(1, 1, 1, 1)) == STM_DONE && stm_finish(&store, &worker).code == STM_OTHER_CHAPTER);
-    wants(stm_try_job(&worker, job(1, 0, 1, 1)) == STM_DONE && stm_finish(&store, &worker).code == STM_NOT_RUNNING);
+        wants(stm_try_job(&worker, strange[i]) == STM_DONE && stm_bring(&store, &worker).code == STM_GONE);
+    wants(stm_try_job(&worker, job(1, 0, 1, 1)) == STM_DONE && stm_bring(&store, &worker).code == STM_NOT_RUNNING);
     const size_t counts[] = {1, 8, 9, SIZE_MAX};
     for (size_t i = 0; i < sizeof counts / sizeof *counts; i++)
         wants(stm_try_job(&worker, (stm_job){.ticket = 1, .task = 1, .transaction = 1, .count = counts[i]}) == STM_UNKNOWN);

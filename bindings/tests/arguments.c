@@ -23,12 +23,15 @@ static stm_store store;
 static stm_lender lender;
 static stm_worker worker;
 
-static stm_turned calls(uint32_t transaction, int64_t argument) {
-    return stm_call(&store, &lender, transaction, &argument, 1);
+static stm_answer calls(uint32_t transaction, int64_t argument) {
+    return stm_call(&store, &lender, transaction, &argument, 1, STM_WAITS);
 }
 
-static int is(stm_turned turn, int64_t ticket, int32_t code, int64_t value, uint64_t entry) {
-    return turn.ticket == ticket && turn.code == code && turn.value == value && turn.entry == entry;
+/* The lowest ready task has its turn. */
+static stm_answer turns(void) { return stm_turn(&store, &lender, stm_take(&store)); }
+
+static int is(stm_answer told, int64_t ticket, int32_t code, int64_t value, uint64_t entry) {
+    return told.ticket == ticket && told.code == code && told.value == value && told.entry == entry;
 }
 
 static int32_t read_as(const char *text) {
@@ -55,18 +58,20 @@ static void parameters(void) {
 
 /* A job has its arguments; with others it is no task of the store. */
 static void jobs(void) {
-    stm_job job = stm_take_job(&store), other = stm_claim(&store, 1);
+    stm_job job = stm_take(&store), other = stm_claim(&store, 1);
     wants(job.ticket == 0 && job.transaction == PAY && job.count == 1 && job.arguments[0] == 10);
     for (int i = 1; i < 8; i++) wants(job.arguments[i] == 0);
-    wants(stm_try_job(&worker, job) == STM_DONE && stm_finish(&store, &worker).value == 90);
+    wants(stm_try_job(&worker, job) == STM_DONE && stm_bring(&store, &worker).value == 90);
     stm_job changed = other;
     changed.arguments[0] = 11;
-    wants(stm_try_job(&worker, changed) == STM_DONE && stm_finish(&store, &worker).code == STM_UNKNOWN);
+    wants(stm_try_job(&worker, changed) == STM_DONE && stm_bring(&store, &worker).code == STM_GONE);
+    wants(stm_turn(&store, &lender, changed).code == STM_GONE);
     for (size_t count = 0; count <= 9; count++) {
         changed.count = count;
         wants(stm_try_job(&worker, changed) == (count == 1 ? STM_DONE : STM_UNKNOWN));
+        wants(stm_turn(&store, &lender, changed).code == STM_GONE);
     }
-    wants(stm_try(&worker, 1) == STM_DONE && stm_finish(&store, &worker).value == 80);
+    wants(stm_try_job(&worker, other) == STM_DONE && stm_bring(&store, &worker).value == 80);
 }
 
 /* Nothing is read of more arguments than there are parameters, and nothing changes. */
@@ -77,8 +82,8 @@ static void wrong_numbers(void) {
             if ((int64_t)count == stm_program_parameters(&program, tx)) continue;
             const int64_t *given = count > 0 ? NINE : NULL;
             wants(stm_submit(&store, tx, given, count) == STM_UNKNOWN);
-            wants(is(stm_call(&store, &lender, tx, given, count), -1, STM_UNKNOWN, 0, 0));
-            wants(is(stm_try_call(&store, &lender, tx, given, count), -1, STM_UNKNOWN, 0, 0));
+            wants(is(stm_call(&store, &lender, tx, given, count, STM_WAITS), -1, STM_UNKNOWN, 0, 0));
+            wants(is(stm_call(&store, &lender, tx, given, count, STM_TRIES), -1, STM_UNKNOWN, 0, 0));
             wants(stm_observe(&worker, tx, given, count).code == STM_UNKNOWN);
         }
     }
@@ -86,8 +91,8 @@ static void wrong_numbers(void) {
 }
 
 static void of_a_store(void) {
-    wants(is(stm_call(&store, &lender, SUM, NULL, 0), 2, STM_DONE, 120, 3));
-    wants(is(stm_call(&store, &lender, DIGITS, NINE, 8), 3, STM_DONE, 12345678, 4));
+    wants(is(stm_call(&store, &lender, SUM, NULL, 0, STM_WAITS), 2, STM_DONE, 120, 3));
+    wants(is(stm_call(&store, &lender, DIGITS, NINE, 8, STM_WAITS), 3, STM_DONE, 12345678, 4));
     wants(stm_observe(&worker, DIGITS, NINE + 1, 8).value == 23456789);
     wants(is(calls(SAME, INT64_MIN), 4, STM_DONE, INT64_MIN, 5));
     wants(is(calls(SAME, INT64_MAX), 5, STM_DONE, INT64_MAX, 6));
@@ -96,11 +101,11 @@ static void of_a_store(void) {
     int64_t amount = 45;
     wants(stm_submit(&store, TAKE, &amount, 1) == 7);
     amount = 0;
-    wants(is(stm_turn(&store, &lender), 7, STM_RETRIES, 0, 0));
+    wants(is(turns(), 7, STM_RETRIES, 0, 0));
     amount = 41;
-    wants(is(stm_try_call(&store, &lender, TAKE, &amount, 1), -1, STM_RETRIES, 0, 0));
-    wants(is(calls(PAY, 3), 8, STM_DONE, 77, 8) && is(stm_turn(&store, &lender), 7, STM_RETRIES, 0, 0));
-    wants(is(calls(PAY, 3), 9, STM_DONE, 74, 9) && is(stm_turn(&store, &lender), 7, STM_DONE, 45, 10));
+    wants(is(stm_call(&store, &lender, TAKE, &amount, 1, STM_TRIES), -1, STM_RETRIES, 0, 0));
+    wants(is(calls(PAY, 3), 8, STM_DONE, 77, 8) && is(turns(), 7, STM_RETRIES, 0, 0));
+    wants(is(calls(PAY, 3), 9, STM_DONE, 74, 9) && is(turns(), 7, STM_DONE, 45, 10));
     wants(is(calls(TAKE, 1000), 10, STM_RETRIES, 0, 0));
 }
 
@@ -122,7 +127,7 @@ static void texts(void) {
     file[length] = 0;
     wants(has(file, "(var alice 74)\n") && has(file, "(run take 1 1000)\n") && !has(file, "(run pay"));
     wants(is(calls(PAY, -1000), 11, STM_DONE, 1074, 1) && is(calls(PAY, 1074), 12, STM_DONE, 0, 2));
-    wants(is(stm_turn(&store, &lender), 10, STM_RETRIES, 0, 0) && is(calls(PAY, -999), 13, STM_DONE, 999, 3));
+    wants(is(turns(), 10, STM_RETRIES, 0, 0) && is(calls(PAY, -999), 13, STM_DONE, 999, 3));
 }
 
 /* Each thread adds numbers of its own, and is answered what it gave; each chapter is judged. */

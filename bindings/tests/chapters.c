@@ -36,6 +36,18 @@ static void is(const char *file, const char *report) {
     wants(stm_check(f, file_length, r, report_length) == STM_DONE);
 }
 
+/* The lowest ready task has its turn. */
+static stm_answer turns(void) { return stm_turn(&store, &lender, stm_take(&store)); }
+
+static stm_answer calls(uint32_t transaction) { return stm_call(&store, &lender, transaction, NULL, 0, STM_WAITS); }
+
+static int tells(stm_answer told, int64_t ticket, int32_t code, int64_t value, uint64_t chapter, uint64_t entry) {
+    return told.ticket == ticket && told.code == code && told.value == value && told.chapter == chapter && told.entry == entry;
+}
+
+/* It is about no task, and this is why. */
+static int none(stm_answer told, int32_t code) { return tells(told, -1, code, 0, 0, 0); }
+
 static int stands(size_t ready, size_t running, size_t parked, size_t done, size_t given_up) {
     stm_counts c;
     wants(stm_get_counts(&store, &c) == STM_DONE);
@@ -48,55 +60,57 @@ static const char WAITS[] = "(var n 0)\n(tx inc (set n (add n 7)) n)\n(tx wait (
 /* The tasks that are over are gone, the one that waits has its ticket, and its room is given back. */
 static void a_chapter_begins(void) {
     opens(WAITS, 0);
-    wants(stm_turns(&store, &worker, UINT32_MAX) == 5 && stands(0, 0, 1, 2, 0));
-    wants(stm_call(&store, &lender, 0, NULL, 0).code == STM_NO_ROOM && stm_chapter(&store) == 0);
+    wants(stm_turns(&store, &lender, UINT32_MAX) == 5 && stands(0, 0, 1, 2, 0));
+    wants(none(calls(0), STM_NO_ROOM) && stm_chapter(&store) == 0);
     wants(stm_begin_chapter(&store) == STM_DONE && stm_chapter(&store) == 1 && stm_entered(&store) == 2);
     wants(stands(0, 0, 1, 0, 0) && stm_store_spare(&store) == 2 && stm_store_tasks(&store) == 1);
     is("(var n 7)\n(tx inc (set n (add n 7)) n)\n(tx wait (if (eq n 0) (retry) (skip)) n)\n"
        "(tx hold (if (lt n 100) (retry) (skip)) n)\n(run hold 1)\n",
        "base 0\nn 7 0\nnow 0\nn 7 0\nparked 0 hold\nend\n");
-    wants(stm_standing(&store, 0).code == STM_UNKNOWN && stm_standing(&store, 2).code == STM_UNKNOWN);
-    wants(stm_standing(&store, 1).code == STM_RETRIES && stm_outcome(&store, 0).code == STM_UNKNOWN);
-    stm_turned turn = stm_call(&store, &lender, 0, NULL, 0);
-    wants(turn.ticket == 3 && turn.code == STM_DONE && turn.value == 14 && turn.entry == 1);
-    wants(stm_turn(&store, &lender).code == STM_RETRIES && stm_entered(&store) == 3);
+    for (int64_t over = 0; over <= 2; over += 2) {
+        wants(none(stm_standing(&store, over), STM_GONE) && none(stm_outcome(&store, over), STM_GONE));
+        wants(stm_claim(&store, over).ticket == STM_GONE && stm_give_up(&store, over) == STM_GONE);
+    }
+    wants(tells(stm_standing(&store, 1), 1, STM_RETRIES, 0, 1, 0) && stm_claim(&store, 1).ticket == STM_NOT_READY);
+    wants(tells(calls(0), 3, STM_DONE, 14, 1, 1));
+    wants(tells(stm_standing(&store, 3), 3, STM_DONE, 0, 1, 1) && tells(stm_outcome(&store, 3), 3, STM_DONE, 14, 1, 1));
+    wants(tells(turns(), 1, STM_RETRIES, 0, 1, 0) && stm_entered(&store) == 3);
     ends();
 }
 
 /* One task waits through two hundred chapters, in each of which it is woken, and ends in the last. */
 static void a_task_waits_for_long(void) {
     opens("(var n 0)(tx get (if (lt n 201) (retry) (set n 0)) n)(tx put (set n (add n 1)) n)(run get 1)", 1);
-    wants(stm_turn(&store, &lender).code == STM_RETRIES);
+    wants(turns().code == STM_RETRIES);
     for (uint64_t chapter = 1; chapter <= 200; chapter++) {
-        stm_turned put = stm_call(&store, &lender, 1, NULL, 0), again = stm_turn(&store, &lender);
-        wants(put.ticket == (int64_t)chapter && put.value == (int64_t)chapter && put.entry == 1);
-        wants(again.ticket == 0 && again.code == STM_RETRIES && stm_turn(&store, &lender).code == STM_IDLE);
+        wants(tells(calls(1), (int64_t)chapter, STM_DONE, (int64_t)chapter, chapter - 1, 1));
+        wants(tells(turns(), 0, STM_RETRIES, 0, chapter - 1, 0) && stm_take(&store).ticket == STM_NOT_READY);
         wants(stm_begin_chapter(&store) == STM_DONE && stm_chapter(&store) == chapter && stm_entered(&store) == chapter);
     }
-    stm_turned put = stm_call(&store, &lender, 1, NULL, 0), got = stm_turn(&store, &lender);
-    wants(put.ticket == 201 && got.ticket == 0 && got.code == STM_DONE && got.value == 0 && got.entry == 2);
+    wants(tells(calls(1), 201, STM_DONE, 201, 200, 1) && tells(turns(), 0, STM_DONE, 0, 200, 2));
     ends();
 }
 
 /* What was taken before a chapter is refused in it, and its task is ready again: also where another has its number now. */
 static void jobs_of_a_chapter(void) {
     opens("(var x 0)(tx inc (set x (add x 1)) x)(run inc 3)", 0);
-    stm_job first = stm_take_job(&store), second = stm_take_job(&store);
-    wants(first.chapter == 0 && stm_serial(&store, first.ticket).value == 1 && second.ticket == 1 && second.task == 1);
+    stm_job first = stm_take(&store), second = stm_take(&store);
+    wants(first.chapter == 0 && tells(stm_turn(&store, &lender, first), 0, STM_DONE, 1, 0, 1));
+    wants(second.ticket == 1 && second.task == 1);
     wants(stm_try_job(&worker, second) == STM_DONE && stm_begin_chapter(&store) == STM_DONE);
-    stm_answer told = stm_finish(&store, &worker);
-    wants(told.code == STM_OTHER_CHAPTER && told.value == 0 && told.entry == 0);
-    wants(stands(2, 0, 0, 0, 0) && stm_standing(&store, 1).code == STM_READY);
-    wants(stm_finish(&store, &worker).code == STM_NOT_ENDED);
-    stm_job again = stm_take_job(&store);
+    wants(none(stm_bring(&store, &worker), STM_GONE));
+    wants(none(stm_turn(&store, &lender, first), STM_GONE) && none(stm_turn(&store, &lender, second), STM_GONE));
+    wants(stands(2, 0, 0, 0, 0) && tells(stm_standing(&store, 1), 1, STM_READY, 0, 1, 0));
+    wants(none(stm_bring(&store, &worker), STM_NOT_ENDED));
+    stm_job again = stm_take(&store);
     wants(again.ticket == 1 && again.chapter == 1 && again.task == 0 && again.transaction == 0);
     /* Now the task runs, and its old job would still be of the chapter before. */
-    wants(stm_try_job(&worker, second) == STM_DONE && stm_finish(&store, &worker).code == STM_OTHER_CHAPTER);
-    wants(stm_standing(&store, 1).code == STM_RUNNING && stm_try_job(&worker, again) == STM_DONE);
-    told = stm_finish(&store, &worker);
-    wants(told.code == STM_DONE && told.value == 2 && told.entry == 1);
-    /* A bare number is of the first chapter. */
-    wants(stm_try(&worker, 2) == STM_DONE && stm_finish(&store, &worker).code == STM_OTHER_CHAPTER);
+    wants(stm_try_job(&worker, second) == STM_DONE && none(stm_bring(&store, &worker), STM_GONE));
+    wants(none(stm_turn(&store, &lender, second), STM_GONE));
+    wants(tells(stm_standing(&store, 1), 1, STM_RUNNING, 0, 1, 0) && stm_try_job(&worker, again) == STM_DONE);
+    wants(tells(stm_bring(&store, &worker), 1, STM_DONE, 2, 1, 1));
+    wants(none(stm_turn(&store, &lender, again), STM_NOT_RUNNING));
+    wants(tells(turns(), 2, STM_DONE, 3, 1, 2) && none(stm_turn(&store, &lender, second), STM_GONE));
     ends();
 }
 
@@ -121,14 +135,12 @@ static void other_programs(void) {
         wants(stm_open(&programs[i], 1, 0, &stores[i]) == STM_DONE && stm_open_worker(&stores[i], &workers[i]) == STM_DONE);
     }
     for (int i = 0; i < 2; i++) {
-        stm_job job = stm_take_job(&stores[i]);
+        stm_job job = stm_take(&stores[i]);
         wants(stm_try_job(&workers[1 - i], job) == STM_DONE);
-        stm_answer told = stm_finish(&stores[i], &workers[1 - i]);
-        wants(told.code == STM_OTHER_PROGRAM && told.value == 0 && told.entry == 0);
-        wants(stm_finish(&stores[i], &workers[1 - i]).code == STM_NOT_ENDED && stm_entered(&stores[i]) == 0);
+        wants(none(stm_bring(&stores[i], &workers[1 - i]), STM_OTHER_PROGRAM));
+        wants(none(stm_bring(&stores[i], &workers[1 - i]), STM_NOT_ENDED) && stm_entered(&stores[i]) == 0);
         wants(stm_standing(&stores[i], 0).code == STM_RUNNING && stm_try_job(&workers[i], job) == STM_DONE);
-        told = stm_finish(&stores[i], &workers[i]);
-        wants(told.code == STM_DONE && told.value == 1 && told.entry == 1);
+        wants(tells(stm_bring(&stores[i], &workers[i]), 0, STM_DONE, 1, 0, 1));
     }
     for (int i = 0; i < 2; i++) {
         stm_worker_free(&workers[i]);
@@ -144,19 +156,21 @@ static void the_same_program(void) {
     static const char strict[] = "(stm 2)(var x 0)(always low (lt x 9))(tx inc (set x (add x 1)) x)(run inc 1)";
     opens(one, 0);
     const char *files[] = {same, strict};
+    stm_job jobs[2];
     for (int i = 0; i < 2; i++) {
         stm_program other = {0};
         stm_store second = {0};
         stm_worker hired = {0};
         wants(stm_read(bytes(files[i]), strlen(files[i]), &other) == STM_DONE && stm_open(&other, 1, 0, &second) == STM_DONE);
-        wants(stm_open_worker(&second, &hired) == STM_DONE && stm_try_job(&hired, stm_take_job(&store)) == STM_DONE);
+        jobs[i] = stm_take(&store);
+        wants(stm_open_worker(&second, &hired) == STM_DONE && stm_try_job(&hired, jobs[i]) == STM_DONE);
         /* It has read 9, which is not what the store has; of the stricter one nothing is brought. */
-        wants(stm_finish(&store, &hired).code == (i == 0 ? STM_STALE : STM_OTHER_PROGRAM));
+        wants(none(stm_bring(&store, &hired), i == 0 ? STM_STALE : STM_OTHER_PROGRAM));
         stm_worker_free(&hired);
         stm_store_free(&second);
         stm_program_free(&other);
     }
-    wants(stm_serial(&store, 0).entry == 1 && stm_serial(&store, 1).entry == 2);
+    wants(stm_turn(&store, &lender, jobs[0]).entry == 1 && stm_turn(&store, &lender, jobs[1]).entry == 2);
     ends();
 }
 

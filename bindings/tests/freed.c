@@ -46,9 +46,9 @@ static void open_store(int hired) {
     wants(stm_open(&program, WORKERS, 0, &store) == STM_DONE);
     for (int i = 0; i < hired; i++) wants(stm_open_worker(&store, &workers[i]) == STM_DONE);
     for (int done = 0; hired && done < TASKS; done++) {
-        int64_t task = stm_take(&store);
-        wants(task == done && stm_try(&workers[0], (uint32_t)task) == STM_DONE);
-        wants(stm_finish(&store, &workers[0]).code == STM_DONE);
+        stm_job job = stm_take(&store);
+        wants(job.ticket == done && stm_try_job(&workers[0], job) == STM_DONE);
+        wants(stm_bring(&store, &workers[0]).code == STM_DONE);
     }
 }
 
@@ -121,7 +121,7 @@ static void in_threads(long kept) {
 static void with_none(long kept) {
     stm_lender lender = {0};
     wants(stm_open_with_room(&program, 0, 0, 1, &store) == STM_DONE && stm_open_lender(&store, &lender) == STM_DONE);
-    wants(stm_call(&store, &lender, 0, NULL, 0).value == 1);
+    wants(stm_call(&store, &lender, 0, NULL, 0, STM_WAITS).value == 1);
     stm_store_free(&store);
     stm_lender_free(&lender);
     wants(counted() == kept);

@@ -46,15 +46,17 @@ static int host(long *kept) {
     told_of |= stm_open(&program, 2, 0, &store) == STM_MEMORY;
     told_of |= stm_open_worker(&store, &worker) == STM_MEMORY;
     told_of |= stm_open_lender(&store, &lender) == STM_MEMORY;
-    int32_t turned = stm_turn(&store, &lender).code;
+    stm_job first = {.ticket = STM_NOT_READY};
+    if (lender.at) first = stm_take(&store);
+    int32_t turned = stm_turn(&store, &lender, first).code;
     if (turned == STM_EMPTY ? store.at && lender.at : turned < 0) exit(6);
     told_of |= turned == STM_GIVEN_UP;
-    for (int64_t task; worker.at && (task = stm_take(&store)) >= 0;) {
-        int32_t tried = stm_try(&worker, (uint32_t)task);
+    for (stm_job job; worker.at && (job = stm_take(&store)).ticket >= 0;) {
+        int32_t tried = stm_try_job(&worker, job);
         if (tried == STM_MEMORY) {
             told_of = 1;
-            if (stm_give_up(&store, (uint32_t)task) != STM_DONE) exit(6);
-        } else if (stm_finish(&store, &worker).code < 0) {
+            if (stm_give_up(&store, job.ticket) != STM_DONE) exit(6);
+        } else if (stm_bring(&store, &worker).code < 0) {
             exit(6);
         }
     }
@@ -84,12 +86,14 @@ static int takes_none(void) {
     long before = requests;
     for (int chapter = 0; chapter < 50; chapter++) {
         int64_t ticket = stm_submit(&store, 0, NULL, 0), other = stm_submit(&store, 1, NULL, 0);
-        if (ticket < 0 || stm_claim(&store, ticket).ticket != ticket || stm_serial(&store, ticket).code != STM_DONE) return 0;
+        stm_job job = stm_claim(&store, ticket);
+        if (ticket < 0 || job.ticket != ticket || stm_turn(&store, &lender, job).code != STM_DONE) return 0;
         if (stm_outcome(&store, ticket).code != STM_DONE || stm_standing(&store, ticket).code != STM_DONE) return 0;
-        int32_t waits = stm_turn(&store, &lender).code;
+        int32_t waits = stm_turn(&store, &lender, stm_take(&store)).code;
         if (waits != STM_RETRIES && waits != STM_DONE) return 0;
-        if (stm_call(&store, &lender, 0, NULL, 0).code != STM_DONE || stm_try_call(&store, &lender, 0, NULL, 0).code != STM_DONE) return 0;
-        stm_withdraw(&store, other);
+        for (uint32_t way = STM_WAITS; way <= STM_TRIES; way++)
+            if (stm_call(&store, &lender, 0, NULL, 0, way).code != STM_DONE) return 0;
+        stm_give_up(&store, other);
         if (stm_begin_chapter(&store) != STM_DONE) return 0;
     }
     int none = requests == before;

@@ -12,6 +12,7 @@ static const char WAITING[] = "(var full 0)\n"
                               "(run get 2)\n";
 static stm_store store;
 static stm_worker worker;
+static stm_lender lender;
 static uint8_t none;
 static size_t unused;
 
@@ -19,11 +20,11 @@ static const uint8_t *bytes(const char *text) { return (const uint8_t *)text; }
 
 /* The next job ends so. */
 static void ends(int64_t ticket, uint32_t transaction, int32_t code) {
-    stm_job job = stm_take_job(&store);
+    stm_job job = stm_take(&store);
     wants(job.ticket == ticket && job.transaction == transaction);
     wants(stm_report_now(&store, &none, 0, &unused) == STM_WORK_LEFT);
     wants(stm_try_job(&worker, job) == STM_DONE);
-    wants(stm_finish(&store, &worker).code == code);
+    wants(stm_bring(&store, &worker).code == code);
 }
 
 static void stand(size_t ready, size_t running, size_t parked, size_t done) {
@@ -59,15 +60,14 @@ static void empty_handles(void) {
     uint64_t version;
     stm_program program = {0};
     wants(stm_open_with_room(&program, 1, 0, 1, &store) == STM_EMPTY);
-    wants(stm_submit(&store, 0, NULL, 0) == STM_EMPTY && stm_take_job(&store).ticket == STM_EMPTY);
+    wants(stm_submit(&store, 0, NULL, 0) == STM_EMPTY && stm_take(&store).ticket == STM_EMPTY);
     wants(stm_get_counts(&store, &counts) == STM_EMPTY);
     wants(stm_value(&store, bytes("full"), 4, &value, &version) == STM_EMPTY);
     wants(stm_file(&store, &none, 0, &unused) == STM_EMPTY && stm_report_now(&store, &none, 0, &unused) == STM_EMPTY);
     wants(stm_try_job(&worker, (stm_job){.ticket = 0}) == STM_EMPTY);
-    wants(stm_try(&worker, 0) == STM_EMPTY);
-    wants(stm_observe(&worker, 0, NULL, 0).code == STM_EMPTY && stm_finish(&store, &worker).code == STM_EMPTY);
+    wants(stm_observe(&worker, 0, NULL, 0).code == STM_EMPTY && stm_bring(&store, &worker).code == STM_EMPTY);
     wants(stm_open(&program, 1, 0, &store) == STM_EMPTY && stm_open_worker(&store, &worker) == STM_EMPTY);
-    wants(stm_take(&store) == STM_EMPTY && stm_serial(&store, 0).code == STM_EMPTY);
+    wants(stm_claim(&store, 0).ticket == STM_EMPTY && stm_turn(&store, &lender, stm_take(&store)).code == STM_EMPTY);
     wants(stm_give_up(&store, 0) == STM_EMPTY && stm_checkpoint(&store) == STM_EMPTY);
     wants(stm_report(&store, &none, 0, &unused) == STM_EMPTY);
     wants(stm_program_variable(&program, bytes("x"), 1) == STM_EMPTY && stm_program_transaction(&program, bytes("x"), 1) == STM_EMPTY);
@@ -84,36 +84,37 @@ static void full_handles(stm_program *program) {
     wants(stm_read(bytes(WAITING), strlen(WAITING), program) == STM_FULL);
     wants(stm_open(program, 1, 0, &store) == STM_FULL && stm_open_worker(&store, &worker) == STM_FULL);
     stm_worker none_hired = {0};
-    wants(stm_open_worker(&store, &none_hired) == STM_NO_WORKER && stm_finish(&store, &none_hired).code == STM_EMPTY);
-    wants(stm_finish(&store, &worker).code == STM_NOT_ENDED && stm_program_tasks(program) == 2);
+    wants(stm_open_worker(&store, &none_hired) == STM_NO_WORKER && stm_bring(&store, &none_hired).code == STM_EMPTY);
+    wants(stm_bring(&store, &worker).code == STM_NOT_ENDED && stm_program_tasks(program) == 2);
 }
 
-/* Turns under the lock: so many as were asked for, or until none is ready. What was tried before is not brought. */
+/* Turns under the lock: so many as were asked for, or until none is ready. What was tried before can be brought after. */
 static void turns(stm_program *program) {
-    stm_worker none_hired = {0};
-    wants(stm_turns(&store, &none_hired, 9) == STM_EMPTY);
-    wants(stm_open_with_room(program, 1, 0, 2, &store) == STM_DONE);
-    wants(stm_turns(&store, &none_hired, 9) == STM_EMPTY && stm_open_worker(&store, &worker) == STM_DONE);
-    wants(stm_turns(&store, &worker, 0) == 0);
+    wants(stm_turns(&store, &lender, 9) == STM_EMPTY);
+    wants(stm_open_with_room(program, 1, 0, 2, &store) == STM_DONE && stm_open_worker(&store, &worker) == STM_DONE);
+    wants(stm_turns(&store, &lender, 9) == STM_EMPTY && stm_open_lender(&store, &lender) == STM_DONE);
+    wants(stm_turns(&store, &lender, 0) == 0);
     stand(2, 0, 0, 0);
-    wants(stm_turns(&store, &worker, 1) == 1);
+    wants(stm_turns(&store, &lender, 1) == 1);
     stand(1, 0, 1, 0);
-    wants(stm_turns(&store, &worker, UINT32_MAX) == 1);
+    wants(stm_turns(&store, &lender, UINT32_MAX) == 1);
     stand(0, 0, 2, 0);
 
     /* One that comes in wakes both: one of them ends, and the other waits again. */
-    wants(stm_submit(&store, 1, NULL, 0) == 2 && stm_turns(&store, &worker, UINT32_MAX) == 3);
+    wants(stm_submit(&store, 1, NULL, 0) == 2 && stm_turns(&store, &lender, UINT32_MAX) == 3);
     stand(0, 0, 1, 2);
     is(0, 2);
     agree(2);
 
     wants(stm_submit(&store, 1, NULL, 0) == 3);
-    stm_job job = stm_take_job(&store);
+    stm_job job = stm_take(&store);
     wants(job.ticket == 3 && stm_try_job(&worker, job) == STM_DONE);
-    wants(stm_turns(&store, &worker, UINT32_MAX) == 0 && stm_finish(&store, &worker).code == STM_NOT_ENDED);
-    wants(stm_serial(&store, 3).code == STM_DONE && stm_turns(&store, &worker, 1) == 1);
+    wants(stm_turns(&store, &lender, UINT32_MAX) == 0 && stm_bring(&store, &worker).code == STM_DONE);
+    wants(stm_bring(&store, &worker).code == STM_NOT_ENDED && stm_turn(&store, &lender, job).code == STM_NOT_RUNNING);
+    wants(stm_turns(&store, &lender, 1) == 1);
     stand(0, 0, 0, 4);
     stm_worker_free(&worker);
+    stm_lender_free(&lender);
     stm_store_free(&store);
 }
 
@@ -121,7 +122,7 @@ static void turns(stm_program *program) {
 static void waiting(void) {
     ends(0, 0, STM_RETRIES);
     ends(1, 0, STM_RETRIES);
-    wants(stm_take_job(&store).ticket == -1);
+    wants(stm_take(&store).ticket == STM_NOT_READY);
     stand(0, 0, 2, 0);
     is(0, 0);
     agree(1);
@@ -172,7 +173,7 @@ int main(void) {
     stm_store_free(&store);
     turns(&program);
     stm_program_free(&program);
-    wants(!worker.at && !store.at && !program.at);
+    wants(!worker.at && !lender.at && !store.at && !program.at);
     printf("good\n");
     return 0;
 }

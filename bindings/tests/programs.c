@@ -14,15 +14,17 @@ static stm_program program;
 
 static int asks(void) {
     stm_store store = {0};
+    stm_lender lender = {0};
     int64_t value = 0;
     uint64_t version = 0;
     if (stm_program_tasks(&program) != 3 || stm_program_variables(&program) != 1) return 0;
     if (stm_program_transactions(&program) != 2 || stm_program_variable(&program, (const uint8_t *)"x", 1) != 0) return 0;
     if (stm_program_transaction(&program, (const uint8_t *)"get", 3) != 1) return 0;
-    if (stm_open(&program, 0, 0, &store) != STM_DONE) return 0;
-    for (int64_t task = stm_take(&store); task >= 0; task = stm_take(&store))
-        if (stm_serial(&store, task).code != STM_DONE) return 0;
+    if (stm_open(&program, 0, 0, &store) != STM_DONE || stm_open_lender(&store, &lender) != STM_DONE) return 0;
+    for (stm_job job = stm_take(&store); job.ticket >= 0; job = stm_take(&store))
+        if (stm_turn(&store, &lender, job).code != STM_DONE) return 0;
     if (stm_value(&store, (const uint8_t *)"x", 1, &value, &version) != STM_DONE) return 0;
+    stm_lender_free(&lender);
     stm_store_free(&store);
     return value == 8 && version == 3;
 }

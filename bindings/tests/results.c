@@ -1,4 +1,4 @@
-/* How transactions end, as a turn, a call, a worker's end and the journal tell it; tasks that are claimed and withdrawn.
+/* How transactions end, as a turn, a call, a worker's end and the journal tell it; tasks that are claimed and given up.
  * Prints `good`. */
 #include "stm.h"
 #include "wants.h"
@@ -28,42 +28,44 @@ static void ends(void) {
     wants(!worker.at && !lender.at && !store.at && !program.at);
 }
 
-static int tells(stm_answer told, int32_t code, int64_t value, uint64_t entry) {
-    return told.code == code && told.value == value && told.entry == entry;
+/* All are of the first chapter. */
+static int tells(stm_answer told, int64_t ticket, int32_t code, int64_t value, uint64_t entry) {
+    return told.ticket == ticket && told.code == code && told.value == value && told.chapter == 0 && told.entry == entry;
 }
 
-static int turned(stm_turned turn, int64_t ticket, uint32_t transaction, int32_t code, int64_t value, uint64_t entry) {
-    return turn.ticket == ticket && turn.transaction == transaction && turn.code == code && turn.value == value && turn.entry == entry;
+/* It is about no task, and this is why. */
+static int none(stm_answer told, int32_t code) { return tells(told, -1, code, 0, 0); }
+
+static stm_answer calls(uint32_t transaction, uint32_t way) {
+    return stm_call(&store, &lender, transaction, NULL, 0, way);
 }
 
-/* No task had a turn, and this is why. */
-static int none(stm_turned turn, int32_t code) { return turned(turn, -1, 0, code, 0, 0); }
+/* The lowest ready task has its turn. */
+static stm_answer turns(void) { return stm_turn(&store, &lender, stm_take(&store)); }
 
 /* The tasks that are submitted while others are ready; entries, until a checkpoint takes them. */
 static void increments(void) {
     begins("(var x 5)(tx inc (set x (add x 1)) x)(run inc 2)", 0, 0, 3);
     wants(stm_standing(&store, 0).code == STM_READY && stm_outcome(&store, 0).code == STM_NO_ENTRY);
-    wants(turned(stm_call(&store, &lender, 0, NULL, 0), 2, 0, STM_DONE, 6, 1));
-    wants(turned(stm_turn(&store, &lender), 0, 0, STM_DONE, 7, 2));
-    wants(tells(stm_outcome(&store, 2), STM_DONE, 6, 1) && tells(stm_outcome(&store, 0), STM_DONE, 7, 2));
-    wants(tells(stm_outcome(&store, 1), STM_NO_ENTRY, 0, 0) && tells(stm_standing(&store, 2), STM_DONE, 0, 1));
+    wants(tells(calls(0, STM_WAITS), 2, STM_DONE, 6, 1));
+    wants(tells(turns(), 0, STM_DONE, 7, 2));
+    wants(tells(stm_outcome(&store, 2), 2, STM_DONE, 6, 1) && tells(stm_outcome(&store, 0), 0, STM_DONE, 7, 2));
+    wants(tells(stm_outcome(&store, 1), 1, STM_NO_ENTRY, 0, 0) && tells(stm_standing(&store, 2), 2, STM_DONE, 0, 1));
     wants(stm_checkpoint(&store) == STM_DONE);
-    wants(tells(stm_outcome(&store, 2), STM_NO_ENTRY, 0, 0) && tells(stm_standing(&store, 2), STM_DONE, 0, 1));
+    wants(tells(stm_outcome(&store, 2), 2, STM_NO_ENTRY, 0, 0) && tells(stm_standing(&store, 2), 2, STM_DONE, 0, 1));
 
     stm_job job = stm_claim(&store, 1);
     wants(job.ticket == 1 && job.chapter == 0 && job.task == 1 && job.transaction == 0);
-    wants(stm_claim(&store, 1).ticket == -1 && stm_standing(&store, 1).code == STM_RUNNING);
-    wants(stm_withdraw(&store, 1) == STM_NOT_WAITING && stm_claim(&store, 3).ticket == STM_UNKNOWN);
-    wants(none(stm_turn(&store, &lender), STM_IDLE));
-    wants(tells(stm_serial(&store, 1), STM_DONE, 8, 3) && tells(stm_serial(&store, 1), STM_NOT_RUNNING, 0, 0));
-    wants(stm_give_up(&store, 1) == STM_NOT_RUNNING && stm_withdraw(&store, 1) == STM_NOT_WAITING);
+    wants(stm_claim(&store, 1).ticket == STM_NOT_READY && tells(stm_standing(&store, 1), 1, STM_RUNNING, 0, 0));
+    wants(stm_claim(&store, 0).ticket == STM_NOT_READY && stm_claim(&store, 3).ticket == STM_GONE);
+    wants(stm_take(&store).ticket == STM_NOT_READY && none(turns(), STM_GONE));
+    wants(tells(stm_turn(&store, &lender, job), 1, STM_DONE, 8, 3) && none(stm_turn(&store, &lender, job), STM_NOT_RUNNING));
+    wants(stm_give_up(&store, 1) == STM_GONE && tells(stm_standing(&store, 1), 1, STM_DONE, 0, 3));
 
-    wants(turned(stm_try_call(&store, &lender, 0, NULL, 0), 3, 0, STM_DONE, 9, 4));
-    wants(turned(stm_call(&store, &lender, 0, NULL, 0), 4, 0, STM_DONE, 10, 5));
-    wants(none(stm_call(&store, &lender, 0, NULL, 0), STM_NO_ROOM));
-    wants(none(stm_try_call(&store, &lender, 0, NULL, 0), STM_NO_ROOM));
-    wants(none(stm_call(&store, &lender, 1, NULL, 0), STM_UNKNOWN));
-    wants(none(stm_try_call(&store, &lender, UINT32_MAX, NULL, 0), STM_UNKNOWN));
+    wants(tells(calls(0, STM_TRIES), 3, STM_DONE, 9, 4));
+    wants(tells(calls(0, STM_WAITS), 4, STM_DONE, 10, 5));
+    wants(none(calls(0, STM_WAITS), STM_NO_ROOM) && none(calls(0, STM_TRIES), STM_NO_ROOM));
+    wants(none(calls(1, STM_WAITS), STM_UNKNOWN) && none(calls(UINT32_MAX, STM_TRIES), STM_UNKNOWN));
     ends();
 }
 
@@ -72,30 +74,44 @@ static void strangers(void) {
     begins("(var x 5)(tx inc (set x (add x 1)) x)(run inc 2)", 0, 0, 3);
     const int64_t strange[] = {2, 65536, INT64_MAX, -1, STM_EMPTY, INT64_MIN};
     for (size_t i = 0; i < sizeof strange / sizeof *strange; i++) {
-        wants(stm_claim(&store, strange[i]).ticket == STM_UNKNOWN && stm_withdraw(&store, strange[i]) == STM_UNKNOWN);
-        wants(stm_serial(&store, strange[i]).code == STM_UNKNOWN && stm_give_up(&store, strange[i]) == STM_UNKNOWN);
-        wants(stm_standing(&store, strange[i]).code == STM_UNKNOWN && stm_outcome(&store, strange[i]).code == STM_UNKNOWN);
+        wants(stm_claim(&store, strange[i]).ticket == STM_GONE && stm_give_up(&store, strange[i]) == STM_GONE);
+        wants(none(stm_turn(&store, &lender, (stm_job){.ticket = strange[i]}), STM_GONE));
+        wants(none(stm_standing(&store, strange[i]), STM_GONE) && none(stm_outcome(&store, strange[i]), STM_GONE));
     }
     stm_counts counts;
     wants(stm_get_counts(&store, &counts) == STM_DONE && counts.ready == 2);
     ends();
 }
 
-/* A parked task is withdrawn, and stands among those that were given up. */
+/* A task is given up once, whether it is ready, running or parked: then it has no turn any more. */
+static void given_up(void) {
+    begins("(tx back (skip) 9)(tx t (retry) 0)(run back 3)(run t 1)", 0, 0, 0);
+    stm_job job = stm_take(&store);
+    wants(stm_give_up(&store, 0) == STM_DONE && none(stm_turn(&store, &lender, job), STM_NOT_RUNNING));
+    wants(stm_give_up(&store, 1) == STM_DONE && stm_claim(&store, 1).ticket == STM_NOT_READY);
+    wants(tells(turns(), 2, STM_DONE, 9, 1) && tells(turns(), 3, STM_RETRIES, 0, 0) && stm_give_up(&store, 3) == STM_DONE);
+    for (int64_t ticket = 0; ticket < 4; ticket++) wants(stm_give_up(&store, ticket) == STM_GONE);
+    wants(tells(stm_standing(&store, 0), 0, STM_GIVEN_UP, 0, 0) && tells(stm_standing(&store, 3), 3, STM_GIVEN_UP, 0, 0));
+    stm_counts counts;
+    wants(stm_get_counts(&store, &counts) == STM_DONE && counts.given_up == 3 && counts.done == 1);
+    ends();
+}
+
+/* A parked task can't be claimed; it is given up, and stands among those that were. */
 static void parked(void) {
     static const char file[] = "(tx t (retry) 0)(run t 1)";
     static const char report[] = "base 0\nnow 0\nmemory 0 t\nend\n";
     uint8_t room[sizeof report];
     size_t length = 0;
     begins(file, 0, 0, 1);
-    wants(turned(stm_turn(&store, &lender), 0, 0, STM_RETRIES, 0, 0) && stm_standing(&store, 0).code == STM_RETRIES);
-    wants(stm_claim(&store, 0).ticket == -1 && stm_withdraw(&store, 0) == STM_DONE);
-    wants(stm_withdraw(&store, 0) == STM_NOT_WAITING && stm_standing(&store, 0).code == STM_GIVEN_UP);
-    wants(none(stm_try_call(&store, &lender, 0, NULL, 0), STM_RETRIES) && stm_store_spare(&store) == 1);
+    wants(tells(turns(), 0, STM_RETRIES, 0, 0) && tells(stm_standing(&store, 0), 0, STM_RETRIES, 0, 0));
+    wants(stm_claim(&store, 0).ticket == STM_NOT_READY && stm_give_up(&store, 0) == STM_DONE);
+    wants(stm_give_up(&store, 0) == STM_GONE && tells(stm_standing(&store, 0), 0, STM_GIVEN_UP, 0, 0));
+    wants(none(calls(0, STM_TRIES), STM_RETRIES) && none(calls(0, UINT32_MAX), STM_RETRIES) && stm_store_spare(&store) == 1);
     wants(stm_report_now(&store, room, sizeof room, &length) == STM_DONE && length == strlen(report));
     wants(memcmp(room, report, length) == 0 && stm_check(bytes(file), strlen(file), room, length) == STM_DONE);
-    wants(turned(stm_call(&store, &lender, 0, NULL, 0), 1, 0, STM_RETRIES, 0, 0) && stm_store_spare(&store) == 0);
-    wants(none(stm_try_call(&store, &lender, 0, NULL, 0), STM_RETRIES));
+    wants(tells(calls(0, STM_WAITS), 1, STM_RETRIES, 0, 0) && stm_store_spare(&store) == 0);
+    wants(none(calls(0, STM_TRIES), STM_RETRIES));
     ends();
 }
 
@@ -115,16 +131,16 @@ static void each_end(uint32_t checkpoint) {
     for (uint32_t tx = 0; tx < FAULTS_OF; tx++) {
         int32_t code = faults[tx].code;
         int64_t value = faults[tx].value;
-        stm_job job = stm_take_job(&store);
-        wants(tells(stm_observe(&worker, tx, NULL, 0), code, value, 0));
+        stm_job job = stm_take(&store);
+        wants(tells(stm_observe(&worker, tx, NULL, 0), -1, code, value, 0));
         wants(job.ticket == (int64_t)tx && stm_try_job(&worker, job) == STM_DONE);
-        wants(tells(stm_finish(&store, &worker), code, value, ++entry));
-        wants(turned(stm_call(&store, &lender, tx, NULL, 0), FAULTS_OF + 2 * (int64_t)tx, tx, code, value, entry + 1));
+        wants(tells(stm_bring(&store, &worker), job.ticket, code, value, ++entry));
+        wants(tells(calls(tx, STM_WAITS), FAULTS_OF + 2 * (int64_t)tx, code, value, entry + 1));
         entry++;
         int64_t ticket = stm_submit(&store, tx, NULL, 0);
-        wants(stm_claim(&store, ticket).ticket == ticket && tells(stm_serial(&store, ticket), code, value, ++entry));
+        wants(tells(stm_turn(&store, &lender, stm_claim(&store, ticket)), ticket, code, value, ++entry));
         stm_answer told = stm_outcome(&store, ticket);
-        wants(checkpoint ? tells(told, STM_NO_ENTRY, 0, 0) : tells(told, code, value, entry));
+        wants(checkpoint ? tells(told, ticket, STM_NO_ENTRY, 0, 0) : tells(told, ticket, code, value, entry));
     }
     wants(stm_entered(&store) == entry && stm_chapter(&store) == 0);
     ends();
@@ -135,15 +151,19 @@ static void empty_handles(void) {
     stm_store no_store = {0};
     stm_lender no_lender = {0};
     wants(stm_open_lender(&no_store, &no_lender) == STM_EMPTY);
-    wants(none(stm_turn(&no_store, &lender), STM_EMPTY) && none(stm_turn(&store, &no_lender), STM_EMPTY));
-    wants(none(stm_call(&no_store, &lender, 0, NULL, 0), STM_EMPTY));
-    wants(none(stm_call(&store, &no_lender, 0, NULL, 0), STM_EMPTY));
-    wants(none(stm_try_call(&no_store, &lender, 0, NULL, 0), STM_EMPTY));
-    wants(none(stm_try_call(&store, &no_lender, 0, NULL, 0), STM_EMPTY));
-    wants(stm_claim(&no_store, 0).ticket == STM_EMPTY && stm_withdraw(&no_store, 0) == STM_EMPTY);
-    wants(stm_standing(&no_store, 0).code == STM_EMPTY && stm_outcome(&no_store, 0).code == STM_EMPTY);
+    const stm_job job = {.ticket = 0};
+    wants(none(stm_turn(&no_store, &lender, job), STM_EMPTY) && none(stm_turn(&store, &no_lender, job), STM_EMPTY));
+    for (uint32_t way = STM_WAITS; way <= STM_TRIES; way++) {
+        wants(none(stm_call(&no_store, &lender, 0, NULL, 0, way), STM_EMPTY));
+        wants(none(stm_call(&store, &no_lender, 0, NULL, 0, way), STM_EMPTY));
+    }
+    wants(stm_turns(&no_store, &lender, 1) == STM_EMPTY && stm_turns(&store, &no_lender, 1) == STM_EMPTY);
+    wants(stm_take(&no_store).ticket == STM_EMPTY && stm_claim(&no_store, 0).ticket == STM_EMPTY);
+    wants(none(stm_bring(&no_store, &worker), STM_EMPTY) && none(stm_bring(&store, &worker), STM_EMPTY));
+    wants(stm_give_up(&no_store, 0) == STM_EMPTY);
+    wants(none(stm_standing(&no_store, 0), STM_EMPTY) && none(stm_outcome(&no_store, 0), STM_EMPTY));
     wants(stm_begin_chapter(&no_store) == STM_EMPTY && stm_chapter(&no_store) == 0 && stm_entered(&no_store) == 0);
-    wants(turned(stm_call(&store, &lender, 0, NULL, 0), 0, 0, STM_DONE, 6, 1));
+    wants(tells(calls(0, STM_WAITS), 0, STM_DONE, 6, 1));
     ends();
 }
 
@@ -154,8 +174,8 @@ static void lenders(void) {
     stm_store second = {0};
     static const char file[] = "(var y 1)(var z 2)(tx sum (skip) (add y z))";
     wants(stm_read(bytes(file), strlen(file), &other) == STM_DONE && stm_open_with_room(&other, 0, 0, 1, &second) == STM_DONE);
-    wants(turned(stm_call(&second, &lender, 0, NULL, 0), 0, 0, STM_DONE, 3, 1));
-    wants(turned(stm_call(&store, &lender, 0, NULL, 0), 0, 0, STM_DONE, 6, 1));
+    wants(tells(stm_call(&second, &lender, 0, NULL, 0, STM_WAITS), 0, STM_DONE, 3, 1));
+    wants(tells(calls(0, STM_WAITS), 0, STM_DONE, 6, 1));
     stm_store_free(&second);
     stm_program_free(&other);
     ends();
@@ -167,6 +187,7 @@ static void lenders(void) {
 int main(void) {
     increments();
     strangers();
+    given_up();
     parked();
     each_end(0);
     each_end(1);

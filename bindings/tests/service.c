@@ -19,8 +19,18 @@ static uint32_t number_of(stm_service *service, const char *name) {
     return (uint32_t)number;
 }
 
+/* Whether it tells a task and a chapter exactly where it was entered. */
+static int is_whole(stm_answer answer) {
+    return answer.entry > 0 ? answer.ticket >= 0 : answer.ticket == -1 && answer.chapter == 0;
+}
+
 static int is(stm_answer answer, int32_t code, int64_t value, uint64_t entry) {
-    return answer.code == code && answer.value == value && answer.entry == entry;
+    return answer.code == code && answer.value == value && answer.entry == entry && is_whole(answer);
+}
+
+/* Whether it returned, with this ticket, and was entered there. */
+static int is_at(stm_answer answer, int64_t ticket, uint64_t chapter, uint64_t entry) {
+    return answer.code == STM_DONE && answer.ticket == ticket && answer.chapter == chapter && answer.entry == entry;
 }
 
 /* The runs of the file have had their turns: two increments and a throw; one waits. */
@@ -205,6 +215,32 @@ static void all_wait(void) {
     stm_service_free(s);
 }
 
+static void *waits_for_answer(void *told) {
+    *(stm_answer *)told = stm_atomically(waited_for, number_of(waited_for, "wait"), NULL, 0);
+    return NULL;
+}
+
+/* Of what was entered its ticket is told, its chapter, and the number of its entry there: also of one that waited, and
+ * in the chapters after the first. What was not entered has none. */
+static void where_each_was_entered(void) {
+    enum { WAIT, GO, INC };
+    stm_service_options options = {3, 0, 0, NULL, NULL};
+    stm_service *s = waited_for = opens(WAITS, &options);
+    stm_answer told = {.code = STM_UNKNOWN};
+    pthread_t thread;
+    wants(pthread_create(&thread, NULL, waits_for_answer, &told) == 0);
+    until_there_wait(s, 1);
+    wants(is_at(stm_atomically(s, INC, NULL, 0), 1, 0, 1) && is_at(stm_try_atomically(s, INC, NULL, 0), 2, 0, 2));
+    wants(is_at(stm_atomically_within(s, INC, NULL, 0, UINT64_MAX), 3, 1, 1));
+    wants(is(stm_try_atomically(s, WAIT, NULL, 0), STM_RETRIES, 0, 0));
+    wants(is_at(stm_atomically(s, GO, NULL, 0), 4, 1, 2));
+    pthread_join(thread, NULL);
+    wants(is_at(told, 0, 1, 3) && told.value == 5);
+    wants(is_at(stm_try_atomically(s, WAIT, NULL, 0), 5, 2, 1));
+    wants(is(stm_service_observe(s, WAIT, NULL, 0), STM_DONE, 5, 0) && is_at(stm_atomically(s, INC, NULL, 0), 6, 2, 2));
+    stm_service_free(s);
+}
+
 /* Calls wait whose tasks have numbers so far apart that they fall into one bucket of the table. */
 static void waits_in_one_bucket(void) {
     enum { BUCKETS = 4096 };
@@ -223,7 +259,7 @@ static void waits_in_one_bucket(void) {
 }
 
 static void *waits_and_is_cancelled(void *told) {
-    *(stm_answer *)told = stm_atomically(waited_for, number_of(waited_for, "wait"), NULL, 0);
+    waits_for_answer(told);
     pthread_testcancel();
     return NULL;
 }
@@ -231,7 +267,7 @@ static void *waits_and_is_cancelled(void *told) {
 /* A thread that is cancelled while it waits is so after its call. */
 static void a_thread_is_cancelled(void) {
     stm_service *s = waited_for = opens(ENDS, NULL);
-    stm_answer told = {0, 0, 0};
+    stm_answer told = {.code = STM_UNKNOWN};
     void *end = NULL;
     pthread_t thread;
     wants(pthread_create(&thread, NULL, waits_and_is_cancelled, &told) == 0);
@@ -260,6 +296,7 @@ int main(void) {
     the_longest_chapters();
     a_hook_that_fails();
     all_wait();
+    where_each_was_entered();
     waits_in_one_bucket();
     a_thread_is_cancelled();
     with_checkpoints();

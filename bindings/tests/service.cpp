@@ -77,11 +77,13 @@ static void each_way_to_end() {
     stm::service service = opened();
     stm::outcome one = service.atomically("inc");
     wants(one && *one == 1 && one.value() == 1 && one.entry() == 1 && one.word() == "done" && !one.thrown());
+    wants(one.ticket() == 0u && one.chapter() == 0 && !service.observe("inc").ticket());
     stm::outcome bad = service.atomically("bad");
-    wants(!bad && bad.thrown() == -7 && !bad.broken() && bad.entry() == 2);
+    wants(!bad && bad.thrown() == -7 && !bad.broken() && bad.entry() == 2 && bad.ticket() == 1u);
     wants(service.atomically("big").code() == STM_OVERFLOW && service.atomically("cut").code() == STM_DIVIDE_BY_ZERO);
     wants(service.atomically("over").broken() == 0 && service.entered() == 5);
-    wants(service.try_atomically("get").code() == STM_RETRIES && service.observe("get").code() == STM_RETRIES);
+    wants(service.try_atomically("get").code() == STM_RETRIES && !service.try_atomically("get").ticket());
+    wants(service.try_atomically("none").ticket() == std::nullopt && service.observe("get").code() == STM_RETRIES);
     wants(service.atomically_within(1ms, "get").code() == STM_TIMED_OUT);
     wants(service.atomically_within(-1s, "get").code() == STM_TIMED_OUT);
     wants(service.atomically_within(std::chrono::duration<double>(0.001), "get").code() == STM_TIMED_OUT);
@@ -145,9 +147,16 @@ static void threads_wait_for_one_another() {
 static void a_call_waits_across_chapters() {
     Pairs pairs;
     stm::service service = opened(4, &pairs);
-    std::thread waits([&] { wants(service.atomically_within(1h, "wait").value() == 10); });
+    // Three increments a chapter beside the one that waits, whose entry follows the tenth of them.
+    std::thread waits([&] {
+        stm::outcome waited = service.atomically_within(1h, "wait");
+        wants(waited.value() == 10 && waited.ticket() == 0u && waited.chapter() == 3 && waited.entry() == 2);
+    });
     until_parked(service);
-    for (int i = 0; i < 10; i++) wants(bool(service.atomically("inc")));
+    for (std::uint64_t i = 0; i < 10; i++) {
+        stm::outcome one = service.atomically("inc");
+        wants(one && one.ticket() == i + 1 && one.chapter() == i / 3 && one.entry() == i % 3 + 1);
+    }
     waits.join();
     wants(service.chapter() >= 2 && entries(service, pairs) == 11);
 }

@@ -83,7 +83,7 @@ static void a_waiter_stops(uint32_t transaction) {
     wants(stm_atomically(s, transaction, NULL, 0).code == STM_DONE && asked.times == 2);
     /* A time that is up sooner is kept. */
     wants(stm_atomically_within(s, transaction, NULL, 0, SOON).code == STM_TIMED_OUT && asked.times == 2);
-    /* Who was entered before it could be withdrawn has its answer. */
+    /* Who was entered before it could be given up has its answer. */
     asked.puts = true;
     asked.last = 3;
     wants(stm_atomically(s, transaction, NULL, 0).code == STM_DONE && asked.times == 3);

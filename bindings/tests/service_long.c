@@ -33,8 +33,18 @@ static void with_threads(struct worker *workers, int count, void *(*work)(void *
 
 static void rests(long microseconds) { nanosleep(&(struct timespec){0, microseconds * 1000}, NULL); }
 
+/* Whether it tells a task and a chapter exactly where it was entered. */
+static int is_whole(stm_answer answer) {
+    return answer.entry > 0 ? answer.ticket >= 0 : answer.ticket == -1 && answer.chapter == 0;
+}
+
 static int is(stm_answer answer, int32_t code, int64_t value, uint64_t entry) {
-    return answer.code == code && answer.value == value && answer.entry == entry;
+    return answer.code == code && answer.value == value && answer.entry == entry && is_whole(answer);
+}
+
+/* Whether it returned, with this ticket, and was entered there. */
+static int is_at(stm_answer answer, int64_t ticket, uint64_t chapter, uint64_t entry) {
+    return answer.code == STM_DONE && answer.ticket == ticket && answer.chapter == chapter && answer.entry == entry;
 }
 
 /* A sum that does not change, though its parts do. Long ones read one part, work for a while, and read the other. */
@@ -50,7 +60,7 @@ static void *sums(void *own) {
     struct worker *w = own;
     for (long i = 0; i < calls; i++, w->outcomes++) {
         stm_answer answer = stm_atomically(service, w->transaction, NULL, 0);
-        wants(answer.code == STM_DONE && answer.entry > 0 && (w->transaction == MOVE || answer.value == 0));
+        wants(answer.code == STM_DONE && answer.entry > 0 && is_whole(answer) && (w->transaction == MOVE || answer.value == 0));
     }
     return NULL;
 }
@@ -87,7 +97,7 @@ static void *hands_on(void *own) {
     for (long i = 0; i < calls; i++, w->outcomes++) {
         uint32_t transaction = w->transaction + (w->seed++ % 2 ? 2 : 0);
         stm_answer answer = stm_atomically(service, transaction, NULL, 0);
-        wants(answer.code == STM_DONE && answer.entry > 0);
+        wants(answer.code == STM_DONE && answer.entry > 0 && is_whole(answer));
         w->sum += answer.value;
     }
     return NULL;
@@ -238,7 +248,7 @@ static void each_end(void) {
     wants(is(stm_atomically(s, LONG_GET, NULL, 0), STM_DONE, 1, 2));
     wants(is(stm_atomically(s, LONG_PUT, &argument, 1), STM_UNKNOWN, 0, 0));
     wants(is(stm_try_atomically(s, LONG_GET, &argument, 1), STM_UNKNOWN, 0, 0));
-    /* It is withdrawn and leaves its room when the chapter ends, again and again. */
+    /* It is given up and leaves its room when the chapter ends, again and again. */
     for (int i = 0; i < 10; i++) wants(is(stm_try_atomically(s, LONG_GET, NULL, 0), STM_RETRIES, 0, 0));
     wants(stm_service_entered(s) == 2 && stm_service_chapter(s) > 2);
     wants(is(stm_atomically_within(s, SLOW_GET, NULL, 0, 0), STM_TIMED_OUT, 0, 0));
@@ -252,6 +262,24 @@ static void each_end(void) {
     wants(is(stm_try_atomically(s, LONG_PUT, NULL, 0), STM_CLOSED, 0, 0));
     wants(is(stm_atomically_within(s, LONG_PUT, NULL, 0, 5), STM_CLOSED, 0, 0) && stm_service_entered(s) == 4);
     stm_service_free(s);
+}
+
+/* Of what was entered its ticket is told, its chapter, and the number of its entry there: also of one that waited until
+ * the second chapter. */
+static void where_each_was_entered(void) {
+    stm_service_options options = {2, 0, 0, NULL, NULL};
+    stm_answer told;
+    pthread_t thread;
+    service = opens(QUEUE, &options);
+    wants(pthread_create(&thread, NULL, gets_one, &told) == 0);
+    until_there_wait(1);
+    wants(is(stm_try_atomically(service, LONG_GET, NULL, 0), STM_RETRIES, 0, 0));
+    wants(is_at(stm_atomically(service, LONG_PUT, NULL, 0), 2, 1, 1));
+    pthread_join(thread, NULL);
+    wants(is_at(told, 0, 1, 2) && told.value == 1);
+    wants(is_at(stm_try_atomically(service, LONG_PUT, NULL, 0), 3, 2, 1));
+    wants(is_at(stm_atomically_within(service, LONG_GET, NULL, 0, UINT64_MAX), 4, 2, 2));
+    stm_service_free(service);
 }
 
 /* Each call has its own arguments, also where a commit made its first try stale and where it waited. */
@@ -316,6 +344,7 @@ int main(int count, char **words) {
     calls = count > 1 ? atol(words[1]) : 500;
     alarm(300); /* who waits for ever fails */
     each_end();
+    where_each_was_entered();
     all_wait();
     for (int threads = 1; threads <= 8; threads *= 2) {
         long_beside_short(threads, threads < 4 ? 0 : 50, threads < 8 ? 0 : 32);

@@ -81,7 +81,7 @@ static int is_refused(stm_service *s, calls *call, uint32_t transaction, int32_t
     stm_answer answer = call(s, transaction, NULL, 0);
     int refusal = answer.code == STM_MEMORY;
     if (refusal) {
-        wants(answer.value == 0 && answer.entry == 0);
+        wants(answer.ticket == -1 && answer.value == 0 && answer.chapter == 0 && answer.entry == 0);
         answer = call(s, transaction, NULL, 0);
     }
     wants(answer.code == code && answer.value == value);

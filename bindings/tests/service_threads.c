@@ -74,7 +74,7 @@ static void *hurries(void *own) {
     return NULL;
 }
 
-/* Each call whose time was up was withdrawn, and each other one was entered: the journals have as many of both. */
+/* Each call whose time was up was given up, and each other one was entered: the journals have as many of both. */
 static void late_while_woken(int threads, size_t room) {
     struct judged judged = {{" put returned ", " get returned ", "\nmemory "}, {0}, 0};
     stm_service_options options = {room, 0, 0, judges, &judged};
@@ -92,7 +92,7 @@ static void late_while_woken(int threads, size_t room) {
 
 static void *gets_to_the_end(void *own) {
     struct worker *w = own;
-    stm_answer answer = {STM_DONE, 0, 0};
+    stm_answer answer = {.code = STM_DONE};
     for (; answer.code == STM_DONE; w->outcomes += answer.code == STM_DONE)
         answer = w->seed % 2 ? stm_atomically(service, GET, NULL, 0) : stm_atomically_within(service, GET, NULL, 0, UINT64_MAX);
     wants(answer.code == STM_CLOSED && answer.value == 0 && answer.entry == 0);

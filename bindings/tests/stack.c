@@ -20,21 +20,23 @@ static int32_t host(void) {
     stm_program program = {0};
     stm_store store = {0};
     stm_worker worker = {0};
+    stm_lender lender = {0};
     int32_t code = stm_read(file, length, &program);
     if (refused) return code;
     if (code != STM_DONE || stm_open(&program, 1, 3, &store) != STM_DONE) exit(2);
-    if (stm_open_worker(&store, &worker) == STM_DONE) {
-        for (stm_job job; (job = stm_take_job(&store)).ticket >= 0;) {
+    if (stm_open_worker(&store, &worker) == STM_DONE && stm_open_lender(&store, &lender) == STM_DONE) {
+        for (stm_job job; (job = stm_take(&store)).ticket >= 0;) {
             stm_observe(&worker, job.transaction, NULL, 0);
-            if (stm_try_job(&worker, job) == STM_DONE) stm_finish(&store, &worker);
-            stm_serial(&store, job.ticket);
+            if (stm_try_job(&worker, job) == STM_DONE) stm_bring(&store, &worker);
+            stm_turn(&store, &lender, job);
         }
-        stm_turns(&store, &worker, 9);
+        stm_turns(&store, &lender, 9);
     }
     stm_checkpoint(&store);
     stm_report(&store, room, sizeof report, &wanted);
     stm_file(&store, room, sizeof report, &wanted);
     stm_worker_free(&worker);
+    stm_lender_free(&lender);
     stm_store_free(&store);
     stm_program_free(&program);
     return STM_DONE;

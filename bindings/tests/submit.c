@@ -12,15 +12,16 @@ enum { STALE_TRIES = 8, MOST = 31 };
 static pthread_mutex_t lock = PTHREAD_MUTEX_INITIALIZER;
 static pthread_cond_t more = PTHREAD_COND_INITIALIZER;
 static stm_store store;
+static stm_lender lender;
 static int closed;
 
 /* The next job; none once all are in and none is ready. */
 static stm_job next(void) {
     pthread_mutex_lock(&lock);
-    stm_job job = stm_take_job(&store);
+    stm_job job = stm_take(&store);
     while (job.ticket < 0 && !closed) {
         pthread_cond_wait(&more, &lock);
-        job = stm_take_job(&store);
+        job = stm_take(&store);
     }
     pthread_mutex_unlock(&lock);
     return job;
@@ -32,13 +33,13 @@ static void run(stm_worker *worker, stm_job job) {
         if (tried == STM_STALE) continue;
         if (tried != STM_DONE) break;
         pthread_mutex_lock(&lock);
-        stm_answer told = stm_finish(&store, worker);
+        stm_answer told = stm_bring(&store, worker);
         pthread_mutex_unlock(&lock);
-        if (told.code == STM_UNKNOWN) exit(7);
+        if (told.code == STM_GONE) exit(7);
         if (told.code != STM_STALE) return;
     }
     pthread_mutex_lock(&lock);
-    stm_serial(&store, job.ticket);
+    stm_turn(&store, &lender, job);
     pthread_mutex_unlock(&lock);
 }
 
@@ -89,7 +90,7 @@ int main(int count, char **words) {
     size_t room = (size_t)atol(words[3]);
     int threads = atoi(words[4]);
     stm_program program = {0};
-    stm_job none = stm_take_job(&store);
+    stm_job none = stm_take(&store);
     if (none.ticket != STM_EMPTY || stm_submit(&store, 0, NULL, 0) != STM_EMPTY) return 2;
     if (stm_read(file, length, &program) != STM_DONE) return 2;
     size_t tasks = stm_program_tasks(&program);
@@ -97,6 +98,7 @@ int main(int count, char **words) {
     if (transaction < 0) return 2;
     if (stm_open_with_room(&program, (size_t)threads, 0, 65537 - tasks, &store) != STM_NO_ROOM) return 2;
     if (stm_open_with_room(&program, (size_t)threads, 0, room, &store) != STM_DONE) return 2;
+    if (stm_open_lender(&store, &lender) != STM_DONE) return 2;
     int64_t value = 0;
     uint64_t version = 0;
     if (stm_value(&store, (const uint8_t *)"?", 1, &value, &version) != STM_UNKNOWN) return 3;
@@ -108,6 +110,7 @@ int main(int count, char **words) {
     for (int i = 0; i < threads; i++) pthread_join(pool[i], NULL);
     int good = submitted && told(tasks + room);
     printf("%s\n", good ? "good" : "bad");
+    stm_lender_free(&lender);
     stm_store_free(&store);
     for (int i = 0; i < threads; i++) stm_worker_free(&workers[i]);
     stm_program_free(&program);

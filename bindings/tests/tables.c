@@ -59,7 +59,7 @@ static void single(void) {
         "acct", "acct[4]", "acct[03]", "acct[-0]", "acct[3", "acct[3]]", "acct[]", "spare[0]", "\xff[0]",
     };
     const int64_t given[] = {0, 3, 60};
-    wants(stm_call(&store, &lender, PAY, given, 3).code == STM_DONE);
+    wants(stm_call(&store, &lender, PAY, given, 3, STM_WAITS).code == STM_DONE);
     wants(is(stm_cell(&store, 0, 0, &value, &version), 40, 1) && is(stm_cell(&store, 0, 3, &value, &version), 160, 1));
     wants(is(stm_cell(&store, 0, 1, &value, &version), 100, 0) && is(stm_cell(&store, 1, 1, &value, &version), 6, 0));
     wants(is(named("acct[3]"), 160, 1) && is(named("rate[0]"), 5, 0) && is(named("spare"), 9, 0));
@@ -84,9 +84,9 @@ static void many(void) {
 
 static void faults(void) {
     const int64_t behind[] = {0, 4, 1}, before[] = {-1, 0, 0};
-    wants(stm_call(&store, &lender, PAY, behind, 3).code == STM_OUTSIDE);
-    wants(stm_call(&store, &lender, PAY, before, 3).code == STM_OUTSIDE);
-    wants(stm_call(&store, &lender, AUDIT, NULL, 0).value == 400);
+    wants(stm_call(&store, &lender, PAY, behind, 3, STM_WAITS).code == STM_OUTSIDE);
+    wants(stm_call(&store, &lender, PAY, before, 3, STM_WAITS).code == STM_OUTSIDE);
+    wants(stm_call(&store, &lender, AUDIT, NULL, 0, STM_WAITS).value == 400);
 }
 
 /* The same of a service, which is looked at also once it is closed. */

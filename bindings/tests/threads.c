@@ -14,6 +14,7 @@ enum { STALE_TRIES = 8, MOST = 32 };
 static pthread_mutex_t lock = PTHREAD_MUTEX_INITIALIZER;
 static stm_program program;
 static stm_store store;
+static stm_lender lender;
 static size_t transactions;
 static int ended;
 
@@ -24,28 +25,28 @@ static int is_ended(void) {
     return now;
 }
 
-static void run(stm_worker *worker, uint32_t task) {
+static void run(stm_worker *worker, stm_job job) {
     for (int tries = 0; tries < STALE_TRIES; tries++) {
-        int32_t tried = stm_try(worker, task);
+        int32_t tried = stm_try_job(worker, job);
         if (tried != STM_DONE && tried != STM_STALE) break;
         if (tried == STM_STALE) continue;
         pthread_mutex_lock(&lock);
-        stm_answer told = stm_finish(&store, worker);
+        stm_answer told = stm_bring(&store, worker);
         pthread_mutex_unlock(&lock);
         if (told.code != STM_STALE) return;
     }
     pthread_mutex_lock(&lock);
-    stm_serial(&store, task);
+    stm_turn(&store, &lender, job);
     pthread_mutex_unlock(&lock);
 }
 
 static void *work(void *argument) {
     for (;;) {
         pthread_mutex_lock(&lock);
-        int64_t task = stm_take(&store);
+        stm_job job = stm_take(&store);
         pthread_mutex_unlock(&lock);
-        if (task < 0) return NULL;
-        run(argument, (uint32_t)task);
+        if (job.ticket < 0) return NULL;
+        run(argument, job);
     }
 }
 
@@ -102,13 +103,13 @@ int main(int count, char **words) {
     for (int i = 0; i < threads; i++) {
         if (stm_open_worker(&store, &workers[i]) != STM_DONE) return 3;
     }
-    if (stm_open_worker(&store, &observer) != STM_DONE) return 3;
+    if (stm_open_worker(&store, &observer) != STM_DONE || stm_open_lender(&store, &lender) != STM_DONE) return 3;
     stm_worker none = {0};
     if (stm_open_worker(&store, &none) != STM_NO_WORKER || none.at) return 3;
-    uint32_t tasks = (uint32_t)stm_program_tasks(&program);
-    if (stm_try(&observer, tasks) != STM_UNKNOWN || stm_try(&none, 0) != STM_EMPTY) return 3;
-    if (stm_finish(&store, &observer).code != STM_NOT_ENDED) return 3;
-    if (stm_serial(&store, tasks).code != STM_UNKNOWN || stm_give_up(&store, tasks) != STM_UNKNOWN) return 3;
+    stm_job stranger = {.ticket = (int64_t)stm_program_tasks(&program), .transaction = UINT32_MAX};
+    if (stm_try_job(&observer, stranger) != STM_UNKNOWN || stm_try_job(&none, stranger) != STM_EMPTY) return 3;
+    if (stm_bring(&store, &observer).code != STM_NOT_ENDED) return 3;
+    if (stm_turn(&store, &lender, stranger).code != STM_GONE || stm_give_up(&store, stranger.ticket) != STM_GONE) return 3;
     double took = run_all(workers, threads, &observer);
     if (took < 0) return 4;
     if (stm_report(&store, report, 3, &wanted) != STM_SHORT) return 5;
@@ -118,6 +119,7 @@ int main(int count, char **words) {
     stm_store_free(&store);
     for (int i = 0; i < threads; i++) stm_worker_free(&workers[i]);
     stm_worker_free(&observer);
+    stm_lender_free(&lender);
     stm_program_free(&program);
     fprintf(stderr, "%d threads: %.1f ms\n", threads, took * 1e3);
     printf("%s\n", verdict == STM_DONE ? "good" : "bad");

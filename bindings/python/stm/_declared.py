@@ -13,7 +13,13 @@ MEMORY, SHORT, UNKNOWN, NO_ROOM, CLOSED, TIMED_OUT = -6, -8, -9, -14, -19, -20
 
 
 class Answer(ctypes.Structure):
-    _fields_ = [("code", ctypes.c_int32), ("value", ctypes.c_int64), ("entry", ctypes.c_uint64)]
+    _fields_ = [
+        ("ticket", ctypes.c_int64),
+        ("code", ctypes.c_int32),
+        ("value", ctypes.c_int64),
+        ("chapter", ctypes.c_uint64),
+        ("entry", ctypes.c_uint64),
+    ]
 
 
 Ended = ctypes.CFUNCTYPE(

@@ -31,19 +31,22 @@ class NoEnd(Error, LookupError):
 
 
 class Fault(Error):
-    """A call on a service that returned nothing. `entry` is the number of its entry in its chapter; where it is 0 the
-    call was not entered: it had no effect, and never will."""
+    """A call on a service that returned nothing. `entry` is the number of its entry in its chapter, `chapter` the number
+    of that, from 0 on, and `ticket` the number of its task, which no other call has. Where `entry` is 0 the call was not
+    entered: it had no effect, and never will; then `chapter` is 0 and `ticket` is -1."""
 
-    def __init__(self, *told: object, entry: int = 0) -> None:
+    def __init__(self, *told: object, ticket: int = -1, chapter: int = 0, entry: int = 0) -> None:
         super().__init__(*told)
+        self.ticket = ticket
+        self.chapter = chapter
         self.entry = entry
 
 
 class Thrown(Fault):
     """The transaction threw a value."""
 
-    def __init__(self, value: int, entry: int = 0) -> None:
-        super().__init__(value, entry=entry)
+    def __init__(self, value: int, *, ticket: int = -1, chapter: int = 0, entry: int = 0) -> None:
+        super().__init__(value, ticket=ticket, chapter=chapter, entry=entry)
         self.value = value
 
 
@@ -62,8 +65,8 @@ class Outside(Fault, IndexError):
 class Broken(Fault):
     """It would have broken the standing condition of this name."""
 
-    def __init__(self, condition: str, entry: int = 0) -> None:
-        super().__init__(condition, entry=entry)
+    def __init__(self, condition: str, *, ticket: int = -1, chapter: int = 0, entry: int = 0) -> None:
+        super().__init__(condition, ticket=ticket, chapter=chapter, entry=entry)
         self.condition = condition
 
 

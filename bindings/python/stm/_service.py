@@ -249,13 +249,14 @@ class Service:
         return told
 
     def _fault(self, answer: Answer) -> Fault:
+        entered = {"ticket": answer.ticket, "chapter": answer.chapter, "entry": answer.entry}
         if answer.code == _declared.THROWN:
-            return Thrown(answer.value, answer.entry)
+            return Thrown(answer.value, **entered)
         if answer.code == _declared.BROKEN:
             if self._names is None:
                 self._names = _declared_by("always", self._text)
-            return Broken(self._names[answer.value], answer.entry)
-        return _SAME[answer.code](word(answer.code), entry=answer.entry)
+            return Broken(self._names[answer.value], **entered)
+        return _SAME[answer.code](word(answer.code), **entered)
 
     def _present(self, name: str) -> tuple[int, int]:
         value, version = ctypes.c_int64(), ctypes.c_uint64()

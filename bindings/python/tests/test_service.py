@@ -56,6 +56,14 @@ def until_parked(service):
         time.sleep(0.001)
 
 
+def entered_at(fault):
+    """What a fault tells of its call: its ticket, the chapter in which it was entered, and the number of its entry."""
+    return fault.ticket, fault.chapter, fault.entry
+
+
+NOT_ENTERED = (-1, 0, 0)
+
+
 class Calls(unittest.TestCase):
     def entries(self, service, pairs):
         """How many entries the chapters and the present one have, each with a good report."""
@@ -75,10 +83,11 @@ class Calls(unittest.TestCase):
                 with self.assertRaises(fault) as raised:
                     service.atomically(name)
                 self.assertIsInstance(raised.exception, also)
-                self.assertEqual((raised.exception.args, raised.exception.entry), ((told,), service.entered))
+                at = (service.entered - 1, 0, service.entered)
+                self.assertEqual((raised.exception.args, entered_at(raised.exception)), ((told,), at))
                 with self.assertRaises(fault) as raised:
                     service.observe(name)
-                self.assertEqual((raised.exception.args, raised.exception.entry), ((told,), 0))
+                self.assertEqual((raised.exception.args, entered_at(raised.exception)), ((told,), NOT_ENTERED))
             self.assertEqual(service.entered, 5)
             for call, fault in [
                 (lambda: service.try_atomically("get"), stm.Retries),
@@ -91,7 +100,10 @@ class Calls(unittest.TestCase):
                 (lambda: service.value("none"), stm.Unknown),
                 (lambda: service.atomically("get", timeout=float("nan")), ValueError),
             ]:
-                self.assertRaises(fault, call)
+                with self.assertRaises(fault) as raised:
+                    call()
+                if isinstance(raised.exception, stm.Fault):
+                    self.assertEqual(entered_at(raised.exception), NOT_ENTERED)
             self.assertEqual((service.entered, service.observe("inc"), service.entered), (5, 2, 5))
             self.assertEqual((service.value("n"), service.version("n"), service.version("out")), (1, 1, 0))
             self.assertEqual(service.atomically("put"), 1)
@@ -106,6 +118,29 @@ class Calls(unittest.TestCase):
             with self.assertRaises(stm.Broken) as raised:
                 service.atomically("over")
             self.assertEqual(raised.exception.condition, "low")
+
+    def test_a_fault_tells_where_it_was_entered(self):
+        text = """(var n 0) (tx inc (set n (add n 1)) n) (tx bad (throw n) 0)
+            (tx late (if (lt n 4) (retry) (throw n)) n)"""
+        with stm.Service(text, room=3) as service:
+            told = []
+
+            def waits():
+                with self.assertRaises(stm.Thrown) as raised:
+                    service.atomically("late", timeout=LONG)
+                told.append((raised.exception.value, *entered_at(raised.exception)))
+
+            waiting = threading.Thread(target=waits)
+            waiting.start()
+            until_parked(service)
+            # Two increments a chapter beside the one that waits.
+            for _ in range(4):
+                service.atomically("inc")
+            waiting.join(LONG)
+            self.assertEqual((told, service.chapter), ([(4, 0, 1, 3)], 1))
+            with self.assertRaises(stm.Thrown) as raised:
+                service.atomically("bad")
+            self.assertEqual(entered_at(raised.exception), (5, 2, 1))
 
     def test_threads_share_it(self):
         pairs = []
@@ -186,7 +221,8 @@ class Calls(unittest.TestCase):
             for _ in range(2):
                 with self.assertRaises(stm.NoRoom) as raised:
                     service.atomically("inc")
-                self.assertEqual((str(raised.exception.__cause__), raised.exception.entry), ("no disk", 0))
+                at = entered_at(raised.exception)
+                self.assertEqual((str(raised.exception.__cause__), at), ("no disk", NOT_ENTERED))
                 self.assertEqual(service.chapter, 0)
             self.assertEqual((service.atomically("inc"), service.chapter), (4, 1))
 

@@ -83,15 +83,24 @@ pub enum End {
     /// Its program retries: it waits for a change of what it read.
     Parked,
     /// Out of memory: it was given up.
-    GivenUp,
+    Abandoned,
 }
 
-/// A turn that was given: to which task, of which transaction, and how it ended.
+/// What became of a task: which one, in which chapter, from 0 on, and how its turn ended.
 #[derive(Clone, Copy, Debug, PartialEq, Eq)]
-pub struct Turned {
+pub struct Answer {
     pub ticket: Ticket,
-    pub transaction: u32,
+    pub chapter: u64,
     pub end: End,
+}
+
+/// What a call does where the transaction retries.
+#[derive(Clone, Copy, Debug, PartialEq, Eq)]
+pub enum Way {
+    /// Its task is parked: it waits for a change of what it read.
+    Waits,
+    /// There is no task, and nothing changes.
+    Tries,
 }
 
 /// How a task stands.
@@ -107,68 +116,4 @@ pub enum Standing {
     Done(u64),
     /// It was given up, as memory ran out or by its host.
     GivenUp,
-}
-
-/// How a try ended.
-#[derive(Clone, Copy, Debug, PartialEq, Eq)]
-pub enum Tried {
-    /// Bring it to the store.
-    Ended,
-    /// What was read is no longer so: try again.
-    Stale,
-    /// A growth was refused: give the task up, or try again.
-    Memory,
-}
-
-/// What became of a task.
-#[derive(Clone, Copy, Debug, PartialEq, Eq)]
-pub enum Brought {
-    /// It is done.
-    Committed(Entered),
-    /// Its program retries: it waits for a change of what it read.
-    Parked,
-    /// What it read is no longer so: try again.
-    Stale,
-    /// It was not running, and nothing changed.
-    NotRunning,
-    /// Out of memory: it was given up.
-    GivenUp,
-    /// The worker has no ended attempt.
-    NotEnded,
-    /// The store has no such task, or makes another call as it: nothing changed.
-    OtherTask,
-    /// The job was taken in another chapter. Its task became ready when that one ended, if it was not over.
-    /// Nothing changed.
-    OtherChapter,
-}
-
-/// How a transaction would end.
-#[derive(Clone, Copy, Debug, PartialEq, Eq)]
-pub enum Observed {
-    Returned(i64),
-    Retries,
-    Thrown(i64),
-    Overflow,
-    DivideByZero,
-    /// It would break the standing condition of this number.
-    Broken(u32),
-    /// It names a cell outside its table.
-    Outside,
-    /// What was read is no longer so: try again.
-    Stale,
-    /// A growth was refused.
-    Memory,
-}
-
-impl From<Outcome> for Observed {
-    fn from(outcome: Outcome) -> Observed {
-        match outcome {
-            Outcome::Returned(value) => Observed::Returned(value),
-            Outcome::Thrown(value) => Observed::Thrown(value),
-            Outcome::Overflow => Observed::Overflow,
-            Outcome::DivideByZero => Observed::DivideByZero,
-            Outcome::Broken(condition) => Observed::Broken(condition),
-            Outcome::Outside => Observed::Outside,
-        }
-    }
 }

@@ -138,7 +138,7 @@ pub fn rem(left: impl Into<Expr>, right: impl Into<Expr>) -> Expr {
 /// let accounts: Vec<_> = (0..200).map(|i| bank.var(&format!("account{i}"), i)).collect();
 /// bank.tx("audit", skip(), sum(&accounts));
 /// let store = stm::Store::open(&bank.program()?, 1, 0)?;
-/// assert_eq!(store.worker()?.observe(0, &[]), Ok(stm::Observed::Returned(19_900)));
+/// assert_eq!(store.worker()?.observe(0, &[]), Ok(stm::Outcome::Returned(19_900)));
 /// # Ok::<(), stm::Error>(())
 /// ```
 pub fn sum<E: Into<Expr>>(parts: impl IntoIterator<Item = E>) -> Expr {

@@ -1,6 +1,5 @@
 //! Why a call answered nothing, or a transaction returned nothing.
 
-use crate::answers::Ticket;
 use std::fmt;
 
 /// Why a call answered nothing. Nothing changed then, unless the call says more.
@@ -25,10 +24,19 @@ pub enum Error {
     UnknownTransaction(u32),
     /// The transaction has another number of parameters than it was given arguments.
     WrongArguments { transaction: u32, parameters: usize, given: usize },
-    /// The program has no task of this number.
-    UnknownTask(u32),
-    /// The store has no task of this ticket, or not any more: it was over when its chapter ended.
-    UnknownTicket(Ticket),
+    /// The store has no such task in its present chapter: no task has this ticket, or not any more, for it was over when its
+    /// chapter ended; the job was taken in another chapter, or the task makes another call; of `give_up`: it is over.
+    Gone,
+    /// No task is ready, or the one with the ticket is not.
+    NotReady,
+    /// The task is not running.
+    NotRunning,
+    /// The worker has no ended attempt to bring.
+    NotEnded,
+    /// What was read is no longer so: try again.
+    Stale,
+    /// The transaction retries, and the call only tries, or observes.
+    Retries,
     /// A store is opened for at most 32 workers.
     TooManyWorkers,
     /// A store has as many workers as it was opened for; and its program has to have a transaction.
@@ -76,10 +84,6 @@ impl fmt::Display for Error {
             Error::WrongArguments { transaction, parameters, given } => {
                 return wrong_arguments(out, *transaction, *parameters, *given)
             }
-            Error::UnknownTask(number) => return write!(out, "the program has no task {number}"),
-            Error::UnknownTicket(Ticket(number)) => {
-                return write!(out, "there is no task with the ticket {number}")
-            }
             Error::TooLong => "the file is too long",
             Error::BadByte => "the file has a byte that is not allowed",
             Error::Shape => "the file is not of the grammar",
@@ -87,6 +91,12 @@ impl fmt::Display for Error {
             Error::Limit => "the file passes a limit",
             Error::Broken => "a standing condition is not true of the initial values",
             Error::Memory => "out of memory",
+            Error::Gone => "there is no such task",
+            Error::NotReady => "no such task is ready",
+            Error::NotRunning => "the task is not running",
+            Error::NotEnded => "the worker has no ended attempt",
+            Error::Stale => "what was read is no longer so",
+            Error::Retries => "the transaction retries",
             Error::TooManyWorkers => "a store has at most 32 workers",
             Error::NoWorker => "the store has no worker left",
             Error::NoRoom => "there is no room for another task",

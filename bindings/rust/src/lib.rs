@@ -30,9 +30,7 @@ mod raw;
 mod service;
 mod store;
 
-pub use answers::{
-    Arguments, Brought, End, Entered, Job, Observed, Outcome, Standing, Ticket, Tried, Turned,
-};
+pub use answers::{Answer, Arguments, End, Entered, Job, Outcome, Standing, Ticket, Way};
 pub use declare::{
     and, div, eq, int, le, lt, not, or, or_else, param, rem, repeat, retry, seq, set, skip, sum, throw, var,
     when, Cond, Declare, Expr, Param, Stmt, Table, Tx, Var,

@@ -8,9 +8,7 @@ mod service;
 
 pub use service::{Keep, RawService};
 
-use crate::answers::{
-    Arguments, Brought, End, Entered, Job, Observed, Outcome, Standing, Ticket, Tried, Turned,
-};
+use crate::answers::{Answer, Arguments, End, Entered, Job, Outcome, Standing, Ticket, Way};
 use crate::error::{Error, ScheduleFault};
 use std::ffi::c_void;
 use std::sync::Arc;
@@ -22,8 +20,10 @@ struct Handle {
 
 #[repr(C)]
 struct Told {
+    ticket: i64,
     code: i32,
     value: i64,
+    chapter: u64,
     entry: u64,
 }
 
@@ -35,15 +35,6 @@ struct Taken {
     transaction: u32,
     count: usize,
     arguments: [i64; 8],
-}
-
-#[repr(C)]
-struct TurnTold {
-    ticket: i64,
-    transaction: u32,
-    code: i32,
-    value: i64,
-    entry: u64,
 }
 
 /// How many tasks stand how. Together they are all tasks.
@@ -117,7 +108,7 @@ extern "C" {
     ) -> i32;
     fn stm_store_free(store: *mut Handle);
     fn stm_open_worker(store: *mut Handle, out: *mut Handle) -> i32;
-    fn stm_take_job(store: *mut Handle) -> Taken;
+    fn stm_take(store: *mut Handle) -> Taken;
     fn stm_submit(store: *mut Handle, transaction: u32, arguments: *const i64, count: usize) -> i64;
     fn stm_store_spare(store: *mut Handle) -> usize;
     fn stm_store_tasks(store: *mut Handle) -> usize;
@@ -131,8 +122,7 @@ extern "C" {
     ) -> i32;
     fn stm_cell(store: *mut Handle, table: u32, index: u32, value: *mut i64, version: *mut u64) -> i32;
     fn stm_cells(store: *mut Handle, table: u32, from: u32, values: *mut i64, count: usize) -> i64;
-    fn stm_finish(store: *mut Handle, worker: *mut Handle) -> Told;
-    fn stm_serial(store: *mut Handle, ticket: i64) -> Told;
+    fn stm_bring(store: *mut Handle, worker: *mut Handle) -> Told;
     fn stm_claim(store: *mut Handle, ticket: i64) -> Taken;
     fn stm_open_lender(store: *mut Handle, out: *mut Handle) -> i32;
     fn stm_lender_free(lender: *mut Handle);
@@ -142,18 +132,11 @@ extern "C" {
         transaction: u32,
         arguments: *const i64,
         count: usize,
-    ) -> TurnTold;
-    fn stm_try_call(
-        store: *mut Handle,
-        lender: *mut Handle,
-        transaction: u32,
-        arguments: *const i64,
-        count: usize,
-    ) -> TurnTold;
-    fn stm_turn(store: *mut Handle, lender: *mut Handle) -> TurnTold;
-    fn stm_turns(store: *mut Handle, worker: *mut Handle, most: u32) -> i64;
+        way: u32,
+    ) -> Told;
+    fn stm_turn(store: *mut Handle, lender: *mut Handle, job: Taken) -> Told;
+    fn stm_turns(store: *mut Handle, lender: *mut Handle, most: u32) -> i64;
     fn stm_give_up(store: *mut Handle, ticket: i64) -> i32;
-    fn stm_withdraw(store: *mut Handle, ticket: i64) -> i32;
     fn stm_standing(store: *mut Handle, ticket: i64) -> Told;
     fn stm_outcome(store: *mut Handle, ticket: i64) -> Told;
     fn stm_begin_chapter(store: *mut Handle) -> i32;
@@ -163,7 +146,6 @@ extern "C" {
     fn stm_report(store: *mut Handle, room: *mut u8, room_length: usize, wanted: *mut usize) -> i32;
     fn stm_report_now(store: *mut Handle, room: *mut u8, room_length: usize, wanted: *mut usize) -> i32;
     fn stm_file(store: *mut Handle, room: *mut u8, room_length: usize, wanted: *mut usize) -> i32;
-    fn stm_try(worker: *mut Handle, task: u32) -> i32;
     fn stm_try_job(worker: *mut Handle, job: Taken) -> i32;
     fn stm_observe(worker: *mut Handle, transaction: u32, arguments: *const i64, count: usize) -> Told;
     fn stm_worker_free(worker: *mut Handle);
@@ -205,6 +187,13 @@ fn error_of(code: i32) -> Error {
         code::FILE_BROKEN => Error::Broken,
         code::NO_WORKER => Error::NoWorker,
         code::NO_ROOM => Error::NoRoom,
+        code::GONE => Error::Gone,
+        code::NOT_READY => Error::NotReady,
+        code::NOT_RUNNING => Error::NotRunning,
+        code::NOT_ENDED => Error::NotEnded,
+        code::OTHER_PROGRAM => Error::OtherProgram,
+        code::STALE => Error::Stale,
+        code::RETRIES => Error::Retries,
         code::WORK_LEFT => Error::WorkLeft,
         code::STATES => Error::States,
         code::MORE => Error::MoreStates,
@@ -305,43 +294,31 @@ fn entered(told: &Told) -> Option<Entered> {
     Some(Entered { number: told.entry, outcome: outcome(told)? })
 }
 
-fn brought(told: Told) -> Brought {
-    if let Some(entered) = entered(&told) {
-        return Brought::Committed(entered);
-    }
-    match told.code {
-        code::RETRIES => Brought::Parked,
-        code::STALE => Brought::Stale,
-        code::NOT_RUNNING => Brought::NotRunning,
-        code::GIVEN_UP => Brought::GivenUp,
-        code::NOT_ENDED => Brought::NotEnded,
-        code::UNKNOWN => Brought::OtherTask,
-        code::OTHER_CHAPTER => Brought::OtherChapter,
-        other => unreachable!("the library answers {other}"),
-    }
-}
-
-/// A turn, where there was one; else the code.
-fn turned(told: TurnTold) -> Result<Turned, i32> {
+/// What became of a task, where the answer is about one; else the code.
+fn answer(told: Told) -> Result<Answer, i32> {
     let ticket = Ticket(u64::try_from(told.ticket).map_err(|_| told.code)?);
     let end = match told.code {
         code::RETRIES => End::Parked,
-        code::GIVEN_UP => End::GivenUp,
-        code => End::Entered(
-            entered(&Told { code, value: told.value, entry: told.entry })
-                .expect("a turn ends, parks or is given up"),
-        ),
+        code::GIVEN_UP => End::Abandoned,
+        _ => End::Entered(entered(&told).expect("a turn ends, parks or is given up")),
     };
-    Ok(Turned { ticket, transaction: told.transaction, end })
+    Ok(Answer { ticket, chapter: told.chapter, end })
 }
 
-/// A job, where there is one; else the code.
-fn job(taken: Taken) -> Result<Job, i32> {
-    let ticket = Ticket(u64::try_from(taken.ticket).map_err(|_| taken.ticket as i32)?);
+/// A job, where there is one.
+fn job(taken: Taken) -> Result<Job, Error> {
+    let ticket = Ticket(u64::try_from(taken.ticket).map_err(|_| error_of(taken.ticket as i32))?);
     let Taken { chapter, task, transaction, count, arguments, .. } = taken;
     let arguments =
         Arguments::new(&arguments[..count]).expect("the library tells as many as there are places for");
     Ok(Job { ticket, chapter, task, transaction, arguments })
+}
+
+/// A job as the library takes it.
+fn taken(job: Job) -> Taken {
+    let Job { ticket, chapter, task, transaction, arguments } = job;
+    let (count, arguments) = arguments.in_places();
+    Taken { ticket: number(ticket), chapter, task, transaction, count, arguments }
 }
 
 /// How many parameters each transaction has.
@@ -471,18 +448,14 @@ impl RawStore {
         Ok(self)
     }
 
-    pub fn take(&mut self) -> Option<Job> {
+    pub fn take(&mut self) -> Result<Job, Error> {
         // SAFETY: `&mut self`.
-        job(unsafe { stm_take_job(&mut self.0) }).ok()
+        job(unsafe { stm_take(&mut self.0) })
     }
 
-    pub fn claim(&mut self, ticket: Ticket) -> Result<Option<Job>, Error> {
+    pub fn claim(&mut self, ticket: Ticket) -> Result<Job, Error> {
         // SAFETY: `&mut self`. The library tests the ticket.
-        match job(unsafe { stm_claim(&mut self.0, number(ticket)) }) {
-            Ok(job) => Ok(Some(job)),
-            Err(code::UNKNOWN) => Err(Error::UnknownTicket(ticket)),
-            Err(_) => Ok(None),
-        }
+        job(unsafe { stm_claim(&mut self.0, number(ticket)) })
     }
 
     pub fn submit(&mut self, transaction: u32, arguments: &[i64]) -> Result<Ticket, Error> {
@@ -495,39 +468,28 @@ impl RawStore {
         })
     }
 
-    pub fn call(&mut self, transaction: u32, arguments: &[i64]) -> Result<Turned, Error> {
+    pub fn call(&mut self, transaction: u32, arguments: &[i64], way: Way) -> Result<Answer, Error> {
         let RawStore(store, lender, parameters) = self;
         let lender = lender.as_mut().ok_or(Error::UnknownTransaction(transaction))?;
+        let (at, count) = (arguments.as_ptr(), arguments.len());
+        let way = match way {
+            Way::Waits => code::WAITS,
+            Way::Tries => code::TRIES,
+        };
         // SAFETY: two `&mut`; the rest as `submit`.
-        let told =
-            unsafe { stm_call(store, &mut lender.0, transaction, arguments.as_ptr(), arguments.len()) };
-        turned(told).map_err(|code| match code {
+        let told = unsafe { stm_call(store, &mut lender.0, transaction, at, count, way) };
+        answer(told).map_err(|code| match code {
             code::UNKNOWN => parameters.refusal(transaction, arguments),
             code => error_of(code),
         })
     }
 
-    pub fn try_call(&mut self, transaction: u32, arguments: &[i64]) -> Result<Option<Turned>, Error> {
-        let RawStore(store, lender, parameters) = self;
-        let lender = lender.as_mut().ok_or(Error::UnknownTransaction(transaction))?;
-        // SAFETY: as `call`.
-        let told =
-            unsafe { stm_try_call(store, &mut lender.0, transaction, arguments.as_ptr(), arguments.len()) };
-        match turned(told) {
-            Ok(turned) => Ok(Some(turned)),
-            Err(code::RETRIES) => Ok(None),
-            Err(code::UNKNOWN) => Err(parameters.refusal(transaction, arguments)),
-            Err(code) => Err(error_of(code)),
-        }
-    }
-
-    pub fn turn(&mut self) -> Option<Turned> {
-        // SAFETY: as `call`.
-        match turned(unsafe { stm_turn(&mut self.0, &mut self.1.as_mut()?.0) }) {
-            Ok(turned) => Some(turned),
-            Err(code::IDLE) => None,
-            Err(other) => unreachable!("the library answers {other}"),
-        }
+    pub fn turn(&mut self, job: Job) -> Result<Answer, Error> {
+        let RawStore(store, lender, _) = self;
+        // Where there is no transaction, there is no task.
+        let lender = lender.as_mut().ok_or(Error::Gone)?;
+        // SAFETY: two `&mut`. The library tests the job.
+        answer(unsafe { stm_turn(store, &mut lender.0, taken(job)) }).map_err(error_of)
     }
 
     pub fn spare(&mut self) -> usize {
@@ -585,26 +547,13 @@ impl RawStore {
         })
     }
 
-    pub fn finish(&mut self, worker: &mut RawWorker) -> Result<Brought, Error> {
+    pub fn bring(&mut self, worker: &mut RawWorker) -> Result<Answer, Error> {
         // SAFETY: two `&mut`; the worker may be of any store.
-        let told = unsafe { stm_finish(&mut self.0, &mut worker.0) };
-        if told.code == code::OTHER_PROGRAM {
-            return Err(Error::OtherProgram);
-        }
-        Ok(brought(told))
-    }
-
-    pub fn serial(&mut self, ticket: Ticket) -> Result<Brought, Error> {
-        // SAFETY: `&mut self`. The library tests the ticket.
-        let told = unsafe { stm_serial(&mut self.0, number(ticket)) };
-        if told.code == code::UNKNOWN {
-            return Err(Error::UnknownTicket(ticket));
-        }
-        Ok(brought(told))
+        answer(unsafe { stm_bring(&mut self.0, &mut worker.0) }).map_err(error_of)
     }
 
     pub fn standing(&mut self, ticket: Ticket) -> Result<Standing, Error> {
-        // SAFETY: as `serial`.
+        // SAFETY: as `claim`.
         let told = unsafe { stm_standing(&mut self.0, number(ticket)) };
         match told.code {
             code::READY => Ok(Standing::Ready),
@@ -612,44 +561,31 @@ impl RawStore {
             code::RETRIES => Ok(Standing::Parked),
             code::DONE => Ok(Standing::Done(told.entry)),
             code::GIVEN_UP => Ok(Standing::GivenUp),
-            code::UNKNOWN => Err(Error::UnknownTicket(ticket)),
-            other => unreachable!("the library answers {other}"),
+            code => Err(error_of(code)),
         }
     }
 
     pub fn outcome(&mut self, ticket: Ticket) -> Result<Option<Entered>, Error> {
-        // SAFETY: as `serial`.
+        // SAFETY: as `claim`.
         let told = unsafe { stm_outcome(&mut self.0, number(ticket)) };
         match told.code {
             code::NO_ENTRY => Ok(None),
-            code::UNKNOWN => Err(Error::UnknownTicket(ticket)),
-            _ => Ok(Some(entered(&told).expect("an entry tells how the transaction ended"))),
+            code => entered(&told).map(Some).ok_or_else(|| error_of(code)),
         }
     }
 
-    pub fn turns(&mut self, worker: &mut RawWorker, most: u32) -> u32 {
-        // SAFETY: two `&mut`; the worker may be of any store.
-        let given = unsafe { stm_turns(&mut self.0, &mut worker.0, most) };
+    pub fn turns(&mut self, most: u32) -> u32 {
+        let RawStore(store, Some(lender), _) = self else { return 0 };
+        // SAFETY: two `&mut`.
+        let given = unsafe { stm_turns(store, &mut lender.0, most) };
         u32::try_from(given).expect("no handle is empty, and no more turns are given than were asked for")
     }
 
-    pub fn give_up(&mut self, ticket: Ticket) -> Result<bool, Error> {
-        // SAFETY: as `serial`.
+    pub fn give_up(&mut self, ticket: Ticket) -> Result<(), Error> {
+        // SAFETY: as `claim`.
         match unsafe { stm_give_up(&mut self.0, number(ticket)) } {
-            code::DONE => Ok(true),
-            code::NOT_RUNNING => Ok(false),
-            code::UNKNOWN => Err(Error::UnknownTicket(ticket)),
-            other => unreachable!("the library answers {other}"),
-        }
-    }
-
-    pub fn withdraw(&mut self, ticket: Ticket) -> Result<bool, Error> {
-        // SAFETY: as `serial`.
-        match unsafe { stm_withdraw(&mut self.0, number(ticket)) } {
-            code::DONE => Ok(true),
-            code::NOT_WAITING => Ok(false),
-            code::UNKNOWN => Err(Error::UnknownTicket(ticket)),
-            other => unreachable!("the library answers {other}"),
+            code::DONE => Ok(()),
+            code => Err(error_of(code)),
         }
     }
 
@@ -681,50 +617,28 @@ impl RawStore {
     }
 }
 
-/// How a try ended; where the library knows no such task or transaction, this error.
-fn tried(code: i32, unknown: Error) -> Result<Tried, Error> {
-    match code {
-        code::DONE => Ok(Tried::Ended),
-        code::STALE => Ok(Tried::Stale),
-        code::MEMORY => Ok(Tried::Memory),
-        code::UNKNOWN => Err(unknown),
-        other => unreachable!("the library answers {other}"),
-    }
-}
-
 impl RawWorker {
-    pub fn try_task(&mut self, task: u32) -> Result<Tried, Error> {
-        // SAFETY: `&mut self`. The library tests the task.
-        tried(unsafe { stm_try(&mut self.0, task) }, Error::UnknownTask(task))
-    }
-
-    pub fn try_job(&mut self, job: Job) -> Result<Tried, Error> {
-        let Job { ticket, chapter, task, transaction, arguments } = job;
-        let (count, arguments) = arguments.in_places();
-        let taken = Taken { ticket: number(ticket), chapter, task, transaction, count, arguments };
-        let unknown = if taken.ticket < 0 {
-            Error::UnknownTicket(ticket)
-        } else {
-            self.1.refusal(transaction, &job.arguments)
-        };
+    pub fn try_job(&mut self, job: Job) -> Result<(), Error> {
+        let taken = taken(job);
+        if taken.ticket < 0 {
+            return Err(Error::Gone);
+        }
         // SAFETY: `&mut self`. The library tests the call, and the store whether the job is one of its tasks.
-        tried(unsafe { stm_try_job(&mut self.0, taken) }, unknown)
+        match unsafe { stm_try_job(&mut self.0, taken) } {
+            code::DONE => Ok(()),
+            code::UNKNOWN => Err(self.1.refusal(job.transaction, &job.arguments)),
+            code => Err(error_of(code)),
+        }
     }
 
-    pub fn observe(&mut self, transaction: u32, arguments: &[i64]) -> Result<Observed, Error> {
+    pub fn observe(&mut self, transaction: u32, arguments: &[i64]) -> Result<Outcome, Error> {
         // SAFETY: `&mut self`; a slice that is borrowed for the call. The library tests the number, and how many
         // arguments there are.
         let told = unsafe { stm_observe(&mut self.0, transaction, arguments.as_ptr(), arguments.len()) };
-        if let Some(outcome) = outcome(&told) {
-            return Ok(outcome.into());
-        }
-        match told.code {
-            code::RETRIES => Ok(Observed::Retries),
-            code::STALE => Ok(Observed::Stale),
-            code::MEMORY => Ok(Observed::Memory),
-            code::UNKNOWN => Err(self.1.refusal(transaction, arguments)),
-            other => unreachable!("the library answers {other}"),
-        }
+        outcome(&told).ok_or_else(|| match told.code {
+            code::UNKNOWN => self.1.refusal(transaction, arguments),
+            code => error_of(code),
+        })
     }
 }
 

@@ -1,6 +1,6 @@
 //! Programs, stores and workers, safe to use.
 
-use crate::answers::{Brought, Entered, Job, Observed, Standing, Ticket, Tried, Turned};
+use crate::answers::{Answer, Entered, Job, Outcome, Standing, Ticket, Way};
 use crate::error::Error;
 use crate::raw::{Counts, RawProgram, RawStore, RawWorker};
 use std::sync::{Mutex, MutexGuard, PoisonError};
@@ -112,53 +112,55 @@ impl Store {
     }
 
     /// Runs the transaction with these arguments as a task more, which has its turn at once, whatever else is ready:
-    /// how it ended. What it woke is ready. `NoRoom` where the chapter has no room for a task more.
+    /// how it ended. What it woke is ready. Where it retries, its task waits; one that only tries leaves nothing behind
+    /// then: `Retries`. `NoRoom` where the chapter has no room for a task more.
     ///
     /// ```
-    /// use stm::{End, Entered, Outcome, Program, Store};
+    /// use stm::{End, Entered, Outcome, Program, Store, Way};
     ///
     /// let program = Program::read("(var x 1) (tx two (set x (add x x)) x) (tx no (throw 7) x)")?;
     /// let store = Store::open_with_room(&program, 0, 0, 3)?;
     /// let ended = |number, outcome| End::Entered(Entered { number, outcome });
-    /// assert_eq!(store.call(0, &[])?.end, ended(1, Outcome::Returned(2)));
-    /// assert_eq!(store.call(1, &[])?.end, ended(2, Outcome::Thrown(7)));
-    /// assert_eq!(store.call(2, &[]), Err(stm::Error::UnknownTransaction(2)));
-    /// assert_eq!(store.call(0, &[])?.end, ended(3, Outcome::Returned(4)));
-    /// assert_eq!(store.call(0, &[]), Err(stm::Error::NoRoom));
+    /// assert_eq!(store.call(0, &[], Way::Waits)?.end, ended(1, Outcome::Returned(2)));
+    /// assert_eq!(store.call(1, &[], Way::Waits)?.end, ended(2, Outcome::Thrown(7)));
+    /// assert_eq!(store.call(2, &[], Way::Waits), Err(stm::Error::UnknownTransaction(2)));
+    /// assert_eq!(store.call(0, &[], Way::Waits)?.end, ended(3, Outcome::Returned(4)));
+    /// assert_eq!(store.call(0, &[], Way::Waits), Err(stm::Error::NoRoom));
     /// store.begin_chapter();
-    /// assert_eq!(store.call(0, &[])?.end, ended(1, Outcome::Returned(8)));
+    /// let next = store.call(0, &[], Way::Waits)?;
+    /// assert_eq!((next.chapter, next.end), (1, ended(1, Outcome::Returned(8))));
     /// # Ok::<(), stm::Error>(())
     /// ```
-    pub fn call(&self, transaction: u32, arguments: &[i64]) -> Result<Turned, Error> {
-        held(&self.raw).call(transaction, arguments)
-    }
-
-    /// As `call`; `None`, and nothing changed, where the transaction retries on the present values.
     ///
     /// ```
-    /// let program = stm::Program::read("(var n 0) (tx get (if (lt n 1) (retry) (set n (sub n 1))) n) (tx put (set n (add n 1)) n)")?;
-    /// let store = stm::Store::open_with_room(&program, 0, 0, 2)?;
-    /// assert_eq!(store.try_call(0, &[])?, None);
-    /// store.call(1, &[])?;
-    /// assert!(store.try_call(0, &[])?.is_some());
+    /// use stm::{End, Error, Program, Store, Way};
+    ///
+    /// let program = Program::read("(var n 0) (tx get (if (lt n 1) (retry) (set n (sub n 1))) n)")?;
+    /// let store = Store::open_with_room(&program, 0, 0, 1)?;
+    /// assert_eq!(store.call(0, &[], Way::Tries), Err(Error::Retries));
+    /// assert_eq!(store.call(0, &[], Way::Waits)?.end, End::Parked);
     /// # Ok::<(), stm::Error>(())
     /// ```
-    pub fn try_call(&self, transaction: u32, arguments: &[i64]) -> Result<Option<Turned>, Error> {
-        held(&self.raw).try_call(transaction, arguments)
+    pub fn call(&self, transaction: u32, arguments: &[i64], way: Way) -> Result<Answer, Error> {
+        held(&self.raw).call(transaction, arguments, way)
     }
 
-    /// Gives the lowest ready task a turn: which task, and how it ended. `None` where none is ready.
+    /// Gives the task of a job that was taken a turn on the present values: how it ended. `NotRunning` where it had one
+    /// already, `Gone` where the store has no such job in its present chapter.
     ///
     /// ```
-    /// let program = stm::Program::read("(var x 5) (tx inc (set x (add x 1)) x) (run inc 1)")?;
-    /// let store = stm::Store::open(&program, 0, 0)?;
-    /// let turned = store.turn().expect("the task is ready");
-    /// assert_eq!((turned.ticket, turned.transaction), (stm::Ticket(0), 0));
-    /// assert_eq!(store.turn(), None);
+    /// use stm::{Error, Program, Store, Ticket};
+    ///
+    /// let program = Program::read("(var x 5) (tx inc (set x (add x 1)) x) (run inc 1)")?;
+    /// let store = Store::open(&program, 0, 0)?;
+    /// let job = store.take()?;
+    /// assert_eq!(store.turn(job)?.ticket, Ticket(0));
+    /// assert_eq!(store.turn(job), Err(Error::NotRunning));
+    /// assert_eq!(store.take(), Err(Error::NotReady));
     /// # Ok::<(), stm::Error>(())
     /// ```
-    pub fn turn(&self) -> Option<Turned> {
-        held(&self.raw).turn()
+    pub fn turn(&self, job: Job) -> Result<Answer, Error> {
+        held(&self.raw).turn(job)
     }
 
     /// How many tasks more the chapter has room for.
@@ -216,39 +218,33 @@ impl Store {
         Ok(Worker { raw: held(&self.raw).worker()? })
     }
 
-    /// The lowest ready task, which is then running.
-    pub fn take(&self) -> Option<Ticket> {
-        self.take_job().map(|job| job.ticket)
-    }
-
-    /// As `take`, with all that a worker has to be told of the task: its arguments too.
-    pub fn take_job(&self) -> Option<Job> {
+    /// The lowest ready task, which is then running, with all that a worker has to be told of it: its arguments too.
+    /// `NotReady` where none is.
+    pub fn take(&self) -> Result<Job, Error> {
         held(&self.raw).take()
     }
 
-    /// The task with the ticket, where it is ready, which is then running. `None` and no change where it is not.
+    /// As `take`, the task with the ticket: `NotReady` where it is not, `Gone` where no task has the ticket.
     ///
     /// ```
-    /// let program = stm::Program::read("(var x 5) (tx inc (set x (add x 1)) x) (run inc 2)")?;
-    /// let store = stm::Store::open(&program, 0, 0)?;
-    /// assert_eq!(store.claim(stm::Ticket(1))?.map(|job| job.task), Some(1));
-    /// assert_eq!(store.claim(stm::Ticket(1))?, None);
-    /// assert_eq!(store.claim(stm::Ticket(2)), Err(stm::Error::UnknownTicket(stm::Ticket(2))));
+    /// use stm::{Error, Program, Store, Ticket};
+    ///
+    /// let program = Program::read("(var x 5) (tx inc (set x (add x 1)) x) (run inc 2)")?;
+    /// let store = Store::open(&program, 0, 0)?;
+    /// assert_eq!(store.claim(Ticket(1))?.task, 1);
+    /// assert_eq!(store.claim(Ticket(1)), Err(Error::NotReady));
+    /// assert_eq!(store.claim(Ticket(2)), Err(Error::Gone));
     /// # Ok::<(), stm::Error>(())
     /// ```
-    pub fn claim(&self, ticket: Ticket) -> Result<Option<Job>, Error> {
+    pub fn claim(&self, ticket: Ticket) -> Result<Job, Error> {
         held(&self.raw).claim(ticket)
     }
 
-    /// Brings the worker's ended attempt to the store. `OtherProgram`, and nothing changed, where the worker's
-    /// program says otherwise of the transaction.
-    pub fn finish(&self, worker: &mut Worker) -> Result<Brought, Error> {
-        held(&self.raw).finish(&mut worker.raw)
-    }
-
-    /// A turn of a running task on the present values, under the lock.
-    pub fn serial(&self, ticket: Ticket) -> Result<Brought, Error> {
-        held(&self.raw).serial(ticket)
+    /// Brings the worker's ended attempt to the store: what became of its task. Nothing changed: `Stale`, where what it
+    /// read is no longer so; `NotRunning`; `NotEnded`; `Gone`; `OtherProgram`, where the worker's program says otherwise
+    /// of the transaction.
+    pub fn bring(&self, worker: &mut Worker) -> Result<Answer, Error> {
+        held(&self.raw).bring(&mut worker.raw)
     }
 
     /// How the task with the ticket stands.
@@ -257,7 +253,7 @@ impl Store {
     /// let program = stm::Program::read("(var x 5) (tx inc (set x (add x 1)) x) (run inc 1)")?;
     /// let store = stm::Store::open(&program, 0, 0)?;
     /// assert_eq!(store.standing(stm::Ticket(0)), Ok(stm::Standing::Ready));
-    /// store.turn();
+    /// store.turn(store.take()?)?;
     /// assert_eq!(store.standing(stm::Ticket(0)), Ok(stm::Standing::Done(1)));
     /// # Ok::<(), stm::Error>(())
     /// ```
@@ -269,11 +265,11 @@ impl Store {
     /// outcome asks before.
     ///
     /// ```
-    /// use stm::{Entered, Outcome, Program, Store};
+    /// use stm::{Entered, Outcome, Program, Store, Way};
     ///
     /// let program = Program::read("(var x 5) (tx inc (set x (add x 1)) x)")?;
     /// let store = Store::open_with_room(&program, 0, 0, 1)?;
-    /// let ticket = store.call(0, &[])?.ticket;
+    /// let ticket = store.call(0, &[], Way::Waits)?.ticket;
     /// assert_eq!(store.outcome(ticket), Ok(Some(Entered { number: 1, outcome: Outcome::Returned(6) })));
     /// store.checkpoint();
     /// assert_eq!(store.outcome(ticket), Ok(None));
@@ -285,53 +281,48 @@ impl Store {
 
     /// Gives the lowest ready task a turn, and then the next one, until so many turns were given or
     /// none is ready: how many turns were given. The lock is held meanwhile, so it is for short tasks,
-    /// which cost less so than where each is taken, tried and brought. The worker lends its attempt, and
-    /// has no ended one to bring afterwards. What runs out of memory is given up.
+    /// which cost less so than where each is taken, tried and brought. What runs out of memory is given up.
     ///
     /// ```
     /// let program = stm::Program::read("(var x 0) (tx inc (set x (add x 1)) x) (run inc 5)")?;
-    /// let store = stm::Store::open(&program, 1, 0)?;
-    /// let mut worker = store.worker()?;
-    /// assert_eq!(store.turns(&mut worker, 3), 3);
-    /// assert_eq!(store.turns(&mut worker, 3), 2);
+    /// let store = stm::Store::open(&program, 0, 0)?;
+    /// assert_eq!(store.turns(3), 3);
+    /// assert_eq!(store.turns(3), 2);
     /// assert_eq!(store.value("x"), Some((5, 5)));
     /// # Ok::<(), stm::Error>(())
     /// ```
-    pub fn turns(&self, worker: &mut Worker, most: u32) -> u32 {
-        held(&self.raw).turns(&mut worker.raw, most)
+    pub fn turns(&self, most: u32) -> u32 {
+        held(&self.raw).turns(most)
     }
 
-    /// A running task is given up. `false` and no change where it was not running.
-    pub fn give_up(&self, ticket: Ticket) -> Result<bool, Error> {
-        held(&self.raw).give_up(ticket)
-    }
-
-    /// A task that is ready or parked is given up. `false` and no change where it was neither.
+    /// A task that is ready, running or parked is given up. `Gone` where it is over, or no task has the ticket.
     ///
     /// ```
-    /// let program = stm::Program::read("(tx wait (retry) 0) (run wait 1)")?;
-    /// let store = stm::Store::open(&program, 0, 0)?;
-    /// assert_eq!(store.turn().map(|turned| turned.end), Some(stm::End::Parked));
-    /// assert_eq!(store.withdraw(stm::Ticket(0)), Ok(true));
-    /// assert_eq!(store.withdraw(stm::Ticket(0)), Ok(false));
+    /// use stm::{End, Error, Program, Store, Ticket};
+    ///
+    /// let program = Program::read("(tx wait (retry) 0) (run wait 1)")?;
+    /// let store = Store::open(&program, 0, 0)?;
+    /// assert_eq!(store.turn(store.take()?)?.end, End::Parked);
+    /// assert_eq!(store.give_up(Ticket(0)), Ok(()));
+    /// assert_eq!(store.give_up(Ticket(0)), Err(Error::Gone));
     /// # Ok::<(), stm::Error>(())
     /// ```
-    pub fn withdraw(&self, ticket: Ticket) -> Result<bool, Error> {
-        held(&self.raw).withdraw(ticket)
+    pub fn give_up(&self, ticket: Ticket) -> Result<(), Error> {
+        held(&self.raw).give_up(ticket)
     }
 
     /// A new chapter begins where the present one is: the tasks that are ready, running or parked come over with
     /// their tickets, and are numbered anew. One that was running is ready, and a job of it that was taken before
-    /// is refused (`OtherChapter`); one that was parked waits as it did. The journal is empty, and each task that
+    /// is refused (`Gone`); one that was parked waits as it did. The journal is empty, and each task that
     /// is over has left its room. The file and the reports are of the chapter. It takes no memory.
     ///
     /// ```
     /// let program = stm::Program::read("(var n 0) (tx get (if (lt n 1) (retry) (set n (sub n 1))) n) (tx put (set n (add n 1)) n)")?;
     /// let store = stm::Store::open_with_room(&program, 0, 0, 2)?;
-    /// let waits = store.call(0, &[])?.ticket;
+    /// let waits = store.call(0, &[], stm::Way::Waits)?.ticket;
     /// store.begin_chapter();
-    /// store.call(1, &[])?;
-    /// assert_eq!(store.turn().map(|turned| turned.ticket), Some(waits));
+    /// store.call(1, &[], stm::Way::Waits)?;
+    /// assert_eq!(store.turn(store.take()?)?.ticket, waits);
     /// assert_eq!((store.chapter(), store.entered()), (1, 2));
     /// # Ok::<(), stm::Error>(())
     /// ```
@@ -361,19 +352,15 @@ impl Store {
 }
 
 impl Worker {
-    /// Evaluates a task of the program on one state, without a lock. Its bare number is of the first chapter, in
-    /// which it is the task's ticket: it serves stores that begin no other.
-    pub fn try_task(&mut self, task: u32) -> Result<Tried, Error> {
-        self.raw.try_task(task)
-    }
-
-    /// Evaluates a job that was taken on one state, without a lock.
-    pub fn try_job(&mut self, job: Job) -> Result<Tried, Error> {
+    /// Evaluates a job that was taken on one state, without a lock: where it ended, bring it to the store. `Stale` where
+    /// what was read is no longer so: try again. `Memory` where a growth was refused: give the task up, or try again.
+    pub fn try_job(&mut self, job: Job) -> Result<(), Error> {
         self.raw.try_job(job)
     }
 
-    /// How the transaction would end with these arguments on one state, without a lock.
-    pub fn observe(&mut self, transaction: u32, arguments: &[i64]) -> Result<Observed, Error> {
+    /// How the transaction would end with these arguments on one state, without a lock: `Retries` where it retries,
+    /// `Stale` and `Memory` as of `try_job`.
+    pub fn observe(&mut self, transaction: u32, arguments: &[i64]) -> Result<Outcome, Error> {
         self.raw.observe(transaction, arguments)
     }
 }
@@ -421,10 +408,10 @@ pub fn run_with(program: &Program, workers: usize, retry: RunOptions) -> Result<
 
 /// The life of a worker: it gives the lowest ready task its tries until none is ready.
 fn work(store: &Store, worker: &mut Worker, tries: u32) {
-    while let Some(job) = store.take_job() {
+    while let Ok(job) = store.take() {
         if !tried(store, worker, job, tries) {
-            // A task that was taken exists, so this has an answer.
-            let _ = store.serial(job.ticket);
+            // It was taken just now, and nobody else has it.
+            let _ = store.turn(job);
         }
     }
 }
@@ -433,13 +420,10 @@ fn work(store: &Store, worker: &mut Worker, tries: u32) {
 fn tried(store: &Store, worker: &mut Worker, job: Job, tries: u32) -> bool {
     for stale in 0..tries {
         match worker.try_job(job) {
-            Ok(Tried::Ended) => {
-                if !matches!(store.finish(worker), Ok(Brought::Stale)) {
-                    return true;
-                }
-            }
-            Ok(Tried::Stale) => {}
-            Ok(Tried::Memory) | Err(_) => {
+            Ok(()) if store.bring(worker) == Err(Error::Stale) => {}
+            Ok(()) => return true,
+            Err(Error::Stale) => {}
+            Err(_) => {
                 let _ = store.give_up(job.ticket);
                 return true;
             }

@@ -82,25 +82,23 @@ fn jobs_have_their_arguments() {
     let program = declared().program().unwrap();
     let store = Store::open_with_room(&program, 1, 0, 2).unwrap();
     let mut worker = store.worker().unwrap();
-    let job = store.take_job().unwrap();
+    let job = store.take().unwrap();
     assert_eq!((job.transaction, &job.arguments[..]), (PAY, &[10][..]));
     let changed = Job { arguments: Arguments::new(&[11]).unwrap(), ..job };
-    assert_eq!(
-        (worker.try_job(changed), store.finish(&mut worker)),
-        (Ok(Tried::Ended), Ok(Brought::OtherTask))
-    );
+    assert_eq!((worker.try_job(changed), store.bring(&mut worker)), (Ok(()), Err(Error::Gone)));
+    assert_eq!(store.turn(changed), Err(Error::Gone));
     let wrong = Job { arguments: Arguments::default(), ..job };
     assert_eq!(
         worker.try_job(wrong),
         Err(Error::WrongArguments { transaction: PAY, parameters: 1, given: 0 })
     );
-    assert_eq!(worker.try_job(job), Ok(Tried::Ended));
-    let outcome = Outcome::Returned(90);
-    assert_eq!(store.finish(&mut worker), Ok(Brought::Committed(Entered { number: 1, outcome })));
+    assert_eq!((store.turn(wrong), worker.try_job(job)), (Err(Error::Gone), Ok(())));
+    let end = End::Entered(Entered { number: 1, outcome: Outcome::Returned(90) });
+    assert_eq!(store.bring(&mut worker), Ok(Answer { ticket: Ticket(0), chapter: 0, end }));
     assert_eq!(store.submit(DIGITS, &NINE[..8]), Ok(Ticket(2)));
-    let job = store.claim(Ticket(2)).unwrap().unwrap();
+    let job = store.claim(Ticket(2)).unwrap();
     assert_eq!(&job.arguments[..], &NINE[..8]);
-    assert_eq!((worker.try_job(job), store.finish(&mut worker).is_ok()), (Ok(Tried::Ended), true));
+    assert_eq!((worker.try_job(job), store.bring(&mut worker).is_ok()), (Ok(()), true));
     let report = store.report().unwrap();
     assert!(report.contains("digits returned 12345678\n"));
     let file = store.file().unwrap();
@@ -116,7 +114,7 @@ fn calls_of_a_store() {
     let program = declared().program().unwrap();
     let store = Store::open_with_room(&program, 1, 0, 9).unwrap();
     let mut worker = store.worker().unwrap();
-    let returned = |turned: Result<Turned, Error>| match turned.unwrap().end {
+    let returned = |told: Result<Answer, Error>| match told.unwrap().end {
         End::Entered(Entered { outcome: Outcome::Returned(value), .. }) => value,
         end => panic!("it ends with {end:?}"),
     };
@@ -126,29 +124,28 @@ fn calls_of_a_store() {
             let (refused, arguments) =
                 (Error::WrongArguments { transaction, parameters, given }, &NINE[..given]);
             assert_eq!(store.submit(transaction, arguments), Err(refused));
-            assert_eq!(store.call(transaction, arguments), Err(refused));
-            assert_eq!(store.try_call(transaction, arguments), Err(refused));
+            assert_eq!(store.call(transaction, arguments, Way::Waits), Err(refused));
+            assert_eq!(store.call(transaction, arguments, Way::Tries), Err(refused));
             assert_eq!(worker.observe(transaction, arguments), Err(refused));
         }
     }
     assert_eq!((program.parameters(5), store.spare()), (None, 9));
-    assert_eq!((store.turn().is_some(), store.turn().is_some(), store.turn()), (true, true, None));
-    assert_eq!((returned(store.call(PAY, &[60])), returned(store.call(SUM, &[]))), (20, 120));
-    assert_eq!(returned(store.call(DIGITS, &NINE[1..])), 23456789);
-    assert_eq!([i64::MIN, i64::MAX].map(|n| returned(store.call(SAME, &[n]))), [i64::MIN, i64::MAX]);
-    assert_eq!(worker.observe(PAY, &[21]), Ok(Observed::Thrown(21)));
-    assert_eq!(
-        (store.try_call(TAKE, &[101]), worker.observe(TAKE, &[101])),
-        (Ok(None), Ok(Observed::Retries))
-    );
-    let waits = store.call(TAKE, &[101]).unwrap();
+    assert_eq!((store.turns(9), store.take()), (2, Err(Error::NotReady)));
+    let call = |transaction, arguments: &[i64]| store.call(transaction, arguments, Way::Waits);
+    assert_eq!((returned(call(PAY, &[60])), returned(call(SUM, &[]))), (20, 120));
+    assert_eq!(returned(call(DIGITS, &NINE[1..])), 23456789);
+    assert_eq!([i64::MIN, i64::MAX].map(|n| returned(call(SAME, &[n]))), [i64::MIN, i64::MAX]);
+    assert_eq!(worker.observe(PAY, &[21]), Ok(Outcome::Thrown(21)));
+    assert_eq!(store.call(TAKE, &[101], Way::Tries), Err(Error::Retries));
+    assert_eq!(worker.observe(TAKE, &[101]), Err(Error::Retries));
+    let waits = call(TAKE, &[101]).unwrap();
     assert_eq!(waits.end, End::Parked);
     store.begin_chapter();
     assert!(store.file().unwrap().ends_with("(run take 1 101)\n"));
-    assert_eq!(
-        (returned(store.call(PAY, &[1])), store.turn().map(|woken| woken.ticket)),
-        (19, Some(waits.ticket))
-    );
+    assert_eq!(returned(call(PAY, &[1])), 19);
+    let woken = store.turn(store.take().unwrap()).unwrap();
+    let end = End::Entered(Entered { number: 2, outcome: Outcome::Returned(101) });
+    assert_eq!(woken, Answer { ticket: waits.ticket, chapter: 1, end });
 }
 
 #[test]

@@ -1,14 +1,19 @@
 //! Each call once where it does what it is for, and at its limits.
 
 use stm::{
-    Arguments, Brought, Counts, Declare, Entered, Error, Job, Observed, Outcome, Part, Program, RunOptions,
-    Store, Ticket, Tried, Verdict,
+    Answer, Arguments, Counts, Declare, End, Entered, Error, Job, Outcome, Part, Program, RunOptions, Store,
+    Ticket, Verdict,
 };
 
 const FILE: &str = "(var x 5)\n(tx inc (set x (add x 1)) x)\n(tx wait (if (lt x 100) (retry) (skip)) x)\n(run inc 2)\n(run wait 1)\n";
 
-fn returned(number: u64, value: i64) -> Brought {
-    Brought::Committed(Entered { number, outcome: Outcome::Returned(value) })
+/// What becomes of a task of the first chapter.
+fn is(ticket: u64, end: End) -> Result<Answer, Error> {
+    Ok(Answer { ticket: Ticket(ticket), chapter: 0, end })
+}
+
+fn returned(ticket: u64, number: u64, value: i64) -> Result<Answer, Error> {
+    is(ticket, End::Entered(Entered { number, outcome: Outcome::Returned(value) }))
 }
 
 #[test]
@@ -53,41 +58,41 @@ fn a_store_turn_by_turn() {
     let mut worker = store.worker().unwrap();
     let mut other = store.worker().unwrap();
     assert!(matches!(store.worker(), Err(Error::NoWorker)));
-    assert_eq!(store.finish(&mut worker), Ok(Brought::NotEnded));
-    assert_eq!(worker.try_task(3), Err(Error::UnknownTask(3)));
-    assert_eq!(store.serial(Ticket(3)), Err(Error::UnknownTicket(Ticket(3))));
+    assert_eq!(store.bring(&mut worker), Err(Error::NotEnded));
     assert_eq!(worker.observe(2, &[]), Err(Error::UnknownTransaction(2)));
 
-    assert_eq!((store.take(), store.take()), (Some(Ticket(0)), Some(Ticket(1))));
-    assert_eq!(worker.try_task(0), Ok(Tried::Ended));
-    assert_eq!(other.try_task(1), Ok(Tried::Ended));
-    assert_eq!(store.finish(&mut worker), Ok(returned(1, 6)));
-    assert_eq!(store.finish(&mut other), Ok(Brought::Stale));
-    assert_eq!(store.serial(Ticket(1)), Ok(returned(2, 7)));
-    assert_eq!(store.serial(Ticket(1)), Ok(Brought::NotRunning));
-    assert_eq!(other.observe(inc, &[]), Ok(Observed::Returned(8)));
-    assert_eq!(other.observe(wait, &[]), Ok(Observed::Retries));
+    let (first, second) = (store.take().unwrap(), store.take().unwrap());
+    assert_eq!((first.ticket, second.ticket), (Ticket(0), Ticket(1)));
+    assert_eq!((worker.try_job(first), other.try_job(second)), (Ok(()), Ok(())));
+    assert_eq!(store.bring(&mut worker), returned(0, 1, 6));
+    assert_eq!(store.bring(&mut other), Err(Error::Stale));
+    assert_eq!(store.turn(second), returned(1, 2, 7));
+    assert_eq!(store.turn(second), Err(Error::NotRunning));
+    assert_eq!(store.turn(Job { ticket: Ticket(3), ..second }), Err(Error::Gone));
+    assert_eq!(other.observe(inc, &[]), Ok(Outcome::Returned(8)));
+    assert_eq!(other.observe(wait, &[]), Err(Error::Retries));
 
-    assert_eq!(store.take(), Some(Ticket(2)));
-    assert_eq!(worker.try_task(2), Ok(Tried::Ended));
-    assert_eq!(store.finish(&mut worker), Ok(Brought::Parked));
-    assert_eq!(store.take(), None);
-    assert_eq!(store.give_up(Ticket(2)), Ok(false));
-    assert_eq!(store.give_up(Ticket(3)), Err(Error::UnknownTicket(Ticket(3))));
+    let waits = store.take().unwrap();
+    assert_eq!((waits.ticket, worker.try_job(waits)), (Ticket(2), Ok(())));
+    assert_eq!(store.bring(&mut worker), is(2, End::Parked));
+    assert_eq!(store.take(), Err(Error::NotReady));
+    assert_eq!(store.claim(Ticket(2)), Err(Error::NotReady));
+    assert_eq!(store.give_up(Ticket(3)), Err(Error::Gone));
     store.checkpoint();
     let report = store.report().unwrap();
     assert_eq!(report, "base 2\nx 7 2\nnow 2\nx 7 2\nparked 2 wait\nend\n");
     assert_eq!(stm::check(FILE, &report), Ok(Verdict::Good));
     drop(store);
-    assert_eq!(other.observe(inc, &[]), Ok(Observed::Returned(8)));
+    assert_eq!(other.observe(inc, &[]), Ok(Outcome::Returned(8)));
 }
 
 #[test]
 fn what_is_given_up_is_reported() {
     let program = Program::read(FILE).unwrap();
     let store = Store::open(&program, 0, 0).unwrap();
-    assert_eq!(store.take(), Some(Ticket(0)));
-    assert_eq!(store.give_up(Ticket(0)), Ok(true));
+    let job = store.take().unwrap();
+    assert_eq!((store.give_up(Ticket(0)), store.give_up(Ticket(0))), (Ok(()), Err(Error::Gone)));
+    assert_eq!((job.ticket, store.turn(job)), (Ticket(0), Err(Error::NotRunning)));
     let report = store.report().unwrap();
     assert!(report.ends_with("memory 0 inc\nend\n"));
     assert_eq!(stm::check(FILE, &report), Ok(Verdict::Good));
@@ -100,10 +105,10 @@ fn what_an_observer_sees_of_faults() {
     let program = Program::read(file).unwrap();
     let store = Store::open(&program, 1, 0).unwrap();
     let mut worker = store.worker().unwrap();
-    assert_eq!(worker.observe(0, &[]), Ok(Observed::Thrown(7)));
-    assert_eq!(worker.observe(1, &[]), Ok(Observed::Overflow));
-    assert_eq!(worker.observe(2, &[]), Ok(Observed::DivideByZero));
-    assert_eq!(worker.observe(3, &[]), Ok(Observed::Broken(0)));
+    assert_eq!(worker.observe(0, &[]), Ok(Outcome::Thrown(7)));
+    assert_eq!(worker.observe(1, &[]), Ok(Outcome::Overflow));
+    assert_eq!(worker.observe(2, &[]), Ok(Outcome::DivideByZero));
+    assert_eq!(worker.observe(3, &[]), Ok(Outcome::Broken(0)));
 }
 
 #[test]
@@ -130,20 +135,23 @@ fn an_observer_sees_one_state() {
     std::thread::scope(|scope| {
         let store = &store;
         scope.spawn(move || {
-            while let Some(job) = store.take_job() {
-                assert_eq!(worker.try_job(job), Ok(Tried::Ended));
-                assert!(matches!(store.finish(&mut worker), Ok(Brought::Committed(_))));
+            while let Ok(job) = store.take() {
+                assert_eq!(worker.try_job(job), Ok(()));
+                assert!(matches!(store.bring(&mut worker), Ok(Answer { end: End::Entered(_), .. })));
             }
         });
         let mut last = 0;
         for _ in 0..10_000 {
-            if let Observed::Returned(value) = watcher.observe(get, &[]).unwrap() {
-                assert!(value >= last);
-                last = value;
+            match watcher.observe(get, &[]) {
+                Ok(Outcome::Returned(value)) => {
+                    assert!(value >= last);
+                    last = value;
+                }
+                other => assert_eq!(other, Err(Error::Stale)),
             }
         }
     });
-    assert_eq!(watcher.observe(get, &[]), Ok(Observed::Returned(20000)));
+    assert_eq!(watcher.observe(get, &[]), Ok(Outcome::Returned(20000)));
 }
 
 #[test]
@@ -152,17 +160,17 @@ fn a_worker_of_another_program_is_refused() {
     let other = Program::read(&FILE.replace("(add x 1)", "(add x 2)")).unwrap();
     let program = Program::read(FILE).unwrap();
     let store = Store::open(&program, 1, 0).unwrap();
-    let job = store.take_job().unwrap();
+    let job = store.take().unwrap();
     let second = Store::open(&other, 1, 0).unwrap();
     let mut worker = second.worker().unwrap();
-    assert_eq!(worker.try_job(job), Ok(Tried::Ended));
-    assert_eq!(store.finish(&mut worker), Err(Error::OtherProgram));
-    assert_eq!(store.finish(&mut worker), Ok(Brought::NotEnded));
+    assert_eq!(worker.try_job(job), Ok(()));
+    assert_eq!(store.bring(&mut worker), Err(Error::OtherProgram));
+    assert_eq!(store.bring(&mut worker), Err(Error::NotEnded));
     // One that says the same is as good as the store's own.
     let third = Store::open(&same, 1, 0).unwrap();
     let mut worker = third.worker().unwrap();
-    assert_eq!(worker.try_job(job), Ok(Tried::Ended));
-    assert_eq!(store.finish(&mut worker), Ok(returned(1, 6)));
+    assert_eq!(worker.try_job(job), Ok(()));
+    assert_eq!(store.bring(&mut worker), returned(0, 1, 6));
 }
 
 #[test]
@@ -172,8 +180,8 @@ fn a_program_without_tasks_is_observed() {
     declare.tx("get", stm::skip(), &x);
     let program = declare.program().unwrap();
     let store = Store::open(&program, 1, 0).unwrap();
-    assert_eq!(store.worker().unwrap().observe(0, &[]), Ok(Observed::Returned(3)));
-    assert_eq!(store.take(), None);
+    assert_eq!(store.worker().unwrap().observe(0, &[]), Ok(Outcome::Returned(3)));
+    assert_eq!(store.take(), Err(Error::NotReady));
     assert!(matches!(Declare::new().program().map(|p| p.tasks()), Ok(0)));
     assert!(stm::run(&Declare::new().program().unwrap(), 2).is_ok());
 }
@@ -186,25 +194,24 @@ fn tasks_are_submitted_while_all_wait() {
     let store = Store::open_with_room(&program, 1, 0, 2).unwrap();
     let mut worker = store.worker().unwrap();
     assert!(matches!(Store::open_with_room(&program, 1, 0, 65536), Err(Error::NoRoom)));
-    let get = store.take_job().unwrap();
+    let get = store.take().unwrap();
     let arguments = Arguments::default();
     assert_eq!(get, Job { ticket: Ticket(0), chapter: 0, task: 0, transaction: 0, arguments });
     assert_eq!(store.report_now(), Err(Error::WorkLeft));
-    assert_eq!(worker.try_job(get), Ok(Tried::Ended));
-    assert_eq!(store.finish(&mut worker), Ok(Brought::Parked));
+    assert_eq!(worker.try_job(get), Ok(()));
+    assert_eq!(store.bring(&mut worker), is(0, End::Parked));
     assert!(store.report_now().unwrap().ends_with("parked 0 get\nend\n"));
 
     let put = program.transaction("put").unwrap();
     assert_eq!(store.submit(2, &[]), Err(Error::UnknownTransaction(2)));
     assert_eq!((store.submit(put, &[]), store.submit(put, &[])), (Ok(Ticket(1)), Ok(Ticket(2))));
     assert_eq!((store.submit(put, &[]), store.spare(), store.tasks()), (Err(Error::NoRoom), 0, 3));
-    let job = store.take_job().unwrap();
-    assert_eq!(worker.try_task(1), Err(Error::UnknownTask(1)));
-    assert_eq!(worker.try_job(Job { transaction: 0, ..job }), Ok(Tried::Ended));
-    assert_eq!(store.finish(&mut worker), Ok(Brought::OtherTask));
+    let job = store.take().unwrap();
+    assert_eq!(worker.try_job(Job { transaction: 0, ..job }), Ok(()));
+    assert_eq!(store.bring(&mut worker), Err(Error::Gone));
     assert_eq!(worker.try_job(Job { transaction: 2, ..job }), Err(Error::UnknownTransaction(2)));
-    assert_eq!(worker.try_job(job), Ok(Tried::Ended));
-    assert_eq!(store.finish(&mut worker), Ok(returned(1, 1)));
+    assert_eq!(worker.try_job(job), Ok(()));
+    assert_eq!(store.bring(&mut worker), returned(1, 1, 1));
     assert_eq!((store.value("full"), store.value("empty")), (Some((1, 1)), None));
     assert_eq!(store.counts(), Counts { ready: 2, done: 1, ..Counts::default() });
     let (report, file) = store.report_and_file().unwrap();
@@ -223,14 +230,11 @@ fn tasks_are_submitted_while_threads_run() {
         for mut worker in crew {
             scope.spawn(move || {
                 while store.counts().done < 2000 {
-                    let Some(job) = store.take_job() else {
+                    let Ok(job) = store.take() else {
                         std::thread::yield_now();
                         continue;
                     };
-                    while worker.try_job(job) != Ok(Tried::Ended)
-                        || !matches!(store.finish(&mut worker), Ok(Brought::Committed(_)))
-                    {
-                    }
+                    while worker.try_job(job).is_err() || store.bring(&mut worker).is_err() {}
                 }
             });
         }

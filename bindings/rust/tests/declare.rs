@@ -3,32 +3,32 @@
 use stm::*;
 
 /// How a transaction of this body and result ends, over `x` = 7 and `y` = -2.
-fn ends(make: impl Fn(&Var, &Var) -> (Stmt, Expr)) -> Observed {
+fn ends(make: impl Fn(&Var, &Var) -> (Stmt, Expr)) -> Result<Outcome, Error> {
     let mut declare = Declare::new();
     let (x, y) = (declare.var("x", 7), declare.var("y", -2));
     let (body, result) = make(&x, &y);
     declare.tx("t", body, result);
     let store = Store::open(&declare.program().unwrap(), 1, 0).unwrap();
     let mut worker = store.worker().unwrap();
-    worker.observe(0, &[]).unwrap()
+    worker.observe(0, &[])
 }
 
-fn value(make: impl Fn(&Var, &Var) -> Expr) -> Observed {
-    ends(|x, y| (skip(), make(x, y)))
+fn value(make: impl Fn(&Var, &Var) -> Expr) -> Outcome {
+    ends(|x, y| (skip(), make(x, y))).unwrap()
 }
 
 /// Whether the condition is so.
 fn holds(make: impl Fn(&Var, &Var) -> Cond) -> bool {
     match ends(|x, y| (when(make(x, y), skip(), throw(99)), int(1))) {
-        Observed::Returned(1) => true,
-        Observed::Thrown(99) => false,
+        Ok(Outcome::Returned(1)) => true,
+        Ok(Outcome::Thrown(99)) => false,
         other => panic!("a condition ends with {other:?}"),
     }
 }
 
 #[test]
 fn expressions() {
-    use Observed::Returned;
+    use Outcome::Returned;
     assert_eq!(value(|x, _| x.into()), Returned(7));
     assert_eq!(value(|x, y| var(x) + y), Returned(5));
     assert_eq!(value(|x, y| var(x) - y), Returned(9));
@@ -57,26 +57,26 @@ fn conditions() {
 
 #[test]
 fn statements() {
-    use Observed::{Retries, Returned, Thrown};
-    assert_eq!(ends(|x, _| (set(x, 3), x.into())), Returned(3));
-    assert_eq!(ends(|x, y| (seq([set(x, y), set(y, var(x) * 10)]), var(x) + y)), Returned(-22));
-    assert_eq!(ends(|x, _| (seq([]), x.into())), Returned(7));
-    assert_eq!(ends(|x, _| (when(lt(x, 0), set(x, 1), set(x, 2)), x.into())), Returned(2));
-    assert_eq!(ends(|x, _| (when(lt(0, x), set(x, 1), set(x, 2)), x.into())), Returned(1));
-    assert_eq!(ends(|x, _| (repeat(5, set(x, var(x) + 2)), x.into())), Returned(17));
-    assert_eq!(ends(|x, _| (retry(), x.into())), Retries);
-    assert_eq!(ends(|x, _| (throw(var(x) + 1), x.into())), Thrown(8));
+    use Outcome::{Returned, Thrown};
+    assert_eq!(ends(|x, _| (set(x, 3), x.into())), Ok(Returned(3)));
+    assert_eq!(ends(|x, y| (seq([set(x, y), set(y, var(x) * 10)]), var(x) + y)), Ok(Returned(-22)));
+    assert_eq!(ends(|x, _| (seq([]), x.into())), Ok(Returned(7)));
+    assert_eq!(ends(|x, _| (when(lt(x, 0), set(x, 1), set(x, 2)), x.into())), Ok(Returned(2)));
+    assert_eq!(ends(|x, _| (when(lt(0, x), set(x, 1), set(x, 2)), x.into())), Ok(Returned(1)));
+    assert_eq!(ends(|x, _| (repeat(5, set(x, var(x) + 2)), x.into())), Ok(Returned(17)));
+    assert_eq!(ends(|x, _| (retry(), x.into())), Err(Error::Retries));
+    assert_eq!(ends(|x, _| (throw(var(x) + 1), x.into())), Ok(Thrown(8)));
     let first = |x: &Var| seq([set(x, 1), retry()]);
-    assert_eq!(ends(|x, y| (or_else(first(x), set(y, 4)), var(x) + y)), Returned(11));
-    assert_eq!(ends(|x, y| (or_else(set(x, 1), set(y, 4)), var(x) + y)), Returned(-1));
-    assert_eq!(ends(|x, _| (or_else(retry(), retry()), x.into())), Retries);
+    assert_eq!(ends(|x, y| (or_else(first(x), set(y, 4)), var(x) + y)), Ok(Returned(11)));
+    assert_eq!(ends(|x, y| (or_else(set(x, 1), set(y, 4)), var(x) + y)), Ok(Returned(-1)));
+    assert_eq!(ends(|x, _| (or_else(retry(), retry()), x.into())), Err(Error::Retries));
 }
 
 #[test]
 fn faults() {
-    assert_eq!(value(|_, _| int(i64::MAX) + 1), Observed::Overflow);
-    assert_eq!(value(|x, _| div(x, 0)), Observed::DivideByZero);
-    assert_eq!(value(|x, _| rem(x, 0)), Observed::DivideByZero);
+    assert_eq!(value(|_, _| int(i64::MAX) + 1), Outcome::Overflow);
+    assert_eq!(value(|x, _| div(x, 0)), Outcome::DivideByZero);
+    assert_eq!(value(|x, _| rem(x, 0)), Outcome::DivideByZero);
 }
 
 #[test]

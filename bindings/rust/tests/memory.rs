@@ -5,8 +5,8 @@
 use std::ffi::c_void;
 use std::sync::atomic::{AtomicI64, Ordering};
 use stm::{
-    run_with, Brought, End, Entered, Error, Fault, Observed, Outcome, Program, RunOptions, Service,
-    ServiceOptions, Store, Ticket, Tried, Verdict,
+    run_with, Answer, End, Entered, Error, Fault, Outcome, Program, RunOptions, Service, ServiceOptions,
+    Store, Ticket, Verdict, Way,
 };
 
 #[repr(C)]
@@ -143,19 +143,26 @@ fn reads_are_refused() {
 fn calls_are_refused(program: &Program) {
     let store = Store::open(program, 2, 0).unwrap();
     let (mut worker, mut watcher) = (store.worker().unwrap(), store.worker().unwrap());
-    assert_eq!((store.take(), store.take()), (Some(Ticket(0)), Some(Ticket(1))));
-    refusing(1, || assert_eq!(worker.try_task(0), Ok(Tried::Memory)));
-    refusing(1, || assert_eq!(watcher.observe(0, &[]), Ok(Observed::Memory)));
-    refusing(1, || assert_eq!(store.serial(Ticket(1)), Ok(Brought::GivenUp)));
+    let (first, second) = (store.take().unwrap(), store.take().unwrap());
+    let is = |ticket, end| Ok(Answer { ticket: Ticket(ticket), chapter: 0, end });
+    refusing(1, || assert_eq!(worker.try_job(first), Err(Error::Memory)));
+    refusing(1, || assert_eq!(watcher.observe(0, &[]), Err(Error::Memory)));
+    refusing(1, || assert_eq!(store.turn(second), is(1, End::Abandoned)));
     refusing(1, || assert_eq!(store.file(), Err(Error::Memory)));
-    let done = Brought::Committed(Entered { number: 1, outcome: Outcome::Returned(1) });
-    assert_eq!((store.counts().given_up, store.serial(Ticket(0))), (1, Ok(done)));
-    refusing(1, || assert_eq!(store.turn().map(|turned| turned.end), Some(End::GivenUp)));
+    let done = End::Entered(Entered { number: 1, outcome: Outcome::Returned(1) });
+    assert_eq!((store.counts().given_up, store.turn(first)), (1, is(0, done)));
+    // What is lent has the memory of the turns before, and wants no more.
+    let done = End::Entered(Entered { number: 2, outcome: Outcome::Returned(2) });
+    assert_eq!(refusing(1, || assert_eq!(store.turn(store.take().unwrap()), is(2, done))), 0);
     let taken = refusing(0, || {
         store.begin_chapter();
-        assert_eq!((store.standing(Ticket(0)), store.entered()), (Err(Error::UnknownTicket(Ticket(0))), 1));
+        assert_eq!((store.standing(Ticket(0)), store.entered()), (Err(Error::Gone), 2));
     });
     assert_eq!(taken, 0, "a chapter begins in no memory");
+    for way in [Way::Waits, Way::Tries] {
+        let store = Store::open_with_room(program, 0, 0, 1).unwrap();
+        refusing(1, || assert_eq!(store.call(0, &[], way), is(3, End::Abandoned)));
+    }
 }
 
 /// Each request of a run is refused in turn: it says so, or its report is good and tasks are given up.

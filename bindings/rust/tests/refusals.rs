@@ -1,7 +1,7 @@
 //! Each reason why a call answers nothing, each verdict, and what becomes of a task.
 
 use stm::{
-    Brought, Entered, Error, Job, Outcome, Part, Program, ScheduleFault, Store, Ticket, Tried, Verdict,
+    Answer, End, Entered, Error, Job, Outcome, Part, Program, ScheduleFault, Store, Ticket, Verdict, Way,
     Worker,
 };
 
@@ -68,42 +68,50 @@ fn stores() {
     );
     assert_eq!(store.report_now(), Err(Error::WorkLeft));
     for ticket in [Ticket(9), Ticket(u64::MAX)] {
-        let unknown = Error::UnknownTicket(ticket);
-        assert_eq!((store.serial(ticket), store.give_up(ticket)), (Err(unknown), Err(unknown)));
-        assert_eq!((store.claim(ticket), store.withdraw(ticket)), (Err(unknown), Err(unknown)));
-        assert_eq!((store.standing(ticket), store.outcome(ticket)), (Err(unknown), Err(unknown)));
+        let gone = Error::Gone;
+        assert_eq!((store.claim(ticket), store.give_up(ticket)), (Err(gone), Err(gone)));
+        assert_eq!((store.standing(ticket), store.outcome(ticket)), (Err(gone), Err(gone)));
     }
     let unknown = Error::UnknownTransaction(2);
-    assert_eq!((worker.observe(2, &[]), worker.try_task(9)), (Err(unknown), Err(Error::UnknownTask(9))));
-    assert_eq!((store.call(2, &[]), store.try_call(2, &[])), (Err(unknown), Err(unknown)));
-    assert_eq!((store.call(0, &[]), store.try_call(0, &[])), (Err(Error::NoRoom), Err(Error::NoRoom)));
+    assert_eq!(worker.observe(2, &[]), Err(unknown));
+    for way in [Way::Waits, Way::Tries] {
+        assert_eq!((store.call(2, &[], way), store.call(0, &[], way)), (Err(unknown), Err(Error::NoRoom)));
+    }
     jobs(store, worker);
 }
 
 /// Strange jobs, tasks that are not running, and what becomes of three tasks and of one that waits.
 fn jobs(store: Store, mut worker: Worker) {
-    assert_eq!((store.give_up(Ticket(0)), store.serial(Ticket(0))), (Ok(false), Ok(Brought::NotRunning)));
-    let job = store.take_job().unwrap();
-    let unknown = Error::UnknownTicket(Ticket(u64::MAX));
-    assert_eq!(worker.try_job(Job { ticket: Ticket(u64::MAX), ..job }), Err(unknown));
-    for strange in [Job { task: 65_536, ..job }, Job { task: 1, ..job }, Job { ticket: Ticket(1), ..job }] {
-        assert_eq!(worker.try_job(strange), Ok(Tried::Ended));
-        assert_eq!(store.finish(&mut worker), Ok(Brought::OtherTask));
+    let job = store.take().unwrap();
+    let stranger = Job { ticket: Ticket(u64::MAX), ..job };
+    assert_eq!((worker.try_job(stranger), store.turn(stranger)), (Err(Error::Gone), Err(Error::Gone)));
+    for strange in [
+        Job { task: 65_536, ..job },
+        Job { task: 1, ..job },
+        Job { ticket: Ticket(1), ..job },
+        Job { chapter: 1, ..job },
+    ] {
+        assert_eq!(worker.try_job(strange), Ok(()));
+        assert_eq!((store.bring(&mut worker), store.turn(strange)), (Err(Error::Gone), Err(Error::Gone)));
     }
-    assert_eq!(worker.try_job(Job { chapter: 1, ..job }), Ok(Tried::Ended));
-    assert_eq!(store.finish(&mut worker), Ok(Brought::OtherChapter));
-    assert_eq!(worker.try_job(job), Ok(Tried::Ended));
-    assert_eq!(store.give_up(Ticket(0)), Ok(true));
-    assert_eq!(store.finish(&mut worker), Ok(Brought::NotRunning));
-    assert_eq!(store.finish(&mut worker), Ok(Brought::NotEnded));
+    // A job of a ready task is no job that was taken.
+    let ready = Job { ticket: Ticket(1), task: 1, ..job };
+    assert_eq!((store.turn(ready), worker.try_job(ready)), (Err(Error::NotRunning), Ok(())));
+    assert_eq!(store.bring(&mut worker), Err(Error::NotRunning));
+    assert_eq!((worker.try_job(job), store.give_up(Ticket(0))), (Ok(()), Ok(())));
+    assert_eq!(store.bring(&mut worker), Err(Error::NotRunning));
+    assert_eq!(store.bring(&mut worker), Err(Error::NotEnded));
 
-    let job = store.take_job().unwrap();
-    assert_eq!(worker.try_job(job), Ok(Tried::Ended));
-    let done = |number, value| Ok(Brought::Committed(Entered { number, outcome: Outcome::Returned(value) }));
-    assert_eq!((store.take(), store.serial(Ticket(2))), (Some(Ticket(2)), done(1, 2)));
-    assert_eq!(store.finish(&mut worker), Ok(Brought::Stale));
-    assert_eq!(store.serial(Ticket(1)), done(2, 3));
-    assert_eq!((store.take(), store.serial(Ticket(3))), (Some(Ticket(3)), Ok(Brought::Parked)));
+    let (job, next) = (store.take().unwrap(), store.claim(Ticket(2)).unwrap());
+    assert_eq!(worker.try_job(job), Ok(()));
+    let is = |ticket, end| Ok(Answer { ticket: Ticket(ticket), chapter: 0, end });
+    let done = |ticket, number, value| {
+        is(ticket, End::Entered(Entered { number, outcome: Outcome::Returned(value) }))
+    };
+    assert_eq!(store.turn(next), done(2, 1, 2));
+    assert_eq!(store.bring(&mut worker), Err(Error::Stale));
+    assert_eq!(store.turn(job), done(1, 2, 3));
+    assert_eq!(store.turn(store.take().unwrap()), is(3, End::Parked));
     let counts = store.counts();
     assert_eq!((counts.ready, counts.running, counts.parked, counts.done, counts.given_up), (1, 0, 1, 2, 1));
     assert_eq!(counts.ready + store.spare(), 1);

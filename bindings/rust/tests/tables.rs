@@ -31,7 +31,7 @@ fn cells_of_a_store() {
     assert_eq!((program.cells(0), program.cells(1), program.cells(2)), (Some(4), Some(3), None));
     let store = Store::open_with_room(&program, 0, 0, 2).unwrap();
     let ended = |number, value| End::Entered(Entered { number, outcome: Outcome::Returned(value) });
-    assert_eq!(store.call(PAY, &[0, 3, 60]).unwrap().end, ended(1, 40));
+    assert_eq!(store.call(PAY, &[0, 3, 60], Way::Waits).unwrap().end, ended(1, 40));
     assert_eq!(
         (store.cell(0, 0), store.cell(0, 3), store.cell(0, 1)),
         (Some((40, 1)), Some((160, 1)), Some((100, 0)))

@@ -8,7 +8,7 @@ ghost use Rattle.example_bank.specs.Balances.{IsBank, IsSound, total};
 
 use std::alloc::Global;
 use std::marker::{Brand, PhantomData};
-use stm_store::{Brought, Job, Program, Store, Ticket, Tried, Worker};
+use stm_store::{Job, Program, Refused, Store, Worker};
 use txn::Memory;
 
 /// Which program a bank is of. What a lock holds is known by its type alone, so the type says it.
@@ -62,18 +62,25 @@ impl<N: Naming> Bank<N> {
     pub fn take(&mut self) -> Option<Job>
         ensures { IfSome result (λ job. IsCallable N.catalogue job.tx job.arguments) }
     {
-        self.store.take()
+        match self.store.take() {
+            Ok(job) => Some(job),
+            Err(_) => None,
+        }
     }
 
     /// Brings what a clerk has tried. `false` where it has to be tried again.
     pub fn bring(&mut self, clerk: &mut Clerk<N>) -> bool {
-        self.store.finish(&mut clerk.worker) != Brought::Stale
+        !matches!(self.store.bring(&mut clerk.worker), Err(Refused::Stale))
     }
 
     /// Serves a task at once, with no clerk.
-    pub fn serve(&mut self, ticket: Ticket) {
+    pub fn serve(&mut self, job: Job) {
+        // A program without transactions has no task.
+        let Some(mut lender) = self.store.lender() else {
+            return;
+        };
         // However it ends, the task is served.
-        let _how = self.store.serial(ticket);
+        let _came = self.store.turn(&mut lender, job);
     }
 
     /// What the accounts have, at one moment. Whatever was served: none is below zero, and together
@@ -92,6 +99,6 @@ impl<N: Naming> Clerk<N> {
     pub fn try_job(&mut self, job: Job) -> bool
         requires { IsCallable N.catalogue job.tx job.arguments }
     {
-        self.worker.try_job(job) == Tried::Ended
+        self.worker.try_job(job).is_ok()
     }
 }

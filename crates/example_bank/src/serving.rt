@@ -25,7 +25,7 @@ fn serve<R: Wait, N: Naming>(rt: &R, bank: &Mutex<Bank<N>>, clerk: &mut Clerk<N>
             return;
         }
     }
-    bank.lock(rt).serve(job.ticket);
+    bank.lock(rt).serve(*job);
 }
 
 /// The next task that can be served.

@@ -11,7 +11,7 @@ use std::alloc::Global;
 use std::marker::Brand;
 use std::sync::{Condvar, Mutex, Wait};
 use std::thread::{Threads, join};
-use stm_store::{Job, Program, Tried};
+use stm_store::{Job, Program, Refused};
 use txn::Memory;
 
 /// What a job does, by its place in the plan. It is called with no lock held.
@@ -56,9 +56,9 @@ fn serve<R: Wait, N: Planned, W: Work>(
     let job = &job;
     for _ in rt.forever() {
         match hand.try_job(*job) {
-            Tried::Ended => {}
-            Tried::Stale => continue,
-            Tried::Memory => {
+            Ok(()) => {}
+            Err(Refused::Stale) => continue,
+            Err(_) => {
                 shared.scheduler.lock(rt).give_up(*job);
                 break;
             }

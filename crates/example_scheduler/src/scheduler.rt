@@ -12,7 +12,7 @@ ghost use Rattle.stm_store.specs.Working.{without_runs};
 use crate::crew::Work;
 use std::alloc::Global;
 use std::marker::{Brand, PhantomData};
-use stm_store::{Brought, Job, Program, Store, Tried, Worker};
+use stm_store::{End, Job, Program, Refused, Store, Worker};
 use txn::{Memory, TxId};
 
 /// Which plan a scheduler has. What a lock holds is known by its type alone, so the type says it.
@@ -100,16 +100,18 @@ impl<N: Planned> Scheduler<N> {
     pub fn take(&mut self) -> Option<Job>
         ensures { IfSome result (λ job. IsCallable N.catalogue job.tx job.arguments) }
     {
-        let job = self.store.take()?;
+        let Ok(job) = self.store.take() else {
+            return None;
+        };
         self.at_work = self.at_work.saturating_add(1);
         Some(job)
     }
 
     /// Brings what a hand has tried.
     pub fn bring(&mut self, hand: &mut Hand<N>, job: Job) -> Came {
-        match self.store.finish(&mut hand.worker) {
-            Brought::Stale => return Came::Stale,
-            Brought::Committed(_) if job.tx.0 < self.jobs => {
+        match self.store.bring(&mut hand.worker) {
+            Err(Refused::Stale) => return Came::Stale,
+            Ok(End::Entered(_)) if job.tx.0 < self.jobs => {
                 return Came::Begun(job.tx.0);
             }
             _ => {}
@@ -132,7 +134,8 @@ impl<N: Planned> Scheduler<N> {
 
     /// A task is given up, where memory ran out.
     pub fn give_up(&mut self, job: Job) {
-        self.store.give_up(job.ticket);
+        // Where somebody else has given it up it is over too.
+        let _given_up = self.store.give_up(job.ticket);
         self.at_work = self.at_work.saturating_sub(1);
     }
 
@@ -158,7 +161,7 @@ impl<N: Planned> Scheduler<N> {
 
 impl<N: Planned> Hand<N> {
     /// Tries a task with no lock.
-    pub fn try_job(&mut self, job: Job) -> Tried
+    pub fn try_job(&mut self, job: Job) -> Result<(), Refused>
         requires { IsCallable N.catalogue job.tx job.arguments }
     {
         self.worker.try_job(job)

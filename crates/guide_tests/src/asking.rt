@@ -6,14 +6,14 @@ ghost use Rattle.txn_programs.specs.Listing.{IsCallable};
 use crate::hosting::told;
 use std::alloc::{AllocError, Global};
 use std::process::Abort;
-use stm_library::{Called, End, Lender, Program, Store, Ticket, Turned, TxId};
+use stm_library::{End, Lender, Program, Refused, Store, Ticket, TxId, Way};
 
-/// What a host prints of a turn.
-fn line(alloc: Global, turned: Turned) -> Result<String, AllocError> {
-    match turned.end {
+/// What a host prints of a task's turn.
+fn line(alloc: Global, ticket: Ticket, end: End) -> Result<String, AllocError> {
+    match end {
         End::Entered(entered) => told(alloc, entered),
-        End::Parked => format!(in alloc; "{} waits", turned.job.ticket.0),
-        End::Abandoned => format!(in alloc; "{} given up", turned.job.ticket.0),
+        End::Parked => format!(in alloc; "{} waits", ticket.0),
+        End::Abandoned => format!(in alloc; "{} given up", ticket.0),
     }
 }
 
@@ -23,13 +23,14 @@ fn ask(
     store: &mut Store,
     lender: &mut Lender,
     tx: TxId,
+    way: Way,
 ) -> Result<String, AllocError>
     requires { IsCallable store.old.catalogue.now tx [] }
 {
-    match store.call_lent(lender, tx, &[]) {
-        Called::Ran(turned) => line(alloc, turned),
-        Called::NoRoom => String::from_str(alloc, "no room"),
-        Called::Retries => String::from_str(alloc, "not now"),
+    match store.call(lender, tx, &[], way) {
+        Ok((job, end)) => line(alloc, job.ticket, end),
+        Err(Refused::Retries) => String::from_str(alloc, "not now"),
+        Err(_) => String::from_str(alloc, "no room"),
     }
 }
 
@@ -39,9 +40,13 @@ fn next(
     store: &mut Store,
     lender: &mut Lender,
 ) -> Result<Option<String>, AllocError> {
-    match store.turn_lent(lender) {
-        Some(turned) => Ok(Some(line(alloc, turned)?)),
-        None => Ok(None),
+    let Ok(job) = store.take() else {
+        return Ok(None);
+    };
+    let ticket = job.ticket;
+    match store.turn(lender, job) {
+        Ok(end) => Ok(Some(line(alloc, ticket, end)?)),
+        Err(_) => Ok(None),
     }
 }
 
@@ -55,13 +60,14 @@ fn answers(
     store: &mut Store,
     lender: &mut Lender,
     name: &str,
+    way: Way,
     wanted: &str,
 ) {
     let Some(tx) = store.catalogue().tx_id(name) else {
         panic!(rt; "no transaction")
     };
     assert!(rt; store.catalogue().is_callable(tx, &[]));
-    match ask(alloc, store, lender, tx) {
+    match ask(alloc, store, lender, tx, way) {
         Ok(text) => assert!(rt; text.as_str() == wanted, "{text}"),
         Err(_) => panic!(rt; "no memory"),
     }
@@ -94,27 +100,33 @@ fn opened(rt: &impl Abort, alloc: Global) -> Store {
 }
 
 /// Each way in which a call ends, and what becomes of one that waits; then a chapter ends, and there is room again.
+fn is_answered(rt: &(impl Abort + Eprint), alloc: Global, store: &mut Store, lender: &mut Lender) {
+    answers(rt, alloc, store, lender, "get", Way::Tries, "not now");
+    answers(rt, alloc, store, lender, "get", Way::Waits, "0 waits");
+    answers(rt, alloc, store, lender, "put", Way::Waits, "1: returned 1");
+    answers(
+        rt,
+        alloc,
+        store,
+        lender,
+        "put",
+        Way::Tries,
+        "2: threw User(9)",
+    );
+    answers(rt, alloc, store, lender, "put", Way::Waits, "no room");
+    goes_on(rt, alloc, store, lender, "3: returned 7");
+    store.begin_chapter();
+    answers(rt, alloc, store, lender, "get", Way::Waits, "3 waits");
+    assert!(rt; store.give_up(Ticket(3)) == Ok(()));
+    assert!(rt; store.give_up(Ticket(3)) == Err(Refused::Gone));
+}
+
 #[test]
 fn a_host_is_answered(rt: HostRuntime) {
     let alloc = rt.alloc();
     let mut store = opened(&rt, alloc);
-    let Some(mut lender) = store.lender() else {
-        panic!(rt; "no lender")
-    };
-    answers(&rt, alloc, &mut store, &mut lender, "get", "0 waits");
-    answers(&rt, alloc, &mut store, &mut lender, "put", "1: returned 1");
-    answers(
-        &rt,
-        alloc,
-        &mut store,
-        &mut lender,
-        "put",
-        "2: threw User(9)",
-    );
-    answers(&rt, alloc, &mut store, &mut lender, "put", "no room");
-    goes_on(&rt, alloc, &mut store, &mut lender, "3: returned 7");
-    store.begin_chapter();
-    answers(&rt, alloc, &mut store, &mut lender, "get", "3 waits");
-    assert!(rt; store.withdraw(Ticket(3)));
-    assert!(rt; !store.withdraw(Ticket(3)));
+    match store.lender() {
+        Some(mut lender) => is_answered(&rt, alloc, &mut store, &mut lender),
+        None => panic!(rt; "no lender"),
+    }
 }

@@ -5,21 +5,23 @@ ghost use Rattle.std.specs.Prelude.{◌≡◌};
 use std::alloc::Global;
 use std::process::Abort;
 use stm_library::{
-    Arguments, Brought, Counts, Entered, Job, Outcome, Program, ReportFault, Store, TaskId, Ticket,
-    Tried, TxId, Verdict, Worker, check,
+    Arguments, Counts, End, Entered, Job, Outcome, Program, Refused, ReportFault, Store, TaskId,
+    Ticket, TxId, Verdict, Worker, check,
 };
 
 const FILE: &str =
     "(var full 0)(tx get (if (eq full 0) (retry) (set full 0)) full)(tx put (set full 1) full)(run get 1)";
 
-/// A task of the transaction of this name comes in: its ticket, or `None` where there is no such
-/// transaction, or no room.
-fn comes_in(store: &mut Store, name: &str) -> Option<Ticket>
+/// A task of the transaction of this name comes in: its ticket. `Unknown` where there is no such transaction,
+/// `NoRoom` where there is no room.
+fn comes_in(store: &mut Store, name: &str) -> Result<Ticket, Refused>
     ensures { store.new.catalogue.now ≡ store.old.catalogue.now }
 {
-    let tx = store.catalogue().tx_id(name)?;
+    let Some(tx) = store.catalogue().tx_id(name) else {
+        return Err(Refused::Unknown);
+    };
     if !store.catalogue().is_callable(tx, &[]) {
-        return None;
+        return Err(Refused::Unknown);
     }
     store.submit(tx, &[])
 }
@@ -42,16 +44,16 @@ fn opened(rt: &impl Abort, alloc: Global, spare: usize) -> (Store, Worker)
 }
 
 /// The next job is this one, and its end is this.
-fn ends(rt: &impl Abort, store: &mut Store, worker: &mut Worker, job: Job, how: Brought)
+fn ends(rt: &impl Abort, store: &mut Store, worker: &mut Worker, job: Job, came: End)
     requires { worker.old.catalogue.now ≡ store.old.catalogue.now }
     ensures { worker.new.catalogue.now ≡ store.new.catalogue.now }
 {
-    let Some(taken) = store.take() else {
+    let Ok(taken) = store.take() else {
         panic!(rt; "no job");
     };
     assert_eq!(rt; taken, job);
-    assert_eq!(rt; worker.try_job(taken), Tried::Ended);
-    assert_eq!(rt; store.finish(worker), how);
+    assert_eq!(rt; worker.try_job(taken), Ok(()));
+    assert_eq!(rt; store.bring(worker), Ok(came));
 }
 
 const GET: TxId = TxId(0);
@@ -70,8 +72,8 @@ fn job(task: u32, tx: TxId) -> Job {
 }
 
 /// It is entered with this number, and returned this.
-fn committed(number: u64, value: i64) -> Brought {
-    Brought::Committed(Entered {
+fn entered(number: u64, value: i64) -> End {
+    End::Entered(Entered {
         number,
         outcome: Outcome::Returned(value),
     })
@@ -93,11 +95,11 @@ fn two_come_in(rt: &impl Abort, store: &mut Store)
     ensures { store.new.catalogue.now ≡ store.old.catalogue.now }
 {
     let first = job(0, GET);
-    assert_eq!(rt; store.take(), Some(first));
-    assert_eq!(rt; comes_in(store, "put"), Some(Ticket(1)));
-    assert_eq!(rt; comes_in(store, "get"), Some(Ticket(2)));
-    assert_eq!(rt; comes_in(store, "get"), None);
-    assert_eq!(rt; comes_in(store, "none"), None);
+    assert_eq!(rt; store.take(), Ok(first));
+    assert_eq!(rt; comes_in(store, "put"), Ok(Ticket(1)));
+    assert_eq!(rt; comes_in(store, "get"), Ok(Ticket(2)));
+    assert_eq!(rt; comes_in(store, "get"), Err(Refused::NoRoom));
+    assert_eq!(rt; comes_in(store, "none"), Err(Refused::Unknown));
     assert_eq!(rt; (store.tasks(), store.spare()), (3, 0));
 }
 
@@ -133,7 +135,7 @@ fn tasks_come_in_while_others_run(rt: HostRuntime) {
     let (mut store, mut worker) = opened(&rt, alloc, 2);
     two_come_in(&rt, &mut store);
     let put = job(1, PUT);
-    ends(&rt, &mut store, &mut worker, put, committed(1, 1));
+    ends(&rt, &mut store, &mut worker, put, entered(1, 1));
     tells_of_three(&rt, &mut store);
     agree(&rt, alloc, &mut store);
     assert!(rt; store.report_now().is_ok());
@@ -144,12 +146,12 @@ fn tasks_come_in_while_others_run(rt: HostRuntime) {
 fn a_task_that_comes_in_wakes_those_that_wait(rt: HostRuntime) {
     let alloc = rt.alloc();
     let (mut store, mut worker) = opened(&rt, alloc, 1);
-    ends(&rt, &mut store, &mut worker, job(0, GET), Brought::Parked);
-    assert_eq!(rt; store.take(), None);
+    ends(&rt, &mut store, &mut worker, job(0, GET), End::Parked);
+    assert_eq!(rt; store.take(), Err(Refused::NotReady));
     assert!(rt; store.report_now().is_ok());
-    assert_eq!(rt; comes_in(&mut store, "put"), Some(Ticket(1)));
-    ends(&rt, &mut store, &mut worker, job(1, PUT), committed(1, 1));
-    ends(&rt, &mut store, &mut worker, job(0, GET), committed(2, 0));
+    assert_eq!(rt; comes_in(&mut store, "put"), Ok(Ticket(1)));
+    ends(&rt, &mut store, &mut worker, job(1, PUT), entered(1, 1));
+    ends(&rt, &mut store, &mut worker, job(0, GET), entered(2, 0));
     agree(&rt, alloc, &mut store);
 }
 
@@ -162,18 +164,18 @@ fn tries(rt: &impl Abort, worker: &mut Worker, job: Job)
             .catalogue()
             .is_callable(job.tx, job.arguments.as_slice())
     );
-    assert!(rt; worker.try_job(job) == Tried::Ended);
+    assert!(rt; worker.try_job(job) == Ok(()));
 }
 
 #[test]
 fn a_task_of_another_store_is_not_brought(rt: HostRuntime) {
     let alloc = rt.alloc();
     let (mut store, mut worker) = opened(&rt, alloc, 1);
-    assert_eq!(rt; store.finish(&mut worker), Brought::NotEnded);
+    assert_eq!(rt; store.bring(&mut worker), Err(Refused::NotEnded));
     tries(&rt, &mut worker, job(1, PUT));
-    assert_eq!(rt; store.finish(&mut worker), Brought::OtherTask);
-    assert_eq!(rt; comes_in(&mut store, "get"), Some(Ticket(1)));
+    assert_eq!(rt; store.bring(&mut worker), Err(Refused::Gone));
+    assert_eq!(rt; comes_in(&mut store, "get"), Ok(Ticket(1)));
     tries(&rt, &mut worker, job(1, PUT));
-    assert_eq!(rt; store.finish(&mut worker), Brought::OtherTask);
-    assert_eq!(rt; store.finish(&mut worker), Brought::NotEnded);
+    assert_eq!(rt; store.bring(&mut worker), Err(Refused::Gone));
+    assert_eq!(rt; store.bring(&mut worker), Err(Refused::NotEnded));
 }

@@ -5,5 +5,4 @@ pub mod ProgramReads
 pub mod Refused
 pub mod StoreHandle
 pub mod WorkerHandle
-mod Ticketed
 pub mod Written

@@ -1,8 +1,10 @@
+pub mod Answers
 pub mod ByTicket
 pub mod Calls
 pub mod Files
 pub mod Held
 pub mod Holding
+pub mod Jobs
 pub mod LenderHandle
 pub mod Long
 pub mod Looking

@@ -1,21 +1,22 @@
 -- What a host is told of a store.
-use Rattle.std.specs.Prelude.{◌≡◌, ◌<◌, ◌≤◌, ℕ, ℤ, pos, List, length, Option, Some, None, IsUtf8}
+use Rattle.std.specs.Prelude.{◌≡◌, ◌<◌, ◌≤◌, ℕ, ℤ, pos, List, length, Some, None, Result, IsUtf8}
 use Rattle.txn_programs.specs.Listing.{IsCallable}
 use Rattle.book.specs.View.{BookView}
 use Rattle.book.specs.declared.counting.Counts.{Counts}
 use Rattle.stm_store.specs.declared.job.Ticket.{Ticket}
+use Rattle.stm_store.specs.declared.answers.Refused.{Refused}
 use Rattle.stm_store.specs.declared.store.Store.{Store}
 use Rattle.stm_store.specs.Asking.{Submits}
 use Rattle.stm_store.specs.Keeping.{KeepsStore}
 use Rattle.stm_store.specs.Telling.{IsValueOf, IsCellOf, CopiesCells}
 use Rattle.stm_c.specs.Numbers.{not_there, ticket_told}
-use Rattle.stm_c.specs.declared.codes.Counted.{Counted}
+use Rattle.stm_c.specs.declared.looking.Counted.{Counted}
 
 -- `stm_submit`: -9 and nothing changed where the transaction cannot be called with these arguments
 pub record SubmitsBy (old : Store) (tx : ℕ) (arguments : List ℤ) (answer : ℤ) (new : Store) : Type 0 where
   pub unknown : (IsCallable old.catalogue.now (record { 0 = tx }) arguments → ⊥) → (answer ≡ not_there) × (new ≡ old)
   pub submitted : IsCallable old.catalogue.now (record { 0 = tx }) arguments
-      → (ticket : Option Ticket) × Submits old (record { 0 = tx }) arguments ticket new × (answer ≡ ticket_told ticket)
+      → (ticket : Result Ticket Refused) × Submits old (record { 0 = tx }) arguments ticket new × (answer ≡ ticket_told ticket)
   pub kept : KeepsStore old new
 
 -- the counts that were written

@@ -1,16 +1,20 @@
 //! Turns and calls of transactions, by an attempt that is lent: under the host's lock.
 
 ghost use Rattle.std.specs.Prelude.{◌≡◌, ◌≢◌, None, pos};
-ghost use Rattle.stm_c.specs.Calls.{CallsAny, GivesOne, TriesCallAny};
-ghost use Rattle.stm_c.specs.Held.{Asked, HoldsSome, OnBoth};
+ghost use Rattle.stm_store.specs.declared.answers.Refused.TheVariants as refused;
+ghost use Rattle.stm_c.specs.Answers.{nothing_held, refusal};
+ghost use Rattle.stm_c.specs.Calls.{CallsAny, GivesMost, TurnsJob};
+ghost use Rattle.stm_c.specs.Held.{Asked, OnBoth};
+ghost use Rattle.stm_c.specs.Jobs.{OnJob};
 ghost use Rattle.stm_c.specs.Made.{AnswersLend};
-ghost use Rattle.stm_c.specs.Numbers.{no_turn};
 
-use crate::codes::{EMPTY, FULL, MEMORY, NO_WORKER, TurnTold, UNKNOWN, called, given, no_turn};
+use crate::answers::{Answer, answer_of, called, empty, refusal};
+use crate::codes::{EMPTY, FULL, MEMORY, NO_WORKER, way_of};
+use crate::jobs::{Taken, job_of};
 use crate::lender_handle::LenderHandle;
 use crate::store_handle::StoreHandle;
 use std::alloc::Global;
-use stm_store::{Lender, Store};
+use stm_store::{Lender, Refused, Store};
 use txn::TxId;
 
 /// An attempt to lend to this store, or to another. 0, and `out` holds it; -6, -10: out of memory, the
@@ -59,85 +63,82 @@ pub extern "C" fn stm_lender_free(alloc: Global, lender: &mut LenderHandle)
     drop(lender.take(alloc));
 }
 
-/// Gives the lowest ready task a turn: which task, and how it ended. 11: none is ready; -12: one of the
-/// handles is empty.
+/// A turn of the job's task on the present values: how it ended. -18: the present chapter has no such job; 3: its task
+/// is not running; -12: one of the handles is empty; then nothing changed.
 #[unsafe(no_mangle)]
-pub extern "C" fn stm_turn(store: &mut StoreHandle, lender: &mut LenderHandle) -> TurnTold
-    ensures { OnBoth store.old.value lender.old.value store.new.value lender.new.value (no_turn EMPTY) result
-        (λ old _ told new _. GivesOne old told new) }
+pub extern "C" fn stm_turn(store: &mut StoreHandle, lender: &mut LenderHandle, job: Taken) -> Answer
+    ensures { OnBoth store.old.value lender.old.value store.new.value lender.new.value nothing_held result
+        (λ old _ answer new _. OnJob job (refusal refused.Gone) answer old new (TurnsJob old answer new)) }
 {
     let Some(held) = store.get_mut() else {
-        return no_turn(EMPTY);
+        return empty();
     };
     let Some(lent) = lender.get_mut() else {
-        return no_turn(EMPTY);
+        return empty();
     };
-    turn(held, lent)
+    turn(held, lent, job)
 }
 
-fn turn(store: &mut Store, lender: &mut Lender) -> TurnTold
-    ensures { GivesOne store.old result store.new }
+fn turn(store: &mut Store, lender: &mut Lender, told: Taken) -> Answer
+    ensures { OnJob told (refusal refused.Gone) result store.old store.new (TurnsJob store.old result store.new) }
 {
-    store.law();
-    given(store.turn_lent(lender))
+    match job_of(&told) {
+        Some(job) => answer_of(told.ticket, told.chapter, store.turn(lender, job)),
+        None => refusal(Refused::Gone),
+    }
 }
 
-/// A task of the call more, which has its turn at once: which task, and how it ended. -9: there is no such
-/// transaction, or it wants another number of arguments; -12: one of the handles is empty; -14: no room for
-/// another task; then nothing changed.
+/// Gives the lowest ready task a turn, and then the next one, until so many turns were given or none
+/// is ready: how many were given. -12: one of the handles is empty.
+#[unsafe(no_mangle)]
+pub extern "C" fn stm_turns(store: &mut StoreHandle, lender: &mut LenderHandle, most: u32) -> i64
+    ensures { OnBoth store.old.value lender.old.value store.new.value lender.new.value EMPTY result
+        (λ old _ given new _. GivesMost old most given new) }
+{
+    let Some(held) = store.get_mut() else {
+        return i64::from(EMPTY);
+    };
+    let Some(lent) = lender.get_mut() else {
+        return i64::from(EMPTY);
+    };
+    turns(held, lent, most)
+}
+
+fn turns(store: &mut Store, lender: &mut Lender, most: u32) -> i64
+    ensures { GivesMost store.old most result store.new }
+{
+    i64::from(store.turns(lender, most))
+}
+
+/// A task of the call more, which has its turn at once: which task, and how it ended. Where the transaction retries on
+/// the present values, a way of 0 parks the task, and any other makes none and answers 1. -9: there is no such
+/// transaction, or it wants another number of arguments; -12: one of the handles is empty; -14: no room for another
+/// task. Where no task was made nothing changed.
 #[unsafe(no_mangle)]
 pub extern "C" fn stm_call(
     store: &mut StoreHandle,
     lender: &mut LenderHandle,
     tx: u32,
     arguments: &[i64],
-) -> TurnTold
-    ensures { OnBoth store.old.value lender.old.value store.new.value lender.new.value (no_turn EMPTY) result
-        (λ old _ told new _. CallsAny old tx arguments.now told new) }
+    way: u32,
+) -> Answer
+    ensures { OnBoth store.old.value lender.old.value store.new.value lender.new.value nothing_held result
+        (λ old _ answer new _. CallsAny old tx arguments.now way answer new) }
 {
     let Some(held) = store.get_mut() else {
-        return no_turn(EMPTY);
+        return empty();
     };
     let Some(lent) = lender.get_mut() else {
-        return no_turn(EMPTY);
+        return empty();
     };
-    call(held, lent, tx, arguments)
+    call(held, lent, tx, arguments, way)
 }
 
-fn call(store: &mut Store, lender: &mut Lender, tx: u32, arguments: &[i64]) -> TurnTold
-    ensures { CallsAny store.old tx arguments.now result store.new }
+fn call(store: &mut Store, lender: &mut Lender, tx: u32, arguments: &[i64], way: u32) -> Answer
+    ensures { CallsAny store.old tx arguments.now way result store.new }
 {
     if !store.catalogue().is_callable(TxId(tx), arguments) {
-        return no_turn(UNKNOWN);
+        return refusal(Refused::Unknown);
     }
-    called(store.call_lent(lender, TxId(tx), arguments))
-}
-
-/// As `stm_call`; 1, and nothing changed, where the transaction retries on the present values.
-#[unsafe(no_mangle)]
-pub extern "C" fn stm_try_call(
-    store: &mut StoreHandle,
-    lender: &mut LenderHandle,
-    tx: u32,
-    arguments: &[i64],
-) -> TurnTold
-    ensures { OnBoth store.old.value lender.old.value store.new.value lender.new.value (no_turn EMPTY) result
-        (λ old _ told new _. TriesCallAny old tx arguments.now told new) }
-{
-    let Some(held) = store.get_mut() else {
-        return no_turn(EMPTY);
-    };
-    let Some(lent) = lender.get_mut() else {
-        return no_turn(EMPTY);
-    };
-    try_call(held, lent, tx, arguments)
-}
-
-fn try_call(store: &mut Store, lender: &mut Lender, tx: u32, arguments: &[i64]) -> TurnTold
-    ensures { TriesCallAny store.old tx arguments.now result store.new }
-{
-    if !store.catalogue().is_callable(TxId(tx), arguments) {
-        return no_turn(UNKNOWN);
-    }
-    called(store.try_call_lent(lender, TxId(tx), arguments))
+    called(store.call(lender, TxId(tx), arguments, way_of(way)))
 }

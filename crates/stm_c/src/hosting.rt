@@ -4,17 +4,15 @@ ghost use Rattle.std.specs.Prelude.{◌≡◌, ◌≢◌, ◌<◌, ◌≤◌, �
 ghost use Rattle.txn_programs.specs.declared.limits.TheConstants.{MAX_TASKS};
 ghost use Rattle.txn_programs.specs.Listing.{tasks};
 ghost use Rattle.stm_store.specs.Telling.{IsTextOf};
-ghost use Rattle.stm_c.specs.Calls.{Takes, Finishes, ServesReady, Reports, LeavesChecked};
+ghost use Rattle.stm_c.specs.Answers.{nothing_held};
+ghost use Rattle.stm_c.specs.Calls.{BringsAttempt, Reports, LeavesChecked};
 ghost use Rattle.stm_c.specs.Held.{Asked, HoldsSome, On, OnBoth};
 ghost use Rattle.stm_c.specs.Made.{AnswersHire, AnswersOpen, IsHiredBy, IsOpened, IsOpenedOf, IsStillOf, IsWorkerOf};
 ghost use Rattle.stm_c.specs.Made.{LeavesWorkers};
-ghost use Rattle.stm_c.specs.Numbers.{nothing_held, nothing_taken};
 ghost use Rattle.stm_c.specs.Rooms.{Holds, TooShort};
-ghost use Rattle.stm_c.specs.declared.codes.Taken.{Taken};
 
-use crate::codes::{
-    EMPTY, FULL, MEMORY, NO_ROOM, NO_WORKER, SHORT, Taken, Told, brought, empty, job_of, no_job,
-};
+use crate::answers::{Answer, brought, empty};
+use crate::codes::{EMPTY, FULL, MEMORY, NO_ROOM, NO_WORKER, SHORT};
 use crate::program_handle::ProgramHandle;
 use crate::store_handle::StoreHandle;
 use crate::worker_handle::WorkerHandle;
@@ -163,47 +161,14 @@ fn hire(alloc: Global, store: &mut Store, out: &mut WorkerHandle) -> i32
     0
 }
 
-/// The lowest ready task, which is then running, with its ticket, its chapter and its transaction; the
-/// ticket -1 where none is ready, and -12 where the handle is empty.
+/// Brings a worker's ended attempt to the store: how it ended, if all that it read is still so. The worker has none to
+/// bring any more. -11: it had none; -18: the present chapter has no such job; -17: the worker's program says otherwise
+/// of the transaction; 3: the task is not running; 2: what was read is no longer so; -12: one of the handles is empty;
+/// then nothing else changed.
 #[unsafe(no_mangle)]
-pub extern "C" fn stm_take_job(alloc: Global, store: &mut StoreHandle) -> Taken
-    ensures { On store.old.value store.new.value nothing_taken result (λ old taken new. Takes old taken new) }
-{
-    take(alloc, store)
-}
-
-fn take(alloc: Global, store: &mut StoreHandle) -> Taken
-    ensures { On store.old.value store.new.value nothing_taken result (λ old taken new. Takes old taken new) }
-{
-    let Some(held) = store.get_mut() else {
-        return no_job(EMPTY);
-    };
-    taken_from(held)
-}
-
-fn taken_from(store: &mut Store) -> Taken
-    ensures { Takes store.old result store.new }
-{
-    store.law();
-    job_of(store.take())
-}
-
-/// The ticket of the lowest ready task, which is then running, or -1 where none is ready, or -12 where
-/// the handle is empty.
-#[unsafe(no_mangle)]
-pub extern "C" fn stm_take(alloc: Global, store: &mut StoreHandle) -> i64
-    ensures { (taken : Taken) × On store.old.value store.new.value nothing_taken taken
-        (λ old taken new. Takes old taken new) × (result ≡ taken.ticket) }
-{
-    take(alloc, store).ticket
-}
-
-/// Brings a worker's ended attempt to the store. The code -12 where one of the handles is empty; -9, -17,
-/// -18 where the attempt is none of a task of this store, of this program, of this chapter.
-#[unsafe(no_mangle)]
-pub extern "C" fn stm_finish(store: &mut StoreHandle, worker: &mut WorkerHandle) -> Told
+pub extern "C" fn stm_bring(store: &mut StoreHandle, worker: &mut WorkerHandle) -> Answer
     ensures { OnBoth store.old.value worker.old.value store.new.value worker.new.value nothing_held result
-        (λ old before how new after. Finishes old before how new after) }
+        (λ old before answer new after. BringsAttempt old before answer new after) }
 {
     let Some(held) = store.get_mut() else {
         return empty();
@@ -211,37 +176,15 @@ pub extern "C" fn stm_finish(store: &mut StoreHandle, worker: &mut WorkerHandle)
     let Some(hired) = worker.get_mut() else {
         return empty();
     };
-    ended(held, hired)
+    bring(held, hired)
 }
 
-/// The worker's end is brought to the store.
-fn ended(store: &mut Store, worker: &mut Worker) -> Told
-    ensures { Finishes store.old worker.old result store.new worker.new }
+fn bring(store: &mut Store, worker: &mut Worker) -> Answer
+    ensures { BringsAttempt store.old worker.old result store.new worker.new }
 {
-    brought(store.finish_of_any(worker))
-}
-
-/// Gives the lowest ready task a turn, and then the next one, until so many turns were given or none
-/// is ready: how many were given. The worker has no end to bring afterwards. -12: one of the handles
-/// is empty.
-#[unsafe(no_mangle)]
-pub extern "C" fn stm_turns(store: &mut StoreHandle, worker: &mut WorkerHandle, most: u32) -> i64
-    ensures { OnBoth store.old.value worker.old.value store.new.value worker.new.value EMPTY result
-        (λ old before given new after. ServesReady old before most given new after) }
-{
-    let Some(held) = store.get_mut() else {
-        return i64::from(EMPTY);
-    };
-    let Some(lender) = worker.get_mut() else {
-        return i64::from(EMPTY);
-    };
-    turns(held, lender, most)
-}
-
-fn turns(store: &mut Store, worker: &mut Worker, most: u32) -> i64
-    ensures { ServesReady store.old worker.old most result store.new worker.new }
-{
-    i64::from(store.turns(worker, most))
+    store.law();
+    let job = worker.ended();
+    brought(job, store.bring(worker))
 }
 
 /// The base becomes the present, and the journal is empty: 0. -12: the handle is empty.

@@ -2,15 +2,17 @@
 //! `playing`, `exploring`); and a program, stores of it and their workers, for a host that has
 //! threads and a lock of its own (`reading`, `hosting`, `submitting`, `tasks`, `calling`,
 //! `chapters`, `looking`, `trying`). No call starts a thread or takes a lock. What each answers in
-//! numbers stands in `codes`, and in the header for C.
+//! numbers stands in `codes`, and in the header for C; of a task in an `Answer`, of a job in a `Taken`.
 #![tactic(auto)]
 
+mod answers;
 mod calling;
 mod chapters;
 mod checking;
 mod codes;
 mod exploring;
 mod hosting;
+mod jobs;
 mod lender_handle;
 mod looking;
 mod parts;

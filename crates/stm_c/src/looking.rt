@@ -9,11 +9,22 @@ ghost use Rattle.stm_c.specs.Held.{Asked};
 ghost use Rattle.stm_c.specs.Rooms.{Holds, TooShort};
 ghost use Rattle.stm_c.specs.Looking.{counts_in, CellIs, CopiesBy, NoCell, NoValue, ValueIs};
 
-use crate::codes::{Counted, EMPTY, FILE_TOO_LONG, MEMORY, SHORT, UNKNOWN, WORK_LEFT};
+use crate::codes::{EMPTY, FILE_TOO_LONG, MEMORY, SHORT, UNKNOWN, WORK_LEFT};
 use crate::store_handle::StoreHandle;
 use crate::writing::copy;
 use book::Counts;
 use stm_store::{FileFault, ReportFault, Store};
+
+/// How many tasks stand how.
+#[repr(C)]
+#[derive(Clone, Copy)]
+pub struct Counted {
+    pub ready: usize,
+    pub running: usize,
+    pub parked: usize,
+    pub done: usize,
+    pub given_up: usize,
+}
 
 /// How many tasks stand how: 0, and they were written. -12: the handle is empty.
 #[unsafe(no_mangle)]

@@ -1,49 +1,44 @@
 //! A worker, as a handle: its calls take no lock, by one thread at a time.
 
 ghost use Rattle.std.specs.Prelude.{◌≡◌, None};
-ghost use Rattle.stm_c.specs.Calls.{TriesAny, TriesTaken, TriesTask, ObservesAny};
+ghost use Rattle.stm_c.specs.Answers.{nothing_held};
+ghost use Rattle.stm_c.specs.Calls.{ObservesAny, TriesAny};
 ghost use Rattle.stm_c.specs.Held.{On};
-ghost use Rattle.stm_c.specs.Numbers.{nothing_held};
+ghost use Rattle.stm_c.specs.Jobs.{OnJob};
 
-use crate::codes::{EMPTY, Taken, Told, UNKNOWN, empty, observed, tried, unknown};
+use crate::answers::{Answer, empty, observed, refusal};
+use crate::codes::{EMPTY, UNKNOWN, done};
+use crate::jobs::{Taken, job_of};
 use crate::worker_handle::WorkerHandle;
 use std::alloc::Global;
-use stm_store::{Job, Ticket, Worker};
-use txn::limits::MAX_PARAMETERS;
-use txn::{Arguments, TaskId, TxId};
+use stm_store::{Job, Refused, Worker};
+use txn::TxId;
 
-/// Evaluates a job that was taken on one state: 0 it has ended, 2 a read was stale, -6 want of
+/// Evaluates a job that was taken on one state: 0 it has ended, 2 a read was stale, -6 out of
 /// memory, -9 there is no such task or no such transaction, or it wants another number of arguments, -12 the
 /// handle is empty.
 #[unsafe(no_mangle)]
 pub extern "C" fn stm_try_job(worker: &mut WorkerHandle, job: Taken) -> i32
     ensures { On worker.old.value worker.new.value EMPTY result
-        (λ old how new. TriesTaken old job how new) }
+        (λ old how new. OnJob job UNKNOWN how old new (TriesAny old how new)) }
 {
     let Some(held) = worker.get_mut() else {
         return EMPTY;
     };
-    try_taken(held, job)
+    try_told(held, job)
 }
 
-fn try_taken(worker: &mut Worker, job: Taken) -> i32
-    ensures { TriesTaken worker.old job result worker.new }
+fn try_told(worker: &mut Worker, told: Taken) -> i32
+    ensures { OnJob told UNKNOWN result worker.old worker.new (TriesAny worker.old result worker.new) }
 {
-    if job.ticket < 0 || job.count > MAX_PARAMETERS {
-        return UNKNOWN;
+    match job_of(&told) {
+        Some(job) => try_job(worker, job),
+        None => UNKNOWN,
     }
-    let job = Job {
-        ticket: Ticket(job.ticket as u64),
-        chapter: job.chapter,
-        task: TaskId(job.task),
-        tx: TxId(job.tx),
-        arguments: Arguments::of(&job.arguments[..job.count]),
-    };
-    try_job(worker, job)
 }
 
 fn try_job(worker: &mut Worker, job: Job) -> i32
-    ensures { TriesAny worker.old job result worker.new }
+    ensures { TriesAny worker.old result worker.new job }
 {
     if !worker
         .catalogue()
@@ -51,45 +46,13 @@ fn try_job(worker: &mut Worker, job: Job) -> i32
     {
         return UNKNOWN;
     }
-    tried(worker.try_job(job))
-}
-
-/// Evaluates a task of the program, as the first chapter has it, on one state: 0 it has ended, 2 a read
-/// was stale, -6 out of memory, -9 the program has no such task, -12 the handle is empty.
-#[unsafe(no_mangle)]
-pub extern "C" fn stm_try(worker: &mut WorkerHandle, task: u32) -> i32
-    ensures { On worker.old.value worker.new.value EMPTY result (λ old how new. TriesTask old task how new) }
-{
-    let Some(held) = worker.get_mut() else {
-        return EMPTY;
-    };
-    try_task(held, task)
-}
-
-#[tactic(auto, using(txn_programs::proofs::Lawful::few_arguments))]
-fn try_task(worker: &mut Worker, task: u32) -> i32
-    ensures { TriesTask worker.old task result worker.new }
-{
-    let catalogue = worker.catalogue();
-    catalogue.rules();
-    if task as usize >= catalogue.tasks() {
-        return UNKNOWN;
-    }
-    let tx = catalogue.task_tx(TaskId(task));
-    let arguments = Arguments::of(catalogue.task_arguments(TaskId(task)));
-    tried(worker.try_job(Job {
-        ticket: Ticket(u64::from(task)),
-        chapter: 0,
-        task: TaskId(task),
-        tx,
-        arguments,
-    }))
+    done(worker.try_job(job))
 }
 
 /// How a call of the transaction would end on one state. -9: there is no such transaction, or it wants another
 /// number of arguments.
 #[unsafe(no_mangle)]
-pub extern "C" fn stm_observe(worker: &mut WorkerHandle, tx: u32, arguments: &[i64]) -> Told
+pub extern "C" fn stm_observe(worker: &mut WorkerHandle, tx: u32, arguments: &[i64]) -> Answer
     ensures { On worker.old.value worker.new.value nothing_held result
         (λ old how new. ObservesAny old tx arguments.now how new) }
 {
@@ -99,11 +62,11 @@ pub extern "C" fn stm_observe(worker: &mut WorkerHandle, tx: u32, arguments: &[i
     observe(held, tx, arguments)
 }
 
-fn observe(worker: &mut Worker, tx: u32, arguments: &[i64]) -> Told
+fn observe(worker: &mut Worker, tx: u32, arguments: &[i64]) -> Answer
     ensures { ObservesAny worker.old tx arguments.now result worker.new }
 {
     if !worker.catalogue().is_callable(TxId(tx), arguments) {
-        return unknown();
+        return refusal(Refused::Unknown);
     }
     observed(worker.observe(TxId(tx), arguments))
 }

@@ -27,11 +27,11 @@ pub use runner::{
 pub use checker::{Part, Verdict, check};
 // A store that lives as long as its host wishes, with workers and observers.
 pub use stm_store::{
-    Brought, Called, End, Entered, FileFault, Job, Lender, NextFault, Program, ReportFault, Served,
-    Store, Ticket, Tried, Turned, Worker,
+    End, Entered, FileFault, Job, Lender, NextFault, Program, Refused, ReportFault, Store, Ticket,
+    Way, Worker,
 };
 // Calls of a store from any thread.
-pub use stm_service::{Archive, CallFault, Client, Naming, NoArchive, Service};
+pub use stm_service::{Archive, Client, Naming, NoArchive, Service};
 // What stands under a store: cells that are read with no lock, attempts, and the book.
 pub use attempt::{Attempt, Next, Stand};
 pub use book::{Book, Counts, Finish, NotPlain, Serial, Standing};

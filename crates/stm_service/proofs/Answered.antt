@@ -1,5 +1,5 @@
 -- What a turn enters is an answer.
-use Rattle.std.proofs.Common.{◌≡◌, ◌∙◌, inl, inr, ℕ, ◌+◌, ◌*◌, ◌<◌, List, Option, Some, None, length, set, refl, sym, ap, subst, arith}
+use Rattle.std.proofs.Common.{◌≡◌, ◌∙◌, inl, inr, ℕ, ◌+◌, ◌*◌, ◌<◌, List, Some, Result, Ok, Err, length, set, refl, sym, ap, subst, arith}
 use Rattle.std.specs.List.{slice_get}
 use Rattle.std.proofs.lemmas.List.{length-set}
 use Rattle.std.proofs.lemmas.Option.{get_or_from_slice_get, same_Some}
@@ -20,17 +20,18 @@ use Rattle.stm_store.specs.Working.{declaring}
 use Rattle.stm_store.specs.Entering.{Enters}
 use Rattle.stm_store.specs.Asking.{IsJob, TakesJob}
 use Rattle.stm_store.specs.Bringing.{Brings}
-use Rattle.stm_store.specs.Turning.{Ends, ServesJob}
+use Rattle.stm_store.specs.Turning.{Ends, HasTurn}
 use Rattle.stm_store.specs.declared.job.Ticket.{Ticket}
 use Rattle.stm_store.specs.declared.job.Job.{Job}
 use Rattle.stm_store.specs.declared.answers.Entered.{Entered}
 use Rattle.stm_store.specs.declared.answers.End.{End}
 use Rattle.stm_store.specs.declared.answers.End.TheVariants as end
-use Rattle.stm_store.specs.declared.answers.Brought.TheVariants as brought
+use Rattle.stm_store.specs.declared.answers.Refused.{Refused}
 use Rattle.stm_store.specs.declared.worker.Worker.{Worker}
 use Rattle.stm_store.specs.declared.store.Store.{Store}
 use Rattle.stm_service.specs.Answering.{IsAnswer, call_of}
-use Rattle.stm_service.specs.Calling.{HasTurn}
+use Rattle.stm_service.specs.Calling.{MayHaveTurn}
+use Rattle.stm_service.proofs.Refusals.{turn_refused}
 
 -- what declares the same has the same programs
 pub same_program : (a l : Listing) (call : Call) → declaring a ≡ declaring l → call_program a call.tx call.arguments ≡ call_program l call.tx call.arguments
@@ -73,23 +74,24 @@ job_answer l old new job e named declared numbered each is h =
     entered_answer l old.every old.book new.book old.tickets job.ticket job.task (call_of job) e (declared ∙ ap declaring named) numbered each is.ticket is.runs is.given h
 
 -- by a turn
-pub turn_enters : (old new : Store) (job : Job) (r : Option End) (e : Entered) → ServesJob old job r new → r ≡ Some (end.Entered e) → IsJob old job × Enters old.every old.book job.task e new.book
+pub turn_enters : (old new : Store) (job : Job) (r : Result End Refused) (e : Entered) → HasTurn old job r new → r ≡ Ok (end.Entered e) → IsJob old job × Enters old.every old.book job.task e new.book
 turn_enters old new job r e h is =
-    let k : ServesJob old job (Some (end.Entered e)) new = subst (λ (x : Option End). ServesJob old job x new) is h in
+    let k : HasTurn old job (Ok (end.Entered e)) new = subst (λ (x : Result End Refused). HasTurn old job x new) is h in
     (k.0.0, k.2)
 
 -- what came of a turn, or that there was none
-pub turn_told : (old new : Store) (job : Job) (r : Option End) → new.tickets ≡ old.tickets → ServesJob old job r new → HasTurn old job new
-turn_told old new job None same h = (same, inl h.1)
-turn_told old new job (Some how) same h = (same, inr (how, h))
+pub turn_told : (old new : Store) (job : Job) (r : Result End Refused) → new.tickets ≡ old.tickets → HasTurn old job r new → MayHaveTurn old job new
+turn_told old new job (Err why) same h = (same, inl (turn_refused old new job why h))
+turn_told old new job (Ok how) same h = (same, inr (how, h))
 
 -- nothing became of it
-pub no_turn : (old new : Store) (job : Job) → new ≡ old → HasTurn old job new
+pub no_turn : (old new : Store) (job : Job) → new ≡ old → MayHaveTurn old job new
 no_turn old new job same = (ap (λ (s : Store). s.tickets) same, inl (ap (λ (s : Store). s.book) same))
 
 -- by what a worker brought
-pub brought_enters : (old new : Store) (w : Worker) (job : Job) (e : Entered) → w.ended ≡ Some job → Brings old w (brought.Committed e) new → IsJob old job × Enters old.every old.book job.task e new.book
-brought_enters old new w job e ended h =
+pub brought_enters : (old new : Store) (w : Worker) (job : Job) (r : Result End Refused) (e : Entered) → w.ended ≡ Some job → Brings old w r new → r ≡ Ok (end.Entered e) → IsJob old job × Enters old.every old.book job.task e new.book
+brought_enters old new w job r e ended brings is =
+    let h : Brings old w (Ok (end.Entered e)) new = subst (λ (x : Result End Refused). Brings old w x new) is brings in
     let same : h.0 ≡ job = same_Some h.0 job (sym h.1.ended ∙ ended) in
     subst (λ (j : Job). IsJob old j × Enters old.every old.book j.task e new.book) same (h.1.present.0, h.2.1)
 
@@ -104,12 +106,12 @@ ready_lighter ts k at =
     omega (arith, p, ready)
 
 -- a book in which a ready task runs weighs less
-pub taken_lighter : (old new : Store) (job : Job) → TakesJob old (Some job) new → weight_of new.book.tasks < weight_of old.book.tasks
+pub taken_lighter : (old new : Store) (job : Job) → TakesJob old (Ok job) new → weight_of new.book.tasks < weight_of old.book.tasks
 taken_lighter old new job h =
     subst (λ (b : BookView). weight_of b.tasks < weight_of old.book.tasks) (sym h.0.2) (ready_lighter old.book.tasks job.task.0 h.0.0)
 
 -- and also after its turn
-pub turned_lighter : (old mid new : Store) (job : Job) → TakesJob old (Some job) mid → HasTurn mid job new → weight_of new.book.tasks < weight_of old.book.tasks
+pub turned_lighter : (old mid new : Store) (job : Job) → TakesJob old (Ok job) mid → MayHaveTurn mid job new → weight_of new.book.tasks < weight_of old.book.tasks
 turned_lighter old mid new job taken (same, inl e) =
     subst (λ (b : BookView). weight_of b.tasks < weight_of old.book.tasks) (sym e) (taken_lighter old mid job taken)
 turned_lighter old mid new job taken (same, inr h) =
@@ -118,4 +120,4 @@ turned_lighter old mid new job taken (same, inr h) =
     turned : (every : ℕ) (b : BookView) (task : TaskId) (how : End) (d : BookView) → Ends every b task how d → Turn every b task d
     turned every b task (end.Entered e) d h = (serial.Committed e.number, (committed b task, (h.running, h.ends, h.tells.number, refl), h.kept))
     turned every b task end.Parked d h = (serial.Parked, (d, h, refl))
-    turned every b task end.Abandoned d h = (serial.Abandoned, (d, h, refl))
+    turned every b task end.Abandoned d h = (serial.Abandoned, (d, h.0, refl))

@@ -1,6 +1,6 @@
 -- What threads that wait are told, while the history grows.
-use Rattle.std.proofs.Common.{◌≡◌, ◌∙◌, ◌⊎◌, inl, inr, Bool, true, false, ℕ, ℤ, ◌+◌, ◌-◌, ◌<◌, ◌≤◌, List, [], ◌∷◌, ◌++◌, Option, Some, None, Result, Ok, Err, IfOk, OnOk, OnErr, length, refl, sym, ap, subst, arith, length-append}
-use Rattle.std.specs.List.{All, IsAmong, slice_get}
+use Rattle.std.proofs.Common.{◌≡◌, ◌∙◌, ◌⊎◌, inl, inr, Bool, true, ℕ, ℤ, ◌+◌, ◌-◌, ◌<◌, ◌≤◌, List, [], ◌∷◌, ◌++◌, Option, Result, Ok, Err, IfOk, OnOk, OnErr, is_ok, length, refl, sym, ap, subst, arith, length-append}
+use Rattle.std.specs.List.{All, IsAmong}
 use Rattle.std.specs.Map.{values_of, set_value, remove_entry}
 use Rattle.std.specs.BTreeMap.{insert_entry}
 use Rattle.std.specs.declared.cmp.Ordering.{Ordering}
@@ -13,28 +13,24 @@ use Rattle.txn_programs.specs.declared.ast.Outcome.{Outcome}
 use Rattle.txn_programs.specs.declared.arguments.Call.{Call}
 use Rattle.txn_programs.specs.Meaning.{State, outcome, after}
 use Rattle.txn_programs.specs.Standing.{Upholds}
-use Rattle.txn_programs.specs.Listing.{Listing, tasks, task_arguments, call_program, task_program}
+use Rattle.txn_programs.specs.Listing.{Listing, call_program, task_program}
 use Rattle.txn_words.specs.Words.{state_of, last_state, StartsWith}
 use Rattle.txn_words.proofs.Words.{starts_whole, seen_state, seen_shorter, last_pushed}
-use Rattle.book.specs.View.{BookView, IsRunning, stands}
-use Rattle.book.specs.Tasks.{GivenUp}
+use Rattle.book.specs.View.{BookView}
 use Rattle.book.specs.LawfulBook.{LawfulBook}
 use Rattle.book.specs.Chapters.{entered_in_all}
-use Rattle.stm_store.specs.Tickets.{TicketsView, HasTicket}
-use Rattle.stm_store.specs.Asking.{IsJob, Submits, TakesJob, Withdraws, GivesUp}
+use Rattle.stm_store.specs.Asking.{IsJob, Submits, TakesJob, GivesUp}
 use Rattle.stm_store.specs.Bringing.{Brings}
 use Rattle.stm_store.specs.Entering.{Enters}
 use Rattle.stm_store.specs.Working.{declaring}
-use Rattle.stm_store.specs.Turning.{Ends, ServesJob, Calls, TriesCall, called_book}
+use Rattle.stm_store.specs.Turning.{Ends, HasTurn, Calls, called_book}
 use Rattle.stm_store.specs.declared.job.Ticket.{Ticket}
 use Rattle.stm_store.specs.declared.job.Job.{Job}
 use Rattle.stm_store.specs.declared.answers.Entered.{Entered}
 use Rattle.stm_store.specs.declared.answers.End.{End}
 use Rattle.stm_store.specs.declared.answers.End.TheVariants as end
-use Rattle.stm_store.specs.declared.answers.Called.{Called}
-use Rattle.stm_store.specs.declared.answers.Called.TheVariants as called
-use Rattle.stm_store.specs.declared.answers.Brought.{Brought}
-use Rattle.stm_store.specs.declared.answers.Brought.TheVariants as brought
+use Rattle.stm_store.specs.declared.answers.Refused.{Refused}
+use Rattle.stm_store.specs.declared.answers.Way.{Way}
 use Rattle.stm_store.specs.declared.worker.Worker.{Worker}
 use Rattle.stm_store.specs.declared.store.Store.{Store}
 use Rattle.stm_service.specs.Answering.{call_of}
@@ -44,6 +40,7 @@ use Rattle.stm_service.specs.declared.seat.Told.{Told}
 use Rattle.stm_service.specs.declared.seat.Told.TheVariants as told
 use Rattle.stm_service.proofs.Asked.{call_with}
 use Rattle.stm_service.proofs.Seen.{enters_history, entered_on}
+use Rattle.stm_service.proofs.Refusals.{submit_refused, take_refused, turn_refused, give_up_refused, bring_refused}
 
 -- an entry stays where it is
 pub entry_on : (l : Listing) (call : Call) (o : Outcome) (n : ℕ) (h h' : List State) → StartsWith h' h → EntryAt l call o n h → EntryAt l call o n h'
@@ -141,61 +138,39 @@ starts_same h h' same = subst (λ (s : List State). StartsWith s h) (sym same) (
 ends_starts : (every : ℕ) (b new : BookView) (task : TaskId) (how : End) → Ends every b task how new → StartsWith new.history b.history
 ends_starts every b new task (end.Entered e) h = (after (task_program b.catalogue task) b.present.state ∷ [], enters_history every b new task e h)
 ends_starts every b new task end.Parked h = starts_same b.history new.history (ap (λ (x : BookView). x.history) h.2.2)
-ends_starts every b new task end.Abandoned h = starts_same b.history new.history (ap (λ (x : BookView). x.history) h.1)
+ends_starts every b new task end.Abandoned h = starts_same b.history new.history (ap (λ (x : BookView). x.history) h.0.1)
 
-pub job_starts : (old new : Store) (job : Job) (r : Option End) → ServesJob old job r new → StartsWith new.book.history old.book.history
-job_starts old new job None h = starts_same old.book.history new.book.history (ap (λ (x : BookView). x.history) h.1)
-job_starts old new job (Some how) h = ends_starts old.every old.book new.book job.task how h.2
+pub job_starts : (old new : Store) (job : Job) (r : Result End Refused) → HasTurn old job r new → StartsWith new.book.history old.book.history
+job_starts old new job (Err why) h = starts_same old.book.history new.book.history (ap (λ (x : BookView). x.history) (turn_refused old new job why h))
+job_starts old new job (Ok how) h = ends_starts old.every old.book new.book job.task how h.2
 
 -- and with what a worker brings
-pub brings_starts : (old new : Store) (w : Worker) (how : Brought) → Brings old w how new → StartsWith new.book.history old.book.history
-brings_starts old new w brought.NotEnded h = starts_same old.book.history new.book.history (ap (λ (x : BookView). x.history) h.1)
-brings_starts old new w brought.OtherChapter h = starts_same old.book.history new.book.history (ap (λ (x : BookView). x.history) h.3)
-brings_starts old new w brought.OtherTask h = starts_same old.book.history new.book.history (ap (λ (x : BookView). x.history) h.4)
-brings_starts old new w brought.OtherProgram h = starts_same old.book.history new.book.history (ap (λ (x : BookView). x.history) h.4)
-brings_starts old new w brought.NotRunning h = starts_same old.book.history new.book.history (ap (λ (x : BookView). x.history) h.2.1)
-brings_starts old new w brought.Stale h = starts_same old.book.history new.book.history (ap (λ (x : BookView). x.history) h.2.2)
-brings_starts old new w brought.Parked h = starts_same old.book.history new.book.history (ap (λ (x : BookView). x.history) h.2.3)
-brings_starts old new w (brought.Committed e) h = ends_starts old.every old.book new.book h.0.task (end.Entered e) h.2.1
+pub brings_starts : (old new : Store) (w : Worker) (r : Result End Refused) → Brings old w r new → StartsWith new.book.history old.book.history
+brings_starts old new w (Err why) h = starts_same old.book.history new.book.history (ap (λ (x : BookView). x.history) (bring_refused old new w why h))
+brings_starts old new w (Ok end.Parked) h = starts_same old.book.history new.book.history (ap (λ (x : BookView). x.history) h.2.3)
+brings_starts old new w (Ok end.Abandoned) h = absurd h.2
+brings_starts old new w (Ok (end.Entered e)) h = ends_starts old.every old.book new.book h.0.task (end.Entered e) h.2.1
 
-pub take_same : (old new : Store) (r : Option Job) → TakesJob old r new → new.book.history ≡ old.book.history
-take_same old new None h = ap (λ (x : BookView). x.history) h.1
-take_same old new (Some job) h = ap (λ (x : BookView). x.history) h.0.2
+pub take_same : (old new : Store) (r : Result Job Refused) → TakesJob old r new → new.book.history ≡ old.book.history
+take_same old new (Err why) h = ap (λ (x : BookView). x.history) (take_refused old new why h)
+take_same old new (Ok job) h = ap (λ (x : BookView). x.history) h.0.2
 
-pub withdraw_same : (old new : Store) (ticket : Ticket) (r : Bool) → Withdraws old ticket r new → new.book.history ≡ old.book.history
-withdraw_same old new ticket true h = ap (λ (x : BookView). x.history) h.3
-withdraw_same old new ticket false h = ap (λ (x : BookView). x.history) h.1
+pub give_up_same : (old new : Store) (ticket : Ticket) (r : Result (Unit {0}) Refused) → GivesUp old ticket r new → new.book.history ≡ old.book.history
+give_up_same old new ticket (Ok done) h = ap (λ (x : BookView). x.history) h.3
+give_up_same old new ticket (Err why) h = ap (λ (x : BookView). x.history) (give_up_refused old new ticket why h)
 
-pub give_up_same : (old new : Store) (ticket : Ticket) (r : Bool) → GivesUp old ticket r new → new.book.history ≡ old.book.history
-give_up_same old new ticket true h = ap (λ (x : BookView). x.history) h.3
-give_up_same old new ticket false h = ap (λ (x : BookView). x.history) h.1
+-- what was given up had not ended
+pub given_up_withdrawn : (old new : Store) (ticket : Ticket) (r : Result (Unit {0}) Refused) → GivesUp old ticket r new → is_ok r ≡ true → IsWithdrawn old new ticket
+given_up_withdrawn old new ticket (Ok done) h is = record { task = h.0; own = h.1; unended = h.2; withdrawn = h.3 }
+given_up_withdrawn old new ticket (Err why) h is = absurd (cc)
 
-pub withdrawn_waiting : (old new : Store) (ticket : Ticket) → Withdraws old ticket true new → IsWithdrawn old new ticket
-withdrawn_waiting old new ticket h = record { task = h.0; own = h.1; unended = inl h.2; withdrawn = h.3 }
+pub submit_same : (old new : Store) (tx : TxId) (arguments : List ℤ) (r : Result Ticket Refused) → Submits old tx arguments r new → new.book.history ≡ old.book.history
+submit_same old new tx arguments (Err why) h = ap (λ (x : BookView). x.history) (submit_refused old new tx arguments why h).0
+submit_same old new tx arguments (Ok ticket) h = ap (λ (x : BookView). x.history) h.3
 
--- what did not wait was running
-pub withdrawn_running : (old mid new : Store) (ticket : Ticket) → mid.book ≡ old.book → mid.tickets ≡ old.tickets → GivesUp mid ticket true new → IsWithdrawn old new ticket
-withdrawn_running old mid new ticket book tickets h =
-    record {
-      task = h.0;
-      own = subst (λ (t : TicketsView). HasTicket t h.0 ticket) tickets h.1;
-      unended = inr (subst (λ (b : BookView). IsRunning b h.0) book h.2);
-      withdrawn = h.3 ∙ ap (λ (b : BookView). stands b h.0 GivenUp) book;
-    }
-
-pub submit_same : (old new : Store) (tx : TxId) (arguments : List ℤ) (r : Option Ticket) → Submits old tx arguments r new → new.book.history ≡ old.book.history
-submit_same old new tx arguments None h = ap (λ (x : BookView). x.history) h.1.0
-submit_same old new tx arguments (Some ticket) h = ap (λ (x : BookView). x.history) h.3
-
-pub call_starts : (old new : Store) (call : Call) (r : Called) → Calls old call.tx call.arguments r new → StartsWith new.book.history old.book.history
-call_starts old new call called.Retries h = absurd h
-call_starts old new call called.NoRoom h = starts_same old.book.history new.book.history (ap (λ (x : BookView). x.history) h.1.0)
-call_starts old new call (called.Ran t) h = ends_starts old.every (called_book old.book call.tx call.arguments t.job.task) new.book t.job.task t.end h.ends
-
-pub try_starts : (old new : Store) (call : Call) (r : Called) → TriesCall old call.tx call.arguments r new → StartsWith new.book.history old.book.history
-try_starts old new call called.Retries h = starts_same old.book.history new.book.history (ap (λ (x : BookView). x.history) h.1.0)
-try_starts old new call called.NoRoom h = starts_same old.book.history new.book.history (ap (λ (x : BookView). x.history) h.1.0)
-try_starts old new call (called.Ran t) h = ends_starts old.every (called_book old.book call.tx call.arguments t.job.task) new.book t.job.task t.end h.0.ends
+pub call_starts : (way : Way) (old new : Store) (call : Call) (r : Result (Job × End) Refused) → Calls way old call.tx call.arguments r new → StartsWith new.book.history old.book.history
+call_starts way old new call (Err why) h = starts_same old.book.history new.book.history (ap (λ (x : BookView). x.history) h.1.0)
+call_starts way old new call (Ok (job, how)) h = ends_starts old.every (called_book old.book call.tx call.arguments job.task) new.book job.task how h.0.ends
 
 -- the task of a job, which was entered
 pub job_entered : (l : Listing) (old new : Store) (job : Job) (e : Entered) → old.catalogue.now ≡ l → declaring old.book.catalogue ≡ declaring old.catalogue.now → LawfulBook new.book → IsJob old job → Enters old.every old.book job.task e new.book

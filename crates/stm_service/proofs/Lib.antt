@@ -1,3 +1,4 @@
+mod Refusals
 mod Answered
 mod Begun
 mod Pages

@@ -1,5 +1,5 @@
 -- A call that was entered, as a client sees it.
-use Rattle.std.proofs.Common.{◌≡◌, ◌∙◌, ℕ, ℤ, ◌+◌, ◌-◌, Bool, true, false, if◌then◌else◌, List, [], ◌∷◌, ◌++◌, Some, length, refl, sym, ap, subst, arith, length-append}
+use Rattle.std.proofs.Common.{◌≡◌, ◌∙◌, ℕ, ℤ, ◌+◌, ◌-◌, Bool, true, false, if◌then◌else◌, List, [], ◌∷◌, ◌++◌, Some, Result, Ok, Err, IfSome, length, refl, sym, ap, subst, arith, length-append}
 use Rattle.std.specs.List.{slice_get}
 use Rattle.std.proofs.lemmas.Option.{get_or_from_slice_get}
 use Rattle.std.proofs.Math.Logic.{∥∥₁_map}
@@ -15,27 +15,27 @@ use Rattle.txn_words.specs.Words.{state_of, last_state, StartsWith}
 use Rattle.txn_words.proofs.Words.{starts_on, seen_state, seen_shorter, last_pushed}
 use Rattle.cells.specs.Passing.{Passing, MeetsBy}
 use Rattle.book.specs.View.{BookView, committed, checkpointed}
-use Rattle.book.specs.LawfulBook.{BookFits}
 use Rattle.book.specs.Turns.{is_due}
 use Rattle.book.specs.declared.task.Serial.TheVariants as serial
 use Rattle.stm_store.specs.Working.{declaring}
 use Rattle.stm_store.specs.Entering.{Enters}
-use Rattle.stm_store.specs.Turning.{Ends, Runs, called_book}
+use Rattle.stm_store.specs.Turning.{Calls, Ends, RefusesCall, called_book}
 use Rattle.stm_store.specs.declared.job.Ticket.{Ticket}
 use Rattle.stm_store.specs.declared.answers.Entered.{Entered}
 use Rattle.stm_store.specs.declared.answers.End.{End}
 use Rattle.stm_store.specs.declared.answers.End.TheVariants as end
-use Rattle.stm_store.specs.declared.answers.Turned.{Turned}
+use Rattle.stm_store.specs.declared.answers.Refused.{Refused}
+use Rattle.stm_store.specs.declared.answers.Refused.TheVariants as refused
+use Rattle.stm_store.specs.declared.answers.Way.{Way}
+use Rattle.stm_store.specs.declared.job.Job.{Job}
 use Rattle.stm_store.specs.declared.store.Store.{Store}
 use Rattle.stm_service.specs.Answering.{IsAnswer, IsAnswered, call_of}
 use Rattle.stm_service.specs.Calling.{Begins, begun_by}
 use Rattle.stm_service.specs.Seeing.{IsEnteredOn, IsSeen}
-use Rattle.stm_service.specs.declared.answer.CallFault.{CallFault}
-use Rattle.stm_service.specs.declared.answer.CallFault.TheVariants as fault
 use Rattle.stm_service.specs.declared.calls.Begun.{Begun}
 use Rattle.stm_service.specs.declared.calls.Begun.TheVariants as begun
 use Rattle.stm_service.proofs.Answered.{same_program, same_upheld}
-use Rattle.stm_service.proofs.Begun.{IsCalled, is_called}
+use Rattle.stm_service.proofs.Begun.{IsCalled, Keeps, is_called}
 use Rattle.stm_service.proofs.Asked.{answered}
 
 committed_history : (b : BookView) (task : TaskId) → (committed b task).history ≡ b.history ++ after (task_program b.catalogue task) b.present.state ∷ []
@@ -73,20 +73,37 @@ over_same x o e = cc
 not_waits : (ticket : Ticket) (call : Call) (o : Outcome) → begun.Waits ticket call ≡ begun.Over o → ⊥
 not_waits ticket call o e = cc
 
-not_refused : (why : CallFault) (o : Outcome) → begun.Refused why ≡ begun.Over o → ⊥
+not_refused : (why : Refused) (o : Outcome) → begun.Refused why ≡ begun.Over o → ⊥
 not_refused why o e = cc
 
-entered_so : (l : Listing) (old new : Store) (call : Call) (t : Turned) (how : End) (o : Outcome) → IsCalled l old new call t → Ends old.every (called_book old.book call.tx call.arguments t.job.task) t.job.task how new.book → begun_by t.job how ≡ begun.Over o → IsEnteredOn l call o old.book.history new.book.history
-entered_so l old new call t (end.Entered e) o c h is =
-    subst (λ (x : Outcome). IsEnteredOn l call x old.book.history new.book.history) (over_same e.outcome o is)
-    (entered_on l old.every (called_book old.book call.tx call.arguments t.job.task) new.book t.job.task call e c.declared c.runs c.given h)
-entered_so l old new call t end.Parked o c h is = absurd (not_waits t.job.ticket (call_of t.job) o is)
-entered_so l old new call t end.Abandoned o c h is = absurd (not_refused fault.Memory o is)
+entered_so : (l : Listing) (old new : Store) (call : Call) (job : Job) (how : End) → IsCalled l old new call job → Ends old.every (called_book old.book call.tx call.arguments job.task) job.task how new.book
+    → IfSome (begun_by (Ok (job, how))) (λ b. (o : Outcome) → b ≡ begun.Over o → ∥ IsEnteredOn l call o old.book.history new.book.history ∥₁)
+entered_so l old new call job (end.Entered e) c h = λ o is.
+    subst (λ (x : Outcome). ∥ IsEnteredOn l call x old.book.history new.book.history ∥₁) (over_same e.outcome o is)
+    ∣ entered_on l old.every (called_book old.book call.tx call.arguments job.task) new.book job.task call e c.declared c.runs c.given h ∣₁
+entered_so l old new call job end.Parked c h = λ o is. absurd (not_waits job.ticket (call_of job) o is)
+entered_so l old new call job end.Abandoned c h = λ o is. absurd (not_refused refused.Memory o is)
 
--- a call whose task had its turn
-pub ran_entered : (l : Listing) (old new : Store) (call : Call) (t : Turned) (o : Outcome) → old.catalogue.now ≡ l → declaring old.book.catalogue ≡ declaring old.catalogue.now → BookFits old.book → length old.tickets.held ≡ length old.book.tasks → Runs old call.tx call.arguments t new → begun_by t.job t.end ≡ begun.Over o → IsEnteredOn l call o old.book.history new.book.history
-ran_entered l old new call t o named declared fits each h is =
-    entered_so l old new call t t.end o (is_called l old new call t named declared fits each h) h.ends is
+refused_entered : (l : Listing) (way : Way) (old new : Store) (call : Call) (why : Refused) → RefusesCall way old call.tx call.arguments why
+    → IfSome (begun_by (Err why)) (λ b. (o : Outcome) → b ≡ begun.Over o → ∥ IsEnteredOn l call o old.book.history new.book.history ∥₁)
+refused_entered l way old new call refused.Unknown h = absurd h
+refused_entered l way old new call refused.Gone h = absurd h
+refused_entered l way old new call refused.NotReady h = absurd h
+refused_entered l way old new call refused.NotRunning h = absurd h
+refused_entered l way old new call refused.NotEnded h = absurd h
+refused_entered l way old new call refused.OtherProgram h = absurd h
+refused_entered l way old new call refused.Stale h = absurd h
+refused_entered l way old new call refused.NoRoom h = tt
+refused_entered l way old new call refused.Retries h = λ o is. absurd (not_refused refused.Retries o is)
+refused_entered l way old new call refused.Memory h = absurd h
+refused_entered l way old new call refused.Closed h = absurd h
+refused_entered l way old new call refused.TimedOut h = absurd h
+
+-- whatever the store answered
+pub called_entered : (l : Listing) (way : Way) (old new : Store) (call : Call) (r : Result (Job × End) Refused) → Keeps l old → Calls way old call.tx call.arguments r new
+    → IfSome (begun_by r) (λ b. (o : Outcome) → b ≡ begun.Over o → ∥ IsEnteredOn l call o old.book.history new.book.history ∥₁)
+called_entered l way old new call (Err why) k h = refused_entered l way old new call why h.0
+called_entered l way old new call (Ok (job, how)) k h = entered_so l old new call job how (is_called l old new call job how k h.0) h.0.ends
 
 -- what a client sees that met the book before and behind it
 pub met_seen : (l : Listing) (call : Call) (o : Outcome) (p q r : Passing) (g h : List State) → MeetsBy p q g → MeetsBy q r h → IsEnteredOn l call o g h → IsSeen l call.tx call.arguments o p.seen r.seen

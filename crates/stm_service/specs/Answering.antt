@@ -1,4 +1,4 @@
--- What an answer is.
+-- What an answer is, and for which reasons there is none.
 use Rattle.std.specs.Prelude.{◌≡◌, ◌≢◌, ℤ, List, length}
 use Rattle.txn_programs.specs.declared.ast.TaskId.{TaskId}
 use Rattle.txn_programs.specs.declared.ast.TxId.{TxId}
@@ -14,6 +14,8 @@ use Rattle.stm_store.specs.Tickets.{TicketsView, AreTickets, HasTicket}
 use Rattle.stm_store.specs.Working.{declaring}
 use Rattle.stm_store.specs.declared.job.Ticket.{Ticket}
 use Rattle.stm_store.specs.declared.job.Job.{Job}
+use Rattle.stm_store.specs.declared.answers.Refused.{Refused}
+use Rattle.stm_store.specs.declared.answers.Refused.TheVariants as refused
 
 -- the call that the task of a job makes
 abbrev pub call_of : Job → Call
@@ -44,3 +46,13 @@ pub record IsAnswer (l : Listing) (ticket : Ticket) (call : Call) (o : Outcome) 
 -- the same of a task of one's own, whichever ticket it has
 abbrev pub IsAnswered : Listing → TxId → List ℤ → Outcome → Type 0
 IsAnswered l tx arguments o = ∥ ((ticket : Ticket) × IsAnswer l ticket (record { tx = tx; arguments = arguments }) o) ∥₁
+
+-- why a call has no outcome: it is told nothing that a store says of tasks that are asked for and of workers
+abbrev pub IsOfCall : Refused → Type 0
+IsOfCall why =
+    (why ≢ refused.Gone)
+    × (why ≢ refused.NotReady)
+    × (why ≢ refused.NotRunning)
+    × (why ≢ refused.NotEnded)
+    × (why ≢ refused.OtherProgram)
+    × (why ≢ refused.Stale)

@@ -1,10 +1,11 @@
 -- What calls leave of the store behind a service's lock.
-use Rattle.std.specs.Prelude.{◌≡◌, ◌≢◌, ◌⊎◌, ℕ, Bool, true, Option, Some, None, slice_get, All}
+use Rattle.std.specs.Prelude.{◌≡◌, ◌≢◌, ◌⊎◌, ℕ, Bool, true, Option, Some, None, Result, Ok, Err, slice_get, All}
 use Rattle.txn_programs.specs.declared.ast.TaskId.{TaskId}
 use Rattle.txn_programs.specs.declared.arguments.Call.{Call}
 use Rattle.txn_programs.specs.declared.ast.Outcome.TheVariants.{Retries}
 use Rattle.txn_programs.specs.Meaning.{outcome}
 use Rattle.txn_programs.specs.Listing.{Listing, IsCallable, tasks, task_arguments, call_program}
+use Rattle.attempt.specs.Room.{TakesMemory}
 use Rattle.book.specs.View.{IsRunning, stands}
 use Rattle.book.specs.Tasks.{Ready, GivenUp}
 use Rattle.book.specs.Table.{IsParked, IsWaiting}
@@ -12,20 +13,20 @@ use Rattle.book.specs.Recorded.{IsReady}
 use Rattle.book.specs.Carrying.{stays}
 use Rattle.book.specs.Chapters.{chapter_of}
 use Rattle.stm_store.specs.Tickets.{HasTicket, kept_tickets}
-use Rattle.stm_store.specs.Asking.{IsFull, IsUnchanged, Withdraws}
-use Rattle.stm_store.specs.Turning.{ServesJob}
+use Rattle.stm_store.specs.Asking.{IsFull, IsUnchanged, GivesUp}
+use Rattle.stm_store.specs.Turning.{HasTurn}
 use Rattle.stm_store.specs.declared.job.Ticket.{Ticket}
 use Rattle.stm_store.specs.declared.job.Job.{Job}
 use Rattle.stm_store.specs.declared.answers.End.{End}
 use Rattle.stm_store.specs.declared.answers.End.TheVariants as end
+use Rattle.stm_store.specs.declared.answers.Refused.{Refused}
+use Rattle.stm_store.specs.declared.answers.Refused.TheVariants as refused
+use Rattle.stm_store.specs.declared.answers.Way.{Way}
+use Rattle.stm_store.specs.declared.answers.Way.TheVariants as way
 use Rattle.stm_store.specs.declared.store.Store.{Store}
-use Rattle.stm_service.specs.Answering.{IsAnswer, call_of}
-use Rattle.stm_service.specs.declared.answer.CallFault.{CallFault}
-use Rattle.stm_service.specs.declared.answer.CallFault.TheVariants as fault
+use Rattle.stm_service.specs.Answering.{IsAnswer, IsOfCall, call_of}
 use Rattle.stm_service.specs.declared.calls.Begun.{Begun}
 use Rattle.stm_service.specs.declared.calls.Begun.TheVariants as begun
-use Rattle.stm_service.specs.declared.calls.Way.{Way}
-use Rattle.stm_service.specs.declared.calls.Way.TheVariants as way
 use Rattle.stm_service.specs.declared.chapters.Page.{Page}
 use Rattle.stm_service.specs.declared.chapters.Page.TheVariants as page
 
@@ -64,9 +65,9 @@ IsSubmitted old call (Some ticket) new =
     (ticket ≡ next_ticket old) × IsReadyTask new ticket call × (new.book.history ≡ old.book.history)
 
 -- the job's task had its turn, or none, and no task is another one
-abbrev pub HasTurn : Store → Job → Store → Type 0
-HasTurn old job new =
-    (new.tickets ≡ old.tickets) × ((new.book ≡ old.book) ⊎ ((how : End) × ServesJob old job (Some how) new))
+abbrev pub MayHaveTurn : Store → Job → Store → Type 0
+MayHaveTurn old job new =
+    (new.tickets ≡ old.tickets) × ((new.book ≡ old.book) ⊎ ((how : End) × HasTurn old job (Ok how) new))
 
 -- the task with the ticket is given up: it is entered nowhere, and never will be
 pub record IsGivenUp (s : Store) (ticket : Ticket) : Type 0 where
@@ -81,9 +82,9 @@ pub record IsWithdrawn (old new : Store) (ticket : Ticket) : Type 0 where
   pub unended : IsWaiting (slice_get old.book.tasks task.0) ⊎ IsRunning old.book task
   pub withdrawn : new.book ≡ stands old.book task GivenUp
 
--- where the task with the ticket waited, it is given up
+-- where the task with the ticket had not ended, it is given up
 abbrev pub IsLeft : Store → Ticket → Store → Type 0
-IsLeft old ticket new = (waited : Bool) × Withdraws old ticket waited new
+IsLeft old ticket new = (done : Result (Unit {0}) Refused) × GivesUp old ticket done new
 
 -- there is no room for a task more, and another chapter would have none, since each task would come over to it
 pub record IsFullOfTasks (s : Store) : Type 0 where
@@ -91,14 +92,14 @@ pub record IsFullOfTasks (s : Store) : Type 0 where
   pub each : All (λ t. stays t ≡ true) s.book.tasks
 
 -- a call has no outcome; the ticket is the one that its task gets
-abbrev pub Refuses : Listing → Bool → Ticket → Call → CallFault → Store → Type 0
-Refuses l closed ticket call fault.Memory new = IsGivenUp new ticket
-Refuses l closed ticket call fault.Closed new = IsStillToGive ticket new × (closed ≡ true)
-Refuses l closed ticket call fault.NoRoom new = IsStillToGive ticket new × IsFullOfTasks new
-Refuses l closed ticket call fault.Unknown new = IsStillToGive ticket new × (IsCallable l call.tx call.arguments → ⊥)
-Refuses l closed ticket call fault.Retries new =
+abbrev pub Refuses : Listing → Bool → Ticket → Call → Refused → Store → Type 0
+Refuses l closed ticket call refused.Memory new = IsGivenUp new ticket × TakesMemory l call.tx
+Refuses l closed ticket call refused.Closed new = IsStillToGive ticket new × (closed ≡ true)
+Refuses l closed ticket call refused.NoRoom new = IsStillToGive ticket new × IsFullOfTasks new
+Refuses l closed ticket call refused.Unknown new = IsStillToGive ticket new × (IsCallable l call.tx call.arguments → ⊥)
+Refuses l closed ticket call refused.Retries new =
     IsStillToGive ticket new × (outcome (call_program l call.tx call.arguments) new.book.present.state ≡ Retries)
-Refuses l closed ticket call fault.TimedOut new = ⊥
+Refuses l closed ticket call _ new = ⊥
 
 -- what came of a call, in a service of the program that is closed or not
 abbrev pub Begins : Listing → Bool → Ticket → Call → Begun → Store → Type 0
@@ -110,14 +111,20 @@ Begins l closed ticket call (begun.Refused why) new = Refuses l closed ticket ca
 
 -- a call that may wait is not refused since it retries, and one that only tries does not wait
 abbrev pub IsOfWay : Way → Begun → Type 0
-IsOfWay way.Waits b = b ≢ begun.Refused fault.Retries
+IsOfWay way.Waits b = b ≢ begun.Refused refused.Retries
 IsOfWay way.Tries b = (ticket : Ticket) → (call : Call) → b ≢ begun.Waits ticket call
 
--- what came of the turn of a job's task
-abbrev pub begun_by : Job → End → Begun
-begun_by job (end.Entered e) = begun.Over e.outcome
-begun_by job end.Parked = begun.Waits job.ticket (call_of job)
-begun_by job end.Abandoned = begun.Refused fault.Memory
+-- a call that is refused at once is refused for a reason of calls, and not since its time is up
+abbrev pub RefusesAtOnce : Begun → Type 0
+RefusesAtOnce b = (why : Refused) → b ≡ begun.Refused why → IsOfCall why × (why ≢ refused.TimedOut)
+
+-- what came of a call, by what its store answered; nothing where there is no room
+abbrev pub begun_by : Result (Job × End) Refused → Option Begun
+begun_by (Ok (job, end.Entered e)) = Some (begun.Over e.outcome)
+begun_by (Ok (job, end.Parked)) = Some (begun.Waits job.ticket (call_of job))
+begun_by (Ok (job, end.Abandoned)) = Some (begun.Refused refused.Memory)
+begun_by (Err refused.NoRoom) = None
+begun_by (Err why) = Some (begun.Refused why)
 
 -- the next chapter begins; or each task would come over to it; or the host did not keep the present one
 abbrev pub TurnsPage : Store → Page → Store → Type 0

@@ -1,4 +1,4 @@
-//! What a call answers, and by which name a lock knows its program.
+//! By which name a lock knows its program.
 
 ghost use Rattle.std.specs.Prelude.{[], true};
 ghost use Rattle.txn_programs.specs.Listing.{Listing};
@@ -22,21 +22,4 @@ impl Naming for Brand {
       variables = 0;
       are_read = true;
     } };
-}
-
-/// Why a call has no outcome. It is entered nowhere, and never will be.
-#[derive(Clone, Copy, Debug, PartialEq, Eq)]
-pub enum CallFault {
-    /// A growth was refused: a task of the call was given up.
-    Memory,
-    /// The service is closed.
-    Closed,
-    /// Each task that there is room for still waits; or the host could not keep the chapter that had to end.
-    NoRoom,
-    /// The program has no such transaction, or it has not as many parameters as there are arguments.
-    Unknown,
-    /// The transaction retries on the present values, and was not submitted.
-    Retries,
-    /// The time of the call is up.
-    TimedOut,
 }

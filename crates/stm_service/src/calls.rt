@@ -6,17 +6,16 @@ ghost use Rattle.txn_programs.specs.declared.ast.Outcome.{Outcome};
 ghost use Rattle.book.specs.Carrying.{stays};
 ghost use Rattle.stm_store.specs.Asking.{IsFull, IsUnchanged};
 ghost use Rattle.stm_service.specs.Answering.{call_of};
-ghost use Rattle.stm_service.specs.Calling.{Begins, IsOfWay, IsServed, begun_by, next_ticket};
+ghost use Rattle.stm_service.specs.Calling.{Begins, IsOfWay, IsServed, RefusesAtOnce, begun_by, next_ticket};
 ghost use Rattle.stm_service.specs.Seeing.{IsEnteredOn};
-ghost use Rattle.stm_service.specs.declared.answer.CallFault.TheVariants as CallFault;
+ghost use Rattle.stm_store.specs.declared.answers.Refused.TheVariants as Refused;
 ghost use Rattle.stm_service.specs.declared.calls.Begun.TheVariants as Begun;
-ghost use Rattle.stm_service.specs.declared.calls.Way.TheVariants as Way;
 
-use crate::answer::{CallFault, Naming};
+use crate::answer::Naming;
 use crate::archive::Archive;
 use crate::chapters::Page;
 use crate::desk::Desk;
-use stm_store::{Called, End, Job, Ticket, Turned};
+use stm_store::{End, Job, Refused, Ticket, Way};
 use txn::{Arguments, Call, Outcome, TxId};
 
 /// What came of a call at once.
@@ -30,15 +29,7 @@ pub(crate) enum Begun {
     Runs(Ticket, Call),
     /// There was no room, and the chapter could not end, since the host did not keep it.
     NotKept,
-    Refused(CallFault),
-}
-
-/// Whether a call may wait for its task.
-#[derive(Clone, Copy)]
-pub(crate) enum Way {
-    Waits,
-    /// Where its transaction retries nothing is submitted, but for a long one.
-    Tries,
+    Refused(Refused),
 }
 
 impl<N: Naming, K: Archive + Drop> Desk<N, K> {
@@ -51,19 +42,20 @@ impl<N: Naming, K: Archive + Drop> Desk<N, K> {
             (record { tx = tx; arguments = arguments.now }) result self.new.store }
         ensures way { IsOfWay way result }
         ensures closed { self.old.closed ≡ true
-            → (result ≡ Begun.Refused CallFault.Closed) × IsUnchanged self.old.store self.new.store }
+            → (result ≡ Begun.Refused Refused.Closed) × IsUnchanged self.old.store self.new.store }
+        ensures reasons { RefusesAtOnce result }
         ensures served { (o : Outcome) → result ≡ Begun.Over o → IsServed self.new.store }
         ensures unknown { ¬ (IsCallable N.catalogue tx arguments.now) → IsUnchanged self.old.store self.new.store }
         ensures refused { ¬ (IsCallable N.catalogue tx arguments.now)
-            → (result ≡ Begun.Refused CallFault.Unknown) ⊎ (result ≡ Begun.Refused CallFault.Closed) }
+            → (result ≡ Begun.Refused Refused.Unknown) ⊎ (result ≡ Begun.Refused Refused.Closed) }
     {
         if self.closed {
-            return Begun::Refused(CallFault::Closed);
+            return Begun::Refused(Refused::Closed);
         }
         let catalogue = self.store.catalogue();
         catalogue.rules();
         if !catalogue.is_callable(tx, arguments) {
-            return Begun::Refused(CallFault::Unknown);
+            return Begun::Refused(Refused::Unknown);
         }
         let call = Call {
             tx,
@@ -130,7 +122,7 @@ impl<N: Naming, K: Archive + Drop> Desk<N, K> {
         }
         match self.next_chapter() {
             Page::Begun => self.turn_in_next(call, way),
-            Page::Full => Begun::Refused(CallFault::NoRoom),
+            Page::Full => Begun::Refused(Refused::NoRoom),
             Page::NotKept => Begun::NotKept,
         }
     }
@@ -147,7 +139,7 @@ impl<N: Naming, K: Archive + Drop> Desk<N, K> {
     {
         match self.first_turn(call, way) {
             Some(begun) => begun,
-            None => Begun::Refused(CallFault::NoRoom),
+            None => Begun::Refused(Refused::NoRoom),
         }
     }
 
@@ -162,71 +154,28 @@ impl<N: Naming, K: Archive + Drop> Desk<N, K> {
         ensures none { result ≡ None → IsFull self.old.store × IsUnchanged self.old.store self.new.store }
         ensures closed { self.new.closed ≡ self.old.closed }
     {
-        match way {
-            Way::Waits => self.first_call(call),
-            Way::Tries => self.first_try(call),
-        }
-    }
-
-    fn first_call(&mut self, call: &Call) -> Option<Begun>
-        requires { IsCallable N.catalogue call.now.tx call.now.arguments }
-        ensures way { IfSome result (λ b. IsOfWay Way.Waits b) }
-        ensures begins { IfSome result
-            (λ b. Begins N.catalogue self.old.closed (next_ticket self.old.store) call.now b self.new.store) }
-        ensures entered { IfSome result (λ b. (o : Outcome) → b ≡ Begun.Over o
-            → ∥ IsEnteredOn N.catalogue call.now o self.old.store.book.history self.new.store.book.history ∥₁) }
-        ensures none { result ≡ None → IsFull self.old.store × IsUnchanged self.old.store self.new.store }
-        ensures closed { self.new.closed ≡ self.old.closed }
-    {
         self.store.law();
         let Some(lender) = &mut self.lender else {
             unreachable!()
         };
         let called = self
             .store
-            .call_lent(lender, call.tx, call.arguments.as_slice());
+            .call(lender, call.tx, call.arguments.as_slice(), way);
         self.store.law();
-        match called {
-            Called::Ran(turned) => Some(begun_by(turned)),
-            Called::NoRoom => None,
-            Called::Retries => unreachable!(),
-        }
-    }
-
-    fn first_try(&mut self, call: &Call) -> Option<Begun>
-        requires { IsCallable N.catalogue call.now.tx call.now.arguments }
-        ensures way { IfSome result (λ b. IsOfWay Way.Tries b) }
-        ensures begins { IfSome result
-            (λ b. Begins N.catalogue self.old.closed (next_ticket self.old.store) call.now b self.new.store) }
-        ensures entered { IfSome result (λ b. (o : Outcome) → b ≡ Begun.Over o
-            → ∥ IsEnteredOn N.catalogue call.now o self.old.store.book.history self.new.store.book.history ∥₁) }
-        ensures none { result ≡ None → IsFull self.old.store × IsUnchanged self.old.store self.new.store }
-        ensures closed { self.new.closed ≡ self.old.closed }
-    {
-        self.store.law();
-        let Some(lender) = &mut self.lender else {
-            unreachable!()
-        };
-        let called = self
-            .store
-            .try_call_lent(lender, call.tx, call.arguments.as_slice());
-        self.store.law();
-        match called {
-            Called::Ran(turned) => Some(begun_by(turned)),
-            Called::NoRoom => None,
-            Called::Retries => Some(Begun::Refused(CallFault::Retries)),
-        }
+        begun_by(called)
     }
 }
 
-/// What came of the turn of a call's own task.
-fn begun_by(turned: Turned) -> Begun
-    ensures { result ≡ begun_by turned.job turned.end }
+/// What came of a call, by what its store answered. `None` where there is no room.
+fn begun_by(called: Result<(Job, End), Refused>) -> Option<Begun>
+    ensures { result ≡ begun_by called }
 {
-    match turned.end {
-        End::Entered(entered) => Begun::Over(entered.outcome),
-        End::Parked => Begun::Waits(turned.job.ticket, call_of(turned.job)),
-        End::Abandoned => Begun::Refused(CallFault::Memory),
+    match called {
+        Ok((_, End::Entered(entered))) => Some(Begun::Over(entered.outcome)),
+        Ok((job, End::Parked)) => Some(Begun::Waits(job.ticket, call_of(job))),
+        Ok((_, End::Abandoned)) => Some(Begun::Refused(Refused::Memory)),
+        Err(Refused::NoRoom) => None,
+        Err(why) => Some(Begun::Refused(why)),
     }
 }
 

@@ -8,10 +8,9 @@ ghost use Rattle.txn_words.specs.Words.{StartsWith};
 ghost use Rattle.stm_service.specs.Observations.{EndsAt};
 
 use crate::answer::Naming;
-use run_observer::Observed;
 use std::marker::PhantomData;
-use stm_store::{Job, Tried, Worker};
-use txn::TxId;
+use stm_store::{Job, Refused, Worker};
+use txn::{Outcome, TxId};
 
 /// How often a call is evaluated beside the commits before it is under the lock.
 pub(crate) const TRIES: u32 = 8;
@@ -47,7 +46,7 @@ impl<N: Naming> Client<N> {
 
     /// How the call would end on one state of the cells, with no lock. Where others changed meanwhile what it read
     /// it is tried again, some times.
-    pub(crate) fn observe_beside(&mut self, tx: TxId, arguments: &[i64]) -> Observed
+    pub(crate) fn observe_beside(&mut self, tx: TxId, arguments: &[i64]) -> Result<Outcome, Refused>
         requires { IsCallable N.catalogue tx arguments.now }
         ensures grows { StartsWith self.new.worker.pass.seen self.old.worker.pass.seen }
         ensures last { length self.new.worker.pass.seen ≡ self.new.worker.pass.rv + 1 }
@@ -55,14 +54,14 @@ impl<N: Naming> Client<N> {
     {
         for _ in 1..TRIES {
             let observed = self.observe_once(tx, arguments);
-            if observed != Observed::Stale {
+            if !matches!(observed, Err(Refused::Stale)) {
                 return observed;
             }
         }
         self.observe_once(tx, arguments)
     }
 
-    fn observe_once(&mut self, tx: TxId, arguments: &[i64]) -> Observed
+    fn observe_once(&mut self, tx: TxId, arguments: &[i64]) -> Result<Outcome, Refused>
         requires { IsCallable N.catalogue tx arguments.now }
         ensures grows { StartsWith self.new.worker.pass.seen self.old.worker.pass.seen }
         ensures last { length self.new.worker.pass.seen ≡ self.new.worker.pass.rv + 1 }
@@ -80,8 +79,8 @@ impl<N: Naming> Client<N> {
             return false;
         }
         match self.worker.try_job(*job) {
-            Tried::Ended => true,
-            Tried::Stale | Tried::Memory => false,
+            Ok(()) => true,
+            Err(_) => false,
         }
     }
 }

@@ -8,22 +8,22 @@ ghost use Rattle.txn_programs.specs.declared.arguments.Call.{Call};
 ghost use Rattle.txn_words.specs.Words.{StartsWith};
 ghost use Rattle.cells.specs.Passing.{MeetsBy};
 ghost use Rattle.stm_store.specs.declared.job.Ticket.{Ticket};
-ghost use Rattle.stm_service.specs.Answering.{IsAnswered};
-ghost use Rattle.stm_service.specs.Calling.{IsOfWay};
+ghost use Rattle.stm_service.specs.Answering.{IsAnswered, IsOfCall};
+ghost use Rattle.stm_service.specs.Calling.{IsOfWay, RefusesAtOnce};
 ghost use Rattle.stm_service.specs.Seeing.{IsSeen};
-ghost use Rattle.stm_service.specs.declared.answer.CallFault.TheVariants as CallFault;
+ghost use Rattle.stm_store.specs.declared.answers.Refused.TheVariants as Refused;
 ghost use Rattle.stm_service.specs.declared.calls.Begun.TheVariants as Begun;
 
-use crate::answer::{CallFault, Naming};
+use crate::answer::Naming;
 use crate::archive::Archive;
-use crate::calls::{Begun, Way};
+use crate::calls::Begun;
 use crate::client::Client;
 use crate::desk::Desk;
 use crate::service::{Service, let_go};
 use crate::waiting::{Time, try_long, wait_for, wait_within};
 use std::sync::{MutexGuard, Wait};
 use std::time::{Clock, Duration};
-use stm_store::Ticket;
+use stm_store::{Refused, Ticket, Way};
 use txn::{Arguments, Call, Outcome, TxId};
 
 impl<N: Naming, K: Archive + Drop> Desk<N, K> {
@@ -43,23 +43,23 @@ impl<N: Naming, K: Archive + Drop> Desk<N, K> {
             → (call ≡ (record { tx = tx; arguments = arguments.now }))
             × (self.new.store.book.history ≡ client.new.worker.pass.seen) }
         ensures way { IsOfWay way result }
-        ensures unknown { result ≡ Begun.Refused CallFault.Unknown → ¬ (IsCallable N.catalogue tx arguments.now) }
-        ensures tries { result ≢ Begun.Refused CallFault.TimedOut }
+        ensures unknown { result ≡ Begun.Refused Refused.Unknown → ¬ (IsCallable N.catalogue tx arguments.now) }
+        ensures reasons { RefusesAtOnce result }
         ensures grows { StartsWith client.new.worker.pass.seen client.old.worker.pass.seen }
         ensures seen { (o : Outcome) → result ≡ Begun.Over o → ∥ IsSeen N.catalogue tx arguments.now o
             client.old.worker.pass.seen client.new.worker.pass.seen ∥₁ }
         ensures refused { ¬ (IsCallable N.catalogue tx arguments.now)
-            → (result ≡ Begun.Refused CallFault.Unknown) ⊎ (result ≡ Begun.Refused CallFault.Closed) }
+            → (result ≡ Begun.Refused Refused.Unknown) ⊎ (result ≡ Begun.Refused Refused.Closed) }
     {
         self.settle_if_full();
         self.show(client);
         if self.closed {
-            return Begun::Refused(CallFault::Closed);
+            return Begun::Refused(Refused::Closed);
         }
         let catalogue = self.store.catalogue();
         catalogue.rules();
         if !catalogue.is_callable(tx, arguments) {
-            return Begun::Refused(CallFault::Unknown);
+            return Begun::Refused(Refused::Unknown);
         }
         let call = Call {
             tx,
@@ -99,15 +99,15 @@ impl<N: Naming> Client<N> {
         service: &Service<N, K>,
         tx: TxId,
         arguments: &[i64],
-    ) -> Result<Outcome, CallFault>
+    ) -> Result<Outcome, Refused>
         ensures answer { IfOk result (λ o. IsAnswered N.catalogue tx arguments.now o) }
         ensures grows { StartsWith self.new.worker.pass.seen self.old.worker.pass.seen }
         ensures seen { IfOk result (λ o. ∥ IsSeen N.catalogue tx arguments.now o
             self.old.worker.pass.seen self.new.worker.pass.seen ∥₁) }
-        ensures unknown { IfErr result (λ e. e ≡ CallFault.Unknown → ¬ (IsCallable N.catalogue tx arguments.now)) }
+        ensures unknown { IfErr result (λ e. e ≡ Refused.Unknown → ¬ (IsCallable N.catalogue tx arguments.now)) }
         ensures refused { ¬ (IsCallable N.catalogue tx arguments.now)
-            → (result ≡ Err CallFault.Unknown) ⊎ (result ≡ Err CallFault.Closed) }
-        ensures waits { IfErr result (λ e. (e ≢ CallFault.Retries) × (e ≢ CallFault.TimedOut)) }
+            → (result ≡ Err Refused.Unknown) ⊎ (result ≡ Err Refused.Closed) }
+        ensures waits { IfErr result (λ e. IsOfCall e × (e ≢ Refused.Retries) × (e ≢ Refused.TimedOut)) }
     {
         let mut desk = service.desk.lock(rt);
         match desk.call_by(self, tx, arguments, Way::Waits) {
@@ -121,7 +121,7 @@ impl<N: Naming> Client<N> {
                 self.learn(desk);
                 answer
             }
-            Begun::NotKept => Err(CallFault::NoRoom),
+            Begun::NotKept => Err(Refused::NoRoom),
             Begun::Refused(fault) => Err(fault),
         }
     }
@@ -133,15 +133,15 @@ impl<N: Naming> Client<N> {
         service: &Service<N, K>,
         tx: TxId,
         arguments: &[i64],
-    ) -> Result<Outcome, CallFault>
+    ) -> Result<Outcome, Refused>
         ensures answer { IfOk result (λ o. IsAnswered N.catalogue tx arguments.now o) }
         ensures grows { StartsWith self.new.worker.pass.seen self.old.worker.pass.seen }
         ensures seen { IfOk result (λ o. ∥ IsSeen N.catalogue tx arguments.now o
             self.old.worker.pass.seen self.new.worker.pass.seen ∥₁) }
-        ensures unknown { IfErr result (λ e. e ≡ CallFault.Unknown → ¬ (IsCallable N.catalogue tx arguments.now)) }
+        ensures unknown { IfErr result (λ e. e ≡ Refused.Unknown → ¬ (IsCallable N.catalogue tx arguments.now)) }
         ensures refused { ¬ (IsCallable N.catalogue tx arguments.now)
-            → (result ≡ Err CallFault.Unknown) ⊎ (result ≡ Err CallFault.Closed) }
-        ensures tries { IfErr result (λ e. e ≢ CallFault.TimedOut) }
+            → (result ≡ Err Refused.Unknown) ⊎ (result ≡ Err Refused.Closed) }
+        ensures tries { IfErr result (λ e. IsOfCall e × (e ≢ Refused.TimedOut)) }
     {
         let mut desk = service.desk.lock(rt);
         match desk.call_by(self, tx, arguments, Way::Tries) {
@@ -156,7 +156,7 @@ impl<N: Naming> Client<N> {
                 answer
             }
             Begun::Waits(_, _) => unreachable!(),
-            Begun::NotKept => Err(CallFault::NoRoom),
+            Begun::NotKept => Err(Refused::NoRoom),
             Begun::Refused(fault) => Err(fault),
         }
     }
@@ -170,15 +170,15 @@ impl<N: Naming> Client<N> {
         time: Duration,
         tx: TxId,
         arguments: &[i64],
-    ) -> Result<Outcome, CallFault>
+    ) -> Result<Outcome, Refused>
         ensures answer { IfOk result (λ o. IsAnswered N.catalogue tx arguments.now o) }
         ensures grows { StartsWith self.new.worker.pass.seen self.old.worker.pass.seen }
         ensures seen { IfOk result (λ o. ∥ IsSeen N.catalogue tx arguments.now o
             self.old.worker.pass.seen self.new.worker.pass.seen ∥₁) }
-        ensures unknown { IfErr result (λ e. e ≡ CallFault.Unknown → ¬ (IsCallable N.catalogue tx arguments.now)) }
+        ensures unknown { IfErr result (λ e. e ≡ Refused.Unknown → ¬ (IsCallable N.catalogue tx arguments.now)) }
         ensures refused { ¬ (IsCallable N.catalogue tx arguments.now)
-            → (result ≡ Err CallFault.Unknown) ⊎ (result ≡ Err CallFault.Closed) }
-        ensures waits { IfErr result (λ e. e ≢ CallFault.Retries) }
+            → (result ≡ Err Refused.Unknown) ⊎ (result ≡ Err Refused.Closed) }
+        ensures waits { IfErr result (λ e. IsOfCall e × (e ≢ Refused.Retries)) }
     {
         let time = Time::from_now(rt, time);
         let mut desk = service.desk.lock(rt);
@@ -193,7 +193,7 @@ impl<N: Naming> Client<N> {
                 self.learn(desk);
                 answer
             }
-            Begun::NotKept => Err(CallFault::NoRoom),
+            Begun::NotKept => Err(Refused::NoRoom),
             Begun::Refused(fault) => Err(fault),
         }
     }

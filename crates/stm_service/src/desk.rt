@@ -1,6 +1,6 @@
 //! What the lock guards: the store, and a seat for each thread that waits.
 
-ghost use Rattle.std.specs.Prelude.{◌≡◌, ◌≢◌, ◌+◌, ℕ, length, true, Some, None, All, IfSome};
+ghost use Rattle.std.specs.Prelude.{◌≡◌, ◌≢◌, ◌+◌, ℕ, length, true, Ok, None, All, IfSome};
 ghost use Rattle.std.specs.Option.{ForNone};
 ghost use Rattle.std.specs.Coded.{codes};
 ghost use Rattle.std.specs.BTreeMap.{values};
@@ -18,7 +18,7 @@ use std::collections::BTreeMap;
 use std::marker::PhantomData;
 use std::mem::replace;
 use std::sync::{Arc, Condvar};
-use stm_store::{End, Job, Lender, Store, Ticket};
+use stm_store::{End, Job, Lender, Refused, Store, Ticket};
 use txn::{Call, Outcome};
 
 /// What a thread finds at its seat.
@@ -66,10 +66,9 @@ impl<N: Naming, K: Archive + Drop> Desk<N, K> {
     ghost use Rattle.stm_store.specs.declared.answers.Entered.{Entered};
     ghost use Rattle.stm_store.specs.declared.answers.End.TheVariants as End;
     ghost use Rattle.stm_service.specs.Answering.{IsAnswer, call_of};
-    ghost use Rattle.stm_store.specs.Asking.{TakesJob, Withdraws, GivesUp};
-    ghost use Rattle.stm_store.specs.Turning.{ServesJob};
+    ghost use Rattle.stm_store.specs.Asking.{TakesJob, GivesUp};
     ghost use Rattle.stm_store.specs.Keeping.{KeepsTasks};
-    ghost use Rattle.stm_service.specs.Calling.{IsServed, IsLeft, IsWithdrawn, HasTurn};
+    ghost use Rattle.stm_service.specs.Calling.{IsServed, IsLeft, IsWithdrawn, MayHaveTurn};
     ghost use Rattle.stm_service.specs.Seeing.{IsEntryAt, IsEnteredSince};
     ghost use Rattle.book.specs.Chapters.{entered_in_all};
     ghost use Rattle.cells.specs.Passing.{MeetsBy};
@@ -106,13 +105,13 @@ impl<N: Naming, K: Archive + Drop> Desk<N, K> {
         ensures served { IsServed self.new.store }
         ensures closed { self.new.closed ≡ self.old.closed }
     {
-        while let Some(job) = self.take() {
+        while let Ok(job) = self.take() {
             self.serve_one(&job);
         }
     }
 
-    /// The lowest ready task, which is then running. `None` exactly where none is ready.
-    pub(crate) fn take(&mut self) -> Option<Job>
+    /// The lowest ready task, which is then running. `NotReady` exactly where none is ready.
+    pub(crate) fn take(&mut self) -> Result<Job, Refused>
         ensures taken { TakesJob self.old.store result self.new.store }
         ensures tickets { self.new.store.tickets ≡ self.old.store.tickets }
         ensures closed { self.new.closed ≡ self.old.closed }
@@ -123,7 +122,7 @@ impl<N: Naming, K: Archive + Drop> Desk<N, K> {
 
     /// The running task has its turn, or its thread evaluates it.
     fn serve_one(&mut self, job: &Job)
-        ensures turn { HasTurn self.old.store job.now self.new.store }
+        ensures turn { MayHaveTurn self.old.store job.now self.new.store }
         ensures closed { self.new.closed ≡ self.old.closed }
     {
         if self.hand_over(job) {
@@ -134,22 +133,22 @@ impl<N: Naming, K: Archive + Drop> Desk<N, K> {
 
     /// The running task has its turn under the lock, and its thread is told what came of it.
     pub(crate) fn turn(&mut self, job: &Job)
-        ensures turn { HasTurn self.old.store job.now self.new.store }
+        ensures turn { MayHaveTurn self.old.store job.now self.new.store }
         ensures closed { self.new.closed ≡ self.old.closed }
         ensures running { self.new.running ≡ self.old.running }
     {
-        let Some(end) = self.turn_of(job) else {
+        let Ok(end) = self.turn_of(job) else {
             return;
         };
         self.hand(job, end);
     }
 
-    /// A turn of the job's task, where it is running: how it ended.
-    fn turn_of(&mut self, job: &Job) -> Option<End>
-        ensures turn { HasTurn self.old.store job.now self.new.store }
-        ensures answer { (e : Entered) → result ≡ Some (End.Entered e)
+    /// A turn of the job's task, where it is running: what came of it.
+    fn turn_of(&mut self, job: &Job) -> Result<End, Refused>
+        ensures turn { MayHaveTurn self.old.store job.now self.new.store }
+        ensures answer { (e : Entered) → result ≡ Ok (End.Entered e)
             → ∥ IsAnswer N.catalogue job.now.ticket (call_of job.now) e.outcome ∥₁ }
-        ensures entered { (e : Entered) → result ≡ Some (End.Entered e)
+        ensures entered { (e : Entered) → result ≡ Ok (End.Entered e)
             → IsEntryAt N.catalogue (call_of job.now) e.outcome (entered_in_all self.new.store.book)
             self.new.store.book.history }
         ensures closed { self.new.closed ≡ self.old.closed }
@@ -158,9 +157,9 @@ impl<N: Naming, K: Archive + Drop> Desk<N, K> {
         self.store.law();
         // A program without transactions has no task.
         let Some(lender) = &mut self.lender else {
-            return None;
+            return Err(Refused::Gone);
         };
-        let end = self.store.serial_lent(lender, *job);
+        let end = self.store.turn(lender, *job);
         self.store.law();
         end
     }
@@ -184,13 +183,13 @@ impl<N: Naming, K: Archive + Drop> Desk<N, K> {
         self.tell_thread(job, told);
     }
 
-    /// The running task is given up, and its thread is told that the service is closed.
+    /// The task is given up, and its thread is told that the service is closed.
     pub(crate) fn shut_out(&mut self, job: &Job)
         ensures tickets { self.new.store.tickets ≡ self.old.store.tickets }
         ensures closed { self.new.closed ≡ self.old.closed }
         ensures running { self.new.running ≡ self.old.running }
     {
-        if self.give_up(job.ticket) {
+        if self.give_up(job.ticket).is_ok() {
             self.tell_thread(job, Told::ShutOut);
         }
     }
@@ -247,7 +246,7 @@ impl<N: Naming, K: Archive + Drop> Desk<N, K> {
         match self.seat_for(awaited) {
             Some(bell) => Some(bell),
             None => {
-                let _waited = self.withdraw(awaited.ticket);
+                let _given_up = self.give_up(awaited.ticket);
                 None
             }
         }
@@ -339,22 +338,11 @@ impl<N: Naming, K: Archive + Drop> Desk<N, K> {
         ensures { result ≡ true → IsWithdrawn self.old.store self.new.store ticket }
     {
         self.is_over(ticket);
-        if self.withdraw(ticket) {
-            return true;
-        }
-        self.give_up(ticket)
+        self.give_up(ticket).is_ok()
     }
 
-    /// Whether the task waited: it is given up then.
-    fn withdraw(&mut self, ticket: Ticket) -> bool
-        ensures withdrawn { Withdraws self.old.store ticket result self.new.store }
-        ensures tickets { self.new.store.tickets ≡ self.old.store.tickets }
-    {
-        self.store.withdraw(ticket)
-    }
-
-    /// Whether the task was running: it is given up then.
-    fn give_up(&mut self, ticket: Ticket) -> bool
+    /// The task is given up, where it waited or was running.
+    fn give_up(&mut self, ticket: Ticket) -> Result<(), Refused>
         ensures given_up { GivesUp self.old.store ticket result self.new.store }
         ensures tickets { self.new.store.tickets ≡ self.old.store.tickets }
         ensures closed { self.new.closed ≡ self.old.closed }

@@ -1,7 +1,7 @@
 //! Long transactions: their threads evaluate them beside the commits, and take the lock only to submit and to enter
 //! them.
 
-ghost use Rattle.std.specs.Prelude.{◌≡◌, ◌≢◌, Some, length, IfOk};
+ghost use Rattle.std.specs.Prelude.{◌≡◌, ◌≢◌, Some, Ok, length, IfOk};
 ghost use Rattle.txn_programs.specs.Listing.{IsCallable};
 ghost use Rattle.txn_programs.specs.declared.ast.Outcome.{Outcome};
 ghost use Rattle.book.specs.Chapters.{entered_in_all};
@@ -17,7 +17,7 @@ use crate::archive::Archive;
 use crate::client::Client;
 use crate::desk::{Desk, Found};
 use std::alloc::{AllocError, Global};
-use stm_store::{Brought, End, Job, Ticket};
+use stm_store::{End, Job, Refused, Ticket};
 use txn::weights::{Size, Weights, sizes_of};
 use txn::{Call, Catalogue, TxId};
 
@@ -60,7 +60,7 @@ impl<N: Naming, K: Archive + Drop> Desk<N, K> {
             return None;
         }
         self.store.law();
-        self.store.submit(call.tx, call.arguments.as_slice())
+        self.store.submit(call.tx, call.arguments.as_slice()).ok()
     }
 
     /// Whether a thread waits for the task and its transaction is long: then the thread evaluates it.
@@ -115,7 +115,7 @@ impl<N: Naming, K: Archive + Drop> Desk<N, K> {
         if self.closed {
             return;
         }
-        let Some(end) = self.finish(client, job) else {
+        let Ok(end) = self.brought(client, job) else {
             return;
         };
         self.hand(job, end);
@@ -123,29 +123,20 @@ impl<N: Naming, K: Archive + Drop> Desk<N, K> {
         self.serve();
     }
 
-    /// The same: how the task ended, if it did.
-    fn finish(&mut self, client: &mut Client<N>, job: &Job) -> Option<End>
+    /// The same: what came of it.
+    fn brought(&mut self, client: &mut Client<N>, job: &Job) -> Result<End, Refused>
         requires { client.old.worker.ended ≡ Some job.now }
-        ensures answer { (e : Entered) → result ≡ Some (End.Entered e)
+        ensures answer { (e : Entered) → result ≡ Ok (End.Entered e)
             → ∥ IsAnswer N.catalogue job.now.ticket (call_of job.now) e.outcome ∥₁ }
-        ensures entered { (e : Entered) → result ≡ Some (End.Entered e)
+        ensures entered { (e : Entered) → result ≡ Ok (End.Entered e)
             → IsEntryAt N.catalogue (call_of job.now) e.outcome (entered_in_all self.new.store.book)
             self.new.store.book.history }
         ensures closed { self.new.closed ≡ self.old.closed }
     {
         self.store.law();
-        let brought = self.store.finish(&mut client.worker);
+        let brought = self.store.bring(&mut client.worker);
         self.store.law();
-        match brought {
-            Brought::Committed(entered) => Some(End::Entered(entered)),
-            Brought::Parked => Some(End::Parked),
-            Brought::NotEnded
-            | Brought::OtherChapter
-            | Brought::OtherTask
-            | Brought::OtherProgram
-            | Brought::NotRunning
-            | Brought::Stale => None,
-        }
+        brought
     }
 
     /// Gives what threads evaluate just then its turn, and what that woke, or gives it up where the service is closed:
@@ -187,7 +178,7 @@ impl<N: Naming, K: Archive + Drop> Desk<N, K> {
         ensures tickets { self.new.store.tickets ≡ self.old.store.tickets }
         ensures closed { self.new.closed ≡ self.old.closed }
     {
-        while let Some(job) = self.take() {
+        while let Ok(job) = self.take() {
             self.turn(&job);
         }
     }

@@ -3,34 +3,38 @@
 ghost use Rattle.std.specs.Prelude.{◌≡◌, ◌≢◌, ◌+◌, ◌⊎◌, length, true, Err, IfErr, IfOk};
 ghost use Rattle.txn_programs.specs.Meaning.{outcome};
 ghost use Rattle.txn_programs.specs.Listing.{IsCallable, call_program};
+ghost use Rattle.attempt.specs.Room.{TakesMemory};
 ghost use Rattle.cells.specs.Passing.{at};
 ghost use Rattle.stm_store.specs.Asking.{IsUnchanged};
+ghost use Rattle.stm_service.specs.Answering.{IsOfCall};
 ghost use Rattle.stm_service.specs.Observations.{IsObservation};
-ghost use Rattle.stm_service.specs.declared.answer.CallFault.TheVariants as CallFault;
+ghost use Rattle.stm_store.specs.declared.answers.Refused.TheVariants as Refused;
 
-use crate::answer::{CallFault, Naming};
+use crate::answer::Naming;
 use crate::archive::Archive;
 use crate::client::Client;
 use crate::desk::Desk;
+use stm_store::Refused;
 use txn::{Outcome, TxId};
 
 impl<N: Naming, K: Archive + Drop> Desk<N, K> {
     /// How the call would end on the present values. Nothing is entered.
-    pub(crate) fn observe(&mut self, tx: TxId, arguments: &[i64]) -> Result<Outcome, CallFault>
+    pub(crate) fn observe(&mut self, tx: TxId, arguments: &[i64]) -> Result<Outcome, Refused>
         ensures answer { IfOk result (λ o. ∥ IsObservation N.catalogue tx arguments.now o ∥₁) }
-        ensures unknown { IfErr result (λ e. e ≡ CallFault.Unknown → ¬ (IsCallable N.catalogue tx arguments.now)) }
+        ensures unknown { IfErr result (λ e. e ≡ Refused.Unknown → ¬ (IsCallable N.catalogue tx arguments.now)) }
         ensures refused { ¬ (IsCallable N.catalogue tx arguments.now)
-            → (result ≡ Err CallFault.Unknown) ⊎ (result ≡ Err CallFault.Closed) }
-        ensures faults { IfErr result (λ e. (e ≢ CallFault.NoRoom) × (e ≢ CallFault.Retries)
-            × (e ≢ CallFault.TimedOut)) }
-        ensures closed { self.old.closed ≡ true → result ≡ Err CallFault.Closed }
+            → (result ≡ Err Refused.Unknown) ⊎ (result ≡ Err Refused.Closed) }
+        ensures faults { IfErr result (λ e. IsOfCall e × (e ≢ Refused.NoRoom) × (e ≢ Refused.Retries)
+            × (e ≢ Refused.TimedOut)) }
+        ensures memory { IfErr result (λ e. e ≡ Refused.Memory → TakesMemory N.catalogue tx) }
+        ensures closed { self.old.closed ≡ true → result ≡ Err Refused.Closed }
         ensures unchanged { IsUnchanged self.old.store self.new.store }
     {
         if self.closed {
-            return Err(CallFault::Closed);
+            return Err(Refused::Closed);
         }
         if !self.store.catalogue().is_callable(tx, arguments) {
-            return Err(CallFault::Unknown);
+            return Err(Refused::Unknown);
         }
         self.store.law();
         let Some(lender) = &mut self.lender else {
@@ -38,7 +42,7 @@ impl<N: Naming, K: Archive + Drop> Desk<N, K> {
         };
         match self.store.outcome_now(lender, tx, arguments) {
             Ok(outcome) => Ok(outcome),
-            Err(_) => Err(CallFault::Memory),
+            Err(_) => Err(Refused::Memory),
         }
     }
 
@@ -49,16 +53,16 @@ impl<N: Naming, K: Archive + Drop> Desk<N, K> {
         tx: TxId,
         arguments: &[i64],
         how: Outcome,
-    ) -> Result<Outcome, CallFault>
+    ) -> Result<Outcome, Refused>
         requires last { length client.old.worker.pass.seen ≡ client.old.worker.pass.rv + 1 }
         requires ends { outcome (call_program N.catalogue tx arguments.now) (at client.old.worker.pass) ≡ how }
         ensures answer { IfOk result (λ o. ∥ IsObservation N.catalogue tx arguments.now o ∥₁) }
-        ensures fault { IfErr result (λ e. e ≡ CallFault.Closed) }
-        ensures closed { self.old.closed ≡ true → result ≡ Err CallFault.Closed }
+        ensures fault { IfErr result (λ e. e ≡ Refused.Closed) }
+        ensures closed { self.old.closed ≡ true → result ≡ Err Refused.Closed }
         ensures unchanged { IsUnchanged self.old.store self.new.store }
     {
         if self.closed {
-            return Err(CallFault::Closed);
+            return Err(Refused::Closed);
         }
         self.store.law();
         self.show(client);

@@ -2,23 +2,23 @@
 
 ghost use Rattle.std.specs.Prelude.{◌≡◌, ◌≢◌, ◌⊎◌, string_bytes, Err, IfErr, IfOk};
 ghost use Rattle.txn_programs.specs.Listing.{IsCallable};
-ghost use Rattle.stm_service.specs.Answering.{IsAnswered};
+ghost use Rattle.attempt.specs.Room.{TakesMemory};
+ghost use Rattle.stm_service.specs.Answering.{IsAnswered, IsOfCall};
 ghost use Rattle.stm_service.specs.Observations.{IsObservation};
 ghost use Rattle.stm_service.specs.Keeping.{IsFileOfSome, IsReportOfSome};
-ghost use Rattle.stm_service.specs.declared.answer.CallFault.TheVariants as CallFault;
+ghost use Rattle.stm_store.specs.declared.answers.Refused.TheVariants as Refused;
 
-use crate::answer::{CallFault, Naming};
+use crate::answer::Naming;
 use crate::archive::Archive;
-use crate::calls::{Begun, Way};
+use crate::calls::Begun;
 use crate::client::{Client, TRIES};
 use crate::desk::Desk;
 use crate::long::long_ones;
 use crate::waiting::{Time, try_long, wait_for, wait_within};
-use run_observer::Observed;
 use std::alloc::Global;
 use std::sync::{Mutex, MutexGuard, Wait};
 use std::time::{Clock, Duration};
-use stm_store::{FileFault, ReportFault, Store};
+use stm_store::{FileFault, Refused, ReportFault, Store, Way};
 use txn::{Memory, Outcome, TxId};
 
 /// A store that threads share: each call runs a transaction as one atomic step.
@@ -73,12 +73,12 @@ impl<N: Naming, K: Archive + Drop> Service<N, K> {
         rt: &R,
         tx: TxId,
         arguments: &[i64],
-    ) -> Result<Outcome, CallFault>
+    ) -> Result<Outcome, Refused>
         ensures answer { IfOk result (λ o. IsAnswered N.catalogue tx arguments.now o) }
-        ensures unknown { IfErr result (λ e. e ≡ CallFault.Unknown → ¬ (IsCallable N.catalogue tx arguments.now)) }
+        ensures unknown { IfErr result (λ e. e ≡ Refused.Unknown → ¬ (IsCallable N.catalogue tx arguments.now)) }
         ensures refused { ¬ (IsCallable N.catalogue tx arguments.now)
-            → (result ≡ Err CallFault.Unknown) ⊎ (result ≡ Err CallFault.Closed) }
-        ensures waits { IfErr result (λ e. (e ≢ CallFault.Retries) × (e ≢ CallFault.TimedOut)) }
+            → (result ≡ Err Refused.Unknown) ⊎ (result ≡ Err Refused.Closed) }
+        ensures waits { IfErr result (λ e. IsOfCall e × (e ≢ Refused.Retries) × (e ≢ Refused.TimedOut)) }
     {
         let mut desk = self.desk.lock(rt);
         match desk.call(tx, arguments, Way::Waits) {
@@ -92,7 +92,7 @@ impl<N: Naming, K: Archive + Drop> Service<N, K> {
                 let_go(desk);
                 answer
             }
-            Begun::NotKept => Err(CallFault::NoRoom),
+            Begun::NotKept => Err(Refused::NoRoom),
             Begun::Refused(fault) => Err(fault),
         }
     }
@@ -104,12 +104,12 @@ impl<N: Naming, K: Archive + Drop> Service<N, K> {
         rt: &R,
         tx: TxId,
         arguments: &[i64],
-    ) -> Result<Outcome, CallFault>
+    ) -> Result<Outcome, Refused>
         ensures answer { IfOk result (λ o. IsAnswered N.catalogue tx arguments.now o) }
-        ensures unknown { IfErr result (λ e. e ≡ CallFault.Unknown → ¬ (IsCallable N.catalogue tx arguments.now)) }
+        ensures unknown { IfErr result (λ e. e ≡ Refused.Unknown → ¬ (IsCallable N.catalogue tx arguments.now)) }
         ensures refused { ¬ (IsCallable N.catalogue tx arguments.now)
-            → (result ≡ Err CallFault.Unknown) ⊎ (result ≡ Err CallFault.Closed) }
-        ensures tries { IfErr result (λ e. e ≢ CallFault.TimedOut) }
+            → (result ≡ Err Refused.Unknown) ⊎ (result ≡ Err Refused.Closed) }
+        ensures tries { IfErr result (λ e. IsOfCall e × (e ≢ Refused.TimedOut)) }
     {
         let mut desk = self.desk.lock(rt);
         match desk.call(tx, arguments, Way::Tries) {
@@ -124,7 +124,7 @@ impl<N: Naming, K: Archive + Drop> Service<N, K> {
                 answer
             }
             Begun::Waits(_, _) => unreachable!(),
-            Begun::NotKept => Err(CallFault::NoRoom),
+            Begun::NotKept => Err(Refused::NoRoom),
             Begun::Refused(fault) => Err(fault),
         }
     }
@@ -137,12 +137,12 @@ impl<N: Naming, K: Archive + Drop> Service<N, K> {
         time: Duration,
         tx: TxId,
         arguments: &[i64],
-    ) -> Result<Outcome, CallFault>
+    ) -> Result<Outcome, Refused>
         ensures answer { IfOk result (λ o. IsAnswered N.catalogue tx arguments.now o) }
-        ensures unknown { IfErr result (λ e. e ≡ CallFault.Unknown → ¬ (IsCallable N.catalogue tx arguments.now)) }
+        ensures unknown { IfErr result (λ e. e ≡ Refused.Unknown → ¬ (IsCallable N.catalogue tx arguments.now)) }
         ensures refused { ¬ (IsCallable N.catalogue tx arguments.now)
-            → (result ≡ Err CallFault.Unknown) ⊎ (result ≡ Err CallFault.Closed) }
-        ensures waits { IfErr result (λ e. e ≢ CallFault.Retries) }
+            → (result ≡ Err Refused.Unknown) ⊎ (result ≡ Err Refused.Closed) }
+        ensures waits { IfErr result (λ e. IsOfCall e × (e ≢ Refused.Retries)) }
     {
         let time = Time::from_now(rt, time);
         let mut desk = self.desk.lock(rt);
@@ -157,7 +157,7 @@ impl<N: Naming, K: Archive + Drop> Service<N, K> {
                 let_go(desk);
                 answer
             }
-            Begun::NotKept => Err(CallFault::NoRoom),
+            Begun::NotKept => Err(Refused::NoRoom),
             Begun::Refused(fault) => Err(fault),
         }
     }
@@ -165,19 +165,15 @@ impl<N: Naming, K: Archive + Drop> Service<N, K> {
     /// How the transaction with these arguments would end on one state, which was the present one at some moment of
     /// the call; it may retry there. Nothing is entered, and it is evaluated beside the commits, where a worker of the
     /// store is free and the commits leave it a moment; else under the lock. It never answers `NoRoom`, `Retries` or
-    /// `TimedOut`.
-    pub fn observe<R: Wait>(
-        &self,
-        rt: &R,
-        tx: TxId,
-        arguments: &[i64],
-    ) -> Result<Outcome, CallFault>
+    /// `TimedOut`, and `Memory` only of a transaction that takes memory.
+    pub fn observe<R: Wait>(&self, rt: &R, tx: TxId, arguments: &[i64]) -> Result<Outcome, Refused>
         ensures answer { IfOk result (λ o. ∥ IsObservation N.catalogue tx arguments.now o ∥₁) }
-        ensures unknown { IfErr result (λ e. e ≡ CallFault.Unknown → ¬ (IsCallable N.catalogue tx arguments.now)) }
+        ensures unknown { IfErr result (λ e. e ≡ Refused.Unknown → ¬ (IsCallable N.catalogue tx arguments.now)) }
         ensures refused { ¬ (IsCallable N.catalogue tx arguments.now)
-            → (result ≡ Err CallFault.Unknown) ⊎ (result ≡ Err CallFault.Closed) }
-        ensures faults { IfErr result (λ e. (e ≢ CallFault.NoRoom) × (e ≢ CallFault.Retries)
-            × (e ≢ CallFault.TimedOut)) }
+            → (result ≡ Err Refused.Unknown) ⊎ (result ≡ Err Refused.Closed) }
+        ensures faults { IfErr result (λ e. IsOfCall e × (e ≢ Refused.NoRoom) × (e ≢ Refused.Retries)
+            × (e ≢ Refused.TimedOut)) }
+        ensures memory { IfErr result (λ e. e ≡ Refused.Memory → TakesMemory N.catalogue tx) }
     {
         let reader = self.free.lock(rt).pop();
         let Some(mut reader) = reader else {
@@ -195,13 +191,14 @@ impl<N: Naming, K: Archive + Drop> Service<N, K> {
         reader: &mut Client<N>,
         tx: TxId,
         arguments: &[i64],
-    ) -> Result<Outcome, CallFault>
+    ) -> Result<Outcome, Refused>
         ensures answer { IfOk result (λ o. ∥ IsObservation N.catalogue tx arguments.now o ∥₁) }
-        ensures unknown { IfErr result (λ e. e ≡ CallFault.Unknown → ¬ (IsCallable N.catalogue tx arguments.now)) }
+        ensures unknown { IfErr result (λ e. e ≡ Refused.Unknown → ¬ (IsCallable N.catalogue tx arguments.now)) }
         ensures refused { ¬ (IsCallable N.catalogue tx arguments.now)
-            → (result ≡ Err CallFault.Unknown) ⊎ (result ≡ Err CallFault.Closed) }
-        ensures faults { IfErr result (λ e. (e ≢ CallFault.NoRoom) × (e ≢ CallFault.Retries)
-            × (e ≢ CallFault.TimedOut)) }
+            → (result ≡ Err Refused.Unknown) ⊎ (result ≡ Err Refused.Closed) }
+        ensures faults { IfErr result (λ e. IsOfCall e × (e ≢ Refused.NoRoom) × (e ≢ Refused.Retries)
+            × (e ≢ Refused.TimedOut)) }
+        ensures memory { IfErr result (λ e. e ≡ Refused.Memory → TakesMemory N.catalogue tx) }
     {
         if !reader.can_call(tx, arguments) {
             return self.desk.lock(rt).observe(tx, arguments);
@@ -209,8 +206,8 @@ impl<N: Naming, K: Archive + Drop> Service<N, K> {
         let observed = reader.observe_beside(tx, arguments);
         let mut desk = self.desk.lock(rt);
         match observed {
-            Observed::Outcome(outcome) => desk.confirm(reader, tx, arguments, outcome),
-            Observed::Stale | Observed::Memory => desk.observe(tx, arguments),
+            Ok(outcome) => desk.confirm(reader, tx, arguments, outcome),
+            Err(_) => desk.observe(tx, arguments),
         }
     }
 

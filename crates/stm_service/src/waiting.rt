@@ -4,9 +4,9 @@ ghost use Rattle.std.specs.Prelude.{◌≡◌, ◌⊎◌, IfErr, IfOk, IfSome, S
 ghost use Rattle.std.specs.Sync.Mutex.{mutex_guard_value};
 ghost use Rattle.stm_service.specs.Answering.{IsAnswer};
 ghost use Rattle.stm_service.specs.Seeing.{IsEnteredSince};
-ghost use Rattle.stm_service.specs.declared.answer.CallFault.TheVariants as CallFault;
+ghost use Rattle.stm_store.specs.declared.answers.Refused.TheVariants as Refused;
 
-use crate::answer::{CallFault, Naming};
+use crate::answer::Naming;
 use crate::archive::Archive;
 use crate::client::Client;
 use crate::desk::{Desk, Found};
@@ -14,11 +14,11 @@ use crate::seat::Awaited;
 use crate::service::{Service, let_go};
 use std::sync::{Condvar, MutexGuard, Wait};
 use std::time::{Clock, Duration, Instant};
-use stm_store::Job;
+use stm_store::{Job, Refused};
 use txn::Outcome;
 
 /// The lock, and what a thread that waited is answered.
-pub(crate) type Waited<'g, N, K> = (MutexGuard<'g, Desk<N, K>>, Result<Outcome, CallFault>);
+pub(crate) type Waited<'g, N, K> = (MutexGuard<'g, Desk<N, K>>, Result<Outcome, Refused>);
 
 /// The lock, and a worker that is to bring what it evaluated.
 type Evaluated<'g, N, K> = (MutexGuard<'g, Desk<N, K>>, Option<Client<N>>);
@@ -33,14 +33,14 @@ pub(crate) fn wait_for<'g, R: Wait, N: Naming, K: Archive + Drop>(
     ensures answer { IfOk result.1 (λ o. ∥ IsAnswer N.catalogue awaited.now.ticket awaited.now.call o ∥₁) }
     ensures entered { IfOk result.1 (λ o. IsEnteredSince N.catalogue awaited.now.call o awaited.now.since
         (mutex_guard_value result.0).store.book.history) }
-    ensures fault { IfErr result.1 (λ e. (e ≡ CallFault.Memory) ⊎ (e ≡ CallFault.Closed)) }
+    ensures fault { IfErr result.1 (λ e. (e ≡ Refused.Memory) ⊎ (e ≡ Refused.Closed)) }
 {
     let mut desk = desk;
     let bell = desk.sit(awaited);
     desk.serve();
     match bell {
         Some(bell) => wait_at(rt, service, desk, &bell, awaited),
-        None => (desk, Err(CallFault::Memory)),
+        None => (desk, Err(Refused::Memory)),
     }
 }
 
@@ -55,7 +55,7 @@ fn wait_at<'g, R: Wait, N: Naming, K: Archive + Drop>(
     ensures answer { IfOk result.1 (λ o. ∥ IsAnswer N.catalogue awaited.now.ticket awaited.now.call o ∥₁) }
     ensures entered { IfOk result.1 (λ o. IsEnteredSince N.catalogue awaited.now.call o awaited.now.since
         (mutex_guard_value result.0).store.book.history) }
-    ensures fault { IfErr result.1 (λ e. (e ≡ CallFault.Memory) ⊎ (e ≡ CallFault.Closed)) }
+    ensures fault { IfErr result.1 (λ e. (e ≡ Refused.Memory) ⊎ (e ≡ Refused.Closed)) }
 {
     let mut desk = desk;
     let mut tries: u32 = 0;
@@ -71,8 +71,8 @@ fn wait_at<'g, R: Wait, N: Naming, K: Archive + Drop>(
                 tries = tries.saturating_add(1);
             }
             Found::Over(outcome) => return (desk, Ok(outcome)),
-            Found::GivenUp => return (desk, Err(CallFault::Memory)),
-            Found::ShutOut | Found::Left => return (desk, Err(CallFault::Closed)),
+            Found::GivenUp => return (desk, Err(Refused::Memory)),
+            Found::ShutOut | Found::Left => return (desk, Err(Refused::Closed)),
         }
     }
     unreachable!()
@@ -88,27 +88,27 @@ pub(crate) fn try_long<'g, R: Wait, N: Naming, K: Archive + Drop>(
     ensures answer { IfOk result.1 (λ o. ∥ IsAnswer N.catalogue awaited.now.ticket awaited.now.call o ∥₁) }
     ensures entered { IfOk result.1 (λ o. IsEnteredSince N.catalogue awaited.now.call o awaited.now.since
         (mutex_guard_value result.0).store.book.history) }
-    ensures fault { IfErr result.1 (λ e. (e ≡ CallFault.Memory) ⊎ (e ≡ CallFault.Closed) ⊎ (e ≡ CallFault.Retries)) }
+    ensures fault { IfErr result.1 (λ e. (e ≡ Refused.Memory) ⊎ (e ≡ Refused.Closed) ⊎ (e ≡ Refused.Retries)) }
 {
     let mut desk = desk;
     let bell = desk.sit(awaited);
     desk.serve();
     let Some(bell) = bell else {
-        return (desk, Err(CallFault::Memory));
+        return (desk, Err(Refused::Memory));
     };
     let mut tries: u32 = 0;
     for _ in rt.forever() {
         match desk.look(awaited) {
             Found::Nothing => {
-                return stop_waiting(rt, service, desk, &bell, awaited, CallFault::Retries);
+                return stop_waiting(rt, service, desk, &bell, awaited, Refused::Retries);
             }
             Found::Runs(job) => {
                 desk = go_on(rt, service, desk, &job, tries);
                 tries = tries.saturating_add(1);
             }
             Found::Over(outcome) => return (desk, Ok(outcome)),
-            Found::GivenUp => return (desk, Err(CallFault::Memory)),
-            Found::ShutOut | Found::Left => return (desk, Err(CallFault::Closed)),
+            Found::GivenUp => return (desk, Err(Refused::Memory)),
+            Found::ShutOut | Found::Left => return (desk, Err(Refused::Closed)),
         }
     }
     unreachable!()
@@ -125,20 +125,20 @@ pub(crate) fn wait_within<'g, R: Wait + Clock, N: Naming, K: Archive + Drop>(
     ensures answer { IfOk result.1 (λ o. ∥ IsAnswer N.catalogue awaited.now.ticket awaited.now.call o ∥₁) }
     ensures entered { IfOk result.1 (λ o. IsEnteredSince N.catalogue awaited.now.call o awaited.now.since
         (mutex_guard_value result.0).store.book.history) }
-    ensures fault { IfErr result.1 (λ e. (e ≡ CallFault.Memory) ⊎ (e ≡ CallFault.Closed) ⊎ (e ≡ CallFault.TimedOut)) }
+    ensures fault { IfErr result.1 (λ e. (e ≡ Refused.Memory) ⊎ (e ≡ Refused.Closed) ⊎ (e ≡ Refused.TimedOut)) }
 {
     let mut desk = desk;
     let bell = desk.sit(awaited);
     desk.serve();
     let Some(bell) = bell else {
-        return (desk, Err(CallFault::Memory));
+        return (desk, Err(Refused::Memory));
     };
     let mut tries: u32 = 0;
     for _ in rt.forever() {
         match desk.look(awaited) {
             Found::Nothing => {
                 let Some(left) = time.left(rt) else {
-                    return stop_waiting(rt, service, desk, &bell, awaited, CallFault::TimedOut);
+                    return stop_waiting(rt, service, desk, &bell, awaited, Refused::TimedOut);
                 };
                 tries = 0;
                 desk.ring();
@@ -146,14 +146,14 @@ pub(crate) fn wait_within<'g, R: Wait + Clock, N: Naming, K: Archive + Drop>(
             }
             Found::Runs(job) => {
                 if time.left(rt).is_none() {
-                    return stop_waiting(rt, service, desk, &bell, awaited, CallFault::TimedOut);
+                    return stop_waiting(rt, service, desk, &bell, awaited, Refused::TimedOut);
                 }
                 desk = go_on_within(rt, service, desk, &job, tries, time);
                 tries = tries.saturating_add(1);
             }
             Found::Over(outcome) => return (desk, Ok(outcome)),
-            Found::GivenUp => return (desk, Err(CallFault::Memory)),
-            Found::ShutOut | Found::Left => return (desk, Err(CallFault::Closed)),
+            Found::GivenUp => return (desk, Err(Refused::Memory)),
+            Found::ShutOut | Found::Left => return (desk, Err(Refused::Closed)),
         }
     }
     unreachable!()
@@ -167,19 +167,19 @@ fn stop_waiting<'g, R: Wait, N: Naming, K: Archive + Drop>(
     desk: MutexGuard<'g, Desk<N, K>>,
     bell: &Condvar,
     awaited: &Awaited,
-    why: CallFault,
+    why: Refused,
 ) -> Waited<'g, N, K>
     ensures answer { IfOk result.1 (λ o. ∥ IsAnswer N.catalogue awaited.now.ticket awaited.now.call o ∥₁) }
     ensures entered { IfOk result.1 (λ o. IsEnteredSince N.catalogue awaited.now.call o awaited.now.since
         (mutex_guard_value result.0).store.book.history) }
-    ensures fault { IfErr result.1 (λ e. (e ≡ CallFault.Memory) ⊎ (e ≡ CallFault.Closed) ⊎ (e ≡ why)) }
+    ensures fault { IfErr result.1 (λ e. (e ≡ Refused.Memory) ⊎ (e ≡ Refused.Closed) ⊎ (e ≡ why)) }
 {
     let mut desk = desk;
     match desk.leave(awaited) {
         Found::Nothing | Found::Runs(_) => wait_at(rt, service, desk, bell, awaited),
         Found::Over(outcome) => (desk, Ok(outcome)),
-        Found::GivenUp => (desk, Err(CallFault::Memory)),
-        Found::ShutOut => (desk, Err(CallFault::Closed)),
+        Found::GivenUp => (desk, Err(Refused::Memory)),
+        Found::ShutOut => (desk, Err(Refused::Closed)),
         Found::Left => (desk, Err(why)),
     }
 }

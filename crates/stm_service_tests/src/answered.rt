@@ -1,7 +1,7 @@
 //! What a thread does, and what it was answered.
 
 use std::time::Duration;
-use stm_service::CallFault;
+use stm_service::Refused;
 use txn::{Fault, Outcome, TxId};
 
 /// What a thread does.
@@ -51,6 +51,7 @@ pub(crate) struct Answered {
     pub(crate) unknown: i64,
     pub(crate) retries: i64,
     pub(crate) timed_out: i64,
+    pub(crate) others: i64,
     /// How many entries there were after the service was closed.
     pub(crate) late: i64,
 }
@@ -67,6 +68,7 @@ pub(crate) const NOTHING: Answered = Answered {
     unknown: 0,
     retries: 0,
     timed_out: 0,
+    others: 0,
     late: 0,
 };
 
@@ -76,7 +78,7 @@ fn one_more(count: &mut i64) {
 
 impl Answered {
     /// An answer more.
-    pub(crate) fn note(&mut self, answer: Result<Outcome, CallFault>) {
+    pub(crate) fn note(&mut self, answer: Result<Outcome, Refused>) {
         match answer {
             Ok(Outcome::Returned(value)) => {
                 one_more(&mut self.returned);
@@ -89,18 +91,20 @@ impl Answered {
             // Only what is observed ends so.
             Ok(Outcome::Retries) => one_more(&mut self.retries),
             Ok(_) => one_more(&mut self.thrown),
-            Err(fault) => self.note_fault(fault),
+            Err(why) => self.note_reason(why),
         }
     }
 
-    fn note_fault(&mut self, fault: CallFault) {
-        match fault {
-            CallFault::Memory => one_more(&mut self.memory),
-            CallFault::Closed => one_more(&mut self.closed),
-            CallFault::NoRoom => one_more(&mut self.no_room),
-            CallFault::Unknown => one_more(&mut self.unknown),
-            CallFault::Retries => one_more(&mut self.retries),
-            CallFault::TimedOut => one_more(&mut self.timed_out),
+    fn note_reason(&mut self, why: Refused) {
+        match why {
+            Refused::Memory => one_more(&mut self.memory),
+            Refused::Closed => one_more(&mut self.closed),
+            Refused::NoRoom => one_more(&mut self.no_room),
+            Refused::Unknown => one_more(&mut self.unknown),
+            Refused::Retries => one_more(&mut self.retries),
+            Refused::TimedOut => one_more(&mut self.timed_out),
+            // No call is answered another one.
+            _ => one_more(&mut self.others),
         }
     }
 }

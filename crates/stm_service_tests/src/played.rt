@@ -10,7 +10,7 @@ use std::sync::Wait;
 use std::thread;
 use std::thread::{Threads, map_indices};
 use std::time::{Clock, Duration};
-use stm_service::{Archive, CallFault, Client, Naming, Service};
+use stm_service::{Archive, Client, Naming, Refused, Service};
 use stm_store::{Program, Store};
 use txn::{Outcome, TxId};
 
@@ -41,7 +41,7 @@ fn call<R: Wait + Clock, N: Naming, K: Archive + Drop>(
     kind: Kind,
     tx: TxId,
     arguments: &[i64],
-) -> Result<Outcome, CallFault> {
+) -> Result<Outcome, Refused> {
     match kind {
         Kind::Waits => service.atomically(rt, tx, arguments),
         Kind::Tries => service.try_atomically(rt, tx, arguments),
@@ -80,7 +80,7 @@ fn call_by<R: Wait + Clock, N: Naming, K: Archive + Drop>(
     service: &Service<N, K>,
     kind: Kind,
     tx: TxId,
-) -> Result<Outcome, CallFault> {
+) -> Result<Outcome, Refused> {
     match kind {
         Kind::Waits => client.atomically(rt, service, tx, &[]),
         Kind::Tries => client.try_atomically(rt, service, tx, &[]),

@@ -1,50 +1,28 @@
 -- What is asked by a ticket is answered of the one task that has it.
-use Rattle.std.proofs.Common.{◌≡◌, ◌≢◌, ◌∙◌, ℕ, zero, suc, ◌<◌, Bool, true, false, MatchBool, List, [], ◌∷◌, Option, Some, None, length, map, refl, sym, ap, subst, arith}
+use Rattle.std.proofs.Common.{◌≡◌, ◌≢◌, ◌∙◌, ℕ, zero, suc, ◌<◌, List, [], ◌∷◌, Option, Some, None, length, map, refl, sym, ap, subst, arith}
 use Rattle.std.specs.List.{slice_get}
 use Rattle.std.proofs.lemmas.List.{length-set}
 use Rattle.std.proofs.lemmas.Option.{same_Some, slice_get_within}
 use Rattle.txn_programs.specs.declared.ast.TaskId.{TaskId}
 use Rattle.txn_programs.specs.declared.ast.Outcome.{Outcome}
 use Rattle.book.specs.Tasks.{Task, Ready, Running, Parked, Done, GivenUp}
-use Rattle.book.specs.View.{BookView, IsRunning, stands}
-use Rattle.book.specs.Table.{IsWaiting}
+use Rattle.book.specs.View.{BookView, stands}
 use Rattle.book.specs.Recorded.{IsReady, IsRecorded, told_as}
 use Rattle.book.specs.declared.standing.Standing.{Standing}
 use Rattle.book.specs.declared.standing.Standing.TheVariants as told
-use Rattle.stm_store.specs.Tickets.{TicketsView, HasTicket, IsTaskOf}
-use Rattle.stm_store.specs.Asking.{Withdraws, GivesUp, TellsOutcome}
-use Rattle.stm_store.specs.Turning.{Serves, ServesTask}
+use Rattle.stm_store.specs.Tickets.{IsTaskOf}
+use Rattle.stm_store.specs.Asking.{TellsOutcome}
 use Rattle.stm_store.specs.declared.job.Ticket.{Ticket}
-use Rattle.stm_store.specs.declared.answers.Served.{Served}
-use Rattle.stm_store.specs.declared.answers.Served.TheVariants as served
 use Rattle.stm_store.specs.declared.store.Store.{Store}
-
--- what is not so of it is so of no task that has the ticket
-pub of_none : (P : TaskId → Type 0) (t : TicketsView) (ticket : Ticket) (task : TaskId) → IsTaskOf t ticket (Some task) → (P task → ⊥) → (other : TaskId) → HasTicket t other ticket → P other → ⊥
-of_none P t ticket task of not other has p = not (subst P (of.1 other has) p)
 
 -- a ready task that is running now is one of the book's
 pub claimed_within : (old new : BookView) (task : TaskId) → IsReady old task → new ≡ stands old task Running → task.0 < length new.tasks
 claimed_within old new task ready is =
     omega (arith, slice_get_within old.tasks task.0 Ready ready, ap (λ (b : BookView). length b.tasks) is, length-set old.tasks task.0 Running)
 
-pub gives_up : (old new : Store) (ticket : Ticket) (task : TaskId) (r : Bool) → IsTaskOf old.tickets ticket (Some task) → MatchBool r (IsRunning old.book task × (new.book ≡ stands old.book task GivenUp)) ((IsRunning old.book task → ⊥) × (new.book ≡ old.book)) → GivesUp old ticket r new
-gives_up old new ticket task true of h = (task, of.0, h.0, h.1)
-gives_up old new ticket task false of h = (of_none (IsRunning old.book) old.tickets ticket task of h.0, h.1)
-
-pub withdraws : (old new : Store) (ticket : Ticket) (task : TaskId) (r : Bool) → IsTaskOf old.tickets ticket (Some task) → MatchBool r (IsWaiting (slice_get old.book.tasks task.0) × (new.book ≡ stands old.book task GivenUp)) ((IsWaiting (slice_get old.book.tasks task.0) → ⊥) × (new.book ≡ old.book)) → Withdraws old ticket r new
-withdraws old new ticket task true of h = (task, of.0, h.0, h.1)
-withdraws old new ticket task false of h = (of_none (λ (t : TaskId). IsWaiting (slice_get old.book.tasks t.0)) old.tickets ticket task of h.0, h.1)
-
 pub tells_outcome : (s : Store) (ticket : Ticket) (task : TaskId) (o : Option Outcome) → IsTaskOf s.tickets ticket (Some task) → IsRecorded s.book task o → TellsOutcome s ticket o
 tells_outcome s ticket task None of h = λ other has. subst (λ (t : TaskId). IsRecorded s.book t None) (sym (of.1 other has)) h
 tells_outcome s ticket task (Some o) of h = (task, of.0, h)
-
-pub serves : (old new : Store) (ticket : Ticket) (task : TaskId) (how : Served) → IsTaskOf old.tickets ticket (Some task) → ServesTask old.every old.book task how new.book → Serves old ticket how new
-serves old new ticket task served.NotRunning of h = (of_none (IsRunning old.book) old.tickets ticket task of h.0, h.1)
-serves old new ticket task served.Parked of h = (task, of.0, h)
-serves old new ticket task served.Abandoned of h = (task, of.0, h)
-serves old new ticket task (served.Committed e) of h = (task, of.0, h)
 
 -- a task of which it is told that it runs does
 pub told_running : (ts : List Task) (k : ℕ) → slice_get (map told_as ts) k ≡ Some told.Running → slice_get ts k ≡ Some Running

@@ -106,7 +106,7 @@ no_decrease xs h i j le within = elim (cases_lt i j) [
 ]
 
 -- no other task has it
-one_of : (xs : List ℕ) → Rise xs → (i j n : ℕ) → slice_get xs i ≡ Some n → slice_get xs j ≡ Some n → i ≡ j
+pub one_of : (xs : List ℕ) → Rise xs → (i j n : ℕ) → slice_get xs i ≡ Some n → slice_get xs j ≡ Some n → i ≡ j
 one_of xs h i j n at_i at_j =
     let a = place_of xs i n at_i in
     let b = place_of xs j n at_j in

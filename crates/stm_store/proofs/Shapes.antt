@@ -4,16 +4,12 @@ use Rattle.std.proofs.lemmas.List.{length-set, length-map}
 use Rattle.txn_programs.specs.declared.ast.TaskId.{TaskId}
 use Rattle.txn_programs.specs.Meaning.{after}
 use Rattle.txn_programs.specs.Listing.{task_program}
-use Rattle.attempt.specs.View.{AttemptView}
-use Rattle.book.specs.declared.task.Finish.{Finish}
-use Rattle.book.specs.declared.task.Finish.TheVariants as finish
 use Rattle.book.specs.declared.task.Serial.{Serial}
 use Rattle.book.specs.declared.task.Serial.TheVariants as serial
 use Rattle.book.specs.Tasks.{Task, Done}
 use Rattle.book.specs.View.{BookView, committed, checkpointed, stands, woken}
-use Rattle.book.specs.Turns.{Taken, Finished, Served, Turn, Drains, NoTurn, OneMore, readied, readied_one, is_due, kept_short}
+use Rattle.book.specs.Turns.{Taken, Served, Turn, Drains, NoTurn, OneMore, readied, readied_one, is_due, kept_short}
 use Rattle.stm_store.specs.Shapes.{IsSameShape}
-use Rattle.stm_store.specs.Turning.{TurnsGiven}
 
 pub same_shape : (b : BookView) → IsSameShape b b
 same_shape b = record { cells = refl; tasks = refl; spare = refl; room = refl }
@@ -56,12 +52,6 @@ pub taken_shape : (old new : BookView) (task : Option TaskId) → Taken old task
 taken_shape old new None h = is_shape old old new (same_shape old) h.1
 taken_shape old new (Some task) h = is_shape old _ new (stands_shape old task _) h.2
 
-pub finished_shape : (old new : BookView) (task : TaskId) (a : AttemptView) (how : Finish) → Finished old task a how new → IsSameShape old new
-finished_shape old new task a finish.NotRunning h = is_shape old old new (same_shape old) h.1
-finished_shape old new task a finish.Stale h = is_shape old old new (same_shape old) h.2
-finished_shape old new task a finish.Parked h = is_shape old _ new (stands_shape old task _) h.3
-finished_shape old new task a (finish.Committed n) h = is_shape old _ new (committed_shape old task) h.4
-
 pub served_shape : (old new : BookView) (task : TaskId) (how : Serial) → Served old task how new → IsSameShape old new
 served_shape old new task serial.NotRunning h = is_shape old old new (same_shape old) h.1
 served_shape old new task serial.Parked h = is_shape old _ new (stands_shape old task _) h.2.2
@@ -82,11 +72,6 @@ drained_shape every old new h =
     then_shape old (readied old) new
     (record { cells = refl; tasks = length-map old.tasks readied_one; spare = refl; room = refl })
     (drained every (readied old) new h)
-
-pub given_shape : (every : ℕ) (start new : BookView) (n : ℕ) → TurnsGiven every start n new → IsSameShape start new
-given_shape every start new n TurnsGiven.NoTurn = same_shape start
-given_shape every start new n (TurnsGiven.OneMore {a} b task before taken turn) =
-    then_shape start a new (given_shape every start a _ before) (then_shape a b new (taken_shape a b (Some task) taken) (turn_shape every b new task turn))
 
 -- a commit, and a checkpoint where one is due
 pub entered_shape : (every : ℕ) (how : Serial) (old b new : BookView) (task : TaskId) → b ≡ committed old task → new ≡ kept_short every how b → IsSameShape old new

@@ -1,10 +1,10 @@
 -- Calls on one task.
-use Rattle.std.specs.Prelude.{◌≡◌, ◌⊎◌, ◌<◌, ℤ, List, Bool, true, false, map, Option, Some, None, slice_get}
+use Rattle.std.specs.Prelude.{◌≡◌, ◌⊎◌, ◌<◌, ℤ, List, map, Option, Some, None, Result, Ok, Err, slice_get}
 use Rattle.txn_programs.specs.declared.ast.TaskId.{TaskId}
 use Rattle.txn_programs.specs.declared.ast.TxId.{TxId}
 use Rattle.txn_programs.specs.declared.ast.Outcome.{Outcome}
 use Rattle.txn_programs.specs.Listing.{tasks, task_arguments}
-use Rattle.book.specs.View.{IsRunning, stands}
+use Rattle.book.specs.View.{BookView, IsRunning, stands}
 use Rattle.book.specs.Tasks.{Running, GivenUp}
 use Rattle.book.specs.Table.{IsWaiting}
 use Rattle.book.specs.Turns.{Taken}
@@ -12,6 +12,8 @@ use Rattle.book.specs.Submitted.{submitted}
 use Rattle.book.specs.Recorded.{IsReady, IsRecorded, told_as}
 use Rattle.book.specs.declared.standing.Standing.{Standing}
 use Rattle.stm_store.specs.Tickets.{HasTicket, with_next, most_tickets}
+use Rattle.stm_store.specs.declared.answers.Refused.{Refused}
+use Rattle.stm_store.specs.declared.answers.Refused.TheVariants as refused
 use Rattle.stm_store.specs.declared.job.Ticket.{Ticket}
 use Rattle.stm_store.specs.declared.job.Job.{Job}
 use Rattle.stm_store.specs.declared.store.Store.{Store}
@@ -28,9 +30,10 @@ abbrev pub IsUnchanged : Store → Store → Type 0
 IsUnchanged old new = (new.book ≡ old.book) × (new.tickets ≡ old.tickets)
 
 -- `submit`: where there is room a ready task of the call more, with the next ticket; else nothing changed
-abbrev pub Submits : Store → TxId → List ℤ → Option Ticket → Store → Type 0
-Submits old tx arguments None new = IsFull old × IsUnchanged old new
-Submits old tx arguments (Some ticket) new =
+abbrev pub Submits : Store → TxId → List ℤ → Result Ticket Refused → Store → Type 0
+Submits old tx arguments (Err refused.NoRoom) new = IsFull old × IsUnchanged old new
+Submits old tx arguments (Err _) new = ⊥
+Submits old tx arguments (Ok ticket) new =
     HasRoom old
     × (ticket.0 ≡ old.tickets.given)
     × (new.tickets ≡ with_next old.tickets)
@@ -46,40 +49,41 @@ pub record IsJob (s : Store) (job : Job) : Type 0 where
 abbrev pub IsPresentJob : Store → Job → Type 0
 IsPresentJob s job = IsJob s job × (job.chapter ≡ s.chapter)
 
+-- no task has the ticket
+abbrev pub HasNone : Store → Ticket → Type 0
+HasNone s ticket = (task : TaskId) → HasTicket s.tickets task ticket → ⊥
+
 -- `take`: the lowest ready task, which is then running
-abbrev pub TakesJob : Store → Option Job → Store → Type 0
-TakesJob old None new = Taken old.book None new.book
-TakesJob old (Some job) new = Taken old.book (Some job.task) new.book × IsPresentJob old job
+abbrev pub TakesJob : Store → Result Job Refused → Store → Type 0
+TakesJob old (Err refused.NotReady) new = Taken old.book None new.book
+TakesJob old (Err _) new = ⊥
+TakesJob old (Ok job) new = Taken old.book (Some job.task) new.book × IsPresentJob old job
 
 -- `claim`: where the task with the ticket is ready, it is then running
-abbrev pub Claims : Store → Ticket → Option Job → Store → Type 0
-Claims old ticket None new =
-    ((task : TaskId) → HasTicket old.tickets task ticket → IsReady old.book task → ⊥) × (new.book ≡ old.book)
-Claims old ticket (Some job) new =
+abbrev pub Claims : Store → Ticket → Result Job Refused → Store → Type 0
+Claims old ticket (Err refused.Gone) new = HasNone old ticket × (new.book ≡ old.book)
+Claims old ticket (Err refused.NotReady) new =
+    (task : TaskId) × HasTicket old.tickets task ticket × (IsReady old.book task → ⊥) × (new.book ≡ old.book)
+Claims old ticket (Err _) new = ⊥
+Claims old ticket (Ok job) new =
     (job.ticket ≡ ticket)
     × IsPresentJob old job
     × IsReady old.book job.task
     × (new.book ≡ stands old.book job.task Running)
 
--- `withdraw`: where the task with the ticket is ready or parked, it is given up
-abbrev pub Withdraws : Store → Ticket → Bool → Store → Type 0
-Withdraws old ticket false new =
-    ((task : TaskId) → HasTicket old.tickets task ticket → IsWaiting (slice_get old.book.tasks task.0) → ⊥)
-    × (new.book ≡ old.book)
-Withdraws old ticket true new =
-    (task : TaskId)
-    × HasTicket old.tickets task ticket
-    × IsWaiting (slice_get old.book.tasks task.0)
-    × (new.book ≡ stands old.book task GivenUp)
+-- it is ready, parked or running
+abbrev pub IsUnended : BookView → TaskId → Type 0
+IsUnended b task = IsWaiting (slice_get b.tasks task.0) ⊎ IsRunning b task
 
--- `give_up`: where the task with the ticket is running, it is given up
-abbrev pub GivesUp : Store → Ticket → Bool → Store → Type 0
-GivesUp old ticket false new =
-    ((task : TaskId) → HasTicket old.tickets task ticket → IsRunning old.book task → ⊥) × (new.book ≡ old.book)
-GivesUp old ticket true new =
+-- `give_up`: where the task with the ticket is ready, parked or running, it is given up
+abbrev pub GivesUp : Store → Ticket → Result (Unit {0}) Refused → Store → Type 0
+GivesUp old ticket (Err refused.Gone) new =
+    ((task : TaskId) → HasTicket old.tickets task ticket → IsUnended old.book task → ⊥) × (new.book ≡ old.book)
+GivesUp old ticket (Err _) new = ⊥
+GivesUp old ticket (Ok done) new =
     (task : TaskId)
     × HasTicket old.tickets task ticket
-    × IsRunning old.book task
+    × IsUnended old.book task
     × (new.book ≡ stands old.book task GivenUp)
 
 -- `outcome_of`: what the journal records of the task with the ticket

@@ -17,8 +17,8 @@ pub record KeepsTasks (old new : Store) : Type 0 where
   pub listing : new.book.catalogue ≡ old.book.catalogue
   pub tickets : new.tickets ≡ old.tickets
 
--- a worker that lent its attempt has nothing to bring, and all else is as it was
-pub record IsLent (old new : Worker) : Type 0 where
+-- a worker has nothing to bring any more, and all else is as it was
+pub record HasBrought (old new : Worker) : Type 0 where
   pub ended : new.ended ≡ None
   pub catalogue : new.catalogue.now ≡ old.catalogue.now
   pub cells : new.cells ≡ old.cells

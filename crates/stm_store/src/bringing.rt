@@ -1,41 +1,47 @@
-//! Attempts that workers bring to a store.
+//! Attempts that workers bring to a store, of whatever program they are.
 
-ghost use Rattle.std.specs.Prelude.{◌≡◌, ◌≢◌};
+ghost use Rattle.std.specs.Prelude.{◌≡◌, ◌<◌, ◌↔◌, IsTrue, length};
 ghost use Rattle.cells.specs.Passing.{MeetsBy};
-ghost use Rattle.stm_store.specs.Bringing.{Brings};
-ghost use Rattle.stm_store.specs.Keeping.{KeepsTasks, IsLent};
+ghost use Rattle.stm_store.specs.Bringing.{AgreeOn, Brings};
+ghost use Rattle.stm_store.specs.Keeping.{HasBrought, KeepsTasks};
 
-use crate::answers::Brought;
+use crate::answers::{End, Refused};
+use crate::job::Job;
 use crate::serving::bring;
 use crate::store::Store;
 use crate::worker::Worker;
+use std::slice;
+use txn::{Catalogue, TxId};
+use txn_declarations::same::{same_always, same_transactions};
 
 impl Store {
-    /// Brings a worker's ended attempt to the book: it commits or is parked where all that it read
-    /// is still so, and else the answer is `Stale` and nothing changed. Where it commits, the answer tells its
-    /// entry. The worker has no ended attempt afterwards. It takes no memory.
+    /// Brings a worker's ended attempt to the book: it is entered or parked where all that it read is still so. The
+    /// worker, which may be of any store, has no ended attempt afterwards, whatever the answer is. It takes no memory, so
+    /// no task is given up. Its time grows with the transaction and with the standing conditions.
     ///
-    /// The worker has to be of this store, or of another one whose program says the same. So it never
-    /// answers `OtherProgram`.
-    pub fn finish(&mut self, worker: &mut Worker) -> Brought
-        requires of { worker.old.catalogue.now ≡ self.old.catalogue.now }
+    /// Else nothing changed but the worker. `NotEnded` exactly where it had none; `Gone` exactly where the store has no
+    /// such job in its present chapter; `OtherProgram` exactly where the worker's program says otherwise of the job's
+    /// transaction than the store's: of what it does, of the standing conditions, or of how many variables and cells
+    /// there are; `NotRunning` exactly where the task is not running; `Stale` exactly where what was read is no longer so,
+    /// and the task stays running.
+    pub fn bring(&mut self, worker: &mut Worker) -> Result<End, Refused>
         ensures brought { Brings self.old worker.old result self.new }
-        ensures own { result ≢ Brought.OtherProgram }
         ensures kept { KeepsTasks self.old self.new }
-        ensures worker { IsLent worker.old worker.new }
+        ensures worker { HasBrought worker.old worker.new }
     {
         let Some(job) = worker.ended else {
-            return Brought::NotEnded;
+            return Err(Refused::NotEnded);
         };
         worker.ended = None;
-        if job.chapter != self.chapter {
-            return Brought::OtherChapter;
-        }
         let task = job.task;
-        if !self.has(job) {
-            return Brought::OtherTask;
+        if !self.has_now(job) {
+            return Err(Refused::Gone);
         }
         self.book.law();
+        let tx = self.book.task_tx(task);
+        if !agree_on(worker.catalogue, self.catalogue, tx) {
+            return Err(Refused::OtherProgram);
+        }
         bring(&mut self.book, &mut worker.attempt, self.every, task)
     }
 
@@ -52,4 +58,24 @@ impl Store {
     {
         self.book.meet(&mut worker.pass);
     }
+}
+
+impl Worker {
+    /// The job whose attempt has ended and was not brought to the store yet.
+    pub fn ended(&self) -> Option<Job>
+        ensures { result ≡ self.now.ended }
+    {
+        self.ended
+    }
+}
+
+/// Whether the two programs say the same of the transaction.
+fn agree_on(one: &Catalogue, other: &Catalogue, tx: TxId) -> bool
+    requires first { tx.0 < length one.now.transactions }
+    requires second { tx.0 < length other.now.transactions }
+    ensures { IsTrue result ↔ AgreeOn one.now other.now tx }
+{
+    one.initial().len() == other.initial().len()
+        && same_transactions(slice::from_ref(one.tx(tx)), slice::from_ref(other.tx(tx)))
+        && same_always(one.always(), other.always())
 }

@@ -5,86 +5,73 @@ ghost use Rattle.txn_programs.specs.Listing.{IsCallable, call_program};
 ghost use Rattle.txn_programs.specs.Meaning.{outcome};
 ghost use Rattle.attempt.specs.Room.{TakesMemory};
 ghost use Rattle.book.specs.View.{IsRunning};
-ghost use Rattle.stm_store.specs.Keeping.{KeepsStore, IsLent};
-ghost use Rattle.stm_store.specs.Turning.{BeginsCall, Calls, EndsHere, TriesCall};
+ghost use Rattle.stm_store.specs.Keeping.{KeepsStore};
+ghost use Rattle.stm_store.specs.Turning.{BeginsCall, Calls, EndsHere};
+ghost use Rattle.stm_store.specs.declared.answers.Way.TheVariants as Way;
 
-use crate::answers::{Called, End, Turned};
+use crate::answers::{End, Refused, Way};
 use crate::job::Job;
 use crate::lender::Lender;
 use crate::serving::{enter, give_turn};
 use crate::store::Store;
-use crate::worker::Worker;
 use attempt::Attempt;
 use txn::{Arguments, Memory, Outcome, TxId};
 
 impl Store {
-    /// A task of the call more, which has its turn at once, whatever else is ready: which task,
-    /// and how it ended. What it woke is ready. `NoRoom` and no change exactly where there is no room
-    /// for it, or 2^62 tickets were given. It never answers `Retries`. If memory runs out, the task is given
-    /// up. The transaction has to exist.
+    /// A task of the call more, which has its turn at once, whatever else is ready: which task, and what came of it. What
+    /// it woke is ready. Where a growth is refused, which only a transaction that takes memory meets, the task is given
+    /// up. The transaction has to exist, and to have as many parameters as there are arguments.
     ///
-    /// The worker lends its attempt, and what it tried and did not bring is forgotten. It may be of
-    /// another store.
-    pub fn call(&mut self, worker: &mut Worker, tx: TxId, arguments: &[i64]) -> Called
+    /// Where it retries on the present values, the task of a call that waits is parked; one that only tries is `Retries`,
+    /// also where there is no room, and parks none. `NoRoom` only where there is no room for the task, or 2^62 tickets
+    /// were given. Then nothing changed.
+    pub fn call(
+        &mut self,
+        lender: &mut Lender,
+        tx: TxId,
+        arguments: &[i64],
+        way: Way,
+    ) -> Result<(Job, End), Refused>
         requires known { IsCallable self.old.catalogue.now tx arguments.now }
-        ensures called { Calls self.old tx arguments.now result self.new }
-        ensures kept { KeepsStore self.old self.new }
-        ensures worker { IsLent worker.old worker.new }
-    {
-        worker.ended = None;
-        self.call_by(&mut worker.attempt, tx, arguments)
-    }
-
-    /// As `call`, by a lender's attempt.
-    pub fn call_lent(&mut self, lender: &mut Lender, tx: TxId, arguments: &[i64]) -> Called
-        requires known { IsCallable self.old.catalogue.now tx arguments.now }
-        ensures called { Calls self.old tx arguments.now result self.new }
+        ensures called { Calls way self.old tx arguments.now result self.new }
         ensures kept { KeepsStore self.old self.new }
     {
-        self.call_by(&mut lender.attempt, tx, arguments)
+        match way {
+            Way::Waits => self.call_and_wait(lender, tx, arguments),
+            Way::Tries => self.try_call(lender, tx, arguments),
+        }
     }
 
-    fn call_by(&mut self, attempt: &mut Attempt<'static>, tx: TxId, arguments: &[i64]) -> Called
+    fn call_and_wait(
+        &mut self,
+        lender: &mut Lender,
+        tx: TxId,
+        arguments: &[i64],
+    ) -> Result<(Job, End), Refused>
         requires known { IsCallable self.old.catalogue.now tx arguments.now }
-        ensures called { Calls self.old tx arguments.now result self.new }
+        ensures called { Calls Way.Waits self.old tx arguments.now result self.new }
         ensures kept { KeepsStore self.old self.new }
     {
         let Some(job) = self.begin_call(tx, arguments) else {
-            return Called::NoRoom;
+            return Err(Refused::NoRoom);
         };
-        let end = give_turn(&mut self.book, attempt, self.every, job.task);
-        Called::Ran(Turned { job, end })
+        let end = give_turn(&mut self.book, &mut lender.attempt, self.every, job.task);
+        Ok((job, end))
     }
 
-    /// As `call`, but where the transaction retries on the present values nothing changes, and the answer is
-    /// `Retries`, also where there is no room. So it parks no task.
-    pub fn try_call(&mut self, worker: &mut Worker, tx: TxId, arguments: &[i64]) -> Called
+    fn try_call(
+        &mut self,
+        lender: &mut Lender,
+        tx: TxId,
+        arguments: &[i64],
+    ) -> Result<(Job, End), Refused>
         requires known { IsCallable self.old.catalogue.now tx arguments.now }
-        ensures called { TriesCall self.old tx arguments.now result self.new }
-        ensures kept { KeepsStore self.old self.new }
-        ensures worker { IsLent worker.old worker.new }
-    {
-        worker.ended = None;
-        self.try_call_by(&mut worker.attempt, tx, arguments)
-    }
-
-    /// As `try_call`, by a lender's attempt.
-    pub fn try_call_lent(&mut self, lender: &mut Lender, tx: TxId, arguments: &[i64]) -> Called
-        requires known { IsCallable self.old.catalogue.now tx arguments.now }
-        ensures called { TriesCall self.old tx arguments.now result self.new }
+        ensures called { Calls Way.Tries self.old tx arguments.now result self.new }
         ensures kept { KeepsStore self.old self.new }
     {
-        self.try_call_by(&mut lender.attempt, tx, arguments)
-    }
-
-    fn try_call_by(&mut self, attempt: &mut Attempt<'static>, tx: TxId, arguments: &[i64]) -> Called
-        requires known { IsCallable self.old.catalogue.now tx arguments.now }
-        ensures called { TriesCall self.old tx arguments.now result self.new }
-        ensures kept { KeepsStore self.old self.new }
-    {
-        match self.book.outcome_now(attempt, tx, arguments) {
-            Ok(Outcome::Retries) => Called::Retries,
-            Ok(_) => self.enter_call(attempt, tx, arguments),
+        match self.book.outcome_now(&mut lender.attempt, tx, arguments) {
+            Ok(Outcome::Retries) => Err(Refused::Retries),
+            Ok(_) => self.enter_call(&mut lender.attempt, tx, arguments),
             Err(_) => self.give_up_call(tx, arguments),
         }
     }
@@ -131,36 +118,37 @@ impl Store {
     }
 
     /// The call of a transaction of which the attempt has ended on the present values, and does not retry.
-    fn enter_call(&mut self, attempt: &mut Attempt<'static>, tx: TxId, arguments: &[i64]) -> Called
+    fn enter_call(
+        &mut self,
+        attempt: &mut Attempt<'static>,
+        tx: TxId,
+        arguments: &[i64],
+    ) -> Result<(Job, End), Refused>
         requires known { IsCallable self.old.catalogue.now tx arguments.now }
         requires ended { EndsHere self.old.book tx arguments.now attempt.old }
-        ensures called { TriesCall self.old tx arguments.now result self.new }
+        ensures called { Calls Way.Tries self.old tx arguments.now result self.new }
         ensures kept { KeepsStore self.old self.new }
     {
         self.book.law();
         let Some(job) = self.begin_call(tx, arguments) else {
-            return Called::NoRoom;
+            return Err(Refused::NoRoom);
         };
         let entered = enter(&mut self.book, attempt, self.every, job.task);
-        Called::Ran(Turned {
-            job,
-            end: End::Entered(entered),
-        })
+        Ok((job, End::Entered(entered)))
     }
 
     /// The call of a transaction that ran out of memory.
-    fn give_up_call(&mut self, tx: TxId, arguments: &[i64]) -> Called
+    fn give_up_call(&mut self, tx: TxId, arguments: &[i64]) -> Result<(Job, End), Refused>
         requires known { IsCallable self.old.catalogue.now tx arguments.now }
-        ensures called { TriesCall self.old tx arguments.now result self.new }
+        requires memory { TakesMemory self.old.book.catalogue tx }
+        ensures called { Calls Way.Tries self.old tx arguments.now result self.new }
         ensures kept { KeepsStore self.old self.new }
     {
+        self.book.law();
         let Some(job) = self.begin_call(tx, arguments) else {
-            return Called::NoRoom;
+            return Err(Refused::NoRoom);
         };
         let _running = self.book.give_up(job.task);
-        Called::Ran(Turned {
-            job,
-            end: End::Abandoned,
-        })
+        Ok((job, End::Abandoned))
     }
 }

@@ -8,12 +8,11 @@ ghost use Rattle.book.specs.Turns.{IsEndOf};
 ghost use Rattle.stm_store.specs.Bringing.{Judged};
 ghost use Rattle.stm_store.specs.Entering.{Enters, IsEntered};
 ghost use Rattle.stm_store.specs.Shapes.{IsSameShape};
-ghost use Rattle.stm_store.specs.Turning.{Ends, GivesTurns, ServesTask};
+ghost use Rattle.stm_store.specs.Turning.{Ends, GivesTurns};
 
-use crate::answers::{Brought, End, Entered, Served};
+use crate::answers::{End, Entered, Refused};
 use attempt::{Attempt, Stand};
 use book::{Book, Finish, Serial};
-use std::alloc::Global;
 use txn::{Outcome, TaskId};
 
 /// What is told of a task that was entered with this number, by the attempt that ended for it: the journal
@@ -93,35 +92,13 @@ fn give_turn_by_attempt(
     }
 }
 
-/// A turn of a task on the present values, where it runs, and a checkpoint where one is due.
-pub(crate) fn serve(alloc: Global, book: &mut Book<'static>, every: u32, task: TaskId) -> Served
-    requires exists { task.0 < length book.old.tasks }
-    ensures served { ServesTask every book.old task result book.new }
-    ensures listing { book.new.catalogue ≡ book.old.catalogue }
-    ensures shape { IsSameShape book.old book.new }
-{
-    book.law();
-    let how = book.serial(alloc, task);
-    book.law();
-    match how {
-        Serial::Committed(number) => {
-            let told = entered(book, task, number);
-            book.keep_short(every, how);
-            Served::Committed(told)
-        }
-        Serial::Parked => Served::Parked,
-        Serial::Abandoned => Served::Abandoned,
-        Serial::NotRunning => Served::NotRunning,
-    }
-}
-
 /// An ended attempt of the task is brought to the book, and a checkpoint follows where one is due.
 pub(crate) fn bring(
     book: &mut Book<'static>,
     attempt: &mut Attempt<'static>,
     every: u32,
     task: TaskId,
-) -> Brought
+) -> Result<End, Refused>
     requires exists { task.0 < length book.old.tasks }
     requires ended { IsEndOf book.old.catalogue task attempt.old }
     ensures judged { Judged every book.old task attempt.old result book.new }
@@ -135,11 +112,11 @@ pub(crate) fn bring(
         Finish::Committed(number) => {
             let told = entered(book, task, number);
             book.keep_short(every, Serial::Committed(number));
-            Brought::Committed(told)
+            Ok(End::Entered(told))
         }
-        Finish::Parked => Brought::Parked,
-        Finish::Stale => Brought::Stale,
-        Finish::NotRunning => Brought::NotRunning,
+        Finish::Parked => Ok(End::Parked),
+        Finish::Stale => Err(Refused::Stale),
+        Finish::NotRunning => Err(Refused::NotRunning),
     }
 }
 
@@ -189,8 +166,7 @@ pub(crate) fn give_turns(
         let Some(task) = book.take() else {
             return given;
         };
-        let how = book.serve(attempt, task);
-        book.keep_short(every, how);
+        let _end = give_turn(book, attempt, every, task);
         given += 1;
     }
     given

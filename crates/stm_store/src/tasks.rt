@@ -1,12 +1,13 @@
 //! Tasks of a store: submitted, taken, claimed, given up, and told of.
 
-ghost use Rattle.std.specs.Prelude.{◌≡◌, ◌<◌, ◌↔◌, IfSome, IsTrue, Some, length, slice_get};
+ghost use Rattle.std.specs.Prelude.{◌≡◌, ◌<◌, ◌↔◌, IfOk, IsTrue, Some, length, slice_get};
 ghost use Rattle.txn_programs.specs.Listing.{IsCallable, task_arguments, tasks};
 ghost use Rattle.book.specs.Counting.{AreCounts};
-ghost use Rattle.stm_store.specs.Asking.{IsJob, Submits, TakesJob, Claims, Withdraws, GivesUp, TellsOutcome};
-ghost use Rattle.stm_store.specs.Asking.{TellsStanding};
+ghost use Rattle.stm_store.specs.Asking.{Claims, GivesUp, IsJob, IsPresentJob, Submits, TakesJob};
+ghost use Rattle.stm_store.specs.Asking.{TellsOutcome, TellsStanding};
 ghost use Rattle.stm_store.specs.Keeping.{KeepsStore, KeepsTasks};
 
+use crate::answers::Refused;
 use crate::job::{Job, Ticket};
 use crate::store::Store;
 use book::{Counts, Standing};
@@ -14,19 +15,21 @@ use txn::{Arguments, Outcome, TaskId, TxId};
 use txn_declarations::same::same_values;
 
 impl Store {
-    /// A ready task of the call more, with the next ticket. `None` and no change exactly where there is no
+    /// A ready task of the call more, with the next ticket. `NoRoom` and no change exactly where there is no
     /// room for it, or 2^62 tickets were given. It takes no memory. The transaction has to exist, and to have
     /// as many parameters as there are arguments.
-    pub fn submit(&mut self, tx: TxId, arguments: &[i64]) -> Option<Ticket>
+    pub fn submit(&mut self, tx: TxId, arguments: &[i64]) -> Result<Ticket, Refused>
         requires known { IsCallable self.old.catalogue.now tx arguments.now }
         ensures submitted { Submits self.old tx arguments.now result self.new }
         ensures kept { KeepsStore self.old self.new }
     {
         if self.tickets.are_used_up() {
-            return None;
+            return Err(Refused::NoRoom);
         }
-        let _task = self.book.submit(tx, arguments)?;
-        Some(self.tickets.give())
+        let Some(_task) = self.book.submit(tx, arguments) else {
+            return Err(Refused::NoRoom);
+        };
+        Ok(self.tickets.give())
     }
 
     /// How many tasks more the present chapter has room for.
@@ -50,30 +53,34 @@ impl Store {
         self.book.counts()
     }
 
-    /// The lowest ready task, which is then running, with the call that it makes. `None`
-    /// exactly if none is ready. It takes no memory.
-    pub fn take(&mut self) -> Option<Job>
+    /// The lowest ready task, which is then running, with the call that it makes. `NotReady` and no change exactly
+    /// where none is ready. It takes no memory.
+    pub fn take(&mut self) -> Result<Job, Refused>
         ensures taken { TakesJob self.old result self.new }
-        ensures exists { IfSome result (λ job. job.task.0 < length (tasks self.old.book.catalogue)) }
-        ensures known { IfSome result (λ job. IsCallable self.old.catalogue.now job.tx job.arguments) }
+        ensures exists { IfOk result (λ job. job.task.0 < length (tasks self.old.book.catalogue)) }
+        ensures known { IfOk result (λ job. IsCallable self.old.catalogue.now job.tx job.arguments) }
         ensures kept { KeepsTasks self.old self.new }
     {
-        let task = self.book.take()?;
-        Some(self.job_of(task))
+        let Some(task) = self.book.take() else {
+            return Err(Refused::NotReady);
+        };
+        Ok(self.job_of(task))
     }
 
-    /// The task with the ticket, where it is ready: it is then running. `None` and no change exactly where
-    /// it was not ready, or is gone. It takes no memory.
-    pub fn claim(&mut self, ticket: Ticket) -> Option<Job>
+    /// The task with the ticket, where it is ready: it is then running. `Gone` exactly where no task has the ticket, and
+    /// `NotReady` exactly where its task is not ready; then nothing changed. It takes no memory.
+    pub fn claim(&mut self, ticket: Ticket) -> Result<Job, Refused>
         ensures claimed { Claims self.old ticket result self.new }
-        ensures known { IfSome result (λ job. IsCallable self.old.catalogue.now job.tx job.arguments) }
+        ensures known { IfOk result (λ job. IsCallable self.old.catalogue.now job.tx job.arguments) }
         ensures kept { KeepsTasks self.old self.new }
     {
-        let task = self.tickets.task(ticket)?;
+        let Some(task) = self.tickets.task(ticket) else {
+            return Err(Refused::Gone);
+        };
         if !self.book.claim(task) {
-            return None;
+            return Err(Refused::NotReady);
         }
-        Some(self.job_of(task))
+        Ok(self.job_of(task))
     }
 
     /// The job of a task.
@@ -94,28 +101,19 @@ impl Store {
         }
     }
 
-    /// The task with the ticket is given up, where it is ready or parked: it will not be entered. `false` and
-    /// no change where it was neither, or is gone. It takes no memory.
-    pub fn withdraw(&mut self, ticket: Ticket) -> bool
-        ensures withdrawn { Withdraws self.old ticket result self.new }
-        ensures kept { KeepsTasks self.old self.new }
-    {
-        match self.tickets.task(ticket) {
-            Some(task) => self.book.withdraw(task),
-            None => false,
-        }
-    }
-
-    /// The task with the ticket is given up, where it is running: it will not be entered. `false` and no
-    /// change where it was not running, or is gone. It takes no memory.
-    pub fn give_up(&mut self, ticket: Ticket) -> bool
+    /// The task with the ticket is given up, where it is ready, parked or running: it will not be entered. `Gone` and no
+    /// change exactly where no such task has the ticket. It takes no memory.
+    pub fn give_up(&mut self, ticket: Ticket) -> Result<(), Refused>
         ensures given_up { GivesUp self.old ticket result self.new }
         ensures kept { KeepsTasks self.old self.new }
     {
-        match self.tickets.task(ticket) {
-            Some(task) => self.book.give_up(task),
-            None => false,
+        let Some(task) = self.tickets.task(ticket) else {
+            return Err(Refused::Gone);
+        };
+        if self.book.withdraw(task) || self.book.give_up(task) {
+            return Ok(());
         }
+        Err(Refused::Gone)
     }
 
     /// What the entry of the task with the ticket records. `None` exactly where the task is not done, or is
@@ -137,8 +135,15 @@ impl Store {
         Some(self.book.standing(task))
     }
 
+    /// Whether the job is one of the present chapter of this store.
+    pub(crate) fn has_now(&self, job: Job) -> bool
+        ensures { IsTrue result ↔ IsPresentJob self.now job }
+    {
+        job.chapter == self.chapter && self.has(job)
+    }
+
     /// Whether the job is a task of this store: of its call, and with its ticket.
-    pub(crate) fn has(&self, job: Job) -> bool
+    fn has(&self, job: Job) -> bool
         ensures { IsTrue result ↔ IsJob self.now job }
     {
         self.tickets.has(job.task, job.ticket) && self.makes_call(job)

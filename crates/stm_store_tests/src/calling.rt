@@ -1,16 +1,17 @@
 //! Turns and calls, and what is told of the tasks that had them.
 
 use crate::looks::Look;
-use crate::rows::{Answer, At, How, Step, expect};
+use crate::rows::{At, How, Step, expect};
 use crate::texts::{FAULTS, TWO, WAITS};
 use book::Standing;
+use stm_store::Refused;
 use txn::{AlwaysId, Fault, Outcome, TxId};
 
 /// A call has its turn while both declared tasks are ready.
 const CALLS_FIRST: &[Step] = &[
-    Step::Calls(TxId(0), Answer::Ran(At(2, 0, 2, 0), How::Returns(1, 6))),
-    Step::Calls(TxId(0), Answer::NoRoom),
-    Step::Turns(Some((At(0, 0, 0, 0), How::Returns(2, 7)))),
+    Step::Calls(TxId(0), Ok((At(2, 0, 2, 0), How::Returns(1, 6)))),
+    Step::Calls(TxId(0), Err(Refused::NoRoom)),
+    Step::Turns(Ok((At(0, 0, 0, 0), How::Returns(2, 7)))),
     Step::Shows(Look::Outcome(2, Some(Outcome::Returned(6)))),
     Step::Shows(Look::Outcome(0, Some(Outcome::Returned(7)))),
     Step::Shows(Look::Outcome(1, None)),
@@ -18,15 +19,17 @@ const CALLS_FIRST: &[Step] = &[
     Step::Checkpoints,
     Step::Shows(Look::Outcome(2, None)),
     Step::Shows(Look::Standing(2, Some(Standing::Done(1)))),
-    Step::Claims(1, Some(At(1, 0, 1, 0))),
-    Step::Claims(1, None),
-    Step::Withdraws(1, false),
+    Step::Claims(1, Ok(At(1, 0, 1, 0))),
+    Step::Claims(1, Err(Refused::NotReady)),
+    Step::Claims(3, Err(Refused::Gone)),
     Step::Shows(Look::Standing(1, Some(Standing::Running))),
     Step::Shows(Look::WorkLeft),
-    Step::Serves(1, Some(How::Returns(3, 8))),
-    Step::Serves(1, None),
-    Step::Serves(3, None),
-    Step::Turns(None),
+    Step::Serves(At(1, 0, 1, 0), Ok(How::Returns(3, 8))),
+    Step::Serves(At(1, 0, 1, 0), Err(Refused::NotRunning)),
+    Step::Claims(1, Err(Refused::NotReady)),
+    Step::GivesUp(1, Err(Refused::Gone)),
+    Step::Serves(At(3, 0, 3, 0), Err(Refused::Gone)),
+    Step::Turns(Err(Refused::NotReady)),
     Step::Shows(Look::Good),
 ];
 
@@ -35,39 +38,39 @@ fn a_call_has_its_turn_first(rt: HostRuntime) {
     expect(&rt, rt.alloc(), TWO, 1, CALLS_FIRST);
 }
 
-/// A parked task is withdrawn: what changes then wakes nobody.
-const WITHDRAWS: &[Step] = &[
-    Step::Turns(Some((At(0, 0, 0, 0), How::Parks))),
-    Step::Claims(0, None),
-    Step::GivesUp(0, false),
+/// A parked task is given up, once: what changes then wakes nobody.
+const GIVES_UP_WHO_WAITS: &[Step] = &[
+    Step::Turns(Ok((At(0, 0, 0, 0), How::Parks))),
+    Step::Claims(0, Err(Refused::NotReady)),
+    Step::Takes(Err(Refused::NotReady)),
     Step::Shows(Look::Standing(0, Some(Standing::Parked))),
-    Step::Withdraws(0, true),
-    Step::Withdraws(0, false),
+    Step::GivesUp(0, Ok(())),
+    Step::GivesUp(0, Err(Refused::Gone)),
     Step::Shows(Look::Standing(0, Some(Standing::GivenUp))),
     Step::Shows(Look::Report("base 0\nx 0 0\nnow 0\nx 0 0\nmemory 0 t\nend\n")),
     Step::Shows(Look::Good),
-    Step::Calls(TxId(1), Answer::Ran(At(1, 0, 1, 1), How::Returns(1, 1))),
-    Step::Turns(None),
+    Step::Calls(TxId(1), Ok((At(1, 0, 1, 1), How::Returns(1, 1)))),
+    Step::Turns(Err(Refused::NotReady)),
     Step::Shows(Look::Good),
 ];
 
 #[test]
-fn a_parked_task_is_withdrawn_once(rt: HostRuntime) {
-    expect(&rt, rt.alloc(), WAITS, 1, WITHDRAWS);
+fn a_parked_task_is_given_up_once(rt: HostRuntime) {
+    expect(&rt, rt.alloc(), WAITS, 1, GIVES_UP_WHO_WAITS);
 }
 
 /// A call that parks is woken by another, and its turn tells its entry. A try leaves nothing behind.
 const WAITS_AND_WAKES: &[Step] = &[
-    Step::TriesToCall(TxId(0), Answer::Retries),
+    Step::TriesToCall(TxId(0), Err(Refused::Retries)),
     Step::Shows(Look::Tasks(1)),
-    Step::Calls(TxId(0), Answer::Ran(At(1, 0, 1, 0), How::Parks)),
+    Step::Calls(TxId(0), Ok((At(1, 0, 1, 0), How::Parks))),
     Step::Shows(Look::Outcome(1, None)),
-    Step::TriesToCall(TxId(1), Answer::Ran(At(2, 0, 2, 1), How::Returns(1, 1))),
+    Step::TriesToCall(TxId(1), Ok((At(2, 0, 2, 1), How::Returns(1, 1)))),
     Step::Shows(Look::Standing(1, Some(Standing::Ready))),
-    Step::TriesToCall(TxId(0), Answer::Ran(At(3, 0, 3, 0), How::Returns(2, 1))),
-    Step::TriesToCall(TxId(0), Answer::NoRoom),
-    Step::Turns(Some((At(0, 0, 0, 0), How::Returns(3, 1)))),
-    Step::Turns(Some((At(1, 0, 1, 0), How::Returns(4, 1)))),
+    Step::TriesToCall(TxId(0), Ok((At(3, 0, 3, 0), How::Returns(2, 1)))),
+    Step::TriesToCall(TxId(0), Err(Refused::NoRoom)),
+    Step::Turns(Ok((At(0, 0, 0, 0), How::Returns(3, 1)))),
+    Step::Turns(Ok((At(1, 0, 1, 0), How::Returns(4, 1)))),
     Step::Shows(Look::Outcome(1, Some(Outcome::Returned(1)))),
     Step::Shows(Look::Good),
 ];
@@ -79,9 +82,9 @@ fn a_call_that_waits_is_woken(rt: HostRuntime) {
 
 /// Where there is no room a try of what retries still says so.
 const RETRIES_WITHOUT_ROOM: &[Step] = &[
-    Step::TriesToCall(TxId(0), Answer::Retries),
-    Step::TriesToCall(TxId(1), Answer::NoRoom),
-    Step::Calls(TxId(0), Answer::NoRoom),
+    Step::TriesToCall(TxId(0), Err(Refused::Retries)),
+    Step::TriesToCall(TxId(1), Err(Refused::NoRoom)),
+    Step::Calls(TxId(0), Err(Refused::NoRoom)),
     Step::Shows(Look::Standing(0, Some(Standing::Ready))),
 ];
 
@@ -94,15 +97,15 @@ fn a_try_that_retries_needs_no_room(rt: HostRuntime) {
 const THROWS: &[Step] = &[
     Step::Calls(
         TxId(0),
-        Answer::Ran(At(0, 0, 0, 0), How::Throws(1, Fault::User(8))),
+        Ok((At(0, 0, 0, 0), How::Throws(1, Fault::User(8)))),
     ),
     Step::TriesToCall(
         TxId(1),
-        Answer::Ran(At(1, 0, 1, 1), How::Throws(2, Fault::Broken(AlwaysId(0)))),
+        Ok((At(1, 0, 1, 1), How::Throws(2, Fault::Broken(AlwaysId(0))))),
     ),
-    Step::Submits(TxId(2), Some(2)),
-    Step::Turns(Some((At(2, 0, 2, 2), How::Throws(3, Fault::Overflow)))),
-    Step::Calls(TxId(3), Answer::Ran(At(3, 0, 3, 3), How::Returns(4, 9))),
+    Step::Submits(TxId(2), Ok(2)),
+    Step::Turns(Ok((At(2, 0, 2, 2), How::Throws(3, Fault::Overflow)))),
+    Step::Calls(TxId(3), Ok((At(3, 0, 3, 3), How::Returns(4, 9)))),
     Step::Shows(Look::Outcome(0, Some(Outcome::Thrown(Fault::User(8))))),
     Step::Shows(Look::Outcome(3, Some(Outcome::Returned(9)))),
     Step::Shows(Look::Value("n", Some((9, 4)))),
@@ -120,7 +123,7 @@ fn what_is_thrown_is_told(rt: HostRuntime) {
 const GIVES: &[Step] = &[
     Step::Gives(0, 0),
     Step::Gives(1, 1),
-    Step::Submits(TxId(0), Some(2)),
+    Step::Submits(TxId(0), Ok(2)),
     Step::Gives(9, 2),
     Step::Gives(9, 0),
     Step::Shows(Look::Outcome(2, Some(Outcome::Returned(8)))),
@@ -133,20 +136,21 @@ fn turns_are_given_until_none_is_ready(rt: HostRuntime) {
 
 /// A job has its turn where its task runs, in the chapter in which it was taken.
 const SERVES_JOBS: &[Step] = &[
-    Step::ServesJob(At(0, 0, 0, 0), None),
-    Step::Takes(Some(At(0, 0, 0, 0))),
-    Step::ServesJob(At(1, 0, 0, 0), None),
-    Step::ServesJob(At(0, 1, 0, 0), None),
-    Step::ServesJob(At(0, 0, 0, 1), None),
-    Step::ServesJob(At(0, 0, 7, 0), None),
-    Step::ServesJob(At(0, 0, 0, 0), Some(How::Returns(1, 6))),
-    Step::ServesJob(At(0, 0, 0, 0), None),
-    Step::Claims(1, Some(At(1, 0, 1, 0))),
+    Step::Serves(At(0, 0, 0, 0), Err(Refused::NotRunning)),
+    Step::Takes(Ok(At(0, 0, 0, 0))),
+    Step::Serves(At(1, 0, 0, 0), Err(Refused::Gone)),
+    Step::Serves(At(0, 1, 0, 0), Err(Refused::Gone)),
+    Step::Serves(At(0, 0, 0, 1), Err(Refused::Gone)),
+    Step::Serves(At(0, 0, 7, 0), Err(Refused::Gone)),
+    Step::Serves(At(0, 0, 0, 0), Ok(How::Returns(1, 6))),
+    Step::Serves(At(0, 0, 0, 0), Err(Refused::NotRunning)),
+    Step::Claims(1, Ok(At(1, 0, 1, 0))),
     Step::BeginsChapter,
-    Step::ServesJob(At(1, 0, 1, 0), None),
-    Step::Claims(1, Some(At(1, 1, 0, 0))),
-    Step::ServesJob(At(1, 0, 0, 0), None),
-    Step::ServesJob(At(1, 1, 0, 0), Some(How::Returns(1, 7))),
+    Step::Serves(At(1, 0, 1, 0), Err(Refused::Gone)),
+    Step::Serves(At(0, 0, 0, 0), Err(Refused::Gone)),
+    Step::Claims(1, Ok(At(1, 1, 0, 0))),
+    Step::Serves(At(1, 0, 0, 0), Err(Refused::Gone)),
+    Step::Serves(At(1, 1, 0, 0), Ok(How::Returns(1, 7))),
     Step::Shows(Look::Good),
 ];
 
@@ -157,10 +161,10 @@ fn a_job_has_its_turn(rt: HostRuntime) {
 
 /// What retries is parked.
 const SERVES_ONE_THAT_RETRIES: &[Step] = &[
-    Step::Takes(Some(At(0, 0, 0, 0))),
-    Step::ServesJob(At(0, 0, 0, 0), Some(How::Parks)),
+    Step::Takes(Ok(At(0, 0, 0, 0))),
+    Step::Serves(At(0, 0, 0, 0), Ok(How::Parks)),
     Step::Shows(Look::Standing(0, Some(Standing::Parked))),
-    Step::ServesJob(At(0, 0, 0, 0), None),
+    Step::Serves(At(0, 0, 0, 0), Err(Refused::NotRunning)),
 ];
 
 #[test]

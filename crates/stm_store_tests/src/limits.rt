@@ -3,7 +3,7 @@
 use crate::texts::{MIXED, NOTHING, TWO, WAITS};
 use std::alloc::Global;
 use std::process::Abort;
-use stm_store::{Lender, Program, Store};
+use stm_store::{Lender, Program, Refused, Store};
 use txn::{Outcome, TxId};
 
 /// A store of the file, opened for so many workers.
@@ -51,7 +51,7 @@ fn a_store_has_up_to_32_workers(rt: HostRuntime) {
 /// There is no worker of the store, and so many turns are given by the lender.
 fn gives(rt: &impl Abort, store: &mut Store, lender: &mut Lender, turns: u32) {
     assert!(rt; !hires(store));
-    assert!(rt; store.turns_lent(lender, 200) == turns);
+    assert!(rt; store.turns(lender, 200) == turns);
 }
 
 /// A lender of the first store gives its two turns, and those of the other one.
@@ -95,7 +95,7 @@ fn what_would_end_is_told_and_not_entered(rt: HostRuntime) {
 /// Nobody is hired or lent to and nothing is ready, and a chapter passes.
 fn has_nothing(rt: &impl Abort, store: &mut Store) {
     assert!(rt; !hires(store) && !lends(store));
-    assert!(rt; store.take().is_none());
+    assert!(rt; store.take() == Err(Refused::NotReady));
     store.begin_chapter();
     assert!(rt; store.chapter() == 1);
     assert!(rt; store.tasks() == 0);

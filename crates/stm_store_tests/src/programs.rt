@@ -1,11 +1,10 @@
 //! Workers that are brought to a store: of it, of another chapter, and of other programs.
 
-use crate::rows::{At, job};
+use crate::rows::{At, How, end, job};
 use crate::texts::{ALIKE, GUARDED, OTHER, TWO, WAITS, WIDER};
 use std::alloc::Global;
 use std::process::Abort;
-use stm_store::{Brought, Entered, Program, Served, Store, Ticket, Tried, Worker};
-use txn::Outcome;
+use stm_store::{End, Program, Refused, Store, Worker};
 
 /// What is done with a store and a worker, with what it has to answer.
 enum Act {
@@ -14,9 +13,9 @@ enum Act {
     /// The worker tries this job to its end.
     Tries(At),
     /// What the worker has tried is answered so.
-    Brings(Brought),
-    /// The task of this ticket commits by a turn.
-    Serves(u64),
+    Brings(Result<How, Refused>),
+    /// The job is entered by a turn.
+    Serves(At),
     BeginsChapter,
 }
 
@@ -26,15 +25,9 @@ const FIRST: At = At(0, 0, 0, 0);
 /// The job of the second task that was declared.
 const SECOND: At = At(1, 0, 1, 0);
 
-const FIRST_ENTERED: Brought = Brought::Committed(Entered {
-    number: 1,
-    outcome: Outcome::Returned(6),
-});
+const FIRST_ENTERED: Act = Act::Brings(Ok(How::Returns(1, 6)));
 
-const SECOND_ENTERED: Brought = Brought::Committed(Entered {
-    number: 2,
-    outcome: Outcome::Returned(7),
-});
+const SECOND_ENTERED: Act = Act::Brings(Ok(How::Returns(2, 7)));
 
 /// A store of the file with room for two tasks more, and a worker of it.
 fn opened(rt: &impl Abort, alloc: Global, file: &str) -> (Store, Worker) {
@@ -57,16 +50,24 @@ fn tries(worker: &mut Worker, at: At) -> bool {
     worker
         .catalogue()
         .is_callable(job.tx, job.arguments.as_slice())
-        && worker.try_job(job) == Tried::Ended
+        && worker.try_job(job) == Ok(())
+}
+
+/// Whether a turn of the job enters it.
+fn enters(store: &mut Store, at: At) -> bool {
+    let Some(mut lender) = store.lender() else {
+        return false;
+    };
+    matches!(store.turn(&mut lender, job(at)), Ok(End::Entered(_)))
 }
 
 /// Whether it is answered so.
 fn goes(store: &mut Store, worker: &mut Worker, act: &Act) -> bool {
     match act {
-        Act::Takes(at) => store.take() == Some(job(*at)),
+        Act::Takes(at) => store.take() == Ok(job(*at)),
         Act::Tries(at) => tries(worker, *at),
-        Act::Brings(how) => store.finish_of_any(worker) == *how,
-        Act::Serves(ticket) => matches!(store.serial(Ticket(*ticket)), Served::Committed(_)),
+        Act::Brings(how) => store.bring(worker) == how.map(end),
+        Act::Serves(at) => enters(store, *at),
         Act::BeginsChapter => {
             store.begin_chapter();
             true
@@ -94,16 +95,16 @@ fn expect_of(rt: &(impl Abort + Eprint), alloc: Global, file: &str, acts: &[Act]
 }
 
 const BROUGHT_ONCE: &[Act] = &[
-    Act::Brings(Brought::NotEnded),
+    Act::Brings(Err(Refused::NotEnded)),
     // It was not taken.
     Act::Tries(FIRST),
-    Act::Brings(Brought::NotRunning),
+    Act::Brings(Err(Refused::NotRunning)),
     Act::Takes(FIRST),
     Act::Tries(FIRST),
-    Act::Brings(FIRST_ENTERED),
-    Act::Brings(Brought::NotEnded),
+    FIRST_ENTERED,
+    Act::Brings(Err(Refused::NotEnded)),
     Act::Tries(FIRST),
-    Act::Brings(Brought::NotRunning),
+    Act::Brings(Err(Refused::NotRunning)),
 ];
 
 #[test]
@@ -115,10 +116,10 @@ const CHANGED_MEANWHILE: &[Act] = &[
     Act::Takes(FIRST),
     Act::Takes(SECOND),
     Act::Tries(SECOND),
-    Act::Serves(0),
-    Act::Brings(Brought::Stale),
+    Act::Serves(FIRST),
+    Act::Brings(Err(Refused::Stale)),
     Act::Tries(SECOND),
-    Act::Brings(SECOND_ENTERED),
+    SECOND_ENTERED,
 ];
 
 #[test]
@@ -129,9 +130,9 @@ fn what_was_changed_meanwhile_is_stale(rt: HostRuntime) {
 const RETRIES: &[Act] = &[
     Act::Takes(FIRST),
     Act::Tries(FIRST),
-    Act::Brings(Brought::Parked),
+    Act::Brings(Ok(How::Parks)),
     Act::Tries(FIRST),
-    Act::Brings(Brought::NotRunning),
+    Act::Brings(Err(Refused::NotRunning)),
 ];
 
 #[test]
@@ -143,15 +144,15 @@ fn an_attempt_that_retries_is_parked(rt: HostRuntime) {
 const OTHER_JOBS: &[Act] = &[
     Act::Takes(FIRST),
     Act::Tries(At(1, 0, 0, 0)),
-    Act::Brings(Brought::OtherTask),
+    Act::Brings(Err(Refused::Gone)),
     Act::Tries(At(0, 0, 0, 1)),
-    Act::Brings(Brought::OtherTask),
+    Act::Brings(Err(Refused::Gone)),
     Act::Tries(At(0, 0, 1, 0)),
-    Act::Brings(Brought::OtherTask),
+    Act::Brings(Err(Refused::Gone)),
     Act::Tries(At(0, 1, 0, 0)),
-    Act::Brings(Brought::OtherChapter),
+    Act::Brings(Err(Refused::Gone)),
     Act::Tries(FIRST),
-    Act::Brings(Brought::Parked),
+    Act::Brings(Ok(How::Parks)),
 ];
 
 #[test]
@@ -165,9 +166,9 @@ const EARLIER_CHAPTER: &[Act] = &[
     Act::BeginsChapter,
     Act::Takes(At(0, 1, 0, 0)),
     Act::Tries(FIRST),
-    Act::Brings(Brought::OtherChapter),
+    Act::Brings(Err(Refused::Gone)),
     Act::Tries(At(0, 1, 0, 0)),
-    Act::Brings(FIRST_ENTERED),
+    FIRST_ENTERED,
 ];
 
 #[test]
@@ -175,28 +176,24 @@ fn a_job_of_an_earlier_chapter_is_refused(rt: HostRuntime) {
     expect(&rt, rt.alloc(), TWO, EARLIER_CHAPTER);
 }
 
-const OF_THE_SAME: &[Act] = &[
-    Act::Takes(FIRST),
-    Act::Tries(FIRST),
-    Act::Brings(FIRST_ENTERED),
-];
+const OF_THE_SAME: &[Act] = &[Act::Takes(FIRST), Act::Tries(FIRST), FIRST_ENTERED];
 
 const OF_ONE_THAT_DIFFERS: &[Act] = &[
     Act::Takes(FIRST),
     Act::Tries(FIRST),
-    Act::Brings(Brought::Stale),
+    Act::Brings(Err(Refused::Stale)),
 ];
 
 const OF_ANOTHER_TRANSACTION: &[Act] = &[
     Act::Takes(FIRST),
     Act::Tries(At(0, 0, 0, 1)),
-    Act::Brings(Brought::OtherTask),
+    Act::Brings(Err(Refused::Gone)),
 ];
 
 const OF_ANOTHER_PROGRAM: &[Act] = &[
     Act::Takes(FIRST),
     Act::Tries(FIRST),
-    Act::Brings(Brought::OtherProgram),
+    Act::Brings(Err(Refused::OtherProgram)),
 ];
 
 #[test]

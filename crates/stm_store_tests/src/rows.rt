@@ -1,10 +1,10 @@
 //! Rows of calls on a store that was just opened, each with what it has to answer.
 
-use crate::lends::{By, call, has, lending, try_call, turn, turns};
+use crate::lends::{call, has, turn};
 use crate::looks::{Look, shows};
 use std::alloc::Global;
 use std::process::Abort;
-use stm_store::{Called, End, Entered, Job, Program, Served, Store, Ticket, Turned};
+use stm_store::{End, Entered, Job, Lender, Program, Refused, Store, Ticket, Way};
 use txn::{Arguments, Fault, Outcome, TaskId, TxId};
 
 /// A job: its ticket, its chapter, the number of its task there, and its transaction.
@@ -19,30 +19,20 @@ pub(crate) enum How {
     Parks,
 }
 
-/// What a call answers.
-#[derive(Clone, Copy)]
-pub(crate) enum Answer {
-    Ran(At, How),
-    NoRoom,
-    Retries,
-}
-
 /// A call, with what it has to answer.
 pub(crate) enum Step {
-    Submits(TxId, Option<u64>),
-    Takes(Option<At>),
-    Claims(u64, Option<At>),
-    Withdraws(u64, bool),
-    GivesUp(u64, bool),
-    /// The task was not running, or its turn ended so.
-    Serves(u64, Option<How>),
-    /// The job's task was not running, or its turn by a lender's attempt ended so.
-    ServesJob(At, Option<How>),
-    Turns(Option<(At, How)>),
+    Submits(TxId, Result<u64, Refused>),
+    Takes(Result<At, Refused>),
+    Claims(u64, Result<At, Refused>),
+    GivesUp(u64, Result<(), Refused>),
+    /// A turn of this job.
+    Serves(At, Result<How, Refused>),
+    /// A turn of the lowest ready task.
+    Turns(Result<(At, How), Refused>),
     /// At most so many turns, and how many were given.
     Gives(u32, u32),
-    Calls(TxId, Answer),
-    TriesToCall(TxId, Answer),
+    Calls(TxId, Result<(At, How), Refused>),
+    TriesToCall(TxId, Result<(At, How), Refused>),
     Checkpoints,
     BeginsChapter,
     /// The store shows this.
@@ -61,14 +51,14 @@ pub(crate) fn job(at: At) -> Job {
 }
 
 /// A task that was entered with this number, and returned this.
-pub(crate) fn returned(number: u64, value: i64) -> Entered {
+fn returned(number: u64, value: i64) -> Entered {
     Entered {
         number,
         outcome: Outcome::Returned(value),
     }
 }
 
-fn end(how: How) -> End {
+pub(crate) fn end(how: How) -> End {
     match how {
         How::Returns(number, value) => End::Entered(returned(number, value)),
         How::Throws(number, fault) => End::Entered(Entered {
@@ -79,92 +69,48 @@ fn end(how: How) -> End {
     }
 }
 
-fn turned(at: At, how: How) -> Turned {
-    Turned {
-        job: job(at),
-        end: end(how),
-    }
-}
-
-fn called(answer: Answer) -> Called {
-    match answer {
-        Answer::Ran(at, how) => Called::Ran(turned(at, how)),
-        Answer::NoRoom => Called::NoRoom,
-        Answer::Retries => Called::Retries,
-    }
-}
-
-fn served(how: Option<How>) -> Served {
-    match how {
-        Some(How::Returns(number, value)) => Served::Committed(returned(number, value)),
-        Some(How::Throws(number, fault)) => Served::Committed(Entered {
-            number,
-            outcome: Outcome::Thrown(fault),
-        }),
-        Some(How::Parks) => Served::Parked,
-        None => Served::NotRunning,
-    }
-}
-
-/// A store with whose attempt it is lent.
+/// A store, with who lends it an attempt.
 #[derive(Drop)]
 pub(crate) struct Host {
     pub(crate) store: Store,
-    pub(crate) by: By,
+    pub(crate) lender: Lender,
 }
 
-/// Whether to submit the transaction answers so.
-fn submits(store: &mut Store, tx: TxId, ticket: Option<u64>) -> bool {
+/// Whether to submit the transaction is answered so.
+fn submits(store: &mut Store, tx: TxId, ticket: Result<u64, Refused>) -> bool {
     has(store, tx) && store.submit(tx, &[]) == ticket.map(Ticket)
 }
 
-/// Whether a turn of the job by a lender's attempt ends so.
-fn serves_job(store: &mut Store, at: At, how: Option<How>) -> bool {
-    let Some(mut lender) = store.lender() else {
-        return false;
-    };
-    store.serial_lent(&mut lender, job(at)) == how.map(end)
-}
-
 /// Whether the call on one task is answered so.
-fn asks(store: &mut Store, step: &Step) -> bool {
+fn asks(host: &mut Host, step: &Step) -> bool {
+    let store = &mut host.store;
     match step {
         Step::Submits(tx, ticket) => submits(store, *tx, *ticket),
         Step::Takes(at) => store.take() == at.map(job),
         Step::Claims(ticket, at) => store.claim(Ticket(*ticket)) == at.map(job),
-        Step::Withdraws(ticket, how) => store.withdraw(Ticket(*ticket)) == *how,
         Step::GivesUp(ticket, how) => store.give_up(Ticket(*ticket)) == *how,
-        Step::Serves(ticket, how) => store.serial(Ticket(*ticket)) == served(*how),
-        Step::ServesJob(at, how) => serves_job(store, *at, *how),
+        Step::Serves(at, how) => store.turn(&mut host.lender, job(*at)) == how.map(end),
         _ => false,
     }
 }
 
-/// Whether the next turn is this one, or there is none.
-fn gives_turn(host: &mut Host, how: Option<(At, How)>) -> bool {
-    match (turn(&mut host.store, &mut host.by), how) {
-        (Some(given), Some((at, how))) => given == turned(at, how),
-        (None, None) => true,
+/// Whether a turn of this task was answered so.
+fn is_turn(answer: Result<(Job, End), Refused>, wanted: Result<(At, How), Refused>) -> bool {
+    match (answer, wanted) {
+        (Ok((of, came)), Ok((at, how))) => of == job(at) && came == end(how),
+        (Err(why), Err(refused)) => why == refused,
         _ => false,
-    }
-}
-
-/// Whether a call was answered so.
-fn is_called(answer: Option<Called>, how: Answer) -> bool {
-    match answer {
-        Some(answer) => answer == called(how),
-        None => false,
     }
 }
 
 /// Whether the step is answered so.
 fn goes(alloc: Global, host: &mut Host, step: &Step) -> bool {
-    let store = &mut host.store;
+    let Host { store, lender } = host;
     match step {
-        Step::Turns(how) => gives_turn(host, *how),
-        Step::Gives(most, given) => turns(store, &mut host.by, *most) == *given,
-        Step::Calls(tx, how) => is_called(call(store, &mut host.by, *tx), *how),
-        Step::TriesToCall(tx, how) => is_called(try_call(store, &mut host.by, *tx), *how),
+        Step::Turns(how) => is_turn(turn(store, lender), *how),
+        Step::Gives(most, given) => store.turns(lender, *most) == *given,
+        Step::Calls(tx, how) => is_turn(call(store, lender, *tx, Way::Waits), *how),
+        Step::TriesToCall(tx, how) => is_turn(call(store, lender, *tx, Way::Tries), *how),
         Step::Checkpoints => {
             store.checkpoint();
             true
@@ -174,7 +120,7 @@ fn goes(alloc: Global, host: &mut Host, step: &Step) -> bool {
             true
         }
         Step::Shows(look) => shows(alloc, store, look),
-        _ => asks(store, step),
+        _ => asks(host, step),
     }
 }
 
@@ -187,20 +133,15 @@ pub(crate) struct Opening {
     pub(crate) spare: usize,
 }
 
-/// A store of the file, with a worker if there is to be one, else a lender.
-pub(crate) fn opened(
-    rt: &(impl Abort + Eprint),
-    alloc: Global,
-    opening: Opening,
-    worker: bool,
-) -> Host {
+/// A store of the file, and a lender.
+pub(crate) fn opened(rt: &(impl Abort + Eprint), alloc: Global, opening: Opening) -> Host {
     let Ok(program) = Program::read(alloc, opening.file.as_bytes()) else {
         panic!(rt; "no program")
     };
     assert!(rt;
         opening.workers <= 32 && opening.spare <= 1000 && program.catalogue().tasks() <= 1000
     );
-    let Ok(mut store) = Store::open_with_room(
+    let Ok(store) = Store::open_with_room(
         alloc,
         program,
         opening.workers,
@@ -209,10 +150,10 @@ pub(crate) fn opened(
     ) else {
         panic!(rt; "no store")
     };
-    let Some(by) = lending(&mut store, worker) else {
+    let Some(lender) = store.lender() else {
         panic!(rt; "nobody lends")
     };
-    Host { store, by }
+    Host { store, lender }
 }
 
 /// The host goes by these steps.
@@ -222,8 +163,8 @@ pub(crate) fn follows(rt: &(impl Abort + Eprint), alloc: Global, host: &mut Host
     }
 }
 
-/// The steps are answered so by a store of the file with room for so many tasks more, whether a worker lends
-/// its attempt or a lender does.
+/// The steps are answered so by a store of the file with room for so many tasks more, whether a worker reads its
+/// cells or nobody does.
 pub(crate) fn expect(
     rt: &(impl Abort + Eprint),
     alloc: Global,
@@ -231,16 +172,13 @@ pub(crate) fn expect(
     spare: usize,
     steps: &[Step],
 ) {
-    let opening = Opening {
-        file,
-        workers: 1,
-        every: 0,
-        spare,
-    };
-    follows(rt, alloc, &mut opened(rt, alloc, opening, true), steps);
-    let unread = Opening {
-        workers: 0,
-        ..opening
-    };
-    follows(rt, alloc, &mut opened(rt, alloc, unread, false), steps);
+    for workers in 0..2 {
+        let opening = Opening {
+            file,
+            workers,
+            every: 0,
+            spare,
+        };
+        follows(rt, alloc, &mut opened(rt, alloc, opening), steps);
+    }
 }

@@ -1,7 +1,7 @@
 //! Cells of tables, as a store's calls, its file and its report tell them.
 
 use crate::looks::Look;
-use crate::rows::{Answer, At, How, Step, expect};
+use crate::rows::{At, How, Step, expect};
 use crate::texts::TABLES;
 use txn::TxId;
 
@@ -40,9 +40,9 @@ fn a_cell_is_known_by_name_and_by_number(rt: HostRuntime) {
 
 /// What was written is told with its entry's number, and the next chapter begins with it.
 const WRITTEN: &[Step] = &[
-    Step::Turns(Some((At(0, 0, 0, 1), How::Parks))),
+    Step::Turns(Ok((At(0, 0, 0, 1), How::Parks))),
     Step::Shows(Look::Report("base 0\nspare 9 0\nnow 0\nspare 9 0\nparked 0 wait\nend\n")),
-    Step::Calls(TxId(0), Answer::Ran(At(1, 0, 1, 0), How::Returns(1, 440))),
+    Step::Calls(TxId(0), Ok((At(1, 0, 1, 0), How::Returns(1, 440)))),
     Step::Shows(Look::Value("acct[4]", Some((40, 1)))),
     Step::Shows(Look::Cell(1, 0, Some((-1, 1)))),
     Step::Shows(Look::Cell(1, 1, Some((6, 0)))),
@@ -54,7 +54,7 @@ const WRITTEN: &[Step] = &[
     Step::Shows(Look::Cells(1, 0, &[-1, 6])),
     Step::Shows(Look::Cells(2, 0, &[])),
     Step::Shows(Look::Values(&[9, 100, 100, 100, 100, 40, -1, 6])),
-    Step::Turns(Some((At(0, 0, 0, 1), How::Returns(2, -1)))),
+    Step::Turns(Ok((At(0, 0, 0, 1), How::Returns(2, -1)))),
     Step::Shows(Look::Report(
         "base 0\nspare 9 0\nentry 1 1 pay returned 440\nentry 2 0 wait returned -1\nnow 2\nspare 9 0\nacct[4] 40 \
             1\nrate[0] -1 1\nend\n",

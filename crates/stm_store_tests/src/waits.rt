@@ -2,7 +2,7 @@
 //! the low bits of their numbers.
 
 use crate::looks::Look;
-use crate::rows::{Answer, At, How, Step, expect};
+use crate::rows::{At, How, Step, expect};
 use book::Standing;
 use txn::TxId;
 
@@ -17,16 +17,16 @@ const IS_PARKED: Step = Step::Shows(Look::Standing(0, Some(Standing::Parked)));
 const IS_READY: Step = Step::Shows(Look::Standing(0, Some(Standing::Ready)));
 
 const WOKEN_BY_ITS_OWN: &[Step] = &[
-    Step::Turns(Some((At(0, 0, 0, 0), How::Parks))),
-    Step::Calls(TxId(1), Answer::Ran(At(1, 0, 1, 1), How::Returns(1, 0))),
+    Step::Turns(Ok((At(0, 0, 0, 0), How::Parks))),
+    Step::Calls(TxId(1), Ok((At(1, 0, 1, 1), How::Returns(1, 0)))),
     IS_PARKED,
-    Step::Calls(TxId(2), Answer::Ran(At(2, 0, 2, 2), How::Returns(2, 0))),
+    Step::Calls(TxId(2), Ok((At(2, 0, 2, 2), How::Returns(2, 0)))),
     IS_PARKED,
-    Step::Calls(TxId(3), Answer::Ran(At(3, 0, 3, 3), How::Returns(3, 0))),
+    Step::Calls(TxId(3), Ok((At(3, 0, 3, 3), How::Returns(3, 0)))),
     IS_PARKED,
-    Step::Calls(TxId(4), Answer::Ran(At(4, 0, 4, 4), How::Returns(4, 0))),
+    Step::Calls(TxId(4), Ok((At(4, 0, 4, 4), How::Returns(4, 0)))),
     IS_READY,
-    Step::Turns(Some((At(0, 0, 0, 0), How::Returns(5, 7)))),
+    Step::Turns(Ok((At(0, 0, 0, 0), How::Returns(5, 7)))),
     Step::Shows(Look::Good),
 ];
 
@@ -37,14 +37,14 @@ fn a_task_is_woken_by_its_own_cell(rt: HostRuntime) {
 
 /// The task waits on in the next chapter.
 const ACROSS_CHAPTERS: &[Step] = &[
-    Step::Turns(Some((At(0, 0, 0, 0), How::Parks))),
+    Step::Turns(Ok((At(0, 0, 0, 0), How::Parks))),
     Step::BeginsChapter,
     IS_PARKED,
-    Step::Calls(TxId(1), Answer::Ran(At(1, 1, 1, 1), How::Returns(1, 0))),
+    Step::Calls(TxId(1), Ok((At(1, 1, 1, 1), How::Returns(1, 0)))),
     IS_PARKED,
-    Step::Calls(TxId(4), Answer::Ran(At(2, 1, 2, 4), How::Returns(2, 0))),
+    Step::Calls(TxId(4), Ok((At(2, 1, 2, 4), How::Returns(2, 0)))),
     IS_READY,
-    Step::Turns(Some((At(0, 1, 0, 0), How::Returns(3, 7)))),
+    Step::Turns(Ok((At(0, 1, 0, 0), How::Returns(3, 7)))),
     Step::Shows(Look::Good),
 ];
 
@@ -61,15 +61,15 @@ const TWICE: &str =
         two 1)";
 
 const WOKEN_APART: &[Step] = &[
-    Step::Turns(Some((At(0, 0, 0, 0), How::Parks))),
-    Step::Turns(Some((At(1, 0, 1, 1), How::Parks))),
-    Step::Calls(TxId(2), Answer::Ran(At(2, 0, 2, 2), How::Returns(1, 0))),
+    Step::Turns(Ok((At(0, 0, 0, 0), How::Parks))),
+    Step::Turns(Ok((At(1, 0, 1, 1), How::Parks))),
+    Step::Calls(TxId(2), Ok((At(2, 0, 2, 2), How::Returns(1, 0)))),
     IS_PARKED,
     Step::Shows(Look::Standing(1, Some(Standing::Ready))),
-    Step::Turns(Some((At(1, 0, 1, 1), How::Returns(2, 2)))),
-    Step::Calls(TxId(3), Answer::Ran(At(3, 0, 3, 3), How::Returns(3, 0))),
+    Step::Turns(Ok((At(1, 0, 1, 1), How::Returns(2, 2)))),
+    Step::Calls(TxId(3), Ok((At(3, 0, 3, 3), How::Returns(3, 0)))),
     IS_READY,
-    Step::Turns(Some((At(0, 0, 0, 0), How::Returns(4, 9)))),
+    Step::Turns(Ok((At(0, 0, 0, 0), How::Returns(4, 9)))),
     Step::Shows(Look::Good),
 ];
 
@@ -90,12 +90,12 @@ const LAST: &[&str] = &[
 ];
 
 const WOKEN_BY_THE_LAST: &[Step] = &[
-    Step::Turns(Some((At(0, 0, 0, 0), How::Parks))),
-    Step::Calls(TxId(1), Answer::Ran(At(1, 0, 1, 1), How::Returns(1, 0))),
+    Step::Turns(Ok((At(0, 0, 0, 0), How::Parks))),
+    Step::Calls(TxId(1), Ok((At(1, 0, 1, 1), How::Returns(1, 0)))),
     IS_PARKED,
-    Step::Calls(TxId(2), Answer::Ran(At(2, 0, 2, 2), How::Returns(2, 0))),
+    Step::Calls(TxId(2), Ok((At(2, 0, 2, 2), How::Returns(2, 0)))),
     IS_READY,
-    Step::Turns(Some((At(0, 0, 0, 0), How::Returns(3, 7)))),
+    Step::Turns(Ok((At(0, 0, 0, 0), How::Returns(3, 7)))),
     Step::Shows(Look::Good),
 ];
 
@@ -105,10 +105,10 @@ const SUM: &str =
         wait 1)";
 
 const WOKEN_BY_ANY: &[Step] = &[
-    Step::Turns(Some((At(0, 0, 0, 0), How::Parks))),
-    Step::Calls(TxId(1), Answer::Ran(At(1, 0, 1, 1), How::Returns(1, 0))),
+    Step::Turns(Ok((At(0, 0, 0, 0), How::Parks))),
+    Step::Calls(TxId(1), Ok((At(1, 0, 1, 1), How::Returns(1, 0)))),
     IS_READY,
-    Step::Turns(Some((At(0, 0, 0, 0), How::Returns(2, 5)))),
+    Step::Turns(Ok((At(0, 0, 0, 0), How::Returns(2, 5)))),
     Step::Shows(Look::Good),
 ];
 

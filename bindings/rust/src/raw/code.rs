@@ -1,4 +1,4 @@
-//! What the calls answer, by the names of the header.
+//! What the calls answer, and the ways to call, by the names of the header.
 
 pub const DONE: i32 = 0;
 pub const RETRIES: i32 = 1;
@@ -11,11 +11,9 @@ pub const DIVIDE_BY_ZERO: i32 = 7;
 pub const BROKEN: i32 = 8;
 pub const MORE: i32 = 9;
 pub const NO_END: i32 = 10;
-pub const IDLE: i32 = 11;
 pub const NO_ENTRY: i32 = 12;
 pub const READY: i32 = 13;
 pub const RUNNING: i32 = 14;
-pub const NOT_WAITING: i32 = 15;
 pub const OUTSIDE: i32 = 16;
 pub const BAD_TEXT: i32 = 101;
 pub const BAD_BASE: i32 = 102;
@@ -38,7 +36,7 @@ pub const NO_ROOM: i32 = -14;
 pub const WORK_LEFT: i32 = -15;
 pub const STATES: i32 = -16;
 pub const OTHER_PROGRAM: i32 = -17;
-pub const OTHER_CHAPTER: i32 = -18;
+pub const GONE: i32 = -18;
 pub const CLOSED: i32 = -19;
 pub const TIMED_OUT: i32 = -20;
 pub const SCHEDULE_TOO_LONG: i32 = -21;
@@ -46,3 +44,7 @@ pub const SCHEDULE_BAD_BYTE: i32 = -22;
 pub const SCHEDULE_SHAPE: i32 = -23;
 pub const SCHEDULE_NAME: i32 = -24;
 pub const SCHEDULE_LIMIT: i32 = -25;
+pub const NOT_READY: i32 = -26;
+
+pub const WAITS: u32 = 0;
+pub const TRIES: u32 = 1;

@@ -1,4 +1,4 @@
-use Rattle.std.proofs.Common.{◌≡◌, ◌∙◌, refl, sym, ap, subst}
+use Rattle.std.proofs.Common.{◌∙◌, refl, sym, ap, subst}
 use Rattle.book.specs.View.{BookView, IsRunning}
 use Rattle.book.specs.declared.task.Serial.TheVariants as serial
 use Rattle.stm_store.specs.Shapes.{IsSameShape}

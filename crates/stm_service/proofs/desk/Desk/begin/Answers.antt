@@ -1,4 +1,4 @@
-use Rattle.std.proofs.Common.{Bool, List, Option, refl, ap, subst}
+use Rattle.std.proofs.Common.{List, Option, ap, subst}
 use Rattle.txn_programs.specs.Meaning.{State}
 use Rattle.book.specs.View.{BookView}
 use Rattle.stm_store.specs.declared.job.Ticket.{Ticket}

@@ -1,6 +1,8 @@
-use Rattle.std.proofs.Common.{ℤ, List, subst}
+use Rattle.std.proofs.Common.{ℤ, List, Option, subst, sym}
 use Rattle.std.specs.BTreeMap.{values}
 use Rattle.stm_store.specs.Asking.{Submits}
+use Rattle.stm_store.specs.declared.job.Ticket.{Ticket}
+use Rattle.stm_service.specs.Calling.{IsSubmitted}
 use Rattle.stm_service.proofs.Begun.{submits_long}
 use Rattle.stm_service.proofs.Heard.{all_heard_same, submit_same}
 use Rattle.stm_service.proofs.desk.Desk.submit_long.Goals as goal
@@ -17,5 +19,6 @@ returns-clause-submitted g c =
     let s = c.args.self.now in
     let call = c.args.call.now in
     let new = c.submit.new.self in
-    submits_long s.store new call c.submit.result c.law.ensures.fits c.law.ensures.each
-    (subst (λ (xs : List ℤ). Submits s.store call.tx xs c.submit.result new) c.as_slice.ensures.value c.submit.ensures.submitted)
+    subst (λ (r : Option Ticket). IsSubmitted s.store call r new) (sym c.ok.ensures.value)
+    (submits_long s.store new call c.submit.result c.law.ensures.fits c.law.ensures.each
+    (subst (λ (xs : List ℤ). Submits s.store call.tx xs c.submit.result new) c.as_slice.ensures.value c.submit.ensures.submitted))

@@ -1,7 +1,6 @@
 use Rattle.std.proofs.Common.{sym, ap, subst}
 use Rattle.std.specs.BTreeMap.{values}
 use Rattle.txn_programs.specs.declared.arguments.Call.{Call}
-use Rattle.stm_service.specs.Answering.{call_of}
 use Rattle.stm_service.specs.Seeing.{IsHeard}
 use Rattle.stm_service.proofs.Heard.{all_heard_set, all_heard_still, among, seat_heard}
 use Rattle.stm_service.proofs.desk.Desk.tell_thread.Goals as goal

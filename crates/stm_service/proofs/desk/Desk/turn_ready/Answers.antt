@@ -4,7 +4,7 @@ use Rattle.stm_service.proofs.desk.Desk.turn_ready.Goals as goal
 
 pub loop-job-smaller : goal.loop-job-smaller
 loop-job-smaller g c =
-    turned_lighter c.loop-job.self.store c.take.new.self.store c.turn.new.self.store c.in-Some.job c.in-Some.ensures.taken c.turn.ensures.turn
+    turned_lighter c.loop-job.self.store c.take.new.self.store c.turn.new.self.store c.in-Ok.job c.in-Ok.ensures.taken c.turn.ensures.turn
 
 pub loop-job-preserved : goal.loop-job-preserved
 loop-job-preserved g c = record {
