@@ -1,0 +1,6 @@
+//! A list of what happened that only clauses read.
+#![tactic(auto)]
+
+mod log;
+
+pub use log::Log;

@@ -1,0 +1,57 @@
+-- What a call is answered, by what the store answered.
+use Rattle.std.proofs.Common.{◌≡◌, ◌≢◌, ◌∙◌, ℕ, [], ◌∷◌, ◌++◌, Result, Ok, Err, IfErr, IfOk, OnErr, OnOk, refl, sym, ap, subst}
+use Rattle.txn_programs.specs.declared.arguments.Call.{Call}
+use Rattle.stm_store.specs.Turning.{RefusesCall}
+use Rattle.stm_store.specs.declared.answers.End.{End}
+use Rattle.stm_store.specs.declared.answers.End.TheVariants as end
+use Rattle.stm_store.specs.declared.answers.Refused.{Refused}
+use Rattle.stm_store.specs.declared.answers.Refused.TheVariants as refused
+use Rattle.stm_store.specs.declared.answers.Way.{Way}
+use Rattle.stm_store.specs.declared.answers.Way.TheVariants as ways
+use Rattle.stm_store.specs.declared.job.Ticket.{Ticket}
+use Rattle.stm_store.specs.declared.store.Store.{Store}
+use Rattle.stm_desk.specs.declared.answers.Asked.{Asked}
+use Rattle.stm_desk.specs.declared.answers.Asked.TheVariants as asked
+use Rattle.stm_desk.specs.declared.answers.Became.TheVariants as became
+use Rattle.stm_desk.specs.declared.work.Work.{Work}
+use Rattle.stm_desk.specs.Asking.{IsAnswered, IsSame, next_ticket}
+use Rattle.stm_desk.specs.Open.{IsParkedCall}
+use Rattle.stm_desk.specs.Waiting.{IsSeated}
+
+-- a call whose task was parked waits
+pub only_waits : (way : Way) (how : End) → how ≡ end.Parked → (way ≡ ways.Tries → how ≢ end.Parked) → way ≡ ways.Waits
+only_waits ways.Waits how is tries = refl
+only_waits ways.Tries how is tries = absurd (tries refl is)
+
+-- who sat down, or was refused memory
+pub sit_answers : (old new : Work) (mid : Store) (call : Call) (way : Way) (whose : ℕ) (ticket : Ticket) (r : Result Asked Refused) → way ≡ ways.Waits → ticket ≡ next_ticket old.store → IsParkedCall mid ticket call
+    → OnOk r (IsSeated old.waiters ticket whose call new.waiters × (new.store ≡ mid) × (new.history.items ≡ old.history.items)) → IfOk r (λ a. a ≡ asked.Waits ticket) → IfErr r (λ why. why ≡ refused.Memory) → OnErr r (new.history.items ≡ old.history.items ++ (ticket, became.Left) ∷ [])
+    → IsAnswered old call way whose r new
+sit_answers old new mid call way whose ticket (Ok a) waits next parked seated is why left =
+    subst (λ (x : Asked). IsAnswered old call way whose (Ok x) new) (sym is) (
+      waits,
+      record {
+        ticket_is = next;
+        history = seated.2;
+        parked = ∣ subst (λ (s : Store). IsParkedCall s ticket call) (sym seated.1) parked ∣₁;
+        seated = seated.0;
+      },
+    )
+sit_answers old new mid call way whose ticket (Err e) waits next parked seated is why left =
+    subst (λ (x : Refused). IsAnswered old call way whose (Err x) new) (sym why)
+    (left ∙ ap (λ (t : Ticket). old.history.items ++ (t, became.Left) ∷ []) next)
+
+-- one that was refused
+pub refused_answers : (old new : Work) (call : Call) (way : Way) (whose : ℕ) (why : Refused) → RefusesCall way old.store call.tx call.arguments why → IsSame old new → IsAnswered old call way whose (Err why) new
+refused_answers old new call way whose refused.Unknown r same = (r, same)
+refused_answers old new call way whose refused.Gone r same = (r, same)
+refused_answers old new call way whose refused.NotReady r same = (r, same)
+refused_answers old new call way whose refused.NotRunning r same = (r, same)
+refused_answers old new call way whose refused.NotEnded r same = (r, same)
+refused_answers old new call way whose refused.OtherProgram r same = (r, same)
+refused_answers old new call way whose refused.Stale r same = (r, same)
+refused_answers old new call way whose refused.NoRoom r same = (r, same)
+refused_answers old new call way whose refused.Retries r same = (r, same)
+refused_answers old new call way whose refused.Memory r same = absurd r
+refused_answers old new call way whose refused.Closed r same = (r, same)
+refused_answers old new call way whose refused.TimedOut r same = (r, same)

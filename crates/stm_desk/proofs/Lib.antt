@@ -1,0 +1,6 @@
+mod Flags
+mod Becoming
+mod Calling
+mod Legal
+mod Seats
+mod Answered

@@ -1,0 +1,244 @@
+use Rattle.std.proofs.Common.{◌≡◌, ◌∙◌, ℤ, List, Some, [], ◌∷◌, ◌++◌, refl, slice_get, sym, ap, subst}
+use Rattle.std.proofs.Math.Logic.{∥∥₁_map}
+use Rattle.book.specs.Tasks.{Running}
+use Rattle.book.specs.View.{BookView}
+use Rattle.stm_store.specs.Turning.{RefusesCall}
+use Rattle.stm_store.specs.declared.job.Ticket.{Ticket}
+use Rattle.stm_desk.specs.declared.answers.Became.TheVariants as became
+use Rattle.stm_desk.specs.declared.answers.Answer.{Answer}
+use Rattle.stm_desk.specs.History.{History}
+use Rattle.stm_desk.specs.Keeping.{Accounts}
+use Rattle.stm_desk.proofs.Answered.{only_waits, refused_answers, sit_answers}
+use Rattle.stm_desk.proofs.Becoming.{alike_over, unchanged_alike}
+use Rattle.stm_desk.proofs.Calling.{IsCalled, call_abandons, call_enters, call_parked, call_served, call_stays, call_still, is_called, next_is, number_is}
+use Rattle.stm_desk.proofs.Legal.{accounts_become, accounts_stay, counted_more, place_left}
+use Rattle.stm_desk.proofs.Seats.{AreTold, all_told_on, seated_alike, seated_still}
+use Rattle.stm_desk.proofs.work.Work.call.Goals as goal
+
+-- it was refused
+pub invariant_of-self : goal.invariant_of-self
+invariant_of-self c =
+    let s = c.args.self.now in
+    let new = c.call-called.new.self in
+    let a = unchanged_alike s.store new c.in-Err.ensures.kept c.in-Err.ensures.called.1 in
+    record {
+      lends = λ none. absurd (cc (none));
+      still = λ k runs. s.still k (subst (λ (b : BookView). slice_get b.tasks k ≡ Some Running) c.in-Err.ensures.called.1.0 runs);
+      counted = s.counted;
+      accounts = ∥∥₁_map s.accounts (accounts_stay s.first.value s.store new s.history.items a.kept.store.catalogue a.present (λ t. alike_over s.store new t a));
+      seated = seated_alike s.store new s.waiters a s.seated;
+      told = s.told;
+    }
+
+pub returns-in-Err-clause-answered : goal.returns-in-Err-clause-answered
+returns-in-Err-clause-answered c =
+    let s = c.args.self.now in
+    refused_answers s _ c.args.call.now c.args.way c.args.whose c.in-Err.why
+    (subst (λ (xs : List ℤ). RefusesCall c.args.way s.store c.args.call.now.tx xs c.in-Err.why) c.as_slice.ensures.value c.in-Err.ensures.called.0)
+    (record { store = c.in-Err.ensures.called.1; waiters = refl; history = refl })
+
+-- it was entered
+pub note-requires : goal.note-requires
+note-requires c =
+    let s = c.args.self.now in
+    place_left s.first.value s.store s.history.items s.places s.counted c.law.ensures.tickets s.accounts
+
+pub invariant_of-self-in-Entered-clause-still : goal.invariant_of-self-in-Entered-clause-still
+invariant_of-self-in-Entered-clause-still c =
+    let s = c.args.self.now in
+    let new = c.call-called.new.self in
+    let call = c.args.call.now in
+    let job = c.in-Ok.turn.0 in
+    let is = is_called s.store c.call-called.new.self c.args.call.now c.as_slice.result.now c.in-Ok.turn.0 c.in-Ok.turn.1 c.as_slice.ensures.value c.law.ensures.declared c.law.ensures.fits c.law.ensures.each c.law.ensures.tickets c.in-Ok.ensures.kept c.in-Ok.ensures.called.0 in
+    call_still s.store new call job c.in-Ok.turn.1 is s.still
+
+pub invariant_of-self-in-Entered-clause-counted : goal.invariant_of-self-in-Entered-clause-counted
+invariant_of-self-in-Entered-clause-counted c =
+    let s = c.args.self.now in
+    counted_more s.places c.note.new.places s.history.items c.note.new.history.items _ s.counted c.note.ensures.places c.note.ensures.history
+
+pub invariant_of-self-in-Entered-clause-accounts : goal.invariant_of-self-in-Entered-clause-accounts
+invariant_of-self-in-Entered-clause-accounts c =
+    let s = c.args.self.now in
+    let new = c.call-called.new.self in
+    let call = c.args.call.now in
+    let job = c.in-Ok.turn.0 in
+    let is = is_called s.store c.call-called.new.self c.args.call.now c.as_slice.result.now c.in-Ok.turn.0 c.in-Ok.turn.1 c.as_slice.ensures.value c.law.ensures.declared c.law.ensures.fits c.law.ensures.each c.law.ensures.tickets c.in-Ok.ensures.kept c.in-Ok.ensures.called.0 in
+    let e = c.in-Entered.entered in
+    ∥∥₁_map s.accounts (λ (a : Accounts s.first.value s.store s.history.items).
+    subst (λ (h : History). Accounts s.first.value new h) (sym c.note.ensures.history)
+    (accounts_become s.first.value s.store new s.history.items job.ticket (became.Entered call e.outcome) a (call_enters s.store new call job e (subst (IsCalled s.store new call job) c.in-Entered.is is))))
+
+pub invariant_of-self-in-Entered-clause-seated : goal.invariant_of-self-in-Entered-clause-seated
+invariant_of-self-in-Entered-clause-seated c =
+    let s = c.args.self.now in
+    let new = c.call-called.new.self in
+    let call = c.args.call.now in
+    let job = c.in-Ok.turn.0 in
+    let is = is_called s.store c.call-called.new.self c.args.call.now c.as_slice.result.now c.in-Ok.turn.0 c.in-Ok.turn.1 c.as_slice.ensures.value c.law.ensures.declared c.law.ensures.fits c.law.ensures.each c.law.ensures.tickets c.in-Ok.ensures.kept c.in-Ok.ensures.called.0 in
+    let e = c.in-Entered.entered in
+    let b = call_enters s.store new call job e (subst (IsCalled s.store new call job) c.in-Entered.is is) in
+    seated_still s.store new s.waiters job.ticket c.law.ensures.tickets is.runs.is_new.ticket b.stays s.seated
+
+pub invariant_of-self-in-Entered-clause-told : goal.invariant_of-self-in-Entered-clause-told
+invariant_of-self-in-Entered-clause-told c =
+    let s = c.args.self.now in
+    let new = c.call-called.new.self in
+    let call = c.args.call.now in
+    let job = c.in-Ok.turn.0 in
+    let is = is_called s.store c.call-called.new.self c.args.call.now c.as_slice.result.now c.in-Ok.turn.0 c.in-Ok.turn.1 c.as_slice.ensures.value c.law.ensures.declared c.law.ensures.fits c.law.ensures.each c.law.ensures.tickets c.in-Ok.ensures.kept c.in-Ok.ensures.called.0 in
+    let e = c.in-Entered.entered in
+    ∥∥₁_map s.told (λ (k : AreTold s.first.value.catalogue.now s.closed s.history.items s.waiters.told.items).
+    subst (λ (h : History). AreTold s.first.value.catalogue.now s.closed h s.waiters.told.items) (sym c.note.ensures.history)
+    (all_told_on s.first.value.catalogue.now s.closed s.history.items (job.ticket, (became.Entered call e.outcome)) s.waiters.told.items k))
+
+pub returns-in-Entered-clause-answered : goal.returns-in-Entered-clause-answered
+returns-in-Entered-clause-answered c =
+    let s = c.args.self.now in
+    let new = c.call-called.new.self in
+    let call = c.args.call.now in
+    let job = c.in-Ok.turn.0 in
+    let is = is_called s.store c.call-called.new.self c.args.call.now c.as_slice.result.now c.in-Ok.turn.0 c.in-Ok.turn.1 c.as_slice.ensures.value c.law.ensures.declared c.law.ensures.fits c.law.ensures.each c.law.ensures.tickets c.in-Ok.ensures.kept c.in-Ok.ensures.called.0 in
+    let e = c.in-Entered.entered in
+    let told = c.answer_of-answer.ensures in
+    record {
+      ticket = ap (λ (a : Answer). a.ticket) told ∙ next_is s.store new call job c.in-Ok.turn.1 is;
+      chapter = ap (λ (a : Answer). a.chapter) told ∙ is.runs.is_new.chapter;
+      entry = ap (λ (a : Answer). a.entry) told ∙ number_is s.store new call job e (subst (IsCalled s.store new call job) c.in-Entered.is is);
+      place = ap (λ (a : Answer). a.place) told ∙ s.counted;
+      history = c.note.ensures.history ∙ ap (λ (a : Answer). s.history.items ++ (a.ticket, became.Entered call a.outcome) ∷ []) (sym told);
+    }
+
+pub returns-in-Entered-clause-served : goal.returns-in-Entered-clause-served
+returns-in-Entered-clause-served c apart served k ready = absurd (apart _ refl)
+
+-- it was given up
+pub note-requires-in-Abandoned : goal.note-requires-in-Abandoned
+note-requires-in-Abandoned c =
+    let s = c.args.self.now in
+    place_left s.first.value s.store s.history.items s.places s.counted c.law.ensures.tickets s.accounts
+
+pub invariant_of-self-in-Abandoned-clause-still : goal.invariant_of-self-in-Abandoned-clause-still
+invariant_of-self-in-Abandoned-clause-still c =
+    let s = c.args.self.now in
+    let new = c.call-called.new.self in
+    let call = c.args.call.now in
+    let job = c.in-Ok.turn.0 in
+    let is = is_called s.store c.call-called.new.self c.args.call.now c.as_slice.result.now c.in-Ok.turn.0 c.in-Ok.turn.1 c.as_slice.ensures.value c.law.ensures.declared c.law.ensures.fits c.law.ensures.each c.law.ensures.tickets c.in-Ok.ensures.kept c.in-Ok.ensures.called.0 in
+    call_still s.store new call job c.in-Ok.turn.1 is s.still
+
+pub invariant_of-self-in-Abandoned-clause-counted : goal.invariant_of-self-in-Abandoned-clause-counted
+invariant_of-self-in-Abandoned-clause-counted c =
+    let s = c.args.self.now in
+    counted_more s.places c.note-in-Abandoned.new.places s.history.items c.note-in-Abandoned.new.history.items _ s.counted c.note-in-Abandoned.ensures.places c.note-in-Abandoned.ensures.history
+
+pub invariant_of-self-in-Abandoned-clause-accounts : goal.invariant_of-self-in-Abandoned-clause-accounts
+invariant_of-self-in-Abandoned-clause-accounts c =
+    let s = c.args.self.now in
+    let new = c.call-called.new.self in
+    let call = c.args.call.now in
+    let job = c.in-Ok.turn.0 in
+    let is = is_called s.store c.call-called.new.self c.args.call.now c.as_slice.result.now c.in-Ok.turn.0 c.in-Ok.turn.1 c.as_slice.ensures.value c.law.ensures.declared c.law.ensures.fits c.law.ensures.each c.law.ensures.tickets c.in-Ok.ensures.kept c.in-Ok.ensures.called.0 in
+    ∥∥₁_map s.accounts (λ (a : Accounts s.first.value s.store s.history.items).
+    subst (λ (h : History). Accounts s.first.value new h) (sym c.note-in-Abandoned.ensures.history)
+    (accounts_become s.first.value s.store new s.history.items job.ticket became.Left a (call_abandons s.store new call job (subst (IsCalled s.store new call job) c.in-Abandoned.is is))))
+
+pub invariant_of-self-in-Abandoned-clause-seated : goal.invariant_of-self-in-Abandoned-clause-seated
+invariant_of-self-in-Abandoned-clause-seated c =
+    let s = c.args.self.now in
+    let new = c.call-called.new.self in
+    let call = c.args.call.now in
+    let job = c.in-Ok.turn.0 in
+    let is = is_called s.store c.call-called.new.self c.args.call.now c.as_slice.result.now c.in-Ok.turn.0 c.in-Ok.turn.1 c.as_slice.ensures.value c.law.ensures.declared c.law.ensures.fits c.law.ensures.each c.law.ensures.tickets c.in-Ok.ensures.kept c.in-Ok.ensures.called.0 in
+    let b = call_abandons s.store new call job (subst (IsCalled s.store new call job) c.in-Abandoned.is is) in
+    seated_still s.store new s.waiters job.ticket c.law.ensures.tickets is.runs.is_new.ticket b.stays s.seated
+
+pub invariant_of-self-in-Abandoned-clause-told : goal.invariant_of-self-in-Abandoned-clause-told
+invariant_of-self-in-Abandoned-clause-told c =
+    let s = c.args.self.now in
+    let new = c.call-called.new.self in
+    let call = c.args.call.now in
+    let job = c.in-Ok.turn.0 in
+    let is = is_called s.store c.call-called.new.self c.args.call.now c.as_slice.result.now c.in-Ok.turn.0 c.in-Ok.turn.1 c.as_slice.ensures.value c.law.ensures.declared c.law.ensures.fits c.law.ensures.each c.law.ensures.tickets c.in-Ok.ensures.kept c.in-Ok.ensures.called.0 in
+    ∥∥₁_map s.told (λ (k : AreTold s.first.value.catalogue.now s.closed s.history.items s.waiters.told.items).
+    subst (λ (h : History). AreTold s.first.value.catalogue.now s.closed h s.waiters.told.items) (sym c.note-in-Abandoned.ensures.history)
+    (all_told_on s.first.value.catalogue.now s.closed s.history.items (job.ticket, became.Left) s.waiters.told.items k))
+
+pub returns-in-Abandoned-clause-answered : goal.returns-in-Abandoned-clause-answered
+returns-in-Abandoned-clause-answered c =
+    let s = c.args.self.now in
+    let new = c.call-called.new.self in
+    let call = c.args.call.now in
+    let job = c.in-Ok.turn.0 in
+    let is = is_called s.store c.call-called.new.self c.args.call.now c.as_slice.result.now c.in-Ok.turn.0 c.in-Ok.turn.1 c.as_slice.ensures.value c.law.ensures.declared c.law.ensures.fits c.law.ensures.each c.law.ensures.tickets c.in-Ok.ensures.kept c.in-Ok.ensures.called.0 in
+    c.note-in-Abandoned.ensures.history ∙ ap (λ (t : Ticket). s.history.items ++ (t, became.Left) ∷ []) (next_is s.store new call job c.in-Ok.turn.1 is)
+
+pub returns-in-Abandoned-clause-served : goal.returns-in-Abandoned-clause-served
+returns-in-Abandoned-clause-served c apart =
+    let s = c.args.self.now in
+    let new = c.call-called.new.self in
+    let call = c.args.call.now in
+    let job = c.in-Ok.turn.0 in
+    let is = is_called s.store c.call-called.new.self c.args.call.now c.as_slice.result.now c.in-Ok.turn.0 c.in-Ok.turn.1 c.as_slice.ensures.value c.law.ensures.declared c.law.ensures.fits c.law.ensures.each c.law.ensures.tickets c.in-Ok.ensures.kept c.in-Ok.ensures.called.0 in
+    call_served s.store new call job c.in-Ok.turn.1 is (λ e same. absurd (cc (same, c.in-Abandoned.is)))
+
+-- it waits
+pub invariant_of-self-in-Parked-clause-still : goal.invariant_of-self-in-Parked-clause-still
+invariant_of-self-in-Parked-clause-still c =
+    let s = c.args.self.now in
+    let new = c.call-called.new.self in
+    let call = c.args.call.now in
+    let job = c.in-Ok.turn.0 in
+    let is = is_called s.store c.call-called.new.self c.args.call.now c.as_slice.result.now c.in-Ok.turn.0 c.in-Ok.turn.1 c.as_slice.ensures.value c.law.ensures.declared c.law.ensures.fits c.law.ensures.each c.law.ensures.tickets c.in-Ok.ensures.kept c.in-Ok.ensures.called.0 in
+    call_still s.store new call job c.in-Ok.turn.1 is s.still
+
+pub invariant_of-self-in-Parked-clause-seated : goal.invariant_of-self-in-Parked-clause-seated
+invariant_of-self-in-Parked-clause-seated c =
+    let s = c.args.self.now in
+    let new = c.call-called.new.self in
+    let call = c.args.call.now in
+    let job = c.in-Ok.turn.0 in
+    let is = is_called s.store c.call-called.new.self c.args.call.now c.as_slice.result.now c.in-Ok.turn.0 c.in-Ok.turn.1 c.as_slice.ensures.value c.law.ensures.declared c.law.ensures.fits c.law.ensures.each c.law.ensures.tickets c.in-Ok.ensures.kept c.in-Ok.ensures.called.0 in
+    let parked = subst (IsCalled s.store new call job) c.in-Parked.is is in
+    seated_still s.store new s.waiters job.ticket c.law.ensures.tickets is.runs.is_new.ticket (call_stays s.store new call job parked).stays s.seated
+
+pub invariant_of-self-in-Parked-clause-accounts : goal.invariant_of-self-in-Parked-clause-accounts
+invariant_of-self-in-Parked-clause-accounts c =
+    let s = c.args.self.now in
+    let new = c.call-called.new.self in
+    let call = c.args.call.now in
+    let job = c.in-Ok.turn.0 in
+    let is = is_called s.store c.call-called.new.self c.args.call.now c.as_slice.result.now c.in-Ok.turn.0 c.in-Ok.turn.1 c.as_slice.ensures.value c.law.ensures.declared c.law.ensures.fits c.law.ensures.each c.law.ensures.tickets c.in-Ok.ensures.kept c.in-Ok.ensures.called.0 in
+    let parked = subst (IsCalled s.store new call job) c.in-Parked.is is in
+    let h = call_stays s.store new call job parked in
+    ∥∥₁_map s.accounts (accounts_stay s.first.value s.store new s.history.items h.stays.catalogue h.present h.stays.over)
+
+pub sit-requires : goal.sit-requires
+sit-requires c =
+    let s = c.args.self.now in
+    let new = c.call-called.new.self in
+    let call = c.args.call.now in
+    let job = c.in-Ok.turn.0 in
+    let is = is_called s.store c.call-called.new.self c.args.call.now c.as_slice.result.now c.in-Ok.turn.0 c.in-Ok.turn.1 c.as_slice.ensures.value c.law.ensures.declared c.law.ensures.fits c.law.ensures.each c.law.ensures.tickets c.in-Ok.ensures.kept c.in-Ok.ensures.called.0 in
+    let parked = subst (IsCalled s.store new call job) c.in-Parked.is is in
+    record { is_open = ∣ (call_stays s.store new call job parked).is_open ∣₁ }
+
+pub returns-in-Parked-clause-answered : goal.returns-in-Parked-clause-answered
+returns-in-Parked-clause-answered c =
+    let s = c.args.self.now in
+    let new = c.call-called.new.self in
+    let call = c.args.call.now in
+    let job = c.in-Ok.turn.0 in
+    let is = is_called s.store c.call-called.new.self c.args.call.now c.as_slice.result.now c.in-Ok.turn.0 c.in-Ok.turn.1 c.as_slice.ensures.value c.law.ensures.declared c.law.ensures.fits c.law.ensures.each c.law.ensures.tickets c.in-Ok.ensures.kept c.in-Ok.ensures.called.0 in
+    let parked = subst (IsCalled s.store new call job) c.in-Parked.is is in
+    sit_answers s _ new call c.args.way c.args.whose job.ticket c.sit.result (only_waits c.args.way c.in-Ok.turn.1 c.in-Parked.is c.in-Ok.ensures.called.1) (next_is s.store new call job c.in-Ok.turn.1 is) (call_parked s.store new call job parked)
+    c.sit.ensures.seated c.sit.ensures.asked c.sit.ensures.refused c.sit.ensures.left
+
+pub returns-in-Parked-clause-served : goal.returns-in-Parked-clause-served
+returns-in-Parked-clause-served c apart served =
+    let s = c.args.self.now in
+    let new = c.call-called.new.self in
+    let call = c.args.call.now in
+    let job = c.in-Ok.turn.0 in
+    let is = is_called s.store c.call-called.new.self c.args.call.now c.as_slice.result.now c.in-Ok.turn.0 c.in-Ok.turn.1 c.as_slice.ensures.value c.law.ensures.declared c.law.ensures.fits c.law.ensures.each c.law.ensures.tickets c.in-Ok.ensures.kept c.in-Ok.ensures.called.0 in
+    c.sit.ensures.served (call_served s.store new call job c.in-Ok.turn.1 is (λ e same. absurd (cc (same, c.in-Parked.is))) served)

@@ -1,0 +1,5 @@
+//! Tests of a desk by its calls.
+#![tactic(auto)]
+
+#[cfg(test)]
+mod asking;
