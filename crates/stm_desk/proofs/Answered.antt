@@ -16,7 +16,7 @@ use Rattle.stm_desk.specs.declared.answers.Became.TheVariants as became
 use Rattle.stm_desk.specs.declared.work.Work.{Work}
 use Rattle.stm_desk.specs.Asking.{IsAnswered, IsSame, next_ticket}
 use Rattle.stm_desk.specs.Open.{IsParkedCall}
-use Rattle.stm_desk.specs.Waiting.{IsSeated}
+use Rattle.stm_desk.specs.Waiting.{IsSeated, WaitAsBefore}
 
 -- a call whose task was parked waits
 pub only_waits : (way : Way) (how : End) → how ≡ end.Parked → (way ≡ ways.Tries → how ≢ end.Parked) → way ≡ ways.Waits
@@ -25,7 +25,7 @@ only_waits ways.Tries how is tries = absurd (tries refl is)
 
 -- who sat down, or was refused memory
 pub sit_answers : (old new : Work) (mid : Store) (call : Call) (way : Way) (whose : ℕ) (ticket : Ticket) (r : Result Asked Refused) → way ≡ ways.Waits → ticket ≡ next_ticket old.store → IsParkedCall mid ticket call
-    → OnOk r (IsSeated old.waiters ticket whose call new.waiters × (new.store ≡ mid) × (new.history.items ≡ old.history.items)) → IfOk r (λ a. a ≡ asked.Waits ticket) → IfErr r (λ why. why ≡ refused.Memory) → OnErr r (new.history.items ≡ old.history.items ++ (ticket, became.Left) ∷ [])
+    → OnOk r (IsSeated old.waiters ticket whose call new.waiters × (new.store ≡ mid) × (new.history.items ≡ old.history.items)) → IfOk r (λ a. a ≡ asked.Waits ticket) → IfErr r (λ why. why ≡ refused.Memory) → OnErr r ((new.history.items ≡ old.history.items ++ (ticket, became.Left) ∷ []) × WaitAsBefore old.waiters new.waiters)
     → IsAnswered old call way whose r new
 sit_answers old new mid call way whose ticket (Ok a) waits next parked seated is why left =
     subst (λ (x : Asked). IsAnswered old call way whose (Ok x) new) (sym is) (
@@ -39,7 +39,7 @@ sit_answers old new mid call way whose ticket (Ok a) waits next parked seated is
     )
 sit_answers old new mid call way whose ticket (Err e) waits next parked seated is why left =
     subst (λ (x : Refused). IsAnswered old call way whose (Err x) new) (sym why)
-    (left ∙ ap (λ (t : Ticket). old.history.items ++ (t, became.Left) ∷ []) next)
+    (left.0 ∙ ap (λ (t : Ticket). old.history.items ++ (t, became.Left) ∷ []) next, left.1)
 
 -- one that was refused
 pub refused_answers : (old new : Work) (call : Call) (way : Way) (whose : ℕ) (why : Refused) → RefusesCall way old.store call.tx call.arguments why → IsSame old new → IsAnswered old call way whose (Err why) new

@@ -4,3 +4,4 @@ mod Calling
 mod Legal
 mod Seats
 mod Answered
+pub mod Crossing

@@ -5,7 +5,7 @@ use Rattle.std.proofs.lemmas.Bool.{cases_eq}
 use Rattle.std.specs.Option.{option_to_list}
 use Rattle.std.proofs.lemmas.List.Elements.{All-append, All-cons, All-head, All-nil, All-tail, All-weaker}
 use Rattle.std.proofs.lemmas.Option.{same_Some}
-use Rattle.std.proofs.Math.Logic.{∥∥₁_map, ∥∥₁_map₂}
+use Rattle.std.proofs.Math.Logic.{∥∥₁_elim, ∥∥₁_map, ∥∥₁_map₂}
 use Rattle.txn_programs.specs.declared.arguments.Call.{Call}
 use Rattle.txn_programs.specs.declared.memory.Memory.{Memory}
 use Rattle.txn_programs.specs.Listing.{Listing}
@@ -28,7 +28,7 @@ use Rattle.stm_desk.specs.History.{History}
 use Rattle.stm_desk.specs.Keeping.{IsLeft, IsToldOf}
 use Rattle.stm_desk.specs.Open.{HasOpen, HasOpenCall}
 use Rattle.stm_desk.specs.Steps.{StaysBut}
-use Rattle.stm_desk.specs.Waiting.{IsSeated, IsToldTo, OthersStay, waiting_at}
+use Rattle.stm_desk.specs.Waiting.{IsSeated, IsToldTo, OthersStay, WaitAsBefore, waiting_at}
 use Rattle.stm_desk.specs.Asking.{call_of}
 use Rattle.stm_desk.proofs.Becoming.{IsAlike, alike_open, same_call, ticket_given}
 use Rattle.stm_desk.proofs.Calling.{get_end}
@@ -134,6 +134,17 @@ all_told_more l closed h (Some seat) old new t a is one k =
 pub seat_keeps : (r : Result (Unit {0}) Memory) (s : Store) (w v : Waiters) (one : Ticket) (whose : ℕ) (call : Call) → ∥ HasOpenCall s one call ∥₁ → OnOk r (IsSeated w one whose call v) → OnErr r ((t : ℕ) → waiting_at v t ≡ waiting_at w t) → AreSeated s w → AreSeated s v
 seat_keeps (Ok done) s w v one whose call has is same all = seated_more s w v one whose call has is all
 seat_keeps (Err why) s w v one whose call has is same all = seated_same s w v same all
+
+-- nobody waits for a task that is new
+pub nobody_new : (s : Store) (w : Waiters) (one : Ticket) → AreTickets s.tickets → one.0 ≡ s.tickets.given → AreSeated s w → waiting_at w one.0 ≡ None
+nobody_new s w one tickets is_new all = by (waiting_at w one.0) refl
+  where
+    by : (o : Option Waiting) → waiting_at w one.0 ≡ o → o ≡ None
+    by None is = refl
+    by (Some seat) is = absurd (∥∥₁_elim (all one.0 seat is) (λ p q. absurd p) (λ (o : HasOpenCall s one seat.call.value). omega (arith, fresh s one seat.call.value tickets o, is_new)))
+
+pub waits_as_before : (w : Waiters) → WaitAsBefore w w
+waits_as_before w = record { calls = λ t. refl; told = refl }
 
 -- somebody who waits does so for a task that is open
 pub waits_open : (s : Store) (w : Waiters) (one : Ticket) → AreSeated s w → (waiting_at w one.0 ≡ None → ⊥) → ∥ HasOpen s one ∥₁

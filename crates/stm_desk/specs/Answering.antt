@@ -16,7 +16,7 @@ use Rattle.stm_desk.specs.declared.desk.Desk.{Desk}
 use Rattle.stm_desk.specs.Asking.{IsSame, next_ticket}
 use Rattle.stm_desk.specs.History.{Begins, History}
 use Rattle.stm_desk.specs.Open.{IsParkedCall}
-use Rattle.stm_desk.specs.Waiting.{IsSeated}
+use Rattle.stm_desk.specs.Waiting.{IsSeated, WaitAsBefore}
 
 abbrev pub history_of : Desk → History
 history_of d = d.work.history.items
@@ -51,4 +51,5 @@ IsAsked old call way whose (Ok (asked.Waits ticket)) new =
 IsAsked old call way whose (Err refused.Memory) new =
     (old.work.closed ≡ false)
     × (history_of new ≡ history_of old ++ (next_ticket old.work.store, became.Left) ∷ [])
+    × WaitAsBefore old.work.waiters new.work.waiters
 IsAsked old call way whose (Err why) new = RefusesAsked old call way why × IsSame old.work new.work

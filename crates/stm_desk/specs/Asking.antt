@@ -1,4 +1,4 @@
--- What a call on a desk is answered, and what it leaves.
+-- What a call is answered in the midst of a desk's, before what it woke has had its turns, and what it leaves.
 use Rattle.std.specs.Prelude.{◌≡◌, ◌≢◌, ◌+◌, ℕ, [], ◌∷◌, ◌++◌, length, Some, Result, Ok, Err, slice_get}
 use Rattle.txn_programs.specs.declared.arguments.Call.{Call}
 use Rattle.book.specs.Tasks.{Ready, Running}
@@ -19,7 +19,7 @@ use Rattle.stm_desk.specs.declared.answers.Became.TheVariants as became
 use Rattle.stm_desk.specs.declared.work.Work.{Work}
 use Rattle.stm_desk.specs.History.{Begins}
 use Rattle.stm_desk.specs.Open.{IsParkedCall}
-use Rattle.stm_desk.specs.Waiting.{IsSeated}
+use Rattle.stm_desk.specs.Waiting.{IsSeated, WaitAsBefore}
 
 -- the call that the task of a job makes
 abbrev pub call_of : Job → Call
@@ -69,7 +69,8 @@ IsAnswered old call way whose (Ok (asked.Ended a)) new = IsNextEntry old call a 
 IsAnswered old call way whose (Ok (asked.Waits ticket)) new =
     (way ≡ ways.Waits) × IsWaiting old call whose ticket new
 IsAnswered old call way whose (Err refused.Memory) new =
-    new.history.items ≡ old.history.items ++ (next_ticket old.store, became.Left) ∷ []
+    (new.history.items ≡ old.history.items ++ (next_ticket old.store, became.Left) ∷ [])
+    × WaitAsBefore old.waiters new.waiters
 IsAnswered old call way whose (Err why) new =
     RefusesCall way old.store call.tx call.arguments why × IsSame old new
 

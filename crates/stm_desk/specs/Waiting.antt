@@ -17,6 +17,11 @@ waiting_at w ticket = get nat_cmp w.calls ticket
 abbrev pub OthersStay : Waiters → Waiters → Ticket → Type 0
 OthersStay old new ticket = (other : ℕ) → other ≢ ticket.0 → waiting_at new other ≡ waiting_at old other
 
+-- the same wait, and the same is to be told
+pub record WaitAsBefore (old new : Waiters) : Type 0 where
+  pub calls : (ticket : ℕ) → waiting_at new ticket ≡ waiting_at old ticket
+  pub told : new.told.items ≡ old.told.items
+
 -- this call waits with the ticket, besides those that waited
 pub record IsSeated (old : Waiters) (ticket : Ticket) (whose : ℕ) (call : Call) (new : Waiters) : Type 0 where
   pub seat : Waiting

@@ -47,8 +47,8 @@ impl Desk {
     ///
     /// `Closed` exactly where the desk is closed; else `Unknown` exactly where there is no such transaction, or it has
     /// not as many parameters as there are arguments; `Retries` only of a try that retries on the present values;
-    /// `NoRoom` only where there is no room for a task more. Then nothing changed. `Memory`: the task was given up,
-    /// since a growth was refused.
+    /// `NoRoom` only where there is no room for a task more. Then nothing changed. `Memory`: a growth was refused, so
+    /// the task was given up, and for those who wait nothing changed.
     pub fn ask(
         &mut self,
         tx: TxId,
@@ -102,6 +102,13 @@ impl Desk {
         ensures closed { self.new.work.closed ≡ self.old.work.closed }
     {
         self.work.leave(ticket)
+    }
+
+    /// The store, to look at: whatever can be called on it changes nothing.
+    pub fn store(&self) -> &Store
+        ensures { result.now ≡ self.now.work.store }
+    {
+        &self.work.store
     }
 
     /// Each call that waits is told `Closed`, and its task is given up. Nothing is entered from now on.

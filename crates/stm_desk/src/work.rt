@@ -49,7 +49,7 @@ impl Work {
     ghost use Rattle.txn_programs.specs.Listing.{IsCallable};
     ghost use Rattle.stm_desk.specs.Asking.{GoesOn, IsAnswered, IsServed, IsStill};
     ghost use Rattle.stm_desk.specs.Serving.{HasLeft, IsLighter, OnlyLeft, WasGivenUp};
-    ghost use Rattle.stm_desk.specs.Waiting.{IsSeated};
+    ghost use Rattle.stm_desk.specs.Waiting.{IsSeated, WaitAsBefore};
     ghost use Rattle.stm_store.specs.declared.answers.Refused.TheVariants as Refused;
     ghost use Rattle.stm_desk.specs.declared.answers.Answer.{Answer};
     ghost use Rattle.stm_desk.specs.declared.answers.Asked.TheVariants as Asked;
@@ -120,11 +120,13 @@ impl Work {
     /// Whoever made the call of a task that is parked waits for it. Out of memory the task is given up.
     fn sit(&mut self, ticket: Ticket, call: &Call, whose: u64) -> Result<Asked, Refused>
         requires is_open { ∥ HasOpenCall self.old.store ticket call.now ∥₁ }
+        requires nobody { waiting_at self.old.waiters ticket.0 ≡ None }
         ensures seated { OnOk result (IsSeated self.old.waiters ticket whose call.now self.new.waiters
             × (self.new.store ≡ self.old.store) × (self.new.history.items ≡ self.old.history.items)) }
         ensures asked { IfOk result (λ asked. asked ≡ Asked.Waits ticket) }
         ensures refused { IfErr result (λ why. why ≡ Refused.Memory) }
-        ensures left { OnErr result (self.new.history.items ≡ self.old.history.items ++ (ticket, Became.Left) ∷ []) }
+        ensures left { OnErr result ((self.new.history.items ≡ self.old.history.items ++ (ticket, Became.Left) ∷ [])
+            × WaitAsBefore self.old.waiters self.new.waiters) }
         ensures served { IsServed self.old.store → IsServed self.new.store }
         ensures goes_on { GoesOn self.old self.new }
     {

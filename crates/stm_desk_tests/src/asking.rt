@@ -54,6 +54,7 @@ fn who_waits_is_told_once(rt: HostRuntime) {
     assert_eq!(rt; (told.whose, told.ticket), (40, Ticket(0)));
     assert_eq!(rt; told.answer, Ok(entry(0, 7, 2, 1)));
     assert!(rt; desk.told().is_none());
+    assert_eq!(rt; desk.store().value("n"), Some((0, 2)));
 }
 
 #[test]

@@ -12,7 +12,7 @@ use Rattle.stm_desk.proofs.Answered.{only_waits, refused_answers, sit_answers}
 use Rattle.stm_desk.proofs.Becoming.{alike_over, unchanged_alike}
 use Rattle.stm_desk.proofs.Calling.{IsCalled, call_abandons, call_enters, call_parked, call_served, call_stays, call_still, is_called, next_is, number_is}
 use Rattle.stm_desk.proofs.Legal.{accounts_become, accounts_stay, counted_more, place_left}
-use Rattle.stm_desk.proofs.Seats.{AreTold, all_told_on, seated_alike, seated_still}
+use Rattle.stm_desk.proofs.Seats.{AreTold, all_told_on, nobody_new, seated_alike, seated_still, waits_as_before}
 use Rattle.stm_desk.proofs.work.Work.call.Goals as goal
 
 -- it was refused
@@ -171,7 +171,7 @@ returns-in-Abandoned-clause-answered c =
     let call = c.args.call.now in
     let job = c.in-Ok.turn.0 in
     let is = is_called s.store c.call-called.new.self c.args.call.now c.as_slice.result.now c.in-Ok.turn.0 c.in-Ok.turn.1 c.as_slice.ensures.value c.law.ensures.declared c.law.ensures.fits c.law.ensures.each c.law.ensures.tickets c.in-Ok.ensures.kept c.in-Ok.ensures.called.0 in
-    c.note-in-Abandoned.ensures.history ∙ ap (λ (t : Ticket). s.history.items ++ (t, became.Left) ∷ []) (next_is s.store new call job c.in-Ok.turn.1 is)
+    (c.note-in-Abandoned.ensures.history ∙ ap (λ (t : Ticket). s.history.items ++ (t, became.Left) ∷ []) (next_is s.store new call job c.in-Ok.turn.1 is), waits_as_before s.waiters)
 
 pub returns-in-Abandoned-clause-served : goal.returns-in-Abandoned-clause-served
 returns-in-Abandoned-clause-served c apart =
@@ -221,7 +221,10 @@ sit-requires c =
     let job = c.in-Ok.turn.0 in
     let is = is_called s.store c.call-called.new.self c.args.call.now c.as_slice.result.now c.in-Ok.turn.0 c.in-Ok.turn.1 c.as_slice.ensures.value c.law.ensures.declared c.law.ensures.fits c.law.ensures.each c.law.ensures.tickets c.in-Ok.ensures.kept c.in-Ok.ensures.called.0 in
     let parked = subst (IsCalled s.store new call job) c.in-Parked.is is in
-    record { is_open = ∣ (call_stays s.store new call job parked).is_open ∣₁ }
+    record {
+      is_open = ∣ (call_stays s.store new call job parked).is_open ∣₁;
+      nobody = nobody_new s.store s.waiters job.ticket c.law.ensures.tickets is.runs.is_new.ticket s.seated;
+    }
 
 pub returns-in-Parked-clause-answered : goal.returns-in-Parked-clause-answered
 returns-in-Parked-clause-answered c =
