@@ -107,7 +107,9 @@ fn give_turns(
     Ok(())
 }
 
-/// Gives the lowest task of the instance that is left its turn.
+/// Gives the lowest task of the instance that is left its turn. It is a call of its own, so that the attempt, which is
+/// large, lies on the stack only meanwhile.
+#[inline(never)]
 fn give_turn(
     alloc: Global,
     book: &mut Book<'_>,
