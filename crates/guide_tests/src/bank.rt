@@ -21,10 +21,11 @@ fn account(alloc: Global, name: &str, balance: i64) -> Result<(String, i64), All
 
 /// Three accounts, of which the first has so much, and the others 150 together.
 fn accounts(alloc: Global, rent: i64) -> Result<Vec<(String, i64)>, AllocError> {
-    let rent = account(alloc, "rent", rent)?;
-    let food = account(alloc, "food", 0)?;
-    let fun = account(alloc, "fun", 150)?;
-    Ok(vec![in alloc; rent, food, fun]?)
+    let mut all = Vec::new(alloc);
+    all.push(account(alloc, "rent", rent)?)?;
+    all.push(account(alloc, "food", 0)?)?;
+    all.push(account(alloc, "fun", 150)?)?;
+    Ok(all)
 }
 
 /// It would make money.
@@ -38,10 +39,12 @@ fn forge(alloc: Global) -> Result<Tx, AllocError> {
 }
 
 fn transactions(alloc: Global) -> Result<Vec<Tx>, AllocError> {
-    let pay = transfer(alloc, "pay", RENT, FOOD, 10)?;
-    let save = transfer(alloc, "save", FOOD, FUN, 10)?;
-    let lend = transfer(alloc, "lend", FUN, RENT, 100)?;
-    Ok(vec![in alloc; pay, save, lend, forge(alloc)?]?)
+    let mut all = Vec::new(alloc);
+    all.push(transfer(alloc, "pay", RENT, FOOD, 10)?)?;
+    all.push(transfer(alloc, "save", FOOD, FUN, 10)?)?;
+    all.push(transfer(alloc, "lend", FUN, RENT, 100)?)?;
+    all.push(forge(alloc)?)?;
+    Ok(all)
 }
 
 /// Forty payments, of which most wait for the loan, and thirty savings, which wait for payments.

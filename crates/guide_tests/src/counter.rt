@@ -24,13 +24,15 @@ fn increment(alloc: Global) -> Result<Tx, AllocError> {
 
 /// `(var x 5)`
 fn variables(alloc: Global) -> Result<Vec<(String, i64)>, AllocError> {
-    let x = (String::from_str(alloc, "x")?, 5);
-    Ok(vec![in alloc; x]?)
+    let mut variables = Vec::new(alloc);
+    variables.push((String::from_str(alloc, "x")?, 5))?;
+    Ok(variables)
 }
 
 /// The transaction, and `(run inc 1000)`.
 fn tasks(alloc: Global) -> Result<(Vec<Tx>, Vec<(Call, u32)>), AllocError> {
-    let transactions = vec![in alloc; increment(alloc)?]?;
+    let mut transactions = Vec::new(alloc);
+    transactions.push(increment(alloc)?)?;
     let increment = Call {
         tx: TxId(0),
         arguments: Arguments::none(),

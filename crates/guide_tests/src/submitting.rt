@@ -51,9 +51,9 @@ fn ends(rt: &impl Abort, store: &mut Store, worker: &mut Worker, job: Job, came:
     let Ok(taken) = store.take() else {
         panic!(rt; "no job");
     };
-    assert_eq!(rt; taken, job);
-    assert_eq!(rt; worker.try_job(taken), Ok(()));
-    assert_eq!(rt; store.bring(worker), Ok(came));
+    assert!(rt; taken == job);
+    assert!(rt; worker.try_job(taken) == Ok(()));
+    assert!(rt; store.bring(worker) == Ok(came));
 }
 
 const GET: TxId = TxId(0);
@@ -85,7 +85,7 @@ fn agree(rt: &impl Abort, alloc: Global, store: &mut Store) {
         panic!(rt; "no text");
     };
     match check(alloc, file.as_bytes(), report.as_bytes()) {
-        Ok(verdict) => assert_eq!(rt; verdict, Verdict::Good),
+        Ok(verdict) => assert!(rt; verdict == Verdict::Good),
         Err(_) => panic!(rt; "no verdict"),
     }
 }
@@ -95,18 +95,18 @@ fn two_come_in(rt: &impl Abort, store: &mut Store)
     ensures { store.new.catalogue.now ≡ store.old.catalogue.now }
 {
     let first = job(0, GET);
-    assert_eq!(rt; store.take(), Ok(first));
-    assert_eq!(rt; comes_in(store, "put"), Ok(Ticket(1)));
-    assert_eq!(rt; comes_in(store, "get"), Ok(Ticket(2)));
-    assert_eq!(rt; comes_in(store, "get"), Err(Refused::NoRoom));
-    assert_eq!(rt; comes_in(store, "none"), Err(Refused::Unknown));
-    assert_eq!(rt; (store.tasks(), store.spare()), (3, 0));
+    assert!(rt; store.take() == Ok(first));
+    assert!(rt; comes_in(store, "put") == Ok(Ticket(1)));
+    assert!(rt; comes_in(store, "get") == Ok(Ticket(2)));
+    assert!(rt; comes_in(store, "get") == Err(Refused::NoRoom));
+    assert!(rt; comes_in(store, "none") == Err(Refused::Unknown));
+    assert!(rt; (store.tasks(), store.spare()) == (3, 0));
 }
 
 /// What the store tells while one task is ready, one is running and one is done.
 fn tells_of_three(rt: &impl Abort, store: &mut Store) {
-    assert_eq!(rt; store.value("full"), Some((1, 1)));
-    assert_eq!(rt; store.value("empty"), None);
+    assert!(rt; store.value("full") == Some((1, 1)));
+    assert!(rt; store.value("empty") == None);
     let counts = Counts {
         ready: 1,
         running: 1,
@@ -114,7 +114,7 @@ fn tells_of_three(rt: &impl Abort, store: &mut Store) {
         done: 1,
         given_up: 0,
     };
-    assert_eq!(rt; store.counts(), counts);
+    assert!(rt; store.counts() == counts);
     assert!(rt; matches!(store.report_now(), Err(ReportFault::WorkLeft)));
 }
 
@@ -129,30 +129,42 @@ fn lists_three(rt: &impl Abort, store: &Store) {
     }
 }
 
+/// Two come in, one of them is entered, and the store tells all three.
+fn come_in(rt: &impl Abort, alloc: Global, store: &mut Store, worker: &mut Worker)
+    requires { worker.old.catalogue.now ≡ store.old.catalogue.now }
+{
+    two_come_in(rt, store);
+    let put = job(1, PUT);
+    ends(rt, store, worker, put, entered(1, 1));
+    tells_of_three(rt, store);
+    agree(rt, alloc, store);
+    assert!(rt; store.report_now().is_ok());
+    lists_three(rt, store);
+}
+
 #[test]
 fn tasks_come_in_while_others_run(rt: HostRuntime) {
-    let alloc = rt.alloc();
-    let (mut store, mut worker) = opened(&rt, alloc, 2);
-    two_come_in(&rt, &mut store);
-    let put = job(1, PUT);
-    ends(&rt, &mut store, &mut worker, put, entered(1, 1));
-    tells_of_three(&rt, &mut store);
-    agree(&rt, alloc, &mut store);
+    let (mut store, mut worker) = opened(&rt, rt.alloc(), 2);
+    come_in(&rt, rt.alloc(), &mut store, &mut worker);
+}
+
+/// One waits, and is entered behind one that comes in.
+fn is_woken(rt: &impl Abort, alloc: Global, store: &mut Store, worker: &mut Worker)
+    requires { worker.old.catalogue.now ≡ store.old.catalogue.now }
+{
+    ends(rt, store, worker, job(0, GET), End::Parked);
+    assert!(rt; store.take() == Err(Refused::NotReady));
     assert!(rt; store.report_now().is_ok());
-    lists_three(&rt, &store);
+    assert!(rt; comes_in(store, "put") == Ok(Ticket(1)));
+    ends(rt, store, worker, job(1, PUT), entered(1, 1));
+    ends(rt, store, worker, job(0, GET), entered(2, 0));
+    agree(rt, alloc, store);
 }
 
 #[test]
 fn a_task_that_comes_in_wakes_those_that_wait(rt: HostRuntime) {
-    let alloc = rt.alloc();
-    let (mut store, mut worker) = opened(&rt, alloc, 1);
-    ends(&rt, &mut store, &mut worker, job(0, GET), End::Parked);
-    assert_eq!(rt; store.take(), Err(Refused::NotReady));
-    assert!(rt; store.report_now().is_ok());
-    assert_eq!(rt; comes_in(&mut store, "put"), Ok(Ticket(1)));
-    ends(&rt, &mut store, &mut worker, job(1, PUT), entered(1, 1));
-    ends(&rt, &mut store, &mut worker, job(0, GET), entered(2, 0));
-    agree(&rt, alloc, &mut store);
+    let (mut store, mut worker) = opened(&rt, rt.alloc(), 1);
+    is_woken(&rt, rt.alloc(), &mut store, &mut worker);
 }
 
 /// The worker tries this job to its end.
@@ -167,15 +179,19 @@ fn tries(rt: &impl Abort, worker: &mut Worker, job: Job)
     assert!(rt; worker.try_job(job) == Ok(()));
 }
 
+/// What the worker ends of a task that the store does not have, or not taken, is not brought.
+fn is_not_brought(rt: &impl Abort, store: &mut Store, worker: &mut Worker) {
+    assert!(rt; store.bring(worker) == Err(Refused::NotEnded));
+    tries(rt, worker, job(1, PUT));
+    assert!(rt; store.bring(worker) == Err(Refused::Gone));
+    assert!(rt; comes_in(store, "get") == Ok(Ticket(1)));
+    tries(rt, worker, job(1, PUT));
+    assert!(rt; store.bring(worker) == Err(Refused::Gone));
+    assert!(rt; store.bring(worker) == Err(Refused::NotEnded));
+}
+
 #[test]
 fn a_task_of_another_store_is_not_brought(rt: HostRuntime) {
-    let alloc = rt.alloc();
-    let (mut store, mut worker) = opened(&rt, alloc, 1);
-    assert_eq!(rt; store.bring(&mut worker), Err(Refused::NotEnded));
-    tries(&rt, &mut worker, job(1, PUT));
-    assert_eq!(rt; store.bring(&mut worker), Err(Refused::Gone));
-    assert_eq!(rt; comes_in(&mut store, "get"), Ok(Ticket(1)));
-    tries(&rt, &mut worker, job(1, PUT));
-    assert_eq!(rt; store.bring(&mut worker), Err(Refused::Gone));
-    assert_eq!(rt; store.bring(&mut worker), Err(Refused::NotEnded));
+    let (mut store, mut worker) = opened(&rt, rt.alloc(), 1);
+    is_not_brought(&rt, &mut store, &mut worker);
 }

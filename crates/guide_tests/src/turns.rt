@@ -36,36 +36,37 @@ fn and_one_more(alloc: Global, catalogue: &Catalogue, tx: TxId) -> Result<Option
     Ok(Some(book.into_report(alloc)?))
 }
 
+const FILE: &str =
+    "(var full 0)(tx get (if (eq full 0) (retry) (set full 0)) 0)(tx put (set full 1) 0)(run get 2)(run put 1)";
+
+/// Whether of three tasks one is parked.
+fn parks_one(alloc: Global, catalogue: &Catalogue) -> bool {
+    match each_in_turn(alloc, catalogue) {
+        Ok(report) => report.now == 2 && report.parked.len() == 1,
+        Err(_) => false,
+    }
+}
+
 #[test]
 fn who_waits_is_parked(rt: HostRuntime) {
-    let file =
-        "(var full 0)(tx get (if (eq full 0) (retry) (set full 0)) 0)(tx put (set full 1) 0)(run get 2)(run put 1)";
-    let alloc = rt.alloc();
-    let Ok(catalogue) = read_file(alloc, file.as_bytes()) else {
-        panic!(rt; "no catalogue");
-    };
-    match each_in_turn(alloc, &catalogue) {
-        Ok(report) => {
-            assert_eq!(rt; report.now, 2);
-            assert_eq!(rt; report.parked.len(), 1);
-        }
-        Err(_) => panic!(rt; "no memory"),
+    match read_file(rt.alloc(), FILE.as_bytes()) {
+        Ok(catalogue) => assert!(rt; parks_one(rt.alloc(), &catalogue)),
+        Err(_) => panic!(rt; "no catalogue"),
+    }
+}
+
+/// Whether it is woken by one that puts.
+fn wakes_it(alloc: Global, catalogue: &Catalogue) -> bool {
+    match and_one_more(alloc, catalogue, TxId(1)) {
+        Ok(Some(report)) => report.now == 4 && report.parked.is_empty(),
+        _ => false,
     }
 }
 
 #[test]
 fn who_waits_is_woken_by_a_submitted_task(rt: HostRuntime) {
-    let file =
-        "(var full 0)(tx get (if (eq full 0) (retry) (set full 0)) 0)(tx put (set full 1) 0)(run get 2)(run put 1)";
-    let alloc = rt.alloc();
-    let Ok(catalogue) = read_file(alloc, file.as_bytes()) else {
-        panic!(rt; "no catalogue");
-    };
-    match and_one_more(alloc, &catalogue, TxId(1)) {
-        Ok(Some(report)) => {
-            assert_eq!(rt; report.now, 4);
-            assert!(rt; report.parked.is_empty());
-        }
-        _ => panic!(rt; "no report"),
+    match read_file(rt.alloc(), FILE.as_bytes()) {
+        Ok(catalogue) => assert!(rt; wakes_it(rt.alloc(), &catalogue)),
+        Err(_) => panic!(rt; "no catalogue"),
     }
 }

@@ -1,10 +1,14 @@
 //! Two increments by two workers that are held at gates. They end so only where workers run side by
 //! side and evaluate with no lock held.
 
-use crate::holds::{Hold, IN_TURN, Place, SWAPPED, hold_run, hold_two};
-use crate::parts::{options, run_under};
+use crate::holds::{Hold, IN_TURN, Place, SWAPPED, Script, hold_run, hold_two};
+use crate::parts::{is_run_under, options};
 use runner::{Gate, Point};
+use std::alloc::Global;
+use std::process::Abort;
+use std::sync::Wait;
 use std::sync::atomic::{AtomicU64, Ordering};
+use std::thread::Threads;
 use txn::TaskId;
 
 const TAKEN: [Place; 2] = [(Point::Taken, TaskId(0)), (Point::Taken, TaskId(1))];
@@ -16,13 +20,8 @@ const ENDED: Place = (Point::Ended, TaskId(0));
 const FINISHED: [Place; 2] = [(Point::Finished, TaskId(0)), (Point::Finished, TaskId(1))];
 
 /// This hold alone.
-fn only(hold: Hold) -> [Hold; 3] {
-    [hold, Hold::none(), Hold::none()]
-}
-
-/// These two.
-fn both(first: Hold, second: Hold) -> [Hold; 3] {
-    [first, second, Hold::none()]
+fn only(hold: Hold) -> Script {
+    Script::new(hold, Hold::none())
 }
 
 #[test]
@@ -41,7 +40,7 @@ fn tries_are_counted(rt: HostRuntime) {
     for tries in [1, 2] {
         let first = Hold::new(TAKEN[1], ENDED);
         let second = Hold::new(ENDED, FINISHED[1]);
-        let ends = hold_two(&rt, rt.alloc(), tries, both(first, second), SWAPPED);
+        let ends = hold_two(&rt, rt.alloc(), tries, Script::new(first, second), SWAPPED);
         assert_eq!(rt; ends, Some(u64::from(tries)));
     }
 }
@@ -51,7 +50,7 @@ fn a_finished_task_is_held_while_the_other_runs(rt: HostRuntime) {
     // Who is held at `Finished` has no task, so the other one comes to another worker.
     let first = Hold::new(TAKEN[1], FINISHED[0]);
     let second = Hold::new(FINISHED[0], FINISHED[1]);
-    let ends = hold_two(&rt, rt.alloc(), 8, both(first, second), IN_TURN);
+    let ends = hold_two(&rt, rt.alloc(), 8, Script::new(first, second), IN_TURN);
     assert!(rt; ends.is_some());
 }
 
@@ -93,7 +92,7 @@ fn no_kind_of_end_comes_from_values_that_are_gone(rt: HostRuntime) {
     for (text, report) in SEEN_LATE {
         let first = Hold::new(TAKEN[1], ENDED);
         let second = Hold::new(ENDED, FINISHED[1]);
-        let ends = hold_run(&rt, rt.alloc(), text, 8, both(first, second), report);
+        let ends = hold_run(&rt, rt.alloc(), text, 8, Script::new(first, second), report);
         assert_eq!(rt; ends, Some(2));
     }
 }
@@ -112,14 +111,18 @@ impl Gate for Opened {
     }
 }
 
+/// Whether so many workers run without a call of an open gate.
+fn is_not_called(rt: &(impl Abort + Threads + Wait + Sync), alloc: Global, workers: u32) -> bool {
+    let gate = Opened {
+        calls: AtomicU64::new(0),
+    };
+    is_run_under(rt, alloc, SUM, options(rt, workers, 1, 0), &gate)
+        && gate.calls.load(Ordering::SeqCst) == 0
+}
+
 #[test]
 fn an_open_gate_is_not_called(rt: HostRuntime) {
     for workers in [1, 2] {
-        let gate = Opened {
-            calls: AtomicU64::new(0),
-        };
-        let ran = run_under(&rt, rt.alloc(), SUM, options(&rt, workers, 1, 0), &gate);
-        assert!(rt; ran.is_some());
-        assert_eq!(rt; gate.calls.load(Ordering::SeqCst), 0);
+        assert!(rt; is_not_called(&rt, rt.alloc(), workers));
     }
 }

@@ -84,20 +84,29 @@ impl Hold {
     }
 }
 
-/// Holds, and how often the first task ended an attempt.
+/// Two holds, and how often the first task ended an attempt.
 #[derive(Drop)]
 pub(crate) struct Script {
-    holds: [Hold; 3],
+    first: Hold,
+    second: Hold,
     ends: AtomicU64,
     late: AtomicBool,
 }
 
 impl Script {
-    pub(crate) fn new(holds: [Hold; 3]) -> Script {
+    pub(crate) fn new(first: Hold, second: Hold) -> Script {
         Script {
-            holds,
+            first,
+            second,
             ends: AtomicU64::new(0),
             late: AtomicBool::new(false),
+        }
+    }
+
+    /// Waits where this one holds.
+    fn wait(&self, hold: &Hold, point: Point, task: TaskId) {
+        if !hold.wait(point, task) {
+            self.late.store(true, Ordering::SeqCst);
         }
     }
 
@@ -109,17 +118,13 @@ impl Script {
 
 impl Gate for Script {
     fn at(&self, point: Point, task: TaskId) {
-        for hold in self.holds.iter() {
-            hold.enter(point, task);
-        }
+        self.first.enter(point, task);
+        self.second.enter(point, task);
         if is_at((Point::Ended, TaskId(0)), point, task) {
             self.ends.fetch_add(1, Ordering::SeqCst);
         }
-        for hold in self.holds.iter() {
-            if !hold.wait(point, task) {
-                self.late.store(true, Ordering::SeqCst);
-            }
-        }
+        self.wait(&self.first, point, task);
+        self.wait(&self.second, point, task);
     }
 }
 
@@ -129,10 +134,10 @@ pub(crate) fn hold_two(
     rt: &(impl Threads + Wait + Sync + Abort),
     alloc: Global,
     tries: u32,
-    holds: [Hold; 3],
+    script: Script,
     wanted: &str,
 ) -> Option<u64> {
-    hold_run(rt, alloc, TWO, tries, holds, wanted)
+    hold_run(rt, alloc, TWO, tries, script, wanted)
 }
 
 /// So it does with this text.
@@ -141,10 +146,9 @@ pub(crate) fn hold_run(
     alloc: Global,
     text: &str,
     tries: u32,
-    holds: [Hold; 3],
+    script: Script,
     wanted: &str,
 ) -> Option<u64> {
-    let script = Script::new(holds);
     let options = options(rt, 2, tries, 0);
     let is_so = writes_under(rt, alloc, text, options, &script, wanted, wanted);
     let ends = script.ends.load(Ordering::SeqCst);

@@ -7,7 +7,7 @@ use std::process::Abort;
 use std::sync::Wait;
 use std::sync::atomic::{AtomicU64, Ordering};
 use std::thread::Threads;
-use txn::{Catalogue, TaskId};
+use txn::{Catalogue, Report, TaskId};
 use txn_text::read_file;
 
 const BUFFER: &str =
@@ -64,9 +64,10 @@ struct Counts {
     finished: Vec<AtomicU64>,
 }
 
-fn zeros(alloc: Global) -> Result<Vec<AtomicU64>, AllocError> {
-    let mut all = Vec::with_capacity(alloc, 1000)?;
-    for _ in 0..1000u32 {
+/// So many counts, each of which is 0.
+pub(crate) fn zeros(alloc: Global, count: usize) -> Result<Vec<AtomicU64>, AllocError> {
+    let mut all = Vec::with_capacity(alloc, count)?;
+    for _ in 0..count {
         all.push(AtomicU64::new(0))?;
     }
     Ok(all)
@@ -85,33 +86,50 @@ fn count_one(all: &[AtomicU64], task: TaskId) {
     }
 }
 
+impl Counts {
+    fn list(&self, point: Point) -> &[AtomicU64] {
+        match point {
+            Point::Taken => self.taken.as_slice(),
+            Point::Needs => self.needed.as_slice(),
+            Point::Ended => self.ended.as_slice(),
+            Point::Finished => self.finished.as_slice(),
+        }
+    }
+
+    /// How often the task was at the point.
+    fn times(&self, point: Point, task: TaskId) -> u64 {
+        count_of(self.list(point), task)
+    }
+}
+
 impl Gate for Counts {
     fn at(&self, point: Point, task: TaskId) {
-        match point {
-            Point::Taken => count_one(self.taken.as_slice(), task),
-            Point::Needs => count_one(self.needed.as_slice(), task),
-            Point::Ended => {
-                let is_taken = count_of(self.taken.as_slice(), task) == 1;
-                if is_taken && count_of(self.finished.as_slice(), task) == 0 {
-                    count_one(self.ended.as_slice(), task);
-                }
-            }
-            Point::Finished => count_one(self.finished.as_slice(), task),
+        let is_running = self.times(Point::Taken, task) == 1
+            && self.times(Point::Finished, task) == 0;
+        if point != Point::Ended || is_running {
+            count_one(self.list(point), task);
         }
     }
 }
 
 fn no_counts(alloc: Global) -> Result<Counts, AllocError> {
-    let taken = zeros(alloc)?;
-    let needed = zeros(alloc)?;
-    let ended = zeros(alloc)?;
-    let finished = zeros(alloc)?;
+    let taken = zeros(alloc, 1000)?;
+    let needed = zeros(alloc, 1000)?;
+    let ended = zeros(alloc, 1000)?;
+    let finished = zeros(alloc, 1000)?;
     Ok(Counts {
         taken,
         needed,
         ended,
         finished,
     })
+}
+
+/// Whether all thousand are told.
+fn is_of_thousand(report: &Report) -> bool {
+    report.base == 0
+        && report.now == 1000
+        && report.now_vars.as_slice() == [(1005, 1000)].as_slice()
 }
 
 /// Eight workers run a thousand tasks, each of which passes the gate.
@@ -121,21 +139,19 @@ fn run_thousand(
     catalogue: &Catalogue,
     counts: &Counts,
 ) {
-    let Ok(report) = run_tasks(rt, alloc, catalogue, options(rt, 8, 64, 0), counts) else {
-        panic!(rt; "no report")
-    };
-    assert!(rt; report.base == 0);
-    assert!(rt; report.now == 1000);
-    assert!(rt; report.now_vars.as_slice() == [(1005, 1000)].as_slice());
+    match run_tasks(rt, alloc, catalogue, options(rt, 8, 64, 0), counts) {
+        Ok(report) => assert!(rt; is_of_thousand(&report)),
+        Err(_) => panic!(rt; "no report"),
+    }
 }
 
 /// Whether the task went its way once.
 fn went_once(counts: &Counts, task: TaskId) -> bool {
     // A task of which each of the 64 tries was stale has its turn under the lock, where no gate is.
-    let is_served = count_of(counts.needed.as_slice(), task) >= 64;
-    let has_ended = count_of(counts.ended.as_slice(), task) >= 1;
-    count_of(counts.taken.as_slice(), task) == 1
-        && count_of(counts.finished.as_slice(), task) == 1
+    let is_served = counts.times(Point::Needs, task) >= 64;
+    let has_ended = counts.times(Point::Ended, task) >= 1;
+    counts.times(Point::Taken, task) == 1
+        && counts.times(Point::Finished, task) == 1
         && (has_ended || is_served)
 }
 

@@ -2,8 +2,12 @@
 
 use crate::parts::options;
 use runner::{OpenGate, Out, RunFault, run_bytes};
+use std::alloc::Global;
 use std::io;
 use std::io::Write;
+use std::process::Abort;
+use std::sync::Wait;
+use std::thread::Threads;
 
 /// A writer that takes everything and cannot pass it on.
 #[derive(Drop)]
@@ -19,36 +23,45 @@ impl Write for Stuck {
     }
 }
 
+/// Whether of a run of the empty file a writer that is stuck has one failure told.
+fn is_stuck(rt: &(impl Abort + Threads + Wait + Sync), alloc: Global) -> bool {
+    let mut out = Out::new(Stuck);
+    let ran = run_bytes(rt, alloc, b"", options(rt, 1, 8, 0), &OpenGate, &mut out);
+    ran == Err(RunFault::Output) && out.failures() == 1 && !out.is_flushed()
+}
+
 #[test]
 fn a_failing_flush_is_told(rt: HostRuntime) {
-    let options = options(&rt, 1, 8, 0);
-    let mut out = Out::new(Stuck);
-    let ran = run_bytes(&rt, rt.alloc(), b"", options, &OpenGate, &mut out);
-    assert!(rt; ran == Err(RunFault::Output));
-    assert_eq!(rt; out.failures(), 1);
-    assert!(rt; !out.is_flushed());
+    assert!(rt; is_stuck(&rt, rt.alloc()));
+}
+
+/// Whether a run of the empty file flushes what it writes.
+fn is_flushed(rt: &(impl Abort + Threads + Wait + Sync), alloc: Global) -> bool {
+    let mut out = Out::new(Vec::new(alloc));
+    let before = out.is_flushed();
+    let ran = run_bytes(rt, alloc, b"", options(rt, 1, 8, 0), &OpenGate, &mut out);
+    !before && ran.is_ok() && out.is_flushed()
 }
 
 #[test]
 fn a_report_is_flushed(rt: HostRuntime) {
-    let options = options(&rt, 1, 8, 0);
-    let mut out = Out::new(Vec::new(rt.alloc()));
-    assert!(rt; !out.is_flushed());
-    let ran = run_bytes(&rt, rt.alloc(), b"", options, &OpenGate, &mut out);
-    assert!(rt; ran.is_ok());
-    assert!(rt; out.is_flushed());
+    assert!(rt; is_flushed(&rt, rt.alloc()));
+}
+
+/// Whether the room is too little for the report of the empty file, which is told once.
+fn is_too_little(
+    rt: &(impl Abort + Threads + Wait + Sync),
+    alloc: Global,
+    room: &mut [u8],
+) -> bool {
+    let mut out = Out::new(room);
+    let ran = run_bytes(rt, alloc, b"", options(rt, 1, 8, 0), &OpenGate, &mut out);
+    ran == Err(RunFault::Output) && out.failures() == 1
 }
 
 #[test]
 fn failing_writers(rt: HostRuntime) {
-    let alloc = rt.alloc();
-    let options = options(&rt, 1, 8, 0);
     let mut room = [0u8; 7];
-    let mut out = Out::new(room.as_mut_slice());
-    let ran = run_bytes(&rt, alloc, b"", options, &OpenGate, &mut out);
-    assert!(rt; ran == Err(RunFault::Output));
-    assert_eq!(rt; out.failures(), 1);
-    // What the writer had room for is let go, so that the room can be looked at.
-    let _rest = out.into_inner();
-    assert_eq!(rt; room, *b"base 0\n");
+    assert!(rt; is_too_little(&rt, rt.alloc(), room.as_mut_slice()));
+    assert!(rt; room == *b"base 0\n");
 }

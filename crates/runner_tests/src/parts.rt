@@ -49,6 +49,17 @@ pub(crate) fn run_under<G: Gate>(
     }
 }
 
+/// Whether a run of the text with these options under a gate ends in no fault.
+pub(crate) fn is_run_under<G: Gate>(
+    rt: &(impl Threads + Wait + Sync),
+    alloc: Global,
+    input: &str,
+    options: Options,
+    gate: &G,
+) -> bool {
+    run_under(rt, alloc, input, options, gate).is_some()
+}
+
 /// Whether a run of the text with these options under this gate writes what begins and ends so.
 pub(crate) fn writes_under<G: Gate>(
     rt: &(impl Threads + Wait + Sync),

@@ -1,9 +1,15 @@
 //! Which points of its life a worker comes to, in which order and how often.
 
-use crate::parts::{options, run_under};
-use runner::{Gate, Point};
+use crate::counted::Counted;
+use crate::many::zeros;
+use crate::parts::{is_run_under, options, run_under};
+use runner::{Gate, Options, Point};
+use std::alloc::Global;
+use std::process::Abort;
+use std::sync::Wait;
 use std::sync::atomic::{AtomicBool, AtomicU64, Ordering};
 use std::thread;
+use std::thread::Threads;
 use txn::TaskId;
 
 /// A transaction that reads two variables, one that throws, one that waits, one that reads but what
@@ -48,20 +54,24 @@ impl Gate for Points {
     }
 }
 
-#[test]
-fn each_kind_of_end_comes_to_its_points(rt: HostRuntime) {
+/// Whether one worker comes to its points.
+fn comes_to_its_points(rt: &(impl Abort + Threads + Wait + Sync), alloc: Global) -> bool {
     let gate = Points {
         digits: AtomicU64::new(0),
     };
-    let ran = run_under(&rt, rt.alloc(), KINDS, options(&rt, 1, 2, 0), &gate);
-    assert!(rt; ran.is_some());
-    assert_eq!(rt; gate.digits.load(Ordering::SeqCst), POINTS);
+    is_run_under(rt, alloc, KINDS, options(rt, 1, 2, 0), &gate)
+        && gate.digits.load(Ordering::SeqCst) == POINTS
+}
+
+#[test]
+fn each_kind_of_end_comes_to_its_points(rt: HostRuntime) {
+    assert!(rt; comes_to_its_points(&rt, rt.alloc()));
 }
 
 /// The points that each of five tasks came to.
 #[derive(Drop)]
 struct OfEach {
-    tasks: [AtomicU64; 5],
+    tasks: Vec<AtomicU64>,
 }
 
 impl Gate for OfEach {
@@ -72,55 +82,42 @@ impl Gate for OfEach {
     }
 }
 
+/// Whether each of the five came to its points.
+fn came_to_theirs(gate: &OfEach) -> bool {
+    for (digits, wanted) in gate.tasks.iter().zip(OF_EACH) {
+        if digits.load(Ordering::SeqCst) != wanted {
+            return false;
+        }
+    }
+    true
+}
+
+/// Whether so many workers bring each task to its points.
+fn come_to_theirs(rt: &(impl Abort + Threads + Wait + Sync), alloc: Global, workers: u32) -> bool {
+    let Ok(tasks) = zeros(alloc, 5) else {
+        return false;
+    };
+    let gate = OfEach { tasks };
+    is_run_under(rt, alloc, KINDS, options(rt, workers, 2, 0), &gate) && came_to_theirs(&gate)
+}
+
 #[test]
 fn any_number_of_workers_brings_each_task_to_its_points(rt: HostRuntime) {
     for workers in 1..17 {
-        let tasks = [
-            AtomicU64::new(0),
-            AtomicU64::new(0),
-            AtomicU64::new(0),
-            AtomicU64::new(0),
-            AtomicU64::new(0),
-        ];
-        let gate = OfEach { tasks };
-        let ran = run_under(&rt, rt.alloc(), KINDS, options(&rt, workers, 2, 0), &gate);
-        assert!(rt; ran.is_some());
-        for (digits, wanted) in gate.tasks.iter().zip(OF_EACH) {
-            assert!(rt; digits.load(Ordering::SeqCst) == wanted);
-        }
+        assert!(rt; come_to_theirs(&rt, rt.alloc(), workers), "of {workers}");
     }
 }
 
-/// How often each point was come to.
-#[derive(Drop)]
-struct Counted {
-    counts: [AtomicU64; 5],
-}
-
-impl Gate for Counted {
-    fn at(&self, point: Point, _task: TaskId) {
-        if let Some(count) = self.counts.get(digit_of(point) as usize) {
-            count.fetch_add(1, Ordering::SeqCst);
-        }
-    }
+/// Whether one worker comes to each point 3,000 times.
+fn runs_all(rt: &(impl Abort + Threads + Wait + Sync), alloc: Global) -> bool {
+    let file = "(var x 5)(tx inc (set x (add x 1)) x)(run inc 3000)";
+    let gate = Counted::new();
+    is_run_under(rt, alloc, file, options(rt, 1, 2, 0), &gate) && gate.are([3000, 3000, 3000, 3000])
 }
 
 #[test]
 fn a_worker_runs_all_tasks_by_itself(rt: HostRuntime) {
-    let file = "(var x 5)(tx inc (set x (add x 1)) x)(run inc 3000)";
-    let counts = [
-        AtomicU64::new(0),
-        AtomicU64::new(0),
-        AtomicU64::new(0),
-        AtomicU64::new(0),
-        AtomicU64::new(0),
-    ];
-    let gate = Counted { counts };
-    let ran = run_under(&rt, rt.alloc(), file, options(&rt, 1, 2, 0), &gate);
-    assert!(rt; ran.is_some());
-    for point in [1, 2, 3, 4] {
-        assert_eq!(rt; gate.counts[point].load(Ordering::SeqCst), 3000);
-    }
+    assert!(rt; runs_all(&rt, rt.alloc()));
 }
 
 /// Waits until the count is so high. Whether it was in time.
@@ -152,17 +149,21 @@ impl Gate for Sixteen {
     }
 }
 
-#[test]
-fn sixteen_workers_have_a_task_at_once(rt: HostRuntime) {
+/// Whether sixteen workers take a task each before one goes on.
+fn have_one_at_once(rt: &(impl Abort + Threads + Wait + Sync), alloc: Global) -> bool {
     let file = "(var x 5)(tx inc (set x (add x 1)) x)(run inc 16)";
     let gate = Sixteen {
         taken: AtomicU64::new(0),
         late: AtomicBool::new(false),
     };
-    let ran = run_under(&rt, rt.alloc(), file, options(&rt, 16, 64, 0), &gate);
-    assert!(rt; ran.is_some());
-    assert!(rt; !gate.late.load(Ordering::SeqCst));
-    assert_eq!(rt; gate.taken.load(Ordering::SeqCst), 16);
+    is_run_under(rt, alloc, file, options(rt, 16, 64, 0), &gate)
+        && !gate.late.load(Ordering::SeqCst)
+        && gate.taken.load(Ordering::SeqCst) == 16
+}
+
+#[test]
+fn sixteen_workers_have_a_task_at_once(rt: HostRuntime) {
+    assert!(rt; have_one_at_once(&rt, rt.alloc()));
 }
 
 /// Lets another increment commit behind each end of the first task, so that each of its tries is
@@ -205,24 +206,40 @@ impl Gate for Spoils {
     }
 }
 
-/// After 64 stale tries the task has its turn under the lock, as the 65th entry, behind which the
-/// journal begins anew.
-#[test]
-fn a_task_has_its_turn_after_64_tries(rt: HostRuntime) {
+/// Whether a run of the file under this gate writes this report.
+fn is_reported<G: Gate>(
+    rt: &(impl Threads + Wait + Sync),
+    alloc: Global,
+    file: &str,
+    options: Options,
+    gate: &G,
+    report: &str,
+) -> bool {
+    match run_under(rt, alloc, file, options, gate) {
+        Some(text) => text.as_slice() == report.as_bytes(),
+        None => false,
+    }
+}
+
+/// Whether the first task has 64 tries, and is over once.
+fn is_served_at_last(rt: &(impl Abort + Threads + Wait + Sync), alloc: Global) -> bool {
     let file = "(var x 5)(tx inc (set x (add x 1)) x)(run inc 65)";
+    let report = "base 65\nx 70 65\nnow 65\nx 70 65\nend\n";
     let gate = Spoils {
         ends: AtomicU64::new(0),
         commits: AtomicU64::new(0),
         over: AtomicU64::new(0),
         late: AtomicBool::new(false),
     };
-    let ran = run_under(&rt, rt.alloc(), file, options(&rt, 2, 64, 65), &gate);
-    assert!(rt; !gate.late.load(Ordering::SeqCst));
-    assert_eq!(rt; gate.ends.load(Ordering::SeqCst), 64);
-    assert_eq!(rt; gate.over.load(Ordering::SeqCst), 1);
-    let report = b"base 65\nx 70 65\nnow 65\nx 70 65\nend\n";
-    match ran {
-        Some(text) => assert!(rt; text.as_slice() == report.as_slice()),
-        None => panic!(rt; "no report"),
-    }
+    is_reported(rt, alloc, file, options(rt, 2, 64, 65), &gate, report)
+        && !gate.late.load(Ordering::SeqCst)
+        && gate.ends.load(Ordering::SeqCst) == 64
+        && gate.over.load(Ordering::SeqCst) == 1
+}
+
+/// After 64 stale tries the task has its turn under the lock, as the 65th entry, behind which the
+/// journal begins anew.
+#[test]
+fn a_task_has_its_turn_after_64_tries(rt: HostRuntime) {
+    assert!(rt; is_served_at_last(&rt, rt.alloc()));
 }

@@ -16,31 +16,37 @@ fn options_have_limits(rt: HostRuntime) {
     }
 }
 
+/// Whether they are the largest that there may be.
+fn are_largest(options: Options) -> bool {
+    options.law();
+    (options.workers(), options.tries(), options.checkpoint()) == (16, 64, 65536)
+}
+
 #[test]
 fn options_reach_their_limits(rt: HostRuntime) {
-    let options = options(&rt, 16, 64, 65536);
-    options.law();
-    assert_eq!(rt; options.workers(), 16);
-    assert_eq!(rt; options.tries(), 64);
-    assert_eq!(rt; options.checkpoint(), 65536);
+    assert!(rt; are_largest(options(&rt, 16, 64, 65536)));
+}
+
+/// Whether options with a seed have it, and are else as they were.
+fn have_seed(alone: Options, seed: u64) -> bool {
+    match alone.with_seed(seed) {
+        Some(drawn) => {
+            drawn.law();
+            let others = (drawn.workers(), drawn.tries(), drawn.checkpoint());
+            drawn.seed() == Some(seed) && others == (1, 8, 2)
+        }
+        None => false,
+    }
 }
 
 #[test]
 fn a_seed_goes_with_one_worker(rt: HostRuntime) {
     let alone = options(&rt, 1, 8, 2);
-    assert_eq!(rt; alone.seed(), None);
+    assert!(rt; alone.seed().is_none());
     for seed in [0, u64::MAX] {
-        let Some(drawn) = alone.with_seed(seed) else {
-            panic!(rt; "no options")
-        };
-        drawn.law();
-        assert_eq!(rt; drawn.seed(), Some(seed));
-        assert_eq!(rt;
-            (drawn.workers(), drawn.tries(), drawn.checkpoint()),
-            (1, 8, 2)
-        );
+        assert!(rt; have_seed(alone, seed), "of {seed}");
     }
     for workers in [2, 16] {
-        assert_eq!(rt; options(&rt, workers, 8, 2).with_seed(0), None);
+        assert!(rt; options(&rt, workers, 8, 2).with_seed(0).is_none());
     }
 }

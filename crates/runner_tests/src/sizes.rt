@@ -2,8 +2,8 @@
 
 use std::alloc::Global;
 use std::process::Abort;
-use txn::TxId;
 use txn::weights::{Size, Weights, are_short, have_light, size_in, sizes_of};
+use txn::{Catalogue, TxId};
 use txn_text::read_file;
 
 /// A transaction that only reads, in some 250 instructions, one that counts, and one that counts and weighs
@@ -23,24 +23,42 @@ const BETWEEN: Weights = Weights {
 
 /// The sizes of the three, in their order, then of one that is not there, whether some tasks are light, and
 /// whether all are short.
-fn sized(rt: &impl Abort, alloc: Global, more: &str, weights: Weights) -> ([Size; 4], bool, bool) {
-    let Ok(text) = format!(in alloc; "{}{}{}", THREE, more, RUNS) else {
-        panic!(rt; "no text")
-    };
-    let Ok(catalogue) = read_file(alloc, text.as_bytes()) else {
-        panic!(rt; "no file")
-    };
-    let Ok(sizes) = sizes_of(alloc, &catalogue, weights) else {
-        panic!(rt; "no sizes")
-    };
-    let found = [
-        size_in(&sizes, TxId(0)),
-        size_in(&sizes, TxId(1)),
-        size_in(&sizes, TxId(2)),
-        size_in(&sizes, TxId(9)),
+type Sized = ([Size; 4], bool, bool);
+
+fn sized(rt: &impl Abort, alloc: Global, more: &str, weights: Weights) -> Sized {
+    match format!(in alloc; "{}{}{}", THREE, more, RUNS) {
+        Ok(text) => sized_in(rt, alloc, text.as_str(), weights),
+        Err(_) => panic!(rt; "no text"),
+    }
+}
+
+/// Those in the file of this text.
+fn sized_in(rt: &impl Abort, alloc: Global, text: &str, weights: Weights) -> Sized {
+    match read_file(alloc, text.as_bytes()) {
+        Ok(catalogue) => sized_of(rt, alloc, &catalogue, weights),
+        Err(_) => panic!(rt; "no file"),
+    }
+}
+
+fn sized_of(rt: &impl Abort, alloc: Global, catalogue: &Catalogue, weights: Weights) -> Sized {
+    match sizes_of(alloc, catalogue, weights) {
+        Ok(sizes) => found(sizes.as_slice(), catalogue),
+        Err(_) => panic!(rt; "no sizes"),
+    }
+}
+
+fn found(sizes: &[Size], catalogue: &Catalogue) -> Sized {
+    let of_each = [
+        size_in(sizes, TxId(0)),
+        size_in(sizes, TxId(1)),
+        size_in(sizes, TxId(2)),
+        size_in(sizes, TxId(9)),
     ];
-    let short = are_short(&sizes, catalogue.runs());
-    (found, have_light(&sizes), short)
+    (
+        of_each,
+        have_light(sizes),
+        are_short(sizes, catalogue.runs()),
+    )
 }
 
 #[test]

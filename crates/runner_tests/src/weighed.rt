@@ -1,5 +1,6 @@
 //! Tasks run from which weight on they are tried: each way in which a worker runs one, under gates.
 
+use crate::counted::Counted;
 use crate::holds::{Hold, Script};
 use crate::parts::{Passing, options};
 use runner::{Gate, OpenGate, Options, Point, RunReport, Weights, run_weighed};
@@ -9,7 +10,7 @@ use std::sync::Wait;
 use std::sync::atomic::{AtomicBool, AtomicU64, Ordering};
 use std::thread;
 use std::thread::Threads;
-use txn::{Outcome, TaskId};
+use txn::{Catalogue, Outcome, TaskId};
 use txn_text::read_file;
 
 /// A transaction that only reads, in some 250 instructions, one that counts, and one that counts and weighs
@@ -31,13 +32,35 @@ fn run_text<G: Gate>(
     weights: Weights,
     gate: &G,
 ) -> RunReport {
-    let Ok(text) = format!(in alloc; "{}{}{}", LOOK, more, runs) else {
-        panic!(rt; "no text")
-    };
-    let Ok(catalogue) = read_file(alloc, text.as_bytes()) else {
-        panic!(rt; "no file")
-    };
-    match run_weighed(rt, alloc, &catalogue, options, weights, gate) {
+    match format!(in alloc; "{}{}{}", LOOK, more, runs) {
+        Ok(text) => run_file(rt, alloc, text.as_str(), options, weights, gate),
+        Err(_) => panic!(rt; "no text"),
+    }
+}
+
+fn run_file<G: Gate>(
+    rt: &(impl Abort + Threads + Wait + Sync),
+    alloc: Global,
+    text: &str,
+    options: Options,
+    weights: Weights,
+    gate: &G,
+) -> RunReport {
+    match read_file(alloc, text.as_bytes()) {
+        Ok(catalogue) => run_catalogue(rt, alloc, &catalogue, options, weights, gate),
+        Err(_) => panic!(rt; "no file"),
+    }
+}
+
+fn run_catalogue<G: Gate>(
+    rt: &(impl Abort + Threads + Wait + Sync),
+    alloc: Global,
+    catalogue: &Catalogue,
+    options: Options,
+    weights: Weights,
+    gate: &G,
+) -> RunReport {
+    match run_weighed(rt, alloc, catalogue, options, weights, gate) {
         Ok(run) => run,
         Err(_) => panic!(rt; "no report"),
     }
@@ -63,6 +86,16 @@ fn have(run: &RunReport, place: usize, first: u32, last: u32, value: i64) -> boo
     true
 }
 
+/// Whether the journal is so long, and has from each of these places on such entries.
+fn are_left(run: &RunReport, length: usize, parts: &[(usize, u32, u32, i64)]) -> bool {
+    for &(place, first, last, value) in parts {
+        if !have(run, place, first, last, value) {
+            return false;
+        }
+    }
+    run.journal.len() == length
+}
+
 /// What one worker leaves that tries tasks from the weights on from which several do so.
 fn alone(
     rt: &(impl Abort + Threads + Wait + Sync),
@@ -82,118 +115,112 @@ fn alone(
     )
 }
 
+/// Whether that are so many entries, which are such.
+fn leaves(
+    rt: &(impl Abort + Threads + Wait + Sync),
+    alloc: Global,
+    more: &str,
+    runs: &str,
+    length: usize,
+    parts: &[(usize, u32, u32, i64)],
+) -> bool {
+    let run = alone(rt, alloc, more, runs);
+    are_left(&run, length, parts)
+}
+
 /// A short task that no one can wait for has its turn when no task is ready any more.
 #[test]
 fn a_short_task_is_held_behind_light_ones(rt: HostRuntime) {
-    let run = alone(&rt, rt.alloc(), "", "(run look 3)(run inc 1)(run look 9)");
-    assert_eq!(rt; run.journal.len(), 13);
-    assert!(rt; have(&run, 0, 0, 3, 5));
-    assert!(rt; have(&run, 3, 4, 13, 5));
-    assert!(rt; have(&run, 12, 3, 4, 6));
+    let runs = "(run look 3)(run inc 1)(run look 9)";
+    let parts = [(0, 0, 3, 5), (3, 4, 13, 5), (12, 3, 4, 6)];
+    assert!(rt; leaves(&rt, rt.alloc(), "", runs, 13, &parts));
+}
+
+/// Whether eight of nine tasks had their turns together, and the ninth the last one.
+fn are_held(run: &RunReport) -> bool {
+    for task in 0..8 {
+        if !have(run, task as usize, task, task + 1, i64::from(task) + 6) {
+            return false;
+        }
+    }
+    are_left(run, 45, &[(8, 9, 45, 13), (44, 8, 9, 14)])
 }
 
 /// Eight of them have their turns together, in the order in which they were taken.
 #[test]
 fn eight_held_tasks_have_their_turns(rt: HostRuntime) {
     let run = alone(&rt, rt.alloc(), "", "(run inc 9)(run look 36)");
-    assert_eq!(rt; run.journal.len(), 45);
-    for task in 0..8 {
-        assert!(rt;
-            have(&run, task as usize, task, task + 1, i64::from(task) + 6),
-            "of {task}"
-        );
-    }
-    assert!(rt; have(&run, 8, 9, 45, 13));
-    assert!(rt; have(&run, 44, 8, 9, 14));
+    assert!(rt; are_held(&run));
 }
 
 /// Where a task could wait for it, a short one has its turn at once.
 #[test]
 fn a_short_task_is_not_held_where_one_could_wait(rt: HostRuntime) {
-    let run = alone(&rt, rt.alloc(), WAIT, "(run look 3)(run inc 1)(run look 9)");
-    assert_eq!(rt; run.journal.len(), 13);
-    assert!(rt; have(&run, 0, 3, 4, 6));
-    assert!(rt; have(&run, 1, 0, 3, 6));
-    assert!(rt; have(&run, 4, 4, 13, 6));
+    let runs = "(run look 3)(run inc 1)(run look 9)";
+    let parts = [(0, 3, 4, 6), (1, 0, 3, 6), (4, 4, 13, 6)];
+    assert!(rt; leaves(&rt, rt.alloc(), WAIT, runs, 13, &parts));
 }
 
 /// With fewer than twelve light ones for a short one, all have their turns.
 #[test]
 fn few_light_tasks_are_short(rt: HostRuntime) {
-    let run = alone(&rt, rt.alloc(), WAIT, "(run look 3)(run inc 1)(run look 8)");
-    assert_eq!(rt; run.journal.len(), 12);
-    assert!(rt; have(&run, 0, 0, 3, 5));
-    assert!(rt; have(&run, 3, 3, 12, 6));
+    let runs = "(run look 3)(run inc 1)(run look 8)";
+    assert!(rt;
+        leaves(
+            &rt,
+            rt.alloc(),
+            WAIT,
+            runs,
+            12,
+            &[(0, 0, 3, 5), (3, 3, 12, 6)]
+        )
+    );
 }
 
 /// How often each point was come to: of all tasks, and of the first.
 #[derive(Drop)]
 struct Counts {
-    all: [AtomicU64; 4],
-    first: [AtomicU64; 4],
-}
-
-fn place_of(point: Point) -> usize {
-    match point {
-        Point::Taken => 0,
-        Point::Needs => 1,
-        Point::Ended => 2,
-        Point::Finished => 3,
-    }
-}
-
-fn no_counts() -> [AtomicU64; 4] {
-    [
-        AtomicU64::new(0),
-        AtomicU64::new(0),
-        AtomicU64::new(0),
-        AtomicU64::new(0),
-    ]
-}
-
-fn add_one(counts: &[AtomicU64; 4], point: Point) {
-    if let Some(count) = counts.get(place_of(point)) {
-        count.fetch_add(1, Ordering::SeqCst);
-    }
+    all: Counted,
+    first: Counted,
 }
 
 impl Counts {
     fn new() -> Counts {
         Counts {
-            all: no_counts(),
-            first: no_counts(),
+            all: Counted::new(),
+            first: Counted::new(),
         }
     }
-
-    /// How often a task was taken.
-    fn taken(&self) -> u64 {
-        match self.all.get(0) {
-            Some(count) => count.load(Ordering::SeqCst),
-            None => 0,
-        }
-    }
-
-    /// Whether the points were come to so often.
-    fn are(&self, wanted: [u64; 4]) -> bool {
-        are(&self.all, wanted)
-    }
-}
-
-fn are(counts: &[AtomicU64; 4], wanted: [u64; 4]) -> bool {
-    let mut all = true;
-    for (count, wanted) in counts.iter().zip(wanted) {
-        all = all && count.load(Ordering::SeqCst) == wanted;
-    }
-    all
 }
 
 impl Gate for Counts {
     fn at(&self, point: Point, task: TaskId) {
-        add_one(&self.all, point);
+        self.all.add_one(point);
         if task.0 == 0 {
-            add_one(&self.first, point);
+            self.first.add_one(point);
         }
     }
+}
+
+/// Whether the run leaves this value of x.
+fn ends_at(run: &RunReport, x: i64) -> bool {
+    run.rest.now_vars.first().map(|x| x.0) == Some(x)
+}
+
+/// Whether so many workers come to the points so often, and leave this value of x.
+fn come_to(
+    rt: &(impl Abort + Threads + Wait + Sync),
+    alloc: Global,
+    runs: &str,
+    workers: u32,
+    weights: Weights,
+    points: [u64; 4],
+    x: i64,
+) -> bool {
+    let gate = Counted::new();
+    let options = options(rt, workers, 8, 0);
+    let run = run_text(rt, alloc, "", runs, options, weights, &gate);
+    gate.are(points) && ends_at(&run, x)
 }
 
 /// Light tasks come to two points each, and short ones to none; behind a thousand that were taken in one time
@@ -205,22 +232,9 @@ fn a_worker_tries_all_light_tasks(rt: HostRuntime) {
         ("(run inc 1500)(run look 6000)", 6000, 1505),
         ("(run far 100)(run look 400)", 400, 105),
     ] {
-        let gate = Counts::new();
-        let options = options(&rt, 1, 8, 0);
-        let run = run_text(
-            &rt,
-            rt.alloc(),
-            "",
-            runs,
-            options,
-            Weights::LEAST_TIME,
-            &gate,
-        );
-        assert!(rt; gate.are([light, 0, light, 0]), "of {light}");
-        assert!(rt;
-            run.rest.now_vars.first().map(|x| x.0) == Some(x),
-            "of {light}"
-        );
+        let points = [light, 0, light, 0];
+        let is_so = come_to(&rt, rt.alloc(), runs, 1, Weights::LEAST_TIME, points, x);
+        assert!(rt; is_so, "of {light}");
     }
 }
 
@@ -231,12 +245,13 @@ fn tasks_that_are_not_tried_come_to_no_point(rt: HostRuntime) {
         ("(run inc 50)(run far 50)", Weights::LEAST_TIME),
         ("(run inc 50)(run look 25)(run far 50)", Weights::NONE),
     ] {
-        let gate = Counts::new();
-        let options = options(&rt, 4, 8, 0);
-        let run = run_text(&rt, rt.alloc(), "", runs, options, weights, &gate);
-        assert!(rt; gate.are([0, 0, 0, 0]));
-        assert!(rt; run.rest.now_vars.first().map(|x| x.0) == Some(105));
+        assert!(rt; come_to(&rt, rt.alloc(), runs, 4, weights, [0, 0, 0, 0], 105));
     }
+}
+
+/// Whether all increments are in the journal, and in the value of x.
+fn are_counted(run: &RunReport) -> bool {
+    run.journal.len() == 500 && run.rest.now_vars.as_slice() == [(505, 500)].as_slice()
 }
 
 /// Where each is tried, four workers whose gate is open leave what one would.
@@ -245,8 +260,30 @@ fn each_task_is_tried_under_an_open_gate(rt: HostRuntime) {
     let options = options(&rt, 4, 8, 0);
     let runs = "(run inc 400)(run far 100)";
     let run = run_text(&rt, rt.alloc(), "", runs, options, Weights::EACH, &OpenGate);
-    assert_eq!(rt; run.journal.len(), 500);
-    assert!(rt; run.rest.now_vars.as_slice() == [(505, 500)].as_slice());
+    assert!(rt; are_counted(&run));
+}
+
+/// The gate of two workers that have six each of the first twelve tasks, and of which one is held at the end of the
+/// first task.
+fn gate_of_two() -> Both {
+    let until_committed = Hold::new((Point::Ended, TaskId(0)), (Point::Taken, TaskId(13)));
+    let until_begun = Hold::new((Point::Taken, TaskId(1)), (Point::Taken, TaskId(0)));
+    Both {
+        script: Script::new(until_committed, until_begun),
+        counts: Counts::new(),
+    }
+}
+
+/// Whether two workers that try a task so often try the first one so often, and each of the others once.
+fn are_tried(rt: &(impl Abort + Threads + Wait + Sync), alloc: Global, tries: u32) -> bool {
+    let gate = gate_of_two();
+    let options = options(rt, 2, tries, 0);
+    let runs = "(run look 12)(run inc 1)(run look 60)";
+    let run = run_text(rt, alloc, WAIT, runs, options, Weights::LEAST_TIME, &gate);
+    !gate.script.is_late()
+        && are_left(&run, 73, &[(6, 12, 13, 6)])
+        && gate.counts.first.are([1, 0, u64::from(tries), 0])
+        && gate.counts.all.times(Point::Taken) == 72
 }
 
 /// A light task that is held at its end, until another worker has let a writer commit, is tried as often as
@@ -256,31 +293,7 @@ fn each_task_is_tried_under_an_open_gate(rt: HostRuntime) {
 #[test]
 fn tries_of_light_tasks_are_counted(rt: HostRuntime) {
     for tries in [1, 2] {
-        let until_committed = Hold::new((Point::Ended, TaskId(0)), (Point::Taken, TaskId(13)));
-        let until_begun = Hold::new((Point::Taken, TaskId(1)), (Point::Taken, TaskId(0)));
-        let gate = Both {
-            script: Script::new([until_committed, until_begun, Hold::none()]),
-            counts: Counts::new(),
-        };
-        let options = options(&rt, 2, tries, 0);
-        let runs = "(run look 12)(run inc 1)(run look 60)";
-        let run = run_text(
-            &rt,
-            rt.alloc(),
-            WAIT,
-            runs,
-            options,
-            Weights::LEAST_TIME,
-            &gate,
-        );
-        assert!(rt; !gate.script.is_late());
-        assert_eq!(rt; run.journal.len(), 73);
-        assert!(rt; have(&run, 6, 12, 13, 6));
-        assert!(rt;
-            are(&gate.counts.first, [1, 0, u64::from(tries), 0]),
-            "of {tries}"
-        );
-        assert_eq!(rt; gate.counts.taken(), 72);
+        assert!(rt; are_tried(&rt, rt.alloc(), tries), "of {tries}");
     }
 }
 
@@ -321,24 +334,30 @@ impl Gate for Sixteen {
     }
 }
 
-/// Long tasks are evaluated side by side from the weights on from which a run under an open gate tries them.
-#[test]
-fn sixteen_long_tasks_are_evaluated_at_once(rt: HostRuntime) {
+/// Whether sixteen workers come to their needs at once.
+fn are_at_once(rt: &(impl Abort + Threads + Wait + Sync), alloc: Global) -> bool {
     let gate = Sixteen {
         came: AtomicU64::new(0),
         late: AtomicBool::new(false),
     };
     let long = "(tx long (repeat 1000 (if (lt x 0) (throw 1) (skip))) x)";
+    let options = options(rt, 16, 8, 0);
     let run = run_text(
-        &rt,
-        rt.alloc(),
+        rt,
+        alloc,
         long,
         "(run long 16)",
-        options(&rt, 16, 8, 0),
+        options,
         Weights::LEAST_TIME,
         &gate,
     );
-    assert!(rt; !gate.late.load(Ordering::SeqCst));
-    assert_eq!(rt; gate.came.load(Ordering::SeqCst), 16);
-    assert_eq!(rt; run.journal.len(), 16);
+    !gate.late.load(Ordering::SeqCst)
+        && gate.came.load(Ordering::SeqCst) == 16
+        && run.journal.len() == 16
+}
+
+/// Long tasks are evaluated side by side from the weights on from which a run under an open gate tries them.
+#[test]
+fn sixteen_long_tasks_are_evaluated_at_once(rt: HostRuntime) {
+    assert!(rt; are_at_once(&rt, rt.alloc()));
 }
