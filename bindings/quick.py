@@ -20,6 +20,7 @@ IN_C = [
     ("tests/chapters.c", [], GOOD),
     ("tests/answers.c", [], GOOD),
     ("tests/programs.c", ["4"], GOOD),
+    ("tests/lock.c", ["2000"], GOOD),
     ("tests/service.c", [], GOOD),
     ("tests/service_threads.c", ["300", "100"], GOOD),
     ("tests/arguments.c", [], GOOD),

@@ -1,26 +1,28 @@
-/* A bell, by which a thread sleeps until another one rings it, and for how long it sleeps. It is a part of service.c. */
+/* A bell, by which a thread sleeps until another one rings it, and for how long. It is a part of service.c. */
 #ifndef STM_BELL_H
 #define STM_BELL_H
 
 #include "service.h"
+#include "sleep.h"
 
-#include <errno.h>
 #include <pthread.h>
 #include <stdbool.h>
 #include <stddef.h>
 #include <time.h>
 
 enum {
-    SECOND = 1000000000,
     /* After how many nanoseconds of waiting a waiter is asked. */
-    SLICE = 50000000
+    SLICE = 50000000,
+    /* For how many a thread looks whether its bell was rung before it sleeps, which takes twice as long with its end;
+     * and how many it rests between two looks. */
+    LISTENS = 5000,
+    PAUSES = 300
 };
 
-/* Whether it was rung, under a lock of its own. */
+/* A bell is quiet, or rung; or a thread sleeps by it. */
+enum bell_state { QUIET, RUNG, SLEPT_BY };
 struct bell {
-    pthread_mutex_t lock;
-    pthread_cond_t changed;
-    bool rung;
+    uint32_t state;
 };
 
 /* Who is asked while a thread waits, by the thread, once one has somebody. */
@@ -37,16 +39,6 @@ static stm_waiter *waiter_here(void) {
     return __atomic_load_n(&has_waiters, __ATOMIC_ACQUIRE) ? pthread_getspecific(waiters) : NULL;
 }
 
-/* The time in so many nanoseconds. */
-static struct timespec time_in(uint64_t nanoseconds) {
-    struct timespec time;
-    clock_gettime(CLOCK_MONOTONIC, &time);
-    uint64_t rest = (uint64_t)time.tv_nsec + nanoseconds % SECOND;
-    time.tv_sec += (time_t)(nanoseconds / SECOND + rest / SECOND);
-    time.tv_nsec = (long)(rest % SECOND);
-    return time;
-}
-
 static bool is_at_or_before(const struct timespec *time, const struct timespec *other) {
     return time->tv_sec != other->tv_sec ? time->tv_sec < other->tv_sec : time->tv_nsec <= other->tv_nsec;
 }
@@ -57,36 +49,31 @@ static bool is_past(const struct timespec *until) {
     return is_at_or_before(until, &now);
 }
 
-static bool makes_bell(struct bell *bell, const pthread_condattr_t *monotonic) {
-    bell->rung = false;
-    bell->lock = (pthread_mutex_t)PTHREAD_MUTEX_INITIALIZER;
-    return pthread_cond_init(&bell->changed, monotonic) == 0;
-}
-
-static void drop_bell(struct bell *bell) {
-    pthread_cond_destroy(&bell->changed);
-    pthread_mutex_destroy(&bell->lock);
-}
-
+/* Its thread may go on, and the bell be gone, before the last line. */
 static void ring(struct bell *bell) {
-    pthread_mutex_lock(&bell->lock);
-    bell->rung = true;
-    pthread_cond_signal(&bell->changed);
-    pthread_mutex_unlock(&bell->lock);
+    uint32_t *state = &bell->state;
+    if (__atomic_exchange_n(state, RUNG, __ATOMIC_ACQ_REL) == SLEPT_BY) wake_at(state);
 }
 
-/* Sleeps until the bell was rung, or the time is up: whether it was rung. NULL: without end. */
+/* Whether the bell goes from one state to the other. */
+static bool turns(struct bell *bell, uint32_t from, uint32_t to) {
+    return __atomic_load_n(&bell->state, __ATOMIC_RELAXED) == from &&
+           __atomic_compare_exchange_n(&bell->state, &from, to, false, __ATOMIC_ACQ_REL, __ATOMIC_RELAXED);
+}
+
+/* Sleeps until the bell was rung, or the time is up: whether it was rung. NULL: without end. Then it is quiet. */
 static bool is_rung_by(struct bell *bell, const struct timespec *until) {
-    int late = 0;
-    pthread_mutex_lock(&bell->lock);
-    while (!bell->rung && late != ETIMEDOUT) {
-        if (until) late = pthread_cond_timedwait(&bell->changed, &bell->lock, until);
-        else pthread_cond_wait(&bell->changed, &bell->lock);
+    for (int64_t end = clock_now() + LISTENS; clock_now() < end && !is_past(until); rest(PAUSES))
+        if (turns(bell, RUNG, QUIET)) return true;
+    while (!turns(bell, RUNG, QUIET)) {
+        turns(bell, QUIET, SLEPT_BY);
+        if (is_past(until)) {
+            if (turns(bell, SLEPT_BY, QUIET)) return false;
+        } else {
+            sleep_at(&bell->state, SLEPT_BY, until);
+        }
     }
-    bool rung = bell->rung;
-    bell->rung = false;
-    pthread_mutex_unlock(&bell->lock);
-    return rung;
+    return true;
 }
 
 /* Whether the waiter lets the thread go on. No lock is held, so it may do what it likes. */

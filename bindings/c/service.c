@@ -1,8 +1,8 @@
 /* Calls from any thread, over pthreads: see service.h. It is inside libstm.a and libstm.so.
  *
- * One mutex guards the store. A thread that finds it taken puts its call in line, and who has the lock makes the calls
- * in line before it lets go: so under contention the store stays with one processor for some calls, and few threads
- * sleep. While the lock is free no task is ready: after each call what it woke has its turns, lowest first.
+ * One lock guards the store (lock.h). A thread that finds it taken asks for its call at a seat, and who has the lock
+ * makes it: so under contention the store stays with one processor for some calls, and few threads sleep. While the
+ * lock is free no task is ready: after each call what it woke has its turns, lowest first.
  *
  * A call whose transaction retries waits: it lies on its thread's stack, and stands in the table until its task is
  * over. Who ends the task takes it out of there and writes down the answer. The bells are rung when the lock is free
@@ -16,6 +16,7 @@
 #endif
 #include "bell.h"
 #include "chapter_room.h"
+#include "lock.h"
 #include "service.h"
 
 #include <pthread.h>
@@ -39,28 +40,38 @@ enum {
     /* How often a transaction is observed or tried beside the commits, before it is evaluated under the lock. */
     TRIES = 8,
     BUCKETS = 4096,
-    /* How often a thread looks for its answer before it sleeps, and after how many looks it tries the lock. */
-    LOOKS = 512,
-    LOOKS_A_TRY = 32,
-    /* For how many rounds a thread makes the calls of others. */
-    ROUNDS = 16,
-    /* A processor's line of memory. */
-    LINE = 64
+    /* How many arguments are asked for in a line of memory. */
+    FEW = 4
 };
 
-/* How far a call is: asked for; its answer is there; or it waits, and its answer is there when its bell was rung. */
-enum state { ASKED, ANSWERED, WAITS };
-
-struct call {
+/* What a call asks for. */
+struct asked {
     uint32_t transaction;
     /* One of `enum stm_way`. */
     uint32_t way;
-    /* They lie where its thread has them, until the call was made. */
-    const int64_t *arguments;
     size_t count;
-    enum state state;
+    /* Where it lies while it waits, on its thread's stack. */
+    struct call *call;
+    /* More than few lie where its thread has them, until the call was made. */
+    union {
+        int64_t given[FEW];
+        const int64_t *elsewhere;
+    } arguments;
+};
+
+/* A call as it lies at a seat, and then its answer: STM_RETRIES with a ticket is that it waits, and its answer is there
+ * when its bell was rung. */
+union seated {
+    struct asked asked;
     stm_answer answer;
-    struct call *next; /* in line, or in its bucket of the table */
+    unsigned char room[CALL];
+};
+
+/* A call that waits, or is long. */
+struct call {
+    struct asked asked;
+    stm_answer answer;
+    struct call *next; /* in its bucket of the table */
     /* Of one that is or was in the table: its task, and whether it is there. */
     int64_t ticket;
     bool listed;
@@ -90,20 +101,19 @@ struct text {
 };
 
 struct stm_service {
-    /* How many threads are in a call; and those in line, the last first: both are changed without the lock. */
+    /* What is left to do when it is let go is to ring bells. */
+    struct lock lock;
+    /* How many threads are in a call for which they neither have the lock nor ask: it is changed without the lock. */
     size_t inside;
-    char apart[LINE];
-    struct call *in_line;
-    char apart_too[LINE];
-    pthread_mutex_t lock;
     bool closed;
     stm_store store;
     stm_lender lender;
-    struct call *to_ring;
+    /* How many calls are in the table; whether tasks of the file wait too, for which no thread does. */
+    size_t listed;
+    bool own_wait;
     /* How many long calls are in the table, and of these, how many are running. */
     size_t long_calls, running;
     struct call *table[BUCKETS];
-    pthread_condattr_t monotonic;
     stm_program program;
     size_t transactions;
     /* 1 for each long transaction, 0 for the others; NULL: none is long. */
@@ -113,6 +123,8 @@ struct stm_service {
     struct workers workers;
     /* The process that has opened it. */
     pid_t process;
+    /* The memory in which it lies. */
+    void *block;
 };
 
 /* An answer of no task. */
@@ -138,7 +150,8 @@ static void list(stm_service *s, struct call *call, int64_t ticket) {
     call->running = call->owed = false;
     call->next = *bucket;
     *bucket = call;
-    s->long_calls += is_long(s, call->transaction);
+    s->listed++;
+    s->long_calls += is_long(s, call->asked.transaction);
 }
 
 /* Takes the call of this task out of the table; NULL: no thread has one. */
@@ -146,7 +159,8 @@ static struct call *unlist(stm_service *s, int64_t ticket) {
     struct call **at = place_of(s, ticket), *call = *at;
     if (!call) return NULL;
     *at = call->next;
-    s->long_calls -= is_long(s, call->transaction);
+    s->listed--;
+    s->long_calls -= is_long(s, call->asked.transaction);
     s->running -= call->running;
     call->listed = call->running = false;
     return call;
@@ -162,8 +176,8 @@ static void runs(stm_service *s, struct call *call, stm_job job) {
 static void is_to_be_rung(stm_service *s, struct call *call) {
     if (call->owed) return;
     call->owed = true;
-    call->next_owed = s->to_ring;
-    s->to_ring = call;
+    call->next_owed = s->lock.left;
+    s->lock.left = call;
 }
 
 /* Hands the answer to the thread that has a call of this task, if there is one. */
@@ -174,15 +188,9 @@ static void hand(stm_service *s, int64_t ticket, stm_answer answer) {
     is_to_be_rung(s, call);
 }
 
-/* Those whose bells are to be rung. */
-static struct call *take_owed(stm_service *s) {
-    struct call *first = s->to_ring;
-    s->to_ring = NULL;
-    return first;
-}
-
-static void ring_all(struct call *call) {
-    for (struct call *next; call; call = next) {
+/* Rings the bells from this call's on. */
+static void ring_all(void *first) {
+    for (struct call *next, *call = first; call; call = next) {
         next = call->next_owed;
         ring(&call->bell);
     }
@@ -193,8 +201,8 @@ static void ring_all(struct call *call) {
 /* What the caller of the task is told. */
 static stm_answer told(stm_answer answer) { return answer.code == STM_GIVEN_UP ? bare(STM_MEMORY) : answer; }
 
-/* The lowest ready task has its turn. Where it may be, a long one for which a thread waits is handed to that. False: none
- * is ready. */
+/* The lowest ready task has its turn. Where it may be, a long one for which a thread waits is handed to that. False:
+ * none is ready. */
 static bool give_turn(stm_service *s, bool may_hand) {
     stm_job job = stm_take(&s->store);
     if (job.ticket < 0) return false;
@@ -216,7 +224,7 @@ static void serve(stm_service *s) {
 
 /* So its running task ended: it waits, but for a try, or its thread has the answer. */
 static void ends(stm_service *s, struct call *call, stm_answer answer) {
-    if (answer.code == STM_RETRIES && call->way == STM_WAITS) {
+    if (answer.code == STM_RETRIES && call->asked.way == STM_WAITS) {
         call->running = false;
         s->running--;
         return;
@@ -263,7 +271,8 @@ static int32_t hand_over(stm_service *s) {
     if (code == STM_DONE) code = copy(s, &s->report, stm_report_now);
     if (code != STM_DONE) return code;
     /* The host may take long. */
-    ring_all(take_owed(s));
+    ring_all(s->lock.left);
+    s->lock.left = NULL;
     int before;
     pthread_setcancelstate(PTHREAD_CANCEL_DISABLE, &before);
     int failed = s->options.ended(s->options.own, s->file.at, s->file.length, s->report.at, s->report.length);
@@ -290,64 +299,56 @@ static int32_t next_chapter(stm_service *s) {
     if (counts.done + counts.given_up == 0) return STM_NO_ROOM;
     int32_t code = hand_over(s);
     if (code == STM_DONE) stm_begin_chapter(&s->store);
+    s->own_wait = counts.parked > s->listed;
     return code;
 }
 
 /* ---- Calls, under the lock ---- */
 
-static stm_answer turn_by(stm_service *s, const struct call *call) {
-    return stm_call(&s->store, &s->lender, call->transaction, call->arguments, call->count, call->way);
+static const int64_t *arguments_of(const struct asked *asked) {
+    return asked->count <= FEW ? asked->arguments.given : asked->arguments.elsewhere;
 }
 
-/* A turn of the call, in a new chapter where the present one has no room; and of what it woke. */
-static stm_answer turn_of(stm_service *s, const struct call *call) {
+static stm_answer turn_by(stm_service *s, const struct asked *asked) {
+    return stm_call(&s->store, &s->lender, asked->transaction, arguments_of(asked), asked->count, asked->way);
+}
+
+/* A turn of the call, in a new chapter where the present one has no room; and of what it woke, if anything waits. */
+static stm_answer turn_of(stm_service *s, const struct asked *asked) {
     if (s->closed) return bare(STM_CLOSED);
-    if (call->transaction >= s->transactions) return bare(STM_UNKNOWN);
-    stm_answer turn = turn_by(s, call);
+    if (asked->transaction >= s->transactions) return bare(STM_UNKNOWN);
+    stm_answer turn = turn_by(s, asked);
     if (turn.code == STM_NO_ROOM) {
         int32_t code = next_chapter(s);
-        turn = code == STM_DONE ? turn_by(s, call) : bare(code);
+        turn = code == STM_DONE ? turn_by(s, asked) : bare(code);
     }
-    if (turn.ticket >= 0) serve(s);
+    if (turn.ticket >= 0 && (s->listed > 0 || s->own_wait)) serve(s);
     return turn;
 }
 
-/* Makes the call. Its thread may go on at once where it does not wait. */
-static void make(stm_service *s, struct call *call) {
-    stm_answer turn = turn_of(s, call);
-    enum state state = turn.code == STM_RETRIES && turn.ticket >= 0 ? WAITS : ANSWERED;
-    call->answer = told(turn);
-    if (state == WAITS && !makes_bell(&call->bell, &s->monotonic)) {
-        stm_give_up(&s->store, turn.ticket);
-        call->answer = bare(STM_MEMORY);
-        state = ANSWERED;
-    }
-    if (state == WAITS) list(s, call, turn.ticket);
-    __atomic_store_n(&call->state, state, __ATOMIC_RELEASE);
-}
+static bool waits(const stm_answer *answer) { return answer->code == STM_RETRIES && answer->ticket >= 0; }
 
-/* Makes the calls in line, in the order in which they came. */
-static void make_those_in_line(stm_service *s) {
-    for (int round = 0; round < ROUNDS && __atomic_load_n(&s->in_line, __ATOMIC_RELAXED); round++) {
-        struct call *next, *call = __atomic_exchange_n(&s->in_line, NULL, __ATOMIC_ACQUIRE), *first = NULL;
-        for (; call; call = next) {
-            next = call->next;
-            call->next = first;
-            first = call;
-        }
-        for (; first; first = next) {
-            next = first->next;
-            make(s, first);
-        }
-    }
-}
+static void enter(stm_service *s) { __atomic_add_fetch(&s->inside, 1, __ATOMIC_RELAXED); }
 
-/* Lets the lock go, and rings the bells. */
-static void unlock(stm_service *s) {
-    make_those_in_line(s);
-    struct call *owed = take_owed(s);
-    pthread_mutex_unlock(&s->lock);
-    ring_all(owed);
+/* The last that a thread has to do with the service. */
+static void leave(stm_service *s) { __atomic_sub_fetch(&s->inside, 1, __ATOMIC_RELEASE); }
+
+/* Makes a call that is not long, for its thread or another: whether its thread goes on at once. One that waits is in a
+ * call until it leaves. */
+static bool make(void *service, void *place) {
+    stm_service *s = service;
+    union seated *seated = place;
+    stm_answer turn = turn_of(s, &seated->asked);
+    bool goes_on = !waits(&turn);
+    if (!goes_on) {
+        struct call *call = seated->asked.call;
+        call->asked = seated->asked;
+        call->bell.state = QUIET;
+        list(s, call, turn.ticket);
+        enter(s);
+    }
+    seated->answer = told(turn);
+    return goes_on;
 }
 
 /* ---- Workers ---- */
@@ -373,20 +374,24 @@ static void give_back(struct workers *w, stm_worker *worker) {
 
 /* ---- Long calls: the lock is held, but while a task is evaluated or its thread sleeps ---- */
 
+static int64_t submit(stm_service *s, const struct asked *asked) {
+    return stm_submit(&s->store, asked->transaction, arguments_of(asked), asked->count);
+}
+
 /* Has a running task of the call, in a new chapter where the present one has no room; or an answer. */
 static void begin(stm_service *s, struct call *call) {
     int64_t ticket = STM_CLOSED;
-    if (!s->closed) ticket = stm_submit(&s->store, call->transaction, call->arguments, call->count);
+    if (!s->closed) ticket = submit(s, &call->asked);
     if (ticket == STM_NO_ROOM) {
         ticket = next_chapter(s);
-        if (ticket == STM_DONE) ticket = stm_submit(&s->store, call->transaction, call->arguments, call->count);
+        if (ticket == STM_DONE) ticket = submit(s, &call->asked);
     }
     if (ticket >= 0) {
         list(s, call, ticket);
         runs(s, call, stm_claim(&s->store, ticket));
     } else {
         /* Without room, a try can still tell that it retries. */
-        call->answer = bare(ticket == STM_NO_ROOM ? turn_by(s, call).code : (int32_t)ticket);
+        call->answer = bare(ticket == STM_NO_ROOM ? turn_by(s, &call->asked).code : (int32_t)ticket);
     }
 }
 
@@ -400,9 +405,9 @@ static void evaluate(stm_service *s, struct call *call, const struct timespec *u
             break;
         }
         stm_job job = call->job;
-        unlock(s);
+        release(&s->lock);
         int32_t code = stm_try_job(worker, job);
-        pthread_mutex_lock(&s->lock);
+        take_lock(&s->lock);
         if (!call->running || is_past(until)) break;
         stm_answer answer = code == STM_DONE ? stm_bring(&s->store, worker) : bare(code);
         if (answer.code == STM_STALE || answer.code == STM_GONE) continue;
@@ -419,102 +424,66 @@ static void evaluate(stm_service *s, struct call *call, const struct timespec *u
 
 /* Sleeps until the task is over or running again. Where the thread waits no longer it is given up. */
 static void sleep_long(stm_service *s, struct call *call, const struct timespec *until) {
-    unlock(s);
+    release(&s->lock);
     bool rung = is_rung(&call->bell, until);
-    pthread_mutex_lock(&s->lock);
+    take_lock(&s->lock);
     if (rung) call->owed = false;
     if (rung || !call->listed || call->running) return;
     stm_give_up(&s->store, call->ticket);
     hand(s, call->ticket, bare(STM_TIMED_OUT));
 }
 
-static void run_long(stm_service *s, struct call *call, const struct timespec *until) {
+static stm_answer run_long(stm_service *s, const struct asked *asked, const struct timespec *until) {
+    struct call call;
     int before;
-    call->listed = call->running = call->owed = false;
-    call->answer = bare(STM_MEMORY);
-    if (!makes_bell(&call->bell, &s->monotonic)) return;
+    call.asked = *asked;
+    call.listed = call.running = call.owed = false;
+    call.bell.state = QUIET;
     pthread_setcancelstate(PTHREAD_CANCEL_DISABLE, &before);
-    pthread_mutex_lock(&s->lock);
-    begin(s, call);
-    while (call->listed) call->running ? evaluate(s, call, until) : sleep_long(s, call, until);
-    bool owed = call->owed;
-    unlock(s);
-    if (owed) is_rung_by(&call->bell, NULL);
+    enter(s);
+    take_lock(&s->lock);
+    begin(s, &call);
+    while (call.listed) call.running ? evaluate(s, &call, until) : sleep_long(s, &call, until);
+    bool owed = call.owed;
+    release(&s->lock);
+    if (owed) is_rung_by(&call.bell, NULL);
+    leave(s);
     pthread_setcancelstate(before, &before);
-    drop_bell(&call->bell);
+    return call.answer;
 }
 
 /* ---- Calls ---- */
-
-static void enter(stm_service *s) { __atomic_add_fetch(&s->inside, 1, __ATOMIC_RELAXED); }
-
-/* The last that a thread has to do with the service. */
-static void leave(stm_service *s) { __atomic_sub_fetch(&s->inside, 1, __ATOMIC_RELEASE); }
-
-static void pause_shortly(void) {
-#if defined(__x86_64__)
-    __builtin_ia32_pause();
-#endif
-}
-
-/* Gets in line, until the call was made by whoever has the lock; or, where it comes to have the lock, by itself. */
-static void line_up(stm_service *s, struct call *call) {
-    struct call **line = &s->in_line;
-    call->next = __atomic_load_n(line, __ATOMIC_RELAXED);
-    while (!__atomic_compare_exchange_n(line, &call->next, call, true, __ATOMIC_RELEASE, __ATOMIC_RELAXED)) continue;
-    for (int look = 1; look <= LOOKS; look++) {
-        if (__atomic_load_n(&call->state, __ATOMIC_ACQUIRE) != ASKED) return;
-        if (look % LOOKS_A_TRY == 0 && pthread_mutex_trylock(&s->lock) == 0) {
-            unlock(s);
-            continue;
-        }
-        pause_shortly();
-    }
-    while (__atomic_load_n(&call->state, __ATOMIC_ACQUIRE) == ASKED) {
-        pthread_mutex_lock(&s->lock);
-        unlock(s);
-    }
-}
 
 /* Waits for the answer. Where the thread waits no longer and there is none yet the task is given up. */
 static void wait_for(stm_service *s, struct call *call, const struct timespec *until) {
     int before;
     pthread_setcancelstate(PTHREAD_CANCEL_DISABLE, &before);
     if (!is_rung(&call->bell, until)) {
-        pthread_mutex_lock(&s->lock);
+        take_lock(&s->lock);
         bool late = call->listed;
         if (late) {
             unlist(s, call->ticket);
             stm_give_up(&s->store, call->ticket);
             call->answer = bare(STM_TIMED_OUT);
         }
-        unlock(s);
+        release(&s->lock);
         if (!late) is_rung_by(&call->bell, NULL);
     }
+    leave(s);
     pthread_setcancelstate(before, &before);
-    drop_bell(&call->bell);
 }
 
 /* Runs the transaction; where it waits, at most until then; NULL: without end. */
 static stm_answer run(stm_service *s, uint32_t way, uint32_t transaction, const int64_t *arguments, size_t count,
                       const struct timespec *until) {
     struct call call;
-    call.way = way;
-    call.transaction = transaction;
-    call.arguments = arguments;
-    call.count = count;
-    call.state = ASKED;
-    enter(s);
-    if (s->long_ones && is_long(s, transaction)) {
-        run_long(s, &call, until);
-    } else if (pthread_mutex_trylock(&s->lock) == 0) {
-        make(s, &call);
-        unlock(s);
-    } else {
-        line_up(s, &call);
-    }
-    if (call.state == WAITS) wait_for(s, &call, until);
-    leave(s);
+    union seated seated = {.asked = {transaction, way, count, &call, {{0}}}};
+    if (count > FEW) seated.asked.arguments.elsewhere = arguments;
+    else for (size_t i = 0; i < count; i++) seated.asked.arguments.given[i] = arguments[i];
+    if (s->long_ones && is_long(s, transaction)) return run_long(s, &seated.asked, until);
+    make_call(&s->lock, &seated);
+    if (!waits(&seated.answer)) return seated.answer;
+    wait_for(s, &call, until);
     return call.answer;
 }
 
@@ -548,9 +517,9 @@ static stm_answer observe(stm_service *s, stm_worker *worker, uint32_t transacti
         answer = stm_observe(worker, transaction, arguments, count);
     }
     if (answer.code != STM_STALE) return answer;
-    pthread_mutex_lock(&s->lock);
+    take_lock(&s->lock);
     answer = stm_observe(worker, transaction, arguments, count);
-    unlock(s);
+    release(&s->lock);
     return answer;
 }
 
@@ -571,11 +540,11 @@ stm_answer stm_service_observe(stm_service *s, uint32_t transaction, const int64
 
 static void lock(stm_service *s) {
     enter(s);
-    pthread_mutex_lock(&s->lock);
+    take_lock(&s->lock);
 }
 
 static void unlock_and_leave(stm_service *s) {
-    unlock(s);
+    release(&s->lock);
     leave(s);
 }
 
@@ -696,16 +665,22 @@ static int32_t weigh(stm_service *s) {
     return STM_DONE;
 }
 
+static bool is_any_parked(stm_service *s) {
+    stm_counts counts;
+    stm_get_counts(&s->store, &counts);
+    return counts.parked > 0;
+}
+
 static int32_t open_all(stm_service *s, const uint8_t *file, size_t file_length) {
     if (s->options.observers > MOST_OBSERVERS) return STM_NO_WORKER;
     if (s->options.observers == 0) s->options.observers = OBSERVERS;
-    if (pthread_condattr_setclock(&s->monotonic, CLOCK_MONOTONIC) != 0) return STM_MEMORY;
     int32_t code = stm_read(file, file_length, &s->program);
     s->transactions = stm_program_transactions(&s->program);
     if (code == STM_DONE) code = weigh(s);
     if (code == STM_DONE) code = open_store(s);
     if (code == STM_DONE) code = open_workers(s);
     if (code == STM_DONE) serve(s);
+    if (code == STM_DONE) s->own_wait = is_any_parked(s);
     return code;
 }
 
@@ -718,23 +693,24 @@ static void let_go(stm_service *s) {
     if (s->long_ones) rattle_dealloc(s->long_ones);
     if (s->file.at) rattle_dealloc(s->file.at);
     if (s->report.at) rattle_dealloc(s->report.at);
-    pthread_condattr_destroy(&s->monotonic);
     pthread_cond_destroy(&s->workers.changed);
     pthread_mutex_destroy(&s->workers.lock);
-    pthread_mutex_destroy(&s->lock);
-    rattle_dealloc(s);
+    close_lock(&s->lock);
+    rattle_dealloc(s->block);
 }
 
 int32_t stm_service_open(const uint8_t *file, size_t file_length, const stm_service_options *options,
                          stm_service **out) {
     *out = NULL;
-    struct block block = rattle_alloc(sizeof(stm_service), 16);
+    struct block block = rattle_alloc(sizeof(stm_service) + LINE, 16);
     if (!block.got) return STM_MEMORY;
-    stm_service *s = block.at;
+    /* At the begin of a line of memory, as its seats are. */
+    stm_service *s = (stm_service *)(((uintptr_t)block.at + LINE - 1) / LINE * LINE);
     memset(s, 0, sizeof *s);
+    s->block = block.at;
     s->process = getpid();
-    if (pthread_condattr_init(&s->monotonic) != 0) return rattle_dealloc(s), STM_MEMORY;
-    s->lock = s->workers.lock = (pthread_mutex_t)PTHREAD_MUTEX_INITIALIZER;
+    open_lock(&s->lock, make, ring_all, s);
+    s->workers.lock = (pthread_mutex_t)PTHREAD_MUTEX_INITIALIZER;
     s->workers.changed = (pthread_cond_t)PTHREAD_COND_INITIALIZER;
     if (options) s->options = *options;
     int32_t code = open_all(s, file, file_length);
@@ -759,7 +735,7 @@ void stm_service_close(stm_service *s) {
             hand(s, call->ticket, bare(STM_CLOSED));
         }
     }
-    unlock(s);
+    release(&s->lock);
     pthread_mutex_lock(&s->workers.lock);
     s->workers.closed = true;
     pthread_cond_broadcast(&s->workers.changed);
@@ -767,12 +743,20 @@ void stm_service_close(stm_service *s) {
     leave(s);
 }
 
+/* Whether no thread is in a call, by one that is in none. */
+static bool is_unused(stm_service *s) {
+    take_lock(&s->lock);
+    bool unused = is_alone(&s->lock) && __atomic_load_n(&s->inside, __ATOMIC_ACQUIRE) == 0;
+    release(&s->lock);
+    return unused;
+}
+
 void stm_service_free(stm_service *s) {
     if (!s || is_of_another_process(s)) return;
     stm_service_close(s);
     int before;
     pthread_setcancelstate(PTHREAD_CANCEL_DISABLE, &before);
-    while (__atomic_load_n(&s->inside, __ATOMIC_ACQUIRE) > 0) nanosleep(&(struct timespec){0, 100000}, NULL);
+    while (!is_unused(s)) nanosleep(&(struct timespec){0, 100000}, NULL);
     pthread_setcancelstate(before, &before);
     let_go(s);
 }

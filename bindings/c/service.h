@@ -15,8 +15,9 @@
  * Else all calls may be made by any thread at any time, and none is a point where a thread is cancelled. It is over
  * pthreads: link with -pthread.
  *
- * A thread that has the lock makes the calls of those in line too. So any call may end a chapter, and takes as long as
- * `ended` does; and so does each call that wants the lock then.
+ * A thread that has the lock makes the calls of those who ask too, mostly after up to 64 of its own in a row. So any call
+ * may end a chapter, and takes as long as `ended` does; and so does each call that wants the lock then. A thread that
+ * waits looks for some microseconds before it sleeps.
  *
  * What a file says stays in memory until the process ends, once for each `stm_service_open`. */
 #ifndef STM_SERVICE_H

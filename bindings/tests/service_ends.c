@@ -1,5 +1,6 @@
-/* The end of a service: it waits for each thread that is in a call, also for one that only looks up a name; and in a child
- * of its process nothing is closed, nothing is let go, and nothing hangs. Prints `good`. */
+/* The end of a service: it waits for each thread that is in a call, also for one that only looks up a name, or that
+ * asks while another has the lock; and in a child of its process nothing is closed, nothing is let go, and nothing
+ * hangs. Prints `good`. */
 #include "judging.h"
 
 #include <fcntl.h>
@@ -11,7 +12,7 @@
 #include <time.h>
 #include <unistd.h>
 
-enum { PAGE_ROOM = 1 << 16, CHILD = 7, MILLISECONDS = 100 };
+enum { PAGE_ROOM = 1 << 16, CHILD = 7, MILLISECONDS = 100, MOST_ASKING = 300 };
 
 static const char TEXT[] = "(stm 3)(var n 0)(table inc 5 0)(tx inc () (set n (add n 1)) n)(tx get () (if (lt n 5) (retry) (skip)) n)";
 static const char ONE[] = "(var n 0)(tx inc (set n (add n 1)) n)(tx get (if (lt n 5) (retry) (skip)) n)";
@@ -79,7 +80,7 @@ static void a_look_is_a_call(looks_up *by) {
     munmap(page, PAGE_ROOM);
 }
 
-/* ---- A child ---- */
+/* ---- Threads that ask ---- */
 
 static int waits_in_it(void *own, const uint8_t *file, size_t file_length, const uint8_t *report, size_t report_length) {
     (void)own, (void)file, (void)file_length, (void)report, (void)report_length;
@@ -92,6 +93,41 @@ static void *calls(void *service) {
     wants(stm_atomically(service, 0, NULL, 0).code == STM_DONE);
     return NULL;
 }
+
+static void *asks(void *service) {
+    int32_t code = stm_atomically(service, 0, NULL, 0).code;
+    wants(code == STM_DONE || code == STM_CLOSED);
+    return NULL;
+}
+
+static void *asks_for_the_lock(void *service) {
+    wants(stm_service_entered(service) >= 1);
+    return NULL;
+}
+
+/* While one thread has the lock, some ask: for as many as have a seat or more, it waits. */
+static void askers_are_in_a_call(int count) {
+    begins();
+    stm_service *s = opens(ONE, &(stm_service_options){1, 0, 0, waits_in_it, NULL});
+    calls(s);
+    pthread_t first, asking[MOST_ASKING], letting;
+    wants(pthread_create(&first, NULL, calls, s) == 0);
+    until(&is_in);
+    for (int i = 0; i < count; i++) {
+        wants(pthread_create(&asking[i], NULL, i % 4 ? asks : asks_for_the_lock, s) == 0);
+    }
+    for (int i = 0; i < MILLISECONDS; i++) sleep_shortly();
+    wants(pthread_create(&letting, NULL, lets_go, s) == 0);
+    for (int i = 0; i < MILLISECONDS; i++) sleep_shortly();
+    wants(!is_set(&is_free));
+    set(&goes_on);
+    pthread_join(first, NULL);
+    for (int i = 0; i < count; i++) pthread_join(asking[i], NULL);
+    pthread_join(letting, NULL);
+    wants(is_free);
+}
+
+/* ---- A child ---- */
 
 static void *get(void *service) {
     wants(stm_atomically(service, 1, NULL, 0).code == STM_CLOSED);
@@ -162,6 +198,8 @@ int main(void) {
     a_look_is_a_call(stm_service_transaction);
     a_look_is_a_call(stm_service_table);
     wants(sigaction(SIGSEGV, &before, NULL) == 0);
+    askers_are_in_a_call(3);
+    askers_are_in_a_call(MOST_ASKING);
     a_child_while_a_chapter_ends();
     a_child_while_a_call_waits();
     puts("good");
