@@ -634,7 +634,7 @@ impl<'a> Book<'a> {
     }
 
     /// Each running task is ready.
-    fn make_ready(&mut self)
+    pub fn make_ready(&mut self)
         ensures { self.new ≡ readied self.old }
     {
         self.table.ready_all();

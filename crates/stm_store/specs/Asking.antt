@@ -6,6 +6,7 @@ use Rattle.txn_programs.specs.declared.ast.Outcome.{Outcome}
 use Rattle.txn_programs.specs.Listing.{tasks, task_arguments}
 use Rattle.book.specs.View.{BookView, IsRunning, stands}
 use Rattle.book.specs.Tasks.{Running, GivenUp}
+use Rattle.book.specs.Chapters.{chapter_of}
 use Rattle.book.specs.Table.{IsWaiting}
 use Rattle.book.specs.Turns.{Taken}
 use Rattle.book.specs.Submitted.{submitted}
@@ -21,6 +22,10 @@ use Rattle.stm_store.specs.declared.store.Store.{Store}
 -- there is room for a task more, and a ticket for it
 abbrev pub HasRoom : Store → Type 0
 HasRoom s = (0 < s.book.spare) × (s.tickets.given < most_tickets)
+
+-- there would be, if the next chapter began now
+abbrev pub HasRoomNext : Store → Type 0
+HasRoomNext s = (0 < (chapter_of s.book).spare) × (s.tickets.given < most_tickets)
 
 abbrev pub IsFull : Store → Type 0
 IsFull s = (s.book.spare ≡ 0) ⊎ (s.tickets.given ≡ most_tickets)

@@ -33,7 +33,8 @@ pub enum Refused {
     NotReady,
     /// The task is not running.
     NotRunning,
-    /// The worker has no attempt that ended and was not brought yet.
+    /// The worker has no attempt that ended and was not brought yet; or of a desk, the chapter did not end: its host
+    /// still has the one before.
     NotEnded,
     /// The worker is of a program that says otherwise of this transaction.
     OtherProgram,

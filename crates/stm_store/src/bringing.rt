@@ -16,14 +16,14 @@ use txn_declarations::same::{same_always, same_transactions};
 
 impl Store {
     /// Brings a worker's ended attempt to the book: it is entered or parked where all that it read is still so. The
-    /// worker, which may be of any store, has no ended attempt afterwards, whatever the answer is. It takes no memory, so
-    /// no task is given up. Its time grows with the transaction and with the standing conditions.
+    /// worker, which may be of any store, has no ended attempt afterwards, whatever the answer is. It takes no memory,
+    /// so no task is given up. Its time grows with the transaction and with the standing conditions.
     ///
-    /// Else nothing changed but the worker. `NotEnded` exactly where it had none; `Gone` exactly where the store has no
-    /// such job in its present chapter; `OtherProgram` exactly where the worker's program says otherwise of the job's
-    /// transaction than the store's: of what it does, of the standing conditions, or of how many variables and cells
-    /// there are; `NotRunning` exactly where the task is not running; `Stale` exactly where what was read is no longer so,
-    /// and the task stays running.
+    /// Else nothing changed but the worker. `NotEnded` exactly where it had none; `Gone` exactly where the store has
+    /// no such job in its present chapter; `OtherProgram` exactly where the worker's program says otherwise of the
+    /// job's transaction than the store's: of what it does, of the standing conditions, or of how many variables and
+    /// cells there are; `NotRunning` exactly where the task is not running; `Stale` exactly where what was read is no
+    /// longer so, and the task stays running.
     pub fn bring(&mut self, worker: &mut Worker) -> Result<End, Refused>
         ensures brought { Brings self.old worker.old result self.new }
         ensures kept { KeepsTasks self.old self.new }

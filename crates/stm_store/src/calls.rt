@@ -18,13 +18,13 @@ use attempt::Attempt;
 use txn::{Arguments, Memory, Outcome, TxId};
 
 impl Store {
-    /// A task of the call more, which has its turn at once, whatever else is ready: which task, and what came of it. What
-    /// it woke is ready. Where a growth is refused, which only a transaction that takes memory meets, the task is given
-    /// up. The transaction has to exist, and to have as many parameters as there are arguments.
+    /// A task of the call more, which has its turn at once, whatever else is ready: which task, and what came of it.
+    /// What it woke is ready. Where a growth is refused, which only a transaction that takes memory meets, the task is
+    /// given up. The transaction has to exist, and to have as many parameters as there are arguments.
     ///
-    /// Where it retries on the present values, the task of a call that waits is parked; one that only tries is `Retries`,
-    /// also where there is no room, and parks none. `NoRoom` only where there is no room for the task, or 2^62 tickets
-    /// were given. Then nothing changed.
+    /// Where it retries on the present values, the task of a call that waits is parked; one that only tries is
+    /// `Retries`, also where there is no room, and parks none. `NoRoom` only where there is no room for the task, or
+    /// 2^62 tickets were given. Then nothing changed.
     pub fn call(
         &mut self,
         lender: &mut Lender,

@@ -1,13 +1,17 @@
 //! The chapters of a store's life.
 
-ghost use Rattle.std.specs.Prelude.{◌≡◌};
+ghost use Rattle.std.specs.Prelude.{◌≡◌, ◌↔◌, IsTrue};
 ghost use Rattle.book.specs.View.{checkpointed};
 ghost use Rattle.book.specs.Chapters.{chapter_of, entered_in_all};
+ghost use Rattle.stm_store.specs.Asking.{HasRoomNext};
 ghost use Rattle.stm_store.specs.Keeping.{KeepsTasks};
 ghost use Rattle.stm_store.specs.Tickets.{kept_tickets};
 ghost use Rattle.stm_store.specs.Working.{next_number};
 
 use crate::store::Store;
+
+/// How many entries a life of a store can have.
+const MOST_ENTRIES: u64 = 1 << 62;
 
 impl Store {
     /// The base becomes the present number, values and versions, and the journal is empty. It takes
@@ -36,6 +40,27 @@ impl Store {
         self.tickets.keep_staying(&self.book);
         self.book.begin_chapter();
         self.chapter = self.chapter.wrapping_add(1);
+    }
+
+    /// Whether the next chapter would have room for a task more, and a ticket for it, if it began now.
+    pub fn has_room_next(&self) -> bool
+        ensures { IsTrue result ↔ HasRoomNext self.now }
+    {
+        !self.tickets.are_used_up() && self.spare_next() > 0
+    }
+
+    /// How many tasks more the next chapter would have room for, if it began now.
+    fn spare_next(&self) -> usize
+        ensures { result ≡ (chapter_of self.now.book).spare }
+    {
+        let left = MOST_ENTRIES.saturating_sub(self.book.entered());
+        let room = self.tickets.room();
+        let reached = if (room as u64) < left {
+            room
+        } else {
+            left as usize
+        };
+        reached.saturating_sub(self.book.staying())
     }
 
     /// How many entries there were in all chapters.

@@ -39,7 +39,7 @@ pub struct Store {
     ghost counted: { cells.variables ≡ length catalogue.now.initial },
     ghost each: { length tickets.held ≡ length book.tasks },
     ghost fits: { length book.tasks + book.spare ≤ tickets.room },
-    ghost room: { book.room ≤ tickets.room },
+    ghost room: { book.room ≡ tickets.room },
 }
 
 /// Written by hand, so that its end is one call wherever a store is owned.

@@ -3,6 +3,7 @@
 ghost use Rattle.std.specs.Prelude.{◌≡◌, ◌<◌, ◌↔◌, IfOk, IsTrue, Some, length, slice_get};
 ghost use Rattle.txn_programs.specs.Listing.{IsCallable, task_arguments, tasks};
 ghost use Rattle.book.specs.Counting.{AreCounts};
+ghost use Rattle.book.specs.Turns.{readied};
 ghost use Rattle.stm_store.specs.Asking.{Claims, GivesUp, IsJob, IsPresentJob, Submits, TakesJob};
 ghost use Rattle.stm_store.specs.Asking.{TellsOutcome, TellsStanding};
 ghost use Rattle.stm_store.specs.Keeping.{KeepsStore, KeepsTasks};
@@ -67,8 +68,8 @@ impl Store {
         Ok(self.job_of(task))
     }
 
-    /// The task with the ticket, where it is ready: it is then running. `Gone` exactly where no task has the ticket, and
-    /// `NotReady` exactly where its task is not ready; then nothing changed. It takes no memory.
+    /// The task with the ticket, where it is ready: it is then running. `Gone` exactly where no task has the ticket,
+    /// and `NotReady` exactly where its task is not ready; then nothing changed. It takes no memory.
     pub fn claim(&mut self, ticket: Ticket) -> Result<Job, Refused>
         ensures claimed { Claims self.old ticket result self.new }
         ensures known { IfOk result (λ job. IsCallable self.old.catalogue.now job.tx job.arguments) }
@@ -81,6 +82,14 @@ impl Store {
             return Err(Refused::NotReady);
         }
         Ok(self.job_of(task))
+    }
+
+    /// Each running task is ready again. It takes no memory.
+    pub fn make_ready(&mut self)
+        ensures book { self.new.book ≡ readied self.old.book }
+        ensures kept { KeepsTasks self.old self.new }
+    {
+        self.book.make_ready();
     }
 
     /// The job of a task.
@@ -101,8 +110,8 @@ impl Store {
         }
     }
 
-    /// The task with the ticket is given up, where it is ready, parked or running: it will not be entered. `Gone` and no
-    /// change exactly where no such task has the ticket. It takes no memory.
+    /// The task with the ticket is given up, where it is ready, parked or running: it will not be entered. `Gone` and
+    /// no change exactly where no such task has the ticket. It takes no memory.
     pub fn give_up(&mut self, ticket: Ticket) -> Result<(), Refused>
         ensures given_up { GivesUp self.old ticket result self.new }
         ensures kept { KeepsTasks self.old self.new }

@@ -70,6 +70,13 @@ impl Tickets {
         self.given == MOST_TICKETS
     }
 
+    /// For how many tasks there is room.
+    pub(crate) fn room(&self) -> usize
+        ensures { result ≡ self.now.room }
+    {
+        self.room
+    }
+
     /// The ticket of a task.
     pub(crate) fn of(&self, task: TaskId) -> Ticket
         requires { task.0 < length self.now.held }

@@ -10,6 +10,8 @@ use txn::Outcome;
 pub(crate) enum Look {
     Spare(usize),
     Tasks(usize),
+    /// Whether the next chapter would have room.
+    HasRoomNext(bool),
     /// How many are ready, running, parked, done and given up.
     Counts([usize; 5]),
     Chapter(u64),
@@ -96,6 +98,7 @@ pub(crate) fn shows(alloc: Global, store: &Store, look: &Look) -> bool {
     match look {
         Look::Spare(spare) => store.spare() == *spare,
         Look::Tasks(tasks) => store.tasks() == *tasks,
+        Look::HasRoomNext(has) => store.has_room_next() == *has,
         Look::Counts(counts) => has_counts(store.counts(), *counts),
         Look::Chapter(chapter) => store.chapter() == *chapter,
         Look::Entered(entered) => store.entered() == *entered,

@@ -1,4 +1,4 @@
-use Rattle.std.proofs.Common.{◌∙◌, ◌≤◌, ◌+◌, length, sym, ap, subst}
+use Rattle.std.proofs.Common.{◌∙◌, ◌≤◌, ◌+◌, length, sym, ap, subst, arith}
 use Rattle.book.specs.View.{BookView}
 use Rattle.stm_store.specs.Tickets.{TicketsView}
 use Rattle.stm_store.specs.Working.{declaring}
@@ -18,6 +18,6 @@ invariant_of-self c =
       own = s.own;
       counted = s.counted;
       each = ap (λ (t : TicketsView). length t.held) tickets ∙ chapter_each s.tickets.held s.book new s.each is;
-      fits = subst (λ (t : TicketsView). length new.tasks + new.spare ≤ t.room) (sym tickets) (chapter_fits s.tickets.held s.tickets.room s.book new s.each s.fits s.room is);
-      room = subst (λ (t : TicketsView). new.room ≤ t.room) (sym tickets) (subst (λ (b : BookView). b.room ≤ s.tickets.room) (sym is) s.room);
+      fits = subst (λ (t : TicketsView). length new.tasks + new.spare ≤ t.room) (sym tickets) (chapter_fits s.tickets.held s.tickets.room s.book new s.each s.fits (omega (arith, s.room)) is);
+      room = ap (λ (b : BookView). b.room) is ∙ (s.room ∙ sym (ap (λ (t : TicketsView). t.room) tickets));
     }
