@@ -1,5 +1,5 @@
 -- What a call is answered, by what the store answered.
-use Rattle.std.proofs.Common.{◌≡◌, ◌≢◌, ◌∙◌, ℕ, [], ◌∷◌, ◌++◌, Result, Ok, Err, IfErr, IfOk, OnErr, OnOk, refl, sym, ap, subst}
+use Rattle.std.proofs.Common.{◌≡◌, ◌≢◌, ◌∙◌, ℕ, [], ◌∷◌, ◌++◌, Result, Ok, Err, IfErr, IfOk, OnErr, OnOk, false, refl, sym, ap, subst}
 use Rattle.txn_programs.specs.declared.arguments.Call.{Call}
 use Rattle.stm_store.specs.Turning.{RefusesCall}
 use Rattle.stm_store.specs.declared.answers.End.{End}
@@ -14,6 +14,9 @@ use Rattle.stm_desk.specs.declared.answers.Asked.{Asked}
 use Rattle.stm_desk.specs.declared.answers.Asked.TheVariants as asked
 use Rattle.stm_desk.specs.declared.answers.Became.TheVariants as became
 use Rattle.stm_desk.specs.declared.work.Work.{Work}
+use Rattle.stm_desk.specs.declared.desk.Desk.{Desk}
+use Rattle.stm_desk.specs.Answering.{IsAsked}
+use Rattle.stm_desk.specs.Running.{IsBegun, IsLong}
 use Rattle.stm_desk.specs.Asking.{IsAnswered, IsSame, next_ticket}
 use Rattle.stm_desk.specs.Open.{IsParkedCall}
 use Rattle.stm_desk.specs.Waiting.{IsSeated, WaitAsBefore}
@@ -25,7 +28,7 @@ only_waits ways.Tries how is tries = absurd (tries refl is)
 
 -- who sat down, or was refused memory
 pub sit_answers : (old new : Work) (mid : Store) (call : Call) (way : Way) (whose : ℕ) (ticket : Ticket) (r : Result Asked Refused) → way ≡ ways.Waits → ticket ≡ next_ticket old.store → IsParkedCall mid ticket call
-    → OnOk r (IsSeated old.waiters ticket whose call new.waiters × (new.store ≡ mid) × (new.history.items ≡ old.history.items)) → IfOk r (λ a. a ≡ asked.Waits ticket) → IfErr r (λ why. why ≡ refused.Memory) → OnErr r ((new.history.items ≡ old.history.items ++ (ticket, became.Left) ∷ []) × WaitAsBefore old.waiters new.waiters)
+    → OnOk r (IsSeated old.waiters ticket whose call new.waiters × (new.store ≡ mid) × (new.history.items ≡ old.history.items) × (new.due.items ≡ old.due.items)) → IfOk r (λ a. a ≡ asked.Waits ticket) → IfErr r (λ why. why ≡ refused.Memory) → OnErr r ((new.history.items ≡ old.history.items ++ (ticket, became.Left) ∷ []) × WaitAsBefore old.waiters new.waiters × (new.due.items ≡ old.due.items))
     → IsAnswered old call way whose r new
 sit_answers old new mid call way whose ticket (Ok a) waits next parked seated is why left =
     subst (λ (x : Asked). IsAnswered old call way whose (Ok x) new) (sym is) (
@@ -35,11 +38,12 @@ sit_answers old new mid call way whose ticket (Ok a) waits next parked seated is
         history = seated.2;
         parked = ∣ subst (λ (s : Store). IsParkedCall s ticket call) (sym seated.1) parked ∣₁;
         seated = seated.0;
+        due = seated.3;
       },
     )
 sit_answers old new mid call way whose ticket (Err e) waits next parked seated is why left =
     subst (λ (x : Refused). IsAnswered old call way whose (Err x) new) (sym why)
-    (left.0 ∙ ap (λ (t : Ticket). old.history.items ++ (t, became.Left) ∷ []) next, left.1)
+    (record { history = left.0 ∙ ap (λ (t : Ticket). old.history.items ++ (t, became.Left) ∷ []) next; waiters = left.1; due = left.2 })
 
 -- one that was refused
 pub refused_answers : (old new : Work) (call : Call) (way : Way) (whose : ℕ) (why : Refused) → RefusesCall way old.store call.tx call.arguments why → IsSame old new → IsAnswered old call way whose (Err why) new
@@ -55,3 +59,22 @@ refused_answers old new call way whose refused.Retries r same = (r, same)
 refused_answers old new call way whose refused.Memory r same = absurd r
 refused_answers old new call way whose refused.Closed r same = (r, same)
 refused_answers old new call way whose refused.TimedOut r same = (r, same)
+
+-- what a long call is answered
+pub begun_asked : (old new : Desk) (call : Call) (way : Way) (whose : ℕ) (r : Result Asked Refused) → old.work.closed ≡ false → way ≡ ways.Waits → IsLong old.work.long.items call.tx → IsBegun old.work call whose r new.work → IsAsked old call way whose r new
+begun_asked old new call way whose (Ok (asked.Runs job)) is_open waits long h = (is_open, waits, long, h)
+begun_asked old new call way whose (Ok (asked.Ended a)) is_open waits long h = absurd h
+begun_asked old new call way whose (Ok (asked.Waits t)) is_open waits long h = absurd h
+begun_asked old new call way whose (Ok asked.ChapterFull) is_open waits long h = (is_open, h.0, h.1, h.2)
+begun_asked old new call way whose (Err refused.Memory) is_open waits long h = (is_open, h)
+begun_asked old new call way whose (Err refused.NoRoom) is_open waits long h = ((is_open, h.0, h.1), h.2)
+begun_asked old new call way whose (Err refused.Unknown) is_open waits long h = absurd h
+begun_asked old new call way whose (Err refused.Gone) is_open waits long h = absurd h
+begun_asked old new call way whose (Err refused.NotReady) is_open waits long h = absurd h
+begun_asked old new call way whose (Err refused.NotRunning) is_open waits long h = absurd h
+begun_asked old new call way whose (Err refused.NotEnded) is_open waits long h = absurd h
+begun_asked old new call way whose (Err refused.OtherProgram) is_open waits long h = absurd h
+begun_asked old new call way whose (Err refused.Stale) is_open waits long h = absurd h
+begun_asked old new call way whose (Err refused.Retries) is_open waits long h = absurd h
+begun_asked old new call way whose (Err refused.Closed) is_open waits long h = absurd h
+begun_asked old new call way whose (Err refused.TimedOut) is_open waits long h = absurd h

@@ -21,11 +21,13 @@ use Rattle.std.proofs.lemmas.List.{length-set}
 use Rattle.std.proofs.Math.Logic.{∥∥₁_elim}
 use Rattle.book.specs.declared.task.Serial.TheVariants as serial
 use Rattle.attempt.specs.Room.{NeedsNoMemory, TakesMemory}
+use Rattle.attempt.specs.View.{AttemptView}
 use Rattle.stm_store.specs.Tickets.{TicketsView, AreTickets, HasTicket}
 use Rattle.stm_store.specs.Working.{declaring}
 use Rattle.stm_store.specs.Entering.{Enters}
 use Rattle.stm_store.specs.Asking.{GivesUp, IsJob, IsPresentJob, IsUnchanged, TakesJob}
 use Rattle.stm_store.specs.Keeping.{KeepsStore, KeepsTasks}
+use Rattle.stm_store.specs.Bringing.{Judged}
 use Rattle.stm_store.specs.Turning.{Ends, HasTurn}
 use Rattle.stm_store.specs.declared.job.Ticket.{Ticket}
 use Rattle.stm_store.specs.declared.job.Job.{Job}
@@ -38,11 +40,12 @@ use Rattle.stm_store.specs.declared.answers.Refused.{Refused}
 use Rattle.stm_store.specs.declared.answers.Refused.TheVariants as refused
 use Rattle.stm_desk.specs.declared.answers.Became.{Became}
 use Rattle.stm_desk.specs.declared.answers.Became.TheVariants as became
-use Rattle.stm_desk.specs.Asking.{IsServed, IsStill, call_of}
+use Rattle.stm_desk.specs.Asking.{IsServed, call_of}
 use Rattle.stm_desk.specs.History.{IsLawful, IsLawfulEntry, left_by}
-use Rattle.stm_desk.specs.Open.{HasOpen, HasOpenCall, IsOver, IsParkedCall, open_tasks}
+use Rattle.stm_desk.specs.Open.{HasOpen, HasOpenCall, IsOver, IsParkedCall, IsRunningCall, open_tasks}
+use Rattle.stm_desk.specs.Running.{RunsAt}
 use Rattle.stm_desk.specs.Steps.{HasBecome, StaysBut}
-use Rattle.stm_desk.proofs.Flags.{back_set, closed_set, ends_open, get_set_other, not_set, open_at, open_stands, set_same, short_state, stays_open}
+use Rattle.stm_desk.proofs.Flags.{AsEnds, as_ends, back_set, closed_set, ends_open, get_set_other, not_set, open_at, open_stands, set_same, short_state, stays_open}
 
 -- what declares the same has the same programs
 pub same_program : (a l : Listing) (call : Call) → declaring a ≡ declaring l → call_program a call.tx call.arguments ≡ call_program l call.tx call.arguments
@@ -110,6 +113,10 @@ moved_back old new task ticket same h = subst (λ (t : TicketsView). HasTicket t
 same_task : (t : TicketsView) (ticket : Ticket) (a b : TaskId) → AreTickets t → HasTicket t a ticket → HasTicket t b ticket → a.0 ≡ b.0
 same_task t ticket a b h p q = one_of t.held h.ascending a.0 b.0 ticket.0 p q
 
+-- no two tasks have one ticket
+pub same_held : (t : TicketsView) (k i m n : ℕ) → AreTickets t → slice_get t.held k ≡ Some m → slice_get t.held i ≡ Some n → m ≡ n → k ≡ i
+same_held t k i m n h p q same = one_of t.held h.ascending k i m p (q ∙ ap Some (sym same))
+
 pub change_stays : (old new : Store) (ticket : Ticket) (task : TaskId) (is_open : Bool) → IsChange old new ticket task is_open → StaysBut old new ticket
 change_stays old new ticket task is_open c =
     record {
@@ -150,37 +157,79 @@ change_ends old new ticket task c =
 pub change_was : (old new : Store) (ticket : Ticket) (task : TaskId) (is_open : Bool) → IsChange old new ticket task is_open → IsOver old ticket → ⊥
 change_was old new ticket task is_open c h = h.ended (record { task = task; own = c.own; is_open = c.was_open })
 
--- a turn of a running task
-pub turn_change : (old new : Store) (job : Job) (how : End) → KeepsTasks old new → AreTickets old.tickets → HasTurn old job (Ok how) new → IsChange old new job.ticket job.task (stays_open how)
-turn_change old new job how kept tickets h =
+-- What a turn leaves of the running task of a job, whichever way it was given.
+pub record Goes (old new : Store) (job : Job) (how : End) : Type 0 where
+  pub kept : KeepsTasks old new
+  pub tickets : AreTickets old.tickets
+  pub declared : declaring old.book.catalogue ≡ declaring old.catalogue.now
+  pub is_job : IsJob old job
+  pub running : IsRunning old.book job.task
+  pub ends : AsEnds old.every old.book job.task how new.book
+
+pub turn_goes : (old new : Store) (job : Job) (how : End) → KeepsTasks old new → AreTickets old.tickets → declaring old.book.catalogue ≡ declaring old.catalogue.now → HasTurn old job (Ok how) new → Goes old new job how
+turn_goes old new job how kept tickets declared h =
     record {
       kept = kept;
       tickets = tickets;
-      own = h.0.0.ticket;
-      was_open = open_at old.book.tasks job.task.0 Running h.1 refl;
-      open_now = ends_open old.every old.book new.book job.task how h.2;
+      declared = declared;
+      is_job = h.0.0;
+      running = h.1;
+      ends = as_ends old.every old.book new.book job.task how h.2;
     }
 
-pub turn_enters : (old new : Store) (job : Job) (e : Entered) → declaring old.book.catalogue ≡ declaring old.catalogue.now → KeepsTasks old new → AreTickets old.tickets → HasTurn old job (Ok (end.Entered e)) new → HasBecome old new job.ticket (became.Entered (call_of job) e.outcome)
-turn_enters old new job e declared kept tickets h =
-    let c = turn_change old new job (end.Entered e) kept tickets h in
+-- an attempt that was brought
+pub judged_ends : (every : ℕ) (b new : BookView) (task : TaskId) (a : AttemptView) (how : End) → IsRunning b task → Judged every b task a (Ok how) new → AsEnds every b task how new
+judged_ends every b new task a (end.Entered e) runs h = h.1
+judged_ends every b new task a end.Parked runs h = (a.log, h.3)
+judged_ends every b new task a end.Abandoned runs h = absurd h
+
+judged_runs : (every : ℕ) (b new : BookView) (task : TaskId) (a : AttemptView) (how : End) → Judged every b task a (Ok how) new → IsRunning b task
+judged_runs every b new task a (end.Entered e) h = h.1.running
+judged_runs every b new task a end.Parked h = h.0
+judged_runs every b new task a end.Abandoned h = absurd h
+
+pub brought_goes : (old new : Store) (a : AttemptView) (job : Job) (how : End) → KeepsTasks old new → AreTickets old.tickets → declaring old.book.catalogue ≡ declaring old.catalogue.now → IsPresentJob old job → Judged old.every old.book job.task a (Ok how) new.book → Goes old new job how
+brought_goes old new a job how kept tickets declared present h =
+    let runs = judged_runs old.every old.book new.book job.task a how h in
+    record {
+      kept = kept;
+      tickets = tickets;
+      declared = declared;
+      is_job = present.0;
+      running = runs;
+      ends = judged_ends old.every old.book new.book job.task a how runs h;
+    }
+
+goes_change : (old new : Store) (job : Job) (how : End) → Goes old new job how → IsChange old new job.ticket job.task (stays_open how)
+goes_change old new job how g =
+    record {
+      kept = g.kept;
+      tickets = g.tickets;
+      own = g.is_job.ticket;
+      was_open = open_at old.book.tasks job.task.0 Running g.running refl;
+      open_now = ends_open old.every old.book new.book job.task how g.ends;
+    }
+
+pub goes_enters : (old new : Store) (job : Job) (e : Entered) → Goes old new job (end.Entered e) → HasBecome old new job.ticket (became.Entered (call_of job) e.outcome)
+goes_enters old new job e g =
+    let c = goes_change old new job (end.Entered e) g in
     record {
       stays = change_stays old new job.ticket job.task false c;
       not_before = change_was old new job.ticket job.task false c;
       is_over = change_ends old new job.ticket job.task c;
-      lawful = entered_lawful old.catalogue.now old.every old.book new.book job.task (call_of job) e declared h.0.0.runs h.0.0.given h.2;
-      present = entered_state old.catalogue.now old.every old.book new.book job.task (call_of job) e declared h.0.0.runs h.0.0.given h.2;
+      lawful = entered_lawful old.catalogue.now old.every old.book new.book job.task (call_of job) e g.declared g.is_job.runs g.is_job.given g.ends;
+      present = entered_state old.catalogue.now old.every old.book new.book job.task (call_of job) e g.declared g.is_job.runs g.is_job.given g.ends;
     }
 
-pub turn_abandons : (old new : Store) (job : Job) → KeepsTasks old new → AreTickets old.tickets → HasTurn old job (Ok end.Abandoned) new → HasBecome old new job.ticket became.Left
-turn_abandons old new job kept tickets h =
-    let c = turn_change old new job end.Abandoned kept tickets h in
+pub goes_abandons : (old new : Store) (job : Job) → Goes old new job end.Abandoned → HasBecome old new job.ticket became.Left
+goes_abandons old new job g =
+    let c = goes_change old new job end.Abandoned g in
     record {
       stays = change_stays old new job.ticket job.task false c;
       not_before = change_was old new job.ticket job.task false c;
       is_over = change_ends old new job.ticket job.task c;
       lawful = tt;
-      present = ap (λ (b : BookView). b.present.state) h.2.0.1;
+      present = ap (λ (b : BookView). b.present.state) g.ends;
     }
 
 -- what a book that has the same tasks open does to what is said of them
@@ -242,13 +291,13 @@ take_alike old new job kept h =
     }
 
 -- so is one that is parked
-pub parked_alike : (old new : Store) (job : Job) → KeepsTasks old new → AreTickets old.tickets → HasTurn old job (Ok end.Parked) new → IsAlike old new
-parked_alike old new job kept tickets h =
-    let c = turn_change old new job end.Parked kept tickets h in
+pub goes_parks : (old new : Store) (job : Job) → Goes old new job end.Parked → IsAlike old new
+goes_parks old new job g =
+    let c = goes_change old new job end.Parked g in
     record {
-      kept = kept;
+      kept = g.kept;
       open_now = c.open_now ∙ set_same (open_tasks old.book) job.task.0 true c.was_open;
-      present = ap (λ (b : BookView). b.present.state) h.2.2.2;
+      present = ap (λ (b : BookView). b.present.state) g.ends.1;
     }
 
 pub alike_both : (old mid new : Store) → IsAlike old mid → IsAlike mid new → IsAlike old new
@@ -347,27 +396,17 @@ taken_turns old new job refused.Memory is runs h = h
 taken_turns old new job refused.Closed is runs h = h
 taken_turns old new job refused.TimedOut is runs h = h
 
--- a task that is open, where none is ready or running, is parked
-pub parked_call : (s : Store) (ticket : Ticket) (call : Call) → IsServed s → IsStill s → HasOpenCall s ticket call → IsParkedCall s ticket call
-parked_call s ticket call served still h =
-    record {
-      task = h.has.task;
-      own = h.has.own;
-      runs = h.runs;
-      given = h.given;
-      parked = elim (open_unended s.book.tasks h.has.task.0 h.has.is_open) [
-        | inl (inl ready) ↦ absurd (served h.has.task.0 ready)
-        | inl (inr parked) ↦ parked
-        | inr running ↦ absurd (still h.has.task.0 running)
-      ];
-    }
+-- a task that is open, where none is ready, is parked or runs
+pub parked_call : (s : Store) (ticket : Ticket) (call : Call) → IsServed s → HasOpenCall s ticket call → IsParkedCall s ticket call ⊎ IsRunningCall s ticket call
+parked_call s ticket call served h = elim (open_unended s.book.tasks h.has.task.0 h.has.is_open) [
+  | inl (inl ready) ↦ absurd (served h.has.task.0 ready)
+  | inl (inr parked) ↦ inl (record { task = h.has.task; own = h.has.own; runs = h.runs; given = h.given; parked = parked })
+  | inr running ↦ inr (record { has = h; running = running })
+]
 
 -- no withdrawal makes a task ready or running
 given_up_not : (how : Task) (b new : BookView) (task : TaskId) → (GivenUp ≡ how → ⊥) → new ≡ stands b task GivenUp → ((k : ℕ) → slice_get b.tasks k ≡ Some how → ⊥) → (k : ℕ) → slice_get new.tasks k ≡ Some how → ⊥
 given_up_not how b new task apart is none k h = none k (not_set b.tasks task.0 k GivenUp how apart (subst (λ (x : BookView). slice_get x.tasks k ≡ Some how) is h))
-
-pub gives_up_still : (old new : Store) (ticket : Ticket) → GivesUp old ticket (Ok tt) new → IsStill old → IsStill new
-gives_up_still old new ticket h = given_up_not Running old.book new.book h.0 (λ e. cc (e)) h.3
 
 pub gives_up_served : (old new : Store) (ticket : Ticket) → GivesUp old ticket (Ok tt) new → IsServed old → IsServed new
 gives_up_served old new ticket h = given_up_not Ready old.book new.book h.0 (λ e. cc (e)) h.3
@@ -421,21 +460,21 @@ short_tasks true b = refl
 short_tasks false b = refl
 
 -- but the task that had its turn
-pub ends_running : (every : ℕ) (b new : BookView) (task : TaskId) (how : End) (k : ℕ) → Ends every b task how new → slice_get new.tasks k ≡ Some Running → (t : Task) × (Running ≢ t) × (slice_get (set b.tasks task.0 t) k ≡ Some Running)
+pub ends_running : (every : ℕ) (b new : BookView) (task : TaskId) (how : End) (k : ℕ) → AsEnds every b task how new → slice_get new.tasks k ≡ Some Running → (t : Task) × (Running ≢ t) × (slice_get (set b.tasks task.0 t) k ≡ Some Running)
 ends_running every b new task (end.Entered e) k h runs = (
   Done (b.present.number + 1),
   (λ same. cc (same)),
   committed_runs b task k (subst (λ (ts : List Task). slice_get ts k ≡ Some Running) (ap (λ (x : BookView). x.tasks) h.kept ∙ short_tasks (is_due every (serial.Committed e.number) (committed b task)) (committed b task)) runs),
 )
 ends_running every b new task end.Parked k h runs = (
-  Parked h.2.0,
+  Parked h.0,
   (λ same. cc (same)),
-  subst (λ (x : BookView). slice_get x.tasks k ≡ Some Running) h.2.2 runs,
+  subst (λ (x : BookView). slice_get x.tasks k ≡ Some Running) h.1 runs,
 )
 ends_running every b new task end.Abandoned k h runs = (
   GivenUp,
   (λ same. cc (same)),
-  subst (λ (x : BookView). slice_get x.tasks k ≡ Some Running) h.0.1 runs,
+  subst (λ (x : BookView). slice_get x.tasks k ≡ Some Running) h runs,
 )
 
 pub set_twice : {A : Type 0} (xs : List A) (i : ℕ) (v w : A) → set (set xs i v) i w ≡ set xs i w
@@ -443,17 +482,25 @@ set_twice [] i v w = refl
 set_twice (x ∷ xs) zero v w = refl
 set_twice (x ∷ xs) (suc i) v w = ap (λ ys. x ∷ ys) (set_twice xs i v w)
 
-pub turn_still : (old mid new : Store) (job : Job) (how : End) → TakesJob old (Ok job) mid → HasTurn mid job (Ok how) new → IsStill old → IsStill new
-turn_still old mid new job how taken h still k runs =
-    let e = ends_running mid.every mid.book new.book job.task how k h.2 runs in
-    let there : slice_get (set (set old.book.tasks job.task.0 Running) job.task.0 e.0) k ≡ Some Running =
-    subst (λ (x : BookView). slice_get (set x.tasks job.task.0 e.0) k ≡ Some Running) taken.0.2 e.2 in
-    let once : slice_get (set old.book.tasks job.task.0 e.0) k ≡ Some Running =
-    subst (λ (ts : List Task). slice_get ts k ≡ Some Running) (set_twice old.book.tasks job.task.0 Running e.0) there in
-    still k (not_set old.book.tasks job.task.0 k e.0 Running (λ same. e.1 (sym same)) once)
+set_is : {A : Type 0} (xs : List A) (i : ℕ) (v w : A) → slice_get (set xs i v) i ≡ Some w → w ≡ v
+set_is [] i v w h = absurd (cc)
+set_is (x ∷ xs) zero v w h = sym (same_Some v w h)
+set_is (x ∷ xs) (suc i) v w h = set_is xs i v w h
+
+-- where another standing of one task is not what stands here, that stood here before, and is another's
+pub stood : (ts : List Task) (i k : ℕ) (t how : Task) → (how ≢ t) → slice_get (set ts i t) k ≡ Some how → (slice_get ts k ≡ Some how) × (k ≢ i)
+stood ts i k t how apart h = (
+  not_set ts i k t how (λ same. apart (sym same)) h,
+  λ same. apart (set_is ts i t how (subst (λ (n : ℕ). slice_get (set ts i t) n ≡ Some how) same h)),
+)
+
+pub goes_running : (old new : Store) (job : Job) (how : End) (k : ℕ) → Goes old new job how → RunsAt new k → RunsAt old k × (k ≢ job.task.0)
+goes_running old new job how k g runs =
+    let e = ends_running old.every old.book new.book job.task how k g.ends runs in
+    stood old.book.tasks job.task.0 k e.0 Running e.1 e.2
 
 -- and the desk has fewer turns left to give
-ready_lighter : (ts : List Task) (k : ℕ) → slice_get ts k ≡ Some Ready → weight_of (set ts k Running) < weight_of ts
+pub ready_lighter : (ts : List Task) (k : ℕ) → slice_get ts k ≡ Some Ready → weight_of (set ts k Running) < weight_of ts
 ready_lighter ts k at =
     let us = set ts k Running in
     let len : length us ≡ length ts = length-set ts k Running in
@@ -470,22 +517,6 @@ turned_lighter old mid new job how taken h = turn_falls old.book mid.book job.ta
     turned every b task (end.Entered e) d h = (serial.Committed e.number, (committed b task, (h.running, h.ends, h.tells.number, refl), h.kept))
     turned every b task end.Parked d h = (serial.Parked, (d, h, refl))
     turned every b task end.Abandoned d h = (serial.Abandoned, (d, h.0, refl))
-
--- all that a turn of the lowest ready task does
-pub enters_next : (old mid new : Store) (job : Job) (how : End) (e : Entered) → how ≡ end.Entered e → declaring mid.book.catalogue ≡ declaring mid.catalogue.now → KeepsTasks old mid → KeepsTasks mid new → AreTickets mid.tickets → TakesJob old (Ok job) mid → HasTurn mid job (Ok how) new → HasBecome old new job.ticket (became.Entered (call_of job) e.outcome)
-enters_next old mid new job how e is declared kept_mid kept tickets taken h =
-    become_after old mid new job.ticket (became.Entered (call_of job) e.outcome) (take_alike old mid job kept_mid taken)
-    (turn_enters mid new job e declared kept tickets (subst (λ (x : End). HasTurn mid job (Ok x) new) is h))
-
-pub abandons_next : (old mid new : Store) (job : Job) (how : End) → how ≡ end.Abandoned → KeepsTasks old mid → KeepsTasks mid new → AreTickets mid.tickets → TakesJob old (Ok job) mid → HasTurn mid job (Ok how) new → HasBecome old new job.ticket became.Left
-abandons_next old mid new job how is kept_mid kept tickets taken h =
-    become_after old mid new job.ticket became.Left (take_alike old mid job kept_mid taken)
-    (turn_abandons mid new job kept tickets (subst (λ (x : End). HasTurn mid job (Ok x) new) is h))
-
-pub parks_next : (old mid new : Store) (job : Job) (how : End) → how ≡ end.Parked → KeepsTasks old mid → KeepsTasks mid new → AreTickets mid.tickets → TakesJob old (Ok job) mid → HasTurn mid job (Ok how) new → IsAlike old new
-parks_next old mid new job how is kept_mid kept tickets taken h =
-    alike_both old mid new (take_alike old mid job kept_mid taken)
-    (parked_alike mid new job kept tickets (subst (λ (x : End). HasTurn mid job (Ok x) new) is h))
 
 -- a call that was refused changed nothing
 pub unchanged_alike : (old new : Store) → KeepsStore old new → IsUnchanged old new → IsAlike old new

@@ -1,5 +1,5 @@
 -- What becomes of the task of a call, which is one more.
-use Rattle.std.proofs.Common.{◌≡◌, ◌≢◌, ◌∙◌, ◌⊎◌, inl, inr, ℕ, zero, suc, ◌+◌, ◌<◌, ℤ, Bool, true, false, if◌then◌else◌, List, [], ◌∷◌, ◌++◌, Some, length, map, set, refl, sym, ap, subst, arith}
+use Rattle.std.proofs.Common.{◌≡◌, ◌≢◌, ◌∙◌, ◌⊎◌, inl, inr, ℕ, zero, suc, ◌+◌, ◌<◌, ℤ, Bool, true, false, if◌then◌else◌, List, [], ◌∷◌, ◌++◌, Some, None, length, map, set, refl, sym, ap, subst, arith}
 use Rattle.std.specs.List.{slice_get}
 use Rattle.std.proofs.lemmas.List.{length-map}
 use Rattle.std.proofs.lemmas.Option.{get_or_from_slice_get, same_Some, slice_get_within}
@@ -15,7 +15,7 @@ use Rattle.book.specs.Carrying.{stays}
 use Rattle.book.specs.Turns.{is_due}
 use Rattle.book.specs.LawfulBook.{BookFits}
 use Rattle.book.specs.declared.task.Serial.TheVariants as serial
-use Rattle.stm_store.specs.Tickets.{TicketsView, AreTickets, HasTicket}
+use Rattle.stm_store.specs.Tickets.{TicketsView, AreTickets, HasTicket, most_tickets, with_next}
 use Rattle.stm_store.specs.Working.{declaring}
 use Rattle.stm_store.specs.Keeping.{KeepsStore}
 use Rattle.stm_store.specs.Turning.{Ends, Runs, called_book}
@@ -28,10 +28,13 @@ use Rattle.stm_store.specs.declared.store.Store.{Store}
 use Rattle.stm_store.proofs.Rising.{one_of, tickets_more}
 use Rattle.stm_store.proofs.Submitted.{submitted_given, submitted_runs}
 use Rattle.stm_desk.specs.declared.answers.Became.TheVariants as became
-use Rattle.stm_desk.specs.Asking.{IsServed, IsStill, next_ticket}
-use Rattle.stm_desk.specs.Open.{HasOpen, IsOver, IsParkedCall, open_tasks}
+use Rattle.stm_desk.specs.declared.waiters.Waiters.{Waiters}
+use Rattle.stm_desk.specs.Asking.{IsServed, next_ticket}
+use Rattle.stm_desk.specs.Open.{HasOpen, HasOpenCall, IsOver, IsParkedCall, open_tasks}
+use Rattle.stm_desk.specs.Running.{AreAwaited, RunsAt}
 use Rattle.stm_desk.specs.Steps.{HasBecome, HasStayed, StaysBut}
-use Rattle.stm_desk.proofs.Flags.{closed_set, ends_open, get_append_left, get_set_other, map_set, not_set, stays_open}
+use Rattle.stm_desk.specs.Waiting.{waiting_at}
+use Rattle.stm_desk.proofs.Flags.{as_ends, closed_set, ends_open, get_append_left, get_set_other, map_set, not_set, stays_open}
 use Rattle.stm_desk.proofs.Becoming.{ends_running, entered_lawful, entered_state, set_twice, ticket_given}
 
 -- an element of a list with one more
@@ -51,11 +54,11 @@ get_end xs y k at = ap (slice_get (xs ++ y ∷ [])) at ∙ here xs y
     here [] y = refl
     here (x ∷ xs) y = here xs y
 
-map_more : {A B : Type 0} (f : A → B) (xs : List A) (y : A) → map f (xs ++ y ∷ []) ≡ map f xs ++ f y ∷ []
+pub map_more : {A B : Type 0} (f : A → B) (xs : List A) (y : A) → map f (xs ++ y ∷ []) ≡ map f xs ++ f y ∷ []
 map_more f [] y = refl
 map_more f (x ∷ xs) y = ap (λ zs. f x ∷ zs) (map_more f xs y)
 
-map_get : {A B : Type 0} (f : A → B) (xs : List A) (k : ℕ) (x : A) → slice_get xs k ≡ Some x → slice_get (map f xs) k ≡ Some (f x)
+pub map_get : {A B : Type 0} (f : A → B) (xs : List A) (k : ℕ) (x : A) → slice_get xs k ≡ Some x → slice_get (map f xs) k ≡ Some (f x)
 map_get f [] k x e = absurd (cc)
 map_get f (y ∷ xs) zero x e = cc
 map_get f (y ∷ xs) (suc k) x e = map_get f xs k x e
@@ -64,7 +67,7 @@ map_get f (y ∷ xs) (suc k) x e = map_get f xs k x e
 grown_calls : (l : Listing) (call : Call) (k : ℕ) (c : Call) → slice_get (calls l) k ≡ Some c → slice_get (calls (grown l (call ∷ []))) k ≡ Some c
 grown_calls l call k c h = ap (λ (all : List Call). slice_get all k) (calls_grown l (call ∷ [])) ∙ get_append_left (calls l) (call ∷ []) k c h
 
-call_there : (cs : List Call) (k : ℕ) (tx : TxId) → slice_get (map (λ (c : Call). c.tx) cs) k ≡ Some tx → (c : Call) × (slice_get cs k ≡ Some c)
+pub call_there : (cs : List Call) (k : ℕ) (tx : TxId) → slice_get (map (λ (c : Call). c.tx) cs) k ≡ Some tx → (c : Call) × (slice_get cs k ≡ Some c)
 call_there [] k tx h = absurd (cc)
 call_there (c ∷ cs) zero tx h = (c, refl)
 call_there (c ∷ cs) (suc k) tx h = call_there cs k tx h
@@ -103,7 +106,7 @@ called_open b call task at = map_set stays (b.tasks ++ Ready ∷ []) task.0 Runn
 
 pub run_open : (old new : Store) (call : Call) (job : Job) (how : End) → Runs old call.tx call.arguments job how new → open_tasks new.book ≡ set (open_tasks old.book ++ true ∷ []) job.task.0 (stays_open how)
 run_open old new call job how h =
-    ends_open old.every (called_book old.book call.tx call.arguments job.task) new.book job.task how h.ends
+    ends_open old.every (called_book old.book call.tx call.arguments job.task) new.book job.task how (as_ends old.every (called_book old.book call.tx call.arguments job.task) new.book job.task how h.ends)
     ∙ (ap (λ (bs : List Bool). set bs job.task.0 (stays_open how)) (called_open old.book call job.task h.is_new.task)
     ∙ set_twice (open_tasks old.book ++ true ∷ []) job.task.0 true (stays_open how))
 
@@ -119,24 +122,48 @@ pub record IsCalled (old new : Store) (call : Call) (job : Job) (how : End) : Ty
 many_open : (b : BookView) → length (open_tasks b) ≡ length b.tasks
 many_open b = length-map b.tasks stays
 
-here_now : (old new : Store) (call : Call) (job : Job) (how : End) → IsCalled old new call job how → HasTicket new.tickets job.task job.ticket
-here_now old new call job how c =
-    let at : job.task.0 ≡ length old.tickets.held = c.runs.is_new.task ∙ sym c.each in
-    subst (λ (t : TicketsView). slice_get t.held job.task.0 ≡ Some job.ticket.0) (sym c.runs.tickets)
-    (get_end old.tickets.held old.tickets.given job.task.0 at ∙ ap Some (sym c.runs.is_new.ticket))
+-- A store with one task more: its call, its ticket, and whether it is open.
+pub record IsMore (old new : Store) (call : Call) (task : TaskId) (ticket : Ticket) (is_open : Bool) : Type 0 where
+  pub catalogue : new.catalogue.now ≡ old.catalogue.now
+  pub each : length old.tickets.held ≡ length old.book.tasks
+  pub rise : AreTickets old.tickets
+  pub last : task.0 ≡ length old.book.tasks
+  pub next : ticket.0 ≡ old.tickets.given
+  pub room : old.tickets.given < most_tickets
+  pub tickets : new.tickets ≡ with_next old.tickets
+  pub open_now : open_tasks new.book ≡ set (open_tasks old.book ++ true ∷ []) task.0 is_open
+  pub listing : new.book.catalogue ≡ grown old.book.catalogue (call ∷ [])
 
-new_tickets : (old new : Store) (call : Call) (job : Job) (how : End) → IsCalled old new call job how → AreTickets new.tickets
-new_tickets old new call job how c = subst AreTickets (sym c.runs.tickets) (tickets_more old.tickets c.tickets c.runs.room.1)
+called_more : (old new : Store) (call : Call) (job : Job) (how : End) → IsCalled old new call job how → IsMore old new call job.task job.ticket (stays_open how)
+called_more old new call job how c =
+    record {
+      catalogue = c.catalogue;
+      each = c.each;
+      rise = c.tickets;
+      last = c.runs.is_new.task;
+      next = c.runs.is_new.ticket;
+      room = c.runs.room.1;
+      tickets = c.runs.tickets;
+      open_now = run_open old new call job how c.runs;
+      listing = ends_catalogue old.every (called_book old.book call.tx call.arguments job.task) new.book job.task how c.runs.ends;
+    }
+
+pub here_now : (old new : Store) (call : Call) (task : TaskId) (ticket : Ticket) (is_open : Bool) → IsMore old new call task ticket is_open → HasTicket new.tickets task ticket
+here_now old new call task ticket is_open c =
+    let at : task.0 ≡ length old.tickets.held = c.last ∙ sym c.each in
+    subst (λ (t : TicketsView). slice_get t.held task.0 ≡ Some ticket.0) (sym c.tickets)
+    (get_end old.tickets.held old.tickets.given task.0 at ∙ ap Some (sym c.next))
+
+pub new_tickets : (old new : Store) (call : Call) (task : TaskId) (ticket : Ticket) (is_open : Bool) → IsMore old new call task ticket is_open → AreTickets new.tickets
+new_tickets old new call task ticket is_open c = subst AreTickets (sym c.tickets) (tickets_more old.tickets c.rise c.room)
 
 -- a task of before is none of the call's
-away : (old : Store) (job : Job) (task : TaskId) (b : Bool) → job.task.0 ≡ length old.book.tasks → slice_get (open_tasks old.book) task.0 ≡ Some b → task.0 ≢ job.task.0
-away old job task b at h same = absurd (omega (arith, slice_get_within (open_tasks old.book) task.0 b h, many_open old.book, at, same))
+away : (old : Store) (one task : TaskId) (b : Bool) → one.0 ≡ length old.book.tasks → slice_get (open_tasks old.book) task.0 ≡ Some b → task.0 ≢ one.0
+away old one task b at h same = absurd (omega (arith, slice_get_within (open_tasks old.book) task.0 b h, many_open old.book, at, same))
 
-pub called_stays : (old new : Store) (call : Call) (job : Job) (how : End) → IsCalled old new call job how → StaysBut old new job.ticket
-called_stays old new call job how c =
+pub more_stays : (old new : Store) (call : Call) (task : TaskId) (ticket : Ticket) (is_open : Bool) → IsMore old new call task ticket is_open → StaysBut old new ticket
+more_stays old new call task ticket is_open c =
     let flags = open_tasks old.book ++ true ∷ [] in
-    let open_now = run_open old new call job how c.runs in
-    let listing : new.book.catalogue ≡ grown old.book.catalogue (call ∷ []) = ends_catalogue old.every (called_book old.book call.tx call.arguments job.task) new.book job.task how c.runs.ends in
     record {
       catalogue = c.catalogue;
       all_open = λ other made apart h.
@@ -144,42 +171,46 @@ called_stays old new call job how c =
           record {
             has = record {
               task = k;
-              own = subst (λ (t : TicketsView). slice_get t.held k.0 ≡ Some other.0) (sym c.runs.tickets) (get_append_left old.tickets.held (old.tickets.given ∷ []) k.0 other.0 h.has.own);
-              is_open = ap (λ (bs : List Bool). slice_get bs k.0) open_now
-                  ∙ (get_set_other flags job.task.0 k.0 (stays_open how) (away old job k true c.runs.is_new.task h.has.is_open)
+              own = subst (λ (t : TicketsView). slice_get t.held k.0 ≡ Some other.0) (sym c.tickets) (get_append_left old.tickets.held (old.tickets.given ∷ []) k.0 other.0 h.has.own);
+              is_open = ap (λ (bs : List Bool). slice_get bs k.0) c.open_now
+                  ∙ (get_set_other flags task.0 k.0 is_open (away old task k true c.last h.has.is_open)
                   ∙ get_append_left (open_tasks old.book) (true ∷ []) k.0 true h.has.is_open);
             };
-            runs = ap (λ (l : Listing). slice_get (tasks l) k.0) listing ∙ grown_runs old.book.catalogue call k made.tx h.runs;
-            given = ap (λ (l : Listing). task_arguments l k) listing ∙ (grown_given old.book.catalogue call k made.tx h.runs ∙ h.given);
+            runs = ap (λ (l : Listing). slice_get (tasks l) k.0) c.listing ∙ grown_runs old.book.catalogue call k made.tx h.runs;
+            given = ap (λ (l : Listing). task_arguments l k) c.listing ∙ (grown_given old.book.catalogue call k made.tx h.runs ∙ h.given);
           };
       over = λ other h. record {
-        given = subst (λ (t : TicketsView). other.0 < t.given) (sym c.runs.tickets) (omega (arith, h.given));
+        given = subst (λ (t : TicketsView). other.0 < t.given) (sym c.tickets) (omega (arith, h.given));
         ended = λ o. back other h o;
       };
     }
   where
     back : (other : Ticket) → IsOver old other → HasOpen new other → ⊥
     back other h o =
-        let at : slice_get (old.tickets.held ++ old.tickets.given ∷ []) o.task.0 ≡ Some other.0 = subst (λ (t : TicketsView). slice_get t.held o.task.0 ≡ Some other.0) c.runs.tickets o.own in
+        let at : slice_get (old.tickets.held ++ old.tickets.given ∷ []) o.task.0 ≡ Some other.0 = subst (λ (t : TicketsView). slice_get t.held o.task.0 ≡ Some other.0) c.tickets o.own in
         elim (get_more old.tickets.held old.tickets.given o.task.0 other.0 at) [
           | inl there ↦
-              let low : o.task.0 ≢ job.task.0 = λ same. absurd (omega (arith, slice_get_within old.tickets.held o.task.0 other.0 there, c.each, c.runs.is_new.task, same)) in
-              let set_is : slice_get (set (open_tasks old.book ++ true ∷ []) job.task.0 (stays_open how)) o.task.0 ≡ Some true = subst (λ (bs : List Bool). slice_get bs o.task.0 ≡ Some true) (run_open old new call job how c.runs) o.is_open in
-              let flag = sym (get_set_other (open_tasks old.book ++ true ∷ []) job.task.0 o.task.0 (stays_open how) low) ∙ set_is in
+              let low : o.task.0 ≢ task.0 = λ same. absurd (omega (arith, slice_get_within old.tickets.held o.task.0 other.0 there, c.each, c.last, same)) in
+              let set_is : slice_get (set (open_tasks old.book ++ true ∷ []) task.0 is_open) o.task.0 ≡ Some true = subst (λ (bs : List Bool). slice_get bs o.task.0 ≡ Some true) c.open_now o.is_open in
+              let flag = sym (get_set_other (open_tasks old.book ++ true ∷ []) task.0 o.task.0 is_open low) ∙ set_is in
               elim (get_more (open_tasks old.book) true o.task.0 true flag) [
                 | inl is ↦ h.ended (record { task = o.task; own = there; is_open = is })
-                | inr is ↦ low (is.0 ∙ (many_open old.book ∙ sym c.runs.is_new.task))
+                | inr is ↦ low (is.0 ∙ (many_open old.book ∙ sym c.last))
               ]
           | inr last ↦ absurd (omega (arith, h.given, last.1))
         ]
+
+pub called_stays : (old new : Store) (call : Call) (job : Job) (how : End) → IsCalled old new call job how → StaysBut old new job.ticket
+called_stays old new call job how c = more_stays old new call job.task job.ticket (stays_open how) (called_more old new call job how c)
 
 pub called_was : (old new : Store) (call : Call) (job : Job) (how : End) → IsCalled old new call job how → IsOver old job.ticket → ⊥
 called_was old new call job how c h = absurd (omega (arith, h.given, c.runs.is_new.ticket))
 
 called_ends : (old new : Store) (call : Call) (job : Job) (how : End) → stays_open how ≡ false → IsCalled old new call job how → IsOver new job.ticket
 called_ends old new call job how closed c =
-    let tickets = new_tickets old new call job how c in
-    let own = here_now old new call job how c in
+    let m = called_more old new call job how c in
+    let tickets = new_tickets old new call job.task job.ticket (stays_open how) m in
+    let own = here_now old new call job.task job.ticket (stays_open how) m in
     record {
       given = ticket_given new.tickets job.task.0 job.ticket.0 tickets own;
       ended = λ o.
@@ -215,24 +246,19 @@ call_abandons old new call job c =
       present = ap (λ (b : BookView). b.present.state) c.runs.ends.0.1;
     }
 
--- the task of a call that retries is open
-pub call_stays : (old new : Store) (call : Call) (job : Job) → IsCalled old new call job end.Parked → HasStayed old new job.ticket call
-call_stays old new call job c =
+-- a task more that is open makes the call
+pub more_open : (old new : Store) (call : Call) (task : TaskId) (ticket : Ticket) → BookFits old.book → IsMore old new call task ticket true → HasOpenCall new ticket call
+more_open old new call task ticket fits c =
     let flags = open_tasks old.book ++ true ∷ [] in
-    let listing : new.book.catalogue ≡ grown old.book.catalogue (call ∷ []) = ends_catalogue old.every (called_book old.book call.tx call.arguments job.task) new.book job.task end.Parked c.runs.ends in
-    let last : job.task.0 ≡ length (open_tasks old.book) = c.runs.is_new.task ∙ sym (many_open old.book) in
+    let last : task.0 ≡ length (open_tasks old.book) = c.last ∙ sym (many_open old.book) in
     record {
-      stays = called_stays old new call job end.Parked c;
-      is_open = record {
-        has = record {
-          task = job.task;
-          own = here_now old new call job end.Parked c;
-          is_open = ap (λ (bs : List Bool). slice_get bs job.task.0) (run_open old new call job end.Parked c.runs) ∙ set_there flags job.task.0 true (get_end (open_tasks old.book) true job.task.0 last);
-        };
-        runs = ap (λ (l : Listing). slice_get (tasks l) job.task.0) listing ∙ submitted_runs old.book call job.task c.fits c.runs.is_new.task;
-        given = ap (λ (l : Listing). task_arguments l job.task) listing ∙ submitted_given old.book call job.task c.fits c.runs.is_new.task;
+      has = record {
+        task = task;
+        own = here_now old new call task ticket true c;
+        is_open = ap (λ (bs : List Bool). slice_get bs task.0) c.open_now ∙ set_there flags task.0 true (get_end (open_tasks old.book) true task.0 last);
       };
-      present = ap (λ (b : BookView). b.present.state) c.runs.ends.2.2;
+      runs = ap (λ (l : Listing). slice_get (tasks l) task.0) c.listing ∙ submitted_runs old.book call task fits c.last;
+      given = ap (λ (l : Listing). task_arguments l task) c.listing ∙ submitted_given old.book call task fits c.last;
     }
   where
     set_there : (xs : List Bool) (i : ℕ) (v : Bool) → slice_get xs i ≡ Some v → slice_get (set xs i v) i ≡ Some v
@@ -240,17 +266,38 @@ call_stays old new call job c =
     set_there (x ∷ xs) zero v h = refl
     set_there (x ∷ xs) (suc i) v h = set_there xs i v h
 
--- and none runs
-pub call_still : (old new : Store) (call : Call) (job : Job) (how : End) → IsCalled old new call job how → IsStill old → IsStill new
-call_still old new call job how c still k runs =
+-- so is the task of a call that retries
+pub call_stays : (old new : Store) (call : Call) (job : Job) → IsCalled old new call job end.Parked → HasStayed old new job.ticket call
+call_stays old new call job c =
+    record {
+      stays = called_stays old new call job end.Parked c;
+      is_open = more_open old new call job.task job.ticket c.fits (called_more old new call job end.Parked c);
+      present = ap (λ (b : BookView). b.present.state) c.runs.ends.2.2;
+    }
+
+-- and none runs that did not
+pub call_running : (old new : Store) (call : Call) (job : Job) (how : End) (k : ℕ) → IsCalled old new call job how → RunsAt new k → RunsAt old k
+call_running old new call job how k c runs =
     let b = called_book old.book call.tx call.arguments job.task in
-    let e = ends_running old.every b new.book job.task how k c.runs.ends runs in
+    let e = ends_running old.every b new.book job.task how k (as_ends old.every b new.book job.task how c.runs.ends) runs in
     let once : slice_get (set (old.book.tasks ++ Ready ∷ []) job.task.0 e.0) k ≡ Some Running =
     subst (λ (ts : List Task). slice_get ts k ≡ Some Running) (set_twice (old.book.tasks ++ Ready ∷ []) job.task.0 Running e.0) e.2 in
     elim (get_more old.book.tasks Ready k Running (not_set (old.book.tasks ++ Ready ∷ []) job.task.0 k e.0 Running (λ same. e.1 (sym same)) once)) [
-      | inl there ↦ still k there
+      | inl there ↦ there
       | inr last ↦ absurd (cc (last.1))
     ]
+
+-- for each that does a call waits, whoever more does so
+pub more_held : (old new : Store) (k t : ℕ) → new.tickets ≡ with_next old.tickets → length old.tickets.held ≡ length old.book.tasks → RunsAt old k → slice_get new.tickets.held k ≡ Some t → slice_get old.tickets.held k ≡ Some t
+more_held old new k t is each runs held = elim (get_more old.tickets.held old.tickets.given k t (subst (λ (x : TicketsView). slice_get x.held k ≡ Some t) is held)) [
+  | inl there ↦ there
+  | inr last ↦ absurd (omega (arith, slice_get_within old.book.tasks k Running runs, each, last.0))
+]
+
+pub call_awaited : (old new : Store) (w v : Waiters) (call : Call) (job : Job) (how : End) → IsCalled old new call job how → ((t : ℕ) → waiting_at w t ≢ None → waiting_at v t ≢ None) → AreAwaited old w → AreAwaited new v
+call_awaited old new w v call job how c on all k t runs held =
+    let was = call_running old new call job how k c runs in
+    on t (all k t was (more_held old new k t c.runs.tickets c.each was held))
 
 served_more : (ts : List Task) (i : ℕ) (t : Task) → (t ≡ Ready → ⊥) → ((k : ℕ) → slice_get ts k ≡ Some Ready → ⊥) → (k : ℕ) → slice_get (set (set (ts ++ Ready ∷ []) i Running) i t) k ≡ Some Ready → i ≡ length ts → ⊥
 served_more ts i t apart served k h at =
@@ -300,7 +347,7 @@ number_is old new call job e c = c.runs.ends.tells.number
 -- the task of one that retries is parked
 pub call_parked : (old new : Store) (call : Call) (job : Job) → IsCalled old new call job end.Parked → IsParkedCall new job.ticket call
 call_parked old new call job c =
-    let own = here_now old new call job end.Parked c in
+    let own = here_now old new call job.task job.ticket true (called_more old new call job end.Parked c) in
     let ts = set (old.book.tasks ++ Ready ∷ []) job.task.0 Running in
     let log = c.runs.ends.2.0 in
     let inside : slice_get (old.book.tasks ++ Ready ∷ []) job.task.0 ≡ Some Ready = get_end old.book.tasks Ready job.task.0 c.runs.is_new.task in

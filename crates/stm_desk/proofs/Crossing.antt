@@ -6,6 +6,8 @@ use Rattle.std.proofs.MapsCrossing as maps
 use Rattle.stm_store.proofs.Crossing.{store_send, lender_send}
 use Rattle.ghost_log.proofs.log.Log.TheSendSync as log
 use Rattle.stm_desk.specs.contracts.answers.Told as told
+use Rattle.stm_desk.specs.contracts.ended.Ended as ended
+use Rattle.stm_desk.specs.contracts.ended.Last as last
 use Rattle.stm_desk.specs.contracts.waiters.Waiting as waiting
 use Rattle.stm_desk.specs.contracts.waiters.Waiters as waiters
 use Rattle.stm_desk.specs.contracts.work.Work as work
@@ -20,6 +22,12 @@ waiting_send = search (sendable, crosses) depth 30
 pub waiters_send : IsSend waiters.the_row
 waiters_send = search (sendable, crosses, maps.crosses, told_send, waiting_send) depth 40 fits 20000
 
+pub ended_send : IsSend ended.the_row
+ended_send = search (sendable, crosses) depth 30
+
+pub last_send : IsSend last.the_row
+last_send = let e = ended_send in search (sendable, crosses) depth 40
+
 pub work_send : IsSend work.the_row
 work_send =
     let l = lender_send in
@@ -32,7 +40,19 @@ work_send =
           waiters_send,
           (
             search (sendable, crosses) depth 30,
-            (search sendable, (search sendable, (search (sendable, crosses) depth 30, tt))),
+            (
+              search sendable,
+              (
+                search sendable,
+                (
+                  last_send,
+                  (
+                    search (sendable, crosses) depth 30,
+                    (search (sendable, crosses) depth 30, (search (sendable, crosses) depth 30, tt)),
+                  ),
+                ),
+              ),
+            ),
           ),
         ),
       ),

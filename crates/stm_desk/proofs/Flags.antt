@@ -11,6 +11,8 @@ use Rattle.book.specs.Carrying.{stays}
 use Rattle.book.specs.Turns.{is_due, kept_short}
 use Rattle.book.specs.declared.task.Serial.{Serial}
 use Rattle.book.specs.declared.task.Serial.TheVariants as serial
+use Rattle.attempt.specs.Asking.{Known}
+use Rattle.stm_store.specs.Entering.{Enters}
 use Rattle.stm_store.specs.Turning.{Ends}
 use Rattle.stm_store.specs.declared.answers.End.{End}
 use Rattle.stm_store.specs.declared.answers.End.TheVariants as end
@@ -87,11 +89,22 @@ stays_open (end.Entered e) = false
 stays_open end.Parked = true
 stays_open end.Abandoned = false
 
-pub ends_open : (every : ℕ) (b new : BookView) (task : TaskId) (how : End) → Ends every b task how new → open_tasks new ≡ set (open_tasks b) task.0 (stays_open how)
+-- what a turn leaves of the book, whichever way it was given
+abbrev pub AsEnds : ℕ → BookView → TaskId → End → BookView → Type 0
+AsEnds every old task (end.Entered e) new = Enters every old task e new
+AsEnds every old task end.Parked new = (log : Known) × (new ≡ stands old task (Parked log))
+AsEnds every old task end.Abandoned new = new ≡ stands old task GivenUp
+
+pub as_ends : (every : ℕ) (b new : BookView) (task : TaskId) (how : End) → Ends every b task how new → AsEnds every b task how new
+as_ends every b new task (end.Entered e) h = h
+as_ends every b new task end.Parked h = (h.2.0, h.2.2)
+as_ends every b new task end.Abandoned h = h.0.1
+
+pub ends_open : (every : ℕ) (b new : BookView) (task : TaskId) (how : End) → AsEnds every b task how new → open_tasks new ≡ set (open_tasks b) task.0 (stays_open how)
 ends_open every b new task (end.Entered e) h =
     ap open_tasks h.kept ∙ (short_open every (serial.Committed e.number) (committed b task) ∙ open_committed b task)
-ends_open every b new task end.Parked h = ap open_tasks h.2.2 ∙ open_stands b task (Parked h.2.0)
-ends_open every b new task end.Abandoned h = ap open_tasks h.0.1 ∙ open_stands b task GivenUp
+ends_open every b new task end.Parked h = ap open_tasks h.1 ∙ open_stands b task (Parked h.0)
+ends_open every b new task end.Abandoned h = ap open_tasks h ∙ open_stands b task GivenUp
 
 -- where the others are as they were
 pub back_set : (xs : List Bool) (i k : ℕ) (v : Bool) → slice_get xs i ≡ Some true → slice_get (set xs i v) k ≡ Some true → slice_get xs k ≡ Some true

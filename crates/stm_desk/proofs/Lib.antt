@@ -4,4 +4,10 @@ mod Calling
 mod Legal
 mod Seats
 mod Answered
+mod Handing
+mod Refusing
+mod Settling
+mod Beginning
+mod Carrying
+mod Ending
 pub mod Crossing

@@ -220,10 +220,3 @@ told_shut l closed w t h longer new is grown told k =
     ∥∥₁_map k (λ (x : AreTold l closed h w.told.items).
     all_told_more l closed longer (waiting_at w t.0) w.told.items new t (Err refused.Closed) told (λ seat e. (left_last h longer t grown, is))
     (subst (λ (y : History). AreTold l closed y w.told.items) (sym grown) (all_told_on l closed h (t, became.Left) w.told.items x)))
-
--- who does not wait does not where one more goes
-pub still_none : (w v : Waiters) (one : Ticket) → waiting_at v one.0 ≡ None → OthersStay w v one → (t : ℕ) → waiting_at w t ≡ None → waiting_at v t ≡ None
-still_none w v one gone others t none = elim (cases_eq t one.0) [
-  | inl same ↦ ap (waiting_at v) same ∙ gone
-  | inr apart ↦ others t apart ∙ none
-]

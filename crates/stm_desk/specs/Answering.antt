@@ -2,21 +2,27 @@
 use Rattle.std.specs.Prelude.{◌≡◌, ◌+◌, ℕ, true, false, [], ◌∷◌, ◌++◌, length, Result, Ok, Err}
 use Rattle.txn_programs.specs.declared.arguments.Call.{Call}
 use Rattle.txn_programs.specs.Listing.{IsCallable}
+use Rattle.stm_store.specs.Asking.{IsFull}
 use Rattle.stm_store.specs.Turning.{RefusesCall}
 use Rattle.stm_store.specs.declared.answers.Refused.{Refused}
 use Rattle.stm_store.specs.declared.answers.Refused.TheVariants as refused
 use Rattle.stm_store.specs.declared.answers.Way.{Way}
 use Rattle.stm_store.specs.declared.answers.Way.TheVariants as ways
+use Rattle.stm_store.specs.declared.job.Job.{Job}
 use Rattle.stm_store.specs.declared.job.Ticket.{Ticket}
+use Rattle.stm_store.specs.declared.worker.Worker.{Worker}
 use Rattle.stm_desk.specs.declared.answers.Answer.{Answer}
 use Rattle.stm_desk.specs.declared.answers.Asked.{Asked}
 use Rattle.stm_desk.specs.declared.answers.Asked.TheVariants as asked
 use Rattle.stm_desk.specs.declared.answers.Became.TheVariants as became
 use Rattle.stm_desk.specs.declared.desk.Desk.{Desk}
-use Rattle.stm_desk.specs.Asking.{IsSame, next_ticket}
+use Rattle.stm_desk.specs.declared.work.Work.{Work}
+use Rattle.stm_desk.specs.Asking.{GoesOn, IsGivenUp, IsSame, next_ticket}
+use Rattle.stm_desk.specs.Ending.{MakesRoom}
 use Rattle.stm_desk.specs.History.{Begins, History}
 use Rattle.stm_desk.specs.Open.{IsParkedCall}
-use Rattle.stm_desk.specs.Waiting.{IsSeated, WaitAsBefore}
+use Rattle.stm_desk.specs.Running.{HadBrought, HadTurn, HandsOut, HasBroughtTo, IsLong, RefusesTurn, RunsFor}
+use Rattle.stm_desk.specs.Waiting.{HandsOn, IsSeated}
 
 abbrev pub history_of : Desk → History
 history_of d = d.work.history.items
@@ -28,6 +34,8 @@ pub record IsEnteredNext (old : Desk) (call : Call) (a : Answer) (new : Desk) : 
   pub entry : a.entry ≡ old.work.store.book.present.number + 1
   pub place : a.place ≡ length (history_of old)
   pub history : Begins (history_of old ++ (a.ticket, became.Entered call a.outcome) ∷ []) (history_of new)
+  pub hands_on : HandsOn old.work.waiters new.work.waiters
+  pub hands_out : HandsOut old.work new.work
 
 -- the task of the call retries, and whoever called waits for it
 pub record WaitsFor (old : Desk) (call : Call) (whose : ℕ) (ticket : Ticket) (new : Desk) : Type 0 where
@@ -38,6 +46,8 @@ pub record WaitsFor (old : Desk) (call : Call) (whose : ℕ) (ticket : Ticket) (
 
 -- why there is no task of the call; nothing changed
 abbrev pub RefusesAsked : Desk → Call → Way → Refused → Type 0
+RefusesAsked d call way refused.NoRoom =
+    (d.work.closed ≡ false) × IsFull d.work.store × (MakesRoom d.work → ⊥)
 RefusesAsked d call way refused.Closed = d.work.closed ≡ true
 RefusesAsked d call way refused.Unknown =
     (d.work.closed ≡ false) × (IsCallable d.work.store.catalogue.now call.tx call.arguments → ⊥)
@@ -48,8 +58,22 @@ abbrev pub IsAsked : Desk → Call → Way → ℕ → Result Asked Refused → 
 IsAsked old call way whose (Ok (asked.Ended a)) new = (old.work.closed ≡ false) × IsEnteredNext old call a new
 IsAsked old call way whose (Ok (asked.Waits ticket)) new =
     (old.work.closed ≡ false) × (way ≡ ways.Waits) × WaitsFor old call whose ticket new
-IsAsked old call way whose (Err refused.Memory) new =
+IsAsked old call way whose (Ok asked.ChapterFull) new =
+    (old.work.closed ≡ false) × IsFull old.work.store × MakesRoom old.work × IsSame old.work new.work
+IsAsked old call way whose (Ok (asked.Runs job)) new =
     (old.work.closed ≡ false)
-    × (history_of new ≡ history_of old ++ (next_ticket old.work.store, became.Left) ∷ [])
-    × WaitAsBefore old.work.waiters new.work.waiters
+    × (way ≡ ways.Waits)
+    × IsLong old.work.long.items call.tx
+    × RunsFor old.work call whose job new.work
+IsAsked old call way whose (Err refused.Memory) new = (old.work.closed ≡ false) × IsGivenUp old.work new.work
 IsAsked old call way whose (Err why) new = RefusesAsked old call way why × IsSame old.work new.work
+
+-- `bring`: what came of it, and then what it woke; else nothing changed, and why
+abbrev pub HasBroughtIn : Desk → Worker → Result (Unit {0}) Refused → Desk → Type 0
+HasBroughtIn old w (Ok done) new = (mid : Work) × HadBrought old.work w mid × GoesOn mid new.work
+HasBroughtIn old w (Err why) new = HasBroughtTo old.work w (Err why) new.work
+
+-- `run_now`: its turn, and then what it woke; else nothing changed, and why
+abbrev pub HasRun : Desk → Job → Result (Unit {0}) Refused → Desk → Type 0
+HasRun old job (Ok done) new = (mid : Work) × HadTurn old.work job mid × GoesOn mid new.work
+HasRun old job (Err why) new = RefusesTurn old.work.store job why × IsSame old.work new.work

@@ -49,6 +49,8 @@ pub record IsNextEntry (old : Work) (call : Call) (a : Answer) (new : Work) : Ty
   pub entry : a.entry ≡ old.store.book.present.number + 1
   pub place : a.place ≡ length old.history.items
   pub history : new.history.items ≡ old.history.items ++ (a.ticket, became.Entered call a.outcome) ∷ []
+  pub waiters : new.waiters ≡ old.waiters
+  pub due : new.due.items ≡ old.due.items
 
 -- the task of the call waits, and so does whoever called
 pub record IsWaiting (old : Work) (call : Call) (whose : ℕ) (ticket : Ticket) (new : Work) : Type 0 where
@@ -56,27 +58,38 @@ pub record IsWaiting (old : Work) (call : Call) (whose : ℕ) (ticket : Ticket) 
   pub history : new.history.items ≡ old.history.items
   pub parked : ∥ IsParkedCall new.store ticket call ∥₁
   pub seated : IsSeated old.waiters ticket whose call new.waiters
+  pub due : new.due.items ≡ old.due.items
 
 -- tasks, those who wait, and the history are as they were
 pub record IsSame (old new : Work) : Type 0 where
   pub store : IsUnchanged old.store new.store
   pub waiters : new.waiters ≡ old.waiters
   pub history : new.history.items ≡ old.history.items
+  pub due : new.due.items ≡ old.due.items
+
+-- there was no memory for it: its task was given up, and those who wait do so as before
+pub record IsGivenUp (old new : Work) : Type 0 where
+  pub history : new.history.items ≡ old.history.items ++ (next_ticket old.store, became.Left) ∷ []
+  pub waiters : WaitAsBefore old.waiters new.waiters
+  pub due : new.due.items ≡ old.due.items
 
 -- what a call is answered at once
 abbrev pub IsAnswered : Work → Call → Way → ℕ → Result Asked Refused → Work → Type 0
 IsAnswered old call way whose (Ok (asked.Ended a)) new = IsNextEntry old call a new
 IsAnswered old call way whose (Ok (asked.Waits ticket)) new =
     (way ≡ ways.Waits) × IsWaiting old call whose ticket new
-IsAnswered old call way whose (Err refused.Memory) new =
-    (new.history.items ≡ old.history.items ++ (next_ticket old.store, became.Left) ∷ [])
-    × WaitAsBefore old.waiters new.waiters
+IsAnswered old call way whose (Ok (asked.Runs job)) new = ⊥
+IsAnswered old call way whose (Ok asked.ChapterFull) new = ⊥
+IsAnswered old call way whose (Err refused.Memory) new = IsGivenUp old new
 IsAnswered old call way whose (Err why) new =
     RefusesCall way old.store call.tx call.arguments why × IsSame old new
 
--- what turns leave: the program, how the store was at first, and whether it is closed; the history only grows
+-- what turns leave: the program, how the store was at first, what is long, whether it is closed, and what became of the
+-- chapter that ended last; the history only grows
 pub record GoesOn (old new : Work) : Type 0 where
   pub first : new.first.value ≡ old.first.value
+  pub long : new.long.items ≡ old.long.items
   pub catalogue : new.store.catalogue.now ≡ old.store.catalogue.now
   pub closed : new.closed ≡ old.closed
+  pub last : new.last ≡ old.last
   pub history : Begins old.history.items new.history.items

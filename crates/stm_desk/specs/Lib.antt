@@ -1,4 +1,6 @@
 pub mod Answering
+pub mod Ending
+pub mod Telling
 pub mod Asking
 pub mod History
 pub mod Open
@@ -6,3 +8,5 @@ pub mod Serving
 pub mod Steps
 pub mod Waiting
 pub mod Keeping
+pub mod Running
+pub mod Settling

@@ -3,6 +3,7 @@ use Rattle.std.specs.Prelude.{◌≡◌, ◌<◌, Bool, true, List, map, Some, s
 use Rattle.txn_programs.specs.declared.ast.TaskId.{TaskId}
 use Rattle.txn_programs.specs.declared.arguments.Call.{Call}
 use Rattle.txn_programs.specs.Listing.{tasks, task_arguments}
+use Rattle.book.specs.Tasks.{Running}
 use Rattle.book.specs.View.{BookView}
 use Rattle.book.specs.Table.{IsParked}
 use Rattle.book.specs.Carrying.{stays}
@@ -38,3 +39,8 @@ pub record IsParkedCall (s : Store) (ticket : Ticket) (call : Call) : Type 0 whe
   pub runs : slice_get (tasks s.book.catalogue) task.0 ≡ Some call.tx
   pub given : task_arguments s.book.catalogue task ≡ call.arguments
   pub parked : IsParked (slice_get s.book.tasks task.0)
+
+-- the task with the ticket makes this call, and is evaluated by whoever waits for it
+pub record IsRunningCall (s : Store) (ticket : Ticket) (call : Call) : Type 0 where
+  pub has : HasOpenCall s ticket call
+  pub running : slice_get s.book.tasks has.has.task.0 ≡ Some Running

@@ -20,6 +20,7 @@ pub record WasGivenUp (old : Work) (ticket : Ticket) (new : Work) : Type 0 where
   pub gone : waiting_at new.waiters ticket.0 ≡ None
   pub others : OthersStay old.waiters new.waiters ticket
   pub told : new.waiters.told.items ≡ old.waiters.told.items
+  pub due : new.due.items ≡ old.due.items
 
 -- where anybody waits with the ticket, the task is given up
 abbrev pub HasLeft : Work → Ticket → Result (Unit {0}) Refused → Work → Type 0

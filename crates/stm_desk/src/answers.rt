@@ -1,7 +1,7 @@
 //! What a desk answers, and what its history lists.
 
 use std::snapshot::Snapshot;
-use stm_store::{Refused, Ticket};
+use stm_store::{Job, Refused, Ticket};
 use txn::{Call, Outcome};
 
 /// What became of a task.
@@ -34,6 +34,19 @@ pub enum Asked {
     Ended(Answer),
     /// It retries: its task, which has this ticket, waits for a change of what it read.
     Waits(Ticket),
+    /// It is long: its task runs, and is evaluated by whoever asked, outside the desk.
+    Runs(Job),
+    /// The chapter has no room for its task, but the next one would have: `end_chapter` begins that, once the host said
+    /// of the one before how it went. Nothing changed.
+    ChapterFull,
+}
+
+/// A long call that waited and whose task runs again: whoever waits evaluates it, outside the desk.
+#[derive(Clone, Copy, Debug, PartialEq, Eq)]
+pub struct Due {
+    /// Whose call it is.
+    pub whose: u64,
+    pub job: Job,
 }
 
 /// What became of a call that waited.

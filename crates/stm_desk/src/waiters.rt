@@ -28,7 +28,8 @@ pub(crate) struct Waiters {
 }
 
 impl Waiters {
-    ghost use Rattle.std.specs.Prelude.{[], ◌≢◌, ◌++◌, IfSome, MatchBool, None, option_to_list};
+    ghost use Rattle.std.specs.Prelude.{[], ◌≢◌, ◌++◌, IfSome, MatchBool, None, Some, option_to_list};
+    ghost use Rattle.stm_desk.specs.declared.waiters.Waiting.{Waiting};
     ghost use Rattle.stm_desk.specs.Waiting.{IsSeated, IsToldTo, OthersStay, waiting_at};
 
     /// Nobody waits.
@@ -80,6 +81,16 @@ impl Waiters {
             Ok(()) => {}
             Err(_) => unreachable!(),
         }
+    }
+
+    /// Whose call waits with the ticket, if one does.
+    pub(crate) fn whose(&self, ticket: Ticket) -> Option<u64>
+        ensures some { IfSome result (λ whose. (seat : Waiting) × (waiting_at self.now ticket.0 ≡ Some seat)
+            × (whose ≡ seat.whose)) }
+        ensures none { result ≡ None → waiting_at self.now ticket.0 ≡ None }
+    {
+        let seat = self.calls.get(&ticket.0)?;
+        Some(seat.whose)
     }
 
     /// Whether anybody waits with the ticket.

@@ -1,20 +1,21 @@
 //! A store with those who wait for its tasks, in the midst of a call of a desk.
 
-ghost use Rattle.std.specs.Prelude.{◌≡◌, ◌≢◌, ◌<◌, ◌+◌, ◌^◌, ◌++◌, ◌∷◌, [], ℕ, All, Some, length, slice_get};
+ghost use Rattle.std.specs.Prelude.{◌≡◌, ◌≢◌, ◌<◌, ◌+◌, ◌⊎◌, ◌++◌, ◌∷◌, [], ℕ, All, Some, length};
 ghost use Rattle.std.specs.Option.{ForNone};
-ghost use Rattle.book.specs.Tasks.{Running};
 ghost use Rattle.stm_desk.specs.Keeping.{Accounts, IsToldOf};
 ghost use Rattle.stm_desk.specs.Open.{HasOpenCall};
 ghost use Rattle.stm_desk.specs.Waiting.{waiting_at};
 ghost use Rattle.stm_desk.specs.declared.waiters.Waiting.{Waiting};
 
 use crate::answers::{Asked, Became, Told};
-use crate::noting::{answer_of, call_of, note};
+use crate::ended::Last;
+use crate::noting::{answer_of, note};
 use crate::waiters::Waiters;
 use ghost_log::Log;
 use std::alloc::Global;
+use std::collections::VecDeque;
 use std::snapshot::Snapshot;
-use stm_store::{End, Lender, Refused, Store, Ticket, Way};
+use stm_store::{End, Job, Lender, Refused, Store, Ticket, Way};
 use txn::Call;
 
 /// A store, those who wait, and its history.
@@ -27,13 +28,18 @@ pub struct Work {
     /// What became of each task, the first one first.
     pub(crate) history: Log<Ticket, Became>,
     /// How long the history is.
-    places: u64,
+    pub(crate) places: u64,
     /// Whether nothing is entered any more.
     pub(crate) closed: bool,
+    /// What became of the chapter that ended last.
+    pub(crate) last: Last,
     /// The store as it was at first.
     pub(crate) first: Snapshot<Store>,
+    /// Whether a transaction is long, for each; empty where none is.
+    pub(crate) long: Vec<bool>,
+    /// The running tasks that are still to be handed to those who wait for them.
+    pub(crate) due: VecDeque<Job>,
     ghost lends: { ForNone lender (length store.catalogue.now.transactions ≡ 0) },
-    ghost still: { (k : ℕ) → slice_get store.book.tasks k ≢ Some Running },
     ghost counted: { places ≡ length history.items },
     ghost accounts: { ∥ Accounts first.value store history.items ∥₁ },
     ghost seated: { (ticket : ℕ) (seat : Waiting) → waiting_at waiters ticket ≡ Some seat
@@ -47,23 +53,29 @@ impl Work {
     ghost use Rattle.std.specs.BTreeMap.{btree_map_len};
     ghost use Rattle.book.specs.LawfulBook.{LawfulBook};
     ghost use Rattle.txn_programs.specs.Listing.{IsCallable};
-    ghost use Rattle.stm_desk.specs.Asking.{GoesOn, IsAnswered, IsServed, IsStill};
-    ghost use Rattle.stm_desk.specs.Serving.{HasLeft, IsLighter, OnlyLeft, WasGivenUp};
-    ghost use Rattle.stm_desk.specs.Waiting.{IsSeated, WaitAsBefore};
+    ghost use Rattle.stm_store.specs.Asking.{GivesUp};
+    ghost use Rattle.stm_store.specs.Keeping.{KeepsTasks};
+    ghost use Rattle.stm_desk.specs.Asking.{GoesOn, IsAnswered, IsServed};
+    ghost use Rattle.stm_desk.specs.Running.{AreAwaited, HandsNothingOut};
+    ghost use Rattle.stm_desk.specs.Serving.{HasLeft, OnlyLeft, WasGivenUp};
+    ghost use Rattle.stm_desk.specs.Waiting.{AreShutOut, IsSeated, WaitAsBefore};
     ghost use Rattle.stm_store.specs.declared.answers.Refused.TheVariants as Refused;
     ghost use Rattle.stm_desk.specs.declared.answers.Answer.{Answer};
     ghost use Rattle.stm_desk.specs.declared.answers.Asked.TheVariants as Asked;
-    ghost use Rattle.stm_desk.specs.Open.{HasOpen, IsParkedCall};
+    ghost use Rattle.stm_desk.specs.Open.{HasOpen, IsParkedCall, IsRunningCall};
     ghost use Rattle.stm_desk.specs.declared.answers.Became.TheVariants as Became;
+    ghost use Rattle.stm_desk.specs.declared.ended.Last.TheVariants as Last;
 
     /// With nobody who waits, and nothing that became of a task.
-    pub(crate) fn new(alloc: Global, store: Store) -> Work
-        requires still { IsStill store }
+    pub(crate) fn new(alloc: Global, store: Store, long: Vec<bool>) -> Work
         ensures store { result.store ≡ store }
         ensures first { result.first.value ≡ store }
         ensures history { result.history.items ≡ [] }
         ensures waiters { (ticket : ℕ) → waiting_at result.waiters ticket ≡ None }
+        ensures told { result.waiters.told.items ≡ [] }
         ensures is_open { result.closed ≡ false }
+        ensures long { result.long.items ≡ long.items }
+        ensures last { result.last ≡ Last.Kept }
     {
         let first = Snapshot::of(&store);
         let lender = store.lender();
@@ -74,7 +86,10 @@ impl Work {
             history: Log::new(),
             places: 0,
             closed: false,
+            last: Last::Kept,
             first,
+            long,
+            due: VecDeque::new(alloc),
         }
     }
 
@@ -84,6 +99,8 @@ impl Work {
         ensures answered { IsAnswered self.old call.now way whose result self.new }
         ensures served { ((a : Answer) → result ≢ Ok (Asked.Ended a))
             → IsServed self.old.store → IsServed self.new.store }
+        ensures awaited { AreAwaited self.old.store self.old.waiters → AreAwaited self.new.store self.new.waiters }
+        ensures hands_out { HandsNothingOut self.old self.new }
         ensures goes_on { GoesOn self.old self.new }
     {
         self.store.law();
@@ -122,12 +139,15 @@ impl Work {
         requires is_open { ∥ HasOpenCall self.old.store ticket call.now ∥₁ }
         requires nobody { waiting_at self.old.waiters ticket.0 ≡ None }
         ensures seated { OnOk result (IsSeated self.old.waiters ticket whose call.now self.new.waiters
-            × (self.new.store ≡ self.old.store) × (self.new.history.items ≡ self.old.history.items)) }
+            × (self.new.store ≡ self.old.store) × (self.new.history.items ≡ self.old.history.items)
+            × (self.new.due.items ≡ self.old.due.items)) }
         ensures asked { IfOk result (λ asked. asked ≡ Asked.Waits ticket) }
         ensures refused { IfErr result (λ why. why ≡ Refused.Memory) }
         ensures left { OnErr result ((self.new.history.items ≡ self.old.history.items ++ (ticket, Became.Left) ∷ [])
-            × WaitAsBefore self.old.waiters self.new.waiters) }
+            × WaitAsBefore self.old.waiters self.new.waiters × (self.new.due.items ≡ self.old.due.items)) }
+        ensures hands_out { HandsNothingOut self.old self.new }
         ensures served { IsServed self.old.store → IsServed self.new.store }
+        ensures awaited { AreAwaited self.old.store self.old.waiters → AreAwaited self.new.store self.new.waiters }
         ensures goes_on { GoesOn self.old self.new }
     {
         if self.waiters.seat(ticket, whose, call).is_ok() {
@@ -147,6 +167,7 @@ impl Work {
         ensures store { self.new.store ≡ self.old.store }
         ensures first { self.new.first.value ≡ self.old.first.value }
         ensures closed { self.new.closed ≡ self.old.closed }
+        ensures last { self.new.last ≡ self.old.last }
     {
         self.waiters.next()
     }
@@ -155,8 +176,10 @@ impl Work {
     pub(crate) fn leave(&mut self, ticket: Ticket) -> Result<(), Refused>
         ensures left { HasLeft self.old ticket result self.new }
         ensures served { IsServed self.old.store → IsServed self.new.store }
+        ensures awaited { AreAwaited self.old.store self.old.waiters → AreAwaited self.new.store self.new.waiters }
         ensures first { self.new.first.value ≡ self.old.first.value }
         ensures closed { self.new.closed ≡ self.old.closed }
+        ensures last { self.new.last ≡ self.old.last }
     {
         if !self.waiters.has(ticket) {
             return Err(Refused::Gone);
@@ -166,10 +189,14 @@ impl Work {
     }
 
     /// The task with the ticket, which is open, is given up, and nobody waits for it.
-    fn give_up(&mut self, ticket: Ticket)
+    pub(crate) fn give_up(&mut self, ticket: Ticket)
         requires is_open { ∥ HasOpen self.old.store ticket ∥₁ }
         ensures given_up { WasGivenUp self.old ticket self.new }
+        ensures store { GivesUp self.old.store ticket (Ok tt) self.new.store }
+        ensures kept { KeepsTasks self.old.store self.new.store }
+        ensures hands_out { HandsNothingOut self.old self.new }
         ensures served { IsServed self.old.store → IsServed self.new.store }
+        ensures awaited { AreAwaited self.old.store self.old.waiters → AreAwaited self.new.store self.new.waiters }
         ensures goes_on { GoesOn self.old self.new }
     {
         self.store.law();
@@ -184,9 +211,12 @@ impl Work {
     pub(crate) fn shut_out(&mut self)
         ensures history { OnlyLeft self.old self.new }
         ensures nobody { (ticket : ℕ) → waiting_at self.new.waiters ticket ≡ None }
+        ensures told { AreShutOut self.old.waiters self.new.waiters }
         ensures served { IsServed self.old.store → IsServed self.new.store }
+        ensures awaited { AreAwaited self.old.store self.old.waiters → AreAwaited self.new.store self.new.waiters }
         ensures first { self.new.first.value ≡ self.old.first.value }
         ensures closed { self.new.closed ≡ true }
+        ensures last { self.new.last ≡ self.old.last }
     {
         self.closed = true;
         while self.shut_one_out() {}
@@ -199,9 +229,12 @@ impl Work {
         ensures fewer { result ≡ true
             → btree_map_len self.new.waiters.calls < btree_map_len self.old.waiters.calls }
         ensures nobody { result ≡ false → (ticket : ℕ) → waiting_at self.new.waiters ticket ≡ None }
+        ensures told { AreShutOut self.old.waiters self.new.waiters }
         ensures served { IsServed self.old.store → IsServed self.new.store }
+        ensures awaited { AreAwaited self.old.store self.old.waiters → AreAwaited self.new.store self.new.waiters }
         ensures first { self.new.first.value ≡ self.old.first.value }
         ensures closed { self.new.closed ≡ self.old.closed }
+        ensures last { self.new.last ≡ self.old.last }
     {
         let Some(ticket) = self.waiters.lowest() else {
             return false;
@@ -215,65 +248,14 @@ impl Work {
         true
     }
 
-    /// Gives the ready tasks their turns, the lowest first, until none is ready: who waits for one is to be told what
-    /// became of it.
-    pub(crate) fn serve(&mut self)
-        ensures served { IsServed self.new.store }
-        ensures waiters { (ticket : ℕ) → waiting_at self.old.waiters ticket ≡ None
-            → waiting_at self.new.waiters ticket ≡ None }
-        ensures goes_on { GoesOn self.old self.new }
-    {
-        while self.turn_next() {}
-    }
-
-    /// The lowest ready task has its turn. `false` and no change where none is ready.
-    fn turn_next(&mut self) -> bool
-        ensures served { result ≡ false → IsServed self.new.store }
-        ensures lighter { result ≡ true → IsLighter self.old.store self.new.store }
-        ensures waiters { (ticket : ℕ) → waiting_at self.old.waiters ticket ≡ None
-            → waiting_at self.new.waiters ticket ≡ None }
-        ensures goes_on { GoesOn self.old self.new }
-    {
-        self.store.law();
-        let Ok(job) = self.store.take() else {
-            return false;
-        };
-        self.store.law();
-        let Some(lender) = &mut self.lender else {
-            unreachable!()
-        };
-        let Ok(end) = self.store.turn(lender, job) else {
-            unreachable!()
-        };
-        match end {
-            End::Entered(entered) => {
-                let answer = answer_of(&job, &entered, self.places);
-                let what = Became::Entered(call_of(&job), entered.outcome);
-                note(&mut self.history, &mut self.places, job.ticket, &what);
-                self.waiters.tell(job.ticket, Ok(answer));
-            }
-            End::Abandoned => {
-                note(
-                    &mut self.history,
-                    &mut self.places,
-                    job.ticket,
-                    &Became::Left,
-                );
-                self.waiters.tell(job.ticket, Err(Refused::Memory));
-            }
-            End::Parked => {}
-        }
-        true
-    }
-
     /// What is so in the midst of a call too, and of those who wait where no task is ready. It does nothing: its
     /// contract is the law.
     pub(crate) fn law(&self)
-        ensures still { IsStill self.now.store }
         ensures lawful { LawfulBook self.now.store.book }
         ensures waits { IsServed self.now.store → (ticket : ℕ) (seat : Waiting)
             → waiting_at self.now.waiters ticket ≡ Some seat
-            → ∥ IsParkedCall self.now.store (record { 0 = ticket }) seat.call.value ∥₁ }
+            → ∥ IsParkedCall self.now.store (record { 0 = ticket }) seat.call.value
+            ⊎ IsRunningCall self.now.store (record { 0 = ticket }) seat.call.value ∥₁ }
         ensures accounts { ∥ Accounts self.now.first.value self.now.store self.now.history.items ∥₁ }
     {
         self.store.law();

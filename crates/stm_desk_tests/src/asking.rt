@@ -9,22 +9,22 @@ use txn::{Outcome, TxId};
 const BUFFER: &[u8] =
     b"(var n 0) (tx get (if (eq n 0) (retry) (set n 0)) 7) (tx put (if (eq n 0) (set n 1) (retry)) 8)";
 
-const GET: TxId = TxId(0);
+pub(crate) const GET: TxId = TxId(0);
 
-const PUT: TxId = TxId(1);
+pub(crate) const PUT: TxId = TxId(1);
 
-fn opened(alloc: Global, room: usize) -> Option<Desk> {
+pub(crate) fn opened(alloc: Global, room: usize) -> Option<Desk> {
     let program = Program::read(alloc, BUFFER).ok()?;
     let tasks = program.catalogue().tasks();
     if tasks != 0 || room > 100 {
         return None;
     }
     let store = Store::open_with_room(alloc, program, 0, 0, room).ok()?;
-    Some(Desk::open(alloc, store))
+    Some(Desk::open(alloc, store, Vec::new(alloc)))
 }
 
 /// The entry of this number in the first chapter.
-fn entry(ticket: u64, value: i64, entry: u64, place: u64) -> Answer {
+pub(crate) fn entry(ticket: u64, value: i64, entry: u64, place: u64) -> Answer {
     Answer {
         ticket: Ticket(ticket),
         outcome: Outcome::Returned(value),

@@ -3,3 +3,7 @@
 
 #[cfg(test)]
 mod asking;
+#[cfg(test)]
+mod ending;
+#[cfg(test)]
+mod long;

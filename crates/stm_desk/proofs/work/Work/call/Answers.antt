@@ -1,7 +1,5 @@
-use Rattle.std.proofs.Common.{◌≡◌, ◌∙◌, ℤ, List, Some, [], ◌∷◌, ◌++◌, refl, slice_get, sym, ap, subst}
+use Rattle.std.proofs.Common.{◌∙◌, ℤ, List, [], ◌∷◌, ◌++◌, refl, sym, ap, subst}
 use Rattle.std.proofs.Math.Logic.{∥∥₁_map}
-use Rattle.book.specs.Tasks.{Running}
-use Rattle.book.specs.View.{BookView}
 use Rattle.stm_store.specs.Turning.{RefusesCall}
 use Rattle.stm_store.specs.declared.job.Ticket.{Ticket}
 use Rattle.stm_desk.specs.declared.answers.Became.TheVariants as became
@@ -10,9 +8,10 @@ use Rattle.stm_desk.specs.History.{History}
 use Rattle.stm_desk.specs.Keeping.{Accounts}
 use Rattle.stm_desk.proofs.Answered.{only_waits, refused_answers, sit_answers}
 use Rattle.stm_desk.proofs.Becoming.{alike_over, unchanged_alike}
-use Rattle.stm_desk.proofs.Calling.{IsCalled, call_abandons, call_enters, call_parked, call_served, call_stays, call_still, is_called, next_is, number_is}
+use Rattle.stm_desk.proofs.Calling.{IsCalled, call_abandons, call_enters, call_parked, call_awaited, call_running, call_served, call_stays, is_called, next_is, number_is}
 use Rattle.stm_desk.proofs.Legal.{accounts_become, accounts_stay, counted_more, place_left}
 use Rattle.stm_desk.proofs.Seats.{AreTold, all_told_on, nobody_new, seated_alike, seated_still, waits_as_before}
+use Rattle.stm_desk.proofs.Settling.{alike_awaited, alike_hands_out}
 use Rattle.stm_desk.proofs.work.Work.call.Goals as goal
 
 -- it was refused
@@ -23,7 +22,6 @@ invariant_of-self c =
     let a = unchanged_alike s.store new c.in-Err.ensures.kept c.in-Err.ensures.called.1 in
     record {
       lends = λ none. absurd (cc (none));
-      still = λ k runs. s.still k (subst (λ (b : BookView). slice_get b.tasks k ≡ Some Running) c.in-Err.ensures.called.1.0 runs);
       counted = s.counted;
       accounts = ∥∥₁_map s.accounts (accounts_stay s.first.value s.store new s.history.items a.kept.store.catalogue a.present (λ t. alike_over s.store new t a));
       seated = seated_alike s.store new s.waiters a s.seated;
@@ -35,22 +33,13 @@ returns-in-Err-clause-answered c =
     let s = c.args.self.now in
     refused_answers s _ c.args.call.now c.args.way c.args.whose c.in-Err.why
     (subst (λ (xs : List ℤ). RefusesCall c.args.way s.store c.args.call.now.tx xs c.in-Err.why) c.as_slice.ensures.value c.in-Err.ensures.called.0)
-    (record { store = c.in-Err.ensures.called.1; waiters = refl; history = refl })
+    (record { store = c.in-Err.ensures.called.1; waiters = refl; history = refl; due = refl })
 
 -- it was entered
 pub note-requires : goal.note-requires
 note-requires c =
     let s = c.args.self.now in
     place_left s.first.value s.store s.history.items s.places s.counted c.law.ensures.tickets s.accounts
-
-pub invariant_of-self-in-Entered-clause-still : goal.invariant_of-self-in-Entered-clause-still
-invariant_of-self-in-Entered-clause-still c =
-    let s = c.args.self.now in
-    let new = c.call-called.new.self in
-    let call = c.args.call.now in
-    let job = c.in-Ok.turn.0 in
-    let is = is_called s.store c.call-called.new.self c.args.call.now c.as_slice.result.now c.in-Ok.turn.0 c.in-Ok.turn.1 c.as_slice.ensures.value c.law.ensures.declared c.law.ensures.fits c.law.ensures.each c.law.ensures.tickets c.in-Ok.ensures.kept c.in-Ok.ensures.called.0 in
-    call_still s.store new call job c.in-Ok.turn.1 is s.still
 
 pub invariant_of-self-in-Entered-clause-counted : goal.invariant_of-self-in-Entered-clause-counted
 invariant_of-self-in-Entered-clause-counted c =
@@ -107,6 +96,8 @@ returns-in-Entered-clause-answered c =
       entry = ap (λ (a : Answer). a.entry) told ∙ number_is s.store new call job e (subst (IsCalled s.store new call job) c.in-Entered.is is);
       place = ap (λ (a : Answer). a.place) told ∙ s.counted;
       history = c.note.ensures.history ∙ ap (λ (a : Answer). s.history.items ++ (a.ticket, became.Entered call a.outcome) ∷ []) (sym told);
+      waiters = refl;
+      due = refl;
     }
 
 pub returns-in-Entered-clause-served : goal.returns-in-Entered-clause-served
@@ -117,15 +108,6 @@ pub note-requires-in-Abandoned : goal.note-requires-in-Abandoned
 note-requires-in-Abandoned c =
     let s = c.args.self.now in
     place_left s.first.value s.store s.history.items s.places s.counted c.law.ensures.tickets s.accounts
-
-pub invariant_of-self-in-Abandoned-clause-still : goal.invariant_of-self-in-Abandoned-clause-still
-invariant_of-self-in-Abandoned-clause-still c =
-    let s = c.args.self.now in
-    let new = c.call-called.new.self in
-    let call = c.args.call.now in
-    let job = c.in-Ok.turn.0 in
-    let is = is_called s.store c.call-called.new.self c.args.call.now c.as_slice.result.now c.in-Ok.turn.0 c.in-Ok.turn.1 c.as_slice.ensures.value c.law.ensures.declared c.law.ensures.fits c.law.ensures.each c.law.ensures.tickets c.in-Ok.ensures.kept c.in-Ok.ensures.called.0 in
-    call_still s.store new call job c.in-Ok.turn.1 is s.still
 
 pub invariant_of-self-in-Abandoned-clause-counted : goal.invariant_of-self-in-Abandoned-clause-counted
 invariant_of-self-in-Abandoned-clause-counted c =
@@ -171,7 +153,11 @@ returns-in-Abandoned-clause-answered c =
     let call = c.args.call.now in
     let job = c.in-Ok.turn.0 in
     let is = is_called s.store c.call-called.new.self c.args.call.now c.as_slice.result.now c.in-Ok.turn.0 c.in-Ok.turn.1 c.as_slice.ensures.value c.law.ensures.declared c.law.ensures.fits c.law.ensures.each c.law.ensures.tickets c.in-Ok.ensures.kept c.in-Ok.ensures.called.0 in
-    (c.note-in-Abandoned.ensures.history ∙ ap (λ (t : Ticket). s.history.items ++ (t, became.Left) ∷ []) (next_is s.store new call job c.in-Ok.turn.1 is), waits_as_before s.waiters)
+    record {
+      history = c.note-in-Abandoned.ensures.history ∙ ap (λ (t : Ticket). s.history.items ++ (t, became.Left) ∷ []) (next_is s.store new call job c.in-Ok.turn.1 is);
+      waiters = waits_as_before s.waiters;
+      due = refl;
+    }
 
 pub returns-in-Abandoned-clause-served : goal.returns-in-Abandoned-clause-served
 returns-in-Abandoned-clause-served c apart =
@@ -183,15 +169,6 @@ returns-in-Abandoned-clause-served c apart =
     call_served s.store new call job c.in-Ok.turn.1 is (λ e same. absurd (cc (same, c.in-Abandoned.is)))
 
 -- it waits
-pub invariant_of-self-in-Parked-clause-still : goal.invariant_of-self-in-Parked-clause-still
-invariant_of-self-in-Parked-clause-still c =
-    let s = c.args.self.now in
-    let new = c.call-called.new.self in
-    let call = c.args.call.now in
-    let job = c.in-Ok.turn.0 in
-    let is = is_called s.store c.call-called.new.self c.args.call.now c.as_slice.result.now c.in-Ok.turn.0 c.in-Ok.turn.1 c.as_slice.ensures.value c.law.ensures.declared c.law.ensures.fits c.law.ensures.each c.law.ensures.tickets c.in-Ok.ensures.kept c.in-Ok.ensures.called.0 in
-    call_still s.store new call job c.in-Ok.turn.1 is s.still
-
 pub invariant_of-self-in-Parked-clause-seated : goal.invariant_of-self-in-Parked-clause-seated
 invariant_of-self-in-Parked-clause-seated c =
     let s = c.args.self.now in
@@ -245,3 +222,49 @@ returns-in-Parked-clause-served c apart served =
     let job = c.in-Ok.turn.0 in
     let is = is_called s.store c.call-called.new.self c.args.call.now c.as_slice.result.now c.in-Ok.turn.0 c.in-Ok.turn.1 c.as_slice.ensures.value c.law.ensures.declared c.law.ensures.fits c.law.ensures.each c.law.ensures.tickets c.in-Ok.ensures.kept c.in-Ok.ensures.called.0 in
     c.sit.ensures.served (call_served s.store new call job c.in-Ok.turn.1 is (λ e same. absurd (cc (same, c.in-Parked.is))) served)
+
+-- for each that runs a call waits, and nothing is handed out
+pub returns-in-Err-clause-awaited : goal.returns-in-Err-clause-awaited
+returns-in-Err-clause-awaited c =
+    let s = c.args.self.now in
+    alike_awaited s.store c.call-called.new.self s.waiters s.waiters c.in-Err.ensures.called.1.0 c.in-Err.ensures.called.1.1 (λ t some. some)
+
+pub returns-in-Err-clause-hands_out : goal.returns-in-Err-clause-hands_out
+returns-in-Err-clause-hands_out c = alike_hands_out _ _ refl refl c.in-Err.ensures.called.1.0
+
+pub returns-in-Entered-clause-awaited : goal.returns-in-Entered-clause-awaited
+returns-in-Entered-clause-awaited c =
+    let s = c.args.self.now in
+    let is = is_called s.store c.call-called.new.self c.args.call.now c.as_slice.result.now c.in-Ok.turn.0 c.in-Ok.turn.1 c.as_slice.ensures.value c.law.ensures.declared c.law.ensures.fits c.law.ensures.each c.law.ensures.tickets c.in-Ok.ensures.kept c.in-Ok.ensures.called.0 in
+    call_awaited s.store c.call-called.new.self s.waiters s.waiters c.args.call.now c.in-Ok.turn.0 c.in-Ok.turn.1 is (λ t some. some)
+
+pub returns-in-Entered-clause-hands_out : goal.returns-in-Entered-clause-hands_out
+returns-in-Entered-clause-hands_out c =
+    let s = c.args.self.now in
+    let is = is_called s.store c.call-called.new.self c.args.call.now c.as_slice.result.now c.in-Ok.turn.0 c.in-Ok.turn.1 c.as_slice.ensures.value c.law.ensures.declared c.law.ensures.fits c.law.ensures.each c.law.ensures.tickets c.in-Ok.ensures.kept c.in-Ok.ensures.called.0 in
+    record { due = refl; long = refl; runs = λ k r. call_running s.store c.call-called.new.self c.args.call.now c.in-Ok.turn.0 c.in-Ok.turn.1 k is r }
+
+pub returns-in-Abandoned-clause-awaited : goal.returns-in-Abandoned-clause-awaited
+returns-in-Abandoned-clause-awaited c =
+    let s = c.args.self.now in
+    let is = is_called s.store c.call-called.new.self c.args.call.now c.as_slice.result.now c.in-Ok.turn.0 c.in-Ok.turn.1 c.as_slice.ensures.value c.law.ensures.declared c.law.ensures.fits c.law.ensures.each c.law.ensures.tickets c.in-Ok.ensures.kept c.in-Ok.ensures.called.0 in
+    call_awaited s.store c.call-called.new.self s.waiters s.waiters c.args.call.now c.in-Ok.turn.0 c.in-Ok.turn.1 is (λ t some. some)
+
+pub returns-in-Abandoned-clause-hands_out : goal.returns-in-Abandoned-clause-hands_out
+returns-in-Abandoned-clause-hands_out c =
+    let s = c.args.self.now in
+    let is = is_called s.store c.call-called.new.self c.args.call.now c.as_slice.result.now c.in-Ok.turn.0 c.in-Ok.turn.1 c.as_slice.ensures.value c.law.ensures.declared c.law.ensures.fits c.law.ensures.each c.law.ensures.tickets c.in-Ok.ensures.kept c.in-Ok.ensures.called.0 in
+    record { due = refl; long = refl; runs = λ k r. call_running s.store c.call-called.new.self c.args.call.now c.in-Ok.turn.0 c.in-Ok.turn.1 k is r }
+
+pub returns-in-Parked-clause-awaited : goal.returns-in-Parked-clause-awaited
+returns-in-Parked-clause-awaited c all =
+    let s = c.args.self.now in
+    let is = is_called s.store c.call-called.new.self c.args.call.now c.as_slice.result.now c.in-Ok.turn.0 c.in-Ok.turn.1 c.as_slice.ensures.value c.law.ensures.declared c.law.ensures.fits c.law.ensures.each c.law.ensures.tickets c.in-Ok.ensures.kept c.in-Ok.ensures.called.0 in
+    c.sit.ensures.awaited (call_awaited s.store c.call-called.new.self s.waiters s.waiters c.args.call.now c.in-Ok.turn.0 c.in-Ok.turn.1 is (λ t some. some) all)
+
+pub returns-in-Parked-clause-hands_out : goal.returns-in-Parked-clause-hands_out
+returns-in-Parked-clause-hands_out c =
+    let s = c.args.self.now in
+    let is = is_called s.store c.call-called.new.self c.args.call.now c.as_slice.result.now c.in-Ok.turn.0 c.in-Ok.turn.1 c.as_slice.ensures.value c.law.ensures.declared c.law.ensures.fits c.law.ensures.each c.law.ensures.tickets c.in-Ok.ensures.kept c.in-Ok.ensures.called.0 in
+    let sat = c.sit.ensures.hands_out in
+    record { due = sat.due; long = sat.long; runs = λ k r. call_running s.store c.call-called.new.self c.args.call.now c.in-Ok.turn.0 c.in-Ok.turn.1 k is (sat.runs k r) }

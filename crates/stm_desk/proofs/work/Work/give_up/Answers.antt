@@ -1,11 +1,12 @@
-use Rattle.std.proofs.Common.{sym, subst}
+use Rattle.std.proofs.Common.{refl, sym, subst}
 use Rattle.std.proofs.Math.Logic.{∥∥₁_map}
 use Rattle.stm_desk.specs.declared.answers.Became.TheVariants as became
 use Rattle.stm_desk.specs.History.{History}
 use Rattle.stm_desk.specs.Keeping.{Accounts}
-use Rattle.stm_desk.proofs.Becoming.{gives_up, gives_up_served, gives_up_still, open_gives_up}
+use Rattle.stm_desk.proofs.Becoming.{gives_up, gives_up_served, open_gives_up}
 use Rattle.stm_desk.proofs.Legal.{accounts_become, counted_more, place_left}
 use Rattle.stm_desk.proofs.Seats.{AreTold, all_told_on, seated_but}
+use Rattle.stm_desk.proofs.Settling.{gives_up_awaited, gives_up_running}
 use Rattle.stm_desk.proofs.work.Work.give_up.Goals as goal
 
 pub unreachable-requires : goal.unreachable-requires
@@ -16,10 +17,6 @@ pub note-requires : goal.note-requires
 note-requires c =
     let s = c.args.self.now in
     place_left s.first.value s.store s.history.items s.places s.counted c.law.ensures.tickets s.accounts
-
-pub invariant_of-self-clause-still : goal.invariant_of-self-clause-still
-invariant_of-self-clause-still c =
-    gives_up_still c.args.self.now.store c.give_up.new.self c.args.ticket c.in-Ok.ensures.given_up c.args.self.now.still
 
 pub invariant_of-self-clause-counted : goal.invariant_of-self-clause-counted
 invariant_of-self-clause-counted c =
@@ -52,3 +49,13 @@ invariant_of-self-clause-told c =
 
 pub returns-clause-served : goal.returns-clause-served
 returns-clause-served c = gives_up_served c.args.self.now.store c.give_up.new.self c.args.ticket c.in-Ok.ensures.given_up
+
+pub returns-clause-awaited : goal.returns-clause-awaited
+returns-clause-awaited c =
+    let s = c.args.self.now in
+    gives_up_awaited s.store c.give_up.new.self s.waiters c.leave-waited.new.self c.args.ticket c.in-Ok.ensures.kept c.law.ensures.tickets c.in-Ok.ensures.given_up c.leave-waited.ensures.others
+
+pub returns-clause-hands_out : goal.returns-clause-hands_out
+returns-clause-hands_out c =
+    let s = c.args.self.now in
+    record { due = refl; long = refl; runs = λ k r. (gives_up_running s.store c.give_up.new.self c.args.ticket k c.in-Ok.ensures.given_up r).0 }

@@ -6,4 +6,4 @@ use Rattle.stm_desk.proofs.work.Work.law.Goals as goal
 pub returns-clause-waits : goal.returns-clause-waits
 returns-clause-waits c served t seat at =
     let s = c.args.self.now in
-    ∥∥₁_map (s.seated t seat at) (parked_call s.store (ticket t) seat.call.value served s.still)
+    ∥∥₁_map (s.seated t seat at) (parked_call s.store (ticket t) seat.call.value served)

@@ -1,11 +1,13 @@
-use Rattle.std.proofs.Common.{sym, subst}
+use Rattle.std.proofs.Common.{refl, sym, subst}
 use Rattle.std.proofs.Math.Logic.{∥∥₁_map}
 use Rattle.stm_desk.specs.declared.answers.Became.TheVariants as became
 use Rattle.stm_desk.specs.History.{History}
 use Rattle.stm_desk.specs.Keeping.{Accounts}
-use Rattle.stm_desk.proofs.Becoming.{gives_up, gives_up_served, gives_up_still, open_gives_up}
+use Rattle.stm_desk.proofs.Becoming.{gives_up, gives_up_served, open_gives_up}
+use Rattle.stm_desk.proofs.Handing.{shut_nothing, shut_told}
 use Rattle.stm_desk.proofs.Legal.{accounts_become, counted_more, place_left}
 use Rattle.stm_desk.proofs.Seats.{seated_but, told_shut, waits_open}
+use Rattle.stm_desk.proofs.Settling.{gives_up_awaited}
 use Rattle.stm_desk.proofs.work.Work.shut_one_out.Goals as goal
 
 pub unreachable-requires : goal.unreachable-requires
@@ -17,10 +19,6 @@ pub note-requires : goal.note-requires
 note-requires c =
     let s = c.args.self.now in
     place_left s.first.value s.store s.history.items s.places s.counted c.law.ensures.tickets s.accounts
-
-pub invariant_of-self-clause-still : goal.invariant_of-self-clause-still
-invariant_of-self-clause-still c =
-    gives_up_still c.args.self.now.store c.give_up.new.self c.in-Some.ticket c.in-Ok.ensures.given_up c.args.self.now.still
 
 pub invariant_of-self-clause-counted : goal.invariant_of-self-clause-counted
 invariant_of-self-clause-counted c =
@@ -49,3 +47,14 @@ invariant_of-self-clause-told c =
 
 pub returns-clause-served : goal.returns-clause-served
 returns-clause-served c = gives_up_served c.args.self.now.store c.give_up.new.self c.in-Some.ticket c.in-Ok.ensures.given_up
+
+pub returns-in_default-clause-told : goal.returns-in_default-clause-told
+returns-in_default-clause-told c = shut_nothing c.args.self.now.waiters c.args.self.now.waiters refl
+
+pub returns-clause-told : goal.returns-clause-told
+returns-clause-told c = shut_told c.args.self.now.waiters c.tell.new.self c.in-Some.ticket c.tell.ensures.gone c.tell.ensures.others c.tell.ensures.told
+
+pub returns-clause-awaited : goal.returns-clause-awaited
+returns-clause-awaited c =
+    let s = c.args.self.now in
+    gives_up_awaited s.store c.give_up.new.self s.waiters c.tell.new.self c.in-Some.ticket c.in-Ok.ensures.kept c.law.ensures.tickets c.in-Ok.ensures.given_up c.tell.ensures.others

@@ -1,0 +1,9 @@
+use Rattle.stm_desk.proofs.Handing.{hands_both}
+use Rattle.stm_desk.proofs.Settling.{keeps_both}
+use Rattle.stm_desk.proofs.desk.Desk.bring.Goals as goal
+
+pub returns-clause-hands_on : goal.returns-clause-hands_on
+returns-clause-hands_on c = hands_both _ _ _ c.in_ok-bring.ensures.hands_on c.serve.ensures.hands_on
+
+pub returns-clause-kept : goal.returns-clause-kept
+returns-clause-kept c = keeps_both _ _ _ c.in_ok-bring.ensures.kept c.serve.ensures.kept

@@ -1,0 +1,132 @@
+//! The chapters of a desk.
+
+ghost use Rattle.std.specs.Prelude.{◌≡◌, ℕ, None, IfErr, IfOk, OnErr};
+ghost use Rattle.stm_store.specs.declared.answers.Refused.TheVariants as Refused;
+ghost use Rattle.stm_desk.specs.Asking.{IsServed, IsStill};
+ghost use Rattle.stm_desk.specs.Ending.{EndsChapter, EndsNow, IsTurnedAway, TakesBack};
+ghost use Rattle.stm_desk.specs.History.{Begins};
+ghost use Rattle.stm_desk.specs.Running.{AreAwaited};
+ghost use Rattle.stm_desk.specs.Waiting.{waiting_at};
+ghost use Rattle.stm_desk.specs.declared.ended.Last.TheVariants as Last;
+
+use crate::answers::Asked;
+use crate::desk::Desk;
+use crate::ended::{Ended, Last, ended_now};
+use crate::work::Work;
+use stm_store::Refused;
+
+impl Desk {
+    /// The present chapter ends: what is long and runs has its turn here, the host gets the chapter's file and its
+    /// report, to keep them, and the next chapter begins, in which who waits waits on. A closed desk's last chapter
+    /// ends so too.
+    ///
+    /// It is one chapter at a time: the host says by `kept` or `not_kept` how it went. `NotEnded` and no change exactly
+    /// where it did not say so yet; where the chapter before was not kept it is given again, and nothing else changes.
+    /// `Memory`: a growth was refused, and the chapter goes on; what ran has had its turn.
+    pub fn end_chapter(&mut self) -> Result<Ended, Refused>
+        ensures ended { EndsChapter self.old.work result self.new.work }
+        ensures history { Begins self.old.work.history.items self.new.work.history.items }
+        ensures first { self.new.work.first.value ≡ self.old.work.first.value }
+        ensures closed { self.new.work.closed ≡ self.old.work.closed }
+    {
+        self.work.end_chapter()
+    }
+
+    /// The host kept the chapter: it is over. `Err`, and nothing changed, where it is not the one that the host has of
+    /// this desk.
+    pub fn kept(&mut self, ended: Ended) -> Result<(), Ended>
+        ensures { TakesBack self.old.work ended Last.Kept result self.new.work }
+    {
+        self.work.kept(ended)
+    }
+
+    /// The host did not keep the chapter: `end_chapter` gives it again. `Err`, and nothing changed, where it is not the
+    /// one that the host has of this desk.
+    pub fn not_kept(&mut self, ended: Ended) -> Result<(), Ended>
+        ensures { TakesBack self.old.work ended (Last.NotKept ended) result self.new.work }
+    {
+        self.work.not_kept(ended)
+    }
+}
+
+impl Work {
+    /// As of a desk.
+    pub(crate) fn end_chapter(&mut self) -> Result<Ended, Refused>
+        ensures ended { EndsChapter self.old result self.new }
+        ensures served { IsServed self.old.store → IsServed self.new.store }
+        ensures awaited { AreAwaited self.old.store self.old.waiters → AreAwaited self.new.store self.new.waiters }
+        ensures nobody { (ticket : ℕ) → waiting_at self.old.waiters ticket ≡ None
+            → waiting_at self.new.waiters ticket ≡ None }
+        ensures history { Begins self.old.history.items self.new.history.items }
+        ensures first { self.new.first.value ≡ self.old.first.value }
+        ensures closed { self.new.closed ≡ self.old.closed }
+    {
+        if self.last.is_any_out() {
+            return Err(Refused::NotEnded);
+        }
+        if let Some(ended) = self.last.again() {
+            return Ok(ended);
+        }
+        self.serve_all();
+        self.begin_next()
+    }
+
+    /// The present chapter, of which no task is ready or runs, ends, and the next one begins. `Memory`: nothing
+    /// changed.
+    fn begin_next(&mut self) -> Result<Ended, Refused>
+        requires served { IsServed self.old.store }
+        requires still { IsStill self.old.store }
+        requires kept { self.old.last ≡ Last.Kept }
+        ensures ended { IfOk result (λ e. EndsNow self.old e self.new) }
+        ensures out { IfOk result (λ e. self.new.last ≡ Last.Out e.chapter) }
+        ensures memory { IfErr result (λ why. why ≡ Refused.Memory) }
+        ensures unchanged { OnErr result (self.new ≡ self.old) }
+        ensures served { IsServed self.new.store }
+        ensures still { IsStill self.new.store }
+        ensures waiters { self.new.waiters ≡ self.old.waiters }
+        ensures history { self.new.history.items ≡ self.old.history.items }
+        ensures first { self.new.first.value ≡ self.old.first.value }
+        ensures closed { self.new.closed ≡ self.old.closed }
+    {
+        let Ok(ended) = ended_now(&self.store) else {
+            return Err(Refused::Memory);
+        };
+        self.store.law();
+        self.store.begin_chapter();
+        self.due.clear();
+        self.last = Last::Out(ended.chapter);
+        Ok(ended)
+    }
+
+    /// As of a desk.
+    pub(crate) fn kept(&mut self, ended: Ended) -> Result<(), Ended>
+        ensures { TakesBack self.old ended Last.Kept result self.new }
+    {
+        if !self.last.is_out(ended.chapter) {
+            return Err(ended);
+        }
+        self.last = Last::Kept;
+        Ok(())
+    }
+
+    /// As of a desk.
+    pub(crate) fn not_kept(&mut self, ended: Ended) -> Result<(), Ended>
+        ensures { TakesBack self.old ended (Last.NotKept ended) result self.new }
+    {
+        if !self.last.is_out(ended.chapter) {
+            return Err(ended);
+        }
+        self.last = Last::NotKept(ended);
+        Ok(())
+    }
+
+    /// What a call is answered for which the chapter has no room.
+    pub(crate) fn turned_away(&self) -> Result<Asked, Refused>
+        ensures { IsTurnedAway self.now result }
+    {
+        if !self.last.is_not_kept() && self.store.has_room_next() {
+            return Ok(Asked::ChapterFull);
+        }
+        Err(Refused::NoRoom)
+    }
+}
