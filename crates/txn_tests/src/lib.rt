@@ -20,6 +20,8 @@ mod params;
 #[cfg(test)]
 mod parts;
 #[cfg(test)]
+mod registers;
+#[cfg(test)]
 mod same;
 #[cfg(test)]
 mod tables;
