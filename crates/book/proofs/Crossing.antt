@@ -4,7 +4,7 @@
 use denote.RattleType.{RattleType}
 use denote.Ref.{NamedLft}
 use denote.Param.Send.{IsSend, IsSync, sendable}
-use denote.Param.SendFields.{variants_sync, declared_sync}
+use denote.Param.SendFields.{variants_sync, declared_send, declared_sync}
 use denote.Hole.FixSend.{fix_sync}
 use denote.Hole.FixLaws.{layer_row}
 use Rattle.std.proofs.Crossing.{crosses, Box-sync, Vec-sync}
@@ -23,12 +23,16 @@ use Rattle.txn_programs.proofs.ast.Span.TheSendSync as span
 use Rattle.txn.specs.contracts.catalogue.Catalogue as catalogue
 use Rattle.cells.proofs.Crossing.{publisher_send, shared_send}
 use Rattle.book.proofs.since.Since.TheSendSync as since
+use Rattle.book.proofs.steps.Steps.TheSendSync as steps
 use Rattle.book.proofs.stored.Stored.TheSendSync as stored
 use Rattle.book.proofs.task.Slot.TheSendSync as slot
 use Rattle.book.proofs.table.TaskTable.TheSendSync as table
 use Rattle.book_storage.proofs.packed_entry.PackedEntry.TheSendSync as line
 use Rattle.txn_programs.proofs.code.Op.TheSendSync as op
 use Rattle.txn_programs.proofs.arguments.Call.TheSendSync as call
+use Rattle.book.proofs.calls.Calls.TheSendSync as calls
+use Rattle.book.specs.contracts.chapter.Chapter as chapter
+use Rattle.book.specs.contracts.chapter.Chapter.TheInside as inside
 use Rattle.book.specs.contracts.book.Book as book
 
 step_expr : (h : ek.the_members → RattleType) → ((j : ek.the_members) → IsSync (h j)) → IsSync (layer_row ek.ring member-Expr h)
@@ -103,5 +107,14 @@ tx_sync = declared_sync tx.the_type (search (sendable, crosses) depth 20, (searc
 pub catalogue_sync : IsSync catalogue.the_row
 catalogue_sync = let t = tx_sync in let c = cond_sync in let o = op.the_sync in let a = call.the_sync in search (sendable, crosses, maps.crosses) depth 80 fits 6000
 
+inside_send : (ℓ : NamedLft) → IsSend (inside.the_row ℓ)
+inside_send ℓ = let a = catalogue_sync in declared_send (inside.the_type ℓ) (
+  search (sendable, crosses) depth 20,
+  (search sendable, (search (sendable, crosses) depth 20, (calls.the_send, (steps.the_send, tt)))),
+)
+
+chapter_send : (ℓ : NamedLft) → IsSend (chapter.the_row ℓ)
+chapter_send ℓ = let i = inside_send ℓ in search (sendable, crosses) depth 20
+
 pub book_send : (ℓ : NamedLft) → IsSend (book.the_row ℓ)
-book_send ℓ = let a = catalogue_sync in let b = shared_send in let c = publisher_send in let d = stored.the_send in let e = slot.the_send in let f = line.the_send in let h = table.the_send in let i = since.the_send in search (sendable, crosses) depth 60
+book_send ℓ = let a = chapter_send ℓ in let b = shared_send in let c = publisher_send in let d = stored.the_send in let e = slot.the_send in let f = line.the_send in let h = table.the_send in let i = since.the_send in search (sendable, crosses) depth 60

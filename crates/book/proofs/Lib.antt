@@ -33,6 +33,7 @@ mod Carrying
 mod Parking
 pub mod Staying
 mod Programs
+mod Compiling
 mod Given
 mod TaskCalls
 mod Listings

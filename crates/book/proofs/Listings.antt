@@ -8,7 +8,7 @@ use Rattle.txn_programs.specs.declared.arguments.Call.{Call}
 use Rattle.txn_programs.specs.declared.ast.TxId.{TxId}
 use Rattle.txn_programs.specs.Meaning.{State}
 use Rattle.txn_programs.specs.declared.ast.TaskId.{TaskId}
-use Rattle.txn_programs.specs.Listing.{Listing, calls, tasks, task_arguments, IsCallable}
+use Rattle.txn_programs.specs.Listing.{Listing, calls, tasks, task_tx, task_arguments, task_program, call_program, IsCallable}
 use Rattle.txn_programs.proofs.Lawful.{task_calls}
 use Rattle.txn_programs.specs.Names.{names_hold}
 use Rattle.txn_programs.specs.Limits.{limits_hold, most_tasks}
@@ -99,3 +99,12 @@ known_own c v t tx view all known own =
     let call : Call = record { tx = tx; arguments = task_arguments l t } in
     let at : slice_get (calls l) t.0 ≡ Some call = task_calls l t tx own in
     subst (λ (x : Call). IsCallable l x.tx x.arguments) (get_or_from_slice_get (calls l) t.0 call call at) (there t.0 call (slice_get_within (calls l) t.0 call at))
+
+-- what a task calls is its program, by the catalogue that was opened
+pub program_own : (c : Inside) (v : ChapterView) (t : TaskId) (tx : TxId) (given : List ℤ) → chapter_view c ≡ v → calls (listing_of c) ≡ c.calls.calls → slice_get (map (λ (x : Call). x.tx) c.calls.calls) t.0 ≡ Some tx → slice_get (map (λ (x : Call). x.arguments) c.calls.calls) t.0 ≡ Some given → call_program c.opened.now tx given ≡ task_program v.listing t
+program_own c v t tx given view all read read_given =
+    let l = v.listing in
+    let own : task_tx l t ≡ tx = get_or_from_slice_get (tasks l) t.0 tx (record { 0 = 0 }) (tx_own c v t.0 tx view all read) in
+    let own_given : task_arguments l t ≡ given = get_or_from_slice_get (map (λ (x : Call). x.arguments) (calls l)) t.0 given [] (given_own c v t.0 given view all read_given) in
+    ap (λ (x : ChapterView). call_program x.listing tx given) view
+    ∙ (ap (λ (x : TxId). call_program l x given) (sym own) ∙ ap (λ (xs : List ℤ). call_program l (task_tx l t) xs) (sym own_given))

@@ -1,5 +1,5 @@
 -- What a run noted, told as writes: stored in the state before it they give the state after it.
-use Rattle.std.proofs.Common.{◌≡◌, ◌≢◌, ℕ, zero, suc, ◌+◌, ◌<◌, ◌≤◌, ℤ, pos, List, [], ◌∷◌, length, map, get_or, set, sym, refl, ◌∙◌, ap, subst, arith, ⊎_elim, true, false, ◌==◌}
+use Rattle.std.proofs.Common.{◌≡◌, ◌≢◌, ℕ, zero, suc, ◌<◌, ◌≤◌, pos, List, [], ◌∷◌, length, map, get_or, set, sym, refl, ◌∙◌, ap, subst, arith, ⊎_elim, true, false, ◌==◌}
 use Rattle.std.specs.List.{All, AllByRecursion, Contains}
 use Rattle.std.specs.List.Sorted.{IsStrictlySortedBy}
 use Rattle.std.specs.Ordering.{nat_cmp}

@@ -6,6 +6,7 @@ pub mod Waiting
 pub mod Chapters
 pub mod Openings
 pub mod Changed
+pub mod Steps
 pub mod ChapterInside
 pub mod BookInside
 pub mod Written

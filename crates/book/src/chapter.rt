@@ -1,25 +1,29 @@
 //! The catalogue of a chapter: what the catalogue that the book was opened on declares, the values at
 //! which the chapter begins, and the calls of its tasks.
 
-ghost use Rattle.std.specs.Prelude.{true, IsTrue, ◌↔◌, ◌≡◌, ◌<◌, ◌≤◌, ◌++◌, ◌∷◌, [], length, map, drop, IfOk};
+ghost use Rattle.std.specs.Prelude.{true, IsTrue, ◌↔◌, ◌≡◌, ◌<◌, ◌≤◌, ◌++◌, ◌∷◌, [], length, map, drop, IfOk, OnOk};
 ghost use Rattle.std.specs.Prelude.{Some, slice_get, vec_capacity};
 ghost use Rattle.txn_programs.specs.declared.limits.TheConstants.{MAX_TASKS};
-ghost use Rattle.txn_programs.specs.Listing.{values, calls, tasks, task_tx, task_arguments, IsCallable};
+ghost use Rattle.txn_programs.specs.Listing.{values, calls, tasks, task_tx, task_arguments, task_program, IsCallable};
+ghost use Rattle.txn_programs.specs.Meaning.{outcome, after};
 ghost use Rattle.txn_programs.specs.Standing.{Upholds};
 ghost use Rattle.txn_programs.specs.Names.{names_hold};
 ghost use Rattle.txn_programs.specs.Limits.{limits_hold};
 ghost use Rattle.txn.specs.Grown.{grown, SameProgram};
+ghost use Rattle.txn_evaluator.specs.Notes.{undone, AreInside};
 ghost use Rattle.book.specs.Standings.{bare};
 ghost use Rattle.book.specs.Carrying.{carried, staying};
 ghost use Rattle.book.specs.ChapterInside.{one_each, HoldsEach};
 ghost use Rattle.txn.specs.Values.{begun};
 
 use crate::calls::Calls;
+use crate::steps::{Steps, execute_call, steps_of};
 use crate::task::Slot;
 use std::alloc::{AllocError, Global};
 use std::marker::Model;
-use txn::{Call, Catalogue, Memory, TaskId, TxId, begun};
+use txn::{Call, Catalogue, Memory, Outcome, TaskId, TxId, begun};
 use txn_declarations::same::{same_runs, same_values};
+use txn_evaluator::notes::Note;
 
 /// The catalogue of a chapter. A clause sees what it lists, and for how many tasks there is room.
 #[derive(Drop)]
@@ -32,6 +36,8 @@ pub struct Chapter<'a> {
     later: Vec<i64>,
     /// What each task calls.
     calls: Calls,
+    /// The steps of that catalogue, which are those of every chapter.
+    steps: Steps,
 }
 
 impl<'a> Model for Chapter<'a> {
@@ -68,6 +74,7 @@ impl<'a> Chapter<'a> {
             is_first: true,
             later: Vec::with_capacity(alloc, opened.initial().len())?,
             calls: calls_of(alloc, opened, room)?,
+            steps: steps_of(alloc, opened)?,
         })
     }
 
@@ -108,6 +115,29 @@ impl<'a> Chapter<'a> {
         ensures each { IsCallable self.now.listing (task_tx self.now.listing task) result.now }
     {
         self.calls.arguments(task.0 as usize)
+    }
+
+    /// How a task ends on the values, where the values after it stand then, and the notes hold what it wrote.
+    #[inline(always)]
+    pub fn execute(
+        &mut self,
+        task: TaskId,
+        values: &mut Vec<i64>,
+        notes: &mut Vec<Note>,
+    ) -> Result<Outcome, AllocError>
+        requires exists { task.0 < length (tasks self.old.listing) }
+        requires values { length values.old.items ≡ length self.old.listing.initial }
+        ensures same { self.new ≡ self.old }
+        ensures outcome { IfOk result (λ o. o ≡ outcome (task_program self.old.listing task) values.old.items) }
+        ensures after { OnOk result (values.new.items ≡ after (task_program self.old.listing task) values.old.items) }
+        ensures undone { undone notes.new.items values.new.items ≡ values.old.items }
+        ensures inside { AreInside (length values.new.items) notes.new.items }
+        ensures sized { length values.new.items ≡ length values.old.items }
+    {
+        let place = task.0 as usize;
+        let tx = self.calls.transaction(place);
+        let arguments = self.calls.arguments(place);
+        execute_call(&mut self.steps, self.opened, tx, arguments, values, notes)
     }
 
     /// A task of the transaction with these arguments more, for which there is room.

@@ -20,6 +20,7 @@ mod plain_turn;
 mod since;
 mod sleepers;
 mod standing;
+mod steps;
 mod stored;
 mod table;
 mod task;

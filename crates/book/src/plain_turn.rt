@@ -1,10 +1,8 @@
 //! Turns by plain evaluation: a transaction is evaluated in place on the present values, and no log is kept.
 
-ghost use Rattle.std.specs.Prelude.{◌≡◌, ◌<◌, ◌≤◌, length, IfOk, IfErr, OnOk, OnErr};
+ghost use Rattle.std.specs.Prelude.{◌≡◌, ◌<◌, ◌≤◌, length, IfOk, IfErr, OnErr};
 ghost use Rattle.txn_programs.specs.declared.limits.TheConstants.{MAX_VALUES};
-ghost use Rattle.txn_programs.specs.Listing.{IsCallable, call_program, task_tx};
-ghost use Rattle.txn_programs.specs.Meaning.{outcome, after};
-ghost use Rattle.txn_evaluator.specs.Notes.{undone, AreInside};
+ghost use Rattle.txn_programs.specs.Listing.{tasks, task_tx, task_arguments};
 ghost use Rattle.attempt.specs.Room.{TakesMemory};
 ghost use Rattle.book.specs.Turns.{CommitsAs, IsNotPlain, Served, TaskEndsPlainly};
 ghost use Rattle.book.specs.View.{IsRunning};
@@ -17,54 +15,25 @@ use crate::written::Written;
 use attempt::Attempt;
 use std::alloc::AllocError;
 use std::mem;
-use txn::{Catalogue, Outcome, TaskId, TxId, VarId, evaluate};
-use txn_evaluator::notes::{Note, undo};
+use txn::{Outcome, TaskId, VarId};
+use txn_evaluator::notes::undo;
 
-/// How a transaction ends with these arguments on the values, where the values after it stand then, and the notes hold
-/// what it wrote.
-fn execute_call(
-    catalogue: &Catalogue,
-    tx: TxId,
-    arguments: &[i64],
-    values: &mut Vec<i64>,
-    notes: &mut Vec<Note>,
-) -> Result<Outcome, AllocError>
-    requires known { tx.0 < length catalogue.now.transactions }
-    requires values { length values.old.items ≡ length catalogue.now.initial }
-    ensures outcome { IfOk result (λ o. o ≡ outcome (call_program catalogue.now tx arguments.now) values.old.items) }
-    ensures after { OnOk result
-        (values.new.items ≡ after (call_program catalogue.now tx arguments.now) values.old.items) }
-    ensures undone { undone notes.new.items values.new.items ≡ values.old.items }
-    ensures inside { AreInside (length values.new.items) notes.new.items }
-    ensures sized { length values.new.items ≡ length values.old.items }
-{
-    catalogue.rules();
-    evaluate::execute_noting(
-        arguments,
-        catalogue.tx(tx),
-        catalogue.always(),
-        values.as_mut_slice(),
-        notes,
-    )
-}
-
-/// How a transaction ends with these arguments on the values, which stay as they are, and what it writes, unless a
-/// growth was refused.
+/// How a task ends on the values, which stay as they are, and what it writes, unless a growth was refused.
 fn end_plainly(
     written: &mut Written,
-    chapter: &Chapter<'_>,
-    tx: TxId,
-    arguments: &[i64],
+    chapter: &mut Chapter<'_>,
+    task: TaskId,
     values: &mut Vec<i64>,
 ) -> Result<Outcome, AllocError>
-    requires known { IsCallable chapter.now.listing tx arguments.now }
-    requires values { length values.old.items ≡ length chapter.now.listing.initial }
+    requires exists { task.0 < length (tasks chapter.old.listing) }
+    requires values { length values.old.items ≡ length chapter.old.listing.initial }
     requires few { length values.old.items ≤ MAX_VALUES }
+    ensures chapter { chapter.new ≡ chapter.old }
     ensures same { values.new.items ≡ values.old.items }
-    ensures ends { IfOk result (λ how. EndsPlainly chapter.now.listing tx arguments.now values.old.items how
-        written.new.writes.items) }
+    ensures ends { IfOk result (λ how. EndsPlainly chapter.old.listing (task_tx chapter.old.listing task)
+        (task_arguments chapter.old.listing task) values.old.items how written.new.writes.items) }
 {
-    let ended = execute_call(chapter.opened(), tx, arguments, values, &mut written.notes);
+    let ended = chapter.execute(task, values, &mut written.notes);
     let listed = written.list(values);
     undo(values.as_mut_slice(), &mut written.notes, 0);
     let Ok(how) = ended else {
@@ -87,16 +56,13 @@ impl<'a> Book<'a> {
         ensures unchanged { OnErr result (self.new ≡ self.old) }
         ensures catalogue { self.new.catalogue ≡ self.old.catalogue }
     {
-        if self.chapter.opened().tables().is_empty() {
-            return Err(NotPlain::NoTable);
-        }
         if !self.table.is_running(task) {
             return Err(NotPlain::NotRunning);
         }
         self.commit_plainly(task)
     }
 
-    /// As `turn_plainly`, of a running task. It is a call, so that a turn without it stays as short as it was.
+    /// As `turn_plainly`, of a running task. It is a call, so that who asks for a turn stays short.
     #[inline(never)]
     fn commit_plainly(&mut self, task: TaskId) -> Result<(Outcome, u64), NotPlain>
         requires running { IsRunning self.old task }
@@ -122,11 +88,8 @@ impl<'a> Book<'a> {
         ensures same { self.new ≡ self.old }
         ensures ends { IfOk result (λ r. TaskEndsPlainly self.old task r.0 r.1.items) }
     {
-        let chapter = &self.chapter;
-        let tx = chapter.transaction(task);
-        let arguments = chapter.arguments(task);
         let values = &mut self.present.values;
-        let Ok(how) = end_plainly(&mut self.written, chapter, tx, arguments, values) else {
+        let Ok(how) = end_plainly(&mut self.written, &mut self.chapter, task, values) else {
             return Err(AllocError);
         };
         let alloc = *self.written.writes.allocator();
@@ -141,8 +104,8 @@ impl<'a> Book<'a> {
         self.written.writes = writes;
     }
 
-    /// As `serial_lent`, where the outcome of a commit need not be told: where that can be, the turn is a plain one,
-    /// and the attempt stays as it is.
+    /// As `serial_lent`, where the outcome of a commit need not be told: the turn is a plain one, and the attempt stays
+    /// as it is. Only of a task that retries, or where memory was refused, the attempt tells how it ends.
     #[inline(always)]
     pub fn serve(&mut self, attempt: &mut Attempt<'a>, task: TaskId) -> Serial
         requires exists { task.0 < length self.old.tasks }

@@ -54,8 +54,6 @@ pub enum Serial {
 /// Why a task has no plain turn. Nothing changed.
 #[derive(Clone, Copy, Debug, PartialEq, Eq)]
 pub enum NotPlain {
-    /// The catalogue declares no table.
-    NoTable,
     /// The task is not running.
     NotRunning,
     /// The program retries on the present values.

@@ -2,9 +2,9 @@
 
 use crate::looks::{Look, Said};
 use crate::rows::{Step, What, expect};
-use crate::texts::{BANK, ONE};
+use crate::texts::{BANK, STANDING};
 use book::{NotPlain, Serial, Standing};
-use txn::{Fault, Outcome, TaskId, TxId, VarId};
+use txn::{AlwaysId, Fault, Outcome, TaskId, VarId};
 
 /// Each of these is running. One that retries has no plain turn, and nothing changes.
 const PAID: &[Step] = &[
@@ -57,16 +57,48 @@ fn what_a_plain_turn_writes_is_committed(rt: HostRuntime) {
     expect(&rt, rt.alloc(), BANK, None, &What::Steps(PAID));
 }
 
-/// Where no table is declared a turn is given by an attempt.
+/// Where no table is declared it is as where one is.
 const WITHOUT_TABLES: &[Step] = &[
-    Step::Takes(Some(TaskId(0))),
-    Step::TurnsPlainly(TaskId(0), Err(NotPlain::NoTable)),
-    Step::Turns(TaskId(0), Serial::Committed(1)),
-    Step::Shows(Look::Runs(TaskId(0), TxId(0), true)),
+    Step::TurnsPlainly(TaskId(0), Err(NotPlain::NotRunning)),
+    Step::Claims(TaskId(0), true),
+    Step::TurnsPlainly(TaskId(0), Err(NotPlain::Retries)),
+    Step::Claims(TaskId(1), true),
+    Step::TurnsPlainly(
+        TaskId(1),
+        Ok((Outcome::Thrown(Fault::Broken(AlwaysId(0))), 1)),
+    ),
+    Step::Shows(Look::Present(VarId(0), Some((5, 0)))),
+    Step::Claims(TaskId(2), true),
+    Step::TurnsPlainly(TaskId(2), Ok((Outcome::Returned(0), 2))),
+    Step::Shows(Look::Present(VarId(0), Some((6, 2)))),
+    Step::TurnsPlainly(TaskId(0), Ok((Outcome::Returned(6), 3))),
+];
+
+#[test]
+fn without_tables_turns_are_plain_too(rt: HostRuntime) {
+    expect(
+        &rt,
+        rt.alloc(),
+        STANDING,
+        None,
+        &What::Steps(WITHOUT_TABLES),
+    );
+}
+
+/// A new chapter runs the same steps.
+const IN_CHAPTERS: &[Step] = &[
+    Step::Claims(TaskId(1), true),
+    Step::TurnsPlainly(
+        TaskId(1),
+        Ok((Outcome::Thrown(Fault::Broken(AlwaysId(0))), 1)),
+    ),
+    Step::BeginsChapter,
+    Step::Claims(TaskId(1), true),
+    Step::TurnsPlainly(TaskId(1), Ok((Outcome::Returned(0), 1))),
     Step::Shows(Look::Present(VarId(0), Some((6, 1)))),
 ];
 
 #[test]
-fn without_tables_no_turn_is_plain(rt: HostRuntime) {
-    expect(&rt, rt.alloc(), ONE, None, &What::Steps(WITHOUT_TABLES));
+fn a_plain_turn_of_a_new_chapter_is_of_its_task(rt: HostRuntime) {
+    expect(&rt, rt.alloc(), STANDING, None, &What::Steps(IN_CHAPTERS));
 }

@@ -7,7 +7,7 @@ use Rattle.book.specs.Changed.{AreAbove, AreListed}
 use Rattle.book.specs.declared.since.Since.{Since}
 use Rattle.book.specs.declared.stored.Stored.{Stored as Kept}
 use Rattle.book.proofs.Changed.{listed_next}
-use Rattle.book.proofs.Storing.{present_value, Stored, stored_first, stored_next, stored_same, stored_as}
+use Rattle.book.proofs.Storing.{present_value, Stored, stored_first, stored_next, stored_same}
 use Rattle.book.proofs.stored.store_listed.Goals.{then-index-write, else-index-write}
 use Rattle.book.proofs.stored.store_listed.Goals as goal
 

@@ -1,4 +1,4 @@
-use Rattle.std.proofs.Common.{arith, Fits, w32, length, ◌<◌}
+use Rattle.std.proofs.Common.{arith}
 use Rattle.txn_programs.specs.declared.limits.TheConstants.{MAX_VALUES}
 use Rattle.book.proofs.Noting.{note_inside}
 use Rattle.book.proofs.written.list_places.Goals as goal

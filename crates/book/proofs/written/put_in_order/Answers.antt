@@ -1,4 +1,4 @@
-use Rattle.std.proofs.Common.{◌≡◌, ◌<◌, ℕ, List, eqb, subst, sym}
+use Rattle.std.proofs.Common.{◌<◌, ℕ, List, eqb, subst, sym}
 use Rattle.std.specs.List.{dedup, All, Contains}
 use Rattle.std.specs.List.Sorted.{IsStrictlySortedBy}
 use Rattle.std.specs.Ordering.{nat_cmp}

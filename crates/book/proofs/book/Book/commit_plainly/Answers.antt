@@ -1,4 +1,4 @@
-use Rattle.std.proofs.Common.{rules, ◌≡◌, ◌≢◌, ap, sym, subst, ℤ, List}
+use Rattle.std.proofs.Common.{rules, ◌≢◌, sym, subst, ℤ, List}
 use Rattle.std.proofs.lemmas.Option.{slice_get_within}
 use Rattle.txn_programs.specs.declared.ast.VarId.{VarId}
 use Rattle.txn_programs.specs.declared.ast.Outcome.TheVariants.{Retries}

@@ -1,4 +1,4 @@
-use Rattle.std.proofs.Common.{◌≡◌, ◌∙◌, sym, ap}
+use Rattle.std.proofs.Common.{◌∙◌, sym, ap}
 use Rattle.std.specs.List.{slice_get}
 use Rattle.book.specs.View.{BookView}
 use Rattle.book.proofs.Filling.{running_with}

@@ -32,4 +32,5 @@ invariant_of-self c =
       within = omega (arith, ap length kept, staying_shorter s.calls.calls ts, k.within, room);
       few = omega (arith, k.few, room);
       row_room = subst (HoldsEach l) (sym width) k.row_room;
+      steps = k.steps;
     }

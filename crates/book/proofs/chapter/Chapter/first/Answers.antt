@@ -20,4 +20,5 @@ invariant_of-result c =
       within = omega (arith, ap length made, length-calls l, c.requires.fits, e.room);
       few = omega (arith, e.room, c.requires.few);
       row_room = e.row_room;
+      steps = c.in_ok-steps_of.ensures;
     }

@@ -4,7 +4,6 @@ use Rattle.std.proofs.lemmas.Result.{on_ok_weaker}
 use Rattle.txn_programs.specs.declared.limits.TheConstants.{MAX_VALUES}
 use Rattle.txn_evaluator.specs.declared.notes.Note.{Note}
 use Rattle.txn_evaluator.specs.Notes.{AreInside}
-use Rattle.attempt.specs.Asking.{Known}
 use Rattle.book.specs.Written.{TellNoted, place_of, write_at}
 use Rattle.book.proofs.Noting.{inside_more, places_inside, places_tell}
 use Rattle.book.proofs.written.Written.list.Goals as goal
