@@ -10,6 +10,7 @@ mod compile;
 mod constants;
 pub mod laws;
 pub mod layout;
+mod quick;
 pub mod registers;
 mod running;
 mod sound;
