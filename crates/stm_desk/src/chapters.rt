@@ -1,9 +1,11 @@
 //! The chapters of a desk.
 
 ghost use Rattle.std.specs.Prelude.{◌≡◌, ℕ, None, IfErr, IfOk, OnErr};
+ghost use Rattle.book.specs.Turns.{IsIdle};
+ghost use Rattle.stm_store.specs.Keeping.{KeepsTasks};
 ghost use Rattle.stm_store.specs.declared.answers.Refused.TheVariants as Refused;
 ghost use Rattle.stm_desk.specs.Asking.{IsServed, IsStill};
-ghost use Rattle.stm_desk.specs.Ending.{EndsChapter, EndsNow, IsTurnedAway, TakesBack};
+ghost use Rattle.stm_desk.specs.Ending.{EndsChapter, EndsNow, IsTurnedAway, Settled, TakesBack};
 ghost use Rattle.stm_desk.specs.History.{Begins};
 ghost use Rattle.stm_desk.specs.Running.{AreAwaited};
 ghost use Rattle.stm_desk.specs.Waiting.{waiting_at};
@@ -16,6 +18,17 @@ use crate::work::Work;
 use stm_store::Refused;
 
 impl Desk {
+    /// All that is long and runs has its turn here, and what that woke: nothing is ready or runs then, so that the
+    /// store's `file` and `report_now` can be told of this moment. Who waits is to be told what became of the call, or
+    /// waits on, where it retries. Where a growth was refused the task is given up, of which who waits is told.
+    pub fn settle(&mut self)
+        ensures settled { Settled self.old.work self.new.work }
+        ensures idle { IsIdle self.new.work.store.book }
+        ensures kept { KeepsTasks self.old.work.store self.new.work.store }
+    {
+        self.work.serve_all();
+    }
+
     /// The present chapter ends: what is long and runs has its turn here, the host gets the chapter's file and its
     /// report, to keep them, and the next chapter begins, in which who waits waits on. A closed desk's last chapter
     /// ends so too.

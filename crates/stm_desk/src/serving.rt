@@ -4,6 +4,7 @@ ghost use Rattle.std.specs.Prelude.{◌≡◌, ◌≢◌, [], ◌∷◌, ◌++�
 ghost use Rattle.txn_programs.specs.Listing.{IsCallable};
 ghost use Rattle.stm_store.specs.Keeping.{HasBrought, KeepsTasks};
 ghost use Rattle.stm_desk.specs.Asking.{GoesOn, IsSame, IsServed, IsStill};
+ghost use Rattle.stm_desk.specs.Ending.{Settled};
 ghost use Rattle.stm_desk.specs.Running.{AreAwaited, AwaitedBut, HadTurn, HandsNothingOut, HandsOut};
 ghost use Rattle.stm_desk.specs.Running.{HasBroughtTo, IsHanded, IsLong, RefusesTurn};
 ghost use Rattle.stm_desk.specs.Serving.{IsLighter};
@@ -48,16 +49,16 @@ impl Work {
         while self.serve_next(true) {}
     }
 
-    /// Each task that runs has its turn here, and each that is ready, also what is long: so none is ready or running.
+    /// Each task that runs has its turn here, and each that is ready, also what is long: so none is ready or running,
+    /// and none is to be handed out.
     pub(crate) fn serve_all(&mut self)
         ensures served { IsServed self.new.store }
-        ensures still { IsStill self.new.store }
-        ensures hands_on { HandsOn self.old.waiters self.new.waiters }
+        ensures settled { Settled self.old self.new }
         ensures kept { KeepsTasks self.old.store self.new.store }
-        ensures goes_on { GoesOn self.old self.new }
     {
         self.store.make_ready();
         while self.serve_next(false) {}
+        self.due.clear();
     }
 
     /// The lowest ready task has its turn; or, where `hands`, it is handed to whoever waits for it. `false` and no

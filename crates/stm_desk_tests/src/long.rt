@@ -227,3 +227,32 @@ fn what_runs_has_its_turn_before_a_chapter_ends(rt: HostRuntime) {
     assert!(rt; is_told(&mut desk, 40, entry(0, 7, 2, 1)));
     assert!(rt; desk.told().is_none());
 }
+
+/// Whether the store's report is told as of now.
+fn is_reported(desk: &Desk) -> bool {
+    match desk.store().report_now() {
+        Ok(text) => text.as_str().ends_with("end\n"),
+        Err(_) => false,
+    }
+}
+
+/// What runs has its turn, and the report can be told.
+fn settles(desk: &mut Desk) -> bool {
+    if begun(desk, GET, 40).is_none() || begun(desk, PUT, 41).is_none() || is_reported(desk) {
+        return false;
+    }
+    desk.settle();
+    is_reported(desk)
+        && desk.next_due().is_none()
+        && is_told(desk, 41, entry(1, 8, 1, 0))
+        && is_told(desk, 40, entry(0, 7, 2, 1))
+        && desk.told().is_none()
+}
+
+#[test]
+fn what_runs_has_its_turn_before_a_report(rt: HostRuntime) {
+    let Some((mut desk, _worker)) = opened(rt.alloc(), 9) else {
+        panic!(rt; "the desk opens");
+    };
+    assert!(rt; settles(&mut desk));
+}

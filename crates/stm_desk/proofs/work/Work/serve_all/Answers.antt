@@ -43,14 +43,15 @@ loop-preserved c =
       still = one.still refl so_far.still;
     }
 
-pub returns-clause-goes_on : goal.returns-clause-goes_on
-returns-clause-goes_on c = goes_both _ _ _ c.loop.invariant.goes_on c.serve_next.ensures.goes_on
-
-pub returns-clause-hands_on : goal.returns-clause-hands_on
-returns-clause-hands_on c = hands_both _ _ _ c.loop.invariant.hands_on c.serve_next.ensures.hands_on
+pub returns-clause-settled : goal.returns-clause-settled
+returns-clause-settled c =
+    let g = goes_both _ _ _ c.loop.invariant.goes_on c.serve_next.ensures.goes_on in
+    record {
+      still = c.serve_next.ensures.still refl c.loop.invariant.still;
+      due = c.clear.ensures.items;
+      hands_on = hands_both _ _ _ c.loop.invariant.hands_on c.serve_next.ensures.hands_on;
+      goes_on = record { first = g.first; long = g.long; catalogue = g.catalogue; closed = g.closed; last = g.last; history = g.history };
+    }
 
 pub returns-clause-kept : goal.returns-clause-kept
 returns-clause-kept c = keeps_both _ _ _ c.loop.invariant.kept c.serve_next.ensures.kept
-
-pub returns-clause-still : goal.returns-clause-still
-returns-clause-still c = c.serve_next.ensures.still refl c.loop.invariant.still
